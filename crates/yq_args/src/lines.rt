@@ -11,7 +11,7 @@ use std::alloc::{AllocError, Global};
 const MAX_CHARS: usize = 80;
 
 /// A line: what it tells, of which word if of one, and in what it ends.
-type Line<'w> = (&'static str, Option<&'w str>, &'static str);
+type UsageLine<'w> = (&'static str, Option<&'w str>, &'static str);
 
 /// Adds a word in quotes, with `?` for each control character, and cut where it is long.
 fn push_word(text: &mut String, word: &str) -> Result<(), AllocError> {
@@ -23,7 +23,7 @@ fn push_word(text: &mut String, word: &str) -> Result<(), AllocError> {
 }
 
 /// Adds a line.
-fn push_line(text: &mut String, line: Line<'_>) -> Result<(), AllocError> {
+fn push_line(text: &mut String, line: UsageLine<'_>) -> Result<(), AllocError> {
     let (about, word, end) = line;
     text.push_str(about)?;
     if let Some(word) = word {
@@ -47,7 +47,12 @@ fn missing(command: &str, count: usize, is_file: bool) -> Option<&'static str> {
 }
 
 /// The line on words that `clap` doesn't take.
-fn line_of_words<'w>(command: &str, is_named: bool, is_file: bool, found: &Found<'w>) -> Line<'w> {
+fn line_of_words<'w>(
+    command: &str,
+    is_named: bool,
+    is_file: bool,
+    found: &Found<'w>,
+) -> UsageLine<'w> {
     let first = found.names[0];
     if !is_named && let Some(end) = end_of_command(first) {
         return ("unknown command", Some(first), end);
@@ -83,7 +88,7 @@ fn line_of<'w>(
     is_named: bool,
     is_file: bool,
     found: &Found<'w>,
-) -> Line<'w> {
+) -> UsageLine<'w> {
     match cause {
         UsageCause::NotText => ("a word isn't UTF-8", None, ""),
         UsageCause::FileIsDash => ("FILE is '-': for standard input name /dev/stdin", None, ""),

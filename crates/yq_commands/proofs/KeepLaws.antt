@@ -10,7 +10,7 @@ use Rattle.yq_commands.{specs.declared.answer.Answer.Answer, specs.declared.answ
 use Rattle.yq_commands.specs.Editing.{EditOutcome, unreadable, refused, edited, program_edits, program_in}
 use Rattle.yq_commands.specs.CommandEffects.{edit_effect, edit_writes, update_effect, OfEffect, IsListing, IsUnparsed, expression_fault}
 use Rattle.yq_commands.{specs.FileEdits.HasEdited, specs.Edits.edit_record, specs.CommandNames.{IsOn, IsNotNamed}}
-use Rattle.yq_commands.specs.Lists.{answer_by, IsUnrelated, AllOnOrApart, Reply, IsAnswer, Goes, Run, ReportsEffect, HasEffect, RunsTo}
+use Rattle.yq_commands.specs.Lists.{answer_by, IsUnrelated, AllOnOrApart, Reply, IsAnswer, Goes, RunsAll, ReportsEffect, HasEffect, RunsTo}
 use Rattle.yq_commands.{specs.Lists.{Keeps, ReportsUnparsed, is_inner_refusal}, specs.Prints.{report_of, prints, reads_journal}}
 use Rattle.yq_commands.{specs.CommandSteps.{cause_of, next_of}, proofs.ReplyLaws.{reply, reply-answer, reply-printed, no_refusal}}
 use Rattle.yq_commands.proofs.ListLaws.{arrived, not_true}
@@ -193,7 +193,7 @@ keeps_more old m new (d ∷ cs) [] c r k left = absurd k
 
 -- from a pair that is good for a history it is a run
 pub run_of : (f j : List ℕ) → f ≢ j → (cs : List Command) (rs : List Reply) (old new : FileMap) (h : Option History) →
-    Keeps old cs rs new → AllOnOrApart f j cs → GoodIn old f j h → (k : Option History) × Run f j h cs rs k × GoodIn new f j k
+    Keeps old cs rs new → AllOnOrApart f j cs → GoodIn old f j h → (k : Option History) × RunsAll f j h cs rs k × GoodIn new f j k
 run_of f j apart [] [] old new h keeps fit good = (h, refl, same_pair old new f j h keeps good)
 run_of f j apart (c ∷ cs) (r ∷ rs) old new h keeps fit good =
     let one = keeps.1.steps f j apart (All-head (λ x. IsOn f j x ⊎ IsUnrelated f j x) c cs fit) h good in

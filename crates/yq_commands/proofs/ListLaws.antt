@@ -8,8 +8,8 @@ use Rattle.yq_journal.{specs.declared.moves.Move.Move, specs.Good.{after_move, s
 use Rattle.yq_journal.{specs.History.{History, text_at, after_edit, after_squash}, specs.Refusals.most_records}
 use Rattle.yq_commands.{specs.declared.answer.Answer.Answer, specs.declared.answer.Answer.TheVariants.{Done, NoMatch, Refused}}
 use Rattle.yq_commands.specs.Editing.{EditOutcome, unreadable, refused, edited, program_edits, program_in}
-use Rattle.yq_commands.specs.Lists.{answer_by, Reply, answers_in, IsAnswer, CommandRefused, IsCarriedOut, RunsCommand, Goes, Run, IsReply}
-use Rattle.yq_commands.specs.Lists.{GoesExactly, RunExactly, reports_failure, reports_output, count_passing, failures_in}
+use Rattle.yq_commands.specs.Lists.{answer_by, Reply, answers_in, IsAnswer, CommandRefused, IsCarriedOut, RunsCommand, Goes, RunsAll}
+use Rattle.yq_commands.specs.Lists.{IsReply, GoesExactly, RunExactly, reports_failure, reports_output, count_passing, failures_in}
 use Rattle.yq_commands.{specs.Lists.{output_failures_in, is_memory, has_memory}, specs.Prints.report_of}
 use Rattle.yq_commands.{specs.CommandSteps.{cause_of, next_of, edit_cause, edit_next, update_cause, update_next}, proofs.ReplyLaws.reply}
 use Rattle.yq_args.specs.declared.command.Command.{Command}
@@ -148,7 +148,7 @@ exact_goes : (f j : List ℕ) (c : Command) (h k : Option History) (r : Reply) �
 exact_goes f j c h k r (inl s) i = let p = exact_step c h k r r.answer refl s.1 i in inl (s.0, p.0, p.1)
 exact_goes f j c h k r (inr s) i = inr s
 
-pub exact_run : (f j : List ℕ) (cs : List Command) (rs : List Reply) (h k : Option History) → Run f j h cs rs k → list_all is_inside (answers_in rs) ≡ true → RunExactly f j h cs rs k
+pub exact_run : (f j : List ℕ) (cs : List Command) (rs : List Reply) (h k : Option History) → RunsAll f j h cs rs k → list_all is_inside (answers_in rs) ≡ true → RunExactly f j h cs rs k
 exact_run f j [] [] h k r i = r
 exact_run f j (c ∷ cs) (a ∷ rs) h k r i =
     (r.0, exact_goes f j c h r.0 a r.1 (and_parts (is_inside a.answer) (list_all is_inside (answers_in rs)) i).0, exact_run f j cs rs r.0 k r.2 (and_parts (is_inside a.answer) (list_all is_inside (answers_in rs)) i).1)

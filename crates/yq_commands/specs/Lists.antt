@@ -63,11 +63,11 @@ abbrev pub Goes : List ℕ → List ℕ → Command → Option History → Reply
 Goes file journal c h r k = (IsOn file journal c × RunsCommand c h r.answer r.printed k) ⊎ (IsUnrelated file journal c × (k ≡ h))
 
 -- one command after another
-abbrev pub Run : List ℕ → List ℕ → Option History → List Command → List Reply → Option History → Type 0
-Run file journal h [] [] k = k ≡ h
-Run file journal h (c ∷ cs) (r ∷ rs) k = (m : Option History) × Goes file journal c h r m × Run file journal m cs rs k
-Run file journal h [] (r ∷ rs) k = ⊥
-Run file journal h (c ∷ cs) [] k = ⊥
+abbrev pub RunsAll : List ℕ → List ℕ → Option History → List Command → List Reply → Option History → Type 0
+RunsAll file journal h [] [] k = k ≡ h
+RunsAll file journal h (c ∷ cs) (r ∷ rs) k = (m : Option History) × Goes file journal c h r m × RunsAll file journal m cs rs k
+RunsAll file journal h [] (r ∷ rs) k = ⊥
+RunsAll file journal h (c ∷ cs) [] k = ⊥
 
 -- ---- where nothing failed from outside
 

@@ -9,7 +9,7 @@ use Rattle.yq_semantics.{specs.Conditions.{node_there, value_of, condition_holds
 use Rattle.yq_semantics.specs.Judgement.{MatchFails, Judgement, and_then, gives}
 use Rattle.yq_semantics.specs.Matching.{ChildFound, step_child, in_scalar, key_step, item_number, index_step}
 use Rattle.yq_semantics.specs.Pipes.{kept_place, select_on, stage_on, pipe_on, places}
-use Rattle.yq_semantics.specs.Places.{Place, root_place, child_place, for_each, miss, found_place, stepped, all_steps, step_there}
+use Rattle.yq_semantics.specs.Places.{FoundPlace, root_place, child_place, for_each, miss, found_place, stepped, all_steps, step_there}
 use Rattle.yq_semantics.{specs.Places.{step_from, step_on, chained}, specs.Program.{PathStep, key, index, each, Stage, path, select}}
 use Rattle.yq_semantics.{specs.declared.expr_error.ExprError.ExprError, specs.declared.refusal.Refusal.Refusal}
 use Rattle.yq_semantics.{specs.declared.refusal.Refusal.TheVariants.{NotAMap, NotASequence}, proofs.JudgementLaws.{then_gives, gives_same}}
@@ -21,19 +21,19 @@ use Rattle.yq_core.specs.Tree as tree
 
 -- ---- the scalars of places
 
-join_have : (ps qs : List Place) → HaveScalars ps → HaveScalars qs → HaveScalars (ps ++ qs)
+join_have : (ps qs : List FoundPlace) → HaveScalars ps → HaveScalars qs → HaveScalars (ps ++ qs)
 join_have [] qs h k = k
 join_have (p ∷ ps) qs h k = (h.0, join_have ps qs h.1 k)
 
 -- what something leads to from a place whose node has such scalars has them, too
-abbrev LeadsToScalars : (Place → Judgement (List Place)) → Type 0
-LeadsToScalars f = (p : Place) (qs : List Place) → HasScalars p.node → f p ≡ gives qs → HaveScalars qs
+abbrev LeadsToScalars : (FoundPlace → Judgement (List FoundPlace)) → Type 0
+LeadsToScalars f = (p : FoundPlace) (qs : List FoundPlace) → HasScalars p.node → f p ≡ gives qs → HaveScalars qs
 
-each_have : (f : Place → Judgement (List Place)) → LeadsToScalars f → (ps qs : List Place) → HaveScalars ps → for_each f ps ≡ gives qs → HaveScalars qs
+each_have : (f : FoundPlace → Judgement (List FoundPlace)) → LeadsToScalars f → (ps qs : List FoundPlace) → HaveScalars ps → for_each f ps ≡ gives qs → HaveScalars qs
 each_have f so [] qs h e = subst HaveScalars (gives_same e) tt
 each_have f so (p ∷ ps) qs h e =
     let one = then_gives (λ first. and_then (λ others. gives (first ++ others)) (for_each f ps)) (f p) qs e in
-    let two = then_gives (λ (others : List Place). gives (one.0 ++ others)) (for_each f ps) qs one.2 in
+    let two = then_gives (λ (others : List FoundPlace). gives (one.0 ++ others)) (for_each f ps) qs one.2 in
     subst HaveScalars (gives_same two.2) (join_have one.0 two.0 (so p one.0 h.0 one.1) (each_have f so ps two.0 h.1 two.1))
 
 child_has : (s : paths.Step) (cs : Children) (n : Node) → EachHasScalars cs → child_at s cs ≡ Some n → HasScalars n
@@ -70,11 +70,11 @@ index_finds i (list anchor cs) h x e =
     let at = then_gives (λ (n : ℕ). gives (step_child (paths.Nth n) cs)) (item_number i cs) (Some x) e in find_has (paths.Nth at.0) cs h x at.2
 index_finds i _ h x e = absurd (cc)
 
-miss_has : (s : PathStep) (p : Place) → HasScalars p.node → HaveScalars (miss s p)
+miss_has : (s : PathStep) (p : FoundPlace) → HasScalars p.node → HaveScalars (miss s p)
 miss_has each p h = tt
 miss_has _ p h = (h, tt)
 
-found_have : (s : PathStep) (p : Place) (j : Judgement ChildFound) (qs : List Place) → HasScalars p.node → FindsScalars j → and_then (λ x. gives (found_place s p x)) j ≡ gives qs → HaveScalars qs
+found_have : (s : PathStep) (p : FoundPlace) (j : Judgement ChildFound) (qs : List FoundPlace) → HasScalars p.node → FindsScalars j → and_then (λ x. gives (found_place s p x)) j ≡ gives qs → HaveScalars qs
 found_have s p j qs h finds e =
     let x = then_gives (λ (x : ChildFound). gives (found_place s p x)) j qs e in
     subst HaveScalars (gives_same x.2) (go x.0 x.1)
@@ -83,11 +83,11 @@ found_have s p j qs h finds e =
     go None e = miss_has s p h
     go (Some y) e = (finds y e, tt)
 
-children_have : (p : Place) (i : ℕ) (cs : Children) → EachHasScalars cs → HaveScalars (map (child_place p) (stepped i cs))
+children_have : (p : FoundPlace) (i : ℕ) (cs : Children) → EachHasScalars cs → HaveScalars (map (child_place p) (stepped i cs))
 children_have p i none h = tt
 children_have p i (child label n cs) h = (h.0, children_have p (suc i) cs h.1)
 
-all_have : (p : Place) (n : Node) (qs : List Place) → HasScalars n → and_then (λ xs. gives (map (child_place p) xs)) (all_steps n) ≡ gives qs → HaveScalars qs
+all_have : (p : FoundPlace) (n : Node) (qs : List FoundPlace) → HasScalars n → and_then (λ xs. gives (map (child_place p) xs)) (all_steps n) ≡ gives qs → HaveScalars qs
 all_have p (alias name) qs h e = absurd (cc)
 all_have p (scalar anchor kind text) qs h e =
     let x = then_gives (λ (xs : List (paths.Step × Node)). gives (map (child_place p) xs)) (all_steps (scalar anchor kind text)) qs e in
@@ -108,12 +108,12 @@ step_has s p qs h e = go p.missing e
     go [] e = there s e
     go (m ∷ ms) e = subst HaveScalars (gives_same e) (miss_has s p h)
 
-chain_has : {S : Type 0} (f : S → List Place → Judgement (List Place)) → ((s : S) (ps qs : List Place) → HaveScalars ps → f s ps ≡ gives qs → HaveScalars qs) → (ss : List S) (ps qs : List Place) → HaveScalars ps → chained f ss ps ≡ gives qs → HaveScalars qs
+chain_has : {S : Type 0} (f : S → List FoundPlace → Judgement (List FoundPlace)) → ((s : S) (ps qs : List FoundPlace) → HaveScalars ps → f s ps ≡ gives qs → HaveScalars qs) → (ss : List S) (ps qs : List FoundPlace) → HaveScalars ps → chained f ss ps ≡ gives qs → HaveScalars qs
 chain_has f so [] ps qs h e = subst HaveScalars (gives_same e) h
 chain_has f so (s ∷ ss) ps qs h e =
     let x = then_gives (chained f ss) (f s ps) qs e in chain_has f so ss x.0 qs (so s ps x.0 h x.1) x.2
 
-kept_has : (doc : ℕ) (stage : Stage) (ps qs : List Place) → HaveScalars ps → stage_on doc stage ps ≡ gives qs → HaveScalars qs
+kept_has : (doc : ℕ) (stage : Stage) (ps qs : List FoundPlace) → HaveScalars ps → stage_on doc stage ps ≡ gives qs → HaveScalars qs
 kept_has doc (path steps) ps qs h e = chain_has (λ s. for_each (step_on s)) (λ s. each_have (step_on s) (step_has s)) steps ps qs h e
 kept_has doc (select c) ps qs h e = each_have (select_on doc c) leads ps qs h e
   where
@@ -126,15 +126,15 @@ kept_has doc (select c) ps qs h e = each_have (select_on doc c) leads ps qs h e
         go false = tt
 
 -- the nodes to which a pipe leads from such places have such scalars
-pub pipe_have : (doc : ℕ) (pipe : List Stage) (ps qs : List Place) → HaveScalars ps → pipe_on doc pipe ps ≡ gives qs → HaveScalars qs
+pub pipe_have : (doc : ℕ) (pipe : List Stage) (ps qs : List FoundPlace) → HaveScalars ps → pipe_on doc pipe ps ≡ gives qs → HaveScalars qs
 pipe_have doc pipe ps qs h e = chain_has (stage_on doc) (kept_has doc) pipe ps qs h e
 
 -- so have those to which it leads from a root
-pub places_have : (doc : ℕ) (pipe : List Stage) (root : Node) (qs : List Place) → HasScalars root → places doc pipe root ≡ gives qs → HaveScalars qs
+pub places_have : (doc : ℕ) (pipe : List Stage) (root : Node) (qs : List FoundPlace) → HasScalars root → places doc pipe root ≡ gives qs → HaveScalars qs
 places_have doc pipe root qs h e = pipe_have doc pipe (root_place root ∷ []) qs (h, tt) e
 
 -- so has what is copied
-pub value_has : (p : Place) → HasScalars p.node → HasScalars (value_of p)
+pub value_has : (p : FoundPlace) → HasScalars p.node → HasScalars (value_of p)
 value_has p h = go p.missing
   where
     go : (missing : List PathStep) → HasScalars (node_there missing p.node)

@@ -4,7 +4,7 @@ use Rattle.std.proofs.lemmas.List.{map_push}
 use Rattle.yq_core.specs.Tree.{Label, Node, Children, none, child}
 use Rattle.yq_outline.{specs.Counts.count, specs.Outline.null_node}
 use Rattle.yq_semantics.{specs.Conditions.node_there, specs.Judgement.gives}
-use Rattle.yq_semantics.{specs.Places.{Place, child_place, miss, step_by, step_from, stepped}, specs.Program.PathStep}
+use Rattle.yq_semantics.{specs.Places.{FoundPlace, child_place, miss, step_by, step_from, stepped}, specs.Program.PathStep}
 use Rattle.yq_eval.specs.PlaceView.{place_of, places_of}
 use Rattle.yq_eval.specs.declared.matching.place.FoundPlace as declared
 
@@ -14,20 +14,20 @@ null_there [] s n = refl
 null_there (t ∷ ts) s n = refl
 
 -- behind a missing step another one is missing
-pub missed_on : (front : List PathStep) (s step : PathStep) (p : Place) → step_from (front ++ s ∷ []) step p ≡ gives (miss step p)
+pub missed_on : (front : List PathStep) (s step : PathStep) (p : FoundPlace) → step_from (front ++ s ∷ []) step p ≡ gives (miss step p)
 missed_on [] s step p = refl
 missed_on (t ∷ ts) s step p = refl
 
 -- one more item or entry has a place
-pub children_more : (p : Place) (before : ℕ) (cs rest : Children) (label : Label) (n : Node) (items : List declared.FoundPlace) (new : declared.FoundPlace) (all : List Place) →
+pub children_more : (p : FoundPlace) (before : ℕ) (cs rest : Children) (label : Label) (n : Node) (items : List declared.FoundPlace) (new : declared.FoundPlace) (all : List FoundPlace) →
     cs ≡ child label n rest → place_of new ≡ child_place p (step_by before label.key, n) → places_of items ++ map (child_place p) (stepped before cs) ≡ all →
     places_of (items ++ new ∷ []) ++ map (child_place p) (stepped (before + 1) rest) ≡ all
 children_more p before cs rest label n items new all is place so_far =
-    let others : List Place = map (child_place p) (stepped (suc before) rest) in
+    let others : List FoundPlace = map (child_place p) (stepped (suc before) rest) in
     ap (λ (i : ℕ). places_of (items ++ new ∷ []) ++ map (child_place p) (stepped i rest)) (add-one before)
-    ∙ (ap (λ (ps : List Place). ps ++ others) (map_push place_of items new)
+    ∙ (ap (λ (ps : List FoundPlace). ps ++ others) (map_push place_of items new)
     ∙ (append_assoc (places_of items) (place_of new ∷ []) others
-    ∙ (ap (λ (q : Place). places_of items ++ (q ∷ others)) place
+    ∙ (ap (λ (q : FoundPlace). places_of items ++ (q ∷ others)) place
     ∙ (ap (λ (ds : Children). places_of items ++ map (child_place p) (stepped before ds)) (sym is) ∙ so_far))))
 
 -- where nothing is counted there is none

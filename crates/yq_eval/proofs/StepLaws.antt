@@ -6,7 +6,7 @@ use Rattle.yq_nodes.{specs.Nodes.{kind_of, node_of}, specs.declared.nodes.node.N
 use Rattle.yq_eval.{specs.declared.matching.place.Missing.{Missing, Further, Nothing, the_lemmas}, specs.FoundView.child_places}
 use Rattle.yq_eval.{specs.PlaceView.{missing_of, path_of, place_of, places_of, put_behind}, proofs.PlaceLaws.missed_on}
 use Rattle.yq_semantics.{specs.Judgement.{and_then, gives}, specs.Matching.{step_child, item_at_index, item_number}}
-use Rattle.yq_semantics.specs.Places.{Place, all_steps, child_place, for_each, miss, step_from, step_on, stepped}
+use Rattle.yq_semantics.specs.Places.{FoundPlace, all_steps, child_place, for_each, miss, step_from, step_on, stepped}
 use Rattle.yq_semantics.{specs.Program.{PathStep, each}, specs.View.program_step}
 use Rattle.yq_core.specs.Tree as tree
 use Rattle.yq_nodes.specs.declared.nodes.node.NodeKind.TheVariants as node_kinds
@@ -23,7 +23,7 @@ pub none_missing : (m : Missing) → m ≡ Nothing → missing_of m ≡ []
 none_missing m is = ap missing_of is ∙ search (rules, the_lemmas)
 
 -- behind a missing step
-pub step_missed : (before : List Place) (s last : PathStep) (p : Place) (front : List PathStep) → p.missing ≡ front ++ last ∷ [] → put_behind before (step_on s p)
+pub step_missed : (before : List FoundPlace) (s last : PathStep) (p : FoundPlace) (front : List PathStep) → p.missing ≡ front ++ last ∷ [] → put_behind before (step_on s p)
     ≡ gives (before ++ miss s p)
 step_missed before s last p front is = ap (λ ms. put_behind before (step_from ms s p)) is ∙ ap (put_behind before) (missed_on front last s p)
 
@@ -52,7 +52,7 @@ pub parent_gives : (ps : List declared.FoundPlace) (x : declared.FoundPlace) (k 
 parent_gives [] x k some one at none is coll = absurd (omega (arith, some))
 parent_gives (y ∷ (z ∷ ps)) x k some one at none is coll = absurd (omega (arith, one))
 parent_gives (y ∷ []) x k some one at none is coll =
-    let p : Place = place_of x in
+    let p : FoundPlace = place_of x in
     let xs = map (child_place p) (stepped 0 (children_of p.node)) in
     let steps : step_on each p ≡ gives xs =
     ap (λ ms. step_from ms each p) (none_missing x.missing none) ∙ ap (and_then (λ ys. gives (map (child_place p) ys))) (steps_of_coll p.node k is coll) in

@@ -6,7 +6,7 @@ use Rattle.yq_outline.specs.Outline.{null_node}
 use Rattle.yq_eval.specs.declared.matching.place.NodePath.{NodePath, fold-NodePath}
 use Rattle.yq_eval.specs.declared.matching.place.NodePath.TheOpen.{NodePath-F}
 use Rattle.yq_eval.{specs.declared.matching.place.Missing.{Missing, fold-Missing}, specs.declared.matching.place.Missing.TheOpen.Missing-F}
-use Rattle.yq_semantics.{specs.Judgement.{Judgement, and_then, gives}, specs.Matching.ChildFound, specs.Places.Place}
+use Rattle.yq_semantics.{specs.Judgement.{Judgement, and_then, gives}, specs.Matching.ChildFound, specs.Places.FoundPlace}
 use Rattle.yq_semantics.{specs.Program.PathStep, specs.View.program_step}
 use Rattle.yq_core.specs.Paths as paths
 use Rattle.yq_core.specs.Tree as tree
@@ -38,11 +38,11 @@ abbrev pub missing_of : Missing → List PathStep
 missing_of = fold-Missing (List PathStep) missing_link
 
 -- the place that one of the code stands for (own)
-abbrev pub place_of : declared.FoundPlace → Place
+abbrev pub place_of : declared.FoundPlace → FoundPlace
 place_of p = record { path = path_of p.path; node = node_of p.node; missing = missing_of p.missing }
 
 -- the places that those of the code stand for (own)
-abbrev pub places_of : List declared.FoundPlace → List Place
+abbrev pub places_of : List declared.FoundPlace → List FoundPlace
 places_of ps = map place_of ps
 
 -- the node that one of the code stands for, or null where there is none (own)

@@ -4,8 +4,8 @@ use Rattle.std.{proofs.Common.{append-nil, add-one, arith}, proofs.lemmas.List.d
 use Rattle.yq_core.specs.Tree.{Node}
 use Rattle.yq_documents.specs.Documents.{Document}
 use Rattle.yq_semantics.specs.Changes.{Room, Changed, put_with_path, at_each, with_value, changes_at, changes_in, changes_from}
-use Rattle.yq_semantics.{specs.Judgement.{MatchFails, Judgement, and_then, gives}, specs.Meaning.roots_of, specs.Places.{Place, for_each}}
-use Rattle.yq_semantics.{specs.Program.{Stage, Term, Update, assign}, specs.RightValues.right_value}
+use Rattle.yq_semantics.{specs.Judgement.{MatchFails, Judgement, and_then, gives}, specs.Meaning.roots_of}
+use Rattle.yq_semantics.{specs.Places.{FoundPlace, for_each}, specs.Program.{Stage, Term, Update, assign}, specs.RightValues.right_value}
 use Rattle.yq_semantics.{specs.declared.program.Operator.Operator, specs.declared.expr_error.ExprError.ExprError}
 use Rattle.yq_eval.{specs.PlaceView.put_behind, proofs.EachLaws.fails_then}
 use Rattle.yq_semantics.specs.declared.program.Operator.TheVariants as operator
@@ -20,16 +20,16 @@ each_done {X} v f before xs i all past so_far =
 -- ---- the value of a right side
 
 -- a value that was evaluated is put or added at each place
-pub value_there : (root : Node) (right : Judgement Node) (f : Place → Node → Judgement (List Changed)) (ps : List Place) (v : Node) → 0 < length ps → right ≡ gives v → with_value root right f ps ≡ at_each root (λ q. f q v) ps
+pub value_there : (root : Node) (right : Judgement Node) (f : FoundPlace → Node → Judgement (List Changed)) (ps : List FoundPlace) (v : Node) → 0 < length ps → right ≡ gives v → with_value root right f ps ≡ at_each root (λ q. f q v) ps
 value_there root right f [] v some is = absurd (omega (arith, some))
 value_there root right f (p ∷ ps) v some is = ap (and_then (λ w. at_each root (λ q. f q w) (p ∷ ps))) is
 
 -- a refusal of the right side is one of all
-pub value_fails : (root : Node) (right : Judgement Node) (f : Place → Node → Judgement (List Changed)) (ps : List Place) (e : ExprError) → 0 < length ps → MatchFails e right → MatchFails e (with_value root right f ps)
+pub value_fails : (root : Node) (right : Judgement Node) (f : FoundPlace → Node → Judgement (List Changed)) (ps : List FoundPlace) (e : ExprError) → 0 < length ps → MatchFails e right → MatchFails e (with_value root right f ps)
 value_fails root right f [] e some h = absurd (omega (arith, some))
 value_fails root right f (p ∷ ps) e some h = fails_then (λ w. at_each root (λ q. f q w) (p ∷ ps)) right e h
 
-module _ (doc : ℕ) (room : Room) (root : Node) (left : List Stage) (op : Operator) (right ts : List Term) (ps : List Place) where
+module _ (doc : ℕ) (room : Room) (root : Node) (left : List Stage) (op : Operator) (right ts : List Term) (ps : List FoundPlace) where
   -- the sum of terms is put at each place
   pub modified : op ≡ operator.Modify → ts ≡ right → at_each root (λ p. and_then (put_with_path p) (right_value doc ts p)) ps ≡ changes_at doc room root (assign left op right) ps
   modified is same =

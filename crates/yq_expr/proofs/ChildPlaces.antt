@@ -3,16 +3,16 @@ use Rattle.std.proofs.Common.{◌≡◌, ℕ, suc, ◌+◌, List, [], ◌∷◌,
 use Rattle.yq_core.specs.Tree.{Label, Node, Children, none, child}
 use Rattle.yq_eval.{specs.PlaceView.put_behind, proofs.EachLaws.{each_more, each_fails}}
 use Rattle.yq_semantics.specs.Judgement.{MatchFails, Judgement, gives, refuses}
-use Rattle.yq_semantics.{specs.Places.{Place, child_place, for_each, step_by, stepped}, specs.declared.expr_error.ExprError.ExprError}
+use Rattle.yq_semantics.{specs.Places.{FoundPlace, child_place, for_each, step_by, stepped}, specs.declared.expr_error.ExprError.ExprError}
 
 -- the places of items or entries, the first one apart
-pub first_child : (p : Place) (b : ℕ) (cs rest : Children) (label : Label) (n : Node) → cs ≡ child label n rest →
+pub first_child : (p : FoundPlace) (b : ℕ) (cs rest : Children) (label : Label) (n : Node) → cs ≡ child label n rest →
     map (child_place p) (stepped b cs) ≡ child_place p (step_by b label.key, n) ∷ map (child_place p) (stepped (b + 1) rest)
 first_child p b cs rest label n is =
     ap (λ (ds : Children). map (child_place p) (stepped b ds)) is
     ∙ ap (λ (i : ℕ). child_place p (step_by b label.key, n) ∷ map (child_place p) (stepped i rest)) (sym (add-one b))
 
-module _ {B : Type 0} (f : Place → Judgement (List B)) (p : Place) (b : ℕ) (cs rest : Children) (label : Label) (n : Node) where
+module _ {B : Type 0} (f : FoundPlace → Judgement (List B)) (p : FoundPlace) (b : ℕ) (cs rest : Children) (label : Label) (n : Node) where
   -- one item or entry more
   pub child_more : (before after : List B) (all : Judgement (List B)) → cs ≡ child label n rest → put_behind before (f (child_place p (step_by b label.key, n))) ≡ gives after →
       put_behind before (for_each f (map (child_place p) (stepped b cs))) ≡ all → put_behind after (for_each f (map (child_place p) (stepped (b + 1) rest))) ≡ all
@@ -29,7 +29,7 @@ module _ {B : Type 0} (f : Place → Judgement (List B)) (p : Place) (b : ℕ) (
       (ap (λ (ds : Children). put_behind before (for_each f (map (child_place p) (stepped b ds)))) (sym is) ∙ so_far)
 
 -- behind the last one nothing more comes
-pub children_done : {B : Type 0} (f : Place → Judgement (List B)) (p : Place) (b : ℕ) (cs : Children) (before : List B) (all : Judgement (List B)) → cs ≡ none →
+pub children_done : {B : Type 0} (f : FoundPlace → Judgement (List B)) (p : FoundPlace) (b : ℕ) (cs : Children) (before : List B) (all : Judgement (List B)) → cs ≡ none →
     put_behind before (for_each f (map (child_place p) (stepped b cs))) ≡ all → all ≡ gives before
 children_done f p b cs before all is so_far =
     sym so_far ∙ (ap (λ (ds : Children). put_behind before (for_each f (map (child_place p) (stepped b ds)))) is ∙ ap gives (append-nil before))

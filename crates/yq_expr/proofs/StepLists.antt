@@ -2,7 +2,7 @@
 use Rattle.std.proofs.Common.{◌≡◌, List, [], ◌∷◌, ◌++◌, map, reverse, sym, ap, ◌∙◌, append_assoc, refl, false}
 use Rattle.std.proofs.lemmas.List.{map-append, reverse-append}
 use Rattle.yq_core.specs.Tree.{Node}
-use Rattle.yq_semantics.{specs.Changes.{add_below, is_there, put_with_path}, specs.Places.Place, specs.Program.PathStep}
+use Rattle.yq_semantics.{specs.Changes.{add_below, is_there, put_with_path}, specs.Places.FoundPlace, specs.Program.PathStep}
 
 -- one more, behind those of which the last were pushed first
 pub pushed_back : {A B : Type 0} (f : A → B) (front : List B) (xs : List A) (x : A) → front ++ reverse (map f (xs ++ x ∷ [])) ≡ (front ++ f x ∷ []) ++ reverse (map f xs)
@@ -17,6 +17,6 @@ not_there [] s = refl
 not_there (m ∷ ms) s = refl
 
 -- what is added there is put there
-pub added_missing : (front : List PathStep) (s : PathStep) (p : Place) (v : Node) → add_below (front ++ s ∷ []) p v ≡ put_with_path p v
+pub added_missing : (front : List PathStep) (s : PathStep) (p : FoundPlace) (v : Node) → add_below (front ++ s ∷ []) p v ≡ put_with_path p v
 added_missing [] s p v = refl
 added_missing (m ∷ ms) s p v = refl

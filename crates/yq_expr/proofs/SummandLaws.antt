@@ -3,7 +3,7 @@ use Rattle.std.proofs.Common.{refl, ◌≡◌, ℕ, cond, false, List, [], ◌�
 use Rattle.yq_core.{specs.declared.kind.Kind.Kind, specs.Tree.{Node, scalar}}
 use Rattle.yq_nodes.specs.Nodes.{kind_of, text_of}
 use Rattle.yq_expr.specs.Summand.{IsSummand}
-use Rattle.yq_semantics.{specs.Copies.copy, specs.Judgement.{Judgement, and_then, gives}, specs.Places.Place}
+use Rattle.yq_semantics.{specs.Copies.copy, specs.Judgement.{Judgement, and_then, gives}, specs.Places.FoundPlace}
 use Rattle.yq_semantics.{specs.RightValues.{is_null, scalar_sum, value_sum, sum, term_value, right_value}, specs.Program.Term}
 use Rattle.yq_nodes.specs.declared.nodes.node.NodeKind.TheVariants as kinds
 
@@ -20,7 +20,7 @@ scalars_added k l s r some other =
     ap (λ b. cond b (gives v) (cond (is_null v) (gives n) (value_sum n v))) some ∙ ap (λ b. cond b (gives n) (value_sum n v)) other
 
 -- two terms that are scalars
-pub two_added : {X : Type 0} (view : X → Term) (doc : ℕ) (p : Place) (xs : List X) (x y : X) (k l : Kind) (s r : List ℕ) → length xs ≡ 2 → x ≡ get_or xs 0 x → y ≡ get_or xs 1 y →
+pub two_added : {X : Type 0} (view : X → Term) (doc : ℕ) (p : FoundPlace) (xs : List X) (x y : X) (k l : Kind) (s r : List ℕ) → length xs ≡ 2 → x ≡ get_or xs 0 x → y ≡ get_or xs 1 y →
     IsSummand k s (term_value doc p (view x)) → IsSummand l r (term_value doc p (view y)) → right_value doc (map view xs) p ≡ scalar_sum k s l r
 two_added view doc p [] x y k l s r long is at one two = absurd (omega (arith, long))
 two_added view doc p (a ∷ []) x y k l s r long is at one two = absurd (omega (arith, long))

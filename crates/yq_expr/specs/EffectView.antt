@@ -2,11 +2,11 @@
 use Rattle.std.specs.Prelude.{ℕ, List, map}
 use Rattle.yq_core.specs.Values.{value_node}
 use Rattle.yq_semantics.{specs.Changes.{Room, Changed, put_with_path, add_at, remove_at, comment_at}, specs.Judgement.{Judgement, and_then}}
-use Rattle.yq_semantics.{specs.Places.Place, specs.RightValues.right_value, specs.View.term_of}
+use Rattle.yq_semantics.{specs.Places.FoundPlace, specs.RightValues.right_value, specs.View.term_of}
 use Rattle.yq_expr.specs.declared.effect.Action as effect
 
 -- what is changed at a place of the document of that number, which has such room (own)
-abbrev pub effect_at : ℕ → Room → effect.Action → Place → Judgement (List Changed)
+abbrev pub effect_at : ℕ → Room → effect.Action → FoundPlace → Judgement (List Changed)
 effect_at doc room (effect.TheVariants.Put v) p = put_with_path p (value_node v.now)
 effect_at doc room (effect.TheVariants.Modify terms) p = and_then (put_with_path p) (right_value doc (map term_of terms.now) p)
 effect_at doc room (effect.TheVariants.Add v) p = add_at p (value_node v.now)

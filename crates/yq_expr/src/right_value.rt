@@ -1,7 +1,7 @@
 //! Right sides: sums of terms, from a place.
 ghost use Rattle.std.specs.Prelude.{◌≡◌, ◌∷◌, ℕ, [], IfSome, map, true};
 ghost use Rattle.yq_core.specs.Values.{value_node};
-ghost use Rattle.yq_semantics.{specs.Judgement.{Judges, and_then}, specs.Pipes.pipe_on, specs.Places.{Place as SpecPlace, chained}};
+ghost use Rattle.yq_semantics.{specs.Judgement.{Judges, and_then}, specs.Pipes.pipe_on, specs.Places.{FoundPlace as SpecPlace, chained}};
 ghost use Rattle.yq_semantics.{specs.Program.path, specs.View.{stage_of, term_of}};
 ghost use Rattle.yq_expr.specs.Summand.{IsSummand};
 ghost use Rattle.yq_eval.{specs.PlaceView.{place_of, places_of}, specs.TreeScalars.{HasScalars, HaveScalars}};

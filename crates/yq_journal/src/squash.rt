@@ -10,7 +10,7 @@ use yq_text::Splice;
 
 /// The parts of records that are joined one after the other.
 #[derive(Drop)]
-struct Parts {
+struct RecordParts {
     expr: String,
     splices: Vec<Splice>,
     before_len: u64,
@@ -18,7 +18,7 @@ struct Parts {
     count: u64,
 }
 
-impl Model for Parts {
+impl Model for RecordParts {
     ghost use Rattle.std.specs.String.{string_bytes};
     ghost use Rattle.yq_journal.specs.Record.{Record};
 
@@ -49,14 +49,14 @@ fn extend(alloc: Global, splices: &mut Vec<Splice>, more: &[Splice]) -> Result<(
     Ok(())
 }
 
-impl Parts {
-    fn new(alloc: Global, first: &Record) -> Result<Parts, AllocError>
+impl RecordParts {
+    fn new(alloc: Global, first: &Record) -> Result<RecordParts, AllocError>
         ensures same { IfOk result (λ p. p ≡ first.now) }
         ensures valid { IfOk result (λ p. IsRecord p) }
     {
         let mut splices = Vec::new(alloc);
         extend(alloc, &mut splices, &first.splices)?;
-        Ok(Parts {
+        Ok(RecordParts {
             expr: String::from_str(alloc, &first.expr)?,
             splices,
             before_len: first.before_len,
@@ -85,11 +85,11 @@ fn join_all(alloc: Global, first: &Record, rest: &[Record]) -> Result<Record, Al
     requires { meet (first.now ∷ rest.now) ≡ true }
     ensures { IfOk result (λ r. r ≡ records_joined first.now rest.now) }
 {
-    let mut parts = Parts::new(alloc, first)?;
+    let mut parts = RecordParts::new(alloc, first)?;
     'rest: for next in rest {
         parts.join(alloc, next)?;
     }
-    let Parts {
+    let RecordParts {
         expr,
         splices,
         before_len,

@@ -1,7 +1,8 @@
 -- The nodes of the code, as those of trees.
 use Rattle.std.specs.Prelude.{List, [], ℕ}
 use Rattle.yq_core.specs.Tree.{Label, Node, alias, scalar, list, map, key_label, plain_label}
-use Rattle.yq_nodes.{specs.Bodies.named_node, specs.declared.nodes.node.NodeKind.NodeKind, specs.declared.nodes.node.Written.Written}
+use Rattle.yq_nodes.{specs.Bodies.named_node, specs.declared.nodes.node.NodeKind.NodeKind}
+use Rattle.yq_nodes.specs.declared.nodes.node.WrittenLabel.{WrittenLabel}
 use Rattle.yq_outline.{specs.Bodies.borrowed, specs.Labelled.Labelled}
 use Rattle.yq_nodes.specs.declared.nodes.node.Node as declared
 use Rattle.yq_nodes.specs.declared.nodes.node.NodeKind.TheVariants as kinds
@@ -13,7 +14,7 @@ abbrev pub node_of : declared.Node → Node
 node_of n = named_node n.named
 
 -- what is told of the entry or item of a line (own)
-abbrev pub written_label : Written → Label
+abbrev pub written_label : WrittenLabel → Label
 written_label w = record { key = borrowed w.key; head_comment = comments.head_comment w.gap.now; line_comment = comments.line_comment w.tail.now }
 
 -- what is told of what stands in such a place (own)

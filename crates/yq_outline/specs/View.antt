@@ -2,11 +2,11 @@
 use Rattle.std.specs.Prelude.{ℕ, List, Option, Some, None, string_bytes}
 use Rattle.yq_core.{specs.Tree.{Node, scalar}, specs.Places.Placed, specs.Trees.placed_tree}
 use Rattle.yq_core.specs.View as inline
-use Rattle.yq_outline.specs.declared.line.Content as contents
+use Rattle.yq_outline.specs.declared.line.ScalarContent as contents
 use Rattle.yq_outline.specs.declared.line.Head as heads
 
 -- the text of a key or scalar (own)
-abbrev pub content_view : contents.Content → List ℕ
+abbrev pub content_view : contents.ScalarContent → List ℕ
 content_view (contents.TheVariants.Slice s) = s.now
 content_view (contents.TheVariants.Own s) = string_bytes s
 

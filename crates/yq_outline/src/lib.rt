@@ -8,6 +8,6 @@ mod line_position;
 mod quotes;
 
 pub use laws::{exchanged, heads_joined, lines_shaped, one_node, rules};
-pub use line::{Content, Head};
+pub use line::{Head, ScalarContent};
 pub use line_position::{KnownItem, KnownItems, Next, Position, Stretch};
 pub use quotes::between_quotes;

@@ -6,21 +6,21 @@ use yq_core::{Inline, Kind};
 
 /// A text that a key or scalar stands for.
 #[derive(Drop)]
-pub enum Content<'t> {
+pub enum ScalarContent<'t> {
     /// As it is written.
     Slice(&'t str),
     /// Made of what is written: lines folded, escapes replaced.
     Own(String),
 }
 
-impl Content<'_> {
+impl ScalarContent<'_> {
     /// The text.
     pub fn text(&self) -> &str
         ensures { result.now ≡ content_view self.now }
     {
         match self {
-            Content::Slice(text) => text,
-            Content::Own(text) => text.as_str(),
+            ScalarContent::Slice(text) => text,
+            ScalarContent::Own(text) => text.as_str(),
         }
     }
 }
@@ -31,7 +31,7 @@ pub enum Head<'t> {
     /// Nothing: the node is that of the lines under this one, or null.
     Nothing,
     /// A scalar.
-    Scalar(Kind, Content<'t>),
+    Scalar(Kind, ScalarContent<'t>),
     /// An alias or a flow collection. Few lines have one, so it stands apart from them.
     Inline(Box<Inline<'t>>),
 }

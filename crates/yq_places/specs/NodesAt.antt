@@ -1,7 +1,7 @@
 -- What a node at a path is, as far as updates ask (YAML 1.2.2, 3.2.1; own).
 use Rattle.std.specs.Prelude.{ℕ, nat_lt, List, slice_get, Bool, false, Option, Some, None}
 use Rattle.yq_core.{specs.declared.kind.Kind.Kind, specs.Answers.◌>>=◌, specs.Scalar.ScalarText, specs.Paths.{Step, node_at}}
-use Rattle.yq_outline.{specs.Counts.count, specs.declared.line.Content.Content, specs.View.content_view}
+use Rattle.yq_outline.{specs.Counts.count, specs.declared.line.ScalarContent.ScalarContent, specs.View.content_view}
 use Rattle.yq_row_table.specs.Rows.{Cut}
 use Rattle.yq_documents.specs.Reading.{documents}
 use Rattle.yq_core.specs.Tree as tree
@@ -55,5 +55,5 @@ summary_scalar (list several) = None
 summary_scalar (map several) = None
 
 -- a scalar of the code
-abbrev pub scalar_view : Kind × Content → ScalarText
+abbrev pub scalar_view : Kind × ScalarContent → ScalarText
 scalar_view x = record { kind = x.0; text = content_view x.1 }

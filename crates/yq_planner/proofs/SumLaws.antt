@@ -10,7 +10,7 @@ use Rattle.yq_core.{specs.Values.{items, entries}, specs.Numbers.{unsigned, minu
 use Rattle.yq_core.{specs.Paths.{To, child_at, change_child, append_child, append_children}, specs.SchemaReading.resolve}
 use Rattle.yq_core.{specs.Tree.{Node, Children, none, child, key_label}, proofs.SchemaLaws.resolve_again}
 use Rattle.yq_planner.specs.EntryNumbers.{entry_number, number_kept}
-use Rattle.yq_semantics.{specs.Judgement.{Judgement, and_then, gives, refuses}, specs.Places.{Place, chained}, specs.Program.Term}
+use Rattle.yq_semantics.{specs.Judgement.{Judgement, and_then, gives, refuses}, specs.Places.{FoundPlace, chained}, specs.Program.Term}
 use Rattle.yq_semantics.specs.RightValues.{as_items, with_entry, with_entries, value_sum, sum, term_value, sum_from, right_value}
 use Rattle.yq_core.specs.Numbers as numbers
 use Rattle.yq_core.specs.Tree as tree
@@ -178,18 +178,18 @@ same_then f g (gives x) h = h x
 same_then f g (refuses why) h = refl
 
 -- what a term does to a value
-abbrev with_term : ℕ → Place → Term → Node → Judgement Node
+abbrev with_term : ℕ → FoundPlace → Term → Node → Judgement Node
 with_term doc p t v = and_then (sum v) (term_value doc p t)
 
 -- terms act in turn
-pub sum_chained : (doc : ℕ) (p : Place) (ts : List Term) (v : Node) → sum_from doc p v ts ≡ chained (with_term doc p) ts v
+pub sum_chained : (doc : ℕ) (p : FoundPlace) (ts : List Term) (v : Node) → sum_from doc p v ts ≡ chained (with_term doc p) ts v
 sum_chained doc p [] v = refl
 sum_chained doc p (t ∷ ts) v =
     joined_steps (sum v) (λ w. sum_from doc p w ts) (term_value doc p t)
     ∙ same_then (λ w. sum_from doc p w ts) (chained (with_term doc p) ts) (with_term doc p t v) (λ w. sum_chained doc p ts w)
 
 -- the first term and the others
-pub right_on : {X : Type 0} (view : X → Term) (doc : ℕ) (p : Place) (xs : List X) (x : X) (v : Node) → 0 < length xs → x ≡ get_or xs 0 x → term_value doc p (view x) ≡ gives v →
+pub right_on : {X : Type 0} (view : X → Term) (doc : ℕ) (p : FoundPlace) (xs : List X) (x : X) (v : Node) → 0 < length xs → x ≡ get_or xs 0 x → term_value doc p (view x) ≡ gives v →
     right_value doc (map view xs) p ≡ chained (with_term doc p) (map view (take (length xs - 1) (drop 1 xs))) v
 right_on view doc p [] x v some is h = absurd (omega (arith, some))
 right_on {X} view doc p (y ∷ ys) x v some is h = cc (sum_chained doc p (map view ys) v, take_rest (y ∷ ys) 1)

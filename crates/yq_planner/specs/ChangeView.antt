@@ -1,7 +1,7 @@
 -- The changes that those of the code stand for.
 use Rattle.std.{specs.Prelude.{List, [], ◌∷◌, map, Option, Some, None, option_map, string_bytes}, specs.Global.Vec}
 use Rattle.yq_core.{specs.Entries.tree_step, specs.Values.value_node}
-use Rattle.yq_semantics.specs.Places.{Place}
+use Rattle.yq_semantics.specs.Places.{FoundPlace}
 use Rattle.yq_semantics.specs.Changes.{Addition, appends, overwrites, Change, replaces, adds, removes, sets_comment, Changed}
 use Rattle.yq_planner.specs.declared.updating.change.Addition as addition
 use Rattle.yq_planner.specs.declared.updating.change.Change as change
@@ -28,10 +28,10 @@ abbrev pub all_changed_of : List (Vec changed.PlacedChange) → List (List Chang
 all_changed_of css = map (λ cs. map changed_of cs.items) css
 
 -- a change at a place (own)
-abbrev pub placed_change : Place → change.Change → List Changed
+abbrev pub placed_change : FoundPlace → change.Change → List Changed
 placed_change p c = (p.path, change_of c) ∷ []
 
 -- the same, if there is one (own)
-abbrev pub placed : Place → Option change.Change → List Changed
+abbrev pub placed : FoundPlace → Option change.Change → List Changed
 placed p None = []
 placed p (Some c) = placed_change p c

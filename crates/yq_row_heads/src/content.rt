@@ -7,7 +7,7 @@ ghost use Rattle.yq_core.specs.Scalars as scalars;
 
 use std::alloc::{AllocError, Global};
 use yq_core::{Kind, is_quoted, resolve};
-use yq_outline::{Content, Head, between_quotes};
+use yq_outline::{Head, ScalarContent, between_quotes};
 use yq_scalar_reader::folding::{plain_content, quoted_content};
 use yq_scalar_reader::plain::holds_break;
 
@@ -20,21 +20,21 @@ fn holds_escape(quote: u8, inner: &str) -> bool
 }
 
 /// The text that a quoted scalar stands for: one on one line without escapes is borrowed.
-fn quoted_text<'t>(alloc: Global, piece: &'t str) -> Result<Content<'t>, AllocError>
+fn quoted_text<'t>(alloc: Global, piece: &'t str) -> Result<ScalarContent<'t>, AllocError>
     requires { IsQuotedText piece.now }
     ensures { IfOk result (λ c. content_view c ≡ reading.quoted_content piece.now) }
 {
     let inner = between_quotes(piece);
     if holds_break(inner) || holds_escape(piece.as_bytes()[0], inner) {
         let text = quoted_content(alloc, piece)?;
-        return Ok(Content::Own(text));
+        return Ok(ScalarContent::Own(text));
     }
-    Ok(Content::Slice(inner))
+    Ok(ScalarContent::Slice(inner))
 }
 
 /// The text that a key or a scalar, as it is written, stands for: one on one line without escapes is borrowed.
 #[tactic(auto, unfolding(yq_core::specs::Scalars::scalar_content), using(yq_outline::proofs::OneLine::one_line))]
-pub(crate) fn content_of<'t>(alloc: Global, piece: &'t str) -> Result<Content<'t>, AllocError>
+pub(crate) fn content_of<'t>(alloc: Global, piece: &'t str) -> Result<ScalarContent<'t>, AllocError>
     requires { scalars.is_quoted piece.now ≡ true → IsQuotedText piece.now }
     ensures { IfOk result (λ c. content_view c ≡ scalars.scalar_content piece.now) }
 {
@@ -43,9 +43,9 @@ pub(crate) fn content_of<'t>(alloc: Global, piece: &'t str) -> Result<Content<'t
     }
     if holds_break(piece) {
         let text = plain_content(alloc, piece)?;
-        return Ok(Content::Own(text));
+        return Ok(ScalarContent::Own(text));
     }
-    Ok(Content::Slice(piece))
+    Ok(ScalarContent::Slice(piece))
 }
 
 /// The head that a plain scalar on one line is.
@@ -54,7 +54,7 @@ pub(crate) fn plain_head(text: &str) -> Head<'_>
     ensures flow { head_flow result ≡ None }
 {
     match resolve(text) {
-        Kind::Null => Head::Scalar(Kind::Null, Content::Slice("null")),
-        kind => Head::Scalar(kind, Content::Slice(text)),
+        Kind::Null => Head::Scalar(Kind::Null, ScalarContent::Slice("null")),
+        kind => Head::Scalar(kind, ScalarContent::Slice(text)),
     }
 }

@@ -15,7 +15,7 @@ use std::num::NonZeroU64;
 use yq_core::{Form, Inline, Kind, Place, ReadError, ReadFault, first_is, is_quoted};
 use yq_documents::is_block_head;
 use yq_inline::read_inline;
-use yq_outline::{Content, Head};
+use yq_outline::{Head, ScalarContent};
 use yq_row_table::Row;
 use yq_scalar::{content, read_block};
 use yq_scalar_reader::plain::holds_break;
@@ -50,7 +50,7 @@ fn node_head<'t>(alloc: Global, node: Inline<'t>) -> Result<Head<'t>, AllocError
         Form::Empty => Ok(Head::Nothing),
         Form::Scalar(scalar, _) => {
             let kind = scalar.kind();
-            Ok(Head::Scalar(kind, Content::Own(scalar.into_text())))
+            Ok(Head::Scalar(kind, ScalarContent::Own(scalar.into_text())))
         }
         _ => Ok(Head::Inline(Box::new(alloc, node)?)),
     }
@@ -93,7 +93,7 @@ fn read_block_head<'t>(alloc: Global, parent: i64, text: &str) -> Result<Head<'t
         }
     };
     let text = content(alloc, text, &piece)?;
-    Ok(Head::Scalar(Kind::Text, Content::Own(text)))
+    Ok(Head::Scalar(Kind::Text, ScalarContent::Own(text)))
 }
 
 /// The head of a row below a parent of this indentation, that is written so and with which the text

@@ -3,7 +3,7 @@ ghost use Rattle.std.specs.Prelude.{◌≡◌, ◌≢◌, ◌+◌, ◌-◌, ◌^
 ghost use Rattle.std.specs.List.{list_all};
 ghost use Rattle.yq_journal.specs.History.{History};
 ghost use Rattle.yq_commands.specs.CommandNames.{IsNotNamed};
-ghost use Rattle.yq_commands.specs.Lists.{AllOnOrApart, Keeps, Run, RunExactly, Reply, answers_in, printed_in, has_memory, failures_in};
+ghost use Rattle.yq_commands.specs.Lists.{AllOnOrApart, Keeps, RunsAll, RunExactly, Reply, answers_in, printed_in, has_memory, failures_in};
 ghost use Rattle.yq_commands.specs.Lists.{output_failures_in};
 ghost use Rattle.yq_history.specs.Pair.{GoodIn};
 ghost use Rattle.std.specs.FinMap as map;
@@ -31,7 +31,7 @@ pub fn run_list<D: Store, W: Out>(
         Keeps (D.content store.old) commands.now replies (D.content store.new) ×
         ((file journal : List ℕ) → file ≢ journal → AllOnOrApart file journal commands.now →
         (h : Option History) → GoodIn (D.content store.old) file journal h →
-        (k : Option History) × Run file journal h commands.now replies k ×
+        (k : Option History) × RunsAll file journal h commands.now replies k ×
         GoodIn (D.content store.new) file journal k)) }
     ensures exact { IsTrue D.keeps → D.failures store.new ≡ D.failures store.old →
         D.failures store.new < 2 ^ 64 - 1 → W.failures out.new ≡ W.failures out.old →

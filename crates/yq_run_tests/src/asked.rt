@@ -7,7 +7,7 @@ use yq_store::{MemoryStore, Store};
 
 /// What a command asks: an expression to be shown, with `-e`, or carried out in place, or another command.
 #[derive(Clone, Copy)]
-pub enum Asked {
+pub enum Request {
     Show(&'static str),
     Edit(&'static str),
     Undo,
@@ -20,16 +20,16 @@ pub enum Asked {
 pub const FILE: &str = "f";
 
 /// A command on the file and its journal.
-fn command(alloc: Global, asked: Asked) -> Result<Command, AllocError> {
+fn command(alloc: Global, asked: Request) -> Result<Command, AllocError> {
     let file = String::from_str(alloc, FILE)?;
     let journal = String::from_str(alloc, "f.undo.json")?;
     let (expr, in_place) = match asked {
-        Asked::Undo => return Ok(Command::Undo { file, journal }),
-        Asked::Redo => return Ok(Command::Redo { file, journal }),
-        Asked::History => return Ok(Command::History { file, journal }),
-        Asked::Squash(n) => return Ok(Command::Squash { n, file, journal }),
-        Asked::Show(expr) => (expr, false),
-        Asked::Edit(expr) => (expr, true),
+        Request::Undo => return Ok(Command::Undo { file, journal }),
+        Request::Redo => return Ok(Command::Redo { file, journal }),
+        Request::History => return Ok(Command::History { file, journal }),
+        Request::Squash(n) => return Ok(Command::Squash { n, file, journal }),
+        Request::Show(expr) => (expr, false),
+        Request::Edit(expr) => (expr, true),
     };
     Ok(Command::Eval {
         expr: String::from_str(alloc, expr)?,
@@ -42,7 +42,7 @@ fn command(alloc: Global, asked: Asked) -> Result<Command, AllocError> {
 }
 
 /// The commands that ask this.
-pub fn commands(alloc: Global, all: &[Asked]) -> Result<Vec<Command>, AllocError> {
+pub fn commands(alloc: Global, all: &[Request]) -> Result<Vec<Command>, AllocError> {
     let mut commands = Vec::new(alloc);
     'commands: for asked in all {
         commands.push(command(alloc, *asked)?)?;

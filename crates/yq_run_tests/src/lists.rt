@@ -1,7 +1,7 @@
 //! A list of several commands in one call: each is carried out behind those before it, with no call of the
 //! store more than it needs, also behind a refused one and behind a store and an output that failed.
 
-use crate::asked::{Asked, FILE, commands, store_with_file};
+use crate::asked::{FILE, Request, commands, store_with_file};
 use std::alloc::{AllocError, Global};
 use std::test::Fail;
 use yq_history::Fault;
@@ -12,23 +12,23 @@ use yq_store::{Left, MemoryStore};
 /// The commands. The calls of the store that each makes: the file and the journal are read by a call each, but
 /// for what is shown, which reads the file alone; an edit, an undo and a redo write the journal twice and the
 /// file once, where its bytes change; a squash of two writes the journal, and one of one nothing.
-static LIST: [Asked; 16] = [
-    Asked::Show(".n"), // 1
-    Asked::Edit(".n = 1"), // 2
-    Asked::Edit(".n = 2"), // 5
-    Asked::Squash(1), // 2
-    Asked::Edit(".n.m = 3"), // 2
-    Asked::Edit(".n = 1"), // 5
-    Asked::Redo, // 2
-    Asked::Squash(2), // 3
-    Asked::History, // 2
-    Asked::Show(".m"), // 1
-    Asked::Undo, // 3
-    Asked::Redo, // 3
-    Asked::Show(".n = 4"), // 1
-    Asked::Edit(".n = 3"), // 4, the last of which fails
-    Asked::Show(".n"), // 1
-    Asked::Undo, // 5
+static LIST: [Request; 16] = [
+    Request::Show(".n"), // 1
+    Request::Edit(".n = 1"), // 2
+    Request::Edit(".n = 2"), // 5
+    Request::Squash(1), // 2
+    Request::Edit(".n.m = 3"), // 2
+    Request::Edit(".n = 1"), // 5
+    Request::Redo, // 2
+    Request::Squash(2), // 3
+    Request::History, // 2
+    Request::Show(".m"), // 1
+    Request::Undo, // 3
+    Request::Redo, // 3
+    Request::Show(".n = 4"), // 1
+    Request::Edit(".n = 3"), // 4, the last of which fails
+    Request::Show(".n"), // 1
+    Request::Undo, // 5
 ];
 
 /// The calls of the store that the list makes.

@@ -1,6 +1,6 @@
 //! Each growth in a list refused in turn: nothing is run, or a command is refused, and the list goes on.
 
-use crate::asked::{Asked, commands, store_with_file};
+use crate::asked::{Request, commands, store_with_file};
 use std::alloc::Global;
 use std::test::Fail;
 use yq_api_tests::hold_memory;
@@ -10,7 +10,11 @@ use yq_run::{MemoryOut, run_list};
 use yq_store::MemoryStore;
 
 /// A list that leaves the file.
-static LIST: [Asked; 3] = [Asked::Show("."), Asked::Edit(".n = 1"), Asked::History];
+static LIST: [Request; 3] = [
+    Request::Show("."),
+    Request::Edit(".n = 1"),
+    Request::History,
+];
 
 /// Runs the list with memory for one growth more each time, until all is carried out: whether nothing was run
 /// before, and then a command was refused.

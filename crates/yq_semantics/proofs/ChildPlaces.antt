@@ -5,25 +5,25 @@ use Rattle.std.{proofs.lemmas.Bool.{cond-false, cond-true}, proofs.lemmas.Option
 use Rattle.yq_core.specs.Tree.{Node, alias, scalar, list, Children, none, child, children_of}
 use Rattle.yq_core.{specs.Paths.{To, Nth, key_is, is_item, is_here, further, child_at, node_at}, specs.PathOrder.Diverge}
 use Rattle.yq_core.specs.Shapes.{IsNew, AreItems, AreEntries, IsTree, AreTrees}
-use Rattle.yq_semantics.{specs.Program.{PathStep, key, index, each}, specs.Places.{step_by, Place, child_place, miss, stepped}}
+use Rattle.yq_semantics.{specs.Program.{PathStep, key, index, each}, specs.Places.{step_by, FoundPlace, child_place, miss, stepped}}
 use Rattle.yq_semantics.{specs.PlacesApart.{IsBeforeAll, AreApart, IsIn}, proofs.PathLaws.{bytes_refl, bytes_differ, before_in}}
 use Rattle.yq_semantics.proofs.GoodPlaces.{LieIn, AreSound, LeadsInto}
 use Rattle.yq_core.specs.Tree as tree
 use Rattle.yq_core.specs.Paths as paths
 
 -- no place
-pub leads_none : (root : Node) (p : Place) → LeadsInto root p []
+pub leads_none : (root : Node) (p : FoundPlace) → LeadsInto root p []
 leads_none root p = record { inside = tt; apart = tt; sound = tt }
 
 -- the place itself, but for what is missing
-pub leads_self : (root : Node) (p q : Place) → q.path ≡ p.path → q.node ≡ p.node → IsTree p.node → IsIn root p → LeadsInto root p (q ∷ [])
+pub leads_self : (root : Node) (p q : FoundPlace) → q.path ≡ p.path → q.node ≡ p.node → IsTree p.node → IsIn root p → LeadsInto root p (q ∷ [])
 leads_self root p q same node tree at = record {
   inside = ((([], same ∙ sym (append-nil p.path)), tt));
   apart = (tt, tt);
   sound = ((subst IsTree (sym node) tree, ap (λ (x : List paths.Step). node_at x root) same ∙ (at ∙ ap Some (sym node))), tt);
 }
 
-pub leads_missing : (root : Node) (p : Place) (s : PathStep) → IsTree p.node → IsIn root p → LeadsInto root p (miss s p)
+pub leads_missing : (root : Node) (p : FoundPlace) (s : PathStep) → IsTree p.node → IsIn root p → LeadsInto root p (miss s p)
 leads_missing root p (key k) tree at = leads_self root p (record p { missing = p.missing ++ key k ∷ [] }) refl refl tree at
 leads_missing root p (index i) tree at = leads_self root p (record p { missing = p.missing ++ index i ∷ [] }) refl refl tree at
 leads_missing root p each tree at = leads_none root p
@@ -56,7 +56,7 @@ children_tree (list anchor cs) tree = tree.1
 children_tree (tree.map anchor cs) tree = tree.1
 
 -- a child
-pub leads_child : (root : Node) (p : Place) (s : paths.Step) (n : Node) → IsTree p.node → IsIn root p → child_at s (children_of p.node) ≡ Some n → LeadsInto root p (child_place p (s, n) ∷ [])
+pub leads_child : (root : Node) (p : FoundPlace) (s : paths.Step) (n : Node) → IsTree p.node → IsIn root p → child_at s (children_of p.node) ≡ Some n → LeadsInto root p (child_place p (s, n) ∷ [])
 leads_child root p s n tree at is = record {
   inside = (((s ∷ []), refl), tt);
   apart = (tt, tt);
@@ -123,23 +123,23 @@ items_apart i none h = tt
 items_apart i (child label n cs) h =
     (subst (λ (o : Option (List ℕ)). StepsBefore (step_by i o) (stepped (suc i) cs)) (sym h.0) (item_before i (suc i) cs (omega arith) h.1), items_apart (suc i) cs h.1)
 
-children_inside : (p : Place) (xs : List (paths.Step × Node)) → LieIn p.path (map (child_place p) xs)
+children_inside : (p : FoundPlace) (xs : List (paths.Step × Node)) → LieIn p.path (map (child_place p) xs)
 children_inside p [] = tt
 children_inside p (x ∷ xs) = ((x.0 ∷ [], refl), children_inside p xs)
 
-child_before : (p : Place) (s : paths.Step) (xs : List (paths.Step × Node)) → StepsBefore s xs → IsBeforeAll (p.path ++ s ∷ []) (map (child_place p) xs)
+child_before : (p : FoundPlace) (s : paths.Step) (xs : List (paths.Step × Node)) → StepsBefore s xs → IsBeforeAll (p.path ++ s ∷ []) (map (child_place p) xs)
 child_before p s [] h = tt
 child_before p s (x ∷ xs) h = (before_in p.path (s ∷ []) (x.0 ∷ []) (inl h.0), child_before p s xs h.1)
 
-children_apart : (p : Place) (xs : List (paths.Step × Node)) → StepsApart xs → AreApart (map (child_place p) xs)
+children_apart : (p : FoundPlace) (xs : List (paths.Step × Node)) → StepsApart xs → AreApart (map (child_place p) xs)
 children_apart p [] h = tt
 children_apart p (x ∷ xs) h = (child_before p x.0 xs h.0, children_apart p xs h.1)
 
-children_sound : (root : Node) (p : Place) → IsTree p.node → IsIn root p → (xs : List (paths.Step × Node)) → EachIs (λ s n. child_at s (children_of p.node) ≡ Some n) xs → AreSound root (map (child_place p) xs)
+children_sound : (root : Node) (p : FoundPlace) → IsTree p.node → IsIn root p → (xs : List (paths.Step × Node)) → EachIs (λ s n. child_at s (children_of p.node) ≡ Some n) xs → AreSound root (map (child_place p) xs)
 children_sound root p tree at [] h = tt
 children_sound root p tree at (x ∷ xs) h = ((leads_child root p x.0 x.1 tree at h.0).sound.0, children_sound root p tree at xs h.1)
 
-pub leads_children : (root : Node) (p : Place) (cs : Children) → IsTree p.node → IsIn root p → children_of p.node ≡ cs → AreItems cs ⊎ AreEntries cs → LeadsInto root p (map (child_place p) (stepped 0 cs))
+pub leads_children : (root : Node) (p : FoundPlace) (cs : Children) → IsTree p.node → IsIn root p → children_of p.node ≡ cs → AreItems cs ⊎ AreEntries cs → LeadsInto root p (map (child_place p) (stepped 0 cs))
 leads_children root p cs tree at is kind = record {
   inside = children_inside p (stepped 0 cs);
   apart = children_apart p (stepped 0 cs) (apart kind);

@@ -6,7 +6,7 @@ use Rattle.yq_core.{specs.Tree.{Node, alias, scalar, list, Children, none, child
 use Rattle.yq_documents.specs.Documents.{Document}
 use Rattle.yq_semantics.specs.Copies.{and_others, keyed, copy, item_copies, entry_copies, match_at, matches_in, matches_from, matches}
 use Rattle.yq_semantics.{specs.Judgement.{Judges, gives}, specs.MatchTrees.{IsMatch, AreMatches}, specs.Pipes.places}
-use Rattle.yq_semantics.{specs.Places.{Place, for_each}, specs.PlacesApart.IsIn, specs.Program.{Stage, PathStep}}
+use Rattle.yq_semantics.{specs.Places.{FoundPlace, for_each}, specs.PlacesApart.IsIn, specs.Program.{Stage, PathStep}}
 use Rattle.yq_semantics.{specs.declared.expr_error.ExprError.ExprError, proofs.JudgementLaws.{then_gives, gives_same}}
 use Rattle.yq_semantics.{proofs.GoodPlaces.AreSound, proofs.updates.PipePlaces.places_apart, proofs.updates.Pure.copy_pure}
 use Rattle.yq_semantics.proofs.updates.Each.{joined_gives}
@@ -76,10 +76,10 @@ join : (ms ns : List (ℕ × Node)) → AreMatches ms → AreMatches ns → AreM
 join [] ns h k = k
 join (m ∷ ms) ns h k = (h.0, join ms ns h.1 k)
 
-place_matches : (doc : ℕ) (root : Node) (p : Place) (ms : List (ℕ × Node)) → IsMatch root → IsTree p.node → IsIn root p → match_at doc p ≡ gives ms → AreMatches ms
+place_matches : (doc : ℕ) (root : Node) (p : FoundPlace) (ms : List (ℕ × Node)) → IsMatch root → IsTree p.node → IsIn root p → match_at doc p ≡ gives ms → AreMatches ms
 place_matches doc root p ms is tree at h = search (rules, then_gives, gives_same, copy_matches, node_depth)
 
-each_matches : (doc : ℕ) (root : Node) (ps : List Place) (ms : List (ℕ × Node)) → IsMatch root → AreSound root ps → for_each (match_at doc) ps ≡ gives ms → AreMatches ms
+each_matches : (doc : ℕ) (root : Node) (ps : List FoundPlace) (ms : List (ℕ × Node)) → IsMatch root → AreSound root ps → for_each (match_at doc) ps ≡ gives ms → AreMatches ms
 each_matches doc root [] ms is sound h = subst AreMatches (gives_same h) tt
 each_matches doc root (p ∷ ps) ms is sound h =
     let w = joined_gives (match_at doc p) (for_each (match_at doc) ps) ms h in

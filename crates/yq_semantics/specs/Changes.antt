@@ -11,7 +11,7 @@ use Rattle.yq_semantics.specs.declared.refusal.Refusal.TheVariants.{IndexOutOfRa
 use Rattle.yq_semantics.specs.declared.refusal.Refusal.TheVariants.{NoPlaceForComment, BadCommentText, RootDelete, TooDeep, KeyTooLong}
 use Rattle.yq_semantics.specs.Judgement.{Judgement, and_then, gives, refuses}
 use Rattle.yq_semantics.{specs.Program.{is_index, PathStep, key, index, each, Stage, Update, assign, delete, comment}, specs.Pipes.places}
-use Rattle.yq_semantics.{specs.Places.{Place, root_place, for_each}, specs.RightValues.{is_null, as_items, sum, right_value}}
+use Rattle.yq_semantics.{specs.Places.{FoundPlace, root_place, for_each}, specs.RightValues.{is_null, as_items, sum, right_value}}
 use Rattle.yq_core.specs.Paths as paths
 use Rattle.yq_core.specs.Tree as tree
 use Rattle.yq_semantics.specs.declared.program.CommentPlace.TheVariants as comments
@@ -64,7 +64,7 @@ put_below n [] v = gives (replaces v)
 put_below n (m ∷ ms) v = if list_any is_index (m ∷ ms) then refuses IndexOutOfRange else gives (created n m ms v)
 
 -- the same with the path (own)
-abbrev pub put_with_path : Place → Node → Judgement (List Changed)
+abbrev pub put_with_path : FoundPlace → Node → Judgement (List Changed)
 put_with_path p v = and_then (λ c. gives ((p.path, c) ∷ [])) (put_below p.node p.missing v)
 
 -- an entry for a mapping with these entries (own)
@@ -90,12 +90,12 @@ added (list anchor cs) v = gives (adds (additions none (as_items v)))
 added (tree.map anchor cs) v = added_entries cs v
 
 -- a value that is added at a place of which these steps are missing (own)
-abbrev pub add_below : List PathStep → Place → Node → Judgement (List Changed)
+abbrev pub add_below : List PathStep → FoundPlace → Node → Judgement (List Changed)
 add_below [] p v = and_then (λ c. gives ((p.path, c) ∷ [])) (added p.node v)
 add_below (m ∷ ms) p v = put_with_path p v
 
 -- the same of a place; null adds nothing (own)
-abbrev pub add_at : Place → Node → Judgement (List Changed)
+abbrev pub add_at : FoundPlace → Node → Judgement (List Changed)
 add_at p v = if is_null v then gives [] else add_below p.missing p v
 
 -- what is removed at a path of which these steps are missing: what is missing is not, and a root can't be (own)
@@ -105,7 +105,7 @@ remove_below [] [] = refuses RootDelete
 remove_below [] (s ∷ x) = gives ((s ∷ x, removes) ∷ [])
 
 -- the same of a place (own)
-abbrev pub remove_at : Place → Judgement (List Changed)
+abbrev pub remove_at : FoundPlace → Judgement (List Changed)
 remove_at p = remove_below p.missing p.path
 
 -- whether nothing is missing (own)
@@ -114,7 +114,7 @@ is_there [] = true
 is_there (m ∷ ms) = false
 
 -- the text of a comment that is set at a place (own)
-abbrev pub comment_at : Room → CommentPlace → List ℕ → Place → Judgement (List Changed)
+abbrev pub comment_at : Room → CommentPlace → List ℕ → FoundPlace → Judgement (List Changed)
 comment_at room place text p =
     if is_there p.missing && room.has place p.path then gives ((p.path, sets_comment place text) ∷ []) else refuses NoPlaceForComment
 
@@ -216,16 +216,16 @@ all_allowed root cs = for_each (λ c. and_then (λ d. gives (d ∷ [])) (allowed
 -- ---- in a document
 
 -- what is changed at each of several places (own)
-abbrev pub at_each : Node → (Place → Judgement (List Changed)) → List Place → Judgement (List Changed)
+abbrev pub at_each : Node → (FoundPlace → Judgement (List Changed)) → List FoundPlace → Judgement (List Changed)
 at_each root f ps = for_each (λ p. and_then (all_allowed root) (f p)) ps
 
 -- what is changed at places by one value, which is evaluated if there are any (own)
-abbrev pub with_value : Node → Judgement Node → (Place → Node → Judgement (List Changed)) → List Place → Judgement (List Changed)
+abbrev pub with_value : Node → Judgement Node → (FoundPlace → Node → Judgement (List Changed)) → List FoundPlace → Judgement (List Changed)
 with_value root right f [] = gives []
 with_value root right f (p ∷ ps) = and_then (λ v. at_each root (λ q. f q v) (p ∷ ps)) right
 
 -- what an update changes at places of the document of that number (own)
-abbrev pub changes_at : ℕ → Room → Node → Update → List Place → Judgement (List Changed)
+abbrev pub changes_at : ℕ → Room → Node → Update → List FoundPlace → Judgement (List Changed)
 changes_at doc room root (assign left operator.Set right) ps = with_value root (right_value doc right (root_place root)) put_with_path ps
 changes_at doc room root (assign left operator.Modify right) ps = at_each root (λ p. and_then (put_with_path p) (right_value doc right p)) ps
 changes_at doc room root (assign left operator.Add right) ps = with_value root (right_value doc right (root_place root)) add_at ps

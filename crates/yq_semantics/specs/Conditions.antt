@@ -5,7 +5,7 @@ use Rattle.yq_core.{specs.declared.kind.Kind.Kind, specs.Paths.{To, child_at}, s
 use Rattle.yq_core.specs.Tree.{Node, alias, scalar, list, map}
 use Rattle.yq_outline.specs.Outline.{null_node}
 use Rattle.yq_semantics.{specs.declared.refusal.Refusal.TheVariants.ThroughAlias, specs.Judgement.{Judgement, and_then, gives, refuses}}
-use Rattle.yq_semantics.specs.Places.{Place, traverse}
+use Rattle.yq_semantics.specs.Places.{FoundPlace, traverse}
 use Rattle.yq_semantics.specs.Program.{PathStep, Operand, value_at, document_index, Condition, compares, has}
 use Rattle.yq_core.specs.declared.kind.Kind.TheVariants as kinds
 
@@ -42,16 +42,16 @@ node_there [] n = n
 node_there (s ∷ ss) n = null_node
 
 -- the same of a place (own)
-abbrev pub value_of : Place → Node
+abbrev pub value_of : FoundPlace → Node
 value_of p = node_there p.missing p.node
 
 -- whether the first place has that scalar (own)
-abbrev pub first_equals : Kind → List ℕ → List Place → Judgement Bool
+abbrev pub first_equals : Kind → List ℕ → List FoundPlace → Judgement Bool
 first_equals kind text [] = gives false
 first_equals kind text (p ∷ ps) = is_scalar kind text (value_of p)
 
 -- whether what is compared is that scalar, at a place in the document of that number (own)
-abbrev pub operand_is : ℕ → Operand → Kind → List ℕ → Place → Judgement Bool
+abbrev pub operand_is : ℕ → Operand → Kind → List ℕ → FoundPlace → Judgement Bool
 operand_is doc (value_at steps) kind text p = and_then (first_equals kind text) (traverse steps (p ∷ []))
 operand_is doc document_index kind text p = gives (same_scalar kinds.Int (decimal doc) kind text)
 
@@ -63,6 +63,6 @@ has_key k (list anchor cs) = gives false
 has_key k (map anchor cs) = gives (is_some (child_at (To k) cs))
 
 -- whether a condition holds at a place in the document of that number (own)
-abbrev pub condition_holds : ℕ → Condition → Place → Judgement Bool
+abbrev pub condition_holds : ℕ → Condition → FoundPlace → Judgement Bool
 condition_holds doc (compares operand equal kind text) p = and_then (λ b. gives (same_bool equal b)) (operand_is doc operand kind text p)
 condition_holds doc (has k) p = has_key k (value_of p)

@@ -3,7 +3,7 @@ use Rattle.std.specs.Prelude.{ℕ, suc, List, [], ◌∷◌, ◌++◌, Option, S
 use Rattle.yq_core.{specs.Tree.{Node, alias, scalar, list, map, Children, none, child}, specs.Values.{items, entries}}
 use Rattle.yq_documents.specs.Documents.{Document}
 use Rattle.yq_semantics.{specs.declared.refusal.Refusal.TheVariants.ThroughAlias, specs.Conditions.value_of}
-use Rattle.yq_semantics.{specs.Judgement.{Judgement, and_then, gives, refuses}, specs.Pipes.places, specs.Places.{Place, for_each}}
+use Rattle.yq_semantics.{specs.Judgement.{Judgement, and_then, gives, refuses}, specs.Pipes.places, specs.Places.{FoundPlace, for_each}}
 use Rattle.yq_semantics.specs.Program.{Stage}
 
 -- the key of an entry: each one has a key (own)
@@ -38,11 +38,11 @@ abbrev mutual
   entry_copies (child label n cs) = and_then (λ v. and_others (entry_copies cs) (keyed label.key v)) (copy n)
 
 -- a copy of the value at a place (own)
-abbrev pub copy_at : Place → Judgement Node
+abbrev pub copy_at : FoundPlace → Judgement Node
 copy_at p = copy (value_of p)
 
 -- the one match at a place in the document of that number (own)
-abbrev pub match_at : ℕ → Place → Judgement (List (ℕ × Node))
+abbrev pub match_at : ℕ → FoundPlace → Judgement (List (ℕ × Node))
 match_at doc p = and_then (λ v. gives ((doc, v) ∷ [])) (copy_at p)
 
 -- copies of what a pipe finds in the document of that number: it is matched first (own)

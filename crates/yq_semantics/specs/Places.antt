@@ -8,17 +8,17 @@ use Rattle.yq_core.specs.Paths as paths
 use Rattle.yq_core.specs.Tree as tree
 
 -- a place to which steps lead: the path to the last node on the way, that node, and the steps that are missing from there (own)
-pub record Place : Type 0 where
+pub record FoundPlace : Type 0 where
   pub path : List paths.Step
   pub node : Node
   pub missing : List PathStep
 
 -- the place of a root (own)
-abbrev pub root_place : Node → Place
+abbrev pub root_place : Node → FoundPlace
 root_place n = record { path = []; node = n; missing = [] }
 
 -- the place of an item or entry, by the step to it (own)
-abbrev pub child_place : Place → paths.Step × Node → Place
+abbrev pub child_place : FoundPlace → paths.Step × Node → FoundPlace
 child_place p x = record { path = p.path ++ x.0 ∷ []; node = x.1; missing = [] }
 
 -- what comes of each of several, one after the other, or the first refusal (own)
@@ -27,17 +27,17 @@ for_each f [] = gives []
 for_each f (x ∷ xs) = and_then (λ first. and_then (λ others. gives (first ++ others)) (for_each f xs)) (f x)
 
 -- the place from which one more step is missing (own)
-abbrev pub further_place : PathStep → Place → Place
+abbrev pub further_place : PathStep → FoundPlace → FoundPlace
 further_place s p = record { path = p.path; node = p.node; missing = p.missing ++ s ∷ [] }
 
 -- where a step leads that is missing from a place; `[]` leads to none there (own)
-abbrev pub miss : PathStep → Place → List Place
+abbrev pub miss : PathStep → FoundPlace → List FoundPlace
 miss (key k) p = further_place (key k) p ∷ []
 miss (index i) p = further_place (index i) p ∷ []
 miss each p = []
 
 -- the place of what was found, or that from which the step is missing (own)
-abbrev pub found_place : PathStep → Place → ChildFound → List Place
+abbrev pub found_place : PathStep → FoundPlace → ChildFound → List FoundPlace
 found_place s p None = miss s p
 found_place s p (Some x) = child_place p x ∷ []
 
@@ -59,18 +59,18 @@ all_steps (list anchor cs) = gives (stepped 0 cs)
 all_steps (tree.map anchor cs) = gives (stepped 0 cs)
 
 -- where a step leads from a place that is there (own)
-abbrev pub step_there : PathStep → Place → Judgement (List Place)
+abbrev pub step_there : PathStep → FoundPlace → Judgement (List FoundPlace)
 step_there (key k) p = and_then (λ x. gives (found_place (key k) p x)) (key_step k p.node)
 step_there (index i) p = and_then (λ x. gives (found_place (index i) p x)) (index_step i p.node)
 step_there each p = and_then (λ xs. gives (map (child_place p) xs)) (all_steps p.node)
 
 -- where a step leads from a place, of which these steps are missing (own)
-abbrev pub step_from : List PathStep → PathStep → Place → Judgement (List Place)
+abbrev pub step_from : List PathStep → PathStep → FoundPlace → Judgement (List FoundPlace)
 step_from [] s p = step_there s p
 step_from (m ∷ ms) s p = gives (miss s p)
 
 -- where a step leads from a place (own)
-abbrev pub step_on : PathStep → Place → Judgement (List Place)
+abbrev pub step_on : PathStep → FoundPlace → Judgement (List FoundPlace)
 step_on s p = step_from p.missing s p
 
 -- what comes of something when several act on it in turn, each on what the one before gave (own)
@@ -79,5 +79,5 @@ chained f [] a = gives a
 chained f (s ∷ ss) a = and_then (chained f ss) (f s a)
 
 -- where steps lead from places: each acts on all of them, in order, before the next one does (own)
-abbrev pub traverse : List PathStep → List Place → Judgement (List Place)
+abbrev pub traverse : List PathStep → List FoundPlace → Judgement (List FoundPlace)
 traverse steps ps = chained (λ s. for_each (step_on s)) steps ps

@@ -7,7 +7,7 @@ use Rattle.yq_core.specs.Tree.{Node, alias, scalar, list, map, Children, none, c
 use Rattle.yq_outline.specs.Outline.{null_node}
 use Rattle.yq_semantics.specs.declared.refusal.Refusal.TheVariants.{NotOneValue, KindMismatch, IntegerRange, FloatArithmetic}
 use Rattle.yq_semantics.{specs.Judgement.{Judgement, and_then, gives, refuses}, specs.Program.{Term, literal, found}, specs.Copies.copy_at}
-use Rattle.yq_semantics.{specs.Pipes.pipe_on, specs.Places.Place}
+use Rattle.yq_semantics.{specs.Pipes.pipe_on, specs.Places.FoundPlace}
 use Rattle.yq_core.specs.declared.kind.Kind.TheVariants as kinds
 
 -- whether a node is null (YAML 1.2.2, section 10.2.1.1)
@@ -62,22 +62,22 @@ abbrev pub sum : Node → Node → Judgement Node
 sum n v = if is_null n then gives v else (if is_null v then gives n else value_sum n v)
 
 -- a copy of the one place that there is (own)
-abbrev pub only_copy : List Place → Judgement Node
+abbrev pub only_copy : List FoundPlace → Judgement Node
 only_copy [] = refuses NotOneValue
 only_copy (p ∷ []) = copy_at p
 only_copy (p ∷ (q ∷ qs)) = refuses NotOneValue
 
 -- the value of a term, from a place in the document of that number (own)
-abbrev pub term_value : ℕ → Place → Term → Judgement Node
+abbrev pub term_value : ℕ → FoundPlace → Term → Judgement Node
 term_value doc p (literal v) = gives v
 term_value doc p (found pipe) = and_then only_copy (pipe_on doc pipe (p ∷ []))
 
 -- a value and then terms, each evaluated and then added (own)
-abbrev pub sum_from : ℕ → Place → Node → List Term → Judgement Node
+abbrev pub sum_from : ℕ → FoundPlace → Node → List Term → Judgement Node
 sum_from doc p v [] = gives v
 sum_from doc p v (t ∷ ts) = and_then (λ u. and_then (λ w. sum_from doc p w ts) (sum v u)) (term_value doc p t)
 
 -- the value of a sum of terms (own)
-abbrev pub right_value : ℕ → List Term → Place → Judgement Node
+abbrev pub right_value : ℕ → List Term → FoundPlace → Judgement Node
 right_value doc [] p = gives null_node
 right_value doc (t ∷ ts) p = and_then (λ v. sum_from doc p v ts) (term_value doc p t)

@@ -4,7 +4,7 @@ ghost use Rattle.yq_core.{specs.PathOrder.Apart, specs.Paths.{Step as TreeStep, 
 ghost use Rattle.yq_documents.specs.Documents.{Document};
 ghost use Rattle.yq_semantics.{specs.After.{op_document, after_op, all_after}, specs.Changes.Room, specs.Fits.{Fits, AllFit}};
 ghost use Rattle.yq_semantics.{specs.Judgement.{gives, refuses}, specs.Meaning.{AreReady, meaning}, specs.Operations.Operation};
-ghost use Rattle.yq_semantics.{specs.Pipes.places, specs.Places.Place, specs.PlacesApart.{AreApart, AreIn}};
+ghost use Rattle.yq_semantics.{specs.Pipes.places, specs.Places.FoundPlace, specs.PlacesApart.{AreApart, AreIn}};
 ghost use Rattle.yq_semantics.{specs.Program.{Stage as PipeStage, Update as Change, UpdatesHold}, specs.Rooms.RoomsAreReady};
 ghost use Rattle.yq_semantics.{specs.RoomsKept.{AlikeFor, LeavesRooms, MayFollow}, specs.declared.refusal.Refusal.Refusal as Why};
 ghost use Rattle.yq_semantics.specs.Plans as plans;
@@ -18,7 +18,7 @@ pub fn rooms_ready()
 /// No two of the places to which a pipe leads in a tree are the same, and none
 /// lies in another; the node of each is the one at its path.
 pub fn places_apart()
-    ensures { (doc : ℕ) (pipe : List PipeStage) (root : Node) (ps : List Place) → IsTree root →
+    ensures { (doc : ℕ) (pipe : List PipeStage) (root : Node) (ps : List FoundPlace) → IsTree root →
         places doc pipe root ≡ gives ps → AreApart ps × AreIn root ps }
 {}
 

@@ -82,7 +82,7 @@ impl<'a, 't> FoundPlace<'a, 't> {
         step: NodeStep<'a>,
         node: &Node<'a, 't>,
     ) -> FoundPlace<'a, 't>
-        ensures { (p : spec.Place) → p.path ≡ path_of path.now → place_of result ≡
+        ensures { (p : spec.FoundPlace) → p.path ≡ path_of path.now → place_of result ≡
             spec.child_place p (node_step_of step.entry, node_of node.now) }
     {
         FoundPlace {
@@ -98,7 +98,7 @@ impl<'a, 't> FoundPlace<'a, 't> {
         before: usize,
         child: &Node<'a, 't>,
     ) -> FoundPlace<'a, 't>
-        ensures { (p : spec.Place) → p.path ≡ path_of path.now → place_of result ≡
+        ensures { (p : spec.FoundPlace) → p.path ≡ path_of path.now → place_of result ≡
             spec.child_place p (
               spec.step_by before (label_of child.now).key,
               node_of child.now,

@@ -9,7 +9,7 @@ use crate::cut_text::CutText;
 use std::alloc::{AllocError, Global};
 use yq_core::{Kind, Step};
 use yq_documents::Path;
-use yq_outline::Content;
+use yq_outline::ScalarContent;
 use yq_places::{NodeAt, block_node, head_node, node_place, place_line};
 
 impl<'t> CutText<'_, 't> {
@@ -45,7 +45,7 @@ impl<'t> CutText<'_, 't> {
         &self,
         alloc: Global,
         path: &Path,
-    ) -> Result<Option<(Kind, Content<'t>)>, AllocError>
+    ) -> Result<Option<(Kind, ScalarContent<'t>)>, AllocError>
         ensures { IfOk result (λ o. option_map spec.scalar_view o ≡
             option_and_then spec.scalar_in (spec.node_in path.now.doc (steps_of path.now)
             (cut_of self.now))) }

@@ -9,7 +9,7 @@ ghost use Rattle.yq_outline.specs.Comments as comments;
 ghost use Rattle.yq_documents.specs.Decoded as spec;
 
 use crate::nodes::body::Body;
-use crate::nodes::node::Written;
+use crate::nodes::node::WrittenLabel;
 use yq_core::{Kind, is_quoted, resolve};
 use yq_documents::{Documents, anchor_name, decoded_key, head_decoded};
 use yq_outline::{Head, Position, between_quotes};
@@ -134,12 +134,12 @@ pub(crate) fn line_written<'d, 't>(
     text: &'d Documents<'t>,
     document: usize,
     at: Position,
-) -> Written<'d, 't>
+) -> WrittenLabel<'d, 't>
     requires there { document < length (documents_of text.now) }
     requires line { IsLineIn text.now document at }
     ensures { OfLineIn text.now document at (λ l. written_label result ≡ label l) }
 {
-    Written {
+    WrittenLabel {
         key: line_key(text, document, at),
         gap: line_gap(text, document, at),
         tail: line_tail(text, document, at),

@@ -32,7 +32,7 @@ pub enum NodeKind {
 
 /// What is written about the entry or item of a line.
 #[derive(Clone, Copy)]
-pub(crate) struct Written<'d, 't> {
+pub(crate) struct WrittenLabel<'d, 't> {
     /// Its key, if it has one.
     pub(crate) key: Option<&'d str>,
     /// The gap before the line's row, where the line begins it.
@@ -47,7 +47,7 @@ pub(crate) enum Slot<'d, 't> {
     /// It is the root of a document.
     Root,
     /// In the entry or item of a line.
-    Line(Written<'d, 't>),
+    Line(WrittenLabel<'d, 't>),
     /// In a flow collection, behind this key, if it has one.
     Inline(Option<&'d str>),
 }

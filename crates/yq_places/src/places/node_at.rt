@@ -10,7 +10,7 @@ ghost use Rattle.yq_places.specs.NodesAt as spec;
 use crate::places::node_place::NodePlace;
 use std::alloc::{AllocError, Global};
 use yq_core::{Form, Inline, Kind, Step};
-use yq_outline::{Content, Head, Position, Stretch};
+use yq_outline::{Head, Position, ScalarContent, Stretch};
 use yq_row_table::Rows;
 use yq_row_walk::{behind, is_deeper, is_item_at};
 
@@ -18,7 +18,7 @@ use yq_row_walk::{behind, is_deeper, is_item_at};
 #[derive(Drop)]
 pub enum NodeAt<'t> {
     Alias,
-    Scalar(Kind, Content<'t>),
+    Scalar(Kind, ScalarContent<'t>),
     /// A sequence, and whether it has several items.
     List(bool),
     /// A mapping, and whether it has several entries.
@@ -27,7 +27,7 @@ pub enum NodeAt<'t> {
 
 impl<'t> NodeAt<'t> {
     /// The scalar that it is, if it is one.
-    pub fn scalar(self) -> Option<(Kind, Content<'t>)>
+    pub fn scalar(self) -> Option<(Kind, ScalarContent<'t>)>
         ensures { option_map spec.scalar_view result ≡
             spec.summary_scalar (spec.node_view self.entry) }
     {
@@ -61,11 +61,11 @@ fn inline_node<'t>(
         return Ok(None);
     };
     match &entry.node.form {
-        Form::Empty => Ok(Some(NodeAt::Scalar(Kind::Null, Content::Slice("null")))),
+        Form::Empty => Ok(Some(NodeAt::Scalar(Kind::Null, ScalarContent::Slice("null")))),
         Form::Alias(_) => Ok(Some(NodeAt::Alias)),
         Form::Scalar(scalar, _) => {
             let text = String::from_str(alloc, scalar.text())?;
-            Ok(Some(NodeAt::Scalar(scalar.kind(), Content::Own(text))))
+            Ok(Some(NodeAt::Scalar(scalar.kind(), ScalarContent::Own(text))))
         }
         Form::List(items) => Ok(Some(NodeAt::List(items.len() > 1))),
         Form::Map(entries) => Ok(Some(NodeAt::Map(entries.len() > 1))),
@@ -105,7 +105,7 @@ fn lines_node<'t>(rows: &Rows<'_>, document: Stretch, under: Position, floor: us
         (value (part (lines_of_rows h.rows) (line_number document h.rows under) floor)) }
 {
     if !is_deeper(rows, document, under, floor) {
-        return NodeAt::Scalar(Kind::Null, Content::Slice("null"));
+        return NodeAt::Scalar(Kind::Null, ScalarContent::Slice("null"));
     }
     let others = behind(rows, document, under);
     let several = is_deeper(rows, document, others, floor);

@@ -9,7 +9,7 @@ use Rattle.yq_semantics.{specs.Judgement.{Judgement, gives}, specs.Matching.key_
 use Rattle.yq_semantics.specs.Changes.{Addition, appends, overwrites, addition, additions, is_overlong_key, has_long_key, writes_long_key}
 use Rattle.yq_semantics.{specs.Changes.{value_in, is_deep, is_used_inside, overwrites_used}, specs.Meaning.add_to}
 use Rattle.yq_semantics.specs.Pipes.{places, select_on}
-use Rattle.yq_semantics.specs.Places.{Place, root_place, child_place, for_each, miss, step_there, step_on}
+use Rattle.yq_semantics.specs.Places.{FoundPlace, root_place, child_place, for_each, miss, step_there, step_on}
 use Rattle.yq_semantics.{specs.Program.{PathStep, key, Condition, Stage}, proofs.JudgementLaws.{then_gives, gives_same}}
 use Rattle.yq_semantics.{proofs.ChildPlaces.node_further, proofs.PathLaws.{bytes_differ, bytes_same}, proofs.updates.FitsInOrder.FitAdds}
 use Rattle.yq_semantics.{proofs.updates.Each.{Each, each_given}, proofs.updates.PipePlaces.{pipe_keeps, select_keeps}}
@@ -30,23 +30,23 @@ abbrev pub IsMissed : List PathStep → Node → Type 0
 IsMissed [] n = Unit {0}
 IsMissed (m ∷ ms) n = Lacks m n
 
-abbrev pub AreMissed : List Place → Type 0
-AreMissed ps = Each (λ (p : Place). IsMissed p.missing p.node) ps
+abbrev pub AreMissed : List FoundPlace → Type 0
+AreMissed ps = Each (λ (p : FoundPlace). IsMissed p.missing p.node) ps
 
-abbrev Keeps : (Place → Judgement (List Place)) → Type 0
-Keeps f = (p : Place) (qs : List Place) → IsMissed p.missing p.node → f p ≡ gives qs → AreMissed qs
+abbrev Keeps : (FoundPlace → Judgement (List FoundPlace)) → Type 0
+Keeps f = (p : FoundPlace) (qs : List FoundPlace) → IsMissed p.missing p.node → f p ≡ gives qs → AreMissed qs
 
-each_missed : (f : Place → Judgement (List Place)) → Keeps f → (ps qs : List Place) → AreMissed ps → for_each f ps ≡ gives qs → AreMissed qs
-each_missed f so ps qs m h = each_given AreMissed (λ (p : Place). IsMissed p.missing p.node) f (λ p more miss. ((λ rs e. so p rs miss.0 e), miss.1)) ps qs m h
+each_missed : (f : FoundPlace → Judgement (List FoundPlace)) → Keeps f → (ps qs : List FoundPlace) → AreMissed ps → for_each f ps ≡ gives qs → AreMissed qs
+each_missed f so ps qs m h = each_given AreMissed (λ (p : FoundPlace). IsMissed p.missing p.node) f (λ p more miss. ((λ rs e. so p rs miss.0 e), miss.1)) ps qs m h
 
-children_missed : (p : Place) (xs : List (paths.Step × Node)) → AreMissed (map (child_place p) xs)
+children_missed : (p : FoundPlace) (xs : List (paths.Step × Node)) → AreMissed (map (child_place p) xs)
 children_missed p [] = tt
 children_missed p (x ∷ xs) = (tt, children_missed p xs)
 
 key_lacks : (k : List ℕ) (n : Node) → key_step k n ≡ gives None → Lacks (key k) n
 key_lacks k n h1 = search (rules, gives_same, none-some)
 
-miss_missed : (s : PathStep) (p : Place) → IsMissed p.missing p.node → (p.missing ≡ [] → Lacks s p.node) → AreMissed (miss s p)
+miss_missed : (s : PathStep) (p : FoundPlace) → IsMissed p.missing p.node → (p.missing ≡ [] → Lacks s p.node) → AreMissed (miss s p)
 miss_missed s p h1 h2 = search rules
 
 there_missed : (s : PathStep) → Keeps (step_there s)
@@ -59,7 +59,7 @@ select_missed : (doc : ℕ) (c : Condition) → Keeps (select_on doc c)
 select_missed doc c p qs m h = select_keeps AreMissed doc c p qs (m, tt) tt h
 
 -- of what is missing nothing is there
-pub places_missed : (doc : ℕ) (pipe : List Stage) (root : Node) (ps : List Place) → places doc pipe root ≡ gives ps → AreMissed ps
+pub places_missed : (doc : ℕ) (pipe : List Stage) (root : Node) (ps : List FoundPlace) → places doc pipe root ≡ gives ps → AreMissed ps
 places_missed doc pipe root ps h =
     pipe_keeps doc AreMissed (λ s. each_missed (step_on s) (step_missed s)) (λ c. each_missed (select_on doc c) (select_missed doc c)) pipe (root_place root ∷ []) ps (tt, tt) h
 

@@ -7,9 +7,9 @@ use Rattle.yq_core.{specs.PathOrder.Before, specs.Shapes.{AreItems, AreEntries, 
 use Rattle.yq_semantics.{specs.Judgement.{Judgement, and_then, gives}, specs.Matching.{ChildFound, key_step, index_step}}
 use Rattle.yq_semantics.{specs.Program.{PathStep, key, index, each, Condition, Stage}, specs.NodeEdits.step_to}
 use Rattle.yq_semantics.specs.Pipes.{select_on, places}
-use Rattle.yq_semantics.specs.Places.{Place, root_place, child_place, for_each, miss, found_place, stepped, all_steps, step_there, step_on}
-use Rattle.yq_semantics.{specs.PlacesApart.{IsBeforeAll, IsIn}, proofs.JudgementLaws.{then_gives, gives_same}, proofs.PathLaws.parts_differ}
-use Rattle.yq_semantics.proofs.GoodPlaces.{LieIn, AreSound, LeadsSo, AreGood, each_good}
+use Rattle.yq_semantics.specs.Places.{FoundPlace, root_place, child_place, for_each, miss, found_place, stepped, all_steps, step_there}
+use Rattle.yq_semantics.{specs.Places.step_on, specs.PlacesApart.{IsBeforeAll, IsIn}, proofs.JudgementLaws.{then_gives, gives_same}}
+use Rattle.yq_semantics.{proofs.PathLaws.parts_differ, proofs.GoodPlaces.{LieIn, AreSound, LeadsSo, AreGood, each_good}}
 use Rattle.yq_semantics.proofs.ChildPlaces.{StepsBefore, StepsApart, items_apart, entries_apart}
 use Rattle.yq_semantics.proofs.updates.StepPlaces.{leads_step, step_keeps}
 use Rattle.yq_semantics.proofs.updates.PipePlaces.{leads_select, pipe_keeps, select_keeps}
@@ -22,15 +22,15 @@ abbrev pub IsFirstStep : Node → paths.Step → Type 0
 IsFirstStep root s = (label : Label) × (n : Node) × (cs : Children) × (children_of root ≡ child label n cs) × (step_to 0 label ≡ s)
 
 -- none of these places is at the path of that one step
-abbrev pub NoPlaceAt : paths.Step → List Place → Type 0
-NoPlaceAt s ps = Each (λ (p : Place). p.path ≢ s ∷ []) ps
+abbrev pub NoPlaceAt : paths.Step → List FoundPlace → Type 0
+NoPlaceAt s ps = Each (λ (p : FoundPlace). p.path ≢ s ∷ []) ps
 
 -- none but perhaps the first
-abbrev pub NoPlaceLater : paths.Step → List Place → Type 0
+abbrev pub NoPlaceLater : paths.Step → List FoundPlace → Type 0
 NoPlaceLater s [] = Unit {0}
 NoPlaceLater s (p ∷ ps) = NoPlaceAt s ps
 
-later_join : (s : paths.Step) (ps qs : List Place) → NoPlaceLater s ps → NoPlaceAt s qs → NoPlaceLater s (ps ++ qs)
+later_join : (s : paths.Step) (ps qs : List FoundPlace) → NoPlaceLater s ps → NoPlaceAt s qs → NoPlaceLater s (ps ++ qs)
 later_join s ps qs h1 h2 = search (rules, each_join)
 
 no_nil : (p : List paths.Step) (t : paths.Step) → p ++ t ∷ [] ≡ [] → ⊥
@@ -47,35 +47,35 @@ lying_other s (y ∷ x) (t ∷ p) r b d e =
     d (ap (λ (u : paths.Step). u ∷ p) (head-eq_of_cons-eq e) ∙ ap (λ (q : List paths.Step). s ∷ q) (front_nil p r (tail-eq_of_cons-eq e)))
 lying_other s _ _ r b d e = b
 
-lying_none : (s : paths.Step) (x p : List paths.Step) (qs : List Place) → Before x p → p ≢ s ∷ [] → LieIn p qs → NoPlaceAt s qs
+lying_none : (s : paths.Step) (x p : List paths.Step) (qs : List FoundPlace) → Before x p → p ≢ s ∷ [] → LieIn p qs → NoPlaceAt s qs
 lying_none s x p [] b d l = tt
 lying_none s x p (q ∷ qs) b d l = ((λ e. lying_other s x p l.0.0 b d (sym l.0.1 ∙ e)), lying_none s x p qs b d l.1)
 
-abbrev LeadsFirst : Node → paths.Step → (Place → Judgement (List Place)) → Type 0
-LeadsFirst root s f = (p : Place) (qs : List Place) → IsTree p.node → IsIn root p → f p ≡ gives qs → NoPlaceLater s qs
+abbrev LeadsFirst : Node → paths.Step → (FoundPlace → Judgement (List FoundPlace)) → Type 0
+LeadsFirst root s f = (p : FoundPlace) (qs : List FoundPlace) → IsTree p.node → IsIn root p → f p ≡ gives qs → NoPlaceLater s qs
 
-each_at_none : (root : Node) (f : Place → Judgement (List Place)) → LeadsSo root f → (s : paths.Step) (x : List paths.Step) (ps qs : List Place) → IsBeforeAll x ps → AreSound root ps → NoPlaceAt s ps →
+each_at_none : (root : Node) (f : FoundPlace → Judgement (List FoundPlace)) → LeadsSo root f → (s : paths.Step) (x : List paths.Step) (ps qs : List FoundPlace) → IsBeforeAll x ps → AreSound root ps → NoPlaceAt s ps →
     for_each f ps ≡ gives qs → NoPlaceAt s qs
 each_at_none root f so s x ps qs b t n h =
-    each_given (λ rs. IsBeforeAll x rs × AreSound root rs × NoPlaceAt s rs) (λ (p : Place). p.path ≢ s ∷ []) f
+    each_given (λ rs. IsBeforeAll x rs × AreSound root rs × NoPlaceAt s rs) (λ (p : FoundPlace). p.path ≢ s ∷ []) f
     (λ p more r. ((λ rs e. lying_none s x p.path rs r.0.0 r.2.0 (so p rs r.1.0.0 r.1.0.1 e).inside), (r.0.1, r.1.1, r.2.1))) ps qs (b, t, n) h
 
-each_first : (root : Node) (f : Place → Judgement (List Place)) → LeadsSo root f → (s : paths.Step) → LeadsFirst root s f → (ps qs : List Place) → AreGood root ps → NoPlaceLater s ps → for_each f ps ≡ gives qs → NoPlaceLater s qs
+each_first : (root : Node) (f : FoundPlace → Judgement (List FoundPlace)) → LeadsSo root f → (s : paths.Step) → LeadsFirst root s f → (ps qs : List FoundPlace) → AreGood root ps → NoPlaceLater s ps → for_each f ps ≡ gives qs → NoPlaceLater s qs
 each_first root f h1 s h2 ps qs h3 h4 h5 = search (rules, gives_same, joined_gives, later_join, each_at_none)
 
 -- of the children of the root, the first one is first
-root_children : (s : paths.Step) (p : Place) (xs : List (paths.Step × Node)) → p.path ≡ [] → StepsBefore s xs → NoPlaceAt s (map (child_place p) xs)
+root_children : (s : paths.Step) (p : FoundPlace) (xs : List (paths.Step × Node)) → p.path ≡ [] → StepsBefore s xs → NoPlaceAt s (map (child_place p) xs)
 root_children s p [] is h = tt
 root_children s p (x ∷ xs) is h =
     ((λ e. parts_differ s x.0 h.0 (head-eq_of_cons-eq (ap (λ (q : List paths.Step). q ++ x.0 ∷ []) (sym is) ∙ e))), root_children s p xs is h.1)
 
 -- of those of another node none is there
-other_children : (s t : paths.Step) (r : List paths.Step) (p : Place) (xs : List (paths.Step × Node)) → p.path ≡ t ∷ r → NoPlaceAt s (map (child_place p) xs)
+other_children : (s t : paths.Step) (r : List paths.Step) (p : FoundPlace) (xs : List (paths.Step × Node)) → p.path ≡ t ∷ r → NoPlaceAt s (map (child_place p) xs)
 other_children s t r p [] is = tt
 other_children s t r p (x ∷ xs) is =
     ((λ e. no_nil r x.0 (tail-eq_of_cons-eq (ap (λ (q : List paths.Step). q ++ x.0 ∷ []) (sym is) ∙ e))), other_children s t r p xs is)
 
-first_children : (root : Node) (s : paths.Step) → IsFirstStep root s → (p : Place) → IsIn root p → (cs : Children) → children_of p.node ≡ cs → AreItems cs ⊎ AreEntries cs → NoPlaceLater s (map (child_place p) (stepped 0 cs))
+first_children : (root : Node) (s : paths.Step) → IsFirstStep root s → (p : FoundPlace) → IsIn root p → (cs : Children) → children_of p.node ≡ cs → AreItems cs ⊎ AreEntries cs → NoPlaceLater s (map (child_place p) (stepped 0 cs))
 first_children root s first p at none is kind = tt
 first_children root s first p at (child label n cs) is kind = go p.path refl
   where
@@ -94,13 +94,13 @@ first_children root s first p at (child label n cs) is kind = go p.path refl
         root_children s p (stepped 1 cs) top (subst (λ (t : paths.Step). StepsBefore t (stepped 1 cs)) step (apart kind).0)
     go (t ∷ r) top = other_children s t r p (stepped 1 cs) top
 
-miss_later : (s : paths.Step) (step : PathStep) (p : Place) → NoPlaceLater s (miss step p)
+miss_later : (s : paths.Step) (step : PathStep) (p : FoundPlace) → NoPlaceLater s (miss step p)
 miss_later s step p = search rules
 
-found_later : (s : paths.Step) (step : PathStep) (p : Place) (j : Judgement ChildFound) (qs : List Place) → and_then (λ x. gives (found_place step p x)) j ≡ gives qs → NoPlaceLater s qs
+found_later : (s : paths.Step) (step : PathStep) (p : FoundPlace) (j : Judgement ChildFound) (qs : List FoundPlace) → and_then (λ x. gives (found_place step p x)) j ≡ gives qs → NoPlaceLater s qs
 found_later s step p j qs h = search (rules, then_gives, gives_same, miss_later)
 
-all_later : (root : Node) (s : paths.Step) → IsFirstStep root s → (p : Place) (n : Node) → p.node ≡ n → IsTree p.node → IsIn root p → (qs : List Place) → and_then (λ xs. gives (map (child_place p) xs))
+all_later : (root : Node) (s : paths.Step) → IsFirstStep root s → (p : FoundPlace) (n : Node) → p.node ≡ n → IsTree p.node → IsIn root p → (qs : List FoundPlace) → and_then (λ xs. gives (map (child_place p) xs))
     (all_steps n) ≡ gives qs → NoPlaceLater s qs
 all_later root s first p (alias name) is tree at qs h = absurd (cc)
 all_later root s first p (scalar anchor kind text) is tree at qs h = search (rules, then_gives, gives_same, first_children)
@@ -121,7 +121,7 @@ select_first : (root : Node) (s : paths.Step) (doc : ℕ) (c : Condition) → Le
 select_first root s doc c p qs tree at h = select_keeps (NoPlaceLater s) doc c p qs tt tt h
 
 -- the first item or entry of the root comes first
-pub places_first : (doc : ℕ) (pipe : List Stage) (root : Node) (ps : List Place) (s : paths.Step) → IsTree root → IsFirstStep root s → places doc pipe root ≡ gives ps → NoPlaceLater s ps
+pub places_first : (doc : ℕ) (pipe : List Stage) (root : Node) (ps : List FoundPlace) (s : paths.Step) → IsTree root → IsFirstStep root s → places doc pipe root ≡ gives ps → NoPlaceLater s ps
 places_first doc pipe root ps s tree first h =
     (pipe_keeps doc (λ qs. AreGood root qs × NoPlaceLater s qs)
     (λ t from to g e. (each_good root (step_on t) (leads_step root t) from to g.0 e, each_first root (step_on t) (leads_step root t) s (step_first root s first t) from to g.0 g.1 e))

@@ -8,7 +8,8 @@ use Rattle.yq_semantics.specs.Changes.{Change, replaces, Changed, Room, nested, 
 use Rattle.yq_semantics.specs.Changes.{add_below, add_at, remove_at, comment_at, is_too_long, is_too_deep, is_used_inside, takes_used}
 use Rattle.yq_semantics.specs.Changes.{allowed, all_allowed, at_each, with_value, changes_at, left_pipe, changes_in, can_be_comment}
 use Rattle.yq_semantics.{specs.Changes.{has_comment, value_in}, proofs.updates.Mentions.{HasNoAlias, IsPure}, specs.Pipes.places}
-use Rattle.yq_semantics.{specs.Places.{Place, root_place}, specs.PlacesApart.IsIn, specs.RightValues.{is_null, as_items, sum, right_value}}
+use Rattle.yq_semantics.{specs.Places.{FoundPlace, root_place}, specs.PlacesApart.IsIn}
+use Rattle.yq_semantics.specs.RightValues.{is_null, as_items, sum, right_value}
 use Rattle.yq_semantics.specs.Program.{SumHolds, UpdatesHold, PathStep, key, Term, Update, assign, delete, comment}
 use Rattle.yq_semantics.proofs.updates.Aliases.{AddNone, WritesNone}
 use Rattle.yq_semantics.proofs.updates.AllowedChanges.{IsMissed, AreMissed, places_missed, list_fits, entries_fit}
@@ -45,20 +46,20 @@ all_free room root cs ds f h =
         subst (AreFit room root) (ap (λ (d : Changed). d ∷ []) same.0 ∙ gives_same first.2) ((free.1 same.1, free.0), tt)
 
 -- what is changed at a place may be made
-abbrev SoFits : Room → Node → (Place → Judgement (List Changed)) → Type 0
-SoFits room root f = (p : Place) (cs : List Changed) → IsTree p.node → IsIn root p → IsMissed p.missing p.node → f p ≡ gives cs → EachIfFree room root cs
+abbrev SoFits : Room → Node → (FoundPlace → Judgement (List Changed)) → Type 0
+SoFits room root f = (p : FoundPlace) (cs : List Changed) → IsTree p.node → IsIn root p → IsMissed p.missing p.node → f p ≡ gives cs → EachIfFree room root cs
 
-each_fit : (room : Room) (root : Node) (f : Place → Judgement (List Changed)) → SoFits room root f → (ps : List Place) (cs : List Changed) → AreSound root ps → AreMissed ps → at_each root f ps ≡ gives cs → AreFit room root cs
+each_fit : (room : Room) (root : Node) (f : FoundPlace → Judgement (List Changed)) → SoFits room root f → (ps : List FoundPlace) (cs : List Changed) → AreSound root ps → AreMissed ps → at_each root f ps ≡ gives cs → AreFit room root cs
 each_fit room root f so ps cs s m h =
-    each_given (λ (qs : List Place). AreSound root qs × AreMissed qs) (λ (c : Changed). MayChange room root c × WritesNone c.1) (λ p. and_then (all_allowed root) (f p))
+    each_given (λ (qs : List FoundPlace). AreSound root qs × AreMissed qs) (λ (c : Changed). MayChange room root c × WritesNone c.1) (λ p. and_then (all_allowed root) (f p))
     (λ p more both. (one p both.0.0.0 both.0.0.1 both.1.0, (both.0.1, both.1.1))) ps cs (s, m) h
   where
-    one : (p : Place) → IsTree p.node → IsIn root p → IsMissed p.missing p.node → (ds : List Changed) → and_then (all_allowed root) (f p) ≡ gives ds → AreFit room root ds
+    one : (p : FoundPlace) → IsTree p.node → IsIn root p → IsMissed p.missing p.node → (ds : List Changed) → and_then (all_allowed root) (f p) ≡ gives ds → AreFit room root ds
     one p tree at miss ds h = let created = then_gives (all_allowed root) (f p) ds h in all_free room root created.0 ds (so p created.0 tree at miss created.1) created.2
 
 -- ---- at one place
 
-puts_fit : (room : Room) (root : Node) (p : Place) (v : Node) → IsIn root p → IsPure v → IfFree room root (p.path, replaces v)
+puts_fit : (room : Room) (root : Node) (p : FoundPlace) (v : Node) → IsIn root p → IsPure v → IfFree room root (p.path, replaces v)
 puts_fit room root p v at pure = (pure.1, λ f. ((pure.0, f.0, f.1), (p.node, at, ap (is_used_inside (names_of root)) (sym at) ∙ f.2)))
 
 nested_free : (ms : List PathStep) (v : Node) → HasNoAlias v → HasNoAlias (nested ms v)
@@ -84,7 +85,7 @@ adds_none : (cs ds : Children) → HaveNoAlias ds → AddNone (additions cs ds)
 adds_none cs none free = tt
 adds_none cs (child label v ds) free = (subst HasNoAlias (sym (addition_value cs label.key v)) (λ a m. free a (inl m)), adds_none cs ds (λ a m. free a (inr m)))
 
-added_fit : (room : Room) (root : Node) (p : Place) (v : Node) (n : Node) → p.node ≡ n → IsIn root p → IsPure v → (c : Change) → added n v ≡ gives c → IfFree room root (p.path, c)
+added_fit : (room : Room) (root : Node) (p : FoundPlace) (v : Node) (n : Node) → p.node ≡ n → IsIn root p → IsPure v → (c : Change) → added n v ≡ gives c → IfFree room root (p.path, c)
 added_fit room root p v (scalar anchor kind text) is at pure c h =
     let x = then_gives (λ (w : Node). gives (replaces w)) (sum (scalar None kind text) v) c h in
     subst (λ (d : Change). IfFree room root (p.path, d)) (gives_same x.2) (puts_fit room root p x.0 at (sum_pure (scalar None kind text) v x.0 (tt, λ a m. m) pure x.1))
@@ -121,13 +122,13 @@ modify_fits : (room : Room) (root : Node) (doc : ℕ) (right : List Term) → Su
 modify_fits room root doc right free p cs tree at miss h =
     let x = then_gives (put_with_path p) (right_value doc right p) cs h in put_fits room root x.0 (right_pure root doc p tree at right x.0 free x.1) p cs tree at miss x.2
 
-with_fit : (room : Room) (root : Node) (right : Judgement Node) (f : Place → Node → Judgement (List Changed)) → ((v : Node) → right ≡ gives v → SoFits room root (λ p. f p v)) →
-    (ps : List Place) (cs : List Changed) → AreSound root ps → AreMissed ps → with_value root right f ps ≡ gives cs → AreFit room root cs
+with_fit : (room : Room) (root : Node) (right : Judgement Node) (f : FoundPlace → Node → Judgement (List Changed)) → ((v : Node) → right ≡ gives v → SoFits room root (λ p. f p v)) →
+    (ps : List FoundPlace) (cs : List Changed) → AreSound root ps → AreMissed ps → with_value root right f ps ≡ gives cs → AreFit room root cs
 with_fit room root right f so [] cs s m h = subst (AreFit room root) (gives_same h) tt
 with_fit room root right f so (p ∷ ps) cs s m h =
     let x = then_gives (λ (v : Node). at_each root (λ q. f q v) (p ∷ ps)) right cs h in each_fit room root (λ q. f q x.0) (so x.0 x.1) (p ∷ ps) cs s m x.2
 
-changes_fit : (doc : ℕ) (room : Room) (root : Node) (u : Update) → IsTree root → UpdatesHold (u ∷ []) → has_comment u ≡ true → (ps : List Place) (cs : List Changed) → AreSound root ps → AreMissed ps →
+changes_fit : (doc : ℕ) (room : Room) (root : Node) (u : Update) → IsTree root → UpdatesHold (u ∷ []) → has_comment u ≡ true → (ps : List FoundPlace) (cs : List Changed) → AreSound root ps → AreMissed ps →
     changes_at doc room root u ps ≡ gives cs → AreFit room root cs
 changes_fit doc room root (assign left operator.Set right) tree pure good ps cs s m h =
     with_fit room root (right_value doc right (root_place root)) put_with_path (λ v is. put_fits room root v (right_pure root doc (root_place root) tree refl right v pure.0 is)) ps cs s m h

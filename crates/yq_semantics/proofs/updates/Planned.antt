@@ -6,7 +6,7 @@ use Rattle.yq_semantics.{specs.declared.program.CommentPlace.CommentPlace, specs
 use Rattle.yq_semantics.specs.Program.{PathStep, Term, Update, assign, delete, comment}
 use Rattle.yq_semantics.specs.Changes.{Change, Changed, Room, put_below, put_with_path, added, add_at, remove_at, comment_at, allowed}
 use Rattle.yq_semantics.{specs.Changes.{all_allowed, at_each, with_value, changes_at, left_pipe, changes_in}, specs.NodeEdits.step_to}
-use Rattle.yq_semantics.{specs.Pipes.places, specs.Places.{Place, root_place, for_each}, specs.PlacesApart.{IsBeforeAll, AreApart}}
+use Rattle.yq_semantics.{specs.Pipes.places, specs.Places.{FoundPlace, root_place, for_each}, specs.PlacesApart.{IsBeforeAll, AreApart}}
 use Rattle.yq_semantics.{specs.Plans.is_removal, specs.RightValues.right_value}
 use Rattle.yq_semantics.proofs.updates.Folds.{ToEach, InPairs, AllAre, IsGone, IsWritten, IsSaid, IsOf, MayFold, of_may_fold}
 use Rattle.yq_semantics.{proofs.updates.RootLeads.{NoneAt, NoneLater, FirstIn, IsFirst}, proofs.JudgementLaws.{then_gives, gives_same}}
@@ -23,7 +23,7 @@ AtOne p (c ∷ []) = c.0 ≡ p
 AtOne p (c ∷ (d ∷ ds)) = ⊥
 
 -- which is so
-abbrev FromPlace : (Change → Type 0) → Place → List Changed → Type 0
+abbrev FromPlace : (Change → Type 0) → FoundPlace → List Changed → Type 0
 FromPlace P p cs = AtOne p.path cs × AllAre P cs
 
 one_before : (x p : List paths.Step) (cs : List Changed) → Before x p → AtOne p cs → ToEach Before x cs
@@ -47,21 +47,21 @@ all_same root (c ∷ cs) ds h =
     ∙ (ap (λ (xs : List Changed). first.0 ∷ xs) (all_same root cs w.1 w.3) ∙ (ap (λ (xs : List Changed). xs ++ w.1) (gives_same first.2) ∙ w.4))
 
 -- what is changed at each place is there
-abbrev IsSo : (Change → Type 0) → (Place → Judgement (List Changed)) → Type 0
-IsSo P f = (p : Place) (cs : List Changed) → f p ≡ gives cs → FromPlace P p cs
+abbrev IsSo : (Change → Type 0) → (FoundPlace → Judgement (List Changed)) → Type 0
+IsSo P f = (p : FoundPlace) (cs : List Changed) → f p ≡ gives cs → FromPlace P p cs
 
-each_so : (root : Node) (P : Change → Type 0) (f : Place → Judgement (List Changed)) → IsSo P f → IsSo P (λ p. and_then (all_allowed root) (f p))
+each_so : (root : Node) (P : Change → Type 0) (f : FoundPlace → Judgement (List Changed)) → IsSo P f → IsSo P (λ p. and_then (all_allowed root) (f p))
 each_so root P f so p cs h =
     let x = then_gives (all_allowed root) (f p) cs h in subst (FromPlace P p) (all_same root x.0 cs x.2) (so p x.0 x.1)
 
-each_before : (P : Change → Type 0) (f : Place → Judgement (List Changed)) → IsSo P f → (x : List paths.Step) (ps : List Place) (cs : List Changed) → IsBeforeAll x ps → for_each f ps ≡ gives cs → ToEach Before x cs
+each_before : (P : Change → Type 0) (f : FoundPlace → Judgement (List Changed)) → IsSo P f → (x : List paths.Step) (ps : List FoundPlace) (cs : List Changed) → IsBeforeAll x ps → for_each f ps ≡ gives cs → ToEach Before x cs
 each_before P f so x ps cs b h = each_given (IsBeforeAll x) (λ (c : Changed). Before x c.0) f (λ p more before. ((λ ds e. one_before x p.path ds before.0 (so p ds e).0), before.1)) ps cs b h
 
 -- changes in order, each of which is so
 abbrev InOrder : (Change → Type 0) → List Changed → Type 0
 InOrder P cs = InPairs Before cs × AllAre P cs
 
-each_ordered : (P : Change → Type 0) (f : Place → Judgement (List Changed)) → IsSo P f → (ps : List Place) (cs : List Changed) → AreApart ps → for_each f ps ≡ gives cs → InOrder P cs
+each_ordered : (P : Change → Type 0) (f : FoundPlace → Judgement (List Changed)) → IsSo P f → (ps : List FoundPlace) (cs : List Changed) → AreApart ps → for_each f ps ≡ gives cs → InOrder P cs
 each_ordered P f so [] cs a h = subst (InOrder P) (gives_same h) (tt, tt)
 each_ordered P f so (p ∷ ps) cs a h =
     let w = joined_gives (f p) (for_each f ps) cs h in
@@ -69,12 +69,12 @@ each_ordered P f so (p ∷ ps) cs a h =
     let rest = each_ordered P f so ps w.1 a.1 w.3 in
     subst (InOrder P) w.4 (one_pairs p.path w.0 w.1 here.0 (each_before P f so p.path ps w.1 a.0 w.3) rest.0, each_join (λ (c : Changed). P c.1) w.0 w.1 here.1 rest.1)
 
-at_ordered : (root : Node) (P : Change → Type 0) (f : Place → Judgement (List Changed)) → IsSo P f → (ps : List Place) (cs : List Changed) → AreApart ps → at_each root f ps ≡ gives cs → InOrder P cs
+at_ordered : (root : Node) (P : Change → Type 0) (f : FoundPlace → Judgement (List Changed)) → IsSo P f → (ps : List FoundPlace) (cs : List Changed) → AreApart ps → at_each root f ps ≡ gives cs → InOrder P cs
 at_ordered root P f so ps cs a h = each_ordered P (λ p. and_then (all_allowed root) (f p)) (each_so root P f so) ps cs a h
 
 -- ---- at one place
 
-single : (P : Change → Type 0) (p : Place) (c : Change) (cs : List Changed) → P c → gives ((p.path, c) ∷ []) ≡ gives cs → FromPlace P p cs
+single : (P : Change → Type 0) (p : FoundPlace) (c : Change) (cs : List Changed) → P c → gives ((p.path, c) ∷ []) ≡ gives cs → FromPlace P p cs
 single P p c cs k h = subst (FromPlace P p) (gives_same h) (refl, (k, tt))
 
 put_written : (n : Node) (missing : List PathStep) (v : Node) (c : Change) → put_below n missing v ≡ gives c → IsWritten c
@@ -100,13 +100,13 @@ say_so room place text p cs h = search (rules, single, cases_Bool)
 
 -- ---- of an update
 
-with_ordered : (root : Node) (right : Judgement Node) (f : Place → Node → Judgement (List Changed)) → ((v : Node) → IsSo IsWritten (λ p. f p v)) → (ps : List Place) (cs : List Changed) → AreApart ps →
+with_ordered : (root : Node) (right : Judgement Node) (f : FoundPlace → Node → Judgement (List Changed)) → ((v : Node) → IsSo IsWritten (λ p. f p v)) → (ps : List FoundPlace) (cs : List Changed) → AreApart ps →
     with_value root right f ps ≡ gives cs → InOrder IsWritten cs
 with_ordered root right f so [] cs a h = subst (InOrder IsWritten) (gives_same h) (tt, tt)
 with_ordered root right f so (p ∷ ps) cs a h =
     let x = then_gives (λ (v : Node). at_each root (λ q. f q v) (p ∷ ps)) right cs h in at_ordered root IsWritten (λ q. f q x.0) (so x.0) (p ∷ ps) cs a x.2
 
-changes_ordered : (doc : ℕ) (room : Room) (root : Node) (u : Update) (ps : List Place) (cs : List Changed) → AreApart ps → changes_at doc room root u ps ≡ gives cs → InOrder (IsOf u) cs
+changes_ordered : (doc : ℕ) (room : Room) (root : Node) (u : Update) (ps : List FoundPlace) (cs : List Changed) → AreApart ps → changes_at doc room root u ps ≡ gives cs → InOrder (IsOf u) cs
 changes_ordered doc room root (assign left operator.Set right) ps cs a h = with_ordered root (right_value doc right (root_place root)) put_with_path put_so ps cs a h
 changes_ordered doc room root (assign left operator.Modify right) ps cs a h = at_ordered root IsWritten (λ p. and_then (put_with_path p) (right_value doc right p)) (modify_so doc right) ps cs a h
 changes_ordered doc room root (assign left operator.Add right) ps cs a h = with_ordered root (right_value doc right (root_place root)) add_at add_so ps cs a h
@@ -135,10 +135,10 @@ one_none s p cs h1 h2 = search rules
 one_later : (s : paths.Step) (p : List paths.Step) (cs ds : List Changed) → AtOne p cs → NoneAt s ds → NoneLater s (cs ++ ds)
 one_later s p cs ds h1 h2 = search rules
 
-each_none : (P : Change → Type 0) (f : Place → Judgement (List Changed)) → IsSo P f → (s : paths.Step) (ps : List Place) (cs : List Changed) → NoPlaceAt s ps → for_each f ps ≡ gives cs → NoneAt s cs
+each_none : (P : Change → Type 0) (f : FoundPlace → Judgement (List Changed)) → IsSo P f → (s : paths.Step) (ps : List FoundPlace) (cs : List Changed) → NoPlaceAt s ps → for_each f ps ≡ gives cs → NoneAt s cs
 each_none P f so s ps cs n h = each_given (NoPlaceAt s) (λ (c : Changed). c.0 ≢ s ∷ []) f (λ p more none. ((λ ds e. one_none s p.path ds none.0 (so p ds e).0), none.1)) ps cs n h
 
-each_later : (P : Change → Type 0) (f : Place → Judgement (List Changed)) → IsSo P f → (s : paths.Step) (ps : List Place) (cs : List Changed) → NoPlaceLater s ps → for_each f ps ≡ gives cs → NoneLater s cs
+each_later : (P : Change → Type 0) (f : FoundPlace → Judgement (List Changed)) → IsSo P f → (s : paths.Step) (ps : List FoundPlace) (cs : List Changed) → NoPlaceLater s ps → for_each f ps ≡ gives cs → NoneLater s cs
 each_later P f so s [] cs n h = subst (NoneLater s) (gives_same h) tt
 each_later P f so s (p ∷ ps) cs n h =
     let w = joined_gives (f p) (for_each f ps) cs h in subst (NoneLater s) w.4 (one_later s p.path w.0 w.1 (so p w.0 w.2).0 (each_none P f so s ps w.1 n w.3))

@@ -5,7 +5,7 @@ use Rattle.yq_core.{specs.declared.kind.Kind.Kind, specs.Tree.{Node, children_of
 use Rattle.yq_semantics.{specs.declared.refusal.Refusal.Refusal, specs.Judgement.{Judgement, and_then, gives}}
 use Rattle.yq_semantics.specs.Matching.{ChildFound, step_child, in_scalar, key_step, index_step}
 use Rattle.yq_semantics.specs.Program.{PathStep, key, index, each}
-use Rattle.yq_semantics.specs.Places.{Place, child_place, found_place, miss, all_steps, step_there, step_from, step_on}
+use Rattle.yq_semantics.specs.Places.{FoundPlace, child_place, found_place, miss, all_steps, step_there, step_from, step_on}
 use Rattle.yq_semantics.{specs.PlacesApart.IsIn, proofs.JudgementLaws.{then_gives, gives_same}, proofs.GoodPlaces.{LeadsInto, LeadsSo}}
 use Rattle.yq_semantics.proofs.ChildPlaces.{leads_none, leads_missing, leads_child, leads_children}
 use Rattle.yq_core.specs.Tree as tree
@@ -27,10 +27,10 @@ found_key k n = search (rules, found_scalar, found_find)
 found_index : (i : ℤ) (n : Node) → IsFound n (index_step i n)
 found_index i n = search (rules, found_scalar, then_gives, found_find)
 
-leads_found : (root : Node) (p : Place) (s : PathStep) (j : Judgement ChildFound) (qs : List Place) → IsTree p.node → IsIn root p → IsFound p.node j → and_then (λ x. gives (found_place s p x)) j ≡ gives qs → LeadsInto root p qs
+leads_found : (root : Node) (p : FoundPlace) (s : PathStep) (j : Judgement ChildFound) (qs : List FoundPlace) → IsTree p.node → IsIn root p → IsFound p.node j → and_then (λ x. gives (found_place s p x)) j ≡ gives qs → LeadsInto root p qs
 leads_found root p s j qs tree at found h = search (rules, then_gives, gives_same, leads_missing, leads_child)
 
-leads_all : (root : Node) (p : Place) (n : Node) → p.node ≡ n → IsTree p.node → IsIn root p → (qs : List Place) → and_then (λ xs. gives (map (child_place p) xs)) (all_steps n) ≡ gives qs → LeadsInto root p qs
+leads_all : (root : Node) (p : FoundPlace) (n : Node) → p.node ≡ n → IsTree p.node → IsIn root p → (qs : List FoundPlace) → and_then (λ xs. gives (map (child_place p) xs)) (all_steps n) ≡ gives qs → LeadsInto root p qs
 leads_all root p n h1 h2 h3 qs h4 = search (rules, then_gives, gives_same, leads_none, leads_children)
 
 leads_there : (root : Node) (s : PathStep) → LeadsSo root (step_there s)
@@ -39,7 +39,7 @@ leads_there root (index i) p qs tree at h = leads_found root p (index i) (index_
 leads_there root each p qs tree at h = leads_all root p p.node refl tree at qs h
 
 -- what is so of the places to which a step leads where nothing is missing, and of one that is missed, is so of all
-pub step_keeps : (R : List Place → Type 0) (s : PathStep) (p : Place) (qs : List Place) → (step_there s p ≡ gives qs → R qs) →
+pub step_keeps : (R : List FoundPlace → Type 0) (s : PathStep) (p : FoundPlace) (qs : List FoundPlace) → (step_there s p ≡ gives qs → R qs) →
     ((m : PathStep) (ms : List PathStep) → p.missing ≡ m ∷ ms → R (miss s p)) → step_on s p ≡ gives qs → R qs
 step_keeps R s p qs there missed h = go p.missing refl h
   where

@@ -6,7 +6,7 @@ use Rattle.yq_core.specs.Paths.{To, key_is, child_at, change_child, append_child
 use Rattle.yq_core.specs.Shapes.{IsNew, AreItems, AreEntries, IsTree}
 use Rattle.yq_semantics.{specs.Judgement.{and_then, gives}, specs.Program.{SumHolds, PathStep, Term, literal, found}}
 use Rattle.yq_semantics.{specs.Conditions.{node_there, value_of}, specs.Copies.copy_at, proofs.updates.Mentions.{literal_pure, IsPure}}
-use Rattle.yq_semantics.{specs.Pipes.pipe_on, specs.Places.Place, specs.PlacesApart.IsIn}
+use Rattle.yq_semantics.{specs.Pipes.pipe_on, specs.Places.FoundPlace, specs.PlacesApart.IsIn}
 use Rattle.yq_semantics.specs.RightValues.{is_null, scalar_sum, as_items, with_entry, with_entries, value_sum, sum, only_copy, term_value}
 use Rattle.yq_semantics.{specs.RightValues.{sum_from, right_value}, proofs.JudgementLaws.{then_gives, gives_same}}
 use Rattle.yq_semantics.{proofs.GoodPlaces.AreSound, proofs.PathLaws.bytes_refl, proofs.updates.PipePlaces.pipe_good}
@@ -118,18 +118,18 @@ sum_pure n v w p q h = go (is_null n) (is_null v) h
 
 -- ---- terms
 
-at_pure : (p : Place) (v : Node) → IsTree p.node → copy_at p ≡ gives v → IsPure v
+at_pure : (p : FoundPlace) (v : Node) → IsTree p.node → copy_at p ≡ gives v → IsPure v
 at_pure p v t h = copy_pure (value_of p) v (go p.missing) h
   where
     go : (missing : List PathStep) → IsTree (node_there missing p.node)
     go [] = t
     go (m ∷ ms) = tt
 
-only_pure : (root : Node) (ps : List Place) (v : Node) → AreSound root ps → only_copy ps ≡ gives v → IsPure v
+only_pure : (root : Node) (ps : List FoundPlace) (v : Node) → AreSound root ps → only_copy ps ≡ gives v → IsPure v
 only_pure root (p ∷ []) v s h = at_pure p v s.0.0 h
 only_pure root _ v s h = absurd (cc)
 
-module _ (root : Node) (doc : ℕ) (p : Place) (tree : IsTree p.node) (at : IsIn root p) where
+module _ (root : Node) (doc : ℕ) (p : FoundPlace) (tree : IsTree p.node) (at : IsIn root p) where
   term_pure : (t : Term) (ts : List Term) (v : Node) → SumHolds (t ∷ ts) → term_value doc p t ≡ gives v → IsPure v
   term_pure (literal w) ts v free h = subst IsPure (gives_same h) (literal_pure w free.0)
   term_pure (found pipe) ts v free h =

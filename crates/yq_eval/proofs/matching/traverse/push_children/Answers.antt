@@ -3,12 +3,12 @@ use Rattle.yq_core.specs.Tree.{Children}
 use Rattle.yq_nodes.{specs.Children.left_of, specs.Nodes.{label_of, node_of}}
 use Rattle.yq_outline.specs.Counts.{count}
 use Rattle.yq_eval.{specs.PlaceView.{place_of, places_of}, proofs.PlaceLaws.{children_more, none_counted, next_fits}}
-use Rattle.yq_semantics.specs.Places.{Place, child_place, stepped}
+use Rattle.yq_semantics.specs.Places.{FoundPlace, child_place, stepped}
 use Rattle.yq_eval.proofs.matching.traverse.push_children.Goals as goal
 
 pub each-preserved : goal.each-preserved
 each-preserved c =
-    let p : Place = place_of c.args.place.now in
+    let p : FoundPlace = place_of c.args.place.now in
     let counted = ap count c.in-Some.ensures.steps in
     let place = c.nth_below.ensures p (sym c.each.invariant.path) in
     record {
@@ -21,7 +21,7 @@ each-preserved c =
 
 pub returns : goal.returns
 returns c =
-    let p : Place = place_of c.args.place.now in
+    let p : FoundPlace = place_of c.args.place.now in
     let zero : count (left_of c.each.children) ≡ 0 = omega (arith, c.each.invariant.counted, c.each-test.false) in
     sym (append-nil (places_of c.each.places.items))
     ∙ (ap (λ (cs : Children). places_of c.each.places.items ++ map (child_place p) (stepped c.each.before cs)) (sym (none_counted (left_of c.each.children) zero))

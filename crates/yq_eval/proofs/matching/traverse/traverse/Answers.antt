@@ -6,7 +6,7 @@ use Rattle.yq_eval.specs.declared.matching.place.FoundPlace as declared
 use Rattle.yq_eval.proofs.matching.traverse.traverse.Goals as goal
 
 -- what a step does to all places
-abbrev on_all : PathStep → List spec.Place → Judgement (List spec.Place)
+abbrev on_all : PathStep → List spec.FoundPlace → Judgement (List spec.FoundPlace)
 on_all s ps = spec.for_each (spec.step_on s) ps
 
 pub returns-in_err-places : goal.returns-in_err-places

@@ -1,6 +1,6 @@
 use Rattle.std.proofs.Common.{subst, rules}
 use Rattle.yq_journal.{specs.Record.IsRecord, proofs.JoinLaws.IsRecord-join}
-use Rattle.yq_journal.proofs.squash.Parts.join.Goals as goal
+use Rattle.yq_journal.proofs.squash.RecordParts.join.Goals as goal
 
 pub returns-clause-valid : goal.returns-clause-valid
 returns-clause-valid c = λ h meets.
