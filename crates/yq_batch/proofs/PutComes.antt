@@ -10,8 +10,8 @@ use Rattle.yq_row_table.specs.Rows.{Cut, cut_text}
 use Rattle.yq_documents.specs.Reading.{read_at}
 use Rattle.yq_places.{specs.NodesAt.node_in, specs.Standings.{FlowPart, Standing, flow_part, flow_standing, last_step, standing_at}}
 use Rattle.yq_semantics.{specs.Operations.replace, specs.declared.refusal.Refusal.TheVariants.TooLarge}
-use Rattle.yq_edits.{specs.Edits.{op_edits, or_stay}, specs.FlowParts.{flow_put, flow_segments}, specs.Layouts.layout_of}
-use Rattle.yq_edits.{specs.ReplaceEdits.{has_text, value_put}, specs.Replacing.keeps_scalar}
+use Rattle.yq_edit_rules.{specs.Edits.{op_edits, or_stay}, specs.FlowParts.{flow_put, flow_segments}, specs.Layouts.layout_of}
+use Rattle.yq_edit_rules.{specs.ReplaceEdits.{has_text, value_put}, specs.Replacing.keeps_scalar}
 use Rattle.yq_edit_laws.{specs.PartPuts.put_edit, proofs.CutLaws.cut_read, proofs.FlowEditLaws.before_is}
 use Rattle.yq_edit_laws.{proofs.FlowPartNodes.{none_there, part_node}, proofs.FlowStandings.EntryAt, specs.Carried.{carried, carry_one}}
 use Rattle.yq_edit_laws.specs.Edit.{by_reading, exchange_edit, edit_of_segments, gives, refuses}

@@ -9,11 +9,11 @@ use Rattle.yq_documents.specs.Reading.{cut_of, read_at}
 use Rattle.yq_places.{specs.CommentPlaces.{LineEnd, end_in_line}, specs.StandingViews.IsHeldRow}
 use Rattle.yq_places.{specs.declared.places.held_row.HeldRow.HeldRow, specs.Standings.{Held, RowsOfEntry, held, rows_of_entry}}
 use Rattle.yq_places.proofs.HeldRowLaws.{no_root_rows}
-use Rattle.yq_edits.{specs.RowStays.StandsStill, specs.StandingLaws.{HoldsPieces, StandsThere}, specs.TextPieces.IsPiece}
-use Rattle.yq_edits.{proofs.StandingRows.rows_stand, proofs.TextPieceLaws.{piece_back, pieces_joined}}
-use Rattle.yq_edits.{specs.CommentEdits.{comment_put, comment_written}, specs.Operands.HasOperand}
-use Rattle.yq_edits.{specs.RowChanges.{comment_front, comment_old, takes_white}, proofs.HeldPieces.held_spells}
-use Rattle.yq_edits.proofs.TailPieces.{white_piece}
+use Rattle.yq_edit_rules.{specs.RowStays.StandsStill, specs.StandingLaws.{HoldsPieces, StandsThere}, specs.TextPieces.IsPiece}
+use Rattle.yq_edit_rules.{proofs.StandingRows.rows_stand, proofs.TextPieceLaws.{piece_back, pieces_joined}}
+use Rattle.yq_edit_rules.{specs.CommentEdits.{comment_put, comment_written}, specs.Operands.HasOperand}
+use Rattle.yq_edit_rules.{specs.RowChanges.{comment_front, comment_old, takes_white}, proofs.HeldPieces.held_spells}
+use Rattle.yq_edit_rules.proofs.TailPieces.{white_piece}
 use Rattle.yq_semantics.specs.Operations.{line_comment}
 use Rattle.yq_edit_laws.{proofs.LineCommentLaws.line_comments_change_rows, proofs.RowEditLaws.row_edits}
 use Rattle.yq_edit_laws.{proofs.CutLaws.{cut_read, text_read}, proofs.HeldRows.{mark_end, mark_tail}, proofs.EditsHold.edit_is}

@@ -10,11 +10,11 @@ use Rattle.yq_documents.specs.Reading.{cut_of, read_at}
 use Rattle.yq_places.{specs.CommentPlaces.end_in_line, specs.StandingViews.IsHeldRow, specs.declared.places.held_row.HeldRow.HeldRow}
 use Rattle.yq_places.{specs.NodesAt.node_in, specs.PrintedLines.less_break}
 use Rattle.yq_places.{specs.Standings.{Held, RowsOfEntry, behind_entry, held, rows_of_entry}, proofs.HeldRowLaws.no_root_rows}
-use Rattle.yq_edits.{specs.RowStays.StandsStill, specs.StandingLaws.{HoldsPieces, StandsThere}, specs.TextPieces.IsPiece}
-use Rattle.yq_edits.{proofs.RowStayLaws.rows_stay_there, proofs.StandingMarks.row_there, proofs.StandingRows.rows_stand}
-use Rattle.yq_edits.{proofs.TextPieceLaws.pieces_joined, specs.BlockReading.is_filled, specs.Edits.op_edits, specs.Operands.HasOperand}
-use Rattle.yq_edits.{specs.Replacing.keeps_scalar, specs.RowChanges.{HoldsInline, inline_put}, specs.WrittenValues.value_text}
-use Rattle.yq_edits.proofs.HeldPieces.{held_spells}
+use Rattle.yq_edit_rules.{specs.RowStays.StandsStill, specs.StandingLaws.{HoldsPieces, StandsThere}, specs.TextPieces.IsPiece}
+use Rattle.yq_edit_rules.{proofs.RowStayLaws.rows_stay_there, proofs.StandingMarks.row_there, proofs.StandingRows.rows_stand}
+use Rattle.yq_edit_rules.{proofs.TextPieceLaws.pieces_joined, specs.BlockReading.is_filled, specs.Edits.op_edits, specs.Operands.HasOperand}
+use Rattle.yq_edit_rules.{specs.Replacing.keeps_scalar, specs.RowChanges.{HoldsInline, inline_put}, specs.WrittenValues.value_text}
+use Rattle.yq_edit_rules.proofs.HeldPieces.{held_spells}
 use Rattle.yq_semantics.specs.Operations.{replace}
 use Rattle.yq_edit_laws.{proofs.RowEditLaws.row_edits, proofs.CutLaws.{cut_read, text_read}, proofs.HeldRows.{head_there, headless_there}}
 use Rattle.yq_edit_laws.{proofs.InlineChangeLaws.inline_values_change_rows, proofs.MarkHeads.no_raw, proofs.EditsHold.edit_is}

@@ -4,7 +4,7 @@ use Rattle.std.{proofs.Common.{◌∙◌, subst, append-nil, arith, string_bytes
 use Rattle.std.{specs.Str.IsCharBoundary, specs.Prelude.String, specs.declared.alloc.Global.Global}
 use Rattle.yq_row_table.specs.Rows.{Cut, cut_text}
 use Rattle.yq_documents.{specs.Reading.{cut_of, read_at}, specs.LinesInRows.document_row}
-use Rattle.yq_edits.specs.RowStays.{IsBehind, StandsStill}
+use Rattle.yq_edit_rules.specs.RowStays.{IsBehind, StandsStill}
 use Rattle.yq_semantics.{specs.After.op_document, specs.Operations.Operation}
 use Rattle.yq_text.{specs.Script.splice_at, specs.Splice.Splice}
 use Rattle.yq_edit_laws.{proofs.CutLaws.text_read, proofs.FlowAnswers.whole_text, specs.Answers.EditFails, specs.Carried.carried}

@@ -11,7 +11,7 @@ use Rattle.yq_places.{specs.FlowViews.{LeadsToHead, ReportsHead}, specs.NodesAt.
 use Rattle.yq_places.specs.declared.places.flow_node.FlowHead.{FlowHead}
 use Rattle.yq_semantics.specs.Operations.{Operation, replace}
 use Rattle.yq_text.{specs.Script.splice_at, specs.Splice.Splice}
-use Rattle.yq_edits.{specs.Operands.HasOperand, specs.Replacing.keeps_scalar}
+use Rattle.yq_edit_rules.{specs.Operands.HasOperand, specs.Replacing.keeps_scalar}
 use Rattle.yq_edit_laws.{specs.EditPlaces.{LiesIn, moved_on}, specs.PartPuts.{IsHeadOfPath, ArePuts, IsWrittenPart, put_edit}}
 use Rattle.yq_edit_laws.{specs.declared.put.PartPut.PartPut, proofs.CutLaws.text_read, proofs.FlowAnswers.whole_text}
 use Rattle.yq_edit_laws.{specs.Answers.EditFails, specs.Carried.carried, specs.Edit.{gives, refuses}, specs.Theorems.IsFitting}

@@ -13,7 +13,7 @@ use Rattle.yq_places.{specs.FlowNodes.flow_collection, specs.NodesAt.node_in, sp
 use Rattle.yq_places.specs.declared.places.flow_node.FlowHead.{FlowHead}
 use Rattle.yq_semantics.{specs.Fits.Fits, specs.Operations.replace, specs.Rooms.room_of}
 use Rattle.yq_semantics.specs.declared.refusal.Refusal.TheVariants.{TooLarge}
-use Rattle.yq_edits.{specs.FlowParts.flow_segments, specs.Replacing.keeps_scalar}
+use Rattle.yq_edit_rules.{specs.FlowParts.flow_segments, specs.Replacing.keeps_scalar}
 use Rattle.yq_edit_laws.{specs.PartPuts.{IsPartOf, IsPlaceOf, put_edit}, proofs.CutLaws.text_read, proofs.FlowPartNodes.part_node}
 use Rattle.yq_edit_laws.{proofs.FlowPutLaws.{head_behind, next, part_behind, replaced_reads}, proofs.FlowStandings.{EntryAt, entry_found}}
 use Rattle.yq_edit_laws.{specs.Carried.carried, specs.Edit.{edit_of_segments, gives, refuses}, specs.Theorems.IsFitting}

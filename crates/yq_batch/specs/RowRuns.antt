@@ -6,8 +6,8 @@ use Rattle.yq_core.{specs.Paths.Step, specs.Text.is_empty, specs.Tree.Node, spec
 use Rattle.yq_row_table.specs.Rows.{Cut, cut_text}
 use Rattle.yq_documents.{specs.LinesInRows.document_row, specs.Reading.{documents, read_at}}
 use Rattle.yq_places.specs.Standings.{RowsOfEntry, rows_of_entry}
-use Rattle.yq_edits.{specs.RowStays.{IsBehind, StandsStill}, specs.Edits.op_edits, specs.Operands.HasOperand, specs.Replacing.keeps_scalar}
-use Rattle.yq_edits.{specs.RowChanges.{ChangesRow, PutsOne}, specs.WrittenValues.value_text}
+use Rattle.yq_edit_rules.{specs.RowStays.{IsBehind, StandsStill}, specs.Edits.op_edits, specs.Operands.HasOperand}
+use Rattle.yq_edit_rules.{specs.Replacing.keeps_scalar, specs.RowChanges.{ChangesRow, PutsOne}, specs.WrittenValues.value_text}
 use Rattle.yq_semantics.{specs.After.op_document, specs.Fits.Fits, specs.Operations.Operation, specs.Rooms.room_of}
 use Rattle.yq_edit_laws.{specs.Carried.carried, specs.Edit.gives, specs.Theorems.IsApplied}
 use Rattle.yq_batch.{specs.Runs.{now_text, text_with_run}, specs.declared.in_rows.RowPut.RowPut, specs.declared.run.PutRun.PutRun}

@@ -4,7 +4,8 @@ use Rattle.yq_core.{specs.Answers.◌>>=◌, specs.Paths.Step}
 use Rattle.yq_row_table.specs.Rows.{Cut}
 use Rattle.yq_places.{specs.CommentPlaces.{LinesAbove, above_row, lines_above}, specs.PlacedRows.PlacedRow}
 use Rattle.yq_places.specs.Standings.{RowsOfEntry, rows_of_entry}
-use Rattle.yq_edits.{specs.CommentEdits.{above_rows, head_comment_put, head_comment_segments}, proofs.CommentRowLaws.{entry_row, rows_same}}
+use Rattle.yq_edit_rules.specs.CommentEdits.{above_rows, head_comment_put, head_comment_segments}
+use Rattle.yq_edit_rules.proofs.CommentRowLaws.{entry_row, rows_same}
 
 head_same : (br text : List ℕ) (o : Option RowsOfEntry) → (o >>= head_comment_put br text) ≡ option_map (head_comment_segments br text) (option_map entry_row o >>= λ w. cond (eqb w.line 0) (Some (above_row w)) None)
 head_same br text None = refl

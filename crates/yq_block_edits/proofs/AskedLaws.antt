@@ -2,7 +2,7 @@
 use Rattle.std.{proofs.Common.{◌≡◌, Bool, None, map, sym, ap, String, string_bytes}, specs.declared.alloc.Global.Global, specs.Prelude.Vec}
 use Rattle.yq_core.{specs.declared.value.Value.Value, specs.Values.{entries, entries_of, field_of, value_node}}
 use Rattle.yq_core.proofs.NodesWrittenLaws.{node_map, map_twice}
-use Rattle.yq_edits.specs.Layouts.{children_ask, node_asks}
+use Rattle.yq_edit_rules.specs.Layouts.{children_ask, node_asks}
 use Rattle.yq_core.specs.Tree as tree
 use Rattle.yq_core.specs.declared.value.Value.TheVariants as values
 

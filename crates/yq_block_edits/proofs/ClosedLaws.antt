@@ -2,7 +2,7 @@
 use Rattle.std.proofs.Common.{◌≡◌, ℕ, ◌-◌, ◌≤◌, List, [], ◌∷◌, ◌++◌, nat_eq, false, length, slice_index_or, refl, sym, ap, ◌∙◌, arith}
 use Rattle.std.proofs.lemmas.Bool.{false≢true}
 use Rattle.yq_core.specs.Text.{is_feed}
-use Rattle.yq_edits.specs.ClosedTexts.{is_closed_text}
+use Rattle.yq_edit_rules.specs.ClosedTexts.{is_closed_text}
 
 last_agrees : (x d : ℕ) (t : List ℕ) → is_feed (slice_index_or (x ∷ t) (length t) d) ≡ is_closed_text (x ∷ t)
 unfolding is_closed_text

@@ -6,12 +6,12 @@ use Rattle.yq_core.specs.declared.style.Place.TheVariants.{Block as InBlock}
 use Rattle.yq_row_table.specs.Rows.{Cut}
 use Rattle.yq_places.specs.NodesAt.{node_in, scalar_in}
 use Rattle.yq_places.specs.Standings.{MarkPieces, Standing, alone, beside, under, compact, block, root, no_rows, standing_at}
-use Rattle.yq_edits.{specs.BlockReading.is_filled, specs.BlockRows.{indent_step, item_column}, specs.BlockText.block_value}
-use Rattle.yq_edits.{specs.declared.layout.Layout.Layout, specs.ClosedTexts.{is_closed_text, lines_put_behind}}
-use Rattle.yq_edits.specs.Layouts.{LooksLike, node_asks, is_filled_as, is_under_key, layout_of}
-use Rattle.yq_edits.specs.ReplaceEdits.{compact_put, has_text, held_put, block_scalar_put, value_put}
-use Rattle.yq_edits.specs.WrittenValues.{collection_at, column_under, compact_text, inline, lines, lines_in, takes_compact, value_text}
-use Rattle.yq_edits.{specs.WrittenValues.{written_at, written_under}, proofs.LayoutLaws.{indent_like, value_like}}
+use Rattle.yq_edit_rules.{specs.BlockReading.is_filled, specs.BlockRows.{indent_step, item_column}, specs.BlockText.block_value}
+use Rattle.yq_edit_rules.{specs.declared.layout.Layout.Layout, specs.ClosedTexts.{is_closed_text, lines_put_behind}}
+use Rattle.yq_edit_rules.specs.Layouts.{LooksLike, node_asks, is_filled_as, is_under_key, layout_of}
+use Rattle.yq_edit_rules.specs.ReplaceEdits.{compact_put, has_text, held_put, block_scalar_put, value_put}
+use Rattle.yq_edit_rules.specs.WrittenValues.{collection_at, column_under, compact_text, inline, lines, lines_in, takes_compact, value_text}
+use Rattle.yq_edit_rules.{specs.WrittenValues.{written_at, written_under}, proofs.LayoutLaws.{indent_like, value_like}}
 use Rattle.yq_text.specs.Script.{Segment, keep, put}
 
 -- ---- a value that isn't a collection with items or entries

@@ -4,7 +4,7 @@ use Rattle.yq_core.{specs.Block.RawLines, specs.BlockRepair.is_short, specs.Line
 use Rattle.yq_core.proofs.LineLaws.{joined_lines}
 use Rattle.yq_places.specs.RemovalPlaces.{Seam}
 use Rattle.yq_text.specs.Script.{Segment, keep}
-use Rattle.yq_edits.specs.Removing.{put_indent, blank_mended, comment_mended, lines_mended}
+use Rattle.yq_edit_rules.specs.Removing.{put_indent, blank_mended, comment_mended, lines_mended}
 
 -- a blank line, and then the others
 blank_on : (s : Seam) (l : List ℕ) (ls : RawLines) → is_blank l ≡ true → lines_mended s (l ∷ ls) ≡ blank_mended s l ++ lines_mended s ls

@@ -12,8 +12,9 @@ use Rattle.yq_documents.{proofs.HeadLaws.{fitting, head_is, head_text}, proofs.R
 use Rattle.yq_places.{specs.NodesAt.{node_in, scalar_in}, specs.StandingViews.IsHeldRow, specs.Standings.{RowsOfEntry, behind_entry}}
 use Rattle.yq_places.{specs.declared.places.held_row.HeldRow.HeldRow, proofs.HeadEnds.node_begins}
 use Rattle.yq_places.proofs.HeldRowLaws.{no_root_rows, not_so}
-use Rattle.yq_edits.{specs.StandingLaws.StandsThere, proofs.RowStayLaws.rows_stay_there, proofs.StandingMarks.row_there}
-use Rattle.yq_edits.{proofs.StandingRows.rows_stand, specs.Replacing.{are_same, keeps_scalar, may_spell}, specs.Style.{is_same, table_row}}
+use Rattle.yq_edit_rules.{specs.StandingLaws.StandsThere, proofs.RowStayLaws.rows_stay_there, proofs.StandingMarks.row_there}
+use Rattle.yq_edit_rules.{proofs.StandingRows.rows_stand, specs.Replacing.{are_same, keeps_scalar, may_spell}}
+use Rattle.yq_edit_rules.specs.Style.{is_same, table_row}
 use Rattle.yq_core.specs.declared.kind.Kind.TheVariants as kinds
 
 -- ---- a plain text that a scalar can't have

@@ -1,10 +1,10 @@
 //! Whether a value asks how much deeper than its key a collection stands.
 ghost use Rattle.std.specs.Prelude.{◌≡◌};
 ghost use Rattle.yq_core.specs.Values.{entries_of, items_of, value_node};
-ghost use Rattle.yq_edits.specs.Layouts as spec;
+ghost use Rattle.yq_edit_rules.specs.Layouts as spec;
 
 use yq_core::Value;
-use yq_edits::is_filled;
+use yq_edit_rules::is_filled;
 
 /// Whether a value is a sequence, or a mapping, with items or entries.
 fn is_filled_as(dashes: bool, value: &Value) -> bool
@@ -19,7 +19,7 @@ fn is_filled_as(dashes: bool, value: &Value) -> bool
 
 /// Whether such a collection stands under a key in a value.
 #[cycle(asks)]
-#[tactic(auto, unfolding(yq_edits::specs::Layouts::node_asks), using(crate::proofs::AskedLaws::map_asked))]
+#[tactic(auto, unfolding(yq_edit_rules::specs::Layouts::node_asks), using(crate::proofs::AskedLaws::map_asked))]
 fn node_asks(dashes: bool, value: &Value) -> bool
     ensures { result ≡ spec.node_asks dashes (value_node value.now) }
 {
@@ -32,7 +32,7 @@ fn node_asks(dashes: bool, value: &Value) -> bool
 
 /// The same of items.
 #[cycle(asks)]
-#[tactic(auto, unfolding(yq_edits::specs::Layouts::children_ask))]
+#[tactic(auto, unfolding(yq_edit_rules::specs::Layouts::children_ask))]
 fn items_ask(dashes: bool, items: &Vec<Value>) -> bool
     ensures { result ≡ spec.children_ask dashes (items_of items.now.items) }
 {
@@ -46,7 +46,7 @@ fn items_ask(dashes: bool, items: &Vec<Value>) -> bool
 
 /// The same of entries: one's value may be such a collection.
 #[cycle(asks)]
-#[tactic(auto, unfolding(yq_edits::specs::Layouts::children_ask))]
+#[tactic(auto, unfolding(yq_edit_rules::specs::Layouts::children_ask))]
 fn entries_ask(dashes: bool, entries: &Vec<(String, Value)>) -> bool
     ensures { result ≡ spec.children_ask dashes (entries_of entries.now.items) }
 {

@@ -2,8 +2,8 @@
 ghost use Rattle.std.specs.Prelude.{◌≡◌, ◌++◌, IfOk, OnOk, string_bytes};
 ghost use Rattle.yq_semantics.specs.Meaning.{head_comment_lines};
 ghost use Rattle.yq_documents.{specs.Located.steps_of, specs.Reading.cut_of};
-ghost use Rattle.yq_edits.specs.Answers.{GivesSegments};
-ghost use Rattle.yq_edits.specs.CommentEdits as spec;
+ghost use Rattle.yq_edit_rules.specs.Answers.{GivesSegments};
+ghost use Rattle.yq_edit_rules.specs.CommentEdits as spec;
 
 use std::alloc::{AllocError, Global};
 use yq_documents::Path;

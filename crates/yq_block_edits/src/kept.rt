@@ -4,13 +4,13 @@ ghost use Rattle.yq_core.specs.Scalar.{plain_of};
 ghost use Rattle.yq_places.{specs.NodesAt.{node_in, scalar_in}, specs.StandingViews.IsHeldRow};
 ghost use Rattle.yq_documents.{specs.Located.steps_of, specs.Reading.cut_of};
 ghost use Rattle.yq_core.specs.Values as values;
-ghost use Rattle.yq_edits.specs.Replacing as spec;
-ghost use Rattle.yq_edits.specs.Style as style;
+ghost use Rattle.yq_edit_rules.specs.Replacing as spec;
+ghost use Rattle.yq_edit_rules.specs.Style as style;
 
 use std::alloc::{AllocError, Global};
 use yq_core::{Kind, Scalar, Value, resolve};
 use yq_documents::Path;
-use yq_edits::is_same;
+use yq_edit_rules::is_same;
 use yq_lookup::CutText;
 use yq_places::HeldRow;
 use yq_row_heads::is_short_plain;

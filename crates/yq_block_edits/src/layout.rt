@@ -2,11 +2,11 @@
 ghost use Rattle.std.specs.Prelude.{◌≡◌, true};
 ghost use Rattle.yq_core.specs.Values.{value_node};
 ghost use Rattle.yq_documents.specs.Reading.{cut_of};
-ghost use Rattle.yq_edits.specs.Layouts as spec;
+ghost use Rattle.yq_edit_rules.specs.Layouts as spec;
 
 use crate::asked::is_asked;
 use yq_core::Value;
-use yq_edits::Layout;
+use yq_edit_rules::Layout;
 use yq_lookup::CutText;
 
 /// By how many columns sequences, or mappings, stand deeper than their keys in document `doc`, if a value

@@ -3,14 +3,14 @@ ghost use Rattle.std.specs.Prelude.{◌≡◌, IfOk, string_bytes};
 ghost use Rattle.yq_text.specs.Halves.{whole};
 ghost use Rattle.yq_core.{specs.Values.value_node, specs.BlockWritten.break_text};
 ghost use Rattle.yq_places.specs.StandingViews.{lone_view, no_rows_view, root_view};
-ghost use Rattle.yq_edits.specs.BlockText.{block_value};
-ghost use Rattle.yq_edits.specs.ClosedTexts as closed;
-ghost use Rattle.yq_edits.specs.ReplaceEdits as spec;
+ghost use Rattle.yq_edit_rules.specs.BlockText.{block_value};
+ghost use Rattle.yq_edit_rules.specs.ClosedTexts as closed;
+ghost use Rattle.yq_edit_rules.specs.ReplaceEdits as spec;
 
 use crate::space::apart;
 use std::alloc::{AllocError, Global};
 use yq_core::{Place, Value};
-use yq_edits::{Layout, push_block, value_text};
+use yq_edit_rules::{Layout, push_block, value_text};
 use yq_places::{BlockRoot, Lone, NoRows};
 use yq_scalar::block_written::break_text;
 use yq_text::{Halves, Segment, Segments};
@@ -61,7 +61,7 @@ pub fn root_put<'t>(
 }
 
 /// Whether a text is empty or ends in a break.
-#[tactic(auto, unfolding(yq_edits::specs::ClosedTexts::is_closed_text))]
+#[tactic(auto, unfolding(yq_edit_rules::specs::ClosedTexts::is_closed_text))]
 fn is_closed_text(text: &[u8]) -> bool
     ensures { result ≡ closed.is_closed_text text.now }
 {

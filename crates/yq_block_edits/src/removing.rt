@@ -3,9 +3,9 @@ ghost use Rattle.std.specs.Prelude.{◌≡◌, ◌++◌, IfOk, OnOk, option_map,
 ghost use Rattle.yq_core.specs.Text.{text_lines};
 ghost use Rattle.yq_documents.{specs.Located.steps_of, specs.Reading.cut_of};
 ghost use Rattle.yq_places.{specs.FirstViews.first_view, specs.RemovalReading.{removal_view, seam_view}};
-ghost use Rattle.yq_edits.{specs.RemovingFirst.first_removed, specs.Answers.GivesSegments};
-ghost use Rattle.yq_edits.specs.EntryEdits as entries;
-ghost use Rattle.yq_edits.specs.Removing as spec;
+ghost use Rattle.yq_edit_rules.{specs.RemovingFirst.first_removed, specs.Answers.GivesSegments};
+ghost use Rattle.yq_edit_rules.specs.EntryEdits as entries;
+ghost use Rattle.yq_edit_rules.specs.Removing as spec;
 
 use std::alloc::{AllocError, Global};
 use yq_core::lines::split_line;

@@ -3,9 +3,9 @@ ghost use Rattle.std.{specs.List.list_any, specs.Prelude.{◌≡◌, IfOk, not}}
 ghost use Rattle.yq_core.{specs.Values.value_node, specs.Tree.Node as NodeOf, specs.Text.is_feed};
 ghost use Rattle.yq_documents.{specs.Located.steps_of, specs.Reading.cut_of};
 ghost use Rattle.yq_places.{specs.NodesAt.node_in, specs.StandingViews.standing_view};
-ghost use Rattle.yq_edits.{specs.declared.layout.Layout.Layout as LayoutOf, specs.Answers.GivesSegments};
-ghost use Rattle.yq_edits.specs.Layouts as layouts;
-ghost use Rattle.yq_edits.specs.ReplaceEdits as spec;
+ghost use Rattle.yq_edit_rules.{specs.declared.layout.Layout.Layout as LayoutOf, specs.Answers.GivesSegments};
+ghost use Rattle.yq_edit_rules.specs.Layouts as layouts;
+ghost use Rattle.yq_edit_rules.specs.ReplaceEdits as spec;
 
 mod block;
 mod held;
@@ -17,7 +17,7 @@ use held::{beside_put, compact_put, text_put, under_put};
 use std::alloc::{AllocError, Global};
 use yq_core::Value;
 use yq_documents::Path;
-use yq_edits::{Layout, is_filled};
+use yq_edit_rules::{Layout, is_filled};
 use yq_lookup::CutText;
 use yq_places::Standing;
 use yq_text::Segments;

@@ -1,9 +1,9 @@
 //! A text in the place of another on a line.
 ghost use Rattle.std.specs.Prelude.{◌≡◌, IfOk, string_bytes};
-ghost use Rattle.yq_edits.specs.ReplaceEdits as spec;
+ghost use Rattle.yq_edit_rules.specs.ReplaceEdits as spec;
 
 use std::alloc::{AllocError, Global};
-use yq_edits::behind_space;
+use yq_edit_rules::behind_space;
 
 /// A text as it is put in the place of another: behind a space, where none is there.
 ///

@@ -1,12 +1,12 @@
 -- What an expression makes of a text.
 use Rattle.std.specs.Prelude.{◌≡◌, ℕ, List, Result, Ok, Err}
 use Rattle.yq_semantics.specs.Program.{Program}
-use Rattle.yq_parser.specs.Parse.{outcome}
+use Rattle.yq_expr_parser.specs.Parse.{outcome}
 use Rattle.yq_text.specs.Splice.{Splice}
 use Rattle.yq_edit_laws.{specs.Carried.edit_of, specs.Edit.Edit}
 use Rattle.yq_history.{specs.declared.fault.Fault.Fault, specs.Causes.IsUnreadable}
 use Rattle.yq_commands.specs.CommandFaults.{of_parse, of_refusal}
-use Rattle.yq_parser.specs.Outcome as expr
+use Rattle.yq_expr_parser.specs.Outcome as expr
 use Rattle.yq_edit_laws.specs.Edit as edit
 
 -- what an edit comes to: this text has no reading, or the program is refused on it, or it gives a text by splices (own)

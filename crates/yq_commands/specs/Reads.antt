@@ -1,7 +1,7 @@
 -- What a read prints of its matches (own).
 use Rattle.std.specs.Prelude.{ℕ, ◌==◌, Bool, true, false, not, ◌&&◌, ◌||◌, if◌then◌else◌, List, [], ◌∷◌, ◌++◌, codes, Option, Some, None}
 use Rattle.yq_core.{specs.declared.kind.Kind.Kind, specs.Tree.{Node, alias, scalar, list, map}, specs.SchemaReading.is_true_word}
-use Rattle.yq_edits.specs.Print.{print_text}
+use Rattle.yq_edit_rules.specs.Print.{print_text}
 use Rattle.yq_history.specs.Report.{Report}
 use Rattle.yq_core.specs.declared.kind.Kind.TheVariants as kinds
 

@@ -3,8 +3,8 @@ ghost use Rattle.std.specs.Prelude.{◌≡◌};
 ghost use Rattle.yq_commands.specs.CommandFaults.{of_edit, of_matching, of_parse, of_refusal};
 
 use yq_edit_laws::EditError;
+use yq_expr_parser::ParseError;
 use yq_history::Fault;
-use yq_parser::ParseError;
 use yq_semantics::{ExprError, Refusal};
 
 /// Why an expression has no program.

@@ -7,8 +7,8 @@ ghost use Rattle.yq_commands.specs.Editing.{program_in};
 
 use crate::faults::parse_fault;
 use std::alloc::Global;
+use yq_expr_parser::parse_expr;
 use yq_history::Fault;
-use yq_parser::parse_expr;
 use yq_semantics::Program;
 use yq_tree::text_of;
 

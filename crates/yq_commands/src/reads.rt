@@ -3,7 +3,7 @@ ghost use Rattle.std.{specs.Prelude.{◌≡◌, ◌≢◌, ◌++◌, Ok, IfOk, I
 ghost use Rattle.std.specs.String.{string_bytes};
 ghost use Rattle.yq_core.specs.Values.{value_node};
 ghost use Rattle.yq_eval.specs.MatchView.{matches_of};
-ghost use Rattle.yq_edits.specs.Print.{print_text};
+ghost use Rattle.yq_edit_rules.specs.Print.{print_text};
 ghost use Rattle.yq_semantics.{specs.Program.is_read, specs.View.program_of};
 ghost use Rattle.yq_history.{specs.Causes.IsFor, specs.Faults.{is_failure, is_output}, specs.Report.report_by};
 ghost use Rattle.yq_commands.specs.Evaluation.{cause_in, shows};
@@ -13,7 +13,7 @@ use crate::faults::match_fault;
 use crate::reading::utf8_text;
 use std::alloc::{AllocError, Global};
 use yq_core::{Kind, Value, is_true_word};
-use yq_edits::print;
+use yq_edit_rules::print;
 use yq_eval::{Match, matches};
 use yq_history::{Fault, Report};
 use yq_semantics::Program;

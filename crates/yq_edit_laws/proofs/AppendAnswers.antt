@@ -8,7 +8,7 @@ use Rattle.yq_flow_edits.{specs.FlowEdits.{FlowEdit, appending}, specs.FlowPlace
 use Rattle.yq_row_table.specs.Rows.{Cut, cut_text}
 use Rattle.yq_places.{specs.FlowNodes.flow_collection, specs.FlowViews.{behind_anchor, placed_collection}}
 use Rattle.yq_places.specs.declared.places.flow_node.FlowHead.{FlowHead}
-use Rattle.yq_edits.specs.FlowParts.{flow_more, flow_segments, takes_key}
+use Rattle.yq_edit_rules.specs.FlowParts.{flow_more, flow_segments, takes_key}
 use Rattle.yq_edit_laws.{specs.EditPlaces.{content_takes, moved_on, placed_takes}, proofs.FlowAnswers.{CollFound, EditFound, edit_found}}
 use Rattle.yq_edit_laws.{proofs.FlowAppendLaws.{bounds, there}, proofs.FlowHeads.{append_found, appended_within, whole_is}}
 use Rattle.yq_edit_laws.proofs.FlowLonger.{appending_more}

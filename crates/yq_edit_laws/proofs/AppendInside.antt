@@ -11,16 +11,16 @@ use Rattle.yq_row_table.specs.Items.{rows_items}
 use Rattle.yq_places.{specs.CollectionEnds.{CollectionEnd, is_broken}, specs.RowPaths.IsReadable}
 use Rattle.yq_documents.{specs.Documents.lead_of, specs.Ready.begins_no_node, specs.Reading.read_at}
 use Rattle.yq_outline.specs.Lines.{lines_from, lines_of_rows}
-use Rattle.yq_edits.{specs.declared.layout.Layout.Layout, specs.Alone.singleton, specs.BlockRows.node_rows, specs.BlockText.block_value}
-use Rattle.yq_edits.{proofs.BlockEndLaws.line_ends, proofs.TextLaws.value_spelled, specs.Appends.{TakesRows, inserted}}
-use Rattle.yq_edits.{specs.Changed.put_document, specs.CollectionPlaces.IsCollectionEnd, specs.DocumentRows.behind_document}
-use Rattle.yq_edits.{specs.Rooms.is_block_root, proofs.AppendLaws.block_appended, proofs.EndedRowLaws.rows_then}
-use Rattle.yq_edits.{proofs.TextPieceLaws.pieces_joined, proofs.BlockLineLaws.break_uncommented, specs.Local.{IsLocal, IsLocalTo}}
-use Rattle.yq_edits.{proofs.ItemsLocal.{first_nothing, last_nothing}, proofs.LocalLaws.{cut_known, rows_local}, specs.Layouts.layout_of}
-use Rattle.yq_edits.{specs.EntryEdits.entry_lines, specs.ReadsAfter.ReadsAfter, proofs.CommentPieceLaws.break_piece}
-use Rattle.yq_edits.proofs.SegmentLaws.{segments_readable}
-use Rattle.yq_edits.proofs.AppendPlaces.{IsAppendPlace, put_segments, old_is, p, there, e, allows_there, kept_pieces, IsAsked, entry}
-use Rattle.yq_edits.proofs.AppendPlaces.{written, new_rows_are, entry_piece, filled, finished}
+use Rattle.yq_edit_rules.{specs.declared.layout.Layout.Layout, specs.Alone.singleton, specs.BlockRows.node_rows}
+use Rattle.yq_edit_rules.{specs.BlockText.block_value, proofs.BlockEndLaws.line_ends, proofs.TextLaws.value_spelled}
+use Rattle.yq_edit_rules.{specs.Appends.{TakesRows, inserted}, specs.Changed.put_document, specs.CollectionPlaces.IsCollectionEnd}
+use Rattle.yq_edit_rules.{specs.DocumentRows.behind_document, specs.Rooms.is_block_root, proofs.AppendLaws.block_appended}
+use Rattle.yq_edit_rules.{proofs.EndedRowLaws.rows_then, proofs.TextPieceLaws.pieces_joined, proofs.BlockLineLaws.break_uncommented}
+use Rattle.yq_edit_rules.{specs.Local.{IsLocal, IsLocalTo}, proofs.ItemsLocal.{first_nothing, last_nothing}}
+use Rattle.yq_edit_rules.{proofs.LocalLaws.{cut_known, rows_local}, specs.Layouts.layout_of, specs.EntryEdits.entry_lines}
+use Rattle.yq_edit_rules.{specs.ReadsAfter.ReadsAfter, proofs.CommentPieceLaws.break_piece, proofs.SegmentLaws.segments_readable}
+use Rattle.yq_edit_rules.proofs.AppendPlaces.{IsAppendPlace, put_segments, old_is, p, there, e, allows_there, kept_pieces, IsAsked, entry}
+use Rattle.yq_edit_rules.proofs.AppendPlaces.{written, new_rows_are, entry_piece, filled, finished}
 use Rattle.yq_semantics.specs.Operations.{append}
 use Rattle.yq_outline.specs.Comments as comments
 

@@ -8,7 +8,7 @@ use Rattle.yq_documents.{specs.Documents.ReadsDocuments, specs.Reading.{cut_of, 
 use Rattle.yq_documents.proofs.ReadLaws.{parts_read, read_takes}
 use Rattle.yq_semantics.{specs.After.after_op, specs.Fits.Fits, specs.Operations.Operation, specs.Rooms.room_of}
 use Rattle.yq_semantics.{specs.RoomsKept.LeavesRooms, specs.declared.refusal.Refusal.TheVariants.TooLarge}
-use Rattle.yq_edits.{specs.Operands.HasOperand, specs.EditLaws.IsEdit, specs.Edits.{op_edits, or_stay}, specs.ReadsAfter.ReadsAfter}
+use Rattle.yq_edit_rules.{specs.Operands.HasOperand, specs.EditLaws.IsEdit, specs.Edits.{op_edits, or_stay}, specs.ReadsAfter.ReadsAfter}
 use Rattle.yq_edit_laws.{proofs.CutLaws.{cut_read, cut_same, text_read}, specs.Answers.{Edits, EditFails}}
 use Rattle.yq_edit_laws.specs.Carried.{carry_one, carried}
 use Rattle.yq_edit_laws.specs.Edit.{Edit, unreadable, refuses, gives, by_reading, edit_of_segments, exchange_edit}

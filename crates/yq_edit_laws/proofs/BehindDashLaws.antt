@@ -5,7 +5,7 @@ use Rattle.yq_row_table.{specs.Exchange.row_front, specs.Joined.compact_row}
 use Rattle.yq_row_table.{specs.Rows.{Row, behind_indent, dashes_text, mark_text, rows_text}, proofs.seams.JoinLaws.dashes_text-append}
 use Rattle.yq_row_table.{proofs.PlaceLaws.dashes_then, specs.Items.rows_items}
 use Rattle.yq_documents.specs.Documents.{HaveFitKeys}
-use Rattle.yq_edits.{specs.Local.InFirst, proofs.ItemsLocal.first_within, specs.BlockPlaces.compact_rows, proofs.BlockLineLaws.BeginAt}
+use Rattle.yq_edit_rules.{specs.Local.InFirst, proofs.ItemsLocal.first_within, specs.BlockPlaces.compact_rows, proofs.BlockLineLaws.BeginAt}
 use Rattle.yq_row_table.specs.Rows as rows
 
 -- the first of the rows behind a dash

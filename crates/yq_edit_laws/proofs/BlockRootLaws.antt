@@ -10,12 +10,12 @@ use Rattle.yq_documents.{specs.Reading.read_at, specs.Ready.begins_no_node, spec
 use Rattle.yq_places.{specs.PlacedRows.{PlacedPart, placed_document}, specs.PrintedLines.{last_break, less_break}}
 use Rattle.yq_places.{specs.Standings.{BlockRoot, is_alone}, proofs.CommentPieceLaws.{Ended, gap_end}, proofs.PrintedTexts.less_is}
 use Rattle.yq_places.proofs.RemovalLines.{LineSeam, LiesIn, lies_in, seam_join}
-use Rattle.yq_edits.{specs.DocumentRows.IsDocumentPart, specs.PlacedParts.StandsAt, specs.TextPieces.IsPiece}
-use Rattle.yq_edits.{proofs.AppendPlaceLaws.rows_behind, proofs.EndedRowLaws.{rows_ended, rows_then}}
-use Rattle.yq_edits.{proofs.FirstBreakLaws.{IsOneBreak, break_tail, break_apart, break_bare}, proofs.PartLaws.document_known}
-use Rattle.yq_edits.{proofs.PlacedPartLaws.document_stands_at, proofs.TextPieceLaws.{pieces_joined, text_is_piece}}
-use Rattle.yq_edits.{proofs.RemovalPieceLaws.{spaces_piece, seam_pieces}, proofs.AppendAtEnd.nothing_tail}
-use Rattle.yq_edits.{proofs.AppendEntryLaws.none_uncommented, proofs.CommentPieceLaws.{nothing, break_piece}, proofs.LastRows.lf_end}
+use Rattle.yq_edit_rules.{specs.DocumentRows.IsDocumentPart, specs.PlacedParts.StandsAt, specs.TextPieces.IsPiece}
+use Rattle.yq_edit_rules.{proofs.AppendPlaceLaws.rows_behind, proofs.EndedRowLaws.{rows_ended, rows_then}}
+use Rattle.yq_edit_rules.{proofs.FirstBreakLaws.{IsOneBreak, break_tail, break_apart, break_bare}, proofs.PartLaws.document_known}
+use Rattle.yq_edit_rules.{proofs.PlacedPartLaws.document_stands_at, proofs.TextPieceLaws.{pieces_joined, text_is_piece}}
+use Rattle.yq_edit_rules.{proofs.RemovalPieceLaws.{spaces_piece, seam_pieces}, proofs.AppendAtEnd.nothing_tail}
+use Rattle.yq_edit_rules.{proofs.AppendEntryLaws.none_uncommented, proofs.CommentPieceLaws.{nothing, break_piece}, proofs.LastRows.lf_end}
 use Rattle.yq_edit_laws.{proofs.RootReadLaws.TakesValue, proofs.RootRows.HasRoom, proofs.StandingRoots.HasRoot}
 use Rattle.yq_edit_laws.proofs.FirstRows.{ends_with, row_entry, row_some, some_length}
 use Rattle.yq_core.specs.declared.block_types.Break.TheVariants as breaks

@@ -9,10 +9,10 @@ use Rattle.yq_places.{specs.FlowNodes.flow_collection, specs.NodesAt.node_in, sp
 use Rattle.yq_places.{specs.Standings.{flow_standing, last_step, rows_of_entry, standing_at}, proofs.PrintedTexts.map_some}
 use Rattle.yq_semantics.specs.Operations.{replace, append, remove, line_comment, head_comment}
 use Rattle.yq_text.specs.Script.{Segment, keep}
-use Rattle.yq_edits.specs.EditLaws.{KindsCarryOut, EditsCarryOut, IsEdit}
-use Rattle.yq_edits.specs.Edits.{empty_collection, part_removed, replace_segments, rows_or_sole, sole_removed}
-use Rattle.yq_edits.{specs.EntryEdits.{block_more, one_removed}, specs.FlowParts.{flow_more, flow_put}, specs.Layouts.layout_of}
-use Rattle.yq_edits.{specs.ReplaceEdits.{has_text, value_put}, specs.Replacing.keeps_scalar}
+use Rattle.yq_edit_rules.specs.EditLaws.{KindsCarryOut, EditsCarryOut, IsEdit}
+use Rattle.yq_edit_rules.specs.Edits.{empty_collection, part_removed, replace_segments, rows_or_sole, sole_removed}
+use Rattle.yq_edit_rules.{specs.EntryEdits.{block_more, one_removed}, specs.FlowParts.{flow_more, flow_put}, specs.Layouts.layout_of}
+use Rattle.yq_edit_rules.{specs.ReplaceEdits.{has_text, value_put}, specs.Replacing.keeps_scalar}
 
 module _ (laws : KindsCarryOut) where
   replaced_is : (n : ℕ) (steps : List Step) (v : Node) (c : Cut) (ss : List Segment) → read_at (cut_text c) ≡ Some c → replace_segments n steps v c ≡ Some ss → IsEdit (replace n steps v) c ss

@@ -2,7 +2,7 @@
 use Rattle.std.proofs.Common.{◌≡◌, inl, inr, ℕ, List, [], ◌∷◌, ◌++◌, Bool, true, false, cond, refl, sym, ap, rules}
 use Rattle.std.proofs.lemmas.Bool.{false≢true}
 use Rattle.yq_core.specs.Text.{is_empty, is_feed, is_line}
-use Rattle.yq_edits.{specs.ClosedTexts.is_closed_text, proofs.BreakLaws.IsLfOrCrLf}
+use Rattle.yq_edit_rules.{specs.ClosedTexts.is_closed_text, proofs.BreakLaws.IsLfOrCrLf}
 
 -- the end of a text tells
 pub closed_behind : (a b : List ℕ) → is_empty b ≡ false → is_closed_text (a ++ b) ≡ is_closed_text b

@@ -6,7 +6,7 @@ use Rattle.yq_outline.specs.Outline.{LineMark, Bare, Key, Dash, Outline, end, ro
 use Rattle.yq_outline.{specs.Places.{here, FoundLine, find, in_head, place_inside, content_under}, specs.Positions.has_no_mark}
 use Rattle.yq_outline.proofs.Finding.{path_node}
 use Rattle.yq_places.specs.FlowNodes.{bare_line, find_head, head_line}
-use Rattle.yq_edits.specs.Siblings.{HasEntries, IsCollectionAt, IsEntry, NodeLines, lines_below, under_line}
+use Rattle.yq_edit_rules.specs.Siblings.{HasEntries, IsCollectionAt, IsEntry, NodeLines, lines_below, under_line}
 use Rattle.yq_edit_laws.proofs.FlowHeldNodes.{FlowContent, HeldAt, held, held_anchored}
 
 abbrev Reached : Type 0

@@ -7,7 +7,7 @@ use Rattle.yq_outline.{specs.Outline.Line, specs.Positions.has_no_mark, proofs.W
 use Rattle.yq_row_table.{specs.Grammar.{AreRows, unlimited}, specs.Rows.{Row, behind_columns, dashes_text, print_row, rows_text}}
 use Rattle.yq_row_table.proofs.seams.SeamLaws.{rows_text-append}
 use Rattle.yq_places.{specs.CollectionEnds.is_broken, specs.PrintedLines.last_break}
-use Rattle.yq_edits.{specs.Siblings.IsEntry, proofs.EndedRowLaws.{row_there, rows_then}}
+use Rattle.yq_edit_rules.{specs.Siblings.IsEntry, proofs.EndedRowLaws.{row_there, rows_then}}
 use Rattle.yq_edit_laws.proofs.FinalBreaks.{broken_is}
 use Rattle.yq_outline.specs.Outline as outlines
 

@@ -12,10 +12,10 @@ use Rattle.yq_row_table.{specs.Rows.{Row, Part, Cut, behind_columns, cut_text, p
 use Rattle.yq_documents.{specs.Documents.document_parts, specs.Reading.part_outline}
 use Rattle.yq_places.{specs.CollectionEnds.{CollectionEnd, is_broken}, specs.Standings.{RowsOfEntry, before_entry, behind_entry, is_alone}}
 use Rattle.yq_places.{proofs.FlowViewLaws.before_under, proofs.RowPathLaws.found_lines, proofs.UnderExchange.lines_append}
-use Rattle.yq_edits.{specs.Changed.put_document, specs.CollectionPlaces.{BeginsAt, IsCollectionEnd}, specs.DocumentRows.behind_document}
-use Rattle.yq_edits.{specs.Siblings.{HasEntries, IsEntry, lines_below, under_line}, specs.StandingLaws.StandsThere}
-use Rattle.yq_edits.{proofs.EndedRowLaws.row_there, proofs.LineLaws.row_count, proofs.PartLaws.{document_known, part_rows}}
-use Rattle.yq_edits.{proofs.CommentRowLaws.rows_front, proofs.SamePlaceLaws.put_own}
+use Rattle.yq_edit_rules.{specs.Changed.put_document, specs.CollectionPlaces.{BeginsAt, IsCollectionEnd}}
+use Rattle.yq_edit_rules.{specs.DocumentRows.behind_document, specs.Siblings.{HasEntries, IsEntry, lines_below, under_line}}
+use Rattle.yq_edit_rules.{specs.StandingLaws.StandsThere, proofs.EndedRowLaws.row_there, proofs.LineLaws.row_count}
+use Rattle.yq_edit_rules.{proofs.PartLaws.{document_known, part_rows}, proofs.CommentRowLaws.rows_front, proofs.SamePlaceLaws.put_own}
 use Rattle.yq_edit_laws.proofs.CollectionRows.{get_behind, get_front, behind_front, row_agrees_in, columns_are, no_bare}
 use Rattle.yq_row_table.specs.Rows as rows
 

@@ -7,9 +7,9 @@ use Rattle.yq_outline.specs.Lines.{content_anchor, head_of, tail_of}
 use Rattle.yq_row_table.{specs.Exchange.with_content, specs.Grammar.{allows, limit_behind, IsContent}}
 use Rattle.yq_row_table.specs.Rows.{Content, content_text, Row, mark_column, parent_indent, rows_text, Cut, cut_text}
 use Rattle.yq_documents.specs.Documents.{MarkIsFit, ContentHasFitKeys, HaveFitKeys}
-use Rattle.yq_edits.{specs.DocumentRows.behind_document, proofs.AnchorLaws.fit_parts, proofs.ContentLaws.free_alone}
-use Rattle.yq_edits.{proofs.InlineReplaceLaws.deeper_entry, proofs.PartLaws.document_known, proofs.UnderLaws.{line_with, gone_lines}}
-use Rattle.yq_edits.{specs.BlockPlaces.{IsUpto, at_mark, at_dash, Replaces}, proofs.LaidRows.no_gap_here, proofs.PlaceLaws.upto_row}
+use Rattle.yq_edit_rules.{specs.DocumentRows.behind_document, proofs.AnchorLaws.fit_parts, proofs.ContentLaws.free_alone}
+use Rattle.yq_edit_rules.{proofs.InlineReplaceLaws.deeper_entry, proofs.PartLaws.document_known, proofs.UnderLaws.{line_with, gone_lines}}
+use Rattle.yq_edit_rules.{specs.BlockPlaces.{IsUpto, at_mark, at_dash, Replaces}, proofs.LaidRows.no_gap_here, proofs.PlaceLaws.upto_row}
 use Rattle.yq_edit_laws.{proofs.NodeRowLaws.{NodeRows, entry, limit, rest, rows_there}, proofs.NodeTaken.TakesNode}
 use Rattle.yq_outline.specs.Outline as outline
 

@@ -12,16 +12,16 @@ use Rattle.yq_row_table.proofs.PlaceLaws.{row_front-append}
 use Rattle.yq_documents.specs.Reading.{part_outline, read_at, root_of}
 use Rattle.yq_places.{specs.RowPieces.upto_dash, specs.PrintedLines.{last_break, less_break}}
 use Rattle.yq_places.{specs.Standings.{Compact, RowsOfEntry, compact_in, dash_text, rows_of_entry}, proofs.PrintedTexts.less_is}
-use Rattle.yq_edits.{specs.Appends.inserted, specs.Changed.put_document, specs.SoundRoots.MayReplace, specs.StandingLaws.StandsThere}
-use Rattle.yq_edits.{specs.TextPieces.IsPiece, specs.Unders.spaced_content, proofs.TextPieceLaws.pieces_joined}
-use Rattle.yq_edits.{specs.declared.layout.Layout.Layout, specs.BlockReading.is_filled, specs.BlockRows.{item_column, node_rows}}
-use Rattle.yq_edits.{specs.BlockText.block_value, specs.BlockValues.IsFilledValue, proofs.TextLaws.value_spelled, specs.Done.ArePieces}
-use Rattle.yq_edits.{specs.EditLaws.CarriedOut, specs.Layouts.layout_of, specs.Local.InFirst, specs.ReplaceEdits.compact_put}
-use Rattle.yq_edits.specs.WrittenValues.{Written, compact_text, inline, lines, lines_in, takes_compact, value_text, written_at}
-use Rattle.yq_edits.{proofs.BreakLaws.last_is, proofs.BrokenTails.uncommented_tail, proofs.CommentPieceLaws.{break_piece, byte_then}}
-use Rattle.yq_edits.{proofs.CommentReadLaws.break_is, proofs.EditsFitLaws.FitsReplace, proofs.HeldCuts.break_is_piece}
-use Rattle.yq_edits.{proofs.LayoutLaws.mapping_least, proofs.OneLines.break_line, proofs.SegmentLaws.segments_readable}
-use Rattle.yq_edits.proofs.ValueTexts.{IsWrittenFor, value_for}
+use Rattle.yq_edit_rules.{specs.Appends.inserted, specs.Changed.put_document, specs.SoundRoots.MayReplace, specs.StandingLaws.StandsThere}
+use Rattle.yq_edit_rules.{specs.TextPieces.IsPiece, specs.Unders.spaced_content, proofs.TextPieceLaws.pieces_joined}
+use Rattle.yq_edit_rules.{specs.declared.layout.Layout.Layout, specs.BlockReading.is_filled, specs.BlockRows.{item_column, node_rows}}
+use Rattle.yq_edit_rules.{specs.BlockText.block_value, specs.BlockValues.IsFilledValue, proofs.TextLaws.value_spelled, specs.Done.ArePieces}
+use Rattle.yq_edit_rules.{specs.EditLaws.CarriedOut, specs.Layouts.layout_of, specs.Local.InFirst, specs.ReplaceEdits.compact_put}
+use Rattle.yq_edit_rules.specs.WrittenValues.{Written, compact_text, inline, lines, lines_in, takes_compact, value_text, written_at}
+use Rattle.yq_edit_rules.{proofs.BreakLaws.last_is, proofs.BrokenTails.uncommented_tail, proofs.CommentPieceLaws.{break_piece, byte_then}}
+use Rattle.yq_edit_rules.{proofs.CommentReadLaws.break_is, proofs.EditsFitLaws.FitsReplace, proofs.HeldCuts.break_is_piece}
+use Rattle.yq_edit_rules.{proofs.LayoutLaws.mapping_least, proofs.OneLines.break_line, proofs.SegmentLaws.segments_readable}
+use Rattle.yq_edit_rules.proofs.ValueTexts.{IsWrittenFor, value_for}
 use Rattle.yq_semantics.specs.Operations.{Operation, replace}
 use Rattle.yq_edit_laws.proofs.DashNodes.{dash_behind, dash_last_ends, dash_node, dash_pieces, dash_spelled, dash_unnamed, upto}
 use Rattle.yq_edit_laws.proofs.DashValueLaws.{behind_first, behind_rows, behind_spelled, takes_behind}

@@ -4,13 +4,14 @@ use Rattle.yq_core.{specs.Paths.Step, specs.Text.upto, specs.Tree.{Node, anchor_
 use Rattle.yq_outline.{specs.LineAnchors.HaveOneAnchorEach, specs.Comments.line_comment, specs.Outline.{level, Stands}}
 use Rattle.yq_outline.{specs.Places.content_under, proofs.ByRules.rules_give, specs.Lines.{lines_of_rows, tail_of}}
 use Rattle.yq_row_table.{specs.Exchange.row_front, specs.Rows.{Nothing, Row, mark_column, rows_text, Cut}, specs.Items.rows_items}
-use Rattle.yq_edits.{specs.DocumentRows.behind_document, proofs.LineLaws.{above_mark, mark_behind}, proofs.UnderLaws.{dashes_of, line_with}}
-use Rattle.yq_edits.{specs.declared.layout.Layout.Layout, specs.BlockPlaces.{compact_rows, Replaces}}
-use Rattle.yq_edits.{specs.BlockRows.{item_column, node_rows}, specs.BlockText.block_value}
-use Rattle.yq_edits.specs.BlockValues.{HasNearKeys, IsFilledValue, IsEnd, entry_level, level_at}
-use Rattle.yq_edits.proofs.FitLaws.{anchors_fit, keys_fit, node_fit}
-use Rattle.yq_edits.{proofs.BlockLineLaws.{BeginAt, lines_deeper, node_begun, node_stands}, proofs.PlaceLaws.{behind_laid, compact_lines}}
-use Rattle.yq_edits.{proofs.RowLaws.deeper_laid, proofs.TextLaws.value_spelled, specs.Local.InFirst}
+use Rattle.yq_edit_rules.{specs.DocumentRows.behind_document, proofs.LineLaws.{above_mark, mark_behind}}
+use Rattle.yq_edit_rules.{proofs.UnderLaws.{dashes_of, line_with}, specs.declared.layout.Layout.Layout}
+use Rattle.yq_edit_rules.{specs.BlockPlaces.{compact_rows, Replaces}, specs.BlockRows.{item_column, node_rows}, specs.BlockText.block_value}
+use Rattle.yq_edit_rules.specs.BlockValues.{HasNearKeys, IsFilledValue, IsEnd, entry_level, level_at}
+use Rattle.yq_edit_rules.proofs.FitLaws.{anchors_fit, keys_fit, node_fit}
+use Rattle.yq_edit_rules.proofs.BlockLineLaws.{BeginAt, lines_deeper, node_begun, node_stands}
+use Rattle.yq_edit_rules.{proofs.PlaceLaws.{behind_laid, compact_lines}, proofs.RowLaws.deeper_laid, proofs.TextLaws.value_spelled}
+use Rattle.yq_edit_rules.specs.Local.{InFirst}
 use Rattle.yq_edit_laws.proofs.BehindDashLaws.{behind_lead, behind_text, first_row, gap_same, keys_same, more_rows, rows_are}
 use Rattle.yq_edit_laws.{proofs.ContentRows.upto_gap, proofs.NodeRowLaws.{NodeRows, limit, rest, rows_there}, proofs.NodeTaken.TakesNode}
 use Rattle.yq_row_table.specs.Rows as rows

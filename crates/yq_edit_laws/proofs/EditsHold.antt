@@ -1,7 +1,7 @@
 -- What each operation exchanges carries it out, and one that fits has it: the laws of all kinds of edits together.
 use Rattle.std.proofs.Common.{refl}
 use Rattle.yq_places.specs.Standings.{alone, beside, under, compact, block, root, no_rows}
-use Rattle.yq_edits.{specs.EditLaws.{KindsCarryOut, EditsCarryOut, FittingHasEdit, ValuesArePut}, proofs.KeptLaws.equal_scalars_stay}
+use Rattle.yq_edit_rules.{specs.EditLaws.{KindsCarryOut, EditsCarryOut, FittingHasEdit, ValuesArePut}, proofs.KeptLaws.equal_scalars_stay}
 use Rattle.yq_edit_laws.{proofs.HeadCommentLaws.head_comment_is_put, proofs.LineCommentLaws.line_comment_is_put}
 use Rattle.yq_edit_laws.{proofs.MoreLaws.more_is_put, proofs.RemovingFirstLaws.one_is_removed, proofs.FlowAppendLaws.flow_more_put}
 use Rattle.yq_edit_laws.{proofs.FlowPutLaws.flow_values_put, proofs.FlowRemoveLaws.flow_part_removed, proofs.MoreExists.takers_have_edit}

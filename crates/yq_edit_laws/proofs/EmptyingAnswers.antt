@@ -3,7 +3,7 @@ use Rattle.std.proofs.Common.{◌≡◌, ℕ, List, Option, Some, None, option_m
 use Rattle.yq_core.{specs.Answers.◌>>=◌, specs.Paths.Step, specs.Tree.{Node, alias, scalar, list, map}}
 use Rattle.yq_row_table.specs.Rows.{Cut}
 use Rattle.yq_places.{specs.NodesAt.{NodeAt, node_in, node_summary}, specs.Standings.last_step}
-use Rattle.yq_edits.specs.Edits.{empty_collection, replace_segments}
+use Rattle.yq_edit_rules.specs.Edits.{empty_collection, replace_segments}
 use Rattle.yq_edit_laws.specs.Emptying.{Emptied, SoleByEmptying, emptied_summary, emptying}
 
 pub sole_by_emptying : SoleByEmptying

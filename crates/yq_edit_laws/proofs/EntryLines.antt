@@ -4,7 +4,7 @@ use Rattle.std.{proofs.lemmas.Option.{none-some, same_Some}, specs.Prelude.optio
 use Rattle.yq_core.{specs.Paths.Step, specs.Tree.Node}
 use Rattle.yq_outline.specs.Outline.{LineMark, Bare, Key, Dash, Outline, end, row}
 use Rattle.yq_outline.specs.Places.{here, FoundLine, bare_or, find, find_row, in_head, place_inside}
-use Rattle.yq_edits.{specs.Siblings.{HasEntries, IsEntry, IsEntryAt, NodeLines}, proofs.NodeLineLaws.lines_found}
+use Rattle.yq_edit_rules.{specs.Siblings.{HasEntries, IsEntry, IsEntryAt, NodeLines}, proofs.NodeLineLaws.lines_found}
 
 abbrev Reached : Type 0
 Reached = FoundLine × List Step

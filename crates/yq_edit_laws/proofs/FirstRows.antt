@@ -7,7 +7,7 @@ use Rattle.yq_row_table.{specs.Grammar.IsMark, specs.Rows.{Content, Row, behind_
 use Rattle.yq_row_table.{proofs.PlaceLaws.content_then, proofs.NothingLaws.some_behind, proofs.GapLaws.some_more}
 use Rattle.yq_documents.specs.Ready.{begins_no_node}
 use Rattle.yq_places.{specs.PrintedLines.last_break, specs.Standings.is_alone, proofs.CommentPieceLaws.Ended, proofs.LastBreakLaws.lf_last}
-use Rattle.yq_edits.{proofs.FirstBreakLaws.IsOneBreak, proofs.BreakLaws.last_is}
+use Rattle.yq_edit_rules.{proofs.FirstBreakLaws.IsOneBreak, proofs.BreakLaws.last_is}
 use Rattle.yq_row_table.specs.Rows as rows
 
 no_line : is_line [] ≡ false

@@ -17,12 +17,12 @@ use Rattle.yq_places.{specs.PlacedRows.{PlacedPart, placed_document}, specs.Remo
 use Rattle.yq_places.specs.Standings.{FlowPart, RowsOfEntry, Standing, entry_rows_at, entry_standing, flow_part, flow_standing, held}
 use Rattle.yq_places.{specs.Standings.{last_step, rows_of_entry, standing_at}, proofs.PlacedRowLaws.{document_placed, part_of}}
 use Rattle.yq_places.proofs.PrintedTexts.{map_some}
-use Rattle.yq_edits.specs.StandingLaws.{EntriesStand, RootsStand}
-use Rattle.yq_edits.specs.CommentEdits.{above_rows, comment_put, head_comment_put, head_comment_segments, line_comment_put}
-use Rattle.yq_edits.specs.EditLaws.{FittingHasEdit, AppendHasEdit}
-use Rattle.yq_edits.specs.Edits.{op_edits, empty_collection, part_removed, removed, replace_segments, rows_or_sole, sole_removed}
-use Rattle.yq_edits.{specs.EntryEdits.one_removed, specs.FlowParts.{flow_put, flow_removed, flow_segments}, specs.Layouts.layout_of}
-use Rattle.yq_edits.{specs.ReplaceEdits.{has_text, value_put}, specs.Replacing.keeps_scalar, proofs.DoneLaws.read_cut}
+use Rattle.yq_edit_rules.specs.StandingLaws.{EntriesStand, RootsStand}
+use Rattle.yq_edit_rules.specs.CommentEdits.{above_rows, comment_put, head_comment_put, head_comment_segments, line_comment_put}
+use Rattle.yq_edit_rules.specs.EditLaws.{FittingHasEdit, AppendHasEdit}
+use Rattle.yq_edit_rules.specs.Edits.{op_edits, empty_collection, part_removed, removed, replace_segments, rows_or_sole, sole_removed}
+use Rattle.yq_edit_rules.{specs.EntryEdits.one_removed, specs.FlowParts.{flow_put, flow_removed, flow_segments}, specs.Layouts.layout_of}
+use Rattle.yq_edit_rules.{specs.ReplaceEdits.{has_text, value_put}, specs.Replacing.keeps_scalar, proofs.DoneLaws.read_cut}
 use Rattle.yq_semantics.{specs.Fits.Fits, specs.Operations.{replace, append, remove, line_comment, head_comment}, specs.Rooms.room_of}
 use Rattle.yq_text.specs.Script.{Segment, keep}
 use Rattle.yq_edit_laws.{proofs.FlowSoundLaws.{above_is, last_is}, proofs.StandingExists.last_there, proofs.RemoveExists.one_there}

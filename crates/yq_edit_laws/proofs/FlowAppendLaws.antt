@@ -13,11 +13,11 @@ use Rattle.yq_row_table.specs.Rows.{Cut, cut_text}
 use Rattle.yq_documents.specs.Documents.{Document, EachHasFitKeys, HasFitKey, HasFitKeys, document_parts}
 use Rattle.yq_documents.specs.Reading.{documents, read_at, root_of}
 use Rattle.yq_places.specs.FlowNodes.{flow_collection}
-use Rattle.yq_edits.{specs.FlowRows.FlowAt, specs.SoundRoots.{IsNewKey, IsNewValue, IsSoundRoot}, specs.TextPieces.IsPiece}
-use Rattle.yq_edits.{proofs.FlowKeptLaws.flow_keys, proofs.PartLaws.document_known, proofs.SoundRootLaws.append_keeps}
-use Rattle.yq_edits.{specs.EditLaws.{CarriedOut, FlowMoreIsPut, IsEdit}, specs.FlowParts.{flow_segments, takes_key}}
-use Rattle.yq_edits.{specs.Operands.KeyIsUtf8, proofs.DoneLaws.nth_map, proofs.EditsFitLaws.{new_key, new_value, tree_unique}}
-use Rattle.yq_edits.{proofs.FlowWritten.{flow_fits, key_fits}, proofs.ValueNodes.{comma_piece, flow_piece, key_piece}}
+use Rattle.yq_edit_rules.{specs.FlowRows.FlowAt, specs.SoundRoots.{IsNewKey, IsNewValue, IsSoundRoot}, specs.TextPieces.IsPiece}
+use Rattle.yq_edit_rules.{proofs.FlowKeptLaws.flow_keys, proofs.PartLaws.document_known, proofs.SoundRootLaws.append_keeps}
+use Rattle.yq_edit_rules.{specs.EditLaws.{CarriedOut, FlowMoreIsPut, IsEdit}, specs.FlowParts.{flow_segments, takes_key}}
+use Rattle.yq_edit_rules.{specs.Operands.KeyIsUtf8, proofs.DoneLaws.nth_map, proofs.EditsFitLaws.{new_key, new_value, tree_unique}}
+use Rattle.yq_edit_rules.{proofs.FlowWritten.{flow_fits, key_fits}, proofs.ValueNodes.{comma_piece, flow_piece, key_piece}}
 use Rattle.yq_semantics.{specs.Fits.{Fits, Takes}, specs.Operations.append, specs.Rooms.room_of}
 use Rattle.yq_edit_laws.{proofs.FlowPieceLaws.{edit_pieces, nothing_piece}, proofs.FlowEditLaws.{before_is, flow_carried, segments_old}}
 use Rattle.yq_edit_laws.proofs.FlowWholeLaws.{StandsBefore, appended_stands}

@@ -10,12 +10,13 @@ use Rattle.yq_row_table.{specs.Rows.{Inline, content_text, print_row, rows_text,
 use Rattle.yq_row_table.{proofs.seams.SeamLaws.rows_text-append, proofs.splices.SpliceTexts.{own_gap, own_end}}
 use Rattle.yq_documents.{specs.Documents.{HasFitKeys, lead_of}, specs.Reading.{read_at, root_of}}
 use Rattle.yq_places.{specs.RowPaths.IsReadable, proofs.RemovalLines.front_some}
-use Rattle.yq_edits.{specs.Changed.{IsChanged, put_document}, specs.DocumentRows.behind_document}
-use Rattle.yq_edits.{specs.FlowRows.{behind_node, row_collection, with_node, FlowAt}, proofs.PlaceTextLaws.{IsAround, around}}
-use Rattle.yq_edits.{specs.Rooms.is_block_root, specs.SoundRoots.IsSoundRoot, proofs.FlowKeptLaws.flow_rooms, proofs.FlowPathLaws.row_texts}
-use Rattle.yq_edits.{proofs.FlowRowLaws.flow_edited, proofs.LeadLaws.same_lead_goes, specs.Done.ArePieces, specs.EditLaws.CarriedOut}
-use Rattle.yq_edits.{specs.FlowParts.flow_segments, specs.Local.IsLocal, specs.ReadsAfter.ReadsAfter}
-use Rattle.yq_edits.{proofs.LocalLaws.{at_row, cut_known, row_by_size}, proofs.DoneLaws.document_done, proofs.SegmentLaws.segments_readable}
+use Rattle.yq_edit_rules.{specs.Changed.{IsChanged, put_document}, specs.DocumentRows.behind_document}
+use Rattle.yq_edit_rules.{specs.FlowRows.{behind_node, row_collection, with_node, FlowAt}, proofs.PlaceTextLaws.{IsAround, around}}
+use Rattle.yq_edit_rules.{specs.Rooms.is_block_root, specs.SoundRoots.IsSoundRoot, proofs.FlowKeptLaws.flow_rooms}
+use Rattle.yq_edit_rules.{proofs.FlowPathLaws.row_texts, proofs.FlowRowLaws.flow_edited, proofs.LeadLaws.same_lead_goes}
+use Rattle.yq_edit_rules.{specs.Done.ArePieces, specs.EditLaws.CarriedOut, specs.FlowParts.flow_segments, specs.Local.IsLocal}
+use Rattle.yq_edit_rules.{specs.ReadsAfter.ReadsAfter, proofs.LocalLaws.{at_row, cut_known, row_by_size}, proofs.DoneLaws.document_done}
+use Rattle.yq_edit_rules.proofs.SegmentLaws.{segments_readable}
 use Rattle.yq_semantics.{specs.After.{op_document, root_after}, specs.Operations.Operation}
 
 -- the node that is edited, in its row

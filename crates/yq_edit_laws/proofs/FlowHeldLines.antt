@@ -15,9 +15,9 @@ use Rattle.yq_documents.{specs.Documents.document_parts, specs.Reading.{part_out
 use Rattle.yq_documents.specs.LinesInRows.{document_row, RowLine, row_line}
 use Rattle.yq_places.specs.FlowNodes.{bare_line, content_flow, find_head, flow_collection, head_line, line_collection, part_collection}
 use Rattle.yq_places.{proofs.FlowPieces.head_tree, proofs.FlowPlaceLaws.{TakesSteps, mark_row_line}, proofs.FoundEntries.middle}
-use Rattle.yq_edits.{specs.LineRows.IsRowLine, specs.Moved.dash_lines, proofs.FlowLineLaws.{head_takes, head_whole}}
-use Rattle.yq_edits.{proofs.LineLaws.{above_mark, dashes_count, row_line_splits}, proofs.PartLaws.document_known}
-use Rattle.yq_edits.{proofs.PlacedLaws.same_parts, proofs.CommentPutLaws.last_lines}
+use Rattle.yq_edit_rules.{specs.LineRows.IsRowLine, specs.Moved.dash_lines, proofs.FlowLineLaws.{head_takes, head_whole}}
+use Rattle.yq_edit_rules.{proofs.LineLaws.{above_mark, dashes_count, row_line_splits}, proofs.PartLaws.document_known}
+use Rattle.yq_edit_rules.{proofs.PlacedLaws.same_parts, proofs.CommentPutLaws.last_lines}
 use Rattle.yq_edit_laws.proofs.FlowHeldNodes.{FlowContent, HeldAt, coll_held, coll_there, held, held_anchored, same_held}
 use Rattle.yq_core.specs.Tree as tree
 

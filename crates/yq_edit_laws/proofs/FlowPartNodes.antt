@@ -13,7 +13,7 @@ use Rattle.yq_documents.specs.LinesInRows.{RowLine, document_row, row_line, row_
 use Rattle.yq_places.{specs.FlowNodes.{content_flow, find_head}, specs.NodesAt.node_in, specs.PlacedRows.{PlacedPart, placed_document}}
 use Rattle.yq_places.{specs.Standings.{entry_rows_at, entry_standing, last_step, standing_at}, proofs.FlowPieces.head_tree}
 use Rattle.yq_places.proofs.PlacedRowLaws.{document_placed, part_of}
-use Rattle.yq_edits.{proofs.FlowLineLaws.{head_takes, head_whole}, proofs.PartLaws.document_known}
+use Rattle.yq_edit_rules.{proofs.FlowLineLaws.{head_takes, head_whole}, proofs.PartLaws.document_known}
 use Rattle.yq_edit_laws.{proofs.EntryLines.found_at, proofs.FlowHeldLines.{head_row, head_there}}
 use Rattle.yq_edit_laws.{proofs.FlowHeldNodes.{entry_tree, inside_child, kids_held}, proofs.FlowSoundLaws.last_is}
 use Rattle.yq_edit_laws.{proofs.FlowStandings.{EntryAt, coll_entry}, proofs.StepsOn.head_on}

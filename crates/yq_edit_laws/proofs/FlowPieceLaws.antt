@@ -7,7 +7,7 @@ use Rattle.std.{proofs.lemmas.Str.Ascii.{IsAscii-cons, IsAscii-nil}, specs.Str.{
 use Rattle.yq_core.{specs.Characters.pairs_returns, specs.Text.{front, is_feed, is_return}}
 use Rattle.yq_flow_edits.{specs.FlowEdits.FlowEdit, proofs.ReturnLaws.Whole}
 use Rattle.yq_row_table.proofs.CharacterLaws.{all_text, all_join, pairs_back}
-use Rattle.yq_edits.specs.TextPieces.{IsPiece}
+use Rattle.yq_edit_rules.specs.TextPieces.{IsPiece}
 
 -- ---- a text cut in two
 

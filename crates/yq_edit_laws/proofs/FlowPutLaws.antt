@@ -18,12 +18,13 @@ use Rattle.yq_row_table.specs.Rows.{Cut, cut_text}
 use Rattle.yq_documents.{specs.Documents.{EachHasFitKeys, HasFitKey, HasFitKeys, lead_of}, specs.TreeEdits.replaced_node}
 use Rattle.yq_documents.specs.Reading.{documents, read_at, root_of}
 use Rattle.yq_places.{specs.FlowViews.LeadsToHead, proofs.FlowPieces.{named_is, none_anchored}, specs.Standings.{FlowPart, last_step}}
-use Rattle.yq_edits.{specs.FlowRows.{FlowAt, behind_node}, specs.Rooms.is_block_root, specs.SoundRoots.IsSoundRoot}
-use Rattle.yq_edits.{specs.TextPieces.IsPiece, proofs.FlowKeptLaws.flow_keys, proofs.PartLaws.document_known}
-use Rattle.yq_edits.{proofs.SoundRootLaws.replace_keeps, specs.EditLaws.{CarriedOut, FlowValuesArePut, IsEdit}}
-use Rattle.yq_edits.{specs.FlowParts.{content_written, flow_put, flow_segments, flow_value}, specs.Style.style_in}
-use Rattle.yq_edits.{proofs.EditsFitLaws.{FitsReplace, fits_replace}, proofs.FlowWritten.flow_fits, proofs.KeptLaws.led_same}
-use Rattle.yq_edits.{proofs.ValueTexts.style_line, proofs.StyleLaws.{style_inline, style_writes}, proofs.ValueNodes.{flow_piece, scalar_is}}
+use Rattle.yq_edit_rules.{specs.FlowRows.{FlowAt, behind_node}, specs.Rooms.is_block_root, specs.SoundRoots.IsSoundRoot}
+use Rattle.yq_edit_rules.{specs.TextPieces.IsPiece, proofs.FlowKeptLaws.flow_keys, proofs.PartLaws.document_known}
+use Rattle.yq_edit_rules.{proofs.SoundRootLaws.replace_keeps, specs.EditLaws.{CarriedOut, FlowValuesArePut, IsEdit}}
+use Rattle.yq_edit_rules.{specs.FlowParts.{content_written, flow_put, flow_segments, flow_value}, specs.Style.style_in}
+use Rattle.yq_edit_rules.{proofs.EditsFitLaws.{FitsReplace, fits_replace}, proofs.FlowWritten.flow_fits, proofs.KeptLaws.led_same}
+use Rattle.yq_edit_rules.{proofs.ValueTexts.style_line, proofs.StyleLaws.{style_inline, style_writes}}
+use Rattle.yq_edit_rules.proofs.ValueNodes.{flow_piece, scalar_is}
 use Rattle.yq_semantics.{specs.Changes.has_long_key, specs.Fits.Fits, specs.Operations.replace, specs.Rooms.room_of}
 use Rattle.yq_edit_laws.{specs.PartPuts.IsPartOf, proofs.FlowPieceLaws.{edit_pieces, nothing_piece, one_space}}
 use Rattle.yq_edit_laws.{proofs.FlowSoundLaws.last_is, proofs.FlowStandings.{EntryAt, entry_found, entry_placed}}
@@ -31,7 +32,7 @@ use Rattle.yq_edit_laws.proofs.FlowEditLaws.{FlowCarried, before_is, flow_carrie
 use Rattle.yq_edit_laws.{proofs.FlowWholeLaws.{StandsBefore, replaced_stands}, proofs.LaterParts.{later_part, parts_along}}
 use Rattle.yq_core.specs.Tree as tree
 use Rattle.yq_core.specs.Nodes as inline
-use Rattle.yq_edits.proofs.FlowStayLaws as stay
+use Rattle.yq_edit_rules.proofs.FlowStayLaws as stay
 use Rattle.yq_edit_laws.proofs.FlowStandings as standing
 
 -- ---- what is written of a value

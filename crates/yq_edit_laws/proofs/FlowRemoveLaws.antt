@@ -10,9 +10,10 @@ use Rattle.yq_flow_edits.{proofs.RemovePlaces.remove_placed, proofs.RemoveTexts.
 use Rattle.yq_flow_edits.proofs.ReturnLaws.{pairs_behind}
 use Rattle.yq_row_table.specs.Rows.{Cut, cut_text}
 use Rattle.yq_documents.{specs.Documents.{Document, document_parts}, specs.Reading.{documents, read_at, root_of}}
-use Rattle.yq_edits.{specs.Changed.put_document, specs.FlowRows.{behind_node, with_node, FlowAt, NodeStands}, specs.SoundRoots.IsSoundRoot}
-use Rattle.yq_edits.{specs.TextPieces.IsPiece, proofs.FlowKeptLaws.{flow_keys, left_keys}, proofs.PartLaws.document_known}
-use Rattle.yq_edits.{specs.EditLaws.{CarriedOut, FlowPartIsRemoved, IsEdit}, specs.FlowParts.flow_segments, proofs.DoneLaws.nth_map}
+use Rattle.yq_edit_rules.{specs.Changed.put_document, specs.FlowRows.{behind_node, with_node, FlowAt, NodeStands}}
+use Rattle.yq_edit_rules.{specs.SoundRoots.IsSoundRoot, specs.TextPieces.IsPiece, proofs.FlowKeptLaws.{flow_keys, left_keys}}
+use Rattle.yq_edit_rules.{proofs.PartLaws.document_known, specs.EditLaws.{CarriedOut, FlowPartIsRemoved, IsEdit}}
+use Rattle.yq_edit_rules.{specs.FlowParts.flow_segments, proofs.DoneLaws.nth_map}
 use Rattle.yq_semantics.{specs.Fits.Fits, specs.Operations.remove, specs.Rooms.room_of}
 use Rattle.yq_places.{specs.FlowNodes.flow_collection, specs.Standings.last_step}
 use Rattle.yq_edit_laws.{proofs.FlowPieceLaws.{edit_pieces, lead_piece, nothing_piece}, proofs.FlowSoundLaws.{remove_root, remove_sound}}

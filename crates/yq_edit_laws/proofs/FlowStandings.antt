@@ -10,9 +10,9 @@ use Rattle.yq_row_table.{specs.Rows.{Cut, cut_text}, proofs.CharacterLaws.all_te
 use Rattle.yq_places.{specs.FlowNodes.flow_collection, specs.Standings.{FlowPart, flow_standing, last_step}}
 use Rattle.yq_places.{proofs.FlowSpanLaws.entry_spans, proofs.HeadSteps.stem_found}
 use Rattle.yq_documents.specs.Reading.{part_outline, read_at}
-use Rattle.yq_edits.{specs.DocumentRows.IsDocumentPart, specs.FlowRows.{row_collection, FlowAt, NodeStands}, specs.TextPieces.IsPiece}
-use Rattle.yq_edits.{proofs.FlowPathLaws.{flow_found, row_texts}, proofs.FlowRowLaws.flow_stands}
-use Rattle.yq_edits.{proofs.FlowStandLaws.{CollStands, coll_stands}, proofs.TextPieceLaws.text_is_piece}
+use Rattle.yq_edit_rules.{specs.DocumentRows.IsDocumentPart, specs.FlowRows.{row_collection, FlowAt, NodeStands}, specs.TextPieces.IsPiece}
+use Rattle.yq_edit_rules.{proofs.FlowPathLaws.{flow_found, row_texts}, proofs.FlowRowLaws.flow_stands}
+use Rattle.yq_edit_rules.{proofs.FlowStandLaws.{CollStands, coll_stands}, proofs.TextPieceLaws.text_is_piece}
 use Rattle.yq_core.specs.Nodes as inline
 
 -- ---- the collection

@@ -5,10 +5,10 @@ use Rattle.yq_row_table.{specs.Items.{Item, end_item, rows_items, items_text}, s
 use Rattle.yq_row_table.specs.Rows.{Row, print_row, behind_gap, rows_text, Part, part_text, Cut, cut_text}
 use Rattle.yq_row_table.{specs.Splices.{with_row_gap, first_gap, with_first_gap, end_gap, behind_first}, specs.Touched.item_text}
 use Rattle.yq_row_table.{proofs.KeptLaws.items_apart, proofs.PlaceLaws.row_then}
-use Rattle.yq_edits.{specs.Changed.put_document, specs.DocumentRows.{behind_document, put_rows}}
-use Rattle.yq_edits.{proofs.DocumentItemLaws.{rows_before, rows_spell}, specs.Local.IsLocal}
-use Rattle.yq_edits.proofs.ItemsLocal.{rows_last, ItemsGiveWay, come_inside, items_local, one_first, one_last, first_within, last_within}
-use Rattle.yq_edits.proofs.LocalLaws.{h, front_items, around, front_text}
+use Rattle.yq_edit_rules.{specs.Changed.put_document, specs.DocumentRows.{behind_document, put_rows}}
+use Rattle.yq_edit_rules.{proofs.DocumentItemLaws.{rows_before, rows_spell}, specs.Local.IsLocal}
+use Rattle.yq_edit_rules.proofs.ItemsLocal.{rows_last, ItemsGiveWay, come_inside, items_local, one_first, one_last, first_within}
+use Rattle.yq_edit_rules.{proofs.ItemsLocal.last_within, proofs.LocalLaws.{h, front_items, around, front_text}}
 use Rattle.yq_text.specs.Script.{Segment, old_text, new_text, are_kept, kept_front, kept_back}
 use Rattle.yq_documents.specs.Documents.{document_parts}
 use Rattle.yq_edit_laws.specs.TouchedRanges.{LiesInOne}

@@ -17,17 +17,18 @@ use Rattle.yq_places.{specs.RowPaths.IsReadable, specs.Standings.{RowsOfEntry, r
 use Rattle.yq_places.{proofs.PlacedRowLaws.IsAt, proofs.SeamLaws.{IsSeam, seam_boundary, seam_then, gap_seam, row_seam}}
 use Rattle.yq_documents.{specs.Documents.lead_of, specs.Pieces.{before_run, last_run}, specs.Reading.{read_at, root_of}}
 use Rattle.yq_documents.{specs.LinesInRows.row_line_of, specs.TreeEdits.{at_end, with_head_comment}}
-use Rattle.yq_edits.{specs.Changed.put_document, specs.DocumentRows.behind_document, specs.Heads.{rerun, with_run}}
-use Rattle.yq_edits.{specs.Rooms.{is_block_root, row_shape}, specs.Siblings.HasEntries, specs.TextPieces.IsPiece}
-use Rattle.yq_edits.{proofs.AfterLaws.end_is_change, proofs.LeadLaws.{block_entries, block_lead_goes}, proofs.LineFrontLaws.clean_cut}
-use Rattle.yq_edits.{proofs.PathLaws.path_head_commented, proofs.ReplaceLaws.rows_before_some, proofs.ShapeLaws.shapes_are_alike}
-use Rattle.yq_edits.{proofs.TextPieceLaws.text_is_piece, specs.CommentEdits.{above_rows, head_lines, head_comment_segments}}
-use Rattle.yq_edits.{specs.EditLaws.{HeadCommentIsPut, IsEdit}, specs.Local.{IsLocal, IsLocalTo}, proofs.LocalLaws.{cut_known, row_local}}
-use Rattle.yq_edits.{specs.ReadsAfter.ReadsAfter, proofs.CommentPieceLaws.{AreParts, head_parts, lines_piece}}
-use Rattle.yq_edits.proofs.CommentReadLaws.{lines_agree, lines_gap, lines_stand}
-use Rattle.yq_edits.proofs.CommentRowLaws.{entry_is_row, entry_row, rows_front, IsRowFound, row_found, found_text, found_row, cut_is}
-use Rattle.yq_edits.{proofs.CommentRowLaws.{some_steps, row_line_is_block, lines_some}, proofs.DoneLaws.document_done}
-use Rattle.yq_edits.proofs.SegmentLaws.{segments_readable}
+use Rattle.yq_edit_rules.{specs.Changed.put_document, specs.DocumentRows.behind_document, specs.Heads.{rerun, with_run}}
+use Rattle.yq_edit_rules.{specs.Rooms.{is_block_root, row_shape}, specs.Siblings.HasEntries, specs.TextPieces.IsPiece}
+use Rattle.yq_edit_rules.{proofs.AfterLaws.end_is_change, proofs.LeadLaws.{block_entries, block_lead_goes}, proofs.LineFrontLaws.clean_cut}
+use Rattle.yq_edit_rules.{proofs.PathLaws.path_head_commented, proofs.ReplaceLaws.rows_before_some, proofs.ShapeLaws.shapes_are_alike}
+use Rattle.yq_edit_rules.{proofs.TextPieceLaws.text_is_piece, specs.CommentEdits.{above_rows, head_lines, head_comment_segments}}
+use Rattle.yq_edit_rules.{specs.EditLaws.{HeadCommentIsPut, IsEdit}, specs.Local.{IsLocal, IsLocalTo}}
+use Rattle.yq_edit_rules.{proofs.LocalLaws.{cut_known, row_local}, specs.ReadsAfter.ReadsAfter}
+use Rattle.yq_edit_rules.proofs.CommentPieceLaws.{AreParts, head_parts, lines_piece}
+use Rattle.yq_edit_rules.proofs.CommentReadLaws.{lines_agree, lines_gap, lines_stand}
+use Rattle.yq_edit_rules.proofs.CommentRowLaws.{entry_is_row, entry_row, rows_front, IsRowFound, row_found, found_text, found_row, cut_is}
+use Rattle.yq_edit_rules.{proofs.CommentRowLaws.{some_steps, row_line_is_block, lines_some}, proofs.DoneLaws.document_done}
+use Rattle.yq_edit_rules.proofs.SegmentLaws.{segments_readable}
 use Rattle.yq_semantics.{specs.Changes.can_be_comment, specs.Meaning.head_comment_lines, specs.Operations.head_comment}
 use Rattle.yq_core.specs.Text as text
 use Rattle.yq_outline.specs.Lines as lines

@@ -9,9 +9,10 @@ use Rattle.yq_row_table.{specs.Rows.{Content, Row, content_text, parent_indent, 
 use Rattle.yq_row_table.proofs.NodeExchange.{mark_apart}
 use Rattle.yq_places.{specs.RowPieces.{anchor_before, space_before}, specs.Standings.{Held, RowsOfEntry, held}}
 use Rattle.yq_documents.specs.Reading.{read_at}
-use Rattle.yq_edits.{specs.Appends.inserted, specs.Changed.put_document, specs.DocumentRows.behind_document, specs.StandingLaws.StandsThere}
-use Rattle.yq_edits.{specs.EditLaws.CarriedOut, specs.ReplaceEdits.{spaced_text, held_put}, specs.WrittenValues.inline}
-use Rattle.yq_edits.{proofs.EditsFitLaws.FitsReplace, proofs.ValueTexts.IsWrittenFor, proofs.StandingMarks.entry_there}
+use Rattle.yq_edit_rules.{specs.Appends.inserted, specs.Changed.put_document, specs.DocumentRows.behind_document}
+use Rattle.yq_edit_rules.{specs.StandingLaws.StandsThere, specs.EditLaws.CarriedOut, specs.ReplaceEdits.{spaced_text, held_put}}
+use Rattle.yq_edit_rules.{specs.WrittenValues.inline, proofs.EditsFitLaws.FitsReplace, proofs.ValueTexts.IsWrittenFor}
+use Rattle.yq_edit_rules.proofs.StandingMarks.{entry_there}
 use Rattle.yq_semantics.specs.Operations.{replace}
 use Rattle.yq_edit_laws.{proofs.ContentRows.{IsContentFor, takes_content}, proofs.HeldCarried.{Spells, held_carried, held_made}}
 use Rattle.yq_edit_laws.{proofs.HeldKnown.KnowsHeld, proofs.NodeLeads.{first_lead, own_space_lead}, proofs.NodeRowLaws.{rest, rows_there}}

@@ -7,12 +7,13 @@ use Rattle.yq_outline.{specs.Places.content_under, proofs.Finding.{FoundNode, pa
 use Rattle.yq_row_table.{specs.Items.rows_items, specs.Rows.{Row, print_row, rows_text, Cut, cut_text}}
 use Rattle.yq_documents.specs.Reading.{part_outline, read_at, root_of}
 use Rattle.yq_places.specs.Standings.{Held, RowsOfEntry, behind_entry, held}
-use Rattle.yq_edits.{specs.Appends.inserted, specs.Changed.put_document, specs.SoundRoots.MayReplace}
-use Rattle.yq_edits.{specs.StandingLaws.{StandsThere, held_text}, specs.TextPieces.IsPiece, specs.Done.ArePieces, specs.EditLaws.CarriedOut}
-use Rattle.yq_edits.{specs.Local.InFirst, specs.ReplaceEdits.{spaced_text, held_put}}
-use Rattle.yq_edits.{specs.WrittenValues.{Written, inline, compact_text, lines}, proofs.CommentPieceLaws.{nothing, byte_then, break_piece}}
-use Rattle.yq_edits.{proofs.EditsFitLaws.FitsReplace, proofs.OneLines.{break_line, is_one_line}, proofs.SegmentLaws.segments_readable}
-use Rattle.yq_edits.proofs.TextPieceLaws.{pieces_joined}
+use Rattle.yq_edit_rules.{specs.Appends.inserted, specs.Changed.put_document, specs.SoundRoots.MayReplace}
+use Rattle.yq_edit_rules.{specs.StandingLaws.{StandsThere, held_text}, specs.TextPieces.IsPiece, specs.Done.ArePieces}
+use Rattle.yq_edit_rules.{specs.EditLaws.CarriedOut, specs.Local.InFirst, specs.ReplaceEdits.{spaced_text, held_put}}
+use Rattle.yq_edit_rules.specs.WrittenValues.{Written, inline, compact_text, lines}
+use Rattle.yq_edit_rules.{proofs.CommentPieceLaws.{nothing, byte_then, break_piece}, proofs.EditsFitLaws.FitsReplace}
+use Rattle.yq_edit_rules.{proofs.OneLines.{break_line, is_one_line}, proofs.SegmentLaws.segments_readable}
+use Rattle.yq_edit_rules.proofs.TextPieceLaws.{pieces_joined}
 use Rattle.yq_semantics.specs.Operations.{replace}
 use Rattle.yq_edit_laws.{proofs.HeldKnown.KnowsHeld, proofs.NodeCarriedLaws.{KeepsNode, node_carried, node_made}, proofs.NodeRowLaws.rest}
 use Rattle.yq_edit_laws.{proofs.NodeTaken.{TakesNode, q_text}, proofs.StandingNodes.{behind_is, mark_node}}

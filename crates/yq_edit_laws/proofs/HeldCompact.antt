@@ -8,11 +8,11 @@ use Rattle.yq_outline.{specs.Comments.line_comment, specs.Places.content_under, 
 use Rattle.yq_row_table.{specs.Exchange.row_front, specs.Rows.{Row, mark_column, rows_text, Cut}, specs.View.slices}
 use Rattle.yq_documents.proofs.RowLineLaws.{tail_is}
 use Rattle.yq_places.{specs.RowPieces.anchor_before, specs.Standings.{Held, RowsOfEntry, held}}
-use Rattle.yq_edits.{specs.StandingLaws.StandsThere, proofs.StandingMarks.entry_there, specs.declared.layout.Layout.Layout}
-use Rattle.yq_edits.{specs.BlockReading.is_filled, specs.BlockRows.item_column, specs.BlockText.block_value}
-use Rattle.yq_edits.{specs.BlockValues.{IsEnd, IsFilledValue}, specs.EditLaws.CarriedOut, specs.Layouts.layout_of}
-use Rattle.yq_edits.{specs.ReplaceEdits.held_put, specs.WrittenValues.{compact_text, takes_compact}, proofs.EditsFitLaws.FitsReplace}
-use Rattle.yq_edits.proofs.LayoutLaws.{mapping_least}
+use Rattle.yq_edit_rules.{specs.StandingLaws.StandsThere, proofs.StandingMarks.entry_there, specs.declared.layout.Layout.Layout}
+use Rattle.yq_edit_rules.{specs.BlockReading.is_filled, specs.BlockRows.item_column, specs.BlockText.block_value}
+use Rattle.yq_edit_rules.{specs.BlockValues.{IsEnd, IsFilledValue}, specs.EditLaws.CarriedOut, specs.Layouts.layout_of}
+use Rattle.yq_edit_rules.{specs.ReplaceEdits.held_put, specs.WrittenValues.{compact_text, takes_compact}, proofs.EditsFitLaws.FitsReplace}
+use Rattle.yq_edit_rules.proofs.LayoutLaws.{mapping_least}
 use Rattle.yq_semantics.specs.Operations.{replace}
 use Rattle.yq_edit_laws.proofs.DashValueLaws.{behind_first, behind_rows, behind_spelled, takes_behind}
 use Rattle.yq_edit_laws.{proofs.HeldCarried.{Spells, held_carried}, proofs.HeldKnown.KnowsHeld, proofs.HeldLines.block_piece}

@@ -6,12 +6,12 @@ use Rattle.yq_text.{specs.Limit.text_limit, specs.Script.{Segment, new_text}}
 use Rattle.yq_flow_edits.specs.Valued.{IsValueTree}
 use Rattle.yq_row_table.{specs.Rows.Cut, specs.Seams.is_block}
 use Rattle.yq_places.specs.Standings.{Held, RowsOfEntry, held}
-use Rattle.yq_edits.{specs.StandingLaws.StandsThere, specs.declared.layout.Layout.Layout, specs.BlockReading.is_filled}
-use Rattle.yq_edits.{specs.BlockRows.item_column, specs.BlockText.block_value, specs.EditLaws.{CarriedOut, IsEdit}, specs.Layouts.layout_of}
-use Rattle.yq_edits.specs.ReplaceEdits.{held_put}
-use Rattle.yq_edits.specs.WrittenValues.{Written, inline, compact_text, lines, collection_at, column_under, lines_in, takes_compact}
-use Rattle.yq_edits.{specs.WrittenValues.{value_text, written_at, written_under}, proofs.EditsFitLaws.{FitsReplace, fits_replace}}
-use Rattle.yq_edits.proofs.ValueTexts.{value_for}
+use Rattle.yq_edit_rules.{specs.StandingLaws.StandsThere, specs.declared.layout.Layout.Layout, specs.BlockReading.is_filled}
+use Rattle.yq_edit_rules.{specs.BlockRows.item_column, specs.BlockText.block_value, specs.EditLaws.{CarriedOut, IsEdit}}
+use Rattle.yq_edit_rules.{specs.Layouts.layout_of, specs.ReplaceEdits.held_put}
+use Rattle.yq_edit_rules.specs.WrittenValues.{Written, inline, compact_text, lines, collection_at, column_under, lines_in, takes_compact}
+use Rattle.yq_edit_rules.{specs.WrittenValues.{value_text, written_at, written_under}, proofs.EditsFitLaws.{FitsReplace, fits_replace}}
+use Rattle.yq_edit_rules.proofs.ValueTexts.{value_for}
 use Rattle.yq_semantics.specs.Operations.{Operation, replace}
 use Rattle.yq_edit_laws.{proofs.HeldCarried.held_old, proofs.HeldCompact.held_compact, proofs.HeldInline.held_inline}
 use Rattle.yq_edit_laws.{proofs.HeldKnown.KnowsHeld, proofs.HeldLines.held_lines}

@@ -11,9 +11,9 @@ use Rattle.yq_outline.specs.Lines.{head_of}
 use Rattle.yq_documents.specs.Reading.{read_at}
 use Rattle.yq_places.{specs.CommentPlaces.{LineEnd, end_in_line}, specs.PrintedLines.last_break}
 use Rattle.yq_places.specs.Standings.{Held, RowsOfEntry, before_entry, held}
-use Rattle.yq_edits.{specs.Appends.inserted, specs.Changed.put_document, specs.StandingLaws.StandsThere, proofs.CoreLaws.put_core}
-use Rattle.yq_edits.{specs.EditLaws.CarriedOut, specs.ReplaceEdits.{spaced_text, held_put}, specs.WrittenValues.inline}
-use Rattle.yq_edits.{proofs.CommentRowLaws.end_parts, proofs.EditsFitLaws.FitsReplace, proofs.ValueTexts.IsWrittenFor}
+use Rattle.yq_edit_rules.{specs.Appends.inserted, specs.Changed.put_document, specs.StandingLaws.StandsThere, proofs.CoreLaws.put_core}
+use Rattle.yq_edit_rules.{specs.EditLaws.CarriedOut, specs.ReplaceEdits.{spaced_text, held_put}, specs.WrittenValues.inline}
+use Rattle.yq_edit_rules.{proofs.CommentRowLaws.end_parts, proofs.EditsFitLaws.FitsReplace, proofs.ValueTexts.IsWrittenFor}
 use Rattle.yq_semantics.specs.Operations.{replace}
 use Rattle.yq_edit_laws.{proofs.ContentRows.IsContentFor, proofs.HeadPuts.{apart_there, content_there, head_carried, head_made}}
 use Rattle.yq_edit_laws.{proofs.HeldKnown.KnowsHeld, proofs.HeldTexts.{holding, regroup, text_beside}, proofs.MarkContentLaws.anchor_left}

@@ -5,7 +5,7 @@ use Rattle.yq_core.specs.Tree.{anchor_of}
 use Rattle.yq_outline.{specs.Comments.line_comment, specs.Places.content_under, specs.Lines.content_anchor}
 use Rattle.yq_row_table.{specs.Gap.IsBreak, specs.Grammar.IsTail, specs.Rows.{Row, Cut, cut_text}, specs.View.slices}
 use Rattle.yq_places.specs.Standings.{RowsOfEntry, held, is_alone}
-use Rattle.yq_edits.{specs.TextPieces.IsPiece, specs.StandingLaws.{HoldsPieces, StandsThere, held_text}}
+use Rattle.yq_edit_rules.{specs.TextPieces.IsPiece, specs.StandingLaws.{HoldsPieces, StandsThere, held_text}}
 use Rattle.yq_edit_laws.{proofs.NodeRowLaws.rest, proofs.StandingNodes.mark_node}
 
 -- whether the first of rows is a node alone on its line

@@ -7,13 +7,13 @@ use Rattle.yq_outline.specs.Comments.{line_comment}
 use Rattle.yq_row_table.{specs.Exchange.{row_front, with_content}, specs.Gap.IsBreak, specs.Grammar.IsTail}
 use Rattle.yq_row_table.{specs.Rows.{Content, Row, mark_column, print_row, rows_text, Cut}, specs.View.slices}
 use Rattle.yq_places.{specs.RowPieces.anchor_before, specs.Standings.{Held, RowsOfEntry, held}}
-use Rattle.yq_edits.{specs.StandingLaws.StandsThere, specs.TextPieces.IsPiece, proofs.RemovalPieceLaws.spaces_piece}
-use Rattle.yq_edits.{proofs.TextPieceLaws.pieces_joined, proofs.StandingMarks.entry_there, specs.declared.layout.Layout.Layout}
-use Rattle.yq_edits.{specs.BlockReading.is_filled, specs.BlockRows.{column_below, node_rows}, specs.BlockText.block_value}
-use Rattle.yq_edits.{specs.BlockValues.{IsEnd, IsFilledValue}, proofs.CharacterLaws.value_sound, proofs.TextLaws.value_spelled}
-use Rattle.yq_edits.{specs.EditLaws.CarriedOut, specs.Layouts.layout_of, specs.ReplaceEdits.held_put}
-use Rattle.yq_edits.{specs.WrittenValues.{column_under, lines, lines_in}, proofs.BrokenTails.uncommented_tail}
-use Rattle.yq_edits.{proofs.EditsFitLaws.FitsReplace, proofs.LayoutLaws.mapping_least}
+use Rattle.yq_edit_rules.{specs.StandingLaws.StandsThere, specs.TextPieces.IsPiece, proofs.RemovalPieceLaws.spaces_piece}
+use Rattle.yq_edit_rules.{proofs.TextPieceLaws.pieces_joined, proofs.StandingMarks.entry_there, specs.declared.layout.Layout.Layout}
+use Rattle.yq_edit_rules.{specs.BlockReading.is_filled, specs.BlockRows.{column_below, node_rows}, specs.BlockText.block_value}
+use Rattle.yq_edit_rules.{specs.BlockValues.{IsEnd, IsFilledValue}, proofs.CharacterLaws.value_sound, proofs.TextLaws.value_spelled}
+use Rattle.yq_edit_rules.{specs.EditLaws.CarriedOut, specs.Layouts.layout_of, specs.ReplaceEdits.held_put}
+use Rattle.yq_edit_rules.{specs.WrittenValues.{column_under, lines, lines_in}, proofs.BrokenTails.uncommented_tail}
+use Rattle.yq_edit_rules.{proofs.EditsFitLaws.FitsReplace, proofs.LayoutLaws.mapping_least}
 use Rattle.yq_semantics.specs.Operations.{replace}
 use Rattle.yq_edit_laws.{proofs.HeldCarried.{Spells, held_carried}, proofs.HeldKnown.KnowsHeld, proofs.HeldTexts.{holding, text_left}}
 use Rattle.yq_edit_laws.{proofs.MarkContentLaws.anchor_left, proofs.MarkKinds.{column_is, filled_is}}

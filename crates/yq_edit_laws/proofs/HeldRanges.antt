@@ -7,8 +7,9 @@ use Rattle.yq_row_table.{specs.Rows.{Cut, cut_text, parent_indent, rows_text}, s
 use Rattle.yq_documents.specs.Reading.{read_at}
 use Rattle.yq_places.{specs.CommentPlaces.{LineEnd, end_in_line}, specs.PrintedLines.last_break}
 use Rattle.yq_places.{specs.Standings.{Held, RowsOfEntry, behind_entry, held, rows_of_entry}, proofs.LineEndLaws.line_tail}
-use Rattle.yq_edits.{specs.StandingLaws.StandsThere, proofs.StandingMarks.row_there, proofs.StandingRows.rows_stand}
-use Rattle.yq_edits.{specs.ReplaceEdits.line_break, proofs.BreakLaws.{IsLfOrCrLf, last_is}, proofs.HeldPieces.{break_cases, end_agrees}}
+use Rattle.yq_edit_rules.{specs.StandingLaws.StandsThere, proofs.StandingMarks.row_there, proofs.StandingRows.rows_stand}
+use Rattle.yq_edit_rules.{specs.ReplaceEdits.line_break, proofs.BreakLaws.{IsLfOrCrLf, last_is}}
+use Rattle.yq_edit_rules.proofs.HeldPieces.{break_cases, end_agrees}
 use Rattle.yq_edit_laws.specs.TouchedRanges.{is_one_line}
 
 -- ---- a part of a line

@@ -12,12 +12,13 @@ use Rattle.yq_documents.specs.Reading.{part_outline, read_at}
 use Rattle.yq_places.{specs.CommentPlaces.{LineEnd, end_in_line, text_to_line_end}, specs.PrintedLines.last_break}
 use Rattle.yq_places.{specs.Standings.{RowsOfEntry, before_entry, behind_entry, held, rows_of_entry}, proofs.CommentPieceLaws.Ended}
 use Rattle.yq_places.{proofs.LastBreakLaws.lf_last, proofs.LineEndLaws.line_tail, proofs.RunSpans.rows_then}
-use Rattle.yq_edits.{specs.Siblings.HasEntries, specs.StandingLaws.StandsThere, specs.TextPieces.IsPiece, proofs.ContentLaws.content_named}
-use Rattle.yq_edits.{proofs.LineLaws.row_count, proofs.NodeLineLaws.under_even, proofs.StandingMarks.{even_there, row_there, under_it}}
-use Rattle.yq_edits.{proofs.TextPieceLaws.{piece_back, text_is_piece}, proofs.UnderLaws.{line_is, under_is}}
-use Rattle.yq_edits.{proofs.BreakLaws.{IsLfOrCrLf, last_is}, proofs.BrokenTails.{other_comment, other_tail, uncommented_tail}}
-use Rattle.yq_edits.{proofs.CommentReadLaws.break_is, proofs.CommentRowLaws.{entry_row, line_whole}, proofs.HeldLaws.cut_spelled}
-use Rattle.yq_edits.{proofs.HeldPieces.{below_ended, end_agrees, held_spells}, proofs.TailPieces.white_piece}
+use Rattle.yq_edit_rules.{specs.Siblings.HasEntries, specs.StandingLaws.StandsThere, specs.TextPieces.IsPiece}
+use Rattle.yq_edit_rules.{proofs.ContentLaws.content_named, proofs.LineLaws.row_count, proofs.NodeLineLaws.under_even}
+use Rattle.yq_edit_rules.{proofs.StandingMarks.{even_there, row_there, under_it}, proofs.TextPieceLaws.{piece_back, text_is_piece}}
+use Rattle.yq_edit_rules.{proofs.UnderLaws.{line_is, under_is}, proofs.BreakLaws.{IsLfOrCrLf, last_is}}
+use Rattle.yq_edit_rules.{proofs.BrokenTails.{other_comment, other_tail, uncommented_tail}, proofs.CommentReadLaws.break_is}
+use Rattle.yq_edit_rules.{proofs.CommentRowLaws.{entry_row, line_whole}, proofs.HeldLaws.cut_spelled}
+use Rattle.yq_edit_rules.{proofs.HeldPieces.{below_ended, end_agrees, held_spells}, proofs.TailPieces.white_piece}
 use Rattle.yq_edit_laws.{proofs.HeldKnown.{KnowsHeld, first_alone}, proofs.NodeRowLaws.rest, proofs.StandingNodes.{behind_is, mark_node}}
 use Rattle.yq_outline.specs.Outline as outline
 
@@ -86,7 +87,7 @@ module _ (n : ℕ) (s : Step) (ss : List Step) (c : Cut) (e : RowsOfEntry) (ther
   open' : IsOpen there.found.line.head there.found.under
   open' = (under_even _ (part_outline there.part) s ss there.found (even_there n s ss c e there last) there.is).1.1
 
-  line_there : Rattle.yq_edits.proofs.UnderLaws.line_with e.row e.row.content ≡ there.found.line
+  line_there : Rattle.yq_edit_rules.proofs.UnderLaws.line_with e.row e.row.content ≡ there.found.line
   line_there = line_is there.part s ss e.front e.row e.under e.back (under_it n s ss c e there last) (even_there n s ss c e there last)
 
   lines_there : lines_of_rows e.under ≡ flatten there.found.under

@@ -7,8 +7,8 @@ use Rattle.yq_row_table.{specs.Rows.{Row, content_text, parent_indent, rows_text
 use Rattle.yq_row_table.{proofs.NodeExchange.mark_apart, proofs.PlaceLaws.row_front-append}
 use Rattle.yq_documents.proofs.RowLineLaws.{tail_is}
 use Rattle.yq_places.specs.Standings.{RowsOfEntry, before_entry, held}
-use Rattle.yq_edits.{specs.DocumentRows.behind_document, specs.StandingLaws.StandsThere, proofs.CoreLaws.put_core}
-use Rattle.yq_edits.proofs.StandingMarks.{entry_there}
+use Rattle.yq_edit_rules.{specs.DocumentRows.behind_document, specs.StandingLaws.StandsThere, proofs.CoreLaws.put_core}
+use Rattle.yq_edit_rules.proofs.StandingMarks.{entry_there}
 use Rattle.yq_edit_laws.proofs.HeldKnown.{KnowsHeld}
 use Rattle.yq_edit_laws.proofs.MarkContentLaws.{anchor_left, content_named, left_anchor, left_apart, left_content, left_core_text}
 use Rattle.yq_edit_laws.{proofs.MarkContentLaws.{left_nothing, left_tail, left_text}, proofs.NodeRowLaws.{limit, rows_there}}

@@ -3,8 +3,8 @@ use Rattle.std.proofs.Common.{◌≡◌, List, [], ◌∷◌, ◌++◌, is_some,
 use Rattle.yq_core.specs.declared.style.Place.TheVariants.{Block as InBlock}
 use Rattle.yq_row_table.{specs.Exchange.with_content, specs.Rows.{Row, parent_indent}}
 use Rattle.yq_places.specs.Standings.{held}
-use Rattle.yq_edits.{proofs.StandingRows.rows_stand, specs.Layouts.layout_of, specs.RowChanges.InlineValuesChangeRows}
-use Rattle.yq_edits.{specs.WrittenValues.value_text, proofs.EditsFitLaws.fits_replace, proofs.ValueTexts.value_for}
+use Rattle.yq_edit_rules.{proofs.StandingRows.rows_stand, specs.Layouts.layout_of, specs.RowChanges.InlineValuesChangeRows}
+use Rattle.yq_edit_rules.{specs.WrittenValues.value_text, proofs.EditsFitLaws.fits_replace, proofs.ValueTexts.value_for}
 use Rattle.yq_edit_laws.{proofs.HeadPuts.content_there, proofs.HeldInline.{RowMade, node_made}, proofs.HeldKnown.{KnowsHeld, first_alone}}
 use Rattle.yq_edit_laws.{proofs.HeldRows.{head_there, headless_there, held_known}, proofs.NodeRowLaws.rest, proofs.StandingNodes.mark_node}
 

@@ -8,7 +8,7 @@ use Rattle.yq_row_table.specs.Items.{Item, row_item, end_item, items_text, Asked
 use Rattle.yq_row_table.{specs.Touched.{item_text, in_back, in_front}, proofs.ItemLaws.items_text-append, proofs.KeptLaws.items_apart}
 use Rattle.yq_row_table.{proofs.NothingLaws.some_behind, proofs.seams.MarkerSeams.marker_line_is}
 use Rattle.yq_places.proofs.CommentPieceLaws.{Ended}
-use Rattle.yq_edits.{proofs.EndedRowLaws.row_ended, proofs.ItemsLocal.item_apart}
+use Rattle.yq_edit_rules.{proofs.EndedRowLaws.row_ended, proofs.ItemsLocal.item_apart}
 use Rattle.yq_edit_laws.proofs.TouchLaws.{size_one}
 
 -- ---- what ends them

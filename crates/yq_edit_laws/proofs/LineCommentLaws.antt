@@ -15,17 +15,17 @@ use Rattle.yq_places.specs.Standings.{Held, RowsOfEntry, before_entry, behind_en
 use Rattle.yq_places.proofs.RunSpans.{rows_then}
 use Rattle.yq_documents.{specs.Documents.lead_of, specs.LinesInRows.row_line_of, specs.Reading.{read_at, root_of}}
 use Rattle.yq_documents.specs.TreeEdits.{at_end, with_line_comment}
-use Rattle.yq_edits.{specs.Appends.inserted, specs.Changed.put_document, specs.DocumentRows.behind_document}
-use Rattle.yq_edits.{specs.PathTails.{IsLineTail, tailed}, specs.TextPieces.IsPiece, proofs.AfterLaws.end_is_change}
-use Rattle.yq_edits.{proofs.LeadLaws.same_lead_goes, proofs.PathTailLaws.path_tail_put, proofs.ReplaceLaws.rows_before_some}
-use Rattle.yq_edits.{proofs.ShapeLaws.shapes_are_alike, proofs.TextPieceLaws.text_is_piece}
-use Rattle.yq_edits.{specs.CommentEdits.{comment_put, comment_written}, specs.EditLaws.{CarriedOut, IsEdit, LineCommentIsPut}}
-use Rattle.yq_edits.{specs.Local.IsLocal, specs.ReadsAfter.ReadsAfter, specs.RowChanges.{ChangesRow, LineCommentsChangeRows}}
-use Rattle.yq_edits.proofs.CommentPieceLaws.{nothing, byte_then, line_text_is}
-use Rattle.yq_edits.proofs.CommentRowLaws.{entry_is_row, entry_row, rows_front, IsRowFound, row_found, found_text, found_row, cut_is}
-use Rattle.yq_edits.{proofs.CommentRowLaws.{HasRow, line_whole, end_parts, some_steps}, proofs.DoneLaws.document_done}
-use Rattle.yq_edits.{proofs.HeldLaws.{below_is, front_is}, proofs.LocalLaws.{cut_known, row_local}, proofs.SegmentLaws.segments_readable}
-use Rattle.yq_edits.proofs.TailPieces.{white_piece, pieces}
+use Rattle.yq_edit_rules.{specs.Appends.inserted, specs.Changed.put_document, specs.DocumentRows.behind_document}
+use Rattle.yq_edit_rules.{specs.PathTails.{IsLineTail, tailed}, specs.TextPieces.IsPiece, proofs.AfterLaws.end_is_change}
+use Rattle.yq_edit_rules.{proofs.LeadLaws.same_lead_goes, proofs.PathTailLaws.path_tail_put, proofs.ReplaceLaws.rows_before_some}
+use Rattle.yq_edit_rules.{proofs.ShapeLaws.shapes_are_alike, proofs.TextPieceLaws.text_is_piece}
+use Rattle.yq_edit_rules.{specs.CommentEdits.{comment_put, comment_written}, specs.EditLaws.{CarriedOut, IsEdit, LineCommentIsPut}}
+use Rattle.yq_edit_rules.{specs.Local.IsLocal, specs.ReadsAfter.ReadsAfter, specs.RowChanges.{ChangesRow, LineCommentsChangeRows}}
+use Rattle.yq_edit_rules.proofs.CommentPieceLaws.{nothing, byte_then, line_text_is}
+use Rattle.yq_edit_rules.proofs.CommentRowLaws.{entry_is_row, entry_row, rows_front, IsRowFound, row_found, found_text, found_row, cut_is}
+use Rattle.yq_edit_rules.{proofs.CommentRowLaws.{HasRow, line_whole, end_parts, some_steps}, proofs.DoneLaws.document_done}
+use Rattle.yq_edit_rules.{proofs.HeldLaws.{below_is, front_is}, proofs.LocalLaws.{cut_known, row_local}}
+use Rattle.yq_edit_rules.{proofs.SegmentLaws.segments_readable, proofs.TailPieces.{white_piece, pieces}}
 use Rattle.yq_semantics.{specs.Changes.can_be_comment, specs.Meaning.line_comment_text, specs.Operations.line_comment}
 use Rattle.yq_edit_laws.proofs.LineTails.{written, new_white, new_comment, tail_then, blank, new_comment_is, line_tail_is, row_then_text}
 use Rattle.yq_edit_laws.proofs.LineTails.{lead_same, shape_same, shapes_same}

@@ -10,8 +10,8 @@ use Rattle.yq_row_table.{specs.Rows.{Content, Nothing, Inline, Block, Row, print
 use Rattle.yq_row_table.{specs.View.{content_cut, slices}, proofs.LineEnds.{white_none, text_line, white_again, behind_comment}}
 use Rattle.yq_places.{specs.CommentPlaces.text_to_line_end, proofs.CommentEndLaws.row_text_parts}
 use Rattle.yq_documents.specs.Documents.{lead_of}
-use Rattle.yq_edits.{specs.PathTails.{with_line_tail, IsLineTail, tailed}, specs.Rooms.row_shape}
-use Rattle.yq_edits.proofs.CommentReadLaws.{no_breaks_none, comment_behind, comment_is}
+use Rattle.yq_edit_rules.{specs.PathTails.{with_line_tail, IsLineTail, tailed}, specs.Rooms.row_shape}
+use Rattle.yq_edit_rules.proofs.CommentReadLaws.{no_breaks_none, comment_behind, comment_is}
 use Rattle.yq_semantics.specs.Meaning.{line_comment_text}
 
 -- ---- what stands there then

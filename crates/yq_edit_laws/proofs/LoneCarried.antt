@@ -13,16 +13,16 @@ use Rattle.yq_documents.{specs.Documents.lead_of, specs.Reading.{documents, read
 use Rattle.yq_places.{specs.PlacedRows.{PlacedPart, PlacedRow, placed_document}, specs.RowPaths.IsReadable, specs.Standings.{Lone, lone}}
 use Rattle.yq_places.{proofs.CommentEndLaws.row_text_parts, proofs.CommentPieceLaws.gap_end, proofs.LineEndLaws.line_tail}
 use Rattle.yq_places.{proofs.RemovalLines.{LiesIn, LineSeam, lies_in, seam_join}, proofs.RunSpans.rows_then}
-use Rattle.yq_edits.{specs.Changed.{IsChanged, put_document}, specs.DocumentRows.{IsDocumentPart, behind_document}}
-use Rattle.yq_edits.{specs.InlineRows.LeadsToLone, specs.PlacedParts.StandsAt, specs.Rooms.is_block_root, specs.TextPieces.IsPiece}
-use Rattle.yq_edits.{proofs.CoreLaws.put_core, proofs.InlineReplaceLaws.own_rows, proofs.LeadLaws.same_lead_goes}
-use Rattle.yq_edits.{proofs.PartLaws.document_known, proofs.PlacedPartLaws.document_stands_at}
-use Rattle.yq_edits.{proofs.RemovalPieceLaws.{seam_pieces, spaces_piece}, proofs.TextPieceLaws.{cut_behind, pieces_joined, text_is_piece}}
-use Rattle.yq_edits.{specs.EditLaws.{CarriedOut, IsEdit}, specs.Local.IsLocal, specs.ReplaceEdits.{spaced_text, lone_put}}
-use Rattle.yq_edits.{specs.ReadsAfter.ReadsAfter, specs.WrittenValues.value_text, proofs.DoneLaws.document_done}
-use Rattle.yq_edits.{proofs.EditsFitLaws.{FitsReplace, fits_replace}, proofs.KeptLaws.led_same, proofs.TailPieces.{HasTailPieces, pieces}}
-use Rattle.yq_edits.{proofs.LocalLaws.{cut_known, row_local}, proofs.SegmentLaws.segments_readable}
-use Rattle.yq_edits.proofs.ValueTexts.{IsWrittenFor, value_for}
+use Rattle.yq_edit_rules.{specs.Changed.{IsChanged, put_document}, specs.DocumentRows.{IsDocumentPart, behind_document}}
+use Rattle.yq_edit_rules.{specs.InlineRows.LeadsToLone, specs.PlacedParts.StandsAt, specs.Rooms.is_block_root, specs.TextPieces.IsPiece}
+use Rattle.yq_edit_rules.{proofs.CoreLaws.put_core, proofs.InlineReplaceLaws.own_rows, proofs.LeadLaws.same_lead_goes}
+use Rattle.yq_edit_rules.{proofs.PartLaws.document_known, proofs.PlacedPartLaws.document_stands_at}
+use Rattle.yq_edit_rules.proofs.RemovalPieceLaws.{seam_pieces, spaces_piece}
+use Rattle.yq_edit_rules.{proofs.TextPieceLaws.{cut_behind, pieces_joined, text_is_piece}, specs.EditLaws.{CarriedOut, IsEdit}}
+use Rattle.yq_edit_rules.{specs.Local.IsLocal, specs.ReplaceEdits.{spaced_text, lone_put}, specs.ReadsAfter.ReadsAfter}
+use Rattle.yq_edit_rules.{specs.WrittenValues.value_text, proofs.DoneLaws.document_done, proofs.EditsFitLaws.{FitsReplace, fits_replace}}
+use Rattle.yq_edit_rules.{proofs.KeptLaws.led_same, proofs.TailPieces.{HasTailPieces, pieces}, proofs.LocalLaws.{cut_known, row_local}}
+use Rattle.yq_edit_rules.{proofs.SegmentLaws.segments_readable, proofs.ValueTexts.{IsWrittenFor, value_for}}
 use Rattle.yq_semantics.{specs.Fits.Fits, specs.Operations.{Operation, replace}, specs.Rooms.room_of}
 use Rattle.yq_edit_laws.{proofs.LoneHeads.{EndsLow, IsLoneHead, before_head, lone_head}, proofs.MarkHeads.no_raw}
 use Rattle.yq_edit_laws.proofs.LoneContents as contents

@@ -18,15 +18,15 @@ use Rattle.yq_documents.{specs.Ready.begins_no_node, specs.TreeEdits.replaced_no
 use Rattle.yq_documents.specs.PartNumbers.{part_number}
 use Rattle.yq_places.{specs.RowPaths.IsReadable, proofs.RemovalLines.front_some, proofs.RowPathLaws.document_fine}
 use Rattle.yq_places.{proofs.RunSpans.rows_then, proofs.HeadSpanLaws.may_follow}
-use Rattle.yq_edits.{specs.Changed.{IsChanged, put_document}, specs.Contents.{TakesContent, recontent}}
-use Rattle.yq_edits.{specs.DocumentRows.{IsDocumentPart, behind_document}, specs.InlineRows.{IsValueNode, LeadsToLone}}
-use Rattle.yq_edits.{specs.Moved.dash_lines, specs.Rooms.is_block_root, specs.SoundRoots.MayReplace}
-use Rattle.yq_edits.{proofs.ContentLaws.{lower_content_replaced, root_content_replaced}, proofs.CoreLaws.{put_core, recore}}
-use Rattle.yq_edits.{proofs.InlineReplaceLaws.{next_stands, own_rows, tail_ends_plain}, proofs.LineLaws.above_mark}
-use Rattle.yq_edits.{proofs.MarkFirst.no_node_first, proofs.PartLaws.document_known, proofs.CommentPutLaws.last_lines}
-use Rattle.yq_edits.proofs.RowCommentLaws.{lead_content}
-use Rattle.yq_edits.proofs.ValueContentLaws.{content_alone, content_head, content_is, content_keys, content_named, content_short}
-use Rattle.yq_edits.proofs.ValueContentLaws.{content_tail, content_unmarked}
+use Rattle.yq_edit_rules.{specs.Changed.{IsChanged, put_document}, specs.Contents.{TakesContent, recontent}}
+use Rattle.yq_edit_rules.{specs.DocumentRows.{IsDocumentPart, behind_document}, specs.InlineRows.{IsValueNode, LeadsToLone}}
+use Rattle.yq_edit_rules.{specs.Moved.dash_lines, specs.Rooms.is_block_root, specs.SoundRoots.MayReplace}
+use Rattle.yq_edit_rules.{proofs.ContentLaws.{lower_content_replaced, root_content_replaced}, proofs.CoreLaws.{put_core, recore}}
+use Rattle.yq_edit_rules.{proofs.InlineReplaceLaws.{next_stands, own_rows, tail_ends_plain}, proofs.LineLaws.above_mark}
+use Rattle.yq_edit_rules.{proofs.MarkFirst.no_node_first, proofs.PartLaws.document_known, proofs.CommentPutLaws.last_lines}
+use Rattle.yq_edit_rules.proofs.RowCommentLaws.{lead_content}
+use Rattle.yq_edit_rules.proofs.ValueContentLaws.{content_alone, content_head, content_is, content_keys, content_named, content_short}
+use Rattle.yq_edit_rules.proofs.ValueContentLaws.{content_tail, content_unmarked}
 use Rattle.yq_edit_laws.proofs.LoneHeads.{IsLoneHead, before_head, lone_head}
 use Rattle.yq_core.specs.Nodes as inline
 

@@ -4,7 +4,7 @@ use Rattle.std.{proofs.Common.{append_assoc, append-nil, eqb-true, rules}, proof
 use Rattle.yq_core.{specs.Text.{is_empty, is_return, is_white}, specs.Nodes.{node_text, IsFlowNode}, proofs.NodesPieceLaws.scalar_some}
 use Rattle.yq_row_table.{specs.Gap.IsWhite, specs.Grammar.{IsContent, may_be_alone}, specs.Rows.{Content, Inline, content_text}}
 use Rattle.yq_row_table.{specs.Seams.is_block, specs.View.content_cut, proofs.CharacterLaws.EndsBlack, proofs.NodePieces.EndsAscii}
-use Rattle.yq_edits.{proofs.CoreLaws.put_core, proofs.HeldCuts.space_white}
+use Rattle.yq_edit_rules.{proofs.CoreLaws.put_core, proofs.HeldCuts.space_white}
 use Rattle.yq_core.specs.Nodes as inline
 
 -- ---- white space

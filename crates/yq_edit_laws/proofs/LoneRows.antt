@@ -15,11 +15,11 @@ use Rattle.yq_places.specs.PlacedRows.{PlacedPart, placed_document}
 use Rattle.yq_places.specs.Standings.{RowsOfEntry, before_entry, behind_entry, entry_rows_at, is_alone, lone, rows_of_entry}
 use Rattle.yq_places.{proofs.CommentPieceLaws.Ended, proofs.PrintedTexts.map_some, proofs.RemovalLines.LineSeam, proofs.RunSpans.rows_then}
 use Rattle.yq_places.proofs.UnderExchange.{lines_append}
-use Rattle.yq_edits.{specs.DocumentRows.{IsDocumentPart, behind_document}, specs.InlineRows.{LeadsBelow, IsRootRow}}
-use Rattle.yq_edits.{specs.PlacedParts.StandsAt, specs.StandingLaws.StandsThere, proofs.EndedRowLaws.rows_ended, proofs.LineLaws.row_count}
-use Rattle.yq_edits.{proofs.NodeLineLaws.under_even, proofs.PartLaws.{document_known, part_rows}, proofs.PlacedPartLaws.document_stands_at}
-use Rattle.yq_edits.{proofs.StandingRows.rows_stand, proofs.UnderLaws.under_is, specs.EditLaws.IsEdit, specs.ReplaceEdits.lone_put}
-use Rattle.yq_edits.proofs.StandingMarks.{under_it}
+use Rattle.yq_edit_rules.{specs.DocumentRows.{IsDocumentPart, behind_document}, specs.InlineRows.{LeadsBelow, IsRootRow}}
+use Rattle.yq_edit_rules.{specs.PlacedParts.StandsAt, specs.StandingLaws.StandsThere, proofs.EndedRowLaws.rows_ended}
+use Rattle.yq_edit_rules.{proofs.LineLaws.row_count, proofs.NodeLineLaws.under_even, proofs.PartLaws.{document_known, part_rows}}
+use Rattle.yq_edit_rules.{proofs.PlacedPartLaws.document_stands_at, proofs.StandingRows.rows_stand, proofs.UnderLaws.under_is}
+use Rattle.yq_edit_rules.{specs.EditLaws.IsEdit, specs.ReplaceEdits.lone_put, proofs.StandingMarks.under_it}
 use Rattle.yq_semantics.specs.Operations.{replace}
 use Rattle.yq_edit_laws.proofs.LoneCarried.{lone_carried}
 use Rattle.yq_outline.specs.Outline as outline

@@ -6,7 +6,7 @@ use Rattle.yq_outline.{specs.LineAnchors.IsFree, specs.Outline.Line, specs.Lines
 use Rattle.yq_row_table.{specs.Alone.holds_nothing, specs.Gap.IsWhite, specs.Grammar.{IsContent, IsTail, is_entry}}
 use Rattle.yq_row_table.{specs.Rows.{Content, Nothing, Inline, Row, content_text}, specs.View.content_cut, proofs.NodeExchange.space_apart}
 use Rattle.yq_row_table.{proofs.NothingLaws.{tail_apart, tail_lead, tail_no_node}, proofs.seams.ScalarSeams.name_seam}
-use Rattle.yq_edits.{proofs.CoreLaws.put_core, proofs.LaidRows.AreLaid}
+use Rattle.yq_edit_rules.{proofs.CoreLaws.put_core, proofs.LaidRows.AreLaid}
 use Rattle.yq_core.specs.Nodes as inline
 use Rattle.yq_row_table.specs.Rows as rows
 

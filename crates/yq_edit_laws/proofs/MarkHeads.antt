@@ -3,7 +3,7 @@ use Rattle.std.proofs.Common.{◌≡◌, ℕ, ℤ, true, false, cond, List, [], 
 use Rattle.std.proofs.lemmas.Bool.{false≢true}
 use Rattle.yq_core.{specs.Text.is_empty, specs.Nodes.{node_text, IsFlowNode}, proofs.NodesPieceLaws.scalar_some}
 use Rattle.yq_row_table.{specs.Grammar.IsContent, specs.Rows.{Content, content_text}, specs.Seams.is_block, specs.View.content_cut}
-use Rattle.yq_edits.proofs.CoreLaws.{put_core, empty_gap}
+use Rattle.yq_edit_rules.proofs.CoreLaws.{put_core, empty_gap}
 use Rattle.yq_core.specs.Nodes as inline
 
 -- what is no block scalar has no raw lines

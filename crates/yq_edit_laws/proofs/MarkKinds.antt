@@ -2,8 +2,8 @@
 use Rattle.std.{proofs.Common.{◌≡◌, ℕ, ◌+◌, not, true, false, cond, List, [], ◌∷◌, ◌++◌, refl, rules}, proofs.lemmas.Bool.false≢true}
 use Rattle.yq_core.{specs.Text.is_empty, specs.Tree.Node}
 use Rattle.yq_row_table.{specs.Grammar.{IsMark, is_entry}, specs.Rows.Content, specs.View.colon_of}
-use Rattle.yq_edits.{specs.declared.layout.Layout.Layout, specs.BlockReading.is_filled}
-use Rattle.yq_edits.{specs.BlockRows.{column_below, indent_step, item_column}, specs.BlockValues.IsFilled}
+use Rattle.yq_edit_rules.{specs.declared.layout.Layout.Layout, specs.BlockReading.is_filled}
+use Rattle.yq_edit_rules.{specs.BlockRows.{column_below, indent_step, item_column}, specs.BlockValues.IsFilled}
 use Rattle.yq_edit_laws.proofs.NodeValueLaws.{mark_key}
 use Rattle.yq_row_table.specs.Rows as rows
 

@@ -8,9 +8,9 @@ use Rattle.yq_documents.specs.Reading.{read_at}
 use Rattle.yq_places.{specs.NodesAt.node_in, specs.PlacedRows.{PlacedPart, placed_document}}
 use Rattle.yq_places.specs.Standings.{RowsOfEntry, Standing, before_entry, behind_entry, behind_mark, below, compact_in, entry_standing}
 use Rattle.yq_places.{specs.Standings.{held, is_alone, lone, rows_of_entry, root_standing}, proofs.PrintedTexts.map_some}
-use Rattle.yq_edits.{specs.StandingLaws.StandsThere, proofs.StandingRows.{entry_within, rows_stand}, specs.EditLaws.IsEdit}
-use Rattle.yq_edits.{specs.Layouts.layout_of, specs.ReplaceEdits.{has_text, value_put}, specs.WrittenValues.written_at}
-use Rattle.yq_edits.proofs.EditsFitLaws.{fits_replace}
+use Rattle.yq_edit_rules.{specs.StandingLaws.StandsThere, proofs.StandingRows.{entry_within, rows_stand}, specs.EditLaws.IsEdit}
+use Rattle.yq_edit_rules.{specs.Layouts.layout_of, specs.ReplaceEdits.{has_text, value_put}, specs.WrittenValues.written_at}
+use Rattle.yq_edit_rules.proofs.EditsFitLaws.{fits_replace}
 use Rattle.yq_semantics.specs.Operations.{replace}
 use Rattle.yq_edit_laws.{specs.MarkedValues.{MarkedValuesArePut, is_marked}, proofs.DashCarried.{dash_carried, dash_old}}
 use Rattle.yq_edit_laws.{proofs.HeldEdits.{at_edit, below_edit}, proofs.HeldKnown.{KnowsHeld, first_alone}}

@@ -16,11 +16,11 @@ use Rattle.yq_documents.{specs.Documents.document_parts, specs.Reading.{part_out
 use Rattle.yq_places.{specs.FlowNodes.{find_head, flow_collection}, specs.PlacedRows.PlacedPart}
 use Rattle.yq_places.specs.Standings.{RowsOfEntry, Standing, behind_entry, behind_mark, below, beside, entry_standing, held, is_alone}
 use Rattle.yq_places.specs.Standings.{root_standing, standing_at}
-use Rattle.yq_edits.{specs.Siblings.{HasEntries, IsCollectionAt, IsEntry, NodeLines}, specs.StandingLaws.StandsThere}
-use Rattle.yq_edits.{proofs.NodeLineLaws.lines_found, proofs.StandingMarks.{even_there, row_there, under_it}}
-use Rattle.yq_edits.{proofs.StandingRows.rows_stand, proofs.UnderLaws.{line_is, under_is}, specs.declared.layout.Layout.Layout}
-use Rattle.yq_edits.{specs.EditLaws.AppendHasEdit, specs.EntryEdits.block_more, specs.Edits.appended}
-use Rattle.yq_edits.{specs.FlowParts.{flow_more, takes_key}, specs.Layouts.layout_of}
+use Rattle.yq_edit_rules.{specs.Siblings.{HasEntries, IsCollectionAt, IsEntry, NodeLines}, specs.StandingLaws.StandsThere}
+use Rattle.yq_edit_rules.{proofs.NodeLineLaws.lines_found, proofs.StandingMarks.{even_there, row_there, under_it}}
+use Rattle.yq_edit_rules.{proofs.StandingRows.rows_stand, proofs.UnderLaws.{line_is, under_is}, specs.declared.layout.Layout.Layout}
+use Rattle.yq_edit_rules.{specs.EditLaws.AppendHasEdit, specs.EntryEdits.block_more, specs.Edits.appended}
+use Rattle.yq_edit_rules.{specs.FlowParts.{flow_more, takes_key}, specs.Layouts.layout_of}
 use Rattle.yq_semantics.specs.Fits.{Takes}
 use Rattle.yq_text.specs.Script.{Segment}
 use Rattle.yq_edit_laws.{proofs.CollectionCases.collection_cases, proofs.DocumentParts.part_of, proofs.FlowHeldLines.flow_there}

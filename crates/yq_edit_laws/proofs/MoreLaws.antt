@@ -15,12 +15,13 @@ use Rattle.yq_places.specs.Standings.{BlockRoot, Compact, Held, RowsOfEntry, alo
 use Rattle.yq_places.specs.Standings.{behind_entry, behind_mark, below, block_root, compact_in, dash_text, entry_standing, held, is_alone}
 use Rattle.yq_places.{specs.Standings.{lone, rows_of_entry, root_standing}, proofs.CommentEndLaws.row_text_parts}
 use Rattle.yq_places.{proofs.DashLaws.{line_within, row_cut}, proofs.PrintedTexts.{less_is, map_some}}
-use Rattle.yq_edits.{specs.CollectionPlaces.IsCollectionEnd, specs.DocumentRows.{IsDocumentPart, behind_document}}
-use Rattle.yq_edits.{specs.PlacedParts.StandsAt, specs.StandingLaws.StandsThere, proofs.EndedRowLaws.row_there}
-use Rattle.yq_edits.{proofs.PartLaws.{document_known, part_rows}, proofs.PlacedPartLaws.document_stands_at, proofs.StandingRows.rows_stand}
-use Rattle.yq_edits.{specs.EditLaws.{IsEdit, MoreIsPut}, specs.EntryEdits.{behind_held, behind_lines, more_lines, block_more}}
-use Rattle.yq_edits.{specs.Layouts.layout_of, proofs.AppendPlaces.IsAppendPlace}
-use Rattle.yq_edits.{proofs.CommentRowLaws.{entry_is_row, entry_row, rows_front}, proofs.HeldLaws.held_spelled}
+use Rattle.yq_edit_rules.{specs.CollectionPlaces.IsCollectionEnd, specs.DocumentRows.{IsDocumentPart, behind_document}}
+use Rattle.yq_edit_rules.{specs.PlacedParts.StandsAt, specs.StandingLaws.StandsThere, proofs.EndedRowLaws.row_there}
+use Rattle.yq_edit_rules.{proofs.PartLaws.{document_known, part_rows}, proofs.PlacedPartLaws.document_stands_at}
+use Rattle.yq_edit_rules.{proofs.StandingRows.rows_stand, specs.EditLaws.{IsEdit, MoreIsPut}}
+use Rattle.yq_edit_rules.{specs.EntryEdits.{behind_held, behind_lines, more_lines, block_more}, specs.Layouts.layout_of}
+use Rattle.yq_edit_rules.{proofs.AppendPlaces.IsAppendPlace, proofs.CommentRowLaws.{entry_is_row, entry_row, rows_front}}
+use Rattle.yq_edit_rules.proofs.HeldLaws.{held_spelled}
 use Rattle.yq_edit_laws.proofs.CollectionRows.{EndIn, behind_front, text_broken}
 use Rattle.yq_edit_laws.proofs.CollectionStands.{are, begins_behind, begins_under, end_at, ends_there, headless_dash, headless_mark}
 use Rattle.yq_edit_laws.{proofs.CollectionStands.root_ends, proofs.FinalBreaks.{entry_some, mark_some}}

@@ -16,14 +16,16 @@ use Rattle.yq_places.specs.Standings.{BlockRoot, Compact, FlowPart, Held, Lone, 
 use Rattle.yq_places.specs.Standings.{block, compact, compact_in, entry_standing, flow_standing, held, is_alone, last_step, no_rows}
 use Rattle.yq_places.{specs.Standings.{rows_of_entry, root, root_standing, standing_at, under}, proofs.PrintedTexts.map_some}
 use Rattle.yq_semantics.{specs.Fits.Fits, specs.Operations.{replace, append, remove, line_comment, head_comment}, specs.Rooms.room_of}
-use Rattle.yq_edits.specs.declared.layout.Layout.{Layout}
-use Rattle.yq_edits.specs.CommentEdits.{above_rows, comment_put, comment_written, head_comment_put, head_comment_segments, line_comment_put}
-use Rattle.yq_edits.specs.Edits.{empty_collection, part_removed, replace_segments, rows_or_sole, sole_removed}
-use Rattle.yq_edits.specs.EntryEdits.{block_more, one_removed}
-use Rattle.yq_edits.{specs.FlowParts.{flow_more, flow_put, flow_removed, flow_segments, takes_key}, specs.Layouts.layout_of}
-use Rattle.yq_edits.{specs.Removing.rows_removed, specs.RemovingFirst.first_removed}
-use Rattle.yq_edits.specs.ReplaceEdits.{block_put, compact_put, has_text, held_put, literal_put, block_scalar_put, string_put, value_put}
-use Rattle.yq_edits.{specs.Replacing.keeps_scalar, specs.WrittenValues.{Written, compact_text, inline, lines, written_at, written_under}}
+use Rattle.yq_edit_rules.specs.declared.layout.Layout.{Layout}
+use Rattle.yq_edit_rules.specs.CommentEdits.{above_rows, comment_put, comment_written, head_comment_put, head_comment_segments}
+use Rattle.yq_edit_rules.specs.CommentEdits.{line_comment_put}
+use Rattle.yq_edit_rules.specs.Edits.{empty_collection, part_removed, replace_segments, rows_or_sole, sole_removed}
+use Rattle.yq_edit_rules.specs.EntryEdits.{block_more, one_removed}
+use Rattle.yq_edit_rules.{specs.FlowParts.{flow_more, flow_put, flow_removed, flow_segments, takes_key}, specs.Layouts.layout_of}
+use Rattle.yq_edit_rules.{specs.Removing.rows_removed, specs.RemovingFirst.first_removed}
+use Rattle.yq_edit_rules.specs.ReplaceEdits.{block_put, compact_put, has_text, held_put, literal_put, block_scalar_put, string_put}
+use Rattle.yq_edit_rules.{specs.ReplaceEdits.value_put, specs.Replacing.keeps_scalar}
+use Rattle.yq_edit_rules.specs.WrittenValues.{Written, compact_text, inline, lines, written_at, written_under}
 use Rattle.yq_edit_laws.specs.TouchedRanges.{AreInLines, EditsAreNear, IsLocalEdit}
 use Rattle.yq_edit_laws.{proofs.HeldRanges.{IsInLine, held_in_line, nothing_line}, proofs.RemovingLaws.rows_near}
 

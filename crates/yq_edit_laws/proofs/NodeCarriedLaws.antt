@@ -5,9 +5,9 @@ use Rattle.yq_outline.specs.Places.{content_under}
 use Rattle.yq_row_table.{specs.Rows.{Row, print_row, rows_text, Cut, cut_text}, proofs.splices.SpliceTexts.own_end, specs.Items.rows_items}
 use Rattle.yq_documents.specs.Reading.{read_at, root_of}
 use Rattle.yq_places.specs.RowPaths.{IsReadable}
-use Rattle.yq_edits.{specs.Appends.inserted, specs.Changed.put_document, specs.DocumentRows.behind_document, specs.SoundRoots.MayReplace}
-use Rattle.yq_edits.{specs.Local.InFirst, specs.ReadsAfter.ReadsAfter, specs.EditLaws.CarriedOut, proofs.LastRows.lines_local}
-use Rattle.yq_edits.{proofs.OneLines.is_one_line, proofs.LocalLaws.{RowsGiveWay, cut_known}}
+use Rattle.yq_edit_rules.{specs.Appends.inserted, specs.Changed.put_document, specs.DocumentRows.behind_document}
+use Rattle.yq_edit_rules.{specs.SoundRoots.MayReplace, specs.Local.InFirst, specs.ReadsAfter.ReadsAfter, specs.EditLaws.CarriedOut}
+use Rattle.yq_edit_rules.{proofs.LastRows.lines_local, proofs.OneLines.is_one_line, proofs.LocalLaws.{RowsGiveWay, cut_known}}
 use Rattle.yq_semantics.specs.Operations.{replace}
 use Rattle.yq_text.specs.Script.{Segment, old_text, new_text, are_kept, kept_front, kept_back}
 use Rattle.yq_edit_laws.{proofs.NodeRowLaws.NodeRows, proofs.NodeTaken.{TakesNode, q_rows, node_changed, node_reads}}

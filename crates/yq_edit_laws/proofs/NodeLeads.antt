@@ -7,7 +7,7 @@ use Rattle.yq_row_table.specs.Rows.{Content, content_text, Row, behind_dashes, b
 use Rattle.yq_row_table.{specs.View.{content_cut, slices}, proofs.PlaceLaws.{dashes_then, row_front-append}}
 use Rattle.yq_row_table.{proofs.seams.JoinLaws.dashes_text-append, proofs.SliceLaws.content_slices, specs.Items.rows_items}
 use Rattle.yq_places.specs.RowPieces.{anchor_before, space_before}
-use Rattle.yq_edits.{specs.BlockPlaces.{IsUpto, at_mark, at_dash}, specs.Local.InFirst, proofs.ItemsLocal.first_within}
+use Rattle.yq_edit_rules.{specs.BlockPlaces.{IsUpto, at_mark, at_dash}, specs.Local.InFirst, proofs.ItemsLocal.first_within}
 
 -- it lies in the row
 pub own_lead : (r : Row) → length (row_front r ++ anchor_before (slices r)) ≤ length (print_row r [])

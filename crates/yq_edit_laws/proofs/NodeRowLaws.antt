@@ -11,10 +11,10 @@ use Rattle.yq_row_table.specs.Rows.{Row, mark_column, rows_text, Part, part_text
 use Rattle.yq_documents.{specs.Documents.document_parts, specs.Reading.{part_outline, read_at}, proofs.PartRows.each}
 use Rattle.yq_documents.proofs.ReadLaws.{text_takes}
 use Rattle.yq_places.proofs.RowPathLaws.{StartsAt, document_fine, found_starts}
-use Rattle.yq_edits.{specs.Changed.put_document, specs.DocumentRows.{IsDocumentPart, behind_document}, specs.LineRows.Begins}
-use Rattle.yq_edits.{proofs.AppendLaws.around, proofs.InlineReplaceLaws.{next_by, own_rows}, proofs.LineLaws.dashes_count}
-use Rattle.yq_edits.{proofs.PartLaws.document_known, proofs.PlacedLaws.{found_is_entry, rows_in_parts, same_parts, whole_line}}
-use Rattle.yq_edits.{proofs.UnderLaws.{line_with, dashes_of}, proofs.FirstReplaceLaws.rows_after, specs.BlockPlaces.IsUpto}
+use Rattle.yq_edit_rules.{specs.Changed.put_document, specs.DocumentRows.{IsDocumentPart, behind_document}, specs.LineRows.Begins}
+use Rattle.yq_edit_rules.{proofs.AppendLaws.around, proofs.InlineReplaceLaws.{next_by, own_rows}, proofs.LineLaws.dashes_count}
+use Rattle.yq_edit_rules.{proofs.PartLaws.document_known, proofs.PlacedLaws.{found_is_entry, rows_in_parts, same_parts, whole_line}}
+use Rattle.yq_edit_rules.{proofs.UnderLaws.{line_with, dashes_of}, proofs.FirstReplaceLaws.rows_after, specs.BlockPlaces.IsUpto}
 use Rattle.yq_edit_laws.proofs.RowLines.{lines_upto}
 use Rattle.yq_outline.specs.Outline as outline
 

@@ -12,12 +12,13 @@ use Rattle.yq_row_table.proofs.splices.SpliceTexts.{own_gap, own_end, first_text
 use Rattle.yq_documents.{specs.Documents.{HaveFitKeys, lead_of}, specs.TreeEdits.{led, replaced_node}, specs.Ready.begins_no_node}
 use Rattle.yq_documents.specs.Reading.{root_of}
 use Rattle.yq_places.{specs.RowPaths.IsReadable, proofs.RunSpans.rows_then}
-use Rattle.yq_edits.{specs.Appends.inserted, specs.Changed.{IsChanged, put_document}, specs.DocumentRows.behind_document}
-use Rattle.yq_edits.{specs.Edited.LineFits, specs.Replaces.{RowsReplace, TakesLines}, specs.Rooms.is_block_root}
-use Rattle.yq_edits.{specs.SoundRoots.MayReplace, proofs.AppendLaws.around, proofs.LeadLaws.same_lead_goes, proofs.PlacedLaws.rows_in_parts}
-use Rattle.yq_edits.{proofs.ReplaceLaws.{node_rows_replaced, rows_before_some}, proofs.UnderLaws.{line_with, dashes_of}}
-use Rattle.yq_edits.{proofs.UnbrokenLaws.gap_same, proofs.MarkFirst.no_node_first, specs.BlockPlaces.Replaces, proofs.LaidRows.rows_append}
-use Rattle.yq_edits.{specs.ReadsAfter.ReadsAfter, proofs.DoneLaws.document_done}
+use Rattle.yq_edit_rules.{specs.Appends.inserted, specs.Changed.{IsChanged, put_document}, specs.DocumentRows.behind_document}
+use Rattle.yq_edit_rules.{specs.Edited.LineFits, specs.Replaces.{RowsReplace, TakesLines}, specs.Rooms.is_block_root}
+use Rattle.yq_edit_rules.{specs.SoundRoots.MayReplace, proofs.AppendLaws.around, proofs.LeadLaws.same_lead_goes}
+use Rattle.yq_edit_rules.{proofs.PlacedLaws.rows_in_parts, proofs.ReplaceLaws.{node_rows_replaced, rows_before_some}}
+use Rattle.yq_edit_rules.{proofs.UnderLaws.{line_with, dashes_of}, proofs.UnbrokenLaws.gap_same, proofs.MarkFirst.no_node_first}
+use Rattle.yq_edit_rules.{specs.BlockPlaces.Replaces, proofs.LaidRows.rows_append, specs.ReadsAfter.ReadsAfter}
+use Rattle.yq_edit_rules.proofs.DoneLaws.{document_done}
 use Rattle.yq_semantics.specs.Operations.{replace}
 use Rattle.yq_edit_laws.proofs.NodeRowLaws.{NodeRows, back_there, before_are, known_lines, limit, line_is, near, old_lines, rest, size_is}
 use Rattle.yq_edit_laws.proofs.RowLines.{lines_upto}

@@ -9,14 +9,14 @@ use Rattle.yq_row_table.{specs.Alone.holds_nothing, specs.Exchange.with_content,
 use Rattle.yq_row_table.specs.Rows.{Content, content_text, Row, mark_column, parent_indent, rows_text, Cut, cut_text}
 use Rattle.yq_row_table.{specs.Seams.is_block, proofs.NodeExchange.{inline_starts, space_apart}, proofs.splices.PartPlaces.part_ends}
 use Rattle.yq_documents.{specs.Documents.ContentHasFitKeys, specs.PartNumbers.part_number}
-use Rattle.yq_edits.{specs.DocumentRows.behind_document, specs.InlineRows.IsValueNode, proofs.CoreLaws.{put_core, recore}}
-use Rattle.yq_edits.{proofs.InlineReplaceLaws.{deeper_entry, tail_ends_plain}, proofs.PartLaws.document_known}
-use Rattle.yq_edits.proofs.UnderLaws.{line_with, gone_lines}
-use Rattle.yq_edits.proofs.ValueContentLaws.{content_is, content_head, content_named, content_tail, content_keys}
-use Rattle.yq_edits.{specs.declared.layout.Layout.Layout, specs.BlockPlaces.IsAbove, specs.BlockRows.{column_below, node_rows}}
-use Rattle.yq_edits.specs.BlockValues.{HasNearKeys, IsFilledValue, IsEnd, entry_level, level_at}
-use Rattle.yq_edits.{proofs.FitLaws.{anchors_fit, keys_fit, node_fit}, proofs.LaidRows.AreLaid}
-use Rattle.yq_edits.{proofs.BlockLineLaws.{lines_deeper, node_stands}, proofs.PlaceLaws.under_laid, proofs.RowLaws.deeper_laid}
+use Rattle.yq_edit_rules.{specs.DocumentRows.behind_document, specs.InlineRows.IsValueNode, proofs.CoreLaws.{put_core, recore}}
+use Rattle.yq_edit_rules.{proofs.InlineReplaceLaws.{deeper_entry, tail_ends_plain}, proofs.PartLaws.document_known}
+use Rattle.yq_edit_rules.proofs.UnderLaws.{line_with, gone_lines}
+use Rattle.yq_edit_rules.proofs.ValueContentLaws.{content_is, content_head, content_named, content_tail, content_keys}
+use Rattle.yq_edit_rules.{specs.declared.layout.Layout.Layout, specs.BlockPlaces.IsAbove, specs.BlockRows.{column_below, node_rows}}
+use Rattle.yq_edit_rules.specs.BlockValues.{HasNearKeys, IsFilledValue, IsEnd, entry_level, level_at}
+use Rattle.yq_edit_rules.{proofs.FitLaws.{anchors_fit, keys_fit, node_fit}, proofs.LaidRows.AreLaid}
+use Rattle.yq_edit_rules.{proofs.BlockLineLaws.{lines_deeper, node_stands}, proofs.PlaceLaws.under_laid, proofs.RowLaws.deeper_laid}
 use Rattle.yq_edit_laws.{proofs.ContentRows.{IsContentFor, mark_fit, takes_content, upto_gap}, proofs.MarkContentLaws.laid_free}
 use Rattle.yq_edit_laws.{proofs.NodeRowLaws.{NodeRows, back_there, entry, limit, near, rest, rows_there}, proofs.NodeTaken.TakesNode}
 use Rattle.yq_core.specs.Nodes as inline
@@ -115,7 +115,7 @@ module _ (doc : ℕ) (s : Step) (ss : List Step) (c : Cut) (h : NodeRows doc s s
           value_is = ap (λ o. head_or o (value stands.outline)) (nothing_is x held.holds).0 ∙ stands.node_is;
           even = stands.even;
           deep = deep;
-          lines = gone_lines (with_content x h.mark) rs ∙ ap (λ ls. Rattle.yq_edits.proofs.UnderLaws.dashes_of h.mark ++ (line_with h.mark x ∷ ls)) (sym stands.lines_are);
+          lines = gone_lines (with_content x h.mark) rs ∙ ap (λ ls. Rattle.yq_edit_rules.proofs.UnderLaws.dashes_of h.mark ++ (line_with h.mark x ∷ ls)) (sym stands.lines_are);
           keys = (mark_fit doc s ss c h, (nothing_is x held.holds).1, keys_fit rs fit);
           anchors = subst (λ ls. HaveOneAnchorEach (line_with h.mark x ∷ ls)) (sym stands.lines_are) (laid_free (content_anchor x) below rs z laid, anchors_fit rs fit);
         }

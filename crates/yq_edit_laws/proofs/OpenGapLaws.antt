@@ -6,8 +6,8 @@ use Rattle.yq_core.{specs.Text.{front, is_empty, joined, past_white, with_first}
 use Rattle.yq_outline.specs.Comments.{comment_text, are_comments, last_comments, head_comment}
 use Rattle.yq_row_table.{specs.Gap.{IsComment, IsGapLine, AreGapLines, IsGap}, proofs.CharacterLaws.pairs_back}
 use Rattle.yq_row_table.{proofs.NothingLaws.line_end_other, proofs.seams.GapFronts.gap_lines, proofs.GapLaws.some_more}
-use Rattle.yq_edits.{proofs.EndLaws.comment_is, specs.ClosedTexts.is_closed_text, proofs.BreakLaws.break_is as break_kind}
-use Rattle.yq_edits.{proofs.BrokenTails.comment_other, proofs.CommentReadLaws.break_is}
+use Rattle.yq_edit_rules.{proofs.EndLaws.comment_is, specs.ClosedTexts.is_closed_text, proofs.BreakLaws.break_is as break_kind}
+use Rattle.yq_edit_rules.{proofs.BrokenTails.comment_other, proofs.CommentReadLaws.break_is}
 use Rattle.yq_edit_laws.proofs.ClosedTexts.{closed_behind, closed_end}
 
 -- lines, of which the last one gets a break

@@ -9,7 +9,7 @@ use Rattle.yq_row_table.{proofs.PlaceLaws.part_then, specs.Items.{Item, end_item
 use Rattle.yq_documents.specs.Documents.{begins_bare, has_begin, with_part, parts_from, document_parts}
 use Rattle.yq_documents.specs.PartNumbers.{number_from, part_number}
 use Rattle.yq_places.{specs.PlacedRows.{PlacedPart, before_part, placed_at, placed_document}, proofs.PlacedPartLaws.part_stands}
-use Rattle.yq_edits.{specs.Changed.{put_document, put_part}, proofs.DocumentItemLaws.rows_before}
+use Rattle.yq_edit_rules.{specs.Changed.{put_document, put_part}, proofs.DocumentItemLaws.rows_before}
 
 -- a document behind a text with a break more, at the end of a text
 abbrev pub broken_before : List ℕ → PlacedPart → PlacedPart

@@ -15,13 +15,13 @@ use Rattle.yq_row_table.specs.Items.{Item, end_item, rows_items, items_of_cut, i
 use Rattle.yq_row_table.proofs.ItemLaws.{items_of_text, items_text-append}
 use Rattle.yq_places.{specs.PlacedRows.PlacedPart, specs.Standings.NoRows, specs.RowPaths.IsReadable, proofs.RemovalLines.LineSeam}
 use Rattle.yq_documents.{specs.Reading.{all_documents, is_document, read_at}, proofs.ReadLaws.{text_again, text_takes}}
-use Rattle.yq_edits.{specs.declared.layout.Layout.Layout, specs.BlockText.block_value, proofs.LaidRows.no_gap_here}
-use Rattle.yq_edits.{specs.PlacedParts.StandsAt, specs.TextPieces.IsPiece, proofs.PlacedPartLaws.document_stands_at}
-use Rattle.yq_edits.{proofs.TextPieceLaws.pieces_joined, specs.ClosedTexts.is_closed_text, specs.Changed.put_document}
-use Rattle.yq_edits.{specs.Replaces.rooted, specs.Local.IsLocal, specs.ReadsAfter.ReadsAfter, specs.EditLaws.CarriedOut}
-use Rattle.yq_edits.{proofs.ItemsLocal.last_nothing, proofs.LocalLaws.cut_known, proofs.AppendAtEnd.nothing_tail}
-use Rattle.yq_edits.{proofs.AppendEntryLaws.none_uncommented, proofs.BreakLaws.break_is as break_kind, proofs.CommentPieceLaws.break_piece}
-use Rattle.yq_edits.proofs.CommentReadLaws.{break_is}
+use Rattle.yq_edit_rules.{specs.declared.layout.Layout.Layout, specs.BlockText.block_value, proofs.LaidRows.no_gap_here}
+use Rattle.yq_edit_rules.{specs.PlacedParts.StandsAt, specs.TextPieces.IsPiece, proofs.PlacedPartLaws.document_stands_at}
+use Rattle.yq_edit_rules.{proofs.TextPieceLaws.pieces_joined, specs.ClosedTexts.is_closed_text, specs.Changed.put_document}
+use Rattle.yq_edit_rules.{specs.Replaces.rooted, specs.Local.IsLocal, specs.ReadsAfter.ReadsAfter, specs.EditLaws.CarriedOut}
+use Rattle.yq_edit_rules.{proofs.ItemsLocal.last_nothing, proofs.LocalLaws.cut_known, proofs.AppendAtEnd.nothing_tail}
+use Rattle.yq_edit_rules.{proofs.AppendEntryLaws.none_uncommented, proofs.BreakLaws.break_is as break_kind}
+use Rattle.yq_edit_rules.{proofs.CommentPieceLaws.break_piece, proofs.CommentReadLaws.break_is}
 use Rattle.yq_semantics.specs.Operations.{replace}
 use Rattle.yq_edit_laws.{proofs.FirstRows.empty_cases, proofs.ClosedTexts.{closed_behind, closed_end, closed_line, open_some}}
 use Rattle.yq_edit_laws.{proofs.OpenGapLaws.open_gap, proofs.OpenMarkerLaws.{broken_before, IsBehindMarker, behind_marker}}

@@ -3,7 +3,7 @@ use Rattle.std.{proofs.Common.{◌≡◌, ℕ, Some, refl}, specs.List.slice_get
 use Rattle.yq_row_table.specs.Rows.{Part, Cut, cut_text}
 use Rattle.yq_documents.{specs.Documents.document_parts, specs.Reading.read_at}
 use Rattle.yq_places.{specs.PathPieces.{PrintedDocument, printed_document}, proofs.PrintedLaws.{IsPrintedDocument, document_is}}
-use Rattle.yq_edits.{proofs.PartLaws.document_known, proofs.PlaceTextLaws.around}
+use Rattle.yq_edit_rules.{proofs.PartLaws.document_known, proofs.PlaceTextLaws.around}
 
 -- The lines of document doc, which has part p.
 pub record IsPrintedAt (c : Cut) (doc : ℕ) (p : Part) : Type 0 where

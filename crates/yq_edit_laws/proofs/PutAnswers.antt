@@ -12,7 +12,7 @@ use Rattle.yq_flow_edits.specs.declared.flow_place.EditPlace.{EditPlace}
 use Rattle.yq_row_table.specs.Rows.{Cut, cut_text}
 use Rattle.yq_places.{specs.FlowViews.{FlowAgrees, behind_anchor, collection_view, placed_collection}, specs.NodesAt.node_in}
 use Rattle.yq_places.{specs.Standings.{FlowPart, flow_standing, last_step}, specs.declared.places.flow_node.FlowHead.FlowHead}
-use Rattle.yq_edits.{specs.FlowParts.flow_value, specs.Replacing.keeps_scalar, specs.WrittenValues.value_text}
+use Rattle.yq_edit_rules.{specs.FlowParts.flow_value, specs.Replacing.keeps_scalar, specs.WrittenValues.value_text}
 use Rattle.yq_edit_laws.specs.EditPlaces.{edit_segments, moved_on}
 use Rattle.yq_edit_laws.specs.PartPuts.{ArePuts, IsPlaceOf, IsWrittenPart, part_put, part_replaced, put_edit}
 use Rattle.yq_edit_laws.specs.declared.put.PartPut.{PartPut}

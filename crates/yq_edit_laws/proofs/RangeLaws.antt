@@ -7,7 +7,7 @@ use Rattle.yq_row_table.proofs.NothingLaws.{some_behind}
 use Rattle.yq_text.specs.Script.{Segment, keep, put, are_kept, extents, from_first, kept_back, kept_front, new_text, swapped_segments}
 use Rattle.yq_text.proofs.KeptSegments.{new_kept, one_kept}
 use Rattle.yq_edit_laws.specs.TouchedRanges.{AreInLines, IsTouched, is_one_line}
-use Rattle.yq_edits.{proofs.HeldPieces.suffix_lf, proofs.LocalLaws.longer_front}
+use Rattle.yq_edit_rules.{proofs.HeldPieces.suffix_lf, proofs.LocalLaws.longer_front}
 
 -- ---- an LF in a part of a line
 

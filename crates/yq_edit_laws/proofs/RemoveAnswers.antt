@@ -6,7 +6,7 @@ use Rattle.yq_flow_edits.{specs.FlowEdits.FlowEdit, specs.FlowPlaces.{PlacedEdit
 use Rattle.yq_row_table.specs.Rows.{Cut, cut_text}
 use Rattle.yq_places.{specs.FlowViews.{behind_anchor, placed_collection}, specs.Standings.last_step}
 use Rattle.yq_places.specs.declared.places.flow_node.FlowHead.{FlowHead}
-use Rattle.yq_edits.{specs.Edits.part_removed, specs.FlowParts.{flow_removed, flow_segments}}
+use Rattle.yq_edit_rules.{specs.Edits.part_removed, specs.FlowParts.{flow_removed, flow_segments}}
 use Rattle.yq_edit_laws.{specs.EditPlaces.{edit_segments, moved_on}, proofs.FlowAnswers.{CollFound, EditFound, edit_found}}
 use Rattle.yq_edit_laws.{proofs.FlowHeads.{remove_found, removed_within, whole_is}, proofs.FlowLonger.{edit_more, removing_more}}
 use Rattle.yq_edit_laws.proofs.FlowRemoveLaws.{bounds, bytes, texts}

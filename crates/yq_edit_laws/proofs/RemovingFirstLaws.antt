@@ -6,12 +6,12 @@ use Rattle.yq_core.specs.Paths.{Step}
 use Rattle.yq_row_table.{specs.Rows.{Row, Cut, cut_text}, specs.Items.{row_item, rows_items}}
 use Rattle.yq_places.{specs.FirstPlaces.{FirstOut, first_removal}, specs.RemovalPlaces.{Removal, has_others_at, removal_place}}
 use Rattle.yq_documents.specs.Reading.{read_at}
-use Rattle.yq_edits.{specs.Changed.put_document, specs.RemovalChanges.IsTakenOut, proofs.DocumentItemLaws.rows_joined}
-use Rattle.yq_edits.{proofs.FirstBreakLaws.IsOneBreak, proofs.FirstOutLaws.first_stands}
-use Rattle.yq_edits.{proofs.FirstRemovalLaws.{IsRowLeft, EndLastRow, first_gone}, specs.EditLaws.{IsEdit, OneIsRemoved}}
-use Rattle.yq_edits.{specs.Removing.rows_removed, specs.RemovingFirst.first_removed, specs.Local.{InLast, IsLocalTo}}
-use Rattle.yq_edits.{specs.ReadsAfter.ReadsAfter, proofs.LastRows.gone_last, proofs.OneLines.is_one_line, proofs.ItemsLocal.rows_last}
-use Rattle.yq_edits.proofs.LocalLaws.{cut_known, RowsGiveWay, one_local}
+use Rattle.yq_edit_rules.{specs.Changed.put_document, specs.RemovalChanges.IsTakenOut, proofs.DocumentItemLaws.rows_joined}
+use Rattle.yq_edit_rules.{proofs.FirstBreakLaws.IsOneBreak, proofs.FirstOutLaws.first_stands}
+use Rattle.yq_edit_rules.{proofs.FirstRemovalLaws.{IsRowLeft, EndLastRow, first_gone}, specs.EditLaws.{IsEdit, OneIsRemoved}}
+use Rattle.yq_edit_rules.{specs.Removing.rows_removed, specs.RemovingFirst.first_removed, specs.Local.{InLast, IsLocalTo}}
+use Rattle.yq_edit_rules.{specs.ReadsAfter.ReadsAfter, proofs.LastRows.gone_last, proofs.OneLines.is_one_line, proofs.ItemsLocal.rows_last}
+use Rattle.yq_edit_rules.proofs.LocalLaws.{cut_known, RowsGiveWay, one_local}
 use Rattle.yq_semantics.specs.Operations.{remove}
 use Rattle.yq_edit_laws.proofs.RemovingLaws.{may_take, rows_out, taken_reads}
 

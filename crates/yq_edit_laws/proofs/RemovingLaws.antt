@@ -12,12 +12,12 @@ use Rattle.yq_row_table.{specs.Rows.{Row, print_row, behind_gap, Part, Cut, cut_
 use Rattle.yq_documents.{specs.Documents.{Document, document_parts, lead_of}, specs.Reading.{documents, read_at, root_of}}
 use Rattle.yq_documents.{specs.TreeEdits.at_end, specs.Pieces.{before_run, last_run}, proofs.RunLaws.run_split}
 use Rattle.yq_places.specs.RemovalPlaces.{kept_gap, Seam, Removal, removal_place, has_several, has_others, has_others_at}
-use Rattle.yq_edits.{specs.Conditions.AreSpared, specs.RemovalChanges.{mended, MayTakeOut, IsTakenOut}, proofs.LeadLaws.block_lead_goes}
-use Rattle.yq_edits.{proofs.RemovalChangeLaws.{AreRowsTaken, removal_stands, entry_taken}, specs.Changed.put_document}
-use Rattle.yq_edits.{specs.Removes.{left_gap, without}, specs.Done.IsDone, specs.EditLaws.IsEdit}
-use Rattle.yq_edits.{specs.Removing.{put_indent, lines_mended, gap_mended, rows_removed}, specs.Local.{IsLocal, IsLocalTo}}
-use Rattle.yq_edits.{specs.ReadsAfter.ReadsAfter, proofs.ItemsLocal.last_within, proofs.LocalLaws.{at_row, cut_known}}
-use Rattle.yq_edits.{proofs.DoneLaws.{document_done, part_of}, proofs.EditsFitLaws.not_used}
+use Rattle.yq_edit_rules.{specs.Conditions.AreSpared, specs.RemovalChanges.{mended, MayTakeOut, IsTakenOut}}
+use Rattle.yq_edit_rules.{proofs.LeadLaws.block_lead_goes, proofs.RemovalChangeLaws.{AreRowsTaken, removal_stands, entry_taken}}
+use Rattle.yq_edit_rules.{specs.Changed.put_document, specs.Removes.{left_gap, without}, specs.Done.IsDone, specs.EditLaws.IsEdit}
+use Rattle.yq_edit_rules.{specs.Removing.{put_indent, lines_mended, gap_mended, rows_removed}, specs.Local.{IsLocal, IsLocalTo}}
+use Rattle.yq_edit_rules.{specs.ReadsAfter.ReadsAfter, proofs.ItemsLocal.last_within, proofs.LocalLaws.{at_row, cut_known}}
+use Rattle.yq_edit_rules.{proofs.DoneLaws.{document_done, part_of}, proofs.EditsFitLaws.not_used}
 use Rattle.yq_semantics.{specs.Fits.Fits, specs.Operations.remove, specs.Rooms.room_of}
 use Rattle.yq_edit_laws.{specs.TouchedRanges.LiesInOne, proofs.GapLaws.{RowsGoOut, out_in_one, out_local}}
 

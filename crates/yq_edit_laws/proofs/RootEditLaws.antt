@@ -7,11 +7,12 @@ use Rattle.yq_flow_edits.specs.Valued.{IsValueTree}
 use Rattle.yq_row_table.specs.Rows.{behind_gap, behind_indent, print_row, part_text, Cut, cut_text}
 use Rattle.yq_documents.specs.Reading.{documents, read_at}
 use Rattle.yq_places.{specs.RowPaths.IsReadable, specs.Standings.{BlockRoot, NoRows}}
-use Rattle.yq_edits.{specs.Replaces.rooted, specs.TextPieces.IsPiece, proofs.FirstBreakLaws.IsOneBreak, proofs.TextPieceLaws.pieces_joined}
-use Rattle.yq_edits.{specs.declared.layout.Layout.Layout, specs.BlockText.block_value, proofs.CharacterLaws.value_sound}
-use Rattle.yq_edits.{specs.ClosedTexts.{is_closed_text, lines_put_behind}, specs.EditLaws.{CarriedOut, IsEdit}, specs.Layouts.layout_of}
-use Rattle.yq_edits.{specs.ReplaceEdits.{no_rows_put, root_put}, proofs.CommentPieceLaws.break_piece, proofs.LastRows.lines_local}
-use Rattle.yq_edits.{proofs.LayoutLaws.mapping_least, proofs.OneLines.is_one_line, proofs.SegmentLaws.segments_readable}
+use Rattle.yq_edit_rules.{specs.Replaces.rooted, specs.TextPieces.IsPiece, proofs.FirstBreakLaws.IsOneBreak}
+use Rattle.yq_edit_rules.{proofs.TextPieceLaws.pieces_joined, specs.declared.layout.Layout.Layout, specs.BlockText.block_value}
+use Rattle.yq_edit_rules.{proofs.CharacterLaws.value_sound, specs.ClosedTexts.{is_closed_text, lines_put_behind}}
+use Rattle.yq_edit_rules.{specs.EditLaws.{CarriedOut, IsEdit}, specs.Layouts.layout_of, specs.ReplaceEdits.{no_rows_put, root_put}}
+use Rattle.yq_edit_rules.{proofs.CommentPieceLaws.break_piece, proofs.LastRows.lines_local, proofs.LayoutLaws.mapping_least}
+use Rattle.yq_edit_rules.{proofs.OneLines.is_one_line, proofs.SegmentLaws.segments_readable}
 use Rattle.yq_semantics.{specs.Fits.Fits, specs.Operations.replace, specs.Rooms.room_of}
 use Rattle.yq_edit_laws.specs.RootEdits.{NoRowsArePut, RootsArePut}
 use Rattle.yq_edit_laws.proofs.BlockRootLaws.{IsBlockRoot, block_root_at, takes_value, before_piece, last_piece, behind_piece}

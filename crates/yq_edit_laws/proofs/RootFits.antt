@@ -6,10 +6,10 @@ use Rattle.yq_flow_edits.specs.Valued.{IsValueTree}
 use Rattle.yq_row_table.specs.Rows.{Row, Part, Cut, cut_text}
 use Rattle.yq_documents.{specs.Documents.document_parts, specs.Reading.{documents, read_at, root_of}}
 use Rattle.yq_places.{specs.PlacedRows.PlacedPart, specs.RowPaths.IsReadable}
-use Rattle.yq_edits.{specs.declared.layout.Layout.Layout, specs.BlockText.block_value, specs.BlockValues.HasNearKeys}
-use Rattle.yq_edits.{specs.Changed.put_document, specs.Conditions.AreSpared, specs.Replaces.rooted}
-use Rattle.yq_edits.{specs.SoundRoots.{inner_names, IsNewValue}, specs.Local.IsLocal, specs.ReadsAfter.ReadsAfter}
-use Rattle.yq_edits.{specs.EditLaws.CarriedOut, proofs.LocalLaws.cut_known, proofs.EditsFitLaws.fits_replace}
+use Rattle.yq_edit_rules.{specs.declared.layout.Layout.Layout, specs.BlockText.block_value, specs.BlockValues.HasNearKeys}
+use Rattle.yq_edit_rules.{specs.Changed.put_document, specs.Conditions.AreSpared, specs.Replaces.rooted}
+use Rattle.yq_edit_rules.{specs.SoundRoots.{inner_names, IsNewValue}, specs.Local.IsLocal, specs.ReadsAfter.ReadsAfter}
+use Rattle.yq_edit_rules.{specs.EditLaws.CarriedOut, proofs.LocalLaws.cut_known, proofs.EditsFitLaws.fits_replace}
 use Rattle.yq_semantics.{specs.Fits.Fits, specs.Operations.replace, specs.Rooms.room_of}
 use Rattle.yq_text.specs.Script.{Segment, new_text}
 use Rattle.yq_edit_laws.{proofs.RootRows.root_rows, proofs.RootReadLaws.{TakesValue, text_is, root_read, root_reads}}

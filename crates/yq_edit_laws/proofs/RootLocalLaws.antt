@@ -6,9 +6,9 @@ use Rattle.yq_flow_edits.specs.Valued.{IsValueTree}
 use Rattle.yq_row_table.{specs.Grammar.no_rows, specs.Rows.{Row, behind_gap, behind_indent, Part, part_text, Cut, cut_text}}
 use Rattle.yq_row_table.{specs.Splices.first_gap, specs.Items.{end_item, rows_items, Item}}
 use Rattle.yq_documents.specs.Documents.{document_parts}
-use Rattle.yq_edits.{specs.Changed.put_document, specs.DocumentRows.behind_document, specs.Replaces.rooted}
-use Rattle.yq_edits.{specs.declared.layout.Layout.Layout, proofs.BlockLineLaws.node_begun, specs.Local.{InFirst, IsLocal}}
-use Rattle.yq_edits.{proofs.ItemsLocal.rows_last, proofs.LocalLaws.{above_is, h}, proofs.DocumentItemLaws.rows_before}
+use Rattle.yq_edit_rules.{specs.Changed.put_document, specs.DocumentRows.behind_document, specs.Replaces.rooted}
+use Rattle.yq_edit_rules.{specs.declared.layout.Layout.Layout, proofs.BlockLineLaws.node_begun, specs.Local.{InFirst, IsLocal}}
+use Rattle.yq_edit_rules.{proofs.ItemsLocal.rows_last, proofs.LocalLaws.{above_is, h}, proofs.DocumentItemLaws.rows_before}
 use Rattle.yq_text.specs.Script.{Segment, kept_front, kept_back}
 use Rattle.yq_edit_laws.proofs.RootRows.{lone_row, root_rows}
 use Rattle.yq_core.specs.Nodes as inline

@@ -9,12 +9,13 @@ use Rattle.yq_row_table.{specs.SpliceFits.is_after, specs.Splices.{first_gap, ma
 use Rattle.yq_documents.{specs.Documents.{Document, document_parts, lead_of}, specs.TreeEdits.{headed, lead_by, led, replaced_node}}
 use Rattle.yq_documents.{specs.Reading.{root_of, read_at}, specs.PartNumbers.part_number}
 use Rattle.yq_places.{specs.PlacedRows.PlacedPart, specs.RowPaths.IsReadable}
-use Rattle.yq_edits.{specs.declared.layout.Layout.Layout, specs.BlockText.block_value, specs.BlockValues.HasNearKeys}
-use Rattle.yq_edits.{specs.Changed.{changed as part_changed, IsChanged, KeepsRows, put_document}, specs.Conditions.AreSpared}
-use Rattle.yq_edits.{specs.DocumentRows.{IsDocumentPart, behind_document}, specs.PlacedParts.StandsAt, specs.Replaces.{TakesRoot, rooted}}
-use Rattle.yq_edits.{specs.Rooms.{is_block_root, LeadGoes}, specs.SoundRoots.{inner_names, IsNewValue}, proofs.AfterLaws.nth_is}
-use Rattle.yq_edits.{proofs.ChangedLaws.document_put, proofs.EditedLaws.led_same, proofs.RootLaws.root_rows_replaced}
-use Rattle.yq_edits.{specs.ReadsAfter.ReadsAfter, proofs.DoneLaws.document_done}
+use Rattle.yq_edit_rules.{specs.declared.layout.Layout.Layout, specs.BlockText.block_value, specs.BlockValues.HasNearKeys}
+use Rattle.yq_edit_rules.{specs.Changed.{changed as part_changed, IsChanged, KeepsRows, put_document}, specs.Conditions.AreSpared}
+use Rattle.yq_edit_rules.{specs.DocumentRows.{IsDocumentPart, behind_document}, specs.PlacedParts.StandsAt}
+use Rattle.yq_edit_rules.{specs.Replaces.{TakesRoot, rooted}, specs.Rooms.{is_block_root, LeadGoes}}
+use Rattle.yq_edit_rules.{specs.SoundRoots.{inner_names, IsNewValue}, proofs.AfterLaws.nth_is, proofs.ChangedLaws.document_put}
+use Rattle.yq_edit_rules.{proofs.EditedLaws.led_same, proofs.RootLaws.root_rows_replaced, specs.ReadsAfter.ReadsAfter}
+use Rattle.yq_edit_rules.proofs.DoneLaws.{document_done}
 use Rattle.yq_semantics.specs.Operations.{replace}
 use Rattle.yq_edit_laws.{proofs.RootRows.{root_rows, HasRoom, AreRootRows}, proofs.RootValues.value_root_rows}
 use Rattle.yq_documents.specs.Reading as reading

@@ -12,12 +12,12 @@ use Rattle.yq_row_table.{specs.Gap.IsGap, specs.Grammar.{is_entry, is_plain_cont
 use Rattle.yq_row_table.{specs.Rows.{Bare, Inline, Row, behind_gap, rows_text}, specs.Splices.{with_first_gap, with_row_gap, first_gap}}
 use Rattle.yq_row_table.{proofs.PlainEnds.{tail_ends, gap_line}, proofs.seams.FrontSeams.behind_row_some, proofs.seams.SeamLaws.part_line}
 use Rattle.yq_documents.{specs.Documents.{HaveFitKeys, HasShortRoot, is_long_plain}, specs.TreeEdits.headed}
-use Rattle.yq_edits.{specs.declared.layout.Layout.Layout, specs.BlockRows.{inline_of, node_rows}, specs.BlockText.block_node}
-use Rattle.yq_edits.{specs.BlockValues.{HasNearKeys, IsFilled, level_at}, proofs.FitLaws.{RowsAreFit, anchors_fit, keys_fit, node_fit}}
-use Rattle.yq_edits.{proofs.LaidRows.{AreLaid, laid_rows, no_gap_here}, proofs.BlockLineLaws.node_stands, proofs.RowLaws.value_laid}
-use Rattle.yq_edits.{proofs.TextLaws.node_spelled, specs.Edited.with_lead, specs.InlineRows.IsValueNode, specs.Siblings.HasEntries}
-use Rattle.yq_edits.{proofs.ContentLaws.{free_alone, alone_even, alone_value}, proofs.EditedLaws.lead_is_above}
-use Rattle.yq_edits.{proofs.NodeLineLaws.low_level, proofs.AppendEntryLaws.rows_gap}
+use Rattle.yq_edit_rules.{specs.declared.layout.Layout.Layout, specs.BlockRows.{inline_of, node_rows}, specs.BlockText.block_node}
+use Rattle.yq_edit_rules.{specs.BlockValues.{HasNearKeys, IsFilled, level_at}, proofs.FitLaws.{RowsAreFit, anchors_fit, keys_fit, node_fit}}
+use Rattle.yq_edit_rules.{proofs.LaidRows.{AreLaid, laid_rows, no_gap_here}, proofs.BlockLineLaws.node_stands, proofs.RowLaws.value_laid}
+use Rattle.yq_edit_rules.{proofs.TextLaws.node_spelled, specs.Edited.with_lead, specs.InlineRows.IsValueNode, specs.Siblings.HasEntries}
+use Rattle.yq_edit_rules.{proofs.ContentLaws.{free_alone, alone_even, alone_value}, proofs.EditedLaws.lead_is_above}
+use Rattle.yq_edit_rules.{proofs.NodeLineLaws.low_level, proofs.AppendEntryLaws.rows_gap}
 use Rattle.yq_core.specs.Tree as tree
 use Rattle.yq_core.specs.Nodes as inline
 use Rattle.yq_outline.specs.Outline as outline

@@ -3,8 +3,8 @@ use Rattle.std.proofs.Common.{◌≡◌, ℕ, ◌≤◌, Bool, true, false, cond
 use Rattle.yq_core.{specs.declared.kind.Kind.Kind, specs.Tree.Node, specs.Writable.can_write, specs.Written.written_scalar}
 use Rattle.yq_core.{specs.NodesWritten.{scalar_text, flow_of, flow_items}, proofs.NodesWrittenLaws.double_when}
 use Rattle.yq_flow_edits.specs.Valued.{IsValueTree}
-use Rattle.yq_edits.{specs.declared.layout.Layout.Layout, specs.BlockText.block_value, specs.BlockValues.HasNearKeys}
-use Rattle.yq_edits.{specs.InlineRows.IsValueNode, proofs.ValueNodes.{scalar_is, list_is, map_is}}
+use Rattle.yq_edit_rules.{specs.declared.layout.Layout.Layout, specs.BlockText.block_value, specs.BlockValues.HasNearKeys}
+use Rattle.yq_edit_rules.{specs.InlineRows.IsValueNode, proofs.ValueNodes.{scalar_is, list_is, map_is}}
 use Rattle.yq_edit_laws.proofs.RootRows.{root_rows, HasRoom, AreRootRows, block_root_rows, lone_root_rows}
 use Rattle.yq_core.specs.declared.style.Place.TheVariants as places
 use Rattle.yq_core.specs.declared.style.Style.TheVariants as styles

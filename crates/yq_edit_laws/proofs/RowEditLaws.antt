@@ -8,10 +8,10 @@ use Rattle.yq_places.specs.NodesAt.{node_in}
 use Rattle.yq_places.specs.Standings.{RowsOfEntry, behind_mark, below, beside, compact, compact_in, entry_standing, flow_standing, held}
 use Rattle.yq_places.specs.Standings.{last_step, standing_at}
 use Rattle.yq_text.specs.Script.{Segment, keep}
-use Rattle.yq_edits.{specs.CommentEdits.{comment_put, line_comment_put}, specs.FlowParts.flow_put, specs.Layouts.layout_of}
-use Rattle.yq_edits.{specs.ReplaceEdits.{has_text, held_put, value_put, value_put_at}, specs.Replacing.keeps_scalar}
-use Rattle.yq_edits.specs.RowChanges.{CommentEdits, HoldsInline, InlineEdits, RowEdits, inline_put}
-use Rattle.yq_edits.specs.WrittenValues.{collection_at, inline, value_text}
+use Rattle.yq_edit_rules.{specs.CommentEdits.{comment_put, line_comment_put}, specs.FlowParts.flow_put, specs.Layouts.layout_of}
+use Rattle.yq_edit_rules.{specs.ReplaceEdits.{has_text, held_put, value_put, value_put_at}, specs.Replacing.keeps_scalar}
+use Rattle.yq_edit_rules.specs.RowChanges.{CommentEdits, HoldsInline, InlineEdits, RowEdits, inline_put}
+use Rattle.yq_edit_rules.specs.WrittenValues.{collection_at, inline, value_text}
 use Rattle.yq_edit_laws.proofs.OnePutLaws.{comment_puts, inline_puts}
 
 -- an inline node stands beside its key or dash

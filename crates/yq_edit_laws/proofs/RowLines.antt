@@ -6,8 +6,8 @@ use Rattle.yq_core.specs.Text.{upto}
 use Rattle.yq_outline.{specs.Comments.{head_comment, line_comment}, specs.Outline.{Line, Outline, flatten}}
 use Rattle.yq_outline.specs.Lines.{dash_line, lines_from, mark_line, lines_of_rows}
 use Rattle.yq_row_table.{specs.Grammar.is_entry, specs.Rows.{Content, Nothing, Row, behind_columns}}
-use Rattle.yq_edits.{specs.Moved.dash_lines, specs.Siblings.{HasEntries, IsEntry}, proofs.LineLaws.above_mark}
-use Rattle.yq_edits.{proofs.UnderLaws.{line_with, dashes_of, gone_lines}, specs.BlockPlaces.{IsUpto, at_mark, at_dash}}
+use Rattle.yq_edit_rules.{specs.Moved.dash_lines, specs.Siblings.{HasEntries, IsEntry}, proofs.LineLaws.above_mark}
+use Rattle.yq_edit_rules.{proofs.UnderLaws.{line_with, dashes_of, gone_lines}, specs.BlockPlaces.{IsUpto, at_mark, at_dash}}
 use Rattle.yq_outline.specs.Outline as outline
 use Rattle.yq_row_table.specs.Rows as rows
 

@@ -6,7 +6,7 @@ use Rattle.yq_documents.{specs.Documents.document_parts, specs.Reading.{document
 use Rattle.yq_documents.specs.LinesInRows.{row_line_of, row_line_has_room}
 use Rattle.yq_semantics.{specs.After.after_op, specs.Changes.Room, specs.Operations.Operation, specs.Rooms.{comment_part, room_of}}
 use Rattle.yq_semantics.specs.RoomsKept.{LeavesRooms}
-use Rattle.yq_edits.{specs.ReadsAfter.ReadsAfter, proofs.DoneLaws.read_cut}
+use Rattle.yq_edit_rules.{specs.ReadsAfter.ReadsAfter, proofs.DoneLaws.read_cut}
 use Rattle.yq_documents.specs.Reading as reading
 
 -- what documents have room for, by their parts

@@ -10,8 +10,8 @@ use Rattle.yq_row_table.specs.Rows.{Anchor, Block, anchor_text, content_text, Ro
 use Rattle.yq_row_table.{specs.View.slices, proofs.LineEnds.{comment_none, text_line, white_none}}
 use Rattle.yq_places.{specs.CommentPlaces.{LineEnd, end_in_line}, specs.PrintedLines.{last_break, less_break}}
 use Rattle.yq_places.{specs.RowPieces.{anchor_before, space_before}, specs.Standings.{RowsOfEntry, before_entry, held}}
-use Rattle.yq_edits.{specs.StandingLaws.StandsThere, specs.TextPieces.IsPiece, specs.ReplaceEdits.{line_break, raw_last}}
-use Rattle.yq_edits.{proofs.BreakLaws.{IsLfOrCrLf, break_is}, proofs.CommentPieceLaws.break_piece, proofs.CommentRowLaws.end_parts}
+use Rattle.yq_edit_rules.{specs.StandingLaws.StandsThere, specs.TextPieces.IsPiece, specs.ReplaceEdits.{line_break, raw_last}}
+use Rattle.yq_edit_rules.{proofs.BreakLaws.{IsLfOrCrLf, break_is}, proofs.CommentPieceLaws.break_piece, proofs.CommentRowLaws.end_parts}
 use Rattle.yq_edit_laws.{proofs.HeadPuts.{apart_there, content_there}, proofs.HeldKnown.KnowsHeld, proofs.HeldRows.{mark_end, mark_tail}}
 use Rattle.yq_edit_laws.{proofs.NodeRowLaws.rest, proofs.StandingNodes.mark_node}
 

@@ -12,17 +12,17 @@ use Rattle.yq_row_table.{proofs.LineEnds.none_in_white, proofs.NodeExchange.spac
 use Rattle.yq_row_table.proofs.seams.RowSeams.{block_no_space}
 use Rattle.yq_documents.proofs.RowLineLaws.{tail_is}
 use Rattle.yq_places.specs.Standings.{Held, RowsOfEntry, held}
-use Rattle.yq_edits.{specs.InlineRows.IsValueNode, specs.StandingLaws.StandsThere}
-use Rattle.yq_edits.proofs.CoreLaws.{recore, anchored_node, core_anchor, core_bare, core_head, core_keys}
-use Rattle.yq_edits.{proofs.InlineReplaceLaws.deeper_entry, proofs.PathTailLaws.anchor_other, proofs.ValueContentLaws.more_some}
-use Rattle.yq_edits.{specs.EditLaws.CarriedOut, specs.ReplaceEdits.{spaced_text, held_put}, proofs.EditsFitLaws.FitsReplace}
-use Rattle.yq_edits.{proofs.ValueTexts.IsWrittenFor, proofs.StandingMarks.entry_there}
+use Rattle.yq_edit_rules.{specs.InlineRows.IsValueNode, specs.StandingLaws.StandsThere}
+use Rattle.yq_edit_rules.proofs.CoreLaws.{recore, anchored_node, core_anchor, core_bare, core_head, core_keys}
+use Rattle.yq_edit_rules.{proofs.InlineReplaceLaws.deeper_entry, proofs.PathTailLaws.anchor_other, proofs.ValueContentLaws.more_some}
+use Rattle.yq_edit_rules.{specs.EditLaws.CarriedOut, specs.ReplaceEdits.{spaced_text, held_put}, proofs.EditsFitLaws.FitsReplace}
+use Rattle.yq_edit_rules.{proofs.ValueTexts.IsWrittenFor, proofs.StandingMarks.entry_there}
 use Rattle.yq_semantics.specs.Operations.{replace}
 use Rattle.yq_edit_laws.{proofs.ContentRows.IsContentFor, proofs.HeadPuts.head_carried, proofs.HeldKnown.KnowsHeld}
 use Rattle.yq_edit_laws.{proofs.HeldTexts.regroup, proofs.NodeRowLaws.{NodeRows, rest}, proofs.NodeValueLaws.end_is}
 use Rattle.yq_edit_laws.{proofs.ScalarHeld.{anchor_is, apart_is, front_text, headed, valid}, proofs.StandingNodes.mark_node}
 use Rattle.yq_core.specs.Nodes as inline
-use Rattle.yq_edits.specs.WrittenValues as written
+use Rattle.yq_edit_rules.specs.WrittenValues as written
 
 -- ---- an inline node behind the anchor of a block scalar
 

@@ -14,9 +14,9 @@ use Rattle.yq_row_table.{specs.Rows.{Anchor, Content, Block, anchor_text, Row, p
 use Rattle.yq_row_table.{proofs.NodeExchange.space_apart, proofs.PlaceLaws.row_front-append, proofs.seams.RowSeams.block_no_space}
 use Rattle.yq_places.{specs.NodesAt.{node_in, scalar_in}, specs.RowPieces.{anchor_before, space_before}}
 use Rattle.yq_places.specs.Standings.{Held, RowsOfEntry, held}
-use Rattle.yq_edits.{specs.StandingLaws.StandsThere, proofs.PathTailLaws.anchor_other, specs.EditLaws.CarriedOut}
-use Rattle.yq_edits.{specs.ReplaceEdits.{has_text, holds_text, literal_put}, proofs.CommentPieceLaws.nothing}
-use Rattle.yq_edits.proofs.EditsFitLaws.{FitsReplace}
+use Rattle.yq_edit_rules.{specs.StandingLaws.StandsThere, proofs.PathTailLaws.anchor_other, specs.EditLaws.CarriedOut}
+use Rattle.yq_edit_rules.{specs.ReplaceEdits.{has_text, holds_text, literal_put}, proofs.CommentPieceLaws.nothing}
+use Rattle.yq_edit_rules.proofs.EditsFitLaws.{FitsReplace}
 use Rattle.yq_semantics.specs.Operations.{replace}
 use Rattle.yq_edit_laws.{proofs.ContentRows.{IsContentFor, takes_content}, proofs.HeldCarried.{Spells, node_is, put_carried}}
 use Rattle.yq_edit_laws.{proofs.HeldKnown.KnowsHeld, proofs.HeldTexts.regroup}

@@ -7,12 +7,13 @@ use Rattle.yq_text.{specs.Limit.text_limit, specs.Script.{Segment, new_text, old
 use Rattle.yq_flow_edits.specs.Valued.{IsValueTree}
 use Rattle.yq_row_table.specs.Rows.{Anchor, Block, Cut, cut_text}
 use Rattle.yq_places.{specs.NodesAt.{node_in, scalar_in}, specs.Standings.{Held, RowsOfEntry, held}}
-use Rattle.yq_edits.{specs.StandingLaws.StandsThere, specs.declared.layout.Layout.Layout, specs.BlockReading.is_filled}
-use Rattle.yq_edits.{specs.BlockRows.item_column, specs.BlockText.block_value, specs.EditLaws.{CarriedOut, IsEdit}, specs.Layouts.layout_of}
-use Rattle.yq_edits.specs.ReplaceEdits.{block_put, has_text, held_put, literal_put, block_scalar_put, string_put, value_put}
-use Rattle.yq_edits.specs.WrittenValues.{Written, inline, compact_text, lines, collection_at, column_under, lines_in, takes_compact}
-use Rattle.yq_edits.{specs.WrittenValues.{value_text, written_at}, proofs.EditsFitLaws.{FitsReplace, fits_replace}}
-use Rattle.yq_edits.proofs.ValueTexts.{scalar_for, value_for}
+use Rattle.yq_edit_rules.{specs.StandingLaws.StandsThere, specs.declared.layout.Layout.Layout, specs.BlockReading.is_filled}
+use Rattle.yq_edit_rules.{specs.BlockRows.item_column, specs.BlockText.block_value, specs.EditLaws.{CarriedOut, IsEdit}}
+use Rattle.yq_edit_rules.specs.Layouts.{layout_of}
+use Rattle.yq_edit_rules.specs.ReplaceEdits.{block_put, has_text, held_put, literal_put, block_scalar_put, string_put, value_put}
+use Rattle.yq_edit_rules.specs.WrittenValues.{Written, inline, compact_text, lines, collection_at, column_under, lines_in, takes_compact}
+use Rattle.yq_edit_rules.{specs.WrittenValues.{value_text, written_at}, proofs.EditsFitLaws.{FitsReplace, fits_replace}}
+use Rattle.yq_edit_rules.proofs.ValueTexts.{scalar_for, value_for}
 use Rattle.yq_semantics.specs.Operations.{replace}
 use Rattle.yq_edit_laws.{proofs.HeldCarried.held_old, proofs.HeldCompact.held_compact, proofs.HeldKnown.KnowsHeld}
 use Rattle.yq_edit_laws.{proofs.ScalarHeld.raw_old, proofs.ScalarInline.scalar_inline, proofs.ScalarLiterals.raw_literal}

@@ -6,10 +6,10 @@ use Rattle.yq_flow_edits.specs.Valued.{IsValueTree}
 use Rattle.yq_outline.specs.Comments.{line_comment}
 use Rattle.yq_row_table.{specs.Grammar.IsTail, specs.Rows.{Anchor, Block, Cut}, specs.View.slices}
 use Rattle.yq_places.{specs.Standings.{Held, RowsOfEntry, held}, proofs.LineEndLaws.header_tail}
-use Rattle.yq_edits.{specs.StandingLaws.StandsThere, proofs.TextPieceLaws.pieces_joined, specs.declared.layout.Layout.Layout}
-use Rattle.yq_edits.{specs.BlockReading.is_filled, specs.EditLaws.CarriedOut, specs.Layouts.layout_of, specs.ReplaceEdits.raw_put}
-use Rattle.yq_edits.{specs.WrittenValues.{column_under, lines_in}, proofs.CommentPieceLaws.{nothing, break_piece}}
-use Rattle.yq_edits.{proofs.CommentReadLaws.break_is, proofs.EditsFitLaws.FitsReplace}
+use Rattle.yq_edit_rules.{specs.StandingLaws.StandsThere, proofs.TextPieceLaws.pieces_joined, specs.declared.layout.Layout.Layout}
+use Rattle.yq_edit_rules.{specs.BlockReading.is_filled, specs.EditLaws.CarriedOut, specs.Layouts.layout_of, specs.ReplaceEdits.raw_put}
+use Rattle.yq_edit_rules.{specs.WrittenValues.{column_under, lines_in}, proofs.CommentPieceLaws.{nothing, break_piece}}
+use Rattle.yq_edit_rules.{proofs.CommentReadLaws.break_is, proofs.EditsFitLaws.FitsReplace}
 use Rattle.yq_semantics.specs.Operations.{replace}
 use Rattle.yq_edit_laws.{proofs.HeldCarried.put_carried, proofs.HeldKnown.KnowsHeld, proofs.HeldLines.{lines_piece, rows_put, rows_spell}}
 use Rattle.yq_edit_laws.proofs.ScalarHeld.{header_line, line_piece, raw_old, tail_is, valid}

@@ -12,9 +12,9 @@ use Rattle.yq_row_table.specs.Rows.{Cut, cut_text}
 use Rattle.yq_documents.{specs.Documents.Document, specs.Reading.{documents, documents_of, read_at, root_of}}
 use Rattle.yq_documents.specs.TreeEdits.{change_nth, led, replaced_node}
 use Rattle.yq_places.{specs.RemovalPlaces.{has_others_at, has_several}, specs.NodesAt.node_in}
-use Rattle.yq_edits.{proofs.AfterLaws.end_is_change, proofs.PartLaws.document_known, proofs.SoundRootLaws.depth_at}
-use Rattle.yq_edits.{proofs.RemovalChangeLaws.take_init, specs.EditLaws.{IsEdit, SoleIsRemoved}, specs.Edits.empty_collection}
-use Rattle.yq_edits.{specs.ReadsAfter.ReadsAfter, proofs.DoneLaws.read_cut}
+use Rattle.yq_edit_rules.{proofs.AfterLaws.end_is_change, proofs.PartLaws.document_known, proofs.SoundRootLaws.depth_at}
+use Rattle.yq_edit_rules.{proofs.RemovalChangeLaws.take_init, specs.EditLaws.{IsEdit, SoleIsRemoved}, specs.Edits.empty_collection}
+use Rattle.yq_edit_rules.{specs.ReadsAfter.ReadsAfter, proofs.DoneLaws.read_cut}
 use Rattle.yq_semantics.{specs.After.{done_to, root_after}, specs.Changes.{has_long_key, is_deep, is_used, is_used_in}}
 use Rattle.yq_semantics.{specs.Fits.{Fits, IsBelow}, specs.Operations.{replace, remove}, specs.Rooms.room_of, specs.RoomsKept.HasSome}
 use Rattle.yq_text.specs.Script.{new_text}

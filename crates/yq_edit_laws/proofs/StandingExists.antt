@@ -14,8 +14,8 @@ use Rattle.yq_places.specs.RemovalPlaces.{has_others_at, has_several}
 use Rattle.yq_places.specs.Standings.{FlowPart, RowsOfEntry, entry_rows_at, flow_part, flow_standing, last_step, rows_of_entry}
 use Rattle.yq_places.{specs.Standings.root_standing, proofs.FoundEntries.middle, proofs.PlacedRowLaws.{document_placed, part_of}}
 use Rattle.yq_places.{proofs.RowPathLaws.found_lines, proofs.DashLineLaws.row_line_found}
-use Rattle.yq_edits.{specs.Siblings.{IsCollectionAt, IsEntryAt, NodeLines}, specs.StandingLaws.{EntriesStand, RootsStand}}
-use Rattle.yq_edits.{proofs.EditedLaws.lines_are_there, proofs.RemovalChangeLaws.{children-value, take_init}}
+use Rattle.yq_edit_rules.{specs.Siblings.{IsCollectionAt, IsEntryAt, NodeLines}, specs.StandingLaws.{EntriesStand, RootsStand}}
+use Rattle.yq_edit_rules.{proofs.EditedLaws.lines_are_there, proofs.RemovalChangeLaws.{children-value, take_init}}
 use Rattle.yq_edit_laws.{proofs.CollectionCases.collection_cases, proofs.DocumentParts.PartOf, proofs.EntryLines.{entry_line, found_at}}
 use Rattle.yq_edit_laws.{proofs.FlowHeldLines.flow_there, proofs.FlowHeldNodes.{FlowContent, entry_tree, held, item_child}}
 use Rattle.yq_edit_laws.proofs.FlowSoundLaws.{above_is, last_is}

@@ -4,7 +4,8 @@ use Rattle.yq_core.specs.Paths.{Step}
 use Rattle.yq_outline.{specs.Outline.flatten, specs.Lines.lines_of_rows}
 use Rattle.yq_row_table.specs.Rows.{Cut, Row}
 use Rattle.yq_places.specs.Standings.{RowsOfEntry, behind_entry}
-use Rattle.yq_edits.{specs.StandingLaws.StandsThere, proofs.StandingMarks.{behind_there, entry_there}, specs.BlockPlaces.{IsUpto, at_mark}}
+use Rattle.yq_edit_rules.{specs.StandingLaws.StandsThere, proofs.StandingMarks.{behind_there, entry_there}}
+use Rattle.yq_edit_rules.specs.BlockPlaces.{IsUpto, at_mark}
 use Rattle.yq_edit_laws.proofs.NodeRowLaws.{NodeRows, rest}
 
 module _ (n : ℕ) (s : Step) (ss : List Step) (c : Cut) (e : RowsOfEntry) (there : StandsThere n s ss c e) where

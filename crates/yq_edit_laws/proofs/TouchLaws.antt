@@ -4,7 +4,7 @@ use Rattle.std.{proofs.Common.{append_assoc, arith}, proofs.lemmas.Bool.le-ltb, 
 use Rattle.yq_row_table.{specs.Items.{Item, items_of_cut, items_text}, proofs.ItemLaws.items_text-append, proofs.KeptLaws.items_apart}
 use Rattle.yq_row_table.specs.Touched.{item_text, in_front, in_back}
 use Rattle.yq_text.specs.Script.{kept_front, kept_back}
-use Rattle.yq_edits.{specs.Local.{InFirst, InLast, LocalTouches}, proofs.ItemsLocal.{first_nothing, item_apart}}
+use Rattle.yq_edit_rules.{specs.Local.{InFirst, InLast, LocalTouches}, proofs.ItemsLocal.{first_nothing, item_apart}}
 
 -- ---- lengths
 

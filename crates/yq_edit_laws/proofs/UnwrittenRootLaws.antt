@@ -12,11 +12,11 @@ use Rattle.yq_row_table.{specs.Splices.{behind_part, first_gap, marker_before, n
 use Rattle.yq_row_table.{proofs.seams.SeamLaws.line_by_break, proofs.NothingLaws.{gap_other, line_end_other}, proofs.PlaceLaws.part_then}
 use Rattle.yq_row_table.{proofs.seams.MarkerSeams.{marker_byte, three_lines, after_some}, proofs.splices.PartPlaces.part_ends}
 use Rattle.yq_row_table.proofs.GapLaws.{some_more}
-use Rattle.yq_edits.{proofs.BlockEndLaws.break_tail, proofs.LaidRows.no_gap_here, specs.DocumentRows.IsDocumentPart}
-use Rattle.yq_edits.{specs.PlacedParts.StandsAt, specs.Rooms.is_block_root, specs.TextPieces.IsPiece}
-use Rattle.yq_edits.{proofs.PartLaws.{document_known, part_numbered}, proofs.PlacedPartLaws.document_stands_at}
-use Rattle.yq_edits.{proofs.TextPieceLaws.text_is_piece, proofs.RemovalPieceLaws.seam_pieces, proofs.BlockLineLaws.break_uncommented}
-use Rattle.yq_edits.specs.ClosedTexts.{is_closed_text}
+use Rattle.yq_edit_rules.{proofs.BlockEndLaws.break_tail, proofs.LaidRows.no_gap_here, specs.DocumentRows.IsDocumentPart}
+use Rattle.yq_edit_rules.{specs.PlacedParts.StandsAt, specs.Rooms.is_block_root, specs.TextPieces.IsPiece}
+use Rattle.yq_edit_rules.{proofs.PartLaws.{document_known, part_numbered}, proofs.PlacedPartLaws.document_stands_at}
+use Rattle.yq_edit_rules.{proofs.TextPieceLaws.text_is_piece, proofs.RemovalPieceLaws.seam_pieces, proofs.BlockLineLaws.break_uncommented}
+use Rattle.yq_edit_rules.specs.ClosedTexts.{is_closed_text}
 use Rattle.yq_documents.{specs.Documents.lead_of, specs.Reading.read_at, specs.Ready.begins_no_node, specs.PartNumbers.part_number}
 use Rattle.yq_places.{specs.PlacedRows.{PlacedPart, before_part, placed_document}, specs.Standings.NoRows, proofs.CommentPieceLaws.gap_end}
 use Rattle.yq_places.{proofs.PlacedPartLaws.part_stands, proofs.RemovalLines.{LineSeam, LiesIn, lies_in, seam_join}}

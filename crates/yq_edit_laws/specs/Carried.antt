@@ -5,7 +5,7 @@ use Rattle.yq_documents.specs.Reading.{documents, read_at}
 use Rattle.yq_semantics.{specs.Judgement.Judgement, specs.Operations.Operation, specs.Plans.plan}
 use Rattle.yq_semantics.{specs.Program.{Program, Update, read, updates}, specs.Rooms.room_of}
 use Rattle.yq_semantics.specs.declared.refusal.Refusal.TheVariants.{NotAnUpdate}
-use Rattle.yq_edits.specs.Edits.{op_edits, or_stay}
+use Rattle.yq_edit_rules.specs.Edits.{op_edits, or_stay}
 use Rattle.yq_edit_laws.specs.Edit.{Edit, refuses, in_order, by_reading, edit_of_segments}
 use Rattle.yq_semantics.specs.Judgement as judgement
 

@@ -7,7 +7,7 @@ use Rattle.yq_flow_edits.specs.FlowPlaces.{PlacedEdit}
 use Rattle.yq_row_table.specs.Rows.{Cut, cut_text}
 use Rattle.yq_places.specs.FlowNodes.{flow_collection}
 use Rattle.yq_text.specs.Script.{Segment, keep, put}
-use Rattle.yq_edits.specs.FlowParts.{flow_more}
+use Rattle.yq_edit_rules.specs.FlowParts.{flow_more}
 
 -- the segments of a text in which the bytes at a place give way to what leads there and to a text that is written
 abbrev pub edit_segments : List ℕ → PlacedEdit → List ℕ → List Segment

@@ -4,7 +4,7 @@ use Rattle.yq_core.{specs.Answers.◌>>=◌, specs.Paths.Step, specs.Tree.{Node,
 use Rattle.yq_row_table.specs.Rows.{Cut}
 use Rattle.yq_documents.specs.Located.{steps_of}
 use Rattle.yq_places.specs.NodesAt.{NodeAt, node_in}
-use Rattle.yq_edits.specs.Edits.{empty_collection, replace_segments, sole_removed}
+use Rattle.yq_edit_rules.specs.Edits.{empty_collection, replace_segments, sole_removed}
 use Rattle.yq_edit_laws.specs.declared.sole.EmptyPut.{EmptyPut}
 use Rattle.yq_places.specs.NodesAt as nodes
 

@@ -5,7 +5,8 @@ use Rattle.yq_row_table.specs.Rows.{Cut, cut_text}
 use Rattle.yq_documents.specs.Reading.{read_at}
 use Rattle.yq_places.{specs.NodesAt.node_in, specs.Standings.{Standing, alone, beside, under, compact, block, root, no_rows, standing_at}}
 use Rattle.yq_semantics.specs.Operations.{replace}
-use Rattle.yq_edits.{specs.EditLaws.IsEdit, specs.Layouts.layout_of, specs.ReplaceEdits.{has_text, value_put}, specs.Replacing.keeps_scalar}
+use Rattle.yq_edit_rules.{specs.EditLaws.IsEdit, specs.Layouts.layout_of, specs.ReplaceEdits.{has_text, value_put}}
+use Rattle.yq_edit_rules.specs.Replacing.{keeps_scalar}
 
 -- whether something stands at an item or entry, or is a node alone on its line
 abbrev pub is_marked : Standing → Bool

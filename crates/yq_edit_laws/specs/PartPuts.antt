@@ -9,7 +9,7 @@ use Rattle.yq_documents.specs.Reading.{cut_of}
 use Rattle.yq_places.{specs.FlowNodes.flow_collection, specs.FlowViews.FlowAgrees, specs.NodesAt.node_in}
 use Rattle.yq_places.{specs.Standings.{FlowPart, flow_standing, last_step}, specs.declared.places.flow_node.FlowHead.FlowHead}
 use Rattle.yq_text.specs.Script.{Segment, keep}
-use Rattle.yq_edits.{specs.FlowParts.{content_written, flow_put, flow_value}, specs.Replacing.keeps_scalar}
+use Rattle.yq_edit_rules.{specs.FlowParts.{content_written, flow_put, flow_value}, specs.Replacing.keeps_scalar}
 use Rattle.yq_edit_laws.{specs.EditPlaces.{LiesIn, moved_on}, specs.declared.put.PartPut.PartPut}
 
 -- a value put in the place of the content of a part, unless that is kept

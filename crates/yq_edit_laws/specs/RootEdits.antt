@@ -5,7 +5,7 @@ use Rattle.yq_row_table.specs.Rows.{Cut, cut_text}
 use Rattle.yq_documents.specs.Reading.{read_at}
 use Rattle.yq_places.specs.Standings.{BlockRoot, NoRows, root, no_rows, standing_at}
 use Rattle.yq_semantics.specs.Operations.{replace}
-use Rattle.yq_edits.{specs.EditLaws.IsEdit, specs.Layouts.layout_of, specs.ReplaceEdits.{no_rows_put, root_put}}
+use Rattle.yq_edit_rules.{specs.EditLaws.IsEdit, specs.Layouts.layout_of, specs.ReplaceEdits.{no_rows_put, root_put}}
 
 -- Replace: a value put in the place of a root that is a block collection.
 abbrev pub RootsArePut : Type 0

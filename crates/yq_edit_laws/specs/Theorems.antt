@@ -7,7 +7,7 @@ use Rattle.yq_semantics.{specs.After.after_op, specs.Fits.Fits, specs.Judgement.
 use Rattle.yq_semantics.{specs.Operations.Operation, specs.Rooms.room_of, specs.RoomsKept.LeavesRooms}
 use Rattle.yq_semantics.{specs.declared.refusal.Refusal.Refusal, specs.declared.refusal.Refusal.TheVariants.{NotAnUpdate, TooLarge}}
 use Rattle.yq_semantics.{specs.Plans.plan, specs.Program.{Program, Update, read, updates}}
-use Rattle.yq_edits.specs.Edits.{op_edits}
+use Rattle.yq_edit_rules.specs.Edits.{op_edits}
 use Rattle.yq_edit_laws.specs.declared.edit_error.EditError.{EditError}
 use Rattle.yq_edit_laws.specs.declared.edit_error.EditError.TheVariants as error
 

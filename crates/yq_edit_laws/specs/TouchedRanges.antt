@@ -8,7 +8,7 @@ use Rattle.yq_row_table.{specs.Items.{Item, items_of_cut, items_text}, specs.Row
 use Rattle.yq_row_table.specs.Touched.{TouchesOnly, in_front, item_text}
 use Rattle.yq_documents.specs.Reading.{documents, read_at}
 use Rattle.yq_semantics.{specs.Fits.Fits, specs.Operations.Operation, specs.Rooms.room_of}
-use Rattle.yq_edits.{specs.Edits.op_edits, specs.Operands.HasOperand}
+use Rattle.yq_edit_rules.{specs.Edits.op_edits, specs.Operands.HasOperand}
 
 -- ---- touched items
 

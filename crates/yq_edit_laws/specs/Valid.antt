@@ -4,7 +4,7 @@ use Rattle.yq_row_table.specs.Rows.{Cut}
 use Rattle.yq_documents.specs.Documents.{Document, ReadsDocuments}
 use Rattle.yq_semantics.{specs.Operations.Operation, specs.Rooms.room_of, specs.RoomsKept.MayFollow, specs.Program.{Update, updates}}
 use Rattle.yq_text.{specs.Splice.Splice, specs.Script.Segment}
-use Rattle.yq_edits.{specs.Edits.{op_edits, or_stay}, specs.Operands.HasOperand}
+use Rattle.yq_edit_rules.{specs.Edits.{op_edits, or_stay}, specs.Operands.HasOperand}
 use Rattle.yq_edit_laws.{specs.Answers.EditFails, specs.Carried.updated, specs.Edit.in_order}
 use Rattle.yq_edit_laws.{specs.Theorems.{IsUpdated, UpdateRefused, HasReading, EditRefused}, specs.declared.edit_error.EditError.EditError}
 use Rattle.yq_edit_laws.specs.Edit as edit

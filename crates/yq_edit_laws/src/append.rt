@@ -3,7 +3,7 @@ ghost use Rattle.std.specs.Prelude.{◌≡◌, IfOk, string_bytes};
 ghost use Rattle.yq_core.{specs.Nodes.key_text, specs.Values.value_node, specs.View.inline_view, specs.NodesWritten.{flow_key, flow_text}};
 ghost use Rattle.yq_outline.specs.Bodies.{borrowed};
 ghost use Rattle.yq_documents.{specs.Located.steps_of, specs.Reading.cut_of};
-ghost use Rattle.yq_edits.specs.Answers.{GivesSegments};
+ghost use Rattle.yq_edit_rules.specs.Answers.{GivesSegments};
 ghost use Rattle.yq_edit_laws.specs.EditPlaces as spec;
 
 use crate::edit::{collection_in, edit_at};

@@ -6,7 +6,7 @@ ghost use Rattle.yq_flow_edits.specs.FlowPlaces.{edit_view};
 ghost use Rattle.yq_row_table.specs.Rows.{cut_text};
 ghost use Rattle.yq_documents.specs.Reading.{cut_of};
 ghost use Rattle.yq_places.specs.FlowViews.{behind_anchor, collection_view};
-ghost use Rattle.yq_edits.specs.Answers.{GivesSegments};
+ghost use Rattle.yq_edit_rules.specs.Answers.{GivesSegments};
 ghost use Rattle.yq_places.specs.Standings as standings;
 ghost use Rattle.yq_edit_laws.specs.EditPlaces as spec;
 

@@ -1,7 +1,8 @@
 //! Laws on what operations exchange.
-ghost use Rattle.yq_edits.{specs.StandingLaws.HeldSpells, specs.Local.LocalTouches, specs.RowChanges.{LineCommentsChangeRows, RowEdits}};
+ghost use Rattle.yq_edit_rules.{specs.StandingLaws.HeldSpells, specs.Local.LocalTouches};
+ghost use Rattle.yq_edit_rules.specs.RowChanges.{LineCommentsChangeRows, RowEdits};
 ghost use Rattle.yq_edit_laws.specs.TouchedRanges.{EditsAreNear, NearAreTouched};
-ghost use Rattle.yq_edits.specs.EditLaws as laws;
+ghost use Rattle.yq_edit_rules.specs.EditLaws as laws;
 
 /// An equal scalar leaves all bytes.
 pub fn equal_scalars_stay()

@@ -1,6 +1,6 @@
 //! Laws on edits of flow collections, and on what stands where a node is.
-ghost use Rattle.yq_edits.specs.StandingLaws.{EntriesStand, RootsStand};
-ghost use Rattle.yq_edits.specs.EditLaws.{FlowMoreIsPut, FlowPartIsRemoved, FlowValuesArePut, SoleIsRemoved, AppendHasEdit};
+ghost use Rattle.yq_edit_rules.specs.StandingLaws.{EntriesStand, RootsStand};
+ghost use Rattle.yq_edit_rules.specs.EditLaws.{FlowMoreIsPut, FlowPartIsRemoved, FlowValuesArePut, SoleIsRemoved, AppendHasEdit};
 ghost use Rattle.yq_edit_laws.specs.Emptying.{SoleByEmptying};
 
 /// What is exchanged in a flow collection carries out the operation.

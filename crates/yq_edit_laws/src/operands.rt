@@ -4,7 +4,7 @@ ghost use Rattle.std.{specs.Prelude.{option_map, string_bytes, true, false}, spe
 ghost use Rattle.yq_flow_edits.specs.Valued.{AreValueTrees, IsValid, IsValueTree};
 ghost use Rattle.yq_core.specs.Values.{entries_of, items_of, value_node};
 ghost use Rattle.yq_semantics.specs.Operations.{operation_of, operations_of};
-ghost use Rattle.yq_edits.specs.Operands.{HasOperand, KeyIsUtf8};
+ghost use Rattle.yq_edit_rules.specs.Operands.{HasOperand, KeyIsUtf8};
 ghost use Rattle.yq_edit_laws.specs.Valid.{HaveOperands};
 
 use yq_core::{Scalar, Value};

@@ -3,7 +3,7 @@ ghost use Rattle.std.specs.Prelude.{◌≡◌, IfOk, Some};
 ghost use Rattle.yq_core.{specs.Trees.placed_tree, specs.Values.value_node, specs.View.inline_view};
 ghost use Rattle.yq_documents.{specs.Located.steps_of, specs.Reading.cut_of};
 ghost use Rattle.yq_places.specs.NodesAt.{scalar_in};
-ghost use Rattle.yq_edits.{specs.Answers.GivesSegments, specs.Replacing.{are_same, keeps_scalar}};
+ghost use Rattle.yq_edit_rules.{specs.Answers.GivesSegments, specs.Replacing.{are_same, keeps_scalar}};
 ghost use Rattle.yq_places.specs.Standings as standings;
 ghost use Rattle.yq_edit_laws.specs.PartPuts as spec;
 
@@ -11,7 +11,7 @@ use crate::edit::{bytes_at, collection_in, edit_at, last_step, unchanged};
 use std::alloc::{AllocError, Global};
 use yq_core::{Form, Inline, Kind, Place, Value};
 use yq_documents::Path;
-use yq_edits::value_text;
+use yq_edit_rules::value_text;
 use yq_flow_edits::{EditPlace, replace_place};
 use yq_lookup::CutText;
 use yq_places::FlowHead;

@@ -1,7 +1,7 @@
 //! Items and entries removed from flow collections.
 ghost use Rattle.yq_documents.{specs.Located.steps_of, specs.Reading.cut_of};
 ghost use Rattle.yq_places.specs.Standings.{last_step};
-ghost use Rattle.yq_edits.{specs.Answers.GivesSegments, specs.Edits.part_removed};
+ghost use Rattle.yq_edit_rules.{specs.Answers.GivesSegments, specs.Edits.part_removed};
 
 use crate::edit::{collection_in, edit_at, last_step};
 use std::alloc::{AllocError, Global};

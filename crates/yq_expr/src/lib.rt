@@ -14,7 +14,7 @@ pub use placed::push_change;
 pub use planning::plan;
 pub use yq_core::Value;
 pub use yq_eval::{Match, matches};
-pub use yq_parser::{ParseError, one_program, parse_expr};
+pub use yq_expr_parser::{ParseError, one_program, parse_expr};
 pub use yq_semantics::{
     Assignment, Comment, CommentPlace, Comparison, Condition, ExprError, Op, Operand, Operator,
     PathStep, Program, Refusal, Stage, Syntax, Term, Update, changes_apart, copied_steps,

@@ -7,9 +7,9 @@ ghost use Rattle.yq_documents.{specs.Located.steps_of, specs.Reading.cut_of};
 ghost use Rattle.yq_places.{specs.NodesAt.node_in, specs.Standings.last_step};
 ghost use Rattle.yq_semantics.specs.Operations.{operation_of};
 ghost use Rattle.yq_text.specs.Script.{keep};
-ghost use Rattle.yq_edits.{specs.Answers.GivesSegments, specs.Replacing.keeps_scalar as is_kept_there};
-ghost use Rattle.yq_edits.specs.ReplaceEdits.{value_put_at as value_put_there};
-ghost use Rattle.yq_edits.specs.Edits as spec;
+ghost use Rattle.yq_edit_rules.{specs.Answers.GivesSegments, specs.Replacing.keeps_scalar as is_kept_there};
+ghost use Rattle.yq_edit_rules.specs.ReplaceEdits.{value_put_at as value_put_there};
+ghost use Rattle.yq_edit_rules.specs.Edits as spec;
 
 use std::alloc::{AllocError, Global};
 use yq_block_edits::{

@@ -4,7 +4,7 @@ ghost use Rattle.yq_text.{specs.Halves.whole, specs.Changing.IsChange};
 ghost use Rattle.yq_documents.{specs.Located.steps_of, specs.Reading.cut_of};
 ghost use Rattle.yq_semantics.specs.Operations.{operation_of, remove};
 ghost use Rattle.yq_places.{specs.RemovalReading.removal_view, specs.Standings.last_step};
-ghost use Rattle.yq_edits.{specs.Edits.part_removed, specs.Removing.rows_removed};
+ghost use Rattle.yq_edit_rules.{specs.Edits.part_removed, specs.Removing.rows_removed};
 ghost use Rattle.yq_edit_laws.{specs.Answers.EditFails, specs.Carried.carry_one, specs.Valid.segments_by};
 ghost use Rattle.yq_operation.specs.RowsGone.{IsSmall};
 

@@ -15,7 +15,7 @@ use Rattle.yq_outline.{specs.RowWalk.AreKnown, specs.declared.line_position.Know
 use Rattle.yq_places.specs.RowWalk.{StayKnown}
 use Rattle.yq_semantics.{specs.Fits.Fits, specs.Operations.Operation, specs.Rooms.room_of}
 use Rattle.yq_rows.{specs.Following.{ArePlacesOf, CountsWritten, Follows, exchanged, read_text}, specs.declared.kept.Kept.Kept}
-use Rattle.yq_edits.{specs.Edits.{op_edits, or_stay}, specs.Local.IsLocalTo, specs.Operands.HasOperand}
+use Rattle.yq_edit_rules.{specs.Edits.{op_edits, or_stay}, specs.Local.IsLocalTo, specs.Operands.HasOperand}
 use Rattle.yq_edit_laws.{specs.TouchedRanges.IsLocalEdit, proofs.NearLaws.edits_are_near, proofs.TouchLaws.local_touches}
 use Rattle.yq_edit_laws.{proofs.TouchedLaws.near_touched, proofs.CutLaws.{cut_read, cut_same, text_read}, specs.Carried.carried}
 use Rattle.yq_edit_laws.{specs.Edit.gives, specs.Theorems.{IsFitting, IsApplied}, specs.Valid.segments_by}

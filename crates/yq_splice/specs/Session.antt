@@ -8,7 +8,7 @@ use Rattle.yq_outline.{specs.RowWalk.AreKnown, specs.declared.line_position.Know
 use Rattle.yq_semantics.specs.Operations.{Operation}
 use Rattle.yq_text.{specs.Script.{Segment, kept_front, kept_back, new_text}, specs.Splice.Splice}
 use Rattle.yq_rows.{specs.Following.read_text, specs.declared.kept.Kept.Kept}
-use Rattle.yq_edits.specs.Edits.{op_edits}
+use Rattle.yq_edit_rules.specs.Edits.{op_edits}
 use Rattle.yq_edit_laws.{specs.TouchedRanges.PutAreTouched, specs.Theorems.HasReading}
 use Rattle.yq_core.specs.declared.fault.ReadError.TheVariants as reading
 

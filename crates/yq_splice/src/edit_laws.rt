@@ -1,5 +1,5 @@
 //! Laws on what operations exchange.
-ghost use Rattle.yq_edits.specs.EditLaws.{EditsCarryOut, FittingHasEdit};
+ghost use Rattle.yq_edit_rules.specs.EditLaws.{EditsCarryOut, FittingHasEdit};
 
 /// What an operation exchanges are segments of the text; where it fits, they make of it a text that
 /// reads as the documents after it, and exchange the rows and ends of parts that they touch, and no

@@ -2,13 +2,13 @@
 ghost use Rattle.std.specs.Prelude.{◌≡◌, [], IfOk, true};
 ghost use Rattle.yq_core.{specs.Values.value_node, specs.BlockWritten.break_text, specs.Writable.is_string};
 ghost use Rattle.yq_places.{specs.NodesAt.scalar_in, specs.StandingViews.{held_view, held_mark_view}};
-ghost use Rattle.yq_edits.specs.WrittenValues.{column_under, lines, lines_in, written_at};
-ghost use Rattle.yq_edits.specs.ReplaceEdits as spec;
+ghost use Rattle.yq_edit_rules.specs.WrittenValues.{column_under, lines, lines_in, written_at};
+ghost use Rattle.yq_edit_rules.specs.ReplaceEdits as spec;
 
 use crate::replace::held::{put_filled, put_inline};
 use std::alloc::{AllocError, Global};
 use yq_core::{Kind, Place, Scalar, Style, Value};
-use yq_edits::{Layout, is_filled, lines_and_break, takes_compact, value_text};
+use yq_edit_rules::{Layout, is_filled, lines_and_break, takes_compact, value_text};
 use yq_places::Held;
 use yq_scalar::{write_block, write_scalar};
 use yq_scalar_reader::can_write;

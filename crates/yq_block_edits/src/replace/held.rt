@@ -2,15 +2,15 @@
 ghost use Rattle.std.specs.Prelude.{◌≡◌, ℕ, List, [], false, IfOk, if◌then◌else◌, string_bytes};
 ghost use Rattle.yq_core.{specs.Values.value_node, specs.BlockWritten.break_text};
 ghost use Rattle.yq_places.specs.StandingViews.{compact_view, held_view, held_mark_view};
-ghost use Rattle.yq_edits.{specs.BlockReading.is_filled as filled, specs.BlockRows.item_column, specs.BlockText.block_value};
-ghost use Rattle.yq_edits.specs.declared.layout.Layout.{Layout as LayoutOf};
-ghost use Rattle.yq_edits.specs.ReplaceEdits as spec;
-ghost use Rattle.yq_edits.specs.WrittenValues as written;
+ghost use Rattle.yq_edit_rules.{specs.BlockReading.is_filled as filled, specs.BlockRows.item_column, specs.BlockText.block_value};
+ghost use Rattle.yq_edit_rules.specs.declared.layout.Layout.{Layout as LayoutOf};
+ghost use Rattle.yq_edit_rules.specs.ReplaceEdits as spec;
+ghost use Rattle.yq_edit_rules.specs.WrittenValues as written;
 
 use crate::apart;
 use std::alloc::{AllocError, Global};
 use yq_core::{Place, Value};
-use yq_edits::{
+use yq_edit_rules::{
     Layout, behind_space, break_and_lines, compact_text, is_filled, takes_compact, value_text,
 };
 use yq_places::{Compact, Held};

@@ -2,7 +2,7 @@ use Rattle.std.{proofs.Common.{◌≡◌, ◌∙◌, Bool, Bor, IfOk, List, Opti
 use Rattle.yq_core.specs.Values.{value_node}
 use Rattle.yq_outline.specs.Bodies.{borrowed}
 use Rattle.yq_documents.specs.Reading.{cut_of}
-use Rattle.yq_edits.{specs.Layouts.{LooksLike, layout_of}, proofs.LayoutLaws.more_like}
+use Rattle.yq_edit_rules.{specs.Layouts.{LooksLike, layout_of}, proofs.LayoutLaws.more_like}
 use Rattle.yq_block_edits.proofs.append.more_lines.Goals as goal
 
 some_borrowed : (key : Option (Bor (List ℕ))) → is_some key ≡ is_some (borrowed key)

@@ -1,6 +1,6 @@
 use Rattle.std.proofs.Common.{◌≡◌, drop}
 use Rattle.yq_core.specs.Values.{entries_of, items_of}
-use Rattle.yq_edits.specs.Layouts.{children_ask}
+use Rattle.yq_edit_rules.specs.Layouts.{children_ask}
 use Rattle.yq_block_edits.proofs.asked.+asks.Given as goal
 
 abbrev pub invariant-items_ask-each : goal.invariant-items_ask-each

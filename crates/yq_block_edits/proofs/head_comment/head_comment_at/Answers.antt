@@ -3,7 +3,7 @@ use Rattle.yq_core.specs.BlockWritten.{break_text}
 use Rattle.yq_row_table.specs.Rows.{cut_text}
 use Rattle.yq_documents.{specs.Located.steps_of, specs.Reading.cut_of}
 use Rattle.yq_places.{specs.CommentPlaces.lines_above, specs.CommentViews.above_view, specs.FirstBreak.first_break}
-use Rattle.yq_edits.specs.CommentEdits.{head_comment_segments}
+use Rattle.yq_edit_rules.specs.CommentEdits.{head_comment_segments}
 use Rattle.yq_block_edits.proofs.AboveLaws.{head_there}
 use Rattle.yq_block_edits.proofs.head_comment.head_comment_at.Goals as goal
 

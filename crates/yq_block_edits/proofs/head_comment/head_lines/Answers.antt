@@ -1,8 +1,8 @@
 use Rattle.std.{proofs.Common.{ℕ, List, ◌++◌, ap, rules, string_bytes, arith}, proofs.lemmas.Str.Pattern.split_parts}
 use Rattle.yq_core.proofs.BlockSteps.{some_left}
-use Rattle.yq_edits.proofs.CommentPieceLaws.{loop_more, loop_done}
+use Rattle.yq_edit_rules.proofs.CommentPieceLaws.{loop_more, loop_done}
 use Rattle.yq_semantics.specs.Meaning.{split_lines}
-use Rattle.yq_edits.specs.CommentEdits as spec
+use Rattle.yq_edit_rules.specs.CommentEdits as spec
 use Rattle.yq_block_edits.proofs.head_comment.head_lines.Goals as goal
 
 pub lines-preserved : goal.lines-preserved

@@ -2,7 +2,7 @@ use Rattle.std.proofs.Common.{◌≡◌, ◌++◌, string_bytes, length}
 use denote.Text.{Utf8}
 use denote.Shadow.{shadow}
 use Rattle.yq_semantics.specs.Meaning.{split_lines}
-use Rattle.yq_edits.specs.CommentEdits as spec
+use Rattle.yq_edit_rules.specs.CommentEdits as spec
 use Rattle.yq_block_edits.proofs.head_comment.head_lines.Given as goal
 
 abbrev pub invariant-lines : goal.invariant-lines

@@ -1,7 +1,7 @@
 use Rattle.std.proofs.Common.{Some, option_map, sym, ap, ◌∙◌}
 use Rattle.yq_documents.{specs.Located.steps_of, specs.Reading.cut_of}
 use Rattle.yq_places.specs.NodesAt.{node_in, scalar_in, scalar_view}
-use Rattle.yq_edits.{specs.Replacing.are_same, proofs.ScalarAnswers.{kept_agrees, no_scalar, not_kept}}
+use Rattle.yq_edit_rules.{specs.Replacing.are_same, proofs.ScalarAnswers.{kept_agrees, no_scalar, not_kept}}
 use Rattle.yq_core.specs.Values as values
 use Rattle.yq_block_edits.proofs.kept.is_kept.Goals as goal
 

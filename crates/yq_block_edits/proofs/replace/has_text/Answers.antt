@@ -2,7 +2,7 @@ use Rattle.std.{proofs.Common.{option_map, sym, ap, ◌∙◌}, specs.List.list_
 use Rattle.yq_core.specs.Text.{is_feed}
 use Rattle.yq_documents.{specs.Located.steps_of, specs.Reading.cut_of}
 use Rattle.yq_places.specs.NodesAt.{node_in, scalar_view}
-use Rattle.yq_edits.proofs.ScalarAnswers.{no_text, has_text_agrees}
+use Rattle.yq_edit_rules.proofs.ScalarAnswers.{no_text, has_text_agrees}
 use Rattle.yq_block_edits.proofs.replace.has_text.Goals as goal
 
 pub returns-in_default : goal.returns-in_default

@@ -5,7 +5,7 @@ use Rattle.yq_flow_edits.specs.FlowPlaces.{edit_view}
 use Rattle.yq_outline.specs.Bodies.{borrowed}
 use Rattle.yq_documents.{specs.Located.steps_of, specs.Reading.cut_of}
 use Rattle.yq_places.{specs.FlowNodes.flow_collection, specs.FlowViews.FlowAgrees}
-use Rattle.yq_edits.specs.Answers.{GivesSegments}
+use Rattle.yq_edit_rules.specs.Answers.{GivesSegments}
 use Rattle.yq_edit_laws.{specs.EditPlaces.{edit_segments, moved_on}, proofs.AppendAnswers.{more_apart, more_found}}
 use Rattle.yq_edit_laws.proofs.FlowAnswers.{coll_found, whole_text}
 use Rattle.yq_edit_laws.proofs.append.append_in_flow.Goals as goal

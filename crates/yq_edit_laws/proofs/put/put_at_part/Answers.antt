@@ -3,7 +3,7 @@ use Rattle.yq_core.{specs.Answers.◌>>=◌, specs.declared.style.Place.TheVaria
 use Rattle.yq_core.{specs.Entries.{entry_view, tree_step}, specs.Values.value_node, specs.View.inline_view, specs.Tree.Node}
 use Rattle.yq_documents.{specs.Located.steps_of, specs.Reading.cut_of}
 use Rattle.yq_places.specs.Standings.{flow_part, flow_standing, last_step}
-use Rattle.yq_edits.{specs.Replacing.keeps_scalar, specs.WrittenValues.value_text}
+use Rattle.yq_edit_rules.{specs.Replacing.keeps_scalar, specs.WrittenValues.value_text}
 use Rattle.yq_edit_laws.{specs.PartPuts.IsHeadOfPath, proofs.FlowAnswers.coll_found}
 use Rattle.yq_edit_laws.proofs.PutAnswers.{content_missing, no_collection, node_there, place_found, standing_there, text_found}
 use Rattle.yq_edit_laws.proofs.put.put_at_part.Goals as goal

@@ -4,7 +4,7 @@ use Rattle.yq_core.{specs.Entries.tree_step, specs.Values.value_node}
 use Rattle.yq_documents.{specs.Located.steps_of, specs.Reading.cut_of}
 use Rattle.yq_flow_edits.specs.FlowPlaces.{edit_view}
 use Rattle.yq_places.{specs.FlowNodes.flow_collection, specs.FlowViews.FlowAgrees, specs.Standings.last_step}
-use Rattle.yq_edits.specs.Answers.{GivesSegments}
+use Rattle.yq_edit_rules.specs.Answers.{GivesSegments}
 use Rattle.yq_edit_laws.{specs.EditPlaces.{LiesIn, moved_on}, specs.PartPuts.{ArePuts, IsHeadOfPath}, proofs.FlowAnswers.whole_text}
 use Rattle.yq_edit_laws.proofs.PutAnswers.{puts_none, puts_written}
 use Rattle.yq_edit_laws.proofs.put.put_in_flow.Goals as goal

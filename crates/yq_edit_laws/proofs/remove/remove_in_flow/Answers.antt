@@ -4,7 +4,7 @@ use Rattle.yq_core.{specs.Entries.tree_step, specs.View.inline_view}
 use Rattle.yq_flow_edits.specs.FlowPlaces.{edit_view}
 use Rattle.yq_documents.specs.Located.{steps_of}
 use Rattle.yq_places.specs.Standings.{last_step}
-use Rattle.yq_edits.specs.Answers.{GivesSegments}
+use Rattle.yq_edit_rules.specs.Answers.{GivesSegments}
 use Rattle.yq_edit_laws.{specs.EditPlaces.{edit_segments, moved_on}, proofs.FlowAnswers.{coll_found, whole_text}}
 use Rattle.yq_edit_laws.proofs.RemoveAnswers.{removal_found, removal_missing}
 use Rattle.yq_edit_laws.proofs.remove.remove_in_flow.Goals as goal

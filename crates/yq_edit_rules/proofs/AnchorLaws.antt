@@ -1,0 +1,81 @@
+-- Anchors of lines, and keys of rows, where some give way to others.
+use Rattle.std.proofs.Common.{◌≡◌, ℕ, List, [], ◌∷◌, ◌++◌, Option, Some, None, refl, sym, ap, ◌∙◌, subst, rules}
+use Rattle.std.proofs.lemmas.Option.{same_Some}
+use Rattle.yq_row_table.specs.Rows.{Row}
+use Rattle.yq_outline.{specs.LineAnchors.{IsFree, HaveOneAnchorEach}, specs.Outline.{Line, level, Outline, end, row, flatten}}
+use Rattle.yq_outline.specs.Places.{Context, here, below, beside, lines_before, lines_after, FoundLine}
+use Rattle.yq_outline.{proofs.Allowing.{Allows, IsCollection}, proofs.Plug.headless_entry, proofs.NameLaws.{each_front, each_back}}
+use Rattle.yq_documents.specs.Documents.{HaveFitKeys}
+use Rattle.yq_places.proofs.FlowViewLaws.{before_under}
+use Rattle.yq_edit_rules.specs.Conditions.{last_anchor, BeginsEntry, AnchorsStay, LinesAmong}
+use Rattle.yq_edit_rules.specs.Siblings.{IsEntry, NodeLines, under_line}
+use Rattle.yq_edit_rules.{proofs.NodeLineLaws.{after_under, Under, lines_found, under_even}, proofs.SiblingLaws.{next, entry_out}}
+use Rattle.yq_outline.proofs.Allowing as allowing
+
+-- an anchor before lines, where more follow
+free_longer : (a : Option (List ℕ)) (xs ys : List Line) → IsFree a xs → BeginsEntry ys → IsFree a (xs ++ ys)
+free_longer a xs ys h1 h2 = search rules
+
+each_join : (xs ys : List Line) → HaveOneAnchorEach xs → HaveOneAnchorEach ys → IsFree (last_anchor xs) ys → HaveOneAnchorEach (xs ++ ys)
+each_join [] ys h k f = k
+each_join (l ∷ []) ys h k f = (f, k)
+each_join (l ∷ (m ∷ xs)) ys h k f = (first l.anchor h.0, each_join (m ∷ xs) ys h.1 k f)
+  where
+    first : (a : Option (List ℕ)) → IsFree a (m ∷ xs) → IsFree a (m ∷ (xs ++ ys))
+    first None h = tt
+    first (Some a) h = h
+
+pub any_free : (a : Option (List ℕ)) (ys : List Line) → BeginsEntry ys → IsFree a ys
+any_free a ys e = free_longer a [] ys (none a) e
+  where
+    none : (a : Option (List ℕ)) → IsFree a []
+    none None = tt
+    none (Some a) = tt
+
+pub anchors_stay : AnchorsStay
+anchors_stay before gone come after h new free anew =
+    let back : HaveOneAnchorEach after = each_back gone after (each_back before (gone ++ after) h) in
+    each_join before (come ++ after) (each_front before (gone ++ after) h) (each_join come after new back (any_free (last_anchor come) after anew)) (free_longer (last_anchor before) come after free anew)
+
+-- the lines behind a place begin with an entry
+pub collection_anew : (o : Outline) → IsCollection o → BeginsEntry (flatten o)
+collection_anew end c = tt
+collection_anew (row l u a) c = entry_out l.mark c
+
+pub both_anew : (xs ys : List Line) → BeginsEntry xs → BeginsEntry ys → BeginsEntry (xs ++ ys)
+both_anew [] ys h k = k
+both_anew (l ∷ xs) ys h k = h
+
+pub after_anew : (n m : ℕ) (p : Context) → Allows n p m → BeginsEntry (lines_after p)
+after_anew n m here h = tt
+after_anew n m (below l p a) h = both_anew (lines_after p) (flatten a) (after_anew h.3.0 m p h.3.2) (collection_anew a (next n l a h.2 h.0 h.4))
+after_anew n m (beside l u p) h = after_anew n m p h.4
+
+last_is : (xs : List Line) (l : Line) → last_anchor (xs ++ (l ∷ [])) ≡ l.anchor
+last_is [] l = refl
+last_is (k ∷ []) l = refl
+last_is (k ∷ (m ∷ xs)) l = last_is (m ∷ xs) l
+
+pub lines_among : LinesAmong
+lines_among n o [] h even e = subst (λ (x : NodeLines). BeginsEntry (lines_after x.place) × (last_anchor (lines_before x.place) ≡ x.anchor)) (same_Some _ _ e) (tt, refl)
+lines_among n o (s ∷ ss) h even e = found (lines_found s ss o h e)
+  where
+    found : Under s ss o h → BeginsEntry (lines_after h.place) × (last_anchor (lines_before h.place) ≡ h.anchor)
+    found w =
+        let f : FoundLine = w.found in
+        let old = under_even n o s ss f even w.is in
+        let entry : allowing.IsEntry f.line.mark = headless_entry f.line.mark f.line.head f.after w.open' (old.1).2 in
+        let after : BeginsEntry (flatten f.after) = collection_anew f.after (next (level f.line) f.line f.after entry refl (old.1).4) in
+        let behind : BeginsEntry (lines_after (under_line f).place) =
+        subst BeginsEntry (sym (after_under f.place f.line f.after)) (both_anew (flatten f.after) (lines_after f.place) after (after_anew n (level f.line) f.place old.0)) in
+        let anchor : last_anchor (lines_before (under_line f).place) ≡ f.line.anchor = ap last_anchor (before_under f.place f.line f.after) ∙ last_is (lines_before f.place) f.line in
+        subst (λ (x : NodeLines). BeginsEntry (lines_after x.place) × (last_anchor (lines_before x.place) ≡ x.anchor)) w.place_is (behind, anchor)
+
+-- keys
+pub fit_parts : (xs ys : List Row) → HaveFitKeys (xs ++ ys) → HaveFitKeys xs × HaveFitKeys ys
+fit_parts [] ys h = (tt, h)
+fit_parts (r ∷ xs) ys h = let k = fit_parts xs ys h.2 in ((h.0, h.1, k.0), k.1)
+
+pub fit_from : (xs ys : List Row) → HaveFitKeys xs → HaveFitKeys ys → HaveFitKeys (xs ++ ys)
+fit_from [] ys h k = k
+fit_from (r ∷ xs) ys h k = (h.0, h.1, fit_from xs ys h.2 k)

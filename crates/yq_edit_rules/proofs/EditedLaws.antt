@@ -1,0 +1,235 @@
+-- Texts with other lines in one document.
+use Rattle.std.proofs.Common.{◌≡◌, ℕ, List, [], ◌∷◌, ◌++◌, Option, Some, None, true, refl, sym, ap, ◌∙◌, subst, append_assoc, rules}
+use Rattle.std.proofs.lemmas.Option.{same_Some}
+use Rattle.yq_core.specs.Keys.{HasUniqueKeys, depth}
+use Rattle.yq_core.specs.Paths.{Step, append_child, changed_at, node_at, relabel_child, remove_child, within}
+use Rattle.yq_core.{specs.Tree.{Label, Node, Children, child, children_of}, proofs.Bools.guard_then, specs.Anchors.names_of}
+use Rattle.yq_outline.{specs.Comments.head_comment, specs.LineAnchors.{IsFree, HaveOneAnchorEach}, specs.Group.level_or}
+use Rattle.yq_outline.{specs.Laws.with_lines, specs.Lines.lines_of_rows}
+use Rattle.yq_outline.specs.Outline.{LineMark, Bare, Key, Dash, Line, level, Outline, end, row, flatten, IsWhole, IsEven, anchored, head_or}
+use Rattle.yq_outline.specs.Outline.{label, outline_node, children, value}
+use Rattle.yq_outline.{specs.Places.{lines_before, lines_after, plug, FoundLine, find, content_under}, proofs.Allowing.Allows}
+use Rattle.yq_outline.{proofs.Decides.{flatten-group, even_from}, proofs.Finding.{IsFoundIn, FoundNode, path_node, path_whole}}
+use Rattle.yq_outline.{proofs.PlaceLaws.{at, exchanged}, proofs.Plug.allows_from, proofs.Values.{same_rank, same_entry}}
+use Rattle.yq_outline.{proofs.NameLaws.{each_front, each_back}, proofs.NodeLaws.anchored_none}
+use Rattle.yq_row_table.specs.Rows.{Part, Cut}
+use Rattle.yq_documents.{specs.Documents.{document_parts, lead_of}, specs.Reading.{is_document, part_outline, read_at, root_of}}
+use Rattle.yq_documents.{proofs.DocumentLaws.document_is, proofs.ReadLaws.text_takes, specs.TreeEdits.headed}
+use Rattle.yq_places.proofs.RowPathLaws.{document_fine}
+use Rattle.yq_edit_rules.{specs.Changed.{IsChanged, put_document, first_comment}, specs.Conditions.{last_anchor, BeginsEntry}}
+use Rattle.yq_edit_rules.specs.Edited.{IsPut, OldIsEven, OldIsSound, LinesAreThere, LineExchanged, LinesExchanged, LinesAppended}
+use Rattle.yq_edit_rules.{specs.Edited.{LinesRemoved, LineRelabelled, LeadIsAbove, first_above, RootHasLead}, specs.SoundRoots.IsSoundRoot}
+use Rattle.yq_edit_rules.specs.Siblings.{append_outline, IsEntry, HasEntries, NodeLines, put_lines, StandsSomewhere}
+use Rattle.yq_edit_rules.proofs.AnchorLaws.{any_free, anchors_stay, after_anew, both_anew, collection_anew, lines_among}
+use Rattle.yq_edit_rules.proofs.ChangedLaws.{document_changed, lead_is_first}
+use Rattle.yq_edit_rules.proofs.CollectionLaws.{Splits, some_at, level_mark, appended, removed, relabelled}
+use Rattle.yq_edit_rules.proofs.NodeLineLaws.{Under, lines_found, lines_even, lines_replaced}
+use Rattle.yq_edit_rules.{proofs.SiblingLaws.{entry_out, entries, even_right, next, rest_entries}, proofs.PartLaws.all_at}
+use Rattle.yq_edit_rules.proofs.PlacedLaws.{around}
+use Rattle.yq_outline.proofs.Allowing as allowing
+
+-- What is known of a part that is a document.
+pub record Known (p : Part) : Type 0 where
+  pub even : IsEven (level_or 0 (part_outline p)) (part_outline p)
+  pub lines : flatten (part_outline p) ≡ lines_of_rows p.rows
+  pub each : HaveOneAnchorEach (lines_of_rows p.rows)
+  pub sound : IsSoundRoot (root_of p)
+
+pub known : (t : List ℕ) (c : Cut) (k : ℕ) (p q : Part) → IsPut t c k p q → Known p
+unfolding read_at
+known t c k p q h =
+    let old = text_takes t c (guard_then _ h.read).1 in
+    let doc : is_document p ≡ true = all_at (document_parts c) k p old.1 h.there in
+    let is = document_is p doc in
+    record {
+      even = even_from _ _ (document_fine p doc);
+      lines = flatten-group (lines_of_rows p.rows);
+      each = is.anchors;
+      sound = record { unique = is.unique; nested = is.nested; bound = is.bound };
+    }
+
+pub old_is_sound : OldIsSound
+old_is_sound t c k p q h = (known t c k p q h).sound
+
+pub old_is_even : OldIsEven
+old_is_even t c k p q h = (known t c k p q h).even
+
+-- the new text reads as the document changed
+finish : (t : List ℕ) (c : Cut) (k : ℕ) (p q : Part) (f : Node → Node) → IsPut t c k p q → StandsSomewhere (lines_of_rows q.rows) (f (root_of p)) → HaveOneAnchorEach (lines_of_rows q.rows) →
+    IsSoundRoot (f (root_of p)) →
+    IsChanged c (put_document k q c) k (lead_of q) f
+finish t c k p q f h stands each sound =
+    document_changed t c k p q f h.read h.there h.rows h.utf8 h.cut
+    (record { stands = stands; keys = h.keys; unique = sound.unique; nested = sound.nested; anchors = each; bound = sound.bound; short = h.short })
+
+pub lines_are_there : LinesAreThere
+lines_are_there [] o h e = subst (λ (x : NodeLines). Some (value o) ≡ Some (anchored x.anchor (value x.lines))) (same_Some _ _ e) (ap Some (sym (anchored_none (value o))))
+lines_are_there (s ∷ ss) o h e = found (lines_found s ss o h e)
+  where
+    found : Under s ss o h → node_at (s ∷ ss) (value o) ≡ Some (anchored h.anchor (value h.lines))
+    found w =
+        let f : FoundLine = w.found in
+        let there : node_at (s ∷ ss) (value o) ≡ Some (content_under f.line f.under) = path_node s ss o ∙ ap FoundNode w.is in
+        let same : content_under f.line f.under ≡ anchored f.line.anchor (value f.under) = ap (λ x. anchored f.line.anchor (head_or x (value f.under))) w.open' in
+        subst (λ (x : NodeLines). node_at (s ∷ ss) (value o) ≡ Some (anchored x.anchor (value x.lines))) w.place_is (there ∙ ap Some same)
+
+-- leads
+first_same : (d e : List (List ℕ)) (before : List Line) (l m : Line) (ls ms : List Line) → m.head_comment ≡ l.head_comment → first_comment d (before ++ (m ∷ ms)) ≡ first_comment e (before ++ (l ∷ ls))
+first_same d e [] l m ls ms same = same
+first_same d e (k ∷ before) l m ls ms same = refl
+
+pub lead_from : (p q : Part) (before : List Line) (l m : Line) (ls ms : List Line) → lines_of_rows p.rows ≡ before ++ (l ∷ ls) → lines_of_rows q.rows ≡ before ++ (m ∷ ms) → m.head_comment ≡ l.head_comment →
+    lead_of q ≡ lead_of p
+lead_from p q before l m ls ms old new same = search (rules, lead_is_first, first_same)
+
+pub led_as : (c : Cut) (new : Cut) (k : ℕ) (a b : List (List ℕ)) (f : Node → Node) → a ≡ b → IsChanged c new k a f → IsChanged c new k b f
+led_as c new k a b f e h = subst (λ x. IsChanged c new k x f) e h
+
+-- what follows a line that was found begins with an entry
+following : (n : ℕ) (f : FoundLine) → Allows n f.place (level f.line) → IsEven (level f.line) (row f.line f.under f.after) → BeginsEntry (flatten f.after ++ lines_after f.place)
+following n f allows even = both_anew (flatten f.after) (lines_after f.place) (behind f.line.mark f.line.head refl f.after even.2 even.4) (after_anew n (level f.line) f.place allows)
+  where
+    behind : (m : LineMark) (h : Option Node) → f.line.mark ≡ m → (o : Outline) → IsWhole m h o → IsEven (level f.line) o → BeginsEntry (flatten o)
+    behind (Key j) h e o w v = collection_anew o (next (level f.line) f.line o (subst allowing.IsEntry (sym e) tt) refl v)
+    behind Dash h e o w v = collection_anew o (next (level f.line) f.line o (subst allowing.IsEntry (sym e) tt) refl v)
+    behind Bare h e end w v = tt
+    behind Bare None e (row k u a) w v = absurd w
+    behind Bare (Some x) e (row k u a) w v = absurd w
+
+pub line_exchanged : LineExchanged
+line_exchanged t c k p q s ss rest f g m l u put found fits whole anchors lines sound =
+    let w = known t c k p q put in
+    let o : Outline = part_outline p in
+    let n : ℕ = level_or 0 o in
+    let law = exchanged n o s ss rest f w.even found g m l u fits.label_is fits.level_is fits.headless whole fits.deep fits.even fits.node_is in
+    let is : plug f.place (row f.line f.under f.after) ≡ o = at (IsFoundIn o) (find s ss o) (f, rest) found (path_whole s ss o) in
+    let old : Allows n f.place (level f.line) × IsEven (level f.line) (row f.line f.under f.after) = allows_from n f.place f.line f.under f.after (subst (λ x. IsEven n x) (sym is) w.even) in
+    let was : lines_of_rows p.rows ≡ with_lines f (f.line ∷ flatten f.under) = sym w.lines ∙ law.0 in
+    let one : HaveOneAnchorEach (with_lines f (l ∷ flatten u)) =
+    anchors_stay (lines_before f.place) (f.line ∷ flatten f.under) (l ∷ flatten u) (flatten f.after ++ lines_after f.place) (subst HaveOneAnchorEach was w.each) anchors.each anchors.free (following n f old.0 old.1) in
+    let head : l.head_comment ≡ f.line.head_comment = ap (λ (x : Label). x.head_comment) fits.label_is in
+    led_as c (put_document k q c) k (lead_of q) (lead_of p) (changed_at (s ∷ ss) g)
+    (lead_from p q (lines_before f.place) f.line l (flatten f.under ++ (flatten f.after ++ lines_after f.place)) (flatten u ++ (flatten f.after ++ lines_after f.place)) was lines head)
+    (finish t c k p q (changed_at (s ∷ ss) g) put (subst (λ ls. StandsSomewhere ls (changed_at (s ∷ ss) g (root_of p))) (sym lines) (n, law.1)) (subst HaveOneAnchorEach (sym lines) one) sound)
+
+pub lines_exchanged : LinesExchanged
+lines_exchanged t c k p q steps h g m u put is fits anchors lines sound =
+    let w = known t c k p q put in
+    let o : Outline = part_outline p in
+    let n : ℕ = level_or 0 o in
+    let law = lines_replaced n m o u steps h g w.even is fits in
+    let among = lines_among n o steps h w.even is in
+    let was : lines_of_rows p.rows ≡ put_lines h (flatten h.lines) = sym w.lines ∙ law.0 in
+    let one : HaveOneAnchorEach (put_lines h (flatten u)) =
+    anchors_stay (lines_before h.place) (flatten h.lines) (flatten u) (lines_after h.place) (subst HaveOneAnchorEach was w.each) anchors.each (subst (λ a. IsFree a (flatten u)) (sym among.1) anchors.free) among.0 in
+    finish t c k p q (changed_at steps g) put (subst (λ ls. StandsSomewhere ls (changed_at steps g (root_of p))) (sym lines) law.1) (subst HaveOneAnchorEach (sym lines) one) sound
+
+pub lines_appended : LinesAppended
+lines_appended t c k p q steps h m l v put there fits each lines sound =
+    let w = known t c k p q put in
+    let o : Outline = part_outline p in
+    let n : ℕ = level_or 0 o in
+    let old : List Line = flatten h.lines in
+    let d : List Line = l ∷ flatten v in
+    let f : Node → Node = changed_at steps (within (append_child (label l) (content_under l v))) in
+    let law = appended n m o v l steps h w.even there fits in
+    let among = lines_among n o steps h w.even there.place_is in
+    let was : lines_of_rows p.rows ≡ put_lines h old = sym w.lines ∙ law.0 in
+    let mark = entry_out l.mark (level_mark l h.lines there.block fits.level_is) in
+    let split : put_lines h (old ++ d) ≡ (lines_before h.place ++ old) ++ (d ++ lines_after h.place) = simp (append_assoc, old, d) in
+    let one : HaveOneAnchorEach (put_lines h (old ++ d)) =
+    subst HaveOneAnchorEach (sym split) (anchors_stay (lines_before h.place ++ old) [] d (lines_after h.place)
+    (subst HaveOneAnchorEach (was ∙ sym (append_assoc (lines_before h.place) old (lines_after h.place))) w.each) each (any_free (last_anchor (lines_before h.place ++ old)) d mark) among.0) in
+    led_as c (put_document k q c) k (lead_of q) (lead_of p) f (lead h.lines there.block was lines)
+    (finish t c k p q f put (subst (λ ls. StandsSomewhere ls (f (root_of p))) (sym lines) law.1) (subst HaveOneAnchorEach (sym lines) one) sound)
+  where
+    lead : (x : Outline) → HasEntries x → lines_of_rows p.rows ≡ lines_before h.place ++ (flatten x ++ lines_after h.place) →
+        lines_of_rows q.rows ≡ lines_before h.place ++ ((flatten x ++ (l ∷ flatten v)) ++ lines_after h.place) → lead_of q ≡ lead_of p
+    lead end b was new = absurd b
+    lead (row i u a) b was new =
+        lead_from p q (lines_before h.place) i i ((flatten u ++ flatten a) ++ lines_after h.place) (((flatten u ++ flatten a) ++ (l ∷ flatten v)) ++ lines_after h.place) was new refl
+
+-- the items or entries behind one begin anew
+behind_split : (s : Step) (o : Outline) (f : FoundLine) → Splits s o f → HasEntries o → IsEven (level_or 0 o) o → BeginsEntry (flatten f.after) × allowing.IsEntry f.line.mark
+behind_split s o f w block even =
+    let n : ℕ = level_or 0 o in
+    let whole : IsEven n (append_outline w.front (row f.line f.under f.after)) = subst (IsEven n) (sym w.whole) even in
+    let run : allowing.IsEntry f.line.mark = rest_entries n w.front (row f.line f.under f.after) (entries _ (subst HasEntries (sym w.whole) block)) whole in
+    let here = even_right n w.front (row f.line f.under f.after) whole in
+    (collection_anew f.after (next n f.line f.after run here.0 here.4), run)
+
+pub lines_removed : LinesRemoved
+lines_removed t c k p q steps h s f put entry left lines sound =
+    let w = known t c k p q put in
+    let o : Outline = part_outline p in
+    let n : ℕ = level_or 0 o in
+    let g : Node → Node = changed_at steps (within (remove_child s)) in
+    let law = removed n o steps h s f w.even entry left in
+    let among = lines_among n o steps h w.even entry.place_is in
+    let r = some_at s h.lines f entry.found in
+    let deep = lines_even n o steps h w.even entry.place_is entry.block in
+    let x : List Line = flatten r.front in
+    let y : List Line = flatten f.after in
+    let e : List Line = f.line ∷ flatten f.under in
+    let a : List Line = lines_before h.place in
+    let z : List Line = lines_after h.place in
+    let place : (ls : List Line) → put_lines h (with_lines f ls) ≡ (a ++ x) ++ (ls ++ (y ++ z)) = λ ls. ap (put_lines h) (r.lines ls) ∙ around a x ls y z in
+    let was : lines_of_rows p.rows ≡ (a ++ x) ++ (e ++ (y ++ z)) = sym w.lines ∙ (law.0 ∙ place e) in
+    let one : HaveOneAnchorEach (put_lines h (with_lines f [])) =
+    subst HaveOneAnchorEach (sym (place [])) (anchors_stay (a ++ x) e [] (y ++ z) (subst HaveOneAnchorEach was w.each) tt (any_free (last_anchor (a ++ x)) [] tt)
+    (both_anew y z (behind_split s h.lines f r entry.block deep.1).0 among.0)) in
+    finish t c k p q g put (subst (λ ls. StandsSomewhere ls (g (root_of p))) (sym lines) law.1) (subst HaveOneAnchorEach (sym lines) one) sound
+
+pub line_relabelled : LineRelabelled
+line_relabelled t c k p q steps h s f g l put entry new_line lines sound =
+    let w = known t c k p q put in
+    let o : Outline = part_outline p in
+    let n : ℕ = level_or 0 o in
+    let i : Node → Node = changed_at steps (within (relabel_child s g)) in
+    let law = relabelled n o steps h s f g l w.even entry new_line in
+    let among = lines_among n o steps h w.even entry.place_is in
+    let r = some_at s h.lines f entry.found in
+    let deep = lines_even n o steps h w.even entry.place_is entry.block in
+    let x : List Line = flatten r.front in
+    let y : List Line = flatten f.after in
+    let e : List Line = f.line ∷ flatten f.under in
+    let d : List Line = l ∷ flatten f.under in
+    let a : List Line = lines_before h.place in
+    let z : List Line = lines_after h.place in
+    let place : (ls : List Line) → put_lines h (with_lines f ls) ≡ (a ++ x) ++ (ls ++ (y ++ z)) = λ ls. ap (put_lines h) (r.lines ls) ∙ around a x ls y z in
+    let was : HaveOneAnchorEach ((a ++ x) ++ (e ++ (y ++ z))) = subst HaveOneAnchorEach (sym w.lines ∙ (law.0 ∙ place e)) w.each in
+    let olds : HaveOneAnchorEach e = each_front e (y ++ z) (each_back (a ++ x) (e ++ (y ++ z)) was) in
+    let news : HaveOneAnchorEach d = (subst (λ b. IsFree b (flatten f.under)) (sym new_line.anchor_is) olds.0, olds.1) in
+    let around_it = behind_split s h.lines f r entry.block deep.1 in
+    let mark = entry_out l.mark (same_entry f.line.mark l.mark around_it.1 (same_rank f.line l (sym new_line.level_is))) in
+    let one : HaveOneAnchorEach (put_lines h (with_lines f d)) =
+    subst HaveOneAnchorEach (sym (place d)) (anchors_stay (a ++ x) e d (y ++ z) was news (any_free (last_anchor (a ++ x)) d mark) (both_anew y z around_it.0 among.0)) in
+    finish t c k p q i put (subst (λ ls. StandsSomewhere ls (i (root_of p))) (sym lines) law.1) (subst HaveOneAnchorEach (sym lines) one) sound
+
+-- a block collection under a lead
+pub lead_is_above : LeadIsAbove
+unfolding level
+lead_is_above above n end block even = absurd block
+lead_is_above above n (row l u a) block even = (even, go l.mark block (content_under l u) (children a))
+  where
+    go : (m : LineMark) → IsEntry m → (x : Node) (cs : Children) → outline_node m (child (label (record l { head_comment = above })) x cs) ≡ within (headed above) (outline_node m (child (label l) x cs))
+    go Bare e x cs = absurd e
+    go (Key j) e x cs = refl
+    go Dash e x cs = refl
+
+pub root_has_lead : RootHasLead
+root_has_lead p block = go (part_outline p) block refl ∙ ap Some (sym (lead_is_first p ∙ ap (first_comment (head_comment p.end)) (sym (flatten-group (lines_of_rows p.rows)))))
+  where
+    kind : (m : LineMark) → IsEntry m → (cs : Children) → children_of (outline_node m cs) ≡ cs
+    kind Bare e cs = absurd e
+    kind (Key j) e cs = refl
+    kind Dash e cs = refl
+
+    go : (o : Outline) → HasEntries o → part_outline p ≡ o → first_above (children_of (value o)) ≡ Some (first_comment (head_comment p.end) (flatten o))
+    go end b e = absurd b
+    go (row l u a) b e = ap first_above (kind l.mark b (children (row l u a)))
+
+-- a root under a lead is as deep, and has the same names and keys
+pub led_same : (above : List (List ℕ)) (n : Node) →
+    (names_of (within (headed above) n) ≡ names_of n) × (depth (within (headed above) n) ≡ depth n) × (HasUniqueKeys n → HasUniqueKeys (within (headed above) n))
+led_same above n = search rules

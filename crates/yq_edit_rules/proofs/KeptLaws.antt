@@ -1,0 +1,45 @@
+-- A scalar that is put in its own place changes nothing.
+use Rattle.std.proofs.Common.{◌≡◌, ℕ, List, [], ◌∷◌, Option, Some, None, Bool, true, false, refl, sym, ap, ◌∙◌, subst, append-nil, rules}
+use Rattle.std.{proofs.lemmas.Bool.false≢true, specs.List.slice_get}
+use Rattle.yq_core.{specs.Paths.{Step, changed_at, node_at}, specs.Scalar.ScalarText, specs.Tree.Node}
+use Rattle.yq_flow_edits.specs.Valued.{IsValueTree}
+use Rattle.yq_row_table.specs.Rows.{Part, Cut, cut_text}
+use Rattle.yq_documents.{specs.Documents.{document_parts, lead_of}, specs.Reading.{documents, read_at, root_of}}
+use Rattle.yq_documents.specs.TreeEdits.{led, replaced_node}
+use Rattle.yq_edit_rules.{specs.Changed.{changed, IsChanged, put_document}, proofs.LeadLaws.same_lead_goes, specs.Replacing.are_same}
+use Rattle.yq_edit_rules.{specs.EditLaws.EqualScalarsStay, specs.ReadsAfter.ReadsAfter, proofs.DoneLaws.{nth_map, document_done, part_of}}
+use Rattle.yq_edit_rules.{proofs.SameLaws.same_is, proofs.SamePlaceLaws.{put_own, nth_own, change_own}}
+use Rattle.yq_semantics.specs.Operations.{replace}
+use Rattle.yq_places.specs.NodesAt.{scalar_in}
+use Rattle.yq_core.specs.Tree as tree
+use Rattle.yq_documents.specs.Reading as reading
+
+pub led_same : (block : Bool) (lead : List (List ℕ)) (steps : List Step) (v : Node) → (steps ≡ [] → block ≡ false) → led block lead steps v ≡ v
+led_same block lead steps v h1 = search (rules, false≢true)
+
+led_scalar : (o : Option ScalarText) (block : Bool) (lead : List (List ℕ)) (steps : List Step) (v : Node) → are_same o (scalar_in v) ≡ true → led block lead steps v ≡ v
+led_scalar o true lead [] (tree.alias name) e = refl
+led_scalar o true lead [] (tree.scalar a kind t) e = refl
+led_scalar None true lead [] (tree.list a cs) e = absurd (false≢true e)
+led_scalar (Some s) true lead [] (tree.list a cs) e = absurd (false≢true e)
+led_scalar None true lead [] (tree.map a cs) e = absurd (false≢true e)
+led_scalar (Some s) true lead [] (tree.map a cs) e = absurd (false≢true e)
+led_scalar o false lead [] v e = refl
+led_scalar o true lead (s ∷ path) v e = refl
+led_scalar o false lead (s ∷ path) v e = refl
+
+kept_reads : (doc : ℕ) (steps : List Step) (v : Node) (c : Cut) (p : Part) → read_at (cut_text c) ≡ Some c → slice_get (document_parts c) doc ≡ Some p → (n : Node) → IsValueTree v → node_at steps (root_of p) ≡ Some n →
+    are_same (scalar_in n) (scalar_in v) ≡ true → ReadsAfter (replace doc steps v) c (cut_text c)
+kept_reads doc steps v c p read at n h there e =
+    let own : changed_at steps (replaced_node v) (root_of p) ≡ root_of p = change_own steps (replaced_node v) (root_of p) n there (search (rules, false≢true, same_is, e)) in
+    let same : put_document doc p c ≡ c = put_own doc c p at in
+    let stays : changed (lead_of p) (changed_at steps (replaced_node v)) (reading.part_document p) ≡ reading.part_document p = (λ i. record { lead = lead_of p; root = own i }) in
+    let kept : IsChanged c (put_document doc p c) doc (lead_of p) (changed_at steps (replaced_node v)) = record {
+      read = subst (λ x. read_at (cut_text x) ≡ Some x) (sym same) read;
+      documents_are = ap documents same ∙ sym (nth_own doc (reading.part_document p) (changed (lead_of p) (changed_at steps (replaced_node v))) (documents c) (nth_map doc p reading.part_document (document_parts c) at) stays);
+    } in
+    search (rules, document_done, led_scalar, same_lead_goes, same, kept)
+
+-- what keeps the whole text
+pub equal_scalars_stay : EqualScalarsStay
+equal_scalars_stay n steps v c read same = search (rules, append-nil, part_of, kept_reads)

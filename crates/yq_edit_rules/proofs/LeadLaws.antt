@@ -1,0 +1,30 @@
+-- The lead that goes with the root of a part in the place of another one.
+use Rattle.std.proofs.Common.{inl, inr, ◌⊎◌, ◌≡◌, List, [], ◌∷◌, Bool, true, false, refl, sym, ap, ◌∙◌, rules}
+use Rattle.std.proofs.lemmas.Bool.{false≢true}
+use Rattle.yq_core.specs.Tree.{children_of}
+use Rattle.yq_outline.{specs.Group.group, specs.Outline.{Line, value}, specs.Lines.lines_of_rows}
+use Rattle.yq_documents.{specs.Documents.lead_of, specs.Reading.root_of, specs.Ready.begins_no_node, specs.TreeEdits.lead_by}
+use Rattle.yq_edit_rules.{specs.Siblings.HasEntries, proofs.AfterLaws.{by_first, none_kept}, proofs.EditedLaws.root_has_lead}
+use Rattle.yq_edit_rules.specs.Rooms.{is_block_root, LeadGoes, SameLeadGoes, BlockLeadGoes, KeptLeadGoes}
+
+pub block_lead_goes : BlockLeadGoes
+block_lead_goes p q block has =
+    sym (ap (λ b. lead_by b (children_of (root_of q)) (lead_of p)) block ∙ by_first (children_of (root_of q)) (lead_of q) (lead_of p) (root_has_lead q has))
+
+pub kept_lead_goes : KeptLeadGoes
+kept_lead_goes p q same empty = same ∙ sym (none_kept (is_block_root p) (children_of (root_of q)) (lead_of p) empty)
+
+-- a root that is block has items or entries, or no lines
+pub block_entries : (ls : List Line) → begins_no_node ls ≡ true → (HasEntries (group ls)) ⊎ (ls ≡ [])
+block_entries [] h = inr refl
+block_entries (l ∷ ls) h = inl (search (rules, false≢true))
+
+pub same_lead_goes : SameLeadGoes
+same_lead_goes p q same block = go (is_block_root p) refl
+  where
+    go : (b : Bool) → is_block_root p ≡ b → LeadGoes p q
+    go false e = kept_lead_goes p q same (λ h. absurd (false≢true (sym e ∙ h)))
+    go true e = elim (block_entries (lines_of_rows q.rows) (block ∙ e)) [
+      | inl has ↦ block_lead_goes p q e has
+      | inr none_left ↦ kept_lead_goes p q same (λ h. (ap (λ x. children_of (value (group x))) none_left))
+    ]

@@ -1,0 +1,123 @@
+-- A collection that is written alone is read as one document.
+use Rattle.std.proofs.Common.{◌≡◌, ℕ, ◌≤◌, true, false, List, [], ◌∷◌, ◌++◌, length, refl, subst, append-nil, rules, sym, ap, ◌∙◌, not}
+use Rattle.std.{proofs.lemmas.Bool.or_right, proofs.lemmas.Str.is_utf8-from_IsUtf8}
+use Rattle.yq_text.specs.Limit.{text_limit}
+use Rattle.yq_core.{specs.Text.is_marker, specs.Nodes.node_text, proofs.NodesWrittenLaws.node_then, specs.BlockWritten.break_text}
+use Rattle.yq_core.proofs.Alikes.{no_first}
+use Rattle.yq_flow_edits.specs.Valued.{IsValueTree}
+use Rattle.yq_row_table.specs.Grammar.{is_entry, is_plain_content, unlimited, AreRows, no_rows}
+use Rattle.yq_row_table.{specs.Rows.{Bare, Inline, Row, rows_text, last}, specs.Splices.first_gap, proofs.PlainEnds.end_line}
+use Rattle.yq_documents.specs.Documents.{IsRoot, HasShortRoot, is_long_plain, ReadsDocuments, document_parts, AreDocuments}
+use Rattle.yq_outline.{specs.Grammar.{IsNodeOutline, alone, mapping}, specs.Lines.lines_of_rows, specs.Outline.Line}
+use Rattle.yq_outline.specs.Comments.{head_comment}
+use Rattle.yq_edit_rules.{specs.BlockLaws.{ReadsAlone, IsHead}, specs.BlockRows.node_rows, specs.BlockText.{block_node, block_value}}
+use Rattle.yq_edit_rules.{specs.BlockValues.{HasNearKeys, IsCollection, IsFilled, MayBeRoot}, specs.declared.layout.Layout.Layout}
+use Rattle.yq_edit_rules.proofs.CharacterLaws.{IsUtf8Text, break_sound, value_sound, sound_join}
+use Rattle.yq_edit_rules.proofs.BlockEndLaws.{break_ends, break_tail, line_ends}
+use Rattle.yq_edit_rules.proofs.FitLaws.{RowsAreFit, all_bound, anchors_fit, keys_fit, node_fit}
+use Rattle.yq_edit_rules.proofs.LaidRows.{AreLaid, laid_rows, no_gap_here}
+use Rattle.yq_edit_rules.{proofs.BlockLineLaws.{break_uncommented, unanchored, no_head, node_stands}, proofs.RowLaws.node_laid}
+use Rattle.yq_edit_rules.{proofs.ScalarLaws.heads, proofs.TextLaws.node_spelled}
+use Rattle.yq_core.specs.Tree as tree
+use Rattle.yq_core.specs.Nodes as inline
+use Rattle.yq_row_table.specs.Rows as rows
+
+-- What is asked of rows that are all of a text, and stand for a node.
+record IsAllOf (v : tree.Node) (text : List ℕ) (rs : List Row) : Type 0 where
+  laid : AreRows unlimited rs [] []
+  spelled : rows_text rs [] ≡ text
+  root : IsRoot (lines_of_rows rs) v
+  fit : RowsAreFit rs
+  gap : first_gap rs [] ≡ []
+  short : HasShortRoot rs
+
+-- the text of rows is read
+all_read : (v : tree.Node) (text : List ℕ) (rs : List Row) → IsAllOf v text rs → IsUtf8Text text → length text ≤ text_limit → IsValueTree v → MayBeRoot v → ReadsDocuments text (record { lead = []; root = v } ∷ [])
+all_read v text rs w s size h root =
+    let p : rows.Part = record { rows = rs; end = [] } in
+    let one : document_parts (last p) ≡ p ∷ [] = rw (or_right (not (no_rows rs)) true refl) refl in
+    record {
+      utf8 = is_utf8-from_IsUtf8 text s.0;
+      parts = last p;
+      cut = record { text = sym w.spelled; parts = record { rows = w.laid; inside = refl }; characters = s.1; size = size };
+      documents = subst (λ (ps : List rows.Part). AreDocuments ps (record { lead = []; root = v } ∷ [])) (sym one) (
+        record {
+          lead = sym (ap head_comment w.gap ∙ no_head);
+          root = w.root;
+          keys = keys_fit rs w.fit;
+          unique = root.unique;
+          nested = root.nested;
+          anchors = anchors_fit rs w.fit;
+          bound = all_bound v h;
+          short = w.short;
+        },
+        tt,
+      );
+    }
+
+-- the lines of a node are a root
+root_of : {n : ℕ} {ls : List Line} {v : tree.Node} → IsNodeOutline n ls v → IsRoot ls v
+root_of h1 = search rules
+
+first_gap_none : (column : ℕ) (rs : List Row) → AreLaid column rs [] → first_gap rs [] ≡ []
+first_gap_none column rs h1 = search rules
+
+entry_short : (mark : rows.RowMark) (c : rows.Content) → is_entry mark ≡ true → is_long_plain mark c ≡ false
+entry_short mark c h1 = search rules
+
+laid_short : (column : ℕ) (rs : List Row) → AreLaid column rs [] → HasShortRoot rs
+laid_short column rs h1 = search (rules, entry_short)
+
+-- a collection with items or entries
+block_all : (v : tree.Node) (l : Layout) → 1 ≤ l.mapping → IsFilled v → IsValueTree v → HasNearKeys v → IsAllOf v (block_node l 0 v ++ break_text l.br) (node_rows l 0 (break_text l.br) v)
+block_all v l step b h near =
+    let end : List ℕ = break_text l.br in
+    let laid = node_laid v l 0 end [] b h near (line_ends l.br 0 [] (end_line 1)) in
+    record {
+      laid = laid_rows 0 _ [] unlimited laid refl;
+      spelled = node_spelled v l 0 end [] b h ∙ ap (λ (t : List ℕ). block_node l 0 v ++ t) (append-nil end);
+      root = root_of (node_stands v l 0 end step b h (break_uncommented l.br));
+      fit = node_fit v l 0 end h;
+      gap = first_gap_none 0 _ laid;
+      short = laid_short 0 _ laid;
+    }
+
+-- an empty collection
+abbrev empty_row : Layout → inline.FlowNode → Row
+empty_row l node = record { gap = []; column = 0; dashes = []; mark = rows.Bare; content = Inline [] node (break_text l.br) }
+
+empty_root : (v : tree.Node) (l : Layout) (node : inline.FlowNode) → IsHead v node → IsRoot (lines_of_rows (empty_row l node ∷ [])) v
+empty_root v l node h = (_, subst (IsNodeOutline _ (lines_of_rows (empty_row l node ∷ []))) (unanchored _ v h.unnamed) (alone refl refl h.same))
+
+empty_all : (v : tree.Node) (l : Layout) (node : inline.FlowNode) → IsHead v node → ((t : List ℕ) → is_marker (node_text node t) ≡ false) → is_plain_content node ≡ false → IsAllOf v (node_text node [] ++ break_text l.br) (empty_row l node ∷ [])
+empty_all v l node h unmarked plain = record {
+  laid = (
+    record {
+      gap = no_gap_here _;
+      allowed = refl;
+      unmarked = unmarked (break_text l.br ++ []);
+      dashes = tt;
+      mark = h.more;
+      content = (tt, h.stands _ (break_text l.br ++ []) (break_ends l.br 0 [] (end_line 0)), break_tail l.br []);
+    },
+    no_gap_here [],
+  );
+  spelled = node_then node (break_text l.br ++ []) ∙ ap (λ (t : List ℕ). node_text node [] ++ t) (append-nil (break_text l.br));
+  root = empty_root v l node h;
+  fit = ((tt, h.keys, h.unnamed), tt);
+  gap = refl;
+  short = rw plain refl;
+}
+
+-- a collection
+collection_all : (v : tree.Node) (l : Layout) → 1 ≤ l.mapping → IsCollection v → IsValueTree v → HasNearKeys v → (rs : List Row) × IsAllOf v (block_value l 0 v ++ break_text l.br) rs
+unfolding inline.node_text inline.flow_items_text
+collection_all (tree.alias name) l step c h near = absurd c
+collection_all (tree.scalar a kind t) l step c h near = absurd c
+collection_all (tree.list a tree.none) l step c h near = (_, empty_all (tree.list a tree.none) l (inline.coll 93 [] inline.none) (heads (tree.list a tree.none) h) (λ t. no_first 91 (93 ∷ t) refl refl) refl)
+collection_all (tree.list a (tree.child label n cs)) l step c h near = (_, block_all (tree.list a (tree.child label n cs)) l step tt h near)
+collection_all (tree.map a tree.none) l step c h near = (_, empty_all (tree.map a tree.none) l (inline.coll 125 [] inline.none) (heads (tree.map a tree.none) h) (λ t. no_first 123 (125 ∷ t) refl refl) refl)
+collection_all (tree.map a (tree.child label n cs)) l step c h near = (_, block_all (tree.map a (tree.child label n cs)) l step tt h near)
+
+pub value_read : (v : tree.Node) (l : Layout) → 1 ≤ l.mapping → IsValueTree v → ReadsAlone v (block_value l 0 v ++ break_text l.br)
+value_read v l step h root size = let all = collection_all v l step root.collection h root.near in all_read v (block_value l 0 v ++ break_text l.br) all.0 all.1 (sound_join _ (break_text l.br) (value_sound v l 0 h) (break_sound l.br)) size h root

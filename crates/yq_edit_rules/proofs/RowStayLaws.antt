@@ -1,0 +1,262 @@
+-- Behind rows that gave way to others of the same shapes, paths lead to the rows to which they led.
+use Rattle.std.proofs.Common.{◌≡◌, inl, inr, ℕ, zero, suc, ◌+◌, ◌-◌, ◌≤◌, ◌<◌, nat_lt, Bool, true, false, not, ◌||◌, cond, List, [], ◌∷◌}
+use Rattle.std.proofs.Common.{◌++◌, drop, length, take, map, Option, Some, None, option_map, refl, sym, ap, ◌∙◌, subst, arith, rules}
+use Rattle.std.proofs.lemmas.List.{drop-drop, length-map, length-take-le}
+use Rattle.std.{proofs.lemmas.Option.{none-some, same_Some, slice_get-map, slice_get_within}, specs.List.slice_get}
+use Rattle.yq_core.{specs.Answers.◌>>=◌, specs.Paths.{Step, node_at}, proofs.Bools.bind_some}
+use Rattle.yq_outline.{specs.Ends.line_at_steps, specs.Outline.{anchored, head_or, value}, specs.Places.content_under}
+use Rattle.yq_outline.{proofs.Finding.{FoundNode, path_node}, specs.Lines.{content_anchor, lines_of_rows}}
+use Rattle.yq_row_table.{specs.Grammar.{begins_document, no_rows}, specs.Rows.{Row, Part, Cut, last, marked, part_text}}
+use Rattle.yq_row_table.{specs.Splices.{behind_part, nth_part}, proofs.splices.SpliceTexts.{own_gap, own_end}}
+use Rattle.yq_documents.specs.Documents.{Document, begins_bare, document_parts, has_begin}
+use Rattle.yq_documents.{specs.LinesInRows.{RowLine, behind_one, row_line, row_line_of}, specs.PartNumbers.{number_from, part_number}}
+use Rattle.yq_documents.{specs.Reading.{part_document, part_outline}, specs.TreeEdits.change_nth, proofs.PartNumberLaws.part_there}
+use Rattle.yq_places.specs.PlacedRows.{PlacedPart, before_part, placed_at, placed_document}
+use Rattle.yq_places.specs.Standings.{RowsOfEntry, entry_rows_at, rows_of_entry, under_count}
+use Rattle.yq_places.{proofs.PlacedPartLaws.{StandsIn, map_some, part_stands}, proofs.RowLineSpans.steps_row}
+use Rattle.yq_edit_rules.{specs.Appends.inserted, specs.Changed.{KeepsRows, put_document, put_part}, specs.Rooms.{RowShape, row_shape}}
+use Rattle.yq_edit_rules.specs.RowStays.{EntriesStay, ExchangesStay, HeadNodes, RowLinesStay, RowsBehindStay, StandsStill, StaysFrom}
+use Rattle.yq_edit_rules.{proofs.ChangedLaws.{document_put, first_stays, nth_changed}, proofs.FlowKeptLaws.one_other}
+use Rattle.yq_edit_rules.{proofs.ShapeLaws.line_by_shape, proofs.StandingMarks.{even_there, under_it}}
+use Rattle.yq_edit_rules.proofs.UnderLaws.{line_is, line_with}
+
+-- ---- rows of the same shapes
+
+abbrev shapes : List Row → List RowShape
+shapes rs = map row_shape rs
+
+no_shapes : (r : Row) (rs : List Row) → [] ≡ shapes (r ∷ rs) → ⊥
+no_shapes r rs e = absurd (cc)
+
+same_dashes : (x r : Row) (ss rs : List Row) → shapes (x ∷ ss) ≡ shapes (r ∷ rs) → x.dashes ≡ r.dashes
+same_dashes x r ss rs e = let same : row_shape x ≡ row_shape r = cc in ap (λ (y : RowShape). y.dashes) same
+
+same_others : (x r : Row) (ss rs : List Row) → shapes (x ∷ ss) ≡ shapes (r ∷ rs) → shapes ss ≡ shapes rs
+same_others x r ss rs e = cc
+
+same_size : (rs ss : List Row) → shapes ss ≡ shapes rs → length ss ≡ length rs
+same_size rs ss e = sym (length-map ss row_shape) ∙ (ap length e ∙ length-map rs row_shape)
+
+-- what is the same from a row on is so from a later one on
+drop_later : (n m : ℕ) (ss rs : List Row) → drop n ss ≡ drop n rs → n ≤ m → drop m ss ≡ drop m rs
+drop_later n m ss rs same less =
+    let size : m ≡ n + (m - n) = omega (arith, less) in
+    (λ j. drop (size j) ss) ∙ (sym (drop-drop (m - n) n ss) ∙ (ap (drop (m - n)) same ∙ (drop-drop (m - n) n rs ∙ (λ j. drop (sym size j) rs))))
+
+-- a line of a row behind those that are others
+row_line_stays : (n m : ℕ) (rs ss : List Row) (s : RowLine) → shapes ss ≡ shapes rs → drop n ss ≡ drop n rs → row_line m rs ≡ Some s → n ≤ s.before → row_line m ss ≡ Some s
+row_line_stays zero m rs ss s e same is less = ap (row_line m) same ∙ is
+row_line_stays (suc n) m [] ss s e same is less = absurd (none-some _ is)
+row_line_stays (suc n) m (r ∷ rs) [] s e same is less = absurd (no_shapes r rs e)
+row_line_stays (suc n) m (r ∷ rs) (x ∷ ss) s e same is less =
+    ap (λ (l : ℕ). cond (nat_lt l m) (option_map behind_one (row_line (m - suc l) ss)) (Some (record { before = 0; row = x; line = m }))) (ap length (same_dashes x r ss rs e))
+    ∙ go (nat_lt (length r.dashes) m) (row_line (m - suc (length r.dashes)) rs) refl is (λ y. row_line_stays n (m - suc (length r.dashes)) rs ss y (same_others x r ss rs e) same)
+  where
+    go : (b : Bool) (o : Option RowLine) → row_line (m - suc (length r.dashes)) rs ≡ o → cond b (option_map behind_one o) (Some (record { before = 0; row = r; line = m })) ≡ Some s →
+        ((y : RowLine) → row_line (m - suc (length r.dashes)) rs ≡ Some y → n ≤ y.before → row_line (m - suc (length r.dashes)) ss ≡ Some y) →
+        cond b (option_map behind_one (row_line (m - suc (length r.dashes)) ss)) (Some (record { before = 0; row = x; line = m })) ≡ Some s
+    go true None found there again = absurd (none-some _ there)
+    go true (Some y) found there again =
+        let one : behind_one y ≡ s = same_Some _ _ there in
+        let behind : suc y.before ≡ s.before = ap (λ (z : RowLine). z.before) one in
+        ap (option_map behind_one) (again y found (omega (arith, less, behind))) ∙ ap Some one
+    go false o found there again = absurd (let first : 0 ≡ s.before = ap (λ (z : RowLine). z.before) (same_Some _ _ there) in omega (arith, less, first))
+
+line_there : (n : ℕ) (o : Option ℕ) (rs ss : List Row) (s : RowLine) → shapes ss ≡ shapes rs → drop n ss ≡ drop n rs → (o >>= λ m. row_line m rs) ≡ Some s → n ≤ s.before → (o >>= λ m. row_line m ss) ≡ Some s
+line_there n None rs ss s e same is less = absurd (none-some _ is)
+line_there n (Some m) rs ss s e same is less = row_line_stays n m rs ss s e same is less
+
+row_lines_stay : RowLinesStay
+row_lines_stay n p q steps s stays is less =
+    ap (λ (o : Option ℕ). o >>= λ m. row_line m q.rows) (line_by_shape p q stays.shapes steps) ∙ line_there n (line_at_steps steps (lines_of_rows p.rows)) p.rows q.rows s stays.shapes stays.rows is less
+
+-- ---- in a cut
+
+keeps_rows : (rs ss : List Row) → shapes ss ≡ shapes rs → no_rows ss ≡ true → no_rows rs ≡ true
+keeps_rows rs ss h1 h2 = search (rules, no_shapes)
+
+number_stays : (is : Bool) (k i : ℕ) (q : Part) (c : Cut) → number_from is k (put_part i q c) ≡ number_from is k c
+number_stays is k i q (last p) = refl
+number_stays true zero zero q (marked p marker c) = refl
+number_stays true (suc k) zero q (marked p marker c) = refl
+number_stays false k zero q (marked p marker c) = refl
+number_stays true zero (suc i) q (marked p marker c) = refl
+number_stays true (suc k) (suc i) q (marked p marker c) = ap suc (number_stays (begins_document marker) k i q c)
+number_stays false k (suc i) q (marked p marker c) = ap suc (number_stays (begins_document marker) k i q c)
+
+before_put : (i : ℕ) (q : Part) (c : Cut) → before_part i (put_part i q c) ≡ before_part i c
+before_put i q (last p) = refl
+before_put zero q (marked p marker c) = refl
+before_put (suc i) q (marked p marker c) = ap (λ (t : List ℕ). part_text p marker ++ t) (before_put i q c)
+
+nth_put : (i : ℕ) (q : Part) (c : Cut) → nth_part i (put_part i q c) ≡ q
+nth_put i q (last p) = refl
+nth_put zero q (marked p marker c) = refl
+nth_put (suc i) q (marked p marker c) = nth_put i q c
+
+numbers_rise : (is : Bool) (k m : ℕ) (c : Cut) → k ≤ m → number_from is k c ≤ number_from is m c
+numbers_rise is k m (last p) less = omega arith
+numbers_rise true zero m (marked p marker c) less = omega arith
+numbers_rise true (suc k) zero (marked p marker c) less = absurd (omega (arith, less))
+numbers_rise true (suc k) (suc m) (marked p marker c) less = omega (arith, numbers_rise (begins_document marker) k m c (omega (arith, less)))
+numbers_rise false k m (marked p marker c) less = omega (arith, numbers_rise (begins_document marker) k m c less)
+
+behind_other : (i j : ℕ) (q : Part) (c : Cut) → i ≤ j → behind_part j (put_part i q c) ≡ behind_part j c
+behind_other i j q (last p) less = refl
+behind_other zero zero q (marked p marker c) less = refl
+behind_other zero (suc j) q (marked p marker c) less = refl
+behind_other (suc i) zero q (marked p marker c) less = absurd (omega (arith, less))
+behind_other (suc i) (suc j) q (marked p marker c) less = behind_other i j q c (omega (arith, less))
+
+behind_put : (i : ℕ) (q : Part) (c : Cut) → behind_part i (put_part i q c) ≡ behind_part i c
+behind_put i q (last p) = refl
+behind_put zero q (marked p marker c) = refl
+behind_put (suc i) q (marked p marker c) = behind_put i q c
+
+nth_other : (k m : ℕ) (q : Part) (ps : List Part) → k < m → slice_get (change_nth k (λ x. q) ps) m ≡ slice_get ps m
+nth_other k m q [] less = refl
+nth_other zero zero q (x ∷ ps) less = absurd (omega (arith, less))
+nth_other zero (suc m) q (x ∷ ps) less = refl
+nth_other (suc k) zero q (x ∷ ps) less = absurd (omega (arith, less))
+nth_other (suc k) (suc m) q (x ∷ ps) less = nth_other k m q ps (omega (arith, less))
+
+-- document k with this part, between the texts that stand around it
+abbrev around : ℕ → Part → Cut → PlacedPart
+around k p c = record { before = before_part (part_number k c) c; part = p; behind = behind_part (part_number k c) c }
+
+module _ (c : Cut) (k n : ℕ) (p q : Part) (there : slice_get (document_parts c) k ≡ Some p) (stays : StaysFrom n p q) where
+  abbrev new : Cut
+  new = put_document k q c
+
+  abbrev i : ℕ
+  i = part_number k c
+
+  keeps : KeepsRows p q
+  keeps = keeps_rows p.rows q.rows stays.shapes
+
+  pub there_still : slice_get (document_parts new) k ≡ Some q
+  there_still = ap (λ (ps : List Part). slice_get ps k) (document_put c k p q there keeps) ∙ nth_changed k p q (document_parts c) there
+
+  pub number_is : part_number k new ≡ i
+  number_is = ap (λ (b : Bool). number_from b k new) (first_stays c k p q there keeps) ∙ number_stays (begins_bare c || not (has_begin c)) k i q c
+
+  placed_old : placed_document k c ≡ Some (around k p c)
+  placed_old = search (rules, part_there)
+
+  placed_new : placed_document k new ≡ Some (around k q c)
+  placed_new =
+      ap (option_map (λ (x : Part). placed_at (part_number k new) new)) there_still
+      ∙ (ap (λ (j : ℕ). Some (placed_at j new)) number_is ∙ (λ j. Some (record { before = before_put i q c j; part = nth_put i q c j; behind = behind_put i q c j })))
+
+  -- the rows of an item or entry behind those that are others
+  module _ (steps : List Step) (e : RowsOfEntry) (is : rows_of_entry k steps c ≡ Some e) (less : n ≤ length e.front) where
+    found : (s : RowLine) × (row_line_of steps p.rows ≡ Some s) × (entry_rows_at (around k p c) s ≡ e)
+    found =
+        map_some (entry_rows_at (around k p c)) (row_line_of steps p.rows) e
+        (sym (ap (λ (o : Option PlacedPart). o >>= λ d. option_map (entry_rows_at d) (row_line_of steps d.part.rows)) placed_old) ∙ is)
+
+    abbrev s : RowLine
+    s = found.0
+
+    within : s.before < length p.rows
+    within = slice_get_within p.rows s.before s.row (steps_row (line_at_steps steps (lines_of_rows p.rows)) p.rows s found.1)
+
+    front_size : length e.front ≡ s.before
+    front_size = sym (ap (λ (x : RowsOfEntry). length x.front) found.2) ∙ length-take-le s.before p.rows (omega (arith, within))
+
+    later : drop (suc s.before) q.rows ≡ drop (suc s.before) p.rows
+    later = drop_later n (suc s.before) q.rows p.rows stays.rows (omega (arith, less, front_size))
+
+    rows_same : entry_rows_at (around k q c) s ≡ record (entry_rows_at (around k p c) s) { front = take s.before q.rows }
+    rows_same = λ j. record {
+      start = before_part i c;
+      front = take s.before q.rows;
+      row = s.row;
+      line = s.line;
+      under = take (under_count s (later j)) (later j);
+      back = drop (under_count s (later j)) (later j);
+      end = stays.end j;
+      behind = behind_part i c;
+    }
+
+    entry_stays : StandsStill e k steps new
+    entry_stays = record {
+      start = before_part i c;
+      front = take s.before q.rows;
+      found = ap (λ (o : Option PlacedPart). o >>= λ d. option_map (entry_rows_at d) (row_line_of steps d.part.rows)) placed_new
+          ∙ (ap (option_map (entry_rows_at (around k q c))) (row_lines_stay n p q steps s stays found.1 (omega (arith, less, front_size)))
+          ∙ (ap Some rows_same ∙ (λ j. Some (record (found.2 j) { start = before_part i c; front = take s.before q.rows }))));
+      size = length-take-le s.before q.rows (omega (arith, within, same_size p.rows q.rows stays.shapes)) ∙ sym front_size;
+    }
+
+  -- the rows of one in a later document
+  module _ (m : ℕ) (steps : List Step) (e : RowsOfEntry) (is : rows_of_entry m steps c ≡ Some e) (later : k < m) where
+    other : (d : PlacedPart) × (placed_document m c ≡ Some d) × (option_map (entry_rows_at d) (row_line_of steps d.part.rows) ≡ Some e)
+    other = bind_some (placed_document m c) is
+
+    abbrev d : PlacedPart
+    d = other.0
+
+    stands : StandsIn m c d
+    stands = part_stands m c d other.1
+
+    abbrev j : ℕ
+    j = part_number m c
+
+    number_there : part_number m new ≡ j
+    number_there = ap (λ (b : Bool). number_from b m new) (first_stays c k p q there keeps) ∙ number_stays (begins_bare c || not (has_begin c)) m i q c
+
+    there_too : slice_get (document_parts new) m ≡ Some d.part
+    there_too = ap (λ (ps : List Part). slice_get ps m) (document_put c k p q there keeps) ∙ (nth_other k m q (document_parts c) later ∙ stands.there)
+
+    abbrev now : PlacedPart
+    now = record { before = before_part j new; part = d.part; behind = d.behind }
+
+    placed_there : placed_document m new ≡ Some now
+    placed_there = search (rules, there_too, number_there, part_there, behind_other, numbers_rise, later)
+
+    line_there_still : (s : RowLine) × (row_line_of steps d.part.rows ≡ Some s) × (entry_rows_at d s ≡ e)
+    line_there_still = map_some (entry_rows_at d) (row_line_of steps d.part.rows) e other.2
+
+    other_stays : StandsStill e m steps new
+    other_stays = record {
+      start = before_part j new;
+      front = e.front;
+      found = ap (λ (o : Option PlacedPart). o >>= λ x. option_map (entry_rows_at x) (row_line_of steps x.part.rows)) placed_there
+          ∙ (ap (option_map (entry_rows_at now)) line_there_still.1 ∙ (λ u. Some (record (line_there_still.2 u) { start = before_part j new; front = (line_there_still.2 u).front })));
+      size = refl;
+    }
+
+entries_stay : EntriesStay
+entries_stay c k n p q m steps e there stays is (inl later) = other_stays c k n p q there stays m steps e is later
+entries_stay c k n p q m steps e there stays is (inr same) =
+    subst (λ (x : ℕ). StandsStill e x steps (put_document k q c)) same.0
+    (entry_stays c k n p q there stays steps e (ap (λ (x : ℕ). rows_of_entry x steps c) same.0 ∙ is) same.1)
+
+-- ---- one more row
+
+past_row : (front : List Row) (r : Row) (back : List Row) → drop (suc (length front)) (front ++ (r ∷ back)) ≡ back
+past_row [] r back = refl
+past_row (x ∷ front) r back = past_row front r back
+
+exchanges_stay : ExchangesStay
+exchanges_stay p front back r new are same =
+    let now : (inserted front (new ∷ []) back p).rows ≡ front ++ (new ∷ back) = ap (λ (rs : List Row). front ++ (new ∷ rs)) (own_gap back p.end) in
+    record {
+      shapes = ap (map row_shape) now ∙ (one_other front new r back same ∙ sym (ap (map row_shape) are));
+      rows = ap (drop (suc (length front))) now ∙ (past_row front new back ∙ (sym (past_row front r back) ∙ sym (ap (drop (suc (length front))) are)));
+      end = own_end back p.end;
+    }
+
+-- ---- nodes
+
+head_nodes : HeadNodes
+head_nodes n t ts c e h there mark is =
+    let row = under_it n t ts c e there mark in
+    let line : line_with e.row e.row.content ≡ there.found.line = line_is there.part t ts e.front e.row e.under e.back row (even_there n t ts c e there mark) in
+    ap (λ (o : Option Document). o >>= λ d. node_at (t ∷ ts) d.root) (slice_get-map part_document (document_parts c) n ∙ ap (option_map part_document) there.old.there)
+    ∙ (path_node t ts (part_outline there.part)
+    ∙ (ap FoundNode there.is ∙ ((λ j. Some (content_under (sym line j) there.found.under)) ∙ (λ j. Some (anchored (content_anchor e.row.content) (head_or (is j) (value there.found.under)))))))
+
+pub rows_stay_there : RowsBehindStay
+rows_stay_there = record { lines = row_lines_stay; entries = entries_stay; exchanges = exchanges_stay; nodes = head_nodes }

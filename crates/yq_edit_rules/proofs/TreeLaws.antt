@@ -1,0 +1,82 @@
+-- Unique keys and depth of a tree in which a node is changed.
+use Rattle.std.proofs.Common.{◌≡◌, ℕ, ◌+◌, ◌-◌, ◌≤◌, max, [], ◌∷◌, length, Option, Some, None, option_and_then, Bool, true, false, cond}
+use Rattle.std.{proofs.Common.{refl, sym, ap, subst, arith}, proofs.lemmas.Option.{none-some, same_Some}}
+use Rattle.yq_core.specs.Keys.{AreDistinct, keys_of, HasUniqueKeys, EachHasUniqueKeys, depth, deepest}
+use Rattle.yq_core.specs.Paths.{Step, is_here, further, child_at, node_at, change_child, within, changed_at}
+use Rattle.yq_core.{specs.Tree.{Node, alias, scalar, list, map, Children, none, child, children_of}, specs.Text.with_first}
+use Rattle.yq_edit_rules.specs.Conditions.{UniqueChanged, DepthChanged}
+
+keys_stay : (s : Step) (f : Node → Node) (cs : Children) → keys_of (change_child s f cs) ≡ keys_of cs
+keys_stay s f none = refl
+keys_stay s f (child l n cs) = go (is_here s l) (keys_stay (further s) f cs)
+  where
+    go : (b : Bool) → keys_of (change_child (further s) f cs) ≡ keys_of cs → keys_of (cond b (child l (f n) cs) (child l n (change_child (further s) f cs))) ≡ with_first l.key (keys_of cs)
+    go true ih = refl
+    go false ih = ap (with_first l.key) ih
+
+-- a property of each item or entry, where one is changed
+each_unique : (s : Step) (f : Node → Node) (cs : Children) (k : Node) → child_at s cs ≡ Some k → (HasUniqueKeys k → HasUniqueKeys (f k)) → EachHasUniqueKeys cs →
+    EachHasUniqueKeys (change_child s f cs)
+each_unique s f none k e new h = tt
+each_unique s f (child l n cs) k e new h = go (is_here s l) e (λ d. each_unique (further s) f cs k d new h.1)
+  where
+    go : (b : Bool) → cond b (Some n) (child_at (further s) cs) ≡ Some k → (child_at (further s) cs ≡ Some k → EachHasUniqueKeys (change_child (further s) f cs)) →
+        EachHasUniqueKeys (cond b (child l (f n) cs) (child l n (change_child (further s) f cs)))
+    go true e ih = (subst (λ x. HasUniqueKeys (f x)) (sym (same_Some _ _ e)) (new (subst HasUniqueKeys (same_Some _ _ e) h.0)), h.1)
+    go false e ih = (h.0, ih e)
+
+pub unique_changed : UniqueChanged
+unique_changed [] n old f e h new = subst (λ x. HasUniqueKeys (f x)) (sym (same_Some _ _ e)) new
+unique_changed (s ∷ ss) n old f e h new = go (child_at s (children_of n)) refl e (λ k d u. unique_changed ss k old f d u new)
+  where
+    kinds : (n k : Node) → child_at s (children_of n) ≡ Some k → (HasUniqueKeys k → HasUniqueKeys (changed_at ss f k)) → HasUniqueKeys n → HasUniqueKeys (within (change_child s (changed_at ss f)) n)
+    kinds (alias name) k is r h = tt
+    kinds (scalar a i t) k is r h = tt
+    kinds (list a cs) k is r h = each_unique s (changed_at ss f) cs k is r h
+    kinds (map a cs) k is r h = (subst AreDistinct (sym (keys_stay s (changed_at ss f) cs)) h.0, each_unique s (changed_at ss f) cs k is r h.1)
+
+    go : (r : Option Node) → child_at s (children_of n) ≡ r → option_and_then (node_at ss) r ≡ Some old → ((k : Node) → node_at ss k ≡ Some old → HasUniqueKeys k → HasUniqueKeys (changed_at ss f k)) →
+        HasUniqueKeys (within (change_child s (changed_at ss f)) n)
+    go None is e ih = absurd (none-some _ e)
+    go (Some k) is e ih = kinds n k is (ih k e) h
+
+pub max_least : (a b d : ℕ) → a ≤ d → b ≤ d → max a b ≤ d
+max_least a b d h k = omega (arith, h, k)
+
+pub max_left : (a b : ℕ) → a ≤ max a b
+max_left a b = omega arith
+
+pub max_right : (a b : ℕ) → b ≤ max a b
+max_right a b = omega arith
+
+deepest_changed : (d : ℕ) (s : Step) (f : Node → Node) (cs : Children) (k : Node) → child_at s cs ≡ Some k → (depth k ≤ d → depth (f k) ≤ d) → deepest cs ≤ d → deepest (change_child s f cs) ≤ d
+deepest_changed d s f none k e new h = h
+deepest_changed d s f (child l n cs) k e new h = go (is_here s l) e (λ c. deepest_changed d (further s) f cs k c new right)
+  where
+    left : depth n ≤ d
+    left = omega (arith, h, max_left (depth n) (deepest cs))
+
+    right : deepest cs ≤ d
+    right = omega (arith, h, max_right (depth n) (deepest cs))
+
+    go : (b : Bool) → cond b (Some n) (child_at (further s) cs) ≡ Some k → (child_at (further s) cs ≡ Some k → deepest (change_child (further s) f cs) ≤ d) →
+        deepest (cond b (child l (f n) cs) (child l n (change_child (further s) f cs))) ≤ d
+    go true e ih = max_least _ _ d (subst (λ x. depth (f x) ≤ d) (sym (same_Some _ _ e)) (new (subst (λ x. depth x ≤ d) (same_Some _ _ e) left))) right
+    go false e ih = max_least _ _ d left (ih e)
+
+pub depth_changed : DepthChanged
+depth_changed d [] n old f e h new =
+    let less : depth (f old) ≤ d = omega (arith, new) in subst (λ x. depth (f x) ≤ d) (sym (same_Some _ _ e)) less
+depth_changed d (s ∷ ss) n old f e h new =
+    let less : length ss + depth (f old) ≤ d - 1 = omega (arith, new) in go (child_at s (children_of n)) refl e (λ k u w. depth_changed (d - 1) ss k old f u w less)
+  where
+    kinds : (n k : Node) → child_at s (children_of n) ≡ Some k → (depth k ≤ d - 1 → depth (changed_at ss f k) ≤ d - 1) → depth n ≤ d → depth (within (change_child s (changed_at ss f)) n) ≤ d
+    kinds (alias name) k is r h = h
+    kinds (scalar a i t) k is r h = h
+    kinds (list a cs) k is r h = let x = deepest_changed (d - 1) s (changed_at ss f) cs k is r (omega (arith, h)) in omega (arith, x, h)
+    kinds (map a cs) k is r h = let x = deepest_changed (d - 1) s (changed_at ss f) cs k is r (omega (arith, h)) in omega (arith, x, h)
+
+    go : (r : Option Node) → child_at s (children_of n) ≡ r → option_and_then (node_at ss) r ≡ Some old → ((k : Node) → node_at ss k ≡ Some old → depth k ≤ d - 1 → depth (changed_at ss f k) ≤ d - 1) →
+        depth (within (change_child s (changed_at ss f)) n) ≤ d
+    go None is e ih = absurd (none-some _ e)
+    go (Some k) is e ih = kinds n k is (ih k e) h

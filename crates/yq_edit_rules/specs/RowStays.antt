@@ -1,0 +1,56 @@
+-- What stands behind rows that gave way to others of the same shapes (own).
+use Rattle.std.specs.Prelude.{◌≡◌, ◌⊎◌, ℕ, suc, ◌<◌, ◌≤◌, List, [], ◌∷◌, ◌++◌, drop, length, map, slice_get, Some}
+use Rattle.yq_core.{specs.Paths.Step, specs.Tree.Node}
+use Rattle.yq_outline.{specs.Outline.anchored, specs.Lines.{content_anchor, head_of}}
+use Rattle.yq_row_table.specs.Rows.{Row, Part, Cut}
+use Rattle.yq_documents.{specs.Documents.document_parts, specs.LinesInRows.{RowLine, row_line_of}}
+use Rattle.yq_places.{specs.NodesAt.node_in, specs.Standings.{RowsOfEntry, rows_of_entry}}
+use Rattle.yq_edit_rules.{specs.Appends.inserted, specs.Changed.put_document, specs.Rooms.row_shape, specs.StandingLaws.StandsThere}
+
+-- A part is another one but for the first so many of its rows, which keep their shapes (own).
+pub record StaysFrom (n : ℕ) (p q : Part) : Type 0 where
+  pub shapes : map row_shape q.rows ≡ map row_shape p.rows
+  pub rows : drop n q.rows ≡ drop n p.rows
+  pub end : q.end ≡ p.end
+
+-- A path that leads to a row behind those leads there still (own).
+abbrev pub RowLinesStay : Type 0
+RowLinesStay =
+    (n : ℕ) (p q : Part) (steps : List Step) (s : RowLine) → StaysFrom n p q → row_line_of steps p.rows ≡ Some s → n ≤ s.before →
+    row_line_of steps q.rows ≡ Some s
+
+-- A row of a document stands behind so many rows of document k (own).
+abbrev pub IsBehind : (k n m i : ℕ) → Type 0
+IsBehind k n m i = (k < m) ⊎ ((k ≡ m) × (n ≤ i))
+
+-- In another cut too, steps lead to the rows of an item or entry, of which those in front may be others, and the text before its document (own).
+pub record StandsStill (e : RowsOfEntry) (m : ℕ) (steps : List Step) (c : Cut) : Type 0 where
+  pub start : List ℕ
+  pub front : List Row
+  pub found : rows_of_entry m steps c ≡ Some (record e { start = start; front = front })
+  pub size : length front ≡ length e.front
+
+-- An item or entry behind those stands there still, with the document exchanged for the other part (own).
+abbrev pub EntriesStay : Type 0
+EntriesStay =
+    (c : Cut) (k n : ℕ) (p q : Part) (m : ℕ) (steps : List Step) (e : RowsOfEntry) → slice_get (document_parts c) k ≡ Some p → StaysFrom n p q →
+    rows_of_entry m steps c ≡ Some e → IsBehind k n m (length e.front) → StandsStill e m steps (put_document k q c)
+
+-- With one row exchanged for another one of its shape, a part is that one but for the rows up to it (own).
+abbrev pub ExchangesStay : Type 0
+ExchangesStay =
+    (p : Part) (front back : List Row) (r new : Row) → p.rows ≡ front ++ (r ∷ back) → row_shape new ≡ row_shape r →
+    StaysFrom (suc (length front)) p (inserted front (new ∷ []) back p)
+
+-- The node of an item or entry is what the row of its key or dash spells behind that, if anything is written there (8.2).
+abbrev pub HeadNodes : Type 0
+HeadNodes =
+    (n : ℕ) (s : Step) (ss : List Step) (c : Cut) (e : RowsOfEntry) (h : Node) → StandsThere n s ss c e → e.line ≡ length e.row.dashes →
+    head_of e.row.content ≡ Some h → node_in n (s ∷ ss) c ≡ Some (anchored (content_anchor e.row.content) h)
+
+-- These laws together (own).
+pub record RowsBehindStay : Type 0 where
+  pub lines : RowLinesStay
+  pub entries : EntriesStay
+  pub exchanges : ExchangesStay
+  pub nodes : HeadNodes

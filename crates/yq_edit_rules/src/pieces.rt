@@ -1,0 +1,62 @@
+//! Pieces of lines in block style.
+ghost use Rattle.std.{specs.Prelude.{◌≡◌, ◌+◌, ◌++◌, IfOk, OnOk, string_bytes}, specs.Str.IsUtf8};
+ghost use Rattle.yq_edit_rules.specs.BlockReading as spec;
+ghost use Rattle.yq_edit_rules.specs.BlockRows as rows;
+
+use crate::layout::Layout;
+use std::alloc::{AllocError, Global};
+use yq_core::{Place, Scalar};
+use yq_flow_edits::push_scalar;
+use yq_scalar::block_written::break_text;
+use yq_scalar_reader::push_spaces;
+
+/// The sum of two columns, where there could be so many spaces.
+pub(crate) fn add(column: usize, step: usize) -> Result<usize, AllocError>
+    ensures { IfOk result (λ n. n ≡ column + step) }
+{
+    match column.checked_add(step) {
+        Some(sum) => Ok(sum),
+        None => Err(AllocError),
+    }
+}
+
+/// Begins a line at a column.
+pub(crate) fn push_line(out: &mut String, layout: &Layout, column: usize) -> Result<(), AllocError>
+    ensures { OnOk result (string_bytes out.new ≡ string_bytes out.old ++
+        spec.break_and_indent layout.now column) }
+{
+    out.push_str(break_text(layout.br))?;
+    push_spaces(out, column)
+}
+
+/// Adds a key, plain if it can be, else double-quoted.
+fn push_key(alloc: Global, out: &mut String, key: &str) -> Result<(), AllocError>
+    ensures text { OnOk result (string_bytes out.new ≡ string_bytes out.old ++
+        rows.block_key key.now) }
+    ensures valid { IfOk result (λ x. IsUtf8 key.now) }
+{
+    let scalar = Scalar::string(String::from_str(alloc, key)?);
+    push_scalar(alloc, out, &scalar, Place::BlockKey)
+}
+
+/// Adds a key with its `:`, and a space, or begins the line below it.
+pub(crate) fn push_front(
+    alloc: Global,
+    out: &mut String,
+    layout: &Layout,
+    below: usize,
+    key: &str,
+    filled: bool,
+) -> Result<(), AllocError>
+    ensures text { OnOk result (string_bytes out.new ≡ string_bytes out.old ++
+        spec.block_front layout.now below key.now filled) }
+    ensures valid { IfOk result (λ x. IsUtf8 key.now) }
+{
+    push_key(alloc, out, key)?;
+    if filled {
+        out.push_str(":")?;
+        push_line(out, layout, below)
+    } else {
+        out.push_str(": ")
+    }
+}

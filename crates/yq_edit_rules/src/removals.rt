@@ -1,0 +1,14 @@
+//! Items and entries taken out of a text.
+ghost use Rattle.yq_edit_rules.specs.RemovalChanges.{FirstStands, RemovalStands};
+
+/// One of several items or entries, with whole rows, taken out of a text.
+#[tactic(auto, using(crate::proofs::RemovalChangeLaws::removal_stands))]
+pub fn taken_out()
+    ensures { RemovalStands }
+{}
+
+/// The first of several items or entries of a compact collection taken out of a text.
+#[tactic(auto, using(crate::proofs::FirstOutLaws::first_stands))]
+pub fn first_taken_out()
+    ensures { FirstStands }
+{}

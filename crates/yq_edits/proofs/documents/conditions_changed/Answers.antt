@@ -1,5 +1,0 @@
-use Rattle.yq_edits.proofs.TreeLaws.{depth_changed}
-use Rattle.yq_edits.proofs.documents.conditions_changed.Goals as goal
-
-pub returns-clause-nested : goal.returns-clause-nested
-returns-clause-nested c = depth_changed

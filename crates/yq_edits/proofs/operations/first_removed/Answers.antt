@@ -1,8 +1,0 @@
-use Rattle.yq_edits.proofs.FirstRowLaws.{first_row_moved, first_row_dropped}
-use Rattle.yq_edits.proofs.operations.first_removed.Goals as goal
-
-pub returns-clause-moved : goal.returns-clause-moved
-returns-clause-moved c = first_row_moved
-
-pub returns-clause-dropped : goal.returns-clause-dropped
-returns-clause-dropped c = first_row_dropped

@@ -1,5 +1,0 @@
-use Rattle.yq_edits.proofs.PartLaws.{document_known}
-use Rattle.yq_edits.proofs.operations.rows_put.Goals as goal
-
-pub returns-clause-known : goal.returns-clause-known
-returns-clause-known c = document_known

@@ -1,0 +1,61 @@
+-- That the outcome of a text is what it comes to by the grammar, and nothing else.
+use Rattle.std.proofs.Common.{◌≡◌, ◌⊎◌, ◌↔◌, ℕ, Bool, true, false, List, Option, Some, None, refl, sym, ap, ◌∙◌, inl, inr, rules}
+use Rattle.yq_core.proofs.Bools.{chosen}
+use Rattle.yq_expr_parser.{specs.declared.error.ParseError.ParseError, specs.Lexing.{tokens, AreRead}}
+use Rattle.yq_expr_parser.specs.Outcome.{Outcome, parsed, refused, ComesTo, HasForeign, ExprRefused, IsTooDeep}
+use Rattle.yq_expr_parser.specs.Parse.{surveyed, program_at, outcome}
+use Rattle.yq_expr_parser.proofs.Outcomes.{all_read, derives_again, none_in, outcome_again, outcome_parsed, outcome_refused, surveys}
+use Rattle.yq_expr_parser.{proofs.Outcomes.unread_in, proofs.TextTokens.{tokens_take, tokens_again}, proofs.UpdateTakes.program_takes}
+use Rattle.yq_semantics.{specs.Tokens.{Token, AreTokens}, specs.Program.Program, specs.Grammar.{IsProgram, literal_depth}}
+use Rattle.yq_expr_parser.specs.declared.error.ParseError.TheVariants as error
+
+-- the tokens of a text are those that are read of it
+pub one_list : (text : List ℕ) (ts us : List Token) → AreTokens ts text → AreTokens us text → ts ≡ us
+one_list text ts us a b = sym (tokens_again ts text a).0 ∙ (tokens_again us text b).0
+
+-- ---- what a survey tells, where a text has no tokens, or has a token or a place of other expressions
+
+no_tokens : (text : List ℕ) → ((ts : List Token) → AreTokens ts text → ⊥) → (o : Option Bool) → surveyed false 0 0 (tokens text) ≡ o → surveyed false 0 0 (tokens text) ≡ None
+no_tokens text none None s = s
+no_tokens text none (Some b) s = absurd (none (tokens text) (tokens_take text (all_read (tokens text) false 0 0 b s)))
+
+others : (ts : List Token) → AreRead ts → HasForeign ts ⊎ IsTooDeep ts → (o : Option Bool) → surveyed false 0 0 ts ≡ o → surveyed false 0 0 ts ≡ Some true
+others ts h1 h2 o h3 = search (rules, unread_in, none_in)
+
+no_program : (ts : List Token) → ((p : Program) → IsProgram p ts → ⊥) → (o : Option Program) → program_at literal_depth ts ≡ o → program_at literal_depth ts ≡ None
+no_program ts none None s = s
+no_program ts none (Some p) s = absurd (none p (program_takes ts p s))
+
+-- ---- a refusal whose cause a text has is its outcome
+
+refuses : (text : List ℕ) (e : ParseError) → (e ≡ error.Memory → ⊥) → ExprRefused e text → outcome text ≡ refused e
+unfolding outcome
+refuses text error.Syntax other (inl none) = let s : surveyed false 0 0 (tokens text) ≡ None = no_tokens text none (surveyed false 0 0 (tokens text)) refl in rw s refl
+refuses text error.Syntax other (inr (ts, are, own, shallow, none)) = search (rules, no_tokens, tokens_again, surveys, no_program, others, derives_again)
+refuses text error.NotInProfile other (ts, are, why) =
+    let read = tokens_again ts text are in
+    let s = others ts read.1 why (surveyed false 0 0 ts) refl in
+    rw (read.0, s) refl
+refuses text error.Pattern other (p, d, pattern) = let again = derives_again text p d in rw (again.0, again.1) (rw pattern refl)
+refuses text error.Memory other why = absurd (other refl)
+
+no_memory : (text : List ℕ) → outcome text ≡ refused error.Memory → ⊥
+unfolding outcome
+no_memory text h = search (rules, chosen)
+
+takes : (text : List ℕ) (o : Outcome) → outcome text ≡ o → ComesTo text o
+takes text (parsed p) h = outcome_parsed text p h
+takes text (refused e) h = (λ memory. no_memory text (h ∙ ap (λ (x : ParseError). refused x) memory), outcome_refused text e h)
+
+again : (text : List ℕ) (o : Outcome) → ComesTo text o → outcome text ≡ o
+again text (parsed p) h = outcome_again text p h.0 h.1
+again text (refused e) h = refuses text e h.0 h.1
+
+pub comes_to : (text : List ℕ) (o : Outcome) → (outcome text ≡ o) ↔ ComesTo text o
+comes_to text o = (takes text o, again text o)
+
+pub only_outcome : (text : List ℕ) (o q : Outcome) → ComesTo text o → ComesTo text q → o ≡ q
+only_outcome text o q a b = sym (again text o a) ∙ again text q b
+
+pub some_outcome : (text : List ℕ) → (o : Outcome) × ComesTo text o
+some_outcome text = (outcome text, takes text (outcome text) refl)

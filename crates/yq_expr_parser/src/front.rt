@@ -1,0 +1,118 @@
+//! What is in front of a text, token by token.
+ghost use Rattle.std.specs.Prelude.{◌≡◌, ◌<◌, ℕ, List, length, is_some, option_map, string_bytes, IfSome, IfOk};
+ghost use Rattle.yq_expr_parser.specs.ReadAnswers.{GivesForm, Succeeds, ReadsForm, Shortens, IsShorter, with_tokens};
+ghost use Rattle.yq_expr_parser.specs.TokenView.{token_view};
+ghost use Rattle.yq_semantics.specs.Tokens.{Token};
+ghost use Rattle.yq_expr_parser.specs.Lexing as spec;
+
+use crate::error::ParseError;
+use crate::token::split_token;
+use std::alloc::Global;
+
+/// Whether no token is left.
+#[tactic(auto, using(crate::proofs::Lexing::tokens_next))]
+pub(crate) fn is_end(text: &str) -> bool
+    ensures { result ≡ spec.no_tokens (spec.tokens text.now) }
+{
+    split_token(text).is_none()
+}
+
+/// What follows the mark or word, if it is in front.
+#[tactic(auto, using(crate::proofs::Lexing::tokens_next))]
+pub(crate) fn after<'t>(text: &'t str, symbol: &str) -> Option<&'t str>
+    ensures value { option_map (λ r. spec.tokens r.now) result ≡
+        spec.after symbol.now (spec.tokens text.now) }
+    ensures shorter { IfSome result (λ r. length r.now < length text.now) }
+{
+    match split_token(text) {
+        Some((token, rest)) => {
+            if token.is_symbol(symbol) {
+                Some(rest)
+            } else {
+                None
+            }
+        }
+        None => None,
+    }
+}
+
+/// What follows the mark or word, which has to be in front.
+pub(crate) fn expect<'t>(text: &'t str, symbol: &str) -> Result<&'t str, ParseError>
+    ensures value { GivesForm (λ r. spec.tokens r.now) result
+        (spec.after symbol.now (spec.tokens text.now)) }
+    ensures shorter { IfOk result (λ r. length r.now < length text.now) }
+{
+    after(text, symbol).ok_or(ParseError::Syntax)
+}
+
+/// A form and what follows the mark, which has to be behind the form.
+pub(crate) fn closed<'t, T: Drop>(
+    form: T,
+    text: &'t str,
+    mark: &str,
+) -> Result<(T, &'t str), ParseError>
+    ensures value { ReadsForm (λ x. x) result
+        (option_map (λ r. (form, r)) (spec.after mark.now (spec.tokens text.now))) }
+    ensures shorter { Shortens text.now result }
+{
+    let rest = expect(text, mark)?;
+    Ok((form, rest))
+}
+
+/// The number in front, as it is written, and what follows it.
+#[tactic(auto, using(crate::proofs::Lexing::tokens_next))]
+pub(crate) fn number(text: &str) -> Option<(&str, &str)>
+    ensures value { option_map (with_tokens (λ s. s.now)) result ≡
+        spec.taken spec.as_number (spec.tokens text.now) }
+    ensures shorter { IsShorter text.now result }
+{
+    match split_token(text) {
+        Some((token, rest)) => match token.number() {
+            Some(number) => Some((number, rest)),
+            None => None,
+        },
+        None => None,
+    }
+}
+
+/// The string in front, which has to be there, and what follows it.
+#[tactic(auto, using(crate::proofs::Lexing::tokens_next))]
+pub(crate) fn string(alloc: Global, text: &str) -> Result<(String, &str), ParseError>
+    ensures value { ReadsForm string_bytes result (spec.taken spec.as_string (spec.tokens text.now)) }
+    ensures shorter { Shortens text.now result }
+{
+    match split_token(text) {
+        Some((token, rest)) => match token.string(alloc)? {
+            Some(content) => Ok((content, rest)),
+            None => Err(ParseError::Syntax),
+        },
+        None => Err(ParseError::Syntax),
+    }
+}
+
+/// The key of the named step in front and what follows it, if one is there.
+#[tactic(auto, using(crate::proofs::Lexing::tokens_next))]
+pub(crate) fn key(alloc: Global, text: &str) -> Result<Option<(String, &str)>, ParseError>
+    ensures value { Succeeds (option_map (with_tokens string_bytes)) result
+        (spec.taken spec.as_step (spec.tokens text.now)) }
+    ensures shorter { IfOk result (λ o. IsShorter text.now o) }
+{
+    match split_token(text) {
+        Some((token, rest)) => match token.key(alloc)? {
+            Some(key) => Ok(Some((key, rest))),
+            None => Ok(None),
+        },
+        None => Ok(None),
+    }
+}
+
+/// Whether a named step is in front.
+#[tactic(auto, using(crate::proofs::Lexing::tokens_next))]
+pub(crate) fn begins_step(text: &str) -> bool
+    ensures { result ≡ is_some (spec.taken spec.as_step (spec.tokens text.now)) }
+{
+    match split_token(text) {
+        Some((token, _)) => token.is_step(),
+        None => false,
+    }
+}

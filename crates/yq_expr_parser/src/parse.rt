@@ -1,0 +1,93 @@
+//! Texts are parsed into programs.
+ghost use Rattle.std.specs.Prelude.{◌≡◌, false, map, IfOk, IfErr};
+ghost use Rattle.yq_expr_parser.{specs.ReadAnswers.GivesForm, specs.Lexing.tokens};
+ghost use Rattle.yq_expr_parser.specs.Outcome.{Answers, Derives, ExprRefused, has_pattern, parsed};
+ghost use Rattle.yq_semantics.{specs.Grammar.literal_depth, specs.Program.Program as Outline, specs.View.{stage_of, update_of, program_of}};
+ghost use Rattle.yq_expr_parser.specs.Parse as spec;
+
+mod literal;
+mod path;
+mod pipe;
+mod update;
+
+use crate::error::ParseError;
+use crate::front::is_end;
+use crate::pattern::has_pattern;
+use crate::survey::survey;
+use std::alloc::Global;
+use yq_semantics::{Program, Stage, Syntax, Update};
+
+/// The program that a text says. Refusals come in this order: a token that can't be read, then a
+/// token of other expressions or more than 64 open brackets, then what is no program, then a
+/// pattern.
+pub fn parse_expr(alloc: Global, text: &str) -> Result<Program, ParseError>
+    ensures exact { Answers program_of result (spec.outcome text.now) }
+    ensures found { IfOk result (λ p. Derives text.now (program_of p) ×
+        (has_pattern (program_of p) ≡ false)) }
+    ensures only { (p : Outline) → Derives text.now p → has_pattern p ≡ false →
+        Answers program_of result (parsed p) }
+    ensures refused { IfErr result (λ e. ExprRefused e text.now) }
+{
+    parse(alloc, text)
+}
+
+/// The program of a text.
+fn parse(alloc: Global, text: &str) -> Result<Program, ParseError>
+    ensures { Answers program_of result (spec.outcome text.now) }
+{
+    let syntax = syntax(alloc, text)?;
+    Ok(Program::new(syntax))
+}
+
+/// The syntax tree of the program of a text.
+#[tactic(auto, unfolding(crate::specs::Parse::outcome))]
+fn syntax(alloc: Global, text: &str) -> Result<Syntax, ParseError>
+    ensures { Answers program_of result (spec.outcome text.now) }
+{
+    if survey(text)? {
+        return Err(ParseError::NotInProfile);
+    }
+    let syntax = program(alloc, text)?;
+    if has_pattern(&syntax) {
+        return Err(ParseError::Pattern);
+    }
+    Ok(syntax)
+}
+
+/// A pipe, and no more.
+fn read(alloc: Global, text: &str) -> Result<Vec<Stage>, ParseError>
+    ensures { GivesForm (λ v. map stage_of v.items) result
+        (spec.whole_form spec.pipe_at (tokens text.now)) }
+{
+    let (stages, rest) = pipe::pipe(alloc, text)?;
+    if is_end(rest) {
+        Ok(stages)
+    } else {
+        Err(ParseError::Syntax)
+    }
+}
+
+/// Updates, and no more.
+#[tactic(auto, unfolding(crate::specs::Parse::updates_at))]
+fn updates(alloc: Global, text: &str) -> Result<Syntax, ParseError>
+    ensures { GivesForm program_of result (spec.updates_at literal_depth (tokens text.now)) }
+{
+    let (updates, rest) = update::updates(alloc, text)?;
+    if is_end(rest) {
+        Ok(Syntax::Updates(updates))
+    } else {
+        Err(ParseError::Syntax)
+    }
+}
+
+/// A program: a pipe if the text is one, and else updates.
+#[tactic(auto, unfolding(crate::specs::Parse::program_at))]
+fn program(alloc: Global, text: &str) -> Result<Syntax, ParseError>
+    ensures { GivesForm program_of result (spec.program_at literal_depth (tokens text.now)) }
+{
+    match read(alloc, text) {
+        Ok(stages) => Ok(Syntax::Read(stages)),
+        Err(ParseError::Syntax) => updates(alloc, text),
+        Err(e) => Err(e),
+    }
+}

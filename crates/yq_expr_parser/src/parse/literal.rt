@@ -1,0 +1,156 @@
+//! Scalars and literals.
+ghost use Rattle.std.specs.Prelude.{◌≡◌, ◌<◌, codes, length, map, option_map, string_bytes, IfOk};
+ghost use Rattle.yq_expr_parser.{specs.ReadAnswers.{ReadsForm, Shortens, IsShorter, with_tokens}, specs.Lexing.tokens};
+ghost use Rattle.yq_core.{specs.Values.{value_node, field_of}, specs.Keys.are_distinct};
+ghost use Rattle.yq_expr_parser.specs.Parse as spec;
+
+use crate::error::ParseError;
+use crate::front::{after, closed, expect, number, string};
+use std::alloc::{AllocError, Global};
+use yq_core::{Scalar, Value};
+use yq_scalar_reader::are_distinct;
+
+/// A word for a scalar, if one is in front, and what follows it.
+fn word(text: &str) -> Option<(&'static str, &str)>
+    ensures value { option_map (with_tokens (λ s. s.now)) result ≡ spec.word_at (tokens text.now) }
+    ensures shorter { IsShorter text.now result }
+{
+    if let Some(rest) = after(text, "true") {
+        return Some(("true", rest));
+    }
+    if let Some(rest) = after(text, "false") {
+        return Some(("false", rest));
+    }
+    match after(text, "null") {
+        Some(rest) => Some(("null", rest)),
+        None => None,
+    }
+}
+
+/// A scalar.
+#[tactic(auto, unfolding(crate::specs::Parse::parse_scalar))]
+pub(super) fn scalar(alloc: Global, text: &str) -> Result<(Scalar, &str), ParseError>
+    ensures value { ReadsForm (λ s. s) result (spec.parse_scalar (tokens text.now)) }
+    ensures shorter { Shortens text.now result }
+{
+    if let Some((digits, rest)) = number(text) {
+        let scalar = Scalar::plain(alloc, digits)?;
+        return Ok((scalar, rest));
+    }
+    if let Some((word, rest)) = word(text) {
+        let scalar = Scalar::plain(alloc, word)?;
+        return Ok((scalar, rest));
+    }
+    let (content, rest) = string(alloc, text)?;
+    Ok((Scalar::string(content), rest))
+}
+
+fn keys<'v>(alloc: Global, fields: &'v Vec<(String, Value)>) -> Result<Vec<&'v str>, AllocError>
+    ensures { IfOk result (λ v. map (λ k. k.now) v.items ≡
+        map (λ e. string_bytes e.0) fields.now.items) }
+{
+    let mut keys = Vec::new(alloc);
+    for field in fields {
+        keys.push(field.0.as_str())?;
+    }
+    Ok(keys)
+}
+
+/// Whether no two fields have the same key.
+fn keys_differ(alloc: Global, fields: &Vec<(String, Value)>) -> Result<bool, AllocError>
+    ensures { IfOk result (λ b. b ≡ are_distinct (map (λ e. e.0) (map field_of fields.now.items))) }
+{
+    let mut keys = keys(alloc, fields)?;
+    Ok(are_distinct(&mut keys))
+}
+
+/// A scalar as a value.
+fn scalar_value(alloc: Global, text: &str) -> Result<(Value, &str), ParseError>
+    ensures value { ReadsForm value_node result (spec.scalar_node_at (tokens text.now)) }
+    ensures shorter { Shortens text.now result }
+{
+    scalar(alloc, text).map(|(scalar, rest)| (Value::Scalar(scalar), rest))
+}
+
+/// A literal in which `depth` collections are nested at most.
+#[cycle(literal)]
+#[tactic(auto, unfolding(crate::specs::Parse::literal_at))]
+pub(super) fn literal(alloc: Global, text: &str, depth: usize) -> Result<(Value, &str), ParseError>
+    ensures value { ReadsForm value_node result (spec.literal_at depth (tokens text.now)) }
+    ensures shorter { Shortens text.now result }
+{
+    if depth == 0 {
+        return scalar_value(alloc, text);
+    }
+    if let Some(rest) = after(text, "[") {
+        let (items, rest) = list(alloc, rest, depth - 1)?;
+        return Ok((Value::List(items), rest));
+    }
+    if let Some(rest) = after(text, "{") {
+        let (fields, rest) = mapping(alloc, rest, depth - 1)?;
+        if keys_differ(alloc, &fields)? {
+            return Ok((Value::Map(fields), rest));
+        }
+        return Err(ParseError::Syntax);
+    }
+    scalar_value(alloc, text)
+}
+
+/// The items of a list, from behind its opening bracket.
+#[cycle(literal)]
+fn list(alloc: Global, text: &str, depth: usize) -> Result<(Vec<Value>, &str), ParseError>
+    ensures value { ReadsForm (λ v. map value_node v.items) result (spec.listed_at (codes "]")
+        (spec.literal_at depth) (tokens text.now)) }
+    ensures shorter { Shortens text.now result }
+{
+    let mut found = Vec::new(alloc);
+    if let Some(rest) = after(text, "]") {
+        return Ok((found, rest));
+    }
+    let mut rest = text;
+    'items: loop {
+        let (item, behind) = literal(alloc, rest, depth)?;
+        found.push(item)?;
+        match after(behind, ",") {
+            Some(next) => rest = next,
+            None => return closed(found, behind, "]"),
+        }
+    }
+}
+
+/// The fields of a mapping, from behind its opening brace.
+#[cycle(literal)]
+fn mapping(
+    alloc: Global,
+    text: &str,
+    depth: usize,
+) -> Result<(Vec<(String, Value)>, &str), ParseError>
+    ensures value { ReadsForm (λ v. map field_of v.items) result (spec.listed_at (codes "}") (spec.field_at (spec.literal_at depth)) (tokens text.now)) }
+    ensures shorter { Shortens text.now result }
+{
+    let mut found = Vec::new(alloc);
+    if let Some(rest) = after(text, "}") {
+        return Ok((found, rest));
+    }
+    let mut rest = text;
+    'fields: loop {
+        let (field, behind) = field(alloc, rest, depth)?;
+        found.push(field)?;
+        match after(behind, ",") {
+            Some(next) => rest = next,
+            None => return closed(found, behind, "}"),
+        }
+    }
+}
+
+/// A string, `:` and a literal.
+#[cycle(literal)]
+fn field(alloc: Global, text: &str, depth: usize) -> Result<((String, Value), &str), ParseError>
+    ensures value { ReadsForm field_of result (spec.field_at (spec.literal_at depth) (tokens text.now)) }
+    ensures shorter { Shortens text.now result }
+{
+    let (key, rest) = string(alloc, text)?;
+    let rest = expect(rest, ":")?;
+    let (value, rest) = literal(alloc, rest, depth)?;
+    Ok(((key, value), rest))
+}

@@ -1,5 +1,0 @@
-use Rattle.yq_parser.proofs.Outcomes.{one_of}
-use Rattle.yq_parser.proofs.laws.one_program.Goals as goal
-
-pub returns : goal.returns
-returns c = one_of

@@ -1,5 +1,0 @@
-use Rattle.yq_parser.proofs.OutcomeLaws.{one_list}
-use Rattle.yq_parser.proofs.laws.one_token_list.Goals as goal
-
-pub returns : goal.returns
-returns c = one_list

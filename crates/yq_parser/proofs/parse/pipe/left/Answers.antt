@@ -1,4 +1,0 @@
-use Rattle.yq_parser.proofs.parse.pipe.left.Goals as goal
-
-pub returns-clause-shorter : goal.returns-clause-shorter
-returns-clause-shorter c = c.in_ok-steps.ensures.shorter
