@@ -43,7 +43,7 @@ pub record TakesNode (doc : ℕ) (s : Step) (ss : List Step) (c : Cut) (h : Node
   pub level : ℕ
   pub under : Outline
   pub comment : line_comment (tail_of content_under) ≡ line_comment (tail_of h.mark.content)
-  pub anchor : content_anchor content_under ≡ anchor_of (Rattle.yq_outline.specs.Places.content h.found.line h.found.under)
+  pub anchor : content_anchor content_under ≡ anchor_of (Rattle.yq_outline.specs.Places.content_under h.found.line h.found.under)
   pub open' : IsOpen (head_of content_under) under
   pub value_is : head_or (head_of content_under) (value under) ≡ v
   pub even : IsEven level under
