@@ -1,8 +1,8 @@
 -- What a change touches, and what is read and exchanged for it.
 use Rattle.std.proofs.Common.{◌≡◌, ⊎_elim, ltb, ◌||◌, true, false, not, ℕ, ◌+◌, ◌-◌, ◌≤◌, List, [], ◌∷◌, ◌++◌, length, take, drop, Option}
-use Rattle.std.proofs.Common.{Some, refl, sym, ap, ◌∙◌, subst, arith, append_assoc, append-nil, length-append, length-drop, length-take}
-use Rattle.std.{proofs.Common.rules, proofs.lemmas.Bool.{cases_lt, le-ltb, lt-ltb, or_right}}
-use Rattle.std.{proofs.lemmas.List.{append_cancel_left, append_cancel_right}, proofs.lemmas.Str.IsUtf8-nil, specs.Str.IsUtf8}
+use Rattle.std.proofs.Common.{Some, None, refl, sym, ap, ◌∙◌, subst, arith, append_assoc, append-nil, length-append, rules}
+use Rattle.std.{proofs.lemmas.Bool.{cases_lt, le-ltb, lt-ltb, or_right}, proofs.lemmas.List.{append_cancel_left, append_cancel_right}}
+use Rattle.std.{proofs.lemmas.Str.IsUtf8-nil, specs.Str.IsUtf8}
 use Rattle.yq_row_table.specs.Grammar.{IsCut, IsMarkerLine}
 use Rattle.yq_row_table.specs.Items.{Item, end_item, items_of_cut, items_text, nothing_asked, asked_of, AreRowItems}
 use Rattle.yq_row_table.{specs.Kept.{kept_rows, near, ends_near, TextsIn}, specs.Meter.begins_line}
@@ -10,39 +10,39 @@ use Rattle.yq_row_table.{specs.Regions.{StandIn, ended, no_items}, specs.Rows.Cu
 use Rattle.yq_row_table.{specs.declared.ends.EndPlace.EndPlace, specs.declared.places.Places.Places}
 use Rattle.yq_row_table.{proofs.ItemLaws.{items_joined, items_of_text, parts_are_items}, proofs.KeptLaws.{items_texts, near_joined}}
 use Rattle.yq_row_table.{proofs.RegionEnds.region_end, proofs.RegionLaws.region, proofs.ScanLaws.one_cut}
-use Rattle.yq_rows.{specs.Exchanging.TextChange, specs.Following.{Follows, exchanged, read_text}}
+use Rattle.yq_rows.specs.Exchanging.{TextChange}
+use Rattle.yq_rows.specs.Following.{Follows, behind_end, exchanged, keeps_end, read_text, text_read, without_line}
 use Rattle.yq_rows.specs.Reading.{AreEdges, IsRead, IsUnread, read_part, region_text, unread_end}
-use Rattle.yq_rows.specs.Sides.{AreAt, IsSplitAt, IsSideBefore, IsSideBehind, marked_end, not_in_back, side_of, text_length}
+use Rattle.yq_rows.specs.Sides.{AreAt, IsSplitAt, IsSideBehind, marked_end, not_in_back, side_of, text_length}
 use Rattle.yq_rows.{specs.declared.kept.Kept.Kept, specs.declared.sides.Side.Side, specs.declared.touched.Touched.Touched}
 use Rattle.yq_rows.{proofs.BackLaws.back_taken, proofs.BeginLaws.{back_found, joined_long}}
 use Rattle.yq_rows.proofs.CountLaws.{near_count, ends_count, ends_joined}
 use Rattle.yq_rows.proofs.EdgeLaws.{Pieces, begin_edge, back_edge, end_edge, region_ends, region_is}
-use Rattle.yq_rows.proofs.ExchangeLaws.{kept_count, texts_first, texts_second}
-use Rattle.yq_rows.proofs.KeptSides.{all_in_front, back_long, cut_some, front_long, last_long, some_behind}
+use Rattle.yq_rows.{proofs.ExchangeLaws.{kept_count, texts_first, texts_second}, proofs.KeptSides.{back_long, last_long, some_behind}}
 use Rattle.yq_rows.{proofs.ItemPlaces.{cut_long, cut_places, text_split}, proofs.MarkedLaws.{KeepsEnd, KeepsMarker, agrees}}
 use Rattle.yq_rows.{proofs.MarkerLaws.{marker_stays, marker_there}, proofs.ReadLaws.{unread_is, without, without_none}}
-use Rattle.yq_rows.proofs.SideLaws.{front_taken}
+use Rattle.yq_rows.proofs.PassedLaws.{FrontStays}
 
 -- the text of three lists of items
 three : (a b c : List Item) → items_text (a ++ (b ++ c)) [] ≡ items_text a [] ++ (items_text b [] ++ items_text c [])
 three a b c = text_split a (b ++ c) ∙ ap (λ l. items_text a [] ++ l) (text_split b c)
 
-module _ (t new : List ℕ) (kept : Kept) (p : Places) (x : Touched) (h : Follows t p kept new) (split : IsSplitAt kept.front (length t) p) (before : IsSideBefore p kept.front x.front) (behind : IsSideBehind p (length t) kept.back x.old)
+module _ (t new : List ℕ) (kept : Kept) (p : Places) (x : Touched) (h : Follows t p kept new) (split : IsSplitAt kept.front (length t) p) (s : FrontStays t new kept p h x.front) (behind : IsSideBehind p (length t) kept.back x.old)
     (marked_is : x.marked ≡ marked_end p.ends.items x.front x.old (length t - kept.back)) (more_is : x.more ≡ (ltb x.old.rows (length (kept_rows p)) || ltb x.old.ends (length p.ends.items))) where
   abbrev xs : List Item
   xs = items_of_cut h.old_cut
 
   abbrev f : List Item
-  f = in_front kept.front xs
+  f = s.front
 
   abbrev z : List Item
   z = in_back kept.back xs
 
   abbrev tch : List Item
-  tch = h.touches.touched
+  tch = s.touched
 
   abbrev w : List Item
-  w = h.touches.written
+  w = s.written
 
   long : length t ≡ text_length xs
   long = cut_long t h.old_cut h.old_is
@@ -57,10 +57,7 @@ module _ (t new : List ℕ) (kept : Kept) (p : Places) (x : Touched) (h : Follow
   fits = omega (arith, h.within, long)
 
   group : xs ≡ (f ++ tch) ++ z
-  group = h.touches.old_are ∙ sym (append_assoc f tch z)
-
-  front_is : x.front ≡ side_of f
-  front_is = before xs at_xs here (omega (arith, fits))
+  group = s.old_are ∙ sym (append_assoc f tch z)
 
   old_is : x.old ≡ side_of (f ++ tch)
   old_is =
@@ -70,33 +67,36 @@ module _ (t new : List ℕ) (kept : Kept) (p : Places) (x : Touched) (h : Follow
       behind xs kept.front at_xs split h.within long ∙ ap side_of (append_cancel_right y (f ++ tch) z all)
 
   placed : AreAt p (f ++ (tch ++ z))
-  placed = subst (AreAt p) h.touches.old_are at_xs
+  placed = subst (AreAt p) s.old_are at_xs
 
   size : text_length xs ≡ text_length (f ++ tch) + text_length z
   size = ap text_length group ∙ joined_long (f ++ tch) z
 
   pieces : Pieces t (items_text f []) (items_text tch []) (items_text z []) kept.front kept.back
   pieces = record {
-    text = h.old_is.text ∙ (sym (items_of_text h.old_cut) ∙ (ap (λ (l : List Item). items_text l []) h.touches.old_are ∙ three f tch z));
-    first = front_long kept.front xs;
+    text = h.old_is.text ∙ (sym (items_of_text h.old_cut) ∙ (ap (λ (l : List Item). items_text l []) s.old_are ∙ three f tch z));
+    first = s.first;
     last = back_long kept.back xs;
     within = h.within;
   }
 
   begin : x.front.bytes ≡ length (items_text f [])
-  begin = ap (λ (s : Side). s.bytes) front_is
+  begin = ap (λ (a : Side). a.bytes) s.side
 
   end : x.old.bytes ≡ length (items_text f []) + length (items_text tch [])
-  end = ap (λ (s : Side). s.bytes) old_is ∙ joined_long f tch
+  end = ap (λ (a : Side). a.bytes) old_is ∙ joined_long f tch
 
   abbrev part : List ℕ
   part = region_text t x kept new
 
   part_is : part ≡ items_text w []
-  part_is = search (rules, region_is, pieces, begin, end, items_of_text, three)
+  part_is =
+      let all : exchanged kept t new ≡ items_text f [] ++ (items_text w [] ++ items_text z []) =
+      h.new_is.text ∙ (sym (items_of_text h.new_cut) ∙ (ap (λ (l : List Item). items_text l []) s.new_are ∙ three f w z)) in
+      region_is t (items_text f []) (items_text tch []) (items_text z []) kept.front kept.back pieces new (items_text w []) x.front.bytes x.old.bytes begin end all
 
   new_size : length (exchanged kept t new) ≡ (text_length f + text_length w) + text_length z
-  new_size = cut_long (exchanged kept t new) h.new_cut h.new_is ∙ (ap text_length h.touches.new_are ∙ omega (arith, joined_long f (w ++ z), joined_long w z))
+  new_size = cut_long (exchanged kept t new) h.new_cut h.new_is ∙ (ap text_length s.new_are ∙ omega (arith, joined_long f (w ++ z), joined_long w z))
 
   -- texts
   front_texts : TextsIn f
@@ -120,7 +120,7 @@ module _ (t new : List ℕ) (kept : Kept) (p : Places) (x : Touched) (h : Follow
 
   -- whether items stand behind
   more : x.more ≡ not (no_items z)
-  more = more_is ∙ go z (omega (arith, ap (λ (s : Side). s.rows) old_is, rows)) (omega (arith, ap (λ (s : Side). s.ends) old_is, ends))
+  more = more_is ∙ go z (omega (arith, ap (λ (a : Side). a.rows) old_is, rows)) (omega (arith, ap (λ (a : Side). a.ends) old_is, ends))
     where
       rows : length (kept_rows p) ≡ length (near 0 (f ++ tch)) + length (near 0 z)
       rows = kept_count (text_length xs) p ∙ (ap length at_xs.rows_are ∙ (ap (λ (l : List Item). length (near 0 l)) group ∙ (ap length (near_joined 0 (f ++ tch) z) ∙ (length-append (near 0 (f ++ tch)) (near (0 + text_length (f ++ tch)) z) ∙ ap (λ (n : ℕ). length (near 0 (f ++ tch)) + n) (near_count (0 + text_length (f ++ tch)) 0 z)))))
@@ -135,17 +135,14 @@ module _ (t new : List ℕ) (kept : Kept) (p : Places) (x : Touched) (h : Follow
       go l h1 h2 = search (rules, le-ltb, ⊎_elim, lt-ltb, some_behind, cases_lt, or_right)
 
   -- the items that are read
-  some_left : (l : List Item) → items_of_cut h.new_cut ≡ f ++ l → no_items l ≡ false
-  some_left l h1 = search (rules, append-nil, all_in_front, cut_some, new_size, cut_long, long, length-append, length-take, length-drop)
-
   stand_in : (a b : List Item) → w ++ z ≡ a ++ b → StandIn a b
   stand_in a b is = record {
     text = exchanged kept t new;
     cut = h.new_cut;
     is_cut = h.new_is;
     front = f;
-    items = h.touches.new_are ∙ ap (λ (l : List Item). f ++ l) is;
-    some = some_left (a ++ b) (h.touches.new_are ∙ ap (λ (l : List Item). f ++ l) is);
+    items = s.new_are ∙ ap (λ (l : List Item). f ++ l) is;
+    some = subst (λ (l : List Item). no_items l ≡ false) is s.some;
   }
 
   -- the marker that is kept
@@ -153,7 +150,7 @@ module _ (t new : List ℕ) (kept : Kept) (p : Places) (x : Touched) (h : Follow
   reports = subst (KeepsMarker tch (kept.back - text_length z)) (sym marked_is) (agrees f tch z p.ends.items x.front x.old (length t) kept.back (record {
     rest = ends_near (0 + text_length (f ++ tch)) (0 + length (near 0 (f ++ tch))) z;
     ends = at_xs.ends_are ∙ (ap (ends_near 0 0) group ∙ ends_joined 0 0 (f ++ tch) z);
-    front_is = front_is;
+    front_is = s.side;
     old_is = old_is;
     long = long ∙ size;
     last = pieces.last;
@@ -182,24 +179,55 @@ module _ (t new : List ℕ) (kept : Kept) (p : Places) (x : Touched) (h : Follow
     stays begins =
         let lead = ends_so.0 in
         let place : length (items_text w []) - e.marker ≡ length lead = omega (arith, k.long, ap length ends_so.1, length-append lead k.marker) in
-        let behind = items_joined f (w ++ z) nothing_asked [] (subst (λ (l : List Item). AreRowItems nothing_asked l []) h.touches.new_are (parts_are_items h.new_cut true h.new_is.parts)) in
+        let behind = items_joined f (w ++ z) nothing_asked [] (subst (λ (l : List Item). AreRowItems nothing_asked l []) s.new_are (parts_are_items h.new_cut true h.new_is.parts)) in
         marker_stays (asked_of nothing_asked f) w z lead k.marker behind line ends_so.1 (subst (λ (n : ℕ). begins_line (items_text w []) n ≡ true) place begins) k.some
-        (λ u i is. omega (arith, k.within, pieces.last, last_long kept.back f u z i (ap (λ (l : List Item). in_back kept.back (f ++ (l ++ z))) (sym is) ∙ (ap (in_back kept.back) (sym h.touches.new_are) ∙ h.touches.back_same))))
+        (λ u i is. omega (arith, k.within, pieces.last, last_long kept.back f u z i (ap (λ (l : List Item). in_back kept.back (f ++ (l ++ z))) (sym is) ∙ (ap (in_back kept.back) (sym s.new_are) ∙ h.touches.back_same))))
 
     unread : begins_line (items_text w []) (length (items_text w []) - e.marker) ≡ true → IsUnread w e
     unread begins =
-        let s = stays begins in
+        let y = stays begins in
         let texts = texts_second k.front (end_item k.gap k.marker ∷ []) (subst TextsIn k.items (texts_first tch z (texts_second f (tch ++ z) placed.texts))) in
-        record { front = s.0; gap = s.1; marker = k.marker; items = s.2; long = k.long; text = texts.1; read = region_end s.0 z s.1 k.marker (stand_in (ended s.0 s.1 k.marker) z (ap (λ (l : List Item). l ++ z) s.2)) }
+        record { front = y.0; gap = y.1; marker = k.marker; items = y.2; long = k.long; text = texts.1; read = region_end y.0 z y.1 k.marker (stand_in (ended y.0 y.1 k.marker) z (ap (λ (l : List Item). l ++ z) y.2)) }
 
   read : IsRead part x
-  read = search (rules, part_is, region, stand_in, more, unread, reports, new_size, go) where
-    go : (o : Option EndPlace) → KeepsMarker tch (kept.back - text_length z) o → (d : EndPlace) → unread_end (items_text w []) o ≡ Some d → IsUnread w d
-    go o h1 d h2 = search (rules, unread_is, unread)
+  read =
+      record {
+        written = w;
+        behind = z;
+        text = part_is;
+        read = region w z (stand_in w z refl);
+        more = more;
+        unread = λ d is. go x.marked reports d (ap (λ (l : List ℕ). unread_end l x.marked) (sym part_is) ∙ is);
+        small = omega (arith, ap length part_is, new_size, h.new_is.size);
+      }
+    where
+      go : (o : Option EndPlace) → KeepsMarker tch (kept.back - text_length z) o → (d : EndPlace) → unread_end (items_text w []) o ≡ Some d → IsUnread w d
+      go o h1 d h2 = search (rules, unread_is, unread)
 
   -- what is counted
+  abbrev m : ℕ
+  m = kept.back - text_length z
+
+  by_reports : (o : Option EndPlace) → KeepsMarker tch m o → text_read m tch w ≡ read_part (items_text w []) o
+  by_reports None none = ap (λ (k : ℕ). without_line k (items_text w [])) none ∙ without_none (items_text w [])
+  by_reports (Some e) k = ap (λ (j : ℕ). without_line j (items_text w [])) (k.kept ∙ sym k.long) ∙ without (items_text w []) e
+
+  -- of what is touched and written there are no two
+  same_read : (j : TouchesOnly kept.front kept.back h.old_cut h.new_cut) → read_text kept h.old_cut h.new_cut j ≡ read_text kept h.old_cut h.new_cut h.touches
+  same_read j =
+      let y : List Item = in_front kept.front xs in
+      let old : j.touched ≡ h.touches.touched =
+      append_cancel_right j.touched h.touches.touched z (append_cancel_left y (j.touched ++ z) (h.touches.touched ++ z) (sym j.old_are ∙ h.touches.old_are)) in
+      let come : j.written ≡ h.touches.written =
+      append_cancel_right j.written h.touches.written z (append_cancel_left y (j.written ++ z) (h.touches.written ++ z) (sym j.new_are ∙ h.touches.new_are)) in
+      λ i. text_read m (behind_end (keeps_end kept h.old_cut (old i)) (old i)) (behind_end (keeps_end kept h.old_cut (old i)) (come i))
+
   once : (c d : Cut) → IsCut t c → IsCut (exchanged kept t new) d → (j : TouchesOnly kept.front kept.back c d) → read_text kept c d j ≡ read_part part x.marked
-  once c d was is j = search (rules, one_cut, append_cancel_right, append_cancel_left, reports, part_is, without_none, without)
+  once c d was is =
+      let own : (j : TouchesOnly kept.front kept.back h.old_cut h.new_cut) → read_text kept h.old_cut h.new_cut j ≡ read_part part x.marked =
+      λ j. same_read j ∙ (s.read_is ∙ (by_reports x.marked reports ∙ ap (λ (l : List ℕ). read_part l x.marked) (sym part_is))) in
+      subst (λ (k : Cut). (j : TouchesOnly kept.front kept.back k d) → read_text kept k d j ≡ read_part part x.marked) (one_cut t h.old_cut c h.old_is was)
+      (subst (λ (k : Cut). (j : TouchesOnly kept.front kept.back h.old_cut k) → read_text kept h.old_cut k j ≡ read_part part x.marked) (one_cut (exchanged kept t new) h.new_cut d h.new_is is) own)
 
   pub changes : TextChange t new kept p x
   unfolding read
@@ -208,13 +236,13 @@ module _ (t new : List ℕ) (kept : Kept) (p : Places) (x : Touched) (h : Follow
     touched = tch;
     read = read;
     placed = placed;
-    front_is = front_is;
+    front_is = s.side;
     old_is = old_is;
-    front_rows = ap (λ (n : ℕ). take n p.front.items) (ap (λ (s : Side). s.rows) front_is) ∙ front_taken p xs kept.front at_xs here (omega (arith, fits));
+    front_rows = s.rows;
     back_rows = back_taken p xs kept.front kept.back at_xs here fits;
     edges = edges;
-    old_items = λ c is. sym h.touches.old_are ∙ ap items_of_cut (one_cut t h.old_cut c h.old_is is);
-    items = λ d is. sym h.touches.new_are ∙ ap items_of_cut (one_cut (exchanged kept t new) h.new_cut d h.new_is is);
+    old_items = λ c is. sym s.old_are ∙ ap items_of_cut (one_cut t h.old_cut c h.old_is is);
+    items = λ d is. sym s.new_are ∙ ap items_of_cut (one_cut (exchanged kept t new) h.new_cut d h.new_is is);
     small = omega (arith, new_size, h.new_is.size, joined_long f (w ++ z), joined_long w z);
     once = once;
   }

@@ -18,7 +18,10 @@ pub mod LineLaws
 pub mod NodeLines
 pub mod RowLines
 pub mod MarkerLaws
+pub mod LineStarts
 pub mod KeptSides
+pub mod PassedEnds
+pub mod PassedLaws
 pub mod FollowLaws
 pub mod DoneLaws
 pub mod DropLaws

@@ -31,11 +31,11 @@ line_at : (at : Bool) (b : ℕ) (q m : List ℕ) → fresh at (b ∷ q) ≡ fron
 line_at at b [] m = refl
 line_at at b (c ∷ q) m = line_at (is_feed b) c q m
 
-begins_fresh : (q m : List ℕ) → begins_line (q ++ m) (length q) ≡ true → fresh true q ≡ true
+pub begins_fresh : (q m : List ℕ) → begins_line (q ++ m) (length q) ≡ true → fresh true q ≡ true
 begins_fresh [] m h = refl
 begins_fresh (b ∷ q) m h = line_at true b q m ∙ h
 
-fresh_joined : (at : Bool) (a b : List ℕ) → fresh at (a ++ b) ≡ fresh (fresh at a) b
+pub fresh_joined : (at : Bool) (a b : List ℕ) → fresh at (a ++ b) ≡ fresh (fresh at a) b
 fresh_joined at [] b = refl
 fresh_joined at (x ∷ a) b = fresh_joined (is_feed x) a b
 
@@ -43,7 +43,7 @@ fresh_any : (at : Bool) (q : List ℕ) → fresh at q ≡ true → fresh true q 
 fresh_any at [] h = refl
 fresh_any at (b ∷ q) h = h
 
-fresh_some : (at other : Bool) (q : List ℕ) → 0 < length q → fresh at q ≡ true → fresh other q ≡ true
+pub fresh_some : (at other : Bool) (q : List ℕ) → 0 < length q → fresh at q ≡ true → fresh other q ≡ true
 fresh_some at other [] some h = absurd (omega (arith, some))
 fresh_some at other (b ∷ q) some h = h
 

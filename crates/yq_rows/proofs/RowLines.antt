@@ -18,7 +18,7 @@ use Rattle.yq_row_table.specs.Rows as rows
 
 -- ---- ends of lines
 
-white_all : (w : List ℕ) → IsWhite w → NoFeed w
+pub white_all : (w : List ℕ) → IsWhite w → NoFeed w
 white_all [] h = tt
 white_all (b ∷ w) h = (two_bytes b 32 9 refl refl h.0, white_all w h.1)
 
@@ -26,7 +26,7 @@ none_all : (p t : List ℕ) → NoneIn ends_line p t → NoFeed p
 none_all [] t h = tt
 none_all (b ∷ p) t h = (⊎_elim {0, 0, 0} (λ (e : is_feed b ≡ true). absurd (false≢true (sym h.0 ∙ rw e refl))) (λ (e : is_feed b ≡ false). e) (cases_Bool (is_feed b)), none_all p t h.1)
 
-comment_all : (c break : List ℕ) → IsComment c break → NoFeed c
+pub comment_all : (c break : List ℕ) → IsComment c break → NoFeed c
 comment_all [] break h = tt
 comment_all (b ∷ c) break h = (ap is_feed h.0, none_all c break h.1)
 
@@ -70,7 +70,7 @@ digit_all (Some d) h = (ne_eqb (48 + d) 10 (λ e. omega (arith, e)), tt)
 sign_all : (c : Chomping) → NoFeed (sign_text c)
 sign_all c = search rules
 
-both_all : (p q : List ℕ) → NoFeed p → NoFeed q → NoFeed (p ++ q)
+pub both_all : (p q : List ℕ) → NoFeed p → NoFeed q → NoFeed (p ++ q)
 both_all [] q h k = k
 both_all (b ∷ p) q h k = (h.0, both_all p q h.1 k)
 

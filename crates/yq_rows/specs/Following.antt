@@ -1,9 +1,9 @@
 -- A text and the places of its rows and of the ends of its parts that follow a change (own).
-use Rattle.std.specs.Prelude.{◌≡◌, ℕ, ◌+◌, ◌-◌, ◌≤◌, nat_le, List, [], ◌∷◌, ◌++◌, length, take, drop, if◌then◌else◌}
-use Rattle.std.specs.Str.{IsCharBoundary}
+use Rattle.std.specs.Prelude.{◌≡◌, ◌==◌, ◌&&◌, Bool, false, ℕ, ◌+◌, ◌-◌, ◌≤◌, nat_le, nat_lt, List, [], ◌∷◌, ◌++◌, length, take, drop}
+use Rattle.std.{specs.Prelude.if◌then◌else◌, specs.Str.IsCharBoundary}
 use Rattle.yq_row_table.{specs.Grammar.IsCut, specs.Items.{Item, row_item, end_item, items_of_cut, items_text}, specs.Kept.IsPlaced}
-use Rattle.yq_row_table.{specs.Meter.{begins_line, count_after, line_count}, specs.Regions.no_items, specs.Rows.Cut}
-use Rattle.yq_row_table.{specs.Touched.{TouchesOnly, in_back}, specs.View.rows_view, specs.declared.places.Places.Places}
+use Rattle.yq_row_table.{specs.Meter.{begins_line, count_after, line_count}, specs.Regions.no_items, specs.Rows.{Cut, cut_text}}
+use Rattle.yq_row_table.{specs.Touched.{TouchesOnly, in_back, in_front}, specs.View.rows_view, specs.declared.places.Places.Places}
 use Rattle.yq_rows.specs.declared.kept.Kept.{Kept}
 
 -- what a text becomes where these bytes come in the place of those that aren't kept (own)
@@ -33,6 +33,22 @@ pub record Follows (t : List ℕ) (places : Places) (kept : Kept) (new : List �
   pub front_edge : IsCharBoundary t kept.front
   pub back_edge : IsCharBoundary t (length t - kept.back)
 
+-- whether the first of items is the end of a part before a marker, whose gap and whose marker's line are so many bytes (own)
+abbrev pub is_end_of : ℕ → List Item → Bool
+is_end_of n [] = false
+is_end_of n (row_item r ∷ xs) = false
+is_end_of n (end_item gap marker ∷ xs) = nat_lt 0 (length marker) && length (gap ++ marker) == n
+
+-- whether a change keeps all of the end of a part with which what it touches begins: of the bytes that it keeps in front this and the line of its
+-- marker are the last ones, and a line begins behind them (own)
+abbrev pub keeps_end : (kept : Kept) (c : Cut) (touched : List Item) → Bool
+keeps_end kept c touched =
+    begins_line (cut_text c) kept.front && is_end_of (kept.front - length (items_text (in_front kept.front (items_of_cut c)) [])) touched
+
+-- items without the first one, where that is kept (own)
+abbrev pub behind_end : Bool → List Item → List Item
+behind_end keeps xs = if keeps then drop 1 xs else xs
+
 -- the line of the marker behind an item, where that is the end of a part (own)
 abbrev pub marker_of : Item → List ℕ
 marker_of (row_item r) = []
@@ -51,10 +67,17 @@ kept_marker n xs = if nat_le (length (marker_line xs)) n then length (marker_lin
 abbrev pub without_line : ℕ → List ℕ → List ℕ
 without_line n t = if begins_line t (length t - n) then take (length t - n) t else t
 
--- The text that is read where rows and ends of parts are exchanged: that of those that come, without the line of a marker which the change keeps, where it
--- begins a line still (own).
+-- what is read of items that come in the place of others: their text without the line of a marker which the change keeps behind, where it begins a line
+-- still (own)
+abbrev pub text_read : (kept : ℕ) (touched written : List Item) → List ℕ
+text_read kept touched written = without_line (kept_marker kept touched) (items_text written [])
+
+-- The text that is read where rows and ends of parts are exchanged: that of those that come, without an end in front that the change keeps, and without
+-- the line of a marker that it keeps behind, where this begins a line still (own).
 abbrev pub read_text : (kept : Kept) (c new : Cut) → TouchesOnly kept.front kept.back c new → List ℕ
-read_text kept c new h = without_line (kept_marker (kept.back - length (items_text (in_back kept.back (items_of_cut c)) [])) h.touched) (items_text h.written [])
+read_text kept c new h =
+    text_read (kept.back - length (items_text (in_back kept.back (items_of_cut c)) [])) (behind_end (keeps_end kept c h.touched) h.touched)
+    (behind_end (keeps_end kept c h.touched) h.written)
 
 -- a count that rose by the lines that are read where a change exchanges rows and ends of parts (own)
 abbrev pub CountsWritten : (t new : List ℕ) → Kept → (before after : ℕ) → Type 0

@@ -64,6 +64,17 @@ marked_end ends front old at =
     if nat_le old.ends front.ends then None
     else (slice_get ends (old.ends - 1) >>= λ e. if keeps_marker e old.rows at then Some e else None)
 
+-- so many rows stand before the end of a part, and the line of its marker, if there is one, ends at an offset (own)
+abbrev pub ends_at : EndPlace → (rows at : ℕ) → Bool
+ends_at e rows at = e.rows == rows && nat_lt 0 e.marker && ((e.start + e.gap) + e.marker) == at
+
+-- what stands in front of the place behind the end of a part, where that comes next behind some others and its marker's line ends at an offset, at which
+-- a line begins; else what stands in front of it (own)
+abbrev pub past_end : Option EndPlace → Side → (at : ℕ) → (begins : Bool) → Side
+past_end None front at begins = front
+past_end (Some e) front at begins =
+    if begins && ends_at e front.rows at then record { rows = front.rows; ends = front.ends + 1; bytes = at } else front
+
 -- how many rows, ends of parts and bytes items are (own)
 abbrev pub side_of : List Item → Side
 side_of xs = record { rows = length (near 0 xs); ends = length (ends_near 0 0 xs); bytes = text_length xs }

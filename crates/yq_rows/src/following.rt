@@ -1,7 +1,8 @@
 //! A text and the places of its rows that follow a change.
-ghost use Rattle.std.{specs.Prelude.{◌≡◌, ◌≤◌, ◌+◌, ◌-◌, OnOk, length, is_ok, if◌then◌else◌}, specs.Str.IsCharBoundary};
-ghost use Rattle.yq_text.specs.TextGapBuffer.{buffer_text};
+ghost use Rattle.std.{specs.Prelude.{◌≡◌, ◌≤◌, ◌+◌, ◌-◌, OnOk, length, is_ok, if◌then◌else◌, slice_index}, specs.Str.IsCharBoundary};
+ghost use Rattle.yq_text.{specs.Halves.whole, specs.TextGapBuffer.buffer_text};
 ghost use Rattle.yq_rows.specs.Following.{ArePlacesOf, CountsWritten, Follows, exchanged};
+ghost use Rattle.yq_row_table.specs.Meter as lines;
 
 use crate::Meter;
 use crate::dropping::{drop_rows, drop_text, end_dropped};
@@ -12,7 +13,32 @@ use crate::split::move_split;
 use crate::touched::find_touched;
 use std::alloc::{AllocError, Global};
 use yq_row_table::Places;
-use yq_text::TextGapBuffer;
+use yq_text::{Halves, TextGapBuffer};
+
+/// The byte at a place; 0 behind the text.
+#[tactic(auto, using(crate::proofs::LineStarts::byte_front, crate::proofs::LineStarts::byte_back))]
+fn byte_at(text: Halves<'_>, at: usize) -> u8
+    ensures { result ≡ slice_index (whole text.entry) at }
+{
+    let front = text.front.as_bytes();
+    let back = text.back.as_bytes();
+    if at < front.len() {
+        return front[at];
+    }
+    let at = at - front.len();
+    if at < back.len() { back[at] } else { 0 }
+}
+
+/// Whether a line begins at a place of a text.
+#[tactic(auto, using(crate::proofs::LineStarts::begins_first, crate::proofs::LineStarts::begins_later))]
+fn begins_line(text: &TextGapBuffer, at: usize) -> bool
+    ensures { result ≡ lines.begins_line (buffer_text text.now) at }
+{
+    if at == 0 {
+        return true;
+    }
+    byte_at(text.halves(), at - 1) == b'\n'
+}
 
 /// Writes what comes into a text in the place of the bytes that aren't kept; there is room for it.
 fn write(text: &mut TextGapBuffer, kept: Kept, new: &str)
@@ -30,8 +56,8 @@ fn write(text: &mut TextGapBuffer, kept: Kept, new: &str)
 
 /// Writes what comes into a text in the place of the bytes that a change doesn't keep, and places of its
 /// rows come to be those of the new text. Of that no more is read than what comes in the place of the
-/// touched rows and ends of parts, without the line of a marker that stays behind them: the lines of
-/// that are counted. Other rows and bytes stay as they are, in front and behind: the time goes to the
+/// touched rows and ends of parts, without an end whose marker's line is the last that stays in front,
+/// and without the line of a marker that stays behind them: the lines of that are counted. Other rows and bytes stay as they are, in front and behind: the time goes to the
 /// touched rows, the ends of parts, and the rows and bytes between this change and the one before.
 ///
 /// # Errors
@@ -53,7 +79,8 @@ pub fn follow(
         (buffer_text text.new) kept meter.old meter.new) }
 {
     move_split(text, places, kept.front)?;
-    let touched = find_touched(places, text.len(), kept);
+    let begins = begins_line(text, kept.front);
+    let touched = find_touched(places, text.len(), kept, begins);
     if new.is_empty()
         && let Some(end) = end_dropped(places, text.len(), touched, kept)
     {

@@ -1,6 +1,6 @@
 //! The rows and ends of parts that a change touches.
-ghost use Rattle.std.specs.Prelude.{◌≡◌, ◌<◌, ◌≤◌, ◌^◌, ◌||◌, List, ℕ, length, nat_lt};
-ghost use Rattle.yq_row_table.specs.Kept.{kept_rows};
+ghost use Rattle.std.specs.Prelude.{◌≡◌, ◌<◌, ◌≤◌, ◌^◌, ◌||◌, List, ℕ, length, nat_lt, slice_get};
+ghost use Rattle.yq_row_table.{specs.Kept.kept_rows, specs.Meter.begins_line};
 ghost use Rattle.yq_rows.{specs.Exchanging.TextChange, specs.Following.Follows};
 ghost use Rattle.yq_rows.specs.Sides as spec;
 
@@ -19,6 +19,32 @@ pub(crate) struct Touched {
     pub more: bool,
     /// The last of them, where that is the end of a part and the change keeps the line of its marker.
     pub marked: Option<EndPlace>,
+}
+
+/// Whether so many rows stand before an end of a part, and the line of its marker, if there is one, ends
+/// at an offset.
+fn ends_at(end: EndPlace, rows: usize, at: usize) -> bool
+    ensures { result ≡ spec.ends_at end rows at }
+{
+    end.rows == rows && end.marker() > 0 && end.stop() + end.marker() == at
+}
+
+/// The place behind the end of a part that comes next behind what stands in front, where its marker's
+/// line ends at an offset, at which a line begins; else what stands in front.
+fn past_end(ends: &[EndPlace], front: Side, at: usize, begins: bool) -> Side
+    ensures { result ≡ spec.past_end (slice_get ends.now front.ends) front at begins }
+{
+    if let Some(end) = ends.get(front.ends)
+        && begins
+        && ends_at(*end, front.rows, at)
+    {
+        return Side {
+            rows: front.rows,
+            ends: front.ends + 1,
+            bytes: at,
+        };
+    }
+    front
 }
 
 /// Whether so many rows stand before an end of a part, and the line of its marker, if there is one, begins
@@ -54,15 +80,17 @@ fn has_more(places: &Places, old: Side) -> bool
 }
 
 /// The rows and ends of parts that a change of a text of `len` bytes touches; the split is where the
-/// first byte is that the change doesn't keep.
-pub(crate) fn find_touched(places: &Places, len: usize, kept: Kept) -> Touched
+/// first byte is that the change doesn't keep. An end in front of that byte is none of them where the
+/// line of its marker ends there, and a line begins.
+pub(crate) fn find_touched(places: &Places, len: usize, kept: Kept, begins: bool) -> Touched
     requires small { len < 2 ^ 32 }
     requires within { kept.back ≤ len }
     requires split { spec.IsSplitAt kept.front len places.now }
-    ensures { (t new : List ℕ) → len ≡ length t → (h : Follows t places.now kept new) →
-        TextChange t new kept places.now result }
+    ensures { (t new : List ℕ) → len ≡ length t → begins ≡ begins_line t kept.front →
+        (h : Follows t places.now kept new) → TextChange t new kept places.now result }
 {
-    let front = side_before(places, kept.front);
+    let before = side_before(places, kept.front);
+    let front = past_end(places.ends.as_slice(), before, kept.front, begins);
     let old = side_behind(places, len, kept.back);
     Touched {
         front,
