@@ -3,6 +3,8 @@
 #![tactic(auto)]
 
 #[cfg(test)]
+mod applied;
+#[cfg(test)]
 mod documents;
 #[cfg(test)]
 mod growths;
@@ -11,6 +13,8 @@ mod journals;
 mod memory;
 #[cfg(test)]
 mod nodes;
+#[cfg(test)]
+mod scanned;
 #[cfg(test)]
 mod sessions;
 #[cfg(test)]

@@ -14,7 +14,7 @@ const TEXT: &str = "list:\n  - 5 # c\n";
 const EDITED: &str = "list:\n  - # c\n    k:\n      - 1\n";
 
 /// The operations of the first update of a program, as planned on a text, which the first of them fits.
-fn planned(alloc: Global, text: &str, program: &Program) -> Result<Vec<Op>, EditError>
+pub(crate) fn planned(alloc: Global, text: &str, program: &Program) -> Result<Vec<Op>, EditError>
     requires { 0 < update_count (program_of program.now) }
     ensures { IfOk result (λ ops. (op : Op) → slice_get ops.items 0 ≡ Some op →
         IsFitting (operation_of op) text.now) }
