@@ -43,8 +43,9 @@ def is_taken_at_once(folder, name, space, options, row, links):
         os.link(layers.lower.name("f"), layers.lower.name("g"))
     old = layers.lower.files()
     equal(layers.top.run(*words, before=layers.over), (0, b"", b""), (name, words))
-    seen = layers.top.run(".", "f", before=layers.over)
-    equal((seen, layers.lower.files()), ((0, TEXTS[wanted], b""), old), (name, words))
+    seen = layers.top.run(".n", "f", before=layers.over)
+    equal((seen, layers.lower.files()), ((0, b"%d\n" % wanted, b""), old), (name, words))
+    equal(layers.top.read("u/f"), TEXTS[wanted], (name, words))
     return 1
 
 
@@ -80,4 +81,4 @@ def check_a_lower_layer_of_another_file_system(folder):
     if subprocess.run([*over, "true"], cwd=layers.top.path, capture_output=True).returncode != 0:
         raise Skip("may not mount layers")
     equal(layers.top.run(*EDIT_2, before=over), (0, b"", b""))
-    equal(layers.top.run(".", "f", before=over), (0, TEXTS[2], b""))
+    equal(layers.top.read("u/f"), TEXTS[2])
