@@ -179,3 +179,25 @@ def check_nothing_is_left_beside_the_files(folder):
     for words in (["-i", ".port = 9090", "f"], ["undo", "f"], ["redo", "f"], ["-i", ".port = 1", "f"]):
         folder.accepts(*words)
     equal(folder.names(), ["f", "f.undo.json"])
+
+
+def check_a_name_that_leaves_no_room_for_that_of_its_journal(folder):
+    """A journal under a shorter name is taken."""
+    for length in (246, 255):
+        name = "a" * length
+        folder.write(name, WEB)
+        for words in (["-i", ".port = 9090"], ["undo"], ["history"]):
+            folder.refuses("S2 read failed", *words, name)
+        equal((folder.read(name), folder.names()), (WEB, [name]))
+        folder.accepts("-i", ".port = 9090", "--journal", "j", name)
+        folder.accepts("undo", "--journal", "j", name)
+        equal(folder.read(name), WEB)
+        for old in (name, "j"):
+            os.remove(folder.name(old))
+
+
+def check_a_system_that_sets_no_modes(folder):
+    """Nothing is written."""
+    folder.write("f", WEB)
+    status, err, _trace = traced(folder, ["-i", ".port = 9090", "f"], "fchmod:error=EPERM")
+    equal((status, err, folder.read("f"), folder.names()), (1, b"Error: S3 write failed\n", WEB, ["f"]))

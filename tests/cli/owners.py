@@ -29,6 +29,7 @@ def check_the_owner_and_the_mode_stay(folder):
 
 
 def check_the_journal_keeps_its_owner(folder):
+    """And gets the group of its file."""
     as_nobody()
     folder.write("f", WEB)
     os.chown(folder.name("f"), SOMEBODY, SOMEBODY)
@@ -37,7 +38,7 @@ def check_the_journal_keeps_its_owner(folder):
         os.chown(folder.name("f.undo.json"), owner, group)
         os.chmod(folder.name("f.undo.json"), 0o640)
         folder.accepts("undo", "f")
-        equal(rights(folder, "f.undo.json"), (owner, group, 0o640))
+        equal(rights(folder, "f.undo.json"), (owner, SOMEBODY, 0o640))
         folder.accepts("redo", "f")
 
 

@@ -12,6 +12,7 @@ import sys
 sys.path.insert(0, os.path.dirname(os.path.abspath(__file__)))
 
 import completions
+import containers
 import cuts
 import disks
 import edits
@@ -29,15 +30,17 @@ import reads
 import saves
 import shells
 import strangers
+import swaps
 import together
 import words
+import writers
 from harness import run_all
 from pages import run_pages
 from tables import run_tables
 
 CHECKS = [
-    edits, words, completions, guides, installing, failures, links, owners, strangers, leftovers, disks, reads, shells,
-    random_edits, forms, mutations, together, saves, cuts, memory,
+    edits, words, completions, guides, installing, failures, links, owners, strangers, writers, swaps, leftovers, disks, containers,
+    reads, shells, random_edits, forms, mutations, together, saves, cuts, memory,
 ]
 
 sys.exit(run_all(CHECKS, [run_tables, run_pages], sys.argv))

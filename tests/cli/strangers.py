@@ -109,6 +109,17 @@ def check_a_link_of_the_owner_to_the_journal_of_another_user(folder):
         place.accepts("history", "f", before=before)
 
 
+def is_believed(folder, user, believed):
+    """Root's undo does the record that the journal holds; another user, who may not write all of them, lists it."""
+    before = as_user(user, user) if user else []
+    words = ["history", "f"] if user else ["undo", "f"]
+    if not believed:
+        is_refused(folder, "S2 read failed", *words, before=before)
+    else:
+        folder.accepts(*words, before=before)
+        equal(folder.read("f"), ONE if user else b"n: 9\n")
+
+
 def check_whose_journal_is_believed(folder):
     """Its owner is root, the user of the run or the owner of the file, or may write the file anyway."""
     as_nobody()
@@ -129,18 +140,13 @@ def check_whose_journal_is_believed(folder):
         (NOBODY, 0o666, owner, other, True),
         (NOBODY, 0o666, owner, owner, True),
         (NOBODY, 0o664, (NOBODY, SOME_GROUP), owner, True),
-        (NOBODY, 0o660, (NOBODY, SOME_GROUP), (SOMEBODY, SOMEBODY), False),
+        (NOBODY, 0o664, (NOBODY, SOME_GROUP), (SOMEBODY, SOMEBODY), False),
     ]
     folder.give_away()
     for user, mode, of_file, of_journal, believed in rows:
         put(folder, "f", ONE, *of_file, mode)
-        put(folder, "f.undo.json", RECORDED, *of_journal, 0o666)
-        before = as_user(user, user) if user else []
-        if believed:
-            folder.accepts("undo", "f", before=before)
-            equal(folder.read("f"), b"n: 9\n", (user, oct(mode), of_file, of_journal))
-        else:
-            is_refused(folder, "S2 read failed", "undo", "f", before=before)
+        put(folder, "f.undo.json", RECORDED, *of_journal, mode | 0o044)
+        is_believed(folder, user, believed)
 
 
 def check_two_colleagues_edit_and_squash_in_turn(folder):
@@ -167,13 +173,13 @@ def check_two_colleagues_edit_and_squash_in_turn(folder):
 
 
 def check_a_new_journal_elsewhere_is_not_given_away(folder):
-    """Beside its file it is the file's owner's; elsewhere its maker's, with the file's mode less the set-id bits."""
+    """Beside its file it is the file's owner's; elsewhere its maker's, with the file's mode less the set-id bits and, for another group, its bits."""
     as_nobody()
     for name in ("d", "e"):
         os.mkdir(folder.name(name))
     put(folder, "d/f", ONE, NOBODY, SOME_GROUP, 0o6640)
     os.chown(folder.name("d"), NOBODY, NOBODY)
-    of_file, own = (NOBODY, SOME_GROUP, 0o640), (0, 0, 0o640)
+    of_file, own = (NOBODY, SOME_GROUP, 0o640), (0, 0, 0o600)
     for journal, wanted in (("d/j", of_file), ("e/j", own), ("e/../d/k", of_file)):
         folder.accepts("-i", ".n = 2", "--journal", journal, "d/f")
         folder.accepts("undo", "--journal", journal, "d/f")
@@ -187,7 +193,7 @@ def check_a_new_journal_elsewhere_is_not_given_away(folder):
 
 def check_a_journal_loses_what_its_file_lacks(folder):
     for place, user, before in each_user(folder):
-        rows = ((0o600, 0o666, 0o600), (0o640, 0o664, 0o640), (0o644, 0o600, 0o600), (0o664, 0o646, 0o644))
+        rows = ((0o600, 0o644, 0o600), (0o640, 0o644, 0o640), (0o644, 0o600, 0o600), (0o664, 0o645, 0o644), (0o666, 0o664, 0o664))
         for mode, of_journal, left in rows:
             put(place, "f", ONE, user, user, mode)
             put(place, "f.undo.json", RECORDED, user, user, of_journal)

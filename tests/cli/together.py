@@ -256,19 +256,25 @@ def check_a_wait_is_told_on_a_terminal(folder):
 
 
 def check_a_file_system_without_locks(folder):
-    """It says that it has none, or lends one only to who may write."""
-    for error in ("ENOLCK", "EOPNOTSUPP", "ENOSYS", "EBADF:when=1"):
-        place = type(folder)(folder.yq, folder.name(error[:5]))
+    """What may write is refused there, unless it is asked for. One that lends a lock only to who may write finds the file open so."""
+    for error in ("ENOLCK", "EOPNOTSUPP", "ENOSYS"):
+        place = type(folder)(folder.yq, folder.name(error))
         os.mkdir(place.path)
         place.write("f", text(value(0)))
-        status, err, trace = traced(place, words(1), f"flock:error={error}")
+        failing = f"flock:error={error}"
+        for word in (None, "", "0", "yes"):
+            env = {**os.environ, **({} if word is None else {"YQ_NO_LOCK": word})}
+            status, err, trace = traced(place, words(1), failing, env=env)
+            equal((status, err, place.names(), place.read("f")), (1, NO_LOCK[2], ["f"], text(value(0))), (error, word))
+        status, err, trace = traced(place, words(1), failing, env={**os.environ, "YQ_NO_LOCK": "1"})
         equal((status, err), (0, b""), error)
         opens = [line for line in trace if line.startswith("openat(") and '"f"' in line]
-        equal(any("O_RDWR" in line for line in opens), "EBADF" in error, opens)
+        equal((len(opens), "O_RDWR" in opens[0]), (1, True), opens)
+        equal(traced(place, ["history", "f"], failing)[:2], (0, b""))
         holds_all(place, [1])
     folder.write("f", text(value(0)))
     for error in ("EBADF", "EIO"):
-        status, err, _trace = traced(folder, words(1), f"flock:error={error}")
+        status, err, _trace = traced(folder, words(1), f"flock:error={error}", env={**os.environ, "YQ_NO_LOCK": "1"})
         equal((status, err, folder.read("f")), (1, NO_LOCK[2], text(value(0))), error)
 
 

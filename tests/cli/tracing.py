@@ -75,9 +75,10 @@ def own_calls(calls, file):
     return calls[first:]
 
 
-def stopped(log):
+def stops_in(log):
+    """How often a run was stopped."""
     with open(log, encoding="utf-8", errors="replace") as trace:
-        return "--- stopped by SIGSTOP ---" in trace.read()
+        return trace.read().count("--- stopped by SIGSTOP ---")
 
 
 def child_of(pid):
@@ -96,7 +97,7 @@ class Held:
             line, cwd=folder.path, stdin=subprocess.DEVNULL, stdout=subprocess.PIPE, stderr=subprocess.PIPE
         )
         end = time.monotonic() + SECONDS
-        while not (os.path.exists(log) and stopped(log)):
+        while not (os.path.exists(log) and stops_in(log)):
             equal(time.monotonic() < end and self.run.poll() is None, True, f"the run was stopped at {call}")
             time.sleep(0.01)
         self.pid = child_of(self.run.pid)
@@ -106,3 +107,20 @@ class Held:
         os.kill(self.pid, what)
         out, err = self.run.communicate(timeout=SECONDS)
         return self.run.returncode, out, err
+
+
+def stepped(folder, name, words, at_stop, nobody=False):
+    """Stops a run behind each of its system calls of a name, and does something at each stop. Gives status and standard error."""
+    log = folder.path + ".trace"
+    line = [*traced_line(log, nobody), "-e", f"inject={name}:signal=STOP:when=1+", folder.yq, *words]
+    run = subprocess.Popen(line, cwd=folder.path, stdin=subprocess.DEVNULL, stdout=subprocess.PIPE, stderr=subprocess.PIPE)
+    stops, end = 0, time.monotonic() + SECONDS
+    while run.poll() is None:
+        equal(time.monotonic() < end, True, f"the run of {words} ends")
+        if os.path.exists(log) and stops_in(log) > stops:
+            stops += 1
+            at_stop(stops)
+            os.kill(child_of(run.pid), signal.SIGCONT)
+        time.sleep(0.002)
+    _out, err = run.communicate()
+    return run.returncode, err

@@ -6,6 +6,7 @@ mod edited;
 mod journal;
 mod links;
 mod locking;
+mod opening;
 mod ownership;
 mod protection;
 pub mod purpose;
@@ -17,6 +18,7 @@ mod trust;
 
 use crate::disk::edited::{EditedFile, read_edited, write_journal, write_own};
 use crate::disk::journal::read_journal;
+use crate::disk::links::is_absence;
 use crate::disk::purpose::Purpose;
 use crate::disk::reading::read_text;
 use crate::store::{FileReadError, FileWriteError, Store};
@@ -24,7 +26,7 @@ use std::alloc::Global;
 use std::fs::File;
 use std::io::{Eprint, ErrorKind};
 use std::random::RandomSource;
-use std::rt::Files;
+use std::rt::{Env, Files};
 use std::time::Clock;
 use std::{fs, io};
 
@@ -65,14 +67,18 @@ impl<'a, R: Drop> DiskStore<'a, R> {
 
 impl<
     'a,
-    R: Files<File = File> + RandomSource + Clock + Eprint + Alloc<A = Global> + Drop,
+    R: Files<File = File> + RandomSource + Clock + Eprint + Env + Alloc<A = Global> + Drop,
 > DiskStore<'a, R> {
-    /// The bytes of a file. A command that looks at a journal locks its file first.
-    fn bytes_of(&mut self, alloc: Global, name: &str) -> io::Result<Vec<u8>>
+    /// The bytes of a file, if there is one. A command that looks at a journal locks its file first.
+    fn bytes_of(&mut self, alloc: Global, name: &str) -> io::Result<Option<Vec<u8>>>
         ensures { self.new.failures ≡ self.old.failures }
     {
         if self.purpose == Purpose::Print {
-            return read_text(alloc, fs::open(&self.rt, name)?);
+            return match fs::open(&self.rt, name) {
+                Ok(file) => read_text(alloc, file).map(Some),
+                Err(e) if is_absence(&e) => Ok(None),
+                Err(e) => Err(e),
+            };
         }
         if name == self.file {
             return read_edited(
@@ -87,7 +93,8 @@ impl<
         let Some(edited) = &self.edited else {
             return Err(io::Error::from(ErrorKind::Other));
         };
-        let bytes = read_journal(&self.rt, alloc, name, edited.trust);
+        let writes = self.purpose != Purpose::List;
+        let bytes = read_journal(&self.rt, alloc, name, edited.trust, edited.state, writes);
         // What only lists has read all: it holds nobody back while it prints.
         if self.purpose == Purpose::List {
             self.edited = None;
@@ -107,8 +114,10 @@ impl<
     }
 }
 
-impl<'a, R: Files<File = File> + RandomSource + Clock + Eprint + Alloc<A = Global> + Drop> Store
-    for DiskStore<'a, R> {
+impl<
+    'a,
+    R: Files<File = File> + RandomSource + Clock + Eprint + Env + Alloc<A = Global> + Drop,
+> Store for DiskStore<'a, R> {
     ghost keeps = { false };
 
     ghost content = { λ _. map.empty };
@@ -117,10 +126,8 @@ impl<'a, R: Files<File = File> + RandomSource + Clock + Eprint + Alloc<A = Globa
 
     fn read(&mut self, alloc: Global, name: &str) -> Result<Vec<u8>, FileReadError> {
         match self.bytes_of(alloc, name) {
-            Ok(bytes) => Ok(bytes),
-            Err(e) if matches!(e.kind(), ErrorKind::NotFound | ErrorKind::NotADirectory) => {
-                Err(FileReadError::NotThere)
-            }
+            Ok(Some(bytes)) => Ok(bytes),
+            Ok(None) => Err(FileReadError::NotThere),
             Err(e) if e.kind() == ErrorKind::OutOfMemory => Err(FileReadError::OutOfMemory),
             Err(_) => {
                 self.failures = self.failures.saturating_add(1);

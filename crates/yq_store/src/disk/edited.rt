@@ -1,22 +1,22 @@
 //! The file of a command that looks at a journal, from its reading to the last write.
 
 use crate::disk::journal::journal_rights;
-use crate::disk::links::target_of;
-use crate::disk::locking::{OpenedFile, locked_file};
+use crate::disk::links::{Target, target_of};
+use crate::disk::locking::locked_file;
+use crate::disk::opening::OpenedFile;
 use crate::disk::ownership::Rights;
-use crate::disk::protection::check_replaceable;
+use crate::disk::protection::{check_replaceable, check_target};
 use crate::disk::purpose::Purpose;
 use crate::disk::reading::{MOST_OF_TEXT, read_text};
-use crate::disk::replacing::{old_file, replace_file};
+use crate::disk::replacing::replace_file;
 use crate::disk::state::FileState;
 use crate::disk::temporary::remove_left;
 use crate::disk::trust::Trust;
 use std::alloc::Global;
 use std::fs::File;
 use std::io::{Eprint, ErrorKind};
-use std::path::PathBuf;
 use std::random::RandomSource;
-use std::rt::Files;
+use std::rt::{Env, Files};
 use std::time::Clock;
 use std::{fs, io};
 
@@ -24,24 +24,26 @@ use std::{fs, io};
 #[derive(Drop)]
 pub struct EditedFile {
     opened: OpenedFile,
-    state: FileState,
+    pub state: FileState,
     pub trust: Trust,
     /// Whether it was looked, before the first write, that the command may write.
     is_checked: bool,
 }
 
-/// Locks the file to which a name leads, and reads it; the one that was locked before is closed first.
+/// Locks the file to which a name leads, if any, and reads it; the one that was locked before is closed first.
 /// Where `reports` is set, a run that waits for the lock for longer than a second tells it.
-pub fn read_edited<R: Files<File = File> + Clock + Eprint + Alloc<A = Global>>(
+pub fn read_edited<R: Files<File = File> + Clock + Eprint + Env + Alloc<A = Global>>(
     rt: &R,
     edited: &mut Option<EditedFile>,
     alloc: Global,
     name: &str,
     purpose: Purpose,
     reports: bool,
-) -> io::Result<Vec<u8>> {
+) -> io::Result<Option<Vec<u8>>> {
     *edited = None;
-    let opened = locked_file(rt, name, purpose, reports)?;
+    let Some(opened) = locked_file(rt, name, purpose, reports)? else {
+        return Ok(None);
+    };
     let found = opened.file.metadata()?;
     if purpose == Purpose::Replay && found.len() >= MOST_OF_TEXT {
         return Err(io::Error::from(ErrorKind::FileTooLarge));
@@ -53,48 +55,62 @@ pub fn read_edited<R: Files<File = File> + Clock + Eprint + Alloc<A = Global>>(
         trust: Trust::of(rt, &found),
         is_checked: false,
     });
-    text
+    text.map(Some)
 }
 
-/// Before the first write: that the file and the path of that write may both be replaced, and that
-/// the name still leads to the file as it was read. Then what cut runs left beside these goes.
+/// Before the first write: that the file and, where that write is of its journal, what was found there may
+/// both be replaced, and that the name still leads to the file as it was read. Then what cut runs left
+/// beside these goes.
 fn check_first<R: Files<File = File> + Clock + Alloc<A = Global>>(
     rt: &R,
     edited: &EditedFile,
     name: &str,
-    path: &PathBuf,
+    journal: Option<&Target>,
 ) -> io::Result<()> {
     if edited.is_checked {
         return Ok(());
     }
-    check_replaceable(rt, &edited.opened.path)?;
-    check_replaceable(rt, path)?;
+    let opened = &edited.opened;
+    check_replaceable(
+        rt,
+        &opened.path,
+        &opened.file,
+        opened.is_writable,
+        edited.trust,
+    )?;
+    if let Some(target) = journal {
+        check_target(rt, target, edited.trust)?;
+    }
     if FileState::of(&fs::metadata(rt, name)?) != edited.state {
         return Err(io::Error::from(ErrorKind::ResourceBusy));
     }
-    remove_left(rt, &edited.opened.path);
-    remove_left(rt, path);
+    remove_left(rt, &opened.path);
+    if let Some(target) = journal {
+        remove_left(rt, &target.path);
+    }
     Ok(())
 }
 
-/// Replaces the file to which this name led, and keeps the lock.
-pub fn write_own<R: Files<File = File> + RandomSource + Clock + Alloc<A = Global>>(
+/// Replaces the file to which this name led, by one with the owner, the group and the mode of the open
+/// one, whatever stands at its path by now; only what is no regular file is not written over. Keeps the lock.
+pub fn write_own<R: Files<File = File> + RandomSource + Clock + Env + Alloc<A = Global>>(
     rt: &R,
     edited: &mut EditedFile,
     name: &str,
     bytes: &[u8],
 ) -> io::Result<()> {
-    let Some(old) = old_file(rt, &edited.opened.path)? else {
-        return Err(io::Error::from(ErrorKind::NotFound));
-    };
-    check_first(rt, edited, name, &edited.opened.path)?;
+    if !edited.opened.path.symlink_metadata(rt)?.is_file() {
+        return Err(io::Error::from(ErrorKind::InvalidInput));
+    }
+    let rights = Rights::of(&edited.opened.file.metadata()?);
+    check_first(rt, edited, name, None)?;
     edited.is_checked = true;
-    edited.opened.file = replace_file(rt, &edited.opened.path, bytes, Rights::of(&old), true)?;
+    edited.opened.file = replace_file(rt, &edited.opened.path, bytes, rights, true)?;
     Ok(())
 }
 
 /// Replaces, or makes, the journal of the file with this name.
-pub fn write_journal<R: Files<File = File> + RandomSource + Clock + Alloc<A = Global>>(
+pub fn write_journal<R: Files<File = File> + RandomSource + Clock + Env + Alloc<A = Global>>(
     rt: &R,
     edited: &mut EditedFile,
     name: &str,
@@ -102,8 +118,8 @@ pub fn write_journal<R: Files<File = File> + RandomSource + Clock + Alloc<A = Gl
     bytes: &[u8],
 ) -> io::Result<()> {
     let target = target_of(rt, journal)?;
-    let rights = journal_rights(rt, &target, edited.trust, &edited.opened.path)?;
-    check_first(rt, edited, name, &target.path)?;
+    let rights = journal_rights(rt, &target, edited.trust, &edited.opened)?;
+    check_first(rt, edited, name, Some(&target))?;
     edited.is_checked = true;
     replace_file(rt, &target.path, bytes, rights, false).map(drop)
 }

@@ -2,6 +2,7 @@
 
 use crate::disk::trust::{Maker, maker_of};
 use std::alloc::Global;
+use std::fs::Metadata;
 use std::io::ErrorKind;
 use std::os::unix::fs::MetadataExt;
 use std::path::PathBuf;
@@ -21,6 +22,8 @@ pub struct Target {
     pub path: PathBuf,
     /// Who made the links on the way, of which the first is the name.
     pub makers: Vec<Maker>,
+    /// What was found at the path, which is no link; nothing where nothing is there.
+    pub found: Option<Metadata>,
 }
 
 /// The device of the files that tell of processes, where there are any.
@@ -31,29 +34,28 @@ fn device_of_processes<R: Files>(rt: &R) -> Option<u64> {
     }
 }
 
-/// What the symbolic link at a path says, and its maker, where one is there. A path through a file that
-/// is no folder leads to nothing, and one through the files that tell of processes, on this device, to
-/// no file.
-fn link_at<R: Files + Alloc<A = Global>>(
+/// What stands at a path, where anything does: a link itself, and not what it leads to. At a path through
+/// a file that is no folder nothing is, and one through the files that tell of processes, on this device,
+/// is refused.
+fn found_at<R: Files>(
     rt: &R,
     path: &PathBuf,
     processes: Option<u64>,
-) -> io::Result<Option<(PathBuf, Maker)>> {
+) -> io::Result<Option<Metadata>> {
     let found = match path.symlink_metadata(rt) {
         Ok(found) => found,
-        Err(e) if matches!(e.kind(), ErrorKind::NotFound | ErrorKind::NotADirectory) => {
-            return Ok(None);
-        }
+        Err(e) if is_absence(&e) => return Ok(None),
         Err(e) => return Err(e),
     };
     if path.starts_with(PROCESSES) || processes == Some(found.dev()) {
         return Err(io::Error::from(ErrorKind::InvalidInput));
     }
-    if !found.is_symlink() {
-        return Ok(None);
-    }
-    let link = path.read_link(rt)?;
-    Ok(Some((link, maker_of(&found))))
+    Ok(Some(found))
+}
+
+/// Whether an error says that nothing is at a path.
+pub fn is_absence(error: &io::Error) -> bool {
+    matches!(error.kind(), ErrorKind::NotFound | ErrorKind::NotADirectory)
 }
 
 /// Follows the symbolic links of a name.
@@ -62,10 +64,18 @@ pub fn target_of<R: Files + Alloc<A = Global>>(rt: &R, name: &str) -> io::Result
     let mut path = PathBuf::from_str(rt.alloc(), name)?;
     let mut makers = Vec::new(rt.alloc());
     'links: for _ in 0..=MOST_LINKS {
-        let Some((link, maker)) = link_at(rt, &path, processes)? else {
-            return Ok(Target { path, makers });
+        let found = match found_at(rt, &path, processes)? {
+            Some(link) if link.is_symlink() => link,
+            found => {
+                return Ok(Target {
+                    path,
+                    makers,
+                    found,
+                });
+            }
         };
-        if path.set_file_name(link.as_str()).is_err() || makers.push(maker).is_err() {
+        let link = path.read_link(rt)?;
+        if path.set_file_name(link.as_str()).is_err() || makers.push(maker_of(&found)).is_err() {
             return Err(io::Error::from(ErrorKind::OutOfMemory));
         }
     }

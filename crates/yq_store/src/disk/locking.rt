@@ -1,16 +1,15 @@
 //! The lock of a file, which runs that edit it hold one after the other.
 
 use crate::disk::links::{Target, target_of};
+use crate::disk::opening::{OpenedFile, open_found};
 use crate::disk::purpose::Purpose;
-use crate::disk::reading::open_regular;
 use crate::disk::state::leads_to;
 use std::alloc::Global;
 use std::fs::{File, TryLockError};
 use std::io::{Eprint, ErrorKind};
-use std::path::PathBuf;
-use std::rt::Files;
+use std::rt::{Env, Files};
 use std::time::{Clock, Duration};
-use std::{io, thread};
+use std::{env, io, thread};
 
 /// How many tries for a lock may fail: with a pause behind each, a minute long.
 const MOST_TRIES: u32 = 12_000;
@@ -24,31 +23,25 @@ const PAUSE: u64 = 5;
 /// The system's number for "no locks available", of a file system that has none.
 const NO_LOCKS: i32 = 37;
 
-/// The system's number for a file that isn't open in the way that a call asks for. Network file
-/// systems lock a file for one run alone only where it is open for writing.
-const NOT_OPEN_FOR_THAT: i32 = 9;
+/// What the environment sets to 1 where edits are to go on without a lock.
+const UNLOCKED: &str = "YQ_NO_LOCK";
 
-/// An open file, and the path at which it stands.
-#[derive(Drop)]
-pub struct OpenedFile {
-    pub path: PathBuf,
-    pub file: File,
+/// Whether runs that write go on where a file system has no locks: the environment asks for it.
+fn goes_unlocked<R: Env + Alloc<A = Global>>(rt: &R) -> bool {
+    match env::var(rt, UNLOCKED) {
+        Ok(word) => word.as_str() == "1",
+        Err(_) => false,
+    }
 }
 
-/// Opens the file to which a name leads.
-fn open_at<R: Files<File = File> + Alloc<A = Global>>(
+/// Whether the lock was had: one that other readers may hold too, to list what is recorded, and one for
+/// this run alone, to edit. Where the file system has no locks, what only lists goes on without one, and
+/// what writes where it is asked for; else that is an error.
+pub fn is_locked<R: Env + Alloc<A = Global>>(
     rt: &R,
-    name: &str,
-    writes: bool,
-) -> io::Result<OpenedFile> {
-    let Target { path, .. } = target_of(rt, name)?;
-    let file = open_regular(rt, name, path.as_str(), writes)?;
-    Ok(OpenedFile { path, file })
-}
-
-/// Whether the lock was had, or the file system has no locks: one that other readers may hold too,
-/// to list what is recorded, and one for this run alone, to edit.
-pub fn is_locked(file: &File, purpose: Purpose) -> io::Result<bool> {
+    file: &File,
+    purpose: Purpose,
+) -> io::Result<bool> {
     let locked = match purpose {
         Purpose::List => file.try_lock_shared(),
         _ => file.try_lock(),
@@ -56,22 +49,20 @@ pub fn is_locked(file: &File, purpose: Purpose) -> io::Result<bool> {
     match locked {
         Ok(()) => Ok(true),
         Err(TryLockError::WouldBlock) => Ok(false),
-        Err(TryLockError::Error(e))
-            if e.kind() == ErrorKind::Unsupported || e.raw_os_error() == Some(NO_LOCKS) => {
-            Ok(true)
+        Err(TryLockError::Error(e)) => {
+            let has_none = e.kind() == ErrorKind::Unsupported || e.raw_os_error() == Some(NO_LOCKS);
+            if has_none && (purpose == Purpose::List || goes_unlocked(rt)) {
+                Ok(true)
+            } else {
+                Err(e)
+            }
         }
-        Err(TryLockError::Error(e)) => Err(e),
     }
-}
-
-/// Whether a name still leads to this open file.
-fn is_at<R: Files>(rt: &R, file: &File, name: &str) -> io::Result<bool> {
-    leads_to(rt, name, &file.metadata()?)
 }
 
 /// Waits for the lock of an open file, and gives how many tries have failed, with those before. Where
 /// `reports` is set, it tells on standard error for what it waits.
-fn wait_for_lock<R: Clock + Eprint>(
+fn wait_for_lock<R: Clock + Eprint + Env + Alloc<A = Global>>(
     rt: &R,
     file: &File,
     name: &str,
@@ -80,7 +71,7 @@ fn wait_for_lock<R: Clock + Eprint>(
     failed: u32,
 ) -> io::Result<u32> {
     'tries: for tried in failed..MOST_TRIES {
-        if is_locked(file, purpose)? {
+        if is_locked(rt, file, purpose)? {
             return Ok(tried);
         }
         if reports && tried == SILENT_TRIES {
@@ -91,41 +82,36 @@ fn wait_for_lock<R: Clock + Eprint>(
     Err(io::Error::from(ErrorKind::WouldBlock))
 }
 
-/// Opens, also for writing where `writes` is set, and locks the file to which a name leads. Where the
-/// name leads to another file once the lock is had, since a run that held it put that there, it begins
-/// again.
-fn open_locked<R: Files<File = File> + Clock + Eprint + Alloc<A = Global>>(
+/// Opens and locks the file to which a name leads, if any; where another run keeps the lock for too long,
+/// that is an error. A command that may write opens the file for writing at once: some file systems
+/// copy a file where it is opened so, or lend its lock for one run alone only then. Where the name leads
+/// to another file once the file is open, or once the lock is had, since it was exchanged or a run that
+/// held the lock put another one there, it begins again. The lock goes when the file is closed, also
+/// when a run is killed. Where `reports` is set, a run that waits for longer than a second tells it.
+pub fn locked_file<R: Files<File = File> + Clock + Eprint + Env + Alloc<A = Global>>(
     rt: &R,
     name: &str,
     purpose: Purpose,
     reports: bool,
-    writes: bool,
-) -> io::Result<OpenedFile> {
+) -> io::Result<Option<OpenedFile>> {
+    let writes = purpose != Purpose::List;
     let mut failed = 0;
     'tries: for _ in 0..MOST_TRIES {
-        let opened = open_at(rt, name, writes)?;
-        failed = wait_for_lock(rt, &opened.file, name, purpose, reports, failed)?;
-        if is_at(rt, &opened.file, name)? {
-            return Ok(opened);
+        let Target { path, found, .. } = target_of(rt, name)?;
+        let Some(found) = found else {
+            return Ok(None);
+        };
+        let Some((file, is_writable)) = open_found(rt, name, &path, &found, writes)? else {
+            continue;
+        };
+        failed = wait_for_lock(rt, &file, name, purpose, reports, failed)?;
+        if leads_to(rt, name, &file.metadata()?)? {
+            return Ok(Some(OpenedFile {
+                path,
+                file,
+                is_writable,
+            }));
         }
     }
     Err(io::Error::from(ErrorKind::WouldBlock))
-}
-
-/// Opens and locks the file to which a name leads; where another run keeps the lock for too long,
-/// that is an error. The lock goes when the file is closed, also when a run is killed. On a file system
-/// without locks the file is open and not locked. Where `reports` is set, a run that waits for longer
-/// than a second tells it.
-pub fn locked_file<R: Files<File = File> + Clock + Eprint + Alloc<A = Global>>(
-    rt: &R,
-    name: &str,
-    purpose: Purpose,
-    reports: bool,
-) -> io::Result<OpenedFile> {
-    match open_locked(rt, name, purpose, reports, false) {
-        Err(e) if e.raw_os_error() == Some(NOT_OPEN_FOR_THAT) => {
-            open_locked(rt, name, purpose, reports, true)
-        }
-        locked => locked,
-    }
 }

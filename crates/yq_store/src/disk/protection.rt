@@ -1,12 +1,14 @@
 //! What may not be replaced, told before anything is written.
 
-use crate::disk::links::folder_of;
+use crate::disk::links::{Target, folder_of};
+use crate::disk::opening::open_found;
 use crate::disk::reading::read_whole;
-use crate::disk::replacing::old_file;
+use crate::disk::trust::{Trust, Writers};
 use std::alloc::Global;
-use std::fs::{File, OpenOptions};
+use std::fs::File;
 use std::io::ErrorKind;
 use std::os::fd::AsRawFd;
+use std::os::unix::fs::MetadataExt;
 use std::path::PathBuf;
 use std::rt::Files;
 use std::{fs, io};
@@ -24,13 +26,11 @@ fn mount_in(info: Vec<u8>) -> Option<u64> {
     None
 }
 
-/// The number of the mount through which a path is opened in this way, where the system tells it.
-fn mount_at<R: Files<File = File> + Alloc<A = Global>>(
+/// The number of the mount through which a file was opened, where the system tells it.
+fn mount_of<R: Files<File = File> + Alloc<A = Global>>(
     rt: &R,
-    path: &str,
-    options: &OpenOptions,
+    file: &File,
 ) -> io::Result<Option<u64>> {
-    let file = options.open(rt, path)?;
     let number = file.as_raw_fd();
     let info = format!(in rt.alloc(); "/proc/self/fdinfo/{number}")?;
     match fs::open(rt, info.as_str()) {
@@ -39,20 +39,38 @@ fn mount_at<R: Files<File = File> + Alloc<A = Global>>(
     }
 }
 
-/// Fails where the file at a path may not be replaced: it is no regular file, the user may not write
-/// it, or it is mounted on its own, so that no file can be renamed over it. Nothing is changed. Where
-/// no file is there, nothing is asked.
+/// Fails where the open file at a path may not be replaced: the user may not write it, or no file can be
+/// renamed over it, since its folder has the sticky bit, or it is mounted on its own. Nothing is changed.
 pub fn check_replaceable<R: Files<File = File> + Alloc<A = Global>>(
     rt: &R,
     path: &PathBuf,
+    file: &File,
+    is_writable: bool,
+    trust: Trust,
 ) -> io::Result<()> {
-    if old_file(rt, path)?.is_none() {
-        return Ok(());
+    let folder = fs::open(rt, folder_of(path))?;
+    let owner = file.metadata()?.uid();
+    if !is_writable || !trust.may_replace(Writers::of(&folder.metadata()?), owner) {
+        return Err(io::Error::from(ErrorKind::PermissionDenied));
     }
-    let own = mount_at(rt, path.as_str(), OpenOptions::new().write(true))?;
-    let around = mount_at(rt, folder_of(path), OpenOptions::new().read(true))?;
-    match (own, around) {
+    match (mount_of(rt, file)?, mount_of(rt, &folder)?) {
         (Some(own), Some(around)) if own != around => Err(io::Error::from(ErrorKind::ResourceBusy)),
         _ => Ok(()),
+    }
+}
+
+/// Fails where the file that was found at a target, if any, may not be replaced, or was exchanged since.
+pub fn check_target<R: Files<File = File> + Alloc<A = Global>>(
+    rt: &R,
+    target: &Target,
+    trust: Trust,
+) -> io::Result<()> {
+    let Some(found) = &target.found else {
+        return Ok(());
+    };
+    let path = &target.path;
+    match open_found(rt, path.as_str(), path, found, true)? {
+        Some((file, is_writable)) => check_replaceable(rt, path, &file, is_writable, trust),
+        None => Err(io::Error::from(ErrorKind::ResourceBusy)),
     }
 }

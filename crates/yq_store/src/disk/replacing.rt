@@ -1,32 +1,23 @@
 //! Replacing a file: a temporary file beside it is written, synced, and renamed over it.
 
 use crate::disk::links::folder_of;
-use crate::disk::locking::{OpenedFile, is_locked};
+use crate::disk::locking::is_locked;
+use crate::disk::opening::OpenedFile;
 use crate::disk::ownership::{Rights, take_over};
 use crate::disk::purpose::Purpose;
 use crate::disk::temporary::make_temporary;
 use std::alloc::Global;
-use std::fs::{File, Metadata};
+use std::fs::File;
 use std::io::{ErrorKind, Write};
 use std::path::PathBuf;
 use std::random::RandomSource;
-use std::rt::Files;
+use std::rt::{Env, Files};
 use std::{fs, io};
-
-/// The file that a path holds, if any. What is no regular file (a folder, a device) isn't replaced.
-pub fn old_file<R: Files>(rt: &R, path: &PathBuf) -> io::Result<Option<Metadata>> {
-    match path.metadata(rt) {
-        Ok(old) if old.is_file() => Ok(Some(old)),
-        Ok(_) => Err(io::Error::from(ErrorKind::InvalidInput)),
-        Err(e) if e.kind() == ErrorKind::NotFound => Ok(None),
-        Err(e) => Err(e),
-    }
-}
 
 /// Writes the bytes of a temporary file, and what it takes over, out to the disk, and renames it over
 /// a path. Where `locks` is set, it is locked before a name leads to it: so the run goes on holding the
 /// lock of the file.
-fn finish<R: Files>(
+fn finish<R: Files + Env + Alloc<A = Global>>(
     rt: &R,
     temporary: &mut OpenedFile,
     path: &PathBuf,
@@ -34,7 +25,7 @@ fn finish<R: Files>(
     rights: Rights,
     locks: bool,
 ) -> io::Result<()> {
-    if locks && !is_locked(&temporary.file, Purpose::Edit)? {
+    if locks && !is_locked(rt, &temporary.file, Purpose::Edit)? {
         return Err(io::Error::from(ErrorKind::WouldBlock));
     }
     temporary.file.write_all(bytes)?;
@@ -55,7 +46,7 @@ fn is_synced(folder: &File) -> bool {
 /// locked if that is asked for. After a failure the path has its old bytes, but for a failure to
 /// write the folder out to the disk, which comes last: then it has the new ones. Want of memory is told
 /// as such only before anything is written.
-pub fn replace_file<R: Files<File = File> + RandomSource + Alloc<A = Global>>(
+pub fn replace_file<R: Files<File = File> + RandomSource + Env + Alloc<A = Global>>(
     rt: &R,
     path: &PathBuf,
     bytes: &[u8],

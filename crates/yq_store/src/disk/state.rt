@@ -1,5 +1,6 @@
 //! What tells one file from another, and whether it was changed.
 
+use crate::disk::links::is_absence;
 use std::fs::Metadata;
 use std::os::unix::fs::MetadataExt;
 use std::rt::Files;
@@ -26,10 +27,18 @@ impl FileState {
             changed: (file.ctime(), file.ctime_nsec()),
         }
     }
+
+    /// Whether this is the state of a file, changed since then or not.
+    pub fn is_of(&self, file: &Metadata) -> bool {
+        self.device == file.dev() && self.inode == file.ino()
+    }
 }
 
 /// Whether a name leads to this file, changed or not.
 pub fn leads_to<R: Files>(rt: &R, name: &str, file: &Metadata) -> io::Result<bool> {
-    let found = fs::metadata(rt, name)?;
-    Ok(found.dev() == file.dev() && found.ino() == file.ino())
+    match fs::metadata(rt, name) {
+        Ok(found) => Ok(FileState::of(&found).is_of(file)),
+        Err(e) if is_absence(&e) => Ok(false),
+        Err(e) => Err(e),
+    }
 }

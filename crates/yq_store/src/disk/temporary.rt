@@ -1,7 +1,7 @@
 //! Temporary files beside the files that they are to replace, and those that cut runs left there.
 
 use crate::disk::links::folder_of;
-use crate::disk::locking::OpenedFile;
+use crate::disk::opening::OpenedFile;
 use std::alloc::{AllocError, Global};
 use std::fs::{DirEntry, File, OpenOptions};
 use std::io::ErrorKind;
@@ -55,7 +55,13 @@ pub fn make_temporary<R: Files<File = File> + RandomSource + Alloc<A = Global>>(
         rt.fill_bytes(&mut random)?;
         let path = temporary_path(rt.alloc(), path, u64::from_le_bytes(random))?;
         match options.open(rt, path.as_str()) {
-            Ok(file) => return Ok(OpenedFile { path, file }),
+            Ok(file) => {
+                return Ok(OpenedFile {
+                    path,
+                    file,
+                    is_writable: true,
+                });
+            }
             Err(e) if e.kind() == ErrorKind::AlreadyExists => (),
             Err(e) => return Err(e),
         }

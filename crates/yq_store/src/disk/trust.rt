@@ -1,4 +1,4 @@
-//! Whose journals are believed.
+//! Whose journals are believed, and who may replace files.
 ghost use Rattle.std.specs.Prelude.{◌≡◌};
 ghost use Rattle.yq_store.specs.Trust as spec;
 
@@ -14,6 +14,9 @@ const GROUP_WRITES: u32 = 0o020;
 
 /// The bit that lets everyone write a file.
 const EVERYONE_WRITES: u32 = 0o002;
+
+/// The bit that lets only the owners rename over a file in a folder, and root.
+const STICKY: u32 = 0o1000;
 
 /// What the system tells of the run itself belongs to the user of the run.
 const OWN_RUN: &str = "/proc/self";
@@ -34,45 +37,88 @@ pub fn maker_of(found: &Metadata) -> Maker {
     (found.uid(), found.gid())
 }
 
-/// Who may put something in the place of a file or beside it, since they may write the file: the user
-/// of the run, root, the owner of the file, and whom its mode allows it.
+/// Who may write a file: its owner, and whom its mode allows it.
 #[derive(Clone, Copy)]
-pub struct Trust {
-    user: u32,
+pub struct Writers {
     owner: u32,
     group: u32,
     mode: u32,
 }
 
-impl Trust {
-    /// Who may write this file.
-    pub fn of<R: Files>(rt: &R, file: &Metadata) -> Trust {
-        Trust::of_user(user_of_run(rt), file)
-    }
-
-    /// Who may write another file, in the same run.
-    pub fn of_other(&self, file: &Metadata) -> Trust {
-        Trust::of_user(self.user, file)
-    }
-
-    /// Who may write a file, in a run of this user.
-    fn of_user(user: u32, file: &Metadata) -> Trust {
-        Trust {
-            user,
+impl Writers {
+    /// Those of a file, as the system tells it.
+    pub fn of(file: &Metadata) -> Writers {
+        Writers {
             owner: file.uid(),
             group: file.gid(),
             mode: file.mode(),
         }
     }
+}
+
+/// Who may put something in the place of a file or beside it: the user of the run, root, and who may
+/// write the file.
+#[derive(Clone, Copy)]
+pub struct Trust {
+    user: u32,
+    file: Writers,
+}
+
+impl Trust {
+    /// In a run of the user who runs it, with this file.
+    pub fn of<R: Files>(rt: &R, file: &Metadata) -> Trust {
+        Trust {
+            user: user_of_run(rt),
+            file: Writers::of(file),
+        }
+    }
+
+    /// In the same run, with another file.
+    pub fn of_other(&self, file: &Metadata) -> Trust {
+        Trust {
+            user: self.user,
+            file: Writers::of(file),
+        }
+    }
 
     /// Whether the maker of a journal, or of a link, may write the file.
     pub fn covers(&self, owner: u32, group: u32) -> bool
-        ensures { result ≡ spec.believes self.now owner group }
+        ensures { result ≡ spec.covers self.now owner group }
     {
         owner == self.user
             || owner == ROOT
-            || owner == self.owner
-            || self.mode & EVERYONE_WRITES != 0
-            || self.mode & GROUP_WRITES != 0 && group == self.group
+            || owner == self.file.owner
+            || self.file.mode & EVERYONE_WRITES != 0
+            || self.file.mode & GROUP_WRITES != 0 && group == self.file.group
     }
+
+    /// Whether nobody may write a journal, which has so many hard links, who may not write the file.
+    pub fn believes(&self, journal: Writers, links: u64) -> bool
+        ensures { result ≡ spec.believes self.now journal links }
+    {
+        let is_covered = self.covers(journal.owner, journal.group);
+        let is_closed = keeps_others_out(self.file, journal);
+        links <= 1 && is_covered && is_closed
+    }
+
+    /// Whether the sticky bit of a folder lets the user of the run rename over the file of an owner.
+    pub fn may_replace(&self, folder: Writers, owner: u32) -> bool
+        ensures { result ≡ spec.may_replace self.now folder owner }
+    {
+        folder.mode & STICKY == 0
+            || self.user == ROOT
+            || self.user == folder.owner
+            || self.user == owner
+    }
+}
+
+/// Whether, but for its owner, nobody may write a journal by its mode who may not write the file by the
+/// file's.
+fn keeps_others_out(file: Writers, journal: Writers) -> bool
+    ensures { result ≡ spec.keeps_others_out file journal }
+{
+    let by_all = journal.mode & EVERYONE_WRITES != 0;
+    let by_group = journal.mode & GROUP_WRITES != 0;
+    file.mode & EVERYONE_WRITES != 0
+        || !by_all && (!by_group || file.mode & GROUP_WRITES != 0 && journal.group == file.group)
 }
