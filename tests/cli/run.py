@@ -30,13 +30,14 @@ import saves
 import shells
 import strangers
 import together
+import told
 import words
 from harness import run_all
 from pages import run_pages
 from tables import run_tables
 
 CHECKS = [
-    edits, words, completions, guides, installing, failures, links, owners, strangers, leftovers, disks, reads, shells,
+    edits, words, told, completions, guides, installing, failures, links, owners, strangers, leftovers, disks, reads, shells,
     random_edits, forms, mutations, together, saves, cuts, memory,
 ]
 

@@ -16,6 +16,8 @@ pub struct Found<'w> {
     pub count: usize,
     /// Whether no word stands behind `--journal`, or an option.
     pub lacks_path: bool,
+    /// Whether the first of the words that are no options stands behind `--`.
+    pub is_behind: bool,
 }
 
 /// Whether a word begins with `-`, and is more than that.
@@ -30,6 +32,7 @@ pub fn find<'w>(command: &str, words: &[&'w str]) -> Found<'w> {
         names: [""; KEPT],
         count: 0,
         lacks_path: false,
+        is_behind: false,
     };
     let mut only_names = false;
     let mut is_path = false;
@@ -41,6 +44,7 @@ pub fn find<'w>(command: &str, words: &[&'w str]) -> Found<'w> {
             if found.count < KEPT {
                 found.names[found.count] = word;
             }
+            found.is_behind = found.is_behind || (only_names && found.count == 0);
             found.count = found.count.saturating_add(1);
         } else if *word == "--" {
             only_names = true;
