@@ -4,7 +4,7 @@
 # The table of options: begin.
 _yq_commands='eval undo redo history squash'
 _yq_options='--journal -h --help'
-_yq_eval_options='-i --inplace -e --exit-status -N --no-doc'
+_yq_eval_options='-i --inplace -e --exit-status -N --no-doc --text'
 # The table of options: end.
 
 # The words up to the cursor, a line each. Bash cuts a word at = and : and the like; here it is whole, as the line has it.
@@ -31,7 +31,7 @@ _yq_places() {
             ((places++))
         elif [[ $word == -- ]]; then
             names=1
-        elif [[ $word == --journal ]]; then
+        elif [[ $word == --journal || $word == --text ]]; then
             [[ ${words[at + 1]} == = ]] && ((at++))
             ((at++))
         elif [[ $word != -?* ]]; then
@@ -74,6 +74,7 @@ _yq() {
         mapfile -t COMPREPLY < <(compgen -f -- "$word")
         return
     fi
+    [[ $before == --text ]] && return
     if ((COMP_CWORD > 1)) && [[ " e $_yq_commands " == *" ${COMP_WORDS[1]} "* ]]; then
         command=${COMP_WORDS[1]} first=2
     fi

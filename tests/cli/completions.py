@@ -52,7 +52,7 @@ def check_bash_completes(folder):
     commands, flags = helped(folder)
     registered = run(folder, "bash", "--norc", "--noprofile", "-c", 'source "$0"; complete -p yq', script("yq.bash"))
     equal(registered, ["complete -F _yq yq"])
-    moving = sorted(flags - {"-i", "--inplace", "-e", "--exit-status", "-N", "--no-doc"})
+    moving = sorted(flags - {"-i", "--inplace", "-e", "--exit-status", "-N", "--no-doc", "--text"})
     edited, files = ["a.yaml", "dir"], ["a.yaml", "b c.yml", "dir"]
     for words, offered in (
         ([""], sorted(commands)),
@@ -70,6 +70,10 @@ def check_bash_completes(folder):
         (["--journal", ""], ["a.yaml", "a.yaml.undo.json", "b c.yml", "dir"]),
         (["-i", "--journal", "=", "b"], ["b c.yml"]),
         (["-i", "--journal", "j", ".a", "a"], ["a.yaml"]),
+        (["--text", ""], []),
+        (["--text", "x", ".a", "b"], ["b c.yml"]),
+        (["--text", "=", "x", ".a", "b"], ["b c.yml"]),
+        (["undo", "--te"], []),
         (["undo", ""], edited),
         (["history", "--journal", "=", "j", ""], edited),
         (["undo", "b"], ["b c.yml"]),

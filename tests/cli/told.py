@@ -57,6 +57,8 @@ def check_the_examples_of_help_are_taken(folder):
         is_taken(folder, words)
     for part in ('."app.io/name"', "+=", "del(", "line_comment", ".name =="):
         equal(any(part in words for words in told), True, part)
+    equal(folder.accepts(".jobs[0].when", "f.yaml"), b"push\n")
+    folder.accepts("redo", "f.yaml")
     equal(folder.accepts(".jobs[0].when", "f.yaml"), b"tag\n")
 
 
@@ -93,7 +95,7 @@ def check_the_examples_of_the_man_page_are_taken(folder):
 def check_the_scripts_of_the_man_page_are_taken(folder):
     with_files(folder)
     scripts = re.findall(r"^\.Bd -literal.*?\n(.*?)\n\.Ed$", man_page(), re.MULTILINE | re.DOTALL)
-    for text in ("1.27", 'a "b" \\ c'):
+    for text in ("1.27", "-n", 'a "b" \\ c'):
         for script in scripts:
             path = os.pathsep.join([os.path.dirname(folder.yq), os.environ.get("PATH", os.defpath)])
             words = ["sh", "-c", f"tag=$1\n{plain(script)}", "sh", text]

@@ -11,6 +11,7 @@ mod line;
 mod lines;
 mod named;
 mod options;
+mod setting;
 mod spelling;
 mod words;
 mod words_error;

@@ -64,8 +64,8 @@ fn line_of_words<'w>(
     {
         return ("unknown command", Some(first), end);
     }
-    if found.lacks_path {
-        return ("no PATH behind '--journal'", None, "");
+    if let Some(line) = found.lacking {
+        return (line, None, "");
     }
     if let Some(option) = found.unknown {
         let end = if command == "eval" {

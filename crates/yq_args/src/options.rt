@@ -59,7 +59,7 @@ const FOREIGN: [ForeignOption; 19] = [
     ForeignOption {
         letters: b"",
         names: &["--arg", "--argjson"],
-        hint: ": values come from the shell: man %",
+        hint: ": '--text=TEXT' takes a text from the shell",
     },
     ForeignOption {
         letters: b"V",
@@ -109,11 +109,12 @@ const FOREIGN: [ForeignOption; 19] = [
 ];
 
 /// The names of the program's own options, and what to do in place of one that is near.
-const OWN: [(&str, &str); 5] = [
+const OWN: [(&str, &str); 6] = [
     ("--inplace", ": did you mean '--inplace'?"),
     ("--exit-status", ": did you mean '--exit-status'?"),
     ("--no-doc", ": did you mean '--no-doc'?"),
     ("--journal", ": did you mean '--journal'?"),
+    ("--text", ": did you mean '--text'?"),
     ("--help", ": did you mean '--help'?"),
 ];
 
@@ -140,7 +141,20 @@ pub fn is_known(command: &str, option: &str) -> bool {
     match option {
         "--help" => true,
         "--inplace" | "--exit-status" | "--no-doc" => command == "eval",
-        _ => option.starts_with("--journal="),
+        _ => {
+            option.starts_with("--journal=") || (command == "eval" && option.starts_with("--text="))
+        }
+    }
+}
+
+/// What is missing behind an option that takes a value, where none stands there.
+pub fn without_value(command: &str, option: &str) -> Option<&'static str> {
+    match option {
+        "--journal" => Some("no PATH behind '--journal'"),
+        "--text" if command == "eval" => {
+            Some("no TEXT behind '--text': one that begins with '-' stands in '--text=TEXT'")
+        }
+        _ => None,
     }
 }
 

@@ -8,7 +8,8 @@ use yq_history::{Fault, Report};
 
 /// The ways to call the program, whose name stands for `%`.
 pub const USAGE: &str = "\
-Usage: % [eval|e] [-i] [-e] [-N] [--journal PATH] EXPR FILE
+Usage: % [eval|e] [-i] [-e] [-N] [--text TEXT] [--journal PATH]
+          EXPR FILE
        % undo|redo|history [--journal PATH] FILE
        % squash [--journal PATH] N FILE
 ";
@@ -32,6 +33,7 @@ Options:
   -e, --exit-status   end with status 1 where nothing but null and false
                       is read
   -N, --no-doc        print no marker between documents
+      --text TEXT     set what EXPR leads to, to TEXT as it is
       --journal PATH  where the edits are recorded, in place of
                       FILE.undo.json
   -h, --help          print the commands and options
@@ -41,6 +43,7 @@ Examples:
   % '.server.port = 9090' f.yaml | diff f.yaml -
   % -i '.server.port = 9090' f.yaml
   % -i '.labels.\"app.io/name\" = \"web\"' f.yaml
+  % -i --text=\"$HOME\" .server.home f.yaml
   % -i '.hosts += \"b.example.com\"' f.yaml
   % -i 'del(.hosts[0])' f.yaml
   % -i '.server.port line_comment = \"http\"' f.yaml
