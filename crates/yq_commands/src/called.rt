@@ -26,7 +26,10 @@ fn own_name(rt: &HostRuntime) -> Result<String, AllocError> {
         Ok(args) => args.take(1).collect(rt.alloc())?,
         Err(_) => Vec::new(rt.alloc()),
     };
-    let path = called.first().map_or("", String::as_str);
+    let path = match called.first() {
+        Some(word) => word.as_str(),
+        None => "",
+    };
     String::from_str(rt.alloc(), Path::new(path).file_name().unwrap_or("yq"))
 }
 
