@@ -55,7 +55,7 @@ module _ (doc : ℕ) (s : Step) (ss : List Step) (c : Cut) (h : NodeRows doc s s
       new_is = refl;
       gap_is = upto_gap h.upto;
       replaces = replaces;
-      content_under = new;
+      content = new;
       level = suc (outline.level (line_with h.mark new));
       under = end;
       comment = is.comment;

@@ -48,7 +48,7 @@ module _ (doc : ℕ) (s : Step) (ss : List Step) (c : Cut) (h : NodeRows doc s s
 
   dash_level : level (line_with h.mark (Nothing [])) ≡ entry_level None (mark_column h.mark)
   unfolding level
-  dash_level = ap (λ m. 3 * mark_column h.mark + Rattle.yq_outline.specs.Outline.rank (Rattle.yq_outline.specs.Lines.mark_of m)) dash
+  dash_level = ap (λ m. 3 * mark_column h.mark + Rattle.yq_outline.specs.Outline.rank (Rattle.yq_outline.specs.Lines.line_mark m)) dash
 
   pub takes_behind : TakesNode doc s ss c h v behind_rows
   takes_behind =
@@ -59,7 +59,7 @@ module _ (doc : ℕ) (s : Step) (ss : List Step) (c : Cut) (h : NodeRows doc s s
         new_is = rows_are below h.mark rs begun;
         gap_is = gap_same below h.mark rs begun ∙ upto_gap h.upto;
         replaces = replaces;
-        content_under = Nothing [];
+        content = Nothing [];
         level = level_at below v;
         under = stands.outline;
         comment = no_comment ∙ sym none;

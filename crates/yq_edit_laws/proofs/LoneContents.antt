@@ -75,7 +75,7 @@ module _ (c : Cut) (n : ℕ) (p : Part) (old : IsDocumentPart (cut_text c) c n p
         (ap is_marker (λ i. dashes_text (no_dashes i) (mark_text (mark i) (content_text new rest))) ∙ content_unmarked v node is (parent_indent r) r.content rest alone own.0.content);
     dashes = own.0.dashes;
     mark = subst (λ m. IsMark m new rest) (sym mark) (content_alone v node is r.content alone);
-    content_under = content_new;
+    content = content_new;
   }
 
   pub there : q.rows ≡ front ++ (with_content new r ∷ back)

@@ -42,15 +42,15 @@ pub record TakesNode (doc : ℕ) (s : Step) (ss : List Step) (c : Cut) (h : Node
   pub content : Content
   pub level : ℕ
   pub under : Outline
-  pub comment : line_comment (tail_of content_under) ≡ line_comment (tail_of h.mark.content)
-  pub anchor : content_anchor content_under ≡ anchor_of (Rattle.yq_outline.specs.Places.content h.found.line h.found.under)
-  pub open' : IsOpen (head_of content_under) under
-  pub value_is : head_or (head_of content_under) (value under) ≡ v
+  pub comment : line_comment (tail_of content) ≡ line_comment (tail_of h.mark.content)
+  pub anchor : content_anchor content ≡ anchor_of (Rattle.yq_outline.specs.Places.content_under h.found.line h.found.under)
+  pub open' : IsOpen (head_of content) under
+  pub value_is : head_or (head_of content) (value under) ≡ v
   pub even : IsEven level under
-  pub deep : outline.level (line_with h.mark content_under) < level
-  pub lines : lines_of_rows new ≡ dashes_of h.mark ++ (line_with h.mark content_under ∷ flatten under)
+  pub deep : outline.level (line_with h.mark content) < level
+  pub lines : lines_of_rows new ≡ dashes_of h.mark ++ (line_with h.mark content ∷ flatten under)
   pub keys : HaveFitKeys new
-  pub anchors : HaveOneAnchorEach (line_with h.mark content_under ∷ flatten under)
+  pub anchors : HaveOneAnchorEach (line_with h.mark content ∷ flatten under)
 
 module _ (doc : ℕ) (s : Step) (ss : List Step) (c : Cut) (h : NodeRows doc s ss c) (v : Node) (new : List Row) (t : TakesNode doc s ss c h v new) where
   abbrev z : List ℕ

@@ -86,7 +86,7 @@ module _ (doc : ℕ) (s : Step) (ss : List Step) (c : Cut) (h : NodeRows doc s s
       upto = h.upto;
       deep = search rules;
       nothing = held.holds;
-      content_under = held.stands;
+      content = held.stands;
       apart = held.apart;
     }
 
@@ -106,7 +106,7 @@ module _ (doc : ℕ) (s : Step) (ss : List Step) (c : Cut) (h : NodeRows doc s s
           new_is = refl;
           gap_is = upto_gap h.upto;
           replaces = under_laid (limit doc s ss c h) h.row h.mark (rows_text (h.under ++ h.back) (h.p.end ++ behind_document doc c)) x below rs z above laid;
-          content_under = x;
+          content = x;
           level = level_at below v;
           under = stands.outline;
           comment = held.comment;

@@ -82,7 +82,7 @@ module _ (n : ℕ) (s : Step) (ss : List Step) (c : Cut) (e : RowsOfEntry) (ther
           },
           k.ended,
         );
-        spaced_text = space_apart space (anchor_text anchor (block_text block z)) (node_text node (tail ++ z)) old.0 (apart_is n s ss c e there last k space anchor block content_is) (block_no_space anchor block z);
+        apart = space_apart space (anchor_text anchor (block_text block z)) (node_text node (tail ++ z)) old.0 (apart_is n s ss c e there last k space anchor block content_is) (block_no_space anchor block z);
         head = core_head for.node (carrier anchor) ∙ for.is.head;
         comment = k.ended_comment ∙ ap line_comment (tail_is e.row.content);
         anchor = core_anchor for.node (carrier anchor) for.is.unnamed ∙ (carrier_anchor anchor ∙ sym (anchor_is n s ss c e there last k space anchor block content_is));

@@ -63,7 +63,7 @@ comment_stays tail break b bare pairs h = ⊎_elim {0, 0, 0}
     h.line.ends
 
 -- the line of a row that gets a break
-line_stays : (above : List (List ℕ)) (column : ℕ) (mark : Rattle.yq_row_table.specs.Rows.Mark) (c : Content) (tail : List ℕ) → is_block c ≡ false → line_comment tail ≡ line_comment (tail_behind c) →
+line_stays : (above : List (List ℕ)) (column : ℕ) (mark : Rattle.yq_row_table.specs.Rows.RowMark) (c : Content) (tail : List ℕ) → is_block c ≡ false → line_comment tail ≡ line_comment (tail_behind c) →
     mark_line above column mark (with_tail tail c) ≡ mark_line above column mark c
 line_stays above column mark c tail h1 h2 = search (rules, false≢true)
 

@@ -36,7 +36,7 @@ pub record HoldsColl (node m : FlowNode) (rest : List ℕ) : Type 0 where
   pub alike : Alike (Some false) (node_text node rest) (node_text m rest)
   pub plain : is_plain_content m ≡ false
   pub more : is_more m ≡ true
-  pub some : Rattle.yq_core.specs.Nodes.is_bare m ≡ false
+  pub some : Rattle.yq_core.specs.Nodes.is_empty_node m ≡ false
   pub anchor : node_anchor m ≡ node_anchor node
   pub old_head : (n : tree.Node) × (node_head node ≡ Some n)
   pub head : (n : tree.Node) × (node_head m ≡ Some n) × IsNoAlias (Some n)

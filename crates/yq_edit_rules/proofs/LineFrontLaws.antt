@@ -105,7 +105,7 @@ plain_clean n space node tail rest h pairs feed = go (content_joined n (Inline s
 indicators_clean : (d : Rattle.std.proofs.Common.Option ℕ) (c : Chomping) (p : List ℕ) → IsIndicators d c p → ends_return p ≡ false
 indicators_clean d c p h = search (rules, ends_return, clean_joined, cases_Bool)
 
-style_clean : (style : BlockStyle) → is_return (Rattle.yq_core.specs.Block.mark_of style) ≡ false
+style_clean : (style : BlockStyle) → is_return (Rattle.yq_core.specs.Block.style_indicator style) ≡ false
 style_clean styles.Literal = refl
 style_clean styles.Folded = refl
 
@@ -114,7 +114,7 @@ content_clean n (Nothing tail) rest h pairs feed = refl
 content_clean n (Inline space node tail) rest h pairs feed =
     clean_joined space _ (clean_white space h.0) (ap ends_return (node_cut node) ∙ clean_node _ node _ (tail ++ rest) h.1.valid (plain_clean n space node tail rest h pairs feed))
 content_clean n (Block space anchor block) rest h pairs feed =
-    let head : List ℕ = Rattle.yq_core.specs.Block.mark_of block.style ∷ block.indicators in
+    let head : List ℕ = Rattle.yq_core.specs.Block.style_indicator block.style ∷ block.indicators in
     let clean : ends_return head ≡ false = clean_byte _ block.indicators (style_clean block.style) (indicators_clean block.digit block.chomping block.indicators h.2.indicators) in
     ends_more space (anchor_with_sign anchor ++ (apart_of anchor ++ head)) (some_behind (anchor_with_sign anchor) _ (some_behind (apart_of anchor) head refl))
     ∙ (ends_more (anchor_with_sign anchor) (apart_of anchor ++ head) (some_behind (apart_of anchor) head refl) ∙ (ends_more (apart_of anchor) head refl ∙ clean))

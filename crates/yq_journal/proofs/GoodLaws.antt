@@ -64,7 +64,7 @@ settles_after s p t h k is same = record {
       ∙ ap (λ b. if b then Some (journal_after s p.step) else None) (ap (bytes_eq k.to) is ∙ bytes_same k.to);
   at_rest = subst (λ g. AtRest (journal_after s p.step) t g) (sym same) (subst (λ u. AtRest (journal_after s p.step) u (after_move k.before p.step k.to)) (sym is)
       (move_moves s k.before p.from k.to p.step (record { reports = k.reports; text = k.from }) k.moves));
-  without_move = moved_closed s p.step;
+  closed = moved_closed s p.step;
 }
 
 settles_pending : (s : State) (o : Option Pending) (t : List ℕ) (h : History) → s.pending ≡ o → DescribesPending s o t h → Rests (settled_pending s o t) t h

@@ -73,7 +73,7 @@ several_is (row l u a) = lt-ltb 1 (suc (suc (count (children a)))) (omega arith)
 collection_is : (l : Line) (u a : Outline) → has_no_mark l.mark ≡ false → node_summary (value (row l u a)) ≡ cond (is_item (key_of l.mark)) (list (not (has_no_lines a))) (mapping (not (has_no_lines a)))
 collection_is l u a other = go l.mark other
   where
-    go : (m : LineMark) → has_no_mark m ≡ false → node_summary (Rattle.yq_outline.specs.Outline.collection m (children (row l u a))) ≡ cond (is_item (key_of m)) (list (not (has_no_lines a))) (mapping (not (has_no_lines a)))
+    go : (m : LineMark) → has_no_mark m ≡ false → node_summary (Rattle.yq_outline.specs.Outline.outline_node m (children (row l u a))) ≡ cond (is_item (key_of m)) (list (not (has_no_lines a))) (mapping (not (has_no_lines a)))
     go Bare e = absurd (cc)
     go (Key k) e = ap mapping (several_is a)
     go Dash e = ap list (several_is a)

@@ -186,7 +186,7 @@ pub held_on : (l : List ℕ) (ls : List (List ℕ)) → is_blank l ≡ true → 
 held_on l ls e = rw e refl
 
 pub none_held : (t : List ℕ) → t ≡ [] → hold_comment (text_lines t) ≡ false
-unfolding Rattle.yq_core.specs.Text.lines_of
+unfolding Rattle.yq_core.specs.Text.text_lines
 none_held t e = ap (λ (x : List ℕ). hold_comment (text_lines x)) e
 
 pub run_less : (gap run : List ℕ) → text_lines run ≡ last_run (text_lines gap) → length run ≤ length gap

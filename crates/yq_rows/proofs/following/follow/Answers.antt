@@ -46,7 +46,7 @@ returns c =
       placed =
           dropped_places t c.args.kept p x c.in-Some.end k drops h.old_cut h.old_is _ c.drop_rows.new.places h.new_cut h.new_is c.drop_text.ensures.text
           c.drop_rows.ensures.front c.drop_rows.ensures.behind c.drop_rows.ensures.ends c.drop_rows.ensures.split;
-      count_after = λ old d was is j.
+      counted = λ old d was is j.
           c.drop_text.ensures.counted ∙ ap (λ (u : List ℕ). count_after (line_count u) c.args.meter.now)
           (dropped_text t c.args.kept p x c.in-Some.end k drops h.old_cut h.old_is old d was
           (subst (λ (u : List ℕ). IsCut u d) (c.drop_text.ensures.text ∙ kept_text t c.args.kept p x c.in-Some.end k drops h.old_cut h.old_is) is) j);
@@ -68,7 +68,7 @@ returns-2 c =
           new_places t (buffer_text c.reserve.new.self) (buffer_text c.write.new.text) c.args.new.now c.args.kept p c.exchange.new.places x c.in_ok-come.come
           c.requires.new_cut same c.write.ensures k
           (subst (λ (u : List ℕ). Comes u x c.in_ok-come.come) part c.in_ok-come.ensures.come k.read) c.in_ok-exchange.ensures.ok c.requires.new_is;
-      count_after = λ old d was is h.
+      counted = λ old d was is h.
           let spliced = c.write.ensures ∙ ap (λ (u : List ℕ). exchanged c.args.kept u c.args.new.now) same in
           c.in_ok-come.ensures.counted ∙ ap (λ (u : List ℕ). count_after (line_count u) c.args.meter.now)
           (ap (λ (u : List ℕ). read_part u x.marked) part ∙ sym (k.once old d was (subst (λ (u : List ℕ). IsCut u d) spliced is) h));

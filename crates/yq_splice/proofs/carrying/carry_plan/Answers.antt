@@ -16,7 +16,7 @@ carry_at_once-requires-clause-serves c = subst (AreServed (operations_of c.args.
 pub returns-in-Some : goal.returns-in-Some
 returns-in-Some c =
     let one =
-    subst (λ (o : Option Edited). IfSome o (λ e. carry_all (operations_of c.args.ops.now) c.cut.result ≡ gives (string_bytes e.text) e.splices.items)) c.in-Some.is c.in_ok-at_once.ensures.ok in
+    subst (λ (o : Option Edited). IfSome o (λ e. carry_all (operations_of c.args.ops.now) c.of.result ≡ gives (string_bytes e.text) e.splices.items)) c.in-Some.is c.in_ok-at_once.ensures.ok in
     ap (edit_after c.args.splices.items) (ap (carry_all (operations_of c.args.ops.now)) (sym (c.of.ensures ∙ c.requires.same)) ∙ one)
     ∙ λ i. gives (string_bytes (sym c.in_ok-edited_behind.ensures.0 i)) (sym c.in_ok-edited_behind.ensures.1 i)
 
