@@ -1,45 +1,70 @@
+# make: the program, crates/yq/out/yq, proved and built.
 # make test: the whole gate: every proof from nothing, wrong bodies, tests, and the program on real files; ANEW=1: also what is kept.
 # make ready: layout, imports, stray sources, definitions without a section, names that two files define, words that the glossary
-#   replaces, crates that aren't there, wide clauses, wrong bodies that can't be applied, versions that differ and links of pages that
-#   lead nowhere, in some 20 seconds.
+#   replaces, crates that aren't there, wide clauses, wrong bodies that can't be applied, versions that differ, options that aren't
+#   told as the table has them, and links of pages that lead nowhere, in some 20 seconds.
 # make look: an edit printed by the program as it is before any proof, in some two minutes.
 # make demo: one edit and its undo, once all is proved.
-# make install, make uninstall: the program, its man page, pages for users and completions below PREFIX, or not.
+# make install, make uninstall: the program, its man page, pages for users and completions below PREFIX, or not; NAME=yqe: as yqe.
 # make dist: an archive of these for those who don't build, dist/yq-VERSION-linux-x86_64.tar.gz.
 # make wrong-bodies CRATES="yq_rows yq_lookup": the wrong bodies that the gate doesn't try; all crates where none is named.
 # make corpus DIR=FOLDER: edits and their undo in a copy of each YAML file of a folder.
 # make bench: time, instructions and memory of reading, editing and parsing; DIR=FOLDER names a folder of YAML files to be read too.
 # make clean: what was proved and built goes.
+# make help: these lines. YQ=PROGRAM has install, dist, corpus and bench take a program that is there, and build none.
+
+# The name under which the program is installed; man page, completions and help follow it.
+NAME ?= yq
 PREFIX ?= $(HOME)/.local
 YQ := crates/yq/out/yq
 SOURCES := $(shell find crates -path '*/out' -prune -o -type f \( -name '*.rt' -o -name '*.antt' \) -print) crates.txt
 
 # Where what is installed stands below PREFIX.
 PLACE := $(DESTDIR)$(PREFIX)
-PROGRAM := $(PLACE)/bin/yq
-MAN := $(PLACE)/share/man/man1/yq.1
-BASH_WORDS := $(PLACE)/share/bash-completion/completions/yq
-FISH_WORDS := $(PLACE)/share/fish/vendor_completions.d/yq.fish
-ZSH_WORDS := $(PLACE)/share/zsh/site-functions/_yq
-DOC := $(PLACE)/share/doc/yq
+PROGRAM := $(PLACE)/bin/$(NAME)
+MAN := $(PLACE)/share/man/man1/$(NAME).1
+BASH_WORDS := $(PLACE)/share/bash-completion/completions/$(NAME)
+FISH_WORDS := $(PLACE)/share/fish/vendor_completions.d/$(NAME).fish
+ZSH_WORDS := $(PLACE)/share/zsh/site-functions/_$(NAME)
+DOC := $(PLACE)/share/doc/$(NAME)
 PAGES := MANUAL.md FROM-YQ-V4.md EXPRESSIONS.md TEXT.md STYLE-AND-EXTENTS.md JOURNAL.md
 
-.PHONY: test ready wrong-bodies look demo install uninstall dist bench corpus no-folder clean
+# The man page and the completions under that name; the other program's name and that of leftovers stay.
+NAMED_MAN := sed -e '/yq version 4\|mikefarah\|Pa \.yq/!s/\<yq\>/$(NAME)/g' -e 's/^\.Dt YQ /.Dt \U$(NAME)\E /' man/yq.1
+NAMED_WORDS := sed 's/yq/$(NAME)/g'
 
+# One line, and no more, where the toolchain isn't there.
+RATTLE := $(lastword $(or $(RT),rt))
+NO_RATTLE := no command $(RATTLE): the toolchain, which proves and builds, isn't there. Without it: make help, docs/, the archive that \
+	README.md tells of, and install, corpus and bench with YQ=PROGRAM
+need_rattle = $(if $(shell command -v $(RATTLE)),,$(error $(NO_RATTLE)))
+
+.PHONY: test ready wrong-bodies look demo install uninstall dist bench corpus no-folder clean help
+
+ifeq ($(origin YQ),file)
 $(YQ): $(SOURCES)
+	$(need_rattle)
 	python3 tools/build.py
 	@touch $(YQ)
+endif
+
+help:
+	@sed '/^#/!q; s/^# //' Makefile
 
 test:
+	$(need_rattle)
 	python3 tools/gate.py $(YQ) $(if $(ANEW),--anew)
 
 ready:
+	$(need_rattle)
 	@python3 tools/ready.py
 
 wrong-bodies:
+	$(need_rattle)
 	python3 tools/wrong_bodies.py $(CRATES)
 
 look:
+	$(need_rattle)
 	@sh examples/look.sh
 
 demo: $(YQ)
@@ -47,10 +72,10 @@ demo: $(YQ)
 
 install: $(YQ)
 	install -Dm755 $(YQ) "$(PROGRAM)"
-	install -Dm644 man/yq.1 "$(MAN)"
-	install -Dm644 completions/yq.bash "$(BASH_WORDS)"
-	install -Dm644 completions/yq.fish "$(FISH_WORDS)"
-	install -Dm644 completions/_yq "$(ZSH_WORDS)"
+	$(NAMED_MAN) | install -Dm644 /dev/stdin "$(MAN)"
+	$(NAMED_WORDS) completions/yq.bash | install -Dm644 /dev/stdin "$(BASH_WORDS)"
+	$(NAMED_WORDS) completions/yq.fish | install -Dm644 /dev/stdin "$(FISH_WORDS)"
+	$(NAMED_WORDS) completions/_yq | install -Dm644 /dev/stdin "$(ZSH_WORDS)"
 	install -d "$(DOC)"
 	install -m644 $(PAGES:%=docs/%) "$(DOC)"
 

@@ -1,6 +1,12 @@
 # Completion of yq in bash: commands, options and files.
 # Read it by `source`, or put it as `yq` into a folder from which bash-completion loads.
 
+# The table of options: begin.
+_yq_commands='eval undo redo history squash'
+_yq_options='--journal -h --help'
+_yq_eval_options='-i --inplace -e --exit-status -N --no-doc --text'
+# The table of options: end.
+
 # The words up to the cursor, a line each. Bash cuts a word at = and : and the like; here it is whole, as the line has it.
 _yq_words() {
     local line=$COMP_LINE rest word whole= at
@@ -25,7 +31,7 @@ _yq_places() {
             ((places++))
         elif [[ $word == -- ]]; then
             names=1
-        elif [[ $word == --journal ]]; then
+        elif [[ $word == --journal || $word == --text ]]; then
             [[ ${words[at + 1]} == = ]] && ((at++))
             ((at++))
         elif [[ $word != -?* ]]; then
@@ -35,25 +41,31 @@ _yq_places() {
     echo "$places"
 }
 
-# The files that begin with the word, without journals; with $2, those that have a journal, if there are any.
+# The files that begin with the word, those of YAML first, without journals; with $2, those that have a journal, if there are any.
 _yq_files() {
-    local file plain=() recorded=()
+    local file yaml=() others=() recorded=()
     while IFS= read -r file; do
         if [[ -d $file ]]; then
-            plain+=("$file") recorded+=("$file")
+            others+=("$file")
         elif [[ $file != *.undo.json ]]; then
-            plain+=("$file")
             [[ -e $file.undo.json ]] && recorded+=("$file")
+            case $file in
+                *.yaml | *.yml) yaml+=("$file") ;;
+                *) others+=("$file") ;;
+            esac
         fi
-    done < <(compgen -f -- "$1")
-    compopt -o filenames 2> /dev/null
-    COMPREPLY=("${plain[@]}")
-    [[ $2 && ${recorded[0]} ]] && COMPREPLY=("${recorded[@]}")
+    done < <(compgen -f -- "$1" | sort)
+    compopt -o filenames -o nosort 2> /dev/null
+    if [[ $2 && ${recorded[0]} ]]; then
+        yaml=("${recorded[@]}")
+        mapfile -t others < <(compgen -d -- "$1")
+    fi
+    COMPREPLY=("${yaml[@]}" "${others[@]}")
 }
 
 _yq() {
     local word=${COMP_WORDS[COMP_CWORD]} before=${COMP_WORDS[COMP_CWORD - 1]} command=eval first=1
-    local options='-h --help --journal'
+    local options=$_yq_options
     COMPREPLY=()
     [[ $before == = ]] && before=${COMP_WORDS[COMP_CWORD - 2]}
     [[ $word == = ]] && before=${COMP_WORDS[COMP_CWORD - 1]} word=
@@ -62,13 +74,12 @@ _yq() {
         mapfile -t COMPREPLY < <(compgen -f -- "$word")
         return
     fi
-    if ((COMP_CWORD > 1)); then
-        case ${COMP_WORDS[1]} in
-            e | eval | undo | redo | history | squash) command=${COMP_WORDS[1]} first=2 ;;
-        esac
+    [[ $before == --text ]] && return
+    if ((COMP_CWORD > 1)) && [[ " e $_yq_commands " == *" ${COMP_WORDS[1]} "* ]]; then
+        command=${COMP_WORDS[1]} first=2
     fi
     case $command in
-        e | eval) options+=' -i --inplace -e --exit-status -N --no-doc' ;;
+        e | eval) options+=" $_yq_eval_options" ;;
     esac
     if [[ $word == -* ]]; then
         mapfile -t COMPREPLY < <(compgen -W "$options" -- "$word")
@@ -76,7 +87,7 @@ _yq() {
     fi
     case $command:$(_yq_places "$first") in
         eval:0)
-            ((COMP_CWORD == 1)) && mapfile -t COMPREPLY < <(compgen -W 'eval undo redo history squash' -- "$word")
+            ((COMP_CWORD == 1)) && mapfile -t COMPREPLY < <(compgen -W "$_yq_commands" -- "$word")
             ;;
         e:1 | eval:1) _yq_files "$word" ;;
         undo:0 | redo:0 | history:0 | squash:1) _yq_files "$word" recorded ;;

@@ -46,7 +46,7 @@ which the program contains code.
 
 def install(yq, top):
     """Puts below a folder what `make install` puts below PREFIX."""
-    words = ["make", "--silent", "--directory", ROOT, "-o", yq, f"YQ={yq}", f"PREFIX={top}", "DESTDIR=", "install"]
+    words = ["make", "--silent", "--directory", ROOT, f"YQ={yq}", f"PREFIX={top}", "DESTDIR=", "install"]
     environment = {name: value for name, value in os.environ.items() if name not in ("MAKEFLAGS", "MFLAGS", "MAKELEVEL")}
     subprocess.run(words, check=True, env=environment)
 

@@ -3,7 +3,8 @@
   check reads
 - definitions whose comments name no section, and names that two files of specs/ define
 - names that have a better word in the glossary, and names of crates that crates.txt doesn't list
-- clauses that are too wide, wrong bodies of both tiers that can't be applied, versions that differ, and links of pages that lead nowhere
+- clauses that are too wide, wrong bodies of both tiers that can't be applied, versions that differ, options that help, man page or a
+  completion tells otherwise than the table, and links of pages that lead nowhere
 
 usage: ready.py
 
@@ -23,6 +24,7 @@ from crates import ROOT, RT, libraries, listed
 from edits import hindrance, names_in
 from glossary import coined
 from imports import misformed
+from options import retold
 from version import other_versions
 
 sys.path.append(os.path.join(ROOT, "tests", "cli"))
@@ -139,6 +141,12 @@ def not_applied():
                     yield f"{crate}/{tier}/{name} can't be applied: {why}"
 
 
+def otherwise_told():
+    """Files that tell of options otherwise than the table."""
+    for path, _ in retold():
+        yield f"{path} tells of the options otherwise than completions/options.json: tools/options.py writes it anew"
+
+
 def lost_links():
     """Links of pages that lead nowhere."""
     for page, link in broken_links():
@@ -155,7 +163,7 @@ def main(words):
         shutil.copytree(ROOT, copy, symlinks=True, ignore=LEFT)
         of_copy = (misplaced, badly_laid, misformed, faulty_definitions, coined, unknown_crates)
         found = [it for look in of_copy for it in look(copy)]
-        found += [*too_wide(), *not_applied(), *other_versions(), *lost_links()]
+        found += [*too_wide(), *not_applied(), *other_versions(), *otherwise_told(), *lost_links()]
     finally:
         shutil.rmtree(room, ignore_errors=True)
     for it in found:

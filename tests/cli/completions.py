@@ -1,8 +1,15 @@
-"""What shells complete behind `yq`: the bash one is driven in a bash, the fish one in a fish, that of zsh is parsed."""
+"""What shells complete behind `yq`: each script is driven in its shell, that of zsh by keys."""
 
+import fcntl
 import os
+import pty
+import select
+import shlex
 import shutil
+import struct
 import subprocess
+import termios
+import time
 
 from guides import helped
 from harness import ROOT, SECONDS, Skip, equal
@@ -45,7 +52,7 @@ def check_bash_completes(folder):
     commands, flags = helped(folder)
     registered = run(folder, "bash", "--norc", "--noprofile", "-c", 'source "$0"; complete -p yq', script("yq.bash"))
     equal(registered, ["complete -F _yq yq"])
-    moving = sorted(flags - {"-i", "--inplace", "-e", "--exit-status", "-N", "--no-doc"})
+    moving = sorted(flags - {"-i", "--inplace", "-e", "--exit-status", "-N", "--no-doc", "--text"})
     edited, files = ["a.yaml", "dir"], ["a.yaml", "b c.yml", "dir"]
     for words, offered in (
         ([""], sorted(commands)),
@@ -63,6 +70,10 @@ def check_bash_completes(folder):
         (["--journal", ""], ["a.yaml", "a.yaml.undo.json", "b c.yml", "dir"]),
         (["-i", "--journal", "=", "b"], ["b c.yml"]),
         (["-i", "--journal", "j", ".a", "a"], ["a.yaml"]),
+        (["--text", ""], []),
+        (["--text", "x", ".a", "b"], ["b c.yml"]),
+        (["--text", "=", "x", ".a", "b"], ["b c.yml"]),
+        (["undo", "--te"], []),
         (["undo", ""], edited),
         (["history", "--journal", "=", "j", ""], edited),
         (["undo", "b"], ["b c.yml"]),
@@ -106,6 +117,16 @@ def in_fish(folder, line):
     return sorted(offer.split("\t")[0] for offer in run(folder, "fish", "--no-config", "-c", words, script("yq.fish"), line))
 
 
+def check_bash_offers_files_of_yaml_first(folder):
+    with_files(folder)
+    folder.write("a.txt", b"")
+    folder.write("z.yml", b"")
+    for words in ([".a", ""], ["-i", ".a = 1", ""]):
+        line = run(folder, "bash", "--norc", "--noprofile", "-c", DRIVE, script("yq.bash"), "yq", *words)
+        equal(line, ["a.yaml", "b c.yml", "z.yml", *line[3:]], words)
+        equal(sorted(line[3:]), ["a.txt", "dir"], words)
+
+
 def check_fish_completes(folder):
     with_files(folder)
     commands, flags = helped(folder)
@@ -113,12 +134,71 @@ def check_fish_completes(folder):
     equal(in_fish(folder, "yq --"), sorted(flag for flag in flags if flag.startswith("--")))
     equal(in_fish(folder, "yq undo --"), ["--help", "--journal"])
     equal(in_fish(folder, "yq .a "), ["a.yaml", "b c.yml", "dir/"])
+    for words in ("undo", "redo", "history", "squash 2"):
+        equal(in_fish(folder, f"yq {words} "), ["a.yaml", "dir/"], words)
+    os.remove(folder.name("a.yaml.undo.json"))
+    equal(in_fish(folder, "yq undo "), ["a.yaml", "b c.yml", "dir/"])
+
+
+def check_fish_offers_files_of_yaml_first(folder):
+    with_files(folder)
+    folder.write("a.txt", b"")
+    words = 'source $argv[1]; complete -C "yq .a "'
+    offers = [offer.split("\t")[0] for offer in run(folder, "fish", "--no-config", "-c", words, script("yq.fish"))]
+    equal((offers[:2], sorted(offers[2:])), (["a.yaml", "b c.yml"], ["a.txt", "dir/"]))
+
+
+def in_zsh(folder, line):
+    """What zsh lists for a line at two presses of Tab, its own prompt and colors being off."""
+    master, slave = pty.openpty()
+    fcntl.ioctl(slave, termios.TIOCSWINSZ, struct.pack("HHHH", 200, 120, 0, 0))
+    environment = {"PATH": os.environ.get("PATH", os.defpath), "HOME": folder.path, "LC_ALL": "C.UTF-8", "TERM": "dumb"}
+    words = ["zsh", "-f", "-i"]
+    shell = subprocess.Popen(words, cwd=folder.path, env=environment, stdin=slave, stdout=slave, stderr=slave, start_new_session=True)
+    os.close(slave)
+    setting = f"PS1=; unsetopt zle_bracketed_paste; fpath=({shlex.quote(os.path.dirname(script('_yq')))} $fpath)"
+    try:
+        os.write(master, f"{setting}; autoload -Uz compinit && compinit -u -D; compdef _yq yq; echo re''ady\n".encode())
+        read_until(master, b"ready\r\n")
+        os.write(master, line.encode() + b"\t\t")
+        time.sleep(1)
+        os.write(master, b"\x15echo d''one\n")
+        return read_until(master, b"done\r\n").decode(errors="replace")
+    finally:
+        shell.kill()
+        shell.wait()
+        os.close(master)
+
+
+def read_until(master, end):
+    seen, last = b"", time.monotonic() + SECONDS
+    while end not in seen and time.monotonic() < last:
+        if select.select([master], [], [], 1)[0]:
+            seen += os.read(master, 65536)
+    return seen
+
+
+def check_zsh_completes(folder):
+    if shutil.which("zsh") is None:
+        raise Skip("needs zsh")
+    with_files(folder)
+    folder.write("other.yaml", b"")
+    folder.write("a.txt", b"")
+    commands, flags = helped(folder)
+    for line, offered, not_offered in (
+        ("yq ", commands, flags),
+        ("yq -", flags, commands),
+        ("yq -i ", [], commands),
+        ("yq undo -", ["--journal", "--help"], ["--inplace"]),
+        ("yq .a ", ["a.yaml", "other.yaml"], ["a.txt", "a.yaml.undo.json"]),
+        ("yq undo ", ["a.yaml"], ["other.yaml", "a.txt", "a.yaml.undo.json"]),
+        ("yq squash 2 ", ["a.yaml"], ["other.yaml", "a.txt", "a.yaml.undo.json"]),
+    ):
+        seen = in_zsh(folder, line)
+        listed = {word for told in seen.splitlines() for word in told.partition(" -- ")[0].split()}
+        equal(sorted(set(offered) - listed), [], (line, seen))
+        equal(sorted(set(not_offered) & listed), [], (line, seen))
 
 
 def check_the_script_of_zsh_is_parsed(folder):
     equal(run(folder, "zsh", "-f", "-n", script("_yq")), [])
-    with open(script("_yq"), encoding="utf-8") as text:
-        told = text.read()
-    commands, flags = helped(folder)
-    equal([word for word in sorted(commands) if f"'{word}:" not in told], [])
-    equal([flag for flag in sorted(flags) if flag not in told], [])

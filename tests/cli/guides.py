@@ -24,8 +24,8 @@ def section(lines, head):
 def helped(folder):
     """The commands and options that help tells of."""
     lines = folder.accepts("--help").decode().splitlines()
-    commands = {line.split()[0] for line in section(lines, "Commands:")}
-    options = {word for line in section(lines, "Options:") for word in re.findall(r"(?<!\S)--?[A-Za-z-]+", line[:24])}
+    commands = {line.split()[0] for line in section(lines, "Commands:") if line[2] != " "}
+    options = {word for line in section(lines, "Options:") for word in re.findall(r"(?<!\S)--?[A-Za-z-]+", line[:22])}
     return commands, options
 
 
@@ -83,9 +83,9 @@ def check_the_manual_tells_of_each_answer(_folder):
 
 def check_the_pages_have_enough_examples(_folder):
     of = [example.name.split(" ")[0] for example in examples()]
-    same = "\n".join(lines_of("docs/FROM-YQ-V4.md")).split("\n## ")[1]
-    equal(same.startswith("The same here"), True)
-    equal((of.count("docs/MANUAL.md") >= 40, same.count("| `yq ") >= 30), (True, True))
+    first, same = "\n".join(lines_of("docs/FROM-YQ-V4.md")).split("\n## ")[1:3]
+    equal((first.startswith("There and here"), same.startswith("The same here")), (True, True))
+    equal((of.count("docs/MANUAL.md") >= 40, first.count("\n| `") >= 50, same.count("| `yq ") >= 30), (True,) * 3)
 
 
 def anchors(page):

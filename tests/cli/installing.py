@@ -41,7 +41,7 @@ def run(folder, *words, cwd=ROOT, **environment):
 
 def make(folder, *words):
     """Runs make on the built program, without building it."""
-    return run(folder, "make", "--silent", "-o", folder.yq, f"YQ={folder.yq}", *words)
+    return run(folder, "make", "--silent", f"YQ={folder.yq}", *words)
 
 
 def files_below(path):
@@ -66,6 +66,58 @@ def check_install_and_uninstall(folder):
 def check_install_below_another_root(folder):
     make(folder, "install", "PREFIX=/usr", f"DESTDIR={folder.name('root')}")
     equal(files_below(folder.name("root")), {f"usr/{name}" for name in INSTALLED})
+
+
+def installed_as(name):
+    """What is installed under a name of the program."""
+    return {re.sub(r"\byq\b|(?<=/_)yq$", name, file) for file in INSTALLED}
+
+
+def check_install_under_another_name(folder):
+    """Program, man page, help and completions have it; the other program's name stays."""
+    prefix = folder.name("prefix")
+    make(folder, "install", f"PREFIX={prefix}", "NAME=yqe")
+    equal(files_below(prefix), installed_as("yqe"))
+    equal(run(folder, os.path.join(prefix, "bin/yqe"), "--help").startswith(b"Usage: yqe [eval|e] "), True)
+    for name in sorted(files_below(prefix) - {"bin/yqe"}):
+        if not name.startswith("share/doc/"):
+            with open(os.path.join(prefix, name), encoding="utf-8") as text:
+                left = [line for line in text.read().splitlines() if re.search(r"yq(?!e)", line)]
+            equal([line for line in left if not re.search(r"yq version 4|mikefarah's yq|\.yq\\-", line)], [], name)
+    make(folder, "uninstall", f"PREFIX={prefix}", "NAME=yqe")
+    equal(files_below(prefix), set())
+
+
+def told_by_make(folder, *words):
+    """What make says on standard error, with its status."""
+    if shutil.which("make") is None:
+        raise Skip("needs make")
+    environment = {"PATH": os.environ.get("PATH", os.defpath)}
+    done = subprocess.run(["make", "--silent", *words], cwd=ROOT, env=environment, capture_output=True, timeout=SECONDS)
+    return done.returncode, done.stdout.decode(), done.stderr.decode()
+
+
+def check_make_without_the_toolchain(folder):
+    """One line says what is missing, and what can be had without it."""
+    for words in (["-W", "crates.txt"], ["test"], ["ready"], ["look"], ["wrong-bodies"], ["-W", "crates.txt", "install"]):
+        status, out, err = told_by_make(folder, "RT=nice no-such-rt", *words)
+        equal((status, out, err.count("\n")), (2, "", 1), words)
+        equal("no command no-such-rt: the toolchain" in err and "Without it: make help" in err, True, err)
+
+
+def check_make_help_lists_the_targets(folder):
+    status, out, err = told_by_make(folder, "help")
+    equal((status, err), (0, ""))
+    with open(os.path.join(ROOT, "Makefile"), encoding="utf-8") as text:
+        targets = re.search(r"^\.PHONY: (.*)$", text.read(), re.MULTILINE)[1].split()
+    equal([name for name in targets if name != "no-folder" and f"make {name}" not in out], [])
+
+
+def check_a_program_that_is_there_is_installed(folder):
+    """No toolchain is asked for."""
+    status, out, err = told_by_make(folder, "RT=no-such-rt", f"YQ={folder.yq}", f"PREFIX={folder.name('p')}", "install")
+    equal((status, out, err), (0, "", ""))
+    equal(files_below(folder.name("p")), set(INSTALLED))
 
 
 def packed(folder, to):

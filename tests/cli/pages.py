@@ -7,9 +7,9 @@ A fenced block that is marked `console` is one example, in an empty folder of it
   `Error: `, and else with 0.
 - `$ cat NAME`, where NAME isn't there yet, makes that file of the lines behind it.
 
-A table with the columns `f.yaml`, `Command` and `Result` has one example in each row that has a command: the text of the
-file, the command, and what it prints, or, behind a `-i` that is accepted, the text of the file then. A refused command
-leaves the file. In a text `⏎` is LF, `␍` CR and `⇥` a tab.
+A table with the columns `f.yaml`, `Command` (or else `Here`) and `Result` has one example in each row that has a command:
+the text of the file, the command, and what it prints, or, behind a `-i` that is accepted, the text of the file then. A
+refused command leaves the file. In a text `⏎` is LF, `␍` CR and `⇥` a tab.
 """
 
 import os
@@ -73,12 +73,13 @@ def rows(page, lines):
             columns = None
         elif columns is None:
             columns = [cell.strip("`") for cell in cells(line)]
-        elif {FILE, "Command", "Result"} <= set(columns):
+        elif {FILE, "Result"} <= set(columns) and {"Command", "Here"} & set(columns):
             told = cells(line)
             equal(len(told), len(columns), f"{page} line {number}")
             row = dict(zip(columns, map(text_in, told)))
-            if row["Command"].startswith("yq"):
-                found.append(Example(f"{page} line {number}", [(row["Command"], row[FILE], row["Result"])]))
+            command = row["Command" if "Command" in row else "Here"]
+            if command.startswith("yq"):
+                found.append(Example(f"{page} line {number}", [(command, row[FILE], row["Result"])]))
     return found
 
 

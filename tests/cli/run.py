@@ -32,6 +32,7 @@ import shells
 import strangers
 import swaps
 import together
+import told
 import words
 import writers
 from harness import run_all
@@ -39,8 +40,8 @@ from pages import run_pages
 from tables import run_tables
 
 CHECKS = [
-    edits, words, completions, guides, installing, failures, links, owners, strangers, writers, swaps, leftovers, disks, containers,
-    reads, shells, random_edits, forms, mutations, together, saves, cuts, memory,
+    edits, words, told, completions, guides, installing, failures, links, owners, strangers, writers, swaps, leftovers, disks,
+    containers, reads, shells, random_edits, forms, mutations, together, saves, cuts, memory,
 ]
 
 sys.exit(run_all(CHECKS, [run_tables, run_pages], sys.argv))

@@ -1,5 +1,6 @@
 """Values from the shell: the forms that the manual shows, run in shells with texts that hold what an expression or a shell reads."""
 
+import os
 import shutil
 import subprocess
 
@@ -33,23 +34,46 @@ def reads_back(folder, shell, script, text):
     equal(folder.accepts(".b", "image.yaml"), b"1\n", (shell, text))
 
 
-def check_a_function_makes_texts_of_values(folder):
-    script = block("quoted() {") + '\nyq -i ".image.tag = $(quoted "$1")" image.yaml'
+def check_an_option_takes_any_text(folder):
     for shell in ("dash", "bash", "sh"):
         for text in TEXTS:
-            reads_back(folder, shell, script, text)
+            reads_back(folder, shell, 'yq -i --text="$1" .image.tag image.yaml', text)
 
 
-def check_two_substitutions_make_a_text_of_a_value(folder):
-    script = "tag=$1\n" + block("text=${tag//\\\\/\\\\\\\\}")
+def check_an_option_takes_a_text_in_two_words(folder):
     for text in TEXTS:
-        reads_back(folder, "bash", script, text)
+        if not text.startswith("-"):
+            reads_back(folder, "sh", 'yq -i --text "$1" .image.tag image.yaml', text)
 
 
-def check_a_function_makes_keys_of_values(folder):
-    script = block("quoted() {") + '\nyq -i ".b[$(quoted "$1")] = 1" f && yq ".b[$(quoted "$1")]" f'
+def check_the_text_of_an_option_stays_one(folder):
+    """Whatever EXPR is, the text is no part of the expression."""
+    for expr in (".a", ".b[0]", ".b[]", ". | .a", "select(.a == 1) | .a", '."a"'):
+        for text in TEXTS:
+            folder.write("f", b"a: 1\nb: [2, 3]\n")
+            folder.accepts("-i", f"--text={text}", expr, "f")
+            written = '"' + text.replace("\\", "\\\\").replace('"', '\\"') + '"'
+            folder.write("g", b"a: 1\nb: [2, 3]\n")
+            folder.accepts("-i", f"({expr}) = {written}", "g")
+            equal(folder.read("f"), folder.read("g"), (expr, text))
+            equal(folder.read("f.undo.json"), folder.read("g.undo.json"), (expr, text))
+            folder.accepts("undo", "f")
+            equal(folder.read("f"), b"a: 1\nb: [2, 3]\n")
+            for name in ("f.undo.json", "g.undo.json"):
+                os.remove(folder.name(name))
+    folder.write("f", b"a: 1\n")
+    for expr in ("", ".a = 2", '.a == "x', ".a)", "(.a", ".a, .b"):
+        for text in TEXTS:
+            folder.refuses("E1 syntax", "-i", f"--text={text}", expr, "f")
+    equal(folder.read("f"), b"a: 1\n")
+
+
+def check_two_substitutions_make_a_key_of_a_value(folder):
+    script = "name=$1\n" + block("key=${name//\\\\/\\\\\\\\}") + '\nyq ".users[\\"$key\\"]" users.yaml'
+    if shutil.which("bash") is None:
+        raise Skip("needs bash")
     for text in TEXTS:
-        folder.write("f", b"b: {}\n")
+        folder.write("users.yaml", b"users: {}\n")
         path = {"PATH": f"{folder.yq.rpartition('/')[0]}:/usr/bin:/bin"}
-        done = subprocess.run(["sh", "-c", script, "sh", text], cwd=folder.path, env=path, capture_output=True, timeout=SECONDS)
+        done = subprocess.run(["bash", "-c", script, "bash", text], cwd=folder.path, env=path, capture_output=True, timeout=SECONDS)
         equal((done.returncode, done.stdout, done.stderr), (0, b"1\n", b""), text)

@@ -1,9 +1,12 @@
 """The command line: help, an output that takes nothing, long expressions, and texts that are cut."""
 
+import os
+import shutil
 import subprocess
 
 from harness import equal
 
+CLOSED = 141
 WEB = b"name: web # main\nport: 8080\n"
 
 
@@ -35,6 +38,51 @@ def check_an_output_that_takes_nothing(folder):
         equal({name: folder.read(name) for name in folder.names()}, before, words)
     equal(with_full_output(folder, "undo", "f"), (0, b""))
     equal(folder.read("f"), WEB)
+
+
+def with_closed_output(folder, *words):
+    """Runs the program with a standard output that nobody reads any more."""
+    reader, writer = os.pipe()
+    os.close(reader)
+    try:
+        done = subprocess.run(
+            [folder.yq, *words], cwd=folder.path, stdin=subprocess.DEVNULL, stdout=writer, stderr=subprocess.PIPE
+        )
+    finally:
+        os.close(writer)
+    return done.returncode, done.stderr
+
+
+def check_an_output_that_nobody_reads(folder):
+    """It ends without a line of its own, with the status of what a signal ended; what prints nothing is carried out."""
+    folder.write("f", WEB)
+    folder.accepts("-i", ".port = 9090", "f")
+    before = {name: folder.read(name) for name in folder.names()}
+    for words in ([".port = 1", "f"], [".port", "f"], ["-e", ".zzz", "f"], ["history", "f"], ["--help"]):
+        equal(with_closed_output(folder, *words), (CLOSED, b""), words)
+        equal({name: folder.read(name) for name in folder.names()}, before, words)
+    equal(with_closed_output(folder, ".port.x", "f"), (1, b"Error: X1 not a map\n"))
+    equal(with_closed_output(folder, "undo", "f"), (0, b""))
+    equal(folder.read("f"), WEB)
+
+
+def check_a_reader_that_stops_ends_a_run_as_it_ends_other_filters(folder):
+    """More is printed than a pipe holds, and `head` reads the first line."""
+    folder.write("f", b"".join(b"- item %06d of many\n" % i for i in range(50_000)))
+    for shell in ("bash", "dash", "sh"):
+        if shutil.which(shell) is not None:
+            for words in ('"$0" . f', "cat f"):
+                script = "{ %s; echo $? > status; } | head -n 1" % words
+                done = subprocess.run([shell, "-c", script, folder.yq], cwd=folder.path, capture_output=True)
+                seen = (done.returncode, done.stdout[-5:], done.stderr, folder.read("status"))
+                equal(seen, (0, b"many\n", b"", b"%d\n" % CLOSED), (shell, words))
+
+
+def check_an_output_that_is_closed(folder):
+    """It is no pipe whose reader stopped."""
+    folder.write("f", WEB)
+    done = subprocess.run(["sh", "-c", '"$0" .port f >&-', folder.yq], cwd=folder.path, capture_output=True)
+    equal((done.returncode, done.stderr), (1, b"Error: S4 out failed\n"))
 
 
 def check_brackets_that_nest_in_long_expressions(folder):

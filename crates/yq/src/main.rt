@@ -9,16 +9,20 @@ use std::process::ExitCode;
 use yq_history::Fault;
 use yq_run::{Answer, report_usage};
 
+/// The status with which a shell shows what ended because the reader of its output closed the pipe.
+const CLOSED: u8 = 141;
+
 fn main(rt: HostRuntime) -> io::Result<ExitCode> {
     match answer_to_words(&rt) {
-        Answer::Done => return Ok(ExitCode::SUCCESS),
-        Answer::NoMatch => eprintln!(rt; "Error: N1 no matches found")?,
-        Answer::Refused(fault) => {
+        Some(Answer::Done) => return Ok(ExitCode::SUCCESS),
+        Some(Answer::NoMatch) => eprintln!(rt; "Error: N1 no matches found")?,
+        Some(Answer::Refused(fault)) => {
             eprintln!(rt; "Error: {fault}")?;
             if let Fault::Usage(cause) = fault {
                 report_usage(&rt, cause)?
             }
         }
+        None => return Ok(ExitCode::from(CLOSED)),
     }
     Ok(ExitCode::from(1))
 }

@@ -1,6 +1,6 @@
 -- What the words of a command line ask for, by what clap finds in them (own).
 use Rattle.std.specs.Prelude.{◌≡◌, ◌≢◌, ◌⊎◌, ◌&&◌, ◌||◌, ◌^◌, ℕ, Bool, true, false, not, List, [], ◌∷◌, ◌++◌, length, codes, nat_lt}
-use Rattle.std.{specs.Prelude.{if◌then◌else◌, Option, Some, None, is_some, option_and_then}, specs.List.list_any}
+use Rattle.std.{specs.Prelude.{if◌then◌else◌, Option, Some, None, is_some, option_and_then, option_map}, specs.List.list_any}
 use Rattle.std.{specs.Option.option_map_or, specs.Str.{bytes_eq, all_ascii_digits}, specs.Str.Parse.digits_value, specs.String.string_bytes}
 use Rattle.clap.specs.Words.{IsAmong, Row, Text, fault_of, first_of, one_of, subcommand_of, takes}
 use Rattle.clap.specs.declared.error.kind.ErrorKind.TheVariants.{DisplayHelp}
@@ -8,6 +8,7 @@ use Rattle.yq_args.specs.declared.command.Command.{Command}
 use Rattle.yq_args.specs.declared.command.Command.TheVariants.{Eval, Undo, Redo, History, Squash, Help}
 use Rattle.yq_args.specs.declared.words_error.WordsError.{WordsError}
 use Rattle.yq_args.{specs.declared.words_error.WordsError.TheVariants.{OutOfMemory, Usage}, specs.CommandWords.with_command, specs.Line.yq}
+use Rattle.yq_args.specs.Setting.{asked_expression}
 
 -- the words as clap reads them, behind the program's name
 abbrev pub full_words : List Text → List Text
@@ -56,10 +57,11 @@ abbrev pub CommandIs : Text → (List Row → Type 0) → Option (Text × List R
 CommandIs name holds None = ⊥
 CommandIs name holds (Some found) = (found.0 ≡ name) × holds found.1
 
--- the command is the one that clap finds, with its texts and switches; of help nothing is said
+-- the command is the one that clap finds, with its texts and switches; with `--text` its expression is the one that puts that text to the
+-- places of EXPR; of help nothing is said
 abbrev pub IsAsked : Option (Text × List Row) → Command → Type 0
 IsAsked found (Eval expr file journal in_place exit_status no_doc) = CommandIs (codes "eval") (λ rows.
-    (first_of (codes "expr") rows ≡ Some (string_bytes expr))
+    (option_map (asked_expression (first_of (codes "text") rows)) (first_of (codes "expr") rows) ≡ Some (string_bytes expr))
     × HasNames rows (string_bytes file) (string_bytes journal)
     × IsSwitch (one_of (codes "inplace") rows) in_place
     × IsSwitch (one_of (codes "exit-status") rows) exit_status

@@ -1,4 +1,5 @@
 pub mod Asked
 pub mod Line
 pub mod Parts
+pub mod Setting
 pub mod CommandWords

@@ -11,6 +11,10 @@ positional id = record (new_rule id) { required = true }
 abbrev pub journal_option : Rule
 journal_option = record (new_rule (codes "journal")) { long = Some (codes "journal") }
 
+-- the option `--text TEXT`
+abbrev pub text_option : Rule
+text_option = record (new_rule (codes "text")) { long = Some (codes "text") }
+
 -- an option without a value
 abbrev pub switch : List ℕ → ℕ → Rule
 switch id short = record (new_rule id) { short = Some short; long = Some id; action = Some SetTrue }
@@ -29,10 +33,10 @@ abbrev pub switches_command : App
 switches_command =
     with_rule (with_rule (with_rule (new_app (codes "eval")) (switch (codes "inplace") 105)) (switch (codes "exit-status") 101)) (switch (codes "no-doc") 78)
 
--- the command `eval [-i] [-e] [-N] [--journal PATH] EXPR FILE`
+-- the command `eval [-i] [-e] [-N] [--journal PATH] [--text TEXT] EXPR FILE`
 abbrev pub eval_command : App
 eval_command =
-    with_rule (with_rule (with_rule switches_command journal_option) (positional (codes "expr"))) (positional (codes "file"))
+    with_rule (with_rule (with_rule (with_rule switches_command journal_option) text_option) (positional (codes "expr"))) (positional (codes "file"))
 
 -- the commands `eval` and `undo`
 unfoldable pub two_commands : App

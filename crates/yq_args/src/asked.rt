@@ -7,6 +7,7 @@ ghost use Rattle.yq_args.specs.Asked as spec;
 
 use crate::UsageCause;
 use crate::command::Command;
+use crate::setting::expression;
 use crate::words_error::WordsError;
 use clap::ArgMatches;
 use std::alloc::{AllocError, Global};
@@ -79,7 +80,7 @@ fn eval_in(alloc: Global, matches: &ArgMatches) -> Result<Command, WordsError>
         return Err(WordsError::Usage(UsageCause::Words));
     };
     Ok(Command::Eval {
-        expr: String::from_str(alloc, expr)?,
+        expr: expression(alloc, expr, text_of(matches, "text"))?,
         file,
         journal,
         in_place: switch_of(matches, "inplace"),

@@ -3,7 +3,7 @@ ghost use Rattle.std.specs.Prelude.{◌≡◌, ◌∷◌, map};
 ghost use Rattle.yq_args.specs.CommandWords as spec;
 
 /// Whether a word names a command.
-fn is_command_word(word: &str) -> bool
+pub fn is_command_word(word: &str) -> bool
     ensures { result ≡ spec.is_command_word word.now }
 {
     matches!(word, "eval" | "undo" | "redo" | "history" | "squash")

@@ -1,6 +1,6 @@
 //! What stands in the words of a command line, as far as it can be read.
 
-use crate::options::is_known;
+use crate::options::{is_known, without_value};
 
 /// How many of the words that are no options are kept.
 const KEPT: usize = 3;
@@ -14,8 +14,10 @@ pub struct Found<'w> {
     pub names: [&'w str; KEPT],
     /// How many words are no options.
     pub count: usize,
-    /// Whether no word stands behind `--journal`, or an option.
-    pub lacks_path: bool,
+    /// The line on an option that takes a value, where no word stands behind it, or an option.
+    pub lacking: Option<&'static str>,
+    /// Whether the first of the words that are no options stands behind `--`.
+    pub is_behind: bool,
 }
 
 /// Whether a word begins with `-`, and is more than that.
@@ -29,28 +31,35 @@ pub fn find<'w>(command: &str, words: &[&'w str]) -> Found<'w> {
         unknown: None,
         names: [""; KEPT],
         count: 0,
-        lacks_path: false,
+        lacking: None,
+        is_behind: false,
     };
     let mut only_names = false;
-    let mut is_path = false;
+    let mut before = None;
     'words: for word in words {
-        if is_path {
-            is_path = false;
-            found.lacks_path = is_option(word);
+        if before.is_some() {
+            if is_option(word) {
+                found.lacking = before;
+            }
+            before = None;
         } else if only_names || !is_option(word) {
             if found.count < KEPT {
                 found.names[found.count] = word;
             }
+            found.is_behind = found.is_behind || (only_names && found.count == 0);
             found.count = found.count.saturating_add(1);
         } else if *word == "--" {
             only_names = true;
-        } else if *word == "--journal" {
-            is_path = true;
-        } else if found.unknown.is_none() && !is_known(command, word) {
-            found.unknown = Some(word);
+        } else {
+            before = without_value(command, word);
+            if before.is_none() && found.unknown.is_none() && !is_known(command, word) {
+                found.unknown = Some(word);
+            }
         }
     }
-    found.lacks_path = found.lacks_path || is_path;
+    if before.is_some() {
+        found.lacking = before;
+    }
     found
 }
 

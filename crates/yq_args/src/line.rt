@@ -20,6 +20,8 @@ enum Argument {
     NoDoc,
     /// `--journal PATH`
     Journal,
+    /// `--text TEXT`
+    Text,
     /// EXPR
     Expr,
     /// N
@@ -67,6 +69,7 @@ fn arg_of<'a>(alloc: Global, argument: Argument) -> Arg<'a>
         Argument::ExitStatus => switch(alloc, "exit-status", 'e'),
         Argument::NoDoc => switch(alloc, "no-doc", 'N'),
         Argument::Journal => Arg::new(alloc, "journal").long("journal"),
+        Argument::Text => Arg::new(alloc, "text").long("text"),
         Argument::Expr => positional(alloc, "expr"),
         Argument::Count => positional(alloc, "n"),
         Argument::File => positional(alloc, "file"),
@@ -85,6 +88,7 @@ fn parts_of<'a>(word: SubCommand) -> (&'a str, &'a [Argument])
                 Argument::ExitStatus,
                 Argument::NoDoc,
                 Argument::Journal,
+                Argument::Text,
                 Argument::Expr,
                 Argument::File,
             ],

@@ -1,8 +1,9 @@
 //! Why words are no command, in lines for who wrote them.
 
 use crate::cause::UsageCause;
-use crate::command_word::split_command;
+use crate::command_word::{is_command_word, split_command};
 use crate::found::{Found, find, surplus};
+use crate::named::push_named;
 use crate::options::hint;
 use crate::spelling::end_of_command;
 use std::alloc::{AllocError, Global};
@@ -10,7 +11,7 @@ use std::alloc::{AllocError, Global};
 /// How many characters of a word are shown.
 const MAX_CHARS: usize = 80;
 
-/// A line: what it tells, of which word if of one, and in what it ends.
+/// A line: what it tells, of which word if of one, and in what it ends; `%` stands for the program.
 type UsageLine<'w> = (&'static str, Option<&'w str>, &'static str);
 
 /// Adds a word in quotes, with `?` for each control character, and cut where it is long.
@@ -23,13 +24,13 @@ fn push_word(text: &mut String, word: &str) -> Result<(), AllocError> {
 }
 
 /// Adds a line.
-fn push_line(text: &mut String, line: UsageLine<'_>) -> Result<(), AllocError> {
+fn push_line(text: &mut String, line: UsageLine<'_>, program: &str) -> Result<(), AllocError> {
     let (about, word, end) = line;
-    text.push_str(about)?;
+    push_named(text, about, program)?;
     if let Some(word) = word {
         push_word(text, word)?;
     }
-    text.push_str(end)?;
+    push_named(text, end, program)?;
     text.push('\n')
 }
 
@@ -37,7 +38,7 @@ fn push_line(text: &mut String, line: UsageLine<'_>) -> Result<(), AllocError> {
 fn missing(command: &str, count: usize, is_file: bool) -> Option<&'static str> {
     match (command, count) {
         ("eval", 0) => Some("no EXPR and no FILE"),
-        ("eval", 1) if is_file => Some("no EXPR: 'yq . FILE' prints the whole of FILE"),
+        ("eval", 1) if is_file => Some("no EXPR: '% . FILE' prints the whole of FILE"),
         ("eval", 1) => Some("no FILE: for standard input name /dev/stdin"),
         ("squash", 0) => Some("no N and no FILE"),
         ("squash", 1) => Some("no FILE, or no N before it"),
@@ -54,11 +55,17 @@ fn line_of_words<'w>(
     found: &Found<'w>,
 ) -> UsageLine<'w> {
     let first = found.names[0];
-    if !is_named && let Some(end) = end_of_command(first) {
+    if !is_named && found.is_behind && is_command_word(first) {
+        return ("no command behind '--':", Some(first), " is EXPR there");
+    }
+    if !is_named
+        && !found.is_behind
+        && let Some(end) = end_of_command(first)
+    {
         return ("unknown command", Some(first), end);
     }
-    if found.lacks_path {
-        return ("no PATH behind '--journal'", None, "");
+    if let Some(line) = found.lacking {
+        return (line, None, "");
     }
     if let Some(option) = found.unknown {
         let end = if command == "eval" {
@@ -110,12 +117,13 @@ pub fn first_name<'w>(words: &[&'w str]) -> &'w str {
 
 /// What a person should know whose words are no command, in lines: what is the matter, and what to do.
 /// `is_file` tells whether the first of those words that are neither a command's name nor options is
-/// the name of a file that is there.
+/// the name of a file that is there; `program` is the name by which the program was called.
 pub fn usage_text(
     alloc: Global,
     cause: UsageCause,
     words: &[&str],
     is_file: bool,
+    program: &str,
 ) -> Result<String, AllocError> {
     let (command, rest) = split_command(words);
     let found = find(command, rest);
@@ -124,6 +132,7 @@ pub fn usage_text(
     push_line(
         &mut text,
         line_of(cause, command, is_named, is_file, &found),
+        program,
     )?;
     if command == "eval" && is_file && found.names[1].starts_with('.') {
         text.push_str("FILE and EXPR are in the other order?\n")?;

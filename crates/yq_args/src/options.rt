@@ -1,5 +1,7 @@
 //! Options: those of the commands, and what stands for others that are often written.
 
+use crate::spelling::is_near;
+
 /// Options of other programs, by their letters and names, and what to do in place of them.
 struct ForeignOption {
     letters: &'static [u8],
@@ -7,8 +9,8 @@ struct ForeignOption {
     hint: &'static str,
 }
 
-/// The options that `eval` has not and that are often written.
-const FOREIGN: [ForeignOption; 10] = [
+/// The options that `eval` has not and that are often written. In a hint `%` stands for the program.
+const FOREIGN: [ForeignOption; 19] = [
     ForeignOption {
         letters: b"r",
         names: &["--unwrapScalar", "--raw-output"],
@@ -40,14 +42,14 @@ const FOREIGN: [ForeignOption; 10] = [
         hint: ": the indentation of FILE is kept",
     },
     ForeignOption {
-        letters: b"s",
-        names: &["--split-exp"],
+        letters: b"sw",
+        names: &["--split-exp", "--split-exp-file", "--output"],
         hint: ": everything is printed to standard output",
     },
     ForeignOption {
         letters: b".",
-        names: &["--inplace", "--in-place"],
-        hint: ": '-i' alone edits in place, and 'yq undo' takes an edit back",
+        names: &["--inplace", "--in-place", "--backup"],
+        hint: ": '-i' alone edits in place, and '% undo' takes an edit back",
     },
     ForeignOption {
         letters: b"",
@@ -57,8 +59,63 @@ const FOREIGN: [ForeignOption; 10] = [
     ForeignOption {
         letters: b"",
         names: &["--arg", "--argjson"],
-        hint: ": values come from the shell: man yq",
+        hint: ": '--text=TEXT' takes a text from the shell",
     },
+    ForeignOption {
+        letters: b"V",
+        names: &["--version"],
+        hint: ": '% --help' tells the version",
+    },
+    ForeignOption {
+        letters: b"vqD",
+        names: &["--verbose", "--quiet", "--silent", "--debug"],
+        hint: ": nothing is told but what is refused",
+    },
+    ForeignOption {
+        letters: b"d",
+        names: &["--diff", "--dry-run"],
+        hint: ": '% EXPR FILE | diff FILE -' shows what EXPR changes",
+    },
+    ForeignOption {
+        letters: b"S",
+        names: &["--sort-keys"],
+        hint: ": keys stay in their order",
+    },
+    ForeignOption {
+        letters: b"c",
+        names: &["--compact-output", "--tab"],
+        hint: ": collections are printed in block style",
+    },
+    ForeignOption {
+        letters: b"f",
+        names: &["--front-matter"],
+        hint: ": FILE is YAML from its first line to its last",
+    },
+    ForeignOption {
+        letters: b"0",
+        names: &["--nul-output"],
+        hint: ": a line feed stands behind each value",
+    },
+    ForeignOption {
+        letters: b"",
+        names: &["--slurp", "--eval-all", "--recursive"],
+        hint: ": each run takes one FILE",
+    },
+    ForeignOption {
+        letters: b"E",
+        names: &["--expression", "--regexp"],
+        hint: ": EXPR stands before FILE, without an option",
+    },
+];
+
+/// The names of the program's own options, and what to do in place of one that is near.
+const OWN: [(&str, &str); 6] = [
+    ("--inplace", ": did you mean '--inplace'?"),
+    ("--exit-status", ": did you mean '--exit-status'?"),
+    ("--no-doc", ": did you mean '--no-doc'?"),
+    ("--journal", ": did you mean '--journal'?"),
+    ("--text", ": did you mean '--text'?"),
+    ("--help", ": did you mean '--help'?"),
 ];
 
 /// What to do in place of any other option.
@@ -84,8 +141,51 @@ pub fn is_known(command: &str, option: &str) -> bool {
     match option {
         "--help" => true,
         "--inplace" | "--exit-status" | "--no-doc" => command == "eval",
-        _ => option.starts_with("--journal="),
+        _ => {
+            option.starts_with("--journal=") || (command == "eval" && option.starts_with("--text="))
+        }
     }
+}
+
+/// What is missing behind an option that takes a value, where none stands there.
+pub fn without_value(command: &str, option: &str) -> Option<&'static str> {
+    match option {
+        "--journal" => Some("no PATH behind '--journal'"),
+        "--text" if command == "eval" => {
+            Some("no TEXT behind '--text': one that begins with '-' stands in '--text=TEXT'")
+        }
+        _ => None,
+    }
+}
+
+/// What to do in place of an option that is near one of the program's own.
+fn near_own(name: &str) -> Option<&'static str> {
+    'options: for (own, hint) in &OWN {
+        if is_near(name, own) {
+            return Some(hint);
+        }
+    }
+    None
+}
+
+/// Whether a name is near one of these.
+fn is_near_any(name: &str, names: &[&str]) -> bool {
+    'names: for other in names {
+        if is_near(name, other) {
+            return true;
+        }
+    }
+    false
+}
+
+/// What to do in place of an option that is near one of other programs.
+fn near_foreign(name: &str) -> &'static str {
+    'options: for option in &FOREIGN {
+        if is_near_any(name, option.names) {
+            return option.hint;
+        }
+    }
+    OTHER
 }
 
 /// What to do in place of an option of this letter or name.
@@ -95,7 +195,13 @@ fn hint_on(letter: u8, name: &str) -> &'static str {
             return option.hint;
         }
     }
-    OTHER
+    if !name.starts_with("--") {
+        return OTHER;
+    }
+    match near_own(name) {
+        Some(hint) => hint,
+        None => near_foreign(name),
+    }
 }
 
 /// What to do where `eval` has no such option.

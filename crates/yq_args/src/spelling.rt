@@ -9,19 +9,28 @@ const NAMES: [(&str, &str); 5] = [
     ("eval", ": did you mean 'eval'?"),
 ];
 
-/// Words of other programs, and in what the line on each of them ends.
-const OTHERS: [(&str, &str); 12] = [
+/// Words of other programs, and in what the line on each of them ends; `%` stands for the program.
+const OTHERS: [(&str, &str); 18] = [
     ("eval-all", ": each run reads one FILE"),
     ("ea", ": each run reads one FILE"),
     ("log", ": did you mean 'history'?"),
-    ("read", ": 'yq EXPR FILE' prints what EXPR reads"),
-    ("get", ": 'yq EXPR FILE' prints what EXPR reads"),
-    ("r", ": 'yq EXPR FILE' prints what EXPR reads"),
-    ("write", ": 'yq -i EXPR FILE' edits FILE"),
-    ("set", ": 'yq -i EXPR FILE' edits FILE"),
-    ("w", ": 'yq -i EXPR FILE' edits FILE"),
-    ("delete", ": 'yq -i del(PATH) FILE' edits FILE"),
-    ("d", ": 'yq -i del(PATH) FILE' edits FILE"),
+    ("revert", ": did you mean 'undo'?"),
+    ("read", ": '% EXPR FILE' prints what EXPR reads"),
+    ("get", ": '% EXPR FILE' prints what EXPR reads"),
+    ("show", ": '% EXPR FILE' prints what EXPR reads"),
+    ("print", ": '% EXPR FILE' prints what EXPR reads"),
+    ("r", ": '% EXPR FILE' prints what EXPR reads"),
+    ("write", ": '% -i EXPR FILE' edits FILE"),
+    ("set", ": '% -i EXPR FILE' edits FILE"),
+    ("edit", ": '% -i EXPR FILE' edits FILE"),
+    ("w", ": '% -i EXPR FILE' edits FILE"),
+    ("delete", ": '% -i del(PATH) FILE' edits FILE"),
+    ("d", ": '% -i del(PATH) FILE' edits FILE"),
+    (
+        "diff",
+        ": '% EXPR FILE | diff FILE -' shows what EXPR changes",
+    ),
+    ("version", ": '% --help' tells the version"),
     ("help", ": did you mean '--help'?"),
 ];
 
@@ -68,7 +77,7 @@ fn sum_of(word: &[u8]) -> u64 {
 
 /// Whether a word is a name in which one letter is missing, is another one, or is one too many, or in
 /// which two neighbours changed places; or whether the name begins with it.
-fn is_near(word: &str, name: &str) -> bool {
+pub fn is_near(word: &str, name: &str) -> bool {
     if word.len() < 3 {
         return false;
     }

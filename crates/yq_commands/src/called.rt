@@ -1,13 +1,14 @@
 //! The words with which the program was called, as the system has them.
 
-use crate::help::USAGE;
+use crate::Out;
+use crate::help::{USAGE, help_text};
 use crate::words::command_of;
 use std::alloc::AllocError;
 use std::fs::metadata;
 use std::io;
 use std::io::ErrorKind;
 use std::path::Path;
-use yq_args::{Command, UsageCause, first_name, usage_text};
+use yq_args::{Command, UsageCause, first_name, push_named, usage_text};
 use yq_history::Fault;
 
 /// The program's words, less its own name.
@@ -17,6 +18,19 @@ fn owned_words(rt: &HostRuntime) -> Result<Vec<String>, Fault> {
         Err(e) if e.kind() == ErrorKind::OutOfMemory => Err(Fault::OutOfMemory),
         Err(_) => Err(Fault::Usage(UsageCause::NotText)),
     }
+}
+
+/// The name by which the program was called: what stands behind the last slash of the word before its words.
+fn own_name(rt: &HostRuntime) -> Result<String, AllocError> {
+    let called = match std::env::args(rt) {
+        Ok(args) => args.take(1).collect(rt.alloc())?,
+        Err(_) => Vec::new(rt.alloc()),
+    };
+    let path = match called.first() {
+        Some(word) => word.as_str(),
+        None => "",
+    };
+    String::from_str(rt.alloc(), Path::new(path).file_name().unwrap_or("yq"))
 }
 
 /// The words as slices.
@@ -35,18 +49,34 @@ pub fn asked_command(rt: &HostRuntime) -> Result<Command, Fault> {
     command_of(rt.alloc(), &words)
 }
 
-/// What is told behind the line of a refusal of the program's words.
+/// What is told behind the line of a refusal of the program's words: why, and the ways to call it.
 fn usage_lines(rt: &HostRuntime, cause: UsageCause) -> Result<String, Fault> {
     let owned = owned_words(rt).unwrap_or(Vec::new(rt.alloc()));
     let words = as_slices(rt, &owned)?;
-    let is_file = metadata(rt, Path::new(first_name(&words))).is_ok();
-    Ok(usage_text(rt.alloc(), cause, &words, is_file)?)
+    let is_file = match metadata(rt, Path::new(first_name(&words))) {
+        Ok(found) => !found.is_dir(),
+        Err(_) => false,
+    };
+    let name = own_name(rt)?;
+    let mut text = usage_text(rt.alloc(), cause, &words, is_file, &name)?;
+    push_named(&mut text, USAGE, &name)?;
+    push_named(&mut text, "try '% --help'\n", &name)?;
+    Ok(text)
 }
 
 /// Tells on standard error why the program's words are refused, and the ways to call it.
 pub fn report_usage(rt: &HostRuntime, cause: UsageCause) -> io::Result<()> {
-    if let Ok(lines) = usage_lines(rt, cause) {
-        eprint!(rt; "{lines}")?;
+    match usage_lines(rt, cause) {
+        Ok(lines) => eprint!(rt; "{lines}"),
+        Err(_) => Ok(()),
     }
-    eprintln!(rt; "{USAGE}try 'yq --help'")
+}
+
+/// Puts the help to an output, by the name by which the program was called.
+pub fn put_help<W: Out>(rt: &HostRuntime, out: &mut W) -> Result<(), Fault> {
+    let text = help_text(rt.alloc(), &own_name(rt)?)?;
+    match out.put(text.as_bytes()) {
+        Ok(()) => Ok(()),
+        Err(_) => Err(Fault::OutFailed),
+    }
 }

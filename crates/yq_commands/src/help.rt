@@ -2,52 +2,72 @@
 ghost use Rattle.std.specs.Prelude.{◌≡◌, IfErr};
 ghost use Rattle.yq_history.specs.Report.{nothing, report_by};
 
-use std::alloc::Global;
+use std::alloc::{AllocError, Global};
+use yq_args::push_named;
 use yq_history::{Fault, Report};
 
-/// The ways to call the program.
+/// The ways to call the program, whose name stands for `%`.
 pub const USAGE: &str = "\
-Usage: yq [eval|e] [-i] [-e] [-N] [--journal PATH] EXPR FILE
-       yq undo|redo|history [--journal PATH] FILE
-       yq squash [--journal PATH] N FILE
+Usage: % [eval|e] [-i] [-e] [-N] [--text TEXT] [--journal PATH]
+          EXPR FILE
+       % undo|redo|history [--journal PATH] FILE
+       % squash [--journal PATH] N FILE
 ";
 
 /// What `--help` prints behind the ways to call the program.
 const DETAILS: &str = "
 Edits YAML files in place, and takes the edits back to the byte.
+It isn't mikefarah's yq, and takes a part of that one's expressions.
 
 Commands:
-  eval     print what EXPR reads of FILE, or FILE as EXPR updates it; the word may be left out
+  eval     print what EXPR reads of FILE, or FILE as EXPR updates it;
+           the word may be left out
   undo     take the last edit of FILE back
   redo     make the edit again that was taken back last
   history  list the edits of FILE, oldest first
   squash   join the last N edits of FILE into one
 
 Options:
-  -i, --inplace       write the updated text to FILE, and record the edit
-  -e, --exit-status   end with status 1 where nothing but null and false is read
-  -N, --no-doc        print no line `---` between documents
-      --journal PATH  where the edits are recorded, in place of FILE.undo.json
-  -h, --help          print this help
+  -i, --inplace       write the updated text to FILE, and record the
+                      edit
+  -e, --exit-status   end with status 1 where nothing but null and false
+                      is read
+  -N, --no-doc        print no marker between documents
+      --text TEXT     set what EXPR leads to, to TEXT as it is
+      --journal PATH  where the edits are recorded, in place of
+                      FILE.undo.json
+  -h, --help          print the commands and options
 
 Examples:
-  yq '.server.port' config.yaml
-  yq -i '.server.port = 9090' config.yaml
-  yq undo config.yaml
+  % .server.port f.yaml
+  % '.server.port = 9090' f.yaml | diff f.yaml -
+  % -i '.server.port = 9090' f.yaml
+  % -i '.labels.\"app.io/name\" = \"web\"' f.yaml
+  % -i --text=\"$HOME\" .server.home f.yaml
+  % -i '.hosts += \"b.example.com\"' f.yaml
+  % -i 'del(.hosts[0])' f.yaml
+  % -i '.server.port line_comment = \"http\"' f.yaml
+  % -i '(.jobs[] | select(.name == \"ship\") | .when) = \"tag\"' f.yaml
+  % undo f.yaml
 
-Values:           \"text\" 8080 0.5 true null [1, \"b\"] {\"key\": 1} .other.path
-Selected places:  yq -i '(.jobs[] | select(.journal == \"ship\") | .when) = \"tag\"' ci.yaml
-Codes (E1, Y9):   man yq, DIAGNOSTICS
-Version:          0.1.0
+Values:   \"text\" 8080 0.5 true null [1, \"b\"] {\"key\": 1} .other.path
+Codes:    man %, DIAGNOSTICS: what E1, Y9 and the others mean
+Version:  0.1.0
 ";
+
+/// The help of a program of this name.
+pub fn help_text(alloc: Global, name: &str) -> Result<String, AllocError> {
+    let mut text = String::new(alloc);
+    push_named(&mut text, USAGE, name)?;
+    push_named(&mut text, DETAILS, name)?;
+    Ok(text)
+}
 
 /// Shows the help.
 pub fn help(alloc: Global, report: &mut Report) -> Result<(), Fault>
     requires empty { report_by report.old ≡ nothing }
     ensures memory { IfErr result (λ e. e ≡ Fault.OutOfMemory) }
 {
-    let mut text = String::from_str(alloc, USAGE)?;
-    text.push_str(DETAILS)?;
-    report.text = text;
+    report.text = help_text(alloc, "yq")?;
     Ok(())
 }

@@ -3,19 +3,29 @@ ghost use Rattle.std.specs.Prelude.{false, []};
 
 use crate::output::{Out, PutError};
 use std::io;
-use std::io::{Print, Write};
+use std::io::{ErrorKind, Print, Write};
 
 /// What goes to standard output.
 #[derive(Drop)]
 pub struct StandardOut<R: Print + Drop> {
     rt: R,
     failures: u64,
+    is_closed: bool,
 }
 
 impl<R: Print + Drop> StandardOut<R> {
     /// The standard output that `rt` prints to.
     pub fn new(rt: R) -> Self {
-        StandardOut { rt, failures: 0 }
+        StandardOut {
+            rt,
+            failures: 0,
+            is_closed: false,
+        }
+    }
+
+    /// Whether it took nothing because its reader has closed the pipe.
+    pub fn is_closed(&self) -> bool {
+        self.is_closed
     }
 }
 
@@ -29,7 +39,8 @@ impl<R: Print + Drop> Out for StandardOut<R> {
     fn put(&mut self, bytes: &[u8]) -> Result<(), PutError> {
         match io::writer(&self.rt).write_all(bytes) {
             Ok(()) => Ok(()),
-            Err(_) => {
+            Err(e) => {
+                self.is_closed = e.kind() == ErrorKind::BrokenPipe;
                 self.failures = self.failures.saturating_add(1);
                 Err(PutError)
             }

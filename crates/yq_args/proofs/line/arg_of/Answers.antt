@@ -23,3 +23,6 @@ returns-in-File-clause-rule c = c.positional-in-File.ensures.rule ∙ ap argumen
 
 pub returns-in-Journal-clause-rule : goal.returns-in-Journal-clause-rule
 returns-in-Journal-clause-rule c = ap rule_of c.long.ensures ∙ ap (λ (r : Rule). record r { long = Some (codes "journal") }) c.new.ensures.rule ∙ ap argument_rule (sym c.in-Journal.is)
+
+pub returns-in-Text-clause-rule : goal.returns-in-Text-clause-rule
+returns-in-Text-clause-rule c = ap rule_of c.long-in-Text.ensures ∙ ap (λ (r : Rule). record r { long = Some (codes "text") }) c.new-in-Text.ensures.rule ∙ ap argument_rule (sym c.in-Text.is)
