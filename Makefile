@@ -92,6 +92,7 @@ bench: $(YQ)
 	python3 bench/reads.py $(YQ)
 	python3 bench/edit.py $(YQ)
 	python3 bench/updates.py $(YQ)
+	python3 bench/journal.py $(YQ)
 	python3 bench/cost.py $(YQ) $(DIR)
 	python3 bench/expressions.py $(YQ)
 

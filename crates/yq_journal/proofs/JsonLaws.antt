@@ -1,11 +1,10 @@
 -- Members that are counted, lists that are read item by item, and tests that are facts.
 use Rattle.std.proofs.Common.{◌≡◌, ◌==◌, ℕ, suc, List, [], ◌∷◌, ◌++◌, length, String, Option, Some, None, true, false, refl, sym, ap, ◌∙◌}
-use Rattle.std.proofs.Common.{if◌then◌else◌, ◌+◌, ◌<◌, ◌≤◌, take, drop, map, ap₂, get_or, append_assoc, option_map, rules}
-use Rattle.std.{specs.Cmp.Derive.both_true, proofs.lemmas.List.{take_all, take_more, drop_more, map-append, append-nil, at_drop_all}}
-use Rattle.std.{specs.Prelude.{◌≢◌, not, is_some}, specs.Option.ForSome, specs.declared.alloc.Global.Global, specs.Str.{IsUtf8, is_utf8}}
-use Rattle.std.{proofs.lemmas.Bool.{le-leb, leb-true, and_parts}, proofs.lemmas.Slice.Eq.bytes_eq-Decides}
-use Rattle.std.proofs.lemmas.Str.{is_utf8-from_IsUtf8, IsUtf8-from_is_utf8}
-use Rattle.serde_json.{specs.Data.{Data, Items, Members}, specs.Read.read, specs.View.{view, items_of, items_view, members_view}}
+use Rattle.std.{proofs.Common.{if◌then◌else◌, ◌+◌, ◌<◌, ◌≤◌, drop, get_or, append_assoc, option_map, rules}, specs.Cmp.Derive.both_true}
+use Rattle.std.{proofs.lemmas.List.{drop_more, append-nil, at_drop_all}, specs.Prelude.{◌≢◌, not, is_some}, specs.Option.ForSome}
+use Rattle.std.{specs.declared.alloc.Global.Global, specs.Str.{IsUtf8, is_utf8}, proofs.lemmas.Bool.{le-leb, leb-true, and_parts}}
+use Rattle.std.{proofs.lemmas.Slice.Eq.bytes_eq-Decides, proofs.lemmas.Str.{is_utf8-from_IsUtf8, IsUtf8-from_is_utf8}}
+use Rattle.serde_json.{specs.Data.{Data, Items, Members}, specs.Read.read, specs.View.{view, items_view, members_view}}
 use Rattle.serde_json.specs.declared.value.Value.{Value}
 use Rattle.yq_journal.specs.Json.{count_members, counts, and_more, each_of, can_move, is_sound_journal, record_of, pending_of, state_from}
 use Rattle.yq_journal.{specs.Json.{state_of, journal_of, journal_object}, specs.Record.Record}
@@ -43,37 +42,6 @@ can_move-move rs at p h = search (rules, none_of, and_parts, not_reached)
 pub IsSound-from_is_sound : (s : State) → is_sound_journal s ≡ true → IsSound s
 unfolding is_sound_journal
 IsSound-from_is_sound s h = search (rules, and_parts, leb-true, can_move-move)
-
--- one more of a list that is read
-pub all_of_push : {A : Type 0} (f : Data → Option A) (vs : List Data) (d : Data) (xs : List A) (x : A) → each_of f (items_of vs) ≡ Some xs → f d ≡ Some x → each_of f (items_of (vs ++ d ∷ [])) ≡ Some (xs ++ x ∷ [])
-all_of_push f [] d xs x e is = ap (λ o. and_more o (Some [])) is ∙ let same : [] ≡ xs = cc in ap (λ l. Some (l ++ x ∷ [])) same
-all_of_push f (v ∷ vs) d xs x e is =
-    elim (f v) as (λ o. and_more o (each_of f (items_of vs)) ≡ Some xs → and_more o (each_of f (items_of (vs ++ d ∷ []))) ≡ Some (xs ++ x ∷ [])) [
-      | None ↦ λ n. cc
-      | Some y ↦ λ n. elim (each_of f (items_of vs)) as (λ o. each_of f (items_of vs) ≡ o → and_more (Some y) o ≡ Some xs → and_more (Some y) (each_of f (items_of (vs ++ d ∷ []))) ≡ Some (xs ++ x ∷ [])) [
-        | None ↦ λ q m. cc
-        | Some ys ↦ λ q m. ap (and_more (Some y)) (all_of_push f vs d ys x q is) ∙ let same : y ∷ ys ≡ xs = cc in ap (λ l. Some (l ++ x ∷ [])) same
-      ] refl n
-    ] e
-
--- one more value of a list that is written
-pub record Pushed {A B : Type 0} (to_data : A → Data) (data_of : B → Data) (f : Data → Option B) (vs ws : List A) (xs : List B) (i : ℕ) : Type 0 where
-  pub written : map to_data ws ≡ map data_of (take (i + 1) xs)
-  pub reads_back : each_of f (items_of (map to_data ws)) ≡ Some (take (i + 1) xs)
-
-pub pushed : {A B : Type 0} (to_data : A → Data) (data_of : B → Data) (f : Data → Option B) (vs ws : List A) (v : A) (xs : List B) (i : ℕ) (x : B)
-    → i < length xs → x ≡ get_or xs i x → ws ≡ vs ++ v ∷ [] → to_data v ≡ data_of x → f (to_data v) ≡ Some x
-    → map to_data vs ≡ map data_of (take i xs) → each_of f (items_of (map to_data vs)) ≡ Some (take i xs) → Pushed to_data data_of f vs ws xs i
-pushed to_data data_of f vs ws v xs i x within is more datum reads written reads_back =
-    let one : take (i + 1) xs ≡ take i xs ++ x ∷ [] = take_more xs i x within ∙ ap (λ y. take i xs ++ y ∷ []) (sym is) in
-    let data_more : map to_data ws ≡ map to_data vs ++ to_data v ∷ [] = ap (map to_data) more ∙ map-append to_data vs (v ∷ []) in
-    record {
-      written = data_more ∙ ap₂ (λ l y. l ++ y ∷ []) written datum ∙ sym (ap (map data_of) one ∙ map-append data_of (take i xs) (x ∷ []));
-      reads_back = ap (λ l. each_of f (items_of l)) data_more ∙ all_of_push f (map to_data vs) (to_data v) (take i xs) x reads_back reads ∙ ap Some (sym one);
-    }
-
-pub all_taken : {B : Type 0} (o : Option (List B)) (xs : List B) (i : ℕ) → length xs ≤ i → o ≡ Some (take i xs) → o ≡ Some xs
-all_taken o xs i past reads = reads ∙ ap Some (take_all i xs past)
 
 is_some-none : {A : Type 0} (o : Option A) → o ≡ None → not (is_some o) ≡ true
 is_some-none o e = ap (λ p. not (is_some p)) e

@@ -5,9 +5,9 @@ pub mod HistoryLaws
 pub mod JoinLaws
 pub mod JsonLaws
 pub mod LineFeed
-pub mod OpenTextLaws
+pub mod BareLaws
+pub mod ReadBackLaws
+pub mod AddedLaws
 pub mod RunLaws
 pub mod SquashLaws
 pub mod StandLaws
-pub mod WriteLaws
-pub mod ObjectLaws

@@ -1,14 +1,11 @@
 -- A line feed behind a printed JSON text changes nothing of what is read.
-use Rattle.std.proofs.Common.{◌≡◌, ℕ, Bool, true, false, cond, ◌&&◌, List, [], ◌∷◌, ◌++◌, refl, sym, ap, ap₂, ◌∙◌, subst, append_assoc}
-use Rattle.std.proofs.Common.{append-nil, arith, rules}
+use Rattle.std.proofs.Common.{◌≡◌, ℕ, Bool, true, false, cond, ◌&&◌, List, [], ◌∷◌, ◌++◌, refl, sym, ap, ap₂, ◌∙◌, append_assoc, append-nil}
+use Rattle.std.proofs.Common.{rules}
 use Rattle.json.specs.Token.{Token, begin_object, end_object, begin_array, end_array, key, string, number, boolean, null, bad}
 use Rattle.json.specs.Word.{ends_word, word}
 use Rattle.json.specs.Lex.{Lexeme, token, comma, colon, string_token, lex, between, fresh, punctuate, tokens}
-use Rattle.json.specs.Print.{escape, quoted, token_text, begins, ends, print_from, print, IsPrintable, ArePrintable, ArePrintableOrBad}
-use Rattle.json.{specs.Tree.{json_tokens, depth}, proofs.Numbered.{ArePrintableOrBad-tokens, value-HasNumbers}}
+use Rattle.json.specs.Print.{escape, quoted, token_text, begins, ends, print_from, print, IsPrintable, ArePrintable}
 use Rattle.json.{proofs.Printed.Numbers.{lex-number, in_word-ended}, proofs.Printed.Strings.{content-escape, lex-escape}}
-use Rattle.json.proofs.Printed.Trees.{value-json_tokens, ArePrintable-json_tokens}
-use Rattle.serde_json.{specs.Data.Data, specs.Written.IsInOrder}
 
 -- what the lexer gives of a token
 abbrev token_lexemes : Token → List Lexeme
@@ -70,13 +67,3 @@ nothing_lexes = refl
 pub tokens-line_feed : (ts : List Token) → ArePrintable ts → tokens (print ts ++ 10 ∷ []) ≡ tokens (print ts)
 tokens-line_feed ts h =
     ap (punctuate fresh) (lex-print_from false ts (10 ∷ []) h refl line_feed_lexes ∙ sym (lex-print_from false ts [] h refl nothing_lexes) ∙ ap (lex between) (append-nil (print ts)))
-
-printable : (text : List ℕ) (d : Data) → IsInOrder text d → ArePrintable (tokens text)
-printable text d w =
-    let whole = value-json_tokens w.0 (depth w.0) [] (omega arith) in
-    subst ArePrintable (sym w.1) (ArePrintable-json_tokens w.0 (value-HasNumbers (depth w.0) (json_tokens w.0 ++ []) [] w.0 (subst ArePrintableOrBad (w.1 ∙ sym (append-nil (json_tokens w.0))) (ArePrintableOrBad-tokens text)) whole))
-
--- the tokens of a printed text with a line feed behind it are those of the text
-pub tokens_of_line : (text : List ℕ) (d : Data) → IsInOrder text d → text ≡ print (tokens text) → tokens (text ++ 10 ∷ []) ≡ tokens text
-tokens_of_line text d w same =
-    ap (λ t. tokens (t ++ 10 ∷ [])) same ∙ tokens-line_feed (tokens text) (printable text d w) ∙ ap tokens (sym same)

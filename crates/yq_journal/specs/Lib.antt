@@ -7,4 +7,4 @@ pub mod Turned
 pub mod Good
 pub mod History
 pub mod Json
-pub mod OpenText
+pub mod Added

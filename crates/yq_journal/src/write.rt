@@ -1,80 +1,19 @@
-//! The text of a journal.
-ghost use Rattle.std.specs.Prelude.{◌≡◌, Some, IfOk, true};
-ghost use Rattle.serde_json.specs.View.{view, items_view};
+//! The text of a journal, written straight into one string.
+ghost use Rattle.std.{specs.Prelude.{◌≡◌, Some, IfOk, OnOk, true}, specs.String.string_bytes};
+ghost use Rattle.yq_journal.specs.Added.{Adds};
 ghost use Rattle.yq_journal.specs.Json as spec;
 
+mod pieces;
+mod records;
+
+use crate::Move;
 use crate::journal::{Journal, Open};
-use crate::members::{add_bytes, add_text};
-use crate::{Move, Record};
-use serde_json::{Map, Value, put};
+use pieces::{push_base64, push_number};
+use records::{push_record, push_records};
 use std::alloc::{AllocError, Global};
-use yq_text::Splice;
-
-#[tactic(auto, unfolding(crate::specs::Json::splice_of))]
-fn splice_value(alloc: Global, splice: &Splice) -> Result<Value, AllocError>
-    ensures written { IfOk result (λ v. view v ≡ spec.change_data splice.now) }
-    ensures reads_back { IfOk result (λ v. spec.splice_of (view v) ≡ Some splice.now) }
-{
-    let mut members = Map::new(alloc);
-    put(&mut members, alloc, "at", Value::from(splice.at))?;
-    add_bytes(&mut members, alloc, "new", &splice.new)?;
-    add_bytes(&mut members, alloc, "old", &splice.old)?;
-    Ok(Value::Object(members))
-}
-
-fn splice_values(alloc: Global, splices: &[Splice]) -> Result<Vec<Value>, AllocError>
-    ensures written { IfOk result (λ vs. items_view vs.items ≡
-        spec.list_data spec.change_data splices.now) }
-    ensures reads_back { IfOk result (λ vs. spec.each_of spec.splice_of (items_view vs.items) ≡
-        Some splices.now) }
-{
-    let mut values = Vec::with_capacity(alloc, splices.len())?;
-    'splices: for splice in splices {
-        values.push(splice_value(alloc, splice)?)?;
-    }
-    Ok(values)
-}
-
-#[tactic(auto, unfolding(crate::specs::Json::record_of))]
-fn record_value(alloc: Global, patch: &Record) -> Result<Value, AllocError>
-    ensures written { IfOk result (λ v. view v ≡ spec.record_data patch.now) }
-    ensures reads_back { IfOk result (λ v. spec.record_of true (view v) ≡ Some patch.now) }
-{
-    let splices = splice_values(alloc, &patch.splices)?;
-    let mut members = Map::new(alloc);
-    put(&mut members, alloc, "splices", Value::Array(splices))?;
-    add_text(&mut members, alloc, "expr", &patch.expr)?;
-    put(&mut members, alloc, "count", Value::from(patch.count))?;
-    put(
-        &mut members,
-        alloc,
-        "before_len",
-        Value::from(patch.before_len),
-    )?;
-    put(
-        &mut members,
-        alloc,
-        "after_len",
-        Value::from(patch.after_len),
-    )?;
-    Ok(Value::Object(members))
-}
-
-pub(crate) fn record_values(alloc: Global, records: &[Record]) -> Result<Vec<Value>, AllocError>
-    ensures written { IfOk result (λ vs. items_view vs.items ≡
-        spec.list_data spec.record_data records.now) }
-    ensures reads_back { IfOk result (λ vs. spec.each_of (spec.record_of true)
-        (items_view vs.items) ≡ Some records.now) }
-{
-    let mut values = Vec::with_capacity(alloc, records.len())?;
-    'records: for patch in records {
-        values.push(record_value(alloc, patch)?)?;
-    }
-    Ok(values)
-}
 
 /// The kind of a move.
-pub(crate) fn kind(step: &Move) -> &'static str
+fn kind(step: &Move) -> &'static str
     ensures { result.now ≡ spec.kind_text step.now }
 {
     match step {
@@ -84,81 +23,83 @@ pub(crate) fn kind(step: &Move) -> &'static str
     }
 }
 
-/// The record of a move, null where it has none.
-#[tactic(auto, unfolding(crate::specs::Json::move_of))]
-pub(crate) fn move_value(alloc: Global, step: &Move) -> Result<Value, AllocError>
-    ensures written { IfOk result (λ v. view v ≡ spec.move_data step.now) }
-    ensures reads_back { IfOk result (λ v. spec.move_of true (spec.kind_text step.now) (view v) ≡
-        Some step.now) }
+/// Adds the record of a move, null where it has none.
+fn push_move(text: &mut String, alloc: Global, step: &Move) -> Result<(), AllocError>
+    ensures { OnOk result (Adds spec.move_data (spec.move_of true (spec.kind_text step.now))
+        step.now (string_bytes text.old) (string_bytes text.new)) }
 {
     match step {
-        Move::Edit(patch) => record_value(alloc, patch),
-        Move::Undo | Move::Redo => Ok(Value::Null),
+        Move::Edit(patch) => {
+            push_record(text, alloc, patch)?;
+            Ok(())
+        }
+        Move::Undo => {
+            text.push_str("null")?;
+            Ok(())
+        }
+        Move::Redo => {
+            text.push_str("null")?;
+            Ok(())
+        }
     }
 }
 
-#[tactic(auto, unfolding(crate::specs::Json::open_move_of))]
-fn open_value(alloc: Global, open: &Open) -> Result<Value, AllocError>
-    ensures written { IfOk result (λ v. view v ≡ spec.pending_data (Some open.now)) }
-    ensures reads_back { IfOk result (λ v. spec.open_move_of true (view v) ≡ Some open.now) }
+/// Adds an open move. Its base64 is written where it stands, and not copied.
+fn push_open(text: &mut String, alloc: Global, open: &Open) -> Result<(), AllocError>
+    ensures { OnOk result (Adds spec.pending_data (spec.pending_of true) (Some open.now)
+        (string_bytes text.old) (string_bytes text.new)) }
 {
-    let held = move_value(alloc, &open.step)?;
-    let mut members = Map::new(alloc);
-    put(&mut members, alloc, "record", held)?;
-    add_text(&mut members, alloc, "kind", kind(&open.step))?;
-    add_bytes(&mut members, alloc, "from", &open.from)?;
-    Ok(Value::Object(members))
+    text.push_str("{\"from\":\"")?;
+    push_base64(text, &open.from)?;
+    text.push_str("\",\"kind\":\"")?;
+    text.push_str(kind(&open.step))?;
+    text.push_str("\",\"record\":")?;
+    push_move(text, alloc, &open.step)?;
+    text.push_str("}")?;
+    Ok(())
 }
 
-/// An open move as a value, null where there is none.
-fn pending_value(alloc: Global, pending: &Option<Open>) -> Result<Value, AllocError>
-    ensures written { IfOk result (λ v. view v ≡ spec.pending_data pending.now) }
-    ensures reads_back { IfOk result (λ v. spec.pending_of true (view v) ≡ Some pending.now) }
+/// Adds an open move, null where there is none.
+fn push_pending(text: &mut String, alloc: Global, pending: &Option<Open>) -> Result<(), AllocError>
+    ensures { OnOk result (Adds spec.pending_data (spec.pending_of true) pending.now
+        (string_bytes text.old) (string_bytes text.new)) }
 {
     match pending {
-        Some(open) => open_value(alloc, open),
-        None => Ok(Value::Null),
+        Some(open) => push_open(text, alloc, open),
+        None => {
+            text.push_str("null")?;
+            Ok(())
+        }
     }
 }
 
-/// The object of a journal in version 2.
-fn journal_object(
-    alloc: Global,
-    at: u64,
-    pending: Value,
-    records: Vec<Value>,
-) -> Result<Value, AllocError>
-    ensures { IfOk result (λ v. view v ≡ spec.journal_object at (view pending)
-        (items_view records.items)) }
-{
-    let mut members = Map::new(alloc);
-    put(&mut members, alloc, "records", Value::Array(records))?;
-    put(&mut members, alloc, "pending", pending)?;
-    put(&mut members, alloc, "at", Value::from(at))?;
-    put(&mut members, alloc, "version", Value::from(2u64))?;
-    Ok(Value::Object(members))
-}
-
-/// A journal as a value, in version 2.
-fn journal_value(alloc: Global, journal: &Journal) -> Result<Value, AllocError>
-    ensures written { IfOk result (λ v. view v ≡ spec.journal_data journal.now) }
-    ensures reads_back { IfOk result (λ v. spec.journal_of (view v) ≡ Some journal.now) }
-{
-    let pending = pending_value(alloc, &journal.open)?;
-    let records = record_values(alloc, &journal.records)?;
-    journal_object(alloc, journal.at as u64, pending, records)
+/// How many bytes the base64 of an open move's text takes, with a few for each record.
+fn room_of(pending: &Option<Open>, records: usize) -> usize {
+    let from = match pending {
+        Some(open) => open.from.len(),
+        None => 0,
+    };
+    let groups = from / 3;
+    groups
+        .saturating_add(2)
+        .saturating_mul(4)
+        .saturating_add(records.saturating_mul(192))
+        .saturating_add(512)
 }
 
 impl Journal {
-    /// The journal's text, made of its value.
-    fn text_of_value(&self, alloc: Global) -> Result<Vec<u8>, AllocError>
-        ensures text { IfOk result (λ v. v.items ≡ spec.journal_text self.now) }
-        ensures reads_back { IfOk result (λ v. spec.journal_in v.items ≡ Some self.now) }
+    /// Adds the journal.
+    fn push_to(&self, text: &mut String, alloc: Global) -> Result<(), AllocError>
+        ensures { OnOk result (Adds spec.journal_data spec.journal_of self.now
+            (string_bytes text.old) (string_bytes text.new)) }
     {
-        let value = journal_value(alloc, self)?;
-        let mut bytes = value.to_vec(alloc)?;
-        bytes.push(b'\n')?;
-        Ok(bytes)
+        push_number(text, "{\"at\":", self.at as u64)?;
+        text.push_str(",\"pending\":")?;
+        push_pending(text, alloc, &self.open)?;
+        text.push_str(",\"records\":")?;
+        push_records(text, alloc, &self.records)?;
+        text.push_str(",\"version\":2}")?;
+        Ok(())
     }
 
     /// The journal's text in version 2: compact JSON, keys in byte order, and
@@ -167,9 +108,10 @@ impl Journal {
         ensures text { IfOk result (λ v. v.items ≡ spec.journal_text self.now) }
         ensures reads_back { IfOk result (λ v. spec.journal_in v.items ≡ Some self.now) }
     {
-        match &self.open {
-            Some(open) => self.open_text(alloc, open),
-            None => self.text_of_value(alloc),
-        }
+        let room = room_of(&self.open, self.records.len());
+        let mut text = String::with_capacity(alloc, room)?;
+        self.push_to(&mut text, alloc)?;
+        text.push_str("\n")?;
+        Ok(text.into_bytes())
     }
 }

@@ -1,5 +1,6 @@
 //! What stands under the keys of an object.
-ghost use Rattle.std.specs.Prelude.{◌≡◌, IfOk, option_map};
+ghost use Rattle.std.{specs.Prelude.{◌≡◌, IfOk, option_map}, specs.Result.result_ok};
+ghost use Rattle.base64.{specs.Engines.standard, specs.GeneralPurpose.decode_of};
 ghost use Rattle.serde_json.specs.View.{view};
 ghost use Rattle.yq_journal.specs.Json as spec;
 
@@ -22,6 +23,18 @@ pub(super) fn text<'a>(value: &'a Value, key: &str) -> Option<&'a str>
     value.get(key)?.as_str()
 }
 
+/// Bytes from padded standard base64.
+pub(super) fn decoded(alloc: Global, text: &[u8]) -> Result<Option<Vec<u8>>, AllocError>
+    ensures { IfOk result (λ o. option_map (λ v. v.items) o ≡
+        result_ok (decode_of standard text.now)) }
+{
+    match STANDARD.decode(alloc, text) {
+        Ok(bytes) => Ok(Some(bytes)),
+        Err(DecodeAllocError::OutOfMemory) => Err(AllocError),
+        Err(_) => Ok(None),
+    }
+}
+
 /// The bytes under a key, from padded standard base64.
 pub(super) fn bytes(alloc: Global, value: &Value, key: &str) -> Result<Option<Vec<u8>>, AllocError>
     ensures { IfOk result (λ o. option_map (λ v. v.items) o ≡
@@ -30,11 +43,7 @@ pub(super) fn bytes(alloc: Global, value: &Value, key: &str) -> Result<Option<Ve
     let Some(text) = text(value, key) else {
         return Ok(None);
     };
-    match STANDARD.decode(alloc, text.as_bytes()) {
-        Ok(bytes) => Ok(Some(bytes)),
-        Err(DecodeAllocError::OutOfMemory) => Err(AllocError),
-        Err(_) => Ok(None),
-    }
+    decoded(alloc, text.as_bytes())
 }
 
 /// Whether it is an object with so many keys.

@@ -1,0 +1,198 @@
+-- The pieces that calls add to a text are the compact JSON of a splice, a record, an open move or a journal.
+use Rattle.std.proofs.Common.{◌≡◌, ◌≤◌, ◌<◌, ◌+◌, ℕ, List, [], ◌∷◌, ◌++◌, Bool, true, false, Option, Some, codes, decimal, refl, sym, ap}
+use Rattle.std.proofs.Common.{ap₂, ◌∙◌, subst, append_assoc, arith, drop, get_or, length, Ok, ◌^◌}
+use Rattle.std.{proofs.lemmas.List.{at_drop_all, drop_more}, specs.Prelude.{option_and_then, option_map, ⊤}}
+use Rattle.std.proofs.lemmas.Fmt.{decimal_digit}
+use Rattle.base64.{specs.Engines.standard, specs.GeneralPurpose.{decode_of, encode_of}}
+use Rattle.json.{specs.Print.{escape, escape_byte, quoted}, specs.Tree.ItemsHaveNumbers}
+use Rattle.serde_json.{specs.Data.{Data, array, item}, specs.Read.of_items, specs.Find.as_array}
+use Rattle.serde_json.specs.Written.{comma_if, compact_text, items_outline, items_text}
+use Rattle.yq_text.specs.Splice.{Splice}
+use Rattle.yq_journal.{specs.declared.moves.Move.Move, specs.declared.moves.Move.TheVariants.Edit}
+use Rattle.yq_journal.specs.Added.{Adds, IsReadBack, changes_data, records_data}
+use Rattle.yq_journal.specs.Json.{and_more, change_data, each_of, journal_data, kind_text, list_data, move_data, pending_data, record_data}
+use Rattle.yq_journal.specs.Json.{journal_of, move_of, pending_of, record_of, records_of, splice_of, splices_of}
+use Rattle.yq_journal.{specs.Record.{IsRecord, Record}, specs.Refusals.IsSound, specs.State.{Pending, State}}
+use Rattle.yq_journal.proofs.ReadBackLaws.{kept_journal, kept_open, kept_record, kept_splice}
+
+-- ---- the texts
+
+-- a splice, with the base64 of its bytes
+abbrev splice_after : List ℕ → List ℕ → List ℕ → List ℕ → List ℕ
+splice_after t at new old = t ++ codes "{\"at\":" ++ at ++ codes ",\"new\":\"" ++ new ++ codes "\",\"old\":\"" ++ old ++ codes "\"}"
+
+abbrev splice_pieces : List ℕ → List ℕ → List ℕ → List ℕ
+splice_pieces at new old =
+    123 ∷ 34 ∷ (codes "at" ++ 34 ∷ 58 ∷ (at ++ (44 ∷ 34 ∷ (codes "new" ++ 34 ∷ 58 ∷ ((34 ∷ (new ++ 34 ∷ [])) ++ (44 ∷ 34 ∷ (codes "old" ++ 34 ∷ 58 ∷ ((34 ∷ (old ++ 34 ∷ [])) ++ 125 ∷ []))))))))
+
+splice_regroup : (t at new old : List ℕ) → splice_after t at new old ≡ t ++ splice_pieces at new old
+splice_regroup t at new old = simp append_assoc
+
+splice_text : (t : List ℕ) (s : Splice) → splice_after t (decimal s.at) (escape (encode_of standard s.new)) (escape (encode_of standard s.old)) ≡ t ++ compact_text (change_data s)
+unfolding escape_byte
+splice_text t s = splice_regroup t (decimal s.at) (escape (encode_of standard s.new)) (escape (encode_of standard s.old))
+
+-- what the calls for a splice add
+pub splice_adds : (s : Splice) (t t₁ t₂ t₃ t₄ t₅ t₆ : List ℕ) → s.at < 2 ^ 64 → decode_of standard (encode_of standard s.new) ≡ Ok s.new → decode_of standard (encode_of standard s.old) ≡ Ok s.old
+    → t₁ ≡ t ++ codes "{\"at\":" ++ decimal s.at → t₂ ≡ t₁ ++ codes ",\"new\":\"" → t₃ ≡ t₂ ++ escape (encode_of standard s.new) → t₄ ≡ t₃ ++ codes "\",\"old\":\"" → t₅ ≡ t₄ ++ escape (encode_of standard s.old)
+    → t₆ ≡ t₅ ++ codes "\"}" → Adds change_data splice_of s t t₆
+splice_adds s t t₁ t₂ t₃ t₄ t₅ t₆ h n o e₁ e₂ e₃ e₄ e₅ e₆ = record {
+  text_is = e₆ ∙ ap (λ l. l ++ codes "\"}") (e₅ ∙ ap (λ l. l ++ escape (encode_of standard s.old)) (e₄ ∙ ap (λ l. l ++ codes "\",\"old\":\"") (e₃ ∙ ap (λ l. l ++ escape (encode_of standard s.new)) (e₂ ∙ ap (λ l. l ++ codes ",\"new\":\"") e₁)))) ∙ splice_text t s;
+  kept = kept_splice s h n o;
+}
+
+-- a record, with its expression as a string and its splices as an array
+abbrev record_after : List ℕ → List ℕ → List ℕ → List ℕ → List ℕ → List ℕ → List ℕ
+record_after t a b n e ss =
+    t ++ codes "{\"after_len\":" ++ a ++ codes ",\"before_len\":" ++ b ++ codes ",\"count\":" ++ n ++ codes ",\"expr\":" ++ e ++ codes ",\"splices\":" ++ ss ++ codes "}"
+
+abbrev record_pieces : List ℕ → List ℕ → List ℕ → List ℕ → List ℕ → List ℕ
+record_pieces a b n e ss =
+    123 ∷ 34 ∷ (codes "after_len" ++ 34 ∷ 58 ∷ (a ++ (44 ∷ 34 ∷ (codes "before_len" ++ 34 ∷ 58 ∷ (b ++ (44 ∷ 34 ∷ (codes "count" ++ 34 ∷ 58 ∷ (n
+    ++ (44 ∷ 34 ∷ (codes "expr" ++ 34 ∷ 58 ∷ (e ++ (44 ∷ 34 ∷ (codes "splices" ++ 34 ∷ 58 ∷ (ss ++ 125 ∷ []))))))))))))))
+
+record_regroup : (t a b n e ss : List ℕ) → record_after t a b n e ss ≡ t ++ record_pieces a b n e ss
+record_regroup t a b n e ss = simp append_assoc
+
+record_text : (t : List ℕ) (r : Record) → record_after t (decimal r.after_len) (decimal r.before_len) (decimal r.count) (quoted r.expr) (compact_text (changes_data r.changes)) ≡ t ++ compact_text (record_data r)
+unfolding escape_byte
+record_text t r = record_regroup t (decimal r.after_len) (decimal r.before_len) (decimal r.count) (quoted r.expr) (compact_text (changes_data r.changes))
+
+-- what the calls for a record add
+pub record_adds : (r : Record) (t t₁ t₂ t₃ t₄ t₅ t₆ t₇ t₈ : List ℕ) → r.after_len < 2 ^ 64 → r.before_len < 2 ^ 64 → r.count < 2 ^ 64 → IsRecord r
+    → t₁ ≡ t ++ codes "{\"after_len\":" ++ decimal r.after_len → t₂ ≡ t₁ ++ codes ",\"before_len\":" ++ decimal r.before_len → t₃ ≡ t₂ ++ codes ",\"count\":" ++ decimal r.count
+    → t₄ ≡ t₃ ++ codes ",\"expr\":" → t₅ ≡ t₄ ++ quoted r.expr → t₆ ≡ t₅ ++ codes ",\"splices\":" → Adds changes_data splices_of r.changes t₆ t₇ → t₈ ≡ t₇ ++ codes "}"
+    → Adds record_data (record_of true) r t t₈
+record_adds r t t₁ t₂ t₃ t₄ t₅ t₆ t₇ t₈ a b n valid e₁ e₂ e₃ e₄ e₅ e₆ e₇ e₈ = record {
+  text_is =
+      e₈ ∙ ap (λ l. l ++ codes "}") (e₇.text_is ∙ ap (λ l. l ++ compact_text (changes_data r.changes)) (e₆ ∙ ap (λ l. l ++ codes ",\"splices\":") (e₅ ∙ ap (λ l. l ++ quoted r.expr)
+      (e₄ ∙ ap (λ l. l ++ codes ",\"expr\":") (e₃ ∙ ap (λ l. l ++ codes ",\"count\":" ++ decimal r.count) (e₂ ∙ ap (λ l. l ++ codes ",\"before_len\":" ++ decimal r.before_len) e₁)))))) ∙ record_text t r;
+  kept = kept_record r a b n valid e₇.kept;
+}
+
+-- an open move, with the base64 of its text, its kind and its record
+abbrev open_after : List ℕ → List ℕ → List ℕ → List ℕ → List ℕ
+open_after t from kind held = t ++ codes "{\"from\":\"" ++ from ++ codes "\",\"kind\":\"" ++ kind ++ codes "\",\"record\":" ++ held ++ codes "}"
+
+abbrev open_pieces : List ℕ → List ℕ → List ℕ → List ℕ
+open_pieces from kind held =
+    123 ∷ 34 ∷ (codes "from" ++ 34 ∷ 58 ∷ ((34 ∷ (from ++ 34 ∷ [])) ++ (44 ∷ 34 ∷ (codes "kind" ++ 34 ∷ 58 ∷ ((34 ∷ (kind ++ 34 ∷ [])) ++ (44 ∷ 34 ∷ (codes "record" ++ 34 ∷ 58 ∷ (held ++ 125 ∷ []))))))))
+
+open_regroup : (t from kind held : List ℕ) → open_after t from kind held ≡ t ++ open_pieces from kind held
+open_regroup t from kind held = simp append_assoc
+
+kind_kept : (step : Move) → escape (kind_text step) ≡ kind_text step
+unfolding escape_byte
+kind_kept (Edit r) = refl
+kind_kept _ = refl
+
+open_text : (t : List ℕ) (p : Pending) → open_after t (escape (encode_of standard p.from)) (kind_text p.step) (compact_text (move_data p.step)) ≡ t ++ compact_text (pending_data (Some p))
+unfolding escape_byte
+open_text t p =
+    open_regroup t (escape (encode_of standard p.from)) (kind_text p.step) (compact_text (move_data p.step))
+    ∙ ap (λ k. t ++ open_pieces (escape (encode_of standard p.from)) k (compact_text (move_data p.step))) (sym (kind_kept p.step))
+
+-- what the calls for an open move add
+pub open_adds : (p : Pending) (t t₁ t₂ t₃ t₄ t₅ t₆ t₇ : List ℕ) → decode_of standard (encode_of standard p.from) ≡ Ok p.from → t₁ ≡ t ++ codes "{\"from\":\"" → t₂ ≡ t₁ ++ escape (encode_of standard p.from)
+    → t₃ ≡ t₂ ++ codes "\",\"kind\":\"" → t₄ ≡ t₃ ++ kind_text p.step → t₅ ≡ t₄ ++ codes "\",\"record\":" → Adds move_data (move_of true (kind_text p.step)) p.step t₅ t₆ → t₇ ≡ t₆ ++ codes "}"
+    → Adds pending_data (pending_of true) (Some p) t t₇
+open_adds p t t₁ t₂ t₃ t₄ t₅ t₆ t₇ b e₁ e₂ e₃ e₄ e₅ e₆ e₇ = record {
+  text_is =
+      e₇ ∙ ap (λ l. l ++ codes "}") (e₆.text_is ∙ ap (λ l. l ++ compact_text (move_data p.step)) (e₅ ∙ ap (λ l. l ++ codes "\",\"record\":") (e₄ ∙ ap (λ l. l ++ kind_text p.step)
+      (e₃ ∙ ap (λ l. l ++ codes "\",\"kind\":\"") (e₂ ∙ ap (λ l. l ++ escape (encode_of standard p.from)) e₁))))) ∙ open_text t p;
+  kept = kept_open p e₆.kept b;
+}
+
+-- a journal, with its open move and its records
+abbrev journal_after : List ℕ → List ℕ → List ℕ → List ℕ → List ℕ
+journal_after t at p rs = t ++ codes "{\"at\":" ++ at ++ codes ",\"pending\":" ++ p ++ codes ",\"records\":" ++ rs ++ codes ",\"version\":2}"
+
+abbrev journal_pieces : List ℕ → List ℕ → List ℕ → List ℕ → List ℕ
+journal_pieces at p rs v =
+    123 ∷ 34 ∷ (codes "at" ++ 34 ∷ 58 ∷ (at ++ (44 ∷ 34 ∷ (codes "pending" ++ 34 ∷ 58 ∷ (p ++ (44 ∷ 34 ∷ (codes "records" ++ 34 ∷ 58 ∷ (rs ++ (44 ∷ 34 ∷ (codes "version" ++ 34 ∷ 58 ∷ (v ++ 125 ∷ [])))))))))))
+
+journal_regroup : (t at p rs : List ℕ) → journal_after t at p rs ≡ t ++ journal_pieces at p rs (50 ∷ [])
+journal_regroup t at p rs = simp append_assoc
+
+text_of_journal : (t : List ℕ) (s : State) → journal_after t (decimal s.at) (compact_text (pending_data s.pending)) (compact_text (records_data s.records)) ≡ t ++ compact_text (journal_data s)
+unfolding escape_byte
+text_of_journal t s =
+    journal_regroup t (decimal s.at) (compact_text (pending_data s.pending)) (compact_text (records_data s.records))
+    ∙ ap (λ v. t ++ journal_pieces (decimal s.at) (compact_text (pending_data s.pending)) (compact_text (records_data s.records)) v) (sym (decimal_digit 2 (omega arith)))
+
+-- what the calls for a journal add
+pub journal_adds : (s : State) (t t₁ t₂ t₃ t₄ t₅ t₆ : List ℕ) → IsSound s → s.at < 2 ^ 64 → t₁ ≡ t ++ codes "{\"at\":" ++ decimal s.at → t₂ ≡ t₁ ++ codes ",\"pending\":"
+    → Adds pending_data (pending_of true) s.pending t₂ t₃ → t₄ ≡ t₃ ++ codes ",\"records\":" → Adds records_data (records_of true) s.records t₄ t₅ → t₆ ≡ t₅ ++ codes ",\"version\":2}"
+    → Adds journal_data journal_of s t t₆
+journal_adds s t t₁ t₂ t₃ t₄ t₅ t₆ sound h e₁ e₂ e₃ e₄ e₅ e₆ = record {
+  text_is =
+      e₆ ∙ ap (λ l. l ++ codes ",\"version\":2}") (e₅.text_is ∙ ap (λ l. l ++ compact_text (records_data s.records)) (e₄ ∙ ap (λ l. l ++ codes ",\"records\":")
+      (e₃.text_is ∙ ap (λ l. l ++ compact_text (pending_data s.pending)) (e₂ ∙ ap (λ l. l ++ codes ",\"pending\":") e₁)))) ∙ text_of_journal t s;
+  kept = kept_journal s sound h e₃.kept e₅.kept;
+}
+
+-- ---- lists
+
+-- what is known of all things of a list
+abbrev pub AreReadBack : {A : Type 0} → (A → Data) → (Data → Option A) → List A → Type 0
+AreReadBack to_data of_data [] = ⊤
+AreReadBack to_data of_data (x ∷ xs) = IsReadBack to_data of_data x × AreReadBack to_data of_data xs
+
+numbers_of : {A : Type 0} (to_data : A → Data) (of_data : Data → Option A) (xs : List A) → AreReadBack to_data of_data xs → ItemsHaveNumbers (items_outline (list_data to_data xs))
+numbers_of to_data of_data [] k = tt
+numbers_of to_data of_data (x ∷ xs) k = (k.0.numbers, numbers_of to_data of_data xs k.1)
+
+items_read : {A : Type 0} (to_data : A → Data) (of_data : Data → Option A) (xs : List A) → AreReadBack to_data of_data xs → of_items (items_outline (list_data to_data xs)) ≡ Some (list_data to_data xs)
+items_read to_data of_data [] k = refl
+items_read to_data of_data (x ∷ xs) k = ap₂ (λ o p. option_and_then (λ d. option_map (item d) p) o) k.0.reads (items_read to_data of_data xs k.1)
+
+all_stand : {A : Type 0} (to_data : A → Data) (of_data : Data → Option A) (xs : List A) → AreReadBack to_data of_data xs → each_of of_data (list_data to_data xs) ≡ Some xs
+all_stand to_data of_data [] k = refl
+all_stand to_data of_data (x ∷ xs) k = ap₂ (λ o p. and_more o p) k.0.stands (all_stand to_data of_data xs k.1)
+
+-- a list of things as an array
+abbrev array_of : {A : Type 0} → (A → Data) → List A → Data
+array_of to_data xs = array (list_data to_data xs)
+
+-- the things that an array stands for
+abbrev things_of : {A : Type 0} → (Data → Option A) → Data → Option (List A)
+things_of of_data d = option_and_then (each_of of_data) (as_array d)
+
+list_kept : {A : Type 0} (to_data : A → Data) (of_data : Data → Option A) (xs : List A) → AreReadBack to_data of_data xs → IsReadBack (array_of to_data) (things_of of_data) xs
+list_kept to_data of_data xs k = record {
+  numbers = numbers_of to_data of_data xs k;
+  reads = ap (option_map array) (items_read to_data of_data xs k);
+  stands = all_stand to_data of_data xs k;
+}
+
+-- the first things of a list were added to a text
+pub record SoFar {A : Type 0} (to_data : A → Data) (of_data : Data → Option A) (xs : List A) (i : ℕ) (later : Bool) (before now : List ℕ) : Type 0 where
+  pub text_is : now ++ items_text later (list_data to_data (drop i xs)) ≡ before ++ compact_text (array_of to_data xs)
+  pub kept : AreReadBack to_data of_data (drop i xs) → AreReadBack to_data of_data xs
+
+pub so_far_begins : {A : Type 0} (to_data : A → Data) (of_data : Data → Option A) (xs : List A) (before now : List ℕ) → now ≡ before ++ codes "[" → SoFar to_data of_data xs 0 false before now
+so_far_begins to_data of_data xs before now e = record {
+  text_is = ap (λ l. l ++ items_text false (list_data to_data xs)) e ∙ append_assoc before (codes "[") (items_text false (list_data to_data xs));
+  kept = λ k. k;
+}
+
+pub so_far_more : {A : Type 0} (to_data : A → Data) (of_data : Data → Option A) (xs : List A) (i : ℕ) (x : A) (later : Bool) (before now mid next : List ℕ)
+    → i < length xs → x ≡ get_or xs i x → SoFar to_data of_data xs i later before now → mid ≡ now ++ comma_if later → Adds to_data of_data x mid next
+    → SoFar to_data of_data xs (i + 1) true before next
+so_far_more to_data of_data xs i x later before now mid next within is s comma added =
+    let left : drop i xs ≡ x ∷ drop (i + 1) xs = drop_more xs i x within ∙ ap (λ y. y ∷ drop (i + 1) xs) (sym is) in
+    let rest : List ℕ = items_text true (list_data to_data (drop (i + 1) xs)) in
+    record {
+      text_is =
+          ap (λ l. l ++ rest) (added.text_is ∙ ap (λ l. l ++ compact_text (to_data x)) comma)
+          ∙ append_assoc (now ++ comma_if later) (compact_text (to_data x)) rest ∙ append_assoc now (comma_if later) (compact_text (to_data x) ++ rest)
+          ∙ sym (ap (λ l. now ++ items_text later (list_data to_data l)) left) ∙ s.text_is;
+      kept = λ k. s.kept (subst (AreReadBack to_data of_data) (sym left) (added.kept, k));
+    }
+
+pub so_far_ends : {A : Type 0} (to_data : A → Data) (of_data : Data → Option A) (xs : List A) (i : ℕ) (later : Bool) (before now last : List ℕ)
+    → length xs ≤ i → SoFar to_data of_data xs i later before now → last ≡ now ++ codes "]" → Adds (array_of to_data) (things_of of_data) xs before last
+so_far_ends to_data of_data xs i later before now last past s e = record {
+  text_is = e ∙ sym (at_drop_all (λ l. now ++ items_text later (list_data to_data l)) xs i past) ∙ s.text_is;
+  kept = list_kept to_data of_data xs (s.kept (subst (AreReadBack to_data of_data) (sym (at_drop_all (λ l. l) xs i past)) tt));
+}

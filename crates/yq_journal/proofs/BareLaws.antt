@@ -1,0 +1,71 @@
+-- Which bytes JSON doesn't escape: those of base64, and those of a text that has none that it escapes.
+use Rattle.std.proofs.Common.{◌≡◌, ◌≢◌, ◌≤◌, ◌<◌, ◌/◌, ◌%◌, ◌*◌, ◌+◌, ℕ, zero, suc, List, [], ◌∷◌, ◌++◌, Bool, true, replicate, slice_index}
+use Rattle.std.{proofs.Common.{refl, sym, ap, ap₂, ◌∙◌, arith, drop, length, get_or}, specs.Prelude.⊤, specs.Str.bytes_eq}
+use Rattle.std.{proofs.lemmas.Slice.Eq.bytes_eq-Decides, proofs.lemmas.List.drop_more}
+use Rattle.base64.{specs.Engines.standard, specs.GeneralPurpose.{IsBytes, encode_of}, specs.Rfc4648.encode_symbols, specs.Tables.all_below}
+use Rattle.base64.proofs.Tables.{all_below_at}
+use Rattle.json.{specs.Print.{escape, escape_byte}, proofs.Printed.Strings.escape_byte_plain}
+
+-- the 64 symbols
+abbrev symbols : List ℕ
+symbols = standard.encode_table
+
+abbrev AreKept : List ℕ → Type 0
+AreKept [] = ⊤
+AreKept (x ∷ xs) = (escape_byte x ≡ x ∷ []) × AreKept xs
+
+escape_kept : (xs : List ℕ) → AreKept xs → escape xs ≡ xs
+escape_kept [] h = refl
+escape_kept (x ∷ xs) h = ap₂ (λ (a b : List ℕ). a ++ b) h.0 (escape_kept xs h.1)
+
+kept_append : (xs ys : List ℕ) → AreKept xs → AreKept ys → AreKept (xs ++ ys)
+kept_append [] ys h k = k
+kept_append (x ∷ xs) ys h k = (h.0, kept_append xs ys h.1 k)
+
+abbrev is_kept : ℕ → Bool
+is_kept i = bytes_eq (escape_byte (slice_index symbols i)) (slice_index symbols i ∷ [])
+
+symbols_are_kept : all_below is_kept 64 ≡ true
+unfolding escape_byte
+symbols_are_kept = refl
+
+kept_symbol : (i : ℕ) → i < 64 → escape_byte (slice_index symbols i) ≡ slice_index symbols i ∷ []
+kept_symbol i h = (bytes_eq-Decides (escape_byte (slice_index symbols i)) (slice_index symbols i ∷ [])).0 (all_below_at is_kept 64 i symbols_are_kept h)
+
+kept_symbols : (m : List ℕ) → IsBytes m → AreKept (encode_symbols symbols m)
+unfolding encode_symbols
+kept_symbols [] h = tt
+kept_symbols (a ∷ []) h =
+    let x : a < 256 = h 0 in
+    (kept_symbol (a / 4) (omega arith), (kept_symbol (a % 4 * 16) (omega arith), tt))
+kept_symbols (a ∷ b ∷ []) h =
+    let x : a < 256 = h 0 in
+    let y : b < 256 = h 1 in
+    (kept_symbol (a / 4) (omega arith), (kept_symbol (a % 4 * 16 + b / 16) (omega arith), (kept_symbol (b % 16 * 4) (omega arith), tt)))
+kept_symbols (a ∷ b ∷ c ∷ rest) h =
+    let x : a < 256 = h 0 in
+    let y : b < 256 = h 1 in
+    let z : c < 256 = h 2 in
+    let last : AreKept (slice_index symbols (c % 64) ∷ encode_symbols symbols rest) = (kept_symbol (c % 64) (omega arith), kept_symbols rest (λ i. h (suc (suc (suc i))))) in
+    (kept_symbol (a / 4) (omega arith), (kept_symbol (a % 4 * 16 + b / 16) (omega arith), (kept_symbol (b % 16 * 4 + c / 64) (omega arith), last)))
+
+padding_is_kept : escape_byte 61 ≡ 61 ∷ []
+unfolding escape_byte
+padding_is_kept = refl
+
+kept_padding : (n : ℕ) → AreKept (replicate n 61)
+kept_padding zero = tt
+kept_padding (suc n) = (padding_is_kept, kept_padding n)
+
+-- base64 stands in a string of JSON as it is
+pub base64_escapes : (m : List ℕ) → IsBytes m → escape (encode_of standard m) ≡ encode_of standard m
+base64_escapes m h = escape_kept (encode_of standard m) (kept_append (encode_symbols symbols m) _ (kept_symbols m h) (kept_padding _))
+
+-- ---- a text, byte by byte
+
+-- one more byte that isn't escaped
+pub bare_more : (xs : List ℕ) (i : ℕ) → i < length xs → 32 ≤ get_or xs i 0 → get_or xs i 0 ≢ 34 → get_or xs i 0 ≢ 92
+    → (escape (drop i xs) ≡ drop i xs → escape xs ≡ xs) → escape (drop (i + 1) xs) ≡ drop (i + 1) xs → escape xs ≡ xs
+bare_more xs i within low quote backslash so_far rest =
+    let left : drop i xs ≡ get_or xs i 0 ∷ drop (i + 1) xs = drop_more xs i 0 within in
+    so_far (ap escape left ∙ ap₂ (λ (a b : List ℕ). a ++ b) (escape_byte_plain (get_or xs i 0) quote backslash low) rest ∙ sym left)

@@ -1,0 +1,25 @@
+-- What a call adds to the text of a journal that is being written (RFC 8259).
+use Rattle.std.specs.Prelude.{◌≡◌, List, ℕ, ◌++◌, Option, Some}
+use Rattle.json.specs.Tree.{HasNumbers}
+use Rattle.serde_json.{specs.Data.{Data, array}, specs.Read.of_json, specs.Written.{compact_text, outline}}
+use Rattle.yq_text.specs.Splice.{Splice}
+use Rattle.yq_journal.{specs.Json.{change_data, list_data, record_data}, specs.Record.Record}
+
+-- splices as a value (own)
+abbrev pub changes_data : List Splice → Data
+changes_data cs = array (list_data change_data cs)
+
+-- records as a value (own)
+abbrev pub records_data : List Record → Data
+records_data rs = array (list_data record_data rs)
+
+-- the numbers of a thing's value are numbers of JSON, its text is read as that value, and the value stands for the thing (RFC 8259)
+pub record IsReadBack {A : Type 0} (to_data : A → Data) (of_data : Data → Option A) (x : A) : Type 0 where
+  pub numbers : HasNumbers (outline (to_data x))
+  pub reads : of_json (outline (to_data x)) ≡ Some (to_data x)
+  pub stands : of_data (to_data x) ≡ Some x
+
+-- a text goes on with the compact JSON of a thing, which is read back as that thing (RFC 8259)
+pub record Adds {A : Type 0} (to_data : A → Data) (of_data : Data → Option A) (x : A) (before after : List ℕ) : Type 0 where
+  pub text_is : after ≡ before ++ compact_text (to_data x)
+  pub kept : IsReadBack to_data of_data x

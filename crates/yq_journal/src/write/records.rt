@@ -1,0 +1,79 @@
+//! The text of records and of their splices.
+ghost use Rattle.std.{specs.Prelude.{OnOk, true}, specs.String.string_bytes};
+ghost use Rattle.yq_journal.specs.Added.{Adds, changes_data, records_data};
+ghost use Rattle.yq_journal.specs.Json as spec;
+
+use super::pieces::{push_base64, push_comma, push_number, push_quoted};
+use crate::Record;
+use std::alloc::{AllocError, Global};
+use yq_text::Splice;
+
+/// Adds a splice.
+fn push_splice(text: &mut String, splice: &Splice) -> Result<(), AllocError>
+    ensures { OnOk result (Adds spec.change_data spec.splice_of splice.now
+        (string_bytes text.old) (string_bytes text.new)) }
+{
+    push_number(text, "{\"at\":", splice.at)?;
+    text.push_str(",\"new\":\"")?;
+    push_base64(text, &splice.new)?;
+    text.push_str("\",\"old\":\"")?;
+    push_base64(text, &splice.old)?;
+    text.push_str("\"}")?;
+    Ok(())
+}
+
+/// Adds splices.
+fn push_splices(text: &mut String, splices: &[Splice]) -> Result<(), AllocError>
+    ensures { OnOk result (Adds changes_data spec.splices_of splices.now
+        (string_bytes text.old) (string_bytes text.new)) }
+{
+    text.push_str("[")?;
+    let mut later = false;
+    'splices: for splice in splices {
+        push_comma(text, later)?;
+        push_splice(text, splice)?;
+        later = true;
+    }
+    text.push_str("]")?;
+    Ok(())
+}
+
+/// Adds a record.
+pub(super) fn push_record(
+    text: &mut String,
+    alloc: Global,
+    patch: &Record,
+) -> Result<(), AllocError>
+    ensures { OnOk result (Adds spec.record_data (spec.record_of true) patch.now
+        (string_bytes text.old) (string_bytes text.new)) }
+{
+    push_number(text, "{\"after_len\":", patch.after_len)?;
+    push_number(text, ",\"before_len\":", patch.before_len)?;
+    push_number(text, ",\"count\":", patch.count)?;
+    text.push_str(",\"expr\":")?;
+    push_quoted(text, alloc, &patch.expr)?;
+    text.push_str(",\"splices\":")?;
+    push_splices(text, &patch.splices)?;
+    text.push_str("}")?;
+    Ok(())
+}
+
+/// Adds records.
+pub(super) fn push_records(
+    text: &mut String,
+    alloc: Global,
+    records: &[Record],
+) -> Result<(), AllocError>
+    ensures { OnOk result (Adds records_data (spec.records_of true) records.now
+        (string_bytes text.old) (string_bytes text.new)) }
+{
+    text.push_str("[")?;
+    let mut later = false;
+    'records: for patch in records {
+        push_comma(text, later)?;
+        push_record(text, alloc, patch)?;
+        later = true;
+    }
+    text.push_str("]")?;
+    Ok(())
+}
