@@ -1,7 +1,8 @@
 -- The end of a part with which items begin: how it is read, and where its place is.
 use Rattle.std.proofs.Common.{◌≡◌, ⊎_elim, ltb, eqb, ◌&&◌, Bool, true, false, ℕ, ◌+◌, ◌-◌, ◌<◌, ◌≤◌, if◌then◌else◌, List, [], ◌∷◌, ◌++◌}
 use Rattle.std.proofs.Common.{length, Some, None, Option, slice_get, refl, sym, ap, ◌∙◌, arith, eqb-true, ltb-true, length-append}
-use Rattle.std.{proofs.lemmas.Bool.{and_parts, cases_Bool, cases_lt, eq-eqb, false≢true, le-ltb, ne_eqb}, proofs.lemmas.Option.{same_Some, slice_get_within}}
+use Rattle.std.proofs.lemmas.Bool.{and_parts, cases_Bool, cases_lt, eq-eqb, false≢true, le-ltb, ne_eqb}
+use Rattle.std.proofs.lemmas.Option.{same_Some, slice_get_within}
 use Rattle.yq_core.{specs.Alike.Alike, specs.Text.is_line, proofs.Bools.bind_some}
 use Rattle.yq_row_table.{specs.Ends.end_at, specs.Gap.IsGap, specs.Grammar.{IsMarkerLine, IsPart, begins_document}}
 use Rattle.yq_row_table.{specs.Items.{Item, row_item, end_item}, specs.Kept.ends_near, specs.Reading.all_parts}
