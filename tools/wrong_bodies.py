@@ -4,7 +4,7 @@ usage: wrong_bodies.py [--look] [CRATE ..]      all crates that have some, if no
 With --look it only tells which of them can't be applied to the code as it stands.
 
 `rt ci` tries them in a temporary copy of these crates and of those below, in which they stand in the place of must-fail/. What it
-proves of the crates themselves is kept on this machine.
+proves of the crates themselves is kept on this machine, where the kit does that.
 The last line is `N refused, N not`, and the status 0 exactly where none was not refused.
 """
 
