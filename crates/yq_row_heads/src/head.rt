@@ -146,6 +146,8 @@ pub fn row_head<'t>(
 {
     match read_head(alloc, whole, row.parent_indent(), row.head(), text) {
         Ok(head) => Ok(head),
-        Err(_) => Err(AllocError),
+        Err(ReadError::Memory) => Err(AllocError),
+        // The row has this head, and its keys are fit.
+        Err(ReadError::Fault(_)) => unreachable!(),
     }
 }

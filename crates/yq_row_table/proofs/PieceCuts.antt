@@ -1,6 +1,7 @@
 -- The pieces of a row, each behind the lengths of those before it.
-use Rattle.std.proofs.Common.{◌≡◌, ◌<◌, ◌≤◌, ℕ, zero, suc, ◌+◌, List, [], ◌∷◌, length, get_or, take, drop, refl, sym, ap, ◌∙◌, subst, arith}
-use Rattle.std.{proofs.lemmas.List.drop-drop, proofs.lemmas.Str.IsCharBoundary-from_rest, specs.Str.IsCharBoundary}
+use Rattle.std.proofs.Common.{◌≡◌, ◌<◌, ◌≤◌, ℕ, zero, suc, ◌+◌, List, [], ◌∷◌, ◌++◌, length, get_or, take, drop, refl, sym, ap, ◌∙◌, subst}
+use Rattle.std.{proofs.Common.{arith, append_assoc, take-add}, proofs.lemmas.List.drop-drop, proofs.lemmas.Str.IsCharBoundary-from_rest}
+use Rattle.std.specs.Str.{IsCharBoundary}
 use Rattle.yq_row_table.{specs.Offsets.{AreCuts, lengths, parent_by, pieces_of}, specs.View.Slices}
 use Rattle.yq_row_table.specs.declared.offsets.Offsets as declared
 
@@ -42,6 +43,40 @@ piece_at o i t at less h is =
       before = subst (λ (m : ℕ). IsCharBoundary t m) (sym is) cut.0;
       len = subst (λ (m : ℕ). IsCharBoundary (drop m t) n) (sym is) cut.1;
       is = ap (λ (m : ℕ). take n (drop m t)) is ∙ ap (take n) (sym (behind_sum o.gap i (drop 1 (lengths o)) t));
+    }
+
+-- the text behind three pieces is these
+three_pieces : (h a w : ℕ) (u : List ℕ) → take (h + a + w) u ≡ take h u ++ (take a (drop h u) ++ take w (drop a (drop h u)))
+three_pieces h a w u =
+    take-add (h + a) w u ∙ ap (λ (x : List ℕ). take (h + a) u ++ take w x) (sym (drop-drop a h u))
+    ∙ (ap (λ (x : List ℕ). x ++ take w (drop a (drop h u))) (take-add h a u) ∙ append_assoc (take h u) (take a (drop h u)) (take w (drop a (drop h u))))
+
+-- The last three pieces of a row, from its head on, where the code finds them: they are cut between characters, and are what stands there.
+pub record IsHeadOn (o : declared.Offsets) (t : List ℕ) (at : ℕ) : Type 0 where
+  pub before : IsCharBoundary t at
+  pub len : IsCharBoundary (drop at t) (o.head + o.tail + o.raw)
+  pub is : (s : Slices) → s ≡ pieces_of t o → take (o.head + o.tail + o.raw) (drop at t) ≡ s.head ++ (s.tail ++ s.raw)
+
+cuts_joined : (u : List ℕ) (k n : ℕ) → IsCharBoundary u k → IsCharBoundary (drop k u) n → IsCharBoundary u (k + n)
+cuts_joined u k n at next = IsCharBoundary-from_rest u k n (omega (arith, at.0)) next
+
+pub head_on : (o : declared.Offsets) (t : List ℕ) (at : ℕ) → AreCuts t (lengths o) → at ≡ sum_of o.gap 7 (drop 1 (lengths o)) → IsHeadOn o t at
+unfolding pieces_of
+head_on o t at h is =
+    let head = piece_at o 7 t at (omega arith) h is in
+    let tail = piece_at o 8 t (at + o.head) (omega arith) h (ap (λ n. n + o.head) is) in
+    let raw = piece_at o 9 t (at + o.head + o.tail) (omega arith) h (ap (λ n. n + o.head + o.tail) is) in
+    let u : List ℕ = drop at t in
+    let second : drop o.head u ≡ drop (at + o.head) t = drop-drop o.head at t in
+    let third : drop (o.head + o.tail) u ≡ drop (at + o.head + o.tail) t = drop-drop (o.head + o.tail) at t ∙ ap (λ n. drop n t) (omega arith) in
+    let front : IsCharBoundary u (o.head + o.tail) = cuts_joined u o.head o.tail head.len (subst (λ (x : List ℕ). IsCharBoundary x o.tail) (sym second) tail.len) in
+    record {
+      before = head.before;
+      len = cuts_joined u (o.head + o.tail) o.raw front (subst (λ (x : List ℕ). IsCharBoundary x o.raw) (sym third) raw.len);
+      is = λ s same.
+          three_pieces o.head o.tail o.raw u
+          ∙ ((λ j. take o.head u ++ (take o.tail (second j) ++ take o.raw ((drop-drop o.tail o.head u ∙ third) j)))
+          ∙ ((λ j. head.is j ++ (tail.is j ++ raw.is j)) ∙ ap (λ (x : Slices). x.head ++ (x.tail ++ x.raw)) (sym same)));
     }
 
 -- texts, each of which stands behind a piece of the one before

@@ -1,5 +1,5 @@
 //! Pieces of rows by their number, without making the rows.
-ghost use Rattle.std.specs.Prelude.{◌≡◌, ◌<◌, Some, length, not, slice_get};
+ghost use Rattle.std.specs.Prelude.{◌≡◌, ◌<◌, ◌++◌, Some, length, not, slice_get};
 ghost use Rattle.yq_core.specs.Text.{is_empty};
 ghost use Rattle.yq_row_table.specs.View.{Slices};
 
@@ -65,6 +65,17 @@ impl<'t> Rows<'t> {
     {
         let (row, text) = self.found(i);
         row.tail(text)
+    }
+
+    /// Row `i` from its head on: the head, what ends its line, and the lines of a block scalar.
+    #[inline]
+    pub fn from_head(&self, i: usize) -> &'t str
+        requires { i < length self.now.rows }
+        ensures { (s : Slices) → slice_get self.now.rows i ≡ Some s → result.now ≡
+            s.head ++ (s.tail ++ s.raw) }
+    {
+        let (row, text) = self.found(i);
+        row.from_head(text)
     }
 
     /// Whether row `i` has dashes.

@@ -92,9 +92,9 @@ impl TextGapBuffer {
             return Ok(());
         }
         let len = self.bytes.len();
-        let Some(end) = len.checked_add(max(more - room, len)) else {
-            return Err(AllocError);
-        };
+        let growth = max(more - room, len);
+        self.bytes.reserve(growth)?;
+        let end = len + growth;
         self.bytes.resize(end, 0)?;
         self.bytes
             .copy_within(self.back..len, end - (len - self.back));

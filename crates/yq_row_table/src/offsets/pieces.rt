@@ -1,5 +1,5 @@
 //! Pieces of a row by its lengths, without the others.
-ghost use Rattle.std.{specs.Prelude.{◌≡◌, drop, not, take}, specs.Str.IsCharBoundary};
+ghost use Rattle.std.{specs.Prelude.{◌≡◌, ◌++◌, drop, not, take}, specs.Str.IsCharBoundary};
 ghost use Rattle.yq_core.specs.Text.{is_empty};
 ghost use Rattle.yq_row_table.specs.View.{Slices};
 ghost use Rattle.yq_row_table.specs.Offsets as spec;
@@ -101,6 +101,20 @@ impl Offsets {
             text,
             self.before_head() + self.head as usize,
             self.tail as usize,
+        )
+    }
+
+    /// The row in front of a text, from its head on.
+    #[inline]
+    pub(crate) fn from_head<'t>(&self, text: &'t str) -> &'t str
+        requires { spec.AreCuts text.now (spec.lengths self.now) }
+        ensures { (s : Slices) → s ≡ spec.pieces_of text.now self.now → result.now ≡
+            s.head ++ (s.tail ++ s.raw) }
+    {
+        piece(
+            text,
+            self.before_head(),
+            self.head as usize + self.tail as usize + self.raw as usize,
         )
     }
 
