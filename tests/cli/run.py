@@ -11,6 +11,7 @@ import sys
 
 sys.path.insert(0, os.path.dirname(os.path.abspath(__file__)))
 
+import compared
 import completions
 import containers
 import cuts
@@ -40,7 +41,7 @@ from pages import run_pages
 from tables import run_tables
 
 CHECKS = [
-    edits, words, told, completions, guides, installing, failures, links, owners, strangers, writers, swaps, leftovers, disks,
+    edits, words, told, completions, guides, compared, installing, failures, links, owners, strangers, writers, swaps, leftovers, disks,
     containers, reads, shells, random_edits, forms, mutations, together, saves, cuts, memory,
 ]
 
