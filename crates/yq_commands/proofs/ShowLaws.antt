@@ -1,6 +1,6 @@
 -- What is shown of a file, by what is shown of its text.
-use Rattle.std.proofs.Common.{◌≡◌, ◌≢◌, inl, true, false, Bool, ℕ, List, Option, Some, None, option_map, Result, Ok, Err, IfErr, sym, ap}
-use Rattle.std.{proofs.Common.{◌∙◌, subst, refl, true≢false}, proofs.lemmas.Option.same_Some, specs.FinMap.get, specs.Str.is_utf8}
+use Rattle.std.proofs.Common.{◌≡◌, ◌≢◌, inl, true, false, ℕ, List, Option, Some, None, option_map, Result, Ok, Err, IfErr, sym, ap, ◌∙◌}
+use Rattle.std.{proofs.Common.{subst, refl, true≢false}, proofs.lemmas.Option.same_Some, specs.FinMap.get, specs.Str.is_utf8}
 use Rattle.yq_core.{specs.Answers.ReadFails, specs.Tree.Node, specs.declared.fault.ReadError.ReadError}
 use Rattle.yq_places.specs.Answers.{IsNotUtf8}
 use Rattle.yq_documents.{specs.Documents.Document, specs.Reading.{documents, read_at}}
