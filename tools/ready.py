@@ -31,7 +31,7 @@ from version import other_versions
 
 sys.path.append(os.path.join(ROOT, "tests", "cli"))
 
-from guides import broken_links
+from docs_agree import broken_links
 
 # Where a crate's sources stand, by their ending.
 PLACES = {".rt": ("src",), ".antt": ("specs", "proofs")}

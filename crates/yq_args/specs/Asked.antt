@@ -4,7 +4,7 @@ use Rattle.std.{specs.Prelude.{if◌then◌else◌, Option, Some, None, is_some,
 use Rattle.std.{specs.Option.option_map_or, specs.Str.{bytes_eq, all_ascii_digits}, specs.Str.Parse.digits_value, specs.String.string_bytes}
 use Rattle.clap.specs.Words.{IsAmong, Row, Text, fault_of, first_of, one_of, subcommand_of, takes}
 use Rattle.clap.specs.declared.error.kind.ErrorKind.TheVariants.{DisplayHelp}
-use Rattle.yq_args.specs.declared.command.Command.{Command}
+use Rattle.yq_args.{specs.declared.command.Command.Command, specs.declared.eval_options.EvalOptions.EvalOptions}
 use Rattle.yq_args.specs.declared.command.Command.TheVariants.{Eval, Undo, Redo, History, Squash, Help}
 use Rattle.yq_args.specs.declared.words_error.WordsError.{WordsError}
 use Rattle.yq_args.{specs.declared.words_error.WordsError.TheVariants.{OutOfMemory, Usage}, specs.CommandWords.with_command, specs.Line.yq}
@@ -52,6 +52,11 @@ pub record HasNames (rows : List Row) (file journal : Text) : Type 0 where
   pub not_dash : file ≢ codes "-"
   pub differ : journal ≢ file
 
+-- the options of `eval` are on where their switches are
+pub record HasOptions (rows : List Row) (options : EvalOptions) : Type 0 where
+  pub exit_status : IsSwitch (one_of (codes "exit-status") rows) options.exit_status
+  pub no_doc : IsSwitch (one_of (codes "no-doc") rows) options.no_doc
+
 -- the command's word is this one, and what stands behind it has this property
 abbrev pub CommandIs : Text → (List Row → Type 0) → Option (Text × List Row) → Type 0
 CommandIs name holds None = ⊥
@@ -60,12 +65,11 @@ CommandIs name holds (Some found) = (found.0 ≡ name) × holds found.1
 -- the command is the one that clap finds, with its texts and switches; with `--text` its expression is the one that puts that text to the
 -- places of EXPR; of help nothing is said
 abbrev pub IsAsked : Option (Text × List Row) → Command → Type 0
-IsAsked found (Eval expr file journal in_place exit_status no_doc) = CommandIs (codes "eval") (λ rows.
+IsAsked found (Eval expr file journal in_place options) = CommandIs (codes "eval") (λ rows.
     (option_map (asked_expression (first_of (codes "text") rows)) (first_of (codes "expr") rows) ≡ Some (string_bytes expr))
     × HasNames rows (string_bytes file) (string_bytes journal)
     × IsSwitch (one_of (codes "inplace") rows) in_place
-    × IsSwitch (one_of (codes "exit-status") rows) exit_status
-    × IsSwitch (one_of (codes "no-doc") rows) no_doc) found
+    × HasOptions rows options) found
 IsAsked found (Undo file journal) = CommandIs (codes "undo") (λ rows. HasNames rows (string_bytes file) (string_bytes journal)) found
 IsAsked found (Redo file journal) = CommandIs (codes "redo") (λ rows. HasNames rows (string_bytes file) (string_bytes journal)) found
 IsAsked found (History file journal) = CommandIs (codes "history") (λ rows. HasNames rows (string_bytes file) (string_bytes journal)) found
