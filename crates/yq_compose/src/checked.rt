@@ -7,8 +7,9 @@ ghost use Rattle.yq_compose.{specs.Ahead.IsAhead, specs.Checking.IsChecked};
 ghost use Rattle.yq_outline.specs.Outline as outline;
 
 use crate::ahead::{ahead_from, decoded_here};
+use yq_core::fault_place::fault_at;
 use yq_core::{FaultKind, ReadFault, is_quoted};
-use yq_documents::{Decoded, decoded_key, fault_at};
+use yq_documents::{Decoded, decoded_key};
 use yq_outline::{Position, Stretch};
 use yq_row_table::Rows;
 use yq_row_walk::rank_at;
@@ -34,7 +35,7 @@ pub(crate) fn row_fault(x: Checked<'_, '_>, at: Position, kind: FaultKind) -> Re
     } else {
         x.text.len()
     };
-    fault_at(kind, x.text, place)
+    fault_at(kind, x.text.as_bytes(), place)
 }
 
 /// What the key of a row stands for, by what is made from the row on.

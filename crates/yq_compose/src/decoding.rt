@@ -14,8 +14,9 @@ ghost use Rattle.yq_compose.specs.Checking as spec;
 use crate::fit::key_fits;
 use crate::nested::flow_decoded;
 use std::alloc::{AllocError, Global};
+use yq_core::fault_place::fault_at;
 use yq_core::{FaultKind, ReadError, first_is, is_quoted};
-use yq_documents::{Decoded, borrowed_text, fault_at, node_refers};
+use yq_documents::{Decoded, borrowed_text, node_refers};
 use yq_outline::Head;
 use yq_row_heads::read_head;
 use yq_row_table::Rows;
@@ -80,7 +81,7 @@ fn decode_key<'t>(
     let key = rows.key(i);
     if !key_fits(key) {
         let place = rows.start(i).saturating_add(rows.gap(i).len());
-        return Err(ReadError::Fault(fault_at(FaultKind::MergeKey, text, place)));
+        return Err(ReadError::Fault(fault_at(FaultKind::MergeKey, text.as_bytes(), place)));
     }
     if !is_quoted(key.as_bytes()) {
         return Ok(None);

@@ -49,10 +49,11 @@ pub enum FaultKind {
     CarriageReturn,
 }
 
-/// A fault, and the line, counted from 1, on which the construct at fault begins.
+/// A fault, where in the text the construct at fault begins, in bytes, and its line, counted from 1.
 #[derive(Clone, Copy, PartialEq, Eq)]
 pub struct ReadFault {
     pub kind: FaultKind,
+    pub at: usize,
     pub line: NonZeroU64,
 }
 

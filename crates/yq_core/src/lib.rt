@@ -8,6 +8,7 @@ pub mod block_lines;
 mod block_types;
 pub mod characters;
 mod fault;
+pub mod fault_place;
 mod gap;
 mod inline;
 mod kind;

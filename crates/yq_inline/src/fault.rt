@@ -2,25 +2,9 @@
 ghost use Rattle.std.specs.Prelude.{◌≢◌};
 ghost use Rattle.yq_core.specs.declared.fault.FaultKind.TheVariants.{NotUtf8};
 
-use std::num::NonZeroU64;
+use yq_core::fault_place::fault;
 use yq_core::text::{behind_spaces, spaces_len};
 use yq_core::{FaultKind, ReadFault};
-
-/// A fault that begins where this rest of the whole text does.
-pub fn fault(kind: FaultKind, whole: &str, rest: &str) -> ReadFault
-    requires { kind ≢ NotUtf8 }
-    ensures { result.kind ≢ NotUtf8 }
-{
-    let before = whole
-        .as_bytes()
-        .split_at(whole.len().saturating_sub(rest.len()))
-        .0;
-    let breaks = before.iter().filter(|b| **b == b'\n').count() as u64;
-    ReadFault {
-        kind,
-        line: NonZeroU64::MIN.saturating_add(breaks),
-    }
-}
 
 /// The whole text from the line on which this rest of it begins.
 fn from_line<'t>(whole: &'t str, rest: &str) -> &'t [u8] {

@@ -4,7 +4,7 @@ ghost use Rattle.yq_core.{specs.Answers.ReadsAs, specs.declared.fault.FaultKind.
 ghost use Rattle.yq_inline.specs.Forms.{after_bracket};
 ghost use Rattle.yq_core.specs.Reading as reading;
 
-use crate::fault::fault;
+use yq_core::fault_place::fault;
 use yq_core::text::is_marker;
 use yq_core::{FaultKind, ReadFault, gap_len};
 

@@ -6,8 +6,9 @@ ghost use Rattle.yq_core.specs.PlacedReading as reading;
 ghost use Rattle.yq_core.specs.Reading as spec;
 ghost use Rattle.yq_core.specs.Scalars as scalars;
 
-use crate::fault::{fault, flow_fault};
+use crate::fault::flow_fault;
 use crate::lead::read_gap;
+use yq_core::fault_place::fault;
 use yq_core::text::{is_white, separates, split_white};
 use yq_core::{FaultKind, ReadFault, first_is, is_quoted, strip};
 use yq_scalar_reader::plain::{begins_plain, holds_break, is_flow_indicator, split_plain};

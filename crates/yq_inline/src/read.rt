@@ -4,10 +4,10 @@ ghost use Rattle.yq_core.{specs.Answers.{Gives, IsOfText}, specs.declared.style.
 ghost use Rattle.yq_core.{specs.Spans.{HasSpans, IsNested}, specs.View.inline_view};
 ghost use Rattle.yq_core.specs.Inline as spec;
 
-use crate::fault::fault;
 use crate::pieces::no_node;
 use crate::reading::{is_bare, read_node};
 use std::alloc::Global;
+use yq_core::fault_place::fault;
 use yq_core::{DEPTH_LIMIT, FaultKind, Inline, Place, ReadError, further_spaces};
 use yq_scalar_reader::in_flow;
 

@@ -5,12 +5,12 @@ ghost use Rattle.yq_inline.specs.Forms.{placed_form};
 ghost use Rattle.yq_core.specs.Places as spec;
 ghost use Rattle.yq_core.specs.PlacedReading as reading;
 
-use crate::fault::fault;
 use crate::item::read_behind;
 use crate::lead::read_open;
 use crate::pieces::{begins_content, read_lead, read_name, read_sep};
 use crate::scalar::{read_entry_key, read_text};
 use std::alloc::Global;
+use yq_core::fault_place::fault;
 use yq_core::{FaultKind, Form, Inline, Piece, ReadError, strip};
 
 /// A node without an anchor between two rests of the whole text.

@@ -9,12 +9,13 @@ ghost use Rattle.yq_core.specs.Scalars as scalars;
 ghost use Rattle.yq_row_table.specs.Slicing as slicing;
 ghost use Rattle.yq_row_table.specs.Reading as spec;
 
-use crate::fault::{block_fault, fault};
+use crate::fault::block_fault;
 use crate::gap::is_hash;
 use crate::marks::RowMark;
 use crate::measuring::{Measured, MeasuredKind, measure_node};
 use crate::naming::{no_content, no_further_line, no_tail};
 use crate::words::{begins_word, read_front};
+use yq_core::fault_place::fault;
 use yq_core::lines::split_line;
 use yq_core::text::{ends_line, split_white};
 use yq_core::{

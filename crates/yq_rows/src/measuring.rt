@@ -6,8 +6,9 @@ ghost use Rattle.yq_rows.specs.Measured.{measured, measured_view, past_node};
 ghost use Rattle.yq_rows.specs.Measured as spec;
 ghost use Rattle.yq_core.specs.PlacedReading as reading;
 
+use yq_core::fault_place::fault;
 use yq_core::{FaultKind, ReadFault, strip};
-use yq_inline::fault::{fault, flow_fault};
+use yq_inline::fault::flow_fault;
 use yq_inline::pieces::{
     begins_content, no_node, read_key, read_lead, read_name, read_scalar, read_sep,
 };

@@ -10,13 +10,13 @@ ghost use Rattle.yq_row_table.specs.Grammar as grammar;
 ghost use Rattle.yq_row_table.specs.Reading as spec;
 
 use crate::content::{Filling, find_tail, read_content};
-use crate::fault::fault;
 use crate::gap::split_gap;
 use crate::lengths::offsets_of;
 use crate::limit::Limit;
 use crate::marks::{Begin, is_entry, parent_of, read_begin};
 use crate::naming::not_alone;
 use std::alloc::Global;
+use yq_core::fault_place::fault;
 use yq_core::text::{is_marker, split_spaces};
 use yq_core::{FaultKind, ReadError, ReadFault};
 use yq_row_table::Offsets;
