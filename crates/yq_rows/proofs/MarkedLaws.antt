@@ -44,7 +44,7 @@ some_items : (u : List Item) (i : Item) → no_items (u ++ (i ∷ [])) ≡ false
 some_items [] i = refl
 some_items (x ∷ u) i = refl
 
-last_marker_is : (u : List Item) (i : Item) → marker_line (u ++ (i ∷ [])) ≡ marker_of i
+pub last_marker_is : (u : List Item) (i : Item) → marker_line (u ++ (i ∷ [])) ≡ marker_of i
 last_marker_is [] i = refl
 last_marker_is (x ∷ u) i = rw (some_items u i) (last_marker_is u i)
 
