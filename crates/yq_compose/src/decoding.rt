@@ -24,7 +24,7 @@ use yq_row_walk::head_place;
 use yq_scalar_reader::folding::quoted_content;
 use yq_scalar_reader::plain::holds_break;
 
-/// Whether a backslash stands in what is between double quotes, or a quote between single ones.
+/// Whether a backslash is in what is between double quotes, or a quote between single ones.
 fn holds_escape(is_double: bool, inner: &str) -> bool
     ensures { result ≡ list_any (λ b. b == (if is_double then 92 else 39)) inner.now }
 {
@@ -32,7 +32,7 @@ fn holds_escape(is_double: bool, inner: &str) -> bool
     inner.as_bytes().iter().any(|b| *b == sign)
 }
 
-/// Whether the text lends what a key or scalar stands for: it is on one line, and has no escapes.
+/// Whether the text lends what a key or scalar means: it is on one line, and has no escapes.
 fn borrows_text(piece: &str) -> bool
     requires { is_in_quotes piece.now ≡ true → IsQuotedText piece.now }
     ensures { result ≡ spec.borrows_text piece.now }

@@ -72,7 +72,7 @@ fn items_fault(
     Ok(())
 }
 
-/// The byte of the text at which the first key stands that an earlier entry has; 0 where there is none.
+/// The byte of the text at which the first key is that an earlier entry has; 0 where there is none.
 fn repeated_key(
     alloc: Global,
     entries: &Vec<(String, Piece, Inline<'_>)>,

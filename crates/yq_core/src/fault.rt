@@ -17,19 +17,19 @@ pub enum FaultKind {
     Directive,
     /// A tag.
     Tag,
-    /// A key behind `? `.
+    /// A key after `? `.
     ExplicitKey,
     /// A plain key `<<`.
     MergeKey,
     /// An absent, too long or otherwise impossible key.
     BadKey,
-    /// A row at a column where none may stand.
+    /// A row at a column where none may be.
     BadIndent,
     /// An unclosed or otherwise impossible scalar.
     BadScalar,
     /// An unclosed or otherwise impossible flow collection.
     BadFlow,
-    /// A block scalar header that is none, or that stands where none may.
+    /// A block scalar header that is none, or that is where none may.
     BadBlockHeader,
     /// A key that its mapping has already.
     DuplicateKey,

@@ -45,7 +45,7 @@ fn push_pair(
     push_block(alloc, out, layout, below, value)
 }
 
-/// Adds an item, or the entry with a key, behind the spaces before its first line, up to its last
+/// Adds an item, or the entry with a key, after the spaces before its first line, up to its last
 /// break (YAML 1.2.2, 8.2). Its lines begin at a column, counted from 0.
 #[tactic(auto, using(crate::proofs::ListLaws::item_alone, crate::proofs::ListLaws::pair_alone))]
 pub fn push_entry(

@@ -24,7 +24,7 @@ pub fn is_filled(value: &Value) -> bool
     }
 }
 
-/// By how many columns a value stands deeper than its key.
+/// By how many columns a value is deeper than its key.
 pub fn indent_step(layout: &Layout, value: &Value) -> usize
     ensures { result ≡ rows.indent_step layout.now (value_node value.now) }
 {
@@ -35,7 +35,7 @@ pub fn indent_step(layout: &Layout, value: &Value) -> usize
     }
 }
 
-/// Adds a value behind the spaces before its first line, up to its last break: a scalar or an empty
+/// Adds a value after the spaces before its first line, up to its last break: a scalar or an empty
 /// collection inline, another collection in block style, each scalar and key plain if it can be,
 /// else double-quoted (YAML 1.2.2, 8.2). Its lines begin at a column, counted from 0.
 ///

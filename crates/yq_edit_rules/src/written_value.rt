@@ -37,7 +37,7 @@ pub fn value_text(
     write_scalar(alloc, scalar, style, place)
 }
 
-/// A text behind a space.
+/// A text after a space.
 pub fn behind_space(alloc: Global, text: &str) -> Result<String, AllocError>
     ensures { IfOk result (λ s. string_bytes s ≡ 32 ∷ text.now) }
 {

@@ -16,9 +16,9 @@ fn from_line<'t>(whole: &'t str, rest: &str) -> &'t [u8] {
     }
 }
 
-/// Whether a flow collection behind whose bracket stood `open` is not closed before this rest of the
-/// whole text: at its end, and where a line that is indented no further than that of the bracket stands
-/// behind it, on which a key or dash stands before the bracket.
+/// Whether a flow collection after whose bracket was `open` is not closed before this rest of the
+/// whole text: at its end, and where a line that is indented no further than that of the bracket is
+/// after it, on which a key or dash comes before the bracket.
 fn is_unclosed(whole: &str, open: &str, rest: &str) -> bool {
     let opened = from_line(whole, open);
     let line = from_line(whole, rest);
@@ -26,7 +26,7 @@ fn is_unclosed(whole: &str, open: &str, rest: &str) -> bool {
     rest.is_empty() || (is_left && !matches!(behind_spaces(opened), [b'[' | b'{', ..]))
 }
 
-/// A fault in a flow collection behind whose bracket stood `open`: where this rest of the whole text
+/// A fault in a flow collection after whose bracket was `open`: where this rest of the whole text
 /// begins, or, where the collection isn't closed before it, where that begins.
 pub fn flow_fault(kind: FaultKind, whole: &str, open: &str, rest: &str) -> ReadFault
     requires { kind ≢ NotUtf8 }

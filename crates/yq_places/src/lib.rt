@@ -1,4 +1,4 @@
-//! Where nodes, entries and comments stand among the rows of a text: what stands there, in pieces, and what is taken out.
+//! Where nodes, entries and comments are among the rows of a text: what is there, in pieces, and what is taken out.
 #![tactic(auto)]
 
 mod places;

@@ -1,4 +1,4 @@
--- The pieces of a row, each behind the lengths of those before it.
+-- The pieces of a row, each after the lengths of those before it.
 use Rattle.std.proofs.Common.{◌≡◌, ◌<◌, ◌≤◌, ℕ, zero, suc, ◌+◌, List, [], ◌∷◌, ◌++◌, length, get_or, take, drop, refl, sym, ap, ◌∙◌, subst}
 use Rattle.std.{proofs.Common.{arith, append_assoc, take-add}, proofs.lemmas.List.drop-drop, proofs.lemmas.Str.IsCharBoundary-from_rest}
 use Rattle.std.specs.Str.{IsCharBoundary}
@@ -11,7 +11,7 @@ sum_of k zero ls = k
 sum_of k (suc i) [] = k
 sum_of k (suc i) (n ∷ ls) = sum_of (k + n) i ls
 
--- a text behind pieces of the first of these lengths
+-- a text after pieces of the first of these lengths
 abbrev pub behind : ℕ → List ℕ → List ℕ → List ℕ
 behind zero ls t = t
 behind (suc i) [] t = t
@@ -29,7 +29,7 @@ sum_boundary k (suc i) (n ∷ ls) t less at h =
     let long : k ≤ length t = omega (arith, at.0) in
     sum_boundary (k + n) i ls t (omega (arith, less)) (IsCharBoundary-from_rest t k n long h.0) (subst (λ (u : List ℕ). AreCuts u ls) (drop-drop n k t) h.1)
 
--- A piece behind the gap and others, where the code finds it: it is cut between characters, and is what stands behind those.
+-- A piece after the gap and others, where the code finds it: it is cut between characters, and is what comes after those.
 pub record IsPiece (o : declared.Offsets) (i : ℕ) (t : List ℕ) (at : ℕ) : Type 0 where
   pub before : IsCharBoundary t at
   pub len : IsCharBoundary (drop at t) (get_or (drop 1 (lengths o)) i 0)
@@ -45,13 +45,13 @@ piece_at o i t at less h is =
       is = ap (λ (m : ℕ). take n (drop m t)) is ∙ ap (take n) (sym (behind_sum o.gap i (drop 1 (lengths o)) t));
     }
 
--- the text behind three pieces is these
+-- the text after three pieces is these
 three_pieces : (h a w : ℕ) (u : List ℕ) → take (h + a + w) u ≡ take h u ++ (take a (drop h u) ++ take w (drop a (drop h u)))
 three_pieces h a w u =
     take-add (h + a) w u ∙ ap (λ (x : List ℕ). take (h + a) u ++ take w x) (sym (drop-drop a h u))
     ∙ (ap (λ (x : List ℕ). x ++ take w (drop a (drop h u))) (take-add h a u) ∙ append_assoc (take h u) (take a (drop h u)) (take w (drop a (drop h u))))
 
--- The last three pieces of a row, from its head on, where the code finds them: they are cut between characters, and are what stands there.
+-- The last three pieces of a row, from its head on, where the code finds them: they are cut between characters, and are what is there.
 pub record IsHeadOn (o : declared.Offsets) (t : List ℕ) (at : ℕ) : Type 0 where
   pub before : IsCharBoundary t at
   pub len : IsCharBoundary (drop at t) (o.head + o.tail + o.raw)
@@ -79,24 +79,24 @@ head_on o t at h is =
           ∙ ((λ j. head.is j ++ (tail.is j ++ raw.is j)) ∙ ap (λ (x : Slices). x.head ++ (x.tail ++ x.raw)) (sym same)));
     }
 
--- texts, each of which stands behind a piece of the one before
+-- texts, each of which comes after a piece of the one before
 abbrev pub Follow : List ℕ → List ℕ → List (List ℕ) → Type 0
 Follow t ls [] = Unit {0}
 Follow t [] (u ∷ us) = (u ≡ t) × Follow u [] us
 Follow t (n ∷ ls) (u ∷ us) = (u ≡ drop n t) × Follow u ls us
 
--- the text that stands behind all of them
+-- the text that comes after all of them
 abbrev pub last_text : List ℕ → List (List ℕ) → List ℕ
 last_text t [] = t
 last_text t (u ∷ us) = last_text u us
 
--- the text behind the first of them
+-- the text after the first of them
 abbrev pub text_at : ℕ → List ℕ → List (List ℕ) → List ℕ
 text_at zero t us = t
 text_at (suc k) t [] = t
 text_at (suc k) t (u ∷ us) = text_at k u us
 
--- it is what stands behind their lengths
+-- it is what comes after their lengths
 behind_is : (k : ℕ) (ls t : List ℕ) (us : List (List ℕ)) → k ≤ length us → Follow t ls us → text_at k t us ≡ behind k ls t
 behind_is zero ls t us less h = refl
 behind_is (suc k) ls t [] less h = absurd (omega (arith, less))

@@ -88,7 +88,7 @@ impl<'t> Rows<'t> {
         self.places.kept(i).has_dashes()
     }
 
-    /// Whether row `i` has a colon behind its key.
+    /// Whether row `i` has a colon after its key.
     #[inline]
     pub fn has_colon(&self, i: usize) -> bool
         requires { i < length self.now.rows }

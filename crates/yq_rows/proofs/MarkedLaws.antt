@@ -80,7 +80,7 @@ module _ (es : List EndPlace) (front old : Side) (at : ℕ) (some : front.ends <
   pub unmarked : (e : EndPlace) → slice_get es (old.ends - 1) ≡ Some e → false ≡ keeps_marker e old.rows at → None ≡ marked_end es front old at
   unmarked e h keeps = sym (chosen es front old at (Some e) some h ∙ cond-false (keeps_marker e old.rows at) (Some e) None (sym keeps))
 
--- What stands before, among and behind the touched items, and how many bytes are kept behind.
+-- What comes before, among and after the touched items, and how many bytes are kept after.
 pub record Stretch (f touched z : List Item) (es : List EndPlace) (front old : Side) (len back : ℕ) : Type 0 where
   pub rest : List EndPlace
   pub ends : es ≡ ends_near 0 0 (f ++ touched) ++ rest

@@ -16,7 +16,7 @@ marker_there xs u z gap marker h is some = search (rules, ⊎_elim, items_joined
 
 -- ---- where lines begin
 
--- no marker stands at the beginning of a line in such a text
+-- no marker is at the beginning of a line in such a text
 unmarked_at : (at : Bool) (q m rest : List ℕ) → Unmarked at (q ++ m) rest → fresh at q ≡ true → 0 < length m → is_marker (m ++ rest) ≡ false
 unmarked_at at [] [] rest h e some = absurd (omega (arith, some))
 unmarked_at at [] (b ∷ m) rest h e some = h.0 e

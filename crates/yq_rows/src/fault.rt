@@ -9,7 +9,7 @@ use yq_core::text::{behind_spaces, is_blank, spaces_len};
 use yq_core::{FaultKind, ReadFault};
 use yq_text::TEXT_LIMIT;
 
-/// How many spaces the first line behind a header begins with that isn't blank; the most that there are
+/// How many spaces the first line after a header begins with that isn't blank; the most that there are
 /// where all are blank.
 fn text_indent(raw: &[u8]) -> usize {
     let mut rest = raw;

@@ -84,7 +84,7 @@ pub fn one_reading()
         ReadsDocuments bytes others → docs ≡ others }
 {}
 
-/// What reading from left to right gives is a text's cut, whose parts stand for documents.
+/// What reading from left to right gives is a text's cut, whose parts mean documents.
 pub fn cut_read()
     ensures taken { (t : List ℕ) (c : Cut) → spec.checked_at t ≡ Some c →
         IsCut t c × (spec.all_documents c ≡ true) }

@@ -9,6 +9,6 @@ pub struct RowHead<'t> {
     pub head: Head<'t>,
     /// The text from the head to the end of the row.
     pub text: &'t str,
-    /// How many bytes stand before it.
+    /// How many bytes come before it.
     pub before: usize,
 }
