@@ -15,6 +15,7 @@ NAMED = re.compile(r"\bAllocError\b|\bAllocFailed\b|\bMemory\b|\bOutOfMemory\b|\
 FROM = re.compile(r"fn from\(\w+: Alloc(?:Error|Failed<T>)\)")
 CLAUSE = re.compile(r"\s*(?:ghost|ensures|requires|pub use|use)\b")
 COMMENT = re.compile(r"\s*//")
+COMPARED = re.compile(r"[=!]= *[\w:]+")
 # Lines before which memory was asked for in another way than by `?`, by file: how often each comes there.
 GROWTHS = {
     "crates/yq_journal/src/journal.rt": {"Err(Move::Edit(back)) => Err((back, JournalError::Memory)),": 1},
@@ -29,7 +30,7 @@ def makes(line, before):
     if COMMENT.match(line) or FROM.search(before + line):
         return False
     pattern, arrow, answer = line.rpartition("=>")
-    return bool(MADE.search(arrow + answer)) and not (arrow and NAMED.search(pattern))
+    return bool(MADE.search(COMPARED.sub("", arrow + answer))) and not (arrow and NAMED.search(pattern))
 
 
 def unasked(top):

@@ -20,7 +20,7 @@ use Rattle.yq_edit_laws.{specs.TouchedRanges.IsLocalEdit, proofs.NearLaws.edits_
 use Rattle.yq_edit_laws.{proofs.TouchedLaws.near_touched, proofs.CutLaws.{cut_read, cut_same, text_read}, specs.Carried.carried}
 use Rattle.yq_edit_laws.{specs.Edit.gives, specs.Theorems.{IsFitting, IsApplied}, specs.Valid.segments_by}
 use Rattle.yq_edit_laws.{proofs.ApplyLaws.{fits, applied_by}, proofs.EditsHold.edit_is, proofs.TextFaults.text_utf8}
-use Rattle.yq_splice.{specs.Session.{HasPlaces, KnowsItems, Scans}, proofs.SessionLaws.carried_by}
+use Rattle.yq_splice.{specs.Session.{HasPlaces, KnowsItems, Scans}, proofs.SessionLaws.carried_by, proofs.TouchedLineLaws.read_within}
 
 -- ---- whether there are splices, by their number
 
@@ -191,6 +191,18 @@ module _ (op : Operation) (t : List ℕ) (operand : HasOperand op) (fitting : Is
       scans count before after is counts =
           let lines : ℕ = line_count (read_text kept c new_cut agrees) in
           let exact : after ≡ count_after lines before = counts c new_cut (cut_read t c h.read) is_cut agrees ∙ ap (count_after lines) is in
+          let each = near_touched ss c new_cut near some_change_there (ap read_at a.new_is ∙ new_bytes_read) kept.front kept.back front back agrees in
+          let few = read_within t new kept c new_cut ss (record {
+            old_is = cut_read t c h.read;
+            new_is = is_cut;
+            touches = agrees;
+            come = string_bytes x.new;
+            becomes = becomes;
+            within = follows.within;
+            text_is = a.new_is ∙ text_after;
+            back_is = back;
+            each = each;
+          }) in
           inr (
             some,
             record {
@@ -205,8 +217,9 @@ module _ (op : Operation) (t : List ℕ) (operand : HasOperand op) (fitting : Is
               front = front;
               back = back;
               touches = agrees;
-              each = near_touched ss c new_cut near some_change_there (ap read_at a.new_is ∙ new_bytes_read) kept.front kept.back front back agrees;
+              each = each;
               exact = exact;
               most = omega (arith, exact, counted_within lines before);
+              bound = omega (arith, exact, counted_within lines before, few);
             },
           )

@@ -1,4 +1,5 @@
 pub mod SessionLaws
+pub mod TouchedLineLaws
 pub mod FollowLaws
 pub mod SpliceLaws
 pub mod AnswerLaws

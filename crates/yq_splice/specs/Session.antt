@@ -2,14 +2,15 @@
 use Rattle.std.specs.Prelude.{◌≡◌, ◌≢◌, ◌⊎◌, ⊤, ℕ, ◌+◌, ◌≤◌, List, [], length, Some}
 use Rattle.yq_core.{specs.declared.fault.FaultKind.TheVariants.NotUtf8, specs.declared.fault.ReadError.ReadError}
 use Rattle.yq_row_table.{specs.Kept.IsPlaced, specs.Meter.{count_after, line_count}, specs.Rows.Cut, specs.Touched.TouchesOnly}
-use Rattle.yq_row_table.{specs.View.rows_view, specs.declared.places.Places.Places}
+use Rattle.yq_row_table.{specs.Items.items_of_cut, specs.View.rows_view, specs.declared.places.Places.Places}
 use Rattle.yq_documents.specs.Reading.{cut_of, read_at}
 use Rattle.yq_outline.{specs.RowWalk.AreKnown, specs.declared.line_position.KnownItems.KnownItems}
 use Rattle.yq_semantics.specs.Operations.{Operation}
 use Rattle.yq_text.{specs.Script.{Segment, kept_front, kept_back, new_text}, specs.Splice.Splice}
 use Rattle.yq_rows.{specs.Following.read_text, specs.declared.kept.Kept.Kept}
 use Rattle.yq_edit_rules.specs.Edits.{op_edits}
-use Rattle.yq_edit_laws.{specs.TouchedRanges.PutAreTouched, specs.Theorems.HasReading}
+use Rattle.yq_edit_laws.{specs.TouchedRanges.{PutAreTouched, put_ranges}, specs.Theorems.HasReading}
+use Rattle.yq_splice.specs.TouchedLines.{touched_lines}
 use Rattle.yq_core.specs.declared.fault.ReadError.TheVariants as reading
 
 -- What a session is known by: its text, and how many lines were counted (own).
@@ -34,7 +35,7 @@ NotOpened reading.Memory t = ⊤
 
 -- The lines were counted that are read where an operation exchanges rows and ends of parts: of those that it wrote, in the place of those that its
 -- segments touch, without an end after whose marker's line it begins and without the line of a marker that stays; and no others. Each of those is
--- touched by a range of what was put (own).
+-- touched by a range of what was put. They are no more than the lines that these ranges touch, of which a marker that stays has none (own).
 pub record IsScanned (op : Operation) (t new : List ℕ) (before after : ℕ) : Type 0 where
   pub cut : Cut
   pub new_cut : Cut
@@ -50,6 +51,7 @@ pub record IsScanned (op : Operation) (t new : List ℕ) (before after : ℕ) : 
   pub each : PutAreTouched segments kept.front kept.back cut new_cut touches
   pub exact : after ≡ count_after (line_count (read_text kept cut new_cut touches)) before
   pub most : after ≤ before + line_count (read_text kept cut new_cut touches)
+  pub bound : after ≤ before + touched_lines t new kept (put_ranges segments) 0 (items_of_cut new_cut)
 
 -- what an operation adds to the count of lines: where it gives splices, those that it wrote; none, where all bytes stay (own)
 abbrev pub Scans : Operation → (t new : List ℕ) → List Splice → (before after : ℕ) → Type 0
