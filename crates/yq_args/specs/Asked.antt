@@ -4,13 +4,13 @@ use Rattle.std.{specs.Prelude.{if◌then◌else◌, Option, Some, None, is_some,
 use Rattle.std.{specs.Option.option_map_or, specs.Str.{bytes_eq, all_ascii_digits}, specs.Str.Parse.digits_value, specs.String.string_bytes}
 use Rattle.clap.specs.Words.{IsAmong, Row, Text, fault_of, first_of, one_of, subcommand_of, takes}
 use Rattle.clap.specs.declared.error.kind.ErrorKind.TheVariants.{DisplayHelp}
-use Rattle.yq_args.specs.declared.command.Command.{Command}
+use Rattle.yq_args.{specs.declared.command.Command.Command, specs.declared.eval_options.EvalOptions.EvalOptions}
 use Rattle.yq_args.specs.declared.command.Command.TheVariants.{Eval, Undo, Redo, History, Squash, Help}
 use Rattle.yq_args.specs.declared.words_error.WordsError.{WordsError}
 use Rattle.yq_args.{specs.declared.words_error.WordsError.TheVariants.{OutOfMemory, Usage}, specs.CommandWords.with_command, specs.Line.yq}
 use Rattle.yq_args.specs.Setting.{asked_expression}
 
--- the words as clap reads them, behind the program's name
+-- the words as clap reads them, after the program's name
 abbrev pub full_words : List Text → List Text
 full_words words = codes "yq" ∷ with_command words
 
@@ -52,7 +52,12 @@ pub record HasNames (rows : List Row) (file journal : Text) : Type 0 where
   pub not_dash : file ≢ codes "-"
   pub differ : journal ≢ file
 
--- the command's word is this one, and what stands behind it has this property
+-- the options of `eval` are on where their switches are
+pub record HasOptions (rows : List Row) (options : EvalOptions) : Type 0 where
+  pub exit_status : IsSwitch (one_of (codes "exit-status") rows) options.exit_status
+  pub no_doc : IsSwitch (one_of (codes "no-doc") rows) options.no_doc
+
+-- the command's word is this one, and what comes after it has this property
 abbrev pub CommandIs : Text → (List Row → Type 0) → Option (Text × List Row) → Type 0
 CommandIs name holds None = ⊥
 CommandIs name holds (Some found) = (found.0 ≡ name) × holds found.1
@@ -60,12 +65,11 @@ CommandIs name holds (Some found) = (found.0 ≡ name) × holds found.1
 -- the command is the one that clap finds, with its texts and switches; with `--text` its expression is the one that puts that text to the
 -- places of EXPR; of help nothing is said
 abbrev pub IsAsked : Option (Text × List Row) → Command → Type 0
-IsAsked found (Eval expr file journal in_place exit_status no_doc) = CommandIs (codes "eval") (λ rows.
+IsAsked found (Eval expr file journal in_place options) = CommandIs (codes "eval") (λ rows.
     (option_map (asked_expression (first_of (codes "text") rows)) (first_of (codes "expr") rows) ≡ Some (string_bytes expr))
     × HasNames rows (string_bytes file) (string_bytes journal)
     × IsSwitch (one_of (codes "inplace") rows) in_place
-    × IsSwitch (one_of (codes "exit-status") rows) exit_status
-    × IsSwitch (one_of (codes "no-doc") rows) no_doc) found
+    × HasOptions rows options) found
 IsAsked found (Undo file journal) = CommandIs (codes "undo") (λ rows. HasNames rows (string_bytes file) (string_bytes journal)) found
 IsAsked found (Redo file journal) = CommandIs (codes "redo") (λ rows. HasNames rows (string_bytes file) (string_bytes journal)) found
 IsAsked found (History file journal) = CommandIs (codes "history") (λ rows. HasNames rows (string_bytes file) (string_bytes journal)) found
@@ -78,19 +82,19 @@ IsAsked found Help = Unit {0}
 abbrev pub name_fits : Option Text → Text → Bool
 name_fits journal file = not (bytes_eq file (codes "-")) && not (bytes_eq (journal_name journal file) file)
 
--- the names are there, and may stand
+-- the names are there, and allowed
 abbrev pub names_fit : Option Text → Option Text → Bool
 names_fit None journal = false
 names_fit (Some file) journal = name_fits journal file
 
--- a word names a command, and what that needs besides its names is there and may stand
+-- a word names a command, and what that needs besides its names is there and allowed
 abbrev pub words_fit : Text → List Row → Bool
 words_fit name rows =
     if bytes_eq name (codes "eval") then is_some (first_of (codes "expr") rows)
     else if bytes_eq name (codes "squash") then is_some (option_and_then count_in (first_of (codes "n") rows))
     else list_any (λ x. bytes_eq name x) (codes "undo" ∷ codes "redo" ∷ codes "history" ∷ [])
 
--- the texts that a command needs are there, and may stand
+-- the texts that a command needs are there, and allowed
 abbrev pub passes : Text → List Row → Bool
 passes name rows = names_fit (first_of (codes "file") rows) (first_of (codes "journal") rows) && words_fit name rows
 
@@ -99,11 +103,11 @@ abbrev pub is_usage : WordsError → Bool
 is_usage (Usage cause) = true
 is_usage OutOfMemory = false
 
--- memory ran out, or a text that the command needs is missing or may not stand
+-- memory ran out, or a text that the command needs is missing or isn't allowed
 abbrev pub IsMissed : Text → List Row → WordsError → Type 0
 IsMissed name rows fault = (fault ≡ OutOfMemory) ⊎ ((is_usage fault ≡ true) × (passes name rows ≡ false))
 
--- clap finds a command, whose texts are there and may stand
+-- clap finds a command, whose texts are there and may be
 abbrev pub finds : Option (Text × List Row) → Bool
 finds None = false
 finds (Some found) = passes found.0 found.1

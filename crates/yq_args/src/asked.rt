@@ -5,10 +5,10 @@ ghost use Rattle.clap.specs.Words.{first_of, one_of, rows_of, found_of};
 ghost use Rattle.yq_args.specs.declared.command.Command.TheVariants.{Help};
 ghost use Rattle.yq_args.specs.Asked as spec;
 
-use crate::UsageCause;
 use crate::command::Command;
 use crate::setting::expression;
 use crate::words_error::WordsError;
+use crate::{EvalOptions, UsageCause};
 use clap::ArgMatches;
 use std::alloc::{AllocError, Global};
 
@@ -69,6 +69,16 @@ fn names_of(alloc: Global, matches: &ArgMatches) -> Result<(String, String), Wor
     Ok((String::from_str(alloc, file)?, journal))
 }
 
+/// The options of `eval`.
+fn options_of(matches: &ArgMatches) -> EvalOptions
+    ensures { spec.HasOptions (rows_of (found_of matches.now)) result }
+{
+    EvalOptions {
+        exit_status: switch_of(matches, "exit-status"),
+        no_doc: switch_of(matches, "no-doc"),
+    }
+}
+
 /// `eval`
 fn eval_in(alloc: Global, matches: &ArgMatches) -> Result<Command, WordsError>
     ensures ok { IfOk result (spec.IsAsked (Some (codes "eval", rows_of (found_of matches.now)))) }
@@ -84,8 +94,7 @@ fn eval_in(alloc: Global, matches: &ArgMatches) -> Result<Command, WordsError>
         file,
         journal,
         in_place: switch_of(matches, "inplace"),
-        exit_status: switch_of(matches, "exit-status"),
-        no_doc: switch_of(matches, "no-doc"),
+        options: options_of(matches),
     })
 }
 
@@ -102,7 +111,7 @@ fn squash_in(alloc: Global, matches: &ArgMatches) -> Result<Command, WordsError>
     }
 }
 
-/// The command of a word and of what was found behind it.
+/// The command of a word and of what was found after it.
 pub fn command_in(alloc: Global, name: &str, matches: &ArgMatches) -> Result<Command, WordsError>
     ensures ok { IfOk result (spec.IsAsked (Some (name.now, rows_of (found_of matches.now)))) }
     ensures err { IfErr result (spec.IsMissed name.now (rows_of (found_of matches.now))) }

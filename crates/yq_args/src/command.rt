@@ -1,5 +1,7 @@
 //! Commands.
 
+use crate::EvalOptions;
+
 /// What the words of a command line ask for. A command's journal has another name than its file.
 #[derive(Drop)]
 pub enum Command {
@@ -9,8 +11,7 @@ pub enum Command {
         file: String,
         journal: String,
         in_place: bool,
-        exit_status: bool,
-        no_doc: bool,
+        options: EvalOptions,
     },
     /// Takes the last edit of a file back.
     Undo {

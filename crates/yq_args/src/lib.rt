@@ -1,11 +1,12 @@
 //! The words of the command line, read by `clap` as the command that they ask for.
-//! Why words are no command is put in lines for who wrote them.
+//! Why words are no command is put in lines for the person that wrote them.
 #![tactic(auto)]
 
 mod asked;
 mod cause;
 mod command;
 mod command_word;
+mod eval_options;
 mod found;
 mod line;
 mod lines;
@@ -20,6 +21,7 @@ pub use asked::command_in;
 pub use cause::UsageCause;
 pub use command::Command;
 pub use command_word::split_command;
+pub use eval_options::EvalOptions;
 pub use line::matched;
 pub use lines::{first_name, usage_text};
 pub use named::push_named;

@@ -1,9 +1,9 @@
 -- What a command comes to, by the contract of the call that carries it out.
-use Rattle.std.{proofs.Common.{◌≡◌, ◌≢◌, ℕ, Bool, List, Option, Result, Ok, Err, OnOk, sym, ◌∙◌, subst}, specs.FinMap.get}
+use Rattle.std.{proofs.Common.{◌≡◌, ◌≢◌, ℕ, List, Option, Result, Ok, Err, OnOk, sym, ◌∙◌, subst}, specs.FinMap.get}
 use Rattle.yq_journal.{specs.State.State, specs.History.History}
 use Rattle.yq_history.{specs.declared.fault.Fault.Fault, specs.Causes.Cause, specs.Effects.{Effect, Works, from_names}}
 use Rattle.yq_history.{specs.Pair.{Arrives, GoodIn, OthersStay}, specs.Report.Report}
-use Rattle.yq_args.specs.declared.command.Command.{Command}
+use Rattle.yq_args.{specs.declared.command.Command.Command, specs.declared.eval_options.EvalOptions.EvalOptions}
 use Rattle.yq_store.specs.FileMap.{FileMap}
 use Rattle.yq_commands.{specs.CommandEffects.{IsListing, OfEffect, update_effect}, specs.CommandNames.{Differs, IsNotNamed, IsOn}}
 use Rattle.yq_commands.{specs.CommandSteps.{cause_of, next_of, update_cause, update_next}, specs.Editing.program_in}
@@ -71,20 +71,20 @@ module _ (s t f j : List ℕ) (file_is : s ≡ f) (journal_is : t ≡ j) where
 
 -- ---- by the name of a file, and the bytes of an expression that isn't carried out in place
 
-module _ (s f : List ℕ) (file_is : s ≡ f) (e x : List ℕ) (is : e ≡ x) (exit_status no_doc : Bool) where
+module _ (s f : List ℕ) (file_is : s ≡ f) (e x : List ℕ) (is : e ≡ x) (options : EvalOptions) where
   pub evaluate_arrives : (c d : FileMap) {T : Type 0} (r : Result T Fault) →
-      ((journal : List ℕ) (h : Option History) → GoodIn c s journal h → Arrives d s journal (cause_in (evaluated exit_status no_doc (program_in e) h)) h h r) →
-      (file journal : List ℕ) → f ≡ file → (h : Option History) → GoodIn c file journal h → Arrives d file journal (cause_in (evaluated exit_status no_doc (program_in x) h)) h h r
+      ((journal : List ℕ) (h : Option History) → GoodIn c s journal h → Arrives d s journal (cause_in (evaluated options (program_in e) h)) h h r) →
+      (file journal : List ℕ) → f ≡ file → (h : Option History) → GoodIn c file journal h → Arrives d file journal (cause_in (evaluated options (program_in x) h)) h h r
   evaluate_arrives c d r h file journal on =
-      subst (λ y. (k : Option History) → GoodIn c y journal k → Arrives d y journal (cause_in (evaluated exit_status no_doc (program_in x) k)) k k r) (file_is ∙ on)
-      (subst (λ y. (k : Option History) → GoodIn c s journal k → Arrives d s journal (cause_in (evaluated exit_status no_doc (program_in y) k)) k k r) is (h journal))
+      subst (λ y. (k : Option History) → GoodIn c y journal k → Arrives d y journal (cause_in (evaluated options (program_in x) k)) k k r) (file_is ∙ on)
+      (subst (λ y. (k : Option History) → GoodIn c s journal k → Arrives d s journal (cause_in (evaluated options (program_in y) k)) k k r) is (h journal))
 
   pub evaluate_shows : (c : FileMap) {T : Type 0} (r : Result T Fault) (o : Report) →
-      ((journal : List ℕ) (h : Option History) → GoodIn c s journal h → OnOk r (o ≡ report_in (evaluated exit_status no_doc (program_in e) h))) →
-      (file journal : List ℕ) → f ≡ file → (h : Option History) → GoodIn c file journal h → OnOk r (o ≡ report_in (evaluated exit_status no_doc (program_in x) h))
+      ((journal : List ℕ) (h : Option History) → GoodIn c s journal h → OnOk r (o ≡ report_in (evaluated options (program_in e) h))) →
+      (file journal : List ℕ) → f ≡ file → (h : Option History) → GoodIn c file journal h → OnOk r (o ≡ report_in (evaluated options (program_in x) h))
   evaluate_shows c r o h file journal on =
-      subst (λ y. (k : Option History) → GoodIn c y journal k → OnOk r (o ≡ report_in (evaluated exit_status no_doc (program_in x) k))) (file_is ∙ on)
-      (subst (λ y. (k : Option History) → GoodIn c s journal k → OnOk r (o ≡ report_in (evaluated exit_status no_doc (program_in y) k))) is (h journal))
+      subst (λ y. (k : Option History) → GoodIn c y journal k → OnOk r (o ≡ report_in (evaluated options (program_in x) k))) (file_is ∙ on)
+      (subst (λ y. (k : Option History) → GoodIn c s journal k → OnOk r (o ≡ report_in (evaluated options (program_in y) k))) is (h journal))
 
   pub evaluate_edits : (c : FileMap) {T : Type 0} (r : Result T Fault) (o : List ℕ) → OnOk r (PrintsEdited e (get c s) o) → OnOk r (PrintsEdited x (get c f) o)
   evaluate_edits c r o h = subst (λ y. OnOk r (PrintsEdited y (get c f) o)) is (subst (λ y. OnOk r (PrintsEdited e (get c y) o)) file_is h)

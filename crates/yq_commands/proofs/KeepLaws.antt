@@ -68,9 +68,9 @@ update_silent expr (Ok p) file journal = from_silent file journal (λ t s. edit_
 -- what a command shows are the bytes of its effect
 shows_effect : {T : Type 0} (cmd : Command) (file journal : Option (List ℕ)) (r : Result T Fault) (s : Report) →
     (prints cmd ≡ false → s.printed ≡ []) → OnOk r (IsListing cmd file journal s.printed) → OfEffect cmd file journal (λ x. OnOk r (s.printed ≡ printed_by x))
-shows_effect (Eval expr f j true e d) file journal r s silent listed =
+shows_effect (Eval expr f j true options) file journal r s silent listed =
     on_ok r (silent refl ∙ sym (update_silent (string_bytes expr) (program_in (string_bytes expr)) file journal))
-shows_effect (Eval expr f j false e d) file journal r s silent listed = tt
+shows_effect (Eval expr f j false options) file journal r s silent listed = tt
 shows_effect (Undo f j) file journal r s silent listed = on_ok r (silent refl ∙ sym (from_silent file journal (move_effect move.Undo) (move_silent move.Undo)))
 shows_effect (Redo f j) file journal r s silent listed = on_ok r (silent refl ∙ sym (from_silent file journal (move_effect move.Redo) (move_silent move.Redo)))
 shows_effect (Lists f j) file journal r s silent listed = listed
@@ -108,8 +108,8 @@ module _ (x : Effect) (f j : List ℕ) (c e : FileMap) where
 
 of_effect : (cmd : Command) (file journal : Option (List ℕ)) (P R Q : Effect → Type 0) →
     (reads_journal cmd ≡ true → (x : Effect) → P x → R x → Q x) → OfEffect cmd file journal P → OfEffect cmd file journal R → OfEffect cmd file journal Q
-of_effect (Eval expr f j true s d) file journal P R Q more p q = more refl (update_effect (string_bytes expr) (program_in (string_bytes expr)) file journal) p q
-of_effect (Eval expr f j false s d) file journal P R Q more p q = tt
+of_effect (Eval expr f j true options) file journal P R Q more p q = more refl (update_effect (string_bytes expr) (program_in (string_bytes expr)) file journal) p q
+of_effect (Eval expr f j false options) file journal P R Q more p q = tt
 of_effect (Undo f j) file journal P R Q more p q = more refl (from_pair file journal (move_effect move.Undo)) p q
 of_effect (Redo f j) file journal P R Q more p q = more refl (from_pair file journal (move_effect move.Redo)) p q
 of_effect (Lists f j) file journal P R Q more p q = more refl (from_pair file journal listing_effect) p q

@@ -23,8 +23,8 @@ use Rattle.yq_history.specs.declared.fault.Fault.TheVariants as fault
 
 -- a command that prints leaves its history
 printing_stays : (c : Command) (h : Option History) → (report_of c h).printed ≢ [] → next_of c h ≡ h
-printing_stays (Eval expr file journal true s d) h some = absurd (some refl)
-printing_stays (Eval expr file journal false s d) h some = refl
+printing_stays (Eval expr file journal true options) h some = absurd (some refl)
+printing_stays (Eval expr file journal false options) h some = refl
 printing_stays (Undo file journal) h some = absurd (some refl)
 printing_stays (Redo file journal) h some = absurd (some refl)
 printing_stays (Lists file journal) h some = refl
@@ -102,8 +102,8 @@ update_stays expr (Ok p) (Some h) x is = ap Some (edit_stays h expr (program_edi
 
 -- a command with a cause for a refusal leaves the history
 pub stays : (c : Command) (h : Option History) (x : Cause) → cause_of c h ≡ Some x → next_of c h ≡ h
-stays (Eval expr file journal true s d) h x is = update_stays (string_bytes expr) (program_in (string_bytes expr)) h x is
-stays (Eval expr file journal false s d) h x is = refl
+stays (Eval expr file journal true options) h x is = update_stays (string_bytes expr) (program_in (string_bytes expr)) h x is
+stays (Eval expr file journal false options) h x is = refl
 stays (Undo file journal) h x is = move_stays move.Undo h x is
 stays (Redo file journal) h x is = move_stays move.Redo h x is
 stays (Lists file journal) h x is = refl

@@ -1,6 +1,6 @@
 -- What is shown of a file, by what is shown of its text.
-use Rattle.std.proofs.Common.{◌≡◌, ◌≢◌, inl, true, false, Bool, ℕ, List, Option, Some, None, option_map, Result, Ok, Err, IfErr, sym, ap}
-use Rattle.std.{proofs.Common.{◌∙◌, subst, refl, true≢false}, proofs.lemmas.Option.same_Some, specs.FinMap.get, specs.Str.is_utf8}
+use Rattle.std.proofs.Common.{◌≡◌, ◌≢◌, inl, true, false, ℕ, List, Option, Some, None, option_map, Result, Ok, Err, IfErr, sym, ap, ◌∙◌}
+use Rattle.std.{proofs.Common.{subst, refl, true≢false}, proofs.lemmas.Option.same_Some, specs.FinMap.get, specs.Str.is_utf8}
 use Rattle.yq_core.{specs.Answers.ReadFails, specs.Tree.Node, specs.declared.fault.ReadError.ReadError}
 use Rattle.yq_places.specs.Answers.{IsNotUtf8}
 use Rattle.yq_documents.{specs.Documents.Document, specs.Reading.{documents, read_at}}
@@ -12,6 +12,7 @@ use Rattle.yq_history.{specs.Causes.{Cause, IsFor, named, no_reading, IsUnreadab
 use Rattle.yq_history.{specs.Pair.{Arrives, GoodIn}, specs.Report.Report, proofs.MoveLaws.{cut, is_refused}}
 use Rattle.yq_history.proofs.PairLaws.{good_text, same_pair}
 use Rattle.yq_store.specs.FileMap.{FileMap}
+use Rattle.yq_args.specs.declared.eval_options.EvalOptions.{EvalOptions}
 use Rattle.yq_commands.specs.Editing.{EditOutcome, unreadable, refused, edited, Refuses, program_edits}
 use Rattle.yq_commands.specs.CommandFaults.{of_refusal, of_matching}
 use Rattle.yq_commands.specs.Evaluation.{of_file, show_edit, show_found, show_read, shows, cause_in, report_in}
@@ -28,31 +29,31 @@ reports_edit (edited u changes) x is = absurd is
 
 -- ---- of a text
 
-module _ (exit_status no_doc : Bool) (t : List ℕ) where
+module _ (options : EvalOptions) (t : List ℕ) where
   -- a read, by the documents
   by_documents : (p : Program) (docs : Option (List Document)) → is_read p ≡ true →
-      option_map documents (read_at t) ≡ docs → (pipe : List Stage) × (p ≡ read pipe) × (shows exit_status no_doc p t ≡ show_read exit_status no_doc pipe t docs)
+      option_map documents (read_at t) ≡ docs → (pipe : List Stage) × (p ≡ read pipe) × (shows options p t ≡ show_read options pipe t docs)
   unfolding shows
-  by_documents (read pipe) docs is reads = (pipe, refl, ap (show_read exit_status no_doc pipe t) reads)
+  by_documents (read pipe) docs is reads = (pipe, refl, ap (show_read options pipe t) reads)
   by_documents (updates us) docs is reads = cc
 
   -- a read of a text without a reading
-  pub unread_shows : (p : Program) → is_read p ≡ true → read_at t ≡ None → shows exit_status no_doc p t ≡ Err (no_reading t)
+  pub unread_shows : (p : Program) → is_read p ≡ true → read_at t ≡ None → shows options p t ≡ Err (no_reading t)
   unread_shows p is none = (by_documents p None is (ap (option_map documents) none)).2
 
   -- a read of a text, by its matches
   pub found_shows : (p : Program) (docs : List Document) (found : Judgement (List (ℕ × Node))) → is_read p ≡ true → option_map documents (read_at t) ≡ Some docs →
-      ((pipe : List Stage) → p ≡ read pipe → matches pipe docs ≡ found) → shows exit_status no_doc p t ≡ show_found exit_status no_doc found
+      ((pipe : List Stage) → p ≡ read pipe → matches pipe docs ≡ found) → shows options p t ≡ show_found options found
   found_shows p docs found is reads matched =
       let x = by_documents p (Some docs) is reads in
-      x.2 ∙ ap (show_found exit_status no_doc) (matched x.0 x.1)
+      x.2 ∙ ap (show_found options) (matched x.0 x.1)
 
-  -- the fault that is told, where a program is refused on the text
+  -- the fault that is reported, where a program is refused on the text
   abbrev pub HasFault : Program → {T : Type 0} → Result T Fault → Type 0
-  HasFault p r = IfErr r (λ x. x ≢ OutOfMemory → IsFor (cause_in (shows exit_status no_doc p t)) x)
+  HasFault p r = IfErr r (λ x. x ≢ OutOfMemory → IsFor (cause_in (shows options p t)) x)
 
   -- it is the one for a cause
-  for_cause : (p : Program) (why : Cause) {T : Type 0} (r : Result T Fault) (x : Fault) → r ≡ Err x → (x ≢ OutOfMemory → (shows exit_status no_doc p t ≡ Err why) × IsFor (Some why) x) → HasFault p r
+  for_cause : (p : Program) (why : Cause) {T : Type 0} (r : Result T Fault) (x : Fault) → r ≡ Err x → (x ≢ OutOfMemory → (shows options p t ≡ Err why) × IsFor (Some why) x) → HasFault p r
   for_cause p why r x is known = subst (HasFault p) (sym is) (λ memory. let k = known memory in subst (λ o. IsFor (cause_in o) x) (sym k.0) k.1)
 
   -- a text without a reading
@@ -73,7 +74,7 @@ module _ (exit_status no_doc : Bool) (t : List ℕ) where
       for_cause p (named (of_refusal x)) r (of_refusal x) fails (λ memory. (found_shows p docs (refuses x) is reads why, refl))
 
   -- an update of a text
-  pub edit_shows : (p : Program) → is_read p ≡ false → shows exit_status no_doc p t ≡ show_edit (program_edits p t)
+  pub edit_shows : (p : Program) → is_read p ≡ false → shows options p t ≡ show_edit (program_edits p t)
   unfolding shows
   edit_shows (read pipe) is = cc
   edit_shows (updates us) is = refl

@@ -31,7 +31,7 @@ update_effect expr (Ok p) file journal = from_pair file journal (λ t s. edit_ef
 
 -- something holds of what a command does, by the bytes of its file and its journal; of what prints a file alone, and of help, nothing is said
 abbrev pub OfEffect : Command → Option (List ℕ) → Option (List ℕ) → (Effect → Type 0) → Type 0
-OfEffect (Eval expr f j true exit_status no_doc) file journal holds = holds (update_effect (string_bytes expr) (program_in (string_bytes expr)) file journal)
+OfEffect (Eval expr f j true options) file journal holds = holds (update_effect (string_bytes expr) (program_in (string_bytes expr)) file journal)
 OfEffect (Undo f j) file journal holds = holds (from_pair file journal (move_effect move.Undo))
 OfEffect (Redo f j) file journal holds = holds (from_pair file journal (move_effect move.Redo))
 OfEffect (Lists f j) file journal holds = holds (from_pair file journal listing_effect)
@@ -45,7 +45,7 @@ fault_of (Err f) = Some f
 
 -- the fault of a command's expression, if it is no program
 abbrev pub expression_fault : Command → Option Fault
-expression_fault (Eval expr f j in_place exit_status no_doc) = fault_of (program_in (string_bytes expr))
+expression_fault (Eval expr f j in_place options) = fault_of (program_in (string_bytes expr))
 expression_fault _ = None
 
 -- a command is refused for such a fault, or for want of memory, and for nothing else

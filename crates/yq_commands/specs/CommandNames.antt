@@ -5,8 +5,8 @@ use Rattle.yq_args.specs.declared.command.Command.TheVariants.{Eval, Undo, Redo,
 
 -- the command works on this file with this journal; an expression that isn't carried out in place, with any
 abbrev pub IsOn : List ℕ → List ℕ → Command → Type 0
-IsOn file journal (Eval expr f j true exit_status no_doc) = (string_bytes f ≡ file) × (string_bytes j ≡ journal)
-IsOn file journal (Eval expr f j false exit_status no_doc) = string_bytes f ≡ file
+IsOn file journal (Eval expr f j true options) = (string_bytes f ≡ file) × (string_bytes j ≡ journal)
+IsOn file journal (Eval expr f j false options) = string_bytes f ≡ file
 IsOn file journal (Undo f j) = (string_bytes f ≡ file) × (string_bytes j ≡ journal)
 IsOn file journal (Redo f j) = (string_bytes f ≡ file) × (string_bytes j ≡ journal)
 IsOn file journal (Lists f j) = (string_bytes f ≡ file) × (string_bytes j ≡ journal)
@@ -19,8 +19,8 @@ Differs q file journal = (q ≢ file) × (q ≢ journal)
 
 -- the command doesn't name this name; an expression that isn't carried out in place needs no journal
 abbrev pub IsNotNamed : List ℕ → Command → Type 0
-IsNotNamed q (Eval expr f j true exit_status no_doc) = Differs q (string_bytes f) (string_bytes j)
-IsNotNamed q (Eval expr f j false exit_status no_doc) = q ≢ string_bytes f
+IsNotNamed q (Eval expr f j true options) = Differs q (string_bytes f) (string_bytes j)
+IsNotNamed q (Eval expr f j false options) = q ≢ string_bytes f
 IsNotNamed q (Undo f j) = Differs q (string_bytes f) (string_bytes j)
 IsNotNamed q (Redo f j) = Differs q (string_bytes f) (string_bytes j)
 IsNotNamed q (Lists f j) = Differs q (string_bytes f) (string_bytes j)

@@ -1,9 +1,10 @@
 -- What an expression that isn't carried out in place shows of a file (own).
-use Rattle.std.specs.Prelude.{ℕ, Bool, List, Option, Some, None, option_map, Result, Ok, Err}
+use Rattle.std.specs.Prelude.{ℕ, List, Option, Some, None, option_map, Result, Ok, Err}
 use Rattle.yq_core.specs.Tree.{Node}
 use Rattle.yq_documents.{specs.Documents.Document, specs.Reading.{documents, read_at}}
 use Rattle.yq_semantics.{specs.Copies.matches, specs.Judgement.{Judgement, gives, refuses}, specs.Program.{Program, Stage, read, updates}}
 use Rattle.yq_journal.specs.History.{History, text_at}
+use Rattle.yq_args.specs.declared.eval_options.EvalOptions.{EvalOptions}
 use Rattle.yq_history.{specs.declared.fault.Fault.Fault, specs.declared.fault.Fault.TheVariants.NotThere}
 use Rattle.yq_history.{specs.Causes.{Cause, named, no_reading}, specs.Report.{Report, text, nothing}}
 use Rattle.yq_commands.{specs.Editing.{EditOutcome, unreadable, refused, edited, program_edits}, specs.CommandFaults.of_refusal}
@@ -16,19 +17,19 @@ show_edit (refused f) = Err (named f)
 show_edit (edited t changes) = Ok (text t)
 
 -- of a read its matches are shown, by what matching comes to
-abbrev pub show_found : Bool → Bool → Judgement (List (ℕ × Node)) → Result Report Cause
-show_found exit_status no_doc (gives ms) = Ok (report_matches exit_status no_doc ms)
-show_found exit_status no_doc (refuses why) = Err (named (of_refusal why))
+abbrev pub show_found : EvalOptions → Judgement (List (ℕ × Node)) → Result Report Cause
+show_found options (gives ms) = Ok (report_matches options ms)
+show_found options (refuses why) = Err (named (of_refusal why))
 
 -- the same, by the documents, if the text reads as documents
-abbrev pub show_read : Bool → Bool → List Stage → List ℕ → Option (List Document) → Result Report Cause
-show_read exit_status no_doc pipe t None = Err (no_reading t)
-show_read exit_status no_doc pipe t (Some docs) = show_found exit_status no_doc (matches pipe docs)
+abbrev pub show_read : EvalOptions → List Stage → List ℕ → Option (List Document) → Result Report Cause
+show_read options pipe t None = Err (no_reading t)
+show_read options pipe t (Some docs) = show_found options (matches pipe docs)
 
 -- what a program shows of a text, or why it shows nothing
-unfoldable pub shows : Bool → Bool → Program → List ℕ → Result Report Cause
-shows exit_status no_doc (read pipe) t = show_read exit_status no_doc pipe t (option_map documents (read_at t))
-shows exit_status no_doc (updates us) t = show_edit (program_edits (updates us) t)
+unfoldable pub shows : EvalOptions → Program → List ℕ → Result Report Cause
+shows options (read pipe) t = show_read options pipe t (option_map documents (read_at t))
+shows options (updates us) t = show_edit (program_edits (updates us) t)
 
 -- what is shown of a file, by what is shown of its text
 abbrev pub of_file : (List ℕ → Result Report Cause) → Option History → Result Report Cause
@@ -36,9 +37,9 @@ of_file of_text None = Err (named NotThere)
 of_file of_text (Some h) = of_text (text_at h)
 
 -- the same, by what an expression is
-abbrev pub evaluated : Bool → Bool → Result Program Fault → Option History → Result Report Cause
-evaluated exit_status no_doc (Err f) h = Err (named f)
-evaluated exit_status no_doc (Ok p) h = of_file (shows exit_status no_doc p) h
+abbrev pub evaluated : EvalOptions → Result Program Fault → Option History → Result Report Cause
+evaluated options (Err f) h = Err (named f)
+evaluated options (Ok p) h = of_file (shows options p) h
 
 -- why nothing is shown
 abbrev pub cause_in : Result Report Cause → Option Cause

@@ -32,8 +32,8 @@ PrintsEdited expr old printed =
 
 -- the edited text: an edit in place leaves it in the file, any other update prints it; nothing is said of other commands
 abbrev pub HasEdited : Command → FileMap → FileMap → List ℕ → Type 0
-HasEdited (Eval expr f j true exit_status no_doc) old new printed =
+HasEdited (Eval expr f j true options) old new printed =
     string_bytes f ≢ string_bytes j → IsFileEdited (string_bytes expr) (get old (string_bytes f)) (get new (string_bytes f))
-HasEdited (Eval expr f j false exit_status no_doc) old new printed =
+HasEdited (Eval expr f j false options) old new printed =
     PrintsEdited (string_bytes expr) (get old (string_bytes f)) printed
 HasEdited _ old new printed = Unit {0}

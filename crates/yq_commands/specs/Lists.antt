@@ -95,7 +95,7 @@ is_inner_refusal (Refused e) = not (is_outer_fault e)
 is_inner_refusal _ = false
 
 -- what a command's answer and the bytes that it printed tell of an effect: it came about and printed its bytes; or it was refused and printed nothing;
--- that the output failed tells nothing, and that there is no match is never told
+-- that the output failed tells nothing, and that there is no match is never reported
 abbrev pub ReportsEffect : Effect → List ℕ → List ℕ → FileMap → FileMap → Answer → List ℕ → Type 0
 ReportsEffect x file journal old new Done o = Works x file journal old new {T = Unit {0}} (Ok tt) × (o ≡ printed_by x)
 ReportsEffect x file journal old new NoMatch o = ⊥

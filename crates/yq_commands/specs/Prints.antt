@@ -8,8 +8,8 @@ use Rattle.yq_history.{specs.Listing.listing_output, specs.Report.{Report, text,
 
 -- what a command shows where it is carried out; of help nothing is said
 abbrev pub report_of : Command → Option History → Report
-report_of (Eval expr file journal true exit_status no_doc) h = nothing
-report_of (Eval expr file journal false exit_status no_doc) h = report_in (evaluated exit_status no_doc (program_in (string_bytes expr)) h)
+report_of (Eval expr file journal true options) h = nothing
+report_of (Eval expr file journal false options) h = report_in (evaluated options (program_in (string_bytes expr)) h)
 report_of (Undo file journal) h = nothing
 report_of (Redo file journal) h = nothing
 report_of (Lists file journal) h = text (listing_output h)
@@ -18,15 +18,15 @@ report_of Help h = nothing
 
 -- the command reads the journal of its file
 abbrev pub reads_journal : Command → Bool
-reads_journal (Eval expr file journal true exit_status no_doc) = true
-reads_journal (Eval expr file journal false exit_status no_doc) = false
+reads_journal (Eval expr file journal true options) = true
+reads_journal (Eval expr file journal false options) = false
 reads_journal Help = false
 reads_journal _ = true
 
 -- the command prints and writes no name
 abbrev pub prints : Command → Bool
-prints (Eval expr file journal true exit_status no_doc) = false
-prints (Eval expr file journal false exit_status no_doc) = true
+prints (Eval expr file journal true options) = false
+prints (Eval expr file journal false options) = true
 prints (Lists file journal) = true
 prints Help = true
 prints _ = false

@@ -2,15 +2,16 @@
 use Rattle.std.specs.Prelude.{ℕ, ◌==◌, Bool, true, false, not, ◌&&◌, ◌||◌, if◌then◌else◌, List, [], ◌∷◌, ◌++◌, codes, Option, Some, None}
 use Rattle.yq_core.{specs.declared.kind.Kind.Kind, specs.Tree.{Node, alias, scalar, list, map}, specs.SchemaReading.is_true_word}
 use Rattle.yq_edit_rules.specs.Print.{print_text}
+use Rattle.yq_args.specs.declared.eval_options.EvalOptions.{EvalOptions}
 use Rattle.yq_history.specs.Report.{Report}
 use Rattle.yq_core.specs.declared.kind.Kind.TheVariants as kinds
 
--- what stands before a match, by the document of the one before it: the line `---`, where that is another document
+-- what comes before a match, by the document of the one before it: the line `---`, where that is another document
 abbrev pub separator_before : Bool → Option ℕ → ℕ → List ℕ
 separator_before no_doc None doc = []
 separator_before no_doc (Some last) doc = if no_doc || (last == doc) then [] else codes "---" ++ 10 ∷ []
 
--- matches, each with its document's number, as they are printed behind a match of such a document, or first of all
+-- matches, each with its document's number, as they are printed after a match of such a document, or first of all
 abbrev pub matches_behind : Bool → Option ℕ → List (ℕ × Node) → List ℕ
 matches_behind no_doc last [] = []
 matches_behind no_doc last (m ∷ ms) = separator_before no_doc last m.0 ++ (print_text m.1 ++ matches_behind no_doc (Some m.0) ms)
@@ -36,5 +37,8 @@ have_no_match [] = true
 have_no_match (m ∷ ms) = is_no_match m.1 && have_no_match ms
 
 -- what is shown of matches: with `-e` there is to be one other than null and false
-abbrev pub report_matches : Bool → Bool → List (ℕ × Node) → Report
-report_matches exit_status no_doc ms = record { printed = matches_behind no_doc None ms; is_match = not (exit_status && have_no_match ms) }
+abbrev pub report_matches : EvalOptions → List (ℕ × Node) → Report
+report_matches options ms = record {
+  printed = matches_behind options.no_doc None ms;
+  is_match = not (options.exit_status && have_no_match ms);
+}

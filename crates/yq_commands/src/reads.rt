@@ -12,6 +12,7 @@ ghost use Rattle.yq_commands.specs.Reads as spec;
 use crate::faults::match_fault;
 use crate::reading::utf8_text;
 use std::alloc::{AllocError, Global};
+use yq_args::EvalOptions;
 use yq_core::{Kind, Value, is_true_word};
 use yq_edit_rules::print;
 use yq_eval::{Match, matches};
@@ -19,7 +20,7 @@ use yq_history::{Fault, Report};
 use yq_semantics::Program;
 use yq_tree::read;
 
-/// Adds what stands before a match: the line `---`, where the match before it is in another document.
+/// Adds what comes before a match: the line `---`, where the match before it is in another document.
 fn push_marker(
     printed: &mut String,
     no_doc: bool,
@@ -35,7 +36,7 @@ fn push_marker(
     }
 }
 
-/// Adds a match, behind one of the document `last`.
+/// Adds a match, after one of the document `last`.
 fn push_match(
     alloc: Global,
     printed: &mut String,
@@ -98,15 +99,14 @@ fn have_no_match(matches: &[Match]) -> bool
 #[tactic(auto, using(crate::proofs::ReadLaws::none_each))]
 fn report_matches(
     alloc: Global,
-    exit_status: bool,
-    no_doc: bool,
+    options: EvalOptions,
     matches: &[Match],
 ) -> Result<Report, AllocError>
-    ensures { IfOk result (λ s. report_by s ≡ spec.report_matches exit_status no_doc
+    ensures { IfOk result (λ s. report_by s ≡ spec.report_matches options
         (matches_of matches.now)) }
 {
-    let text = printed_matches(alloc, no_doc, matches)?;
-    let is_match = !(exit_status && have_no_match(matches));
+    let text = printed_matches(alloc, options.no_doc, matches)?;
+    let is_match = !(options.exit_status && have_no_match(matches));
     Ok(Report { text, is_match })
 }
 
@@ -115,14 +115,13 @@ pub fn show_read(
     alloc: Global,
     program: &Program,
     text: &[u8],
-    exit_status: bool,
-    no_doc: bool,
+    options: EvalOptions,
 ) -> Result<Report, Fault>
     requires { is_read (program_of program.now) ≡ true }
-    ensures ok { IfOk result (λ s. shows exit_status no_doc (program_of program.now) text.now ≡
+    ensures ok { IfOk result (λ s. shows options (program_of program.now) text.now ≡
         Ok (report_by s)) }
     ensures err { IfErr result (λ e. e ≢ Fault.OutOfMemory →
-        IsFor (cause_in (shows exit_status no_doc (program_of program.now) text.now)) e) }
+        IsFor (cause_in (shows options (program_of program.now) text.now)) e) }
     ensures inside { IfErr result (λ e. is_failure e ≡ false) }
     ensures no_output { IfErr result (λ e. is_output e ≡ false) }
 {
@@ -132,5 +131,5 @@ pub fn show_read(
         Ok(found) => found,
         Err(error) => return Err(match_fault(error)),
     };
-    Ok(report_matches(alloc, exit_status, no_doc, &found)?)
+    Ok(report_matches(alloc, options, &found)?)
 }

@@ -34,13 +34,13 @@ pub record FlowCarried (op : Operation) (c : Cut) (steps : List Step) (w : CollP
   pub pieces : ArePieces (flow_segments (cut_text c) e)
   pub stays : length (behind_node c (op_document op) at.part at.row) ≤ length e.behind
 
--- the text before what stands at its end
+-- the text before what is at its end
 pub before_is : (t before behind : List ℕ) → t ≡ before ++ behind → script_text_before t behind ≡ before
 before_is t before behind e =
     let size : length t - length behind ≡ length before = omega (arith, ap length e, length-append before behind) in
     (λ i. take (size i) (e i)) ∙ take-append_seam before behind
 
--- Where the text of an edit stands in the text of a cut, and in the new one; it is inside a node with what is behind that.
+-- Where the text of an edit is in the text of a cut, and in the new one; it is inside a node with what is after that.
 pub record FlowTexts (c new : Cut) (e : FlowEdit) (node : List ℕ) : Type 0 where
   pub before : List ℕ
   pub old : cut_text c ≡ before ++ (e.old ++ e.behind)

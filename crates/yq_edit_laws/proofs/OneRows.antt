@@ -53,7 +53,7 @@ module _ (op : Operation) (c : Cut) (h : RowIn (op_document op) c) (new : Row) w
       ∙ (ap (λ l. h.start ++ l) ((λ i. rows_text (rows_now i) (own_end h.back h.part.end i ++ behind_document (op_document op) c)) ∙ rows_front h.front (new ∷ h.back) _)
       ∙ sym (append_assoc h.start (rows_text h.front []) _))
 
-  -- Segments of the text make that with the new row, and keep what is in front of the row and behind it.
+  -- Segments of the text make that with the new row, and keep what is before the row and after it.
   pub record PutsRow (us : List Segment) : Type 0 where
     pub old : old_text us ≡ cut_text c
     pub text : new_text us ≡ cut_text (put_document (op_document op) row_put c)

@@ -26,7 +26,7 @@ pub rows_front : (front rs : List Row) (rest : List ℕ) → rows_text (front ++
 rows_front [] rs rest = refl
 rows_front (r ∷ front) rs rest = ap (print_row r) (rows_front front rs rest) ∙ row_then r (rows_text front []) (rows_text rs rest)
 
--- the rows behind a row are those under it, and the further ones
+-- the rows after a row are those under it, and the further ones
 behind_rows : (d : PlacedPart) (k : ℕ) (rs : List Row) → rows_text rs (d.part.end ++ d.behind) ≡ rows_text (take k rs) (rows_text (drop k rs) (d.part.end ++ d.behind))
 behind_rows d k rs = ap (λ (xs : List Row). rows_text xs (d.part.end ++ d.behind)) (sym (take-append-drop k rs)) ∙ rows_text-append (take k rs) (drop k rs) (d.part.end ++ d.behind)
 
@@ -79,11 +79,11 @@ entry_is_row n steps c e is = rows_same n steps c ∙ ap (option_map entry_row) 
 pub cut_spelled : (n : ℕ) (steps : List Step) (c : Cut) (e : RowsOfEntry) → rows_of_entry n steps c ≡ Some e → cut_text c ≡ before_entry e ++ print_row e.row (rows_text e.under (behind_entry e))
 cut_spelled n steps c e is = let f = entry_found n steps c e is in row_place c f.index e.row f.at.there ∙ (λ j. f.at.before_is j ++ print_row e.row (f.at.behind_is j))
 
--- the text up to the end of the line, and behind
+-- the text up to the end of the line, and after
 pub line_whole : (w : PlacedRow) → w.before ++ print_row w.row w.behind ≡ (w.before ++ text_to_line_end w.row) ++ ((slices w.row).tail ++ ((slices w.row).raw ++ w.behind))
 line_whole w = ap (λ l. w.before ++ l) (row_text_parts w.row w.behind) ∙ sym (append_assoc w.before (text_to_line_end w.row) ((slices w.row).tail ++ ((slices w.row).raw ++ w.behind)))
 
--- a rest is the end of its line and what is behind
+-- a rest is the end of its line and what is after
 pub end_parts : (before rest : List ℕ) → rest ≡ (end_in_line before rest).white ++ ((end_in_line before rest).comment ++ (end_in_line before rest).behind)
 end_parts before rest = cut_takes no_white rest ∙ ap (λ x. (text.cut no_white rest).0 ++ x) (cut_takes ends_line (past_white rest))
 

@@ -12,6 +12,7 @@ ghost use Rattle.std.specs.FinMap as map;
 
 use crate::editing::edit_text;
 use std::alloc::Global;
+use yq_args::EvalOptions;
 use yq_commands::{parse, show_read};
 use yq_history::{Fault, Report};
 use yq_semantics::Program;
@@ -23,12 +24,12 @@ fn show_edit(alloc: Global, program: &Program, text: &[u8]) -> Result<Report, Fa
     requires { is_read (program_of program.now) ≡ false }
     ensures edited { IfOk result (λ s. IsTextEdited (program_of program.now) text.now
         (string_bytes s.text)) }
-    ensures ok { (exit_status no_doc : Bool) →
-        IfOk result (λ s. shows exit_status no_doc (program_of program.now) text.now ≡
+    ensures ok { (options : EvalOptions) →
+        IfOk result (λ s. shows options (program_of program.now) text.now ≡
         Ok (report_by s)) }
-    ensures err { (exit_status no_doc : Bool) →
+    ensures err { (options : EvalOptions) →
         IfErr result (λ e. e ≢ Fault.OutOfMemory →
-        IsFor (cause_in (shows exit_status no_doc (program_of program.now) text.now)) e) }
+        IsFor (cause_in (shows options (program_of program.now) text.now)) e) }
     ensures inside { IfErr result (λ e. is_failure e ≡ false) }
     ensures no_output { IfErr result (λ e. is_output e ≡ false) }
 {
@@ -44,20 +45,19 @@ fn show(
     alloc: Global,
     program: &Program,
     text: &[u8],
-    exit_status: bool,
-    no_doc: bool,
+    options: EvalOptions,
 ) -> Result<Report, Fault>
     ensures edited { is_read (program_of program.now) ≡ false →
         IfOk result (λ s. IsTextEdited (program_of program.now) text.now (string_bytes s.text)) }
-    ensures ok { IfOk result (λ s. shows exit_status no_doc (program_of program.now) text.now ≡
+    ensures ok { IfOk result (λ s. shows options (program_of program.now) text.now ≡
         Ok (report_by s)) }
     ensures err { IfErr result (λ e. e ≢ Fault.OutOfMemory →
-        IsFor (cause_in (shows exit_status no_doc (program_of program.now) text.now)) e) }
+        IsFor (cause_in (shows options (program_of program.now) text.now)) e) }
     ensures inside { IfErr result (λ e. is_failure e ≡ false) }
     ensures no_output { IfErr result (λ e. is_output e ≡ false) }
 {
     if program.is_read() {
-        show_read(alloc, program, text, exit_status, no_doc)
+        show_read(alloc, program, text, options)
     } else {
         show_edit(alloc, program, text)
     }
@@ -69,18 +69,17 @@ fn evaluate_program<D: Store>(
     store: &mut D,
     file: &str,
     program: &Program,
-    exit_status: bool,
-    no_doc: bool,
+    options: EvalOptions,
     report: &mut Report,
 ) -> Result<(), Fault>
     ensures arrives { IsTrue D.keeps → (journal : List ℕ) → (h : Option History) →
         GoodIn (D.content store.old) file.now journal h →
         Arrives (D.content store.new) file.now journal
-        (cause_in (of_file (shows exit_status no_doc (program_of program.now)) h)) h h result }
+        (cause_in (of_file (shows options (program_of program.now)) h)) h h result }
     ensures output { IsTrue D.keeps → (journal : List ℕ) → (h : Option History) →
         GoodIn (D.content store.old) file.now journal h →
         OnOk result (report_by report.new ≡ report_in (of_file
-        (shows exit_status no_doc (program_of program.now)) h)) }
+        (shows options (program_of program.now)) h)) }
     ensures edited { IsTrue D.keeps → is_read (program_of program.now) ≡ false →
         OnOk result ((text : List ℕ) × (map.get (D.content store.old) file.now ≡ Some text) ×
         IsTextEdited (program_of program.now) text (string_bytes report.new.text)) }
@@ -89,7 +88,7 @@ fn evaluate_program<D: Store>(
     ensures count { D.failures store.new ≡ failures_after result (D.failures store.old) }
 {
     let text = store.read(alloc, file)?;
-    *report = show(alloc, program, &text, exit_status, no_doc)?;
+    *report = show(alloc, program, &text, options)?;
     Ok(())
 }
 
@@ -100,17 +99,16 @@ pub fn evaluate<D: Store>(
     store: &mut D,
     file: &str,
     expr: &str,
-    exit_status: bool,
-    no_doc: bool,
+    options: EvalOptions,
     report: &mut Report,
 ) -> Result<(), Fault>
     ensures arrives { IsTrue D.keeps → (journal : List ℕ) → (h : Option History) →
         GoodIn (D.content store.old) file.now journal h →
         Arrives (D.content store.new) file.now journal
-        (cause_in (evaluated exit_status no_doc (program_in expr.now) h)) h h result }
+        (cause_in (evaluated options (program_in expr.now) h)) h h result }
     ensures output { IsTrue D.keeps → (journal : List ℕ) → (h : Option History) →
         GoodIn (D.content store.old) file.now journal h →
-        OnOk result (report_by report.new ≡ report_in (evaluated exit_status no_doc
+        OnOk result (report_by report.new ≡ report_in (evaluated options
         (program_in expr.now) h)) }
     ensures edited { IsTrue D.keeps →
         OnOk result (PrintsEdited expr.now (map.get (D.content store.old) file.now)
@@ -121,5 +119,5 @@ pub fn evaluate<D: Store>(
     ensures count { D.failures store.new ≡ failures_after result (D.failures store.old) }
 {
     let program = parse(alloc, expr)?;
-    evaluate_program(alloc, store, file, &program, exit_status, no_doc, report)
+    evaluate_program(alloc, store, file, &program, options, report)
 }

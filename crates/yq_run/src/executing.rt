@@ -102,18 +102,9 @@ pub fn execute<D: Store>(
         Command::Eval {
             expr,
             file,
-            exit_status,
-            no_doc,
+            options,
             ..
-        } => evaluate(
-            alloc,
-            store,
-            file.as_str(),
-            expr.as_str(),
-            *exit_status,
-            *no_doc,
-            report,
-        ),
+        } => evaluate(alloc, store, file.as_str(), expr.as_str(), *options, report),
         Command::Undo { file, journal } => {
             move_file(
                 alloc,

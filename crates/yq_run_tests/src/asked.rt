@@ -2,7 +2,7 @@
 
 use std::alloc::{AllocError, Global};
 use std::test::Fail;
-use yq_args::Command;
+use yq_args::{Command, EvalOptions};
 use yq_store::{MemoryStore, Store};
 
 /// What a command asks: an expression to be shown, with `-e`, or carried out in place, or another command.
@@ -36,8 +36,10 @@ fn command(alloc: Global, asked: Request) -> Result<Command, AllocError> {
         file,
         journal,
         in_place,
-        exit_status: !in_place,
-        no_doc: false,
+        options: EvalOptions {
+            exit_status: !in_place,
+            no_doc: false,
+        },
     })
 }
 

@@ -4,13 +4,13 @@ use Rattle.yq_commands.{specs.Evaluation.show_edit, proofs.FileEditLaws.text_sam
 use Rattle.yq_run.proofs.evaluating.show_edit.Goals as goal
 
 pub returns-in_err-text-clause-err : goal.returns-in_err-text-clause-err
-returns-in_err-text-clause-err c = λ exit_status no_doc.
+returns-in_err-text-clause-err c = λ options.
     let p = err_from_is_err_and c.from_residual.result c.from_residual.ensures.1 in
-    edit_fails exit_status no_doc c.args.text.now (program_of c.args.program.now) c.from_residual.result _ c.requires (p.1 ∙ ap Err p.2) c.in_err-text.ensures.err
+    edit_fails options c.args.text.now (program_of c.args.program.now) c.from_residual.result _ c.requires (p.1 ∙ ap Err p.2) c.in_err-text.ensures.err
 
 pub returns-clause-ok : goal.returns-clause-ok
-returns-clause-ok c = λ exit_status no_doc.
-    let is = edit_shows exit_status no_doc c.args.text.now (program_of c.args.program.now) c.requires ∙ ap show_edit c.in_ok-text.ensures.ok in
+returns-clause-ok c = λ options.
+    let is = edit_shows options c.args.text.now (program_of c.args.program.now) c.requires ∙ ap show_edit c.in_ok-text.ensures.ok in
     let edited_to = c.in_ok-text.text-is in
     cc
 

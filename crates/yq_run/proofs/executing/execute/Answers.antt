@@ -120,13 +120,13 @@ returns-in-Eval g c =
     let e = c.evaluate.ensures in
     let a = c.in-Eval in
     let on : a.in_place ≡ false = cc (a.in_place-is, a.in_place-test) in
-    let is = a.is ∙ ap (λ (b : Bool). Eval a.expr a.file a.journal b a.exit_status a.no_doc) on in
+    let is = a.is ∙ ap (λ (b : Bool). Eval a.expr a.file a.journal b a.options) on in
     record {
-      arrives = λ keeps. subst (ArrivesOn _ _ c.evaluate.result) (sym is) (λ file journal apart. evaluate_arrives _ _ c.as_str-in-Eval.ensures.value _ _ c.as_str-in-Eval-2.ensures.value a.exit_status a.no_doc _ _ c.evaluate.result (e.arrives keeps) file journal);
+      arrives = λ keeps. subst (ArrivesOn _ _ c.evaluate.result) (sym is) (λ file journal apart. evaluate_arrives _ _ c.as_str-in-Eval.ensures.value _ _ c.as_str-in-Eval-2.ensures.value a.options _ _ c.evaluate.result (e.arrives keeps) file journal);
       effect = λ keeps. subst (WorksOn _ _ c.evaluate.result) (sym is) (λ file journal apart on. tt);
-      output = λ keeps. subst (ShowsOn _ c.evaluate.result _) (sym is) (evaluate_shows _ _ c.as_str-in-Eval.ensures.value _ _ c.as_str-in-Eval-2.ensures.value a.exit_status a.no_doc _ c.evaluate.result _ (e.output keeps));
+      output = λ keeps. subst (ShowsOn _ c.evaluate.result _) (sym is) (evaluate_shows _ _ c.as_str-in-Eval.ensures.value _ _ c.as_str-in-Eval-2.ensures.value a.options _ c.evaluate.result _ (e.output keeps));
       listed = λ keeps. subst (ListsOn _ c.evaluate.result _) (sym is) (λ file journal on. on_ok c.evaluate.result tt);
-      edited = λ keeps. subst (EditsOn _ _ c.evaluate.result _) (sym is) (evaluate_edits _ _ c.as_str-in-Eval.ensures.value _ _ c.as_str-in-Eval-2.ensures.value a.exit_status a.no_doc _ c.evaluate.result _ (e.edited keeps));
+      edited = λ keeps. subst (EditsOn _ _ c.evaluate.result _) (sym is) (evaluate_edits _ _ c.as_str-in-Eval.ensures.value _ _ c.as_str-in-Eval-2.ensures.value a.options _ c.evaluate.result _ (e.edited keeps));
       unparsed = λ f fault. e.unparsed f (ap (λ y. fault_of (program_in y)) c.as_str-in-Eval-2.ensures.value ∙ sym (ap expression_fault is) ∙ fault);
       silent = λ hidden. absurd (true≢false (sym (ap prints is) ∙ hidden));
       matched = λ reads. absurd (false≢true (sym (ap reads_journal is) ∙ reads));
@@ -137,24 +137,24 @@ returns-in-Eval g c =
       count = e.count;
     }
 
-pub returns-in-Eval-default-default-default-true-default-default : goal.returns-in-Eval-default-default-default-true-default-default
-returns-in-Eval-default-default-default-true-default-default g c =
+pub returns-in-Eval-default-default-default-true-default : goal.returns-in-Eval-default-default-default-true-default
+returns-in-Eval-default-default-default-true-default g c =
     let e = c.update.ensures in
-    let a = c.in-Eval-default-default-default-true-default-default in
+    let a = c.in-Eval-default-default-default-true-default in
     let on : a.in_place ≡ true = cc (a.in_place-is, a.in_place-test) in
-    let is = a.is ∙ ap (λ (b : Bool). Eval a.expr a.file a.journal b a.exit_status a.no_doc) on in
+    let is = a.is ∙ ap (λ (b : Bool). Eval a.expr a.file a.journal b a.options) on in
     record {
-      arrives = λ keeps. subst (ArrivesOn _ _ c.update.result) (sym is) (update_arrives _ _ _ _ c.as_str.ensures.value c.as_str-in-Eval-default-default-default-true-default-default.ensures.value _ _ c.update.result _ _ c.as_str-in-Eval-default-default-default-true-default-default-2.ensures.value (e.arrives keeps));
-      effect = λ keeps. subst (WorksOn _ _ c.update.result) (sym is) (update_works _ _ _ _ c.as_str.ensures.value c.as_str-in-Eval-default-default-default-true-default-default.ensures.value _ _ c.update.result _ _ c.as_str-in-Eval-default-default-default-true-default-default-2.ensures.value (e.effect keeps));
+      arrives = λ keeps. subst (ArrivesOn _ _ c.update.result) (sym is) (update_arrives _ _ _ _ c.as_str.ensures.value c.as_str-in-Eval-default-default-default-true-default.ensures.value _ _ c.update.result _ _ c.as_str-in-Eval-default-default-default-true-default-2.ensures.value (e.arrives keeps));
+      effect = λ keeps. subst (WorksOn _ _ c.update.result) (sym is) (update_works _ _ _ _ c.as_str.ensures.value c.as_str-in-Eval-default-default-default-true-default.ensures.value _ _ c.update.result _ _ c.as_str-in-Eval-default-default-default-true-default-2.ensures.value (e.effect keeps));
       output = λ keeps. subst (ShowsOn _ c.update.result _) (sym is) (λ file journal on h good. on_ok c.update.result c.requires.empty);
       listed = λ keeps. subst (ListsOn _ c.update.result _) (sym is) (λ file journal on. on_ok c.update.result tt);
-      edited = λ keeps. subst (EditsOn _ _ c.update.result _) (sym is) (update_edits _ _ _ _ c.as_str.ensures.value c.as_str-in-Eval-default-default-default-true-default-default.ensures.value _ _ c.update.result _ _ c.as_str-in-Eval-default-default-default-true-default-default-2.ensures.value (e.edited keeps));
-      unparsed = λ f fault. e.unparsed f (ap (λ y. fault_of (program_in y)) c.as_str-in-Eval-default-default-default-true-default-default-2.ensures.value ∙ sym (ap expression_fault is) ∙ fault);
+      edited = λ keeps. subst (EditsOn _ _ c.update.result _) (sym is) (update_edits _ _ _ _ c.as_str.ensures.value c.as_str-in-Eval-default-default-default-true-default.ensures.value _ _ c.update.result _ _ c.as_str-in-Eval-default-default-default-true-default-2.ensures.value (e.edited keeps));
+      unparsed = λ f fault. e.unparsed f (ap (λ y. fault_of (program_in y)) c.as_str-in-Eval-default-default-default-true-default-2.ensures.value ∙ sym (ap expression_fault is) ∙ fault);
       silent = λ hidden. c.requires.empty;
       matched = λ reads. ap (λ (s : Report). s.is_match) c.requires.empty;
       still = λ keeps shown. absurd (false≢true (sym (ap prints is) ∙ shown));
       kept = e.kept;
-      others = λ keeps. subst (OthersOn _ _) (sym is) (pair_others _ _ _ _ c.as_str.ensures.value c.as_str-in-Eval-default-default-default-true-default-default.ensures.value _ _ (e.others keeps));
+      others = λ keeps. subst (OthersOn _ _) (sym is) (pair_others _ _ _ _ c.as_str.ensures.value c.as_str-in-Eval-default-default-default-true-default.ensures.value _ _ (e.others keeps));
       no_output = e.no_output;
       count = e.count;
     }

@@ -1,0 +1,10 @@
+//! Options of `eval`.
+
+/// What `eval` is asked besides where its text goes.
+#[derive(Clone, Copy, Debug, PartialEq, Eq)]
+pub struct EvalOptions {
+    /// `-e`: a read is to find another value than null and false.
+    pub exit_status: bool,
+    /// `-N`: no marker is printed between documents.
+    pub no_doc: bool,
+}
