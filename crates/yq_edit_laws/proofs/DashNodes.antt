@@ -14,7 +14,7 @@ use Rattle.yq_places.{proofs.DashLaws.{front_is, row_cut}, proofs.RunSpans.rows_
 use Rattle.yq_edit_rules.{specs.Siblings.HasEntries, specs.StandingLaws.StandsThere, specs.TextPieces.IsPiece}
 use Rattle.yq_edit_rules.{proofs.StandingMarks.{behind_there, row_there, rows_ended_there}, proofs.TextPieceLaws.{line_cut, text_is_piece}}
 use Rattle.yq_edit_rules.{specs.BlockPlaces.{IsUpto, at_dash}, proofs.CommentPieceLaws.nothing, proofs.HeldCuts.last_cut}
-use Rattle.yq_edit_rules.{proofs.HeldLaws.cut_spelled, proofs.HeldPieces.suffix_lf}
+use Rattle.yq_edit_rules.{proofs.CommentRowLaws.cut_spelled, proofs.HeldPieces.suffix_lf}
 use Rattle.yq_edit_laws.{proofs.HeldRows.{last_ends, value_unnamed}, proofs.NodeRowLaws.{NodeRows, line_is, parts, rest}}
 use Rattle.yq_edit_laws.{proofs.RowLines.entries_under, proofs.StandingNodes.node_upto}
 use Rattle.yq_row_table.specs.Rows as rows

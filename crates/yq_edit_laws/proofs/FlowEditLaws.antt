@@ -1,23 +1,21 @@
 -- An edit of a flow collection carries out an operation, where it makes of the document what that does.
-use Rattle.std.proofs.Common.{inl, ◌+◌, [], ◌∷◌, refl, ◌≡◌, ℕ, ◌-◌, ◌≤◌, List, ◌++◌, length, take, Some, sym, ap, ◌∙◌, subst, arith}
-use Rattle.std.{proofs.Common.{append_assoc, append-nil, length-append}, proofs.Math.Seq.take-append_seam, proofs.lemmas.Bool.false≢true}
-use Rattle.yq_text.{specs.Limit.text_limit, specs.Script.{old_text, new_text, script_text_before, kept_front, kept_back}}
+use Rattle.std.proofs.Common.{◌+◌, [], ◌∷◌, refl, ◌≡◌, ℕ, ◌-◌, ◌≤◌, List, ◌++◌, length, take, Some, sym, ap, ◌∙◌, arith, append_assoc}
+use Rattle.std.{proofs.Common.{append-nil, length-append}, proofs.Math.Seq.take-append_seam}
+use Rattle.yq_text.{specs.Limit.text_limit, specs.Script.{Segment, old_text, new_text, script_text_before, kept_front, kept_back}}
 use Rattle.yq_core.{specs.Paths.{Step, changed_at, within}, specs.Tree.Children, specs.Collections.CollPieces}
 use Rattle.yq_core.specs.Nodes.{FlowNode, node_text}
 use Rattle.yq_flow_edits.specs.FlowEdits.{FlowEdit, IsFlowEdited, edited_node}
 use Rattle.yq_row_table.specs.Exchange.{row_front, with_content}
-use Rattle.yq_row_table.{specs.Rows.{Inline, content_text, print_row, rows_text, Part, Cut, cut_text}, proofs.PlaceLaws.row_front-append}
-use Rattle.yq_row_table.{proofs.seams.SeamLaws.rows_text-append, proofs.splices.SpliceTexts.{own_gap, own_end}}
+use Rattle.yq_row_table.{specs.Rows.{Inline, Row, content_text, print_row, rows_text, Cut, cut_text}, proofs.PlaceLaws.row_front-append}
+use Rattle.yq_row_table.proofs.seams.SeamLaws.{rows_text-append}
 use Rattle.yq_documents.{specs.Documents.{HasFitKeys, lead_of}, specs.Reading.{read_at, root_of}}
-use Rattle.yq_places.{specs.RowPaths.IsReadable, proofs.RemovalLines.front_some}
-use Rattle.yq_edit_rules.{specs.Changed.{IsChanged, put_document}, specs.DocumentRows.behind_document}
+use Rattle.yq_edit_rules.{specs.Changed.put_document, specs.DocumentRows.behind_document}
 use Rattle.yq_edit_rules.{specs.FlowRows.{behind_node, row_collection, with_node, FlowAt}, proofs.PlaceTextLaws.{IsAround, around}}
 use Rattle.yq_edit_rules.{specs.Rooms.is_block_root, specs.SoundRoots.IsSoundRoot, proofs.FlowKeptLaws.flow_rooms}
 use Rattle.yq_edit_rules.{proofs.FlowPathLaws.row_texts, proofs.FlowRowLaws.flow_edited, proofs.LeadLaws.same_lead_goes}
-use Rattle.yq_edit_rules.{specs.Done.ArePieces, specs.EditLaws.CarriedOut, specs.FlowParts.flow_segments, specs.Local.IsLocal}
-use Rattle.yq_edit_rules.{specs.ReadsAfter.ReadsAfter, proofs.LocalLaws.{at_row, cut_known, row_by_size}, proofs.DoneLaws.document_done}
-use Rattle.yq_edit_rules.proofs.SegmentLaws.{segments_readable}
+use Rattle.yq_edit_rules.{specs.Done.ArePieces, specs.EditLaws.CarriedOut, specs.FlowParts.flow_segments, proofs.LocalLaws.at_row}
 use Rattle.yq_semantics.{specs.After.{op_document, root_after}, specs.Operations.Operation}
+use Rattle.yq_edit_laws.proofs.OneRows.{MakesRow, PutsRow, RowIn, row_carried, row_made}
 
 -- the node that is edited, in its row
 abbrev pub edited_at : (c : Cut) (k : ℕ) (steps : List Step) (w : CollPieces) → FlowAt c k steps w → FlowEdit → FlowNode
@@ -81,64 +79,66 @@ row_there c k steps w at a =
     ∙ (ap (λ rs. a.start ++ rows_text rs z) at.at.rows_are
     ∙ (ap (λ t. a.start ++ t) (rows_text-append at.row.front (at.row.row ∷ at.row.back) z ∙ ap (rows_text at.row.front) own) ∙ at_row a.start at.row.front _))
 
--- one row is replaced by another
-flow_local : (c : Cut) (k : ℕ) (steps : List Step) (w : CollPieces) (at : FlowAt c k steps w) (e : FlowEdit) (m : FlowNode) (t : FlowTexts c (put_document k (with_node at.part at.row m) c) e (node_text at.row.node (behind_node c k at.part at.row))) →
-    length (behind_node c k at.part at.row) ≤ length e.behind → new_text (flow_segments (cut_text c) e) ≡ cut_text (put_document k (with_node at.part at.row m) c) → IsLocal (flow_segments (cut_text c) e) c (put_document k (with_node at.part at.row m) c)
-flow_local c k steps w at e m t stays new =
-    let i = at.row in
-    let p : Part = at.part in
-    let a = around k c p at.there in
-    let s = row_texts c k p i at.there at.at.rows_are at.at.content_is in
-    let f : List ℕ = a.start ++ rows_text i.front [] in
-    let before : kept_front (flow_segments (cut_text c) e) ≡ t.before = append-nil _ ∙ before_is (cut_text c) t.before (e.old ++ e.behind) t.old in
-    let behind : kept_back (flow_segments (cut_text c) e) ≡ e.behind = append-nil e.behind in
-    let there = ap length (row_there c k steps w at a) in
-    row_by_size c k p at.there a.start a.put i.front i.row (with_content (Inline i.space m i.tail) i.row) i.back (with_node p i m) (flow_segments (cut_text c) e) at.at.rows_are
-    (ap (λ rs. i.front ++ (with_content (Inline i.space m i.tail) i.row ∷ rs)) (own_gap i.back p.end)) (own_end i.back p.end) refl (segments_old (cut_text c) t.before e t.old) new
-    (omega (
-      arith,
-      t.inside,
-      ap length before,
-      there,
-      length-append f ((row_front i.row ++ i.space) ++ node_text i.node (behind_node c k p i)),
-      length-append (row_front i.row ++ i.space) (node_text i.node (behind_node c k p i)),
-    )) (omega (arith, stays, ap length behind, length-append i.tail (rows_text i.back (p.end ++ behind_document k c))))
+-- the row in its document
+abbrev row_here : (c : Cut) (k : ℕ) (steps : List Step) (w : CollPieces) (at : FlowAt c k steps w) → read_at (cut_text c) ≡ Some c → RowIn k c
+row_here c k steps w at read = let a = around k c at.part at.there in record {
+  part = at.part;
+  old = record { read = read; there = at.there };
+  start = a.start;
+  put = a.put;
+  front = at.row.front;
+  row = at.row.row;
+  back = at.row.back;
+  rows_are = at.at.rows_are;
+}
 
--- the text that it makes is that of another cut, which reads as the documents with that change
-pub made_changed : (op : Operation) (c : Cut) (steps : List Step) (w : CollPieces) (at : FlowAt c (op_document op) steps w) (e : FlowEdit) (h : Children → Children) → read_at (cut_text c) ≡ Some c → FlowCarried op c steps w at e h →
-    length (new_text (flow_segments (cut_text c) e)) ≤ text_limit → (new_text (flow_segments (cut_text c) e) ≡ cut_text (made_cut op c steps w at e)) × IsChanged c (made_cut op c steps w at e) (op_document op) (lead_of at.part) (changed_at steps (within h))
-made_changed op c steps w at e h read done size =
-    let k : ℕ = op_document op in
-    let texts = flow_texts c k steps w at e h done.edited in
-    let is : new_text (flow_segments (cut_text c) e) ≡ cut_text (made_cut op c steps w at e) = segments_new (cut_text c) (cut_text (made_cut op c steps w at e)) texts.before e texts.old texts.is in
-    let readable : IsReadable (cut_text (made_cut op c steps w at e)) = subst IsReadable is (segments_readable (flow_segments (cut_text c) e) done.pieces size) in
-    (is, flow_edited (cut_text c) c k at.part steps at.line at.rest at.row w e h (record { read = read; there = at.there }) at.at done.edited done.keys done.sound readable)
+module _ (op : Operation) (c : Cut) (steps : List Step) (w : CollPieces) (at : FlowAt c (op_document op) steps w) (e : FlowEdit) (h : Children → Children) (read : read_at (cut_text c) ≡ Some c) (done : FlowCarried op c steps w at e h) where
+  abbrev k : ℕ
+  k = op_document op
 
-pub flow_carried : (op : Operation) (c : Cut) (steps : List Step) (w : CollPieces) (at : FlowAt c (op_document op) steps w) (e : FlowEdit) (h : Children → Children) → read_at (cut_text c) ≡ Some c → FlowCarried op c steps w at e h →
-    length (new_text (flow_segments (cut_text c) e)) ≤ text_limit → CarriedOut op c (flow_segments (cut_text c) e)
-flow_carried op c steps w at e h read done size =
-    let k : ℕ = op_document op in
-    let p : Part = at.part in
-    let q : Part = with_node p at.row (edited_at c k steps w at e) in
-    let new : Cut = made_cut op c steps w at e in
-    let texts = flow_texts c k steps w at e h done.edited in
-    let changed = made_changed op c steps w at e h read done size in
-    let kept = flow_rooms c k p steps at.line at.rest at.row w e.gap e.items at.at in
-    record {
-      reads = subst (ReadsAfter op c) (sym changed.0) (document_done op c p q (lead_of p) (changed_at steps (within h)) (record {
-        read = read;
-        there = at.there;
-        rows = λ none. absurd (false≢true (sym (front_some at.row.front _ _) ∙ none));
-        changed = changed.1;
+  abbrev new : Row
+  new = with_content (Inline at.row.space (edited_at c k steps w at e) at.row.tail) at.row.row
+
+  abbrev ss : List Segment
+  ss = flow_segments (cut_text c) e
+
+  puts : PutsRow op c (row_here c (op_document op) steps w at read) new (flow_segments (cut_text c) e)
+  puts =
+      let i = at.row in
+      let a = around k c at.part at.there in
+      let t = flow_texts c k steps w at e h done.edited in
+      let f : List ℕ = a.start ++ rows_text i.front [] in
+      let before : kept_front ss ≡ t.before = append-nil _ ∙ before_is (cut_text c) t.before (e.old ++ e.behind) t.old in
+      let behind : kept_back ss ≡ e.behind = append-nil e.behind in
+      record {
+        old = segments_old (cut_text c) t.before e t.old;
+        text = segments_new (cut_text c) (cut_text (made_cut op c steps w at e)) t.before e t.old t.is;
+        puts = refl;
+        front = omega (
+          arith,
+          t.inside,
+          ap length before,
+          ap length (row_there c k steps w at a),
+          length-append f ((row_front i.row ++ i.space) ++ node_text i.node (behind_node c k at.part i)),
+          length-append (row_front i.row ++ i.space) (node_text i.node (behind_node c k at.part i)),
+        );
+        behind = omega (arith, done.stays, ap length behind, length-append i.tail (rows_text i.back (at.part.end ++ behind_document k c)));
+        pieces = done.pieces;
+      }
+
+  makes : MakesRow op c (row_here c (op_document op) steps w at read) new (changed_at steps (within h))
+  makes =
+      let kept = flow_rooms c k at.part steps at.line at.rest at.row w e.gap e.items at.at in
+      record {
+        lead = lead_of at.part;
+        changed = flow_edited (cut_text c) c k at.part steps at.line at.rest at.row w e h (record { read = read; there = at.there }) at.at done.edited done.keys done.sound;
         root = done.root;
-        lead_goes = same_lead_goes p q kept.2 kept.1;
-        block = λ _. kept.1;
-        equal_room = λ _. kept.0;
-      }));
-      local = inl (cut_known (flow_segments (cut_text c) e) c new changed.1.read (sym changed.0) (flow_local c k steps w at e (edited_at c k steps w at e) texts done.stays changed.0));
-    }
+        keeps = record { block = kept.1; lead = same_lead_goes at.part (with_node at.part at.row (edited_at c k steps w at e)) kept.2 kept.1; room = λ sets. kept.0 };
+      }
 
--- the text that it makes reads as that cut
-pub made_reads : (op : Operation) (c : Cut) (steps : List Step) (w : CollPieces) (at : FlowAt c (op_document op) steps w) (e : FlowEdit) (h : Children → Children) → read_at (cut_text c) ≡ Some c → FlowCarried op c steps w at e h →
-    length (new_text (flow_segments (cut_text c) e)) ≤ text_limit → read_at (new_text (flow_segments (cut_text c) e)) ≡ Some (made_cut op c steps w at e)
-made_reads op c steps w at e h read done size = let changed = made_changed op c steps w at e h read done size in ap read_at changed.0 ∙ changed.1.read
+  pub flow_carried : length (new_text (flow_segments (cut_text c) e)) ≤ text_limit → CarriedOut op c (flow_segments (cut_text c) e)
+  flow_carried = row_carried op c (row_here c k steps w at read) new ss puts (changed_at steps (within h)) makes
+
+  -- the text that it makes reads as that cut
+  pub made_reads : length (new_text (flow_segments (cut_text c) e)) ≤ text_limit → read_at (new_text (flow_segments (cut_text c) e)) ≡ Some (made_cut op c steps w at e)
+  made_reads = row_made op c (row_here c k steps w at read) new ss puts (changed_at steps (within h)) makes

@@ -17,7 +17,7 @@ use Rattle.yq_edit_rules.{proofs.ContentLaws.content_named, proofs.LineLaws.row_
 use Rattle.yq_edit_rules.{proofs.StandingMarks.{even_there, row_there, under_it}, proofs.TextPieceLaws.{piece_back, text_is_piece}}
 use Rattle.yq_edit_rules.{proofs.UnderLaws.{line_is, under_is}, proofs.BreakLaws.{IsLfOrCrLf, last_is}}
 use Rattle.yq_edit_rules.{proofs.BrokenTails.{other_comment, other_tail, uncommented_tail}, proofs.CommentReadLaws.break_is}
-use Rattle.yq_edit_rules.{proofs.CommentRowLaws.{entry_row, line_whole}, proofs.HeldLaws.cut_spelled}
+use Rattle.yq_edit_rules.proofs.CommentRowLaws.{cut_spelled, entry_row, line_whole}
 use Rattle.yq_edit_rules.{proofs.HeldPieces.{below_ended, end_agrees, held_spells}, proofs.TailPieces.white_piece}
 use Rattle.yq_edit_laws.{proofs.HeldKnown.{KnowsHeld, first_alone}, proofs.NodeRowLaws.rest, proofs.StandingNodes.{behind_is, mark_node}}
 use Rattle.yq_outline.specs.Outline as outline

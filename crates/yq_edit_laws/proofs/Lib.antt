@@ -77,6 +77,7 @@ pub mod OpenRootLaws
 pub mod RootEditLaws
 pub mod RootLocalLaws
 pub mod LineTails
+pub mod OneRows
 pub mod LineCommentLaws
 pub mod HeadCommentLaws
 pub mod RemovingLaws

@@ -1,16 +1,14 @@
 -- The end of a line with another comment, and rows and parts with such a line.
-use Rattle.std.proofs.Common.{◌≡◌, ◌⊎◌, inl, inr, ⊎_elim, ℕ, Bool, true, false, ◌&&◌, ◌||◌, not, cond, eqb, List, [], ◌∷◌, ◌++◌, map, drop}
-use Rattle.std.proofs.Common.{Some, None, refl, sym, ap, ◌∙◌, subst, append_assoc, append-nil}
-use Rattle.std.{proofs.lemmas.Bool.{false≢true, eqb-true, and_parts, cases_Bool, not-true}, proofs.lemmas.List.map-append}
+use Rattle.std.proofs.Common.{◌≡◌, ◌⊎◌, ⊎_elim, ℕ, Bool, true, false, ◌&&◌, ◌||◌, not, cond, eqb, List, [], ◌∷◌, ◌++◌, drop, Some, None}
+use Rattle.std.proofs.Common.{refl, sym, ap, ◌∙◌, subst, append_assoc, append-nil, rules}
+use Rattle.std.proofs.lemmas.Bool.{false≢true, eqb-true, and_parts, cases_Bool, not-true}
 use Rattle.yq_core.{specs.Block.is_tail, specs.Lines.{is_blank, is_hash}}
 use Rattle.yq_core.specs.Text.{front, is_white, is_line, is_empty, ends_line, no_white, past_white}
-use Rattle.yq_outline.specs.Comments.{line_comment as comment_in, head_comment as head_in}
-use Rattle.yq_row_table.{specs.Exchange.with_content, specs.Gap.{IsWhite, IsBreak, IsComment}, specs.Grammar.{IsTail, IsContent}}
-use Rattle.yq_row_table.{specs.Rows.{Content, Nothing, Inline, Block, Row, print_row, Part}, specs.Splices.first_gap}
-use Rattle.yq_row_table.{specs.View.{content_cut, slices}, proofs.LineEnds.{white_none, text_line, white_again, behind_comment}}
-use Rattle.yq_places.{specs.CommentPlaces.text_to_line_end, proofs.CommentEndLaws.row_text_parts}
-use Rattle.yq_documents.specs.Documents.{lead_of}
-use Rattle.yq_edit_rules.{specs.PathTails.{with_line_tail, IsLineTail, tailed}, specs.Rooms.row_shape}
+use Rattle.yq_outline.specs.Comments.{line_comment as comment_in}
+use Rattle.yq_row_table.{specs.Gap.{IsWhite, IsBreak, IsComment}, specs.Grammar.{IsTail, IsContent}}
+use Rattle.yq_row_table.{specs.Rows.{Content, Nothing, Inline, Block, Row}, specs.View.{content_cut, slices}}
+use Rattle.yq_row_table.proofs.LineEnds.{white_none, text_line, white_again, behind_comment}
+use Rattle.yq_edit_rules.{specs.PathTails.{IsLineTail, tailed}, specs.Rooms.row_shape}
 use Rattle.yq_edit_rules.proofs.CommentReadLaws.{no_breaks_none, comment_behind, comment_is}
 use Rattle.yq_semantics.specs.Meaning.{line_comment_text}
 
@@ -44,44 +42,27 @@ module _ (text tail more : List ℕ) (h : IsTail tail more) (no_breaks : Rattle.
   tail_then = new_white text h.white h.comment ++ (new_comment text ++ h.line.break)
 
   pub blank : IsWhite (new_white text h.white h.comment)
-  blank = go (is_empty text) (is_empty h.comment)
-    where
-      go : (a b : Bool) → IsWhite (cond a (cond b h.white []) (cond b (h.white ++ 32 ∷ []) h.white))
-      go true true = h.line.blank
-      go true false = tt
-      go false true = white_more h.white h.line.blank
-      go false false = h.line.blank
+  blank = search (rules, white_more)
 
-  as_comment : IsComment (new_comment text) h.line.break
+  pub as_comment : IsComment (new_comment text) h.line.break
   as_comment = go (is_empty text)
     where
       go : (a : Bool) → IsComment (cond a [] (written text)) h.line.break
       go true = tt
       go false = (refl, (refl, no_breaks_none text h.line.break no_breaks))
 
-  apart : (is_empty (new_comment text) || not (is_empty (new_white text h.white h.comment))) ≡ true
-  apart = go (is_empty text) (is_empty h.comment) h.apart
-    where
-      go : (a b : Bool) → (b || not (is_empty h.white)) ≡ true → (is_empty (cond a [] (written text)) || not (is_empty (cond a (cond b h.white []) (cond b (h.white ++ 32 ∷ []) h.white)))) ≡ true
-      go true b e = refl
-      go false true e = ap not (some_more h.white)
-      go false false e = e
+  pub apart : (is_empty (new_comment text) || not (is_empty (new_white text h.white h.comment))) ≡ true
+  apart = search (rules, some_more)
 
-  new_tail : IsTail tail_then more
+  abbrev pub new_tail : IsTail tail_then more
   new_tail = record { white = new_white text h.white h.comment; comment = new_comment text; line = record { break = h.line.break; spelled = refl; blank = blank; as_comment = as_comment; ends = h.line.ends }; apart = apart }
 
   -- its comment is the text
   alone : IsBreak h.line.break more → IsBreak h.line.break []
-  alone (inl e) = inl e
-  alone (inr e) = inr (e.0, refl)
+  alone e = search rules
 
   no_hash : (t : List ℕ) → ends_line t ≡ true → front (λ b. eqb b 35) t ≡ false
-  no_hash [] e = refl
-  no_hash (b ∷ t) e = go (cases_Bool (eqb b 35))
-    where
-      go : (eqb b 35 ≡ true) ⊎ (eqb b 35 ≡ false) → eqb b 35 ≡ false
-      go (inr f) = f
-      go (inl f) = absurd (false≢true (subst (λ (x : ℕ). ends_line (x ∷ t) ≡ true) (eqb-true b 35 f) e))
+  no_hash t e = search (rules, false≢true, cases_Bool, eqb-true)
 
   no_comment : (w : List ℕ) → IsWhite w → comment_in (w ++ h.line.break) ≡ None
   no_comment w b =
@@ -106,12 +87,10 @@ module _ (text tail more : List ℕ) (h : IsTail tail more) (no_breaks : Rattle.
 
   -- it may end a header
   hash_front : (c : List ℕ) → IsComment c h.line.break → is_empty c ≡ false → is_hash (c ++ h.line.break) ≡ true
-  hash_front [] k e = absurd (false≢true (sym e))
-  hash_front (b ∷ c) k e = rw k.0 refl
+  hash_front c k e = search (rules, false≢true)
 
   white_front : (w rest : List ℕ) → IsWhite w → is_empty w ≡ false → front is_white (w ++ rest) ≡ true
-  white_front [] rest k e = absurd (false≢true (sym e))
-  white_front (b ∷ w) rest k e = k.0
+  white_front w rest k e = search (rules, false≢true)
 
   in_header : is_line tail ≡ true → is_tail tail_then ≡ true
   in_header line =
@@ -142,38 +121,8 @@ line_tail_is n text (Block space anchor block) rest h k no_breaks = in_header te
 
 -- ---- the row and the part then
 
-row_tail : (c : Content) (tail : List ℕ) → ((content_cut (with_line_tail tail c)).4 ≡ tail) × ((content_cut (with_line_tail tail c)).5 ≡ (content_cut c).5)
-row_tail (Nothing e) tail = (refl, refl)
-row_tail (Inline space node e) tail = (refl, refl)
-row_tail (Block space anchor block) tail = (refl, refl)
-
-row_line_same : (r : Row) (tail : List ℕ) → text_to_line_end (tailed tail r) ≡ text_to_line_end r
-row_line_same r tail = go r.content refl
-  where
-    go : (c : Content) → r.content ≡ c → text_to_line_end (tailed tail r) ≡ text_to_line_end r
-    go (Nothing e) is = ap (λ (x : Content). text_to_line_end (with_content (with_line_tail tail x) r)) is ∙ sym (ap (λ (x : Content). text_to_line_end (with_content x r)) is)
-    go (Inline space node e) is = ap (λ (x : Content). text_to_line_end (with_content (with_line_tail tail x) r)) is ∙ sym (ap (λ (x : Content). text_to_line_end (with_content x r)) is)
-    go (Block space anchor block) is = ap (λ (x : Content). text_to_line_end (with_content (with_line_tail tail x) r)) is ∙ sym (ap (λ (x : Content). text_to_line_end (with_content x r)) is)
-
-pub row_then_text : (r : Row) (tail rest : List ℕ) → print_row (tailed tail r) rest ≡ text_to_line_end r ++ (tail ++ ((slices r).raw ++ rest))
-row_then_text r tail rest =
-    let x = row_tail r.content tail in
-    row_text_parts (tailed tail r) rest ∙ (λ i. row_line_same r tail i ++ (x.0 i ++ (x.1 i ++ rest)))
+pub slices_tailed : (r : Row) (tail : List ℕ) → slices (tailed tail r) ≡ record (slices r) { tail = tail }
+slices_tailed r tail = search rules
 
 pub shape_same : (r : Row) (tail : List ℕ) → row_shape (tailed tail r) ≡ row_shape r
-shape_same r tail = ap (λ (h : Bool). record { column = r.column; dashes = r.dashes; mark = r.mark; headed = h }) (go r.content)
-  where
-    go : (c : Content) → Rattle.std.specs.Option.is_some (Rattle.yq_outline.specs.Lines.head_of (with_line_tail tail c)) ≡ Rattle.std.specs.Option.is_some (Rattle.yq_outline.specs.Lines.head_of c)
-    go (Nothing e) = refl
-    go (Inline space node e) = refl
-    go (Block space anchor block) = refl
-
-pub lead_same : (front : List Row) (r : Row) (back : List Row) (tail : List ℕ) (p q : Part) → p.rows ≡ front ++ (r ∷ back) → q.rows ≡ front ++ (tailed tail r ∷ back) → lead_of q ≡ lead_of p
-lead_same [] r back tail p q e n = ap (λ (rs : List Row). head_in (first_gap rs q.end)) n ∙ sym (ap (λ (rs : List Row). head_in (first_gap rs p.end)) e)
-lead_same (x ∷ front) r back tail p q e n = ap (λ (rs : List Row). head_in (first_gap rs q.end)) n ∙ sym (ap (λ (rs : List Row). head_in (first_gap rs p.end)) e)
-
-pub shapes_same : (front : List Row) (r : Row) (back : List Row) (tail : List ℕ) (p q : Part) → p.rows ≡ front ++ (r ∷ back) → q.rows ≡ front ++ (tailed tail r ∷ back) → map row_shape q.rows ≡ map row_shape p.rows
-shapes_same front r back tail p q e n =
-    ap (map row_shape) n
-    ∙ (map-append row_shape front (tailed tail r ∷ back)
-    ∙ (ap (λ s. map row_shape front ++ (s ∷ map row_shape back)) (shape_same r tail) ∙ sym (ap (map row_shape) e ∙ map-append row_shape front (r ∷ back))))
+shape_same r tail = search rules

@@ -1,6 +1,6 @@
 -- A value in the place of a node alone on its line.
 use Rattle.std.proofs.Common.{◌≡◌, ◌⊎◌, inl, inr, ℕ, ◌≤◌, cond, List, [], ◌∷◌, ◌++◌, length, replicate, Some, refl, sym, ap, ◌∙◌, subst}
-use Rattle.std.{proofs.Common.{append_assoc, append-nil, rules}, proofs.lemmas.Bool.false≢true}
+use Rattle.std.proofs.Common.{append_assoc, append-nil, arith, length-append, rules}
 use Rattle.yq_text.{specs.Limit.text_limit, specs.Script.{Segment, new_text, old_text}}
 use Rattle.yq_core.{specs.Paths.{Step, changed_at}, specs.Tree.Node, specs.declared.style.Place.TheVariants.Block as InBlock}
 use Rattle.yq_core.{specs.Nodes.node_text, proofs.NodesWrittenLaws.node_then}
@@ -10,21 +10,20 @@ use Rattle.yq_row_table.specs.Rows.{Bare, Row, behind_gap, parent_indent, print_
 use Rattle.yq_row_table.{specs.View.slices, proofs.CharacterLaws.ends_after, proofs.NodePieces.ends_behind}
 use Rattle.yq_row_table.proofs.seams.SeamLaws.{rows_text-append}
 use Rattle.yq_documents.{specs.Documents.lead_of, specs.Reading.{documents, read_at, root_of}, specs.TreeEdits.replaced_node}
-use Rattle.yq_places.{specs.PlacedRows.{PlacedPart, PlacedRow, placed_document}, specs.RowPaths.IsReadable, specs.Standings.{Lone, lone}}
+use Rattle.yq_places.{specs.PlacedRows.{PlacedPart, PlacedRow, placed_document}, specs.Standings.{Lone, lone}}
 use Rattle.yq_places.{proofs.CommentEndLaws.row_text_parts, proofs.CommentPieceLaws.gap_end, proofs.LineEndLaws.line_tail}
 use Rattle.yq_places.{proofs.RemovalLines.{LiesIn, LineSeam, lies_in, seam_join}, proofs.RunSpans.rows_then}
-use Rattle.yq_edit_rules.{specs.Changed.{IsChanged, put_document}, specs.DocumentRows.{IsDocumentPart, behind_document}}
-use Rattle.yq_edit_rules.{specs.InlineRows.LeadsToLone, specs.PlacedParts.StandsAt, specs.Rooms.is_block_root, specs.TextPieces.IsPiece}
-use Rattle.yq_edit_rules.{proofs.CoreLaws.put_core, proofs.InlineReplaceLaws.own_rows, proofs.LeadLaws.same_lead_goes}
-use Rattle.yq_edit_rules.{proofs.PartLaws.document_known, proofs.PlacedPartLaws.document_stands_at}
+use Rattle.yq_edit_rules.{specs.DocumentRows.{IsDocumentPart, behind_document}, specs.InlineRows.LeadsToLone, specs.PlacedParts.StandsAt}
+use Rattle.yq_edit_rules.{specs.Rooms.is_block_root, specs.TextPieces.IsPiece, proofs.CoreLaws.put_core, proofs.InlineReplaceLaws.own_rows}
+use Rattle.yq_edit_rules.{proofs.LeadLaws.same_lead_goes, proofs.PartLaws.document_known, proofs.PlacedPartLaws.document_stands_at}
 use Rattle.yq_edit_rules.proofs.RemovalPieceLaws.{seam_pieces, spaces_piece}
 use Rattle.yq_edit_rules.{proofs.TextPieceLaws.{cut_behind, pieces_joined, text_is_piece}, specs.EditLaws.{CarriedOut, IsEdit}}
-use Rattle.yq_edit_rules.{specs.Local.IsLocal, specs.ReplaceEdits.{spaced_text, lone_put}, specs.ReadsAfter.ReadsAfter}
-use Rattle.yq_edit_rules.{specs.WrittenValues.value_text, proofs.DoneLaws.document_done, proofs.EditsFitLaws.{FitsReplace, fits_replace}}
-use Rattle.yq_edit_rules.{proofs.KeptLaws.led_same, proofs.TailPieces.{HasTailPieces, pieces}, proofs.LocalLaws.{cut_known, row_local}}
-use Rattle.yq_edit_rules.{proofs.SegmentLaws.segments_readable, proofs.ValueTexts.{IsWrittenFor, value_for}}
+use Rattle.yq_edit_rules.{specs.ReplaceEdits.{spaced_text, lone_put}, specs.WrittenValues.value_text}
+use Rattle.yq_edit_rules.{proofs.EditsFitLaws.{FitsReplace, fits_replace}, proofs.KeptLaws.led_same}
+use Rattle.yq_edit_rules.{proofs.TailPieces.{HasTailPieces, pieces}, proofs.ValueTexts.{IsWrittenFor, value_for}}
 use Rattle.yq_semantics.{specs.Fits.Fits, specs.Operations.{Operation, replace}, specs.Rooms.room_of}
 use Rattle.yq_edit_laws.{proofs.LoneHeads.{EndsLow, IsLoneHead, before_head, lone_head}, proofs.MarkHeads.no_raw}
+use Rattle.yq_edit_laws.proofs.OneRows.{PutsRow, RowIn, row_carried}
 use Rattle.yq_edit_laws.proofs.LoneContents as contents
 
 -- A row that is alone on its line, among the rows of a document, to whose content steps lead; the rows before it end in an LF.
@@ -124,59 +123,33 @@ module _ (n : ℕ) (steps : List Step) (v : Node) (c : Cut) (read : read_at (cut
   new_is : new_text us ≡ w.before ++ (t ++ w.behind)
   new_is = λ i. w.before ++ (some_head i ++ append-nil w.behind i)
 
-  put : (x : Part) → cut_text (put_document n x c) ≡ d.before ++ part_text x (behind_document n c)
-  put x = stands.put x ∙ ap (λ u. d.before ++ part_text x u) (sym stands.behind)
+  abbrev here : RowIn n c
+  here = record { part = d.part; old = old; start = d.before; put = λ x. stands.put x ∙ ap (λ u. d.before ++ part_text x u) (sym stands.behind); front = front; row = r; back = back; rows_are = rows_are }
 
   carried : IsValueTree v → Fits (room_of (cut_text c)) (replace n steps v) (documents c) → length (new_text us) ≤ text_limit → CarriedOut (replace n steps v) c us
-  carried tree fits size =
+  carried tree fits =
       let p : Part = d.part in
       let op : Operation = replace n steps v in
       let f : FitsReplace n steps v c p = fits_replace n steps v c p stands.there tree fits in
       let x : IsWrittenFor v t = value_for (slices r).head v tree f.deep f.long in
+      let new : Row = with_content (put_core x.node r.content) r in
       let q : Part = contents.q c n p old front r back rows_are mark no_dashes steps leads v x.node x.is in
       let spelled : node_text x.node ((slices r).tail ++ rows_text back (p.end ++ behind_document n c)) ≡ t ++ w.behind = search (rules, node_then, x, p) in
-      let same : cut_text (put_document n q c) ≡ new_text us =
-      contents.text c n p old front r back rows_are mark no_dashes steps leads v x.node x.is d.before put ∙ (ap (λ u. w.before ++ u) spelled ∙ sym new_is) in
-      let readable : IsReadable (new_text us) = segments_readable us (before_piece, (subst IsPiece (sym some_head) x.piece, (behind_piece, tt))) size in
-      let changed : IsChanged c (put_document n q c) n (lead_of p) (changed_at steps (replaced_node v)) =
-      contents.lone_changed c n p old front r back rows_are mark no_dashes steps leads v x.node x.is (subst IsReadable (sym same) readable) f.node f.there f.may in
-      let lead : lead_of q ≡ lead_of p = contents.same_lead c n p old front r back rows_are mark no_dashes steps leads v x.node x.is in
       let block : is_block_root q ≡ is_block_root p = contents.same_block c n p old front r back rows_are mark no_dashes steps leads v x.node x.is in
-      let local : IsLocal us c (put_document n q c) =
-      row_local us c n q (record {
-        p = p;
-        there = stands.there;
-        start = d.before;
-        put = put;
-        front = front;
-        gone = r ∷ [];
-        come = with_content (put_core x.node r.content) r ∷ [];
-        back = back;
-        rows_are = rows_are;
-        come_are = contents.there c n p old front r back rows_are mark no_dashes steps leads v x.node x.is;
-        end_is = contents.same_end c n p old front r back rows_are mark no_dashes steps leads v x.node x.is;
-        lead = row_front r ++ before_head r.content;
-        trail = (slices r).tail;
-        before_is = append-nil w.before;
-        behind_is = append-nil w.behind ∙ ap (λ u. (slices r).tail ++ rows_text back (d.part.end ++ u)) (sym stands.behind);
+      let puts : PutsRow op c here new us = record {
+        old = old_is;
+        text = new_is ∙ sym (contents.text c n p old front r back rows_are mark no_dashes steps leads v x.node x.is d.before here.put ∙ ap (λ u. w.before ++ u) spelled);
         puts = refl;
-        old_is = old_is;
-        new_is = sym same;
-      }) r (with_content (put_core x.node r.content) r) refl refl in
-      record {
-        reads = subst (ReadsAfter op c) same
-            (document_done op c p q (lead_of p) (changed_at steps (replaced_node v)) (record {
-              read = read;
-              there = stands.there;
-              rows = λ none. absurd (false≢true (sym (contents.some_rows c n p old front r back rows_are mark no_dashes steps leads v x.node x.is) ∙ none));
-              changed = changed;
-              root = ap (λ m. changed_at steps (replaced_node m) (root_of p)) (sym (led_same (is_block_root p) (lead_of p) steps v (contents.rooted c n p old front r back rows_are mark no_dashes steps leads v x.node x.is)));
-              lead_goes = same_lead_goes p q lead block;
-              block = λ keeps. block;
-              equal_room = λ sets. absurd sets;
-            }));
-        local = inl (cut_known us c (put_document n q c) changed.read same local);
-      }
+        front = omega (arith, length-append w.before [], length-append base (row_front r ++ before_head r.content));
+        behind = omega (arith, ap (λ u. length (rows_text back (d.part.end ++ u))) stands.behind, length-append w.behind [], length-append (slices r).tail z);
+        pieces = (before_piece, (subst IsPiece (sym some_head) x.piece, (behind_piece, tt)));
+      } in
+      row_carried op c here new us puts (changed_at steps (replaced_node v)) (record {
+        lead = lead_of p;
+        changed = λ readable. contents.lone_changed c n p old front r back rows_are mark no_dashes steps leads v x.node x.is readable f.node f.there f.may;
+        root = ap (λ m. changed_at steps (replaced_node m) (root_of p)) (sym (led_same (is_block_root p) (lead_of p) steps v (contents.rooted c n p old front r back rows_are mark no_dashes steps leads v x.node x.is)));
+        keeps = record { block = block; lead = same_lead_goes p q (contents.same_lead c n p old front r back rows_are mark no_dashes steps leads v x.node x.is) block; room = λ sets. absurd sets };
+      })
 
   pub lone_carried : IsEdit (replace n steps v) c us
   lone_carried = record { old = old_is; carried = carried }

@@ -41,12 +41,7 @@ alone_line r h = let p = alone_row r h in go r.dashes r.mark p.1 p.0
 
 -- a node on a line of its own is there, and is alone
 whole_bare : (m : outline.LineMark) (h : Option Node) (a b : Outline) → m ≡ outline.Bare → IsOpen h a → IsWhole m h b → (a ≡ end) × (b ≡ end)
-whole_bare outline.Bare None a b e o w = absurd w
-whole_bare outline.Bare (Some x) end end e o w = (refl, refl)
-whole_bare outline.Bare (Some x) (row l u c) b e o w = absurd o
-whole_bare outline.Bare (Some x) end (row l u c) e o w = absurd w
-whole_bare (outline.Key k) h a b e o w = absurd (cc)
-whole_bare outline.Dash h a b e o w = absurd (cc)
+whole_bare m h a b h1 h2 h3 = search (rules, false≢true)
 
 -- an outline of lines of which the first one is bare is of one line
 one_line : (m : ℕ) (o : Outline) (l : Line) (ls : List Line) → IsEven m o → l ∷ ls ≡ flatten o → l.mark ≡ outline.Bare → length (flatten o) ≡ 1

@@ -1,14 +1,13 @@
 -- The rows in which a value is written as a root.
-use Rattle.std.proofs.Common.{◌≡◌, ℕ, zero, suc, eqb, ◌&&◌, ◌+◌, ◌*◌, ◌<◌, ◌≤◌, Bool, true, false, List, [], ◌∷◌, ◌++◌, replicate, Option}
-use Rattle.std.{proofs.Common.{Some, None, refl, sym, ap, ◌∙◌, subst, arith, rules}, proofs.Math.Bool.and-false}
-use Rattle.std.proofs.lemmas.Bool.{false≢true}
-use Rattle.yq_core.{specs.Paths.within, specs.Piece.deeper, specs.Plain.{ends_plain, holds_break}, specs.Text.{is_empty, separates}}
-use Rattle.yq_core.{specs.Tree.Node, specs.Nodes.node_text, proofs.NodesWrittenLaws.node_then}
+use Rattle.std.proofs.Common.{◌≡◌, ℕ, zero, suc, eqb, ◌+◌, ◌*◌, ◌<◌, ◌≤◌, true, false, List, [], ◌∷◌, ◌++◌, replicate, Option, Some, None}
+use Rattle.std.{proofs.Common.{refl, sym, ap, ◌∙◌, subst, arith, rules}, proofs.Math.Bool.and-false, proofs.lemmas.Bool.false≢true}
+use Rattle.yq_core.{specs.Paths.within, specs.Piece.deeper, specs.Plain.ends_plain, specs.Text.{is_empty, separates}, specs.Tree.Node}
+use Rattle.yq_core.{specs.Nodes.node_text, proofs.NodesWrittenLaws.node_then}
 use Rattle.yq_flow_edits.specs.Valued.{IsValueTree}
 use Rattle.yq_outline.{specs.LineAnchors.HaveOneAnchorEach, specs.Comments.{head_comment, line_comment}}
 use Rattle.yq_outline.specs.Outline.{Line, level, rank, LineMark, Outline, end, row, flatten, IsEven, Stands, value}
 use Rattle.yq_outline.{proofs.ByRules.rules_give, proofs.NodeLaws.anchored_none, specs.Lines.{mark_line, lines_from, lines_of_rows}}
-use Rattle.yq_row_table.{specs.Gap.IsGap, specs.Grammar.{is_entry, is_plain_content, IsTail, IsRow, unlimited, AreRows, no_rows, ends_part}}
+use Rattle.yq_row_table.{specs.Gap.IsGap, specs.Grammar.{is_entry, IsTail, IsRow, unlimited, AreRows, no_rows, ends_part}}
 use Rattle.yq_row_table.{specs.Rows.{Bare, Inline, Row, behind_gap, rows_text}, specs.Splices.{with_first_gap, with_row_gap, first_gap}}
 use Rattle.yq_row_table.{proofs.PlainEnds.{tail_ends, gap_line}, proofs.seams.FrontSeams.behind_row_some, proofs.seams.SeamLaws.part_line}
 use Rattle.yq_documents.{specs.Documents.{HaveFitKeys, HasShortRoot, is_long_plain}, specs.TreeEdits.headed}
@@ -207,8 +206,4 @@ module _ (v : Node) (l : Layout) (gap : List ℕ) (column : ℕ) (last back rest
     }
       where
         line_short : is_long_plain Bare (Inline [] node last) ≡ false
-        line_short = go (is_plain_content node) refl
-          where
-            go : (b : Bool) → is_plain_content node ≡ b → (b && holds_break (node_text node [])) ≡ false
-            go true e = is.line e
-            go false e = refl
+        line_short = search (rules, false≢true)

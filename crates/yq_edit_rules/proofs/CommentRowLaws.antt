@@ -1,25 +1,24 @@
 -- The row of the line to which steps lead, in its document and in the text.
-use Rattle.std.proofs.Common.{◌≡◌, ◌⊎◌, ⊎_elim, ℕ, suc, ◌+◌, true, false, List, [], ◌∷◌, ◌++◌, take, drop, replicate, Option, Some, None}
-use Rattle.std.proofs.Common.{option_and_then, option_map, refl, sym, ap, ◌∙◌, subst, append_assoc, rules}
-use Rattle.std.{proofs.lemmas.List.take-append-drop, proofs.lemmas.Bool.{false≢true, or_cases, cases_Bool}, proofs.lemmas.Option.none-some}
-use Rattle.std.specs.List.{slice_get}
-use Rattle.yq_core.{specs.Answers.◌>>=◌, specs.Paths.Step, specs.Text.{is_empty, ends_line, no_white, past_white}}
-use Rattle.yq_core.{proofs.Bools.{bind_some, guard_then}, proofs.Upto.cut_takes}
+use Rattle.std.proofs.Common.{◌≡◌, ◌⊎◌, ⊎_elim, ℕ, suc, ◌+◌, true, false, List, [], ◌∷◌, ◌++◌, length, take, drop, replicate, Option, Some}
+use Rattle.std.proofs.Common.{None, option_and_then, option_map, refl, sym, ap, ◌∙◌, subst, append_assoc, rules}
+use Rattle.std.{proofs.lemmas.List.take-append-drop, proofs.lemmas.Bool.{false≢true, or_cases, cases_Bool}}
+use Rattle.std.{proofs.lemmas.Option.{none-some, same_Some}, specs.List.slice_get}
+use Rattle.yq_core.{specs.Answers.◌>>=◌, specs.Paths.Step, specs.Text.{is_empty, ends_line, no_white, past_white}, proofs.Bools.bind_some}
+use Rattle.yq_core.proofs.Upto.{cut_takes}
 use Rattle.yq_outline.{specs.Ends.{found_line, line_at_steps}, specs.Places.{FoundLine, bare_or}, specs.Outline.{LineMark, Bare, Line}}
 use Rattle.yq_outline.specs.Lines.{lines_from, lines_of_rows}
-use Rattle.yq_row_table.{specs.Exchange.row_front, specs.Grammar.{IsCut, IsTail, IsRow, Limit}}
-use Rattle.yq_row_table.{specs.Rows.{Row, behind_indent, dashes_text, mark_text, print_row, rows_text, Cut, cut_text}, specs.View.slices}
-use Rattle.yq_row_table.{proofs.Fronts.Starts, proofs.LineEnds.line_end_behind, proofs.PlaceLaws.{row_then, row_in}}
+use Rattle.yq_row_table.{specs.Exchange.row_front, specs.Grammar.{IsTail, IsRow, Limit}}
+use Rattle.yq_row_table.specs.Rows.{Row, behind_indent, dashes_text, mark_text, print_row, rows_text, Cut, Part, cut_text}
+use Rattle.yq_row_table.{specs.View.slices, proofs.Fronts.Starts, proofs.LineEnds.line_end_behind, proofs.PlaceLaws.row_then}
 use Rattle.yq_row_table.{proofs.RowAgain.row_starts, proofs.EmptyTexts.empty_is, proofs.seams.SeamLaws.rows_text-append}
-use Rattle.yq_row_table.proofs.splices.ContentPlaces.{rows_around}
+use Rattle.yq_row_table.proofs.splices.ContentPlaces.{count_front}
 use Rattle.yq_places.specs.CommentPlaces.{end_in_line, text_to_line_end}
 use Rattle.yq_places.specs.PlacedRows.{PlacedPart, PlacedRow, placed_document, placed_row, row_of_path}
 use Rattle.yq_places.specs.Standings.{RowsOfEntry, before_entry, behind_entry, entry_rows_at, rows_of_entry, under_count}
 use Rattle.yq_places.{proofs.CommentEndLaws.row_text_parts, proofs.CommentPieceLaws.row_place, proofs.PlacedRowLaws.{IsAt, part_at}}
 use Rattle.yq_places.{proofs.PrintedTexts.map_some, proofs.RowLineSpans.steps_row}
-use Rattle.yq_documents.{specs.Reading.read_at, specs.Ready.begins_no_node, specs.LinesInRows.{RowLine, row_line_of, document_row}}
-use Rattle.yq_documents.proofs.ReadLaws.{text_takes}
-use Rattle.yq_edit_rules.{specs.PlacedParts.StandsAt, proofs.PlacedPartLaws.document_stands_at}
+use Rattle.yq_documents.{specs.Documents.document_parts, specs.Ready.begins_no_node, specs.LinesInRows.{RowLine, row_line_of, document_row}}
+use Rattle.yq_edit_rules.proofs.PlacedPartLaws.{document_stands_at}
 use Rattle.yq_core.specs.Text as text
 use Rattle.yq_row_table.specs.Rows as rows
 
@@ -27,35 +26,34 @@ pub rows_front : (front rs : List Row) (rest : List ℕ) → rows_text (front ++
 rows_front [] rs rest = refl
 rows_front (r ∷ front) rs rest = ap (print_row r) (rows_front front rs rest) ∙ row_then r (rows_text front []) (rows_text rs rest)
 
--- What is known of a row that was found.
-pub record IsRowFound (n : ℕ) (steps : List Step) (c : Cut) (w : PlacedRow) : Type 0 where
-  pub s : PlacedPart
-  pub x : RowLine
-  pub document : placed_document n c ≡ Some s
-  pub row_line_is : row_line_of steps s.part.rows ≡ Some x
-  pub row : slice_get s.part.rows x.before ≡ Some x.row
-  pub is : placed_row s x ≡ w
-  pub stands : StandsAt c n s
-  pub at : IsAt c (document_row n c + x.before) w.before w.row w.behind
-  pub rows_are : s.part.rows ≡ take x.before s.part.rows ++ (x.row ∷ drop (suc x.before) s.part.rows)
+-- the rows after a row are those under it, and the further ones
+behind_rows : (d : PlacedPart) (k : ℕ) (rs : List Row) → rows_text rs (d.part.end ++ d.behind) ≡ rows_text (take k rs) (rows_text (drop k rs) (d.part.end ++ d.behind))
+behind_rows d k rs = ap (λ (xs : List Row). rows_text xs (d.part.end ++ d.behind)) (sym (take-append-drop k rs)) ∙ rows_text-append (take k rs) (drop k rs) (d.part.end ++ d.behind)
 
-pub row_found : (n : ℕ) (steps : List Step) (c : Cut) (w : PlacedRow) → row_of_path n steps c ≡ Some w → IsRowFound n steps c w
-row_found n steps c w e =
-    let s = bind_some (placed_document n c) e in
-    let x = map_some (row_line_of steps s.0.part.rows) s.2 in
-    let row = steps_row (line_at_steps steps (lines_of_rows s.0.part.rows)) s.0.part.rows x.0 x.1 in
-    let at = part_at n c s.0 s.1 x.0.before x.0.row row in
-    record {
-      s = s.0;
-      x = x.0;
-      document = s.1;
-      row_line_is = x.1;
-      row = row;
-      is = x.2;
-      stands = document_stands_at c n s.0 s.1;
-      at = subst (λ (y : PlacedRow). IsAt c (document_row n c + x.0.before) y.before y.row y.behind) x.2 at;
-      rows_are = rows_around s.0.part.rows x.0.before x.0.row row;
-    }
+-- What is known of the rows of an item or entry to which steps lead: their first row is that of the line, in its document and in the text.
+pub record IsEntryRow (n : ℕ) (steps : List Step) (c : Cut) (e : RowsOfEntry) : Type 0 where
+  pub line_is : (p : Part) → slice_get (document_parts c) n ≡ Some p → row_line_of steps p.rows ≡ Some (record { before = length e.front; row = e.row; line = e.line })
+  pub index : ℕ
+  pub at : IsAt c index (before_entry e) e.row (rows_text e.under (behind_entry e))
+
+pub entry_found : (n : ℕ) (steps : List Step) (c : Cut) (e : RowsOfEntry) → rows_of_entry n steps c ≡ Some e → IsEntryRow n steps c e
+entry_found n steps c e is =
+    let d = bind_some (placed_document n c) is in
+    let x = map_some (row_line_of steps d.0.part.rows) d.2 in
+    subst (IsEntryRow n steps c) x.2 (there d.0 d.1 x.0 x.1)
+  where
+    there : (d : PlacedPart) → placed_document n c ≡ Some d → (x : RowLine) → row_line_of steps d.part.rows ≡ Some x → IsEntryRow n steps c (entry_rows_at d x)
+    there d at x line =
+        let row = steps_row (line_at_steps steps (lines_of_rows d.part.rows)) d.part.rows x line in
+        let own = part_at n c d at x.before x.row row in
+        let rs : List Row = drop (suc x.before) d.part.rows in
+        let k : ℕ = under_count x rs in
+        let same = (document_stands_at c n d at).there in
+        record {
+          line_is = λ p is. ap (λ (q : Part). row_line_of steps q.rows) (same_Some _ _ (sym is ∙ same)) ∙ (line ∙ ap (λ m. Some (record { before = m; row = x.row; line = x.line })) (sym (count_front d.part.rows x.before x.row row)));
+          index = document_row n c + x.before;
+          at = record { there = own.there; before_is = own.before_is; behind_is = own.behind_is ∙ behind_rows d k rs };
+        }
 
 -- the row of an item or entry
 abbrev pub entry_row : RowsOfEntry → PlacedRow
@@ -69,10 +67,7 @@ rows_same n steps c = go (placed_document n c)
     printed_line d None = refl
     printed_line d (Some x) =
         let rs : List Row = drop (suc x.before) d.part.rows in
-        let k : ℕ = under_count x rs in
-        let end : List ℕ = d.part.end ++ d.behind in
-        let split : rows_text rs end ≡ rows_text (take k rs) (rows_text (drop k rs) end) = ap (λ (xs : List Row). rows_text xs end) (sym (take-append-drop k rs)) ∙ rows_text-append (take k rs) (drop k rs) end in
-        ap (λ t. Some (record { before = d.before ++ rows_text (take x.before d.part.rows) []; row = x.row; line = x.line; behind = t })) split
+        ap (λ t. Some (record { before = d.before ++ rows_text (take x.before d.part.rows) []; row = x.row; line = x.line; behind = t })) (behind_rows d (under_count x rs) rs)
 
     go : (o : Option PlacedPart) → (o >>= λ d. option_map (placed_row d) (row_line_of steps d.part.rows)) ≡ option_map entry_row (o >>= λ d. option_map (entry_rows_at d) (row_line_of steps d.part.rows))
     go o = search (rules, printed_line)
@@ -81,20 +76,8 @@ pub entry_is_row : (n : ℕ) (steps : List Step) (c : Cut) (e : RowsOfEntry) →
 entry_is_row n steps c e is = rows_same n steps c ∙ ap (option_map entry_row) is
 
 -- the text of the cut, by that row
-pub found_text : (c : Cut) (i : ℕ) (w : PlacedRow) → IsAt c i w.before w.row w.behind → cut_text c ≡ w.before ++ print_row w.row w.behind
-found_text c i w at = row_place c i w.row at.there ∙ (λ j. at.before_is j ++ print_row w.row (at.behind_is j))
-
-pub cut_is : (c : Cut) → read_at (cut_text c) ≡ Some c → IsCut (cut_text c) c
-unfolding read_at
-cut_is c h = (text_takes (cut_text c) c (guard_then _ h).1).0
-
--- What is known of such a row in a cut.
-pub record HasRow (w : PlacedRow) : Type 0 where
-  pub limit : Limit
-  pub row : IsRow limit w.row w.behind
-
-pub found_row : (c : Cut) (i : ℕ) (w : PlacedRow) → IsCut (cut_text c) c → IsAt c i w.before w.row w.behind → HasRow w
-found_row c i w cut at = let x = row_in c i true w.row cut.parts at.there in record { limit = x.limit; row = subst (IsRow x.limit w.row) at.behind_is x.row }
+pub cut_spelled : (n : ℕ) (steps : List Step) (c : Cut) (e : RowsOfEntry) → rows_of_entry n steps c ≡ Some e → cut_text c ≡ before_entry e ++ print_row e.row (rows_text e.under (behind_entry e))
+cut_spelled n steps c e is = let f = entry_found n steps c e is in row_place c f.index e.row f.at.there ∙ (λ j. f.at.before_is j ++ print_row e.row (f.at.behind_is j))
 
 -- the text up to the end of the line, and after
 pub line_whole : (w : PlacedRow) → w.before ++ print_row w.row w.behind ≡ (w.before ++ text_to_line_end w.row) ++ ((slices w.row).tail ++ ((slices w.row).raw ++ w.behind))

@@ -7,8 +7,7 @@ use Rattle.yq_row_table.proofs.EmptyTexts.{empty_is}
 use Rattle.yq_places.{specs.CommentPlaces.{LineEnd, end_in_line, text_to_line_end}, specs.PrintedLines.{last_break, less_break}}
 use Rattle.yq_places.{specs.RowPieces.{anchor_before, space_before}, proofs.PrintedTexts.less_is, proofs.RunSpans.rows_then}
 use Rattle.yq_places.specs.Standings.{RowsOfEntry, before_entry, behind_entry, rows_of_entry, held}
-use Rattle.yq_edit_rules.proofs.CommentRowLaws.{end_parts, entry_is_row, entry_row, found_text, line_whole, row_found}
-use Rattle.yq_edit_rules.specs.StandingLaws.{held_text}
+use Rattle.yq_edit_rules.{proofs.CommentRowLaws.{cut_spelled, end_parts, entry_row, line_whole}, specs.StandingLaws.held_text}
 
 -- ---- the pieces of a row
 
@@ -66,10 +65,6 @@ module _ (e : RowsOfEntry) where
       let apart : (lead ++ (space_before s ++ s.head)) ++ rest ≡ lead ++ (space_before s ++ (s.head ++ rest)) = search (rules, append_assoc, rest) in
       line_whole (entry_row e) ∙ ((λ i. front_is (before_entry e) e.row i ++ rest_is i) ∙ apart)
 
--- ---- the text of a cut
-
-pub cut_spelled : (n : ℕ) (steps : List Step) (c : Cut) (e : RowsOfEntry) → rows_of_entry n steps c ≡ Some e → cut_text c ≡ before_entry e ++ print_row e.row (rows_text e.under (behind_entry e))
-cut_spelled n steps c e is = found_text c _ (entry_row e) (row_found n steps c (entry_row e) (entry_is_row n steps c e is)).at
-
+-- the text of a cut
 pub held_there : (n : ℕ) (steps : List Step) (c : Cut) (e : RowsOfEntry) → rows_of_entry n steps c ≡ Some e → cut_text c ≡ held_text (held e)
 held_there n steps c e is = cut_spelled n steps c e is ∙ held_spelled e

@@ -12,9 +12,9 @@ use Rattle.yq_places.proofs.RunSpans.{rows_then}
 use Rattle.yq_edit_rules.{specs.StandingLaws.{HeldSpells, HoldsPieces, StandsThere}, specs.TextPieces.IsPiece}
 use Rattle.yq_edit_rules.{proofs.StandingMarks.{entry_there, row_there, rows_ended_there}, proofs.StandingRows.rows_stand}
 use Rattle.yq_edit_rules.{proofs.TextPieceLaws.{line_cut, piece_back, text_is_piece}, proofs.BreakLaws.{IsLfOrCrLf, break_is, last_is}}
-use Rattle.yq_edit_rules.proofs.CommentRowLaws.{entry_row}
+use Rattle.yq_edit_rules.proofs.CommentRowLaws.{entry_row, cut_spelled}
 use Rattle.yq_edit_rules.proofs.HeldCuts.{EndsIn, anchor_cut, anchor_ends, break_is_piece, dashes_end, ends_behind, last_of, less_piece}
-use Rattle.yq_edit_rules.{proofs.HeldCuts.{low_last, mark_ends, space_white}, proofs.HeldLaws.{cut_spelled, front_is, held_there}}
+use Rattle.yq_edit_rules.{proofs.HeldCuts.{low_last, mark_ends, space_white}, proofs.HeldLaws.{front_is, held_there}}
 use Rattle.yq_edit_rules.proofs.TailPieces.{HasTailPieces, pieces, white_piece}
 
 -- the end of a line, as it is cut without what is after
