@@ -95,6 +95,7 @@ bench: $(YQ)
 	python3 bench/journal.py $(YQ)
 	python3 bench/cost.py $(YQ) $(DIR)
 	python3 bench/expressions.py $(YQ)
+	python3 bench/hostile.py $(YQ)
 
 corpus: $(if $(DIR),,no-folder) $(YQ)
 	python3 tests/cli/corpus.py $(YQ) "$(DIR)"

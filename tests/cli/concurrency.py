@@ -86,10 +86,12 @@ def calls_of(first, path, given):
     """The calls of a run, and from which one on and up to which one it has the lock."""
     _status, _err, trace = traced(first.copy(path), given)
     own = own_calls([call for call in calls_in(trace) if call.name != "exit_group"], "f")
-    locks = [i for i, call in enumerate(own) if call.name == "flock"]
-    file = own[locks[-1]].text.split(",")[0]
+    taken = next(i for i, call in enumerate(own) if call.name == "flock")
+    opened = [i for i, call in enumerate(own) if '".f.yq-' in call.text and "O_EXCL" in call.text]
+    last = opened[0] if opened else taken
+    file = own[last].text.split()[-1] if opened else own[last].text.split(",")[0]
     closed = (i for i, call in enumerate(own) if call.name == "close" and call.text.startswith(f"{file})"))
-    return own, locks[0], next(i for i in closed if i > locks[-1])
+    return own, taken, next(i for i in closed if i > last)
 
 
 def run_between(first, path, call, waits, given, later, file="f"):

@@ -1,5 +1,6 @@
-"""Edits of real files: their modes, and how large they may be."""
+"""Edits of real files: their modes, how large they may be, and how they are listed."""
 
+import json
 import os
 
 from harness import equal
@@ -31,3 +32,19 @@ def check_sixteen_mebibytes(folder):
     equal(folder.read("f") == text[:at] + b"7" + text[at + len(b"value 0400000") :], True)
     folder.accepts("undo", "f")
     equal(folder.read("f") == text, True)
+
+
+ODD = ["\\n\\t", "\x7f", "\x9b31m", "\u202e", "\u2066", "\u2028", '\\"\\\\', "\u00e9", "\U0001f600"]
+
+
+def check_an_edit_is_listed_as_it_was_given(folder):
+    """As one line of JSON, in which no character below U+0020 is as it is."""
+    folder.write("f", WEB)
+    given = [f'.name = "{text}"' for text in ODD]
+    for expression in given:
+        folder.accepts("-i", expression, "f")
+    listed = folder.accepts("history", "f").decode().split("\n")
+    equal(listed.pop(), "")
+    equal([line.split(" ", 2)[:2] for line in listed], [[f"{number}", "done"] for number in range(1, len(given) + 1)])
+    equal([json.loads(line.split(" ", 2)[2]) for line in listed], given)
+    equal([line for line in listed if min(line) < " "], [])

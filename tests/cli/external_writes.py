@@ -1,10 +1,10 @@
-"""What another program saves between the reading of a file and the first write is not written over."""
+"""What another program saves between the reading of a file and its renaming is not written over."""
 
 import os
 from concurrent.futures import ThreadPoolExecutor
 
-from harness import NOBODY, each_user, equal
-from tracing import Held, calls_in, own_calls, traced
+from harness import NOBODY, Skip, each_user, equal
+from tracing import Call, Held, calls_in, own_calls, traced
 
 ONE = b"m: x\nn: 1 # one\n"
 THEIRS = b"m: x\nn: 7 # one\n"
@@ -43,6 +43,30 @@ def calls_before_the_first_write(first, path, words, nobody):
     return own[read : looked[-1]]
 
 
+def calls_between_the_writes(first, path, words, nobody):
+    """Those from the first temporary file on, up to the last look at the file before another is renamed over it."""
+    folder = first.copy(path)
+    os.chmod(folder.path, 0o777)
+    status, err, trace = traced(folder, words, nobody=nobody)
+    equal((status, err), (0, b""), words)
+    own = own_calls([call for call in calls_in(trace) if call.name != "exit_group"], "f")
+    made = next(i for i, call in enumerate(own) if "O_EXCL" in call.text)
+    renamed = next(i for i, call in enumerate(own) if call.name == "rename" and ', "f")' in call.text)
+    looked = [i for i, call in enumerate(own) if call.name == "statx" and '"f"' in call.text and i < renamed]
+    return own[made : looked[-1]]
+
+
+def is_put_back(first, path, call, words, way, nobody):
+    """The file is theirs, the journal has the bytes that it had or is not there, and nothing is left beside them."""
+    folder = first.copy(path)
+    os.chmod(folder.path, 0o777)
+    held = Held(folder, call, words, nobody)
+    way(folder)
+    theirs = {**{name: first.read(name) for name in first.names()}, "f": folder.read("f")}
+    equal(held.sent(), REFUSED, (call, way.__name__))
+    equal({name: folder.read(name) for name in folder.names()}, theirs, (call, way.__name__))
+
+
 def is_seen(first, path, call, words, way, nobody):
     folder = first.copy(path)
     os.chmod(folder.path, 0o777)
@@ -52,9 +76,9 @@ def is_seen(first, path, call, words, way, nobody):
     equal((held.sent(), folder.files()), (REFUSED, theirs), (call, way.__name__))
 
 
-def check_a_save_before_the_first_write(folder):
+def each_save(folder, commands, calls_of, is_held):
     for place, user, _before in each_user(folder):
-        for words in (EDIT, ["undo", "f"], ["squash", "2", "f"]):
+        for words in commands:
             first = type(folder)(folder.yq, place.name(words[0].strip("-")))
             os.mkdir(first.path)
             first.write("f", ONE)
@@ -64,12 +88,67 @@ def check_a_save_before_the_first_write(folder):
             for name in first.names():
                 os.chown(first.name(name), user, user)
             os.chmod(first.path, 0o777)
-            calls = calls_before_the_first_write(first, first.path + "-whole", words, user == NOBODY)
+            calls = calls_of(first, first.path + "-whole", words, user == NOBODY)
             equal(len(calls) > 3, True, calls)
             with ThreadPoolExecutor(len(calls)) as pool:
                 jobs = []
                 for i, call in enumerate(calls):
                     path = f"{first.path}-{call.name}-{call.number}"
-                    jobs.append(pool.submit(is_seen, first, path, call, words, WAYS[i % len(WAYS)], user == NOBODY))
+                    jobs.append(pool.submit(is_held, first, path, call, words, WAYS[i % len(WAYS)], user == NOBODY))
                 for job in jobs:
                     job.result()
+
+
+def check_a_save_before_the_first_write(folder):
+    each_save(folder, (EDIT, ["undo", "f"], ["squash", "2", "f"]), calls_before_the_first_write, is_seen)
+
+
+def check_a_save_between_the_writes(folder):
+    each_save(folder, (EDIT, ["undo", "f"]), calls_between_the_writes, is_put_back)
+
+
+def check_a_file_that_is_gone_between_the_writes(folder):
+    """It isn't made anew."""
+    folder.write("f", ONE)
+    call = calls_between_the_writes(folder, folder.path + "-whole", EDIT, False)[-1]
+    held = Held(folder, call, EDIT)
+    os.remove(folder.name("f"))
+    equal((held.sent(), folder.names()), (REFUSED, []))
+
+
+def check_a_save_that_can_not_be_put_back(folder):
+    """The journal, which someone else may write by now, isn't touched, and the next command says that it is unsettled."""
+    folder.write("f", ONE)
+    folder.accepts("-i", ".n = 3", "f")
+    call = calls_between_the_writes(folder, folder.path + "-whole", EDIT, False)[-1]
+    held = Held(folder, call, EDIT)
+    folder.write("f", THEIRS)
+    os.chmod(folder.name("f.undo.json"), 0o666)
+    equal((held.sent(), folder.read("f")), (REFUSED, THEIRS))
+    os.chmod(folder.name("f.undo.json"), 0o644)
+    folder.refuses("J5 unsettled", "history", "f")
+
+
+def emptied_and_saved(folder, name):
+    """Another program empties the file, and saves it while the run waits; nothing where the run began too late for that."""
+    place = type(folder)(folder.yq, folder.name(name))
+    os.mkdir(place.path)
+    place.write("f", ONE)
+    pause = Call("clock_nanosleep", 1, "")
+    with open(place.name("f"), "wb") as saved:
+        try:
+            held = Held(place, pause, EDIT, rests=False)
+        except AssertionError:
+            return None
+        saved.write(THEIRS)
+    return held.sent(), place.read("f")
+
+
+def check_a_save_by_truncation(folder):
+    """A file that was emptied just now isn't taken for an empty text."""
+    for number in range(40):
+        done = emptied_and_saved(folder, f"{number}")
+        if done is not None:
+            equal(done, ((0, b"", b""), THEIRS.replace(b"7", b"2")))
+            return
+    raise Skip("no run began in time")

@@ -26,7 +26,9 @@ import forms
 import help_examples
 import installing
 import journal_trust
+import limits
 import links
+import lists
 import memory
 import mutations
 import other_users
@@ -34,6 +36,8 @@ import owners
 import random_edits
 import reads
 import shells
+import slow_texts
+import stacks
 import swaps
 import temp_files
 from harness import run_all
@@ -41,9 +45,9 @@ from pages import run_pages
 from tables import run_tables
 
 CHECKS = [
-    edits, arguments, help_examples, completions, docs_agree, compared, installing, failures, links, owners, other_users,
-    journal_trust, swaps, temp_files, disks, containers, reads, shells, random_edits, forms, mutations, concurrency,
-    external_writes, fault_injection, memory,
+    edits, arguments, help_examples, completions, docs_agree, compared, installing, failures, links, lists, owners,
+    other_users, journal_trust, swaps, temp_files, limits, stacks, slow_texts, disks, containers, reads, shells,
+    random_edits, forms, mutations, concurrency, external_writes, fault_injection, memory,
 ]
 
 sys.exit(run_all(CHECKS, [run_tables, run_pages], sys.argv))

@@ -1,7 +1,11 @@
 """What the owner of a folder exchanges between two calls of root's run gains no right and shows no secret."""
 
+import ctypes
 import os
+import random
 import stat
+import threading
+import time
 from concurrent.futures import ThreadPoolExecutor
 
 from harness import NOBODY, as_nobody, equal
@@ -195,3 +199,38 @@ def check_a_journal_is_not_taken_for_none(folder):
     calls = calls_of(first, folder.name("whole"), ["-i", ".n = 3", "f"])
     made = next(i for i, call in enumerate(calls) if "O_EXCL" in call.text)
     each(folder, journal_is_kept, [(first, call) for call in calls[:made] if call.name in ("statx", "openat", "read")])
+
+
+RUNS = 1_000
+AT_CWD, EXCHANGE = -100, 2
+
+
+def exchanging(box, stop):
+    """Exchanges the file and a link to a secret again and again, as its owner may."""
+    calls = ctypes.CDLL(None, use_errno=True)
+    names = [os.fsencode(box.name(name)) for name in ("f", "link")]
+    while not stop.is_set():
+        equal(calls.renameat2(AT_CWD, names[0], AT_CWD, names[1], EXCHANGE), 0)
+        time.sleep(random.random() / 500)
+
+
+def edits_beside_exchanges(folder, name, count):
+    place, box = of_nobody(folder, name)
+    os.symlink("../root/secret", box.name("link"))
+    stop = threading.Event()
+    other = threading.Thread(target=exchanging, args=(box, stop))
+    other.start()
+    try:
+        seen = [box.run("-i", f".new = {number}", "f") for number in range(count)]
+    finally:
+        stop.set()
+        other.join()
+    for status, _out, err in seen:
+        equal((status in (0, 1), err in (*LINE, b"Error: J5 unsettled\n", b"")), (True, True), err)
+    nothing_is_gained(place, box)
+
+
+def check_a_thousand_edits_beside_exchanges(folder):
+    """A link to a secret is in the place of the file at any moments."""
+    as_nobody()
+    each(folder, edits_beside_exchanges, [(RUNS // WORKERS + 1,)] * WORKERS)

@@ -1,5 +1,6 @@
-"""What a cut left beside a file is neither read nor in the way, and goes when it is an hour old."""
+"""What a cut left beside a file is neither read nor in the way, and goes with the next edit, unless a run is at work on it."""
 
+import fcntl
 import os
 import time
 
@@ -19,42 +20,92 @@ def grow_old(folder, name, seconds):
     os.utime(folder.name(name), (then, then), follow_symlinks=False)
 
 
-def check_what_a_cut_left_goes_after_an_hour(folder):
-    """Of the file and of its journal, whatever is in it and whoever may read it; what is younger stays."""
+def check_what_a_cut_left_goes_at_once(folder):
+    """Of the file and of its journal, whatever is in it."""
     for place, user, before in each_user(folder):
-        old = [f".f.yq-{DIGITS}", f".f.undo.json.yq-{DIGITS}", ".f.yq-" + "f" * 16]
-        young = [".f.yq-" + "1" * 16, ".f.undo.json.yq-" + "2" * 16]
+        left = [f".f.yq-{DIGITS}", f".f.undo.json.yq-{DIGITS}", ".f.yq-" + "f" * 16]
         place.write("f", WEB)
         os.chown(place.name("f"), user, user)
-        for name in old + young:
-            place.write(name, b"port: 1\n")
-            os.chmod(place.name(name), 0)
-            grow_old(place, name, HOUR + 60 if name in old else HOUR - 60)
-        place.accepts(*EDIT, before=before)
-        equal((place.read("f"), place.names()), (EDITED, sorted([*young, "f", "f.undo.json"])))
-        for name in young:
-            grow_old(place, name, HOUR + 60)
-        place.accepts("undo", "f", before=before)
-        equal((place.read("f"), place.names()), (WEB, ["f", "f.undo.json"]))
+        for words, wanted in ((EDIT, EDITED), (["undo", "f"], WEB)):
+            for name in left:
+                place.write(name, b"port: 1\n")
+                os.chown(place.name(name), user, user)
+                os.chmod(place.name(name), 0o600)
+            place.accepts(*words, before=before)
+            equal((place.read("f"), place.names()), (wanted, ["f", "f.undo.json"]))
+
+
+def check_what_a_run_is_at_work_on_stays(folder):
+    """A lock on it tells that, however old it is."""
+    folder.write("f", WEB)
+    names = [f".f.yq-{DIGITS}", f".f.undo.json.yq-{DIGITS}"]
+    held = []
+    for name in names:
+        folder.write(name, b"port: 1\n")
+        grow_old(folder, name, 10 * HOUR)
+        held.append(open(folder.name(name), "rb"))
+        fcntl.flock(held[-1], fcntl.LOCK_EX)
+    folder.accepts(*EDIT)
+    equal(folder.names(), sorted([*names, "f", "f.undo.json"]))
+    for file in held:
+        file.close()
+    folder.accepts("undo", "f")
+    equal(folder.names(), ["f", "f.undo.json"])
+
+
+def check_what_can_not_be_opened_goes_after_an_hour(folder):
+    """What another user left: whether a run is at work on it isn't told."""
+    before = as_nobody()
+    folder.give_away()
+    folder.write("f", WEB)
+    os.chmod(folder.name("f"), 0o666)
+    old, young = f".f.yq-{DIGITS}", ".f.yq-" + "1" * 16
+    for name in (old, young):
+        folder.write(name, b"port: 1\n")
+        os.chmod(folder.name(name), 0o600)
+        grow_old(folder, name, HOUR + 60 if name == old else HOUR - 60)
+    folder.accepts(*EDIT, before=before)
+    equal((folder.read("f"), folder.names()), (EDITED, sorted([young, "f", "f.undo.json"])))
+
+
+def check_what_has_no_lock_goes_after_an_hour(folder):
+    """On a file system without locks."""
+    folder.write("f", WEB)
+    old, young = f".f.yq-{DIGITS}", ".f.yq-" + "1" * 16
+    for name in (old, young):
+        folder.write(name, b"port: 1\n")
+        grow_old(folder, name, HOUR + 60 if name == old else HOUR - 60)
+    status, err, _trace = traced(folder, EDIT, "flock:error=ENOLCK", env={**os.environ, "YQ_NO_LOCK": "1"})
+    equal((status, err, folder.names()), (0, b"", sorted([young, "f", "f.undo.json"])))
+
+
+def check_a_pipe_under_the_name_of_what_was_left(folder):
+    """It isn't waited for: no edit opens it."""
+    folder.write("f", WEB)
+    os.mkfifo(folder.name(f".f.yq-{DIGITS}"))
+    folder.accepts(*EDIT)
+    equal((folder.read("f"), folder.names()), (EDITED, [f".f.yq-{DIGITS}", "f", "f.undo.json"]))
 
 
 def check_a_run_that_is_killed_leaves_nothing_for_long(folder):
-    """Before a write, a sync or a renaming of each of the three files of an edit."""
+    """Before a write, a sync or a renaming of each of the three files of an edit; by Ctrl-C, too, and a limit of a file's size."""
     for place, user, before in each_user(folder):
-        for call in ("fchmod", "rename"):
-            for number in (1, 2, 3):
-                cut = type(folder)(folder.yq, place.name(f"{call}-{number}"))
-                os.mkdir(cut.path)
-                cut.write("f", WEB)
-                for path in (cut.path, cut.name("f")):
-                    os.chown(path, user, user)
-                traced(cut, EDIT, f"{call}:signal=KILL:when={number}", nobody=user != 0)
-                left = [name for name in cut.names() if name.startswith(".")]
-                equal(len(left), 1, left)
-                equal((cut.mode(left[0]) & 0o077 & ~cut.mode("f"), os.stat(cut.name(left[0])).st_uid), (0, user))
-                grow_old(cut, left[0], HOUR + 1)
-                cut.accepts("-i", ".port = 1", "f", before=before)
-                equal((cut.read("f"), cut.names()), (WEB.replace(b"8080", b"1"), ["f", "f.undo.json"]))
+        for signal in ("KILL", "INT", "TERM", "XFSZ"):
+            for call in ("fchmod", "rename"):
+                for number in (1, 2, 3):
+                    cut = type(folder)(folder.yq, place.name(f"{signal}-{call}-{number}"))
+                    os.mkdir(cut.path)
+                    cut.write("f", WEB)
+                    for path in (cut.path, cut.name("f")):
+                        os.chown(path, user, user)
+                    traced(cut, EDIT, f"{call}:signal={signal}:when={number}", nobody=user != 0)
+                    left = [name for name in cut.names() if name.startswith(".")]
+                    equal(len(left) <= 1, True, left)
+                    for name in left:
+                        seen = cut.mode(name) & 0o077 & ~cut.mode("f"), os.stat(cut.name(name)).st_uid
+                        equal(seen, (0, user))
+                    cut.accepts("-i", ".port = 1", "f", before=before)
+                    equal((cut.read("f"), cut.names()), (WEB.replace(b"8080", b"1"), ["f", "f.undo.json"]))
 
 
 def check_what_is_no_temporary_file_stays(folder):
@@ -131,10 +182,13 @@ def own_randoms(folder):
 
 
 def check_another_name_is_tried(folder):
+    """Where another run is at work on a file of that name."""
     folder.write("f", WEB)
     folder.write(SAME_NAME, b"left")
     first = own_randoms(folder)[0]
-    status, err, trace = traced(folder, EDIT, f"getrandom:retval=8:when={first}")
+    with open(folder.name(SAME_NAME), "rb") as left:
+        fcntl.flock(left, fcntl.LOCK_EX)
+        status, err, trace = traced(folder, EDIT, f"getrandom:retval=8:when={first}")
     equal((status, err, names_tried(trace)), (0, b"", 4))
     equal((folder.read("f"), folder.read(SAME_NAME)), (EDITED, b"left"))
     equal(folder.names(), [SAME_NAME, "f", "f.undo.json"])
@@ -144,7 +198,9 @@ def check_names_are_not_tried_for_ever(folder):
     folder.write("f", WEB)
     folder.write(SAME_NAME, b"left")
     first = own_randoms(folder)[0]
-    status, err, trace = traced(folder, EDIT, f"getrandom:retval=8:when={first}+")
+    with open(folder.name(SAME_NAME), "rb") as left:
+        fcntl.flock(left, fcntl.LOCK_EX)
+        status, err, trace = traced(folder, EDIT, f"getrandom:retval=8:when={first}+")
     equal((status, err, names_tried(trace)), (1, b"Error: S3 write failed\n", 64))
     equal((folder.read("f"), folder.read(SAME_NAME)), (WEB, b"left"))
     equal(folder.names(), [SAME_NAME, "f"])

@@ -11,6 +11,7 @@ import time
 
 from harness import NOBODY, SECONDS, Skip, equal
 
+RECENT = 0.03
 LINE = re.compile(r"(\w+)\((.*)")
 
 
@@ -37,6 +38,13 @@ def strace():
     return path
 
 
+def rest(folder):
+    """Waits until no file of the folder was changed just now: such a file is read twice, so its calls would be others."""
+    for name in folder.names():
+        age = time.time() - os.lstat(folder.name(name)).st_ctime
+        time.sleep(min(max(RECENT - age, 0), RECENT))
+
+
 def traced_line(log, nobody):
     """What runs a command under strace, as the user who runs the tests or as nobody."""
     return [strace(), *(["-u", pwd.getpwuid(NOBODY).pw_name] if nobody else []), "-o", log, "-s", "64"]
@@ -44,6 +52,7 @@ def traced_line(log, nobody):
 
 def traced(folder, words, *injections, env=None, nobody=False, log=".trace"):
     """Runs the program under strace. Gives status, standard error and the lines of the trace."""
+    rest(folder)
     log = folder.path + log
     line = traced_line(log, nobody)
     for injection in injections:
@@ -89,7 +98,9 @@ def child_of(pid):
 class Held:
     """A run that is stopped behind one of its system calls."""
 
-    def __init__(self, folder, call, words, nobody=False):
+    def __init__(self, folder, call, words, nobody=False, rests=True):
+        if rests:
+            rest(folder)
         log = folder.path + ".trace"
         stop = f"inject={call.name}:signal=STOP:when={call.number}"
         line = [*traced_line(log, nobody), "-e", stop, folder.yq, *words]
@@ -111,6 +122,7 @@ class Held:
 
 def stepped(folder, name, words, at_stop, nobody=False):
     """Stops a run behind each of its system calls of a name, and does something at each stop. Gives status and standard error."""
+    rest(folder)
     log = folder.path + ".trace"
     line = [*traced_line(log, nobody), "-e", f"inject={name}:signal=STOP:when=1+", folder.yq, *words]
     run = subprocess.Popen(line, cwd=folder.path, stdin=subprocess.DEVNULL, stdout=subprocess.PIPE, stderr=subprocess.PIPE)

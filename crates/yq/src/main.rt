@@ -1,6 +1,8 @@
 //! The program: commands over a store of files.
 #![tactic(auto)]
 
+mod counted_out;
+mod hint;
 mod program;
 
 use crate::program::answer_to_words;
@@ -12,17 +14,28 @@ use yq_run::{Answer, report_usage};
 /// The status with which a shell shows what ended because the reader of its output closed the pipe.
 const CLOSED: u8 = 141;
 
-fn main(rt: HostRuntime) -> io::Result<ExitCode> {
-    match answer_to_words(&rt) {
-        Some(Answer::Done) => return Ok(ExitCode::SUCCESS),
-        Some(Answer::NoMatch) => eprintln!(rt; "Error: N1 no matches found")?,
-        Some(Answer::Refused(fault)) => {
+/// Tells an answer on standard error, and gives the status.
+fn report_answer(rt: &HostRuntime, answer: Answer) -> io::Result<ExitCode> {
+    match answer {
+        Answer::Done => return Ok(ExitCode::SUCCESS),
+        Answer::NoMatch => eprintln!(rt; "Error: N1 no matches found")?,
+        Answer::Refused(fault) => {
             eprintln!(rt; "Error: {fault}")?;
             if let Fault::Usage(cause) = fault {
-                report_usage(&rt, cause)?
+                report_usage(rt, cause)?
             }
         }
-        None => return Ok(ExitCode::from(CLOSED)),
     }
     Ok(ExitCode::from(1))
+}
+
+fn main(rt: HostRuntime) -> io::Result<ExitCode> {
+    let Some((answer, hint)) = answer_to_words(&rt) else {
+        return Ok(ExitCode::from(CLOSED));
+    };
+    let status = report_answer(&rt, answer)?;
+    if let Some(hint) = hint {
+        eprintln!(rt; "yq: {hint}")?;
+    }
+    Ok(status)
 }

@@ -1,34 +1,43 @@
 //! The program's words, carried out over real files and standard output.
 
+use crate::counted_out::CountedOut;
+use crate::hint::Hint;
 use std::io::IsTerminal;
 use std::slice;
 use yq_args::Command;
 use yq_history::Fault;
-use yq_run::{Answer, Out, StandardOut, asked_command, purpose_of, put_help, run_list};
+use yq_run::{Answer, asked_command, purpose_of, put_help, run_list};
 use yq_store::DiskStore;
 
-/// The answer to a command whose output goes to `out`.
-fn answer_to<W: Out>(rt: &HostRuntime, out: &mut W) -> Result<Answer, Fault> {
+/// The answer to a command whose output goes to `out`, and what is reported beside it.
+fn answer_to(rt: &HostRuntime, out: &mut CountedOut<'_>) -> Result<(Answer, Option<Hint>), Fault> {
     let command = asked_command(rt)?;
     if let Command::Help = command {
         put_help(rt, out)?;
-        return Ok(Answer::Done);
+        return Ok((Answer::Done, None));
     }
+    let on_terminal = rt.stderr().is_terminal();
     let (file, purpose) = purpose_of(&command);
-    let mut store = DiskStore::new(rt, file, purpose).reporting(rt.stderr().is_terminal());
+    let mut store = DiskStore::new(rt, file, purpose).reporting(on_terminal);
     let answers = run_list(rt.alloc(), &mut store, out, slice::from_ref(&command))?;
+    let hint = match (store.hint(), &command) {
+        (Some(hint), _) => Some(Hint::Journal(hint)),
+        (None, Command::History { .. }) if on_terminal => Hint::of_records(out.lines()),
+        (None, _) => None,
+    };
     match answers.first() {
-        Some(answer) => Ok(*answer),
-        None => Ok(Answer::Done),
+        Some(answer) => Ok((*answer, hint)),
+        None => Ok((Answer::Done, None)),
     }
 }
 
-/// The answer to the program's words; none where the reader of standard output has closed it.
-pub fn answer_to_words(rt: &HostRuntime) -> Option<Answer> {
-    let mut out = StandardOut::new(rt);
+/// The answer to the program's words, and what is reported beside it; none where the reader of standard output
+/// has closed it.
+pub fn answer_to_words(rt: &HostRuntime) -> Option<(Answer, Option<Hint>)> {
+    let mut out = CountedOut::new(rt);
     match answer_to(rt, &mut out) {
         _ if out.is_closed() => None,
         Ok(answer) => Some(answer),
-        Err(fault) => Some(Answer::Refused(fault)),
+        Err(fault) => Some((Answer::Refused(fault), None)),
     }
 }

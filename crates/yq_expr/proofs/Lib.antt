@@ -3,3 +3,4 @@ pub mod AllChanges
 pub mod ChildPlaces
 pub mod SummandLaws
 mod StepLists
+pub mod ManyKeysLaws

@@ -2,3 +2,4 @@ pub use Rattle.yq_core.specs.Values
 pub use Rattle.yq_core.specs.Tree
 pub mod EffectView
 pub mod Summand
+pub mod ManyKeys

@@ -10,6 +10,7 @@ ghost use Rattle.yq_eval.specs.TreeScalars.{HasScalars, HaveScalars};
 ghost use Rattle.yq_semantics.specs.Changes as spec;
 
 use crate::effect::{Action, change_at};
+use crate::many_keys::check_depth;
 use crate::push_change;
 use crate::steps::path_steps;
 use std::alloc::Global;
@@ -41,6 +42,7 @@ fn push_effect<'a, 't>(
         doc,
         steps: path_steps(alloc, place.path)?,
     };
+    check_depth(alloc, doc, effect, place)?;
     match change_at(alloc, cut, &path, effect, place)? {
         None => Ok(()),
         Some(change) => push_change(alloc, aliases, place, path.steps, change, changes),

@@ -4,6 +4,7 @@
 mod at_places;
 mod changes;
 mod effect;
+mod many_keys;
 mod placed;
 mod planning;
 mod put;

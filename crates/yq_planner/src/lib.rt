@@ -9,5 +9,6 @@ pub use updating::anchors::{Aliases, aliases_of};
 pub use updating::change::{Addition, Change, PlacedChange};
 pub use updating::comment_text::has_comment;
 pub use updating::copied::copied;
+pub use updating::limits::{holds_long_key, is_long_key};
 pub use updating::operations::operations;
 pub use updating::sum::{is_null, scalar_sum, sum};

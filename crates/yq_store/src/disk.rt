@@ -2,10 +2,14 @@
 ghost use Rattle.std.specs.Prelude.{◌≡◌, false};
 ghost use Rattle.std.specs.FinMap as map;
 
+mod as_read;
 mod edited;
+pub mod hint;
 mod journal;
+mod journal_limit;
 mod links;
 mod locking;
+mod old_journal;
 mod opening;
 mod ownership;
 mod protection;
@@ -17,6 +21,7 @@ mod temporary;
 mod trust;
 
 use crate::disk::edited::{EditedFile, read_edited, write_journal, write_own};
+use crate::disk::hint::{JournalHint, hint_of};
 use crate::disk::journal::read_journal;
 use crate::disk::links::is_absence;
 use crate::disk::purpose::Purpose;
@@ -40,6 +45,7 @@ pub struct DiskStore<'a, R: Drop> {
     purpose: Purpose,
     edited: Option<EditedFile>,
     reports: bool,
+    hint: Option<JournalHint>,
     failures: u64,
 }
 
@@ -52,6 +58,7 @@ impl<'a, R: Drop> DiskStore<'a, R> {
             purpose,
             edited: None,
             reports: false,
+            hint: None,
             failures: 0,
         }
     }
@@ -62,6 +69,11 @@ impl<'a, R: Drop> DiskStore<'a, R> {
         let mut store = self;
         store.reports = reports;
         store
+    }
+
+    /// What a user may do where the journal was neither read nor written.
+    pub fn hint(&self) -> Option<JournalHint> {
+        self.hint
     }
 }
 
@@ -94,7 +106,15 @@ impl<
             return Err(io::Error::from(ErrorKind::Other));
         };
         let writes = self.purpose != Purpose::List;
-        let bytes = read_journal(&self.rt, alloc, name, edited.trust, edited.state, writes);
+        let bytes = read_journal(
+            &self.rt,
+            alloc,
+            name,
+            edited.trust,
+            edited.as_read.state,
+            writes,
+        );
+        self.hint = hint_of(&bytes);
         // What only lists has read all: it holds nobody back while it prints.
         if self.purpose == Purpose::List {
             self.edited = None;
@@ -109,7 +129,12 @@ impl<
         match &mut self.edited {
             None => Err(io::Error::from(ErrorKind::Other)),
             Some(edited) if name == self.file => write_own(&self.rt, edited, name, bytes),
-            Some(edited) => write_journal(&self.rt, edited, self.file, name, bytes),
+            Some(edited) => {
+                let file = self.file;
+                let written = write_journal(&self.rt, edited, file, name, bytes, self.purpose);
+                self.hint = hint_of(&written);
+                written
+            }
         }
     }
 }

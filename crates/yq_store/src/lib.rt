@@ -6,6 +6,7 @@ mod memory;
 mod store;
 
 pub use disk::DiskStore;
+pub use disk::hint::JournalHint;
 pub use disk::purpose::Purpose;
 pub use memory::{Left, MemoryStore};
 pub use store::{FileReadError, FileWriteError, Store};

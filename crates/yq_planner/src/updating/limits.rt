@@ -12,7 +12,7 @@ use yq_scalar_reader::can_write;
 
 /// Whether a key has too many characters as it is written in flow mappings.
 #[tactic(auto, unfolding(yq_core::specs::NodesWritten::scalar_text))]
-pub(crate) fn is_long_key(alloc: Global, key: &str) -> Result<bool, AllocError>
+pub fn is_long_key(alloc: Global, key: &str) -> Result<bool, AllocError>
     ensures { IfOk result (λ b. b ≡ spec.is_long_key key.now) }
 {
     let scalar = Scalar::string(String::from_str(alloc, key)?);
@@ -27,7 +27,7 @@ pub(crate) fn is_long_key(alloc: Global, key: &str) -> Result<bool, AllocError>
 
 /// Whether a value has too long a key.
 #[cycle(long)]
-pub(crate) fn holds_long_key(alloc: Global, value: &Value) -> Result<bool, AllocError>
+pub fn holds_long_key(alloc: Global, value: &Value) -> Result<bool, AllocError>
     ensures { IfOk result (λ b. b ≡ spec.has_long_key (value_node value.now)) }
 {
     match value {

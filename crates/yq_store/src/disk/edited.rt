@@ -1,13 +1,16 @@
 //! The file of a command that looks at a journal, from its reading to the last write.
 
+use crate::disk::as_read::{FileAsRead, found_before_reading};
 use crate::disk::journal::journal_rights;
+use crate::disk::journal_limit::most_written;
 use crate::disk::links::{Target, target_of};
 use crate::disk::locking::locked_file;
+use crate::disk::old_journal::{OldJournal, put_back};
 use crate::disk::opening::OpenedFile;
 use crate::disk::ownership::Rights;
 use crate::disk::protection::{check_replaceable, check_target};
 use crate::disk::purpose::Purpose;
-use crate::disk::reading::{MOST_OF_TEXT, read_text};
+use crate::disk::reading::MOST_OF_TEXT;
 use crate::disk::replacing::replace_file;
 use crate::disk::state::FileState;
 use crate::disk::temporary::remove_left;
@@ -24,10 +27,12 @@ use std::{fs, io};
 #[derive(Drop)]
 pub struct EditedFile {
     opened: OpenedFile,
-    pub state: FileState,
+    pub as_read: FileAsRead,
     pub trust: Trust,
     /// Whether it was looked, before the first write, that the command may write.
     is_checked: bool,
+    /// The journal that the first write replaced or made, where it wrote one.
+    old_journal: Option<OldJournal>,
 }
 
 /// Locks the file to which a name leads, if any, and reads it; the one that was locked before is closed first.
@@ -44,32 +49,30 @@ pub fn read_edited<R: Files<File = File> + Clock + Eprint + Env + Alloc<A = Glob
     let Some(opened) = locked_file(rt, name, purpose, reports)? else {
         return Ok(None);
     };
-    let found = opened.file.metadata()?;
+    let found = found_before_reading(rt, &opened.file)?;
     if purpose == Purpose::Replay && found.len() >= MOST_OF_TEXT {
         return Err(io::Error::from(ErrorKind::FileTooLarge));
     }
-    let text = read_text(alloc, &opened.file);
+    let (as_read, text) = FileAsRead::read(rt, alloc, &opened.file, &found)?;
     *edited = Some(EditedFile {
         opened,
-        state: FileState::of(&found),
+        as_read,
         trust: Trust::of(rt, &found),
         is_checked: false,
+        old_journal: None,
     });
-    text.map(Some)
+    Ok(Some(text))
 }
 
 /// Before the first write: that the file and, where that write is of its journal, what was found there may
 /// both be replaced, and that the name still leads to the file as it was read. Then what cut runs left
-/// beside these goes.
+/// beside these goes. Gives what was found of the journal, open.
 fn check_first<R: Files<File = File> + Clock + Alloc<A = Global>>(
     rt: &R,
     edited: &EditedFile,
     name: &str,
     journal: Option<&Target>,
-) -> io::Result<()> {
-    if edited.is_checked {
-        return Ok(());
-    }
+) -> io::Result<Option<File>> {
     let opened = &edited.opened;
     check_replaceable(
         rt,
@@ -78,21 +81,23 @@ fn check_first<R: Files<File = File> + Clock + Alloc<A = Global>>(
         opened.is_writable,
         edited.trust,
     )?;
-    if let Some(target) = journal {
-        check_target(rt, target, edited.trust)?;
-    }
-    if FileState::of(&fs::metadata(rt, name)?) != edited.state {
+    let old = match journal {
+        Some(target) => check_target(rt, target, edited.trust)?,
+        None => None,
+    };
+    if FileState::of(&fs::metadata(rt, name)?) != edited.as_read.state {
         return Err(io::Error::from(ErrorKind::ResourceBusy));
     }
     remove_left(rt, &opened.path);
     if let Some(target) = journal {
         remove_left(rt, &target.path);
     }
-    Ok(())
+    Ok(old)
 }
 
 /// Replaces the file to which this name led, by one with the owner, the group and the mode of the open
-/// one, whatever is at its path by now; only what is no regular file is not written over. Keeps the lock.
+/// one. Where another file is at its path by now, or it was changed since it was read, nothing is
+/// written, and the journal is put back as it was before the first write. Keeps the lock.
 pub fn write_own<R: Files<File = File> + RandomSource + Clock + Env + Alloc<A = Global>>(
     rt: &R,
     edited: &mut EditedFile,
@@ -102,24 +107,44 @@ pub fn write_own<R: Files<File = File> + RandomSource + Clock + Env + Alloc<A = 
     if !edited.opened.path.symlink_metadata(rt)?.is_file() {
         return Err(io::Error::from(ErrorKind::InvalidInput));
     }
-    let rights = Rights::of(&edited.opened.file.metadata()?);
-    check_first(rt, edited, name, None)?;
-    edited.is_checked = true;
-    edited.opened.file = replace_file(rt, &edited.opened.path, bytes, rights, true)?;
-    Ok(())
+    if !edited.is_checked {
+        let _ = check_first(rt, edited, name, None)?;
+        edited.is_checked = true;
+    }
+    let OpenedFile { path, file, .. } = &edited.opened;
+    let rights = Rights::of(&file.metadata()?);
+    match replace_file(rt, path, bytes, rights, Some((&edited.as_read, file)))? {
+        Some(file) => {
+            edited.opened.file = file;
+            Ok(())
+        }
+        None => {
+            if let Some(old) = &edited.old_journal {
+                put_back(rt, old, edited.trust, &edited.opened)?;
+            }
+            Err(io::Error::from(ErrorKind::ResourceBusy))
+        }
+    }
 }
 
-/// Replaces, or makes, the journal of the file with this name.
+/// Replaces, or makes, the journal of the file with this name. The one with which an edit begins has a limit.
 pub fn write_journal<R: Files<File = File> + RandomSource + Clock + Env + Alloc<A = Global>>(
     rt: &R,
     edited: &mut EditedFile,
     name: &str,
     journal: &str,
     bytes: &[u8],
+    purpose: Purpose,
 ) -> io::Result<()> {
     let target = target_of(rt, journal)?;
     let rights = journal_rights(rt, &target, edited.trust, &edited.opened)?;
-    check_first(rt, edited, name, Some(&target))?;
-    edited.is_checked = true;
-    replace_file(rt, &target.path, bytes, rights, false).map(drop)
+    if !edited.is_checked {
+        if bytes.len() as u64 > most_written(rt, purpose) {
+            return Err(io::Error::from(ErrorKind::FileTooLarge));
+        }
+        let old = check_first(rt, edited, name, Some(&target))?;
+        edited.old_journal = Some(OldJournal::of(rt.alloc(), journal, old)?);
+        edited.is_checked = true;
+    }
+    replace_file(rt, &target.path, bytes, rights, None).map(drop)
 }

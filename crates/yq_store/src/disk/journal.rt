@@ -1,16 +1,17 @@
 //! The journal of a file, which another user may have put where it is looked for.
 
+use crate::disk::journal_limit::most_read;
 use crate::disk::links::{Target, folder_of, is_absence, target_of};
 use crate::disk::opening::{OpenedFile, open_found};
 use crate::disk::ownership::Rights;
-use crate::disk::reading::read_whole;
+use crate::disk::reading::read_within;
 use crate::disk::state::{FileState, leads_to};
 use crate::disk::trust::{Maker, Trust, Writers};
 use std::alloc::Global;
 use std::fs::{File, Metadata};
 use std::io::ErrorKind;
 use std::os::unix::fs::MetadataExt;
-use std::rt::Files;
+use std::rt::{Env, Files};
 use std::{fs, io};
 
 /// How often it is looked once more for a journal that was exchanged while it was looked at.
@@ -46,8 +47,8 @@ fn check_journal(
 
 /// The bytes of the journal of a file, if there is one, unless someone may have written it who may not
 /// write the file. That is looked at before it is opened, since a pipe in its place could wait for
-/// another run, and once more of what was opened.
-pub fn read_journal<R: Files<File = File> + Alloc<A = Global>>(
+/// another run, and once more of what was opened. One that is too large isn't read.
+pub fn read_journal<R: Files<File = File> + Env + Alloc<A = Global>>(
     rt: &R,
     alloc: Global,
     name: &str,
@@ -67,7 +68,7 @@ pub fn read_journal<R: Files<File = File> + Alloc<A = Global>>(
         check_journal(found, &target.makers, trust, file)?;
         if let Some((journal, _)) = open_found(rt, name, &target.path, found, writes)? {
             check_journal(&journal.metadata()?, &target.makers, trust, file)?;
-            return read_whole(alloc, journal).map(Some);
+            return read_within(alloc, journal, most_read(rt)).map(Some);
         }
     }
     Err(io::Error::from(ErrorKind::ResourceBusy))

@@ -11,8 +11,11 @@ use std::rt::{Env, Files};
 use std::time::{Clock, Duration};
 use std::{env, io, thread};
 
-/// How many tries for a lock may fail: with a pause after each, a minute long.
+/// How many tries for a lock may fail, with a pause after each: those of a minute, where they take no time.
 const MOST_TRIES: u32 = 12_000;
+
+/// How many seconds a run waits for a lock by the clock.
+const LONGEST_WAIT: u64 = 60;
 
 /// After how many of them a run tells for what it waits: about a second.
 const SILENT_TRIES: u32 = 200;
@@ -60,19 +63,23 @@ pub fn is_locked<R: Env + Alloc<A = Global>>(
     }
 }
 
-/// Waits for the lock of an open file, and gives how many tries have failed, with those before. Where
-/// `reports` is set, it tells on standard error for what it waits.
+/// Waits for the lock of an open file until a minute has gone by since a time, and gives how many tries have
+/// failed, with those before. Where `reports` is set, it tells on standard error for what it waits.
 fn wait_for_lock<R: Clock + Eprint + Env + Alloc<A = Global>>(
     rt: &R,
     file: &File,
     name: &str,
     purpose: Purpose,
     reports: bool,
+    since: Duration,
     failed: u32,
 ) -> io::Result<u32> {
     'tries: for tried in failed..MOST_TRIES {
         if is_locked(rt, file, purpose)? {
             return Ok(tried);
+        }
+        if rt.monotonic()?.saturating_sub(since).as_secs() >= LONGEST_WAIT {
+            break;
         }
         if reports && tried == SILENT_TRIES {
             let _reported = eprintln!(rt; "yq: waiting for another run at {name:?}");
@@ -95,6 +102,7 @@ pub fn locked_file<R: Files<File = File> + Clock + Eprint + Env + Alloc<A = Glob
     reports: bool,
 ) -> io::Result<Option<OpenedFile>> {
     let writes = purpose != Purpose::List;
+    let since = rt.monotonic()?;
     let mut failed = 0;
     'tries: for _ in 0..MOST_TRIES {
         let Target { path, found, .. } = target_of(rt, name)?;
@@ -104,7 +112,7 @@ pub fn locked_file<R: Files<File = File> + Clock + Eprint + Env + Alloc<A = Glob
         let Some((file, is_writable)) = open_found(rt, name, &path, &found, writes)? else {
             continue;
         };
-        failed = wait_for_lock(rt, &file, name, purpose, reports, failed)?;
+        failed = wait_for_lock(rt, &file, name, purpose, reports, since, failed)?;
         if leads_to(rt, name, &file.metadata()?)? {
             return Ok(Some(OpenedFile {
                 path,

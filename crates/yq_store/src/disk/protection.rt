@@ -59,18 +59,22 @@ pub fn check_replaceable<R: Files<File = File> + Alloc<A = Global>>(
     }
 }
 
-/// Fails where the file that was found at a target, if any, may not be replaced, or was exchanged since.
+/// Fails where the file that was found at a target, if any, may not be replaced, or was exchanged since; else
+/// gives it, open at its first byte.
 pub fn check_target<R: Files<File = File> + Alloc<A = Global>>(
     rt: &R,
     target: &Target,
     trust: Trust,
-) -> io::Result<()> {
+) -> io::Result<Option<File>> {
     let Some(found) = &target.found else {
-        return Ok(());
+        return Ok(None);
     };
     let path = &target.path;
     match open_found(rt, path.as_str(), path, found, true)? {
-        Some((file, is_writable)) => check_replaceable(rt, path, &file, is_writable, trust),
+        Some((file, is_writable)) => {
+            check_replaceable(rt, path, &file, is_writable, trust)?;
+            Ok(Some(file))
+        }
         None => Err(io::Error::from(ErrorKind::ResourceBusy)),
     }
 }

@@ -1,10 +1,9 @@
 //! Replacing a file: a temporary file beside it is written, synced, and renamed over it.
 
+use crate::disk::as_read::FileAsRead;
 use crate::disk::links::folder_of;
-use crate::disk::locking::is_locked;
 use crate::disk::opening::OpenedFile;
 use crate::disk::ownership::{Rights, take_over};
-use crate::disk::purpose::Purpose;
 use crate::disk::temporary::make_temporary;
 use std::alloc::Global;
 use std::fs::File;
@@ -14,54 +13,80 @@ use std::random::RandomSource;
 use std::rt::{Env, Files};
 use std::{fs, io};
 
-/// Writes the bytes of a temporary file, and what it takes over, out to the disk, and renames it over
-/// a path. Where `locks` is set, it is locked before a name leads to it: so the run goes on holding the
-/// lock of the file.
-fn finish<R: Files + Env + Alloc<A = Global>>(
+/// The file that is to be replaced, open still, and how it was read: another one isn't replaced.
+pub type Replaced<'a> = Option<(&'a FileAsRead, &'a File)>;
+
+/// Whether what is at a path may be replaced: the file is there as it was read, or none is asked for.
+fn is_there<R: Files + Alloc<A = Global>>(
+    rt: &R,
+    path: &PathBuf,
+    replaced: Replaced<'_>,
+) -> io::Result<bool> {
+    match replaced {
+        Some((as_read, file)) => as_read.is_at(rt, rt.alloc(), path, file),
+        None => Ok(true),
+    }
+}
+
+/// Writes the bytes of a temporary file, and what it takes over, out to the disk.
+fn fill(file: &mut File, bytes: &[u8], rights: Rights) -> io::Result<()> {
+    file.write_all(bytes)?;
+    take_over(file, rights)?;
+    file.sync_all()
+}
+
+/// Fills a temporary file, and renames it over a path; gives whether it did, since it doesn't where
+/// another file is there than is to be replaced. Want of memory is reported where that isn't known.
+fn finish<R: Files + Alloc<A = Global>>(
     rt: &R,
     temporary: &mut OpenedFile,
     path: &PathBuf,
     bytes: &[u8],
     rights: Rights,
-    locks: bool,
-) -> io::Result<()> {
-    if locks && !is_locked(rt, &temporary.file, Purpose::Edit)? {
-        return Err(io::Error::from(ErrorKind::WouldBlock));
+    replaced: Replaced<'_>,
+) -> io::Result<bool> {
+    if fill(&mut temporary.file, bytes, rights).is_err() {
+        return Err(io::Error::from(ErrorKind::Other));
     }
-    temporary.file.write_all(bytes)?;
-    take_over(&temporary.file, rights)?;
-    temporary.file.sync_all()?;
-    fs::rename(rt, temporary.path.as_str(), path.as_str())
+    if !is_there(rt, path, replaced)? {
+        return Ok(false);
+    }
+    match fs::rename(rt, temporary.path.as_str(), path.as_str()) {
+        Ok(()) => Ok(true),
+        Err(_) => Err(io::Error::from(ErrorKind::Other)),
+    }
 }
 
 /// Writes the names of a folder out to the disk, where its file system can.
-fn is_synced(folder: &File) -> bool {
+pub fn is_synced(folder: &File) -> bool {
     match folder.sync_all() {
         Ok(()) => true,
         Err(e) => e.kind() == ErrorKind::InvalidInput,
     }
 }
 
-/// Replaces the file at a path, or makes it, with these rights, and gives the new file, which is
-/// locked if that is asked for. After a failure the path has its old bytes, but for a failure to
-/// write the folder out to the disk, which comes last: then it has the new ones. Want of memory is reported
-/// as such only before anything is written.
+/// Replaces the file at a path, or makes it, with these rights, and gives the new file. It was locked before
+/// a name led to it, so a run goes on holding the lock of its file. Nothing is given, and nothing written,
+/// where another file is there than is to be replaced. After a failure the path has its old bytes, but
+/// for a failure to write the folder out to the disk, which comes last: then it has the new ones. Want of
+/// memory is given as such only before the renaming.
 pub fn replace_file<R: Files<File = File> + RandomSource + Env + Alloc<A = Global>>(
     rt: &R,
     path: &PathBuf,
     bytes: &[u8],
     rights: Rights,
-    locks: bool,
-) -> io::Result<File> {
+    replaced: Replaced<'_>,
+) -> io::Result<Option<File>> {
     let folder = fs::open(rt, folder_of(path))?;
     let mut temporary = make_temporary(rt, path)?;
-    let is_finished = finish(rt, &mut temporary, path, bytes, rights, locks).is_ok();
-    if !is_finished {
+    let finished = finish(rt, &mut temporary, path, bytes, rights, replaced);
+    if !matches!(finished, Ok(true)) {
         let _ = fs::remove_file(rt, temporary.path.as_str());
     }
-    if is_finished && is_synced(&folder) {
-        Ok(temporary.file)
-    } else {
-        Err(io::Error::from(ErrorKind::Other))
+    match finished {
+        Ok(true) if is_synced(&folder) => Ok(Some(temporary.file)),
+        Ok(true) => Err(io::Error::from(ErrorKind::Other)),
+        Ok(false) => Ok(None),
+        Err(e) => Err(e),
     }
 }

@@ -4,6 +4,7 @@ use crate::disk::links::is_absence;
 use std::fs::Metadata;
 use std::os::unix::fs::MetadataExt;
 use std::rt::Files;
+use std::time::Duration;
 use std::{fs, io};
 
 /// Which file it is, how many bytes it has, and when its bytes and its rights were changed last.
@@ -26,6 +27,13 @@ impl FileState {
             written: (file.mtime(), file.mtime_nsec()),
             changed: (file.ctime(), file.ctime_nsec()),
         }
+    }
+
+    /// When the file was changed last, since 1970.
+    pub fn time(&self) -> Duration {
+        let (seconds, nanoseconds) = self.changed;
+        let part = Duration::from_nanos(u64::try_from(nanoseconds).unwrap_or(0));
+        Duration::from_secs(u64::try_from(seconds).unwrap_or(0)).saturating_add(part)
     }
 
     /// Whether this is the state of a file, changed since then or not.

@@ -1,14 +1,17 @@
 //! Temporary files beside the files that they are to replace, and those that cut runs left there.
 
 use crate::disk::links::folder_of;
+use crate::disk::locking::is_locked;
 use crate::disk::opening::OpenedFile;
+use crate::disk::purpose::Purpose;
+use crate::disk::state::FileState;
 use std::alloc::{AllocError, Global};
-use std::fs::{DirEntry, File, OpenOptions};
+use std::fs::{DirEntry, File, Metadata, OpenOptions, TryLockError};
 use std::io::ErrorKind;
 use std::os::unix::fs::{MetadataExt, OpenOptionsExt};
 use std::path::PathBuf;
 use std::random::RandomSource;
-use std::rt::Files;
+use std::rt::{Env, Files};
 use std::time::Clock;
 use std::{fs, io};
 
@@ -25,7 +28,7 @@ const DIGITS: usize = 16;
 /// the most that a name may have.
 const MOST_OF_NAME: usize = 234;
 
-/// How many seconds old a temporary file is when no run is at work on it any more.
+/// How many seconds old a temporary file is when no run is at work on it any more, where no lock tells it.
 const AGE: u64 = 3_600;
 
 /// What the names of a path's temporary files have of its last name.
@@ -42,28 +45,50 @@ fn temporary_path(alloc: Global, path: &PathBuf, number: u64) -> Result<PathBuf,
     path.with_file_name(alloc, name.as_str())
 }
 
+/// Locks a new temporary file, and gives whether it is this run's. It isn't where another run took it for
+/// one that a cut run left, and removes it or has removed it.
+fn is_taken<R: Env + Alloc<A = Global>>(rt: &R, file: &File) -> io::Result<bool> {
+    Ok(is_locked(rt, file, Purpose::Edit)? && file.metadata()?.nlink() > 0)
+}
+
+/// Makes a temporary file at a path, where none is there; nothing where one is, or another run took it.
+fn new_at<R: Files<File = File> + Env + Alloc<A = Global>>(
+    rt: &R,
+    path: &PathBuf,
+) -> io::Result<Option<File>> {
+    let mut options = OpenOptions::new();
+    options.write(true).create_new(true).mode(PRIVATE);
+    let file = match options.open(rt, path.as_str()) {
+        Ok(file) => file,
+        Err(e) if e.kind() == ErrorKind::AlreadyExists => return Ok(None),
+        Err(e) => return Err(e),
+    };
+    match is_taken(rt, &file) {
+        Ok(is_own) => Ok(is_own.then_some(file)),
+        Err(e) => {
+            let _ = fs::remove_file(rt, path.as_str());
+            Err(e)
+        }
+    }
+}
+
 /// Makes a temporary file beside a path, under a name that no file has: neither what an earlier run
-/// left there when it was cut nor what another run writes at the same time is touched.
-pub fn make_temporary<R: Files<File = File> + RandomSource + Alloc<A = Global>>(
+/// left there when it was cut nor what another run writes at the same time is touched. It is locked, so
+/// that no other run takes it for what was left.
+pub fn make_temporary<R: Files<File = File> + RandomSource + Env + Alloc<A = Global>>(
     rt: &R,
     path: &PathBuf,
 ) -> io::Result<OpenedFile> {
-    let mut options = OpenOptions::new();
-    options.write(true).create_new(true).mode(PRIVATE);
     let mut random = [0u8; 8];
     'names: for _ in 0..MOST_NAMES {
         rt.fill_bytes(&mut random)?;
         let path = temporary_path(rt.alloc(), path, u64::from_le_bytes(random))?;
-        match options.open(rt, path.as_str()) {
-            Ok(file) => {
-                return Ok(OpenedFile {
-                    path,
-                    file,
-                    is_writable: true,
-                });
-            }
-            Err(e) if e.kind() == ErrorKind::AlreadyExists => (),
-            Err(e) => return Err(e),
+        if let Some(file) = new_at(rt, &path)? {
+            return Ok(OpenedFile {
+                path,
+                file,
+                is_writable: true,
+            });
         }
     }
     Err(io::Error::from(ErrorKind::AlreadyExists))
@@ -87,24 +112,63 @@ fn is_temporary(entry: &str, name: &str) -> bool {
     }
 }
 
-/// Removes an entry of a folder where it is a temporary file for this name, and a regular file that
-/// was written last so long ago that no run is at work on it.
-fn remove_old<R: Files>(rt: &R, entry: &DirEntry<&R>, name: &str, now: u64) {
+/// Opens the file that was found at a path, where the user may write it; opened so, a pipe in its place
+/// doesn't wait for another run.
+fn opened_at<R: Files<File = File>>(
+    rt: &R,
+    path: &str,
+    found: &Metadata,
+) -> io::Result<Option<File>> {
+    let file = OpenOptions::new().read(true).write(true).open(rt, path)?;
+    let is_found = FileState::of(found).is_of(&file.metadata()?);
+    Ok(is_found.then_some(file))
+}
+
+/// Whether no run is at work on a temporary file that was found at a path: its lock can be had. Nothing
+/// where that isn't reported, since it can't be opened or its file system has no locks. The file, which is
+/// locked then, has to be removed before it is closed.
+fn abandoned_at<R: Files<File = File>>(
+    rt: &R,
+    path: &str,
+    found: &Metadata,
+) -> Option<(bool, File)> {
+    let Ok(Some(file)) = opened_at(rt, path, found) else {
+        return None;
+    };
+    match file.try_lock() {
+        Ok(()) => Some((true, file)),
+        Err(TryLockError::WouldBlock) => Some((false, file)),
+        Err(TryLockError::Error(_)) => None,
+    }
+}
+
+/// Removes an entry of a folder where it is a temporary file for this name, and a regular file on which no
+/// run is at work: its lock tells it or, where no lock does, how long ago it was written.
+fn remove_abandoned<R: Files<File = File>>(rt: &R, entry: &DirEntry<&R>, name: &str, now: u64) {
     if !is_temporary(entry.file_name(), name) {
         return;
     }
     let Ok(found) = entry.metadata() else {
         return;
     };
+    if !found.is_file() {
+        return;
+    }
     let written = u64::try_from(found.mtime()).unwrap_or(0);
-    if found.is_file() && now.saturating_sub(written) > AGE {
-        let _ = fs::remove_file(rt, entry.path());
+    let path = entry.path();
+    let abandoned = abandoned_at(rt, path.as_str(), &found);
+    let is_abandoned = match &abandoned {
+        Some((is_abandoned, _)) => *is_abandoned,
+        None => now.saturating_sub(written) > AGE,
+    };
+    if is_abandoned {
+        let _ = fs::remove_file(rt, path);
     }
 }
 
 /// Removes the temporary files that runs left beside a path when they were cut. Only a run that
 /// holds the lock of its file calls it. What can't be removed stays.
-pub fn remove_left<R: Files + Clock + Alloc<A = Global>>(rt: &R, path: &PathBuf) {
+pub fn remove_left<R: Files<File = File> + Clock + Alloc<A = Global>>(rt: &R, path: &PathBuf) {
     let Ok(now) = rt.since_1970() else {
         return;
     };
@@ -113,7 +177,7 @@ pub fn remove_left<R: Files + Clock + Alloc<A = Global>>(rt: &R, path: &PathBuf)
     };
     'entries: for entry in entries {
         if let Ok(entry) = entry {
-            remove_old(rt, &entry, name_within(path), now.as_secs());
+            remove_abandoned(rt, &entry, name_within(path), now.as_secs());
         }
     }
 }
