@@ -56,6 +56,7 @@ pub record HasNames (rows : List Row) (file journal : Text) : Type 0 where
 pub record HasOptions (rows : List Row) (options : EvalOptions) : Type 0 where
   pub exit_status : IsSwitch (one_of (codes "exit-status") rows) options.exit_status
   pub no_doc : IsSwitch (one_of (codes "no-doc") rows) options.no_doc
+  pub expect_change : IsSwitch (one_of (codes "expect-change") rows) options.expect_change
 
 -- the command's word is this one, and what stands behind it has this property
 abbrev pub CommandIs : Text → (List Row → Type 0) → Option (Text × List Row) → Type 0

@@ -76,6 +76,7 @@ fn options_of(matches: &ArgMatches) -> EvalOptions
     EvalOptions {
         exit_status: switch_of(matches, "exit-status"),
         no_doc: switch_of(matches, "no-doc"),
+        expect_change: switch_of(matches, "expect-change"),
     }
 }
 

@@ -20,6 +20,11 @@ returns g c =
           on_ok_map _ (e.text keeps apart there)
           (holds_comes (program_of c.args.program.now) c.args.text.items u c.as_bytes.result.now _
           (subst (λ (t : List ℕ). IsTextEdited (program_of c.args.program.now) t u) c.as_slice.ensures.value a.ensures.edited) (sym new));
+      silent = refl;
+      expected = on_ok c.commit.result
+          (c.is_as_expected.ensures ∙ ap₂ (changes_as_expected c.args.options) c.as_slice-2.ensures.value c.as_bytes.ensures.value
+          ∙ ap (edits_as_expected c.args.options c.args.text.items) (sym gives));
+      unasked = λ free matched. c.is_as_expected.ensures ∙ free_edit c.args.options _ _ free;
       kept = e.kept;
       others = e.others;
       no_output = e.no_output;
