@@ -20,6 +20,7 @@ import failures
 import forms
 import guides
 import installing
+import journal_folder
 import leftovers
 import links
 import memory
@@ -40,7 +41,7 @@ from pages import run_pages
 from tables import run_tables
 
 CHECKS = [
-    edits, words, told, completions, guides, installing, failures, links, owners, strangers, writers, swaps, leftovers, disks,
+    edits, words, told, completions, guides, installing, failures, links, journal_folder, owners, strangers, writers, swaps, leftovers, disks,
     containers, reads, shells, random_edits, forms, mutations, together, saves, cuts, memory,
 ]
 

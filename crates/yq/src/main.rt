@@ -1,6 +1,7 @@
 //! The program: commands over a store of files.
 #![tactic(auto)]
 
+mod folder;
 mod program;
 
 use crate::program::answer_to_words;

@@ -1,5 +1,6 @@
 //! The program's words, carried out over real files and standard output.
 
+use crate::folder::WithFolder;
 use std::io::IsTerminal;
 use std::slice;
 use yq_args::Command;
@@ -9,13 +10,14 @@ use yq_store::DiskStore;
 
 /// The answer to a command whose output goes to `out`.
 fn answer_to<W: Out>(rt: &HostRuntime, out: &mut W) -> Result<Answer, Fault> {
-    let command = asked_command(rt)?;
+    let (command, folder) = asked_command(rt)?;
     if let Command::Help = command {
         put_help(rt, out)?;
         return Ok(Answer::Done);
     }
     let (file, purpose) = purpose_of(&command);
-    let mut store = DiskStore::new(rt, file, purpose).reporting(rt.stderr().is_terminal());
+    let files = DiskStore::new(rt, file, purpose).reporting(rt.stderr().is_terminal());
+    let mut store = WithFolder::new(rt, files, file, folder);
     let answers = run_list(rt.alloc(), &mut store, out, slice::from_ref(&command))?;
     match answers.first() {
         Some(answer) => Ok(*answer),

@@ -118,6 +118,11 @@ abbrev pub IsNotTaken : List Text → WordsError → Type 0
 IsNotTaken full fault =
     (fault ≡ OutOfMemory) ⊎ ((is_usage fault ≡ true) × (takes yq full ≡ true → finds (subcommand_of yq full) ≡ false))
 
+-- the words name a journal
+abbrev pub names_journal : Option (Text × List Row) → Bool
+names_journal None = false
+names_journal (Some found) = is_some (first_of (codes "journal") found.1)
+
 -- the program's own checks of the texts that clap finds: FILE isn't `-`, the journal has another name, and N is a number of 64 bits
 abbrev pub checks : List Row → Bool
 checks rows =

@@ -13,4 +13,8 @@ pub enum UsageCause {
     JournalIsFile,
     /// N is no number of 64 bits.
     BadCount,
+    /// The folder of journals has no absolute path in UTF-8.
+    JournalFolder,
+    /// No name for the journal can be made of the path of FILE.
+    JournalName,
 }

@@ -105,6 +105,12 @@ fn line_of<'w>(
             Some(found.names[0]),
             ", of the edits that are to be joined",
         ),
+        UsageCause::JournalFolder => ("YQ_JOURNALS is no absolute path in UTF-8", None, ""),
+        UsageCause::JournalName => (
+            "no journal of FILE in YQ_JOURNALS: its name would be longer than 255 bytes, or isn't UTF-8",
+            None,
+            "",
+        ),
         UsageCause::Words => line_of_words(command, is_named, is_file, found),
     }
 }

@@ -77,6 +77,22 @@ fn command_by(alloc: Global, full: &[&str], asked: bool) -> Result<Command, Word
     }
 }
 
+/// Whether words that `clap` takes name a journal.
+pub fn names_journal(alloc: Global, words: &[&str]) -> Result<bool, WordsError>
+    ensures { IfOk result (λ named. named ≡ spec.names_journal (subcommand_of yq
+        (spec.full_words (map (λ w. w.now) words.now)))) }
+{
+    let full = full_words(alloc, words)?;
+    match matched(alloc, &full) {
+        Err(e) if e.kind() == ErrorKind::OutOfMemory => Err(WordsError::OutOfMemory),
+        Err(_) => Err(WordsError::Usage(UsageCause::Words)),
+        Ok(matches) => match matches.subcommand() {
+            Some((_, found)) => Ok(found.get_str("journal").is_some()),
+            None => Ok(false),
+        },
+    }
+}
+
 /// The command of the words, which don't include the program's name.
 ///
 /// A first word that names no command is read as if `eval` stood before it. A call for help
