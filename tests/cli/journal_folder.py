@@ -3,14 +3,15 @@
 import os
 import subprocess
 
-from harness import NOBODY, SECONDS, as_nobody, each_user, equal
+from harness import NOBODY, SECONDS, Folder, as_nobody, each_user, equal
 
 ONE, TWO = b"n: 1\n", b"n: 2\n"
 EDIT = ["-i", ".n = 2"]
 MOST_OF_NAME = 255
 SOMEBODY = 12345
 EMPTY = b'{"at":0,"pending":null,"records":[],"version":2}\n'
-TOO_LONG = "no journal of FILE in YQ_JOURNALS: its name would be longer than 255 bytes, or isn't UTF-8"
+TOO_LONG = "the journal's name in YQ_JOURNALS would be longer than 255 bytes: name one by '--journal PATH'"
+NO_FILE_PATH = "FILE's path isn't had, or isn't UTF-8, so its journal has no name in YQ_JOURNALS"
 NO_PATH = "YQ_JOURNALS is no absolute path in UTF-8"
 
 
@@ -224,6 +225,7 @@ def check_a_folder_of_another_user(folder):
 
 def check_whose_journal_is_believed_there(folder):
     """A journal in the folder is judged as one beside its file."""
+    os.chmod(folder.path, 0o755)
     for place, user, before in each_user(folder):
         kept = [*before, *kept_in(place)]
         os.mkdir(place.name("j"))
@@ -250,6 +252,31 @@ def check_whose_journal_is_believed_there(folder):
         os.symlink("mine", place.name(journal))
         os.chown(place.name(journal), SOMEBODY, SOMEBODY, follow_symlinks=False)
         stays(place, "S2 read failed", "-i", ".n = 3", "f", before=kept)
+
+
+def check_a_path_that_is_not_told(folder):
+    """From inside a folder that may be written, below one that may not be searched."""
+    before = as_nobody()
+    os.mkdir(folder.name("in"))
+    os.mkdir(folder.name("j"))
+    folder.write("in/f", ONE)
+    for name in ("in", "in/f", "j"):
+        os.chown(folder.name(name), NOBODY, NOBODY)
+    os.chmod(folder.path, 0o700)
+    inside = Folder(folder.yq, folder.name("in"))
+    told(inside, NO_FILE_PATH, *EDIT, "f", before=[*before, *kept_in(folder)])
+    inside.accepts(*EDIT, "f", before=before)
+    equal(inside.names(), ["f", "f.undo.json"])
+
+
+def check_a_path_that_is_no_utf8(folder):
+    place = os.path.join(folder.path.encode(), b"\xff")
+    os.mkdir(place)
+    with open(os.path.join(place, b"f"), "wb") as text:
+        text.write(ONE)
+    done = subprocess.run([*kept_in(folder), folder.yq, *EDIT, "f"], cwd=place, capture_output=True, timeout=SECONDS)
+    equal((done.returncode, done.stderr.decode().splitlines()[:2]), (1, ["Error: U1 usage", NO_FILE_PATH]))
+    equal((os.listdir(place), os.listdir(folder.path.encode())), ([b"f"], [b"\xff"]))
 
 
 def check_a_file_that_is_its_own_journal(folder):

@@ -15,6 +15,8 @@ pub enum UsageCause {
     BadCount,
     /// The folder of journals has no absolute path in UTF-8.
     JournalFolder,
-    /// No name for the journal can be made of the path of FILE.
-    JournalName,
+    /// The name of the journal in the folder of journals would be too long.
+    LongJournalName,
+    /// The path of FILE isn't had, or isn't UTF-8, and the journal's name would be made of it.
+    FilePath,
 }

@@ -45,12 +45,12 @@ pub fn journal_in_folder(alloc: Global, folder: &str, path: &str) -> Result<Stri
     ensures reversible { (other : List ℕ) → spec.journal_in_folder folder.now other ≡
         spec.journal_in_folder folder.now path.now → other ≡ path.now }
     ensures err { IfErr result (λ e. (e ≡ WordsError.OutOfMemory) ⊎
-        ((e ≡ WordsError.Usage UsageCause.JournalName) ×
+        ((e ≡ WordsError.Usage UsageCause.LongJournalName) ×
         (spec.most_of_name < length (spec.name_of_path path.now)))) }
 {
     let name = escaped_path(alloc, path)?;
     if name.len() > MOST {
-        return Err(WordsError::Usage(UsageCause::JournalName));
+        return Err(WordsError::Usage(UsageCause::LongJournalName));
     }
     Ok(format!(in alloc; "{folder}/{name}.undo.json")?)
 }

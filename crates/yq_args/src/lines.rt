@@ -106,8 +106,13 @@ fn line_of<'w>(
             ", of the edits that are to be joined",
         ),
         UsageCause::JournalFolder => ("YQ_JOURNALS is no absolute path in UTF-8", None, ""),
-        UsageCause::JournalName => (
-            "no journal of FILE in YQ_JOURNALS: its name would be longer than 255 bytes, or isn't UTF-8",
+        UsageCause::LongJournalName => (
+            "the journal's name in YQ_JOURNALS would be longer than 255 bytes: name one by '--journal PATH'",
+            None,
+            "",
+        ),
+        UsageCause::FilePath => (
+            "FILE's path isn't had, or isn't UTF-8, so its journal has no name in YQ_JOURNALS",
             None,
             "",
         ),

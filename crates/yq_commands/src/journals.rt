@@ -33,7 +33,7 @@ fn may_be_there(rt: &HostRuntime, path: &str) -> bool {
 }
 
 /// The journal of a file in the folder of journals: its name is made of the path to which all links of
-/// the file's name lead. None where there is no such path, since the file isn't there then.
+/// the file's name lead. None where nothing is there; a path that the system doesn't tell is refused.
 fn journal_of(rt: &HostRuntime, folder: &str, file: &str) -> Result<Option<String>, Fault> {
     match fs::canonicalize(rt, file) {
         Ok(path) => match journal_in_folder(rt.alloc(), folder, path.as_str()) {
@@ -41,9 +41,9 @@ fn journal_of(rt: &HostRuntime, folder: &str, file: &str) -> Result<Option<Strin
             Err(error) => Err(words_fault(error)),
         },
         Err(e) => match e.kind() {
+            ErrorKind::NotFound | ErrorKind::NotADirectory => Ok(None),
             ErrorKind::OutOfMemory => Err(Fault::OutOfMemory),
-            ErrorKind::InvalidFilename => Err(Fault::Usage(UsageCause::JournalName)),
-            _ => Ok(None),
+            _ => Err(Fault::Usage(UsageCause::FilePath)),
         },
     }
 }
