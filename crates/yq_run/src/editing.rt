@@ -93,16 +93,7 @@ pub fn edit_from<D: Store>(
         text: edited_to,
         splices,
     } = edit_text(alloc, program, text.as_slice())?;
-    report.is_match = is_as_expected(options, text.as_slice(), edited_to.as_bytes());
-    commit(
-        alloc,
-        store,
-        file,
-        journal,
-        state,
-        expr,
-        splices,
-        text,
-        edited_to.as_bytes(),
-    )
+    let new = edited_to.as_bytes();
+    report.is_match = is_as_expected(options, text.as_slice(), new);
+    commit(alloc, store, file, journal, state, expr, splices, text, new)
 }

@@ -1,7 +1,8 @@
-use Rattle.std.{proofs.Common.{◌≡◌, ℕ, List, Err, string_bytes, sym, ap, ◌∙◌, subst}, proofs.lemmas.Result.err_from_is_err_and}
-use Rattle.yq_history.proofs.MoveLaws.{on_ok_map}
+use Rattle.std.{proofs.Common.{◌≡◌, ℕ, List, Err, string_bytes, refl, sym, ap, ◌∙◌, subst}, proofs.lemmas.Result.err_from_is_err_and}
+use Rattle.yq_history.{proofs.EffectLaws.on_ok, proofs.MoveLaws.on_ok_map}
 use Rattle.yq_semantics.specs.View.{program_of}
 use Rattle.yq_commands.{specs.Editing.{edited, program_edits}, specs.FileEdits.IsTextEdited, proofs.EditEffects.edit_fails}
+use Rattle.yq_commands.{specs.Expecting.{changes_as_expected, edits_as_expected}, proofs.ExpectingLaws.free_edit}
 use Rattle.yq_commands.proofs.FileEditLaws.{holds_comes}
 use Rattle.yq_run.proofs.editing.edit_from.Goals as goal
 
@@ -22,7 +23,7 @@ returns g c =
           (subst (λ (t : List ℕ). IsTextEdited (program_of c.args.program.now) t u) c.as_slice.ensures.value a.ensures.edited) (sym new));
       silent = refl;
       expected = on_ok c.commit.result
-          (c.is_as_expected.ensures ∙ ap₂ (changes_as_expected c.args.options) c.as_slice-2.ensures.value c.as_bytes.ensures.value
+          (c.is_as_expected.ensures ∙ ap (λ t. changes_as_expected c.args.options t c.as_bytes.result.now) c.as_slice-2.ensures.value
           ∙ ap (edits_as_expected c.args.options c.args.text.items) (sym gives));
       unasked = λ free matched. c.is_as_expected.ensures ∙ free_edit c.args.options _ _ free;
       kept = e.kept;
