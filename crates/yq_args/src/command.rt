@@ -65,25 +65,25 @@ impl Command {
         if self.names_file(&journal) {
             return Err(UsageCause::JournalIsFile);
         }
-        Ok(match self {
+        match self {
             Command::Eval {
                 expr,
                 file,
                 in_place,
                 options,
                 ..
-            } => Command::Eval {
+            } => Ok(Command::Eval {
                 expr,
                 file,
                 journal,
                 in_place,
                 options,
-            },
-            Command::Undo { file, .. } => Command::Undo { file, journal },
-            Command::Redo { file, .. } => Command::Redo { file, journal },
-            Command::History { file, .. } => Command::History { file, journal },
-            Command::Squash { n, file, .. } => Command::Squash { n, file, journal },
-            Command::Help => Command::Help,
-        })
+            }),
+            Command::Undo { file, .. } => Ok(Command::Undo { file, journal }),
+            Command::Redo { file, .. } => Ok(Command::Redo { file, journal }),
+            Command::History { file, .. } => Ok(Command::History { file, journal }),
+            Command::Squash { n, file, .. } => Ok(Command::Squash { n, file, journal }),
+            Command::Help => Ok(Command::Help),
+        }
     }
 }
