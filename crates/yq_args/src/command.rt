@@ -69,9 +69,9 @@ impl Command {
             Command::Eval {
                 expr,
                 file,
+                journal: _old,
                 in_place,
                 options,
-                ..
             } => Ok(Command::Eval {
                 expr,
                 file,
@@ -79,10 +79,23 @@ impl Command {
                 in_place,
                 options,
             }),
-            Command::Undo { file, .. } => Ok(Command::Undo { file, journal }),
-            Command::Redo { file, .. } => Ok(Command::Redo { file, journal }),
-            Command::History { file, .. } => Ok(Command::History { file, journal }),
-            Command::Squash { n, file, .. } => Ok(Command::Squash { n, file, journal }),
+            Command::Undo {
+                file,
+                journal: _old,
+            } => Ok(Command::Undo { file, journal }),
+            Command::Redo {
+                file,
+                journal: _old,
+            } => Ok(Command::Redo { file, journal }),
+            Command::History {
+                file,
+                journal: _old,
+            } => Ok(Command::History { file, journal }),
+            Command::Squash {
+                n,
+                file,
+                journal: _old,
+            } => Ok(Command::Squash { n, file, journal }),
             Command::Help => Ok(Command::Help),
         }
     }

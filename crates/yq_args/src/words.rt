@@ -4,6 +4,7 @@ ghost use Rattle.clap.specs.Words.{IsAmong, fault_of, subcommand_of, takes};
 ghost use Rattle.yq_args.{specs.declared.command.Command.TheVariants.Help, specs.declared.words_error.WordsError.WordsError, specs.Line.yq};
 ghost use Rattle.yq_args.specs.Asked as spec;
 
+use crate::asked::has_journal;
 use crate::{Command, UsageCause, WordsError, command_in, matched, split_command};
 use clap::error::ErrorKind;
 use std::alloc::{AllocError, Global};
@@ -87,7 +88,7 @@ pub fn names_journal(alloc: Global, words: &[&str]) -> Result<bool, WordsError>
         Err(e) if e.kind() == ErrorKind::OutOfMemory => Err(WordsError::OutOfMemory),
         Err(_) => Err(WordsError::Usage(UsageCause::Words)),
         Ok(matches) => match matches.subcommand() {
-            Some((_, found)) => Ok(found.get_str("journal").is_some()),
+            Some((_, found)) => Ok(has_journal(found)),
             None => Ok(false),
         },
     }

@@ -75,10 +75,9 @@ fn journal_elsewhere(
     let Some((file, beside)) = names_of(command) else {
         return Ok(None);
     };
-    match names_journal(rt.alloc(), words) {
-        Ok(false) if !may_be_there(rt, beside) => (),
-        Ok(_) => return Ok(None),
-        Err(error) => return Err(words_fault(error)),
+    let is_named = names_journal(rt.alloc(), words).map_err(words_fault)?;
+    if is_named || may_be_there(rt, beside) {
+        return Ok(None);
     }
     if !folder.starts_with('/') {
         return Err(Fault::Usage(UsageCause::JournalFolder));
