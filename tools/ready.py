@@ -3,6 +3,7 @@
   check reads
 - definitions whose comments name no section, and names that two files of specs/ define
 - names that have a better word in the glossary, and names of crates that crates.txt doesn't list
+- lines that say memory ran out where none was asked for (tools/memory.py)
 - clauses that are too wide, wrong bodies of both tiers that can't be applied, versions that differ, options that help, man page or a
   completion tells otherwise than the table, and links of pages that lead nowhere
 
@@ -24,12 +25,13 @@ from crates import ROOT, RT, libraries, listed
 from edits import hindrance, names_in
 from glossary import coined
 from imports import misformed
+from memory import unasked
 from options import retold
 from version import other_versions
 
 sys.path.append(os.path.join(ROOT, "tests", "cli"))
 
-from guides import broken_links
+from docs_agree import broken_links
 
 # Where a crate's sources stand, by their ending.
 PLACES = {".rt": ("src",), ".antt": ("specs", "proofs")}
@@ -161,7 +163,7 @@ def main(words):
     try:
         copy = os.path.join(room, "copy")
         shutil.copytree(ROOT, copy, symlinks=True, ignore=LEFT)
-        of_copy = (misplaced, badly_laid, misformed, faulty_definitions, coined, unknown_crates)
+        of_copy = (misplaced, badly_laid, misformed, faulty_definitions, coined, unasked, unknown_crates)
         found = [it for look in of_copy for it in look(copy)]
         found += [*too_wide(), *not_applied(), *other_versions(), *otherwise_told(), *lost_links()]
     finally:

@@ -3,8 +3,8 @@
 usage: wrong_bodies.py [--look] [CRATE ..]      all crates that have some, if none is named
 With --look it only tells which of them can't be applied to the code as it stands.
 
-`rt ci` tries them in a temporary copy of these crates and of those below, in which they stand in the place of must-fail/. What it
-proves of the crates themselves is kept on this machine, where the kit does that.
+`rt ci` tries them in a temporary copy of these crates and of those below, in which they replace must-fail/. What it proves of the
+crates themselves is kept on this machine, where the kit does that. The rows of these crates in docs/EVIDENCE.md are written anew.
 The last line is `N refused, N not`, and the status 0 exactly where none was not refused.
 """
 
@@ -17,9 +17,10 @@ import tempfile
 from copies import copy_to
 from crates import libraries, took
 from edits import hindrance, names_in
+from evidence import write_rows
 from gate import BEGAN, KEPT, prove, say
 
-REFUSED = re.compile(r"rt: must-fail \w+/\w+\.edit: refused, as it must be")
+REFUSED = re.compile(r"rt: must-fail (\w+)/(\w+)\.edit: refused, as it must be: (?:note: )?(\S+)")
 
 
 def look(crates):
@@ -32,16 +33,22 @@ def look(crates):
 
 
 def tried(crates):
-    """Tries the wrong bodies of crates, and gives how many were refused."""
-    known, refused = libraries(), []
+    """Tries the wrong bodies of crates, and gives for each that was refused the place that the prover named first."""
+    known, refused = libraries(), {}
+
+    def hear(line):
+        found = REFUSED.match(line)
+        if found:
+            refused[found[1], found[2]] = found[3]
+
     with_those_below = [it for it in known if it in crates or any(it in known[crate] for crate in crates)]
     with tempfile.TemporaryDirectory(prefix="wrong-bodies-") as room:
         copy = os.path.join(room, "copy")
         copy_to(copy, with_those_below, crates)
-        status, _, reasons = prove(copy, [], lambda line: refused.append(line) if REFUSED.match(line) else None)
+        status, _, reasons = prove(copy, [], hear)
     for line in reasons.told() if status else ():
         say(line)
-    return len(set(refused))
+    return refused
 
 
 def parsed(words):
@@ -66,9 +73,10 @@ def main(words):
         return 0 if can_be_applied else 1
     signal.signal(signal.SIGTERM, lambda *_: sys.exit(143))
     count, refused = sum(len(names_in(crate)) for crate in crates), tried(crates)
+    write_rows(crates, refused)
     say(took(BEGAN, KEPT))
-    say(f"{refused} refused, {count - refused} not")
-    return 0 if refused == count else 1
+    say(f"{len(refused)} refused, {count - len(refused)} not")
+    return 0 if len(refused) == count else 1
 
 
 if __name__ == "__main__":

@@ -11,7 +11,7 @@ import subprocess
 import termios
 import time
 
-from guides import helped
+from docs_agree import helped
 from harness import ROOT, SECONDS, Skip, equal
 
 FILES = {"a.yaml": b"n: 2\n", "b c.yml": b"", "a.yaml.undo.json": b"{}"}

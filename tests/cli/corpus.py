@@ -25,7 +25,7 @@ sys.path.insert(0, os.path.dirname(os.path.abspath(__file__)))
 
 from harness import Folder, equal
 from random_edits import FILE, Update, is_right
-from trees import documents_of
+from oracle import documents_of
 
 LARGEST = 200_000
 LINE = re.compile(rb"^([A-Za-z_][A-Za-z0-9_-]*): ([A-Za-z0-9_./-]+)\r?$", re.MULTILINE)

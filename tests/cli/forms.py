@@ -1,8 +1,8 @@
-"""Files of the forms in which YAML is written for real programs (forms/*.yaml): read, edited and undone.
+"""Files of the forms in which YAML is written for real programs (tests/data/forms/*.yaml): read, edited and undone.
 
 usage: forms.py PATH_OF_YQ [SEED]      tells what was tried on each
 
-forms/rows.json has for each file what is written by hand of it: `{"reads": [[EXPR, VALUE], ..], "edits": [[EXPR, OLD, NEW], ..]}`,
+tests/data/forms/rows.json has for each file what is written by hand of it: `{"reads": [[EXPR, VALUE], ..], "edits": [[EXPR, OLD, NEW], ..]}`,
 where a read prints the value and a line feed, and an edit of the file makes NEW of OLD, which stands once in it, and is undone; or
 `{"refused": LINE}`. Where PyYAML is there, values at random places are read and random edits done too, as a second implementation
 means them, with a seed that is another one in each run and is printed; YQ_SEED in the environment of run.py sets it.
@@ -19,11 +19,11 @@ from concurrent.futures import ThreadPoolExecutor
 sys.path.insert(0, os.path.dirname(os.path.abspath(__file__)))
 
 from corpus import library
-from harness import Folder, equal, seed_of_run
+from harness import ROOT, Folder, equal, seed_of_run
+from oracle import documents_of
 from random_edits import FILE, Update, is_right
-from trees import documents_of
 
-FORMS = os.path.join(os.path.dirname(os.path.abspath(__file__)), "forms")
+FORMS = os.path.join(ROOT, "tests", "data", "forms")
 VALUES, LISTS, EDITS = 5, 3, 3
 
 

@@ -8,7 +8,7 @@ import subprocess
 import sys
 import tarfile
 
-from guides import LINK, version_told
+from docs_agree import LINK, version_told
 from harness import ROOT, SECONDS, Skip, equal
 
 PAGES = ("MANUAL", "FROM-YQ-V4", "EXPRESSIONS", "TEXT", "STYLE-AND-EXTENTS", "JOURNAL")

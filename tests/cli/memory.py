@@ -7,8 +7,8 @@ is then refused as out of memory. The file holds the text before it or the one a
 import os
 from concurrent.futures import ThreadPoolExecutor
 
-from cuts import EDIT, FIRST_EDIT, REDO_OF_TWO, SQUASH, UNDO_OF_TWO, WORKERS, Scenario
-from cuts import goes_on, leftovers, outcome, prepared, walk_through
+from fault_injection import EDIT, FIRST_EDIT, REDO_OF_TWO, SQUASH, UNDO_OF_TWO, WORKERS, Scenario
+from fault_injection import goes_on, leftovers, outcome, prepared, walk_through
 from harness import Skip, equal
 from tracing import calls_in, traced
 

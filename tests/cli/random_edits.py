@@ -17,7 +17,7 @@ sys.path.insert(0, os.path.dirname(os.path.abspath(__file__)))
 
 from harness import Folder, Skip, equal
 from random_texts import Texts
-from trees import EACH, Node, Refused, comes_to_a_place, documents_of, meaning
+from oracle import EACH, Node, Refused, comes_to_a_place, documents_of, meaning
 
 LISTS = 300
 FILE = "f"

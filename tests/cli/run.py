@@ -11,38 +11,40 @@ import sys
 
 sys.path.insert(0, os.path.dirname(os.path.abspath(__file__)))
 
+import arguments
+import compared
 import completions
+import concurrency
 import containers
-import cuts
 import disks
+import docs_agree
 import edits
+import external_writes
 import failures
+import fault_injection
 import forms
-import guides
+import help_examples
 import installing
 import journal_folder
-import leftovers
+import journal_trust
 import links
 import memory
 import mutations
+import other_users
 import owners
 import random_edits
 import reads
-import saves
 import shells
-import strangers
 import swaps
-import together
-import told
-import words
-import writers
+import temp_files
 from harness import run_all
 from pages import run_pages
 from tables import run_tables
 
 CHECKS = [
-    edits, words, told, completions, guides, installing, failures, links, journal_folder, owners, strangers, writers, swaps, leftovers, disks,
-    containers, reads, shells, random_edits, forms, mutations, together, saves, cuts, memory,
+    edits, arguments, help_examples, completions, docs_agree, compared, installing, failures, links, owners, other_users,
+    journal_folder, journal_trust, swaps, temp_files, disks, containers, reads, shells, random_edits, forms, mutations, concurrency,
+    external_writes, fault_injection, memory,
 ]
 
 sys.exit(run_all(CHECKS, [run_tables, run_pages], sys.argv))

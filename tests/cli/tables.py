@@ -1,4 +1,4 @@
-"""Tables of worked texts, edits and commands (tables/*.json), run on the program.
+"""Tables of worked texts, edits and commands (tests/data/tables/*.json), run on the program.
 
 A table is `{"about": .., "source": .., "rows": [..]}`, and a row one of
 
@@ -22,9 +22,9 @@ import json
 import os
 from concurrent.futures import ThreadPoolExecutor
 
-from harness import Folder, equal
+from harness import ROOT, Folder, equal
 
-TABLES = os.path.join(os.path.dirname(os.path.abspath(__file__)), "tables")
+TABLES = os.path.join(ROOT, "tests", "data", "tables")
 FILE, JOURNAL = "f", "f.undo.json"
 NO_MATCH = b"Error: N1 no matches found\n"
 

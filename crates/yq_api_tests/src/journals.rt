@@ -79,7 +79,7 @@ fn is_called(alloc: Global, journal: &mut Journal, call: OnJournal, text: &[u8])
     }
 }
 
-/// The journal's cursor behind a call: none where memory was wanting.
+/// The journal's cursor after a call: none where memory was wanting.
 pub fn called(alloc: Global, journal: &mut Journal, call: OnJournal, text: &[u8]) -> Option<usize> {
     if is_called(alloc, journal, call, text) {
         Some(journal.at())

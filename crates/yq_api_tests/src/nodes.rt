@@ -1,10 +1,10 @@
-//! A node at its path, and where it stands: calls that the program doesn't make.
+//! A node at its path, and where it is: calls that the program doesn't make.
 
 use std::alloc::Global;
 use yq_tree::{Documents, Part, Path, extent, locate, read};
 
 /// Whether the node at the root of a document has an entry with the key, the anchor and the comments that are
-/// written, and its content stands where it is written.
+/// written, and its content is where it is written.
 fn is_as_written(documents: &Documents<'_>, path: &Path) -> bool {
     let Some(root) = locate(documents, path) else {
         return false;

@@ -8,7 +8,7 @@ use std::alloc::Global;
 use yq_expr::{Program, parse_expr};
 use yq_splice::Session;
 
-/// Texts of several documents, or of a marker alone, updates whose first byte comes right behind the line of
+/// Texts of several documents, or of a marker alone, updates whose first byte comes right after the line of
 /// a marker, and how many lines these count at most.
 static BEHIND_MARKERS: [(&str, &str, u64); 6] = [
     ("---\n", ". = []", 1),
@@ -79,7 +79,7 @@ fn is_within(alloc: Global, text: &str, expr: &str, most: u64) -> bool {
     }
 }
 
-/// A document, a thousand comment lines behind it, a marker and another document.
+/// A document, a thousand comment lines after it, a marker and another document.
 fn with_comments(alloc: Global) -> Option<String> {
     let mut text = String::from_str(alloc, "a: 1\n").ok()?;
     'lines: for _ in 0..1000u32 {
@@ -93,7 +93,7 @@ fn with_comments(alloc: Global) -> Option<String> {
     }
 }
 
-/// Whether no comment in front of the marker is counted where the root behind it gives way.
+/// Whether no comment in front of the marker is counted where the root after it is replaced.
 fn is_gap_passed(alloc: Global) -> bool {
     match with_comments(alloc) {
         Some(text) => is_within(alloc, text.as_str(), "(select(di == 1)) = 5", 1),

@@ -24,7 +24,7 @@ pub(crate) fn planned(alloc: Global, text: &str, program: &Program) -> Result<Ve
     Ok(ops)
 }
 
-/// Whether an operation is applied to a session, or by itself to its text, only behind refused growths.
+/// Whether an operation is applied to a session, or by itself to its text, only after refused growths.
 fn is_refused_first(
     alloc: Global,
     session: &mut Session,

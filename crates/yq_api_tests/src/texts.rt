@@ -7,7 +7,7 @@ use yq_rows::scan;
 use yq_scalar::{content, read_block, read_plain, read_quoted, repair, write_block, write_scalar};
 use yq_scalar_reader::can_write;
 
-/// A call on a text: the content of the scalar in front of it, a gap repaired behind that one, its lines in
+/// A call on a text: the content of the scalar in front of it, a gap repaired after that one, its lines in
 /// a block scalar, it as a plain scalar of which a copy is written, null, the inline node in front of it, and
 /// its rows.
 #[derive(Clone, Copy)]
@@ -21,7 +21,7 @@ pub enum OnText {
     Rows,
 }
 
-/// For how many bytes the content of the scalar in front of a text has room, or a gap behind it.
+/// For how many bytes the content of the scalar in front of a text has room, or a gap after it.
 fn piece_room(alloc: Global, text: &str, is_gap: bool) -> Option<usize> {
     if !text.is_char_boundary(0) {
         return None;

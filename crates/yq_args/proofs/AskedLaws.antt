@@ -13,7 +13,7 @@ second_fails false = refl
 pub missing_fails : (n : Bool) (text : Option Text) → text ≡ None → (n && is_some text) ≡ false
 missing_fails n text is = ap (λ t. n && is_some t) is ∙ second_fails n
 
--- names that may not stand: the file's is `-`, or the journal's is the same
+-- names that aren't allowed: the file's is `-`, or the journal's is the same
 module _ (found journal : Option Text) (file : Text) (is : found ≡ Some file) where
   pub dash_fails : bytes_eq file (codes "-") ≡ true → names_fit found journal ≡ false
   dash_fails dash =

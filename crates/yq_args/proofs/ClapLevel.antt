@@ -47,7 +47,7 @@ level_passed s words f p =
       given = (both (list_all (λ a. a.is_free) s.rules) _ e.1).1;
     }
 
--- the words behind the one that names a command are that command's
+-- the words after the one that names a command are that command's
 stop_goes_on : (c : List Rule) (names : Names) (words : List Text) (w : Walk) (name : Text) (before : List Text) → w.stopped ≡ Some (name, before) → (fold (walked c names) w words).stopped ≡ Some (name, before ++ words)
 unfolding walked
 stop_goes_on c names [] w name before e = e ∙ ap (λ l. Some (name, l)) (sym (append-nil before))

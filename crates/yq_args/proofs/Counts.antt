@@ -28,7 +28,7 @@ true_is_count text e =
     let rest = (and_parts _ _ e).1 in
     ((and_parts _ _ e).0, true_lt 0 (length text) (and_parts _ _ rest).0, true_lt (digits_value 10 text) (2 ^ 64) (and_parts _ _ rest).1)
 
--- a text is read as the number that it writes, where no plus stands first
+-- a text is read as the number that it writes, where no plus is first
 pub count_parsed : {E : Type 0} (text : List ℕ) (r : Result ℕ E) → ParsesUnsigned 64 10 text r → get_or text 0 0 ≢ 43 → result_ok r ≡ count_in text
 count_parsed {E = E} text (Ok n) parses plain =
     let p = parse_plain own {E = E} 64 text (Ok n) parses plain in

@@ -10,7 +10,7 @@ use Rattle.yq_args.specs.declared.words_error.WordsError.{WordsError}
 use Rattle.yq_args.{specs.declared.words_error.WordsError.TheVariants.{OutOfMemory, Usage}, specs.CommandWords.with_command, specs.Line.yq}
 use Rattle.yq_args.specs.Setting.{asked_expression}
 
--- the words as clap reads them, behind the program's name
+-- the words as clap reads them, after the program's name
 abbrev pub full_words : List Text → List Text
 full_words words = codes "yq" ∷ with_command words
 
@@ -58,7 +58,7 @@ pub record HasOptions (rows : List Row) (options : EvalOptions) : Type 0 where
   pub no_doc : IsSwitch (one_of (codes "no-doc") rows) options.no_doc
   pub expect_change : IsSwitch (one_of (codes "expect-change") rows) options.expect_change
 
--- the command's word is this one, and what stands behind it has this property
+-- the command's word is this one, and what comes after it has this property
 abbrev pub CommandIs : Text → (List Row → Type 0) → Option (Text × List Row) → Type 0
 CommandIs name holds None = ⊥
 CommandIs name holds (Some found) = (found.0 ≡ name) × holds found.1
@@ -83,19 +83,19 @@ IsAsked found Help = Unit {0}
 abbrev pub name_fits : Option Text → Text → Bool
 name_fits journal file = not (bytes_eq file (codes "-")) && not (bytes_eq (journal_name journal file) file)
 
--- the names are there, and may stand
+-- the names are there, and allowed
 abbrev pub names_fit : Option Text → Option Text → Bool
 names_fit None journal = false
 names_fit (Some file) journal = name_fits journal file
 
--- a word names a command, and what that needs besides its names is there and may stand
+-- a word names a command, and what that needs besides its names is there and allowed
 abbrev pub words_fit : Text → List Row → Bool
 words_fit name rows =
     if bytes_eq name (codes "eval") then is_some (first_of (codes "expr") rows)
     else if bytes_eq name (codes "squash") then is_some (option_and_then count_in (first_of (codes "n") rows))
     else list_any (λ x. bytes_eq name x) (codes "undo" ∷ codes "redo" ∷ codes "history" ∷ [])
 
--- the texts that a command needs are there, and may stand
+-- the texts that a command needs are there, and allowed
 abbrev pub passes : Text → List Row → Bool
 passes name rows = names_fit (first_of (codes "file") rows) (first_of (codes "journal") rows) && words_fit name rows
 
@@ -104,11 +104,11 @@ abbrev pub is_usage : WordsError → Bool
 is_usage (Usage cause) = true
 is_usage OutOfMemory = false
 
--- memory ran out, or a text that the command needs is missing or may not stand
+-- memory ran out, or a text that the command needs is missing or isn't allowed
 abbrev pub IsMissed : Text → List Row → WordsError → Type 0
 IsMissed name rows fault = (fault ≡ OutOfMemory) ⊎ ((is_usage fault ≡ true) × (passes name rows ≡ false))
 
--- clap finds a command, whose texts are there and may stand
+-- clap finds a command, whose texts are there and may be
 abbrev pub finds : Option (Text × List Row) → Bool
 finds None = false
 finds (Some found) = passes found.0 found.1

@@ -3,7 +3,7 @@ use Rattle.std.specs.Prelude.{ℕ, List, codes, true, Some}
 use Rattle.clap.specs.Words.{App, Rule, new_app, new_rule, with_rule, with_subcommand}
 use Rattle.clap.specs.declared.builder.ArgAction.TheVariants.{SetTrue}
 
--- a word that has to stand at a place of the command line
+-- a word that has to be at a place of the command line
 abbrev pub positional : List ℕ → Rule
 positional id = record (new_rule id) { required = true }
 

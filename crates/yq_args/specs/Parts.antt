@@ -19,7 +19,7 @@ argument_rule Expr = positional (codes "expr")
 argument_rule Count = positional (codes "n")
 argument_rule File = positional (codes "file")
 
--- a command with these arguments behind those that it has
+-- a command with these arguments after those that it has
 abbrev pub with_arguments : App → List Argument → App
 with_arguments app [] = app
 with_arguments app (arg ∷ args) = with_arguments (with_rule app (argument_rule arg)) args
@@ -32,7 +32,7 @@ command_app Redo = file_command (codes "redo")
 command_app History = file_command (codes "history")
 command_app Squash = squash_command
 
--- a command with these ones below it, behind those that it has
+-- a command with these ones below it, after those that it has
 abbrev pub with_commands : App → List SubCommand → App
 with_commands app [] = app
 with_commands app (command ∷ commands) = with_commands (with_subcommand app (command_app command).top) commands

@@ -2,11 +2,11 @@
 use Rattle.std.{specs.Prelude.{ℕ, ◌==◌, if◌then◌else◌, List, [], ◌∷◌, ◌++◌, codes, encode_utf8, Option, Some, None}, specs.List.flat_map}
 use Rattle.std.specs.Str.{chars}
 
--- a character of a text as it stands in an expression: behind a backslash where it is a quote or a backslash
+-- a character of a text as it is in an expression: after a backslash where it is a quote or a backslash
 abbrev pub in_text : ℕ → List ℕ
 in_text c = if c == 34 then 92 ∷ 34 ∷ [] else if c == 92 then 92 ∷ 92 ∷ [] else encode_utf8 c
 
--- what stands before the text: the places that it is put to, and the quote
+-- what comes before the text: the places that it is put to, and the quote
 abbrev pub setting_front : List ℕ → List ℕ
 setting_front expr = codes "(" ++ (expr ++ codes ") = \"")
 

@@ -119,7 +119,7 @@ fn squash_in(alloc: Global, matches: &ArgMatches) -> Result<Command, WordsError>
     }
 }
 
-/// The command of a word and of what was found behind it.
+/// The command of a word and of what was found after it.
 pub fn command_in(alloc: Global, name: &str, matches: &ArgMatches) -> Result<Command, WordsError>
     ensures ok { IfOk result (spec.IsAsked (Some (name.now, rows_of (found_of matches.now)))) }
     ensures err { IfErr result (spec.IsMissed name.now (rows_of (found_of matches.now))) }

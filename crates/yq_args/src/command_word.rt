@@ -9,7 +9,7 @@ pub fn is_command_word(word: &str) -> bool
     matches!(word, "eval" | "undo" | "redo" | "history" | "squash")
 }
 
-/// The command's word, and the words behind it.
+/// The command's word, and the words after it.
 pub fn split_command<'a, 'w>(words: &'w [&'a str]) -> (&'a str, &'w [&'a str])
     ensures { result.0.now ∷ map (λ w. w.now) result.1.now ≡
         spec.with_command (map (λ w. w.now) words.entry.now) }

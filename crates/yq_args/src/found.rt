@@ -1,11 +1,11 @@
-//! What stands in the words of a command line, as far as it can be read.
+//! What is in the words of a command line, as far as it can be read.
 
 use crate::options::{is_known, without_value};
 
 /// How many of the words that are no options are kept.
 const KEPT: usize = 3;
 
-/// What stands in the words behind the command's.
+/// What is in the words after the command's.
 #[derive(Clone, Copy)]
 pub struct Found<'w> {
     /// The first option that the command doesn't have.
@@ -14,9 +14,9 @@ pub struct Found<'w> {
     pub names: [&'w str; KEPT],
     /// How many words are no options.
     pub count: usize,
-    /// The line on an option that takes a value, where no word stands behind it, or an option.
+    /// The line on an option that takes a value, where no word comes after it, or an option.
     pub lacking: Option<&'static str>,
-    /// Whether the first of the words that are no options stands behind `--`.
+    /// Whether the first of the words that are no options comes after `--`.
     pub is_behind: bool,
 }
 
@@ -25,7 +25,7 @@ fn is_option(word: &str) -> bool {
     word.starts_with('-') && word != "-"
 }
 
-/// What stands in these words behind the command's.
+/// What is in these words after the command's.
 pub fn find<'w>(command: &str, words: &[&'w str]) -> Found<'w> {
     let mut found = Found {
         unknown: None,

@@ -1,5 +1,5 @@
 //! The words of the command line, read by `clap` as the command that they ask for.
-//! Why words are no command is put in lines for who wrote them.
+//! Why words are no command is put in lines for the person that wrote them.
 #![tactic(auto)]
 
 mod asked;

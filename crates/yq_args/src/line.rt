@@ -42,7 +42,7 @@ enum SubCommand {
     Squash,
 }
 
-/// A word that has to stand there.
+/// A word that has to be there.
 fn positional<'a>(alloc: Global, id: &'a str) -> Arg<'a>
     ensures rule { rule_of result ≡ spec.positional id.entry.now }
     ensures local { result.global ≡ false }

@@ -1,4 +1,4 @@
-//! Why words are no command, in lines for who wrote them.
+//! Why words are no command, in lines for the person that wrote them.
 
 use crate::cause::UsageCause;
 use crate::command_word::{is_command_word, split_command};
@@ -11,7 +11,7 @@ use std::alloc::{AllocError, Global};
 /// How many characters of a word are shown.
 const MAX_CHARS: usize = 80;
 
-/// A line: what it tells, of which word if of one, and in what it ends; `%` stands for the program.
+/// A line: what it tells, of which word if of one, and in what it ends; `%` means the program.
 type UsageLine<'w> = (&'static str, Option<&'w str>, &'static str);
 
 /// Adds a word in quotes, with `?` for each control character, and cut where it is long.

@@ -1,4 +1,4 @@
-//! Texts that name the program: in them `%` stands for the name by which it was called.
+//! Texts that name the program: in them `%` means the name by which it was called.
 
 use std::alloc::AllocError;
 

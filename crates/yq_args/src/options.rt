@@ -1,4 +1,4 @@
-//! Options: those of the commands, and what stands for others that are often written.
+//! Options: those of the commands, and what replaces others that are often written.
 
 use crate::spelling::is_near;
 
@@ -9,7 +9,7 @@ struct ForeignOption {
     hint: &'static str,
 }
 
-/// The options that `eval` has not and that are often written. In a hint `%` stands for the program.
+/// The options that `eval` has not and that are often written. In a hint `%` means the program.
 const FOREIGN: [ForeignOption; 19] = [
     ForeignOption {
         letters: b"r",
@@ -122,7 +122,7 @@ const OWN: [(&str, &str); 7] = [
 /// What to do in place of any other option.
 const OTHER: &str = ": a word behind '--' may begin with '-'";
 
-/// The first letter behind `-` that is none of a command's options.
+/// The first letter after `-` that is none of a command's options.
 fn unknown_letter(command: &str, option: &str) -> Option<u8> {
     let known: &[u8] = if command == "eval" { b"hieN" } else { b"h" };
     let letters = option.strip_prefix('-').unwrap_or(option);
@@ -134,7 +134,7 @@ fn unknown_letter(command: &str, option: &str) -> Option<u8> {
     None
 }
 
-/// Whether a command has this option, or each of these that stand in one word.
+/// Whether a command has this option, or each of these that are in one word.
 pub fn is_known(command: &str, option: &str) -> bool {
     if !option.starts_with("--") {
         return unknown_letter(command, option).is_none();
@@ -148,7 +148,7 @@ pub fn is_known(command: &str, option: &str) -> bool {
     }
 }
 
-/// What is missing behind an option that takes a value, where none stands there.
+/// What is missing after an option that takes a value, where none is there.
 pub fn without_value(command: &str, option: &str) -> Option<&'static str> {
     match option {
         "--journal" => Some("no PATH behind '--journal'"),

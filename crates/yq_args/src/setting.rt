@@ -4,7 +4,7 @@ ghost use Rattle.yq_args.specs.Setting as spec;
 
 use std::alloc::{AllocError, Global};
 
-/// Adds a character of a text that stands between quotes.
+/// Adds a character of a text that is between quotes.
 fn push_in_text(out: &mut String, c: char) -> Result<(), AllocError>
     ensures { OnOk result (string_bytes out.new ≡ string_bytes out.old ++ spec.in_text c) }
 {
@@ -17,7 +17,7 @@ fn push_in_text(out: &mut String, c: char) -> Result<(), AllocError>
     }
 }
 
-/// What stands before the text.
+/// What comes before the text.
 fn front(alloc: Global, expr: &str) -> Result<String, AllocError>
     ensures { IfOk result (λ s. string_bytes s ≡ spec.setting_front expr.now) }
 {

@@ -1,4 +1,4 @@
-//! Words that stand where a command's name may, and name none.
+//! Words where a command's name may be, and name none.
 
 /// The names of commands, and in what the line on a word ends that is near one.
 const NAMES: [(&str, &str); 5] = [
@@ -9,7 +9,7 @@ const NAMES: [(&str, &str); 5] = [
     ("eval", ": did you mean 'eval'?"),
 ];
 
-/// Words of other programs, and in what the line on each of them ends; `%` stands for the program.
+/// Words of other programs, and in what the line on each of them ends; `%` means the program.
 const OTHERS: [(&str, &str); 18] = [
     ("eval-all", ": each run reads one FILE"),
     ("ea", ": each run reads one FILE"),

@@ -22,7 +22,7 @@ use Rattle.yq_text.specs.Exchanging as exchange
 from_start : (n : ℕ) → 0 + n ≡ n
 from_start n = omega arith
 
--- an exchange with what leads and what is written behind it
+-- an exchange with what leads and what is written after it
 put_splices : (b o l w r : List ℕ) → changes (keep b ∷ (put o l ∷ (put [] w ∷ (keep r ∷ [])))) ≡ splice_at (length b) o (l ++ w)
 unfolding changes
 put_splices [] o l w [] = append-nil _ ∙ ap (λ (x : List ℕ). splice_at 0 x (l ++ w)) (append-nil o)

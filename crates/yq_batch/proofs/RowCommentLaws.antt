@@ -1,4 +1,4 @@
--- Line comments that operations put in rows, wherever their items and entries stand still.
+-- Line comments that operations put in rows, wherever their items and entries are still.
 use Rattle.std.proofs.Common.{◌≡◌, ℕ, ◌+◌, ◌≤◌, Bool, true, false, cond, List, [], ◌∷◌, ◌++◌, length, Some, refl, sym, ap, ◌∙◌, subst}
 use Rattle.std.{proofs.Common.{arith, append_assoc, string_bytes, length-append}, proofs.lemmas.Str.IsCharBoundary-at_seam}
 use Rattle.std.specs.Str.{IsCharBoundary}

@@ -1,4 +1,4 @@
--- Values that operations put in rows, wherever their items and entries stand still.
+-- Values that operations put in rows, wherever their items and entries are still.
 use Rattle.std.proofs.Common.{◌≡◌, ℕ, ◌+◌, ◌≤◌, Bool, true, false, cond, is_some, List, [], ◌∷◌, ◌++◌, length, Option, Some, None, refl}
 use Rattle.std.{proofs.Common.{sym, ap, ◌∙◌, subst, arith, append_assoc, string_bytes, length-append}, proofs.lemmas.Bool.false≢true}
 use Rattle.std.{proofs.lemmas.Str.IsCharBoundary-at_seam, specs.Str.IsCharBoundary}
@@ -79,7 +79,7 @@ module _ (m : ℕ) (s : Step) (ss : List Step) (v : Node) (c : Cut) (e : RowsOfE
           changes = λ operand fit size. inline_values_change_rows m s ss v d now read_d still.found holds plain operand fit size;
         }
 
-  -- where it stands
+  -- where it is
   spelled : cut_text c ≡ ((held e).before ++ (held e).space) ++ ((held e).head ++ ((held e).white ++ ((held e).comment ++ ((held e).last ++ (held e).behind))))
   spelled =
       let w : Held = held e in

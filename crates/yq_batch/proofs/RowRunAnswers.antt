@@ -1,4 +1,4 @@
--- Runs of the code over rows: how they begin, and how they go on behind one more text.
+-- Runs of the code over rows: how they begin, and how they go on after one more text.
 use Rattle.std.proofs.Common.{◌≡◌, inl, inr, ℕ, zero, suc, ◌+◌, ◌≤◌, List, [], ◌++◌, length, take, drop, Option, Some, None, refl, sym, ap}
 use Rattle.std.{proofs.Common.{◌∙◌, subst, append-nil, arith, string_bytes}, proofs.lemmas.Str.IsCharBoundary-start}
 use Rattle.std.{specs.Str.IsCharBoundary, specs.Prelude.String, specs.declared.alloc.Global.Global}
@@ -34,7 +34,7 @@ rows_begin t r read text done =
       run = subst (λ (d : ℕ). IsRowRun (cut_of t) 0 0 (string_bytes r.text) d) (sym done) (subst (λ (l : List ℕ). IsRowRun (cut_of t) 0 0 l 0) (sym text) begin);
     }
 
--- a row behind the last one that was changed is behind what was
+-- a row after the last one that was changed is after what was
 behind_last : (c : Cut) (o : Option (ℕ × ℕ)) (k n m i row : ℕ) → IsLast c o k n → Passed o m row → row ≡ document_row m c + i → IsBehind k n m i
 behind_last c None k n zero i row h p is = inr (h.0, omega (arith, h.1))
 behind_last c None k n (suc m) i row h p is = inl (omega (arith, h.0))

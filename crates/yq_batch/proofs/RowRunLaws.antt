@@ -1,4 +1,4 @@
--- One more operation that changes a row, behind those that did: it comes to what it does on the rows as they were read, but for the text in front.
+-- One more operation that changes a row, after those that did: it comes to what it does on the rows as they were read, but for the text in front.
 use Rattle.std.proofs.Common.{◌≡◌, inl, inr, ℕ, suc, ◌+◌, ◌≤◌, ◌<◌, Bool, cond, leb, List, [], ◌∷◌, ◌++◌, length, take, drop, Option, Some}
 use Rattle.std.proofs.Common.{sym, ap, ◌∙◌, subst, append_assoc, append-nil, arith, length-append}
 use Rattle.std.{proofs.Math.Seq.{take-append_seam, drop-append_seam}, proofs.lemmas.Bool.{le-leb, lt-leb}}
@@ -19,7 +19,7 @@ use Rattle.yq_edit_laws.proofs.ApplyLaws.{fits}
 use Rattle.yq_batch.{specs.RowRuns.{IsRowRun, PutsText, rows_still}, specs.Runs.text_with_run}
 use Rattle.yq_text.specs.Exchanging as exchange
 
--- what is behind one row behind another is behind that
+-- what is after one row after another is after that
 behind_both : (k n m i l j : ℕ) → IsBehind k n m i → IsBehind m (suc i) l j → IsBehind k n l j
 behind_both k n m i l j (inl a) (inl b) = inl (omega (arith, a, b))
 behind_both k n m i l j (inl a) (inr b) = inl (omega (arith, a, b.0))
@@ -77,7 +77,7 @@ module _ (c : Cut) (k n : ℕ) (out : List ℕ) (done : ℕ) (run : IsRowRun c k
     before_is : take start t ≡ before
     before_is = ap (take start) text_is ∙ take-append_seam before (old ++ behind)
 
-    -- the text in front is what the run has made, and what stays behind that
+    -- the text in front is what the run has made, and what stays after that
     front_is : x.front ≡ new_front
     front_is =
         append_cancel_right x.front new_front (old ++ behind)
@@ -121,7 +121,7 @@ module _ (c : Cut) (k n : ℕ) (out : List ℕ) (done : ℕ) (run : IsRowRun c k
         ∙ ((λ i. exchange_edit (cond (leb (length (new_is i)) text_limit) (exchange.gives (new_is i) (changes_are i)) exchange.too_large))
         ∙ ap (λ (b : Bool). exchange_edit (cond b (exchange.gives (text_with_run t new_out finish) (splice_at (length new_front) old new)) exchange.too_large)) (lt-leb (length (text_with_run t new_out finish)) text_limit large))
 
-    -- the run goes on behind it
+    -- the run goes on after it
     pub row_goes_on : IsCharBoundary t finish → HasOperand op → IsFitting op now → length (text_with_run t new_out finish) ≤ text_limit → IsRowRun c (op_document op) (suc (length e.front)) new_out finish
     row_goes_on edge operand fitting small =
         let m : ℕ = op_document op in

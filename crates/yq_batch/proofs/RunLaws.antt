@@ -1,4 +1,4 @@
--- One more value put in a head, behind those that were.
+-- One more value put in a head, after those that were.
 use Rattle.std.proofs.Common.{◌≡◌, ℕ, ◌+◌, ◌-◌, ◌≤◌, ◌<◌, true, false, List, [], ◌++◌, length, take, drop, Option, Some, refl, sym, ap, ◌∙◌}
 use Rattle.std.{proofs.Common.{subst, append_assoc, arith, length-append}, proofs.Math.Seq.{take-append_seam, drop-append_seam}}
 use Rattle.std.{proofs.lemmas.List.drop-append-le, proofs.lemmas.Option.same_Some}
@@ -157,7 +157,7 @@ module _ (c : Cut) (n : ℕ) (stem path : List Step) (v : Node) (out : List ℕ)
     pub large_there : text_limit < length (text_with_run t new_out finish) → carried (replace n path v) now ≡ refuses TooLarge
     large_there large = comes ∙ segments_large (cut_text run.cut) front e split (omega (arith, large, ap length new_bytes_are))
 
-    -- the run goes on behind it
+    -- the run goes on after it
     pub goes_on : IsValueTree v → IsFitting (replace n path v) now → length (text_with_run t new_out finish) ≤ text_limit → IsPutRun c n stem new_out finish
     goes_on value fitting small =
         let new_bytes : new_text (flow_segments (cut_text run.cut) e) ≡ text_with_run t new_out finish = new_is (cut_text run.cut) front e split ∙ new_bytes_are in

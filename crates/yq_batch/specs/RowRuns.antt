@@ -1,4 +1,4 @@
--- Operations that change one row each, one behind the other, on the rows as they were read (YAML 1.2.2, 8; own).
+-- Operations that change one row each, one after the other, on the rows as they were read (YAML 1.2.2, 8; own).
 use Rattle.std.specs.Prelude.{◌≡◌, ⊤, ◌⊎◌, ◌&&◌, not, if◌then◌else◌, ℕ, ◌+◌, ◌<◌, ◌≤◌, List, [], ◌∷◌, ◌++◌, length, Option, Some, None}
 use Rattle.std.{specs.Prelude.{true, false, string_bytes}, specs.Str.IsCharBoundary}
 use Rattle.yq_text.{specs.Limit.text_limit, specs.Script.{Segment, keep, new_text, old_text}, specs.Splice.Splice}
@@ -14,8 +14,8 @@ use Rattle.yq_batch.{specs.Runs.{now_text, text_with_run}, specs.declared.in_row
 
 -- ---- runs
 
--- The first bytes of a cut's text gave way to others, by contents of rows in front of row n of document k: the text reads, and items and entries from there
--- on stand as they did (own).
+-- The first bytes of a cut's text were replaced by others, by contents of rows in front of row n of document k: the text reads, and items and entries from there
+-- on are as they did (own).
 pub record IsRowRun (c : Cut) (k n : ℕ) (out : List ℕ) (done : ℕ) : Type 0 where
   pub within : done ≤ length (cut_text c)
   pub edge : IsCharBoundary (cut_text c) done
@@ -23,12 +23,12 @@ pub record IsRowRun (c : Cut) (k n : ℕ) (out : List ℕ) (done : ℕ) : Type 0
   pub read : read_at (text_with_run (cut_text c) out done) ≡ Some cut
   pub stays : (m : ℕ) (steps : List Step) (e : RowsOfEntry) → rows_of_entry m steps c ≡ Some e → IsBehind k n m (length e.front) → StandsStill e m steps cut
 
--- the row that was changed last, by its document and how many rows stand before it, is the one in front of row n of document k (own)
+-- the row that was changed last, by its document and how many rows come before it, is the one in front of row n of document k (own)
 abbrev pub IsLast : Cut → Option (ℕ × ℕ) → (k n : ℕ) → Type 0
 IsLast c None k n = (k ≡ 0) × (n ≡ 0)
 IsLast c (Some x) k n = (x.0 ≡ k) × (x.1 + 1 ≡ document_row k c + n)
 
--- a row of a document stands behind the last one that was changed (own)
+-- a row of a document comes after the last one that was changed (own)
 abbrev pub Passed : Option (ℕ × ℕ) → (m row : ℕ) → Type 0
 Passed None m row = ⊤
 Passed (Some x) m row = (x.0 < m) ⊎ ((x.0 ≡ m) × (x.1 < row))
@@ -42,7 +42,7 @@ pub record IsRowsRun (c : Cut) (o : Option (ℕ × ℕ)) (r : PutRun) : Type 0 w
 
 -- ---- operations
 
--- the rows of an item or entry that stands still (own)
+-- the rows of an item or entry that is still (own)
 abbrev pub rows_still : {m : ℕ} {steps : List Step} {d : Cut} → (e : RowsOfEntry) → StandsStill e m steps d → RowsOfEntry
 rows_still e s = record e { start = s.start; front = s.front }
 
@@ -78,12 +78,12 @@ IsWrittenSo old v head (Some w) = (keeps_scalar old v ≡ false) × (w ≡ value
 abbrev pub white_left : (text white comment : List ℕ) → List ℕ
 white_left text white comment = if is_empty text && not (is_empty comment) then [] else white
 
--- an operation puts a text, or leaves all bytes alone, wherever the item or entry stands still (own)
+-- an operation puts a text, or leaves all bytes alone, wherever the item or entry is still (own)
 abbrev pub PutsWhereStill : Operation → RowsOfEntry → List Step → (old behind : List ℕ) → Option (List ℕ) → Type 0
 PutsWhereStill op e steps old behind new =
     (d : Cut) → read_at (cut_text d) ≡ Some d → (s : StandsStill e (op_document op) steps d) → PutsSo op d (rows_still e s) old behind new
 
--- An operation puts a text in a row, or leaves it alone, wherever the item or entry stands still (own).
+-- An operation puts a text in a row, or leaves it alone, wherever the item or entry is still (own).
 pub record PutsInRow (op : Operation) (c : Cut) (x : RowPut) : Type 0 where
   pub steps : List Step
   pub entry : RowsOfEntry
@@ -101,7 +101,7 @@ pub record PutsInRow (op : Operation) (c : Cut) (x : RowPut) : Type 0 where
   pub ends : IsCharBoundary (cut_text c) x.end
   pub there : PutsWhereStill op entry steps old behind (bytes_in string_bytes x.written)
 
--- An operation is carried out on the text of a run, which goes on behind it, and behind the row that was changed last then (own).
+-- An operation is carried out on the text of a run, which goes on after it, and after the row that was changed last then (own).
 pub record RowsGoOn (op : Operation) (c : Cut) (before : PutRun) (last : Option (ℕ × ℕ)) (after : PutRun) : Type 0 where
   pub new_bytes : List Splice
   pub comes : carried op (now_text c before) ≡ gives (now_text c after) new_bytes

@@ -1,4 +1,4 @@
--- Values put one behind the other in the flow collections of one head, which was read once (YAML 1.2.2, 7.4; own).
+-- Values put one after the other in the flow collections of one head, which was read once (YAML 1.2.2, 7.4; own).
 use Rattle.std.{specs.Prelude.{◌≡◌, ⊤, ℕ, ◌-◌, ◌<◌, ◌≤◌, List, ◌++◌, drop, take, length, Some, string_bytes}, specs.Str.IsCharBoundary}
 use Rattle.yq_text.{specs.Limit.text_limit, specs.Script.splice_at, specs.Splice.Splice}
 use Rattle.yq_core.{specs.Paths.Step, specs.Tree.Node, specs.Entries.EntryPieces, specs.Nodes.{node_text, without_anchor}}
@@ -13,12 +13,12 @@ use Rattle.yq_edit_laws.{specs.Edit.gives, specs.Theorems.IsApplied, specs.decla
 use Rattle.yq_batch.specs.declared.run.PutRun.{PutRun}
 use Rattle.yq_edit_laws.specs.declared.edit_error.EditError.TheVariants as error
 
--- a text whose first bytes gave way to others (own)
+-- a text whose first bytes were replaced by others (own)
 abbrev pub text_with_run : List ℕ → (out : List ℕ) → (done : ℕ) → List ℕ
 text_with_run t out done = out ++ drop done t
 
--- The first bytes of a cut's text gave way to others, by values put at parts of the head to which steps lead: the text reads, the steps lead to a head
--- in it, and the parts whose contents stand in the bytes that stay are there as they were, in whichever collections (own).
+-- The first bytes of a cut's text were replaced by others, by values put at parts of the head to which steps lead: the text reads, the steps lead to a head
+-- in it, and the parts whose contents are in the bytes that stay are there as they were, in whichever collections (own).
 pub record IsPutRun (c : Cut) (n : ℕ) (stem : List Step) (out : List ℕ) (done : ℕ) : Type 0 where
   pub within : done ≤ length (cut_text c)
   pub edge : IsCharBoundary (cut_text c) done
@@ -60,7 +60,7 @@ pub record PutsAt (op : Operation) (t : List ℕ) (n : ℕ) (stem : List Step) (
 abbrev pub run_front : List ℕ → PutRun → ℕ → List ℕ
 run_front t r start = string_bytes r.text ++ drop r.done (take start t)
 
--- A text has come in the place of what stands between two places, and the whole is no larger than a text may be (own).
+-- A text has come in the place of what is between two places, and the whole is no larger than a text may be (own).
 pub record HasPut (t : List ℕ) (start end : ℕ) (new : List ℕ) (before after : PutRun) : Type 0 where
   pub text : string_bytes after.text ≡ run_front t before start ++ new
   pub done : after.done ≡ end
@@ -73,7 +73,7 @@ PutFails (error.Read fault) t start end new r = ⊥
 PutFails (error.Refused why) t start end new r = (why ≡ TooLarge) × (text_limit < length (text_with_run t (run_front t r start ++ new) end))
 PutFails error.Memory t start end new r = ⊤
 
--- An operation is carried out on the text of a run, which goes on behind it (own).
+-- An operation is carried out on the text of a run, which goes on after it (own).
 pub record RunsOn (op : Operation) (c : Cut) (n : ℕ) (steps : List Step) (before after : PutRun) : Type 0 where
   pub new_bytes : List Splice
   pub comes : carried op (now_text c before) ≡ gives (now_text c after) new_bytes

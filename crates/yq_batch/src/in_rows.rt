@@ -24,16 +24,16 @@ use yq_places::HeldRow;
 use yq_semantics::Op;
 use yq_text::Edited;
 
-/// A text that an operation puts in a row, in the place of what stands between two places.
+/// A text that an operation puts in a row, in the place of what is between two places.
 #[derive(Drop)]
 pub(crate) struct RowPut {
     /// The row's document.
     pub(crate) doc: usize,
-    /// How many rows stand before it.
+    /// How many rows come before it.
     pub(crate) row: usize,
     pub(crate) start: usize,
     pub(crate) end: usize,
-    /// Nothing, where an equal scalar stands there.
+    /// Nothing, where an equal scalar is there.
     pub(crate) written: Option<String>,
 }
 
@@ -87,8 +87,8 @@ fn value_in_row(
     }))
 }
 
-/// Where what gives way to a line comment begins and ends, behind so many bytes, by the white space and the
-/// comment that stand there.
+/// Where what is replaced by a line comment begins and ends, after so many bytes, by the white space and the
+/// comment that are there.
 fn comment_place(text: &str, front: usize, white: &str, comment: &str) -> (usize, usize)
     requires { front + (length white.now + length comment.now) ≤ text_limit }
     ensures start { result.0 ≡ front + length (spec.white_left text.now white.now comment.now) }
@@ -129,7 +129,7 @@ fn comment_in_row(
     }))
 }
 
-/// What an operation puts in a row, if it does no more than that. From then on it is known what stands on
+/// What an operation puts in a row, if it does no more than that. From then on it is known what is on
 /// its way.
 fn row_put(alloc: Global, cut: &mut CutText<'_, '_>, op: &Op) -> Result<Option<RowPut>, AllocError>
     ensures same { cut.new ≡ cut.old }
@@ -150,7 +150,7 @@ fn row_put(alloc: Global, cut: &mut CutText<'_, '_>, op: &Op) -> Result<Option<R
     }
 }
 
-/// Whether a row of a document stands behind another one, by its document and how many rows stand before
+/// Whether a row of a document comes after another one, by its document and how many rows come before
 /// it, if there is that.
 fn is_behind(last: Option<(usize, usize)>, doc: usize, row: usize) -> bool
     ensures { result ≡ true → spec.Passed last doc row }
@@ -161,7 +161,7 @@ fn is_behind(last: Option<(usize, usize)>, doc: usize, row: usize) -> bool
     }
 }
 
-/// Carries out an operation on the text of a run, if it changes one row, behind the last one that was
+/// Carries out an operation on the text of a run, if it changes one row, after the last one that was
 /// changed; and tells which one that is then.
 fn put_one(
     alloc: Global,
@@ -207,8 +207,8 @@ fn may_change_row(op: &Op) -> bool {
     }
 }
 
-/// Carries out operations together that change one row each, one behind the other; nothing, where one of
-/// them does more, or stands in front of one before it.
+/// Carries out operations together that change one row each, one after the other; nothing, where one of
+/// them does more, or is in front of one before it.
 pub fn carry_in_rows<'d>(
     alloc: Global,
     cut: &CutText<'d, '_>,

@@ -1,4 +1,4 @@
-//! Operations carried out together on a text that was read once, each behind the one before.
+//! Operations carried out together on a text that was read once, each after the one before.
 #![tactic(auto)]
 
 mod in_rows;

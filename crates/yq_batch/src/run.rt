@@ -1,4 +1,4 @@
-//! Runs: the text and the splices that values make which are put one behind the other.
+//! Runs: the text and the splices that values make which are put one after the other.
 ghost use Rattle.std.{specs.Prelude.{◌≡◌, ◌≤◌, ◌<◌, ◌++◌, [], true, IfErr, IfOk, OnOk, drop, take, string_bytes}, specs.Str.IsCharBoundary};
 ghost use Rattle.yq_text.{specs.Halves.whole, specs.Script.splice_at};
 ghost use Rattle.yq_batch.specs.Runs as spec;
@@ -8,17 +8,17 @@ use yq_edit_laws::EditError;
 use yq_semantics::Refusal;
 use yq_text::{Edited, Halves, Splice, TEXT_LIMIT};
 
-/// What values put one behind the other made of a text so far.
+/// What values put one after the other made of a text so far.
 #[derive(Drop)]
 pub(crate) struct PutRun {
-    /// What stands in the new text up to the end of the last one.
+    /// What is in the new text up to the end of the last one.
     pub(crate) text: String,
     /// How many bytes of the old text that takes the place of.
     pub(crate) done: usize,
     pub(crate) splices: Vec<Splice>,
 }
 
-/// What stands between two places of a text.
+/// What is between two places of a text.
 fn between<'t>(text: Halves<'t>, from: usize, to: usize) -> Halves<'t>
     requires order { from ≤ to }
     requires from { IsCharBoundary (whole text) from }
@@ -83,14 +83,14 @@ impl PutRun {
         })
     }
 
-    /// Whether what stands between two places of the old text is behind all that gave way.
+    /// Whether what is between two places of the old text is after all that were replaced.
     pub(crate) fn ends_before(&self, start: usize, end: usize) -> bool
         ensures { result ≡ true → (self.now.done ≤ start) × (self.now.done < end) }
     {
         self.done <= start && self.done < end
     }
 
-    /// A text comes in the place of what stands between two places.
+    /// A text comes in the place of what is between two places.
     pub(crate) fn put_text(
         &mut self,
         alloc: Global,
@@ -123,7 +123,7 @@ impl PutRun {
         Ok(push_splice(&mut self.splices, at, old, written.into_bytes())?)
     }
 
-    /// The same of a text behind a lead.
+    /// The same of a text after a lead.
     pub(crate) fn put(
         &mut self,
         alloc: Global,

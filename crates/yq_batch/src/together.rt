@@ -93,7 +93,7 @@ fn part_put<'s>(
     put_at_part(alloc, cut, head, path, value)
 }
 
-/// Carries out an operation on the text of a run, if it puts a value in a collection of a head, behind
+/// Carries out an operation on the text of a run, if it puts a value in a collection of a head, after
 /// those that were put.
 fn put_one<'s>(
     alloc: Global,
@@ -130,7 +130,7 @@ fn put_one<'s>(
 }
 
 /// Carries out operations that put values in the collections of a head; nothing, where one of them does
-/// something else, or stands in front of one before it.
+/// something else, or is in front of one before it.
 fn put_each<'s>(
     alloc: Global,
     cut: &CutText<'_, '_>,
@@ -158,7 +158,7 @@ fn put_each<'s>(
     Ok(Some(run.end(text)?))
 }
 
-/// Carries out operations together that put values in the flow collections of one head, one behind the
+/// Carries out operations together that put values in the flow collections of one head, one after the
 /// other; nothing, where they don't.
 pub fn carry_together(
     alloc: Global,

@@ -1,4 +1,4 @@
--- What is put where something stands asks for no more than it writes.
+-- What is put where something is asks for no more than it writes.
 use Rattle.std.proofs.Common.{◌≡◌, ℕ, ◌+◌, Bool, true, false, cond, List, [], ◌∷◌, ◌++◌, replicate, Some, option_map, refl, sym, ap, subst}
 use Rattle.std.{proofs.Common.◌∙◌, proofs.lemmas.Bool.or_left}
 use Rattle.yq_core.{specs.BlockWritten.break_text, specs.Paths.Step, specs.Tree.Node}
@@ -37,7 +37,7 @@ module _ (v : Node) (l k : Layout) where
   lines_like : (m : MarkPieces) → LooksLike m.keyed v l k → is_filled v ≡ true → lines_in l (column_under l m v) v ≡ lines_in k (column_under k m v) v
   lines_like m h filled = λ i. replicate (column_like m h filled i) 32 ++ (value_like m.keyed v l k (column_under l m v) h ∙ ap (λ n. block_value k n v) (column_like m h filled)) i
 
-  -- as it is written behind a key or dash
+  -- as it is written after a key or dash
   at_like : (m : MarkPieces) (old : List ℕ) → LooksLike m.keyed v l k → written_at l m old v ≡ written_at k m old v
   at_like m old h = go (is_filled v) refl
     where
@@ -62,7 +62,7 @@ module _ (v : Node) (l k : Layout) where
   put_like text (root w) h = λ i. keep w.before ∷ (put w.old (value_like false v l k w.column h i) ∷ (keep w.last ∷ (keep w.behind ∷ [])))
   put_like text (no_rows w) h = λ i. keep w.before ∷ (put [] (lines_put_behind (is_closed_text w.before) (break_text (h.0 i)) (value_like false v l k 0 h i)) ∷ (keep w.behind ∷ []))
 
--- a value put where something stands, by a look that is like the document's, and by a text that is asked where it is a matter of that
+-- a value put where something is, by a look that is like the document's, and by a text that is asked where it is a matter of that
 pub placed_there : (n : ℕ) (steps : List Step) (v : Node) (c : Cut) (l : Layout) (b keyed : Bool) (t : Standing) (ss : List Segment) → Some t ≡ standing_at n steps c → keyed ≡ is_under_key t →
     LooksLike keyed v l (layout_of n c) → ((k : Layout) → value_put b k v t ≡ value_put (has_text (node_in n steps c)) k v t) → ss ≡ value_put b l v t →
     option_map (value_put (has_text (node_in n steps c)) (layout_of n c) v) (standing_at n steps c) ≡ Some ss

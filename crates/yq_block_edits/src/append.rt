@@ -37,7 +37,7 @@ fn push_lines(
     push_entry(alloc, out, layout, column, key, value)
 }
 
-/// The lines of an item or entry at a column, with a break: behind them, or in front of them, where
+/// The lines of an item or entry at a column, with a break: after them, or in front of them, where
 /// the line before has none.
 fn entry_text(
     alloc: Global,
@@ -79,7 +79,7 @@ fn more_lines(
     entry_text(alloc, &layout, key, value, column, last)
 }
 
-/// Lines put behind those under a key or dash.
+/// Lines put after those under a key or dash.
 fn behind_held<'t>(alloc: Global, held: &Held<'t>, new: String) -> Result<Segments<'t>, AllocError>
     ensures { IfOk result (λ ss. ss ≡ spec.behind_held (held_view held.now) (string_bytes new)) }
 {
@@ -98,7 +98,7 @@ fn behind_held<'t>(alloc: Global, held: &Held<'t>, new: String) -> Result<Segmen
     Ok(Segments::new(segments))
 }
 
-/// Lines put behind a text that ends in this break, or in none.
+/// Lines put after a text that ends in this break, or in none.
 fn behind_lines<'t>(
     alloc: Global,
     before: Halves<'t>,
@@ -121,8 +121,8 @@ fn behind_lines<'t>(
     Ok(Segments::new(segments))
 }
 
-/// One more item or entry at the end of what stands at a path; `None` where no block collection
-/// stands there.
+/// One more item or entry at the end of what is at a path; `None` where no block collection
+/// is there.
 ///
 /// # Errors
 /// [`AllocError`] where memory is refused.

@@ -1,4 +1,4 @@
-//! Whether a value asks how much deeper than its key a collection stands.
+//! Whether a value asks how much deeper than its key a collection is.
 ghost use Rattle.std.specs.Prelude.{◌≡◌};
 ghost use Rattle.yq_core.specs.Values.{entries_of, items_of, value_node};
 ghost use Rattle.yq_edit_rules.specs.Layouts as spec;
@@ -17,7 +17,7 @@ fn is_filled_as(dashes: bool, value: &Value) -> bool
     }
 }
 
-/// Whether such a collection stands under a key in a value.
+/// Whether such a collection is under a key in a value.
 #[cycle(asks)]
 #[tactic(auto, unfolding(yq_edit_rules::specs::Layouts::node_asks), using(crate::proofs::AskedLaws::map_asked))]
 fn node_asks(dashes: bool, value: &Value) -> bool

@@ -1,4 +1,4 @@
-//! Whether a value is the scalar that stands at a path: such a Replace leaves the bytes alone.
+//! Whether a value is the scalar that is at a path: such a Replace leaves the bytes alone.
 ghost use Rattle.std.specs.Prelude.{◌≡◌, IfOk, Some, is_some, true};
 ghost use Rattle.yq_core.specs.Scalar.{plain_of};
 ghost use Rattle.yq_places.{specs.NodesAt.{node_in, scalar_in}, specs.StandingViews.IsHeldRow};
@@ -57,14 +57,14 @@ pub fn is_kept(
     Ok(is_scalar(kind, old.text(), value))
 }
 
-/// Whether a plain text on one line may stand for a scalar: that is null, or its text.
+/// Whether a plain text on one line may mean a scalar: that is null, or its text.
 fn may_spell(text: &str, scalar: &Scalar) -> bool
     ensures { result ≡ spec.may_spell text.now scalar.now }
 {
     scalar.kind() == Kind::Null || text == scalar.text()
 }
 
-/// Whether a plain text on one line stands for a scalar.
+/// Whether a plain text on one line means a scalar.
 fn spells(text: &str, scalar: &Scalar) -> bool
     ensures { result ≡ style.is_same (plain_of text.now) scalar.now }
 {
@@ -77,7 +77,7 @@ fn spells(text: &str, scalar: &Scalar) -> bool
     }
 }
 
-/// Whether a value is the scalar for which a plain text on one line stands.
+/// Whether a value is the scalar that a plain text on one line means.
 fn is_plain(text: &str, value: &Value) -> bool
     ensures { result ≡ spec.are_same (Some (plain_of text.now))
         (scalar_in (values.value_node value.now)) }

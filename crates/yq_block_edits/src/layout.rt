@@ -9,7 +9,7 @@ use yq_core::Value;
 use yq_edit_rules::Layout;
 use yq_lookup::CutText;
 
-/// By how many columns sequences, or mappings, stand deeper than their keys in document `doc`, if a value
+/// By how many columns sequences, or mappings, are deeper than their keys in document `doc`, if a value
 /// asks for it, since all rows of the document may be looked at.
 fn step_for(cut: &CutText<'_, '_>, doc: usize, keyed: bool, dashes: bool, value: &Value) -> usize
     ensures { spec.is_asked keyed dashes (value_node value.now) ≡ true →

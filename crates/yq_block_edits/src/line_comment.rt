@@ -12,7 +12,7 @@ use yq_lookup::CutText;
 use yq_places::Held;
 use yq_text::{Halves, Segment, Segments};
 
-/// The white space that ends a line: it goes where it stands before a comment that is taken away.
+/// The white space that ends a line: it goes where it comes before a comment that is taken away.
 fn white_put<'t>(alloc: Global, text: &str, held: &Held<'t>) -> Segment<'t>
     ensures { segment_of result ≡ spec.white_put text.now (held_view held.now) }
 {

@@ -1,4 +1,4 @@
-//! A value in the place of a node that isn't behind a key or dash.
+//! A value in the place of a node that isn't after a key or dash.
 ghost use Rattle.std.specs.Prelude.{◌≡◌, IfOk, string_bytes};
 ghost use Rattle.yq_text.specs.Halves.{whole};
 ghost use Rattle.yq_core.{specs.Values.value_node, specs.BlockWritten.break_text};
@@ -82,7 +82,7 @@ fn is_closed(text: Halves<'_>) -> bool
     is_closed_text(text.back.as_bytes())
 }
 
-/// A value on lines of its own behind a text: with a break behind it, or in front of it, where that
+/// A value on lines of its own after a text: with a break after it, or in front of it, where that
 /// text ends in none.
 fn lines_behind(
     alloc: Global,
@@ -105,7 +105,7 @@ fn lines_behind(
     Ok(text)
 }
 
-/// A value in block style behind the gap of a document without rows.
+/// A value in block style after the gap of a document without rows.
 ///
 /// # Errors
 /// [`AllocError`] where memory is refused.

@@ -26,7 +26,7 @@ fn spaces(alloc: Global, count: usize) -> Result<String, AllocError>
     Ok(text)
 }
 
-/// Adds a line, the white space in front of which gives way to so many spaces.
+/// Adds a line, the white space in front of which is replaced by so many spaces.
 fn push_indented<'t>(
     alloc: Global,
     segments: &mut Segments<'t>,
@@ -41,7 +41,7 @@ fn push_indented<'t>(
     segments.push(Segment::Keep(Halves::of(rest)))
 }
 
-/// Adds a blank line that comes to stand behind a block scalar.
+/// Adds a blank line that ends up after a block scalar.
 fn push_blank<'t>(
     alloc: Global,
     segments: &mut Segments<'t>,
@@ -60,7 +60,7 @@ fn push_blank<'t>(
     push_indented(alloc, segments, 0, line)
 }
 
-/// Adds a comment line that comes to stand behind a block scalar.
+/// Adds a comment line that ends up after a block scalar.
 fn push_comment<'t>(
     alloc: Global,
     segments: &mut Segments<'t>,
@@ -76,7 +76,7 @@ fn push_comment<'t>(
     push_indented(alloc, segments, seam.column, line)
 }
 
-/// Adds the lines of a gap that comes to stand behind a block scalar.
+/// Adds the lines of a gap that ends up after a block scalar.
 fn push_lines<'t>(
     alloc: Global,
     segments: &mut Segments<'t>,
@@ -100,7 +100,7 @@ fn push_lines<'t>(
     Ok(())
 }
 
-/// Adds a gap that comes to stand at a seam, if there is one.
+/// Adds a gap that ends up at a seam, if there is one.
 fn push_gap<'t>(
     alloc: Global,
     segments: &mut Segments<'t>,
@@ -116,7 +116,7 @@ fn push_gap<'t>(
     }
 }
 
-/// The segments in which the rows of an item or entry go, and the gap behind them is mended.
+/// The segments in which the rows of an item or entry go, and the gap after them is mended.
 fn take_out<'d>(alloc: Global, removal: &Removal<'d>) -> Result<Segments<'d>, AllocError>
     ensures { IfOk result (λ ss. ss ≡ spec.rows_removed (removal_view removal.now)) }
 {

@@ -1,4 +1,4 @@
-//! Replace, outside flow collections: a value in the place of what stands there.
+//! Replace, outside flow collections: a value in the place of what is there.
 ghost use Rattle.std.{specs.List.list_any, specs.Prelude.{◌≡◌, IfOk, not}};
 ghost use Rattle.yq_core.{specs.Values.value_node, specs.Tree.Node as NodeOf, specs.Text.is_feed};
 ghost use Rattle.yq_documents.{specs.Located.steps_of, specs.Reading.cut_of};
@@ -22,7 +22,7 @@ use yq_lookup::CutText;
 use yq_places::Standing;
 use yq_text::Segments;
 
-/// A value in the place of what stands there; `has_text` tells of a block scalar whether it has a
+/// A value in the place of what is there; `has_text` tells of a block scalar whether it has a
 /// text line.
 fn value_put<'t>(
     alloc: Global,
@@ -66,7 +66,7 @@ fn has_text(alloc: Global, cut: &CutText<'_, '_>, path: &Path) -> Result<bool, A
     Ok(holds_text(old.text()))
 }
 
-/// Whether the block scalar at a path has a text line, if one stands there; elsewhere nothing asks
+/// Whether the block scalar at a path has a text line, if one is there; elsewhere nothing asks
 /// for it.
 fn text_there(
     alloc: Global,
@@ -90,7 +90,7 @@ fn text_there(
     }
 }
 
-/// Whether a key holds what stands there.
+/// Whether a key holds what is there.
 fn is_keyed(standing: &Standing<'_>) -> bool
     ensures { result ≡ layouts.is_under_key (standing_view standing.now) }
 {
@@ -103,7 +103,7 @@ fn is_keyed(standing: &Standing<'_>) -> bool
     }
 }
 
-/// A value in the place of what stands at a path; `None` where nothing stands there outside flow
+/// A value in the place of what is at a path; `None` where nothing is there outside flow
 /// collections.
 ///
 /// # Errors

@@ -5,7 +5,7 @@ ghost use Rattle.yq_edit_rules.specs.ReplaceEdits as spec;
 use std::alloc::{AllocError, Global};
 use yq_edit_rules::behind_space;
 
-/// A text as it is put in the place of another: behind a space, where none is there.
+/// A text as it is put in the place of another: after a space, where none is there.
 ///
 /// # Errors
 /// [`AllocError`] where memory is refused.

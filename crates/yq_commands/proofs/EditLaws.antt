@@ -24,7 +24,7 @@ module _ (c : FileMap) (f j : List ℕ) (h : History) (expr : List ℕ) (p : Pro
   same_edits : program_edits p t ≡ program_edits p (text_at h)
   same_edits = ap (program_edits p) k.at_rest.text
 
-  -- the pair behind an edit
+  -- the pair after an edit
   abbrev pub Updated : {T : Type 0} → FileMap → Result T Fault → Type 0
   Updated d r = Arrives d f j (update_cause (Ok p) (Some h)) (Some h) (update_next expr (Ok p) (Some h)) r
 

@@ -8,7 +8,7 @@ use Rattle.yq_history.{specs.declared.fault.Fault.Fault, specs.declared.fault.Fa
 use Rattle.yq_history.{specs.Causes.{Cause, IsFor, named}, specs.Faults.{failures_after, is_outer_fault, is_output}}
 use Rattle.yq_history.{specs.Pair.{Arrives, GoodIn, Opens, PairAtRest}, proofs.MoveLaws.{cut, is_refused}}
 
--- what is told of an error
+-- what is known of an error
 pub told : {T : Type 0} (P : Fault → Type 0) (r : Result T Fault) (e : Fault) → r ≡ Err e → P e → IfErr r P
 told P r e is h = subst (λ x. IfErr x P) (sym is) h
 

@@ -42,7 +42,7 @@ printed_push : (rs : List Reply) (r : Reply) → printed_in (rs ++ r ∷ []) ≡
 printed_push [] r = append-nil r.printed
 printed_push (x ∷ rs) r = ap (λ os. x.printed ++ os) (printed_push rs r) ∙ sym (append_assoc x.printed (printed_in rs) r.printed)
 
--- the output failed at no answer, if its count stands where it stood
+-- the output failed at no answer, if its count is where it was
 not_output : (a : Answer) (c start n m : ℕ) → n ≡ min (start + c) (2 ^ 64 - 1) → m ≡ (if reports_output a then count_plus_one n else n) → m ≡ start → m < 2 ^ 64 - 1 → (reports_output a ≡ false) × (n ≡ start)
 not_output a c start n m before after same below = elim (reports_output a) as (λ b. reports_output a ≡ b → m ≡ (if b then count_plus_one n else n) → (reports_output a ≡ false) × (n ≡ start)) [
   | true ↦ λ is e. absurd (omega (arith, before, e, same, below))

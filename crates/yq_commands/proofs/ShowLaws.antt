@@ -48,7 +48,7 @@ module _ (options : EvalOptions) (t : List ℕ) where
       let x = by_documents p (Some docs) is reads in
       x.2 ∙ ap (show_found options) (matched x.0 x.1)
 
-  -- the fault that is told, where a program is refused on the text
+  -- the fault that is reported, where a program is refused on the text
   abbrev pub HasFault : Program → {T : Type 0} → Result T Fault → Type 0
   HasFault p r = IfErr r (λ x. x ≢ OutOfMemory → IsFor (cause_in (shows options p t)) x)
 

@@ -95,7 +95,7 @@ abbrev pub is_inner_refusal : Answer → Bool
 is_inner_refusal (Refused e) = not (is_outer_fault e)
 is_inner_refusal _ = false
 
--- what a command's answer and the bytes that it printed tell of an effect: it came about and printed its bytes, and the answer tells whether it is as
+-- what a command's answer and the bytes that it printed tell of an effect: it came about and printed its bytes, and the answer says whether it is as
 -- expected; or it was refused and printed nothing; that the output failed tells nothing
 abbrev pub ReportsEffect : Bool → Effect → List ℕ → List ℕ → FileMap → FileMap → Answer → List ℕ → Type 0
 ReportsEffect expects x file journal old new Done o =

@@ -6,12 +6,12 @@ use Rattle.yq_args.specs.declared.eval_options.EvalOptions.{EvalOptions}
 use Rattle.yq_history.specs.Report.{Report}
 use Rattle.yq_core.specs.declared.kind.Kind.TheVariants as kinds
 
--- what stands before a match, by the document of the one before it: the line `---`, where that is another document
+-- what comes before a match, by the document of the one before it: the line `---`, where that is another document
 abbrev pub separator_before : Bool → Option ℕ → ℕ → List ℕ
 separator_before no_doc None doc = []
 separator_before no_doc (Some last) doc = if no_doc || (last == doc) then [] else codes "---" ++ 10 ∷ []
 
--- matches, each with its document's number, as they are printed behind a match of such a document, or first of all
+-- matches, each with its document's number, as they are printed after a match of such a document, or first of all
 abbrev pub matches_behind : Bool → Option ℕ → List (ℕ × Node) → List ℕ
 matches_behind no_doc last [] = []
 matches_behind no_doc last (m ∷ ms) = separator_before no_doc last m.0 ++ (print_text m.1 ++ matches_behind no_doc (Some m.0) ms)

@@ -21,7 +21,7 @@ fn owned_words(rt: &HostRuntime) -> Result<Vec<String>, Fault> {
     }
 }
 
-/// The name by which the program was called: what stands behind the last slash of the word before its words.
+/// The name by which the program was called: what comes after the last slash of the word before its words.
 fn own_name(rt: &HostRuntime) -> Result<String, AllocError> {
     let called = match std::env::args(rt) {
         Ok(args) => args.take(1).collect(rt.alloc())?,
@@ -51,7 +51,7 @@ pub fn asked_command(rt: &HostRuntime) -> Result<(Command, Option<String>), Faul
     with_own_journal(rt, &words, command)
 }
 
-/// What is told behind the line of a refusal of the program's words: why, and the ways to call it.
+/// What is reported after the line of a refusal of the program's words: why, and the ways to call it.
 fn usage_lines(rt: &HostRuntime, cause: UsageCause) -> Result<String, Fault> {
     let owned = owned_words(rt).unwrap_or(Vec::new(rt.alloc()));
     let words = as_slices(rt, &owned)?;

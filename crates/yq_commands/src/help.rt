@@ -6,7 +6,7 @@ use std::alloc::{AllocError, Global};
 use yq_args::push_named;
 use yq_history::{Fault, Report};
 
-/// The ways to call the program, whose name stands for `%`.
+/// The ways to call the program, whose name means `%`.
 pub const USAGE: &str = "\
 Usage: % [eval|e] [-i] [-e] [-N] [--expect-change] [--text TEXT]
           [--journal PATH] EXPR FILE
@@ -14,7 +14,7 @@ Usage: % [eval|e] [-i] [-e] [-N] [--expect-change] [--text TEXT]
        % squash [--journal PATH] N FILE
 ";
 
-/// What `--help` prints behind the ways to call the program.
+/// What `--help` prints after the ways to call the program.
 const DETAILS: &str = "
 Edits YAML files in place, and takes the edits back to the byte.
 It isn't mikefarah's yq, and takes a part of that one's expressions.

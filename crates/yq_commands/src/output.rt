@@ -20,7 +20,7 @@ pub trait Out {
     /// How many calls failed, up to the last value of 64 bits, where it stays.
     ghost failures: { Self → ℕ };
 
-    /// Puts bytes behind those put so far. After a failure nothing is known of them.
+    /// Puts bytes after those put so far. After a failure nothing is known of them.
     fn put(&mut self, bytes: &[u8]) -> Result<(), PutError>
         ensures appended { IsTrue observable → OnOk result (taken self.new ≡ taken self.old ++ bytes.now) }
         ensures count { failures self.new ≡ after_put result (failures self.old) };

@@ -20,7 +20,7 @@ use yq_history::{Fault, Report};
 use yq_semantics::Program;
 use yq_tree::read;
 
-/// Adds what stands before a match: the line `---`, where the match before it is in another document.
+/// Adds what comes before a match: the line `---`, where the match before it is in another document.
 fn push_marker(
     printed: &mut String,
     no_doc: bool,
@@ -36,7 +36,7 @@ fn push_marker(
     }
 }
 
-/// Adds a match, behind one of the document `last`.
+/// Adds a match, after one of the document `last`.
 fn push_match(
     alloc: Global,
     printed: &mut String,

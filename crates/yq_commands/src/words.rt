@@ -21,7 +21,7 @@ pub fn words_fault(error: WordsError) -> Fault
 
 /// The command of the words, which don't include the program's name.
 ///
-/// A first word that names no command is read as if `eval` stood before it. A call for help
+/// A first word that names no command is read as if `eval` came before it. A call for help
 /// (`-h`, `--help`) is `Help`. The words are refused with `Usage` where `clap` refuses them, where FILE is `-`, where
 /// the journal has FILE's name, and where N isn't a number of 64 bits.
 pub fn command_of(alloc: Global, words: &[&str]) -> Result<Command, Fault>

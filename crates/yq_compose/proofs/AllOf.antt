@@ -1,4 +1,4 @@
--- What is asked of each of a list, one behind the other.
+-- What is asked of each of a list, one after the other.
 use Rattle.std.proofs.Common.{◌≡◌, ℕ, ◌+◌, ◌≤◌, Bool, true, false, ◌&&◌, List, length, drop, Some, sym, ap, ◌∙◌}
 use Rattle.std.{proofs.lemmas.List.drop_all, specs.List.{list_all, slice_get}}
 use Rattle.yq_outline.proofs.EndsLaws.{drop_at}

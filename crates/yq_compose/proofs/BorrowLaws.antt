@@ -32,7 +32,7 @@ borrows_parts t e =
     let p = and_parts (not (holds_break t)) (not (holds_escape t)) e in
     (not-true (holds_break t) p.0, not-true (holds_escape t) p.1)
 
--- a key or scalar that its text lends is borrowed as what it stands for
+-- a key or scalar that its text lends is borrowed as what it means
 pub borrows_key : (t : List ℕ) → (is_quoted t ≡ true → IsQuotedText t) → borrows_text t ≡ true → borrowed_text t ≡ scalar_content t
 borrows_key [] q e = kept [] refl refl
 borrows_key (b ∷ bs) q e = go (is_quoted (b ∷ bs)) refl
@@ -48,7 +48,7 @@ borrows_key (b ∷ bs) q e = go (is_quoted (b ∷ bs)) refl
         (sym (cond-true (is_quoted (b ∷ bs)) (list_any (λ x. eqb x (cond (eqb b 34) 92 39)) inner) false quoted) ∙ parts.1) ∙ sym (quoted_is (b ∷ bs) quoted))
     go false quoted = cond-false (is_quoted (b ∷ bs)) _ (b ∷ bs) quoted ∙ kept (b ∷ bs) quoted parts.0
 
--- one in quotes, by what stands between them
+-- one in quotes, by what is between them
 pub borrows_quoted : (t inner : List ℕ) (escaped : Bool) → holds_break t ≡ false → is_quoted t ≡ true → inner ≡ borrowed_text t → escaped ≡ list_any (λ b. eqb b (cond (begins_with 34 t) 92 39)) inner → not escaped ≡ borrows_text t
 borrows_quoted t inner escaped broken quoted is e = rw (broken, quoted) (ap not (e ∙ ap (list_any (λ b. eqb b (cond (begins_with 34 t) 92 39))) (rw quoted at is)))
 

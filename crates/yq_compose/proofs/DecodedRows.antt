@@ -1,4 +1,4 @@
--- What is made of rows, one behind the other.
+-- What is made of rows, one after the other.
 use Rattle.std.proofs.Common.{◌≡◌, ◌⊎◌, inl, inr, ℕ, suc, ◌+◌, ◌<◌, ◌≤◌, eqb, Bool, true, false, ◌&&◌, cond, List, [], ◌∷◌, ◌++◌, length}
 use Rattle.std.proofs.Common.{drop, Option, Some, None, refl, sym, ap, ◌∙◌, subst, arith, append-nil}
 use Rattle.std.{proofs.lemmas.Bool.{cases_lt, cond-false, cond-true, eq-eqb, ne_eqb}, proofs.lemmas.Option.{same_Some, slice_get_within}}

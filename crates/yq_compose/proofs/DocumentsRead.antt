@@ -26,7 +26,7 @@ cut_into t s c h rows =
     let e = cut_is t c h in
     record { cut = subst (IsCut t) (sym e) h; rows = rows ∙ ap rows_view (sym e) }
 
--- rows stand in documents alone, so those of all are fit where those of documents are
+-- rows are in documents alone, so those of all are fit where those of documents are
 abbrev fit_all : List Part → Bool
 fit_all ps = list_all (λ p. have_fit_keys p.rows) ps
 

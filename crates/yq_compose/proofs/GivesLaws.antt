@@ -1,4 +1,4 @@
--- The positions that checks give, behind lines and those under them.
+-- The positions that checks give, after lines and those under them.
 use Rattle.std.proofs.Common.{◌≡◌, ◌⊎◌, inl, inr, ℕ, suc, ◌+◌, ◌<◌, true, false, drop, sym, ap, ◌∙◌, subst, arith}
 use Rattle.std.{proofs.lemmas.Bool.false≢true, specs.Prelude.is_some}
 use Rattle.yq_outline.{specs.Ends.{IsEndOf, deeper_count, has_no_lines, part}, specs.Outline.level, proofs.EndsLaws.deeper_line}
@@ -18,7 +18,7 @@ gives_none s d q floor at none = record {
   later = λ h e. absurd (false≢true (sym e ∙ none h));
 }
 
--- behind a node alone, the next line
+-- after a node alone, the next line
 pub gives_bare : (s : RowsView) (d : Stretch) (q e : Position) (floor : ℕ) → IsLine s d q → IsPosition s d e → OfLines s d (λ ls n. n e ≡ n q + 1) → OfLine s d q (λ l. true ≡ is_some l.head) →
     OfLines s d (λ ls n. has_no_lines (part ls (n q) floor) ≡ false) → OfLines s d (λ ls n. has_no_lines (part ls (n e) floor) ≡ true) → GivesStop s d q floor e
 gives_bare s d q e floor at to next some deep none = record {
@@ -45,7 +45,7 @@ end_behind s d q e f floor at next lev g h =
     let stop : suc a + deeper_count (level k.line) (drop (suc a) ls) ≡ line_number d h.rows f = omega (arith, count, past, g.number h) in
     subst (IsEndOf ls a) stop (end_counted ls a k.line k.is)
 
--- behind a line and those under it, what is behind these
+-- after a line and those under it, what is after these
 pub gives_end : (s : RowsView) (d : Stretch) (q e f : Position) (floor : ℕ) → HasRows s d → IsLine s d q → IsPosition s d e → OfLines s d (λ ls n. n e ≡ n q + 1) → OfLine s d q (λ l. floor ≡ level l) →
     OfLines s d (λ ls n. has_no_lines (part ls (n e) floor) ≡ false) → GivesStop s d e floor f → GivesEnd s d q f
 gives_end s d q e f floor rows at to next lev deep g = record {
@@ -54,7 +54,7 @@ gives_end s d q e f floor rows at to next lev deep g = record {
   later = omega (arith, row_order s d rows q e at to (omega (arith, next rows)), g.later rows (deep rows));
 }
 
--- behind a line under which there are none, the next line
+-- after a line under which there are none, the next line
 pub gives_alone : (s : RowsView) (d : Stretch) (q e : Position) (floor : ℕ) → HasRows s d → IsLine s d q → IsPosition s d e → OfLines s d (λ ls n. n e ≡ n q + 1) → OfLine s d q (λ l. floor ≡ level l) →
     OfLines s d (λ ls n. has_no_lines (part ls (n e) floor) ≡ true) → GivesEnd s d q e
 gives_alone s d q e floor rows at to next lev none =
@@ -65,7 +65,7 @@ gives_alone s d q e floor rows at to next lev none =
       later = row_later s d rows q e at to (omega (arith, next rows)) (last_alone s d rows q e at (next rows) (ends rows));
     }
 
--- behind all lines of a collection, where no more are deeper
+-- after all lines of a collection, where no more are deeper
 pub gives_all : (s : RowsView) (d : Stretch) (q e : Position) (floor : ℕ) → IsPosition s d e → OfLines s d (λ ls n. lines_stop (n q) floor ls ≡ lines_stop (n e) floor ls) → (e ≡ q) ⊎ (q.row < e.row) →
     OfLines s d (λ ls n. has_no_lines (part ls (n e) floor) ≡ true) → GivesStop s d q floor e
 gives_all s d q e floor to same moved none = record {

@@ -31,7 +31,7 @@ row_of_cut t s ms d k q at =
     let place : d.first + (q.row - d.first) ≡ q.row = omega (arith, at.from) in
     ap (slice_get (rows_of k.cut)) (sym place) ∙ row_in_cut t s ms d k (q.row - d.first) l.row l.there
 
--- the head of a line that has one is told
+-- the head of a line that has one is reported
 pub head_line : (t : List ℕ) (s : RowsView) (ms : List Decoded) (d : Stretch) (k : IsCheckable t s ms d) (q : Position) (at : IsLine s d q) (l : Line) → slice_get (lines_of_rows k.document.rows) (line_number d k.document.rows q) ≡ Some l → true ≡ is_some l.head →
     decoded_head (decoded_at q.row ms) (slices (located s d k.document q at).row).head ≡ l.head
 head_line t s ms d k q at l is some =

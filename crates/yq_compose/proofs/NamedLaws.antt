@@ -9,7 +9,7 @@ use Rattle.yq_compose.specs.Named.{name_view, all_named}
 use Rattle.yq_compose.specs.declared.names.Name as declared
 use Rattle.yq_core.specs.declared.inline.Form as forms
 
--- the name at a place, before those behind it
+-- the name at a place, before those after it
 pub named_at : (ns : List declared.Name) (i : ℕ) (d : declared.Name) (n : Name) → i < length ns → name_view (get_or ns i d) ≡ n → all_named (drop i ns) ≡ n ∷ all_named (drop (i + 1) ns)
 named_at ns i d n within is = ap all_named (drop_more ns i d within) ∙ ap (λ x. x ∷ all_named (drop (i + 1) ns)) is
 
@@ -19,7 +19,7 @@ Field = String Global × Piece × Inline
 first_of : {A : Type 0} (xs : List A) (i : ℕ) (x : A) → i < length xs → x ≡ get_or xs i x → drop i xs ≡ x ∷ drop (i + 1) xs
 first_of xs i x within is = drop_more xs i x within ∙ ap (λ y. y ∷ drop (i + 1) xs) (sym is)
 
--- the names of one more item or entry stand behind those before it
+-- the names of one more item or entry come after those before it
 pub items_named : (is : List Inline) (i : ℕ) (x : Inline) (old new all : List Name) → i < length is → x ≡ get_or is i x → new ≡ old ++ names_of
     (placed_tree (inline_view x)) → old ++ names_in (parts_tree (items_end (drop i is))) ≡ all →
     new ++ names_in (parts_tree (items_end (drop (i + 1) is))) ≡ all

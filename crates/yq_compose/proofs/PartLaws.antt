@@ -1,4 +1,4 @@
--- Where the documents of a text stand among its rows is told by where its parts end.
+-- Where the documents of a text are among its rows is given by where its parts end.
 use Rattle.std.proofs.Common.{◌≡◌, ℕ, zero, suc, ◌+◌, ◌≤◌, Bool, true, false, ◌||◌, not, ltb, List, [], ◌∷◌, ◌++◌, length, drop, map}
 use Rattle.std.proofs.Common.{Option, Some, refl, sym, ap, ◌∙◌, arith, append_assoc, append-nil, length-append}
 use Rattle.std.{proofs.lemmas.Bool.{cond-false, cond-true, le-ltb, lt-ltb}, proofs.lemmas.List.{drop_all, length-map}}
@@ -12,7 +12,7 @@ use Rattle.yq_documents.proofs.BeginLaws.{document_is}
 use Rattle.yq_compose.specs.Decoding.{IsCutInto}
 use Rattle.yq_compose.specs.Places.{AreLocated, all_document_rows, gap_before_row, gap_or, part_row, document_view, documents_view}
 
--- the gap in front of rows that stand behind others
+-- the gap in front of rows that come after others
 get_seam : (xs : List Row) (r : Row) (ys : List Row) → slice_get (xs ++ (r ∷ ys)) (length xs) ≡ Some r
 get_seam [] r ys = refl
 get_seam (x ∷ xs) r ys = get_seam xs r ys
@@ -24,7 +24,7 @@ gap_there all xs (r ∷ rs) more end marker is =
     ∙ ap (λ (o : Option Slices). gap_or o end)
     (slice_get-map slices all (length xs) ∙ (ap (λ (l : List Row). option_map slices (slice_get l (length xs))) is ∙ ap (option_map slices) (get_seam xs r (rs ++ more))))
 
--- where a document stands, and the gap that its lead ends
+-- where a document is, and the gap that its lead ends
 abbrev StandAt : ℕ → Bool → ℕ → Cut → Part → ℕ × ℕ × List ℕ
 StandAt k is n c p = (k + rows_to (number_from is n c) c, k + rows_to (number_from is n c) c + length p.rows, gap_of p.rows p.end)
 

@@ -1,4 +1,4 @@
--- In which order lines stand by their rows.
+-- In which order lines are by their rows.
 use Rattle.std.proofs.Common.{◌≡◌, ◌⊎◌, inl, inr, ℕ, suc, ◌+◌, ◌-◌, ◌<◌, ◌≤◌, true, length, take, Some, sym, ap, ◌∙◌, arith, refl, drop}
 use Rattle.std.{proofs.lemmas.Bool.{cases_lt, false≢true}, proofs.lemmas.Option.{same_Some, slice_get_within}, specs.List.slice_get}
 use Rattle.std.specs.Prelude.{is_some}
@@ -21,7 +21,7 @@ row_order s d h q e at to less = go (cases_lt e.row q.row)
         absurd (omega (arith, less, k.within, lines_upto h.rows i n k.row k.there, ap (λ (m : ℕ). length (lines_of_rows (take m h.rows))) same))
     go (inr after) = after
 
--- a line behind the last one of a row is of a later row
+-- a line after the last one of a row is of a later row
 pub row_later : (s : RowsView) (d : Stretch) (h : HasRows s d) (q e : Position) (at : IsLine s d q) → IsPosition s d e → line_number d h.rows q < line_number d h.rows e → q.line ≡ length (located s d h q at).row.dashes → q.row < e.row
 row_later s d h q e at to less last = go (cases_lt q.row e.row)
   where

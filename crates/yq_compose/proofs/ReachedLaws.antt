@@ -31,7 +31,7 @@ reached_line ms s d q left ahead at n agrees = record {
   decoded = ahead;
 }
 
--- what a line begins with is told by how deep it is
+-- what a line begins with is given by how deep it is
 bare_mark : (column n : ℕ) (m : LineMark) → n ≡ 3 * column + rank m → eqb (n % 3) 1 ≡ has_no_mark m
 bare_mark column n Bare e = eq-eqb (n % 3) 1 (omega (arith, e))
 bare_mark column n (Key k) e = ne_eqb (n % 3) 1 (λ same. omega (arith, e, same))

@@ -1,4 +1,4 @@
--- What is told of the rows of a document that is checked.
+-- What is known of the rows of a document that is checked.
 use Rattle.std.{proofs.Common.{◌≡◌, ℕ, ◌<◌, ◌≤◌, List, length, Some, refl, sym, ap, ◌∙◌, arith}, specs.List.slice_get}
 use Rattle.yq_core.specs.Scalars.{scalar_content}
 use Rattle.yq_row_table.{specs.Rows.Row, specs.View.{Slices, slices, RowsView, rows_of}}
@@ -11,7 +11,7 @@ use Rattle.yq_compose.{specs.Checking.IsCheckable, proofs.LineLevelLaws.row_ther
 pub row_within : (t : List ℕ) (s : RowsView) (ms : List Decoded) (d : Stretch) (q : Position) → IsCheckable t s ms d → IsLine s d q → q.row < length s.rows
 row_within t s ms d q ready at = omega (arith, at.upto, ready.document.within)
 
--- what is told of a row of the cut, by its pieces
+-- what is known of a row of the cut, by its pieces
 pub row_known : (t : List ℕ) (s : RowsView) (ms : List Decoded) (d : Stretch) (ready : IsCheckable t s ms d) (i : ℕ) (x : Slices) → slice_get s.rows i ≡ Some x →
     (r : Row) × (slices r ≡ x) × IsDecodedBy (length t) ready.cut (decoded_at i ms) i r
 row_known t s ms d ready i x there =

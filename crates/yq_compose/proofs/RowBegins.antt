@@ -9,7 +9,7 @@ use Rattle.yq_documents.specs.declared.decoded.Decoded.{Decoded}
 use Rattle.yq_compose.{specs.Checking.IsCheckable, proofs.LineLevelLaws.row_there}
 use Rattle.yq_row_table.specs.Rows as rows
 
--- a key without quotes has one line, and stands for itself
+-- a key without quotes has one line, and means itself
 pub mark_plain : (m : rows.RowMark) (c : Content) (rest : List ℕ) → IsMark m c rest → is_quoted (key_of_mark m) ≡ false → key_of_mark m ≡ scalar_content (key_of_mark m)
 mark_plain rows.Bare c rest h e = stands [] refl refl
 mark_plain rows.Dash c rest h e = stands [] refl refl

@@ -19,7 +19,7 @@ row_content limit (x ∷ rs) end rest (suc i) r valid e = row_content (limit_aft
 pub lines_at : (rs : List Row) (i : ℕ) (r : Row) → slice_get rs i ≡ Some r → lines_of_rows (drop i rs) ≡ row_lines r ++ lines_of_rows (drop (i + 1) rs)
 lines_at rs i r e = ap lines_of_rows (drop_at rs i r e)
 
--- what is asked of anchors from a row on, by its first line and the rows behind it
+-- what is asked of anchors from a row on, by its first line and the rows after it
 pub anchor_step : (rs : List Row) (i : ℕ) (r : Row) (l : Line) (before : List ℕ) (all : Bool) → slice_get rs i ≡ Some r → slice_get (row_lines r) 0 ≡ Some l → is_empty before ≡ is_none (name_in before) →
     all ≡ (is_free (name_in before) (lines_of_rows (drop i rs)) && have_one_anchor_each (lines_of_rows (drop i rs))) →
     all ≡ ((is_empty before || may_take l.mark l.anchor l.head) && (is_free (content_anchor r.content) (lines_of_rows (drop (i + 1) rs)) && have_one_anchor_each (lines_of_rows (drop (i + 1) rs))))
@@ -29,7 +29,7 @@ anchor_step rs i r l before all there first named so_far =
     ∙ ((λ j. is_free (name_in before) (lines_at rs i r there j) && have_one_anchor_each (lines_at rs i r there j))
     ∙ (λ j. free_agrees before (row_lines r) l rest named first j && free_row r rest j))
 
--- behind the last row nothing is asked
+-- after the last row nothing is asked
 free_end : (a : Option (List ℕ)) → (is_free a [] && true) ≡ true
 free_end None = refl
 free_end (Some a) = refl

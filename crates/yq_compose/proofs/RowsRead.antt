@@ -1,4 +1,4 @@
--- What the rows of a text spell is told by reading their heads again.
+-- What the rows of a text spell is given by reading their heads again.
 use Rattle.std.proofs.Common.{◌≡◌, ℕ, ℤ, zero, suc, ◌<◌, ◌≤◌, Bool, true, false, List, [], ◌∷◌, ◌++◌, length, drop, get_or, Option, Some}
 use Rattle.std.proofs.Common.{None, refl, sym, ap, ◌∙◌, subst, arith, append_assoc, length-append}
 use Rattle.std.{proofs.Math.Seq.{drop-append_seam, get_or-append_seam}, proofs.lemmas.Bool.{cond-false, false≢true}}
@@ -36,7 +36,7 @@ unfit_agrees (errors.Fault k) o false head is f = refl
 pub fit_agrees : (o : Option (Option trees.Node)) (fit : Bool) (head x : Option trees.Node) → o ≡ fitting fit head → o ≡ Some x → fit ≡ true
 fit_agrees o fit head x is e = (cond_some fit _ _ (sym is ∙ e)).0
 
--- a row without a colon has no key, which is fit and stands for itself
+-- a row without a colon has no key, which is fit and means itself
 no_key : (m : rows.RowMark) (c : rows.Content) (rest : List ℕ) → IsMark m c rest → is_empty (colon_of m) ≡ true → (mark_is_fit m ≡ true) × (borrowed_text (key_of_mark m) ≡ scalar_content (key_of_mark m))
 no_key rows.Bare c rest h e = (refl, kept [] refl refl)
 no_key rows.Dash c rest h e = (refl, kept [] refl refl)

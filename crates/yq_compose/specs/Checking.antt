@@ -12,11 +12,11 @@ use Rattle.yq_documents.specs.declared.decoded.Decoded.{Decoded}
 use Rattle.yq_compose.{specs.Named.flow_names, specs.Ahead.IsAhead, specs.declared.checked.Checked.Checked}
 use Rattle.yq_compose.specs.declared.reached.Reached.{Reached}
 
--- a backslash in double quotes, or a quote in single ones, stands behind the first byte and before the last (own)
+-- a backslash in double quotes, or a quote in single ones, comes after the first byte and before the last (own)
 abbrev pub holds_escape : List ℕ → Bool
 holds_escape t = if is_quoted t then list_any (λ b. b == (if begins_with 34 t then 92 else 39)) (take (length t - 2) (drop 1 t)) else false
 
--- the text lends what a key or scalar stands for: it is on one line, and has no escapes (own)
+-- the text lends what a key or scalar means: it is on one line, and has no escapes (own)
 abbrev pub borrows_text : List ℕ → Bool
 borrows_text t = not (holds_break t) && not (holds_escape t)
 
@@ -28,7 +28,7 @@ begins_tree t = is_block_head t || (begins_with 42 t || (begins_with 91 t || beg
 abbrev pub borrows_head : List ℕ → Bool
 borrows_head t = not (begins_tree t) && borrows_text t
 
--- The rows of a document are those of a cut, and it is told what is made of the rows of the cut (own).
+-- The rows of a document are those of a cut, and it is known what is made of the rows of the cut (own).
 pub record IsCheckable (t : List ℕ) (s : RowsView) (ms : List Decoded) (d : Stretch) : Type 0 where
   pub cut : Cut
   pub is_cut : IsCut t cut
@@ -59,19 +59,19 @@ OfChecked x said = (k : IsChecked x) → said (lines_of_rows k.document.rows) (l
 abbrev pub OfCheckedLine : Checked → Position → (List Line → (Position → ℕ) → Line → Type 0) → Type 0
 OfCheckedLine x at said = OfChecked x (λ ls n. (l : Line) → slice_get ls (n at) ≡ Some l → said ls n l)
 
--- The position behind the lines from one on that are deeper than a level is given, where there is no fault (own).
+-- The position after the lines from one on that are deeper than a level is given, where there is no fault (own).
 pub record GivesStop (s : RowsView) (d : Stretch) (from : Position) (floor : ℕ) (q : Position) : Type 0 where
   pub position : IsPosition s d q
   pub number : OfLines s d (λ ls n. n q ≡ lines_stop (n from) floor ls)
   pub later : OfLines s d (λ ls n. has_no_lines (part ls (n from) floor) ≡ false → from.row < q.row)
 
--- The position behind a line and those under it is given, where there is no fault (own).
+-- The position after a line and those under it is given, where there is no fault (own).
 pub record GivesEnd (s : RowsView) (d : Stretch) (at : Position) (q : Position) : Type 0 where
   pub position : IsPosition s d q
   pub end : OfLines s d (λ ls n. IsEndOf ls (n at) (n q))
   pub later : at.row < q.row
 
--- A line of a document, or the end behind its rows, with how deep it is; the end is at level 0 (own).
+-- A line of a document, or the end after its rows, with how deep it is; the end is at level 0 (own).
 pub record IsReached (ms : List Decoded) (s : RowsView) (d : Stretch) (r : Reached) : Type 0 where
   pub position : IsPosition s d r.position
   pub some : 0 < r.level → r.position.row < d.end

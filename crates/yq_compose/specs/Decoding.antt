@@ -16,16 +16,16 @@ pub record IsCutInto (t : List ℕ) (s : RowsView) : Type 0 where
 abbrev pub OfRow : List ℕ → ℕ → (Row → Type 0) → Type 0
 OfRow t i said = (r : Row) → slice_get (rows_of (cut_of t)) i ≡ Some r → said r
 
--- What a row's key stands for is told by the text that is made of it, if one is (own).
+-- What a row's key means is given by the text that is made of it, if one is (own).
 abbrev pub IsKeyDecoded : Option (String Global) → Row → Type 0
 IsKeyDecoded k r = decoded_or (option_map string_bytes k) (borrowed_text (slices r).key) ≡ scalar_content (slices r).key
 
--- What a row's head spells is told by the head that is made of it, if one is (own).
+-- What a row's head spells is given by the head that is made of it, if one is (own).
 pub record IsHeadDecoded (t : List ℕ) (i : ℕ) (h : Option Head) (r : Row) : Type 0 where
   pub head : decoded_or (option_map head_view h) (borrowed_head (slices r).head) ≡ head_of r.content
   pub flow : option_and_then head_flow h ≡ row_flow (length t) r (behind_row i (cut_of t))
 
--- What the rows of a text spell is told by what is made of them, which is in their order (own).
+-- What the rows of a text spell is given by what is made of them, which is in their order (own).
 pub record AreDecoded (t : List ℕ) (ms : List Decoded) : Type 0 where
   pub rise : Rise 0 ms
   pub agrees : (i : ℕ) → OfRow t i (IsDecoded (length t) (cut_of t) ms i)

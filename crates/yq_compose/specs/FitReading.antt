@@ -8,7 +8,7 @@ use Rattle.yq_documents.specs.RowReading.{is_block_head}
 abbrev pub is_plain_head : List ℕ → Bool
 is_plain_head head = not (is_empty head) && (not (is_block_head head) && not (is_quoted head || (begins_with 42 head || (begins_with 91 head || begins_with 123 head))))
 
--- a break is in an anchor, behind it or in its head (own)
+-- a break is in an anchor, after it or in its head (own)
 abbrev pub has_break : Slices → Bool
 has_break s = holds_break s.anchor || (holds_break s.apart || holds_break s.head)
 

@@ -1,4 +1,4 @@
--- Reading (own; a reader may skip it): where the documents of a text stand among its rows, by where its parts end.
+-- Reading (own; a reader may skip it): where the documents of a text are among its rows, by where its parts end.
 use Rattle.std.specs.Prelude.{◌≡◌, ℕ, List, [], ◌∷◌, ◌++◌, length, map, nat_lt, slice_get, Option, Some, None, Bool, true, false, ◌&&◌}
 use Rattle.std.{specs.Prelude.if◌then◌else◌, specs.List.list_all}
 use Rattle.yq_outline.{specs.LinesReading.lines_are_sound, specs.Lines.lines_of_rows}
@@ -11,11 +11,11 @@ abbrev pub gap_or : Option Slices → List ℕ → List ℕ
 gap_or None end = end
 gap_or (Some s) end = s.gap
 
--- the gap before row k, where it stands before the end of a part, or the gap there (own)
+-- the gap before row k, where it comes before the end of a part, or the gap there (own)
 abbrev pub gap_before_row : List Slices → ℕ → Bound → List ℕ
 gap_before_row ss k b = if nat_lt k b.rows then gap_or (slice_get ss k) b.end else b.end
 
--- where the rows of a part begin and end, and the gap that its lead ends, if it is a document; k rows stand before it (own)
+-- where the rows of a part begin and end, and the gap that its lead ends, if it is a document; k rows come before it (own)
 abbrev pub part_row : List Slices → Bool → ℕ → Bound → List (ℕ × ℕ × List ℕ)
 part_row ss true k b = (k, b.rows, gap_before_row ss k b) ∷ []
 part_row ss false k b = []
@@ -33,7 +33,7 @@ document_view d = (d.first, d.end, d.lead.now)
 abbrev pub documents_view : List DocumentRows → List (ℕ × ℕ × List ℕ)
 documents_view ds = map document_view ds
 
--- The documents of a text stand there (own).
+-- The documents of a text are there (own).
 pub record AreLocated (t : List ℕ) (ds : List DocumentRows) : Type 0 where
   pub count : length ds ≡ length (document_parts (cut_of t))
   pub each : (n : ℕ) (d : DocumentRows) (p : Part) → slice_get ds n ≡ Some d → slice_get (document_parts (cut_of t)) n ≡ Some p → IsLocated t n p d

@@ -18,7 +18,7 @@ fn is_unnamed(anchor: &str, head: &str) -> bool
     anchor.is_empty() && !first_is(b'*', head.as_bytes())
 }
 
-/// Whether the node that begins with the first line of a row may take an anchor that stands before it.
+/// Whether the node that begins with the first line of a row may take an anchor that comes before it.
 fn may_take(x: Checked<'_, '_>, at: Position) -> bool
     requires ready { IsChecked x }
     requires line { IsLine x.rows.now x.document at }
@@ -46,7 +46,7 @@ fn is_free(x: Checked<'_, '_>, before: &str, at: Position) -> bool
     may_take(x, at)
 }
 
-/// The first line whose node has an anchor already, or is an alias, behind a row with an anchor.
+/// The first line whose node has an anchor already, or is an alias, after a row with an anchor.
 pub(crate) fn second_anchor(x: Checked<'_, '_>) -> Option<Position>
     requires ready { IsChecked x }
     ensures { OfLines x.entry.rows.now x.entry.document (λ ls n.

@@ -7,7 +7,7 @@ use crate::names::Name;
 use std::alloc::{AllocError, Global};
 use std::collections::BTreeMap;
 
-/// The byte of the text at which the first alias stands before which no anchor of its name stands.
+/// The byte of the text at which the first alias comes before which no anchor of its name is.
 pub(crate) fn unbound_alias(alloc: Global, names: &[Name<'_>]) -> Result<Option<usize>, AllocError>
     ensures { IfOk result (λ l. is_none l ≡ are_bound [] (all_named names.now)) }
 {

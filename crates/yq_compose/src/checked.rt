@@ -7,8 +7,9 @@ ghost use Rattle.yq_compose.{specs.Ahead.IsAhead, specs.Checking.IsChecked};
 ghost use Rattle.yq_outline.specs.Outline as outline;
 
 use crate::ahead::{ahead_from, decoded_here};
+use yq_core::fault_place::fault_at;
 use yq_core::{FaultKind, ReadFault, is_quoted};
-use yq_documents::{Decoded, decoded_key, fault_at};
+use yq_documents::{Decoded, decoded_key};
 use yq_outline::{Position, Stretch};
 use yq_row_table::Rows;
 use yq_row_walk::rank_at;
@@ -22,7 +23,7 @@ pub(crate) struct Checked<'a, 't> {
     pub(crate) document: Stretch,
 }
 
-/// A fault of the row of a line: it is told on the line of the text behind the row's gap.
+/// A fault of the row of a line: it is reported on the line of the text after the row's gap.
 pub(crate) fn row_fault(x: Checked<'_, '_>, at: Position, kind: FaultKind) -> ReadFault
     requires kind { kind ≢ NotUtf8 }
     ensures { result.kind ≢ NotUtf8 }
@@ -34,10 +35,10 @@ pub(crate) fn row_fault(x: Checked<'_, '_>, at: Position, kind: FaultKind) -> Re
     } else {
         x.text.len()
     };
-    fault_at(kind, x.text, place)
+    fault_at(kind, x.text.as_bytes(), place)
 }
 
-/// What the key of a row stands for, by what is made from the row on.
+/// What the key of a row means, by what is made from the row on.
 #[inline(always)]
 pub(crate) fn row_key<'a, 't>(x: Checked<'a, 't>, row: usize, decoded: &'a [Decoded<'t>]) -> &'a str
     requires ready { IsChecked x }

@@ -14,8 +14,9 @@ ghost use Rattle.yq_compose.specs.Checking as spec;
 use crate::fit::key_fits;
 use crate::nested::flow_decoded;
 use std::alloc::{AllocError, Global};
+use yq_core::fault_place::fault_at;
 use yq_core::{FaultKind, ReadError, first_is, is_quoted};
-use yq_documents::{Decoded, borrowed_text, fault_at, node_refers};
+use yq_documents::{Decoded, borrowed_text, node_refers};
 use yq_outline::Head;
 use yq_row_heads::read_head;
 use yq_row_table::Rows;
@@ -23,7 +24,7 @@ use yq_row_walk::head_place;
 use yq_scalar_reader::folding::quoted_content;
 use yq_scalar_reader::plain::holds_break;
 
-/// Whether a backslash stands in what is between double quotes, or a quote between single ones.
+/// Whether a backslash is in what is between double quotes, or a quote between single ones.
 fn holds_escape(is_double: bool, inner: &str) -> bool
     ensures { result ≡ list_any (λ b. b == (if is_double then 92 else 39)) inner.now }
 {
@@ -31,7 +32,7 @@ fn holds_escape(is_double: bool, inner: &str) -> bool
     inner.as_bytes().iter().any(|b| *b == sign)
 }
 
-/// Whether the text lends what a key or scalar stands for: it is on one line, and has no escapes.
+/// Whether the text lends what a key or scalar means: it is on one line, and has no escapes.
 fn borrows_text(piece: &str) -> bool
     requires { is_in_quotes piece.now ≡ true → IsQuotedText piece.now }
     ensures { result ≡ spec.borrows_text piece.now }
@@ -80,7 +81,7 @@ fn decode_key<'t>(
     let key = rows.key(i);
     if !key_fits(key) {
         let place = rows.start(i).saturating_add(rows.gap(i).len());
-        return Err(ReadError::Fault(fault_at(FaultKind::MergeKey, text, place)));
+        return Err(ReadError::Fault(fault_at(FaultKind::MergeKey, text.as_bytes(), place)));
     }
     if !is_quoted(key.as_bytes()) {
         return Ok(None);

@@ -15,8 +15,8 @@ use crate::fit::has_short_root;
 use crate::reached::with_level;
 use crate::sound::check_lines;
 use std::alloc::Global;
+use yq_core::fault_place::fault_at;
 use yq_core::{DEPTH_LIMIT, FaultKind, ReadError};
-use yq_documents::fault_at;
 use yq_outline::Position;
 
 /// The aliases of a document: an earlier anchor of its name for each. Whether there are some is known.
@@ -31,7 +31,11 @@ fn check_aliases(alloc: Global, x: Checked<'_, '_>, refers: bool) -> Result<(), 
     }
     let names = names_of(alloc, x)?;
     match unbound_alias(alloc, &names)? {
-        Some(byte) => Err(ReadError::Fault(fault_at(FaultKind::UnknownAlias, x.text, byte))),
+        Some(byte) => Err(ReadError::Fault(fault_at(
+            FaultKind::UnknownAlias,
+            x.text.as_bytes(),
+            byte,
+        ))),
         None => Ok(()),
     }
 }

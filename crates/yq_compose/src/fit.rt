@@ -21,7 +21,7 @@ fn is_plain(head: &str) -> bool
     !head.is_empty() && (!is_block_head(bytes) && !other)
 }
 
-/// Whether a break stands in a row's anchor, behind it or in its head.
+/// Whether a break is in a row's anchor, after it or in its head.
 fn has_break(row: &Row<'_>) -> bool
     ensures { result ≡ spec.has_break (row_view row.now) }
 {

@@ -8,8 +8,8 @@ ghost use Rattle.yq_outline.specs.Sound as spec;
 use crate::keys::Keys;
 use std::alloc::{AllocError, Global};
 use std::collections::BTreeMap;
+use yq_core::fault_place::fault_at;
 use yq_core::{FaultKind, Form, Inline, Piece, ReadError};
-use yq_documents::fault_at;
 use yq_scalar_reader::are_distinct;
 
 /// An inline node of a text, in which at most so many collections may be nested.
@@ -27,13 +27,21 @@ pub(crate) fn node_fault(
     match &node.form {
         Form::List(items) => {
             if depth == 0 {
-                return Err(ReadError::Fault(fault_at(FaultKind::TooDeep, text, node.start)));
+                return Err(ReadError::Fault(fault_at(
+                    FaultKind::TooDeep,
+                    text.as_bytes(),
+                    node.start,
+                )));
             }
             items_fault(alloc, text, items, depth - 1)
         }
         Form::Map(entries) => {
             if depth == 0 {
-                return Err(ReadError::Fault(fault_at(FaultKind::TooDeep, text, node.start)));
+                return Err(ReadError::Fault(fault_at(
+                    FaultKind::TooDeep,
+                    text.as_bytes(),
+                    node.start,
+                )));
             }
             entries_fault(alloc, text, entries, depth - 1)
         }
@@ -64,7 +72,7 @@ fn items_fault(
     Ok(())
 }
 
-/// The byte of the text at which the first key stands that an earlier entry has; 0 where there is none.
+/// The byte of the text at which the first key is that an earlier entry has; 0 where there is none.
 fn repeated_key(
     alloc: Global,
     entries: &Vec<(String, Piece, Inline<'_>)>,
@@ -102,7 +110,7 @@ fn entries_fault(
     }
     if !are_distinct(keys.as_mut_slice()) {
         let byte = repeated_key(alloc, entries)?;
-        return Err(ReadError::Fault(fault_at(FaultKind::DuplicateKey, text, byte)));
+        return Err(ReadError::Fault(fault_at(FaultKind::DuplicateKey, text.as_bytes(), byte)));
     }
     Ok(())
 }

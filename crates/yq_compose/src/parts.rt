@@ -1,4 +1,4 @@
-//! Where the documents of a text stand among its rows.
+//! Where the documents of a text are among its rows.
 ghost use Rattle.std.specs.Prelude.{◌≡◌, ◌++◌, ◌||◌, not, IfOk};
 ghost use Rattle.yq_row_table.specs.View.{bound_view};
 ghost use Rattle.yq_documents.specs.PartReading.{first_rows, some_begin};
@@ -8,7 +8,7 @@ use std::alloc::{AllocError, Global};
 use yq_documents::{DocumentRows, first_is_document};
 use yq_row_table::{Bound, Rows, begins_document};
 
-/// The gap before the first row of a part, or that behind its rows where it has none.
+/// The gap before the first row of a part, or that after its rows where it has none.
 fn first_gap<'t>(rows: &Rows<'t>, from: usize, bound: Bound<'t>) -> &'t str
     ensures { result.now ≡ spec.gap_before_row rows.now.rows from (bound_view bound.entry) }
 {
@@ -40,7 +40,7 @@ fn push_document<'t>(
     Ok(documents)
 }
 
-/// Where the documents of a text stand among its rows, in order.
+/// Where the documents of a text are among its rows, in order.
 pub(crate) fn document_rows<'t>(
     alloc: Global,
     rows: &Rows<'t>,

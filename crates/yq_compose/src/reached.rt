@@ -11,7 +11,7 @@ use yq_documents::Decoded;
 use yq_outline::Position;
 use yq_row_walk::{level_at, next};
 
-/// A line of a document with how deep it is, or the end behind its rows, which is at level 0.
+/// A line of a document with how deep it is, or the end after its rows, which is at level 0.
 #[derive(Clone, Copy)]
 pub(crate) struct Reached<'a, 't> {
     pub(crate) position: Position,
@@ -47,7 +47,7 @@ pub(crate) fn with_level<'a, 't>(
     }
 }
 
-/// The line behind a line.
+/// The line after a line.
 #[inline(always)]
 pub(crate) fn line_behind<'a, 't>(x: Checked<'a, 't>, at: Reached<'a, 't>) -> Reached<'a, 't>
     requires ready { IsChecked x }

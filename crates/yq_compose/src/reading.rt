@@ -16,7 +16,7 @@ use yq_documents::{Decoded, DocumentRows, Documents};
 use yq_outline::Stretch;
 use yq_row_table::Rows;
 
-/// The documents of a text, each checked by its rows. Whether an alias may stand in them is known.
+/// The documents of a text, each checked by its rows. Whether an alias may be in them is known.
 fn check_documents<'t>(
     alloc: Global,
     text: &'t str,

@@ -17,7 +17,7 @@ use yq_outline::Position;
 use yq_row_walk::{behind, has_head, is_deeper as is_line_deeper};
 use yq_scalar_reader::are_distinct;
 
-/// Why a line can't stand where others of a collection at a level do: behind neither key nor dash in the
+/// Why a line can't be where others of a collection at a level do: after neither key nor dash in the
 /// column of the keys, where its key is missing, or in another column or collection.
 fn misplaced(level: usize, n: usize) -> FaultKind
     ensures { result ≢ NotUtf8 }
@@ -29,7 +29,7 @@ fn misplaced(level: usize, n: usize) -> FaultKind
     }
 }
 
-/// A node on a line of its own, deeper than a level: it is to be there, and to be alone. The position behind
+/// A node on a line of its own, deeper than a level: it is to be there, and to be alone. The position after
 /// it.
 fn check_bare<'a, 't>(
     alloc: Global,
@@ -114,8 +114,8 @@ fn repeated_line(
     Ok(start)
 }
 
-/// A line of a collection and the lines under it: it is to stand at the collection's level, to have no
-/// head where lines are under it, and a head that is sound. The position behind them.
+/// A line of a collection and the lines under it: it is to be at the collection's level, to have no
+/// head where lines are under it, and a head that is sound. The position after them.
 #[cycle(sound)]
 fn check_line<'a, 't>(
     alloc: Global,
@@ -152,7 +152,7 @@ fn check_line<'a, 't>(
 }
 
 /// The lines from a place on that are deeper than a level: they are to be the items or entries of one
-/// collection, in which at most so many are nested, or one node. The position behind them.
+/// collection, in which at most so many are nested, or one node. The position after them.
 #[cycle(sound)]
 pub(crate) fn check_lines<'a, 't>(
     alloc: Global,

@@ -8,7 +8,7 @@ use Rattle.yq_core.{specs.Answers.more, specs.Text.{upto, cut, is_empty, is_feed
 use Rattle.yq_core.{specs.Plain.{begins_deep, ends_plain, ends_text, last_line, plain_may_follow, no_gap}, specs.PlainReading.across}
 use Rattle.yq_core.proofs.Bools.{more_more, more_none, more_some, at_byte}
 
--- what stands behind the first byte, as a slice's pattern gives it
+-- what comes after the first byte, as a slice's pattern gives it
 abbrev pub rest_of : List ℕ → List ℕ
 rest_of r = take (length r - 1) (drop 1 r)
 
@@ -110,7 +110,7 @@ pub across_here : (flow : Bool) (spaces : Option ℕ) (deep : Bool) (b : ℕ) (b
 unfolding across
 across_here flow spaces deep b bs h = search (rules, false_from_ne_true, false≢true)
 
--- whether text behind a gap may stand on its line; deep tells it of the line on which the gap begins
+-- whether text after a gap may be on its line; deep tells it of the line on which the gap begins
 abbrev stands : Bool → Option ℕ → Option (List ℕ) → List ℕ → Bool
 stands deep spaces None text = deep
 stands deep spaces (Some indentation) text = begins_deep spaces (indentation ++ text)
@@ -146,7 +146,7 @@ next_line : (deep : Bool) (spaces : Option ℕ) (o : Option (List ℕ)) (gap tex
 next_line deep spaces None gap text bs e = ap (begins_deep spaces) e
 next_line deep spaces (Some l) gap text bs e = refl
 
--- what across tells: whether text behind the gap follows, and how long the gap is
+-- what across tells: whether text after the gap follows, and how long the gap is
 across_goes : (flow : Bool) (spaces : Option ℕ) (deep : Bool) (t : List ℕ) → across flow spaces deep t ≡ cond (goes flow spaces deep (gap_of t) (past_gap t)) (Some (upto no_gap t)) None
 unfolding across upto
 across_goes flow spaces deep [] = refl

@@ -31,7 +31,7 @@ quote_stop : (q : ℕ) → (q ≡ 34) ⊎ (q ≡ 39) → ends_lookahead q ≡ tr
 quote_stop q (inl e) = rw e refl
 quote_stop q (inr e) = rw e refl
 
--- of what stands behind a quoted scalar only its first byte is asked
+-- of what comes after a quoted scalar only its first byte is asked
 pub quoted_any : (q : ℕ) (ls : QuotedLines) (p t u : List ℕ) → front (λ b. eqb b 39) u ≡ false → IsQuoted q ls p t → IsQuoted q ls p u
 quoted_any q ls p t u h g = record {
   quotes = g.quotes;

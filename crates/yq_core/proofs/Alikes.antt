@@ -1,4 +1,4 @@
--- Two texts that are the same up to a byte behind which nobody looks: the tests of what is in front.
+-- Two texts that are the same up to a byte after which nobody looks: the tests of what is in front.
 use Rattle.std.proofs.Common.{◌≡◌, inl, inr, ℕ, Bool, true, false, eqb, List, [], ◌∷◌, ◌++◌, Option, Some, None, refl, sym, ap, ◌∙◌, rules}
 use Rattle.std.{proofs.Math.Bool.and-false, proofs.lemmas.Bool.{cases_Bool, or_parts}, specs.List.prefix_len}
 use Rattle.yq_core.specs.Plain.{begins_plain, ends_plain, ends_text, is_flow_indicator, is_safe, no_gap, last_line, begins_deep}
@@ -11,7 +11,7 @@ pub alike_append : (f : Option Bool) (p t u : List ℕ) → Alike f t u → Alik
 alike_append f [] t u h = h
 alike_append f (b ∷ p) t u h = after (alike_append f p t u h)
 
--- each test of what stands in front
+-- each test of what is in front
 pub alike_front : (p : ℕ → Bool) (f : Option Bool) (t u : List ℕ) → Alike f t u → front p t ≡ front p u
 alike_front p f t u h1 = search rules
 

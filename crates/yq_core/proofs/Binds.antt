@@ -1,4 +1,4 @@
--- Steps of reading one behind the other.
+-- Steps of reading one after the other.
 use Rattle.std.proofs.Common.{◌≡◌, Bool, true, false, cond, Option, Some, None, refl}
 use Rattle.yq_core.specs.Answers.{◌>>=◌}
 

@@ -1,4 +1,4 @@
--- Where the block scalar that is found stands.
+-- Where the block scalar that is found is.
 use Rattle.std.proofs.Common.{◌≡◌, ◌≢◌, ℕ, ◌+◌, ◌-◌, ◌≤◌, Bool, true, List, ◌++◌, length, drop, Option, Some, sym, ap, ◌∙◌, length-append}
 use Rattle.std.{proofs.Common.{Result, Ok, Err, IfOk, ℤ, rules}, proofs.lemmas.Bool.false≢true, proofs.lemmas.Option.same_Some}
 use Rattle.yq_core.{proofs.BlockLaws.{block_takes, block_again}, proofs.Bools.bind_some, proofs.HeaderLaws.head_length}

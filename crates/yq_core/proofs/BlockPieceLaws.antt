@@ -59,7 +59,7 @@ raw_back b rest =
     let cut : drop (suc (length (b.indicators ++ b.tail))) (block_text b rest) ≡ behind = ap (drop (length (b.indicators ++ b.tail))) (sym (append_assoc b.indicators b.tail behind)) ∙ drop-append_seam (b.indicators ++ b.tail) behind in
     search (rules, length-append, take-append_seam, cut)
 
--- where the pieces of a block scalar at an offset stand
+-- where the pieces of a block scalar at an offset are
 pub record Stands (text : List ℕ) (p : Piece) : Type 0 where
   pub header : p.start < length text
   pub order : p.raw_start ≤ p.end
@@ -92,7 +92,7 @@ style_same : (s : BlockStyle) → block_style (as_style s) ≡ s
 style_same styles.Literal = refl
 style_same styles.Folded = refl
 
--- what is read at the piece of a block scalar is what that stands for
+-- what is read at the piece of a block scalar is what that means
 pub content_is : (n : ℤ) (text : List ℕ) (p : Piece) (h : IsBlockPiece n p.start text p) → block_piece_content text p ≡ block_content h.block
 unfolding block_piece_content
 content_is n text p h =

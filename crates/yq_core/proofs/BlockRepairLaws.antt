@@ -1,4 +1,4 @@
--- A repaired gap may stand behind a block scalar and keeps its comments.
+-- A repaired gap may come after a block scalar and keeps its comments.
 use Rattle.std.proofs.Common.{◌≡◌, ℕ, zero, suc, ◌<◌, Bool, true, false, ◌||◌, eqb, List, [], ◌∷◌, ◌++◌, drop, replicate, refl, sym, ap}
 use Rattle.std.proofs.Common.{◌∙◌, ⊎_elim, eqb-true, rules}
 use Rattle.std.proofs.lemmas.Bool.{false≢true, cond_both, or_cases, false_from_ne_true, le-leb, or_right, lt-ltb, and_from, and_parts}

@@ -12,7 +12,7 @@ use Rattle.yq_core.specs.declared.block_lines.TextIndent.{TextIndent}
 pub at_line : (t l a : List ℕ) (n : ℕ) (e : Bool) → e ≡ eqb (length t) 0 → e ≡ false → n ≡ line_len t → l ≡ take n t → a ≡ drop n t → (text_lines t ≡ l ∷ text_lines a) × (0 < n) × (length l ≡ n)
 at_line t l a n e h1 h2 h3 h4 h5 = search (rules, false≢true, line_step, line_len_some, length-take, line_len_within)
 
--- the same of the text cut behind its line
+-- the same of the text cut after its line
 pub at_cut : (t l a : List ℕ) (e : Bool) → e ≡ eqb (length t) 0 → e ≡ false → (l, a) ≡ cut_line t → (text_lines t ≡ l ∷ text_lines a) × (length a < length t)
 at_cut t l a e is none cut =
     let front_is : l ≡ take (line_len t) t = ap (λ (x : List ℕ × List ℕ). x.0) cut in
@@ -55,7 +55,7 @@ pub detect_end : (least most : ℕ) (t : List ℕ) → t ≡ [] → detected_at 
 unfolding detected_at text_lines
 detect_end least most t h = rw h refl
 
--- the length of what is behind a step
+-- the length of what is after a step
 some_not_zero : (n : ℕ) → 0 < n → eqb n 0 ≡ false
 some_not_zero zero h = absurd (omega arith)
 some_not_zero (suc n) h = false_from_ne_true (eqb (suc n) 0) (λ e. absurd (omega (arith, eqb-true (suc n) 0 e)))

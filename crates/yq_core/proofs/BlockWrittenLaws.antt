@@ -1,4 +1,4 @@
--- What is written is a block scalar and stands for the text.
+-- What is written is a block scalar and means the text.
 use Rattle.std.proofs.Common.{◌≡◌, ℕ, ◌≤◌, Bool, true, false, cond, not, ◌&&◌, eqb, List, [], ◌∷◌, ◌++◌, length, refl, sym, ap, ◌∙◌, subst}
 use Rattle.std.{proofs.Common.{⊎_elim, rules}, proofs.lemmas.Bool.{false≢true, not-true, and_parts, or_parts}}
 use Rattle.yq_core.proofs.BlockWrittenLines.{IsText, IsBreak, break_is, explicit_indent, not_end, some_text, line_regroup, indented_some}

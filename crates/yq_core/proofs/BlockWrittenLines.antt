@@ -1,4 +1,4 @@
--- A line that is written, and what it stands for.
+-- A line that is written, and what it means.
 use Rattle.std.proofs.Common.{◌≡◌, ℕ, suc, ◌+◌, true, false, eqb, min, List, [], ◌∷◌, ◌++◌, length, take, drop, replicate, refl, sym, ap}
 use Rattle.std.proofs.Common.{◌∙◌, subst, inl, inr, ◌⊎◌, ⊎_elim, arith, eqb-true, append_assoc, rules}
 use Rattle.std.proofs.lemmas.Bool.{false≢true, cond_both, false_from_ne_true, leb-true, le-leb, and_from, and_parts}

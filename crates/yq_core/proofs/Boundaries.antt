@@ -7,7 +7,7 @@ use Rattle.std.specs.Str.{IsUtf8, IsCharBoundary}
 use Rattle.yq_core.specs.Text.{upto, at_feed, unless, is_white, is_break, is_space, ends_line, is_return, is_feed, front, line_len}
 use Rattle.yq_core.{proofs.Upto.{upto_le_length, upto_ends, upto_unless}, proofs.Breaks.line_len-feed}
 
--- behind bytes that are all ASCII
+-- after bytes that are all ASCII
 pub boundary_behind : (t : List ℕ) (n : ℕ) → IsUtf8 t → n ≤ length t → ((k : ℕ) → k < n → get_or t k 0 < 128) → IsCharBoundary t n
 boundary_behind t zero u le ascii = IsCharBoundary-start t u
 boundary_behind t (suc m) u le ascii =
@@ -52,7 +52,7 @@ boundary_white t n e u = rw e (rw (← upto_unless) (boundary_unless is_white t 
 pub boundary_break : (t : List ℕ) (n : ℕ) → n ≡ upto ends_line t → IsCharBoundary t n
 boundary_break t n e = rw e (boundary_ends ends_line t break_ascii refl)
 
--- behind a line with its break
+-- after a line with its break
 pub boundary_line : (t : List ℕ) (n : ℕ) → n ≡ line_len t → IsUtf8 t → IsCharBoundary t n
 boundary_line t n e u =
     let k = upto at_feed t in

@@ -9,7 +9,7 @@ use Rattle.yq_core.{specs.declared.gap.GapPlace.GapPlace, specs.declared.gap.Gap
 use Rattle.yq_core.{specs.Gaps.{goes, next_gap_place, in_comment}, specs.Nodes.{begins_with, in_name}, specs.Reading.flow_gap_len}
 use Rattle.yq_core.specs.Scalars.{is_quoted}
 
--- a gap ends at the start, at the end, or behind an ASCII byte
+-- a gap ends at the start, at the end, or after an ASCII byte
 data Ends (t : List ℕ) (n : ℕ) : Type 0 where
   at_start : n ≡ 0 → Ends t n
   at_end : n ≡ length t → Ends t n

@@ -16,7 +16,7 @@ first_feed t None h = rw feed-position (sym (position_or_len_is (is_byte 10) t (
     (λ k below. false_from_ne_true _ (h k (omega arith) below)) (λ past. absurd (omega arith))))
 first_feed t (Some i) h = search (rules, feed-position, position_or_len_is, false_from_ne_true)
 
--- a line ends behind its LF, or at the end
+-- a line ends after its LF, or at the end
 pub line_len-feed : (t : List ℕ) → line_len t ≡ min (upto at_feed t + 1) (length t)
 unfolding line_len upto
 line_len-feed [] = refl
@@ -37,7 +37,7 @@ empty-length : (t : List ℕ) → is_empty t ≡ eqb 0 (length t)
 empty-length [] = refl
 empty-length (b ∷ t) = sym (eqb-zero-suc (length t))
 
--- a line with its break ends behind its first LF
+-- a line with its break ends after its first LF
 is_line-feed : (t : List ℕ) → is_line t ≡ eqb (suc (upto at_feed t)) (length t)
 unfolding is_line upto
 is_line-feed [] = refl

@@ -57,12 +57,12 @@ counted letter n h = elim (chosen (eqb letter 120) h) [
   ]
 ]
 
--- what an escape is behind its backslash
+-- what an escape is after its backslash
 pub record IsEscape (c : ℕ) (e : List ℕ) : Type 0 where
   pub reads : (t : List ℕ) → leading_escape (e ++ t) ≡ Some (c, length e)
   pub line : (t : List ℕ) → is_break (e ++ t) ≡ false
 
--- digits behind their letter are an escape
+-- digits after their letter are an escape
 pub code_escape : (letter : ℕ) (digits : List ℕ) → beside letter digit_counts ≡ Some (length digits) → AllDigits 16 digits → is_unicode (digits_value 16 digits) ≡ true → IsEscape (digits_value 16 digits) (letter ∷ digits)
 unfolding leading_escape
 code_escape letter digits h all is = search (rules, hex_again, counted)
@@ -72,7 +72,7 @@ pub letter_is_escape : (letter c : ℕ) → beside letter letters ≡ Some c →
 unfolding leading_escape
 letter_is_escape letter c h = search (rules, letter_not, letter_line)
 
--- a character that was read behind a backslash
+-- a character that was read after a backslash
 pub record Escaped (c k : ℕ) (t : List ℕ) : Type 0 where
   pub char : Char
   pub spelled : 92 ∷ t ≡ spell_char char ++ drop k t

@@ -1,4 +1,4 @@
--- What is read as the content of a scalar is what its lines stand for.
+-- What is read as the content of a scalar is what its lines mean.
 use Rattle.std.proofs.Common.{◌≡◌, ℕ, ◌+◌, ◌-◌, ◌<◌, Bool, true, false, cond, eqb, List, [], ◌∷◌, ◌++◌, length, take, drop, get_or, Option}
 use Rattle.std.proofs.Common.{Result, Ok, Err, IfOk, refl, sym, inl, inr, ◌&&◌, ap, ◌∙◌, subst, arith, eqb-true, append_assoc, append-nil}
 use Rattle.std.{proofs.Common.{length-append, length-drop, rules}, proofs.lemmas.Bool.{false≢true, and_parts, cases_Bool, or_parts}}
@@ -13,7 +13,7 @@ use Rattle.yq_core.specs.ContentReading.{BlankBefore, within, after, one_break_m
 use Rattle.yq_core.{specs.ContentReading.{quoted_content, is_pair}, proofs.QuotedLaws.of_quotes, proofs.QuotedFound.at_seam}
 use Rattle.yq_core.proofs.CharLaws.{IsEscape, code_escape, letter_is_escape}
 
--- what a character stands for before a text: white space is held, and anything else stands behind what is before it
+-- what a character means before a text: white space is held, and anything else comes after what is before it
 abbrev pub Means : ℕ → Char → List ℕ → Type 0
 Means q c t = (before : BlankBefore) (w : List ℕ) → content_on q 0 before w (spell_char c ++ t) ≡ cond (is_plain_blank c) (content_on q 0 before (w ++ char_text c) t) (item_with_blanks before w ++ (char_text c ++ content_on q 0 within [] t))
 
@@ -119,7 +119,7 @@ within_drop q (c ∷ cs) t u w h d =
     let x = content_on q 0 (after (folded 0)) [] u in
     search (rules, cases_Bool, blank_before, append_assoc, cond_same, x, within_drop q cs t u (w ++ char_text c) h.1 d, within_drop q cs t u [] h.1 d)
 
--- characters behind a gap
+-- characters after a gap
 after_fill : (q : ℕ) (g : Gap) (cs : List Char) (t x w : List ℕ) → AllMean q cs t → Fills q t x → content_on q 0 (after g) w (spell_chars cs ++ t) ≡ gap_text g ++ (chars_text (past_blanks cs) ++ x)
 unfolding Fills
 after_fill q g [] t x w h f = f (after g) w
@@ -143,7 +143,7 @@ after_drop q g (c ∷ cs) t u w h d =
           ∙ rw (e, e) (ap (λ l. gap_text g ++ l) (sym (append_assoc (char_text c) (chars_text (before_blanks cs)) x))))
     ]
 
--- lines behind a gap
+-- lines after a gap
 lines_content : (q : ℕ) (g : Gap) (ls : QuotedLines) → LinesMean q ls → content_on q 0 (after g) [] (spell_lines ls) ≡ lines_text g ls
 lines_content q g (last cs) h =
     ap (content_on q 0 (after g) []) (sym (append-nil (spell_chars cs))) ∙ (after_fill q g cs [] [] [] h (fills_end q) ∙ ap (λ l. gap_text g ++ l) (append-nil (chars_text (past_blanks cs))))
@@ -172,7 +172,7 @@ quoted_content_is q ls piece rest is =
     let size : length (q ∷ (inner ++ q ∷ [])) - 2 ≡ length inner = omega (arith, length-append inner (q ∷ [])) in
     search (rules, content_is, lines_mean, take-append_seam, size)
 
--- where a quoted scalar may be cut: behind the quote that opens it, and before the quote that closes it
+-- where a quoted scalar may be cut: after the quote that opens it, and before the quote that closes it
 pub boundary_open : (q : ℕ) (ls : QuotedLines) (piece rest : List ℕ) → IsQuoted q ls piece rest → IsUtf8 piece → IsCharBoundary piece 1
 boundary_open q ls piece rest is u =
     let low : q < 128 = of_quotes (λ x. x < 128) q is.quotes (omega arith) (omega arith) in
@@ -188,7 +188,7 @@ boundary_close q ls piece rest inner is e =
     let at : get_or inner (length text) 0 ≡ q = ap (λ (l : List ℕ). get_or l (length text) 0) cut ∙ at_seam text [] q in
     search (rules, text, at, low)
 
--- what stands between the quotes
+-- what is between the quotes
 pub between_quotes : (piece inner : List ℕ) → inner ≡ drop 1 piece → take (length inner - 1) inner ≡ take (length piece - 2) (drop 1 piece)
 between_quotes piece inner e = search (rules, length-drop)
 

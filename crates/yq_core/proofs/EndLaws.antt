@@ -1,4 +1,4 @@
--- What stands behind an item, and plain scalars before it.
+-- What comes after an item, and plain scalars before it.
 use Rattle.std.proofs.Common.{◌≡◌, ◌⊎◌, inl, inr, ⊎_elim, ℕ, Bool, true, false, not, ◌&&◌, ◌||◌, eqb, List, [], ◌∷◌, ◌++◌, Option, Some}
 use Rattle.std.proofs.Common.{None, refl, sym, ap, ◌∙◌, subst, cond, arith, eqb-true, rules}
 use Rattle.std.proofs.lemmas.Bool.{false≢true, or_cases, or_right, not-false, not-true, false_from_ne_true, and_from, le-leb, and_parts}
@@ -20,7 +20,7 @@ by_close P k c h e p q r = ⊎_elim {0, 0, 0}
     (or_cases (eqb k 93) (eqb k 125) h))
     (or_cases (eqb c 44) (eqb c k) e)
 
--- what is in front of that which stands behind an item
+-- what is in front of that which comes after an item
 pub ends_by : (P : List ℕ → Type 0) (k : ℕ) (t : List ℕ) → is_close k ≡ true → EndsItem k t → ((r : List ℕ) → P (44 ∷ r)) → ((r : List ℕ) → P (93 ∷ r)) → ((r : List ℕ) → P (125 ∷ r)) → ((b : ℕ) (r : List ℕ) → is_space (b ∷ r) ≡ true → P (b ∷ r)) → P t
 ends_by P k t h e p q r s = go e.gap e.spelled e.is_gap where
   go : (g : List ℕ) → t ≡ g ++ (e.close ∷ e.rest) → IsInlineGap g (e.close ∷ e.rest) → P t
@@ -46,7 +46,7 @@ ends_node k t h e = ends_by (λ t. begins_node true t ≡ false) k t h e (λ r. 
 pub ends_quote : (k : ℕ) (t : List ℕ) → is_close k ≡ true → EndsItem k t → front (λ b. eqb b 39) t ≡ false
 ends_quote k t h e = ends_by (λ t. front (λ b. eqb b 39) t ≡ false) k t h e (λ r. refl) (λ r. refl) (λ r. refl) (λ b r s. at_byte (λ x. is_space (x ∷ r)) b 39 s refl)
 
--- a plain scalar doesn't go on with this text behind white space
+-- a plain scalar doesn't go on with this text after white space
 abbrev pub dead : List ℕ → Bool
 dead t = is_empty t || (front (λ b. eqb b 35) t || ends_text true t)
 
@@ -106,7 +106,7 @@ abbrev NoMark : List ℕ → Type 0
 NoMark [] = Unit {0}
 NoMark (b ∷ g) = (eqb b 45 ≡ false) × (eqb b 46 ≡ false) × NoMark g
 
--- where a plain scalar goes on behind white space inside it
+-- where a plain scalar goes on after white space inside it
 record Goes (f : Bool) (p t u : List ℕ) : Type 0 where
   gap : List ℕ
   first : ℕ
@@ -193,7 +193,7 @@ plain_keeps k f (b ∷ p) t u h e d keeps g = record {
   ends = ends_plainly (Some 0) k u h d;
 }
 
--- a scalar before what stands behind an item is one before another such text
+-- a scalar before what comes after an item is one before another such text
 pub scalar_keeps : (k : ℕ) (f : Bool) (p t u : List ℕ) → is_close k ≡ true → EndsItem k t → EndsItem k u → KeepsApart f p t u → IsScalarAt true (Some 0) p t → IsScalarAt true (Some 0) p u
 scalar_keeps k f p t u h e d keeps (inl g) = inl (plain_keeps k f p t u h e d keeps g)
 scalar_keeps k f p t u h e d keeps (inr g) = inr ((g.0.0, (g.0.1.0, quoted_any g.0.0 g.0.1.0 p t u (ends_quote k u h d) g.0.1.1)), g.1)

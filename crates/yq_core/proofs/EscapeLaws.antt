@@ -37,7 +37,7 @@ hex_some m v w t h = hex_split m v t ∙ ap (λ o. o >>= (λ w. hex m w (drop 2 
 pub digit_below : (b d : ℕ) → hex_digit b ≡ Some d → d < 16
 digit_below b d h = let g = cond_some (is_digit 16 b) _ _ h in omega (arith, ltb-true (digit_value b) 16 g.0, g.1)
 
--- the digits stand in the text
+-- the digits are in the text
 pub hex_within : (n v w : ℕ) (t : List ℕ) → hex n v t ≡ Some w → n ≤ length t
 unfolding hex
 hex_within zero v w t h = omega arith
@@ -85,7 +85,7 @@ pub length_of_some : (o : Option (ℕ × ℕ)) (k : ℕ) → length_of o ≡ Som
 length_of_some None k h = absurd (let e = h in cc)
 length_of_some (Some e) k h = (e.0, let same : e.1 ≡ k = cc in ap (λ (x : ℕ). Some (e.0, x)) same)
 
--- what belongs to a byte stands behind it, unless the byte is a quote that closes
+-- what belongs to a byte comes after it, unless the byte is a quote that closes
 pub behind_within : (q b k : ℕ) (bs : List ℕ) → closes q (b ∷ bs) ≡ false → escape_len q b bs ≡ Some k → k ≤ length bs
 behind_within q b k bs opened h = elim (chosen (is_feed b && is_marker bs) h) [
   | inl x ↦ absurd (let e : None ≡ Some k = x.1 in cc)
@@ -101,7 +101,7 @@ behind_within q b k bs opened h = elim (chosen (is_feed b && is_marker bs) h) [
   ]
 ]
 
--- how far it is behind bytes that are passed over
+-- how far it is after bytes that are passed over
 pub length_skip : (q k : ℕ) (t : List ℕ) → k ≤ length t → quoted_len q k t ≡ more k (quoted_len q 0 (drop k t))
 unfolding quoted_len
 length_skip q zero t h = sym (more_none (quoted_len q 0 t))

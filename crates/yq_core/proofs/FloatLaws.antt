@@ -42,7 +42,7 @@ numeral_front : (digits rest : List ℕ) → IsNumeral 10 digits → front_digit
 numeral_front [] rest h = absurd (omega (arith, h.0))
 numeral_front (d ∷ digits) rest h = lt-ltb _ _ h.1.0
 
--- behind the digits before a point
+-- after the digits before a point
 ends_takes : (digits rest : List ℕ) (some : Bool) → (some ≡ true → IsNumeral 10 digits) → (some ≡ false → digits ≡ []) → ends_number some rest ≡ true → IsUnsigned (digits ++ rest)
 ends_takes digits [] some full empty h = record {
   mantissa = whole digits;

@@ -1,4 +1,4 @@
--- What white space and breaks stand for.
+-- What white space and breaks mean.
 use Rattle.std.proofs.Common.{◌≡◌, ℕ, zero, suc, ◌+◌, Bool, true, false, cond, not, List, [], ◌∷◌, ◌++◌, take, drop, replicate, refl, sym}
 use Rattle.std.{proofs.Common.{inl, inr, ◌&&◌, ap, ◌∙◌, arith, append_assoc, append-nil, rules}, proofs.Math.Bool.or-true}
 use Rattle.std.{proofs.lemmas.Bool.{false≢true, not-false, and_parts, cases_Bool, or_parts}, proofs.lemmas.List.take-append-drop}
@@ -6,12 +6,12 @@ use Rattle.yq_core.{specs.Text.{is_white, is_feed, is_return, is_space, front, u
 use Rattle.yq_core.specs.ContentReading.{BlankBefore, within, after, item_with_blanks, one_break_more, content_on, breaks, folded_space}
 use Rattle.yq_core.{specs.ContentReading.{space_text, before_of}, specs.Plain.no_gap, proofs.Bools.at_byte, proofs.Upto.none_in_cut}
 
--- the gap behind k further breaks
+-- the gap after k further breaks
 abbrev times : ℕ → BlankBefore → BlankBefore
 times zero g = g
 times (suc k) g = times k (one_break_more g)
 
--- the white space since the last break, of bytes that w stands before
+-- the white space since the last break, of bytes that w comes before
 abbrev since : List ℕ → List ℕ → List ℕ
 since w [] = w
 since w (b ∷ s) = cond (is_white b) (since (w ++ b ∷ []) s) (cond (is_feed b) (since [] s) (since w s))
@@ -73,7 +73,7 @@ pub content_space : (q : ℕ) (j : Bool) (s r : List ℕ) → NoneIn no_gap s r 
 unfolding content_on
 content_space q j s r h e = search (rules, append-nil, or_parts, over_space, filled_is)
 
--- behind the white space and breaks in front stands none
+-- after the white space and breaks in front is none
 pub space_ends : (t : List ℕ) → is_space (drop (upto no_gap t) t) ≡ false
 unfolding upto
 space_ends [] = refl
@@ -84,11 +84,11 @@ pub content_gap : (q : ℕ) (j : Bool) (t : List ℕ) → content_on q 0 (before
 content_gap q j t = ap (content_on q 0 (before_of j) []) (sym (take-append-drop (upto no_gap t) t))
     ∙ content_space q j (take (upto no_gap t) t) (drop (upto no_gap t) t) (none_in_cut no_gap t) (space_ends t)
 
--- what white space and breaks in front stand for, and what follows
+-- what white space and breaks in front mean, and what follows
 pub gap_next : (q : ℕ) (j : Bool) (t space next gap : List ℕ) → (space, next) ≡ cut no_gap t → gap ≡ space_text j space → content_on q 0 (before_of j) [] t ≡ gap ++ content_on q 0 within [] next
 gap_next q j t space next gap parts is = search (rules, content_gap)
 
--- what these and the item behind them stand for, and what follows
+-- what these and the item after them mean, and what follows
 pub content_next : (q : ℕ) (j k : Bool) (t space next rest gap front : List ℕ) → (space, next) ≡ cut no_gap t → gap ≡ space_text j space → content_on q 0 within [] next ≡ front ++ content_on q 0 (before_of k) [] rest →
     content_on q 0 (before_of j) [] t ≡ gap ++ (front ++ content_on q 0 (before_of k) [] rest)
 content_next q j k t space next rest gap front parts is item = gap_next q j t space next gap parts is ∙ ap (λ l. gap ++ l) item

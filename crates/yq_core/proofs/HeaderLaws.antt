@@ -90,7 +90,7 @@ pub indicators_again : (digit : Option ℕ) (c : Chomping) (p t : List ℕ) → 
 unfolding indicators_at
 indicators_again digit c p t h1 h2 = search (rules, ⊎_elim, append-nil, first_again, append_assoc, behind_again)
 
--- where its pieces stand
+-- where its pieces are
 pub style_length : (t : List ℕ) (s : BlockStyle) (u : List ℕ) → read_style t ≡ Some (s, u) → length t ≡ suc (length u)
 style_length t s u h = ap length (style_takes t (s, u) h)
 

@@ -1,4 +1,4 @@
--- What the items of a scalar stand for, and where a text may be cut.
+-- What the items of a scalar mean, and where a text may be cut.
 use Rattle.std.proofs.Common.{◌≡◌, ℕ, zero, suc, ◌<◌, ◌≤◌, Bool, true, false, eqb, List, [], ◌∷◌, ◌++◌, length, take, drop, get_or, Some}
 use Rattle.std.proofs.Common.{None, refl, sym, inl, inr, ◌&&◌, ◌||◌, ap, ◌∙◌, subst, arith, eqb-true, append-nil, length-drop, rules}
 use Rattle.std.{proofs.lemmas.Bool.{false≢true, or_cases, cases_lt, and_parts, cases_Bool, or_parts}, proofs.lemmas.List.take-append-drop}
@@ -85,7 +85,7 @@ boundary_break t h u = boundary_behind t (break_len t) u (break_within t h) (bre
 pub boundary_escape : (t : List ℕ) (c k : ℕ) → leading_escape t ≡ Some (c, k) → IsUtf8 t → IsCharBoundary t k
 boundary_escape t c k h u = boundary_behind t k u (escape_within t c k h) (escape_ascii t c k h)
 
--- bytes that stand for themselves
+-- bytes that mean themselves
 pub content_itself : (q : ℕ) (p rest : List ℕ) → NoneIn (ends_run q) p rest → content_on q 0 within [] (p ++ rest) ≡ p ++ content_on q 0 within [] rest
 unfolding content_on
 content_itself q [] rest h = refl

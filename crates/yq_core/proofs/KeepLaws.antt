@@ -1,4 +1,4 @@
--- Bytes that keep apart from the text behind them: gaps, and nodes that are something.
+-- Bytes that keep apart from the text after them: gaps, and nodes that are something.
 use Rattle.std.proofs.Common.{◌≡◌, inl, inr, ℕ, Bool, true, false, List, [], ◌∷◌, ◌++◌, Some, refl, sym, ◌∙◌, subst, arith, Option, rules}
 use Rattle.std.{proofs.Math.Bool.and-false, proofs.lemmas.Bool.{false≢true, or_right, not-true, cond_both, cases_Bool, or_parts}}
 use Rattle.yq_core.{specs.Text.{front, is_feed, is_space, is_marker}, specs.declared.gap.GapPlace.GapPlace}

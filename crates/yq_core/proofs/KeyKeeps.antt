@@ -1,4 +1,4 @@
--- What stands behind an anchor or a `:`, and keys, before another text.
+-- What comes after an anchor or a `:`, and keys, before another text.
 use Rattle.std.proofs.Common.{◌≡◌, inl, inr, ℕ, Bool, true, false, ◌||◌, eqb, List, [], ◌∷◌, ◌++◌, Some, None, refl, sym, ◌∙◌, subst}
 use Rattle.std.{proofs.Common.{eqb-true, rules}, proofs.lemmas.Bool.{false≢true, or_right, false_from_ne_true, cases_Bool}}
 use Rattle.yq_core.{specs.Plain.{begins_plain, is_safe}, specs.Text.{front, is_space, separates}, proofs.Bools.at_byte}
@@ -9,7 +9,7 @@ use Rattle.yq_core.proofs.AlikePieces.{gap_alike, scalar_alike, quoted_any}
 use Rattle.yq_core.{proofs.EndLaws.{by_close, ends_safe, ends_node, node_no_space}, proofs.NodesPieceLaws.front_not}
 use Rattle.yq_core.proofs.KeepLaws.{keeps_append, bare_text, some_begins, gap_node}
 
--- what stands between an anchor or a `:` and a node
+-- what is between an anchor or a `:` and a node
 begun : (begins : List ℕ → Bool) (x g r : List ℕ) → x ≡ g ++ r → IsInlineGap g r → begins r ≡ false → begins x ≡ true → begins_node true x ≡ true → ⊥
 begun begins x [] r is gap nope b n = false≢true (sym nope ∙ subst (λ (l : List ℕ). begins l ≡ true) is b)
 begun begins x (c ∷ g) r is gap nope b n = false≢true (sym (node_no_space c (g ++ r) (subst (λ (l : List ℕ). begins_node true l ≡ true) is n)) ∙ gap.inside.0)
@@ -42,7 +42,7 @@ pub or_left_true : (a b : Bool) → b ≡ false → (a || b) ≡ true → a ≡ 
 or_left_true true b h e = refl
 or_left_true false b h e = absurd (false≢true (sym h ∙ e))
 
--- a key stands before another node that may stand behind its gap
+-- a key comes before another node that may come after its gap
 pub key_front : (k : ℕ) (p b g x y : List ℕ) → begins_node true x ≡ true → begins_node true y ≡ true → IsInlineGap g y → IsInlineKey k (keyed p b g) x → IsInlineKey k (keyed p b g) y
 key_front k p b [] x y bx by gap h =
     let q : is_quoted p ≡ true = or_left_true (is_quoted p) _ (no_separates x bx) h.3 in
@@ -62,7 +62,7 @@ ends_key_here k t m e = go e.gap e.spelled e.is_gap where
   go [] is gap = subst (λ (l : List ℕ). (separates l || (begins_with 44 l || begins_with 125 l)) ≡ true) (sym is) (here e.close e.ends)
   go (b ∷ g) is gap = subst (λ (l : List ℕ). (separates l || (begins_with 44 l || begins_with 125 l)) ≡ true) (sym is) (rw gap.inside.0 refl)
 
--- nothing stands behind an anchor or a `:`
+-- nothing comes after an anchor or a `:`
 pub ends_lead : (begins : List ℕ → Bool) (k : ℕ) (t : List ℕ) → is_close k ≡ true → EndsItem k t → ((r : List ℕ) → begins (44 ∷ r) ≡ false) → ((r : List ℕ) → begins (93 ∷ r) ≡ false) → ((r : List ℕ) → begins (125 ∷ r) ≡ false) → IsLead true begins [] t
 ends_lead begins k t c e x y z = inr (refl, (e.gap, e.close ∷ e.rest, e.spelled, e.is_gap, by_close (λ b. begins (b ∷ e.rest) ≡ false) k e.close c e.ends (x e.rest) (y e.rest) (z e.rest)))
 

@@ -80,3 +80,4 @@ pub mod NodeKeeps
 pub mod LineNodes
 pub mod EditPlaces
 pub mod NestedLaws
+pub mod FaultPlaceLaws

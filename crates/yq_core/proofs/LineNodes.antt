@@ -7,7 +7,7 @@ use Rattle.yq_core.{specs.Nodes.IsFlowNode, proofs.Alikes.{alike_append, alike_u
 use Rattle.yq_core.proofs.AlikePieces.{scalar_alike, name_alike, gap_alike}
 use Rattle.yq_core.proofs.NodeKeeps.{node_text_alike, items_text_alike, items_any}
 
--- White space behind which no content begins.
+-- White space after which no content begins.
 pub record HasNone (t : List ℕ) : Type 0 where
   pub gap : List ℕ
   pub rest : List ℕ

@@ -1,4 +1,4 @@
--- The parts of an inline node lie inside it, one behind the other.
+-- The parts of an inline node lie inside it, one after the other.
 use Rattle.std.proofs.Common.{ℕ, suc, ◌-◌, ◌≤◌, true, false, eqb, cond, List, ◌++◌, length, refl, sym, ap, subst, arith, length-append, ℤ}
 use Rattle.std.{proofs.Common.{Result, Ok, Err, IfOk, rules}, proofs.lemmas.List.length-drop}
 use Rattle.yq_core.{specs.declared.fault.ReadError.ReadError, specs.declared.style.Place.Place, specs.Answers.Gives}

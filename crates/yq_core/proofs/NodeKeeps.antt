@@ -1,4 +1,4 @@
--- A node of a flow collection before what stands behind an item is one before another such text, if its bytes keep apart from that.
+-- A node of a flow collection before what comes after an item is one before another such text, if its bytes keep apart from that.
 use Rattle.std.proofs.Common.{◌≡◌, inl, inr, ⊎_elim, ℕ, zero, suc, eq-eqb, Bool, true, false, not, ◌||◌, eqb, List, [], ◌∷◌, ◌++◌, Option}
 use Rattle.std.proofs.Common.{Some, refl, sym, ◌∙◌, subst, eqb-true, append-nil, rules}
 use Rattle.std.proofs.lemmas.Bool.{or_cases, or_right, not-false, cases_Bool, or_parts}
@@ -12,7 +12,7 @@ use Rattle.yq_core.{proofs.EndLaws.{ends_name, ends_node, scalar_keeps}, proofs.
 use Rattle.yq_core.proofs.KeyKeeps.{lead_none, ends_lead, key_keeps, lead_gap, or_left_true}
 use Rattle.yq_core.proofs.KeepLaws.{keeps_alike, keeps_append, bare_text, taken_begins, some_begins, gap_node}
 
--- what stands behind an item
+-- what comes after an item
 pub sep_ends : (k : ℕ) (s : Sep) (r : List ℕ) → IsSep k s r → EndsItem k (sep_text s r)
 sep_ends k s r h1 = search (rules, front_is, or_right, eq-eqb)
 
@@ -73,7 +73,7 @@ mutual
       let new = node_keeps k node d (fresh false g) t u c e h inner x.4 in
       (name_behind k n g node t u c h x.2 x.0, lead_behind k d g node t u c e h inner x.3 x.4 new x.1, x.2, x.3, new)
 
-  -- nothing is asked of what stands behind the closing bracket
+  -- nothing is asked of what comes after the closing bracket
   pub items_any : (is : Items) (d k : ℕ) (t u : List ℕ) → is_close k ≡ true → AreFlowItems d k is t → AreFlowItems d k is u
   items_any none d k t u c x = tt
   items_any (item key n s is) d k t u c x =

@@ -43,7 +43,7 @@ node_same flow spaces kids others (b ∷ t) h =
     (content_same flow spaces kids others gap.1 (λ k r short. h k r (omega arith))))) in
     ap (λ o. cond (eqb b 38) o (read_core flow spaces kids s)) one ∙ ap (λ o. cond (eqb b 38) (name_at t >>= λ name. lead_at flow (begins_content flow) name.1 >>= after_gap flow spaces others name.0) o) (content_same flow spaces kids others s h)
 
--- one item and those behind it
+-- one item and those after it
 abbrev pub behind_sep : ℕ → ℕ → ℕ → Key → FlowNode → Sep × List ℕ → Option (Items × List ℕ)
 behind_sep n d k key node sep = items_at n d k sep.1 >>= λ rest. Some (item key node sep.0 rest.0, rest.1)
 
@@ -53,7 +53,7 @@ behind_node n d k key node = cond (is_keyed key || not (is_empty_node node.0)) (
 abbrev pub behind_key : ℕ → ℕ → ℕ → Key × List ℕ → Option (Items × List ℕ)
 behind_key n d k key = read_node true (Some 0) (kids_by n d) key.1 >>= behind_node n d k key.0
 
--- what is left behind an item is shorter
+-- what is left after an item is shorter
 pub left : (n d k : ℕ) (t : List ℕ) (key : Key × List ℕ) (node : FlowNode × List ℕ) (sep : Sep × List ℕ) →
     key_in k t ≡ Some key → read_node true (Some 0) (kids_by n d) key.1 ≡ Some node → cond (is_keyed key.0 || not (is_empty_node node.0)) (sep_at k node.1) None ≡ Some sep → length sep.1 < length t
 left n d k t key node sep a b c =

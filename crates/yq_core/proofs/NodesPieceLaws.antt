@@ -14,7 +14,7 @@ use Rattle.yq_core.specs.Reading.{read_gap, read_scalar, with_its_lines, name_at
 use Rattle.yq_core.{specs.Reading.sep_behind, specs.Scalars.{is_quoted, has_its_lines, IsScalarAt, begins_scalar}, proofs.Binds.not_then}
 use Rattle.yq_core.proofs.GapLaws.{gap_takes, gap_again}
 
--- a text that passes a test begins with no byte behind which each text fails it
+-- a text that passes a test begins with no byte after which each text fails it
 pub front_not : (P : List ℕ → Bool) (k : ℕ) → ((bs : List ℕ) → P (k ∷ bs) ≡ false) → (t : List ℕ) → P t ≡ true → begins_with k t ≡ false
 front_not P k never [] h = refl
 front_not P k never (b ∷ t) h = false_from_ne_true (eqb b k) (λ e. false≢true (sym (never t) ∙ subst (λ (x : ℕ). P (x ∷ t) ≡ true) (eqb-true b k e) h))
@@ -85,7 +85,7 @@ pub name_again : (p rest : List ℕ) → IsName p rest → name_at (p ++ rest) �
 unfolding name_at
 name_again p rest h = rw (name_begins p rest h) (ap Some (cut-append (unless in_name) p rest h.inside h.ends))
 
--- what stands between an anchor and its node
+-- what is between an anchor and its node
 abbrev Apart : Bool → List ℕ → List ℕ × List ℕ → Type 0
 Apart flow t y = (t ≡ y.0 ++ y.1) × IsApart flow y.0 y.1
 
@@ -143,7 +143,7 @@ pub key_again : (key : Key) (rest : List ℕ) → is_keyed key ≡ true → IsIn
 unfolding read_flow_key after_colon
 key_again key rest h1 h2 = search (rules, false≢true, scalar_again, gap_again, lead_again)
 
--- what stands behind an item
+-- what comes after an item
 abbrev Sepd : ℕ → List ℕ → Sep × List ℕ → Type 0
 Sepd k t y = (t ≡ sep_text y.0 y.1) × IsSep k y.0 y.1
 

@@ -23,7 +23,7 @@ pub double_when : (s : ScalarText) (place : Place) → can_write s styles.Plain 
 unfolding can_write_plain
 double_when s place h = double_can (is_string s.kind) (is_string (resolve s.text)) (is_plain_text (in_flow place) s.text) h
 
--- what is no string stands plain
+-- what is no string is plain
 pub other_plain : (s : ScalarText) (place : Place) → (s.kind ≡ kinds.Text → ⊥) → can_write s styles.Plain place ≡ true
 unfolding can_write_plain
 other_plain s place h = search rules
@@ -56,7 +56,7 @@ mutual
 pub node_then : (n : FlowNode) (r : List ℕ) → node_text n r ≡ node_text n [] ++ r
 node_then n r = node_append n [] r
 
--- what stands behind an item, if others follow
+-- what comes after an item, if others follow
 abbrev pub between : tree.Children → List ℕ
 between tree.none = []
 between (tree.child label n cs) = 44 ∷ 32 ∷ []
@@ -65,11 +65,11 @@ sep_is : (cs : tree.Children) (r : List ℕ) → sep_text (flow_sep cs) r ≡ be
 sep_is tree.none r = refl
 sep_is (tree.child label n cs) r = refl
 
--- what is written behind a collection's bracket, for these items or entries
+-- what is written after a collection's bracket, for these items or entries
 abbrev pub rest_text : ℕ → tree.Children → List ℕ
 rest_text k cs = flow_items_text k (flow_items cs) []
 
--- one item, and those behind it
+-- one item, and those after it
 pub item_text : (k : ℕ) (label : tree.Label) (n : tree.Node) (cs : tree.Children) → rest_text k (tree.child label n cs) ≡ key_text (flow_key label.key) (flow_text n ++ (between cs ++ rest_text k cs))
 unfolding flow_items_text flow_items
 item_text k label n cs = ap (key_text (flow_key label.key)) (node_then (flow_of n) _ ∙ ap (λ l. flow_text n ++ l) (sep_is cs (rest_text k cs)))

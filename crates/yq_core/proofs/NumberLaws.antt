@@ -29,7 +29,7 @@ past_spelled sign digits h1 = search (rules, past_no_sign)
 pub sign_spelled : (sign : Sign) (digits : List ℕ) → IsNumeral 10 digits → sign_of (spell_sign sign ++ digits) ≡ sign
 sign_spelled sign digits h1 = search (rules, not_digit)
 
--- a text is its sign and what is behind it
+-- a text is its sign and what is after it
 pub sign_cut : (t : List ℕ) → t ≡ spell_sign (sign_of t) ++ past_sign t
 sign_cut t = search (rules, cases_Bool, eqb-true)
 

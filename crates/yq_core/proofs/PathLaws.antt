@@ -69,7 +69,7 @@ then_places : {A B : Type 0} (f : A → Option A) (g : B → Option B) (v : A �
 then_places f g v h None = refl
 then_places f g v h (Some x) = h x
 
--- where a path leads stands at its place
+-- where a path leads is at its place
 pub path_places : (total : ℕ) (ss : List Step) (x : EntryPieces) → placed_entry_at ss (locate_entry total x) ≡ option_map (locate_entry total) (entry_pieces_at ss x)
 path_places total [] x = refl
 path_places total (s ∷ ss) x =

@@ -77,7 +77,7 @@ plain_piece_content place n at text p h ls is =
     let size : k - at ≡ length h.scalar = omega arith in
     search (rules, plain_content_is, take-append_seam, size)
 
--- what the piece of a block scalar stands for
+-- what the piece of a block scalar means
 block_style_content : (s : BlockStyle) (text : List ℕ) (p : Piece) → piece_string (block.as_style s) text p ≡ blocks.block_piece_content text p
 block_style_content block_styles.Literal text p = refl
 block_style_content block_styles.Folded text p = refl

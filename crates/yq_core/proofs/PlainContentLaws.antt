@@ -1,4 +1,4 @@
--- What is read as the content of a plain scalar is what its lines stand for.
+-- What is read as the content of a plain scalar is what its lines mean.
 use Rattle.std.proofs.Common.{◌≡◌, ℕ, true, false, List, [], ◌∷◌, ◌++◌, refl, sym, inl, inr, ◌&&◌, ap, ◌∙◌, subst, eqb-true, append-nil}
 use Rattle.std.{proofs.Common.rules, proofs.lemmas.Bool.{false≢true, and_parts, cases_Bool}, proofs.Math.Bool.and-false}
 use Rattle.yq_core.specs.Text.{is_break, is_feed, is_return}

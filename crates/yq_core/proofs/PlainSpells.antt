@@ -52,7 +52,7 @@ string_kind k h1 = search (rules, false≢true)
 resolved : (t : List ℕ) (k : Kind) → resolve t ≡ k → Resolves t k
 resolved t k e = subst (Resolves t) e (resolve_takes t)
 
--- what Plain can write is of the characters that stand plain
+-- what Plain can write is of the characters that are plain
 pub writable_text : (kind : Kind) (t : List ℕ) (flow : Bool) → IsScalar kind t → can_write_plain (record { kind = kind; text = t }) flow ≡ true → is_plain_text flow t ≡ true
 unfolding can_write_plain
 writable_text kinds.Null t flow i h = rw i (null_plain flow)
@@ -61,7 +61,7 @@ writable_text kinds.Int t flow i h = int_plain flow t (resolved t kinds.Int i)
 writable_text kinds.Float t flow i h = float_plain flow t (resolved t kinds.Float i).0
 writable_text kinds.Text t flow i h = (and_parts (is_string (resolve t)) (is_plain_text flow t) h).1
 
--- its text stands for it
+-- its text means it
 pub writable_same : (kind : Kind) (t : List ℕ) (flow : Bool) → IsScalar kind t → can_write_plain (record { kind = kind; text = t }) flow ≡ true → plain_of t ≡ record { kind = kind; text = t }
 unfolding can_write_plain
 writable_same kinds.Null t flow i h = rw i (ap (λ k. of_kind k (codes "null")) (resolve_again (codes "null") kinds.Null (inl refl)))

@@ -89,7 +89,7 @@ plain_text_parts flow t h =
     let d = and_parts (list_all is_plain_char (chars t)) (begins_plainly t) c.0 in
     (d.0, d.1, c.1)
 
--- whatever stands behind it, if a plain scalar has to end there
+-- whatever comes after it, if a plain scalar has to end there
 pub plain_written : (flow : Bool) (spaces : Option ℕ) (t rest : List ℕ) → IsUtf8 t → is_plain_text flow t ≡ true → ends_plain flow spaces rest ≡ true → IsPlain flow spaces t rest
 plain_written flow spaces t rest u h e =
     let p = plain_text_parts flow t h in

@@ -56,7 +56,7 @@ pub at_seam : (p r : List ℕ) (x : ℕ) → get_or (p ++ (x ∷ r)) (length p) 
 at_seam [] r x = refl
 at_seam (b ∷ p) r x = at_seam p r x
 
--- behind the quote that closes the text may be cut
+-- after the quote that closes the text may be cut
 pub boundary_quoted : (t : List ℕ) (n : ℕ) → IsUtf8 t → Some n ≡ scalar_len t → IsCharBoundary t n
 boundary_quoted [] n u h = absurd (let e : Some n ≡ None = h in cc)
 boundary_quoted (b ∷ bs) n u h =

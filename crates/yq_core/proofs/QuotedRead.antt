@@ -121,7 +121,7 @@ read_doubled q b n (c ∷ cs) opened same st one reads =
     let read : quoted_len q 0 cs ≡ Some st.m = ap (λ (j : ℕ). quoted_len q 0 (drop j (c ∷ cs))) (sym long) ∙ st.rest in
     read_char q st.m n doubled cs (b ∷ c ∷ cs) (ap (λ x. x ∷ c ∷ cs) first ∙ ap (λ x. 39 ∷ x ∷ cs) second) (eqb-true q 39 pair.0) (reads st.m cs (omega arith) read) (omega (arith, st.size, long))
 
--- a byte that stands for itself
+-- a byte that means itself
 read_itself : (q b n : ℕ) (bs : List ℕ) → IsChar q (itself b) bs → ReadStep q b bs n → escape_len q b bs ≡ Some 0 → Reads q (length bs) → Read q (b ∷ bs) n
 unfolding Reads
 read_itself q b n bs is st none reads =

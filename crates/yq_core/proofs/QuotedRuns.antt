@@ -27,7 +27,7 @@ quoted_over q (b ∷ bs) = elim (cases_Bool (run_goes_on (Quoted q) b)) [
 pub quoted_behind : (q : ℕ) (r s : List ℕ) (n k : ℕ) {z : Option ℕ} → k ≡ prefix_len (run_goes_on (Quoted q)) r → s ≡ drop k r → more n (quoted_len q 0 r) ≡ z → more (n + k) (quoted_len q 0 s) ≡ z
 quoted_behind q r s n k e back so_far = search (rules, more_more, quoted_over)
 
--- where the scalar is closed behind a run, where the text ends, and where an escape is none
+-- where the scalar is closed after a run, where the text ends, and where an escape is none
 pub closed_here : (q n : ℕ) (t : List ℕ) {z : Option ℕ} → closes q t ≡ true → more n (quoted_len q 0 t) ≡ z → Some n ≡ z
 unfolding quoted_len
 closed_here q n t h1 h2 = search (rules, false≢true, more_zero)

@@ -20,7 +20,7 @@ use Rattle.yq_core.specs.declared.style.Style.TheVariants as styles
 string_same : (s : ScalarText) → is_string s.kind ≡ true → string_of s.text ≡ s
 string_same s h = ap (λ k. record { kind = k; text = s.text }) (sym (string_kind s.kind h))
 
--- bytes that stand for themselves
+-- bytes that mean themselves
 itselves : List ℕ → List Char
 itselves [] = []
 itselves (b ∷ t) = itself b ∷ itselves t

@@ -1,10 +1,10 @@
--- What stands behind the spaces in front of a line.
+-- What comes after the spaces in front of a line.
 use Rattle.std.proofs.Common.{◌≡◌, ℕ, zero, suc, ◌+◌, Bool, true, false, cond, not, eqb, List, [], ◌∷◌, ◌++◌, drop, replicate, refl, ap}
 use Rattle.std.{proofs.Common.{◌∙◌, ⊎_elim, arith, rules}, proofs.lemmas.Bool.cases_Bool, specs.List.prefix_len}
 use Rattle.yq_core.{proofs.Bools.at_byte, specs.Lines.{spaces, behind_spaces, is_tab, is_blank}}
 use Rattle.yq_core.specs.Text.{is_white, ends_line, past_white, upto, no_white}
 
--- what stands behind a prefix, step by step
+-- what comes after a prefix, step by step
 pub prefix_drop : (p : ℕ → Bool) (b : ℕ) (l : List ℕ) → drop (prefix_len p (b ∷ l)) (b ∷ l) ≡ cond (p b) (drop (prefix_len p l) l) (b ∷ l)
 prefix_drop p b l = search rules
 

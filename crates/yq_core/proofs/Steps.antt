@@ -51,7 +51,7 @@ key_keyed t x h = go x.0 x.1 (key_takes t x h).1 where
   go : (key : Key) (rest : List ℕ) → IsInlineKey 125 key rest → is_keyed key ≡ true
   go key rest h1 = search (rules, false≢true)
 
--- behind a node
+-- after a node
 sep_step : (total d k : ℕ) (t : List ℕ) (key : Key) (node : FlowNode × List ℕ) → t ≡ key_text key (node_text node.0 node.1) → (is_keyed key || not (is_empty_node node.0)) ≡ true →
     (then_sep d k key node >>= λ x. Some (locate_items total k x.0 x.1, x.1)) ≡ then_value total d k (key_placed total t key) (locate total node.0 node.1, node.1)
 unfolding locate_items

@@ -8,7 +8,7 @@ use lib.Utf8.{scalar, scalars, encode, encodes}
 use Rattle.memchr.specs.Find.{IsFirstByte, is_byte}
 use Rattle.yq_core.{specs.Text.{is_feed, front}, specs.Characters.{is_text_byte, is_text_char, pairs_returns}}
 
--- a byte that stands in characters of a text alone is no C1 control and begins none of U+F000 to U+FFFF
+-- a byte that is in characters of a text alone is no C1 control and begins none of U+F000 to U+FFFF
 lead_ascii : (c : ℕ) → c < 128 → is_text_byte c ≡ true → is_text_char c ≡ true
 lead_ascii c l h = grind arith
 
@@ -62,7 +62,7 @@ pairs_none t h = no_return t (λ k l. false_from_ne_true _ (h k (omega arith) l)
 pairs_some : (t u : List ℕ) (i : ℕ) → IsFirstByte (is_byte 13) t (Some i) → u ≡ drop (i + 1) t → pairs_returns t ≡ (front is_feed u && pairs_returns u)
 pairs_some t u i h e = search (rules, at_return, false_from_ne_true)
 
--- a CR without an LF behind it
+-- a CR without an LF after it
 pub pairs_alone : (t u : List ℕ) (i : ℕ) → IsFirstByte (is_byte 13) t (Some i) → u ≡ drop (i + 1) t → front is_feed u ≡ false → pairs_returns t ≡ false
 pairs_alone t u i h e n = pairs_some t u i h e ∙ ap (λ (b : Bool). b && pairs_returns u) n
 

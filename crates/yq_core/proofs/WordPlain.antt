@@ -20,7 +20,7 @@ abbrev pub begins_unsigned : List ℕ → Bool
 begins_unsigned [] = false
 begins_unsigned (b ∷ bs) = is_letter b || (eqb b 46 && front is_letter bs)
 
--- the same behind a sign or none
+-- the same after a sign or none
 abbrev pub begins_signed : List ℕ → Bool
 begins_signed [] = false
 begins_signed (b ∷ bs) = begins_unsigned (b ∷ bs) || eqb b 43 || (eqb b 45 && begins_unsigned bs)
@@ -62,7 +62,7 @@ no_merge t h1 = search (rules, and_parts, at_byte)
 letter_free : (b : ℕ) → is_letter b ≡ true → is_indicator b ≡ false
 letter_free b h = search (rules, at_byte)
 
--- behind a `-`
+-- after a `-`
 unsigned_safe : (t : List ℕ) → begins_unsigned t ≡ true → front (λ c. not (eqb c 32)) t ≡ true
 unsigned_safe t h1 = search (rules, ⊎_elim, at_byte, and_parts, or_cases)
 

@@ -1,4 +1,4 @@
--- What is written in quotes is a quoted scalar that stands for its string.
+-- What is written in quotes is a quoted scalar that means its string.
 use Rattle.std.proofs.Common.{◌≡◌, ℕ, ◌/◌, ◌%◌, ◌<◌, ◌≤◌, Bool, true, false, cond, ◌&&◌, ◌||◌, not, eqb, leb, ltb, List, [], ◌∷◌, ◌++◌}
 use Rattle.std.proofs.Common.{Option, Some, None, is_none, flat_map, refl, sym, inl, inr, ap, ◌∙◌, subst, arith, eqb-true, append_assoc}
 use Rattle.std.proofs.Common.{append-nil, rules}
@@ -51,7 +51,7 @@ both q t u p r a b = record {
 none_stands : (q : ℕ) → Stands q [] []
 none_stands q = record { items = []; spelled = refl; means = refl; are = λ rest. tt }
 
--- a byte that stands for itself in these quotes
+-- a byte that means itself in these quotes
 abbrev pub is_ordinary : ℕ → ℕ → Bool
 is_ordinary q b = not (eqb b q) && not (is_feed b) && not (is_return b) && not (eqb q 34 && eqb b 92)
 

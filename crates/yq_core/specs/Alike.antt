@@ -1,14 +1,14 @@
--- Texts that begin alike: what is asked of the text behind a piece doesn't tell them apart.
+-- Texts that begin alike: what is asked of the text after a piece doesn't tell them apart.
 use Rattle.std.specs.Prelude.{◌≡◌, ℕ, Bool, true, false, ◌||◌, ◌==◌, List, [], ◌∷◌, ◌++◌, Option, Some, None}
 use Rattle.yq_core.{specs.Plain.{is_flow_indicator, is_safe}, specs.QuotedReading.is_quote}
 use Rattle.yq_core.{specs.Text.{is_feed, is_space, is_marker, separates}, specs.Gaps.IsInlineGap}
 
--- behind this byte nobody looks: an indicator of flow, a quote, `&` or `*` (own)
+-- after this byte nobody looks: an indicator of flow, a quote, `&` or `*` (own)
 abbrev pub ends_lookahead : ℕ → Bool
 ends_lookahead b = is_flow_indicator b || (is_quote b || (b == 38 || b == 42))
 
 -- The same text up to such a byte, to a `:`, or to a byte that is no white space and no break, before white space, a break or the end. Where plain
--- scalars are looked at (Some tells whether in flow), none of these goes on behind the `:` (own).
+-- scalars are looked at (Some tells whether in flow), none of these goes on after the `:` (own).
 pub data Alike : Option Bool → List ℕ → List ℕ → Type 0 where
   stop : {f : Option Bool} {b : ℕ} {t u : List ℕ} → ends_lookahead b ≡ true → Alike f (b ∷ t) (b ∷ u)
   colon : {flow : Bool} {t u : List ℕ} → is_safe flow t ≡ false → is_safe flow u ≡ false → Alike (Some flow) (58 ∷ t) (58 ∷ u)
@@ -17,7 +17,7 @@ pub data Alike : Option Bool → List ℕ → List ℕ → Type 0 where
       Alike f (b ∷ t) (b ∷ u)
   after : {f : Option Bool} {b : ℕ} {t u : List ℕ} → Alike f t u → Alike f (b ∷ t) (b ∷ u)
 
--- What stands behind an item: a gap, and a comma or the closing bracket (YAML 1.2.2, section 7.4).
+-- What comes after an item: a gap, and a comma or the closing bracket (YAML 1.2.2, section 7.4).
 pub record EndsItem (k : ℕ) (t : List ℕ) : Type 0 where
   pub gap : List ℕ
   pub close : ℕ
@@ -26,7 +26,7 @@ pub record EndsItem (k : ℕ) (t : List ℕ) : Type 0 where
   pub is_gap : IsInlineGap gap (close ∷ rest)
   pub ends : (close == 44 || close == k) ≡ true
 
--- whether a line begins behind this text, by whether one begins before it (own)
+-- whether a line begins after this text, by whether one begins before it (own)
 abbrev pub fresh : Bool → List ℕ → Bool
 fresh line [] = line
 fresh line (b ∷ p) = fresh (is_feed b) p

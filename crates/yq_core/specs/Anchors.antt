@@ -7,13 +7,13 @@ pub data Name : Type 0 where
   Anchors : List ℕ → Name
   Refers : List ℕ → Name
 
--- names behind an anchor, if there is one (own)
+-- names after an anchor, if there is one (own)
 abbrev pub anchor_names : Option (List ℕ) → List Name → List Name
 anchor_names None names = names
 anchor_names (Some a) names = Anchors a ∷ names
 
 abbrev mutual
-  -- the anchors and aliases of a node in the order of the text: an anchor stands before what it names (6.9.2)
+  -- the anchors and aliases of a node in the order of the text: an anchor comes before what it names (6.9.2)
   pub names_of : Node → List Name
   names_of (alias name) = Refers name ∷ []
   names_of (scalar a kind text) = anchor_names a []

@@ -20,15 +20,15 @@ RawLines = List (List ℕ)
 abbrev pub is_empty_line : TextIndent → List ℕ → Bool
 is_empty_line f l = ends_line (behind_spaces l) && (not f.known || nat_le (spaces l) f.columns)
 
--- A text line begins with the indentation and has a character behind it (YAML 1.2.2, l-nb-literal-text of section 8.1.2).
+-- A text line begins with the indentation and has a character after it (YAML 1.2.2, l-nb-literal-text of section 8.1.2).
 abbrev pub is_text_line : TextIndent → List ℕ → Bool
 is_text_line f l = not (is_empty_line f l) && f.known && nat_le f.columns (spaces l)
 
--- A less indented line has a character, no tab, behind fewer spaces than the indentation has (YAML 1.2.2, section 8.1.1.2).
+-- A less indented line has a character, no tab, after fewer spaces than the indentation has (YAML 1.2.2, section 8.1.1.2).
 abbrev pub is_less_indented : TextIndent → List ℕ → Bool
 is_less_indented f l = not (ends_line (behind_spaces l)) && nat_lt (spaces l) f.columns && not (is_tab (behind_spaces l))
 
--- What may stand behind a block scalar: empty lines, unless it keeps them as its own, then the end or a less indented line (YAML 1.2.2,
+-- What may come after a block scalar: empty lines, unless it keeps them as its own, then the end or a less indented line (YAML 1.2.2,
 -- l-chomped-empty of section 8.1.1.2).
 unfoldable pub ends_block : Bool → TextIndent → RawLines → Bool
 ends_block keep f [] = true
@@ -103,7 +103,7 @@ pub record IsIndicators (digit : Option ℕ) (chomping : Chomping) (p : List ℕ
   pub small : IsDigit digit
   pub spelled : (p ≡ digit_text digit ++ sign_text chomping) ⊎ (p ≡ sign_text chomping ++ digit_text digit)
 
--- the rest of a header's line, with its break: white space, and perhaps a comment behind it (YAML 1.2.2, s-b-comment of section 6.6)
+-- the rest of a header's line, with its break: white space, and perhaps a comment after it (YAML 1.2.2, s-b-comment of section 6.6)
 abbrev pub is_tail : List ℕ → Bool
 is_tail l = is_line l && (is_blank l || (front is_white l && is_hash (past_white l)))
 
@@ -131,7 +131,7 @@ pub record IsBlock (least : ℕ) (b : BlockText) (rest : List ℕ) : Type 0 wher
   pub ends : (keeps b.chomping ≡ true) ⊎ (ends_in_text b.indent b.raw ≡ true)
   pub behind : ends_block (keeps b.chomping) b.indent (text_lines rest) ≡ true
 
--- where its pieces stand, by the offset at which it begins (own)
+-- where its pieces are, by the offset at which it begins (own)
 abbrev pub block_piece : ℕ → BlockText → Piece
 block_piece start b = record {
   style = as_style b.style;

@@ -1,4 +1,4 @@
--- What a block scalar stands for (YAML 1.2.2, sections 8.1.1.2, 8.1.2 and 8.1.3).
+-- What a block scalar means (YAML 1.2.2, sections 8.1.1.2, 8.1.2 and 8.1.3).
 use Rattle.std.specs.Prelude.{ℕ, ◌+◌, Bool, true, false, ◌&&◌, not, ◌==◌, List, [], ◌∷◌, ◌++◌, length, take, drop, replicate, min}
 use Rattle.std.specs.Prelude.{if◌then◌else◌}
 use Rattle.yq_core.{specs.declared.block_types.LineBefore.LineBefore, specs.declared.block_header.BlockStyle.BlockStyle}
@@ -30,7 +30,7 @@ unfoldable pub literal : Bool → TextIndent → RawLines → List ℕ
 literal strip f [] = []
 literal strip f (l ∷ ls) = (part_of f l ++ optional_break (not (strip && no_lines ls))) ++ literal strip f ls
 
--- What stands in the content before a line, behind k empty lines: between two lines that don't begin with white space the break is folded, to a
+-- What is in the content before a line, after k empty lines: between two lines that don't begin with white space the break is folded, to a
 -- space or to the LFs of the empty lines; about the others it stays (YAML 1.2.2, section 8.1.3).
 abbrev pub joint : LineBefore → Bool → ℕ → List ℕ
 joint before.Nothing white k = replicate k feed
@@ -38,7 +38,7 @@ joint before.Spaced white k = feed ∷ replicate k feed
 joint before.Text true k = feed ∷ replicate k feed
 joint before.Text false k = if k == 0 then 32 ∷ [] else replicate k feed
 
--- what stands behind the last text line and k empty lines (YAML 1.2.2, section 8.1.1.2)
+-- what comes after the last text line and k empty lines (YAML 1.2.2, section 8.1.1.2)
 abbrev pub chomped_end : Chomping → LineBefore → ℕ → List ℕ
 chomped_end chompings.Strip b k = []
 chomped_end chompings.Clip before.Nothing k = []
@@ -52,7 +52,7 @@ chomped_end chompings.Keep before.Text k = feed ∷ replicate k feed
 abbrev pub is_spaced_line : List ℕ → LineBefore
 is_spaced_line p = if front is_white p then before.Spaced else before.Text
 
--- Folded: the lines, behind what stood before them and k empty lines (YAML 1.2.2, section 8.1.3).
+-- Folded: the lines, after what came before them and k empty lines (YAML 1.2.2, section 8.1.3).
 unfoldable pub folded : Chomping → TextIndent → LineBefore → ℕ → RawLines → List ℕ
 folded c f b k [] = chomped_end c b k
 folded c f b k (l ∷ ls) =
@@ -65,11 +65,11 @@ strips chompings.Strip = true
 strips chompings.Clip = false
 strips chompings.Keep = false
 
--- what raw lines stand for (YAML 1.2.2, section 8.1)
+-- what raw lines mean (YAML 1.2.2, section 8.1)
 abbrev pub block_lines_content : BlockStyle → Chomping → TextIndent → RawLines → List ℕ
 block_lines_content styles.Literal c f raw = literal (strips c) f raw
 block_lines_content styles.Folded c f raw = folded c f before.Nothing 0 raw
 
--- what a block scalar stands for (YAML 1.2.2, section 8.1)
+-- what a block scalar means (YAML 1.2.2, section 8.1)
 abbrev pub block_content : BlockText → List ℕ
 block_content b = block_lines_content b.style b.chomping b.indent b.raw

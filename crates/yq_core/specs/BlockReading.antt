@@ -27,7 +27,7 @@ raw_with_line l x = Some (l ∷ x.0, x.1)
 abbrev pub with_empty : Bool → List ℕ → RawLines → RawLines × RawLines → Option (RawLines × RawLines)
 with_empty keep l ls x = if not keep && is_empty (joined x.0) then Some ([], l ∷ ls) else Some (l ∷ x.0, x.1)
 
--- the raw lines in front, and the lines behind them (own)
+-- the raw lines in front, and the lines after them (own)
 unfoldable pub raw_at : Bool → TextIndent → RawLines → Option (RawLines × RawLines)
 raw_at keep f [] = Some ([], [])
 raw_at keep f (l ∷ ls) =
@@ -48,7 +48,7 @@ len_at keep f t = raw_len (raw_at keep f (text_lines t))
 abbrev pub raw_length : ℕ → ℕ → Option ℕ → Option ℕ
 raw_length w s o = o >>= λ n. Some (if n == 0 then w else s + n)
 
--- The indentation that the lines give, behind blank lines of so many spaces at most: that of the first line that isn't blank (own).
+-- The indentation that the lines give, after blank lines of so many spaces at most: that of the first line that isn't blank (own).
 unfoldable pub detected_at : ℕ → ℕ → RawLines → Option TextIndent
 detected_at least most [] = Some (record { columns = least; known = false })
 detected_at least most (l ∷ ls) =
@@ -81,7 +81,7 @@ sign_at (b ∷ t) = if b == 45 then (chompings.Strip, t) else (if b == 43 then (
 abbrev pub Indicators : Type 0
 Indicators = Option ℕ × Chomping × List ℕ × List ℕ
 
--- the indicators behind an indentation indicator, or where none is first (own)
+-- the indicators after an indentation indicator, or where none is first (own)
 abbrev pub indicators_behind : Option ℕ × List ℕ → Indicators
 indicators_behind (None, t) = let c = sign_at t in let d = digit_at c.1 in (d.0, c.0, sign_text c.0 ++ digit_text d.0, d.1)
 indicators_behind (Some d, t) = let c = sign_at t in (Some d, c.0, digit_text (Some d) ++ sign_text c.0, c.1)
@@ -110,7 +110,7 @@ block_behind least s m = do
 unfoldable pub block_at : ℕ → List ℕ → Option (BlockText × List ℕ)
 block_at least t = read_style t >>= λ s. block_behind least s.0 (indicators_at s.1)
 
--- where the block scalar in front of a text that begins at this offset stands (own)
+-- where the block scalar in front of a text that begins at this offset is (own)
 abbrev pub read_block_piece : ℕ → ℕ → List ℕ → Option Piece
 read_block_piece start least t = block_at least t >>= λ x. Some (block_piece start x.0)
 
@@ -131,10 +131,10 @@ unfoldable pub indent_of : Option ℕ → ℕ → RawLines → TextIndent
 indent_of (Some d) n ls = record { columns = n; known = true }
 indent_of None n ls = unwrap_or (detected_at n 0 ls) (record { columns = n; known = true })
 
--- what the raw lines of a piece stand for, behind these indicators (own)
+-- what the raw lines of a piece mean, after these indicators (own)
 abbrev pub raw_content : Piece → Option ℕ × Chomping × List ℕ → List ℕ → List ℕ
 raw_content p m raw = block_lines_content (block_style p.style) m.1 (indent_of m.0 p.indent (text_lines raw)) (text_lines raw)
 
--- what the block scalar at a piece of a text stands for (own)
+-- what the block scalar at a piece of a text means (own)
 unfoldable pub block_piece_content : List ℕ → Piece → List ℕ
 block_piece_content text p = raw_content p (values (indicators_at (drop (p.start + 1) text))) (take (p.end - p.raw_start) (drop p.raw_start text))

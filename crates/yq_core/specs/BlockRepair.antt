@@ -1,4 +1,4 @@
--- A gap put behind a block scalar (own).
+-- A gap put after a block scalar (own).
 use Rattle.std.specs.Prelude.{◌≡◌, ℕ, Bool, true, ◌||◌, ◌&&◌, not, nat_le, nat_lt, List, [], ◌∷◌, ◌++◌, replicate, if◌then◌else◌}
 use Rattle.yq_core.{specs.declared.block_lines.TextIndent.TextIndent, specs.Block.{RawLines, is_less_indented}}
 use Rattle.yq_core.{specs.Lines.{spaces, behind_spaces, is_tab, is_hash, is_blank}, specs.Text.{ends_line, past_white}}
@@ -24,7 +24,7 @@ repaired_blank m l = if is_short m l then l else past_white l
 abbrev pub repaired_comment : ℕ → ℕ → List ℕ → List ℕ
 repaired_comment m column l = if is_outdented_comment m l then l else replicate column 32 ++ past_white l
 
--- A gap behind a block scalar whose text is indented by m columns: the blank lines in front go if the scalar keeps empty lines, else those are
+-- A gap after a block scalar whose text is indented by m columns: the blank lines in front go if the scalar keeps empty lines, else those are
 -- emptied that don't stay as they are; the first comment line is moved to this column if it doesn't stay as it is (own).
 unfoldable pub repair : Bool → ℕ → ℕ → RawLines → RawLines
 repair keep m column [] = []
@@ -32,7 +32,7 @@ repair keep m column (l ∷ ls) =
     if is_blank l then (if keep then repair keep m column ls else (repaired_blank m l ∷ repair keep m column ls))
     else (repaired_comment m column l ∷ ls)
 
--- the comments, with what stands behind them on their lines (own)
+-- the comments, with what comes after them on their lines (own)
 unfoldable pub comment_lines : RawLines → RawLines
 comment_lines [] = []
 comment_lines (l ∷ ls) = if is_blank l then comment_lines ls else (past_white l ∷ comment_lines ls)

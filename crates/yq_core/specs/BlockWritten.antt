@@ -13,7 +13,7 @@ abbrev pub break_text : Break → List ℕ
 break_text breaks.Lf = feed ∷ []
 break_text breaks.CrLf = 13 ∷ feed ∷ []
 
--- a text behind so many spaces; where it is empty it is written empty (own)
+-- a text after so many spaces; where it is empty it is written empty (own)
 abbrev pub indented_text : ℕ → List ℕ → List ℕ
 indented_text m p = if length p == 0 then [] else replicate m 32 ++ p
 

@@ -17,7 +17,7 @@ is_byte_order_mark c = c == 65279
 abbrev pub is_text_char : ℕ → Bool
 is_text_char c = is_printable c && not (is_byte_order_mark c)
 
--- a byte that stands in characters of a text alone: tab, LF, CR, printable ASCII, or one of more bytes, but for 194 and 239, which begin
+-- a byte that is in characters of a text alone: tab, LF, CR, printable ASCII, or one of more bytes, but for 194 and 239, which begin
 -- others too (own)
 abbrev pub is_text_byte : ℕ → Bool
 is_text_byte b =

@@ -12,11 +12,11 @@ pub record CollPieces : Type 0 where
   pub items : Items
   pub rest : List ℕ
 
--- how a collection with these items behind that gap is written before a rest (YAML 1.2.2, section 7.4)
+-- how a collection with these items after that gap is written before a rest (YAML 1.2.2, section 7.4)
 abbrev pub coll_text : ℕ → List ℕ → Items → List ℕ → List ℕ
 coll_text k gap is rest = opening_bracket k ∷ (gap ++ flow_items_text k is rest)
 
--- the collection that a node before a rest is, behind its anchor (own)
+-- the collection that a node before a rest is, after its anchor (own)
 abbrev pub coll_in : FlowNode → List ℕ → Option CollPieces
 coll_in empty rest = None
 coll_in (alias n) rest = None
@@ -55,7 +55,7 @@ abbrev pub collection_put : List Step → List ℕ → Items → FlowNode → Fl
 collection_put [] g is node = put_coll g is node
 collection_put (s ∷ ss) g is node = within_items (change_item s (collection_put ss g is)) node
 
--- A collection inside an inline node: where the node stands, by its place, its parent's indentation and the collections round it; the steps that
+-- A collection inside an inline node: where the node is, by its place, its parent's indentation and the collections round it; the steps that
 -- lead to the collection; and its pieces (own).
 pub record CollAt : Type 0 where
   pub place : Place

@@ -4,7 +4,7 @@ use Rattle.std.specs.Prelude.{drop, replicate, if◌then◌else◌, slice_index,
 use Rattle.yq_core.specs.Text.{feed, is_white, is_feed, is_break, is_space, front}
 use Rattle.yq_core.{specs.Quoted.{Gap, folded, joined, one_blank_line_more, gap_text}, specs.QuotedReading.leading_escape}
 
--- what stands before a text: white space in a line, or a gap between lines (own)
+-- what comes before a text: white space in a line, or a gap between lines (own)
 pub data BlankBefore : Type 0 where
   within : BlankBefore
   after : Gap → BlankBefore
@@ -14,7 +14,7 @@ abbrev pub one_break_more : BlankBefore → BlankBefore
 one_break_more within = after (folded 0)
 one_break_more (after g) = after (one_blank_line_more g)
 
--- what it stands for, with the white space since the last break (own)
+-- what it means, with the white space since the last break (own)
 abbrev pub item_with_blanks : BlankBefore → List ℕ → List ℕ
 item_with_blanks within white = white
 item_with_blanks (after g) white = gap_text g
@@ -39,7 +39,7 @@ abbrev pub is_pair : ℕ → List ℕ → Bool
 is_pair quote [] = false
 is_pair quote (b ∷ bs) = quote == 39 && b == 39 && front (λ c. c == 39) bs
 
--- what b with the bytes that belong to it stands for (own)
+-- what b with the bytes that belong to it means (own)
 abbrev pub quoted_item : ℕ → ℕ → List ℕ → List ℕ
 quoted_item quote b bs = if quote == 34 && b == 92 then (if is_break bs then [] else escaped (leading_escape bs)) else b ∷ []
 
@@ -49,11 +49,11 @@ item_len quote b bs =
     if quote == 34 && b == 92 then (if is_break bs then break_len bs else escaped_len (leading_escape bs))
     else (if is_pair quote (b ∷ bs) then 1 else 0)
 
--- what stands behind these (own)
+-- what comes after these (own)
 abbrev pub item_before : ℕ → ℕ → List ℕ → BlankBefore
 item_before quote b bs = if quote == 34 && b == 92 && is_break bs then after (joined 0) else within
 
--- the content of what stands in these quotes (0: in none), with what stands before it and white space in it; k bytes are passed over (own)
+-- the content of what is in these quotes (0: in none), with what comes before it and white space in it; k bytes are passed over (own)
 unfoldable pub content_on : ℕ → ℕ → BlankBefore → List ℕ → List ℕ → List ℕ
 content_on quote k before white [] = item_with_blanks before white
 content_on quote (suc k) before white (b ∷ bs) = content_on quote k before white bs
@@ -63,7 +63,7 @@ content_on quote zero before white (b ∷ bs) =
     else (if is_break (b ∷ bs) then content_on quote 0 before white bs
     else item_with_blanks before white ++ (quoted_item quote b bs ++ content_on quote (item_len quote b bs) (item_before quote b bs) [] bs)))
 
--- the content of what stands in these quotes (own)
+-- the content of what is in these quotes (own)
 abbrev pub quoted_text : ℕ → List ℕ → List ℕ
 quoted_text quote t = content_on quote 0 within [] t
 
@@ -80,22 +80,22 @@ unfoldable pub breaks : List ℕ → ℕ
 breaks [] = 0
 breaks (b ∷ bs) = if is_feed b then suc (breaks bs) else breaks bs
 
--- what white space with so many breaks stands for (own)
+-- what white space with so many breaks means (own)
 abbrev pub folded_space : ℕ → List ℕ → List ℕ
 folded_space zero s = s
 folded_space (suc k) s = gap_text (folded k)
 
--- what white space and breaks stand for, behind an escaped break or not (own)
+-- what white space and breaks mean, after an escaped break or not (own)
 abbrev pub space_text : Bool → List ℕ → List ℕ
 space_text true s = replicate (breaks s) feed
 space_text false s = folded_space (breaks s) s
 
--- what stands before a text that follows an escaped break, or not (own)
+-- what comes before a text that follows an escaped break, or not (own)
 abbrev pub before_of : Bool → BlankBefore
 before_of true = after (joined 0)
 before_of false = within
 
--- what the rest of a scalar in these quotes stands for, perhaps behind a joined line (own)
+-- what the rest of a scalar in these quotes means, perhaps after a joined line (own)
 abbrev pub content_behind : ℕ → Bool → List ℕ → List ℕ
 content_behind quote is_joined text = content_on quote 0 (before_of is_joined) [] text
 
@@ -103,7 +103,7 @@ content_behind quote is_joined text = content_on quote 0 (before_of is_joined) [
 abbrev pub is_slash : ℕ → List ℕ → Bool
 is_slash quote t = quote == 34 && front (λ b. b == 92) t
 
--- whether bytes that stand for themselves end here (own)
+-- whether bytes that mean themselves end here (own)
 abbrev pub ends_run : ℕ → List ℕ → Bool
 ends_run quote [] = true
 ends_run quote (b ∷ bs) = is_space (b ∷ bs) || is_pair quote (b ∷ bs) || is_slash quote (b ∷ bs)

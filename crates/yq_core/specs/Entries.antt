@@ -7,7 +7,7 @@ use Rattle.yq_core.specs.Places.{Placed, placed, CoreNode, nothing, name, text, 
 use Rattle.yq_core.{specs.Trees.{key_content, unplaced_key}, specs.View.inline_view, specs.Tree.key_label}
 use Rattle.yq_core.specs.declared.path.Step as declared
 
--- the step that one of the code stands for (own)
+-- the step that one of the code means (own)
 abbrev pub tree_step : declared.Step → Step
 tree_step (declared.TheVariants.Key k) = To (string_bytes k)
 tree_step (declared.TheVariants.Index n) = Nth n
@@ -105,7 +105,7 @@ abbrev pub entry_pieces_at : List Step → EntryPieces → Option EntryPieces
 entry_pieces_at [] x = Some x
 entry_pieces_at (s ∷ ss) x = option_and_then (entry_pieces_at ss) (path_inside s x.node x.rest)
 
--- an item or entry stands in a text, behind some of it (own)
+-- an item or entry is in a text, after some of it (own)
 pub record StandsIn (t : List ℕ) (x : EntryPieces) : Type 0 where
   pub before : List ℕ
   pub text : t ≡ before ++ pieces_text x

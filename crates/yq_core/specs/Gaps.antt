@@ -1,9 +1,9 @@
--- What may stand between two tokens of a flow collection: white space, breaks and comments (YAML 1.2.2, sections 6.6 and 6.7).
+-- What may be between two tokens of a flow collection: white space, breaks and comments (YAML 1.2.2, sections 6.6 and 6.7).
 use Rattle.std.specs.Prelude.{◌≡◌, ℕ, Bool, true, false, ◌||◌, ◌&&◌, not, ◌==◌, List, [], ◌∷◌, ◌++◌, if◌then◌else◌}
 use Rattle.yq_core.{specs.Text.{is_feed, is_space, is_marker}, specs.declared.gap.GapPlace.GapPlace}
 use Rattle.yq_core.specs.declared.gap.GapPlace.TheVariants.{Token, White, Break, Comment}
 
--- Whether a gap goes on with this byte, by what stands before it: white space or a break, a `#` behind these, and each byte of a comment
+-- Whether a gap goes on with this byte, by what comes before it: white space or a break, a `#` after these, and each byte of a comment
 -- (YAML 1.2.2, section 6.6).
 abbrev pub goes : GapPlace → ℕ → List ℕ → Bool
 goes Token b bs = is_space (b ∷ bs)
@@ -25,11 +25,11 @@ at_line_start White = false
 at_line_start Break = true
 at_line_start Comment = false
 
--- what stands before the byte behind this one: a comment goes on up to the LF of its line (YAML 1.2.2, section 6.6)
+-- what comes before the byte after this one: a comment goes on up to the LF of its line (YAML 1.2.2, section 6.6)
 abbrev pub next_gap_place : GapPlace → ℕ → GapPlace
 next_gap_place before b = if is_feed b then Break else (if b == 35 || in_comment before then Comment else White)
 
--- what stands behind these bytes (own)
+-- what comes after these bytes (own)
 abbrev pub gap_place_after : GapPlace → List ℕ → GapPlace
 gap_place_after before [] = before
 gap_place_after before (b ∷ p) = gap_place_after (next_gap_place before b) p
@@ -44,7 +44,7 @@ abbrev pub stops : GapPlace → List ℕ → Bool
 stops before [] = true
 stops before (b ∷ bs) = not (goes before b bs)
 
--- A gap behind a token, as long as it may be; what follows it is no document marker in column 0 (YAML 1.2.2, sections 6.7 and 9.1.2).
+-- A gap after a token, as long as it may be; what follows it is no document marker in column 0 (YAML 1.2.2, sections 6.7 and 9.1.2).
 pub record IsInlineGap (p rest : List ℕ) : Type 0 where
   pub inside : AllGo Token p rest
   pub ends : stops (gap_place_after Token p) rest ≡ true

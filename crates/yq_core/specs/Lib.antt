@@ -46,3 +46,4 @@ pub mod Trees
 pub mod Entries
 pub mod Collections
 pub mod Spans
+pub mod FaultPlace

@@ -6,7 +6,7 @@ use Rattle.yq_core.specs.Text.{front, past_white, ends_line}
 abbrev pub spaces : List ℕ → ℕ
 spaces l = prefix_len (λ b. b == 32) l
 
--- what stands behind them (own)
+-- what comes after them (own)
 abbrev pub behind_spaces : List ℕ → List ℕ
 behind_spaces l = drop (spaces l) l
 

@@ -1,21 +1,21 @@
--- Inline nodes: which pieces stand one behind the other (YAML 1.2.2, sections 6.9.2, 7.1 and 7.4).
+-- Inline nodes: which pieces are one after the other (YAML 1.2.2, sections 6.9.2, 7.1 and 7.4).
 use Rattle.std.specs.Prelude.{◌≡◌, ◌⊎◌, ℕ, zero, suc, Bool, true, false, ◌||◌, not, ◌==◌, List, [], ◌∷◌, ◌++◌, Option, Some, None}
 use Rattle.std.specs.Prelude.{if◌then◌else◌}
 use Rattle.yq_core.{specs.Text.{is_empty, is_white, is_feed, is_return, NoneIn, unless, no_white, separates}, specs.Plain.is_flow_indicator}
 use Rattle.yq_core.{specs.Gaps.IsInlineGap, specs.Scalars.{IsScalarAt, is_quoted, begins_scalar}}
 
--- what stands before the node of an item: nothing, or a key with the gaps round its `:` (YAML 1.2.2, section 7.4.2)
+-- what comes before the node of an item: nothing, or a key with the gaps round its `:` (YAML 1.2.2, section 7.4.2)
 pub data Key : Type 0 where
   bare : Key
   keyed : (text before gap : List ℕ) → Key
 
--- what stands behind it: a gap, and behind it nothing, or a comma and a gap (YAML 1.2.2, section 7.4)
+-- what comes after it: a gap, and after it nothing, or a comma and a gap (YAML 1.2.2, section 7.4)
 pub data Sep : Type 0 where
   last : (behind : List ℕ) → Sep
   comma : (behind gap : List ℕ) → Sep
 
 mutual
-  -- a node: nothing, an alias, a scalar, a collection by its closing bracket, or a node behind an anchor (YAML 1.2.2, sections 6.9.2, 7.1,
+  -- a node: nothing, an alias, a scalar, a collection by its closing bracket, or a node after an anchor (YAML 1.2.2, sections 6.9.2, 7.1,
   -- 7.2, 7.3 and 7.4)
   pub data FlowNode : Type 0 where
     empty : FlowNode
@@ -34,7 +34,7 @@ abbrev pub key_text : Key → List ℕ → List ℕ
 key_text bare rest = rest
 key_text (keyed t b g) rest = t ++ (b ++ (58 ∷ (g ++ rest)))
 
--- how what stands behind an item is written before a rest (YAML 1.2.2, section 7.4)
+-- how what comes after an item is written before a rest (YAML 1.2.2, section 7.4)
 abbrev pub sep_text : Sep → List ℕ → List ℕ
 sep_text (last b) rest = b ++ rest
 sep_text (comma b g) rest = b ++ (44 ∷ (g ++ rest))
@@ -84,18 +84,18 @@ begins_content flow t = begins_with 42 t || (begins_with 91 t || (begins_with 12
 abbrev pub begins_node : Bool → List ℕ → Bool
 begins_node flow t = begins_with 38 t || begins_content flow t
 
--- what may stand between an anchor and its node: in a flow collection a gap, else white space on the line (YAML 1.2.2, section 6.9.2; own)
+-- what may be between an anchor and its node: in a flow collection a gap, else white space on the line (YAML 1.2.2, section 6.9.2; own)
 abbrev pub IsApart : Bool → List ℕ → List ℕ → Type 0
 IsApart true p rest = IsInlineGap p rest
 IsApart false p rest = NoneIn no_white p rest × (no_white rest ≡ true)
 
--- Behind an anchor or a `:` this stands if something begins behind it; else nothing stands there (own).
+-- After an anchor or a `:` this is if something begins after it; else nothing is there (own).
 abbrev pub IsLead : Bool → (List ℕ → Bool) → List ℕ → List ℕ → Type 0
 IsLead flow begins p rest =
     (IsApart flow p rest × (begins rest ≡ true))
     ⊎ ((p ≡ []) × ((g r : List ℕ) × (rest ≡ g ++ r) × IsApart flow g r × (begins r ≡ false)))
 
--- Behind the `:` of a plain key stands white space, a break, `,` or `}` (YAML 1.2.2, section 7.4.2; own).
+-- After the `:` of a plain key is white space, a break, `,` or `}` (YAML 1.2.2, section 7.4.2; own).
 abbrev pub ends_key : List ℕ → List ℕ → Bool
 ends_key p rest = is_quoted p || (separates rest || (begins_with 44 rest || begins_with 125 rest))
 
@@ -109,7 +109,7 @@ IsInlineKey k (keyed t b g) rest =
     × (ends_key t (g ++ rest) ≡ true)
     × IsLead true (begins_node true) g rest
 
--- Behind the last item stands the closing bracket; a comma may stand before it (YAML 1.2.2, section 7.4).
+-- After the last item is the closing bracket; a comma may come before it (YAML 1.2.2, section 7.4).
 abbrev pub IsSep : ℕ → Sep → List ℕ → Type 0
 IsSep k (last b) rest = IsInlineGap b rest × (begins_with k rest ≡ true)
 IsSep k (comma b g) rest = IsInlineGap b (44 ∷ (g ++ rest)) × IsInlineGap g rest
@@ -122,7 +122,7 @@ is_empty_node (scalar p) = false
 is_empty_node (coll k g is) = false
 is_empty_node (anchored n g node) = false
 
--- a node that an anchor may stand before: no alias, and none that has one (YAML 1.2.2, sections 6.9.2 and 7.1)
+-- a node that an anchor may come before: no alias, and none that has one (YAML 1.2.2, sections 6.9.2 and 7.1)
 abbrev pub takes_anchor : FlowNode → Bool
 takes_anchor empty = true
 takes_anchor (alias n) = false

@@ -61,7 +61,7 @@ spell_mantissa (fraction digits) = codes "." ++ digits
 spell_mantissa (whole digits) = digits
 spell_mantissa (pointed digits behind) = digits ++ (codes "." ++ behind)
 
--- a mantissa has digits; behind a point that follows digits there may be none (10.3.2)
+-- a mantissa has digits; after a point that follows digits there may be none (10.3.2)
 abbrev pub IsMantissa : Mantissa → Type 0
 IsMantissa (fraction digits) = IsNumeral 10 digits
 IsMantissa (whole digits) = IsNumeral 10 digits

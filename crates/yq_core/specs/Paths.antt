@@ -24,7 +24,7 @@ is_here (To k) label = key_is k label.key
 is_here (Nth zero) label = is_item label.key
 is_here (Nth (suc n)) label = false
 
--- the step from behind the first item or entry (own)
+-- the step from after the first item or entry (own)
 abbrev pub further : Step → Step
 further (To k) = To k
 further (Nth zero) = Nth zero

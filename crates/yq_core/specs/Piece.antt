@@ -1,4 +1,4 @@
--- Where a scalar stands in a text.
+-- Where a scalar is in a text.
 use Rattle.std.specs.Prelude.{◌≡◌, ℕ, suc, ◌+◌, false, Option, Some, None, List, ◌++◌, length, drop, ℤ, pos, negsuc}
 use Rattle.yq_core.{specs.declared.piece.Piece.Piece, specs.declared.style.Style.Style, specs.declared.style.Place.Place}
 use Rattle.yq_core.{specs.Answers.◌>>=◌, specs.Plain.{IsPlain, plain_at}, specs.Writable.in_flow}

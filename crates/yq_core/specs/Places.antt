@@ -5,7 +5,7 @@ use Rattle.yq_core.specs.Nodes.{Key, bare, keyed, FlowNode, empty, alias, scalar
 use Rattle.yq_core.{specs.Nodes.{node_text, flow_items_text}, specs.Scalars.{scalar_style, scalar_content, scalar_of}}
 
 mutual
-  -- a node: its anchor, where it begins, where what is behind the anchor begins, where it ends, in bytes, and what it is (own)
+  -- a node: its anchor, where it begins, where what is after the anchor begins, where it ends, in bytes, and what it is (own)
   pub data Placed : Type 0 where
     placed : (anchor : Option (List ℕ)) → (start content end : ℕ) → CoreNode → Placed
 
@@ -30,11 +30,11 @@ holder k s = if k == 125 then mapping s else sequence s
 abbrev pub anchored_node : List ℕ → ℕ → Placed → Placed
 anchored_node n start (placed a s c e f) = placed (Some n) start c e f
 
--- a node without an anchor that stands between two rests of a text so long (own)
+-- a node without an anchor that is between two rests of a text so long (own)
 abbrev pub placed_between : ℕ → List ℕ → List ℕ → CoreNode → Placed
 placed_between total t rest f = placed None (total - length t) (total - length t) (total - length rest) f
 
--- a scalar that stands between two rests (own)
+-- a scalar that is between two rests (own)
 abbrev pub scalar_between : ℕ → List ℕ → List ℕ → List ℕ → CoreNode
 scalar_between total t rest p = text (scalar_of p) (inline_piece (scalar_style p) (total - length t) (total - length rest))
 

@@ -24,7 +24,7 @@ abbrev pub begins_plain : Bool → List ℕ → Bool
 begins_plain flow [] = false
 begins_plain flow (b ∷ bs) = not (is_space (b ∷ bs)) && (not (is_indicator b) || ((b == 45 || b == 63 || b == 58) && is_safe flow bs))
 
--- what no plain scalar holds: a `:` without a safe character behind it, and in flow an indicator of flow (YAML 1.2.2, section 7.3.3)
+-- what no plain scalar holds: a `:` without a safe character after it, and in flow an indicator of flow (YAML 1.2.2, section 7.3.3)
 abbrev pub ends_text : Bool → List ℕ → Bool
 ends_text flow [] = false
 ends_text flow (b ∷ bs) = (b == 58 && not (is_safe flow bs)) || (flow && is_flow_indicator b)
@@ -33,7 +33,7 @@ ends_text flow (b ∷ bs) = (b == 58 && not (is_safe flow bs)) || (flow && is_fl
 abbrev pub no_gap : List ℕ → Bool
 no_gap t = not (is_space t)
 
--- what stands behind the last LF of a text, if it has one (own)
+-- what comes after the last LF of a text, if it has one (own)
 abbrev pub last_line : List ℕ → Option (List ℕ)
 last_line [] = None
 last_line (b ∷ bs) = option_or (last_line bs) (if is_feed b then Some bs else None)
@@ -44,16 +44,16 @@ abbrev pub begins_deep : Option ℕ → List ℕ → Bool
 begins_deep None line = false
 begins_deep (Some n) line = nat_le n (prefix_len (λ b. b == 32) line) && not (is_marker line)
 
--- Text behind white space and breaks stands on the line of the scalar before them, or on a further line that it may have (own).
+-- Text after white space and breaks is on the line of the scalar before them, or on a further line that it may have (own).
 abbrev pub plain_may_follow : Option ℕ → Option (List ℕ) → List ℕ → Bool
 plain_may_follow spaces None text = true
 plain_may_follow spaces (Some indentation) text = begins_deep spaces (indentation ++ text)
 
--- Behind white space and breaks a plain scalar goes on with text that is no comment and doesn't end it (YAML 1.2.2, section 7.3.3).
+-- After white space and breaks a plain scalar goes on with text that is no comment and doesn't end it (YAML 1.2.2, section 7.3.3).
 abbrev pub follows : Bool → Option ℕ → List ℕ → List ℕ → Bool
 follows flow spaces gap text = not (is_empty text) && not (front (λ b. b == 35) text) && not (ends_text flow text) && plain_may_follow spaces (last_line gap) text
 
--- A plain scalar has to end here: at the end, where its text ends, or at white space or a break behind which it doesn't go on (YAML 1.2.2,
+-- A plain scalar has to end here: at the end, where its text ends, or at white space or a break after which it doesn't go on (YAML 1.2.2,
 -- section 7.3.3).
 abbrev pub ends_plain : Bool → Option ℕ → List ℕ → Bool
 ends_plain flow spaces t = if is_space t then not (follows flow spaces (cut no_gap t).0 (cut no_gap t).1) else (is_empty t || ends_text flow t)

@@ -3,7 +3,7 @@ use Rattle.std.specs.Prelude.{◌≡◌, ℕ, false, List, [], ◌∷◌, ◌++�
 use Rattle.yq_core.specs.Text.{is_break}
 use Rattle.yq_core.specs.Quoted.{Char, itself, doubled, escape, code, spell_chars, spell_break, QuotedLines, last, line, spell_lines}
 
--- bytes that stand for themselves, none of which begins a break (7.3.3)
+-- bytes that mean themselves, none of which begins a break (7.3.3)
 abbrev pub ArePlain : List Char → List ℕ → Type 0
 ArePlain [] rest = Unit {0}
 ArePlain (itself b ∷ cs) rest = (is_break (b ∷ (spell_chars cs ++ rest)) ≡ false) × ArePlain cs rest

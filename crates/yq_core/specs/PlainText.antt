@@ -12,7 +12,7 @@ abbrev pub begins_plainly : List ℕ → Bool
 begins_plainly [] = false
 begins_plainly (b ∷ bs) = not (b == 32) && (not (is_indicator b) || (b == 45 && front (λ c. not (c == 32)) bs))
 
--- In front stands `: `, ` #`, a `:` or a space at the end, or in flow an indicator of flow (own).
+-- In front is `: `, ` #`, a `:` or a space at the end, or in flow an indicator of flow (own).
 abbrev pub needs_quotes : Bool → List ℕ → Bool
 needs_quotes flow [] = false
 needs_quotes flow (b ∷ bs) =
@@ -35,6 +35,6 @@ abbrev pub begins_marker : List ℕ → Bool
 begins_marker (a ∷ b ∷ c ∷ t) = (a == 45 && b == 45 && c == 45) || (a == 46 && b == 46 && c == 46)
 begins_marker _ = false
 
--- a text that may stand plain on one line, in flow or not, and be read as it is (own)
+-- a text that may be plain on one line, in flow or not, and be read as it is (own)
 abbrev pub is_plain_text : Bool → List ℕ → Bool
 is_plain_text flow t = list_all is_plain_char (chars t) && begins_plainly t && no_rest (needs_quotes flow) t && not (is_merge t) && not (begins_marker t)

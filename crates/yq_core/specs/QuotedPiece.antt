@@ -1,4 +1,4 @@
--- Where a quoted scalar stands in a text.
+-- Where a quoted scalar is in a text.
 use Rattle.std.specs.Prelude.{◌≡◌, ℕ, ◌+◌, ◌==◌, Option, Some, List, ◌++◌, length, drop, slice_index, if◌then◌else◌}
 use Rattle.yq_core.{specs.declared.piece.Piece.Piece, specs.declared.style.Style.Style, specs.Answers.◌>>=◌, specs.Piece.inline_piece}
 use Rattle.yq_core.{specs.Quoted.{QuotedLines, IsQuoted}, specs.QuotedReading.quoted_at}

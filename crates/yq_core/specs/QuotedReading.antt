@@ -8,7 +8,7 @@ use Rattle.yq_core.specs.Quoted.{letters, beside, is_unicode}
 abbrev pub hex_digit : ℕ → Option ℕ
 hex_digit b = if is_digit 16 b then Some (digit_value b) else None
 
--- the number that n digits in front write behind v (own)
+-- the number that n digits in front write after v (own)
 unfoldable pub hex : ℕ → ℕ → List ℕ → Option ℕ
 hex zero v t = Some v
 hex (suc n) v [] = None
@@ -24,7 +24,7 @@ abbrev pub lettered : Option ℕ → Option (ℕ × ℕ)
 lettered None = None
 lettered (Some c) = Some (c, 1)
 
--- the character that an escape stands for, and how many bytes it has, behind its backslash (own)
+-- the character that an escape means, and how many bytes it has, after its backslash (own)
 unfoldable pub leading_escape : List ℕ → Option (ℕ × ℕ)
 leading_escape [] = None
 leading_escape (b ∷ bs) =
@@ -43,7 +43,7 @@ abbrev pub length_of : Option (ℕ × ℕ) → Option ℕ
 length_of None = None
 length_of (Some e) = Some e.1
 
--- how many bytes behind b belong to it; a line begins with no marker (own)
+-- how many bytes after b belong to it; a line begins with no marker (own)
 abbrev pub escape_len : ℕ → ℕ → List ℕ → Option ℕ
 escape_len quote b bs =
     if is_feed b && is_marker bs then None
@@ -65,7 +65,7 @@ abbrev pub scalar_len : List ℕ → Option ℕ
 scalar_len [] = None
 scalar_len (b ∷ bs) = if is_quote b then more 2 (quoted_len b 0 bs) else None
 
--- the text cut behind so many bytes (own)
+-- the text cut after so many bytes (own)
 abbrev pub cut_at : List ℕ → Option ℕ → Option (List ℕ × List ℕ)
 cut_at t None = None
 cut_at t (Some n) = Some (take n t, drop n t)

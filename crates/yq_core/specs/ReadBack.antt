@@ -10,7 +10,7 @@ use Rattle.yq_core.{specs.Scalar.{ScalarText, plain_of, string_of}, specs.Writte
 abbrev pub string_between : Style → List ℕ → List ℕ → List ℕ → List ℕ
 string_between style s before rest = before ++ (written_scalar style s ++ rest)
 
--- the piece where it stands (own)
+-- the piece where it is (own)
 abbrev pub put_piece : Style → List ℕ → List ℕ → Piece
 put_piece style s before = inline_piece style (length before) (length before + length (written_scalar style s))
 
@@ -19,7 +19,7 @@ put_piece style s before = inline_piece style (length before) (length before + l
 abbrev pub put_block : List ℕ → ℕ → Break → List ℕ → List ℕ → List ℕ → List ℕ
 put_block s m br tail before rest = before ++ block_text (written_block s m (break_text br) tail) rest
 
--- the piece where it stands (own)
+-- the piece where it is (own)
 abbrev pub put_block_piece : List ℕ → ℕ → Break → List ℕ → List ℕ → Piece
 put_block_piece s m br tail before = block_piece (length before) (written_block s m (break_text br) tail)
 

@@ -13,7 +13,7 @@ unfoldable pub flow_gap_len : GapPlace → List ℕ → ℕ
 flow_gap_len before [] = 0
 flow_gap_len before (b ∷ bs) = if goes before b bs then suc (flow_gap_len (next_gap_place before b) bs) else 0
 
--- what stands behind it (own)
+-- what comes after it (own)
 unfoldable pub gap_end : GapPlace → List ℕ → GapPlace
 gap_end before [] = before
 gap_end before (b ∷ bs) = if goes before b bs then gap_end (next_gap_place before b) bs else before
@@ -40,12 +40,12 @@ read_scalar flow spaces t = if is_quoted t then in_quotes_at spaces t else plain
 unfoldable pub name_at : List ℕ → Option (List ℕ × List ℕ)
 name_at t = if unless in_name t then None else Some (cut (unless in_name) t)
 
--- what stands between an anchor and its node, and what follows it (own)
+-- what is between an anchor and its node, and what follows it (own)
 abbrev pub apart_at : Bool → List ℕ → Option (List ℕ × List ℕ)
 apart_at true t = read_gap t
 apart_at false t = Some (cut no_white t)
 
--- the same, if something begins behind it (own)
+-- the same, if something begins after it (own)
 unfoldable pub lead_at : Bool → (List ℕ → Bool) → List ℕ → Option (List ℕ × List ℕ)
 lead_at flow begins t = do
   g ← apart_at flow t
@@ -64,7 +64,7 @@ read_flow_key t = do
   gap ← lead_at true (begins_node true) rest
   Some (keyed key.0 before.0 gap.0, gap.1)
 
--- a comma or the closing bracket behind a gap (own)
+-- a comma or the closing bracket after a gap (own)
 unfoldable pub sep_behind : ℕ → List ℕ → List ℕ → Option (Sep × List ℕ)
 sep_behind k behind t =
     if begins_with 44 t then (do
@@ -72,7 +72,7 @@ sep_behind k behind t =
       Some (comma behind h.0, h.1))
     else (if begins_with k t then Some (last behind, t) else None)
 
--- what stands behind an item, and what follows it (own)
+-- what comes after an item, and what follows it (own)
 unfoldable pub sep_at : ℕ → List ℕ → Option (Sep × List ℕ)
 sep_at k t = do
   g ← read_gap t
@@ -82,7 +82,7 @@ sep_at k t = do
 abbrev pub Kids : Type 0
 Kids = ℕ → List ℕ → Option (Items × List ℕ)
 
--- a collection behind its opening bracket (own)
+-- a collection after its opening bracket (own)
 unfoldable pub read_collection : Kids → ℕ → List ℕ → Option (FlowNode × List ℕ)
 read_collection kids k t = do
   gap ← read_gap t

@@ -14,6 +14,6 @@ is_stop (Quoted quote) b = b == quote || b == 92 || is_feed b
 abbrev pub run_goes_on : Run → ℕ → Bool
 run_goes_on run b = not (is_stop run b)
 
--- how many of sixteen lanes stand before the first one whose bit is set (own)
+-- how many of sixteen lanes come before the first one whose bit is set (own)
 abbrev pub first_set : ℕ → ℕ
 first_set bits = if bits == 0 then 16 else trailing_zeros w64 bits

@@ -33,6 +33,6 @@ of_kind kinds.Int t = record { kind = kinds.Int; text = t }
 of_kind kinds.Float t = record { kind = kinds.Float; text = t }
 of_kind kinds.Text t = string_of t
 
--- the scalar that a plain text stands for (YAML 1.2.2, section 10.3.2)
+-- the scalar that a plain text means (YAML 1.2.2, section 10.3.2)
 abbrev pub plain_of : List ℕ → ScalarText
 plain_of t = of_kind (resolve t) t

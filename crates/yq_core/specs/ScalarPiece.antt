@@ -1,4 +1,4 @@
--- Pieces that were given for a text, and what they stand for.
+-- Pieces that were given for a text, and what they mean.
 use Rattle.std.specs.Prelude.{ℕ, ◌-◌, ◌⊎◌, List, take, drop, ℤ, IsCharBoundary}
 use Rattle.yq_core.{specs.declared.piece.Piece.Piece, specs.declared.style.Style.Style, specs.declared.style.Place.Place}
 use Rattle.yq_core.{specs.Block.IsBlockScalar, specs.ContentReading.{plain_content, quoted_content}, specs.Piece.IsPlainPiece}
@@ -24,11 +24,11 @@ pub record IsInlineScalar (text : List ℕ) (p : Piece) : Type 0 where
   pub begins : IsCharBoundary text p.start
   pub piece : IsPlainScalar text p ⊎ IsQuotedScalar text p
 
--- what stands between the start and the end of a piece (own)
+-- what is between the start and the end of a piece (own)
 abbrev pub piece_text : List ℕ → Piece → List ℕ
 piece_text text p = take (p.end - p.start) (drop p.start text)
 
--- what a piece of the text stands for, by its style (YAML 1.2.2, sections 7.3 and 8.1)
+-- what a piece of the text means, by its style (YAML 1.2.2, sections 7.3 and 8.1)
 abbrev pub piece_string : Style → List ℕ → Piece → List ℕ
 piece_string styles.Plain text p = plain_content (piece_text text p)
 piece_string styles.Single text p = quoted_content (piece_text text p)
@@ -36,6 +36,6 @@ piece_string styles.Double text p = quoted_content (piece_text text p)
 piece_string styles.Literal text p = blocks.block_piece_content text p
 piece_string styles.Folded text p = blocks.block_piece_content text p
 
--- what a piece of the text stands for (YAML 1.2.2, sections 7.3 and 8.1)
+-- what a piece of the text means (YAML 1.2.2, sections 7.3 and 8.1)
 abbrev pub piece_content : List ℕ → Piece → List ℕ
 piece_content text p = piece_string p.style text p

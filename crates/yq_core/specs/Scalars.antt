@@ -30,10 +30,10 @@ begins_scalar flow t = is_quoted t || begins_plain flow t
 abbrev pub scalar_style : List ℕ → Style
 scalar_style p = if front (λ b. b == 39) p then styles.Single else (if front (λ b. b == 34) p then styles.Double else styles.Plain)
 
--- the text that a scalar, as it is written, stands for (YAML 1.2.2, section 7.3)
+-- the text that a scalar, as it is written, means (YAML 1.2.2, section 7.3)
 unfoldable pub scalar_content : List ℕ → List ℕ
 scalar_content p = if is_quoted p then quoted_content p else plain_content p
 
--- the scalar that it stands for: in quotes a string (YAML 1.2.2, section 10.3.2)
+-- the scalar that it means: in quotes a string (YAML 1.2.2, section 10.3.2)
 unfoldable pub scalar_of : List ℕ → ScalarText
 scalar_of p = if is_quoted p then string_of (quoted_content p) else plain_of (plain_content p)

@@ -12,7 +12,7 @@ null_words = codes "null" ∷ codes "Null" ∷ codes "NULL" ∷ codes "~" ∷ []
 abbrev pub bool_words : List (List ℕ)
 bool_words = codes "true" ∷ codes "True" ∷ codes "TRUE" ∷ codes "false" ∷ codes "False" ∷ codes "FALSE" ∷ []
 
--- the words for infinity, behind a sign or none (10.3.2)
+-- the words for infinity, after a sign or none (10.3.2)
 abbrev pub infinity_words : List (List ℕ)
 infinity_words = codes ".inf" ∷ codes ".Inf" ∷ codes ".INF" ∷ []
 

@@ -19,7 +19,7 @@ is_true_word t = bytes_eq t (codes "true") || bytes_eq t (codes "True") || bytes
 abbrev pub is_digit : ℕ → ℕ → Bool
 is_digit base b = nat_lt (digit_value b) base
 
--- the text behind the digits that it begins with (own)
+-- the text after the digits that it begins with (own)
 abbrev pub past_digits : ℕ → List ℕ → List ℕ
 past_digits base t = drop (prefix_len (is_digit base) t) t
 
@@ -27,7 +27,7 @@ past_digits base t = drop (prefix_len (is_digit base) t) t
 abbrev pub are_digits : ℕ → List ℕ → Bool
 are_digits base t = not (is_empty t) && is_empty (past_digits base t)
 
--- the text behind its sign (own)
+-- the text after its sign (own)
 abbrev pub past_sign : List ℕ → List ℕ
 past_sign [] = []
 past_sign (b ∷ bs) = if b == 43 || b == 45 then bs else b ∷ bs
@@ -37,7 +37,7 @@ abbrev pub has_base : ℕ → List ℕ → Bool
 has_base letter (a ∷ b ∷ t) = a == 48 && b == letter
 has_base letter _ = false
 
--- the number of an octal or hexadecimal int, by the digits behind its letter (own)
+-- the number of an octal or hexadecimal int, by the digits after its letter (own)
 abbrev pub based_number : ℕ → List ℕ → Option ℤ
 based_number base digits = if are_digits base digits then Some (pos (digits_value base digits)) else None
 
@@ -94,7 +94,7 @@ ends_number some [] = some
 ends_number some (b ∷ bs) =
     if b == 46 then ((some || front_digit bs) && is_exponent (past_digits 10 bs)) else (some && is_exponent (b ∷ bs))
 
--- whether the text behind its sign is a number (own)
+-- whether the text after its sign is a number (own)
 abbrev pub is_number : List ℕ → Bool
 is_number t = ends_number (front_digit t) (past_digits 10 t)
 

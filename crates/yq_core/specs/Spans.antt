@@ -15,7 +15,7 @@ HasKeySpan t None = ⊤
 HasKeySpan t (Some k) = IsSpan t k.1.start k.1.end
 
 abbrev mutual
-  -- A node is a span from its anchor on, and behind that, and so are its parts (own).
+  -- A node is a span from its anchor on, and after that, and so are its parts (own).
   pub HasSpans : List ℕ → Placed → Type 0
   HasSpans t (placed a s c e f) = IsSpan t s c × IsSpan t c e × ContentHasSpans t f
 
@@ -42,7 +42,7 @@ abbrev mutual
   pub IsNested : Placed → Type 0
   IsNested (placed a s c e f) = LiesInside c e f
 
-  -- a content that goes from one place to another: a scalar's piece is all of it, and the items or entries of a collection stand behind its
+  -- a content that goes from one place to another: a scalar's piece is all of it, and the items or entries of a collection come after its
   -- bracket (YAML 1.2.2, section 7.4)
   pub LiesInside : ℕ → ℕ → CoreNode → Type 0
   LiesInside from to nothing = ⊤
@@ -51,7 +51,7 @@ abbrev mutual
   LiesInside from to (sequence parts) = LieInside (suc from) to parts
   LiesInside from to (mapping parts) = LieInside (suc from) to parts
 
-  -- items or entries, each behind the one before it and nested in itself; behind the last one stands the closing bracket (YAML 1.2.2, section 7.4)
+  -- items or entries, each after the one before it and nested in itself; after the last one is the closing bracket (YAML 1.2.2, section 7.4)
   pub LieInside : ℕ → ℕ → Parts → Type 0
   LieInside from to end = from < to
   LieInside from to (part key n parts) = (from ≤ entry_start (key, n)) × IsBefore key n × IsNested n × LieInside (end_of n) to parts

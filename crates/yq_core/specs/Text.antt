@@ -14,7 +14,7 @@ feed = 10
 abbrev pub is_feed : ℕ → Bool
 is_feed b = b == 10
 
--- CR, which stands before LF alone (YAML 1.2.2, section 5.4)
+-- CR, which comes before LF alone (YAML 1.2.2, section 5.4)
 abbrev pub is_return : ℕ → Bool
 is_return b = b == 13
 
@@ -117,7 +117,7 @@ abbrev pub joined : List (List ℕ) → List ℕ
 joined [] = []
 joined (p ∷ ps) = p ++ joined ps
 
--- a line with its break: an LF stands at its end and nowhere else (own)
+-- a line with its break: an LF is at its end and nowhere else (own)
 unfoldable pub is_line : List ℕ → Bool
 is_line [] = false
 is_line (b ∷ bs) = if is_feed b then is_empty bs else is_line bs

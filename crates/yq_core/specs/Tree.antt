@@ -1,18 +1,18 @@
--- The tree that a document stands for.
+-- The tree that a document means.
 use Rattle.std.specs.Prelude.{ℕ, List, [], Option, None}
 use Rattle.yq_core.specs.declared.kind.Kind.{Kind}
 
--- what is told of an item or entry: its key, which an item has not, and its comments (YAML 1.2.2, section 3.2.2; own)
+-- what is known of an item or entry: its key, which an item has not, and its comments (YAML 1.2.2, section 3.2.2; own)
 pub record Label : Type 0 where
   pub key : Option (List ℕ)
   pub head_comment : List (List ℕ)
   pub line_comment : Option (List ℕ)
 
--- what is told of an item or entry without comments: its key, if it has one (own)
+-- what is known of an item or entry without comments: its key, if it has one (own)
 abbrev pub key_label : Option (List ℕ) → Label
 key_label k = record { key = k; head_comment = []; line_comment = None }
 
--- what is told of a node that has no key and no comments: an item, or a root (own)
+-- what is known of a node that has no key and no comments: an item, or a root (own)
 abbrev pub plain_label : Label
 plain_label = record { key = None; head_comment = []; line_comment = None }
 

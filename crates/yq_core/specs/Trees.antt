@@ -1,4 +1,4 @@
--- The tree that an inline node stands for (YAML 1.2.2, section 3.2.1).
+-- The tree that an inline node means (YAML 1.2.2, section 3.2.1).
 use Rattle.std.specs.Prelude.{ℕ, ◌==◌, List, Option, Some, None, if◌then◌else◌}
 use Rattle.yq_core.{specs.declared.piece.Piece.Piece, specs.Scalar.{ScalarText, null}, specs.Tree.{Children, key_label}}
 use Rattle.yq_core.specs.Nodes.{Key, bare, keyed, FlowNode, empty, alias, scalar, coll, anchored, Items, none, item}
@@ -26,7 +26,7 @@ abbrev pub with_anchor_name : Option (List ℕ) → tree.Node → tree.Node
 with_anchor_name None n = n
 with_anchor_name (Some a) n = with_name a n
 
--- what a key stands for, if there is one (YAML 1.2.2, section 7.4.2)
+-- what a key means, if there is one (YAML 1.2.2, section 7.4.2)
 abbrev pub key_content : Key → Option (List ℕ)
 key_content bare = None
 key_content (keyed p before gap) = Some (scalar_content p)
@@ -45,7 +45,7 @@ unfoldable mutual
   items_tree none = tree.none
   items_tree (item key n sep is) = tree.child (key_label (key_content key)) (tree_of n) (items_tree is)
 
--- the content of a key that stands with its piece, if there is one (own)
+-- the content of a key that is with its piece, if there is one (own)
 abbrev pub unplaced_key : Option (List ℕ × Piece) → Option (List ℕ)
 unplaced_key None = None
 unplaced_key (Some k) = Some k.0
@@ -55,7 +55,7 @@ abbrev mutual
   pub placed_tree : Placed → tree.Node
   placed_tree (placed a s c e f) = with_anchor_name a (content_tree f)
 
-  -- the tree of what stands behind an anchor (own)
+  -- the tree of what comes after an anchor (own)
   pub content_tree : CoreNode → tree.Node
   content_tree nothing = scalar_node null
   content_tree (name n) = tree.alias n
@@ -76,7 +76,7 @@ node_anchor (scalar p) = None
 node_anchor (coll close gap items) = None
 node_anchor (anchored n gap node) = Some n
 
--- what an inline node spells behind its anchor, if anything stands there (YAML 1.2.2, sections 3.2.1 and 7.2)
+-- what an inline node spells after its anchor, if anything is there (YAML 1.2.2, sections 3.2.1 and 7.2)
 abbrev pub node_head : FlowNode → Option tree.Node
 node_head empty = None
 node_head (alias n) = Some (tree_of (alias n))

@@ -4,7 +4,7 @@ use Rattle.std.{specs.List.flat_map, specs.Str.chars}
 use Rattle.yq_core.{specs.declared.style.Style.Style, specs.Characters.is_text_char}
 use Rattle.yq_core.specs.declared.style.Style.TheVariants as styles
 
--- each character that is written as a letter behind a backslash, behind its letter (own)
+-- each character that is written as a letter after a backslash, after its letter (own)
 abbrev pub written_letters : List (ℕ × ℕ)
 written_letters =
     (34, 34) ∷ (92, 92) ∷ (48, 0) ∷ (97, 7) ∷ (98, 8) ∷ (116, 9) ∷ (110, 10) ∷ (118, 11) ∷ (102, 12) ∷ (114, 13)
@@ -19,7 +19,7 @@ letter_of c (entry ∷ entries) = if c == entry.1 then Some entry.0 else letter_
 abbrev pub upper : ℕ → ℕ
 upper d = if nat_lt d 10 then 48 + d else 55 + d
 
--- the digits behind `\x`, or behind `\u`, of a character (5.7)
+-- the digits after `\x`, or after `\u`, of a character (5.7)
 abbrev pub two_digits : ℕ → List ℕ
 two_digits c = upper (c / 16 % 16) ∷ upper (c % 16) ∷ []
 
@@ -31,7 +31,7 @@ four_digits c = upper (c / 4096 % 16) ∷ upper (c / 256 % 16) ∷ two_digits c
 abbrev pub code_escape : ℕ → List ℕ
 code_escape c = if nat_lt c 256 then 92 ∷ 120 ∷ two_digits c else 92 ∷ 117 ∷ four_digits c
 
--- a character behind its letter, or as it is where a text may hold it, or by its number (own)
+-- a character after its letter, or as it is where a text may hold it, or by its number (own)
 abbrev pub double_by : Option ℕ → ℕ → List ℕ
 double_by (Some letter) c = 92 ∷ letter ∷ []
 double_by None c = if is_text_char c then encode_utf8 c else code_escape c

@@ -9,20 +9,20 @@ use crate::{FaultKind, Style, is_blank, is_line, is_white, line_len, past_white}
 /// How the breaks of a block scalar are read.
 #[derive(Clone, Copy, PartialEq, Eq)]
 pub enum BlockStyle {
-    /// As they are, behind `|`.
+    /// As they are, after `|`.
     Literal,
-    /// Folded, behind `>`.
+    /// Folded, after `>`.
     Folded,
 }
 
 /// What becomes of the breaks at the end.
 #[derive(Clone, Copy, PartialEq, Eq)]
 pub enum Chomping {
-    /// They go, behind `-`.
+    /// They go, after `-`.
     Strip,
     /// The last line's stays.
     Clip,
-    /// They stay, behind `+`.
+    /// They stay, after `+`.
     Keep,
 }
 
@@ -91,7 +91,7 @@ pub fn keeps(chomping: Chomping) -> bool
     matches!(chomping, Chomping::Keep)
 }
 
-/// Whether a line may stand behind the indicators.
+/// Whether a line may come after the indicators.
 fn is_tail(line: &[u8]) -> bool
     ensures { result ≡ spec.is_tail line.now }
 {

@@ -1,4 +1,4 @@
-//! The lines of a block scalar, and what may stand behind them (YAML 1.2.2, sections 8.1.1 and 8.1.2).
+//! The lines of a block scalar, and what may come after them (YAML 1.2.2, sections 8.1.1 and 8.1.2).
 ghost use Rattle.std.specs.Prelude.{◌≡◌, true, IfErr};
 ghost use Rattle.yq_core.{specs.Answers.ReadsAs, specs.Text.text_lines};
 ghost use Rattle.yq_core.specs.Block as spec;
@@ -27,7 +27,7 @@ fn is_empty_at(keep: bool, indent: TextIndent, line: &[u8]) -> bool
     is_empty_line(indent, line) && (!keep || is_line(line))
 }
 
-/// A line with a character behind the indentation.
+/// A line with a character after the indentation.
 fn is_text_line(indent: TextIndent, line: &[u8]) -> bool
     ensures { result ≡ spec.is_text_line indent line.now }
 {
@@ -41,7 +41,7 @@ fn is_text_at(indent: TextIndent, line: &[u8]) -> bool
     is_text_line(indent, line) && is_line(line)
 }
 
-/// A line with a character, no tab, behind fewer spaces than the indentation has.
+/// A line with a character, no tab, after fewer spaces than the indentation has.
 fn is_less_indented(indent: TextIndent, line: &[u8]) -> bool
     ensures { result ≡ spec.is_less_indented indent line.now }
 {

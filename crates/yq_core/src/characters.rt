@@ -23,7 +23,7 @@ pub fn has_text_chars(text: &str) -> bool
     text.chars().all(|c| is_text_char(c))
 }
 
-/// Whether each byte stands in characters alone that a text may hold.
+/// Whether each byte is in characters alone that a text may hold.
 fn has_text_bytes(text: &[u8]) -> bool
     ensures { result ≡ list_all spec.is_text_byte text.now }
 {

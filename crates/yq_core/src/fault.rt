@@ -17,19 +17,19 @@ pub enum FaultKind {
     Directive,
     /// A tag.
     Tag,
-    /// A key behind `? `.
+    /// A key after `? `.
     ExplicitKey,
     /// A plain key `<<`.
     MergeKey,
     /// An absent, too long or otherwise impossible key.
     BadKey,
-    /// A row at a column where none may stand.
+    /// A row at a column where none may be.
     BadIndent,
     /// An unclosed or otherwise impossible scalar.
     BadScalar,
     /// An unclosed or otherwise impossible flow collection.
     BadFlow,
-    /// A block scalar header that is none, or that stands where none may.
+    /// A block scalar header that is none, or that is where none may.
     BadBlockHeader,
     /// A key that its mapping has already.
     DuplicateKey,
@@ -49,10 +49,11 @@ pub enum FaultKind {
     CarriageReturn,
 }
 
-/// A fault, and the line, counted from 1, on which the construct at fault begins.
+/// A fault, where in the text the construct at fault begins, in bytes, and its line, counted from 1.
 #[derive(Clone, Copy, PartialEq, Eq)]
 pub struct ReadFault {
     pub kind: FaultKind,
+    pub at: usize,
     pub line: NonZeroU64,
 }
 

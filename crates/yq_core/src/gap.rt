@@ -1,4 +1,4 @@
-//! What stands between two tokens of a flow collection.
+//! What is between two tokens of a flow collection.
 ghost use Rattle.std.specs.Prelude.{◌≡◌, ◌∷◌, ◌≤◌, length};
 ghost use Rattle.yq_core.specs.declared.gap.GapPlace.TheVariants.{Token as token};
 ghost use Rattle.yq_core.specs.Gaps as spec;
@@ -6,7 +6,7 @@ ghost use Rattle.yq_core.specs.Reading as reading;
 
 use crate::text::is_space;
 
-/// What stands before the next byte.
+/// What comes before the next byte.
 #[derive(Clone, Copy)]
 pub enum GapPlace {
     /// A token.
@@ -31,7 +31,7 @@ fn goes(before: GapPlace, first: u8, text: &[u8], after: &[u8]) -> bool
     }
 }
 
-/// What stands before the byte behind this one.
+/// What comes before the byte after this one.
 fn next(before: GapPlace, first: u8) -> GapPlace
     ensures { result ≡ spec.next_gap_place before first }
 {

@@ -6,11 +6,11 @@ use crate::{Piece, Scalar};
 #[derive(Drop)]
 #[cycle(inline)]
 pub struct Inline<'t> {
-    /// The name behind `&`.
+    /// The name after `&`.
     pub anchor: Option<&'t str>,
     /// Where the node begins, with its anchor.
     pub start: usize,
-    /// Where what stands behind the anchor begins.
+    /// Where what comes after the anchor begins.
     pub content: usize,
     /// Where the node ends.
     pub end: usize,

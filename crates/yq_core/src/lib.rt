@@ -1,6 +1,6 @@
 //! What texts of YAML are made of: characters and lines, plain, quoted and block scalars, the core schema,
 //! and inline nodes.
-//! The tree that a document stands for, with paths in it and values.
+//! The tree that a document means, with paths in it and values.
 #![tactic(auto)]
 
 pub mod block_header;
@@ -8,6 +8,7 @@ pub mod block_lines;
 mod block_types;
 pub mod characters;
 mod fault;
+pub mod fault_place;
 mod gap;
 mod inline;
 mod kind;

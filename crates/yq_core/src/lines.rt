@@ -35,7 +35,7 @@ pub fn is_line(line: &[u8]) -> bool
     end < line.len() && end + 1 == line.len()
 }
 
-/// The text cut behind the line in front and its break.
+/// The text cut after the line in front and its break.
 pub fn split_line(text: &str) -> (&str, &str)
     ensures { (result.0.now, result.1.now) ≡ spec.cut_line text.now }
 {

@@ -1,10 +1,10 @@
-//! Where a scalar stands in a text.
+//! Where a scalar is in a text.
 ghost use Rattle.std.specs.Prelude.{◌≡◌};
 ghost use Rattle.yq_core.specs.Piece as spec;
 
 use crate::style::{Place, Style};
 
-/// Where a scalar stands in a text, and how it is written, by offsets in bytes. A block scalar has its
+/// Where a scalar is in a text, and how it is written, by offsets in bytes. A block scalar has its
 /// header from `start` to `head_end` and its raw lines from `raw_start` to `end`; `indent` is the
 /// indentation of its text, in columns, and `keep` tells a `+` in its header. In a piece of another
 /// style `head_end` and `raw_start` are `end`, `indent` is 0 and `keep` is false.

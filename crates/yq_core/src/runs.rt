@@ -8,13 +8,13 @@ use std::simd::prelude::*;
 /// What a run is made of.
 #[derive(Clone, Copy)]
 pub enum Run {
-    /// Bytes that stand in characters of a text alone.
+    /// Bytes that are in characters of a text alone.
     Text,
     /// Spaces.
     Spaces,
     /// Bytes at which no plain scalar ends, whatever follows them.
     Plain,
-    /// Bytes that stand for themselves between such quotes.
+    /// Bytes that mean themselves between such quotes.
     Quoted(u8),
 }
 
@@ -93,7 +93,7 @@ fn stops(run: Run, v: u8x16) -> u64
     }
 }
 
-/// How many of sixteen lanes stand before the first one of these bits.
+/// How many of sixteen lanes come before the first one of these bits.
 #[inline(always)]
 fn first_set(bits: u64) -> usize
     ensures { result ≡ spec.first_set bits }

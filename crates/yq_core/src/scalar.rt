@@ -28,7 +28,7 @@ impl Model for Scalar {
 }
 
 impl Scalar {
-    /// The scalar that a plain text stands for.
+    /// The scalar that a plain text means.
     pub fn plain(alloc: Global, text: &str) -> Result<Self, AllocError>
         ensures { IfOk result (λ s. s ≡ spec.plain_of text.now) }
     {

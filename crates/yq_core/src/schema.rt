@@ -122,7 +122,7 @@ fn front_digit(text: &[u8]) -> bool
     }
 }
 
-/// The text behind its sign, if it has one.
+/// The text after its sign, if it has one.
 pub(crate) fn past_sign(text: &[u8]) -> &[u8]
     ensures { result.now ≡ spec.past_sign text.now }
 {

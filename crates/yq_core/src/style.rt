@@ -15,7 +15,7 @@ pub enum Style {
     Folded,
 }
 
-/// Where a scalar stands.
+/// Where a scalar is.
 #[derive(Clone, Copy)]
 pub enum Place {
     /// As a node outside flow collections.

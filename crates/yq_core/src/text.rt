@@ -1,4 +1,4 @@
-//! What stands in front of a text.
+//! What is in front of a text.
 ghost use Rattle.std.{specs.List.prefix_len, specs.Prelude.{◌≡◌, ◌==◌, ◌≤◌, length}};
 ghost use Rattle.yq_core.{specs.PlainText.begins_marker, specs.Text.cut};
 ghost use Rattle.yq_core.specs.Lines as lines_spec;
@@ -86,7 +86,7 @@ pub fn past_white(text: &[u8]) -> &[u8]
     text.split_at(whites_len(text)).1
 }
 
-/// The text cut behind the spaces in front.
+/// The text cut after the spaces in front.
 #[tactic(auto, using(crate::proofs::Upto::upto_unless, crate::proofs::Boundaries::boundary_spaces))]
 pub fn split_spaces(text: &str) -> (&str, &str)
     ensures { (result.0.now, result.1.now) ≡ cut spec.no_space text.now }
@@ -94,7 +94,7 @@ pub fn split_spaces(text: &str) -> (&str, &str)
     text.split_at(spaces_len(text.as_bytes()))
 }
 
-/// The text cut behind the white space in front.
+/// The text cut after the white space in front.
 #[tactic(auto, using(crate::proofs::Upto::upto_unless))]
 pub fn split_white(text: &str) -> (&str, &str)
     ensures { (result.0.now, result.1.now) ≡ cut spec.no_white text.now }
@@ -102,7 +102,7 @@ pub fn split_white(text: &str) -> (&str, &str)
     text.split_at(whites_len(text.as_bytes()))
 }
 
-/// What stands behind the spaces in front.
+/// What comes after the spaces in front.
 pub fn behind_spaces(line: &[u8]) -> &[u8]
     ensures { result.now ≡ lines_spec.behind_spaces line.now }
 {

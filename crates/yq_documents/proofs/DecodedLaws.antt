@@ -22,7 +22,7 @@ none_above : (n : ℕ) (ms : List Decoded) (row : ℕ) → Rise n ms → row < n
 none_above n [] row r less = refl
 none_above n (m ∷ ms) row r less = none_above (suc m.row) ms row r.1 (omega (arith, less, r.0)) ∙ sym (cond-false _ (Some m) (decoded_at row ms) (ne_eqb row m.row (λ e. omega (arith, e, less, r.0))))
 
--- what stands where the search ends is made of the row, or nothing is
+-- what is where the search ends is made of the row, or nothing is
 pub decoded_found : (ms : List Decoded) (row at : ℕ) (m : Decoded) → IsPartitionPoint (λ x. ltb x.row row ≡ true) (λ x. ltb x.row row ≡ false) ms at → slice_get ms at ≡ Some m → m.row ≡ row → Some m ≡ decoded_at row ms
 decoded_found [] row at m h e is = absurd (cc)
 decoded_found (x ∷ ms) row zero m h e is =

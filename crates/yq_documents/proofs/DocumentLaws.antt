@@ -1,4 +1,4 @@
--- Documents, read from parts and told by them.
+-- Documents, read from parts and given by them.
 use Rattle.std.proofs.Common.{◌≡◌, List, [], ◌∷◌, map, Bool, true, ◌&&◌, refl, sym, rules}
 use Rattle.std.{proofs.lemmas.Bool.{and_parts, and_from, leb-true, le-leb, cond-true}, proofs.lemmas.Option.cond_some, specs.List.list_all}
 use Rattle.yq_core.specs.Tree.{Node}
@@ -19,7 +19,7 @@ is_root : (ls : List Line) (node : Node) → IsRoot ls node → (is_fine (group 
 is_root [] node h = (refl, sym h)
 is_root (l ∷ ls) node h = cond_some (is_fine (group (l ∷ ls))) (value (group (l ∷ ls))) node (stand-complete (l ∷ ls) node h.0 (rules_give h.0 (l ∷ ls) node h.1))
 
--- what the tests of a document are, one behind the other
+-- what the tests of a document are, one after the other
 abbrev Tests : Bool → Bool → Bool → Bool → Bool → Type 0
 Tests a b c d e = (a ≡ true) × (b ≡ true) × (c ≡ true) × (d ≡ true) × (e ≡ true)
 

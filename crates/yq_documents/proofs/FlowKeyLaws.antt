@@ -24,7 +24,7 @@ past_key : (whole : List ℕ) (key : Key) (t : List ℕ) → EndsIn whole (key_t
 past_key whole bare t h = h
 past_key whole (keyed p b g) t h = past whole g t (past whole (58 ∷ []) (g ++ t) (past whole b (58 ∷ (g ++ t)) (past whole p (b ++ (58 ∷ (g ++ t))) h)))
 
--- a key stands where its place says
+-- a key is where its place says
 piece_there : (whole p rest : List ℕ) → EndsIn whole (p ++ rest) → take (length whole - length (p ++ rest) + length p - (length whole - length (p ++ rest))) (drop (length whole - length (p ++ rest)) whole) ≡ p
 piece_there whole p rest h =
     let long : length whole ≡ length h.0 + length (p ++ rest) = ap length h.1 ∙ length-append h.0 (p ++ rest) in
@@ -67,7 +67,7 @@ mutual
       let three = items_there whole k is rest (past_sep whole s behind (past_node whole n (sep_text s behind) at_node)) in
       λ i. one i && (two i && three i)
 
--- an entry of the code is one of those that stand
+-- an entry of the code is one of those that are
 pub entry_stands : (t : List ℕ) (xs : List (String Global × Piece × Inline)) (i : ℕ) (x : String Global × Piece × Inline) → i < length xs → x ≡ get_or xs i x → PartsHaveSpans t (entries_end (drop i xs)) → HasSpans t (inline_view x.2)
 entry_stands t xs i x within is h =
     let e : drop i xs ≡ x ∷ drop (i + 1) xs = drop_more xs i x within ∙ ap (λ y. y ∷ drop (i + 1) xs) (sym is) in

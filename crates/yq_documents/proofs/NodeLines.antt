@@ -1,4 +1,4 @@
--- What lines of documents begin with, and the nodes that they stand for.
+-- What lines of documents begin with, and the nodes that they mean.
 use Rattle.std.{proofs.Common.{◌≡◌, ℕ, List, true, false, not, refl, sym}, proofs.lemmas.Bool.false≢true}
 use Rattle.yq_core.{specs.Paths.is_item, specs.Tree.none}
 use Rattle.yq_outline.specs.Ends.{has_no_lines}

@@ -1,4 +1,4 @@
--- Documents by the numbers of their parts, and where parts stand.
+-- Documents by the numbers of their parts, and where parts are.
 use Rattle.std.proofs.Common.{◌≡◌, ℕ, zero, suc, ◌+◌, ◌-◌, ◌<◌, ◌≤◌, eqb, List, [], ◌∷◌, ◌++◌, length, drop, Option, Some, None, option_map}
 use Rattle.std.proofs.Common.{Bool, true, false, cond, ◌&&◌, ◌||◌, not, refl, sym, ap, ◌∙◌, arith, append-nil, length-append}
 use Rattle.std.{proofs.Math.Seq.drop-append-add, proofs.lemmas.Bool.{eq-eqb, eqb-true, false≢true}, proofs.lemmas.Option.same_Some}
@@ -73,7 +73,7 @@ document_missing c n e = go (slice_get (document_parts c) n) e
 
 -- ---- the rows of parts
 
--- those of part i stand behind those before it
+-- those of part i come after those before it
 pub rows_there : (i : ℕ) (c : Cut) → (more : List Row) × (drop (rows_to i c) (rows_of c) ≡ (nth_part i c).rows ++ more)
 rows_there i (last p) = ([], sym (append-nil p.rows))
 rows_there zero (marked p marker c) = (rows_of c, refl)

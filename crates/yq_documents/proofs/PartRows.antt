@@ -11,7 +11,7 @@ use Rattle.yq_documents.{specs.Documents.document_parts, specs.Reading.{all_docu
 use Rattle.yq_documents.{specs.PartNumbers.part_number, specs.LinesInRows.document_row}
 use Rattle.yq_documents.proofs.PartNumberLaws.{part_there, rows_there, rows_within}
 
--- a document's rows stand among those of a cut, behind so many others
+-- a document's rows are among those of a cut, after so many others
 pub part_begins : (c : Cut) (n : ℕ) (p : Part) → slice_get (document_parts c) n ≡ Some p → (more : List Row) × (drop (document_row n c) (rows_of c) ≡ p.rows ++ more)
 part_begins c n p at = let b = rows_there (part_number n c) c in (b.0, b.1 ∙ ap (λ (x : Part). x.rows ++ b.0) (part_there c n p at))
 
@@ -34,7 +34,7 @@ has_part [] i h = absurd (omega (arith, h))
 has_part (x ∷ ps) zero h = (x, refl)
 has_part (x ∷ ps) (suc i) h = has_part ps i (omega (arith, h))
 
--- the rows of a document stand among those of its cut
+-- the rows of a document are among those of its cut
 pub rows_stand : (t : List ℕ) (s : RowsView) (c : Cut) (n : ℕ) (p : Part) (d : Stretch) → IsCut t c → s ≡ rows_view c → slice_get (document_parts c) n ≡ Some p → d.first ≡ document_row n c → d.end ≡ document_row n c + length p.rows →
     (h : HasRows s d) × ((h.rows ≡ p.rows) × (h.rows ≡ take (d.end - d.first) (drop d.first (rows_of c))))
 rows_stand t s c n p d cut is at first end =

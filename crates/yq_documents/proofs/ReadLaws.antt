@@ -8,7 +8,7 @@ use Rattle.yq_documents.specs.Documents.{Document, document_parts, ReadsDocument
 use Rattle.yq_documents.specs.Reading.{documents, all_documents, checked, checked_at, read_at, cut_or, cut_of}
 use Rattle.yq_documents.proofs.DocumentLaws.{documents_take, documents_again}
 
--- a text and its cut, whose parts stand for documents
+-- a text and its cut, whose parts mean documents
 pub text_takes : (t : List ℕ) (c : Cut) → checked_at t ≡ Some c → IsCut t c × (all_documents c ≡ true)
 unfolding checked_at
 text_takes t c e =

@@ -134,7 +134,7 @@ parts_ready shaped law [] heads all i d at = absurd (none-some _ at)
 parts_ready shaped law (p ∷ ps) heads all zero d at = search (rules, part_ready, document_is, and_parts)
 parts_ready shaped law (p ∷ ps) heads all (suc i) d at = parts_ready shaped law ps heads.1 (and_parts (is_document p) (list_all is_document ps) all).1 i d at
 
--- A cut whose parts stand for documents.
+-- A cut whose parts mean documents.
 pub cut_ready : ShapedByLines → ShapedIsTree → (t : List ℕ) → IsCut t (cut_of t) → all_documents (cut_of t) ≡ true → TextIsReady t
 cut_ready shaped law t h all i d at = parts_ready shaped law (document_parts (cut_of t)) (parts_shaped true _ (cut_of t) h.parts) all i d at
 

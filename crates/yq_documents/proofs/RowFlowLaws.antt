@@ -1,4 +1,4 @@
--- The alias or flow collection in a row's head stands where its pieces say.
+-- The alias or flow collection in a row's head is where its pieces say.
 use Rattle.std.proofs.Common.{◌≡◌, ℕ, ℤ, ◌-◌, true, false, not, List, [], ◌∷◌, ◌++◌, length, Some, None, refl, sym, ap, ◌∙◌, ⊎_elim}
 use Rattle.std.{proofs.Common.{append-nil, subst}, proofs.lemmas.Bool.{false≢true, cases_Bool}}
 use Rattle.yq_core.{specs.Answers.◌>>=◌, specs.Block.style_indicator, specs.Piece.deeper, specs.Text.is_empty}

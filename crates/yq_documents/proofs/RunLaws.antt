@@ -5,7 +5,7 @@ use Rattle.yq_core.specs.Text.{front, joined, text_lines, past_white}
 use Rattle.yq_outline.specs.Comments.{are_comments, last_comments}
 use Rattle.yq_documents.{specs.Pieces.{before_run, last_run}, specs.Texts.texts, proofs.CommentLaws.all_texts}
 
--- some lines, if all lines behind them are comments, else the run that ends those
+-- some lines, if all lines after them are comments, else the run that ends those
 abbrev pub run_or : List (List ℕ) → List (List ℕ) → List (List ℕ)
 run_or run rest = cond (are_comments rest) run (last_run rest)
 

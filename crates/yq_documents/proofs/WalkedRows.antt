@@ -23,7 +23,7 @@ module _ {t : List ℕ} {n : ℕ} {s : RowsView} {d : Stretch} (x : HasText t n 
   abbrev pub stands : HasRows s d
   stands = (document_in x).0.stand
 
-  -- what is told of the lines of the rows that were walked is so of those of the document
+  -- what is known of the lines of the rows that were walked is so of those of the document
   agrees_lines : (P : List Line → (Position → ℕ) → Type 0) → P (lines_of_rows stands.rows) (line_number d stands.rows) → P (document_lines n t) (number_of n t)
   agrees_lines P p = subst (λ (y : List Row × Stretch). P (lines_of_rows y.0) (line_number y.1 y.0)) (λ i. ((document_in x).1 i, x.place i)) p
 

@@ -42,7 +42,7 @@ decoded_head m head = decoded_or (option_and_then (λ x. option_map head_view x.
 abbrev pub decoded_flow : Option Decoded → Option Placed
 decoded_flow m = option_and_then (λ x. option_and_then head_flow x.head) m
 
--- What row i of a cut of a text so long spells is told by what is made of it and by its pieces (own).
+-- What row i of a cut of a text so long spells is given by what is made of it and by its pieces (own).
 pub record IsDecodedBy (total : ℕ) (c : Cut) (m : Option Decoded) (i : ℕ) (r : Row) : Type 0 where
   pub key : decoded_key m (slices r).key ≡ scalar_content (slices r).key
   pub head : decoded_head m (slices r).head ≡ head_of r.content

@@ -20,7 +20,7 @@ abbrev pub with_part : Bool → Part → List Part → List Part
 with_part true p ps = p ∷ ps
 with_part false p ps = ps
 
--- the parts that are documents: a part behind `---` is one, and one behind `...` is none (9.1)
+-- the parts that are documents: a part after `---` is one, and one after `...` is none (9.1)
 abbrev pub parts_from : Bool → Cut → List Part
 parts_from is (last p) = with_part is p []
 parts_from is (marked p marker c) = with_part is p (parts_from (begins_document marker) c)
@@ -30,12 +30,12 @@ abbrev pub has_begin : Cut → Bool
 has_begin (last p) = false
 has_begin (marked p marker c) = begins_document marker || has_begin c
 
--- rows stand before the first marker (9.1.3)
+-- rows come before the first marker (9.1.3)
 abbrev pub begins_bare : Cut → Bool
 begins_bare (last p) = not (no_rows p.rows)
 begins_bare (marked p marker c) = not (no_rows p.rows)
 
--- The documents of a text: what stands before the first marker is one if it has rows, or if no `---` stands in the text (9.1.3, 9.2; own).
+-- The documents of a text: what comes before the first marker is one if it has rows, or if no `---` is in the text (9.1.3, 9.2; own).
 abbrev pub document_parts : Cut → List Part
 document_parts c = parts_from (begins_bare c || not (has_begin c)) c
 
@@ -105,7 +105,7 @@ abbrev pub HasShortRoot : List Row → Type 0
 HasShortRoot [] = ⊤
 HasShortRoot (r ∷ rs) = is_long_plain r.mark r.content ≡ false
 
--- The rows of a part and the gap behind them are those of a document (8.2, 3.2.1.3, 3.2.2.2; own).
+-- The rows of a part and the gap after them are those of a document (8.2, 3.2.1.3, 3.2.2.2; own).
 pub record IsDocument (p : Part) (d : Document) : Type 0 where
   pub lead : d.lead ≡ lead_of p
   pub root : IsRoot (lines_of_rows p.rows) d.root
@@ -123,7 +123,7 @@ AreDocuments [] (d ∷ ds) = ⊥
 AreDocuments (p ∷ ps) [] = ⊥
 AreDocuments (p ∷ ps) (d ∷ ds) = IsDocument p d × AreDocuments ps ds
 
--- Bytes read as documents: they are UTF-8, and are cut into parts that stand for documents (5.2, 9.2).
+-- Bytes read as documents: they are UTF-8, and are cut into parts that mean documents (5.2, 9.2).
 pub record ReadsDocuments (bytes : List ℕ) (docs : List Document) : Type 0 where
   pub utf8 : is_utf8 bytes ≡ true
   pub parts : Cut

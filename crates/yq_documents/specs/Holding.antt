@@ -6,13 +6,13 @@ use Rattle.yq_documents.{specs.Documents.{document_parts, lead_of}, specs.Decode
 use Rattle.yq_documents.{specs.LinesInRows.document_row, specs.Stretches.document_lines, specs.declared.decoded.Decoded.Decoded}
 use Rattle.yq_documents.specs.declared.documents.DocumentRows.{DocumentRows}
 
--- The rows of document n of a text, and the gap that its lead ends, stand there (own).
+-- The rows of document n of a text, and the gap that its lead ends, are there (own).
 pub record IsLocated (t : List ℕ) (n : ℕ) (p : Part) (d : DocumentRows) : Type 0 where
   pub lead : head_comment d.lead.now ≡ lead_of p
   pub first : d.first ≡ document_row n (cut_of t)
   pub end : d.end ≡ d.first + length p.rows
 
--- A text that reads as documents, by the pieces of its cut, the places of its documents, what is made of its rows, and whether an alias may stand in it (own).
+-- A text that reads as documents, by the pieces of its cut, the places of its documents, what is made of its rows, and whether an alias may be in it (own).
 pub record Holds (t : List ℕ) (s : RowsView) (ds : List DocumentRows) (ms : List Decoded) (refers : Bool) : Type 0 where
   pub cut : IsCut t (cut_of t)
   pub rows : s ≡ rows_view (cut_of t)

@@ -4,11 +4,11 @@ use Rattle.yq_core.specs.declared.piece.Piece.{Piece}
 use Rattle.yq_core.specs.Places.{Placed, placed, CoreNode, nothing, name, text, sequence, mapping, Parts, end, part}
 use Rattle.yq_documents.specs.Reading.{is_fit}
 
--- the key that stands from here to there is fit (own)
+-- the key that is from here to there is fit (own)
 abbrev pub place_fits : List ℕ → Piece → Bool
 place_fits t p = is_fit (take (p.end - p.start) (drop p.start t))
 
--- the key, if there is one, is fit where it stands (own)
+-- the key, if there is one, is fit where it is (own)
 abbrev pub key_place_fits : List ℕ → Option (List ℕ × Piece) → Bool
 key_place_fits t None = true
 key_place_fits t (Some k) = place_fits t k.1

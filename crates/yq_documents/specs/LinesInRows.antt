@@ -8,13 +8,13 @@ use Rattle.yq_documents.{specs.declared.path.Path.Path, specs.Documents.document
 use Rattle.yq_documents.{specs.Located.steps_of, specs.Reading.cut_of}
 use Rattle.yq_outline.{specs.Lines.lines_of_rows, specs.Ends.line_at_steps}
 
--- A line of a row: how many rows stand before that row, the row, and how many of its lines stand before this one (own).
+-- A line of a row: how many rows come before that row, the row, and how many of its lines come before this one (own).
 pub record RowLine : Type 0 where
   pub before : ℕ
   pub row : Row
   pub line : ℕ
 
--- the same behind one more row (own)
+-- the same after one more row (own)
 abbrev pub behind_one : RowLine → RowLine
 behind_one s = record s { before = suc s.before }
 
@@ -23,7 +23,7 @@ abbrev pub row_line : ℕ → List Row → Option RowLine
 row_line n [] = None
 row_line n (r ∷ rs) = if nat_lt (length r.dashes) n then option_map behind_one (row_line (n - suc (length r.dashes)) rs) else Some (record { before = 0; row = r; line = n })
 
--- the line of the entry or item to which steps lead among rows; the root has none, nor has what stands in flow (own)
+-- the line of the entry or item to which steps lead among rows; the root has none, nor has what is in flow (own)
 abbrev pub row_line_of : List Step → List Row → Option RowLine
 row_line_of steps rs = line_at_steps steps (lines_of_rows rs) >>= λ n. row_line n rs
 
@@ -31,7 +31,7 @@ row_line_of steps rs = line_at_steps steps (lines_of_rows rs) >>= λ n. row_line
 abbrev pub row_line_at : Path → Cut → Option RowLine
 row_line_at p c = slice_get (document_parts c) p.doc >>= λ d. row_line_of (steps_of p) d.rows
 
--- whether a line has room for a comment: above it where it begins its row, behind it where it is that of the row's mark (own)
+-- whether a line has room for a comment: above it where it begins its row, after it where it is that of the row's mark (own)
 abbrev pub line_has_room : Part → RowLine → Bool
 line_has_room Content s = false
 line_has_room Entry s = false
@@ -47,6 +47,6 @@ row_line_has_room part (Some s) = line_has_room part s
 abbrev pub has_room : Path → Part → List ℕ → Bool
 has_room p part t = row_line_has_room part (row_line_at p (cut_of t))
 
--- how many rows stand before document n of a cut (own)
+-- how many rows come before document n of a cut (own)
 abbrev pub document_row : ℕ → Cut → ℕ
 document_row n c = rows_to (part_number n c) c

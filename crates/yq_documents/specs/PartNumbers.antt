@@ -18,7 +18,7 @@ part_number k c = number_from (begins_bare c || not (has_begin c)) k c
 abbrev pub document_part : ℕ → Cut → Option ℕ
 document_part k c = option_map (λ p. part_number k c) (slice_get (document_parts c) k)
 
--- how many rows stand before part i of a cut, or before the last one (own)
+-- how many rows come before part i of a cut, or before the last one (own)
 abbrev pub rows_to : ℕ → Cut → ℕ
 rows_to i (last p) = 0
 rows_to zero (marked p marker c) = 0

@@ -13,12 +13,12 @@ abbrev pub some_begin : List Bound → Bool
 some_begin [] = false
 some_begin (b ∷ bs) = begins_document b.marker || some_begin bs
 
--- rows stand before the first marker (own)
+-- rows come before the first marker (own)
 abbrev pub first_rows : List Bound → Bool
 first_rows [] = false
 first_rows (b ∷ bs) = not (b.rows == 0)
 
--- the number of the part that is document n, behind k parts, by whether the next one is a document (own)
+-- the number of the part that is document n, after k parts, by whether the next one is a document (own)
 abbrev pub number_in : Bool → ℕ → ℕ → List Bound → Option ℕ
 number_in is n k [] = None
 number_in true zero k (b ∷ bs) = Some k

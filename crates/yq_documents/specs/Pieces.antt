@@ -1,4 +1,4 @@
--- Pieces of a text: inline nodes, what is written behind a mark, and comments (YAML 1.2.2, 6.6, 7 and 8.1; own).
+-- Pieces of a text: inline nodes, what is written after a mark, and comments (YAML 1.2.2, 6.6, 7 and 8.1; own).
 use Rattle.std.specs.Prelude.{ℕ, ◌+◌, List, [], ◌∷◌, ◌++◌, length, Option, Some, None, if◌then◌else◌, ◌==◌}
 use Rattle.yq_core.{specs.Block.block_text, specs.Text.{is_empty, cut, front, ends_line, joined, text_lines, no_white, past_white}}
 use Rattle.yq_core.specs.Nodes.{FlowNode, empty, alias, scalar, coll, anchored, node_text}
@@ -6,7 +6,7 @@ use Rattle.yq_row_table.{specs.Exchange.HasPieces, specs.Rows.{Content, Nothing,
 use Rattle.yq_documents.specs.declared.path.Span.{Span}
 use Rattle.yq_outline.specs.Comments.{are_comments}
 
--- A piece of a text: the text before it, its own, and the text behind it (own).
+-- A piece of a text: the text before it, its own, and the text after it (own).
 pub record TextPiece : Type 0 where
   pub before : List ℕ
   pub text : List ℕ
@@ -32,7 +32,7 @@ node_piece before (scalar p) behind = Some (record { before = before; text = nod
 node_piece before (coll close gap items) behind = Some (record { before = before; text = node_text (coll close gap items) []; behind = behind })
 node_piece before (anchored name gap node) behind = node_piece (before ++ 38 ∷ (name ++ gap)) node behind
 
--- what is written behind a mark, without an anchor: an inline node (7), or a block scalar from its header to its last raw line (8.1)
+-- what is written after a mark, without an anchor: an inline node (7), or a block scalar from its header to its last raw line (8.1)
 abbrev pub head_piece : List ℕ → Content → List ℕ → Option TextPiece
 head_piece before (Nothing tail) behind = None
 head_piece before (Inline space node tail) behind = node_piece (before ++ space) node (tail ++ behind)

@@ -13,11 +13,11 @@ use Rattle.yq_row_table.specs.Rows as rows
 abbrev pub part_outline : Part → Outline
 part_outline p = group (lines_of_rows p.rows)
 
--- the root node that a part stands for
+-- the root node that a part means
 abbrev pub root_of : Part → Node
 root_of p = value (part_outline p)
 
--- the document that a part stands for, if it stands for one
+-- the document that a part means, if it means one
 abbrev pub part_document : Part → Document
 part_document p = record { lead = lead_of p; root = root_of p }
 
@@ -66,27 +66,27 @@ abbrev pub has_short_root : List Row → Bool
 has_short_root [] = true
 has_short_root (r ∷ rs) = not (is_long_plain r.mark r.content)
 
--- whether a part stands for a document
+-- whether a part means a document
 abbrev pub is_document : Part → Bool
 is_document p = have_fit_keys p.rows && (has_short_root p.rows && (have_one_anchor_each (lines_of_rows p.rows) && (are_bound [] (names_of (root_of p)) && is_sound_outline depth_limit (part_outline p))))
 
--- the documents that the parts of a cut stand for, where each stands for one
+-- the documents that the parts of a cut mean, where each means one
 abbrev pub documents : Cut → List Document
 documents c = map part_document (document_parts c)
 
--- whether the parts of a cut stand for documents
+-- whether the parts of a cut mean documents
 abbrev pub all_documents : Cut → Bool
 all_documents c = list_all is_document (document_parts c)
 
--- a cut whose parts stand for documents
+-- a cut whose parts mean documents
 abbrev pub checked : Cut → Option Cut
 checked c = if all_documents c then Some c else None
 
--- a text, cut into parts that stand for documents
+-- a text, cut into parts that mean documents
 unfoldable pub checked_at : List ℕ → Option Cut
 checked_at text = scan_at text >>= checked
 
--- bytes, which are UTF-8, cut into parts that stand for documents
+-- bytes, which are UTF-8, cut into parts that mean documents
 unfoldable pub read_at : List ℕ → Option Cut
 read_at bytes = if is_utf8 bytes then checked_at bytes else None
 

@@ -39,7 +39,7 @@ string_head t = Some (tree.scalar None Text t)
 abbrev pub block_head_at : ℤ → List ℕ → Option (Option tree.Node)
 block_head_at n t = block_at (deeper n) t >>= λ x. Some (string_head (block_content x.0))
 
--- the head that an inline node is, whose keys are fit where they stand in the text (own)
+-- the head that an inline node is, whose keys are fit where they are in the text (own)
 abbrev pub fit_head : List ℕ → Placed → Option (Option tree.Node)
 fit_head whole p = if node_fits whole p then Some (placed_head p) else None
 

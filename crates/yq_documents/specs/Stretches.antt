@@ -20,7 +20,7 @@ rows_of_document n t = part_rows (slice_get (document_parts (cut_of t)) n)
 abbrev pub document_lines : ℕ → List ℕ → List Line
 document_lines n t = lines_of_rows (rows_of_document n t)
 
--- where the rows of document n stand among those of a text (own)
+-- where the rows of document n are among those of a text (own)
 abbrev pub stretch_of : ℕ → List ℕ → Stretch
 stretch_of n t = record { first = document_row n (cut_of t); end = document_row n (cut_of t) + length (rows_of_document n t) }
 
@@ -28,7 +28,7 @@ stretch_of n t = record { first = document_row n (cut_of t); end = document_row 
 abbrev pub number_of : ℕ → List ℕ → Position → ℕ
 number_of n t q = line_number (stretch_of n t) (rows_of_document n t) q
 
--- a line of document n of a text, or the end behind its rows (own)
+-- a line of document n of a text, or the end after its rows (own)
 abbrev pub IsPositionIn : List ℕ → ℕ → Position → Type 0
 IsPositionIn t n q = IsPosition (rows_view (cut_of t)) (stretch_of n t) q
 
@@ -42,7 +42,7 @@ pub record IsLineIn (t : List ℕ) (n : ℕ) (q : Position) : Type 0 where
 abbrev pub OfLineIn : List ℕ → ℕ → Position → (Line → Type 0) → Type 0
 OfLineIn t n q said = (l : Line) → slice_get (document_lines n t) (number_of n t q) ≡ Some l → said l
 
--- how many lines of document n of a text stand from one on (own)
+-- how many lines of document n of a text are from one on (own)
 abbrev pub count_from : List ℕ → ℕ → Position → ℕ
 count_from t n q = length (document_lines n t) - number_of n t q
 

@@ -20,7 +20,7 @@ fn less_space(text: &str) -> &str
     }
 }
 
-/// The text of the comment behind the white space in front, if there is one.
+/// The text of the comment after the white space in front, if there is one.
 pub fn comment_text(text: &str) -> Option<&str>
     ensures { option_map (λ t. t.now) result ≡ spec.comment_text text.now }
 {

@@ -6,7 +6,7 @@ use yq_outline::Head;
 /// lines, an alias or a flow collection.
 #[derive(Drop)]
 pub struct Decoded<'t> {
-    /// How many rows of the text stand before the row.
+    /// How many rows of the text come before the row.
     pub row: usize,
     pub key: Option<String>,
     pub head: Option<Head<'t>>,

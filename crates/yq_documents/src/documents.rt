@@ -29,7 +29,7 @@ pub struct Documents<'t> {
     rows: Rows<'t>,
     documents: Vec<DocumentRows<'t>>,
     decoded: Vec<Decoded<'t>>,
-    /// Whether an alias may stand in it.
+    /// Whether an alias may be in it.
     refers: bool,
 }
 
@@ -138,7 +138,7 @@ impl<'t> Documents<'t> {
         decoded_at(self.decoded.as_slice(), i)
     }
 
-    /// Whether an alias may stand in it.
+    /// Whether an alias may be in it.
     pub fn may_refer(&self) -> bool
         ensures { result ≡ false → (n : ℕ) →
             list_any is_reference (line_names (document_lines n self.now)) ≡ false }

@@ -20,7 +20,7 @@ fn some_begin(rows: &Rows<'_>) -> bool
     false
 }
 
-/// Whether rows stand before the first marker.
+/// Whether rows come before the first marker.
 fn first_rows(rows: &Rows<'_>) -> bool
     ensures { result ≡ spec.first_rows rows.now.bounds }
 {
@@ -30,7 +30,7 @@ fn first_rows(rows: &Rows<'_>) -> bool
     rows.part(0).rows != 0
 }
 
-/// Whether what stands before the first marker is a document: it has rows, or no `---` is in the text.
+/// Whether what comes before the first marker is a document: it has rows, or no `---` is in the text.
 pub fn first_is_document(rows: &Rows<'_>) -> bool
     ensures { result ≡ (spec.first_rows rows.now.bounds || not (spec.some_begin rows.now.bounds)) }
 {
@@ -44,7 +44,7 @@ fn is_sought(is_document: bool, left: usize) -> bool
     is_document && left == 0
 }
 
-/// How many documents are left before the sought one behind a part.
+/// How many documents are left before the sought one after a part.
 fn left_behind(is_document: bool, left: usize) -> usize
     ensures { result ≡ (if is_document then left - 1 else left) }
 {
@@ -81,7 +81,7 @@ pub fn document_part(rows: &Rows<'_>, i: usize) -> Option<usize>
     number_in(rows, first_is_document(rows), i)
 }
 
-/// How many rows stand before part `i`.
+/// How many rows come before part `i`.
 pub fn rows_to(rows: &Rows<'_>, i: usize) -> usize
     requires { i < length rows.now.bounds }
     ensures { (c : Cut) → rows.now ≡ rows_view c → result ≡ numbers.rows_to i c }

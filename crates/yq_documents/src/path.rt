@@ -2,7 +2,7 @@
 
 use yq_core::Step;
 
-/// Where a node stands: its document, counted from 0, and the steps from the root of that document.
+/// Where a node is: its document, counted from 0, and the steps from the root of that document.
 #[derive(Debug, Drop)]
 pub struct Path {
     pub doc: usize,
@@ -18,7 +18,7 @@ pub enum Part {
     Entry,
     /// The lines of comments before its entry or item.
     HeadComment,
-    /// The comment behind its entry or item, on its line.
+    /// The comment after its entry or item, on its line.
     LineComment,
 }
 

@@ -6,7 +6,7 @@ ghost use Rattle.yq_outline.specs.Names.{is_reference};
 
 use yq_core::{Form, Inline, Piece};
 
-/// Whether an alias stands in an inline node.
+/// Whether an alias is in an inline node.
 #[cycle(refers)]
 pub fn node_refers(node: &Inline<'_>) -> bool
     ensures { result ≡ list_any is_reference (names_of (placed_tree (inline_view node.now))) }

@@ -1,4 +1,4 @@
--- One item or entry more behind a line that has a break.
+-- One item or entry more after a line that has a break.
 use Rattle.std.proofs.Common.{◌≡◌, ℕ, suc, ◌≤◌, true, false, List, [], ◌∷◌, ◌++◌, length, Option, Some, refl, sym, ap, ◌∙◌, subst}
 use Rattle.std.{proofs.Common.{append_assoc, append-nil, replicate}, proofs.lemmas.Bool.false≢true}
 use Rattle.yq_core.{specs.BlockWritten.break_text, specs.Paths.Step, specs.Tree.Node, specs.Text.is_line}
@@ -55,7 +55,7 @@ begins_same : (others : List Row) (r : Row) (a b : List Row) → begins_no_node 
 begins_same [] r a b = row_begins r a b
 begins_same (y ∷ others) r a b = row_begins y ((others ++ (r ∷ [])) ++ a) ((others ++ (r ∷ [])) ++ b)
 
--- ---- behind a line that has a break
+-- ---- after a line that has a break
 
 module _ (doc : ℕ) (steps : List Step) (key : Option (List ℕ)) (v : Node) (c : Cut) (x : CollectionEnd) (read : read_at (cut_text c) ≡ Some c) (at : IsAppendPlace doc steps c x) (g : IsAsked steps key v (p doc steps c x read at)) where
   abbrev l : Layout

@@ -8,7 +8,7 @@ use Rattle.yq_documents.specs.Documents.{HaveFitKeys}
 use Rattle.yq_edit_rules.{specs.Local.InFirst, proofs.ItemsLocal.first_within, specs.BlockPlaces.compact_rows, proofs.BlockLineLaws.BeginAt}
 use Rattle.yq_row_table.specs.Rows as rows
 
--- the first of the rows behind a dash
+-- the first of the rows after a dash
 abbrev pub first_row : Row → List Row → Row
 first_row row [] = row
 first_row row (q ∷ qs) = compact_row 1 row q

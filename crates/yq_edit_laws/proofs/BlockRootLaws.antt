@@ -1,4 +1,4 @@
--- Where the block collection stands that is the root of a document.
+-- Where the block collection is that is the root of a document.
 use Rattle.std.proofs.Common.{◌≡◌, ◌⊎◌, inl, inr, ℕ, List, [], ◌∷◌, ◌++◌, replicate, Some, None, true, false, refl, sym, ap, ◌∙◌, subst}
 use Rattle.std.{proofs.Common.{append_assoc, append-nil}, proofs.lemmas.Bool.false≢true}
 use Rattle.yq_core.{specs.Text.separates, proofs.BlockPieceLaws.{IsLf, append_lf}}

@@ -12,7 +12,7 @@ closed_behind (x ∷ []) [] some = absurd (false≢true (sym some))
 closed_behind (x ∷ []) (y ∷ b) some = refl
 closed_behind (x ∷ (z ∷ a)) b some = closed_behind (z ∷ a) b some
 
--- with a break behind it a text ends in one
+-- with a break after it a text ends in one
 pub closed_end : (a b : List ℕ) → IsLfOrCrLf b → is_closed_text (a ++ b) ≡ true
 unfolding is_closed_text
 closed_end [] b (inl e) = ap is_closed_text e

@@ -1,4 +1,4 @@
--- A collection at a path stands in the head of a line, in flow, or it has lines of its own, in block.
+-- A collection at a path is in the head of a line, in flow, or it has lines of its own, in block.
 use Rattle.std.proofs.Common.{◌≡◌, ◌⊎◌, inl, inr, cond, List, [], ◌∷◌, Option, Some, None, option_map, refl, sym, ap, ◌∙◌, subst}
 use Rattle.std.{proofs.lemmas.Option.{none-some, same_Some}, specs.Prelude.option_and_then}
 use Rattle.yq_core.{specs.Answers.◌>>=◌, specs.Paths.{Step, node_at}, specs.Tree.Node}
@@ -12,7 +12,7 @@ use Rattle.yq_edit_laws.proofs.FlowHeldNodes.{FlowContent, HeldAt, held, held_an
 abbrev Reached : Type 0
 Reached = FoundLine × List Step
 
--- The collection at a path stands in the head of a line, or it has lines of its own.
+-- The collection at a path is in the head of a line, or it has lines of its own.
 abbrev pub Cases : List Step → Outline → Type 0
 Cases steps o = ((y : FoundLine × List Step) × (find_head steps o ≡ Some y)) ⊎ ((h : NodeLines) × IsCollectionAt steps o h)
 

@@ -1,4 +1,4 @@
--- A block collection that stands at a place, by its rows, and where it ends.
+-- A block collection that is at a place, by its rows, and where it ends.
 use Rattle.std.proofs.Common.{inl, inr, ◌⊎◌, ◌≡◌, ℕ, suc, ◌+◌, ◌<◌, ◌≤◌, Bool, true, false, ◌&&◌, List, [], ◌∷◌, ◌++◌, length, take, Option}
 use Rattle.std.proofs.Common.{Some, None, option_and_then, refl, sym, ap, ◌∙◌, subst, arith, append_assoc, append-nil, length-append}
 use Rattle.std.{proofs.lemmas.Bool.{cases_lt, false≢true}, proofs.lemmas.Option.same_Some, specs.List.slice_get, specs.Option.is_none}
@@ -48,7 +48,7 @@ module _ (n : ℕ) (s : Step) (ss : List Step) (c : Cut) (e : RowsOfEntry) (ther
       sym (get_behind (lines_of_rows e.front) rest (e.line + i))
       ∙ ((λ j. slice_get ((sym rows ∙ found) j) (same j)) ∙ get_behind (lines_before f.place) (f.line ∷ (flatten f.under ++ behind)) i)
 
-  -- where the key or dash has nothing behind it
+  -- where the key or dash has nothing after it
   pub headless_mark : e.line ≡ length e.row.dashes → is_empty (slices e.row).head ≡ true → f.line.head ≡ None
   headless_mark last none =
       let l = line_in (head_comment e.row.gap) e.row.column e.row.dashes e.row.mark e.row.content e.line (omega (arith, last)) in
@@ -94,7 +94,7 @@ module _ (n : ℕ) (s : Step) (ss : List Step) (c : Cut) (e : RowsOfEntry) (ther
       first_entry [] m l e is = subst IsEntry (sym (is.mark refl).0) (no_bare (line_mark m) e)
       first_entry (k ∷ ns) m l e is = subst IsEntry (sym (is.dash (omega arith)).0) tt
 
-  -- a collection behind the dash
+  -- a collection after the dash
   pub begins_behind : e.line < length e.row.dashes → HasEntries f.under × BeginsAt (behind_columns e.row.column (take (suc e.line) e.row.dashes)) f.under
   begins_behind less =
       let l = line_in (head_comment e.row.gap) e.row.column e.row.dashes e.row.mark e.row.content (suc e.line) (omega (arith, less)) in

@@ -1,4 +1,4 @@
--- Another content behind a key or dash stands for a value in the place of what an item or entry holds.
+-- Another content after a key or dash means a value in the place of what an item or entry holds.
 use Rattle.std.proofs.Common.{◌≡◌, ℕ, suc, ◌≤◌, true, List, [], ◌∷◌, ◌++◌, Some, refl, sym, ap, subst, arith, rules}
 use Rattle.std.proofs.lemmas.Bool.{lt-ltb}
 use Rattle.yq_core.{specs.Paths.Step, specs.Text.separates, specs.Tree.{Node, anchor_of}}
@@ -28,7 +28,7 @@ module _ (doc : ℕ) (s : Step) (ss : List Step) (c : Cut) (h : NodeRows doc s s
   pub mark_fit : MarkIsFit h.mark.mark
   mark_fit = let keys = (document_known (cut_text c) c doc h.p h.old).document.keys in upto_fit h.upto (fit_parts h.front (h.row ∷ (h.under ++ h.back)) (subst HaveFitKeys h.rows_are keys)).1.0
 
-  -- A content that may stand behind the key or dash alone: it stands for the value, behind the old anchor and before the old comment.
+  -- A content that may come after the key or dash alone: it means the value, after the old anchor and before the old comment.
   pub record IsContentFor (v : Node) (new : Content) : Type 0 where
     pub stands : IsContent (parent_indent h.mark) new (rest doc s ss c h)
     pub apart : separates (content_text new (rest doc s ss c h)) ≡ true
@@ -37,7 +37,7 @@ module _ (doc : ℕ) (s : Step) (ss : List Step) (c : Cut) (h : NodeRows doc s s
     pub anchor : content_anchor new ≡ anchor_of (content_under h.found.line h.found.under)
     pub keys : ContentHasFitKeys new
 
-  -- what is behind it may begin at any column up to that of the key or dash
+  -- what is after it may begin at any column up to that of the key or dash
   follow : (x : Content) (k : ℕ) → k ≤ mark_column h.mark → allows (limit_behind (parent_indent h.mark) x) k ≡ true
   follow x k h1 = search (rules, deeper_entry, entry, within)
 

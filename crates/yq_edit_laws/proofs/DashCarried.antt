@@ -1,4 +1,4 @@
--- A value behind a dash, in the place of the compact collection that begins there.
+-- A value after a dash, in the place of the compact collection that begins there.
 use Rattle.std.proofs.Common.{◌≡◌, inl, ℕ, ◌<◌, ◌≤◌, Bool, true, false, cond, List, [], ◌∷◌, ◌++◌, length, replicate, None, Some, refl, sym}
 use Rattle.std.{proofs.Common.{ap, ◌∙◌, subst, append_assoc, append-nil}, proofs.lemmas.Option.same_Some}
 use Rattle.yq_core.{specs.BlockWritten.break_text, specs.Paths.Step, specs.Tree.Node}
@@ -87,7 +87,7 @@ module _ (n : ℕ) (s : Step) (ss : List Step) (c : Cut) (e : RowsOfEntry) (ther
   uncommented : line_comment last ≡ None
   uncommented = uncommented_tail last z last_tail refl
 
-  -- what may stand behind the dash: the end of its line, without a comment
+  -- what may come after the dash: the end of its line, without a comment
   holding : (t more : List ℕ) → IsTail t more → line_comment t ≡ None → IsHolding n s ss c h (Nothing t) more
   holding t more tail none = record { holds = refl; stands = tail; apart = tail_apart t more tail; comment = none ∙ sym no_comment; anchor = sym (dash_unnamed n s ss c e there less) }
 

@@ -25,7 +25,7 @@ dashes_from k [] h = absurd (omega (arith, h))
 dashes_from zero (n ∷ ns) h = (n, ns, refl)
 dashes_from (suc k) (n ∷ ns) h = dashes_from k ns (omega (arith, h))
 
--- behind each of them stand spaces, and an item or entry is behind the last one
+-- after each of them are spaces, and an item or entry is after the last one
 dashes_ask : (ns : List ℕ) (n : ℕ) (ms : List ℕ) (m : rows.RowMark) → AreDashes (ns ++ (n ∷ ms)) m → (1 ≤ n) × (is_entry m ≡ true)
 dashes_ask [] n ms m h = (h.0, h.1)
 dashes_ask (k ∷ ns) n ms m h = dashes_ask ns n ms m h.2
@@ -70,20 +70,20 @@ module _ (n : ℕ) (s : Step) (ss : List Step) (c : Cut) (e : RowsOfEntry) (ther
 
   -- ---- the text
 
-  -- what stands behind the dash, before a rest
+  -- what comes after the dash, before a rest
   abbrev behind_it : List ℕ → List ℕ
   behind_it t = past_dash (drop e.line e.row.dashes) (behind_dashes e.row t)
 
   row_text : (t : List ℕ) → print_row e.row t ≡ row_front (upto_dash e.line e.row) ++ past_dash (drop e.line e.row.dashes) (behind_dashes e.row t)
   row_text t = row_cut e.line e.row t less
 
-  -- more text stands behind
+  -- more text comes after
   then_more : (t u : List ℕ) → behind_it (t ++ u) ≡ behind_it t ++ u
   then_more t u =
       append_cancel_left (row_front mark) (behind_it (t ++ u)) (behind_it t ++ u)
       (sym (row_text (t ++ u)) ∙ (row_then e.row t u ∙ (ap (λ l. l ++ u) (row_text t) ∙ append_assoc (row_front mark) (behind_it t) u)))
 
-  -- the text from behind the dash on isn't empty, and ends in an LF, or nothing is behind
+  -- the text from after the dash on isn't empty, and ends in an LF, or nothing is after
   some_text : is_empty (dash_text e) ≡ false
   some_text = ap (λ ns. is_empty (past_dash ns (behind_dashes e.row (rows_text e.under [])))) dash.2 ∙ spaces_some dash.0 _ asked.0
 

@@ -20,7 +20,7 @@ no_comment : line_comment [] ≡ None
 unfolding upto
 no_comment = refl
 
--- in the place of what stands behind the dash, which has neither an anchor nor a comment: before an end of the line without a comment
+-- in the place of what comes after the dash, which has neither an anchor nor a comment: before an end of the line without a comment
 module _ (doc : ℕ) (s : Step) (ss : List Step) (c : Cut) (h : NodeRows doc s ss c) (l : Layout) (step : 1 ≤ l.mapping) (v : Node) (filled : IsFilledValue v) (near_keys : HasNearKeys v) (last : List ℕ) (dash : h.mark.mark ≡ rows.Dash)
     (ends : IsEnd (mark_column h.mark) last (rest doc s ss c h)) (uncommented : line_comment last ≡ None) (none : line_comment (tail_of h.mark.content) ≡ None) (unnamed : anchor_of (content_under h.found.line h.found.under) ≡ None) where
   abbrev below : ℕ

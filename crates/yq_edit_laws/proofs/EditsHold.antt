@@ -9,7 +9,7 @@ use Rattle.yq_edit_laws.{proofs.SoleLaws.sole_removed, proofs.StandingExists.{en
 use Rattle.yq_edit_laws.{proofs.RootEditLaws.{first_nodes_are_put, roots_are_put}, proofs.MarkedValueLaws.marked_values}
 use Rattle.yq_edit_laws.{proofs.FittingExists.fitting_has_edit, proofs.CarryOutLaws.edits_carry_out}
 
--- a value is put, whatever stands at its place
+-- a value is put, whatever is at its place
 values_are_put : ValuesArePut
 values_are_put n steps v c (alone w) read at other = marked_values n steps v c (alone w) read at refl other
 values_are_put n steps v c (beside h) read at other = marked_values n steps v c (beside h) read at refl other

@@ -14,7 +14,7 @@ sole_by_emptying n c (Some x) = go (node_in n x.0 c >>= empty_collection)
     go None = refl
     go (Some v) = refl
 
--- what is told of a collection tells the empty one of its kind
+-- what is known of a collection tells the empty one of its kind
 by_summary : (o : Option Node) → (option_map node_summary o >>= emptied_summary) ≡ (o >>= empty_collection)
 by_summary None = refl
 by_summary (Some (alias name)) = refl

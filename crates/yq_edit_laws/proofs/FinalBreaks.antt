@@ -1,4 +1,4 @@
--- Whether a text of rows ends in a break: by what stands behind the mark of the last one.
+-- Whether a text of rows ends in a break: by what comes after the mark of the last one.
 use Rattle.std.proofs.Common.{inl, inr, ⊎_elim, ◌⊎◌, ◌≡◌, ℕ, zero, suc, ℤ, Bool, true, false, cond, ◌&&◌, not, List, [], ◌∷◌, ◌++◌}
 use Rattle.std.proofs.Common.{replicate, Option, refl, sym, ap, ◌∙◌, subst, append_assoc, append-nil}
 use Rattle.std.proofs.lemmas.Bool.{false≢true, false_from_ne_true, or_parts, and_parts, eqb-true}
@@ -198,7 +198,7 @@ row_lf limit r rest h broken = subst IsLf (sym (row_front-append r [])) (append_
 row_some : (limit : Limit) (r : Row) (rest : List ℕ) → IsRow limit r rest → is_empty (print_row r rest) ≡ false
 row_some limit r rest h = some_behind r.gap (replicate r.column 32 ++ behind_indent r rest) (some_behind (replicate r.column 32) (behind_indent r rest) (row_starts limit r rest h).some)
 
--- A text that rows end has a last break, if what stands behind the mark of the last one has.
+-- A text that rows end has a last break, if what comes after the mark of the last one has.
 pub broken_is : (limit : Limit) (r : Row) (rest : List ℕ) → IsRow limit r rest → (front a t : List ℕ) → front ++ print_row r [] ≡ a ++ t → is_empty t ≡ false → not (is_empty (last_break t)) ≡ is_broken r.content
 broken_is limit r rest h front a t is some = go (is_broken r.content) refl
   where

@@ -1,4 +1,4 @@
--- An operation that fits has its edit: where a node is, something stands.
+-- An operation that fits has its edit: where a node is, something is.
 use Rattle.std.proofs.Common.{◌≡◌, ◌⊎◌, inl, inr, ltb, ℕ, Bool, true, false, cond, List, [], ◌∷◌, Option, Some, None, option_map, refl, sym}
 use Rattle.std.{proofs.Common.{ap, ◌∙◌, subst}, proofs.lemmas.Bool.{cond-true, false≢true}, proofs.lemmas.Option.none-some}
 use Rattle.std.{specs.List.slice_get, specs.Option.option_or}
@@ -83,7 +83,7 @@ removing_there k rest s g (item key n sep (item key2 n2 sep2 (item key3 n3 sep3 
 -- ---- where nodes are
 
 module _ (roots : RootsStand) (entries : EntriesStand) where
-  -- where a node is, something stands
+  -- where a node is, something is
   stands : (n : ℕ) (steps : List Step) (c : Cut) (w : Node) → read_at (cut_text c) ≡ Some c → node_in n steps c ≡ Some w →
       ((t : Standing) × (standing_at n steps c ≡ Some t)) ⊎ ((x : FlowPart) × (flow_standing n c (last_step steps) ≡ Some x))
   stands n [] c w read at = let d = bind_some (slice_get (documents c) n) at in let p = parts.part_of c n d.0 d.1 in inl (roots n c p.part p.there)
@@ -168,7 +168,7 @@ module _ (roots : RootsStand) (entries : EntriesStand) where
 
 -- ---- comments
 
--- The line to which steps lead in document n of a cut stands in rows that are found, and has room for a comment.
+-- The line to which steps lead in document n of a cut is in rows that are found, and has room for a comment.
 record HasRoomAt (part : Part) (n : ℕ) (steps : List Step) (c : Cut) : Type 0 where
   document : PlacedPart
   row_line : RowLine

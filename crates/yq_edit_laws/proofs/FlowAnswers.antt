@@ -1,4 +1,4 @@
--- What the code finds of flow collections, and where the edits of these stand in a text.
+-- What the code finds of flow collections, and where the edits of these are in a text.
 use Rattle.std.proofs.Common.{◌≡◌, ℕ, ◌-◌, ◌≤◌, List, [], ◌∷◌, ◌++◌, length, map, take, drop, slice_index_or, Option, Some, option_map}
 use Rattle.std.proofs.Common.{refl, sym, ap, ◌∙◌, subst, arith, append_assoc, length-append}
 use Rattle.std.{proofs.Math.Seq.{take-append_seam, drop-append_seam}, specs.Str.IsCharBoundary}
@@ -118,7 +118,7 @@ module _ (c : Cut) (n : ℕ) (path init : List Step) (s : Step) (x : FlowHead) (
   abbrev own : CollPieces
   own = f.agrees.at.coll
 
-  -- what stands at the path, by the row alone
+  -- what is at the path, by the row alone
   pub standing_is : flow_standing n c (last_step path) ≡ option_map (part_in s f.coll) (option_map (entry_more f.agrees.behind) (item_at own.close s own.items own.rest))
   standing_is =
       ap (flow_standing n c) (sym last)

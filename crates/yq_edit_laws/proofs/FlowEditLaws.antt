@@ -36,13 +36,13 @@ pub record FlowCarried (op : Operation) (c : Cut) (steps : List Step) (w : CollP
   pub pieces : ArePieces (flow_segments (cut_text c) e)
   pub stays : length (behind_node c (op_document op) at.part at.row) ≤ length e.behind
 
--- the text before what stands at its end
+-- the text before what is at its end
 pub before_is : (t before behind : List ℕ) → t ≡ before ++ behind → script_text_before t behind ≡ before
 before_is t before behind e =
     let size : length t - length behind ≡ length before = omega (arith, ap length e, length-append before behind) in
     (λ i. take (size i) (e i)) ∙ take-append_seam before behind
 
--- Where the text of an edit stands in the text of a cut, and in the new one; it is inside a node with what is behind that.
+-- Where the text of an edit is in the text of a cut, and in the new one; it is inside a node with what is after that.
 pub record FlowTexts (c new : Cut) (e : FlowEdit) (node : List ℕ) : Type 0 where
   pub before : List ℕ
   pub old : cut_text c ≡ before ++ (e.old ++ e.behind)
@@ -81,7 +81,7 @@ row_there c k steps w at a =
     ∙ (ap (λ rs. a.start ++ rows_text rs z) at.at.rows_are
     ∙ (ap (λ t. a.start ++ t) (rows_text-append at.row.front (at.row.row ∷ at.row.back) z ∙ ap (rows_text at.row.front) own) ∙ at_row a.start at.row.front _))
 
--- one row gives way to another
+-- one row is replaced by another
 flow_local : (c : Cut) (k : ℕ) (steps : List Step) (w : CollPieces) (at : FlowAt c k steps w) (e : FlowEdit) (m : FlowNode) (t : FlowTexts c (put_document k (with_node at.part at.row m) c) e (node_text at.row.node (behind_node c k at.part at.row))) →
     length (behind_node c k at.part at.row) ≤ length e.behind → new_text (flow_segments (cut_text c) e) ≡ cut_text (put_document k (with_node at.part at.row m) c) → IsLocal (flow_segments (cut_text c) e) c (put_document k (with_node at.part at.row m) c)
 flow_local c k steps w at e m t stays new =

@@ -65,14 +65,14 @@ line_holds (s ∷ ss) o y x found h = go (find s ss o) (sym (path_node s ss o) �
 
 -- ---- the line is that of a row
 
--- The row in which a line stands, whose anchor and head these are.
+-- The row in which a line is, whose anchor and head these are.
 pub record HeadRow (p : Part) (f : FoundLine) : Type 0 where
   pub row_line_is : RowLine
   pub there : row_line (length (lines_before f.place)) p.rows ≡ Some row_line_is
   pub anchor : content_anchor row_line_is.row.content ≡ f.line.anchor
   pub head : head_of row_line_is.row.content ≡ f.line.head
 
--- the line of a row's mark, by how many lines stand before it
+-- the line of a row's mark, by how many lines come before it
 held_row_line : (rs front : List Row) (r : Row) (back : List Row) (before tail : List Line) (l : Line) → rs ≡ front ++ (r ∷ back) → lines_of_rows rs ≡ before ++ (l ∷ tail) →
     length before ≡ length (lines_of_rows front) + length r.dashes → mark_line (above_mark (head_comment r.gap) r.dashes) (mark_column r) r.mark r.content ≡ l
 held_row_line rs front r back before tail l rows lines size =

@@ -10,7 +10,7 @@ use Rattle.yq_flow_edits.specs.Removals.{before_next, edit_from_item, comma_left
 use Rattle.yq_flow_edits.{specs.Removals.{last_removed, next_text, removing_from, space_to}, proofs.RemovePlaces.or_mapped}
 use Rattle.yq_edit_laws.specs.EditPlaces.{moved_on}
 
--- ---- more text behind a collection
+-- ---- more text after a collection
 
 -- an item or entry before a longer rest
 abbrev pub entry_more : List ℕ → EntryPieces → EntryPieces

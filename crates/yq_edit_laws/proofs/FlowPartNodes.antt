@@ -1,4 +1,4 @@
--- What stands at a path that leads to an item or entry of a flow collection: its node, and nothing outside flow collections.
+-- What is at a path that leads to an item or entry of a flow collection: its node, and nothing outside flow collections.
 use Rattle.std.proofs.Common.{◌≡◌, ℕ, ◌+◌, List, [], ◌∷◌, ◌++◌, length, Option, Some, None, option_map, refl, sym, ap, ◌∙◌, subst}
 use Rattle.std.{proofs.lemmas.Option.{none-some, same_Some, slice_get-map}, specs.List.slice_get, specs.Prelude.option_and_then}
 use Rattle.yq_core.{specs.Answers.◌>>=◌, specs.Paths.{Step, child_at, node_at}, specs.Tree.children_of, proofs.Bools.bind_some}
@@ -57,7 +57,7 @@ content_node (Inline space node tail) h ss s behind w head e =
 
 -- ---- in a document
 
--- The line in whose head a flow collection at a path stands.
+-- The line in whose head a flow collection at a path is.
 record LineAt (c : Cut) (n : ℕ) (steps : List Step) (w : CollPieces) : Type 0 where
   part : Part
   there : slice_get (document_parts c) n ≡ Some part
@@ -74,7 +74,7 @@ line_at c n steps w e =
     let s = bind_some (row_line (length (lines_before x.0.0.place)) d.0.rows) x.2 in
     record { part = d.0; there = d.1; line = x.0; found = x.1; row_line_is = s.0; printed_line = s.1; flow = s.2 }
 
--- the node at a path is the one that its line stands for
+-- the node at a path is the one that its line means
 node_found : (steps : List Step) (s : Step) (o : Outline) → node_at (steps ++ (s ∷ [])) (value o) ≡ FoundNode (found_at (steps ++ (s ∷ [])) o)
 node_found [] s o = path_node s [] o
 node_found (t ∷ ts) s o = path_node t (ts ++ (s ∷ [])) o
@@ -128,7 +128,7 @@ module _ (c : Cut) (n : ℕ) (path : List Step) (a : EntryAt c n path) where
       ap (λ (o : Option Document). o >>= λ d. node_at path d.root) (slice_get-map part_document (document_parts c) n ∙ ap (option_map part_document) line.there)
       ∙ (ap (λ (ss : List Step). node_at ss (value (part_outline line.part))) path_is ∙ (line_node c n a.init a.step a.coll line read ∙ ap (option_map entry_tree) a.at))
 
-  -- nothing stands there outside flow collections
+  -- nothing is there outside flow collections
   pub none_there : standing_at n path c ≡ None
   none_there = none_standing n path c (a.init, a.step) a.last (λ d is.
       let same : d.part ≡ line.part = same_Some _ _ (ap part_of (sym is) ∙ (sym (document_placed n c) ∙ line.there)) in

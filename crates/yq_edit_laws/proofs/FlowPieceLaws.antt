@@ -47,7 +47,7 @@ piece_behind a b h u at =
     let y = and_parts (all_text a) (all_text b) (sym (all_join a b u) ∙ x.0) in
     record { utf8 = behind_utf8 a b h.utf8 at; characters = and_from _ _ y.1 (pairs_back a b x.1) }
 
--- Of an edit that begins and ends at whole characters, where no CR stands before an LF, the text before and behind it are pieces.
+-- Of an edit that begins and ends at whole characters, where no CR comes before an LF, the text before and after it are pieces.
 pub edit_pieces : (t before : List ℕ) (e : FlowEdit) → IsPiece t → t ≡ before ++ (e.old ++ e.behind) → IsCharBoundary t (length t - length (e.old ++ e.behind)) → IsCharBoundary t (length t - length e.behind) →
     Whole before (e.old ++ e.behind) → IsPiece before × IsPiece e.behind
 edit_pieces t before e piece is start ends whole =

@@ -1,4 +1,4 @@
--- The content of an item or entry of a flow collection gives way to a value.
+-- The content of an item or entry of a flow collection is replaced by a value.
 use Rattle.std.proofs.Common.{◌≡◌, ℕ, ◌-◌, ◌<◌, ◌≤◌, Bool, true, false, List, [], ◌∷◌, ◌++◌, length, Option, Some, None, sym, ap, ◌∙◌}
 use Rattle.std.{proofs.Common.{subst, arith, ◌+◌, append-nil, length-append}, proofs.lemmas.Bool.cond_both, proofs.lemmas.Option.none-some}
 use Rattle.std.specs.Str.{IsCharBoundary}
@@ -185,7 +185,7 @@ module _ (c : Cut) (doc : ℕ) (path : List Step) (v : tree.Node) (read : read_a
     pub replaced_reads : length (new_text (flow_segments (cut_text c) e)) ≤ text_limit → read_at (new_text (flow_segments (cut_text c) e)) ≡ Some (made_cut (replace doc path v) c a.init a.coll at e)
     replaced_reads size = made_reads (replace doc path v) c a.init a.coll at e (change_child a.step (replaced_node v)) read done size
 
-  -- Behind it the steps to the head lead there still, and the later parts of its collections are as they were.
+  -- After it the steps to the head lead there still, and the later parts of its collections are as they were.
   module _ (stem left : List Step) (init : a.init ≡ stem ++ left) (h : LeadsToHead c doc stem) where
     abbrev items : Items
     items = put_item a.step m a.coll.items

@@ -1,4 +1,4 @@
--- Where something is written in a flow collection, no CR stands before an LF.
+-- Where something is written in a flow collection, no CR comes before an LF.
 use Rattle.std.proofs.Common.{◌≡◌, ℕ, Bool, true, false, not, ◌&&◌, cond, eqb, List, [], ◌∷◌, ◌++◌, Some, refl, sym, ap, ◌∙◌, subst}
 use Rattle.std.{proofs.Common.append_assoc, proofs.lemmas.Bool.false≢true}
 use Rattle.yq_core.{specs.Paths.Step, specs.Text.{front, is_feed}, specs.Collections.{CollAt, IsCollAt, item_in}}
@@ -10,13 +10,13 @@ use Rattle.yq_flow_edits.{specs.FlowEdits.{behind_appended, behind_last}, specs.
 use Rattle.yq_flow_edits.{proofs.ItemLaws.{item_begins, item_some}, proofs.ItemPlaces.{Behind, further_behind, item_behind, last_behind}}
 use Rattle.yq_flow_edits.{proofs.LocalLaws.node_no_feed, proofs.ReturnLaws.{Whole, item_return, return_some, whole_by, whole_front}}
 
--- Behind a text stands another one, and no CR before an LF.
+-- After a text is another one, and no CR before an LF.
 pub record StandsBefore (t behind : List ℕ) : Type 0 where
   pub before : List ℕ
   pub text : t ≡ before ++ behind
   pub whole : Whole before behind
 
--- what stands behind an item or entry
+-- what comes after an item or entry
 rest_stands : (d k : ℕ) (t : List ℕ) (y : EntryPieces) → is_close k ≡ true → Behind d k t y → StandsBefore t y.rest
 rest_stands d k t y c h =
     let own : List ℕ = key_text y.key (node_text y.node []) in
@@ -28,7 +28,7 @@ rest_stands d k t y c h =
       whole = subst (λ (b : Bool). (b && front is_feed y.rest) ≡ false) (sym ends) (item_return k d y.key y.node y.rest c h.ends h.fits.key_is h.fits.is);
     }
 
--- its content, with what stands behind it
+-- its content, with what comes after it
 content_split : (n : FlowNode) (rest : List ℕ) → (p : List ℕ) × (node_text n rest ≡ p ++ node_text (without_anchor n) rest)
 unfolding node_text
 content_split empty rest = ([], refl)
@@ -63,7 +63,7 @@ bare_written (anchored m gap node) e = absurd (false≢true e)
 open_return : (k : ℕ) → ends_return (opening_bracket k ∷ []) ≡ false
 open_return k = elim (eqb k 125) as (λ c. ends_return (cond c 123 91 ∷ []) ≡ false) [ true ↦ refl | false ↦ refl ]
 
--- what stands behind the last item or entry, or behind the opening bracket
+-- what comes after the last item or entry, or after the opening bracket
 last_stands : (d k : ℕ) (a gap : List ℕ) (is : Items) (rest : List ℕ) → is_close k ≡ true → AreFlowItems d k is rest → StandsBefore (a ++ (opening_bracket k ∷ (gap ++ flow_items_text k is rest))) (behind_last k gap is rest)
 unfolding flow_items_text
 last_stands d k a gap none rest c h = record {
@@ -77,7 +77,7 @@ last_stands d k a gap (item key n sep is) rest c h =
     let y = last_behind d k gap (item key n sep is) rest refl h in
     subst (StandsBefore t) y.1 (rest_stands d k t y.0 c (further_behind d k t items (a ++ (opening_bracket k ∷ gap)) y.0 (sym (append_assoc a (opening_bracket k ∷ gap) items)) y.2))
 
--- what stands from its content on
+-- what is from its content on
 content_stands : (d k : ℕ) (t : List ℕ) (y : EntryPieces) → is_close k ≡ true → Behind d k t y → StandsBefore t (node_text (without_anchor y.node) [] ++ y.rest)
 content_stands d k t y c h = go (is_empty_node (without_anchor y.node)) refl
   where
@@ -118,7 +118,7 @@ module _ (x : CollAt) (text : List ℕ) (h : IsCollAt x) where
   pub replaced_stands : (s : Step) (y : EntryPieces) → item_in s x ≡ Some y → StandsBefore t (node_text (without_anchor y.node) [] ++ y.rest)
   replaced_stands s y found = content_stands around.inner_depth x.coll.close t y around.closes (in_text y (item_behind around.inner_depth x.coll.close s x.coll.items x.coll.rest y around.items found))
 
-  -- what stands behind one more item or entry
+  -- what comes after one more item or entry
   pub appended_stands : StandsBefore t (behind_appended x.coll)
   appended_stands =
       let c = x.coll in

@@ -1,4 +1,4 @@
--- Rows of a document taken out, and the gap behind them exchanged: the item that begins with that goes with them.
+-- Rows of a document taken out, and the gap after them exchanged: the item that begins with that goes with them.
 use Rattle.std.proofs.Common.{◌≡◌, ℕ, ◌+◌, ◌≤◌, List, [], ◌∷◌, ◌++◌, length, refl, sym, ap, ◌∙◌, append_assoc, arith}
 use Rattle.std.{proofs.lemmas.List.length-append, specs.List.slice_get}
 use Rattle.yq_row_table.{specs.Items.{Item, end_item, rows_items, items_text}, specs.ItemSplices.first_item}
@@ -13,7 +13,7 @@ use Rattle.yq_text.specs.Script.{Segment, old_text, new_text, are_kept, kept_fro
 use Rattle.yq_documents.specs.Documents.{document_parts}
 use Rattle.yq_edit_laws.specs.TouchedRanges.{LiesInOne}
 
--- the items behind the first one of rows and of the end behind them
+-- the items after the first one of rows and of the end after them
 abbrev later_items : List Row → (end marker : List ℕ) → List Item → List Item
 later_items [] end marker below = below
 later_items (b ∷ bs) end marker below = rows_items bs (end_item end marker ∷ below)
@@ -27,7 +27,7 @@ later_same : (gap : List ℕ) (back : List Row) (end marker : List ℕ) (below :
 later_same gap [] end marker below = refl
 later_same gap (b ∷ bs) end marker below = refl
 
--- what stands behind the gap of that first one
+-- what comes after the gap of that first one
 abbrev behind_first_gap : List Row → (marker : List ℕ) → List ℕ
 behind_first_gap [] marker = marker
 behind_first_gap (b ∷ bs) marker = behind_gap b []
@@ -41,14 +41,14 @@ later_text [] end marker below = refl
 later_text (b ∷ bs) end marker below =
     row_then (with_row_gap [] b) [] (rows_text bs (end ++ (marker ++ items_text below []))) ∙ ap (λ t. behind_gap b [] ++ t) (sym (rows_spell bs (end_item end marker ∷ below) []))
 
--- bytes that end a gap, and what stands behind that
+-- bytes that end a gap, and what comes after that
 ends_gap : (text gap u rest : List ℕ) → text ≡ gap ++ rest → length u ≤ length gap → length (u ++ rest) ≤ length text
 ends_gap text gap u rest e h = let size : length text ≡ length (gap ++ rest) = ap length e in omega (arith, size, h, length-append gap rest, length-append u rest)
 
 items_apart_at : (rs : List Row) (x : Item) (more is : List Item) → is ≡ x ∷ more → rows_items rs [] ++ is ≡ rows_items rs (x ∷ []) ++ more
 items_apart_at rs x more is e = ap (λ js. rows_items rs [] ++ js) e ∙ (sym (rows_before rs [] (x ∷ more)) ∙ rows_before rs (x ∷ []) more)
 
--- Rows of document k go, and the gap behind them gives way to another one; bytes that end it are kept.
+-- Rows of document k go, and the gap after them is replaced by another one; bytes that end it are kept.
 pub record RowsGoOut (ss : List Segment) (c : Cut) (k : ℕ) (p : Part) : Type 0 where
   pub there : slice_get (document_parts c) k ≡ Rattle.std.proofs.Common.Some p
   pub start : List ℕ

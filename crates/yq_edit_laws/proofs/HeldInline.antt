@@ -94,7 +94,7 @@ module _ (n : ℕ) (s : Step) (ss : List Step) (c : Cut) (e : RowsOfEntry) (ther
     node_there : length (new_text us) ≤ text_limit → CarriedOut (replace n (s ∷ ss) v) c us
     node_there = head_carried n s ss c e there last k br v f t for (put_core for.node x) is_for text_there
 
-    -- behind it the row has another content of the same shape
+    -- after it the row has another content of the same shape
     pub node_made : length (new_text us) ≤ text_limit → RowMade n c e there.part us v
     node_made size = record { content = put_core for.node x; headed = is_for.head; read = head_made n s ss c e there last k br v f t for (put_core for.node x) is_for text_there size }
 

@@ -55,7 +55,7 @@ module _ (n : ℕ) (s : Step) (ss : List Step) (c : Cut) (e : RowsOfEntry) (ther
   column : column_under l w.mark v ≡ under
   column = column_is e.row.mark e.row.content _ l v (mark_column e.row) (entry_there n s ss c e there last) (rows_there n s ss c h).0.mark
 
-  -- behind an end of the line with its comment, and before an end of the last line
+  -- after an end of the line with its comment, and before an end of the last line
   module _ (tail final : List ℕ) (is : (more : List ℕ) → IsTail tail more) (same : line_comment tail ≡ line_comment (slices e.row).tail) (ends : IsBreak final (rest n s ss c (mark_node n s ss c e there last))) where
     abbrev left : Content
     left = anchor_left e.row.content tail

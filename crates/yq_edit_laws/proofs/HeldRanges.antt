@@ -1,4 +1,4 @@
--- What is kept behind the head of a key or dash is a part of its line.
+-- What is kept after the head of a key or dash is a part of its line.
 use Rattle.std.proofs.Common.{◌≡◌, ◌⊎◌, inl, inr, ℕ, Bool, true, false, cond, ◌&&◌, List, [], ◌∷◌, ◌++◌, Some, refl, sym, ap, ◌∙◌, subst}
 use Rattle.std.{proofs.Common.{append_assoc, append-nil}, proofs.lemmas.Bool.or_parts}
 use Rattle.yq_core.{specs.Paths.Step, specs.Text.{NoneIn, ends_line, front, is_empty, is_feed, is_return, is_white}, proofs.Bools.at_byte}
@@ -42,7 +42,7 @@ break_line b (inr (inr e)) = ap is_one_line e
 
 -- ---- a key or dash
 
--- The white space and the comment behind what a key or dash holds are a part of a line, and with the break behind them.
+-- The white space and the comment after what a key or dash holds are a part of a line, and with the break after them.
 pub record IsInLine (h : Held) : Type 0 where
   pub ends : is_one_line (h.white ++ h.comment) ≡ true
   pub broken : is_one_line ((h.white ++ h.comment) ++ line_break h) ≡ true

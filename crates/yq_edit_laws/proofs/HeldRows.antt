@@ -76,7 +76,7 @@ module _ (n : ℕ) (s : Step) (ss : List Step) (c : Cut) (e : RowsOfEntry) (ther
   more_is : more ≡ below ++ behind_entry e
   more_is = ap (λ t. sl.raw ++ t) (rows_then e.under (behind_entry e)) ∙ sym (append_assoc sl.raw (rows_text e.under []) (behind_entry e))
 
-  -- the last line ends before what is behind
+  -- the last line ends before what is after
   last_line_ends : IsBreak (held e).last (behind_entry e)
   last_line_ends = subst (λ (x : LineEnd). IsBreak (cond (is_empty below) x.behind (last_break below)) (behind_entry e)) (sym mark_end) (go below (below_ended n s ss c e there) (subst (IsBreak mark_tail.line.break) more_is mark_tail.line.ends))
     where

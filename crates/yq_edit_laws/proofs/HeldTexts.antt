@@ -22,7 +22,7 @@ module _ (n : ℕ) (s : Step) (ss : List Step) (c : Cut) (e : RowsOfEntry) (ther
   abbrev lead : List ℕ
   lead = before_entry e ++ row_front e.row
 
-  -- before an end of the line with the old comment nothing but the anchor may stand there
+  -- before an end of the line with the old comment nothing but the anchor may be there
   pub holding : (tail more : List ℕ) → IsTail tail more → line_comment tail ≡ line_comment (slices e.row).tail → IsHolding n s ss c (mark_node n s ss c e there last) (anchor_left e.row.content tail) more
   holding tail more is same =
       let x = e.row.content in
@@ -37,7 +37,7 @@ module _ (n : ℕ) (s : Step) (ss : List Step) (c : Cut) (e : RowsOfEntry) (ther
         anchor = left_anchor (content_cut x).0 (content_anchor x) tail ∙ sym k.named;
       }
 
-  -- the text with rows behind it
+  -- the text with rows after it
   pub text_left : (tail : List ℕ) (rs : List Row) (z : List ℕ) → e.start ++ (rows_text e.front [] ++ rows_text (with_content (anchor_left e.row.content tail) e.row ∷ rs) z) ≡ (held e).before ++ (tail ++ rows_text rs z)
   text_left tail rs z =
       let b : List ℕ = rows_text e.front [] in

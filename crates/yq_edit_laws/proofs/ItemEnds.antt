@@ -1,4 +1,4 @@
--- Items of a cut end in an LF, where something is behind them; and which of them lie at the bytes that a change keeps.
+-- Items of a cut end in an LF, where something is after them; and which of them lie at the bytes that a change keeps.
 use Rattle.std.proofs.Common.{◌≡◌, ◌⊎◌, inl, inr, ℕ, ◌+◌, ◌-◌, ◌≤◌, Bool, true, false, cond, ltb, List, [], ◌∷◌, ◌++◌, length, refl, sym}
 use Rattle.std.{proofs.Common.{ap, ◌∙◌, subst, arith, append-nil}, proofs.lemmas.Bool.{false≢true, ltb-false}}
 use Rattle.std.proofs.lemmas.List.{length-append}
@@ -40,7 +40,7 @@ items_ended asked (x ∷ xs) ys h some = inr (subst IsLf (sym (item_apart x xs [
     go (inl none) = subst (λ (l : List Item). IsLf (item_text x ++ items_text l [])) (sym none) (subst IsLf (sym (append-nil (item_text x))) own)
     go (inr lf) = append_lf (item_text x) (items_text xs []) lf
 
--- ---- which of them are in front and behind
+-- ---- which of them are before and after
 
 -- the first item that isn't in front of an offset reaches it
 pub front_stop : (n : ℕ) (is : List Item) (y : Item) (ys : List Item) → is ≡ in_front n is ++ (y ∷ ys) → n ≤ length (items_text (in_front n is) []) + length (item_text y)
@@ -52,7 +52,7 @@ front_stop n (i ∷ is) y ys e = go (in_front (n - length (item_text i)) is) (fr
     go rest again true less k = let more = again (tail-eq_of_cons-eq k) in omega (arith, more, size_one i rest)
     go rest again false less k = let own : i ≡ y = head-eq_of_cons-eq k in omega (arith, ltb-false (length (item_text i)) n less, ap (λ (x : Item). length (item_text x)) own)
 
--- an item in front of those that are behind a place begins at it or in front of it
+-- an item in front of those that are after a place begins at it or in front of it
 pub back_stop : (n : ℕ) (is xs : List Item) (w : Item) (ws : List Item) → is ≡ xs ++ (w ∷ (ws ++ in_back n is)) → n ≤ length (items_text (w ∷ (ws ++ in_back n is)) [])
 back_stop n [] [] w ws e = absurd (let no : [] ≡ w ∷ (ws ++ in_back n []) = e in cc)
 back_stop n [] (x ∷ xs) w ws e = absurd (let no : [] ≡ x ∷ (xs ++ (w ∷ (ws ++ in_back n []))) = e in cc)

@@ -1,4 +1,4 @@
--- A part of a node that stands behind one whose content gave way to another stays as it is, in whichever collections the two are.
+-- A part of a node that comes after one whose content were replaced by another stays as it is, in whichever collections the two are.
 use Rattle.std.proofs.Common.{◌≡◌, ℕ, ◌<◌, ◌≤◌, Bool, true, false, cond, List, [], ◌∷◌, ◌++◌, length, Option, Some, None, option_and_then}
 use Rattle.std.{proofs.Common.{refl, sym, ap, ◌∙◌, arith, length-append}, proofs.lemmas.Option.{none-some, same_Some}}
 use Rattle.yq_core.{specs.Answers.◌>>=◌, specs.Paths.{Step, is_here, further}}
@@ -10,7 +10,7 @@ use Rattle.yq_core.{proofs.NodeAgain.{key_longer, node_longer, sep_longer}, proo
 use Rattle.yq_flow_edits.{specs.FlowEdits.{put_content, put_item, spaced_key}, proofs.ItemPlaces.item_rest}
 use Rattle.yq_edit_laws.proofs.FlowStandings.{coll_entry, node_entry}
 
--- ---- where parts stand
+-- ---- where parts are
 
 node_in_items : (k : ℕ) (s : Step) (is : Items) (rest : List ℕ) (y : EntryPieces) → item_at k s is rest ≡ Some y → length (node_text y.node y.rest) ≤ length (flow_items_text k is rest)
 unfolding flow_items_text

@@ -44,7 +44,7 @@ record IsEndOfLine (doc : ℕ) (steps : List Step) (c : Cut) (e : LineEnd) : Typ
 abbrev ends : Held → LineEnd
 ends h = record { before = h.before ++ (h.space ++ h.head); white = h.white; comment = h.comment; behind = h.break ++ (h.lines ++ (h.last ++ h.behind)) }
 
--- the white space, the comment and the break that end a line don't depend on what is behind
+-- the white space, the comment and the break that end a line don't depend on what is after
 ends_same : (tail more : List ℕ) → IsTail tail more → end_in_line [] (tail ++ more) ≡ (record { before = []; white = (end_in_line [] tail).white; comment = (end_in_line [] tail).comment; behind = (end_in_line [] tail).behind ++ more })
 ends_same tail more h =
     let last : IsBreak h.line.break [] = ⊎_elim {0, 0, 0} (λ e. inl e) (λ e. inr (e.0, refl)) h.line.ends in

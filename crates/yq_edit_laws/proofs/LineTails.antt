@@ -14,7 +14,7 @@ use Rattle.yq_edit_rules.{specs.PathTails.{with_line_tail, IsLineTail, tailed}, 
 use Rattle.yq_edit_rules.proofs.CommentReadLaws.{no_breaks_none, comment_behind, comment_is}
 use Rattle.yq_semantics.specs.Meaning.{line_comment_text}
 
--- ---- what stands there then
+-- ---- what is there then
 
 abbrev pub written : List ℕ → List ℕ
 written text = 35 ∷ (32 ∷ text)

@@ -58,7 +58,7 @@ no_others (b ∷ t) h = let both = and_parts (is_feed b) (list_all is_feed t) h 
 pub known_text : (b : BlockText) → AreRaw b.indent b.raw → list_any (λ x. not (is_feed x)) (block_content b) ≡ true → b.indent.known ≡ true
 known_text b raw h = search (rules, cases_Bool, false≢true, no_others, literal_feeds, folded_feeds)
 
--- ---- its indentation, and what stands behind it
+-- ---- its indentation, and what comes after it
 
 detected_least : (least : ℕ) (f : TextIndent) (ls : RawLines) → IsDetected least f ls → least ≤ f.columns
 detected_least least f [] h = subst (λ (x : TextIndent). least ≤ x.columns) (sym h) (omega arith)

@@ -28,11 +28,11 @@ white_ends a (b ∷ (d ∷ g)) h some = subst EndsLow (append_assoc a (b ∷ [])
 
 -- ---- the content
 
--- what stands before the head of a content
+-- what comes before the head of a content
 abbrev pub before_head : Content → List ℕ
 before_head x = (content_cut x).0 ++ ((content_cut x).1 ++ (content_cut x).2)
 
--- What is written in a content that is alone on its line: a head, perhaps behind an anchor, in the place of which another node may be put.
+-- What is written in a content that is alone on its line: a head, perhaps after an anchor, in the place of which another node may be put.
 pub record IsLoneHead (x : Content) : Type 0 where
   pub block : is_block x ≡ false
   pub some : is_empty (content_cut x).3 ≡ false

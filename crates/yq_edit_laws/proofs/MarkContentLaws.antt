@@ -1,4 +1,4 @@
--- What is left behind a key or dash where nothing but the anchor stays.
+-- What is left after a key or dash where nothing but the anchor stays.
 use Rattle.std.proofs.Common.{◌≡◌, ℕ, ℤ, true, false, cond, List, [], ◌∷◌, ◌++◌, Option, Some, None, refl, sym, ap, ◌∙◌, append_assoc}
 use Rattle.std.{proofs.Common.{append-nil, rules}, proofs.lemmas.Bool.{false≢true, or_parts}}
 use Rattle.yq_core.{specs.Text.{is_empty, separates}, specs.Nodes.{begins_content, begins_with, node_text, IsName, IsFlowNode}}
@@ -28,7 +28,7 @@ content_named n x old h1 = search rules
 
 -- ---- the content
 
--- an anchor behind white space, or nothing, before a tail
+-- an anchor after white space, or nothing, before a tail
 abbrev pub left : List ℕ → Option (List ℕ) → List ℕ → Content
 left space None tail = Nothing tail
 left space (Some m) tail = Inline space (inline.anchored m [] inline.empty) tail
@@ -49,7 +49,7 @@ pub left_tail : (space : List ℕ) (a : Option (List ℕ)) (tail : List ℕ) →
 left_tail space None tail = refl
 left_tail space (Some m) tail = refl
 
--- it stands before a tail
+-- it comes before a tail
 pub left_content : (n : ℤ) (space : List ℕ) (a : Option (List ℕ)) (text tail rest : List ℕ) → Named space a text → IsTail tail rest → IsContent n (left space a tail) rest
 unfolding IsFlowNode node_text
 left_content n space None text tail rest h t = t
@@ -57,13 +57,13 @@ left_content n space (Some m) text tail rest h t =
     let none = or_parts (begins_with 38 (tail ++ rest)) (begins_content false (tail ++ rest)) (tail_no_node tail rest t) in
     (h.0, record { valid = (name_seam m h.1 (tail ++ rest) (tail_apart tail rest t) h.3, tail_lead tail rest t, refl, refl, (none.1, none.0)); something = refl }, t)
 
--- white space, a break or the end stands before it, where it does before the old one
+-- white space, a break or the end comes before it, where it does before the old one
 pub left_apart : (space : List ℕ) (a : Option (List ℕ)) (text tail rest : List ℕ) → Named space a text → separates text ≡ true → IsTail tail rest → separates (content_text (left space a tail) rest) ≡ true
 unfolding node_text
 left_apart space None text tail rest h old t = tail_apart tail rest t
 left_apart space (Some m) text tail rest h old t = space_apart space (38 ∷ (m ++ h.1)) (38 ∷ (m ++ (tail ++ rest))) h.0 (ap separates (sym h.2) ∙ old) refl
 
--- its text, and that with a node behind it
+-- its text, and that with a node after it
 pub left_text : (before : List ℕ) (x : Content) (tail rest : List ℕ) →
     before ++ content_text (anchor_left x tail) rest ≡ (before ++ cond (is_empty (content_cut x).1) [] ((content_cut x).0 ++ (content_cut x).1)) ++ (tail ++ rest)
 unfolding node_text
@@ -76,7 +76,7 @@ left_core_text before core x tail rest = search (rules, put_core, append-nil, ap
 
 -- ---- rows under it
 
--- an anchor may stand before rows that begin with an entry or item
+-- an anchor may come before rows that begin with an entry or item
 entry_free : (a : List ℕ) (above : List (List ℕ)) (column : ℕ) (ns : List ℕ) (m : rows.RowMark) (x : Content) (ls : List Line) → is_entry m ≡ true → IsFree (Some a) (lines_from above column ns m x ++ ls)
 entry_free a above column [] rows.Bare x ls e = absurd (false≢true e)
 entry_free a above column [] rows.Dash x ls e = tt

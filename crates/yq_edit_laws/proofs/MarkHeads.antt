@@ -1,4 +1,4 @@
--- What is written behind a key or dash and its anchor, or nothing: the text of another node there.
+-- What is written after a key or dash and its anchor, or nothing: the text of another node there.
 use Rattle.std.proofs.Common.{◌≡◌, ℕ, ℤ, true, false, cond, List, [], ◌∷◌, ◌++◌, refl, append_assoc, append-nil, rules}
 use Rattle.std.proofs.lemmas.Bool.{false≢true}
 use Rattle.yq_core.{specs.Text.is_empty, specs.Nodes.{node_text, IsFlowNode}, proofs.NodesPieceLaws.scalar_some}
@@ -18,7 +18,7 @@ none_written n x rest h1 h2 = search (rules, false≢true, scalar_some, empty_ga
 regroup : (b space m g u : List ℕ) → b ++ (space ++ (38 ∷ (m ++ (g ++ u)))) ≡ (b ++ (space ++ 38 ∷ m)) ++ (g ++ u)
 regroup b space m g u = simp append_assoc refl
 
--- another node in the place of what is written, behind its anchor and the same white space
+-- another node in the place of what is written, after its anchor and the same white space
 pub core_text : (b : List ℕ) (core : inline.FlowNode) (n : ℤ) (x : Content) (old z : List ℕ) → IsContent n x old → is_block x ≡ false → is_empty (content_cut x).3 ≡ false →
     b ++ content_text (put_core core x) z
     ≡ (b ++ cond (is_empty (content_cut x).1) [] ((content_cut x).0 ++ (content_cut x).1)) ++ (cond (is_empty (content_cut x).1) (content_cut x).0 (content_cut x).2 ++ node_text core ((content_cut x).4 ++ z))

@@ -1,4 +1,4 @@
--- A value put at an item or entry, or in the place of a node alone on its line, is an edit, by what stands there.
+-- A value put at an item or entry, or in the place of a node alone on its line, is an edit, by what is there.
 use Rattle.std.proofs.Common.{arith, ltb, ⊎_elim, ◌<◌, ◌≤◌, ◌≡◌, ℕ, true, false, eqb, List, [], ◌∷◌, ◌++◌, length, Some, refl, ap, ◌∙◌}
 use Rattle.std.{proofs.Common.{subst, eqb-true}, proofs.lemmas.Bool.{cases_Bool, cond_both, eqb-false, false≢true, ltb-false, ltb-true}}
 use Rattle.yq_core.{specs.BlockWritten.break_text, specs.Paths.Step, specs.Text.is_empty, specs.Tree.Node}
@@ -22,7 +22,7 @@ use Rattle.yq_places.specs.Standings as standings
 less : (a b : ℕ) → eqb a b ≡ false → a ≤ b → a < b
 less a b e h = ⊎_elim {0, 0, 0} (λ t. ltb-true a b t) (λ f. let most = ltb-false a b f in absurd (eqb-false a b e (omega (arith, h, most)))) (cases_Bool (ltb a b))
 
--- ---- by what stands there
+-- ---- by what is there
 
 module _ (n : ℕ) (s : Step) (ss : List Step) (v : Node) (c : Cut) (e : RowsOfEntry) (read : read_at (cut_text c) ≡ Some c) (at : rows_of_entry n (s ∷ ss) c ≡ Some e) where
   there : StandsThere n s ss c e

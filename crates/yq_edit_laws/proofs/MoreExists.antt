@@ -56,7 +56,7 @@ not_alone r rs o block lines = go r.dashes refl
 
 -- ---- at the end of a block collection
 
--- more is put where something stands
+-- more is put where something is
 abbrev IsPut : Layout → Option (List ℕ) → tree.Node → Standing → Type 0
 IsPut l key v s = (ss : List Segment) × (block_more l key v s ≡ Some ss)
 
@@ -85,7 +85,7 @@ module _ (l : Layout) (key : Option (List ℕ)) (v : tree.Node) where
   root_put d [] o block lines = absurd (none_there o block lines)
   root_put d (r ∷ rs) o block lines = (_, ap (block_more l key v) (cond-false _ _ _ (not_alone r rs o block lines)))
 
-  -- behind a mark, where no head is written
+  -- after a mark, where no head is written
   mark_put : (e : RowsOfEntry) (limit : Limit) (rest : List ℕ) (o : Outline) → IsRow limit e.row rest → head_of e.row.content ≡ None → HasEntries o → lines_of_rows e.under ≡ flatten o → IsPut l key v (behind_mark e e.row.content)
   mark_put e limit rest o is head block lines = go e.row.content refl
     where

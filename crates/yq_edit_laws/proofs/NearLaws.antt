@@ -68,7 +68,7 @@ dash_near br p (inline t) = (nothing_line, tt)
 dash_near br p (compact_text t) = (nothing_line, tt)
 dash_near br p (lines t) = (nothing_line, tt)
 
--- what stands somewhere, if it is behind a key or dash, has its line
+-- what is somewhere, if it is after a key or dash, has its line
 abbrev StandsInLine : Standing → Type 0
 StandsInLine (alone w) = ⊤
 StandsInLine (beside h) = IsInLine h

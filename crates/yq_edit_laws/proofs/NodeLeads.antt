@@ -1,4 +1,4 @@
--- The text of a row up to where something is written behind its key or dash.
+-- The text of a row up to where something is written after its key or dash.
 use Rattle.std.proofs.Common.{◌≡◌, ℕ, ◌+◌, ◌≤◌, Bool, true, false, cond, List, [], ◌∷◌, ◌++◌, length, replicate, sym, ap, ◌∙◌, append_assoc}
 use Rattle.std.{proofs.Common.arith, proofs.lemmas.List.length-append}
 use Rattle.yq_core.specs.Text.{is_empty}
@@ -29,7 +29,7 @@ own_lead r =
     held true t = omega arith
     held false t = omega arith
 
--- so does that with the white space behind these
+-- so does that with the white space after these
 pub own_space_lead : (r : Row) → length (row_front r ++ (anchor_before (slices r) ++ space_before (slices r))) ≤ length (print_row r [])
 own_space_lead r =
     let x = content_cut r.content in
@@ -69,7 +69,7 @@ upto_long (at_dash {r} {ns} n ms is) =
       length-append (replicate r.column 32) (dashes_text ns (45 ∷ [])),
     )
 
--- the text of a row that stands behind others begins with what stands before a place on its line
+-- the text of a row that comes after others begins with what comes before a place on its line
 pub first_lead : (b f p before more lead : List ℕ) → b ++ (f ++ p) ≡ before ++ more → before ≡ (b ++ f) ++ lead → length lead ≤ length p
 first_lead b f p before more lead e is =
     omega (arith, ap length e, ap length is, length-append b (f ++ p), length-append f p, length-append before more, length-append (b ++ f) lead, length-append b f)

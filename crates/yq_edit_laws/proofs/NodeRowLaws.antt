@@ -18,7 +18,7 @@ use Rattle.yq_edit_rules.{proofs.UnderLaws.{line_with, dashes_of}, proofs.FirstR
 use Rattle.yq_edit_laws.proofs.RowLines.{lines_upto}
 use Rattle.yq_outline.specs.Outline as outline
 
--- The rows of an item or entry in the text of a cut: the row of its key or dash, and those under it, between others in front and others behind; and that row up to its key or dash.
+-- The rows of an item or entry in the text of a cut: the row of its key or dash, and those under it, between others in front and others after; and that row up to its key or dash.
 pub record NodeRows (doc : ℕ) (s : Step) (ss : List Step) (c : Cut) : Type 0 where
   pub p : Part
   pub old : IsDocumentPart (cut_text c) c doc p
@@ -78,7 +78,7 @@ module _ (doc : ℕ) (s : Step) (ss : List Step) (c : Cut) (h : NodeRows doc s s
   pub entry : is_entry h.mark.mark ≡ true
   entry = search (rules, line_is, found_is_entry, even)
 
-  -- the next row stands where no further line of what is behind the mark does
+  -- the next row is where no further line of what is after the mark does
   pub near : allows_first (record { column = Some (suc (mark_column h.mark)) }) h.back ≡ true
   unfolding level
   near =

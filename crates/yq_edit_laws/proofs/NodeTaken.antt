@@ -1,4 +1,4 @@
--- The rows of an item or entry give way to rows that are written for a value: the document with that value there.
+-- The rows of an item or entry are replaced by rows that are written for a value: the document with that value there.
 use Rattle.std.proofs.Common.{◌≡◌, ℕ, suc, ◌<◌, ◌≤◌, Bool, true, false, List, [], ◌∷◌, ◌++◌, length, Option, Some, refl, sym, ap, ◌∙◌}
 use Rattle.std.{proofs.Common.{subst, arith, append-nil, rules}, proofs.lemmas.Bool.{false≢true, ltb-true}}
 use Rattle.yq_core.{specs.Paths.{Step, changed_at}, specs.Tree.{Node, anchor_of}, specs.Alike.Alike}
@@ -32,7 +32,7 @@ led_below : (block : Bool) (lead : List (List ℕ)) (s : Step) (ss : List Step) 
 led_below true lead s ss v = refl
 led_below false lead s ss v = refl
 
--- Rows that are written for a value in the place of those of an item or entry: they may stand there; the first begins as that one does; their lines are those of its dashes, the line of its mark with what then stands behind that, and lines under it, and together these stand for the value.
+-- Rows that are written for a value in the place of those of an item or entry: they may be there; the first begins as that one does; their lines are those of its dashes, the line of its mark with what then comes after that, and lines under it, and together these mean the value.
 pub record TakesNode (doc : ℕ) (s : Step) (ss : List Step) (c : Cut) (h : NodeRows doc s ss c) (v : Node) (new : List Row) : Type 0 where
   pub first : Row
   pub more : List Row
@@ -59,7 +59,7 @@ module _ (doc : ℕ) (s : Step) (ss : List Step) (c : Cut) (h : NodeRows doc s s
   abbrev pub q : Part
   q = inserted h.front new h.back h.p
 
-  -- the rows stand there
+  -- the rows are there
   replace_rows : RowsReplace h.front (h.row ∷ h.under) new h.back (first_gap h.back h.p.end) h.p (behind_document doc c)
   replace_rows =
       let text : rows_text h.back (h.p.end ++ z) ≡ first_gap h.back h.p.end ++ behind_first h.back h.p.end z = first_text h.back h.p.end z in

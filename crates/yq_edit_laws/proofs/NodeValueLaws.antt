@@ -1,4 +1,4 @@
--- The rows that are written for a value in the place of those of an item or entry: behind its key or dash, or under it.
+-- The rows that are written for a value in the place of those of an item or entry: after its key or dash, or under it.
 use Rattle.std.proofs.Common.{◌≡◌, ℕ, suc, ◌+◌, ◌*◌, ◌<◌, ◌≤◌, true, false, List, [], ◌∷◌, ◌++◌, Option, Some, None, refl, sym, ap, ◌∙◌}
 use Rattle.std.{proofs.Common.{subst, rules}, proofs.lemmas.Bool.false≢true}
 use Rattle.yq_core.{specs.Paths.Step, specs.Piece.deeper, specs.Plain.ends_plain, specs.Text.separates, specs.Tree.{Node, anchor_of}}
@@ -34,14 +34,14 @@ mark_key (rows.Key key colon) = Some key
 mark_level : (m : rows.RowMark) (n : ℕ) → is_entry m ≡ true → 3 * n + outline.rank (line_mark m) ≡ entry_level (mark_key m) n
 mark_level m n h1 = search (rules, false≢true)
 
--- ---- nothing but an anchor behind a mark
+-- ---- nothing but an anchor after a mark
 
 -- it has no head and no key that is too long, and is no block scalar
 nothing_is : (x : Content) → holds_nothing x ≡ true → (head_of x ≡ None) × ContentHasFitKeys x × (is_block x ≡ false)
 nothing_is x h1 = search (rules, false≢true)
 
 module _ (doc : ℕ) (s : Step) (ss : List Step) (c : Cut) (h : NodeRows doc s ss c) where
-  -- the end of a line before the rows behind ends what is written in the place
+  -- the end of a line before the rows after ends what is written in the place
   pub end_is : (tail : List ℕ) → IsTail tail (rest doc s ss c h) → IsEnd (mark_column h.mark) tail (rest doc s ss c h)
   end_is tail ends =
       let below : deeper (parent_indent h.mark) ≡ suc (mark_column h.mark) = deeper_entry h.mark.mark (mark_column h.mark) (entry doc s ss c h) in
@@ -53,7 +53,7 @@ module _ (doc : ℕ) (s : Step) (ss : List Step) (c : Cut) (h : NodeRows doc s s
             (part_ends c (part_number doc c) true (document_known (cut_text c) c doc h.p h.old).cut.parts));
       }
 
-  -- What stands behind the key or dash on its line, before lines under it or the rows behind: nothing but perhaps the old anchor, and the end of the line with the old comment.
+  -- What comes after the key or dash on its line, before lines under it or the rows after: nothing but perhaps the old anchor, and the end of the line with the old comment.
   pub record IsHolding (x : Content) (more : List ℕ) : Type 0 where
     pub holds : holds_nothing x ≡ true
     pub stands : IsContent (parent_indent h.mark) x more
@@ -120,7 +120,7 @@ module _ (doc : ℕ) (s : Step) (ss : List Step) (c : Cut) (h : NodeRows doc s s
           anchors = subst (λ ls. HaveOneAnchorEach (line_with h.mark x ∷ ls)) (sym stands.lines_are) (laid_free (content_anchor x) below rs z laid, anchors_fit rs fit);
         }
 
-  -- ---- behind it on its line
+  -- ---- after it on its line
 
   -- a content that is no block scalar, with the node of a value in the place of its own
   module _ (v : Node) (node : inline.FlowNode) (is : IsValueNode v node) (x : Content) (block : is_block x ≡ false) where

@@ -1,4 +1,4 @@
--- A gap without a final break, with one behind it: it is a gap before any text, and ends in the same comment.
+-- A gap without a final break, with one after it: it is a gap before any text, and ends in the same comment.
 use Rattle.std.proofs.Common.{◌≡◌, ◌&&◌, inl, inr, eqb, List, [], ◌∷◌, ◌++◌, ℕ, is_some, true, false, cond, refl, sym, ap, ◌∙◌, subst}
 use Rattle.std.{proofs.Common.{append_assoc, append-nil, ⊎_elim, rules}, proofs.lemmas.Bool.false≢true}
 use Rattle.yq_core.{specs.BlockWritten.break_text, specs.Characters.pairs_returns}

@@ -1,4 +1,4 @@
--- A document without rows behind a last marker that has no break: the cut in which the marker gets one has the same documents.
+-- A document without rows after a last marker that has no break: the cut in which the marker gets one has the same documents.
 use Rattle.std.proofs.Common.{◌≡◌, ℕ, zero, suc, ◌≤◌, ◌||◌, not, Bool, true, false, List, [], ◌∷◌, ◌++◌, length, Some, option_map, refl}
 use Rattle.std.{proofs.Common.{sym, ap, ◌∙◌, subst, arith, append_assoc, append-nil, rules}, proofs.lemmas.Bool.false≢true}
 use Rattle.std.specs.List.{slice_get}
@@ -11,11 +11,11 @@ use Rattle.yq_documents.specs.PartNumbers.{number_from, part_number}
 use Rattle.yq_places.{specs.PlacedRows.{PlacedPart, before_part, placed_at, placed_document}, proofs.PlacedPartLaws.part_stands}
 use Rattle.yq_edit_rules.{specs.Changed.{put_document, put_part}, proofs.DocumentItemLaws.rows_before}
 
--- a document behind a text with a break more, at the end of a text
+-- a document after a text with a break more, at the end of a text
 abbrev pub broken_before : List ℕ → PlacedPart → PlacedPart
 broken_before break d = record { before = d.before ++ break; part = d.part; behind = [] }
 
--- Part i is the last part: it stands behind the last marker, and does so where that gets a break.
+-- Part i is the last part: it comes after the last marker, and does so where that gets a break.
 record IsLast (break : List ℕ) (i : ℕ) (c : Cut) : Type 0 where
   pub pre : List ℕ
   pub before_is : before_part i c ≡ pre ++ last_marker c
@@ -39,7 +39,7 @@ marker_some : (m t : List ℕ) → 3 ≤ length m → m ++ t ≡ [] → ⊥
 marker_some [] t h e = omega (arith, h)
 marker_some (b ∷ m) t h e = cc
 
--- the numbers of documents behind a part
+-- the numbers of documents after a part
 numbers_later : (p : Part) (m : List ℕ) (a b : Cut) → ((is : Bool) (n : ℕ) → number_from is n a ≡ number_from is n b) → (is : Bool) (n : ℕ) → number_from is n (marked p m a) ≡ number_from is n (marked p m b)
 numbers_later p m a b h1 is n = search rules
 
@@ -86,7 +86,7 @@ is_last break (suc i) (marked q m2 c) started p m h none =
       new_are = λ y. ap (λ is. rows_items p.rows (end_item p.end m ∷ is)) (r.new_are y) ∙ rows_before p.rows (end_item p.end m ∷ r.above) _;
     }
 
--- Document n is the last part, behind a marker, and stays so where that gets a break.
+-- Document n is the last part, after a marker, and stays so where that gets a break.
 pub record IsBehindMarker (break : List ℕ) (n : ℕ) (c : Cut) (d : PlacedPart) : Type 0 where
   pub pre : List ℕ
   pub before_is : d.before ≡ pre ++ last_marker c

@@ -1,4 +1,4 @@
--- Where the root of a document comes that has no rows, behind a text that doesn't end in a break: on a line of its own, behind a break that comes first.
+-- Where the root of a document comes that has no rows, after a text that doesn't end in a break: on a line of its own, after a break that comes first.
 use Rattle.std.proofs.Common.{◌≡◌, ◌⊎◌, inl, inr, ℕ, ◌≤◌, List, [], ◌∷◌, ◌++◌, length, Some, true, false, refl, sym, ap, ◌∙◌, subst, arith}
 use Rattle.std.proofs.Common.{append_assoc, append-nil, length-append, rules}
 use Rattle.std.{proofs.lemmas.Bool.{false≢true, cond-true, false_from_ne_true, and_parts}, proofs.lemmas.Str.is_utf8-from_IsUtf8}
@@ -32,7 +32,7 @@ use Rattle.yq_edit_laws.proofs.UnwrittenRootLaws.{long_some, stands, there, cut,
 use Rattle.yq_edit_laws.proofs.UnwrittenRootLaws.{starts_at, takes_unwritten}
 use Rattle.yq_edit_laws.proofs.UnwrittenRootLaws as unwritten_root
 
--- rows come behind a gap, at the end of a text
+-- rows come after a gap, at the end of a text
 room_at_end : (gap : List ℕ) → ((x : List ℕ) → is_empty x ≡ false → IsGap gap x) → HasRoom gap [] [] []
 room_at_end gap front = record { front = front; tail = nothing_tail; apart = refl; uncommented = none_uncommented; back_is = no_gap_here []; ends = refl }
 
@@ -53,7 +53,7 @@ module _ (n : ℕ) (c : Cut) (w : NoRows) (read : read_at (cut_text c) ≡ Some 
       go (inr (inl lf)) = absurd (false≢true (sym all_open ∙ (ap is_closed_text lf.1 ∙ closed_behind lf.0 (10 ∷ []) refl)))
       go (inr (inr e)) = e
 
-  -- ---- behind comments or white space
+  -- ---- after comments or white space
 
   module _ (some : is_empty h.d.part.end ≡ false) where
     gap_open : is_closed_text h.d.part.end ≡ false
@@ -78,7 +78,7 @@ module _ (n : ℕ) (c : Cut) (w : NoRows) (read : read_at (cut_text c) ≡ Some 
       starts = λ t e. starts_at n c w read h (λ none. absurd (false≢true (sym (some_more h.d.part.end h.d.behind some) ∙ ap is_empty none))) t;
     }
 
-  -- ---- behind a marker
+  -- ---- after a marker
 
   module _ (none : h.d.part.end ≡ []) where
     no_gap : h.d.before ++ h.d.part.end ≡ h.d.before
@@ -104,7 +104,7 @@ module _ (n : ℕ) (c : Cut) (w : NoRows) (read : read_at (cut_text c) ≡ Some 
       part = marker.part_is;
     }
 
-    -- the text with a break behind it
+    -- the text with a break after it
     abbrev other : Cut
     other = with_last_part (break_text br) h.d.part c
 
@@ -151,7 +151,7 @@ module _ (n : ℕ) (c : Cut) (w : NoRows) (read : read_at (cut_text c) ≡ Some 
 
   module _ (v : Node) (l : Layout) (step : 1 ≤ l.mapping) (value_tree : IsValueTree v) (fits : FitsPart v h.d.part) (ss : List Segment) (before : kept_front ss ≡ w.before) (behind : kept_back ss ≡ w.behind)
       (is : new_text ss ≡ h.d.before ++ (h.d.part.end ++ (break_text br ++ (block_value l 0 v ++ h.d.behind)))) (readable : IsReadable (new_text ss)) where
-    -- the marker gets a break, and rows come behind it
+    -- the marker gets a break, and rows come after it
     carried_behind_marker : h.d.part.end ≡ [] → CarriedOut (replace n [] v) c ss
     carried_behind_marker none =
         let text : (h.d.before ++ break_text br) ++ (h.d.part.end ++ (block_value l 0 v ++ [])) ≡ new_text ss = search (rules, append_assoc, nothing_behind) in

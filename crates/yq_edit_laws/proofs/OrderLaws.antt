@@ -28,7 +28,7 @@ leads_give f R each (x ∷ xs) t new cs h =
     ap (edit_then (in_order f xs)) (each x t h.0 h.1 h.3)
     ∙ (ap (edit_after h.1) (leads_give f R each xs h.0 new h.2 h.4) ∙ ap (gives new) (sym h.5))
 
--- an edit that fails, also behind splices
+-- an edit that fails, also after splices
 pub fails_behind : (e : EditError) (cs : List Splice) (r : Edit) → EditFails e r → EditFails e (edit_after cs r)
 fails_behind (error.Read fault) cs r h = (ap (edit_after cs) h.0, h.1)
 fails_behind (error.Refused why) cs r h = ap (edit_after cs) h
@@ -44,13 +44,13 @@ fails_itself (error.Refused why) cs (refuses other) h = h
 fails_itself (error.Refused why) cs (gives t ds) h = absurd (cc)
 fails_itself error.Memory cs r h = tt
 
--- an edit behind no splices
+-- an edit after no splices
 pub behind_none : (r : Edit) → edit_after [] r ≡ r
 behind_none unreadable = refl
 behind_none (refuses why) = refl
 behind_none (gives t cs) = refl
 
--- an edit behind splices, behind others
+-- an edit after splices, after others
 pub behind_both : (bs cs : List Splice) (r : Edit) → edit_after (bs ++ cs) r ≡ edit_after bs (edit_after cs r)
 behind_both bs cs unreadable = refl
 behind_both bs cs (refuses why) = refl
@@ -70,7 +70,7 @@ leads_fail f R each (x ∷ xs) y ys t m cs e h fails =
     subst (EditFails e) (ap (edit_then (in_order f (xs ++ y ∷ ys))) (sym (each x t h.0 h.1 h.3)))
     (fails_behind e h.1 (in_order f (xs ++ y ∷ ys) h.0) (leads_fail f R each xs y ys h.0 m h.2 e h.4 fails))
 
--- a thing that is refused stops those that come behind others
+-- a thing that is refused stops those that come after others
 pub leads_stop : {A : Type 0} (R : Leading A) (S : A → List ℕ → Type 0) (xs : List A) (y : A) (ys : List A) (t m : List ℕ) (cs : List Splice) → InOrder R xs t m cs →
     S y m → StopsInOrder R S (xs ++ y ∷ ys) t
 leads_stop R S [] y ys t m cs h stops = inl (subst (S y) (sym h.0) stops)

@@ -40,7 +40,7 @@ part_placed total s w =
     let slot : EntryPieces = record { key = bare; node = coll w.close w.gap w.items; rest = w.rest } in
     sym (one_step (flow_part_at s (parts_of (placed_collection total w)))) ∙ (path_places total (s ∷ []) slot ∙ ap (option_map (locate_entry total)) (one_piece (item_at w.close s w.items w.rest)))
 
--- what stands at the place of an edit
+-- what is at the place of an edit
 old_at : (t before : List ℕ) (e : FlowEdit) → t ≡ before ++ (e.old ++ e.behind) → drop (length t - length (e.old ++ e.behind)) (take (length t - length e.behind) t) ≡ e.old
 old_at t before e is =
     let whole : t ≡ (before ++ e.old) ++ e.behind = is ∙ sym (append_assoc before e.old e.behind) in

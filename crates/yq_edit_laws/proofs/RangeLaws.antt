@@ -1,4 +1,4 @@
--- The ranges of what segments put touch what stands between two offsets of the text that they make.
+-- The ranges of what segments put touch what is between two offsets of the text that they make.
 use Rattle.std.proofs.Common.{◌≡◌, ◌⊎◌, inl, inr, ℕ, ◌+◌, ◌<◌, ◌≤◌, Bool, true, false, cond, List, [], ◌∷◌, ◌++◌, length, refl, sym, ap}
 use Rattle.std.{proofs.Common.{◌∙◌, subst, append_assoc, arith}, proofs.lemmas.Bool.{cases_lt, false≢true}}
 use Rattle.std.proofs.lemmas.List.{append_cancel_left, length-append}
@@ -23,7 +23,7 @@ line_no_more (b ∷ f) d rest e = go (line_no_more f d rest) (is_feed b) e
 -- ---- offsets of a text that is cut in two
 
 module _ (before behind : List ℕ) (to : ℕ) (ended : is_empty behind ≡ false → (before ≡ []) ⊎ IsLf before) (less : length before ≤ to) where
-  -- what is kept doesn't go over the cut, and on behind that
+  -- what is kept doesn't go over the cut, and on after that
   inside : (lead run rest : List ℕ) → lead ++ (run ++ rest) ≡ before ++ behind → length lead < length before → to < length lead + length run → to ≤ length before + length behind → is_one_line run ≡ true → ⊥
   inside lead run rest text first last within line =
       let m = longer_front lead (run ++ rest) before behind text (omega (arith, first)) in
@@ -66,7 +66,7 @@ module _ (before behind : List ℕ) (to : ℕ) (ended : is_empty behind ≡ fals
       go (inl k) = inr (kept (are_kept ss) refl k)
       go (inr k) = inl (first, k)
 
-  -- behind a range that ends in front of the cut
+  -- after a range that ends in front of the cut
   behind_range : (lead run : List ℕ) (ss : List Segment) → lead ++ (run ++ new_text ss) ≡ before ++ behind → length lead < length before → AreInLines run ss → are_kept ss ≡ false → length (kept_back ss) ≤ length behind →
       to ≤ length before + length behind → IsTouched (length before) to (extents (length lead + length run) (swapped_segments ss))
   behind_range lead run [] text first lines kept back within = absurd (false≢true (sym kept))

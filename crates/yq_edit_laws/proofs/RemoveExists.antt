@@ -1,4 +1,4 @@
--- An item or entry that stands in rows can be taken out.
+-- An item or entry that is in rows can be taken out.
 use Rattle.std.proofs.Common.{◌≡◌, ◌-◌, Bool, true, false, cond, eqb, ℕ, List, [], ◌∷◌, ◌++◌, length, drop, map, Option, Some, None}
 use Rattle.std.{proofs.Common.{option_map, option_and_then, refl, ap, ◌∙◌}, proofs.lemmas.Bool.{cond-true, cond-false}}
 use Rattle.std.{specs.List.slice_get, specs.Option.option_or}
@@ -32,7 +32,7 @@ module _ (n : ℕ) (s : Step) (ss : List Step) (c : Cut) (e : RowsOfEntry) (read
   number : line_at_steps (s ∷ ss) (lines_of_rows x.part.rows) ≡ Some (length (lines_before x.found.place))
   number = ap (λ (o : Option (FoundLine × List Step)). option_and_then (λ y. found_line y.0 y.1) o) x.is
 
-  -- the row in which its line stands
+  -- the row in which its line is
   printed_line : (w : RowLine) × (row_line (length (lines_before x.found.place)) x.part.rows ≡ Some w)
   printed_line =
       let lines : ls ≡ lines_before x.found.place ++ (x.found.line ∷ (flatten x.found.under ++ (flatten x.found.after ++ lines_after x.found.place))) = found_lines ls s ss [] x.found x.is in
@@ -53,7 +53,7 @@ module _ (n : ℕ) (s : Step) (ss : List Step) (c : Cut) (e : RowsOfEntry) (read
       ap (λ (o : Option PlacedPart). o >>= λ q. option_map (rows_out q) (own_rows (s ∷ ss) q.part.rows)) d.1 ∙ ap (option_map (rows_out d.0)) (ap (λ (q : Part). own_rows (s ∷ ss) q.rows) d.2 ∙ rows) in
       (rows_removed (rows_out d.0 own), ap (option_map rows_removed) place)
 
-  -- a line behind a dash
+  -- a line after a dash
   piece_there : (y : TextPiece) × ((printed_document n c >>= piece_in Entry (s ∷ ss)) ≡ Some y)
   piece_there =
       let d = printed_at c n p read x.old.there in

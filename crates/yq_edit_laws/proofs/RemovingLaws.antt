@@ -21,7 +21,7 @@ use Rattle.yq_edit_rules.{proofs.DoneLaws.{document_done, part_of}, proofs.Edits
 use Rattle.yq_semantics.{specs.Fits.Fits, specs.Operations.remove, specs.Rooms.room_of}
 use Rattle.yq_edit_laws.{specs.TouchedRanges.LiesInOne, proofs.GapLaws.{RowsGoOut, out_in_one, out_local}}
 
--- ---- segments one behind the other
+-- ---- segments one after the other
 
 old_both : (a b : List Segment) → old_text (a ++ b) ≡ old_text a ++ old_text b
 old_both [] b = refl
@@ -130,7 +130,7 @@ gap_no_longer rs end first others e =
     omega (arith, kept, length-append (joined (before_run (text_lines first.gap))) (joined (last_run (text_lines first.gap))), ap length parts, length-append first.gap (behind_gap first []))
 
 module _ (doc : ℕ) (steps : List Step) (c : Cut) (x : Removal) (old : old_text (rows_removed x) ≡ cut_text c) (out : IsTakenOut c doc steps (x.before ++ (mended x.seam x.gap ++ x.behind))) (a : AreRowsTaken c doc x out.old out.new) where
-  -- the rows that go, with the gap behind them
+  -- the rows that go, with the gap after them
   abbrev own : List Row
   own = a.first ∷ a.others
 

@@ -14,7 +14,7 @@ use Rattle.yq_semantics.{specs.Fits.Fits, specs.Operations.replace, specs.Rooms.
 use Rattle.yq_text.specs.Script.{Segment, new_text}
 use Rattle.yq_edit_laws.{proofs.RootRows.root_rows, proofs.RootReadLaws.{TakesValue, text_is, root_read, root_reads}}
 
--- A value may stand in the place of the root of a part.
+-- A value may be in the place of the root of a part.
 pub record FitsPart (v : Node) (p : Part) : Type 0 where
   pub near : HasNearKeys v
   pub value_is : IsNewValue v 0

@@ -27,7 +27,7 @@ use Rattle.yq_row_table.specs.Rows as rows
 abbrev pub lone_row : (gap : List ℕ) → ℕ → inline.FlowNode → (end : List ℕ) → Row
 lone_row gap column node last = record { gap = gap; column = column; dashes = []; mark = Bare; content = Inline [] node last }
 
--- a value at a column behind a gap: on a row alone, or in the rows of block style
+-- a value at a column after a gap: on a row alone, or in the rows of block style
 abbrev pub rows_or : Option inline.FlowNode → (gap : List ℕ) → ℕ → List ℕ → List Row → List Row
 rows_or None gap column last rs = with_first_gap gap rs
 rows_or (Some node) gap column last rs = lone_row gap column node last ∷ []
@@ -35,7 +35,7 @@ rows_or (Some node) gap column last rs = lone_row gap column node last ∷ []
 abbrev pub root_rows : Layout → (gap : List ℕ) → ℕ → List ℕ → Node → List Row
 root_rows l gap column last v = rows_or (inline_of v) gap column last (node_rows l column last v)
 
--- Rows may come behind a gap, and end a line before another gap and the end of a part.
+-- Rows may come after a gap, and end a line before another gap and the end of a part.
 pub record HasRoom (gap last back rest : List ℕ) : Type 0 where
   pub front : (x : List ℕ) → is_empty x ≡ false → IsGap gap x
   pub tail : IsTail last (back ++ rest)

@@ -14,7 +14,7 @@ use Rattle.yq_edit_rules.specs.RowChanges.{CommentEdits, HoldsInline, InlineEdit
 use Rattle.yq_edit_rules.specs.WrittenValues.{collection_at, inline, value_text}
 use Rattle.yq_edit_laws.proofs.OnePutLaws.{comment_puts, inline_puts}
 
--- an inline node stands beside its key or dash
+-- an inline node is beside its key or dash
 beside_there : (e : RowsOfEntry) → HoldsInline e → entry_standing e ≡ beside (held e)
 beside_there e h = ap (λ (b : Bool). cond b (behind_mark e e.row.content) (compact (compact_in e))) at_mark ∙ go e.row.content refl
   where

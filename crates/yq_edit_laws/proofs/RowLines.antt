@@ -1,4 +1,4 @@
--- The lines of a row up to a key or dash, and those behind it.
+-- The lines of a row up to a key or dash, and those after it.
 use Rattle.std.proofs.Common.{◌≡◌, ℕ, suc, ◌+◌, ◌<◌, true, List, [], ◌∷◌, ◌++◌, length, None, refl, sym, ap, ◌∙◌, subst, arith}
 use Rattle.std.{proofs.Common.append_assoc, proofs.lemmas.Bool.false≢true}
 use mathlib.Core.List.{head-eq_of_cons-eq}
@@ -31,7 +31,7 @@ lines_upto (at_dash {r} {ns} n ms is) under =
           ∙ (ap (λ ls. ls ++ lines_of_rows under) (lines_behind (head_comment r.gap) r.column ns n ms r.mark r.content) ∙ append_assoc (dash_lines (head_comment r.gap) r.column ns) (line ∷ more) (lines_of_rows under)),
     )
 
--- the lines behind a dash begin with an item or entry
+-- the lines after a dash begin with an item or entry
 entry_behind : (above : List (List ℕ)) (column : ℕ) (ns : List ℕ) (m : rows.RowMark) (x : Content) (more : List Line) (u : Outline) → is_entry m ≡ true → lines_from above column ns m x ++ more ≡ flatten u → HasEntries u
 entry_behind above column [] m x more outline.end entry e = absurd (cc)
 entry_behind above column (n ∷ ns) m x more outline.end entry e = absurd (cc)

@@ -32,7 +32,7 @@ has_break tail more line h = go h.line.ends
     go (inl k) = break_is h.line.break k
     go (inr k) = absurd (false≢true (sym (ap is_line k.0) ∙ (sym same ∙ line)))
 
--- a break and lines behind it, as they are held: the break of the line is that one, with or without lines
+-- a break and lines after it, as they are held: the break of the line is that one, with or without lines
 abbrev gone_of : List ℕ → List ℕ → List ℕ
 gone_of b below = cond (is_empty below) [] b
 

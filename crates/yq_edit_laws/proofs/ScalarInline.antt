@@ -1,4 +1,4 @@
--- A block scalar gives way to a value on one line.
+-- A block scalar is replaced by a value on one line.
 use Rattle.std.proofs.Common.{◌≡◌, cond, inl, ℕ, ◌≤◌, not, List, [], ◌∷◌, ◌++◌, length, Option, Some, None, false, true, refl, sym, ap, ◌∙◌}
 use Rattle.std.proofs.Common.{subst}
 use Rattle.yq_core.{specs.Block.{BlockText, block_text}, specs.BlockWritten.break_text, specs.Paths.Step, specs.Piece.deeper}
@@ -24,7 +24,7 @@ use Rattle.yq_edit_laws.{proofs.ScalarHeld.{anchor_is, apart_is, front_text, hea
 use Rattle.yq_core.specs.Nodes as inline
 use Rattle.yq_edit_rules.specs.WrittenValues as written
 
--- ---- an inline node behind the anchor of a block scalar
+-- ---- an inline node after the anchor of a block scalar
 
 -- a node that has that anchor
 abbrev carrier : Option Anchor → inline.FlowNode

@@ -1,4 +1,4 @@
--- A string takes the place of a block scalar as a literal one: header and lines give way.
+-- A string takes the place of a block scalar as a literal one: header and lines are replaced.
 use Rattle.std.proofs.Common.{◌≡◌, ℕ, ◌≤◌, List, [], ◌∷◌, ◌++◌, length, Option, Some, None, true, false, refl, sym, ap, ◌∙◌, subst}
 use Rattle.std.{proofs.Common.{append_assoc, append-nil, rules}, proofs.lemmas.Bool.and_parts, specs.Str.IsUtf8}
 use Rattle.yq_core.{specs.Block.{BlockText, IsBlock, block_text, ends_block, keeps}, specs.BlockContent.block_content}

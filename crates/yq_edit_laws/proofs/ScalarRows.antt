@@ -1,4 +1,4 @@
--- The lines of a block scalar give way to those of a collection, and its header goes.
+-- The lines of a block scalar are replaced by those of a collection, and its header goes.
 use Rattle.std.proofs.Common.{◌≡◌, inl, ℕ, ◌≤◌, List, [], ◌∷◌, ◌++◌, length, Option, true, refl, sym, ap, ◌∙◌, append_assoc, append-nil}
 use Rattle.yq_core.{specs.Block.BlockText, specs.BlockWritten.break_text, specs.Paths.Step, specs.Tree.Node}
 use Rattle.yq_text.{specs.Limit.text_limit, specs.Script.{Segment, put, new_text}}

@@ -118,9 +118,9 @@ nth_changed k f [] d e = absurd (none-some _ e)
 nth_changed zero f (x ∷ ds) d e = ap (λ y. Some (f y)) (same_Some _ _ e)
 nth_changed (suc k) f (x ∷ ds) d e = nth_changed k f ds d e
 
--- ---- the operation that stands for a removal
+-- ---- the operation that means a removal
 
--- What is known of a removal that fits and of the operation that stands for it.
+-- What is known of a removal that fits and of the operation that means it.
 record StandsFor (doc : ℕ) (init : List Step) (s : Step) (v : Node) (c : Cut) : Type 0 where
   read : read_at (cut_text c) ≡ Some c
   others : has_others_at doc (init ++ (s ∷ [])) c ≡ false

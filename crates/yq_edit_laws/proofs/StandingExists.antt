@@ -1,4 +1,4 @@
--- Where a node is, something stands.
+-- Where a node is, something is.
 use Rattle.std.proofs.Common.{◌≡◌, ◌⊎◌, inl, inr, ltb, ℕ, true, false, List, [], ◌∷◌, ◌++◌, length, Option, Some, None, option_map}
 use Rattle.std.{proofs.Common.{option_and_then, refl, sym, ap, ◌∙◌}, proofs.lemmas.Option.{none-some, same_Some}, specs.List.slice_get}
 use Rattle.yq_core.{specs.Answers.◌>>=◌, specs.Paths.{Step, child_at, node_at}, specs.Tree.{Node, children_of}, proofs.Bools.bind_some}

@@ -33,6 +33,6 @@ module _ (n : ℕ) (s : Step) (ss : List Step) (c : Cut) (e : RowsOfEntry) (ther
   abbrev pub mark_node : (last : e.line ≡ length e.row.dashes) → NodeRows n s ss c
   mark_node last = node_upto e.row (at_mark (entry_there n s ss c e there last)) (sym last)
 
-  -- the text behind these rows
+  -- the text after these rows
   pub behind_is : (last : e.line ≡ length e.row.dashes) → behind_entry e ≡ rest n s ss c (mark_node last)
   behind_is last = behind_there n s ss c e there

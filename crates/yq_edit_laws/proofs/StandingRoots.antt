@@ -1,4 +1,4 @@
--- Where a block collection stands that is a root, or no rows.
+-- Where a block collection is that is a root, or no rows.
 use Rattle.std.proofs.Common.{◌≡◌, ℕ, List, [], ◌∷◌, ◌++◌, Some, Bool, true, false, refl, sym, ap, ◌∙◌, rules}
 use Rattle.std.proofs.lemmas.Bool.{cond_both, false≢true}
 use Rattle.yq_core.specs.Paths.{Step}
@@ -8,7 +8,7 @@ use Rattle.yq_places.specs.Standings.{BlockRoot, NoRows, RowsOfEntry, Standing, 
 use Rattle.yq_places.specs.Standings.{block_root, entry_standing, is_alone, lone, rows_of_entry, root_standing, standing_at}
 use Rattle.yq_places.proofs.PlacedPartLaws.{map_some}
 
--- whether what stands somewhere is a root that is a block collection, or no rows
+-- whether what is somewhere is a root that is a block collection, or no rows
 abbrev is_root : Standing → Bool
 is_root (alone w) = false
 is_root (beside h) = false

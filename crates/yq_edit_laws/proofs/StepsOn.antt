@@ -1,4 +1,4 @@
--- One step more on a path to the line in whose head a node stands goes on in that head.
+-- One step more on a path to the line in whose head a node is goes on in that head.
 use Rattle.std.proofs.Common.{◌≡◌, ◌<◌, List, [], ◌∷◌, ◌++◌, length, Option, Some, None, option_map, ap, ◌∙◌, append_assoc, arith}
 use Rattle.std.{proofs.Common.length-append, proofs.lemmas.Option.{none-some, same_Some}}
 use Rattle.yq_core.{specs.Answers.◌>>=◌, specs.Paths.Step, specs.Tree.Node}
@@ -28,7 +28,7 @@ module _ (y : Reached) (some : 0 < length y.1) where
       go (Some (f, [])) e = absurd (line_left f f.line.head e)
       go (Some (f, t ∷ ts)) e = e
 
--- the line in whose head a node stands is that to which one step more leads
+-- the line in whose head a node is is that to which one step more leads
 pub head_on : (steps : List Step) (s : Step) (o : Outline) (y : FoundLine × List Step) → find_head steps o ≡ Some y → found_at (steps ++ (s ∷ [])) o ≡ Some (y.0, y.1 ++ (s ∷ []))
 head_on steps s o y e =
     let h = stem_found steps o y e in

@@ -42,7 +42,7 @@ front_left n (i ∷ is) = go (front_left (n - length (item_text i)) is) (ltb (le
     go x true = (x.0, ap (λ (xs : List Item). i ∷ xs) x.1)
     go x false = (i ∷ is, refl)
 
--- ---- behind
+-- ---- after
 
 last_long : (trail : List ℕ) (is : List Item) → InLast trail is → length trail ≤ length (items_text is [])
 last_long trail [] h = omega (arith, ap length h)
@@ -53,7 +53,7 @@ last_long trail (i ∷ (j ∷ is)) h = omega (arith, last_long trail (j ∷ is) 
 skipped : (i : Item) (is : List Item) (n : ℕ) → n ≤ length (items_text (i ∷ is) []) → in_back n (i ∷ is) ≡ in_back n is
 skipped i is n long = ap (λ (b : Bool). cond b (i ∷ is) (in_back n is)) (le-ltb (length (items_text (i ∷ is) [])) n long)
 
--- items behind that place begin behind the last one that goes
+-- items after that place begin after the last one that goes
 back_only : (is back : List Item) (n : ℕ) (trail : List ℕ) → n ≡ length trail + length (items_text back []) → InLast trail is → in_back n (is ++ back) ≡ in_back n back
 back_only [] back n trail e h = refl
 back_only (i ∷ []) back n trail e h = skipped i back n (omega (arith, e, h, size_one i back))

@@ -16,7 +16,7 @@ text_cut : (t : List ℕ) (c : Cut) → read_at t ≡ Some c → IsCut t c
 unfolding read_at
 text_cut t c h = (text_takes t c (guard_then (is_utf8 t) h).1).0
 
--- items of a list that is cut at another place too: they are in front of that, or behind it
+-- items of a list that is cut at another place too: they are in front of that, or after it
 apart : (done front : List Item) (w own : Item) (ws back : List Item) → done ++ (w ∷ ws) ≡ front ++ (own ∷ back) →
     (length (items_text done []) ≤ length (items_text front [])) ⊎ (length (items_text (w ∷ ws) []) ≤ length (items_text back []))
 apart [] front w own ws back e = inl (omega arith)
@@ -83,7 +83,7 @@ module _ (ss : List Segment) (new : Cut) (near : IsLocalEdit ss) (kept : are_kep
           from_front before behind (length before + length (item_text w)) ended (omega arith) [] ss whole lines kept (omega (arith, front)) back (omega (arith, size_one w ws))
       by_near (inr one) = by_side (side (one new read))
 
-  -- items behind what is kept in front
+  -- items after what is kept in front
   later_touched : (back : List Item) → back ≡ in_back (length (kept_back ss)) (items_of_cut new) → (done ws : List Item) → items_of_cut new ≡ done ++ (ws ++ back) → length (kept_front ss) ≤ length (items_text done []) →
       AreTouched (length (items_text done [])) ws (put_ranges ss)
   later_touched back behind done [] are front = tt

@@ -1,4 +1,4 @@
--- Where the root of a document comes that has no rows: in general, and behind a text that ends in a break.
+-- Where the root of a document comes that has no rows: in general, and after a text that ends in a break.
 use Rattle.std.proofs.Common.{◌≡◌, ◌⊎◌, inl, inr, ℕ, zero, suc, ◌≤◌, List, [], ◌∷◌, ◌++◌, length, Some, Bool, true, false, refl, sym, ap}
 use Rattle.std.proofs.Common.{◌∙◌, subst, arith, append_assoc, append-nil, ⊎_elim, length-append, rules}
 use Rattle.std.{proofs.lemmas.List.nil_from_length, proofs.lemmas.Bool.{false≢true, or_right, and_parts, or_parts}}
@@ -158,7 +158,7 @@ module _ (n : ℕ) (c : Cut) (w : NoRows) (read : read_at (cut_text c) ≡ Some 
   own_line : IsMarkerLine marker (part_text (nth_part (part_number n c) c) (behind_part (part_number n c) c)) → IsMarkerLine marker (h.d.part.end ++ h.d.behind)
   own_line = subst (IsMarkerLine marker) ((λ i. part_text ((part_numbered c n h.d.part stands.there).0 i) (stands.behind i)) ∙ part_is h.d.behind)
 
-  -- rows may stand behind the marker in front, where the text before them is closed or some stands behind that
+  -- rows may come after the marker in front, where the text before them is closed or some comes after that
   pub starts_at : (h.d.part.end ++ h.d.behind ≡ [] → is_closed_text (h.d.before ++ h.d.part.end) ≡ true) → (t : List ℕ) → is_after marker t ≡ true
   starts_at closed t = go (marker_at c (part_number n c) true cut.parts)
     where

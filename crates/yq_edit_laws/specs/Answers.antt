@@ -24,7 +24,7 @@ abbrev pub of_exchange : ExchangeError → EditError
 of_exchange exchanging.TooLarge = error.Refused TooLarge
 of_exchange exchanging.Memory = error.Memory
 
--- what an error says of the edit, and that no text is told to be no UTF-8; want of memory says nothing (own)
+-- what an error says of the edit, and that no text is reported to be no UTF-8; want of memory says nothing (own)
 abbrev pub EditFails : EditError → Edit → Type 0
 EditFails (error.Read fault) edit = (edit ≡ unreadable) × (fault.kind ≢ NotUtf8)
 EditFails (error.Refused why) edit = edit ≡ refuses why

@@ -17,7 +17,7 @@ carry_one op c = edit_of_segments (or_stay c (op_edits op c))
 abbrev pub carried : Operation → List ℕ → Edit
 carried op t = by_reading (carry_one op) (read_at t)
 
--- operations carried out one after the other, each on the text as it then stands (own)
+-- operations carried out one after the other, each on the text as it then is (own)
 abbrev pub carry_all : List Operation → List ℕ → Edit
 carry_all = in_order carried
 

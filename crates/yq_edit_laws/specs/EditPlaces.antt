@@ -9,12 +9,12 @@ use Rattle.yq_places.specs.FlowNodes.{flow_collection}
 use Rattle.yq_text.specs.Script.{Segment, keep, put}
 use Rattle.yq_edit_rules.specs.FlowParts.{flow_more}
 
--- the segments of a text in which the bytes at a place give way to what leads there and to a text that is written
+-- the segments of a text in which the bytes at a place are replaced by what leads there and to a text that is written
 abbrev pub edit_segments : List ℕ → PlacedEdit → List ℕ → List Segment
 edit_segments t p written =
     keep (take p.start t) ∷ (put (drop p.start (take p.end t)) p.lead ∷ (put [] written ∷ (keep (drop p.end t) ∷ [])))
 
--- an edit of a part of a text, before which so many bytes of the text stand, as one of the text
+-- an edit of a part of a text, before which so many bytes of the text are, as one of the text
 abbrev pub moved_on : ℕ → PlacedEdit → PlacedEdit
 moved_on n p = record { start = n + p.start; end = n + p.end; lead = p.lead }
 

@@ -8,7 +8,7 @@ use Rattle.yq_edit_rules.specs.Edits.{empty_collection, replace_segments, sole_r
 use Rattle.yq_edit_laws.specs.declared.sole.EmptyPut.{EmptyPut}
 use Rattle.yq_places.specs.NodesAt as nodes
 
--- the empty collection of the kind of a collection, by what is told of that
+-- the empty collection of the kind of a collection, by what is known of that
 abbrev pub emptied_summary : NodeAt → Option Node
 emptied_summary nodes.alias = None
 emptied_summary (nodes.scalar s) = None

@@ -8,7 +8,7 @@ use Rattle.yq_semantics.specs.Operations.{replace}
 use Rattle.yq_edit_rules.{specs.EditLaws.IsEdit, specs.Layouts.layout_of, specs.ReplaceEdits.{has_text, value_put}}
 use Rattle.yq_edit_rules.specs.Replacing.{keeps_scalar}
 
--- whether something stands at an item or entry, or is a node alone on its line
+-- whether something is at an item or entry, or is a node alone on its line
 abbrev pub is_marked : Standing → Bool
 is_marked (alone w) = true
 is_marked (beside h) = true

@@ -29,7 +29,7 @@ abbrev pub IsHeadOfPath : ℕ → Option (List Step × Step) → List ℕ → Fl
 IsHeadOfPath n None t x = Unit {0}
 IsHeadOfPath n (Some y) t x = FlowAgrees t (flow_collection n y.0 (cut_of t)) (Some x)
 
--- A place behind the bytes in front of a head is that of the edit that puts a value at a part.
+-- A place after the bytes in front of a head is that of the edit that puts a value at a part.
 pub record IsPlaceOf (t : List ℕ) (v : Node) (z : FlowPart) (x : FlowHead) (place : EditPlace) : Type 0 where
   pub lies : LiesIn t (moved_on x.before (edit_view place))
   pub place_is : moved_on x.before (edit_view place) ≡ place_edit (length t) (put_edit v z)
@@ -47,6 +47,6 @@ ArePuts n steps v c x None = flow_standing n c (last_step steps) ≡ None
 ArePuts n steps v c x (Some p) =
     (z : FlowPart) × (flow_standing n c (last_step steps) ≡ Some z) × IsPlaceOf (cut_text c) v z x p.place × IsWrittenPart (node_in n steps c) v z p.written
 
--- a part stands in document n of a cut, in the collection to which steps lead, at one more step (7.4; own)
+-- a part is in document n of a cut, in the collection to which steps lead, at one more step (7.4; own)
 abbrev pub IsPartOf : Cut → ℕ → List Step → Step → EntryPieces → Type 0
 IsPartOf c n steps s y = (flow_collection n steps c >>= λ w. item_at w.close s w.items w.rest) ≡ Some y

@@ -40,7 +40,7 @@ pub record IsFitting (op : Operation) (t : List ℕ) : Type 0 where
   pub read : ReadsDocuments t before
   pub fits : Fits (room_of t) op before
 
--- An operation is carried out on a text that reads: of its segments some stay and some give way, and
+-- An operation is carried out on a text that reads: of its segments some stay and some are replaced, and
 -- the new text, which they make, reads as the documents after the operation; the splices are theirs (own).
 pub record IsApplied (op : Operation) (t new : List ℕ) (cs : List Splice) : Type 0 where
   pub before : List Document

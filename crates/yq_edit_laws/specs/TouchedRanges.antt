@@ -16,7 +16,7 @@ use Rattle.yq_edit_rules.{specs.Edits.op_edits, specs.Operands.HasOperand}
 abbrev pub put_ranges : List Segment → List Extent
 put_ranges ss = extents 0 (swapped_segments ss)
 
--- one of these ranges touches what stands between two offsets: it lies in it, or at its edge (own)
+-- one of these ranges touches what is between two offsets: it lies in it, or at its edge (own)
 abbrev pub IsTouched : (from to : ℕ) → List Extent → Type 0
 IsTouched from to [] = ⊥
 IsTouched from to (e ∷ es) = ((e.from ≤ to) × (from ≤ e.to)) ⊎ IsTouched from to es
@@ -26,13 +26,13 @@ abbrev pub AreTouched : (from : ℕ) → List Item → List Extent → Type 0
 AreTouched from [] es = ⊤
 AreTouched from (i ∷ is) es = IsTouched from (from + length (item_text i)) es × AreTouched (from + length (item_text i)) is es
 
--- each item that is written, behind those in front of an offset, is touched by a range of what segments put (own)
+-- each item that is written, after those in front of an offset, is touched by a range of what segments put (own)
 abbrev pub PutAreTouched : (ss : List Segment) (front back : ℕ) (c new : Cut) → TouchesOnly front back c new → Type 0
 PutAreTouched ss front back c new t = AreTouched (length (items_text (in_front front (items_of_cut c)) [])) t.written (put_ranges ss)
 
 -- ---- what segments keep between two that they exchange
 
--- whether no break stands in a text but at its end: it is a line, or a part of one (YAML 1.2.2, 5.4)
+-- whether no break is in a text but at its end: it is a line, or a part of one (YAML 1.2.2, 5.4)
 unfoldable pub is_one_line : List ℕ → Bool
 is_one_line [] = true
 is_one_line (b ∷ t) = if is_feed b then is_empty t else is_one_line t

@@ -36,7 +36,7 @@ fn entry_text(alloc: Global, key: Option<&str>, value: &Value) -> Result<String,
     }
 }
 
-/// An item or entry put behind the last one of a flow collection, or right behind its bracket;
+/// An item or entry put after the last one of a flow collection, or right after its bracket;
 /// `None` where the path leads to no flow collection, or to one that takes no key, or no item.
 ///
 /// # Errors

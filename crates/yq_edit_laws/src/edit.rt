@@ -45,8 +45,8 @@ pub fn unchanged<'d>(alloc: Global, cut: &CutText<'_, 'd>) -> Result<Segments<'d
     Ok(Segments::new(whole))
 }
 
-/// A text in which the bytes of an edit give way to what it leads with and to what is written; so
-/// many bytes stand before the part of the text in which the edit has its place.
+/// A text in which the bytes of an edit are replaced by what it leads with and to what is written; so
+/// many bytes come before the part of the text in which the edit has its place.
 pub(crate) fn edit_at<'d>(
     alloc: Global,
     text: Halves<'d>,
@@ -70,7 +70,7 @@ pub(crate) fn edit_at<'d>(
     Ok(Some(Segments::new(segments)))
 }
 
-/// What stands at the place of an edit.
+/// What is at the place of an edit.
 pub(crate) fn bytes_at(text: &str, place: EditPlace) -> &[u8]
     ensures { result.now ≡ drop place.start (take place.end text.now) }
 {

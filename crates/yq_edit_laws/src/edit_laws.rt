@@ -15,7 +15,7 @@ pub fn comments_are_put()
     ensures head { laws.HeadCommentIsPut }
 {}
 
-/// One more item or entry comes to stand at the end of a block collection.
+/// One more item or entry ends up at the end of a block collection.
 pub fn more_is_put()
     ensures { laws.MoreIsPut }
 {}
@@ -30,7 +30,7 @@ pub fn held_spells()
     ensures { HeldSpells }
 {}
 
-/// The items that local segments exchange are told by where the first one ends and the last one
+/// The items that local segments exchange are given by where the first one ends and the last one
 /// begins.
 pub fn local_segments_touch()
     ensures { LocalTouches }

@@ -1,4 +1,4 @@
-//! Laws on edits of flow collections, and on what stands where a node is.
+//! Laws on edits of flow collections, and on what is where a node is.
 ghost use Rattle.yq_edit_rules.specs.StandingLaws.{EntriesStand, RootsStand};
 ghost use Rattle.yq_edit_rules.specs.EditLaws.{FlowMoreIsPut, FlowPartIsRemoved, FlowValuesArePut, SoleIsRemoved, AppendHasEdit};
 ghost use Rattle.yq_edit_laws.specs.Emptying.{SoleByEmptying};
@@ -16,7 +16,7 @@ pub fn emptying_removes()
     ensures emptying { SoleByEmptying }
 {}
 
-/// Where a node is, something stands.
+/// Where a node is, something is.
 pub fn nodes_stand()
     ensures roots { RootsStand }
     ensures entries { EntriesStand }

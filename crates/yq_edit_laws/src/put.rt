@@ -51,7 +51,7 @@ fn is_same_node(node: &Inline<'_>, value: &Value) -> bool
     }
 }
 
-/// What it comes to that a value is put in the place of the content of an item or entry, behind its
+/// What it comes to that a value is put in the place of the content of an item or entry, after its
 /// anchor, where its collection is in the head of a row that was read; `None` where no collection is
 /// there, or the path leads to no part of it.
 ///
@@ -93,7 +93,7 @@ pub fn put_at_part(
     }))
 }
 
-/// A value put in the place of the content of an item or entry of a flow collection, behind its
+/// A value put in the place of the content of an item or entry of a flow collection, after its
 /// anchor; an equal scalar leaves the bytes alone. `None` where the path leads to no part of a flow
 /// collection.
 ///

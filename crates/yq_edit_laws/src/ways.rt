@@ -4,7 +4,7 @@ ghost use Rattle.std.specs.Prelude.{◌≡◌};
 use yq_lookup::CutText;
 use yq_semantics::Op;
 
-/// The same text, where what stands on the way of an operation is known.
+/// The same text, where what is on the way of an operation is known.
 pub fn on_the_way<'d, 't>(cut: &CutText<'d, 't>, op: &'d Op) -> CutText<'d, 't>
     ensures { result ≡ cut.now }
 {

@@ -1,4 +1,4 @@
--- A changed text, told as a tree with the lead that goes with it.
+-- A changed text, given as a tree with the lead that goes with it.
 use Rattle.std.proofs.Common.{◌≡◌, ℕ, zero, suc, List, [], ◌∷◌, map, Bool, true, false, Some, refl, sym, ap, ◌∙◌}
 use Rattle.std.{proofs.lemmas.Option.same_Some, specs.List.slice_get}
 use mathlib.Core.List.{head-eq_of_cons-eq, tail-eq_of_cons-eq}

@@ -1,4 +1,4 @@
--- Anchors of lines, and keys of rows, where some give way to others.
+-- Anchors of lines, and keys of rows, where some are replaced by others.
 use Rattle.std.proofs.Common.{◌≡◌, ℕ, List, [], ◌∷◌, ◌++◌, Option, Some, None, refl, sym, ap, ◌∙◌, subst, rules}
 use Rattle.std.proofs.lemmas.Option.{same_Some}
 use Rattle.yq_row_table.specs.Rows.{Row}
@@ -37,7 +37,7 @@ anchors_stay before gone come after h new free anew =
     let back : HaveOneAnchorEach after = each_back gone after (each_back before (gone ++ after) h) in
     each_join before (come ++ after) (each_front before (gone ++ after) h) (each_join come after new back (any_free (last_anchor come) after anew)) (free_longer (last_anchor before) come after free anew)
 
--- the lines behind a place begin with an entry
+-- the lines after a place begin with an entry
 pub collection_anew : (o : Outline) → IsCollection o → BeginsEntry (flatten o)
 collection_anew end c = tt
 collection_anew (row l u a) c = entry_out l.mark c

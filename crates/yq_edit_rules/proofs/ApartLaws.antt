@@ -52,7 +52,7 @@ apart_deep n [] z d h = tt
 apart_deep n (l ∷ []) z d h = begins_less n (level l) z d.0 h
 apart_deep n (l ∷ (k ∷ b)) z d h = apart_deep n (k ∷ b) z d.1 h
 
--- lines behind a place
+-- lines after a place
 pub after_begins : (n m : ℕ) (p : Context) → Allows n p m → Begins m (lines_after p)
 after_begins n m here a = tt
 after_begins n m (below l p after) a =

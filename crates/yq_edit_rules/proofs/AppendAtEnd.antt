@@ -29,7 +29,7 @@ unfolding is_line
 one_break breaks.Lf = refl
 one_break breaks.CrLf = refl
 
--- nothing may stand behind rows
+-- nothing may come after rows
 pub nothing_tail : IsTail [] []
 nothing_tail = record { white = []; comment = []; line = record { break = []; spelled = refl; blank = tt; as_comment = tt; ends = inr (refl, refl) }; apart = refl }
 

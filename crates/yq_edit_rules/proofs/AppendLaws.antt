@@ -32,7 +32,7 @@ pub first_column : (above : List (List ℕ)) (column : ℕ) (ns : List ℕ) (m :
 first_column above column [] m c rest l ls e = ap (λ (x : Line). x.column) (sym (head-eq_of_cons-eq e))
 first_column above column (n ∷ ns) m c rest l ls e = ap (λ (x : Line). x.column) (sym (head-eq_of_cons-eq e))
 
--- the text of rows without a gap before them, behind a block scalar
+-- the text of rows without a gap before them, after a block scalar
 less_rows : (new : List Row) (limit : Limit) (gap rest : List ℕ) (b : BlockText) (l : Line) (ls : List Line) → AreRows limit new gap rest → first_gap new [] ≡ [] → lines_of_rows new ≡ l ∷ ls →
     l.column < b.indent.columns → ends_block (keeps b.chomping) b.indent (text_lines (rows_text new (gap ++ rest))) ≡ true
 less_rows [] limit gap rest b l ls h bare e less = absurd (cc)

@@ -1,4 +1,4 @@
--- What may stand at the end of a block collection.
+-- What may be at the end of a block collection.
 use Rattle.std.proofs.Common.{◌≡◌, ℕ, suc, ◌+◌, ◌*◌, ◌<◌, ◌≤◌, List, [], ◌∷◌, ◌++◌, Option, Some, None, true, refl, sym, ap, ◌∙◌, subst}
 use Rattle.std.{proofs.Common.{arith, append_assoc, append-nil, length-append, rules}, proofs.lemmas.Bool.lt-ltb}
 use Rattle.std.proofs.lemmas.Option.{same_Some}
@@ -44,11 +44,11 @@ bare_level : (above : List (List ℕ)) (column : ℕ) (c : Content) → level (m
 unfolding level
 bare_level above column c = refl
 
--- an entry or item in a column less deep than the last line of a row may stand behind that row
+-- an entry or item in a column less deep than the last line of a row may come after that row
 mark_limit : (n column : ℕ) (r : Row) → 3 * column + 1 < n → n ≤ level (mark_line (above_mark (head_comment r.gap) r.dashes) (mark_column r) r.mark r.content) → allows (limit_after r) column ≡ true
 mark_limit n column r low deep = search (rules, allowed_content, above_mark, bare_level, high_level, below_node, below_entry)
 
--- behind the last of rows
+-- after the last of rows
 pub last_limit : (limit : Limit) (others : List Row) (r : Row) → asked_behind limit (others ++ (r ∷ [])) ≡ limit_after r
 last_limit limit [] r = refl
 last_limit limit (x ∷ others) r = last_limit (limit_after x) others r
@@ -76,7 +76,7 @@ entry_level : (column : ℕ) (o : Outline) → HasEntries o → BeginsAt column 
 unfolding level
 entry_level column o h1 h2 = search rules
 
--- the next rows stand no deeper
+-- the next rows are no deeper
 low_first : (n column : ℕ) (back : List Row) → n ≤ 3 * column + 3 → (m : ℕ) → m < n → Begins m (lines_of_rows back) → allows_first (record { column = Some (suc column) }) back ≡ true
 low_first n column [] high m less next = refl
 low_first n column (b ∷ bs) high m less next = let low = next_low m (b ∷ bs) b bs refl next in lt-ltb b.column (suc column) (omega (arith, high, less, low))
@@ -85,7 +85,7 @@ pub rows_behind : (front back : List Row) (limit : Limit) (gap rest : List ℕ) 
 rows_behind [] back limit gap rest h = h
 rows_behind (r ∷ front) back limit gap rest h = rows_behind front back (limit_after r) gap rest h.1
 
--- What may stand at the end of a collection.
+-- What may be at the end of a collection.
 pub record EndAllows (c : Cut) (k : ℕ) (p : Part) (x : CollectionEnd) (front back : List Row) : Type 0 where
   pub rows : AreRows unlimited (front ++ back) p.end (behind_document k c)
   pub allowed : allows (asked_behind unlimited front) x.column ≡ true

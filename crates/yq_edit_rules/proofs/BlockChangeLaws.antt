@@ -33,7 +33,7 @@ root_replaced t c k p q v m u put fits lines may =
     (record { deep = fits.deep; even = fits.even; node_is = anchored_none (value u) ∙ (fits.value_is ∙ ap (replaced_node v) (sym (anchored_none (root_of p)))) })
     (record { each = fits.anchors; free = tt }) (lines ∙ sym (append-nil (flatten u))) sound
 
--- the items or entries of a block collection behind an anchor
+-- the items or entries of a block collection after an anchor
 block_children : (a : Option (List ℕ)) (o : Outline) → HasEntries o → children_of (anchored a (value o)) ≡ children o
 block_children a o h1 = search rules
 

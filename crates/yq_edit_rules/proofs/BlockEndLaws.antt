@@ -1,4 +1,4 @@
--- What stands behind rows that are written one behind the other.
+-- What comes after rows that are written one after the other.
 use Rattle.std.proofs.Common.{◌≡◌, ℕ, suc, ◌≤◌, Bool, true, false, not, ◌&&◌, ◌||◌, eqb, List, ◌++◌, Option, Some, None, refl, sym, ◌∙◌}
 use Rattle.std.proofs.Common.{inl, inr, arith, []}
 use Rattle.std.proofs.lemmas.Bool.{false≢true, not-true, false_from_ne_true, le-leb, leb-true, and_parts, cases_Bool}
@@ -22,7 +22,7 @@ break_ends br d rest at = let tail = break_tail br rest in tail_ends d tail.whit
 pub line_ends : (br : Break) (column : ℕ) (rest : List ℕ) → AtLine (suc column) rest → IsEnd column (break_text br) rest
 line_ends br column rest at = record { tail = break_tail br rest; plain = break_ends br (suc column) rest at }
 
--- where a plain scalar ends, one that stands deeper ends too
+-- where a plain scalar ends, one that is deeper ends too
 less_deep : (d e n : ℕ) → d ≤ e → nat_le e n ≡ true → nat_le d n ≡ true
 less_deep d e n h k = let le : e ≤ n = leb-true e n k in le-leb d n (omega (arith, le, h))
 

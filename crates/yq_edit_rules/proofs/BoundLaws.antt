@@ -18,7 +18,7 @@ bound_from known [] ys h k = k
 bound_from known (Anchors a ∷ xs) ys h k = bound_from (a ∷ known) xs ys h k
 bound_from known (Refers a ∷ xs) ys h k = (h.0, bound_from known xs ys h.1 k)
 
--- what is known behind names was known before them, or is anchored by them
+-- what is known after names was known before them, or is anchored by them
 known_from : (a : List ℕ) (known : List (List ℕ)) (xs : List Name) → IsAmong a (known_behind known xs) → IsAmong a known ⊎ IsAmong a (anchors_in xs)
 known_from a known [] h = inl h
 known_from a known (Anchors b ∷ xs) h = ⊎_elim {0, 0, 0} (λ k. ⊎_elim {0, 0, 0} (λ e. inr (inl e)) (λ m. inl m) k) (λ k. inr (inr k)) (known_from a (b ∷ known) xs h)

@@ -7,7 +7,7 @@ use Rattle.yq_row_table.{specs.Gap.{IsBreak, IsComment}, specs.Grammar.IsTail, p
 use Rattle.yq_row_table.proofs.seams.ScalarSeams.{ends_return}
 use Rattle.yq_edit_rules.proofs.EndLaws.{after_hash, comment_is}
 
--- what stands in front of a break ends in no CR
+-- what is in front of a break ends in no CR
 front_clean : (c rest : List ℕ) → pairs_returns (c ++ rest) ≡ true → NoneIn ends_line c rest → ends_return c ≡ false
 unfolding pairs_returns
 front_clean [] rest h n = refl
@@ -31,7 +31,7 @@ comment_other (b ∷ c) old rest new p h e =
     more : NoneIn ends_line c (old ++ rest)
     more = (Rattle.yq_places.proofs.LineEndLaws.comment_more (b ∷ c) old rest h e).1
 
--- the end of a line, with another break behind its white space and its comment
+-- the end of a line, with another break after its white space and its comment
 module _ (tail more : List ℕ) (h : IsTail tail more) (pairs : pairs_returns (tail ++ more) ≡ true) (break behind : List ℕ) (ends : IsBreak break behind) where
   alone : (b z : List ℕ) → IsBreak b z → IsBreak b []
   alone b z h1 = search rules

@@ -24,7 +24,7 @@ collection_replaced n o u steps h g even there block new kids =
 pub collection_of : {steps : List Step} {s : Step} {o : Outline} {h : NodeLines} {f : FoundLine} → IsEntryAt steps s o h f → IsCollectionAt steps o h
 collection_of x = record { place_is = x.place_is; block = x.block }
 
--- the items or entries before one, itself, and those behind it
+-- the items or entries before one, itself, and those after it
 pub record Splits (s : Step) (o : Outline) (f : FoundLine) : Type 0 where
   pub front : Outline
   pub whole : append_outline front (row f.line f.under f.after) ≡ o

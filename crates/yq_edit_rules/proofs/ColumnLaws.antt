@@ -1,4 +1,4 @@
--- Where rows may stand, by the levels of lines.
+-- Where rows may be, by the levels of lines.
 use Rattle.std.proofs.Common.{◌≡◌, ℕ, zero, suc, ◌+◌, ◌*◌, ◌-◌, ◌<◌, ◌≤◌, ℤ, pos, List, [], ◌∷◌, ◌++◌, Option, Some, None, is_some, true}
 use Rattle.std.proofs.Common.{refl, sym, ap, rules, ◌∙◌, subst, arith, ⊎_elim, append_assoc}
 use Rattle.std.{proofs.lemmas.Bool.{false≢true, lt-ltb, ltb-true}, proofs.lemmas.Option.{none-some, same_Some}}
@@ -51,7 +51,7 @@ pub below_node : (column n : ℕ) → column < n → column < deeper (before_col
 below_node column zero h = omega (arith, h)
 below_node column (suc n) h = omega (arith, h)
 
--- a column less deep than a row's first line is less deep than what stands behind its mark
+-- a column less deep than a row's first line is less deep than what comes after its mark
 row_limit : (n m column : ℕ) (r : Row) (rest : List Line) → AreDashes r.dashes r.mark → AreDeep n (row_lines r ++ rest) → m < n → 3 * column + 1 ≤ m → allows (limit_after r) column ≡ true
 row_limit n m column r rest d deep less low = allowed_content (parent_indent r) r.content column (go r.mark refl r.dashes refl)
   where
@@ -150,7 +150,7 @@ block_is_deeper limit (r ∷ []) rows end rest b l h e apart =
     omega (arith, own, low, high, deep)
 block_is_deeper limit (r ∷ (q ∷ front)) rows end rest b l h e apart = block_is_deeper (limit_after r) (q ∷ front) rows end rest b l h.1 e (apart_later (row_lines r) (lines_of_rows (q ∷ front)) (l ∷ []) (rows_lines q front) apart)
 
--- behind a block scalar closed lines stand apart
+-- after a block scalar closed lines are apart
 block_head : (c : Content) (b : BlockText) → block_of c ≡ Some b → is_some (head_of c) ≡ true
 block_head c b h1 = search rules
 
@@ -188,5 +188,5 @@ closed_stands_less limit front gone back end rest l ls h closed next = go (last_
         block_is_deeper limit front gone end rest b (record l { column = r.column; mark = Rattle.yq_outline.specs.Outline.Bare }) h e (bare l r.column (lines_of_rows front) apart (next_low (level l) (r ∷ rs) r rs refl n)) in
         deep
 
--- where rows may stand
+-- where rows may be
 pub ruleset columns = (next_allowed, next_stays, block_is_deeper, closed_stands_less)

@@ -16,7 +16,7 @@ pub no_breaks_none : (t rest : List ℕ) → Each no_break t → NoneIn ends_lin
 no_breaks_none [] rest h = tt
 no_breaks_none (b ∷ t) rest h = search (rules, and_parts, not-true, no_breaks_none t rest h.1)
 
--- the comment behind white space
+-- the comment after white space
 no_white_there : (r : List ℕ) → past_white (35 ∷ r) ≡ 35 ∷ r
 unfolding text.upto
 no_white_there r = refl
@@ -29,12 +29,12 @@ comment_behind white rest t h =
     let past : past_white (white ++ (35 ∷ (t ++ rest))) ≡ 35 ∷ (t ++ rest) = ap (λ (x : List ℕ × List ℕ). x.1) (white_again white (35 ∷ (t ++ rest)) h refl) in
     ap of_text past ∙ sym (ap of_text (no_white_there (t ++ rest)))
 
--- the text behind a `#`, up to a break
+-- the text after a `#`, up to a break
 pub comment_is : (t rest : List ℕ) → NoneIn ends_line t rest → ends_line rest ≡ true → comment_text (35 ∷ (t ++ rest)) ≡ Some (less_space t)
 unfolding text.upto
 comment_is t rest none here = ap (λ (x : List ℕ × List ℕ). Some (less_space x.0)) (cut-append ends_line t rest none here)
 
--- what stands behind the `#` of a line
+-- what comes after the `#` of a line
 abbrev behind_hash : List ℕ → List ℕ
 behind_hash t = cond (is_empty t) [] (32 ∷ t)
 

@@ -96,11 +96,11 @@ pub record HasRow (w : PlacedRow) : Type 0 where
 pub found_row : (c : Cut) (i : ℕ) (w : PlacedRow) → IsCut (cut_text c) c → IsAt c i w.before w.row w.behind → HasRow w
 found_row c i w cut at = let x = row_in c i true w.row cut.parts at.there in record { limit = x.limit; row = subst (IsRow x.limit w.row) at.behind_is x.row }
 
--- the text up to the end of the line, and behind
+-- the text up to the end of the line, and after
 pub line_whole : (w : PlacedRow) → w.before ++ print_row w.row w.behind ≡ (w.before ++ text_to_line_end w.row) ++ ((slices w.row).tail ++ ((slices w.row).raw ++ w.behind))
 line_whole w = ap (λ l. w.before ++ l) (row_text_parts w.row w.behind) ∙ sym (append_assoc w.before (text_to_line_end w.row) ((slices w.row).tail ++ ((slices w.row).raw ++ w.behind)))
 
--- a rest is the end of its line and what is behind
+-- a rest is the end of its line and what is after
 pub end_parts : (before rest : List ℕ) → rest ≡ (end_in_line before rest).white ++ ((end_in_line before rest).comment ++ (end_in_line before rest).behind)
 end_parts before rest = cut_takes no_white rest ∙ ap (λ x. (text.cut no_white rest).0 ++ x) (cut_takes ends_line (past_white rest))
 

@@ -1,4 +1,4 @@
--- What is written behind the mark of one row gives way to a value.
+-- What is written after the mark of one row is replaced by a value.
 use Rattle.std.proofs.Common.{◌≡◌, ◌⊎◌, inl, inr, ℕ, ℤ, suc, ◌+◌, ◌≤◌, ◌++◌, eqb, Bool, true, List, [], ◌∷◌, length, take, Option, Some}
 use Rattle.std.proofs.Common.{None, refl, sym, ap, ◌∙◌, subst, arith, length-append, append_assoc, append-nil, rules}
 use Rattle.std.proofs.lemmas.Bool.{cond_both, false≢true}
@@ -60,7 +60,7 @@ block_named (Some a) = refl
 pub content_named : (n : ℤ) (x : Content) (rest : List ℕ) → IsContent n x rest → anchor_of (spelled_node x) ≡ content_anchor x
 content_named n x rest h1 = search (rules, node_named, block_named)
 
--- the same behind another anchor, if it may take that
+-- the same after another anchor, if it may take that
 under_named : (a b : Option (List ℕ)) (n : Node) → anchor_of n ≡ b → (a ≡ None) ⊎ IsNoAlias (Some n) → anchor_of (anchored a n) ≡ first_anchor a b
 under_named a b (tree.alias n) e (inl none) = e ∙ ap (λ x. first_anchor x b) (sym none)
 under_named a b (tree.alias n) e (inr h) = absurd h
@@ -129,7 +129,7 @@ bare_line m e = ap line_mark e
 
 -- ---- the new text
 
--- the cut in which one row stands for another
+-- the cut in which one row means another
 row_cut : (t : List ℕ) (c : Cut) (k : ℕ) (p : Part) (front back : List Row) (r s : Row) → IsDocumentPart t c k p → IsCut t c → p.rows ≡ front ++ (r ∷ back) →
     StandsFor (asked_behind unlimited front) r s back (rows_text back (p.end ++ behind_document k c)) → IsReadable (cut_text (put_document k (inserted front (s ∷ []) back p) c)) →
     IsCut (cut_text (put_document k (inserted front (s ∷ []) back p) c)) (put_document k (inserted front (s ∷ []) back p) c)

@@ -1,4 +1,4 @@
--- Another inline node behind the anchor of what is written behind a mark.
+-- Another inline node after the anchor of what is written after a mark.
 use Rattle.std.proofs.Common.{◌≡◌, inl, inr, ℕ, ◌||◌, not, List, [], ◌∷◌, ◌++◌, Option, None, Bool, true, false, refl, sym, ap, ◌∙◌, rules}
 use Rattle.std.proofs.lemmas.Bool.{cond_both, false≢true, or_right}
 use Rattle.yq_core.specs.Text.{is_empty, no_white, unless}
@@ -10,7 +10,7 @@ use Rattle.yq_row_table.proofs.EmptyTexts.{none_is}
 use Rattle.yq_documents.specs.Documents.{HasFitKeys}
 use Rattle.yq_places.specs.RowPaths.{space_after_anchor}
 
--- a node in the place of another one, behind its anchor
+-- a node in the place of another one, after its anchor
 abbrev pub recore : FlowNode → FlowNode → FlowNode
 recore core empty = core
 recore core (alias n) = core
@@ -18,7 +18,7 @@ recore core (scalar p) = core
 recore core (coll k g is) = core
 recore core (anchored n g node) = anchored n (space_after_anchor g node) (recore core node)
 
--- a content with another node in the place of its own, behind its anchor, or behind a space where nothing is written
+-- a content with another node in the place of its own, after its anchor, or after a space where nothing is written
 abbrev pub put_core : FlowNode → Content → Content
 put_core core (Nothing tail) = Inline (32 ∷ []) core tail
 put_core core (Inline space node tail) = Inline space (recore core node) tail
@@ -85,7 +85,7 @@ module _ (spaces : Option ℕ) (d : ℕ) (core : FlowNode) (rest : List ℕ) (un
   lead_again g t gap (inl h) = inl ((none_unless _ g t (node_text core rest) h.0.0, starts), begins spaces d core rest unnamed some stands)
   lead_again g t gap (inr h) = absurd (none_is g gap h.0)
 
-  -- behind an anchor
+  -- after an anchor
   pub anchored_node : (n g : List ℕ) (old : FlowNode) (t : List ℕ) → is_empty_node old ≡ false → IsName n (g ++ t) → IsLead false (begins_content false) g t → (is_empty_node old || not (is_empty g)) ≡ true → IsFlowNode false spaces d (anchored n g core) rest
   unfolding IsFlowNode node_text
   anchored_node n g old t full name lead apart_is =

@@ -31,7 +31,7 @@ record Has (i : ℕ) (c : Cut) : Type 0 where
   old : items_of_cut c ≡ above ++ rows_items (nth_part i c).rows (end_item (nth_part i c).end marker ∷ below)
   put : (q : Part) → items_of_cut (put_part i q c) ≡ above ++ rows_items q.rows (end_item q.end marker ∷ below)
 
--- items behind one more part
+-- items after one more part
 later : (x : Part) (m : List ℕ) (above is all : List Item) → all ≡ above ++ is → rows_items x.rows (end_item x.end m ∷ all) ≡ rows_items x.rows (end_item x.end m ∷ above) ++ is
 later x m above is all e = ap (λ js. rows_items x.rows (end_item x.end m ∷ js)) e ∙ rows_before x.rows (end_item x.end m ∷ above) is
 

@@ -149,7 +149,7 @@ lines_appended t c k p q steps h m l v put there fits each lines sound =
     lead (row i u a) b was new =
         lead_from p q (lines_before h.place) i i ((flatten u ++ flatten a) ++ lines_after h.place) (((flatten u ++ flatten a) ++ (l ∷ flatten v)) ++ lines_after h.place) was new refl
 
--- the items or entries behind one begin anew
+-- the items or entries after one begin anew
 behind_split : (s : Step) (o : Outline) (f : FoundLine) → Splits s o f → HasEntries o → IsEven (level_or 0 o) o → BeginsEntry (flatten f.after) × allowing.IsEntry f.line.mark
 behind_split s o f w block even =
     let n : ℕ = level_or 0 o in

@@ -1,4 +1,4 @@
--- What an operation that fits says of its value, its key, the anchors that go, and the node that gives way.
+-- What an operation that fits says of its value, its key, the anchors that go, and the node that is replaced.
 use Rattle.std.proofs.Common.{inl, inr, ◌≡◌, ℕ, ◌+◌, ◌≤◌, Bool, true, false, ◌||◌, List, [], ◌∷◌, ◌++◌, length, Option, Some, None, refl}
 use Rattle.std.{proofs.Common.{sym, ap, ◌∙◌, subst, arith, rules}, proofs.lemmas.Bool.{false≢true, ltb-false, or_parts}}
 use Rattle.std.{specs.List.{list_any, slice_get}, proofs.lemmas.Option.{none-some, same_Some}, specs.Prelude.{◌≢◌, All}, specs.Str.bytes_eq}
@@ -99,9 +99,9 @@ not_used names (Anchors b ∷ gone) h a (inl same) others =
 not_used names (Anchors b ∷ gone) h a (inr more) others = not_used names gone (or_parts (list_any (refers_to b) names) (list_any (is_used names) gone) h).1 a more others
 not_used names (Refers b ∷ gone) h a among others = not_used names gone h a among others
 
--- ---- a node that gives way
+-- ---- a node that is replaced
 
--- An operation that fits exchanges a node of a part of a cut: that node is there, and the value may stand in its place.
+-- An operation that fits exchanges a node of a part of a cut: that node is there, and the value may be in its place.
 pub record FitsReplace (doc : ℕ) (steps : List Step) (v : Node) (c : Cut) (p : Part) : Type 0 where
   pub node : Node
   pub there : node_at steps (root_of p) ≡ Some node

@@ -1,4 +1,4 @@
--- Rows end in an LF, or nothing is behind them.
+-- Rows end in an LF, or nothing is after them.
 use Rattle.std.proofs.Common.{inl, inr, ◌≡◌, ℕ, ℤ, List, [], ◌∷◌, ◌++◌, sym, ◌∙◌, subst}
 use Rattle.yq_core.proofs.BlockPieceLaws.{IsLf, append_lf}
 use Rattle.yq_row_table.{specs.Exchange.row_front, specs.Grammar.{Limit, limit_after, IsContent, IsRow, AreRows}}

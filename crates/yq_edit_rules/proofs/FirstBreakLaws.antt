@@ -1,4 +1,4 @@
--- The break behind the lines of an item or entry.
+-- The break after the lines of an item or entry.
 use Rattle.std.proofs.Common.{◌≡◌, ◌⊎◌, inl, inr, ℕ, ℤ, ◌<◌, Bool, true, false, cond, List, [], ◌∷◌, ◌++◌, length, drop, None, refl, sym}
 use Rattle.std.{proofs.Common.{ap, ◌∙◌, subst, arith, append-nil, rules}, proofs.lemmas.Bool.{false≢true, eqb-true, and_parts}}
 use Rattle.yq_core.{specs.Text.{cut_line, is_empty, separates, is_line, joined}, proofs.BlockPieceLaws.{IsLf, line_lf, raw_lf}}
@@ -54,7 +54,7 @@ content_break n (Block space anchor block) rest h some = go (raw_lf block.indent
         let full : is_empty (joined block.raw) ≡ false = ap is_empty lf.1 ∙ some_behind lf.0 (10 ∷ []) refl in
         subst (λ (b : Bool). IsOneBreak (cond b (last_break block.tail) (last_break (joined block.raw)))) (sym full) (last_lf (joined block.raw) lf)
 
--- ---- the break behind lines
+-- ---- the break after lines
 
 -- the break of the last of these lines
 abbrev pub lines_break : List PrintedLine → List ℕ

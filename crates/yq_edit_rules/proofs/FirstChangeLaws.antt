@@ -51,7 +51,7 @@ dash_front r ns n = search (rules, dashes_text-append, append-nil, front_then)
 pub front_text : (start : List ℕ) (front : List Row) (t u : List ℕ) → start ++ rows_text front (t ++ u) ≡ (start ++ rows_text front t) ++ u
 front_text start front t u = ap (λ (x : List ℕ). start ++ x) (texts_then front t u) ∙ sym (append_assoc start (rows_text front t) u)
 
--- ---- spaces behind a dash
+-- ---- spaces after a dash
 
 spaces_end : (n : ℕ) → are_spaces (replicate n 32) ≡ true
 spaces_end zero = refl
@@ -77,7 +77,7 @@ dash_less (b ∷ x) n = (λ i. cond (no_spaces (b ∷ x) n i) [] (b ∷ less_spa
 
 -- ---- the next row, if no gap is before it
 
--- A row that begins without a gap: its text is its indentation and what stands behind that.
+-- A row that begins without a gap: its text is its indentation and what comes after that.
 pub record NoGap (b : Row) (u : List ℕ) : Type 0 where
   pub gap : b.gap ≡ []
   pub indent : cut no_space (print_row b u) ≡ (replicate b.column 32, behind_indent b u)

@@ -19,7 +19,7 @@ use Rattle.yq_row_table.specs.Rows as rows
 
 -- ---- the lines of dashes
 
--- the lines of dashes, and those behind them
+-- the lines of dashes, and those after them
 pub dashes_first : (above : List (List ℕ)) (column : ℕ) (ns es : List ℕ) (m : rows.RowMark) (c : Content) → 0 < length ns →
     lines_from above column (ns ++ es) m c ≡ dash_lines above column ns ++ lines_from [] (behind_columns column ns) es m c
 dashes_first above column [] es m c h = absurd (omega (arith, h))
@@ -31,7 +31,7 @@ apart_last [] l z h = h
 apart_last (x ∷ []) l z h = h
 apart_last (x ∷ (y ∷ a)) l z h = apart_last (y ∷ a) l z h
 
--- what stands behind a dash is deeper
+-- what comes after a dash is deeper
 apart_dashes : (a : List Line) (above : List (List ℕ)) (column : ℕ) (ns es : List ℕ) (m : rows.RowMark) (c : Content) (rest : List Line) → 0 < length ns →
     StandApart (a ++ dash_lines above column ns) (lines_from [] (behind_columns column ns) es m c ++ rest) → ⊥
 unfolding level
@@ -62,7 +62,7 @@ plug_first here o e = refl
 plug_first (below l p after) o e = absurd (cc)
 plug_first (beside l u p) o e = absurd (cc)
 
--- The line behind an item or entry, where that is the next one's.
+-- The line after an item or entry, where that is the next one's.
 record NextLine (f : FoundLine) : Type 0 where
   pub line : Line
   pub under : Outline
@@ -78,7 +78,7 @@ next_line m f even some = go f.after refl even.4 some
     go end e h b = absurd b
     go (row l u a) e h b = record { line = l; under = u; after = a; is = e; level_is = h.0 ∙ sym even.0; entry = b }
 
--- The rows of the first item or entry of a compact collection: behind the dashes ns of a row the rest of it and more rows, and then the row of the next one, in the same column.
+-- The rows of the first item or entry of a compact collection: after the dashes ns of a row the rest of it and more rows, and then the row of the next one, in the same column.
 pub record FirstRows (p : Part) (h : NodeLines) (f : FoundLine) (q : RowLine) : Type 0 where
   pub front : List Row
   pub gone : List Row
@@ -132,7 +132,7 @@ module _ (p : Part) (m : ℕ) (ss : List Step) (s : Step) (h : NodeLines) (f : F
   before_is : length (lines_of_rows w.front) + length ns ≡ length (lines_before h.place) + length (lines_before f.place)
   before_is = omega (arith, w.lines, ns_size)
 
-  -- the lines of the row, cut behind the dashes
+  -- the lines of the row, cut after the dashes
   parts : (a ≡ b) × (lines_from [] column es r.mark r.content ++ lines_of_rows w.back ≡ e ++ lines_behind h f)
   parts =
       let x = same_parts a [] (lines_from [] column es r.mark r.content ++ lines_of_rows w.back) b [] (e ++ lines_behind h f)
@@ -160,7 +160,7 @@ module _ (p : Part) (m : ℕ) (ss : List Step) (s : Step) (h : NodeLines) (f : F
       let stood = at (Stood (level_or 0 h.lines)) (find_row s h.lines) f entry.found (row_stood s (level_or 0 h.lines) h.lines deep.1) in
       next_line (level_or 0 h.lines) f stood.even (subst HasEntries (plug_first f.place f.after first_place) left)
 
-  -- the row as it would stand behind its dashes
+  -- the row as it would come after its dashes
   abbrev rest : Row
   rest = record r { gap = []; column = column; dashes = es }
 

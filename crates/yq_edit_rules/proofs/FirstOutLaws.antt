@@ -1,4 +1,4 @@
--- What is taken out with the first item or entry of a compact collection stands in the text.
+-- What is taken out with the first item or entry of a compact collection is in the text.
 use Rattle.std.proofs.Common.{◌≡◌, ℕ, zero, suc, ◌<◌, eqb, Bool, true, false, cond, List, [], ◌++◌, Some, refl, sym, ap, ◌∙◌, arith}
 use Rattle.std.{proofs.Common.append_assoc, proofs.lemmas.Bool.eqb-false, proofs.lemmas.List.take-append-drop, specs.List.slice_get}
 use Rattle.yq_core.{specs.Answers.◌>>=◌, specs.Paths.Step, specs.Text.{cut, cut_line, no_space, upto, line_len}, proofs.Bools.bind_some}

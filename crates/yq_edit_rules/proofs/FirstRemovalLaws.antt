@@ -37,7 +37,7 @@ use Rattle.yq_edit_rules.{proofs.RemovalPieceLaws.spaces_piece, proofs.TextPiece
 abbrev pub EndLastRow : List ℕ → List Row → Type 0
 EndLastRow trail rows = (init : List Row) × (last : Row) × (rows ≡ init ++ (last ∷ [])) × (length trail ≤ length (print_row last []))
 
--- The rows that go with the first item or entry of a compact collection, and the row that stands in their place.
+-- The rows that go with the first item or entry of a compact collection, and the row that is in their place.
 pub record IsRowLeft (c : Cut) (k : ℕ) (x : FirstOut) (old new : Part) : Type 0 where
   pub front : List Row
   pub first : Row
@@ -166,7 +166,7 @@ module _ (c : Cut) (k : ℕ) (y : Step) (ys ss : List Step) (s : Step) (x : Firs
     size = subst (λ (v : List ℕ). length v ≤ text_limit) (sym is) less;
   }
 
-  -- what is taken out, by whether a gap stands before the next row
+  -- what is taken out, by whether a gap comes before the next row
   abbrev either : Bool → FirstOut
   either b = cond b (record { before = less_spaces e.piece.before; space = end_spaces e.piece.before; entry = e.piece.text; break = []; indent = []; behind = e.piece.behind })
       (record { before = e.piece.before; space = []; entry = e.piece.text; break = ft.break; indent = (cut no_space next).0; behind = (cut no_space next).1 })

@@ -15,12 +15,12 @@ use Rattle.yq_row_table.specs.Rows as rows
 
 -- ---- rows among others
 
--- rows behind others
+-- rows after others
 pub rows_after : (limit : Limit) (a b : List Row) (end rest : List ℕ) → AreRows limit (a ++ b) end rest → AreRows (asked_behind limit a) b end rest
 rows_after limit [] b end rest h = h
 rows_after limit (r ∷ a) b end rest h = rows_after (limit_after r) a b end rest h.1
 
--- ---- a row behind the first dashes of another
+-- ---- a row after the first dashes of another
 
 -- dashes before another mark
 dashes_moved : (ns es ms : List ℕ) (old new : rows.RowMark) → is_entry new ≡ true → AreDashes (ns ++ es) old → AreDashes ms new → AreDashes (ns ++ ms) new
@@ -51,7 +51,7 @@ moved_takes limit other r b ns es t u h k f =
     let content : IsContent (parent_of b.mark (behind_columns r.column (ns ++ b.dashes))) b.content u = subst (λ (n : _). IsContent n b.content u) (sym (same_parent r b ns f.column)) k.content in
     takes_place limit r t (ns ++ b.dashes) b.mark b.content u h indent (dashes_moved ns es b.dashes r.mark b.mark (f.entry k.dashes) own k.dashes) k.mark content
 
--- rows that give way to one
+-- rows that are replaced by one
 pub moved_replaces : (p : Part) (front gone back : List Row) (r b : Row) (ns es rest : List ℕ) → AreRows unlimited p.rows p.end rest → p.rows ≡ front ++ (r ∷ (gone ++ (b ∷ back))) →
     MovedFits r b ns es →
     RowsReplace front (r ∷ (gone ++ (b ∷ []))) (moved_up r ns b ∷ []) back (first_gap back p.end) p rest
@@ -75,9 +75,9 @@ moved_replaces p front gone back r b ns es rest h rows f =
           (subst (λ (x : List ℕ). Alike (Some false) (print_row r t) (print_row new x)) text takes.alike);
     }
 
--- ---- a row with nothing behind its last dash
+-- ---- a row with nothing after its last dash
 
--- A break, and nothing else, may stand behind the dash of a row.
+-- A break, and nothing else, may come after the dash of a row.
 pub record DroppedFits (r : Row) (n : ℕ) (ns es tail : List ℕ) : Type 0 where
   pub dashes : r.dashes ≡ ns ++ (n ∷ es)
   pub ends : (rest : List ℕ) → IsTail tail rest

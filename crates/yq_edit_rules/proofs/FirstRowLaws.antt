@@ -16,7 +16,7 @@ pub short_first : (front back old : List Row) (q : Row) → HasShortRoot (front 
 short_first [] back old q h e = e
 short_first (x ∷ front) back old q h e = h
 
--- rows behind the first one
+-- rows after the first one
 split_rows : (r b : Row) (gone back : List Row) → (r ∷ (gone ++ (b ∷ []))) ++ back ≡ r ∷ (gone ++ (b ∷ back))
 split_rows r b gone back = ap (λ (rs : List Row). r ∷ rs) (append_assoc gone (b ∷ []) back)
 

@@ -32,7 +32,7 @@ printed_count rs = omega (arith, lines_count (printed_lines rs), ap length (line
 abbrev dash_printed : List ℕ → List ℕ → ℕ → ℕ → PrintedLine
 dash_printed gap spaces column n = record { line = dash_line (head_comment gap) column; gap = gap; spaces = spaces; mark = 45 ∷ replicate n 32; content = Nothing [] }
 
--- The lines of dashes, before those behind them.
+-- The lines of dashes, before those after them.
 record DashesPrinted (gap spaces : List ℕ) (column : ℕ) (ns es : List ℕ) (m : rows.RowMark) (c : Content) : Type 0 where
   pub lines : List PrintedLine
   pub count : length lines ≡ length ns
@@ -125,7 +125,7 @@ module _ (p : Part) (start rest : List ℕ) (h : NodeLines) (f : FoundLine) (q :
       let next : AreRows (asked_behind (limit_after r) fr.gone) back p.end rest = rows_after (limit_after r) fr.gone back p.end rest behind.1 in
       rows_break (asked_behind unlimited fr.front) r fr.gone back p.end rest [] [] column es behind (rows_some (asked_behind (limit_after r) fr.gone) back p.end rest refl next)
 
-  -- line k with the m lines behind it
+  -- line k with the m lines after it
   abbrev entry_at : ℕ → ℕ → PrintedLine → BlockEntry
   entry_at k m l = record { before = start ++ print_lines (take k ls) []; line = l; under = take m (drop (suc k) ls); behind = print_lines (drop m (drop (suc k) ls)) z }
 

@@ -1,4 +1,4 @@
--- The line in whose head a node at a path stands, and a document in which that line has another head.
+-- The line in whose head a node at a path is, and a document in which that line has another head.
 use Rattle.std.proofs.Common.{◌≡◌, ◌⊎◌, inl, inr, ℕ, suc, ◌+◌, ◌<◌, List, [], ◌∷◌, ◌++◌, Option, Some, None, option_map, option_and_then}
 use Rattle.std.{proofs.Common.{refl, sym, ap, ◌∙◌, subst, arith, rules}, proofs.lemmas.Option.{none-some, same_Some}, specs.Prelude.is_some}
 use Rattle.yq_core.{specs.Answers.◌>>=◌, specs.Paths.{Step, changed_at, within}, specs.Tree.{Node, Children, none, child}}
@@ -97,7 +97,7 @@ head_cases n o (s ∷ ss) f rest even e = go (find s ss o) refl e
     go None is e = absurd (none-some _ e)
     go (Some x) is e = line x.0 x.1 is e
 
--- the line stands in the outline
+-- the line is in the outline
 pub head_whole : (n : ℕ) (o : Outline) (steps : List Step) (f : FoundLine) (rest : List Step) → IsEven n o → find_head steps o ≡ Some (f, rest) → plug f.place (row f.line f.under f.after) ≡ o
 head_whole n o steps f rest even e = go (head_cases n o steps f rest even e)
   where

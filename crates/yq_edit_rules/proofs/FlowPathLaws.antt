@@ -1,4 +1,4 @@
--- From paths to the rows in which flow collections stand, and the text outside them.
+-- From paths to the rows in which flow collections are, and the text outside them.
 use Rattle.std.proofs.Common.{◌≡◌, ℕ, zero, suc, ◌+◌, ◌-◌, List, [], ◌∷◌, ◌++◌, length, Some, refl, sym, ap, ◌∙◌, subst, arith}
 use Rattle.std.{proofs.Common.{append_assoc, length-append, rules}, proofs.lemmas.Bool.{lt-ltb, le-ltb, cond-true, cond-false}}
 use Rattle.std.{proofs.lemmas.Option.{none-some, same_Some}, specs.List.slice_get}

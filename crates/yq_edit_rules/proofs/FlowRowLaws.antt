@@ -1,4 +1,4 @@
--- A flow collection whose items or entries are changed, by the row in which it stands.
+-- A flow collection whose items or entries are changed, by the row in which it is.
 use Rattle.std.proofs.Common.{◌≡◌, ℕ, ◌+◌, Bool, true, false, cond, eqb, List, [], ◌∷◌, ◌++◌, length, Option, Some, None, refl, sym, ap}
 use Rattle.std.{proofs.Common.{◌∙◌, subst, length-append, ℤ, rules}, proofs.lemmas.Bool.{and_parts, cond_both}}
 use Rattle.std.proofs.lemmas.Option.{none-some, same_Some}
@@ -31,7 +31,7 @@ use Rattle.yq_core.specs.Tree as tree
 use Rattle.yq_outline.specs.Outline as outlines
 use Rattle.yq_row_table.specs.Rows as rows
 
--- What is known of a node in which a collection stands, and of one with other items or entries there.
+-- What is known of a node in which a collection is, and of one with other items or entries there.
 pub record HoldsColl (node m : FlowNode) (rest : List ℕ) : Type 0 where
   pub alike : Alike (Some false) (node_text node rest) (node_text m rest)
   pub plain : is_plain_content m ≡ false

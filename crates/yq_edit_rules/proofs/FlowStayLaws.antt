@@ -79,7 +79,7 @@ numbers_stay p q h steps =
 
 -- ---- in a cut
 
--- what stands behind a document
+-- what comes after a document
 behind_stays : (is : Bool) (k : ℕ) (q : Part) (c : Cut) → behind_part (number_from is k (put_part (number_from is k c) q c)) (put_part (number_from is k c) q c) ≡ behind_part (number_from is k c) c
 behind_stays is k q (last p) = refl
 behind_stays true zero q (marked p marker c) = refl
@@ -128,7 +128,7 @@ module _ (c : Cut) (k : ℕ) (steps : List Step) (w : CollPieces) (at : FlowAt c
       let own : row_shape r ≡ row_shape i.row = λ j. record { column = i.row.column; dashes = i.row.dashes; mark = i.row.mark; headed = headed j } in
       ap (map row_shape) rows_are ∙ (one_other i.front r i.row i.back own ∙ sym (ap (map row_shape) at.at.rows_are))
 
-  -- by how many lines stand before the one in whose head the node is
+  -- by how many lines come before the one in whose head the node is
   abbrev number : ℕ
   number = length (lines_before at.line.place)
 

@@ -10,7 +10,7 @@ use Rattle.yq_row_table.{proofs.seams.GapSeams.{gap_kinds, gap_lines_of}, proofs
 use Rattle.yq_row_table.{proofs.NothingLaws.some_behind, proofs.seams.SeamLaws.line_by_break, proofs.EmptyTexts.none_is}
 use Rattle.yq_documents.specs.Pieces.{before_run}
 
--- the head comment of a gap, in front of which lines stand that end in no comment
+-- the head comment of a gap, in front of which lines are that end in no comment
 pub head_joined : (kept next x : List ℕ) → IsGap kept x → is_empty x ≡ false → head_comment kept ≡ [] → head_comment (kept ++ next) ≡ head_comment next
 head_joined kept next x k some none = ap last_comments (lines_joined_of kept next x some k) ∙ comments_behind (text_lines kept) (text_lines next) none
 
@@ -69,7 +69,7 @@ repaired_lines false m column (l ∷ ls) h = ⊎_elim {0, 0, 0}
     (λ b. rw b (cond_both (is_outdented_comment m l) l (replicate column 32 ++ past_white l) (λ x. is_line x ≡ true) (λ _. h.0) (λ _. line_spaces column (past_white l) (line_past l h.0)), h.1))
     (cases_Bool (is_blank l))
 
--- The gap that stays has the head comment of the next one, where something stands behind that.
+-- The gap that stays has the head comment of the next one, where something comes after that.
 pub head_left : (o : Option BlockText) (column : ℕ) (ks : RawLines) (x next rest : List ℕ) → AreGapLines ks x → is_empty x ≡ false → last_comments ks ≡ [] → IsGap next rest → is_empty rest ≡ false →
     head_comment (seam_gap o column (joined ks) next) ≡ head_comment next
 head_left o column ks x next rest k some none n behind = go o

@@ -93,7 +93,7 @@ run_seam front back r run last rest l old limit own is column apart = go (last_b
         (cases_Bool (hold_comment ks)) in
         block_seam front b (with_run r run ++ x) e (ap (ends_block (keeps b.chomping) b.indent) text ∙ whole_is)
 
--- the first line of a row, and those behind it
+-- the first line of a row, and those after it
 abbrev first_line : List (List ℕ) → Row → List ℕ → Line
 first_line above r [] = mark_line above r.column r.mark r.content
 first_line above r (n ∷ ns) = dash_line above r.column

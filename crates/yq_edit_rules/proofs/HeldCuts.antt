@@ -26,7 +26,7 @@ lead_white : (p : List ℕ → Bool) (g t : List ℕ) → IsLead false p g t →
 lead_white p g t (inl x) = all_white g t x.0.0
 lead_white p g t (inr x) = subst IsWhite (sym x.0) tt
 
--- what stands before the head of a content, behind its anchor if it has one, is white space
+-- what comes before the head of a content, after its anchor if it has one, is white space
 pub space_white : (n : ℤ) (x : Content) (rest : List ℕ) → IsContent n x rest → IsWhite (cond (is_empty (content_cut x).1) (content_cut x).0 (content_cut x).2)
 unfolding IsFlowNode node_text
 space_white n (Nothing z) rest h = tt
@@ -54,7 +54,7 @@ unnamed_ascii (b ∷ t) h = ⊎_elim {0, 0, 0} (λ lt. lt) (λ le.
     absurd (false≢true (sym inside ∙ h)))
     (cases_lt b 128)
 
--- What stands round the end of an anchor: no CR before it, and an ASCII byte behind it.
+-- What is round the end of an anchor: no CR before it, and an ASCII byte after it.
 pub record AnchorEnds (anchor behind : List ℕ) : Type 0 where
   pub clean : ends_return anchor ≡ false
   pub ascii : BeginsAscii behind
@@ -115,7 +115,7 @@ low_last rows.Bare = (omega arith, refl)
 low_last rows.Dash = (omega arith, refl)
 low_last (rows.Key key colon) = (omega arith, refl)
 
--- a text cut behind such a byte
+-- a text cut after such a byte
 pub last_cut : (b : ℕ) (x t : List ℕ) → b < 128 → is_return b ≡ false → IsPiece ((x ++ b ∷ []) ++ t) → IsPiece (x ++ b ∷ []) × IsPiece t
 last_cut b x t low uncommented h =
     let front : IsUtf8 (x ++ b ∷ []) =
@@ -125,7 +125,7 @@ last_cut b x t low uncommented h =
 front_utf8 : (a b : List ℕ) → IsPiece (a ++ b) → BeginsAscii b → IsUtf8 a
 front_utf8 a b h k = subst IsUtf8 (take-append_seam a b) (IsUtf8-take (a ++ b) (length a) h.utf8 (before_ascii a b k))
 
--- and behind the anchor there, if there is one
+-- and after the anchor there, if there is one
 pub anchor_cut : (last : ℕ) (front : List ℕ) (s : Slices) → EndsIn last front → (last < 128) × (is_return last ≡ false) → (is_empty s.anchor ≡ false → AnchorEnds s.anchor (s.apart ++ s.head)) →
     IsPiece ((front ++ anchor_before s) ++ (space_before s ++ s.head)) → IsPiece (front ++ anchor_before s) × IsPiece (space_before s ++ s.head)
 anchor_cut last front s ends low named = go (is_empty s.anchor) refl named
@@ -149,7 +149,7 @@ break_is_piece b (inl e) = subst IsPiece (sym e) nothing
 break_is_piece b (inr (inl e)) = subst IsPiece (sym e) (break_piece Lf)
 break_is_piece b (inr (inr e)) = subst IsPiece (sym e) (break_piece CrLf)
 
--- no CR stands before a last break that is an LF
+-- no CR comes before a last break that is an LF
 less_clean : (t : List ℕ) → last_break t ≡ 10 ∷ [] → ends_return (less_break t) ≡ false
 unfolding less_break
 less_clean [] e = refl

@@ -12,11 +12,11 @@ use Rattle.yq_edit_rules.specs.StandingLaws.{held_text}
 
 -- ---- the pieces of a row
 
--- a row without an anchor has no white space behind one
+-- a row without an anchor has no white space after one
 no_apart : (r : Row) → is_empty (slices r).anchor ≡ true → (slices r).apart ≡ []
 no_apart r = search (rules, false≢true)
 
--- the text of a line up to its tail: the key or dash with its anchor, the white space behind that, and the head
+-- the text of a line up to its tail: the key or dash with its anchor, the white space after that, and the head
 pub front_is : (b : List ℕ) (r : Row) → b ++ text_to_line_end r ≡ ((b ++ row_front r) ++ anchor_before (slices r)) ++ (space_before (slices r) ++ (slices r).head)
 front_is b r = search (rules, empty_is, no_apart, append_assoc, append-nil)
 
@@ -26,7 +26,7 @@ no_break : less_break [] ≡ []
 unfolding less_break
 no_break = refl
 
--- a break, lines and what is behind them: the break goes before lines, or is the last one
+-- a break, lines and what is after them: the break goes before lines, or is the last one
 pub below_is : (below t behind : List ℕ) → t ++ (below ++ behind) ≡ cond (is_empty below) [] t ++ (less_break below ++ (cond (is_empty below) t (last_break below) ++ behind))
 below_is [] t behind = sym (ap (λ x. x ++ (t ++ behind)) no_break)
 below_is (b ∷ below) t behind =
@@ -50,7 +50,7 @@ module _ (e : RowsOfEntry) where
   abbrev tail_text : List ℕ
   tail_text = cond (is_empty below) [] t.behind ++ (less_break below ++ (cond (is_empty below) t.behind (last_break below) ++ behind_entry e))
 
-  -- what is behind the head
+  -- what is after the head
   rest_is : (slices e.row).tail ++ ((slices e.row).raw ++ rows_text e.under (behind_entry e)) ≡ t.white ++ (t.comment ++ tail_text)
   rest_is =
       let apart : s.tail ++ (s.raw ++ (rows_text e.under [] ++ behind_entry e)) ≡ s.tail ++ (below ++ behind_entry e) = ap (λ x. s.tail ++ x) (sym (append_assoc s.raw (rows_text e.under []) (behind_entry e))) in

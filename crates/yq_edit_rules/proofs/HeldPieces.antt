@@ -17,7 +17,7 @@ use Rattle.yq_edit_rules.proofs.HeldCuts.{EndsIn, anchor_cut, anchor_ends, break
 use Rattle.yq_edit_rules.{proofs.HeldCuts.{low_last, mark_ends, space_white}, proofs.HeldLaws.{cut_spelled, front_is, held_there}}
 use Rattle.yq_edit_rules.proofs.TailPieces.{HasTailPieces, pieces, white_piece}
 
--- the end of a line, as it is cut without what is behind
+-- the end of a line, as it is cut without what is after
 pub end_agrees : (tail more : List ℕ) (h : IsTail tail more) → end_in_line [] tail ≡ record { before = []; white = h.white; comment = h.comment; behind = h.line.break }
 end_agrees tail more h =
     let alone : IsTail tail [] = record { white = h.white; comment = h.comment; line = record { break = h.line.break; spelled = h.line.spelled; blank = h.line.blank; as_comment = h.line.as_comment; ends = ends h.line.ends }; apart = h.apart } in
@@ -44,7 +44,7 @@ pub break_cases : (b rest : List ℕ) → IsBreak b rest → (b ≡ []) ⊎ IsLf
 break_cases b rest (inl e) = inr (break_is b e)
 break_cases b rest (inr e) = inl e.0
 
--- The lines below a line: each of these is a piece, and so is what stands behind them.
+-- The lines below a line: each of these is a piece, and so is what comes after them.
 record BelowPieces (b below z : List ℕ) : Type 0 where
   break : IsPiece (cond (is_empty below) [] b)
   lines : IsPiece (less_break below)
@@ -65,7 +65,7 @@ below_pieces break (x ∷ xs) behind b all ends =
     cut (inl lf) = subst (λ t. IsPiece t × IsPiece behind) (sym lf.1) (line_cut lf.0 behind (subst (λ t. IsPiece (t ++ behind)) lf.1 all))
     cut (inr none) = (subst IsPiece (ap (λ t. (x ∷ xs) ++ t) none ∙ append-nil (x ∷ xs)) all, subst IsPiece (sym none) Rattle.yq_edit_rules.proofs.CommentPieceLaws.nothing)
 
--- what is below the line of a key or dash ends in a break, or nothing is behind
+-- what is below the line of a key or dash ends in a break, or nothing is after
 pub below_ended : (n : ℕ) (s : Step) (ss : List Step) (c : Cut) (e : RowsOfEntry) → StandsThere n s ss c e → is_empty ((slices e.row).raw ++ rows_text e.under []) ≡ false →
     Ended ((slices e.row).raw ++ rows_text e.under []) (behind_entry e)
 below_ended n s ss c e there some = go (rows_ended_there n s ss c e there)

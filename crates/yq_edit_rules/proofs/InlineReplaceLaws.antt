@@ -1,4 +1,4 @@
--- What stands behind a row that is alone on its line.
+-- What comes after a row that is alone on its line.
 use Rattle.std.proofs.Common.{◌≡◌, ℕ, ℤ, zero, suc, ◌+◌, ◌*◌, ◌<◌, List, [], ◌∷◌, ◌++◌, length, take, Some, true, false, refl, sym, ap, ◌∙◌}
 use Rattle.std.{proofs.Common.{subst, arith, append_assoc, length-append, rules}, proofs.lemmas.Bool.{false≢true, lt-ltb}}
 use Rattle.yq_core.{specs.Paths.Step, specs.Piece.deeper, specs.Plain.ends_plain, specs.Nodes.scalar}
@@ -26,7 +26,7 @@ own_rows t c k p front r back old e =
     (subst (λ rs. AreRows (asked_behind unlimited (take (length front) p.rows)) rs p.end (behind_document k c)) (drop_front p front (r ∷ back) e)
     (rows_drop (length front) p.rows unlimited p.end (behind_document k c) (part_rows t c k p old (document_known t c k p old).cut)))
 
--- what is asked behind a mark
+-- what is asked after a mark
 pub deeper_entry : (m : rows.RowMark) (column : ℕ) → is_entry m ≡ true → deeper (parent_of m column) ≡ suc column
 deeper_entry m column h1 = search (rules, false≢true)
 
@@ -34,12 +34,12 @@ deeper_bare : (column : ℕ) → deeper (parent_of rows.Bare column) ≡ column
 deeper_bare zero = refl
 deeper_bare (suc n) = refl
 
--- the next row stands before what is asked
+-- the next row comes before what is asked
 pub next_by : (n d : ℕ) (back : List Row) → Begins n (lines_of_rows back) → n < 3 * d + 1 → allows_first (record { column = Some d }) back ≡ true
 next_by n d [] h less = refl
 next_by n d (b ∷ bs) h less = let low = next_low n (b ∷ bs) b bs refl h in lt-ltb b.column d (omega (arith, low, less))
 
--- the lines of the row and those behind it
+-- the lines of the row and those after it
 module _ (p : Part) (front : List Row) (r : Row) (back : List Row) (rows_are : p.rows ≡ front ++ (r ∷ back)) (even : IsEven (level_or 0 (part_outline p)) (part_outline p)) (fine : is_fine (group (lines_of_rows p.rows)) ≡ true) where
   abbrev x : Line
   x = mark_line (above_mark (head_comment r.gap) r.dashes) (mark_column r) r.mark r.content
@@ -93,12 +93,12 @@ module _ (p : Part) (front : List Row) (r : Row) (back : List Row) (rows_are : p
       none [] e = refl
       none (b ∷ bs) e = absurd (omega (arith, e, row_count b, length-append (row_lines b) (lines_of_rows bs)))
 
-  -- the next row stands where no further line of what is behind the mark does
+  -- the next row is where no further line of what is after the mark does
   pub next_stands : (steps : List Step) → LeadsToLone p steps front r → allows_first (record { column = Some (deeper (parent_indent r)) }) back ≡ true
   next_stands [] h = ap (allows_first (record { column = Some (deeper (parent_indent r)) })) (root_back h)
   next_stands (s ∷ ss) h = lower_next s ss h
 
--- before what stands behind a row's content a plain scalar ends
+-- before what comes after a row's content a plain scalar ends
 pub tail_ends_plain : (n : ℤ) (tail : List ℕ) (limit : Limit) (back : List Row) (gap rest : List ℕ) → IsTail tail (rows_text back (gap ++ rest)) → AreRows limit back gap rest → allows_first (record { column = Some (deeper n) }) back ≡ true → ends_part rest ≡ true →
     ends_plain false (Some (deeper n)) (tail ++ rows_text back (gap ++ rest)) ≡ true
 tail_ends_plain n tail limit back gap rest t h next e =

@@ -54,7 +54,7 @@ items_inside front is back lead m trail e = record {
       ∙ (e ∙ ap (λ t. t ++ (m ++ (trail ++ items_text back []))) (items_apart front lead)));
 }
 
--- Segments keep texts that end behind items in front, and begin in front of those behind; the items of a cut and of a new one stand between these.
+-- Segments keep texts that end after items in front, and begin in front of those after; the items of a cut and of a new one are between these.
 pub record ItemsGiveWay (ss : List Segment) (c new : Cut) : Type 0 where
   pub front : List Item
   pub gone : List Item

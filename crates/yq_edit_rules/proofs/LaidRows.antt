@@ -1,11 +1,11 @@
--- Rows that are written one behind the other.
+-- Rows that are written one after the other.
 use Rattle.std.{proofs.Common.{◌≡◌, ℕ, suc, ◌≤◌, true, List, [], ◌∷◌, ◌++◌, refl, sym, subst, arith, rules}, proofs.Math.Bool.and-false}
 use Rattle.yq_row_table.{specs.Exchange.asked_behind, specs.Gap.IsGap, specs.Grammar.{is_entry, IsRow, Limit, allows, limit_after, AreRows}}
 use Rattle.yq_row_table.{specs.Rows.{Row, rows_text}, proofs.PlainEnds.{AtLine, row_at_line}, proofs.seams.SeamLaws.rows_text-append}
 use Rattle.yq_core.proofs.Alikes.{sep_first}
 use Rattle.yq_edit_rules.specs.BlockRows.{item_column, rows_on_dash}
 
--- Rows begin at a column, before a rest, behind any row that allows it; what stands behind them may begin at any column up to that.
+-- Rows begin at a column, before a rest, after any row that allows it; what comes after them may begin at any column up to that.
 pub record IsLaid (column : ℕ) (r : Row) (rs : List Row) (rest : List ℕ) : Type 0 where
   pub gap : r.gap ≡ []
   pub at : r.column ≡ column
@@ -20,7 +20,7 @@ AreLaid column (r ∷ rs) rest = IsLaid column r rs rest
 pub no_gap_here : (rest : List ℕ) → IsGap [] rest
 no_gap_here rest = record { lines = []; spelled = refl; each = tt }
 
--- rows behind rows
+-- rows after rows
 pub rows_append : (limit : Limit) (xs ys : List Row) (end rest : List ℕ) → AreRows limit xs [] (rows_text ys (end ++ rest)) → AreRows (asked_behind limit xs) ys end rest → AreRows limit (xs ++ ys) end rest
 rows_append limit [] ys end rest h k = k
 rows_append limit (x ∷ xs) ys end rest h k = (subst (IsRow limit x) (sym (rows_text-append xs ys (end ++ rest))) h.0, rows_append (limit_after x) xs ys end rest h.1 k)
@@ -50,6 +50,6 @@ laid_follow column rs rest limit c h1 h2 = search rules
 pub laid_line : (column : ℕ) (rs : List Row) (rest : List ℕ) → AreLaid column rs rest → AtLine (suc column) (rows_text rs rest)
 laid_line column rs rest h1 = search (rules, row_at_line)
 
--- rows of which the first one stands behind a dash
+-- rows of which the first one comes after a dash
 pub laid_behind : (column : ℕ) (rs : List Row) (rest : List ℕ) → AreLaid (item_column column) rs rest → AreLaid column (rows_on_dash column rs) rest
 laid_behind column rs rest h1 = search (rules, no_gap_here, sep_first, and-false)

@@ -79,7 +79,7 @@ module _ (ss : List Segment) (c : Cut) (k : ℕ) (q : Part) (e : RowsGiveWay ss 
   come_last : read_at (cut_text (put_document k q c)) ≡ Some (put_document k q c) → is_one_line e.trail ≡ true → InLast e.trail (rows_items e.come [])
   come_last read one = cut_line (put_document k q c) (rows_way ss c k q e).front e.come (rows_way ss c k q e).back e.lead e.trail read (rows_way ss c k q e).new_are (come_text ss c k q e) one
 
-  -- Rows give way to others, where what is kept behind begins in the line that ends them.
+  -- Rows are replaced by others, where what is kept after begins in the line that ends them.
   pub lines_local : read_at (cut_text c) ≡ Some c → read_at (cut_text (put_document k q c)) ≡ Some (put_document k q c) → is_one_line e.trail ≡ true →
       InFirst e.lead (rows_items e.gone []) → InFirst e.lead (rows_items e.come []) → IsLocal ss c (put_document k q c)
   lines_local read new one b0 b1 = rows_local ss c k q e b0 b1 (gone_last read one) (come_last new one)

@@ -14,7 +14,7 @@ use Rattle.yq_edit_rules.specs.EntryEdits.{entry_lines, more_lines}
 use Rattle.yq_edit_rules.specs.Layouts.{LooksLike, children_ask, node_asks, is_filled_as, layout_of, columns_deeper}
 use Rattle.yq_core.specs.Nodes as inline
 
--- a key that stands deeper than another one is in a later column
+-- a key that is deeper than another one is in a later column
 key_step : (l m : Line) → begins_under (is_kind false) l m ≡ true → 1 ≤ m.column - l.column
 unfolding level
 key_step l m h = search (rules, and_parts, ltb-true, false≢true)
@@ -28,7 +28,7 @@ pub steps_least : (o : Option Part) → 1 ≤ (steps_of_part o).mapping
 steps_least None = omega arith
 steps_least (Some p) = step_least (lines_of_rows p.rows)
 
--- a mapping stands deeper than its key
+-- a mapping is deeper than its key
 pub mapping_least : (n : ℕ) (c : Cut) → 1 ≤ (layout_of n c).mapping
 mapping_least n c = steps_least (slice_get (document_parts c) n)
 
@@ -39,7 +39,7 @@ module _ (l k : Layout) where
   abbrev SameSteps : (Bool → Bool) → Type 0
   SameSteps asks = (dashes : Bool) → asks dashes ≡ true → columns_deeper dashes l ≡ columns_deeper dashes k
 
-  -- by how many columns a collection stands deeper than its key
+  -- by how many columns a collection is deeper than its key
   pub indent_like : (v : Node) → SameSteps (λ dashes. is_filled_as dashes v) → is_filled v ≡ true → indent_step l v ≡ indent_step k v
   indent_like (alias name) h filled = refl
   indent_like (scalar a kind text) h filled = refl
@@ -54,7 +54,7 @@ module _ (l k : Layout) where
   columns_like column (Some x) v h filled = ap (λ d. column + d) (indent_like v h filled)
 
   module _ (same : l.br ≡ k.br) where
-    -- an item or entry by its columns, and lines behind it
+    -- an item or entry by its columns, and lines after it
     entry_by : (a b : ℕ) (key : Option (List ℕ)) (node : Option inline.FlowNode) (t u : List ℕ) → (is_none node ≡ true → a ≡ b) → (is_none node ≡ true → t ≡ u) →
         block_entry l a key node t ≡ block_entry k b key node u
     entry_by a b (Some x) (Some node) t u columns texts = refl

@@ -1,4 +1,4 @@
--- A text cut before the end of a line: no CR stands before the break.
+-- A text cut before the end of a line: no CR comes before the break.
 use Rattle.std.proofs.Common.{inl, inr, ◌⊎◌, ◌≡◌, ℕ, zero, suc, ◌+◌, ℤ, true, false, List, [], ◌∷◌, ◌++◌, replicate, refl, sym, ap, ◌∙◌}
 use Rattle.std.proofs.Common.{append_assoc, append-nil, ⊎_elim, rules}
 use Rattle.std.proofs.lemmas.Bool.{false≢true, or_right, and_from, and_parts, cases_Bool}
@@ -148,7 +148,7 @@ line_ends_clean limit r rest h pairs feed =
     (clean_joined (replicate r.column 32) (dashes_text r.dashes (mark_text r.mark [])) (clean_spaces r.column) (dashes_clean r.dashes (mark_text r.mark []) (mark_clean r.mark r.content rest h.mark))))
     (content_clean (parent_indent r) r.content rest h.content text feed)
 
--- ---- a text cut where no CR stands before an LF
+-- ---- a text cut where no CR comes before an LF
 
 pairs_clean : (a b : List ℕ) → ends_return a ≡ false → pairs_returns (a ++ b) ≡ true → pairs_returns a ≡ true
 unfolding pairs_returns

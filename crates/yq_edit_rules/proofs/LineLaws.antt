@@ -8,7 +8,7 @@ use Rattle.yq_documents.specs.LinesInRows.{RowLine, row_line, behind_one}
 use Rattle.yq_edit_rules.{specs.Moved.dash_lines, specs.LineRows.{IsRowLine, RowLineSplits}}
 use Rattle.yq_row_table.specs.Rows as rows
 
--- the comments above the line of a mark behind dashes
+-- the comments above the line of a mark after dashes
 abbrev pub above_mark : List (List ℕ) → List ℕ → List (List ℕ)
 above_mark above [] = above
 above_mark above (n ∷ ns) = []

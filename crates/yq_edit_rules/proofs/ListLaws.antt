@@ -1,4 +1,4 @@
--- Items and entries that are written one behind the other.
+-- Items and entries that are written one after the other.
 use Rattle.std.proofs.Common.{◌≡◌, ℕ, ◌+◌, Bool, true, false, not, eqb, List, [], ◌∷◌, ◌++◌, length, map, Option, Some, None, refl, sym, ap}
 use Rattle.std.{proofs.Common.{◌∙◌, append_assoc, append-nil, replicate, String, string_bytes, arith, rules}, proofs.lemmas.Bool.ne_eqb}
 use Rattle.std.{proofs.lemmas.List.length-map, specs.declared.alloc.Global.Global, specs.Option.is_none, specs.Prelude.{Vec, nat_eq}}
@@ -24,7 +24,7 @@ item_is l below node t = search rules
 pair_is : (l : Layout) (below : ℕ) (k : List ℕ) (node : Option inline.FlowNode) (t : List ℕ) → block_entry l below (Some k) node t ≡ block_front l below k (is_none node) ++ inline_or node t
 pair_is l below k node t = search (rules, append_assoc)
 
--- those behind it
+-- those after it
 then_items : (l : Layout) (column : ℕ) (vs : List tree.Node) → then_lines l column (items vs) (block_children l column (items vs)) ≡ separated_texts (break_and_indent l column) false (map (block_item l column) vs)
 unfolding block_children
 then_items l column [] = refl

@@ -19,7 +19,7 @@ cut_known ss c d read text local new is = subst (IsLocal ss c) (same_Some _ _ (s
 
 -- ---- rows of a document
 
--- Rows of document k give way to others, between those in front and those behind, and the gap behind them stays.
+-- Rows of document k are replaced by others, between those before and those after, and the gap after them stays.
 pub record RowsGiveWay (ss : List Segment) (c : Cut) (k : ℕ) (q : Part) : Type 0 where
   pub p : Part
   pub there : slice_get (document_parts c) k ≡ Some p
@@ -64,7 +64,7 @@ module _ (c : Cut) (k : ℕ) (p : Part) (there : slice_get (document_parts c) k 
   abbrev pub back_items : List Row → List ℕ → List Item
   back_items back end = rows_items back (end_item end h.marker ∷ h.below)
 
-  -- the items of a part between those in front and those behind
+  -- the items of a part between those before and those after
   pub around : (front mid back : List Row) (q : Part) → q.rows ≡ front ++ (mid ++ back) → h.above ++ back_items q.rows q.end ≡ front_items front ++ (rows_items mid [] ++ back_items back q.end)
   around front mid back q e =
       let tail : List Item = end_item q.end h.marker ∷ h.below in
@@ -120,13 +120,13 @@ module _ (ss : List Segment) (c : Cut) (k : ℕ) (q : Part) (e : RowsGiveWay ss 
   pub rows_local : InFirst e.lead (rows_items e.gone []) → InFirst e.lead (rows_items e.come []) → InLast e.trail (rows_items e.gone []) → InLast e.trail (rows_items e.come []) → IsLocal ss c (put_document k q c)
   rows_local = items_local ss c (put_document k q c) rows_way
 
-  -- Rows give way to one.
+  -- Rows are replaced by one.
   pub one_local : (s : Row) → e.come ≡ s ∷ [] → InFirst e.lead (rows_items e.gone []) → InLast e.trail (rows_items e.gone []) → IsLocal ss c (put_document k q c)
   one_local s is b0 e0 =
       let one : IsInside (row_item s ∷ []) e.lead e.trail = subst (λ rs. IsInside (rows_items rs []) e.lead e.trail) is come_text in
       rows_local b0 (subst (λ rs. InFirst e.lead (rows_items rs [])) (sym is) (one_first (row_item s) e.lead e.trail one)) e0 (subst (λ rs. InLast e.trail (rows_items rs [])) (sym is) (one_last (row_item s) e.lead e.trail one))
 
-  -- One row gives way to another.
+  -- One row is replaced by another.
   pub row_local : (r s : Row) → e.gone ≡ r ∷ [] → e.come ≡ s ∷ [] → IsLocal ss c (put_document k q c)
   row_local r s was is =
       let one : IsInside (row_item r ∷ []) e.lead e.trail = subst (λ rs. IsInside (rows_items rs []) e.lead e.trail) was gone_text in
@@ -146,7 +146,7 @@ longer_end a b [] r e h = (a, sym e, refl)
 longer_end [] b (x ∷ t) r e h = absurd (omega (arith, h, ap length e, length-append t r))
 longer_end (y ∷ a) b (x ∷ t) r e h = let k = longer_end a b t r (tail-eq_of_cons-eq e) h in (k.0, k.1, λ i. head-eq_of_cons-eq e i ∷ k.2 i)
 
--- One row gives way to another, where segments keep what stands in front of it and what stands behind it.
+-- One row is replaced by another, where segments keep what is in front of it and what comes after it.
 pub row_by_size : (c : Cut) (k : ℕ) (p : Part) (there : slice_get (document_parts c) k ≡ Some p) (start : List ℕ) (put : (x : Part) → cut_text (put_document k x c) ≡ start ++ part_text x (behind_document k c))
     (front : List Row) (r s : Row) (back : List Row) (q : Part) (ss : List Segment) → p.rows ≡ front ++ (r ∷ back) → q.rows ≡ front ++ (s ∷ back) → q.end ≡ p.end → are_kept ss ≡ false →
     old_text ss ≡ cut_text c → new_text ss ≡ cut_text (put_document k q c) → length (start ++ rows_text front []) ≤ length (kept_front ss) → length (rows_text back (p.end ++ behind_document k c)) ≤ length (kept_back ss) →

@@ -7,12 +7,12 @@ use Rattle.yq_places.proofs.UnderExchange.{lines_append}
 use Rattle.yq_edit_rules.specs.Moved.{dash_lines, moved_up, emptied_row, DashesFirst, FirstMoved, FirstEmptied}
 use Rattle.yq_row_table.specs.Rows as rows
 
--- the lines of dashes, and those behind them
+-- the lines of dashes, and those after them
 pub from_dashes : DashesFirst
 from_dashes above column n [] es mark c = refl
 from_dashes above column n (k ∷ ns) es mark c = ap (λ ls. dash_line above column ∷ ls) (from_dashes [] (suc (column + n)) k ns es mark c)
 
--- lines before, between and behind
+-- lines before, between and after
 three : (a d x g z : List Line) → a ++ ((d ++ x) ++ (g ++ z)) ≡ (a ++ d) ++ ((x ++ g) ++ z)
 three a d x g z = ap (λ y. a ++ y) (append_assoc d x (g ++ z) ∙ ap (λ y. d ++ y) (sym (append_assoc x g z))) ∙ sym (append_assoc a d ((x ++ g) ++ z))
 
@@ -35,7 +35,7 @@ first_moved before gone behind r b n ns es dashes column bare =
           ∙ ((λ i. lines_of_rows before ++ (new i ++ lines_of_rows behind)) ∙ two (lines_of_rows before) d (lines_of_rows behind) (row_lines b)),
     )
 
--- a row with nothing behind its last dash has the lines of its dashes
+-- a row with nothing after its last dash has the lines of its dashes
 from_last : (above : List (List ℕ)) (column n : ℕ) (ns tail : List ℕ) → line_comment tail ≡ None → lines_from above column ns rows.Dash (Nothing tail) ≡ dash_lines above column (ns ++ (n ∷ []))
 from_last above column n [] tail e = search rules
 from_last above column n (k ∷ ns) tail e = ap (λ ls. dash_line above column ∷ ls) (from_last [] (suc (column + k)) n ns tail e)

@@ -11,7 +11,7 @@ use Rattle.yq_places.proofs.FlowViewLaws.{before_under}
 use Rattle.yq_edit_rules.specs.Siblings.{HasEntries, NodeLines, under_line, lines_below, lines_at, put_lines, StandsSomewhere}
 use Rattle.yq_edit_rules.specs.Siblings.{LinesReplaced}
 
--- the lines behind a place in what is under a line
+-- the lines after a place in what is under a line
 pub after_under : (p : Context) (l : Line) (a : Outline) → lines_after (compose p (below l here a)) ≡ flatten a ++ lines_after p
 after_under here l a = sym (append-nil (flatten a))
 after_under (below k p b) l a = ap (λ x. x ++ flatten b) (after_under p l a) ∙ append_assoc (flatten a) (lines_after p) (flatten b)

@@ -1,11 +1,11 @@
--- Texts of one line: no line feed stands in them, but perhaps as the last byte.
+-- Texts of one line: no line feed is in them, but perhaps as the last byte.
 use Rattle.std.proofs.Common.{◌≡◌, ℕ, Bool, true, false, cond, List, [], ◌∷◌, ◌++◌, refl, sym, ap, ◌∙◌, rules}
 use Rattle.std.proofs.lemmas.Bool.{false≢true, and_parts}
 use mathlib.Core.List.{head-eq_of_cons-eq, tail-eq_of_cons-eq}
 use Rattle.yq_core.{specs.Text.{is_empty, is_feed, is_line}, proofs.BlockPieceLaws.IsLf, proofs.LineLaws.is_empty_is}
 use Rattle.yq_row_table.specs.Gap.{IsBreak}
 
--- whether no line feed stands in a text, but perhaps as its last byte
+-- whether no line feed is in a text, but perhaps as its last byte
 abbrev pub is_one_line : List ℕ → Bool
 is_one_line [] = true
 is_one_line (b ∷ t) = cond (is_feed b) (is_empty t) (is_one_line t)
@@ -14,7 +14,7 @@ pub left_none : (a b : List ℕ) → a ++ b ≡ [] → b ≡ []
 left_none [] b e = e
 left_none (x ∷ a) b e = absurd (let none : x ∷ (a ++ b) ≡ [] = e in cc)
 
--- what stands behind a line feed in such a text
+-- what comes after a line feed in such a text
 pub behind_feed : (u w : List ℕ) → is_one_line (u ++ w) ≡ true → IsLf u → w ≡ []
 behind_feed [] w h lf = absurd (none lf.0 lf.1)
   where

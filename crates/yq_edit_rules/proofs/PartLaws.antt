@@ -28,7 +28,7 @@ pub part_numbered : PartNumbered
 part_numbered c k p e =
     (part_there c k p e, λ i j new gap. splice_put (part_number k c) i j new gap c ∙ ap (λ (x : Part). put_document k (splice_part i j new gap x) c) (part_there c k p e))
 
--- rows behind others
+-- rows after others
 pub drop_both : (front gone back : List Row) → drop (length front + length gone) (front ++ (gone ++ back)) ≡ back
 drop_both [] gone back = let same : 0 + length gone ≡ length gone = omega arith in ap (λ (n : ℕ). drop n (gone ++ back)) same ∙ drop-append_seam gone back
 drop_both (r ∷ front) gone back =
@@ -67,7 +67,7 @@ pub is_put : (t : List ℕ) (c : Cut) (k : ℕ) (p q : Part) → IsDocumentPart 
     IsCut (cut_text (put_document k q c)) (put_document k q c) → HaveFitKeys q.rows → HasShortRoot q.rows → IsPut t c k p q
 is_put t c k p q old some new cut keys short = record { read = old.read; there = old.there; rows = λ e. absurd (false≢true (sym some ∙ e)); utf8 = new.utf8; cut = cut; keys = keys; short = short }
 
--- the root is as short behind the same first row
+-- the root is as short after the same first row
 pub short_stays : (front a b : List Row) → no_rows front ≡ false → HasShortRoot (front ++ a) → HasShortRoot (front ++ b)
 short_stays [] a b n h = absurd (false≢true (sym n))
 short_stays (r ∷ front) a b n h = h

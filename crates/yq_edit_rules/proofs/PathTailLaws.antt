@@ -45,7 +45,7 @@ header_apart : (space : List ℕ) (anchor : Option rows.Anchor) (style : BlockSt
 header_apart [] anchor style t u h e = sym (anchor_apart anchor style t u) ∙ e
 header_apart (b ∷ space) anchor style t u h e = rw h.0 refl
 
--- behind the mark of a row that holds a block scalar
+-- after the mark of a row that holds a block scalar
 entry_apart : (mark : rows.RowMark) (space : List ℕ) (anchor : Option rows.Anchor) (block : BlockText) (rest : List ℕ) → IsMark mark (Block space anchor block) rest →
     (is_entry mark ≡ true) × (separates (content_text (Block space anchor block) rest) ≡ true)
 entry_apart mark space anchor block rest h1 = search (rules, false≢true)

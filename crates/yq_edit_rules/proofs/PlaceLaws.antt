@@ -1,4 +1,4 @@
--- Rows that are written behind a key or dash of a text.
+-- Rows that are written after a key or dash of a text.
 use Rattle.std.proofs.Common.{◌≡◌, ℤ, ℕ, suc, ◌+◌, true, false, not, ◌&&◌, eqb, List, [], ◌∷◌, ◌++◌, None, refl, sym, ap, ◌∙◌, subst, arith}
 use Rattle.std.{proofs.Common.{append_assoc, replicate, Some, rules}, proofs.lemmas.Bool.false≢true}
 use Rattle.yq_core.{specs.Text.{separates, upto}, specs.Alike.{Alike, byte}, proofs.Alikes.{alike_append, alike_marker}}
@@ -27,7 +27,7 @@ first_dashes : (ns ms : List ℕ) (mark : RowMark) → AreDashes (ns ++ ms) mark
 first_dashes [] ms mark h = (tt, h)
 first_dashes (n ∷ ns) ms mark h = let more = first_dashes ns ms mark h.2 in ((h.0, refl, more.0), more.1)
 
--- behind a dash of a row something else may stand
+-- after a dash of a row something else may be
 dash_seam : {limit : Limit} {r s : Row} {old : List ℕ} (u : List ℕ) → IsRow limit r old → IsUpto s r → s.mark ≡ Dash → separates u ≡ true → Alike (Some false) (behind_indent r old) (dashes_text s.dashes (45 ∷ u)) × AreDashes s.dashes Dash
 dash_seam {limit} {old} u h (at_mark {r} entry) last apart =
     let here : separates (content_text r.content old) ≡ true = mark_apart r.mark r.content old entry h.mark in

@@ -6,7 +6,7 @@ use Rattle.yq_places.{specs.PathPieces.{printed_part, printed_document}, specs.P
 use Rattle.yq_places.{specs.PrintedLines.printed_lines, proofs.PlacedPartLaws.text_at}
 use Rattle.yq_edit_rules.{specs.Changed.put_document, specs.DocumentRows.behind_document, proofs.PlacedPartLaws.put_text}
 
--- The text before document k, whose lines are printed between it and what is behind them, and which stays where the document has another part.
+-- The text before document k, whose lines are printed between it and what is after them, and which stays where the document has another part.
 pub record IsAround (k : ℕ) (c : Cut) (p : Part) : Type 0 where
   pub start : List ℕ
   pub printed : printed_document k c ≡ Some (record { before = start; lines = printed_lines p.rows; behind = p.end ++ behind_document k c })

@@ -1,4 +1,4 @@
--- Where the lines of a node, an entry or an item stand among the lines of rows.
+-- Where the lines of a node, an entry or an item are among the lines of rows.
 use Rattle.std.proofs.Common.{◌≡◌, ℕ, List, [], ◌∷◌, ◌++◌, length, Option, Some, None, option_map, option_and_then, Bool, true, false, cond}
 use Rattle.std.{proofs.Common.{refl, sym, ap, ◌∙◌, subst, arith, append_assoc, append-nil, length-append}, proofs.lemmas.Option.same_Some}
 use mathlib.Core.List.{head-eq_of_cons-eq, tail-eq_of_cons-eq}
@@ -118,5 +118,5 @@ path_entry n s (t ∷ ts) (row k v a) e = go (λ m u f. path_entry m t ts u f) k
 pub found_is_entry : FoundIsEntry
 found_is_entry n p s ss f even found = entry_out f.line.mark (at Ending (find s ss (part_outline p)) (f, []) found (path_entry n s ss (part_outline p) even))
 
--- where lines at a path stand
+-- where lines at a path are
 pub ruleset places = (same_parts, rows_in_parts, line_placed, entry_placed, found_is_entry)

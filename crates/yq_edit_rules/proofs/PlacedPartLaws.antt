@@ -1,4 +1,4 @@
--- Where a document that has other rows stands in its text.
+-- Where a document that has other rows is in its text.
 use Rattle.std.proofs.Common.{◌≡◌, ℕ, zero, suc, ◌++◌, refl, ap, subst}
 use Rattle.yq_row_table.{specs.Rows.{Part, part_text, Cut, last, marked, cut_text}, specs.Splices.behind_part}
 use Rattle.yq_documents.specs.PartNumbers.{part_number}

@@ -22,7 +22,7 @@ use Rattle.yq_core.specs.Tree as tree
 use Rattle.yq_core.specs.Nodes as inline
 use Rattle.yq_row_table.specs.Rows as rows
 
--- What is asked of rows that are all of a text, and stand for a node.
+-- What is asked of rows that are all of a text, and mean a node.
 record IsAllOf (v : tree.Node) (text : List ℕ) (rs : List Row) : Type 0 where
   laid : AreRows unlimited rs [] []
   spelled : rows_text rs [] ≡ text

@@ -231,7 +231,7 @@ may_go t c k p ss s h f old entry may =
     subst (λ (n : Node). AreSpared (names_of n) [] (names_of (root_of p))) (sym node_same) (subst (λ (y : Part). AreSpared (names_of may.node) [] (names_of (root_of y))) same may.spared) in
     (left, spared)
 
--- The rows that go with what is taken out stand between those in front and those behind, and part of the gap in front of the first one stays.
+-- The rows that go with what is taken out are between those before and those after, and part of the gap in front of the first one stays.
 pub record AreRowsTaken (c : Cut) (k : ℕ) (x : Removal) (old new : Part) : Type 0 where
   pub front : List Row
   pub first : Row

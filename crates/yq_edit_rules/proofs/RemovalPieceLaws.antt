@@ -23,7 +23,7 @@ nothing_piece = record { utf8 = IsUtf8-nil; characters = nothing_text }
 pub seam_pieces : (a b : List ℕ) → LineSeam a b → IsPiece (a ++ b) → IsPiece a × IsPiece b
 seam_pieces a b h1 h2 = search (rules, nothing_piece, line_cut, append-nil)
 
--- The text before what is taken out, the gap behind it and the text behind that are pieces.
+-- The text before what is taken out, the gap after it and the text after that are pieces.
 pub record PiecesLeft (before gap behind : List ℕ) : Type 0 where
   pub before_is : IsPiece before
   pub gap_is : IsPiece gap

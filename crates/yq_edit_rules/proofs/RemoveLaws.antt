@@ -56,7 +56,7 @@ short_left (r ∷ front) gone back gap limit last rest h is b = h
 short_left [] gone [] gap limit last rest h is b = tt
 short_left [] gone (r ∷ back) gap limit last rest h is b = entry_short r (lines_of_rows back) is.0.dashes b
 
--- the lines behind an item or entry begin with an entry
+-- the lines after an item or entry begin with an entry
 behind_entry : (n : ℕ) (o : Outline) (steps : List Step) (s : Step) (h : NodeLines) (f : FoundLine) → Rattle.yq_outline.specs.Outline.IsEven n o → IsEntryAt steps s o h f → BeginsEntry (lines_behind h f)
 behind_entry n o steps s h f even e =
     let w = some_at s h.lines f e.found in

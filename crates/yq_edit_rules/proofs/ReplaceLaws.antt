@@ -49,7 +49,7 @@ begin_stays : (x y z : List Line) (l : Line) (ls : List Line) → IsEntry l.mark
 begin_stays [] y z l ls e h = e
 begin_stays (k ∷ x) y z l ls e h = h
 
--- the root is as short as it was behind the same first row, and where the new rows begin with an entry
+-- the root is as short as it was after the same first row, and where the new rows begin with an entry
 pub short_new : (front old new back : List Row) (gap rest : List ℕ) → HasShortRoot (front ++ old) → AreRows (asked_behind unlimited front) new gap rest → no_rows new ≡ false →
     (front ≡ [] → BeginsEntry (lines_of_rows (new ++ back))) → HasShortRoot (front ++ (new ++ back))
 short_new (r ∷ front) old new back gap rest h rows some begins = h

@@ -1,4 +1,4 @@
--- One row in the place of another one, and line comments that stand in a row's content.
+-- One row in the place of another one, and line comments that are in a row's content.
 use Rattle.std.proofs.Common.{◌≡◌, ℕ, ◌+◌, List, [], ◌∷◌, ◌++◌, length, Some, false, refl, sym, ap, ◌∙◌, subst, length-append, rules}
 use Rattle.yq_outline.{specs.Comments.{head_comment, line_comment}, specs.Laws.with_lines, specs.Outline.{Line, level, flatten, label}}
 use Rattle.yq_outline.specs.Lines.{mark_line, tail_of, lines_of_rows}
@@ -15,7 +15,7 @@ use Rattle.yq_edit_rules.{proofs.FirstRowLaws.short_first, proofs.LineLaws.{abov
 use Rattle.yq_edit_rules.{proofs.PartLaws.{document_known, drop_front, is_put, part_rows}, proofs.CommentPutLaws.{last_lines, one_line}}
 use Rattle.yq_edit_rules.proofs.ReplaceLaws.{document_replaced, rows_before_some}
 
--- rows behind rows
+-- rows after rows
 pub rows_behind : (front back : List Row) (end rest : List ℕ) (p : Part) → p.rows ≡ front ++ back → AreRows unlimited p.rows end rest → (P : List Row → Type 0) →
     ((a : List Row) → AreRows (asked_behind unlimited a) back end rest → P back) → P back
 rows_behind front back end rest p e h P f =

@@ -19,7 +19,7 @@ use Rattle.yq_core.specs.Nodes as inline
 abbrev front_row : ℕ → RowMark → Content → Row
 front_row column mark content = record { gap = []; column = column; dashes = []; mark = mark; content = content }
 
--- A key or dash before what stands behind it.
+-- A key or dash before what comes after it.
 record IsFront (column : ℕ) (m : RowMark) (content : Content) (rest : List ℕ) : Type 0 where
   entry : is_entry m ≡ true
   unmarked : is_marker (mark_text m (content_text content rest)) ≡ false

@@ -1,4 +1,4 @@
--- Behind rows that gave way to others of the same shapes, paths lead to the rows to which they led.
+-- After rows that were replaced by others of the same shapes, paths lead to the rows to which they led.
 use Rattle.std.proofs.Common.{◌≡◌, inl, inr, ℕ, zero, suc, ◌+◌, ◌-◌, ◌≤◌, ◌<◌, nat_lt, Bool, true, false, not, ◌||◌, cond, List, [], ◌∷◌}
 use Rattle.std.proofs.Common.{◌++◌, drop, length, take, map, Option, Some, None, option_map, refl, sym, ap, ◌∙◌, subst, arith, rules}
 use Rattle.std.proofs.lemmas.List.{drop-drop, length-map, length-take-le}
@@ -43,7 +43,7 @@ drop_later n m ss rs same less =
     let size : m ≡ n + (m - n) = omega (arith, less) in
     (λ j. drop (size j) ss) ∙ (sym (drop-drop (m - n) n ss) ∙ (ap (drop (m - n)) same ∙ (drop-drop (m - n) n rs ∙ (λ j. drop (sym size j) rs))))
 
--- a line of a row behind those that are others
+-- a line of a row after those that are others
 row_line_stays : (n m : ℕ) (rs ss : List Row) (s : RowLine) → shapes ss ≡ shapes rs → drop n ss ≡ drop n rs → row_line m rs ≡ Some s → n ≤ s.before → row_line m ss ≡ Some s
 row_line_stays zero m rs ss s e same is less = ap (row_line m) same ∙ is
 row_line_stays (suc n) m [] ss s e same is less = absurd (none-some _ is)
@@ -120,7 +120,7 @@ nth_other zero (suc m) q (x ∷ ps) less = refl
 nth_other (suc k) zero q (x ∷ ps) less = absurd (omega (arith, less))
 nth_other (suc k) (suc m) q (x ∷ ps) less = nth_other k m q ps (omega (arith, less))
 
--- document k with this part, between the texts that stand around it
+-- document k with this part, between the texts that are around it
 abbrev around : ℕ → Part → Cut → PlacedPart
 around k p c = record { before = before_part (part_number k c) c; part = p; behind = behind_part (part_number k c) c }
 
@@ -148,7 +148,7 @@ module _ (c : Cut) (k n : ℕ) (p q : Part) (there : slice_get (document_parts c
       ap (option_map (λ (x : Part). placed_at (part_number k new) new)) there_still
       ∙ (ap (λ (j : ℕ). Some (placed_at j new)) number_is ∙ (λ j. Some (record { before = before_put i q c j; part = nth_put i q c j; behind = behind_put i q c j })))
 
-  -- the rows of an item or entry behind those that are others
+  -- the rows of an item or entry after those that are others
   module _ (steps : List Step) (e : RowsOfEntry) (is : rows_of_entry k steps c ≡ Some e) (less : n ≤ length e.front) where
     found : (s : RowLine) × (row_line_of steps p.rows ≡ Some s) × (entry_rows_at (around k p c) s ≡ e)
     found =

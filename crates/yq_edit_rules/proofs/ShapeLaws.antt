@@ -14,7 +14,7 @@ use Rattle.yq_edit_rules.specs.Rooms.{RowShape, row_shape, EqualRoom, ShapesAgre
 use Rattle.yq_row_table.specs.Rows as rows
 use Rattle.yq_documents.specs.declared.path.Part as places
 
--- ---- lines without what is told behind their marks but that there is a head
+-- ---- lines without what is known after their marks but that there is a head
 
 abbrev pub stripped : Line → Line
 stripped l = record { column = l.column; mark = l.mark; anchor = None; head = option_map (λ n. null_node) l.head; head_comment = []; line_comment = None }
@@ -162,7 +162,7 @@ line_by_shape p q h steps =
     sym (line_strip steps (lines_of_rows q.rows))
     ∙ (ap (line_at_steps steps) (rows_strip q.rows ∙ (ap shapes_lines h ∙ sym (rows_strip p.rows))) ∙ line_strip steps (lines_of_rows p.rows))
 
--- what a line of rows has room for, by how many of its row's lines stand before it, and how many dashes the row has
+-- what a line of rows has room for, by how many of its row's lines come before it, and how many dashes the row has
 abbrev numbers_have_room : places.Part → ℕ × ℕ → Bool
 numbers_have_room places.TheVariants.Content x = false
 numbers_have_room places.TheVariants.Entry x = false

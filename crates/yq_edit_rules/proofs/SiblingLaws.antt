@@ -1,4 +1,4 @@
--- Outlines one behind the other: their lines, evenness, and items or entries.
+-- Outlines one after the other: their lines, evenness, and items or entries.
 use Rattle.std.proofs.Common.{◌≡◌, ℕ, ◌∷◌, ◌++◌, Option, refl, sym, ap, ◌∙◌, append_assoc, rules}
 use Rattle.yq_core.{specs.Paths.{within, append_children}, specs.Tree.{Children, child}}
 use Rattle.yq_outline.specs.Outline.{LineMark, Line, level, Outline, end, row, flatten, IsWhole, IsEven, label, children, value}
@@ -28,7 +28,7 @@ pub children-append : (a b : Outline) → children (append_outline a b) ≡ appe
 children-append end b = refl
 children-append (row l u a) b = ap (child (label l) (content_under l u)) (children-append a b)
 
--- what stands behind an entry's line at its level is an entry's
+-- what comes after an entry's line at its level is an entry's
 pub next : (n : ℕ) (l : Line) (o : Outline) → allowing.IsEntry l.mark → level l ≡ n → IsEven n o → IsCollection o
 next n l end e h even = tt
 next n l (row k v b) e h even = same_entry l.mark k.mark e (same_rank l k (h ∙ sym even.0))
@@ -53,7 +53,7 @@ even_append n (row l u a) b c e f = (e.0, e.1, whole_any l.mark l.head (append_o
     left end b n l c h e f = next n l b c h f
     left (row k v a) b n l c h e f = next n l (row k v a) c h e
 
--- behind others, or alone, a run is a collection's
+-- after others, or alone, a run is a collection's
 pub rest_entries : (n : ℕ) (a b : Outline) → IsCollection (append_outline a b) → IsEven n (append_outline a b) → IsCollection b
 rest_entries n end b c e = c
 rest_entries n (row l u a) b c e = rest_entries n a b (next n l (append_outline a b) c e.0 e.4) e.4
@@ -61,7 +61,7 @@ rest_entries n (row l u a) b c e = rest_entries n a b (next n l (append_outline 
 pub block_value : (n : ℕ) (o p : Outline) (g : Children → Children) → HasEntries o → HasEntries p → IsEven n o → IsEven n p → children p ≡ g (children o) → value p ≡ within g (value o)
 block_value n o p g b c d e kids = search (rules, same_collection, same_rank, within-shaped, entries)
 
--- items or entries that give way keep the others even
+-- items or entries that are replaced keep the others even
 pub even_replaced : (n : ℕ) (a b c d : Outline) → IsEven n (append_outline a (append_outline b c)) → IsEven n d → HasEntries (append_outline a (append_outline b c)) →
     HasEntries (append_outline a (append_outline d c)) → IsEven n (append_outline a (append_outline d c))
 even_replaced n a b c d even new old block =

@@ -11,7 +11,7 @@ use Rattle.yq_edit_rules.{specs.DocumentRows.behind_document, specs.StandingLaws
 use Rattle.yq_edit_rules.{proofs.EndedRowLaws.rows_ended, proofs.FirstReplaceLaws.rows_after, proofs.LineLaws.row_count}
 use Rattle.yq_edit_rules.{proofs.PartLaws.{document_known, part_rows}, proofs.UnderLaws.is_mark}
 
--- a row and those under it end in an LF, or nothing is behind them
+-- a row and those under it end in an LF, or nothing is after them
 under_ended : (limit : Limit) (r : Row) (under back : List Row) (gap rest : List ℕ) → AreRows limit (r ∷ (under ++ back)) gap rest → Ended (rows_text (r ∷ under) []) (rows_text back (gap ++ rest))
 under_ended limit r [] back gap rest h = rows_ended limit [] r back gap rest h
 under_ended limit r (q ∷ qs) back gap rest h = go (under_ended (limit_after r) q qs back gap rest h.1)
@@ -21,14 +21,14 @@ under_ended limit r (q ∷ qs) back gap rest h = go (under_ended (limit_after r)
     go (inr none) = inr none
 
 module _ (n : ℕ) (s : Step) (ss : List Step) (c : Cut) (e : RowsOfEntry) (t : StandsThere n s ss c e) where
-  -- the text behind them
+  -- the text after them
   pub behind_there : behind_entry e ≡ rows_text e.back (t.part.end ++ behind_document n c)
   behind_there = λ i. rows_text e.back (t.end_is i ++ t.behind_is i)
 
   pub under_there : rows_text (e.under ++ e.back) (t.part.end ++ behind_document n c) ≡ rows_text e.under (behind_entry e)
   under_there = rows_text-append e.under e.back (t.part.end ++ behind_document n c) ∙ ap (rows_text e.under) (sym behind_there)
 
-  -- they stand there
+  -- they are there
   pub rows_there : AreRows (asked_behind unlimited e.front) (e.row ∷ (e.under ++ e.back)) t.part.end (behind_document n c)
   rows_there =
       let z : List ℕ = behind_document n c in

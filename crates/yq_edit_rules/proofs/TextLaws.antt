@@ -20,7 +20,7 @@ entry_spelled : (l : Layout) (column below : ℕ) (end : List ℕ) (key : Option
     rows_text (entry_rows l column end key node rs) rest ≡ indented column (block_entry l below key node t) (end ++ rest)
 entry_spelled l column below end key n node rs t rest h1 h2 = search (rules, node_then, append_assoc, append_cancel_left)
 
--- what stands behind an entry or item
+-- what comes after an entry or item
 abbrev behind_text : Layout → ℕ → Children → List ℕ → List ℕ → List ℕ
 behind_text l column tree.none end rest = rest
 behind_text l column (tree.child label n cs) end rest = indented column (block_children l column (tree.child label n cs)) (end ++ rest)

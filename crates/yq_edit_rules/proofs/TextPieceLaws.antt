@@ -28,12 +28,12 @@ text_is_piece c h =
 
 -- ---- a text cut in two
 
--- What stands on both sides of a place in a text: no LF stands behind it, or a byte other than CR before it.
+-- What is on both sides of a place in a text: no LF comes after it, or a byte other than CR before it.
 data MayCut : List ℕ → List ℕ → Type 0 where
   before : {a b : List ℕ} → front is_feed b ≡ false → MayCut a b
   behind : {a b : List ℕ} → EndsBlack a → MayCut a b
 
--- behind a text that is UTF-8
+-- after a text that is UTF-8
 pub piece_back : (a b : List ℕ) → IsUtf8 a → IsPiece (a ++ b) → IsPiece b
 piece_back a b u h =
     let x = and_parts (all_text (a ++ b)) (pairs_returns (a ++ b)) h.characters in
@@ -47,7 +47,7 @@ pieces_cut a b h u may =
     let y = and_parts (all_text a) (all_text b) (sym (all_join a b u) ∙ x.0) in
     (record { utf8 = u; characters = and_from _ _ y.0 (search (rules, pairs_front, append_assoc, pairs_cut, may, x.1)) }, piece_back a b u h)
 
--- behind an ASCII byte that is no CR
+-- after an ASCII byte that is no CR
 pub cut_behind : (a b : List ℕ) → IsPiece (a ++ b) → EndsAscii a → EndsBlack a → IsPiece a × IsPiece b
 cut_behind a b h e k = pieces_cut a b h (subst IsUtf8 (take-append_seam a b) (IsUtf8-take (a ++ b) (length a) h.utf8 (behind_ascii a b h.utf8 e))) (behind k)
 

@@ -1,4 +1,4 @@
--- A block collection whose last line has no break ends its text: the line gets a break, and rows come behind it.
+-- A block collection whose last line has no break ends its text: the line gets a break, and rows come after it.
 use Rattle.std.proofs.Common.{◌≡◌, inl, inr, ℕ, true, false, List, [], ◌∷◌, ◌++◌, refl, sym, ap, ◌∙◌, subst, append_assoc, append-nil}
 use Rattle.std.{proofs.Common.rules, proofs.lemmas.Bool.false≢true}
 use Rattle.yq_core.{specs.Paths.Step, specs.Text.{is_empty, is_line}}
@@ -15,7 +15,7 @@ use Rattle.yq_edit_rules.{specs.CollectionPlaces.IsCollectionEnd, specs.Document
 use Rattle.yq_edit_rules.{specs.Rooms.is_block_root, proofs.AppendPlaceLaws.{EndAllows, last_limit, rows_behind}}
 use Rattle.yq_edit_rules.proofs.EndedRowLaws.{row_there, rows_then}
 
--- ---- nothing is behind
+-- ---- nothing is after
 
 none_both : (a b : List ℕ) → a ++ b ≡ [] → (a ≡ []) × (b ≡ [])
 none_both [] b e = (refl, e)

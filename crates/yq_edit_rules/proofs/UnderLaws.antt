@@ -1,4 +1,4 @@
--- The rows under an item or entry, and their lines, where what is written behind its mark gives way to another content.
+-- The rows under an item or entry, and their lines, where what is written after its mark is replaced by another content.
 use Rattle.std.proofs.Common.{◌≡◌, ℕ, suc, ◌+◌, List, [], ◌∷◌, ◌++◌, length, true, sym, ap, ◌∙◌, append_assoc, length-append, rules}
 use mathlib.Core.List.{head-eq_of_cons-eq, tail-eq_of_cons-eq}
 use Rattle.yq_core.specs.Paths.{Step}

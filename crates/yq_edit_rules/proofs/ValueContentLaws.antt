@@ -59,7 +59,7 @@ module _ (v : Node) (node : inline.FlowNode) (is : IsValueNode v node) where
   pub content_keys : (x : Content) → ContentHasFitKeys (put_core node x)
   content_keys x = search (rules, core_keys)
 
-  -- it may stand alone where the old one does
+  -- it may be alone where the old one does
   pub content_alone : (x : Content) → may_be_alone x ≡ true → may_be_alone (put_core node x) ≡ true
   content_alone x h1 = search (rules, false≢true, and_parts, and_from, recore, core_more, some)
 

@@ -1,4 +1,4 @@
--- A changed text, told as a tree with the lead that goes with it (own).
+-- A changed text, given as a tree with the lead that goes with it (own).
 use Rattle.std.specs.Prelude.{◌≡◌, List, [], ◌∷◌, ◌++◌}
 use Rattle.yq_core.{specs.Paths.{Step, changed_at, within}, specs.Tree.{Node, Children}}
 use Rattle.yq_documents.specs.TreeEdits.{at_end}

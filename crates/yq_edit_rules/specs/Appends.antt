@@ -22,17 +22,17 @@ pub record AreAppendedRows (h : NodeLines) (new : List Row) (m : ℕ) (l : Line)
   pub value_is : IsNewValue (content_under l u) (suc above)
   pub key : IsNewKey (label l).key (keys_of (children h.lines))
 
--- a part with rows between those in front and those behind, whose gap stays with them
+-- a part with rows between those before and those after, whose gap stays with them
 abbrev pub inserted : (front new back : List Row) → Part → Part
 inserted front new back p = put_rows front new back (first_gap back p.end) p
 
--- Rows of a part may have new ones between those in front and those behind, before a rest: they are rows there, and the row in front has a break.
+-- Rows of a part may have new ones between those before and those after, before a rest: they are rows there, and the row in front has a break.
 pub record TakesRows (p : Part) (front new back : List Row) (rest : List ℕ) : Type 0 where
   pub rows_are : p.rows ≡ front ++ back
   pub new_are : AreRows (asked_behind unlimited front) new (first_gap back p.end) (behind_first back p.end rest)
   pub closed : no_rows back ≡ true → ends_in_block front ≡ false → ends_in_line front ≡ true
 
--- One item or entry more is appended to a block collection that has some, in the middle of a document or behind a final break.
+-- One item or entry more is appended to a block collection that has some, in the middle of a document or after a final break.
 abbrev pub BlockAppended : Type 0
 BlockAppended =
     (t : List ℕ) (c : Cut) (k : ℕ) (p : Part) (steps : List Step) (h : NodeLines) (front back new : List Row) (m : ℕ) (l : Line) (u : Outline) →

@@ -11,14 +11,14 @@ use Rattle.yq_edit_rules.{specs.Changed.{IsChanged, put_document}, specs.Conditi
 use Rattle.yq_edit_rules.{specs.Moved.{moved_up, emptied_row}, specs.SoundRoots.{IsNewKey, IsNewValue, MayReplace}}
 use Rattle.yq_edit_rules.specs.Siblings.{HasEntries, NodeLines, put_lines, IsCollectionAt, IsEntryAt, EntryFits, IsRelabelled}
 
--- An outline may be that of a root, which it stands for.
+-- An outline may be that of a root, which it means.
 pub record RootFits (m : ℕ) (u : Outline) (root : Node) : Type 0 where
   pub deep : 0 < m
   pub even : IsEven m u
   pub value_is : value u ≡ root
   pub anchors : HaveOneAnchorEach (flatten u)
 
--- A node below the root is replaced: its line and those under it give way to others that stand for the value behind the old anchor.
+-- A node below the root is replaced: its line and those under it are replaced by others that mean the value after the old anchor.
 abbrev pub NodeReplaced : Type 0
 NodeReplaced =
     (t : List ℕ) (c : Cut) (k : ℕ) (p q : Part) (s : Step) (ss : List Step) (f : FoundLine) (v : Node) (m : ℕ) (l : Line) (u : Outline) → IsPut t c k p q →
@@ -59,19 +59,19 @@ EntryRelabelled =
     lines_of_rows q.rows ≡ put_lines h (with_lines f (l ∷ flatten f.under)) →
     IsChanged c (put_document k q c) k (lead_of q) (changed_at steps (within (relabel_child s g)))
 
--- The rows of the first item or entry of a compact collection: behind the first dashes of row r the rest of it and the rows behind it, down to row b, which
+-- The rows of the first item or entry of a compact collection: after the first dashes of row r the rest of it and the rows after it, down to row b, which
 -- begins in the same column and has no comment above it.
 pub record MovesUp (r b : Row) (n : ℕ) (ns es : List ℕ) : Type 0 where
   pub dashes : r.dashes ≡ n ∷ (ns ++ es)
   pub column : b.column ≡ behind_columns r.column (n ∷ ns)
   pub bare : head_comment b.gap ≡ []
 
--- So many lines stand before an item or entry, and so many are its own.
+-- So many lines come before an item or entry, and so many are its own.
 pub record AreCounted (h : NodeLines) (f : FoundLine) (before size : ℕ) : Type 0 where
   pub before_are : before ≡ length (lines_before h.place) + length (lines_before f.place)
   pub size_is : size ≡ length (f.line ∷ flatten f.under)
 
--- The first item or entry of a compact collection is removed: the next one's row stands behind the dash.
+-- The first item or entry of a compact collection is removed: the next one's row comes after the dash.
 abbrev pub FirstRemoved : Type 0
 FirstRemoved =
     (t : List ℕ) (c : Cut) (k : ℕ) (p q : Part) (steps : List Step) (h : NodeLines) (s : Step) (f : FoundLine) (before gone behind : List Row) (r b : Row)
@@ -82,7 +82,7 @@ FirstRemoved =
     AreSpared (names_of (content_under f.line f.under)) [] (names_of (root_of p)) →
     IsChanged c (put_document k q c) k (lead_of q) (changed_at steps (within (remove_child s)))
 
--- Behind the first dashes of row r nothing stays but a tail without a comment.
+-- After the first dashes of row r nothing stays but a tail without a comment.
 pub record StaysEmpty (r : Row) (n : ℕ) (ns es tail : List ℕ) : Type 0 where
   pub dashes : r.dashes ≡ (ns ++ (n ∷ [])) ++ es
   pub bare : line_comment tail ≡ None

@@ -15,8 +15,8 @@ use Rattle.yq_edit_rules.specs.BlockValues.{IsFilled, IsFilledValue, IsNear, IsW
 use Rattle.yq_core.specs.Tree as tree
 use Rattle.yq_core.specs.Nodes as inline
 
--- An inline node is a value's: it is one below any parent, before any rest at which a plain scalar ends; it stands for the value and has no anchor; it may
--- stand alone on its line; and its keys are fit (own).
+-- An inline node is a value's: it is one below any parent, before any rest at which a plain scalar ends; it means the value and has no anchor; it may
+-- are alone on its line; and its keys are fit (own).
 pub record IsHead (v : tree.Node) (node : inline.FlowNode) : Type 0 where
   pub stands : (n : ℤ) (rest : List ℕ) → ends_plain false (Some (deeper n)) rest ≡ true → IsInline Block n 0 node rest
   pub same : node_head node ≡ Some v
@@ -28,27 +28,27 @@ pub record IsHead (v : tree.Node) (node : inline.FlowNode) : Type 0 where
 abbrev pub InlineWritten : Type 0
 InlineWritten = (v : tree.Node) (node : inline.FlowNode) → IsValueTree v → inline_of v ≡ Some node → IsHead v node
 
--- The rows in which a value is written have its text, behind the spaces before the first of them (own).
+-- The rows in which a value is written have its text, after the spaces before the first of them (own).
 abbrev pub TextWritten : Type 0
 TextWritten = (v : tree.Node) (l : Layout) (column : ℕ) (end rest : List ℕ) → IsFilledValue v →
     rows_text (node_rows l column end v) rest ≡ replicate column 32 ++ (block_value l column v ++ (end ++ rest))
 
--- They are rows, behind any row that allows their column, where no plain scalar goes on behind them (own).
+-- They are rows, after any row that allows their column, where no plain scalar goes on after them (own).
 abbrev pub RowsWritten : Type 0
 RowsWritten = (v : tree.Node) (l : Layout) (column : ℕ) (end rest : List ℕ) (limit : Limit) → IsWritable v column end rest →
     allows limit column ≡ true → AreRows limit (node_rows l column end v) [] rest
 
--- Behind them a row may begin at any column up to theirs (own).
+-- After them a row may begin at any column up to theirs (own).
 abbrev pub RowsFollow : Type 0
 RowsFollow = (v : tree.Node) (l : Layout) (column c : ℕ) (end rest : List ℕ) (limit : Limit) → IsWritable v column end rest →
     c ≤ column → allows (asked_behind limit (node_rows l column end v)) c ≡ true
 
--- Their lines stand for the value, at the level of their column, where a mapping stands deeper than its key and no comment is in the last line (own).
+-- Their lines mean the value, at the level of their column, where a mapping is deeper than its key and no comment is in the last line (own).
 abbrev pub LinesWritten : Type 0
 LinesWritten = (v : tree.Node) (l : Layout) (column : ℕ) (end : List ℕ) → 1 ≤ l.mapping → IsFilledValue v → line_comment end ≡ None →
     Stands (lines_of_rows (node_rows l column end v)) v (level_at column v)
 
--- They are deeper than the line of the key or dash under which they stand (own).
+-- They are deeper than the line of the key or dash under which they are (own).
 abbrev pub LinesDeeper : Type 0
 LinesDeeper = (v : tree.Node) (l : Layout) (column : ℕ) (key : Option (List ℕ)) → 1 ≤ l.mapping → IsFilled v →
     entry_level key column < level_at (column_below l column key v) v
@@ -70,6 +70,6 @@ CharactersWritten = (v : tree.Node) (l : Layout) (column : ℕ) → IsValueTree 
 abbrev pub ReadsAlone : tree.Node → List ℕ → Type 0
 ReadsAlone v text = MayBeRoot v → length text ≤ text_limit → ReadsDocuments text (record { lead = []; root = v } ∷ [])
 
--- A value that is written in column 0, with a break behind it, where a mapping stands deeper than its key, reads alone (own).
+-- A value that is written in column 0, with a break after it, where a mapping is deeper than its key, reads alone (own).
 abbrev pub ValueRead : Type 0
 ValueRead = (v : tree.Node) (l : Layout) → 1 ≤ l.mapping → IsValueTree v → ReadsAlone v (block_value l 0 v ++ break_text l.br)

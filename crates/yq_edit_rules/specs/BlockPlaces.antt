@@ -9,7 +9,7 @@ use Rattle.yq_edit_rules.{specs.declared.layout.Layout.Layout, specs.BlockRows.{
 use Rattle.yq_edit_rules.specs.BlockValues.{IsFilledValue, IsWritable}
 use Rattle.yq_core.specs.Tree as tree
 
--- rows of which the first one stands on the line of a row's dash, behind a space (YAML 1.2.2, section 8.2.1)
+-- rows of which the first one is on the line of a row's dash, after a space (YAML 1.2.2, section 8.2.1)
 abbrev pub compact_rows : Row → List Row → List Row
 compact_rows r [] = []
 compact_rows r (q ∷ qs) = compact_row 1 r q ∷ qs
@@ -19,14 +19,14 @@ pub data IsUpto : Row → Row → Type 0 where
   at_mark : {r : Row} → is_entry r.mark ≡ true → IsUpto r r
   at_dash : {r : Row} {ns : List ℕ} (n : ℕ) (ms : List ℕ) → r.dashes ≡ ns ++ (n ∷ ms) → IsUpto (dashed_row ns (Nothing []) r) r
 
--- Rows in the place of a row before a rest: they are rows behind any row that allows it, its text begins as theirs, and behind them a row may begin at
+-- Rows in the place of a row before a rest: they are rows after any row that allows it, its text begins as theirs, and after them a row may begin at
 -- any column up to this one (own).
 pub record Replaces (limit : Limit) (column : ℕ) (r : Row) (old : List ℕ) (new : List Row) (rest : List ℕ) : Type 0 where
   pub rows : AreRows limit new [] rest
   pub alike : Alike (Some false) (print_row r old) (rows_text new rest)
   pub follow : (c : ℕ) → c ≤ column → allows (asked_behind limit new) c ≡ true
 
--- A row, cut behind a key or dash where nothing but an anchor and the end of the line stands, is above rows at a column: it is no deeper (own).
+-- A row, cut after a key or dash where nothing but an anchor and the end of the line is, is above rows at a column: it is no deeper (own).
 pub record IsAbove (limit : Limit) (r : Row) (old : List ℕ) (s : Row) (x : Content) (below : ℕ) (rest : List ℕ) : Type 0 where
   pub row : IsRow limit r old
   pub upto : IsUpto s r
@@ -35,7 +35,7 @@ pub record IsAbove (limit : Limit) (r : Row) (old : List ℕ) (s : Row) (x : Con
   pub content : IsContent (parent_indent s) x rest
   pub apart : separates (content_text x rest) ≡ true
 
--- A value may be written on the lines behind a row's key, or behind any of its dashes, no less deep, in the place of what stands behind it (own).
+-- A value may be written on the lines after a row's key, or after any of its dashes, no less deep, in the place of what comes after it (own).
 abbrev pub UnderWritten : Type 0
 UnderWritten = (v : tree.Node) (l : Layout) (limit : Limit) (r s : Row) (old : List ℕ) (x : Content) (below : ℕ) (end rest : List ℕ) →
     IsWritable v (mark_column s) end rest → IsAbove limit r old s x below (rows_text (node_rows l below end v) rest) →
@@ -45,7 +45,7 @@ UnderWritten = (v : tree.Node) (l : Layout) (limit : Limit) (r s : Row) (old : L
 abbrev pub compact_node : Layout → List ℕ → Row → tree.Node → List Row
 compact_node l end s v = compact_rows s (node_rows l (item_column (mark_column s)) end v)
 
--- A value may be written on the line of any dash of a row, behind a space, in the place of what stands behind it (own).
+-- A value may be written on the line of any dash of a row, after a space, in the place of what comes after it (own).
 abbrev pub BehindWritten : Type 0
 BehindWritten = (v : tree.Node) (l : Layout) (limit : Limit) (r s : Row) (old end rest : List ℕ) → IsWritable v (mark_column s) end rest →
     IsRow limit r old → IsUpto s r → s.mark ≡ Dash → Replaces limit (mark_column s) r old (compact_node l end s v) rest
@@ -60,7 +60,7 @@ abbrev pub BeginsUpto : ℕ → List Row → Type 0
 BeginsUpto column [] = Unit {0}
 BeginsUpto column (r ∷ rs) = r.column ≤ column
 
--- Where a row of a part and those under it give way to rows that replace it, the part's rows are rows (own).
+-- Where a row of a part and those under it are replaced by rows that replace it, the part's rows are rows (own).
 abbrev pub RowsReplaced : Type 0
 RowsReplaced = (limit : Limit) (column : ℕ) (before under after new : List Row) (r : Row) (end rest : List ℕ) →
     AreRows limit (before ++ (r ∷ (under ++ after))) end rest → BeginsUpto column after →

@@ -20,14 +20,14 @@ inline_of (tree.map a (tree.child label n cs)) = None
 abbrev pub block_key : List ℕ → List ℕ
 block_key k = scalar_text (string_of k) places.BlockKey
 
--- how much deeper than its key a node stands (own)
+-- how much deeper than its key a node is (own)
 abbrev pub indent_step : Layout → tree.Node → ℕ
 indent_step l (tree.alias name) = 0
 indent_step l (tree.scalar a kind text) = 0
 indent_step l (tree.list a cs) = l.sequence
 indent_step l (tree.map a cs) = l.mapping
 
--- the column of an item's node: behind its dash and a space (YAML 1.2.2, section 8.2.1)
+-- the column of an item's node: after its dash and a space (YAML 1.2.2, section 8.2.1)
 abbrev pub item_column : ℕ → ℕ
 item_column column = behind_columns column (1 ∷ [])
 
@@ -41,20 +41,20 @@ abbrev pub end_of_line_before : Layout → List ℕ → Children → List ℕ
 end_of_line_before l end tree.none = end
 end_of_line_before l end (tree.child label n cs) = break_text l.br
 
--- a row that begins at a column, with a key and what stands behind it (YAML 1.2.2, section 8.2.2)
+-- a row that begins at a column, with a key and what comes after it (YAML 1.2.2, section 8.2.2)
 abbrev pub key_row : ℕ → List ℕ → Content → Row
 key_row column k content = record { gap = []; column = column; dashes = []; mark = Key (block_key k) (58 ∷ []); content = content }
 
--- a row that begins at a column, with a dash and what stands behind it (YAML 1.2.2, section 8.2.1)
+-- a row that begins at a column, with a dash and what comes after it (YAML 1.2.2, section 8.2.1)
 abbrev pub dash_row : ℕ → Content → Row
 dash_row column content = record { gap = []; column = column; dashes = []; mark = Dash; content = content }
 
--- rows of which the first one stands on the line of a dash before it (YAML 1.2.2, section 8.2.1)
+-- rows of which the first one is on the line of a dash before it (YAML 1.2.2, section 8.2.1)
 abbrev pub rows_on_dash : ℕ → List Row → List Row
 rows_on_dash column [] = []
 rows_on_dash column (r ∷ rs) = record r { column = column; dashes = 1 ∷ r.dashes } ∷ rs
 
--- the rows of an entry or item: one with an inline node, or one with a key and those below it, or those behind a dash (YAML 1.2.2, section 8.2)
+-- the rows of an entry or item: one with an inline node, or one with a key and those below it, or those after a dash (YAML 1.2.2, section 8.2)
 abbrev pub entry_rows : Layout → ℕ → (end : List ℕ) → Option (List ℕ) → Option inline.FlowNode → (below : List Row) → List Row
 entry_rows l column end (Some k) (Some node) below = key_row column k (Inline (32 ∷ []) node end) ∷ []
 entry_rows l column end (Some k) None below = key_row column k (Nothing (break_text l.br)) ∷ below

@@ -10,7 +10,7 @@ abbrev pub then_lines : Layout → ℕ → Children → List ℕ → List ℕ
 then_lines l column tree.none text = []
 then_lines l column (tree.child label n cs) text = break_text l.br ++ (replicate column 32 ++ text)
 
--- `k: v` or `- v`, or `k:` with what is below it at a column, or that behind a dash (YAML 1.2.2, section 8.2)
+-- `k: v` or `- v`, or `k:` with what is below it at a column, or that after a dash (YAML 1.2.2, section 8.2)
 abbrev pub block_entry : Layout → ℕ → Option (List ℕ) → Option inline.FlowNode → (below : List ℕ) → List ℕ
 block_entry l column (Some k) (Some node) below = block_key k ++ (58 ∷ 32 ∷ node_text node [])
 block_entry l column (Some k) None below = block_key k ++ (58 ∷ (break_text l.br ++ (replicate column 32 ++ below)))
@@ -18,7 +18,7 @@ block_entry l column None (Some node) below = 45 ∷ 32 ∷ node_text node []
 block_entry l column None None below = 45 ∷ 32 ∷ below
 
 unfoldable mutual
-  -- a collection, behind the spaces before its first line and up to its last break; nothing where it is written inline (YAML 1.2.2, section 8.2)
+  -- a collection, after the spaces before its first line and up to its last break; nothing where it is written inline (YAML 1.2.2, section 8.2)
   pub block_node : Layout → ℕ → tree.Node → List ℕ
   block_node l column (tree.alias name) = []
   block_node l column (tree.scalar a kind text) = []
@@ -37,6 +37,6 @@ abbrev pub inline_or : Option inline.FlowNode → List ℕ → List ℕ
 inline_or None text = text
 inline_or (Some node) text = node_text node []
 
--- a value behind the spaces before its first line: a scalar or an empty collection inline, another collection in block style (YAML 1.2.2, section 8.2)
+-- a value after the spaces before its first line: a scalar or an empty collection inline, another collection in block style (YAML 1.2.2, section 8.2)
 abbrev pub block_value : Layout → ℕ → tree.Node → List ℕ
 block_value l column v = inline_or (inline_of v) (block_node l column v)

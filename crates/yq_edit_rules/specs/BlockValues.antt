@@ -45,7 +45,7 @@ abbrev mutual
   EachHasNearKeys tree.none = ⊤
   EachHasNearKeys (tree.child label n cs) = IsNear label.key × HasNearKeys n × EachHasNearKeys cs
 
--- What may stand behind rows at a column: the end of the last line, before a rest with which no plain scalar deeper than that column goes on
+-- What may come after rows at a column: the end of the last line, before a rest with which no plain scalar deeper than that column goes on
 -- (YAML 1.2.2, sections 6.6 and 7.3.3; own).
 pub record IsEnd (column : ℕ) (end rest : List ℕ) : Type 0 where
   pub tail : IsTail end rest

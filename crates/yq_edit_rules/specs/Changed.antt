@@ -34,7 +34,7 @@ pub record IsChanged (c new : Cut) (k : ℕ) (lead : List (List ℕ)) (f : Node 
   pub read : read_at (cut_text new) ≡ Some new
   pub documents_are : documents new ≡ change_nth k (changed lead f) (documents c)
 
--- The rows of a part stand for a root as is asked of a document's.
+-- The rows of a part mean a root as is asked of a document's.
 pub record HasRoot (q : Part) (root : Node) : Type 0 where
   pub stands : StandsSomewhere (lines_of_rows q.rows) root
   pub keys : HaveFitKeys q.rows
@@ -44,11 +44,11 @@ pub record HasRoot (q : Part) (root : Node) : Type 0 where
   pub bound : AreBound [] (names_of root)
   pub short : HasShortRoot q.rows
 
--- A part whose rows stand for a root, as is asked, is a document of that root.
+-- A part whose rows mean a root, as is asked, is a document of that root.
 abbrev pub PartStands : Type 0
 PartStands = (q : Part) (root : Node) → HasRoot q root → IsDocument q (record { lead = lead_of q; root = root })
 
--- With another part for document k, where the new text has that cut, and the part stands for the old root changed, it reads as the same documents but for this
+-- With another part for document k, where the new text has that cut, and the part means the old root changed, it reads as the same documents but for this
 -- one.
 abbrev pub DocumentChanged : Type 0
 DocumentChanged =

@@ -1,4 +1,4 @@
--- Lines put behind a text (YAML 1.2.2, 5.4; own).
+-- Lines put after a text (YAML 1.2.2, 5.4; own).
 use Rattle.std.specs.Prelude.{ℕ, List, [], ◌∷◌, ◌++◌, Bool, true, false}
 use Rattle.yq_core.specs.Text.{is_feed}
 
@@ -8,7 +8,7 @@ is_closed_text [] = true
 is_closed_text (b ∷ []) = is_feed b
 is_closed_text (b ∷ (d ∷ t)) = is_closed_text (d ∷ t)
 
--- lines put behind a line: with a break behind them, or, where that line has none, with the break in front of them, so that the text again ends without one
+-- lines put after a line: with a break after them, or, where that line has none, with the break in front of them, so that the text again ends without one
 -- (own)
 abbrev pub lines_put_behind : (closed : Bool) → List ℕ → List ℕ → List ℕ
 lines_put_behind true br lines = lines ++ br

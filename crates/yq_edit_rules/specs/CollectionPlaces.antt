@@ -12,8 +12,8 @@ abbrev pub BeginsAt : ℕ → Outline → Type 0
 BeginsAt column end = ⊥
 BeginsAt column (row l under after) = l.column ≡ column
 
--- A place is the end of the block collection at a path of document k, which has part p: rows up to the collection's last line stand in front of it, and others
--- behind.
+-- A place is the end of the block collection at a path of document k, which has part p: rows up to the collection's last line are in front of it, and others
+-- after.
 pub record IsCollectionEnd (c : Cut) (k : ℕ) (p : Part) (steps : List Step) (x : CollectionEnd) : Type 0 where
   pub h : NodeLines
   pub collection : IsCollectionAt steps (part_outline p) h

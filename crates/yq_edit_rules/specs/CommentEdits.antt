@@ -1,4 +1,4 @@
--- LineComment and HeadComment: what is exchanged, by what stands at the place (YAML 1.2.2, 6.6; own).
+-- LineComment and HeadComment: what is exchanged, by what is at the place (YAML 1.2.2, 6.6; own).
 use Rattle.std.specs.Prelude.{ℕ, ◌==◌, ◌&&◌, not, List, [], ◌∷◌, ◌++◌, length, replicate, Option, Some, None, if◌then◌else◌}
 use Rattle.yq_core.{specs.Answers.◌>>=◌, specs.BlockWritten.break_text, specs.Paths.Step, specs.Text.is_empty}
 use Rattle.yq_row_table.specs.Rows.{Cut, behind_gap, cut_text, rows_text}
@@ -7,11 +7,11 @@ use Rattle.yq_places.specs.Standings.{Held, RowsOfEntry, before_entry, behind_en
 use Rattle.yq_semantics.specs.Meaning.{head_comment_lines}
 use Rattle.yq_text.specs.Script.{Segment, keep, put}
 
--- what is written for a line comment, in the place of one or behind a space (6.6)
+-- what is written for a line comment, in the place of one or after a space (6.6)
 abbrev pub comment_written : List ℕ → List ℕ → List ℕ
 comment_written text old = if is_empty text then [] else (if is_empty old then 32 ∷ (35 ∷ (32 ∷ text)) else 35 ∷ (32 ∷ text))
 
--- the white space that ends a line: it goes where it stands before a comment that is taken away, and else stays (6.6)
+-- the white space that ends a line: it goes where it comes before a comment that is taken away, and else stays (6.6)
 abbrev pub white_put : List ℕ → Held → Segment
 white_put text h = if is_empty text && not (is_empty h.comment) then put h.white [] else keep h.white
 
@@ -38,7 +38,7 @@ abbrev pub head_lines : ℕ → List ℕ → List (List ℕ) → List ℕ
 head_lines column br [] = []
 head_lines column br (text ∷ texts) = comment_line column br text ++ head_lines column br texts
 
--- the segments of a text in which other lines stand for the comment above a row (own)
+-- the segments of a text in which other lines mean the comment above a row (own)
 abbrev pub head_comment_segments : List ℕ → List ℕ → LinesAbove → List Segment
 head_comment_segments br text w = keep w.before ∷ (put w.run (head_lines w.column br (head_comment_lines text)) ∷ (keep w.behind ∷ []))
 

@@ -18,30 +18,30 @@ aliases_in [] = []
 aliases_in (Anchors a ∷ names) = aliases_in names
 aliases_in (Refers a ∷ names) = a ∷ aliases_in names
 
--- the anchors that are known behind names, where these are known before them
+-- the anchors that are known after names, where these are known before them
 abbrev pub known_behind : List (List ℕ) → List Name → List (List ℕ)
 known_behind known [] = known
 known_behind known (Anchors a ∷ names) = known_behind (a ∷ known) names
 known_behind known (Refers a ∷ names) = known_behind known names
 
--- Of the anchors that give way, each that has an alias among other names comes again.
+-- Of the anchors that are replaced, each that has an alias among other names comes again.
 abbrev pub AreSpared : List Name → List Name → List Name → Type 0
 AreSpared gone come others = (a : List ℕ) → IsAmong a (anchors_in gone) → IsAmong a (aliases_in others) → IsAmong a (anchors_in come)
 
--- Where names give way to others that are bound, and no alias behind them loses its anchor, all names stay bound (7.1).
+-- Where names are replaced by others that are bound, and no alias after them loses its anchor, all names stay bound (7.1).
 abbrev pub BoundStays : Type 0
 BoundStays =
     (known : List (List ℕ)) (before gone come after : List Name) → AreBound known (before ++ (gone ++ after)) → AreBound (known_behind known before) come →
     AreSpared gone come after → AreBound known (before ++ (come ++ after))
 
--- The names before and behind the node at a path, which stay where that node is changed.
+-- The names before and after the node at a path, which stay where that node is changed.
 pub record Around (steps : List Step) (n old : Node) : Type 0 where
   pub before : List Name
   pub after : List Name
   pub old_names : names_of n ≡ before ++ (names_of old ++ after)
   pub new_names : (f : Node → Node) → names_of (changed_at steps f n) ≡ before ++ (names_of (f old) ++ after)
 
--- The names of the node at a path stand among those of the whole.
+-- The names of the node at a path are among those of the whole.
 abbrev pub NamesAround : Type 0
 NamesAround = (steps : List Step) (n old : Node) → node_at steps n ≡ Some old → Around steps n old
 
@@ -79,14 +79,14 @@ abbrev pub BeginsEntry : List Line → Type 0
 BeginsEntry [] = ⊤
 BeginsEntry (l ∷ ls) = IsEntry l.mark
 
--- Where lines before an entry give way to others whose first one may take the anchor before it, no node gets two anchors (6.9.2).
+-- Where lines before an entry are replaced by others whose first one may take the anchor before it, no node gets two anchors (6.9.2).
 abbrev pub AnchorsStay : Type 0
 AnchorsStay =
     (before gone come after : List Line) → HaveOneAnchorEach (before ++ (gone ++ after)) → HaveOneAnchorEach come → IsFree (last_anchor before) come →
     BeginsEntry after →
     HaveOneAnchorEach (before ++ (come ++ after))
 
--- Behind the lines of a node at a path stands an entry or nothing, and before them stands the line with its anchor.
+-- After the lines of a node at a path is an entry or nothing, and before them is the line with its anchor.
 abbrev pub LinesAmong : Type 0
 LinesAmong =
     (n : ℕ) (o : Outline) (steps : List Step) (h : NodeLines) → IsEven n o → lines_at steps o ≡ Some h →

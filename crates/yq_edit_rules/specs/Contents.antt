@@ -1,4 +1,4 @@
--- What is written behind the mark of one row gives way to a value (own).
+-- What is written after the mark of one row is replaced by a value (own).
 use Rattle.std.specs.Prelude.{◌≡◌, ℕ, suc, ◌+◌, List, [], ◌∷◌, ◌++◌, length, Some, None, false}
 use Rattle.yq_core.{specs.Paths.{Step, changed_at}, specs.Tree.Node}
 use Rattle.yq_outline.{specs.Comments.line_comment, specs.Outline.flatten, specs.Places.{lines_before, FoundLine, find, content_under}}
@@ -15,7 +15,7 @@ use Rattle.yq_edit_rules.{specs.DocumentRows.{IsDocumentPart, behind_document}, 
 abbrev pub recontent : (front : List Row) → Row → (back : List Row) → Content → Part → Part
 recontent front r back new p = inserted front (with_content new r ∷ []) back p
 
--- A content takes the place of a row's in document k: the row with it stands for the row there, it stands for a value behind the old anchor, and has the old
+-- A content takes the place of a row's in document k: the row with it means the row there, it means a value after the old anchor, and has the old
 -- comment.
 pub record TakesContent (t : List ℕ) (c : Cut) (k : ℕ) (p : Part) (front : List Row) (r : Row) (back : List Row) (v : Node) (new : Content) : Type 0 where
   pub old : IsDocumentPart t c k p

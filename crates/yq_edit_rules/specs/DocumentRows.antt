@@ -15,11 +15,11 @@ pub record IsDocumentPart (t : List ℕ) (c : Cut) (k : ℕ) (p : Part) : Type 0
   pub read : read_at t ≡ Some c
   pub there : slice_get (document_parts c) k ≡ Some p
 
--- the text behind document k
+-- the text after document k
 abbrev pub behind_document : ℕ → Cut → List ℕ
 behind_document k c = behind_part (part_number k c) c
 
--- a part with other rows between those in front and those behind, and this gap behind them
+-- a part with other rows between those before and those after, and this gap after them
 abbrev pub put_rows : (front new back : List Row) → List ℕ → Part → Part
 put_rows front new back gap p = record { rows = front ++ (new ++ with_first_gap gap back); end = end_gap gap back p.end }
 
@@ -30,30 +30,30 @@ PartNumbered =
     (nth_part (part_number k c) c ≡ p) ×
     ((i j : ℕ) (new : List Row) (gap : List ℕ) → splice (part_number k c) i j new gap c ≡ put_document k (splice_part i j new gap p) c)
 
--- The same of rows between those in front and those behind.
+-- The same of rows between those before and those after.
 abbrev pub RowsPut : Type 0
 RowsPut =
     (c : Cut) (k : ℕ) (p : Part) (front gone back new : List Row) (gap : List ℕ) → slice_get (document_parts c) k ≡ Some p → p.rows ≡ front ++ (gone ++ back) →
     splice (part_number k c) (length front) (length front + length gone) new gap c ≡ put_document k (put_rows front new back gap p) c
 
--- A text is cut so, and a part stands for a document, whose lines are even.
+-- A text is cut so, and a part means a document, whose lines are even.
 pub record Known (t : List ℕ) (c : Cut) (p : Part) : Type 0 where
   pub cut : IsCut t c
   pub document : IsDocument p (part_document p)
   pub even : IsEven (level_or 0 (part_outline p)) (part_outline p)
 
--- A text that reads as a cut is cut so, and each of its documents stands for one, with even lines.
+-- A text that reads as a cut is cut so, and each of its documents means one, with even lines.
 abbrev pub DocumentKnown : Type 0
 DocumentKnown = (t : List ℕ) (c : Cut) (k : ℕ) (p : Part) → IsDocumentPart t c k p → Known t c p
 
--- Rows may stand between those in front and those behind, with this gap behind them: they are rows there, the next row may follow, and what then stands behind
--- the rows in front may stand there.
+-- Rows may be between those before and those after, with this gap after them: they are rows there, the next row may follow, and what then comes after
+-- the rows in front may be there.
 pub record RowsFit (front new back : List Row) (gap : List ℕ) (p : Part) (rest : List ℕ) : Type 0 where
   pub rows : AreRows (asked_behind unlimited front) new gap (behind_first back p.end rest)
   pub next : allows_first (asked_behind (asked_behind unlimited front) new) back ≡ true
   pub seam : are_seamed front (rows_text new (gap ++ behind_first back p.end rest)) ≡ true
 
--- A cut in which rows of a document that has some give way to others that fit is a cut, where the new text may stand.
+-- A cut in which rows of a document that has some are replaced by others that fit is a cut, where the new text may be.
 abbrev pub DocumentSpliced : Type 0
 DocumentSpliced =
     (t : List ℕ) (c : Cut) (k : ℕ) (p : Part) (front gone back new : List Row) (gap : List ℕ) → IsDocumentPart t c k p → IsCut t c →

@@ -1,4 +1,4 @@
--- What is owed of the segments that an operation exchanges, by what stands at its place (own).
+-- What is owed of the segments that an operation exchanges, by what is at its place (own).
 use Rattle.std.specs.Prelude.{◌≡◌, ◌⊎◌, ℕ, ◌≤◌, List, [], ◌∷◌, length, Option, Some, true, false}
 use Rattle.yq_core.{specs.Answers.◌>>=◌, specs.BlockWritten.break_text, specs.Paths.Step, specs.Tree.Node, specs.Collections.CollPieces}
 use Rattle.yq_text.{specs.Limit.text_limit, specs.Script.{Segment, AllStay, keep, new_text, old_text}}
@@ -24,7 +24,7 @@ pub record IsEdit (op : Operation) (c : Cut) (ss : List Segment) : Type 0 where
   pub old : old_text ss ≡ cut_text c
   pub carried : HasOperand op → Fits (room_of (cut_text c)) op (documents c) → length (new_text ss) ≤ text_limit → CarriedOut op c ss
 
--- Replace: a value put where something stands.
+-- Replace: a value put where something is.
 abbrev pub ValuesArePut : Type 0
 ValuesArePut =
     (n : ℕ) (steps : List Step) (v : Node) (c : Cut) (t : Standing) →

@@ -23,19 +23,19 @@ pub record IsPut (t : List ℕ) (c : Cut) (k : ℕ) (p q : Part) : Type 0 where
   pub keys : HaveFitKeys q.rows
   pub short : HasShortRoot q.rows
 
--- The root of a document that gives way to another one is as is asked.
+-- The root of a document that is replaced by another one is as is asked.
 abbrev pub OldIsSound : Type 0
 OldIsSound = (t : List ℕ) (c : Cut) (k : ℕ) (p q : Part) → IsPut t c k p q → IsSoundRoot (root_of p)
 
--- The lines of a document that gives way to another one are even.
+-- The lines of a document that is replaced by another one are even.
 abbrev pub OldIsEven : Type 0
 OldIsEven = (t : List ℕ) (c : Cut) (k : ℕ) (p q : Part) → IsPut t c k p q → IsEven (level_or 0 (part_outline p)) (part_outline p)
 
--- The lines of a node at a path stand for that node.
+-- The lines of a node at a path mean that node.
 abbrev pub LinesAreThere : Type 0
 LinesAreThere = (steps : List Step) (o : Outline) (h : NodeLines) → lines_at steps o ≡ Some h → node_at steps (value o) ≡ Some (anchored h.anchor (value h.lines))
 
--- A line, with an outline under it, may stand in the place of one that was found, where the node to which steps lead in its head is changed by a function.
+-- A line, with an outline under it, may be in the place of one that was found, where the node to which steps lead in its head is changed by a function.
 pub record LineFits (rest : List Step) (f : FoundLine) (g : Node → Node) (m : ℕ) (l : Line) (u : Outline) : Type 0 where
   pub label_is : label l ≡ label f.line
   pub level_is : level l ≡ level f.line
@@ -44,7 +44,7 @@ pub record LineFits (rest : List Step) (f : FoundLine) (g : Node → Node) (m : 
   pub even : IsEven m u
   pub node_is : content_under l u ≡ changed_at rest g (content_under f.line f.under)
 
--- Behind an anchor, if there is one, lines have one anchor for a node (6.9.2).
+-- After an anchor, if there is one, lines have one anchor for a node (6.9.2).
 pub record AnchorsFit (a : Option (List ℕ)) (ls : List Line) : Type 0 where
   pub each : HaveOneAnchorEach ls
   pub free : IsFree a ls
@@ -66,7 +66,7 @@ LinesExchanged =
     lines_at steps (part_outline p) ≡ Some h → LinesFit h g m u → AnchorsFit h.anchor (flatten u) →
     lines_of_rows q.rows ≡ put_lines h (flatten u) → IsSoundRoot (changed_at steps g (root_of p)) → IsChanged c (put_document k q c) k (lead_of q) (changed_at steps g)
 
--- The lines of one item or entry more are put behind those of the collection at a path.
+-- The lines of one item or entry more are put after those of the collection at a path.
 abbrev pub LinesAppended : Type 0
 LinesAppended =
     (t : List ℕ) (c : Cut) (k : ℕ) (p q : Part) (steps : List Step) (h : NodeLines) (m : ℕ) (l : Line) (v : Outline) → IsPut t c k p q →

@@ -1,4 +1,4 @@
--- What each operation exchanges, by its kind and by what stands at its place: the tables of docs/STYLE-AND-EXTENTS.md (own).
+-- What each operation exchanges, by its kind and by what is at its place: the tables of docs/STYLE-AND-EXTENTS.md (own).
 use Rattle.std.{specs.Option.option_or, specs.Prelude.{ℕ, List, [], ◌∷◌, Option, Some, None, option_map, if◌then◌else◌}}
 use Rattle.yq_core.{specs.Answers.◌>>=◌, specs.Paths.Step, specs.Tree.{Node, alias, scalar, list, map, none}}
 use Rattle.yq_row_table.specs.Rows.{Cut, cut_text}
@@ -10,13 +10,13 @@ use Rattle.yq_edit_rules.{specs.CommentEdits.{head_comment_at, line_comment_at},
 use Rattle.yq_edit_rules.{specs.FlowParts.{flow_more, flow_put, flow_removed}, specs.ReplaceEdits.value_put_at}
 use Rattle.yq_edit_rules.specs.Replacing.{keeps_scalar}
 
--- Replace: an equal scalar leaves the bytes alone; else by what stands there outside flow collections, or by the part of one
+-- Replace: an equal scalar leaves the bytes alone; else by what is there outside flow collections, or by the part of one
 abbrev pub replace_segments : ℕ → List Step → Node → Cut → Option (List Segment)
 replace_segments n steps v c =
     if keeps_scalar (node_in n steps c) v then Some (keep (cut_text c) ∷ [])
     else option_or (value_put_at n steps v c) (option_map (flow_put (cut_text c) v) (flow_standing n c (last_step steps)))
 
--- Append: rows behind those of a block collection, or else a part more in a flow collection
+-- Append: rows after those of a block collection, or else a part more in a flow collection
 abbrev pub appended : ℕ → List Step → Option (List ℕ) → Node → Cut → Option (List Segment)
 appended n steps key v c = option_or (more_at n steps c key v) (flow_collection n steps c >>= flow_more (cut_text c) key v)
 
@@ -41,7 +41,7 @@ part_removed n c (Some x) = flow_collection n x.0 c >>= flow_removed (cut_text c
 abbrev pub rows_or_sole : ℕ → List Step → Cut → Option (List Segment)
 rows_or_sole n steps c = if has_others_at n steps c then one_removed n steps c else sole_removed n c (last_step steps)
 
--- Remove: one of several parts of a flow collection, or else by what stands beside it
+-- Remove: one of several parts of a flow collection, or else by what is beside it
 abbrev pub removed : ℕ → List Step → Cut → Option (List Segment)
 removed n steps c = option_or (part_removed n c (last_step steps)) (rows_or_sole n steps c)
 

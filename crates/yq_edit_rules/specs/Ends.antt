@@ -9,11 +9,11 @@ use Rattle.yq_places.specs.RowPaths.{IsReadable}
 use Rattle.yq_edit_rules.{specs.Changed.{IsChanged, put_document}, specs.Siblings.{NodeLines, IsCollectionAt}}
 use Rattle.yq_edit_rules.{specs.Appends.AreAppendedRows, specs.DocumentRows.{IsDocumentPart, behind_document, put_rows}}
 
--- a part whose last row gets a break, and rows behind it
+-- a part whose last row gets a break, and rows after it
 abbrev pub closed_with : (front : List Row) → Row → (break : List ℕ) → (new : List Row) → Part → Part
 closed_with front r break new p = put_rows front (closed_by break r ∷ new) [] [] p
 
--- The last row of a part may get a break and new rows behind it: the text ends there without one.
+-- The last row of a part may get a break and new rows after it: the text ends there without one.
 pub record TakesRowsLast (p : Part) (front : List Row) (r : Row) (break : List ℕ) (new : List Row) (rest : List ℕ) : Type 0 where
   pub rows_are : p.rows ≡ front ++ (r ∷ [])
   pub end_is : p.end ≡ []

@@ -1,4 +1,4 @@
--- Append and Remove: what is exchanged, by what stands at the place (YAML 1.2.2, 8.2; own).
+-- Append and Remove: what is exchanged, by what is at the place (YAML 1.2.2, 8.2; own).
 use Rattle.std.{specs.Option.option_or, specs.Prelude.{ℕ, not, List, [], ◌∷◌, ◌++◌, replicate, Option, Some, None, option_map}}
 use Rattle.yq_core.{specs.Answers.◌>>=◌, specs.BlockWritten.break_text, specs.Paths.Step, specs.Text.is_empty, specs.Tree.Node}
 use Rattle.yq_row_table.specs.Rows.{Cut}
@@ -15,21 +15,21 @@ use Rattle.yq_edit_rules.specs.Alone as single
 abbrev pub entry_lines : Layout → ℕ → Option (List ℕ) → Node → List ℕ
 entry_lines l column key v = replicate column 32 ++ block_value l column (single.singleton key v)
 
--- the lines of one more item or entry behind the last line of a block collection, with a break behind them, or in front where that line has none (8.2)
+-- the lines of one more item or entry after the last line of a block collection, with a break after them, or in front where that line has none (8.2)
 abbrev pub more_lines : Layout → Option (List ℕ) → Node → ℕ → List ℕ → List ℕ
 more_lines l key v column last = lines_put_behind (not (is_empty last)) (break_text l.br) (entry_lines l column key v)
 
--- these lines put behind what a key or dash holds
+-- these lines put after what a key or dash holds
 abbrev pub behind_held : Held → List ℕ → List Segment
 behind_held h new =
     keep h.before ∷ (keep h.space ∷ (keep h.head ∷ (keep h.white ∷ (keep h.comment ∷
     (keep h.break ∷ (keep h.lines ∷ (keep h.last ∷ (put [] new ∷ (keep h.behind ∷ [])))))))))
 
--- these lines put behind a text and the break that ends it, if one does
+-- these lines put after a text and the break that ends it, if one does
 abbrev pub behind_lines : (before old last new behind : List ℕ) → List Segment
 behind_lines before old last new behind = keep before ∷ (keep old ∷ (keep last ∷ (put [] new ∷ (keep behind ∷ []))))
 
--- one more item or entry at the end of what stands there, if that is a block collection (8.2)
+-- one more item or entry at the end of what is there, if that is a block collection (8.2)
 abbrev pub block_more : Layout → Option (List ℕ) → Node → Standing → Option (List Segment)
 block_more l key v (alone w) = None
 block_more l key v (beside h) = None

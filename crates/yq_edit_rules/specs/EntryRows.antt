@@ -6,13 +6,13 @@ use Rattle.yq_outline.{specs.Lines.lines_of_rows, specs.Outline.{flatten, IsEven
 use Rattle.yq_documents.{specs.Reading.part_outline, specs.LinesInRows.{RowLine, row_line}}
 use Rattle.yq_edit_rules.{specs.Siblings.{IsEntryAt, NodeLines}, specs.LineRows.lines_before_entry}
 
--- The rows of an item or entry that has whole rows are those between others in front and others behind.
+-- The rows of an item or entry that has whole rows are those between others in front and others after.
 pub record HasWholeRows (p : Part) (h : NodeLines) (f : FoundLine) (front gone back : List Row) : Type 0 where
   pub rows_are : p.rows ≡ front ++ (gone ++ back)
   pub number : length (lines_of_rows front) ≡ lines_before_entry h f
   pub count : length (lines_of_rows gone) ≡ length (f.line ∷ flatten f.under)
 
--- An item or entry has such rows, and so many rows stand before them.
+-- An item or entry has such rows, and so many rows come before them.
 pub record RowsFrom (p : Part) (h : NodeLines) (f : FoundLine) (before : ℕ) : Type 0 where
   pub front : List Row
   pub gone : List Row

@@ -21,11 +21,11 @@ flow_value old (tree.scalar anchor kind text) = scalar (written_scalar (style_in
 flow_value old (tree.list anchor cs) = flow_of (tree.list anchor cs)
 flow_value old (tree.map anchor cs) = flow_of (tree.map anchor cs)
 
--- what is written of a node behind its anchor
+-- what is written of a node after its anchor
 abbrev pub content_written : FlowNode → List ℕ
 content_written n = node_text (without_anchor n) []
 
--- Replace: a value in flow style in the place of the content of an item or entry, behind its anchor; where nothing is written it comes behind a space (7.4)
+-- Replace: a value in flow style in the place of the content of an item or entry, after its anchor; where nothing is written it comes after a space (7.4)
 abbrev pub flow_put : List ℕ → tree.Node → FlowPart → List Segment
 flow_put t v x = flow_segments t (replacing x.step x.part (flow_value (content_written x.part.node) v) x.collection)
 
@@ -33,7 +33,7 @@ flow_put t v x = flow_segments t (replacing x.step x.part (flow_value (content_w
 abbrev pub takes_key : ℕ → Option (List ℕ) → Bool
 takes_key close key = if close == 125 then is_some key else not (is_some key)
 
--- Append: a comma, a space, and the item or entry right behind the last one; in an empty collection right behind the bracket (7.4)
+-- Append: a comma, a space, and the item or entry right after the last one; in an empty collection right after the bracket (7.4)
 abbrev pub flow_more : List ℕ → Option (List ℕ) → tree.Node → CollPieces → Option (List Segment)
 flow_more t key v w = if takes_key w.close key then Some (flow_segments t (appending (flow_key key) (flow_of v) w)) else None
 

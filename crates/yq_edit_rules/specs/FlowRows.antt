@@ -1,4 +1,4 @@
--- The operations inside flow collections, by the row in whose content the collection stands (7.4; own).
+-- The operations inside flow collections, by the row in whose content the collection is (7.4; own).
 use Rattle.std.specs.Prelude.{◌≡◌, ℕ, ◌+◌, List, [], ◌∷◌, ◌++◌, length, slice_get, Some}
 use Rattle.yq_core.{specs.Paths.{Step, changed_at, within}, specs.Tree.Children}
 use Rattle.yq_core.{specs.Collections.{CollAt, CollPieces, IsCollAt, coll_along}, specs.Nodes.{FlowNode, node_text}}
@@ -11,7 +11,7 @@ use Rattle.yq_edit_rules.{specs.Appends.inserted, specs.Changed.{IsChanged, put_
 use Rattle.yq_edit_rules.{specs.DocumentRows.{IsDocumentPart, behind_document}, specs.SoundRoots.IsSoundRoot}
 use Rattle.yq_core.specs.declared.style.Place.TheVariants as places
 
--- An inline node in a row of a document: the rows before and behind that one, and the pieces of its content.
+-- An inline node in a row of a document: the rows before and after that one, and the pieces of its content.
 pub record InlineRow : Type 0 where
   pub front : List Row
   pub row : Row
@@ -20,7 +20,7 @@ pub record InlineRow : Type 0 where
   pub node : FlowNode
   pub tail : List ℕ
 
--- the text behind the inline node of a row in document k
+-- the text after the inline node of a row in document k
 abbrev pub behind_node : Cut → ℕ → Part → InlineRow → List ℕ
 behind_node c k p i = i.tail ++ rows_text i.back (p.end ++ behind_document k c)
 
@@ -40,7 +40,7 @@ pub record IsFlowAt (c : Cut) (k : ℕ) (p : Part) (steps : List Step) (f : Foun
   pub number : length (lines_of_rows i.front) + length i.row.dashes ≡ length (lines_before f.place)
   pub along : coll_along rest i.node (behind_node c k p i) ≡ Some w
 
--- A collection to which a path leads stands in the inline node of its row.
+-- A collection to which a path leads is in the inline node of its row.
 abbrev pub FlowStands : Type 0
 FlowStands =
     (t : List ℕ) (c : Cut) (k : ℕ) (p : Part) (steps : List Step) (f : FoundLine) (rest : List Step) (i : InlineRow) (w : CollPieces) →

@@ -8,7 +8,7 @@ use Rattle.yq_row_table.{specs.Grammar.{is_more, is_plain_content}, specs.Rows.{
 use Rattle.yq_documents.{specs.Documents.HasFitKeys, specs.Reading.part_outline}
 use Rattle.yq_core.specs.Nodes as inline
 
--- Steps lead to an entry or item without a head, under whose line a row alone stands, which stands behind these.
+-- Steps lead to an entry or item without a head, under whose line a row alone is, which comes after these.
 pub record LeadsBelow (p : Part) (s : Step) (ss : List Step) (front : List Row) (r : Row) : Type 0 where
   pub found : FoundLine
   pub is : find s ss (part_outline p) ≡ Some (found, [])
@@ -27,7 +27,7 @@ abbrev pub LeadsToLone : Part → List Step → List Row → Row → Type 0
 LeadsToLone p [] front r = IsRootRow p r
 LeadsToLone p (s ∷ ss) front r = LeadsBelow p s ss front r
 
--- An inline node is that of a value: below any parent it is one before any rest at which a plain scalar ends; it stands for the value and has no anchor; its
+-- An inline node is that of a value: below any parent it is one before any rest at which a plain scalar ends; it means the value and has no anchor; its
 -- keys are fit; it is more than an anchor, and no marker; and if it is plain, it is on one line.
 pub record IsValueNode (v : Node) (node : inline.FlowNode) : Type 0 where
   pub stands : (n : ℤ) (rest : List ℕ) → ends_plain false (Some (deeper n)) rest ≡ true → IsInline Block n 0 node rest

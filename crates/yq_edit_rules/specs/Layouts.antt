@@ -10,7 +10,7 @@ use Rattle.yq_edit_rules.{specs.BlockReading.is_filled, specs.declared.layout.La
 abbrev pub layout_of : ℕ → Cut → Layout
 layout_of n c = record { br = first_break (cut_text c); mapping = (document_steps n c).mapping; sequence = (document_steps n c).sequence }
 
--- by how many columns a sequence, or a mapping, stands deeper than its key (own)
+-- by how many columns a sequence, or a mapping, is deeper than its key (own)
 abbrev pub columns_deeper : (dashes : Bool) → Layout → ℕ
 columns_deeper dashes l = if dashes then l.sequence else l.mapping
 
@@ -22,7 +22,7 @@ is_filled_as dashes (list a cs) = dashes && is_filled (list a cs)
 is_filled_as dashes (map a cs) = not dashes && is_filled (map a cs)
 
 unfoldable mutual
-  -- whether such a collection stands under a key in a node (own)
+  -- whether such a collection is under a key in a node (own)
   pub node_asks : (dashes : Bool) → Node → Bool
   node_asks dashes (alias name) = false
   node_asks dashes (scalar a kind text) = false
@@ -34,7 +34,7 @@ unfoldable mutual
   children_ask dashes none = false
   children_ask dashes (child label n cs) = (is_some label.key && is_filled_as dashes n) || (node_asks dashes n || children_ask dashes cs)
 
--- whether a key holds what stands there (8.2.2)
+-- whether a key holds what is there (8.2.2)
 abbrev pub is_under_key : Standing → Bool
 is_under_key (alone w) = false
 is_under_key (beside h) = h.mark.keyed

@@ -5,11 +5,11 @@ use Rattle.yq_row_table.{specs.Grammar.{IsRow, Limit}, specs.Rows.{Row, print_ro
 use Rattle.yq_places.specs.CommentPlaces.{text_to_line_end}
 use Rattle.yq_edit_rules.specs.TextPieces.{IsPiece}
 
--- A text cut in two, where no CR stands before an LF, is in pieces.
+-- A text cut in two, where no CR comes before an LF, is in pieces.
 abbrev pub CleanCut : Type 0
 CleanCut = (a b : List ℕ) → IsPiece (a ++ b) → IsUtf8 a → (front is_feed b ≡ true → ends_return a ≡ false) → IsPiece a × IsPiece b
 
--- What is written on the line of a row's mark ends in no CR, where an LF is behind it.
+-- What is written on the line of a row's mark ends in no CR, where an LF is after it.
 abbrev pub LineEndsClean : Type 0
 LineEndsClean =
     (limit : Limit) (r : Row) (rest : List ℕ) → IsRow limit r rest → pairs_returns (print_row r rest) ≡ true →

@@ -7,7 +7,7 @@ use Rattle.yq_outline.specs.Places.{lines_before, lines_after, FoundLine}
 use Rattle.yq_documents.specs.LinesInRows.{RowLine, row_line}
 use Rattle.yq_edit_rules.specs.Siblings.{HasEntries, NodeLines, lines_at, IsEntryAt}
 
--- how many lines stand before an item or entry
+-- how many lines come before an item or entry
 abbrev pub lines_before_entry : NodeLines → FoundLine → ℕ
 lines_before_entry h f = length (lines_before h.place) + length (lines_before f.place)
 
@@ -35,7 +35,7 @@ StandApart [] zs = ⊤
 StandApart (l ∷ []) zs = Begins (level l) zs
 StandApart (l ∷ (k ∷ ls)) zs = StandApart (k ∷ ls) zs
 
--- Rows are in two parts, of which the first has these lines, and the second those behind them.
+-- Rows are in two parts, of which the first has these lines, and the second those after them.
 pub record InRows (rs : List Row) (a z : List Line) : Type 0 where
   pub front : List Row
   pub back : List Row
@@ -47,23 +47,23 @@ pub record InRows (rs : List Row) (a z : List Line) : Type 0 where
 abbrev pub RowBegins : Type 0
 RowBegins = (rs : List Row) (a z : List Line) → lines_of_rows rs ≡ a ++ z → StandApart a z → InRows rs a z
 
--- Behind the lines of the block collection at a path a row begins; its first line is less deep than they are.
+-- After the lines of the block collection at a path a row begins; its first line is less deep than they are.
 abbrev pub LinesApart : Type 0
 LinesApart =
     (n : ℕ) (o : Outline) (steps : List Step) (h : NodeLines) → IsEven n o → lines_at steps o ≡ Some h → HasEntries h.lines →
     StandApart (lines_before h.place ++ flatten h.lines) (lines_after h.place) × Begins h.above (lines_after h.place)
 
--- the lines behind those of an item or entry
+-- the lines after those of an item or entry
 abbrev pub lines_behind : NodeLines → FoundLine → List Line
 lines_behind h f = (flatten f.after ++ lines_after f.place) ++ lines_after h.place
 
--- An item or entry, but for the first one, begins no deeper than the line before it, and what is behind it is no deeper than its last line and its own one.
+-- An item or entry, but for the first one, begins no deeper than the line before it, and what is after it is no deeper than its last line and its own one.
 pub record EntryApart (h : NodeLines) (f : FoundLine) : Type 0 where
   pub begin : (lines_before f.place ≡ [] → ⊥) → StandApart (lines_before h.place ++ lines_before f.place) ((f.line ∷ flatten f.under) ++ lines_behind h f)
   pub end : StandApart ((lines_before h.place ++ lines_before f.place) ++ (f.line ∷ flatten f.under)) (lines_behind h f)
   pub next : Begins (level f.line) (lines_behind h f)
 
--- Behind the lines of an item or entry a row begins, and so it does where they begin, but for the first one; the line behind them is no deeper.
+-- After the lines of an item or entry a row begins, and so it does where they begin, but for the first one; the line after them is no deeper.
 abbrev pub EntriesApart : Type 0
 EntriesApart = (n : ℕ) (o : Outline) (steps : List Step) (s : Step) (h : NodeLines) (f : FoundLine) → IsEven n o → IsEntryAt steps s o h f → EntryApart h f
 
@@ -72,7 +72,7 @@ abbrev pub AreDeep : ℕ → List Line → Type 0
 AreDeep n [] = ⊤
 AreDeep n (l ∷ ls) = (n ≤ level l) × AreDeep n ls
 
--- behind a line with a head stands no deeper one (8.2)
+-- after a line with a head is no deeper one (8.2)
 abbrev pub AreClosed : List Line → Type 0
 AreClosed [] = ⊤
 AreClosed (l ∷ ls) = (is_some l.head ≡ true → Begins (level l) ls) × AreClosed ls

@@ -15,8 +15,8 @@ InLast trail [] = trail ≡ []
 InLast trail (i ∷ []) = length trail ≤ length (item_text i)
 InLast trail (i ∷ (j ∷ is)) = InLast trail (j ∷ is)
 
--- Segments of the text of a cut exchange items between those in front and those behind, which stay: what is kept in front ends in the first item that
--- goes, or comes, or at its edge, and what is kept behind begins in the last one, or at its edge (own).
+-- Segments of the text of a cut exchange items between those before and those after, which stay: what is kept in front ends in the first item that
+-- goes, or comes, or at its edge, and what is kept after begins in the last one, or at its edge (own).
 pub record IsLocal (ss : List Segment) (c new : Cut) : Type 0 where
   pub front : List Item
   pub gone : List Item

@@ -1,4 +1,4 @@
--- The first entry or item of a compact collection taken out: the next one's row stands behind the dash (8.2.1; own).
+-- The first entry or item of a compact collection taken out: the next one's row comes after the dash (8.2.1; own).
 use Rattle.std.specs.Prelude.{◌≡◌, ℕ, suc, ◌+◌, List, [], ◌∷◌, ◌++◌, None}
 use Rattle.yq_outline.{specs.Comments.{head_comment, line_comment}, specs.Lines.{dash_line, lines_from, lines_of_rows}, specs.Outline.Line}
 use Rattle.yq_row_table.specs.Rows.{Content, Nothing, Row, behind_columns}
@@ -9,15 +9,15 @@ abbrev pub dash_lines : List (List ℕ) → ℕ → List ℕ → List Line
 dash_lines above column [] = []
 dash_lines above column (n ∷ ns) = dash_line above column ∷ dash_lines [] (suc (column + n)) ns
 
--- a row behind the first dashes of another one, whose gap and column it takes
+-- a row after the first dashes of another one, whose gap and column it takes
 abbrev pub moved_up : Row → List ℕ → Row → Row
 moved_up r dashes b = record b { gap = r.gap; column = r.column; dashes = dashes ++ b.dashes }
 
--- a row with nothing behind its last dash
+-- a row with nothing after its last dash
 abbrev pub emptied_row : Row → List ℕ → List ℕ → Row
 emptied_row r dashes tail = record r { dashes = dashes; mark = rows.Dash; content = Nothing tail }
 
--- Where the next entry's row b, in the same column and with no comment above it, stands behind the first dashes of row r, the lines are the old ones without
+-- Where the next entry's row b, in the same column and with no comment above it, comes after the first dashes of row r, the lines are the old ones without
 -- those of the first entry.
 abbrev pub FirstMoved : Type 0
 FirstMoved =
@@ -27,7 +27,7 @@ FirstMoved =
     (lines_of_rows before ++ dash_lines (head_comment r.gap) r.column (n ∷ ns)) ++ ((lines_from [] b.column es r.mark r.content ++ lines_of_rows gone) ++ lines_of_rows (b ∷ behind))) ×
     (lines_of_rows (before ++ (moved_up r (n ∷ ns) b ∷ behind)) ≡ (lines_of_rows before ++ dash_lines (head_comment r.gap) r.column (n ∷ ns)) ++ lines_of_rows (b ∷ behind))
 
--- The same where nothing but a tail without a comment stays behind the dashes, and the rows behind the first entry keep their places.
+-- The same where nothing but a tail without a comment stays after the dashes, and the rows after the first entry keep their places.
 abbrev pub FirstEmptied : Type 0
 FirstEmptied =
     (before gone behind : List Row) (r : Row) (n : ℕ) (ns es tail : List ℕ) → r.dashes ≡ (ns ++ (n ∷ [])) ++ es → line_comment tail ≡ None →
@@ -35,7 +35,7 @@ FirstEmptied =
     (lines_of_rows before ++ dash_lines (head_comment r.gap) r.column (ns ++ (n ∷ []))) ++ ((lines_from [] (behind_columns r.column (ns ++ (n ∷ []))) es r.mark r.content ++ lines_of_rows gone) ++ lines_of_rows behind)) ×
     (lines_of_rows (before ++ (emptied_row r ns tail ∷ behind)) ≡ (lines_of_rows before ++ dash_lines (head_comment r.gap) r.column (ns ++ (n ∷ []))) ++ lines_of_rows behind)
 
--- The lines of a row are those of its first dashes, and then those of a row that begins behind them and has no comment above it.
+-- The lines of a row are those of its first dashes, and then those of a row that begins after them and has no comment above it.
 abbrev pub DashesFirst : Type 0
 DashesFirst =
     (above : List (List ℕ)) (column n : ℕ) (ns es : List ℕ) (mark : rows.RowMark) (c : Content) →

@@ -1,4 +1,4 @@
--- The line comment of an item or entry at a path, whatever its row holds: a tail behind what is written on its line, which for a block scalar is its header (6.6, 8.1.1; own).
+-- The line comment of an item or entry at a path, whatever its row holds: a tail after what is written on its line, which for a block scalar is its header (6.6, 8.1.1; own).
 use Rattle.std.specs.Prelude.{◌≡◌, ℕ, List, [], ◌∷◌, ◌++◌, length, Some, true}
 use Rattle.yq_core.{specs.Block.is_tail, specs.Paths.{Step, changed_at, relabel_child, within}}
 use Rattle.yq_outline.specs.Comments.{line_comment}
@@ -15,7 +15,7 @@ with_line_tail tail (Nothing old) = Nothing tail
 with_line_tail tail (Inline space node old) = Inline space node tail
 with_line_tail tail (Block space anchor block) = Block space anchor (record block { tail = tail })
 
--- a text may end the line of a content, before what stands behind that
+-- a text may end the line of a content, before what comes after that
 abbrev pub IsLineTail : List ℕ → Content → List ℕ → Type 0
 IsLineTail tail (Nothing old) rest = IsTail tail rest
 IsLineTail tail (Inline space node old) rest = IsTail tail rest
@@ -25,7 +25,7 @@ IsLineTail tail (Block space anchor block) rest = is_tail tail ≡ true
 abbrev pub tailed : List ℕ → Row → Row
 tailed tail r = with_content (with_line_tail tail r.content) r
 
--- A row of a part, behind others and before others, may have this end of its line before a rest.
+-- A row of a part, after others and before others, may have this end of its line before a rest.
 pub record TakesLineTail (p : Part) (front : List Row) (r : Row) (back : List Row) (tail rest : List ℕ) : Type 0 where
   pub rows_are : p.rows ≡ front ++ (r ∷ back)
   pub fits : IsLineTail tail r.content (rows_text back (p.end ++ rest))

@@ -1,4 +1,4 @@
--- Where the lines of a node, an entry or an item stand among the lines of rows, by their numbers (own).
+-- Where the lines of a node, an entry or an item are among the lines of rows, by their numbers (own).
 use Rattle.std.specs.Prelude.{◌≡◌, ℕ, ◌+◌, List, [], ◌∷◌, ◌++◌, length, Some}
 use Rattle.yq_core.specs.Paths.{Step}
 use Rattle.yq_row_table.specs.Rows.{Row, Part}
@@ -21,7 +21,7 @@ pub record ArePartedAt (ls a x z : List Line) (before size : ℕ) : Type 0 where
   pub before_are : length a ≡ before
   pub size_is : length x ≡ size
 
--- Of lines in three parts, the second is that of a line that was found and those under it, if it is as long and as many stand before it.
+-- Of lines in three parts, the second is that of a line that was found and those under it, if it is as long and as many come before it.
 abbrev pub LinePlaced : Type 0
 LinePlaced =
     (n : ℕ) (p : Part) (s : Step) (ss rest : List Step) (f : FoundLine) (a x z : List Line) → IsEven n (part_outline p) →

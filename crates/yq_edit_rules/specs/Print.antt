@@ -15,6 +15,6 @@ printed_value (tree.scalar a kind text) = text
 printed_value (tree.list a cs) = block_value print_layout 0 (tree.list a cs)
 printed_value (tree.map a cs) = block_value print_layout 0 (tree.map a cs)
 
--- a value as it is printed: with LF behind it (own)
+-- a value as it is printed: with LF after it (own)
 unfoldable pub print_text : tree.Node → List ℕ
 print_text v = printed_value v ++ 10 ∷ []

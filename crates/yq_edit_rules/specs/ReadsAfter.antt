@@ -1,4 +1,4 @@
--- What a text reads as behind an operation (own).
+-- What a text reads as after an operation (own).
 use Rattle.std.specs.Prelude.{◌≡◌, ℕ, List, Some}
 use Rattle.yq_row_table.specs.Rows.{Cut, cut_text}
 use Rattle.yq_documents.specs.Reading.{documents, read_at, documents_of}

@@ -21,12 +21,12 @@ pub record HasOwnRows (p : Part) (steps : List Step) (s : Step) (x : OwnRows) : 
 abbrev pub OwnRowsStand : Type 0
 OwnRowsStand = (t : List ℕ) (c : Cut) (k : ℕ) (p : Part) (steps : List Step) (s : Step) (x : OwnRows) → IsDocumentPart t c k p → own_rows (steps ++ (s ∷ [])) p.rows ≡ Some x → HasOwnRows p steps s x
 
--- a gap at a seam, if there is one: repaired behind a block scalar
+-- a gap at a seam, if there is one: repaired after a block scalar
 abbrev pub mended : Option Seam → List ℕ → List ℕ
 mended None gap = gap
 mended (Some s) gap = joined (repair s.keeps s.indent s.column (text_lines gap))
 
--- What is taken out with an item or entry stands in the text between its gap and the text before it.
+-- What is taken out with an item or entry is in the text between its gap and the text before it.
 abbrev pub RemovalStands : Type 0
 RemovalStands = (c : Cut) (k : ℕ) (steps : List Step) (x : Removal) → read_at (cut_text c) ≡ Some c → removal_place k steps c ≡ Some x → cut_text c ≡ x.before ++ (x.gone ++ (x.gap ++ x.behind))
 
@@ -51,6 +51,6 @@ pub record MayTakeOut (c : Cut) (k : ℕ) (steps : List Step) : Type 0 where
   pub node_is : node_at steps (root_of part) ≡ Some node
   pub spared : AreSpared (names_of node) [] (names_of (root_of part))
 
--- What is taken out with the first item or entry of a compact collection stands in the text.
+-- What is taken out with the first item or entry of a compact collection is in the text.
 abbrev pub FirstStands : Type 0
 FirstStands = (c : Cut) (k : ℕ) (steps : List Step) (x : FirstOut) → first_removal k steps c ≡ Some x → cut_text c ≡ x.before ++ (x.space ++ (x.entry ++ (x.break ++ (x.indent ++ x.behind))))

@@ -1,4 +1,4 @@
--- Replace: what is exchanged, by what stands at the place: a clause for each row of the table (YAML 1.2.2, 7 and 8; own).
+-- Replace: what is exchanged, by what is at the place: a clause for each row of the table (YAML 1.2.2, 7 and 8; own).
 use Rattle.std.specs.List.{list_any}
 use Rattle.std.specs.Prelude.{ℕ, ◌&&◌, not, List, [], ◌∷◌, ◌++◌, Option, Some, None, Bool, false, option_map, if◌then◌else◌}
 use Rattle.yq_core.{specs.Answers.◌>>=◌, specs.BlockWritten.{break_text, chomping_of, header_text}, specs.Paths.Step}
@@ -15,15 +15,15 @@ use Rattle.yq_edit_rules.specs.WrittenValues.{Written, inline, compact_text, lin
 use Rattle.yq_text.specs.Script.{Segment, keep, put}
 use Rattle.yq_core.specs.BlockWritten as literal
 
--- ---- behind a key or dash
+-- ---- after a key or dash
 
--- behind a space, where nothing is written (own)
+-- after a space, where nothing is written (own)
 abbrev pub spaced_text : List ℕ → List ℕ → List ℕ
 spaced_text old t = if is_empty old then 32 ∷ t else t
 
 -- what is put in the place of what a key or dash holds
 abbrev pub held_put : List ℕ → Held → Written → List Segment
--- inline: in the place of the head, or behind a space where none is; lines below go, up to the last break
+-- inline: in the place of the head, or after a space where none is; lines below go, up to the last break
 held_put br h (inline t) =
     keep h.before ∷ (keep h.space ∷ (put h.head (spaced_text h.head t) ∷ (keep h.white ∷ (keep h.comment ∷
     (put h.break [] ∷ (put h.lines [] ∷ (keep h.last ∷ (keep h.behind ∷ []))))))))
@@ -46,7 +46,7 @@ line_break h = if is_empty h.break then h.last else h.break
 abbrev pub raw_last : Held → List ℕ
 raw_last h = if is_empty h.break then [] else h.last
 
--- the lines of a block scalar give way to others, each with its break; what stands behind the mark gives way to a header, or goes (8.1)
+-- the lines of a block scalar are replaced by others, each with its break; what comes after the mark is replaced by a header, or goes (8.1)
 abbrev pub raw_put : Held → Segment → Segment → List ℕ → List Segment
 raw_put h space head raw = keep h.before ∷ (space ∷ (head ∷ (keep h.white ∷ (keep h.comment ∷
     (keep (line_break h) ∷ (put h.lines [] ∷ (put (raw_last h) raw ∷ (keep h.behind ∷ []))))))))
@@ -73,11 +73,11 @@ block_scalar_put has_text br h indent w (Some s) = if has_text && is_string s.ki
 
 -- ---- elsewhere
 
--- a text behind a dash, in the place of a compact collection
+-- a text after a dash, in the place of a compact collection
 abbrev pub put_compact : Compact → List ℕ → List Segment
 put_compact p t = keep p.before ∷ (put p.old t ∷ (keep p.last ∷ (keep p.behind ∷ [])))
 
--- a value there: behind a space, or a break and the lines (8.2.1)
+-- a value there: after a space, or a break and the lines (8.2.1)
 abbrev pub compact_put : List ℕ → Compact → Written → List Segment
 compact_put br p (inline t) = put_compact p (32 ∷ t)
 compact_put br p (compact_text t) = put_compact p (32 ∷ t)
@@ -91,13 +91,13 @@ lone_put w v = keep w.before ∷ (put w.head (spaced_text w.head (value_text InB
 abbrev pub root_put : Layout → Node → BlockRoot → List Segment
 root_put l v w = keep w.before ∷ (put w.old (block_value l w.column v) ∷ (keep w.last ∷ (keep w.behind ∷ [])))
 
--- the same on lines of its own behind the gap of a document without rows (9.1)
+-- the same on lines of its own after the gap of a document without rows (9.1)
 abbrev pub no_rows_put : Layout → Node → NoRows → List Segment
 no_rows_put l v w = keep w.before ∷ (put [] (lines_put_behind (is_closed_text w.before) (break_text l.br) (block_value l 0 v)) ∷ (keep w.behind ∷ []))
 
 -- ---- the table
 
--- a value put where something stands outside flow collections
+-- a value put where something is outside flow collections
 abbrev pub value_put : (has_text : Bool) → Layout → Node → Standing → List Segment
 value_put has_text l v (alone w) = lone_put w v
 value_put has_text l v (beside h) = held_put (break_text l.br) h (written_at l h.mark h.head v)
@@ -116,6 +116,6 @@ holds_text (Some s) = list_any (λ b. not (is_feed b)) s.text
 abbrev pub has_text : Option Node → Bool
 has_text n = holds_text (n >>= scalar_in)
 
--- a value put where steps lead in document n, if something stands there outside flow collections
+-- a value put where steps lead in document n, if something is there outside flow collections
 abbrev pub value_put_at : ℕ → List Step → Node → Cut → Option (List Segment)
 value_put_at n steps v c = option_map (value_put (has_text (node_in n steps c)) (layout_of n c) v) (standing_at n steps c)

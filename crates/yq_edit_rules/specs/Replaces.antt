@@ -1,4 +1,4 @@
--- A node replaced by rows, and what stands first in a compact collection taken out (own).
+-- A node replaced by rows, and what is first in a compact collection taken out (own).
 use Rattle.std.specs.Prelude.{◌≡◌, ℕ, ◌+◌, List, [], ◌∷◌, ◌++◌, length, Some, true, false}
 use Rattle.yq_core.{specs.Paths.{Step, changed_at, remove_child, within}, specs.Tree.Node, specs.Anchors.names_of, specs.Alike.Alike}
 use Rattle.yq_outline.{specs.LineAnchors.HaveOneAnchorEach, specs.Outline.{Line, Outline, flatten}}
@@ -15,7 +15,7 @@ use Rattle.yq_edit_rules.{specs.DocumentRows.{IsDocumentPart, behind_document, p
 use Rattle.yq_edit_rules.{specs.Moved.{moved_up, emptied_row}, specs.Siblings.{HasEntries, IsEntryAt, NodeLines}}
 use Rattle.yq_edit_rules.specs.SoundRoots.{MayReplace}
 
--- Rows may stand in the place of some of a part, with a gap behind them, before a rest: they are rows there, the next row may follow, and their text begins
+-- Rows may be in the place of some of a part, with a gap after them, before a rest: they are rows there, the next row may follow, and their text begins
 -- like the old one.
 pub record RowsReplace (front gone new back : List Row) (gap : List ℕ) (p : Part) (rest : List ℕ) : Type 0 where
   pub rows_are : p.rows ≡ front ++ (gone ++ back)
@@ -24,7 +24,7 @@ pub record RowsReplace (front gone new back : List Row) (gap : List ℕ) (p : Pa
   pub next : allows_first (asked_behind (asked_behind unlimited front) new) back ≡ true
   pub alike : Alike (Some false) (rows_text (gone ++ back) (p.end ++ rest)) (rows_text new (gap ++ behind_first back p.end rest))
 
--- A cut in which rows of a document give way to others whose text begins like theirs is a cut, where the new text may stand.
+-- A cut in which rows of a document are replaced by others whose text begins like theirs is a cut, where the new text may be.
 abbrev pub DocumentReplaced : Type 0
 DocumentReplaced =
     (t : List ℕ) (c : Cut) (k : ℕ) (p : Part) (front gone back new : List Row) (gap : List ℕ) → IsDocumentPart t c k p →
@@ -32,7 +32,7 @@ DocumentReplaced =
     IsReadable (cut_text (put_document k (put_rows front new back gap p) c)) →
     IsCut (cut_text (put_document k (put_rows front new back gap p) c)) (put_document k (put_rows front new back gap p) c)
 
--- Behind the lines x of dashes, which stay, the lines y of a node give way to a line and those under it.
+-- After the lines x of dashes, which stay, the lines y of a node are replaced by a line and those under it.
 pub record TakesLines (f : FoundLine) (front gone new : List Row) (x y : List Line) (l : Line) (u : Outline) : Type 0 where
   pub before_are : length (lines_of_rows front) + length x ≡ length (lines_before f.place)
   pub old_lines : lines_of_rows gone ≡ x ++ y
@@ -51,11 +51,11 @@ NodeRowsReplaced =
     IsReadable (cut_text (put_document k (inserted front new back p) c)) →
     IsChanged c (put_document k (inserted front new back p) c) k (lead_of p) (changed_at (s ∷ ss) (replaced_node v))
 
--- a part with these rows, and this gap behind them
+-- a part with these rows, and this gap after them
 abbrev pub rooted : List Row → List ℕ → Part → Part
 rooted new gap p = put_rows [] new [] gap p
 
--- Rows may be those of document k, with a gap behind them: they are rows there, and, where it had none, their text may stand behind the marker before it.
+-- Rows may be those of document k, with a gap after them: they are rows there, and, where it had none, their text may come after the marker before it.
 pub record TakesRoot (c : Cut) (k : ℕ) (p : Part) (new : List Row) (gap : List ℕ) : Type 0 where
   pub some : no_rows new ≡ false
   pub new_are : AreRows unlimited new gap (behind_document k c)
@@ -63,7 +63,7 @@ pub record TakesRoot (c : Cut) (k : ℕ) (p : Part) (new : List Row) (gap : List
   pub keys : HaveFitKeys new
   pub short : HasShortRoot new
 
--- A cut in which a document has other rows, also where it had none, is a cut, where the new text may stand.
+-- A cut in which a document has other rows, also where it had none, is a cut, where the new text may be.
 abbrev pub DocumentRooted : Type 0
 DocumentRooted =
     (t : List ℕ) (c : Cut) (k : ℕ) (p : Part) (new : List Row) (gap : List ℕ) → IsDocumentPart t c k p → TakesRoot c k p new gap →
@@ -78,7 +78,7 @@ RootRowsReplaced =
     IsReadable (cut_text (put_document k (rooted new gap p) c)) →
     IsChanged c (put_document k (rooted new gap p) c) k (lead_of (rooted new gap p)) (replaced_node v)
 
--- The first item or entry of a compact collection is removed: the next one's row b stands behind the dash.
+-- The first item or entry of a compact collection is removed: the next one's row b comes after the dash.
 abbrev pub FirstRowMoved : Type 0
 FirstRowMoved =
     (t : List ℕ) (c : Cut) (k : ℕ) (p : Part) (steps : List Step) (s : Step) (h : NodeLines) (f : FoundLine) (front gone back : List Row) (r b : Row) (n : ℕ)
@@ -91,7 +91,7 @@ FirstRowMoved =
     IsChanged c (put_document k (inserted front (moved_up r (n ∷ ns) b ∷ []) back p) c) k (lead_of (inserted front (moved_up r (n ∷ ns) b ∷ []) back p))
     (changed_at steps (within (remove_child s)))
 
--- The same where nothing but a tail stays behind the dash, and the next one's row keeps its place below it.
+-- The same where nothing but a tail stays after the dash, and the next one's row keeps its place below it.
 abbrev pub FirstRowDropped : Type 0
 FirstRowDropped =
     (t : List ℕ) (c : Cut) (k : ℕ) (p : Part) (steps : List Step) (s : Step) (h : NodeLines) (f : FoundLine) (front gone back : List Row) (r : Row) (n : ℕ)

@@ -14,6 +14,6 @@ are_same (Some a) (Some b) = is_same a b
 abbrev pub keeps_scalar : Option Node → Node → Bool
 keeps_scalar old v = are_same (old >>= scalar_in) (scalar_in v)
 
--- whether a plain text on one line may stand for a scalar: that is null, or its text (own)
+-- whether a plain text on one line may mean a scalar: that is null, or its text (own)
 abbrev pub may_spell : List ℕ → ScalarText → Bool
 may_spell t s = table_row s.kind == table_row Null || bytes_eq t s.text

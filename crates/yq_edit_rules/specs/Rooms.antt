@@ -33,14 +33,14 @@ KeptLeadGoes = (p q : Part) → lead_of q ≡ lead_of p → (is_block_root p ≡
 abbrev pub EqualRoom : Part → Part → Type 0
 EqualRoom p q = (part : places.Part) (steps : List Step) → row_line_has_room part (row_line_of steps q.rows) ≡ row_line_has_room part (row_line_of steps p.rows)
 
--- What is told of a row beside its gap and its content: its column, its dashes, its mark, and whether it has a head.
+-- What is known of a row beside its gap and its content: its column, its dashes, its mark, and whether it has a head.
 pub record RowShape : Type 0 where
   pub column : ℕ
   pub dashes : List ℕ
   pub mark : RowMark
   pub headed : Bool
 
--- what is told so of a row
+-- what is known so of a row
 abbrev pub row_shape : Row → RowShape
 row_shape r = record { column = r.column; dashes = r.dashes; mark = r.mark; headed = is_some (head_of r.content) }
 

@@ -23,7 +23,7 @@ pub record ChangesRow (n : ℕ) (c : Cut) (e : RowsOfEntry) (ss : List Segment) 
   pub shape : row_shape new ≡ row_shape row
   pub read : read_at (new_text ss) ≡ Some (put_document n (inserted front (new ∷ []) back part) c)
 
--- Segments put one text in the place of another, between a text in front and one behind (own).
+-- Segments put one text in the place of another, between a text in front and one after (own).
 pub record PutsOne (ss : List Segment) (front old new behind : List ℕ) : Type 0 where
   pub old_is : old_text ss ≡ front ++ (old ++ behind)
   pub new_is : new_text ss ≡ front ++ (new ++ behind)
@@ -83,7 +83,7 @@ takes_white text h = is_empty text && not (is_empty h.comment)
 abbrev pub comment_front : List ℕ → Held → List ℕ
 comment_front text h = h.before ++ (h.space ++ (h.head ++ (if takes_white text h then [] else h.white)))
 
--- what gives way to a line comment
+-- what is replaced by a line comment
 abbrev pub comment_old : List ℕ → Held → List ℕ
 comment_old text h = (if takes_white text h then h.white else []) ++ h.comment
 

@@ -1,4 +1,4 @@
--- What stands behind rows that gave way to others of the same shapes (own).
+-- What comes after rows that were replaced by others of the same shapes (own).
 use Rattle.std.specs.Prelude.{◌≡◌, ◌⊎◌, ℕ, suc, ◌<◌, ◌≤◌, List, [], ◌∷◌, ◌++◌, drop, length, map, slice_get, Some}
 use Rattle.yq_core.{specs.Paths.Step, specs.Tree.Node}
 use Rattle.yq_outline.{specs.Outline.anchored, specs.Lines.{content_anchor, head_of}}
@@ -13,13 +13,13 @@ pub record StaysFrom (n : ℕ) (p q : Part) : Type 0 where
   pub rows : drop n q.rows ≡ drop n p.rows
   pub end : q.end ≡ p.end
 
--- A path that leads to a row behind those leads there still (own).
+-- A path that leads to a row after those leads there still (own).
 abbrev pub RowLinesStay : Type 0
 RowLinesStay =
     (n : ℕ) (p q : Part) (steps : List Step) (s : RowLine) → StaysFrom n p q → row_line_of steps p.rows ≡ Some s → n ≤ s.before →
     row_line_of steps q.rows ≡ Some s
 
--- A row of a document stands behind so many rows of document k (own).
+-- A row of a document comes after so many rows of document k (own).
 abbrev pub IsBehind : (k n m i : ℕ) → Type 0
 IsBehind k n m i = (k < m) ⊎ ((k ≡ m) × (n ≤ i))
 
@@ -30,7 +30,7 @@ pub record StandsStill (e : RowsOfEntry) (m : ℕ) (steps : List Step) (c : Cut)
   pub found : rows_of_entry m steps c ≡ Some (record e { start = start; front = front })
   pub size : length front ≡ length e.front
 
--- An item or entry behind those stands there still, with the document exchanged for the other part (own).
+-- An item or entry after those is there still, with the document exchanged for the other part (own).
 abbrev pub EntriesStay : Type 0
 EntriesStay =
     (c : Cut) (k n : ℕ) (p q : Part) (m : ℕ) (steps : List Step) (e : RowsOfEntry) → slice_get (document_parts c) k ≡ Some p → StaysFrom n p q →
@@ -42,7 +42,7 @@ ExchangesStay =
     (p : Part) (front back : List Row) (r new : Row) → p.rows ≡ front ++ (r ∷ back) → row_shape new ≡ row_shape r →
     StaysFrom (suc (length front)) p (inserted front (new ∷ []) back p)
 
--- The node of an item or entry is what the row of its key or dash spells behind that, if anything is written there (8.2).
+-- The node of an item or entry is what the row of its key or dash spells after that, if anything is written there (8.2).
 abbrev pub HeadNodes : Type 0
 HeadNodes =
     (n : ℕ) (s : Step) (ss : List Step) (c : Cut) (e : RowsOfEntry) (h : Node) → StandsThere n s ss c e → e.line ≡ length e.row.dashes →

@@ -7,7 +7,7 @@ use Rattle.yq_outline.specs.Outline.{children, value, Stands}
 use Rattle.yq_outline.specs.Places.{Context, here, below, plug, lines_before, lines_after, compose, FoundLine, find_row, find}
 use Rattle.yq_outline.specs.Places.{content_under}
 
--- an outline with another one behind it
+-- an outline with another one after it
 abbrev pub append_outline : Outline → Outline → Outline
 append_outline end b = b
 append_outline (row l under after) b = row l under (append_outline after b)
@@ -40,7 +40,7 @@ lines_below None [] f = Some (under_line f)
 lines_below None (s ∷ ss) f = None
 lines_below (Some n) ss f = None
 
--- the lines of the node at a path, where it isn't written behind a mark: all of them at the root
+-- the lines of the node at a path, where it isn't written after a mark: all of them at the root
 abbrev pub lines_at : List Step → Outline → Option NodeLines
 lines_at [] o = Some (record { place = here; above = 0; anchor = None; lines = o })
 lines_at (s ∷ ss) o = option_and_then (λ x. lines_below x.0.line.head x.1 x.0) (find s ss o)
@@ -49,7 +49,7 @@ lines_at (s ∷ ss) o = option_and_then (λ x. lines_below x.0.line.head x.1 x.0
 abbrev pub put_lines : NodeLines → List Line → List Line
 put_lines h ls = lines_before h.place ++ (ls ++ lines_after h.place)
 
--- lines stand for a node at some level
+-- lines mean a node at some level
 abbrev pub StandsSomewhere : List Line → Node → Type 0
 StandsSomewhere ls node = (k : ℕ) × Stands ls node k
 
@@ -64,14 +64,14 @@ pub record IsEntryAt (steps : List Step) (s : Step) (o : Outline) (h : NodeLines
   pub block : HasEntries h.lines
   pub found : find_row s h.lines ≡ Some f
 
--- An outline may stand in the place of a node's lines, where the node is changed by a function: it is deeper than what is above them, and stands for the new
+-- An outline may be in the place of a node's lines, where the node is changed by a function: it is deeper than what is above them, and means the new
 -- node.
 pub record LinesFit (h : NodeLines) (g : Node → Node) (m : ℕ) (u : Outline) : Type 0 where
   pub deep : h.above < m
   pub even : IsEven m u
   pub node_is : anchored h.anchor (value u) ≡ g (anchored h.anchor (value h.lines))
 
--- A line, with an outline under it, may stand behind those of a block collection: it is at their level.
+-- A line, with an outline under it, may come after those of a block collection: it is at their level.
 pub record EntryFits (h : NodeLines) (m : ℕ) (l : Line) (u : Outline) : Type 0 where
   pub level_is : level l ≡ level_or 0 h.lines
   pub headless : IsOpen l.head u
@@ -85,13 +85,13 @@ pub record IsRelabelled (g : Label → Label) (old new : Line) : Type 0 where
   pub anchor_is : new.anchor ≡ old.anchor
   pub label_is : label new ≡ g (label old)
 
--- Where the lines of the node at a path give way to others, the lines stand for the tree with that node exchanged.
+-- Where the lines of the node at a path are replaced by others, the lines mean the tree with that node exchanged.
 abbrev pub LinesReplaced : Type 0
 LinesReplaced =
     (n m : ℕ) (o u : Outline) (steps : List Step) (h : NodeLines) (g : Node → Node) → IsEven n o → lines_at steps o ≡ Some h → LinesFit h g m u →
     (flatten o ≡ put_lines h (flatten h.lines)) × StandsSomewhere (put_lines h (flatten u)) (changed_at steps g (value o))
 
--- Where the lines of the collection at a path give way to others at their level, the lines stand for the tree with its items or entries exchanged.
+-- Where the lines of the collection at a path are replaced by others at their level, the lines mean the tree with its items or entries exchanged.
 abbrev pub CollectionReplaced : Type 0
 CollectionReplaced =
     (n : ℕ) (o u : Outline) (steps : List Step) (h : NodeLines) (g : Children → Children) → IsEven n o → IsCollectionAt steps o h → HasEntries u →
@@ -99,14 +99,14 @@ CollectionReplaced =
     children u ≡ g (children h.lines) → (flatten o ≡ put_lines h (flatten h.lines)) ×
     StandsSomewhere (put_lines h (flatten u)) (changed_at steps (within g) (value o))
 
--- With the lines of one item or entry more at the end of the collection at a path, lines stand for the tree with that one.
+-- With the lines of one item or entry more at the end of the collection at a path, lines mean the tree with that one.
 abbrev pub Appended : Type 0
 Appended =
     (n m : ℕ) (o v : Outline) (l : Line) (steps : List Step) (h : NodeLines) → IsEven n o → IsCollectionAt steps o h → EntryFits h m l v →
     (flatten o ≡ put_lines h (flatten h.lines)) ×
     StandsSomewhere (put_lines h (flatten h.lines ++ (l ∷ flatten v))) (changed_at steps (within (append_child (label l) (content_under l v))) (value o))
 
--- Without the lines of one of several items or entries of the collection at a path, lines stand for the tree without that one.
+-- Without the lines of one of several items or entries of the collection at a path, lines mean the tree without that one.
 abbrev pub Removed : Type 0
 Removed =
     (n : ℕ) (o : Outline) (steps : List Step) (h : NodeLines) (s : Step) (f : FoundLine) → IsEven n o → IsEntryAt steps s o h f →
@@ -114,7 +114,7 @@ Removed =
     (flatten o ≡ put_lines h (with_lines f (f.line ∷ flatten f.under))) ×
     StandsSomewhere (put_lines h (with_lines f [])) (changed_at steps (within (remove_child s)) (value o))
 
--- With another head comment or line comment of an item or entry of the collection at a path, lines stand for the tree with that one.
+-- With another head comment or line comment of an item or entry of the collection at a path, lines mean the tree with that one.
 abbrev pub Relabelled : Type 0
 Relabelled =
     (n : ℕ) (o : Outline) (steps : List Step) (h : NodeLines) (s : Step) (f : FoundLine) (g : Label → Label) (l : Line) → IsEven n o →

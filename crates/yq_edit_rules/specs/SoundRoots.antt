@@ -31,12 +31,12 @@ pub record IsNewValue (v : Node) (above : ℕ) : Type 0 where
   pub unique : HasUniqueKeys v
   pub nested : above + depth v ≤ depth_limit
 
--- A value may stand in the place of a node of a root, for a path of this length: no anchor that goes with that node has an alias.
+-- A value may be in the place of a node of a root, for a path of this length: no anchor that goes with that node has an alias.
 pub record MayReplace (v old root : Node) (above : ℕ) : Type 0 where
   pub value_is : IsNewValue v above
   pub spared : AreSpared (inner_names old) [] (names_of root)
 
--- A root stays as is asked where a node gives way to one without anchors and aliases, and no anchor below the old one has an alias.
+-- A root stays as is asked where a node is replaced by one without anchors and aliases, and no anchor below the old one has an alias.
 abbrev pub ReplaceKeeps : Type 0
 ReplaceKeeps =
     (steps : List Step) (root old v : Node) → IsSoundRoot root → node_at steps root ≡ Some old → MayReplace v old root (length steps) →

@@ -1,4 +1,4 @@
--- What is owed of the rows in which items and entries stand, and of what these hold (own).
+-- What is owed of the rows in which items and entries are, and of what these hold (own).
 use Rattle.std.specs.Prelude.{◌≡◌, ◌⊎◌, ℕ, suc, ◌+◌, List, [], ◌∷◌, ◌++◌, length, nat_lt, slice_get, Some}
 use Rattle.yq_core.{specs.Paths.Step, specs.Tree.Node, specs.Trees.items_tree}
 use Rattle.yq_outline.{specs.Counts.count, specs.Outline.flatten, specs.Places.{FoundLine, find, lines_before}, specs.Lines.lines_of_rows}
@@ -10,7 +10,7 @@ use Rattle.yq_edit_rules.{specs.Changed.put_document, specs.DocumentRows.{IsDocu
 
 -- ---- there is something
 
--- Each document has a standing at its root.
+-- Each document has a being at its root.
 abbrev pub RootsStand : Type 0
 RootsStand = (n : ℕ) (c : Cut) (p : Part) → slice_get (document_parts c) n ≡ Some p → (s : Standing) × (standing_at n [] c ≡ Some s)
 
@@ -35,7 +35,7 @@ pub record StandsThere (n : ℕ) (s : Step) (ss : List Step) (c : Cut) (e : Rows
   pub count : length (lines_of_rows (e.row ∷ e.under)) ≡ e.line + suc (length (flatten found.under))
   pub put : (q : Part) → cut_text (put_document n q c) ≡ e.start ++ part_text q (behind_document n c)
 
--- Rows that are found stand so.
+-- Rows that are found are so.
 abbrev pub RowsStand : Type 0
 RowsStand =
     (n : ℕ) (s : Step) (ss : List Step) (c : Cut) (e : RowsOfEntry) → read_at (cut_text c) ≡ Some c → rows_of_entry n (s ∷ ss) c ≡ Some e →

@@ -4,7 +4,7 @@ use Rattle.yq_core.{specs.Characters.is_text, specs.Text.is_feed}
 use Rattle.yq_row_table.specs.Rows.{Cut, cut_text}
 use Rattle.yq_documents.specs.Reading.{read_at}
 
--- A piece of a text: whole characters, which a text may hold, with an LF behind each CR (YAML 1.2.2, sections 5.1 and 5.4; own).
+-- A piece of a text: whole characters, which a text may hold, with an LF after each CR (YAML 1.2.2, sections 5.1 and 5.4; own).
 pub record IsPiece (t : List ℕ) : Type 0 where
   pub utf8 : IsUtf8 t
   pub characters : is_text t ≡ true
@@ -17,7 +17,7 @@ TextIsPiece = (c : Cut) → read_at (cut_text c) ≡ Some c → IsPiece (cut_tex
 abbrev pub PiecesJoined : Type 0
 PiecesJoined = (a b : List ℕ) → IsPiece a → IsPiece b → IsPiece (a ++ b)
 
--- A piece that is cut behind an LF is two pieces.
+-- A piece that is cut after an LF is two pieces.
 abbrev pub LineCut : Type 0
 LineCut = (a b : List ℕ) → IsPiece ((a ++ 10 ∷ []) ++ b) → IsPiece (a ++ 10 ∷ []) × IsPiece b
 

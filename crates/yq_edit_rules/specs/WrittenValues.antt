@@ -25,7 +25,7 @@ pub data Written : Type 0 where
 abbrev pub takes_compact : MarkPieces → Bool
 takes_compact m = not (m.keyed || m.noted)
 
--- the column of a collection below a key or dash: a step deeper than a key, two columns behind a dash (8.2.1, 8.2.2)
+-- the column of a collection below a key or dash: a step deeper than a key, two columns after a dash (8.2.1, 8.2.2)
 abbrev pub column_under : Layout → MarkPieces → Node → ℕ
 column_under l m v = if m.keyed then m.column + indent_step l v else item_column m.column
 
@@ -37,7 +37,7 @@ lines_in l column v = replicate column 32 ++ block_value l column v
 abbrev pub collection_at : Layout → MarkPieces → Node → Written
 collection_at l m v = if takes_compact m then compact_text (block_value l (item_column m.column) v) else lines (lines_in l (column_under l m v) v)
 
--- how a value is written behind a key or dash, in the place of a text there: such a collection so, another value on one line
+-- how a value is written after a key or dash, in the place of a text there: such a collection so, another value on one line
 abbrev pub written_at : Layout → MarkPieces → List ℕ → Node → Written
 written_at l m old v = if is_filled v then collection_at l m v else inline (value_text InBlock old v)
 

@@ -42,7 +42,7 @@ pub fn document_changed()
     ensures lead { LeadIsFirst }
 {}
 
-/// Lines and rows that give way to others leave anchors alone and keys fit.
+/// Lines and rows that are replaced by others leave anchors alone and keys fit.
 pub fn rows_stay()
     ensures anchors { AnchorsStay }
     ensures among { LinesAmong }
@@ -99,7 +99,7 @@ pub fn operations_read()
     ensures relabelled { EntryRelabelled }
 {}
 
-/// Where lines at a path stand among the lines of rows.
+/// Where lines at a path are among the lines of rows.
 #[tactic(auto, using(crate::proofs::PlacedLaws::places))]
 pub fn lines_placed()
     ensures parts { SameParts }
@@ -109,7 +109,7 @@ pub fn lines_placed()
     ensures found { FoundIsEntry }
 {}
 
-/// A changed text, told as a tree with the lead that goes with it.
+/// A changed text, given as a tree with the lead that goes with it.
 #[tactic(auto, using(crate::proofs::AfterLaws::end_is_change))]
 pub fn tree_after()
     ensures { EndIsChange }

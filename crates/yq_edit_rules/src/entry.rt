@@ -7,7 +7,7 @@ ghost use Rattle.yq_edit_rules.{specs.Alone.singleton, specs.BlockText.block_val
 ghost use Rattle.yq_edit_rules.specs.BlockReading as spec;
 
 use crate::layout::Layout;
-use crate::pieces::{add, push_front};
+use crate::pieces::{deeper_column, push_front};
 use crate::write::{indent_step, is_filled, push_block};
 use std::alloc::{AllocError, Global};
 use yq_core::Value;
@@ -23,7 +23,7 @@ fn push_item(
     ensures { OnOk result (string_bytes out.new ≡ string_bytes out.old ++
         spec.block_item layout.now column (value_node value.now)) }
 {
-    let below = add(column, 2)?;
+    let below = deeper_column(out, column, 2)?;
     out.push_str("- ")?;
     push_block(alloc, out, layout, below, value)
 }
@@ -40,12 +40,12 @@ fn push_pair(
     ensures { OnOk result (string_bytes out.new ≡ string_bytes out.old ++
         spec.block_pair layout.now column (key.now, value_node value.now)) }
 {
-    let below = add(column, indent_step(layout, value))?;
+    let below = deeper_column(out, column, indent_step(layout, value))?;
     push_front(alloc, out, layout, below, key, is_filled(value))?;
     push_block(alloc, out, layout, below, value)
 }
 
-/// Adds an item, or the entry with a key, behind the spaces before its first line, up to its last
+/// Adds an item, or the entry with a key, after the spaces before its first line, up to its last
 /// break (YAML 1.2.2, 8.2). Its lines begin at a column, counted from 0.
 #[tactic(auto, using(crate::proofs::ListLaws::item_alone, crate::proofs::ListLaws::pair_alone))]
 pub fn push_entry(

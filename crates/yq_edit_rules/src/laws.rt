@@ -2,8 +2,8 @@
 ghost use Rattle.yq_edit_rules.specs.BlockLaws as laws;
 ghost use Rattle.yq_edit_rules.specs.BlockPlaces as places;
 
-/// The inline node as which a value is written stands for it; the rows in which a collection is
-/// written have its text, are rows, and have lines that stand for it.
+/// The inline node as which a value is written means it; the rows in which a collection is
+/// written have its text, are rows, and have lines that mean it.
 pub fn block_written()
     ensures inline { laws.InlineWritten }
     ensures text { laws.TextWritten }
@@ -16,7 +16,7 @@ pub fn block_written()
     ensures characters { laws.CharactersWritten }
 {}
 
-/// A collection may be written on the lines behind a key or dash, or on the line of a dash.
+/// A collection may be written on the lines after a key or dash, or on the line of a dash.
 pub fn block_placed()
     ensures under { places.UnderWritten }
     ensures behind { places.BehindWritten }

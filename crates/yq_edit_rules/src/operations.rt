@@ -35,7 +35,7 @@ pub fn commented()
     ensures head { HeadCommented }
 {}
 
-/// Where rows may stand, by the levels of lines.
+/// Where rows may be, by the levels of lines.
 #[tactic(auto, using(crate::proofs::ColumnLaws::columns))]
 pub fn rows_by_levels()
     ensures next { NextAllowed }
@@ -63,7 +63,7 @@ pub fn rows_of_entries()
     ensures { EntryRows }
 {}
 
-/// Rows that give way to others whose text begins like theirs, and a node at a path that does.
+/// Rows that are replaced by others whose text begins like theirs, and a node at a path that does.
 pub fn replaced()
     ensures cut { DocumentReplaced }
     ensures node { NodeRowsReplaced }
@@ -75,14 +75,14 @@ pub fn root_replaced()
     ensures replaced { RootRowsReplaced }
 {}
 
-/// The first item or entry of a compact collection less: the next one's row stands behind the dash,
+/// The first item or entry of a compact collection less: the next one's row comes after the dash,
 /// or below it.
 pub fn first_removed()
     ensures moved { FirstRowMoved }
     ensures dropped { FirstRowDropped }
 {}
 
-/// One row in the place of another one; a line comment that stands in a row's content, as that of a
+/// One row in the place of another one; a line comment that is in a row's content, as that of a
 /// block scalar, which has it in its header.
 pub fn row_commented()
     ensures row { RowReplaces }
@@ -90,7 +90,7 @@ pub fn row_commented()
     ensures block { BlockCommented }
 {}
 
-/// What is written in a row that is alone on its line gives way to a value: under a key or dash, or
+/// What is written in a row that is alone on its line is replaced by a value: under a key or dash, or
 /// as a root.
 pub fn content_replaced()
     ensures lower { LowerContentReplaced }

@@ -10,14 +10,21 @@ use yq_flow_edits::push_scalar;
 use yq_scalar::block_written::break_text;
 use yq_scalar_reader::push_spaces;
 
-/// The sum of two columns, where there could be so many spaces.
-pub(crate) fn add(column: usize, step: usize) -> Result<usize, AllocError>
-    ensures { IfOk result (λ n. n ≡ column + step) }
+/// A column by so many deeper. Room is made for the spaces of a line that begins there.
+///
+/// # Errors
+/// [`AllocError`] where memory is refused: so a sum that has no place in a `usize` is never made.
+pub(crate) fn deeper_column(
+    out: &mut String,
+    column: usize,
+    step: usize,
+) -> Result<usize, AllocError>
+    ensures sum { IfOk result (λ n. n ≡ column + step) }
+    ensures text { string_bytes out.new ≡ string_bytes out.old }
 {
-    match column.checked_add(step) {
-        Some(sum) => Ok(sum),
-        None => Err(AllocError),
-    }
+    out.reserve(column)?;
+    out.reserve(step)?;
+    Ok(column + step)
 }
 
 /// Begins a line at a column.

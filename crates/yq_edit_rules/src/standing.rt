@@ -1,4 +1,4 @@
-//! Laws on the rows in which items and entries stand.
+//! Laws on the rows in which items and entries are.
 ghost use Rattle.yq_edit_rules.specs.StandingLaws.{RowsStand};
 
 /// The rows of an item or entry are those of its line, with the lines under it.

@@ -7,7 +7,7 @@ ghost use Rattle.yq_edit_rules.specs.BlockReading as spec;
 ghost use Rattle.yq_edit_rules.specs.BlockRows as rows;
 
 use crate::layout::Layout;
-use crate::pieces::{add, push_front, push_line};
+use crate::pieces::{deeper_column, push_front, push_line};
 use std::alloc::{AllocError, Global};
 use yq_core::{Place, Value};
 use yq_flow_edits::push_scalar;
@@ -24,7 +24,7 @@ pub fn is_filled(value: &Value) -> bool
     }
 }
 
-/// By how many columns a value stands deeper than its key.
+/// By how many columns a value is deeper than its key.
 pub fn indent_step(layout: &Layout, value: &Value) -> usize
     ensures { result ≡ rows.indent_step layout.now (value_node value.now) }
 {
@@ -35,12 +35,12 @@ pub fn indent_step(layout: &Layout, value: &Value) -> usize
     }
 }
 
-/// Adds a value behind the spaces before its first line, up to its last break: a scalar or an empty
+/// Adds a value after the spaces before its first line, up to its last break: a scalar or an empty
 /// collection inline, another collection in block style, each scalar and key plain if it can be,
 /// else double-quoted (YAML 1.2.2, 8.2). Its lines begin at a column, counted from 0.
 ///
-/// It goes as deep as the value is nested. A column that has no place in a `usize` is want of
-/// memory, since so many spaces can't be had.
+/// It goes as deep as the value is nested. Before a column is made, room is made for as many spaces, so
+/// where that has no place in a `usize`, memory was refused before.
 #[cycle(write)]
 #[tactic(auto, unfolding(yq_core::specs::Nodes::node_text), using(crate::proofs::ListLaws::list_value, crate::proofs::ListLaws::map_value, yq_flow_edits::proofs::ValuedLaws::map_valid))]
 pub fn push_block(
@@ -80,7 +80,7 @@ fn push_items(
     if items.is_empty() {
         return out.push_str("[]");
     }
-    let below = add(column, 2)?;
+    let below = deeper_column(out, column, 2)?;
     let mut first = true;
     'each: for item in items {
         if first {
@@ -117,7 +117,7 @@ fn push_entries(
         } else {
             push_line(out, layout, column)?;
         }
-        let below = add(column, indent_step(layout, &entry.1))?;
+        let below = deeper_column(out, column, indent_step(layout, &entry.1))?;
         push_front(alloc, out, layout, below, &entry.0, is_filled(&entry.1))?;
         push_block(alloc, out, layout, below, &entry.1)?;
     }

@@ -5,6 +5,7 @@ ghost use Rattle.yq_places.specs.StandingViews.{held_mark_view};
 ghost use Rattle.yq_edit_rules.{specs.BlockRows.item_column, specs.BlockText.block_value};
 ghost use Rattle.yq_edit_rules.specs.WrittenValues as spec;
 
+use crate::pieces::deeper_column;
 use crate::style::style_in;
 use crate::{Layout, indent_step, push_block};
 use std::alloc::{AllocError, Global};
@@ -36,7 +37,7 @@ pub fn value_text(
     write_scalar(alloc, scalar, style, place)
 }
 
-/// A text behind a space.
+/// A text after a space.
 pub fn behind_space(alloc: Global, text: &str) -> Result<String, AllocError>
     ensures { IfOk result (λ s. string_bytes s ≡ 32 ∷ text.now) }
 {
@@ -53,34 +54,26 @@ pub fn takes_compact(mark: EntryMark) -> bool
     !(mark.keyed || mark.noted)
 }
 
-/// The column behind a dash and a space.
+/// The column of a collection below a key or dash. Room is made for the spaces of its lines.
 ///
 /// # Errors
-/// [`AllocError`] where it is past `usize`, for which there is no memory.
-fn behind_dash(column: usize) -> Result<usize, AllocError>
-    ensures { IfOk result (λ n. n ≡ item_column column) }
-{
-    match column.checked_add(2) {
-        Some(sum) => Ok(sum),
-        None => Err(AllocError),
-    }
-}
-
-/// The column of a collection below a key or dash.
-///
-/// # Errors
-/// [`AllocError`] where it is past `usize`, for which there is no memory.
-fn column_under(layout: &Layout, mark: EntryMark, value: &Value) -> Result<usize, AllocError>
-    ensures { IfOk result (λ n. n ≡
+/// [`AllocError`] where memory is refused.
+fn column_under(
+    out: &mut String,
+    layout: &Layout,
+    mark: EntryMark,
+    value: &Value,
+) -> Result<usize, AllocError>
+    ensures column { IfOk result (λ n. n ≡
         spec.column_under layout.now (held_mark_view mark) (value_node value.now)) }
+    ensures text { string_bytes out.new ≡ string_bytes out.old }
 {
-    if !mark.keyed {
-        return behind_dash(mark.column);
-    }
-    match mark.column.checked_add(indent_step(layout, value)) {
-        Some(sum) => Ok(sum),
-        None => Err(AllocError),
-    }
+    let step = if mark.keyed {
+        indent_step(layout, value)
+    } else {
+        2
+    };
+    deeper_column(out, mark.column, step)
 }
 
 /// A space, and a collection that begins on the line of a dash.
@@ -93,9 +86,9 @@ pub fn compact_text(
     ensures { IfOk result (λ s. string_bytes s ≡
         32 ∷ block_value layout.now (item_column mark.column) (value_node value.now)) }
 {
-    let column = behind_dash(mark.column)?;
     let mut text = String::new(alloc);
     text.push_str(" ")?;
+    let column = deeper_column(&mut text, mark.column, 2)?;
     push_block(alloc, &mut text, layout, column, value)?;
     Ok(text)
 }
@@ -113,7 +106,7 @@ fn push_lines_under(
         (spec.column_under layout.now (held_mark_view mark) (value_node value.now))
         (value_node value.now)) }
 {
-    let column = column_under(layout, mark, value)?;
+    let column = column_under(out, layout, mark, value)?;
     push_spaces(out, column)?;
     push_block(alloc, out, layout, column, value)
 }

@@ -1,4 +1,4 @@
--- Copies of items and entries, one behind the other.
+-- Copies of items and entries, one after the other.
 use Rattle.std.proofs.Common.{◌≡◌, ℕ, ◌<◌, ◌≤◌, List, [], ◌∷◌, ◌++◌, None, sym, ap, ◌∙◌, arith, append-nil}
 use Rattle.yq_core.{specs.Keys.{depth, deepest}, specs.Tree.{Label, Node, list, Children, child, children_of, none}, specs.Values.entries}
 use Rattle.yq_outline.specs.Counts.{count}
@@ -8,7 +8,7 @@ use Rattle.yq_eval.{specs.PlaceView.put_behind, proofs.EachLaws.put_first}
 use Rattle.yq_core.specs.Tree as tree
 use Rattle.yq_nodes.specs.declared.nodes.node.NodeKind.TheVariants as kinds
 
--- one more behind what is there
+-- one more after what is there
 put_one : {V A : Type 0} (g : V → A) (before : List A) (v : V) (j : Judgement V) (others : Judgement (List A)) → j ≡ gives v →
     put_behind before (and_then (λ w. and_others others (g w)) j) ≡ put_behind (before ++ g v ∷ []) others
 put_one g before v j others h = put_first g before j others ∙ ap (and_then (λ w. put_behind (before ++ g w ∷ []) others)) h
@@ -36,7 +36,7 @@ depth_below (list anchor ds) m label cs rest is some deep = let reaches = ap dee
 depth_below (tree.map anchor ds) m label cs rest is some deep = let reaches = ap deepest is in omega arith
 depth_below _ m label cs rest is some deep = let counted = ap count is in absurd (omega arith)
 
--- behind the last item or entry
+-- after the last item or entry
 pub items_done : (before : List Node) (cs : Children) (all : Judgement (List Node)) → cs ≡ none → put_behind before (item_copies cs) ≡ all → all ≡ gives before
 items_done before cs all is so_far = sym so_far ∙ (ap (λ ds. put_behind before (item_copies ds)) is ∙ ap gives (append-nil before))
 
@@ -44,7 +44,7 @@ pub entries_done : (before : List (List ℕ × Node)) (cs : Children) (all : Jud
     (entry_copies cs) ≡ all → all ≡ gives before
 entries_done before cs all is so_far = sym so_far ∙ (ap (λ ds. put_behind before (entry_copies ds)) is ∙ ap gives (append-nil before))
 
--- fewer are left behind the first one
+-- fewer are left after the first one
 pub fewer : (cs rest : Children) (label : Label) (n : Node) → cs ≡ child label n rest → count rest < count cs
 fewer cs rest label n is = omega (arith, ap count is)
 

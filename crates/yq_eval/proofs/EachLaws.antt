@@ -1,4 +1,4 @@
--- What comes of each of several, one behind the other, and of several that act in turn.
+-- What comes of each of several, one after the other, and of several that act in turn.
 use Rattle.std.proofs.Common.{◌≡◌, ℕ, suc, ◌+◌, ◌<◌, List, [], ◌∷◌, ◌++◌, length, map, drop, get_or, Result, Err, refl, sym, ap, ◌∙◌, subst}
 use Rattle.std.{proofs.Common.{append_assoc, add-one, drop-cons, ◌≤◌, append-nil}, proofs.lemmas.List.drop_all}
 use Rattle.yq_semantics.{specs.Judgement.{MatchFails, Judgement, Judges, and_then, gives}, specs.Places.{for_each, chained}}
@@ -15,22 +15,22 @@ fails_then f j error.Memory h = tt
 pub failed : {X Y : Type 0} (view : X → Y) (r : Result X ExprError) (e : ExprError) (j : Judgement Y) → r ≡ Err e → MatchFails e j → Judges view r j
 failed view r e j is h = subst (λ q. Judges view q j) (sym is) h
 
--- one of several, as a loop reaches it, before those behind it
+-- one of several, as a loop reaches it, before those after it
 pub reached : {X Y : Type 0} (v : X → Y) (xs : List X) (i : ℕ) (x : X) → i < length xs → x ≡ get_or xs i x → map v (drop i xs) ≡ v x ∷ map v (drop (i + 1) xs)
 reached v xs i x within is = ap (map v) (drop-cons xs i x within) ∙ (ap (λ y. v y ∷ map v (drop (suc i) xs)) (sym is) ∙ ap (λ (n : ℕ). v x ∷ map v (drop n xs)) (sym (add-one i)))
 
--- what comes of the first ones and of the others, behind what is there
+-- what comes of the first ones and of the others, after what is there
 pub put_both : {B : Type 0} (before : List B) (j k : Judgement (List B)) → put_behind before (and_then (λ first. and_then (λ others. gives (first ++ others)) k) j) ≡ and_then (λ ys. put_behind ys k) (put_behind before j)
 put_both before (gives q) (gives o) = ap gives (sym (append_assoc before q o))
 put_both before _ _ = refl
 
--- what comes of one and then of the others, behind what is there
+-- what comes of one and then of the others, after what is there
 pub put_first : {V A : Type 0} (g : V → A) (before : List A) (j : Judgement V) (k : Judgement (List A)) →
     put_behind before (and_then (λ v. and_then (λ others. gives (g v ∷ others)) k) j) ≡ and_then (λ v. put_behind (before ++ g v ∷ []) k) j
 put_first g before (gives v) (gives xs) = ap gives (sym (append_assoc before (g v ∷ []) xs))
 put_first g before _ _ = refl
 
--- what comes of one and of the others, behind what is there
+-- what comes of one and of the others, after what is there
 put_each : {A B : Type 0} (f : A → Judgement (List B)) (before : List B) (x : A) (xs : List A) → put_behind before (for_each f (x ∷ xs)) ≡ and_then (λ ys. put_behind ys (for_each f xs)) (put_behind before (f x))
 put_each f before x xs = put_both before (f x) (for_each f xs)
 

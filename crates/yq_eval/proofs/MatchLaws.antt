@@ -168,7 +168,7 @@ document_fails pipe docs i d before all e at h so_far =
     subst (MatchFails e) (sym (behind_document pipe docs i d before at) ∙ so_far)
     (fails_then (λ ys. put_behind ys (matches_from (i + 1) pipe (drop (i + 1) docs))) (put_behind before (matches_in i pipe d.root)) e h)
 
--- behind the last document nothing more is found
+-- after the last document nothing more is found
 pub documents_done : (pipe : List Stage) (docs : List Document) (i : ℕ) (before : List (ℕ × Node)) (all : Judgement (List (ℕ × Node))) → length docs ≤ i → put_behind before (matches_from i pipe (drop i docs)) ≡ all → all ≡ gives before
 documents_done pipe docs i before all h so_far =
     sym so_far ∙ (ap (λ ds. put_behind before (matches_from i pipe ds)) (drop_all i docs h) ∙ ap gives (append-nil before))

@@ -13,7 +13,7 @@ pub null_there : (front : List PathStep) (s : PathStep) (n : Node) → node_ther
 null_there [] s n = refl
 null_there (t ∷ ts) s n = refl
 
--- behind a missing step another one is missing
+-- after a missing step another one is missing
 pub missed_on : (front : List PathStep) (s step : PathStep) (p : FoundPlace) → step_from (front ++ s ∷ []) step p ≡ gives (miss step p)
 missed_on [] s step p = refl
 missed_on (t ∷ ts) s step p = refl

@@ -1,4 +1,4 @@
--- Where a step leads from a place, by what it is and by what stands there.
+-- Where a step leads from a place, by what it is and by what is there.
 use Rattle.std.proofs.Common.{◌≡◌, ◌⊎◌, inl, inr, ℕ, ◌≤◌, ◌<◌, List, [], ◌∷◌, ◌++◌, length, map, slice_index_or, Option, option_map, Bor}
 use Rattle.std.{proofs.Common.{refl, sym, ap, ◌∙◌, rules, arith, append-nil}, specs.Prelude.ℤ}
 use Rattle.yq_core.{specs.Paths.{Nth, child_at}, specs.Tree.{Node, alias, scalar, list, Children, children_of}}
@@ -22,7 +22,7 @@ one_missing m front step is = ap missing_of is ∙ search (rules, the_lemmas)
 pub none_missing : (m : Missing) → m ≡ Nothing → missing_of m ≡ []
 none_missing m is = ap missing_of is ∙ search (rules, the_lemmas)
 
--- behind a missing step
+-- after a missing step
 pub step_missed : (before : List FoundPlace) (s last : PathStep) (p : FoundPlace) (front : List PathStep) → p.missing ≡ front ++ last ∷ [] → put_behind before (step_on s p)
     ≡ gives (before ++ miss s p)
 step_missed before s last p front is = ap (λ ms. put_behind before (step_from ms s p)) is ∙ ap (put_behind before) (missed_on front last s p)

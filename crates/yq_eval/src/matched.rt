@@ -24,7 +24,7 @@ pub struct Match {
     pub value: Value,
 }
 
-/// Puts the match at a place behind others.
+/// Puts the match at a place after others.
 fn push_match(
     alloc: Global,
     doc: usize,
@@ -40,7 +40,7 @@ fn push_match(
     Ok(())
 }
 
-/// Puts the matches at places behind others.
+/// Puts the matches at places after others.
 fn push_copies(
     alloc: Global,
     doc: usize,
@@ -58,7 +58,7 @@ fn push_copies(
     Ok(())
 }
 
-/// Puts the matches of a pipe in document `doc`, which has that root, behind
+/// Puts the matches of a pipe in document `doc`, which has that root, after
 /// others.
 fn push_document(
     alloc: Global,

@@ -12,7 +12,7 @@ use Rattle.yq_semantics.specs.declared.program.Operator.TheVariants as operator
 
 -- ---- places
 
--- behind the last one nothing more comes
+-- after the last one nothing more comes
 pub each_done : {X A B : Type 0} (v : X → A) (f : A → Judgement (List B)) (before : List B) (xs : List X) (i : ℕ) (all : Judgement (List B)) → length xs ≤ i → put_behind before (for_each f (map v (drop i xs))) ≡ all → all ≡ gives before
 each_done {X} v f before xs i all past so_far =
     sym so_far ∙ (ap (λ (ys : List X). put_behind before (for_each f (map v ys))) (drop_all i xs past) ∙ ap gives (append-nil before))

@@ -28,13 +28,13 @@ module _ {B : Type 0} (f : FoundPlace → Judgement (List B)) (p : FoundPlace) (
       each_fails (child_place p) f before ((step_by b label.key, n) ∷ stepped (suc b) rest) 0 (step_by b label.key, n) all e (omega arith) refl h
       (ap (λ (ds : Children). put_behind before (for_each f (map (child_place p) (stepped b ds)))) (sym is) ∙ so_far)
 
--- behind the last one nothing more comes
+-- after the last one nothing more comes
 pub children_done : {B : Type 0} (f : FoundPlace → Judgement (List B)) (p : FoundPlace) (b : ℕ) (cs : Children) (before : List B) (all : Judgement (List B)) → cs ≡ none →
     put_behind before (for_each f (map (child_place p) (stepped b cs))) ≡ all → all ≡ gives before
 children_done f p b cs before all is so_far =
     sym so_far ∙ (ap (λ (ds : Children). put_behind before (for_each f (map (child_place p) (stepped b ds)))) is ∙ ap gives (append-nil before))
 
--- behind nothing comes what comes
+-- after nothing comes what comes
 pub nothing_before : {B : Type 0} (j : Judgement (List B)) → put_behind [] j ≡ j
 nothing_before (gives x) = refl
 nothing_before (refuses why) = refl

@@ -4,7 +4,7 @@ use Rattle.std.proofs.lemmas.List.{map-append, reverse-append}
 use Rattle.yq_core.specs.Tree.{Node}
 use Rattle.yq_semantics.{specs.Changes.{add_below, is_there, put_with_path}, specs.Places.FoundPlace, specs.Program.PathStep}
 
--- one more, behind those of which the last were pushed first
+-- one more, after those of which the last were pushed first
 pub pushed_back : {A B : Type 0} (f : A → B) (front : List B) (xs : List A) (x : A) → front ++ reverse (map f (xs ++ x ∷ [])) ≡ (front ++ f x ∷ []) ++ reverse (map f xs)
 pushed_back f front xs x =
     ap (λ l. front ++ reverse l) (map-append f xs (x ∷ []))

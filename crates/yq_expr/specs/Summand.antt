@@ -1,4 +1,4 @@
--- Scalars that are added as they stand.
+-- Scalars that are added as they are.
 use Rattle.std.specs.Prelude.{◌≡◌, ℕ, List, false, None}
 use Rattle.yq_core.{specs.declared.kind.Kind.Kind, specs.Tree.{Node, scalar}}
 use Rattle.yq_semantics.{specs.Judgement.{Judgement, gives}, specs.RightValues.is_null}

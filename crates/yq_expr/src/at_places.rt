@@ -19,7 +19,7 @@ use yq_lookup::CutText;
 use yq_planner::{Aliases, PlacedChange};
 use yq_semantics::ExprError;
 
-/// Puts what is changed at a place behind other changes.
+/// Puts what is changed at a place after other changes.
 fn push_effect<'a, 't>(
     alloc: Global,
     cut: &mut CutText<'_, '_>,

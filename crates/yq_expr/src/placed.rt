@@ -12,7 +12,7 @@ use yq_eval::FoundPlace;
 use yq_planner::{Aliases, Change, PlacedChange, allow};
 use yq_semantics::ExprError;
 
-/// Puts a change of a place's node behind others, if nothing refuses it.
+/// Puts a change of a place's node after others, if nothing refuses it.
 pub fn push_change(
     alloc: Global,
     aliases: &Aliases<'_>,

@@ -65,7 +65,7 @@ fn appended(alloc: Global, step: &PathStep, value: Value) -> Result<Change, Allo
 }
 
 /// A value under missing keys below a node: a mapping gets an entry more, and a
-/// null gives way to a mapping.
+/// null is replaced by a mapping.
 fn created(
     alloc: Global,
     node: &Node<'_, '_>,

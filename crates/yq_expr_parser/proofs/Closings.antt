@@ -1,4 +1,4 @@
--- What stands in front of the bytes behind a pattern: turns of the search for a closing quote, and forms of tokens.
+-- What is in front of the bytes after a pattern: turns of the search for a closing quote, and forms of tokens.
 use Rattle.std.proofs.Common.{◌≡◌, ℕ, ◌+◌, ◌-◌, ◌≤◌, Bool, true, false, ◌||◌, ◌&&◌, ◌==◌, List, [], ◌∷◌, length, take, drop, get_or, Option}
 use Rattle.std.{proofs.Common.{Some, None, is_some, refl, sym, ap, ◌∙◌, arith, length-drop, eqb-true}, proofs.lemmas.List.take_all}
 use Rattle.std.{proofs.lemmas.Bool.{and_parts, false_from_ne_true}, specs.Char.is_ascii_digit, specs.List.prefix_len}

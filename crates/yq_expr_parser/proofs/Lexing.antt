@@ -18,7 +18,7 @@ blank_ascii b h = grind arith
 pub boundary_blank : (t : List ℕ) (n : ℕ) → n ≡ prefix_len is_token_blank t → IsUtf8 t → IsCharBoundary t n
 boundary_blank t n e u = rw e (rw (← upto_unless) (boundary_unless is_token_blank t u blank_ascii))
 
--- a length of at least 1, behind an ASCII byte of the text
+-- a length of at least 1, after an ASCII byte of the text
 abbrev pub EndsAscii : List ℕ → ℕ → Type 0
 EndsAscii t n = (k : ℕ) × (n ≡ suc k) × (k < length t) × (get_or t k 0 < 128)
 
@@ -190,7 +190,7 @@ token_some t f n e = let ends = measure_ends t (f, n) e in omega (arith, ends.1)
 front_shorter : (t : List ℕ) (x : Token × List ℕ) → front_token t ≡ Some x → length x.1 < length t
 front_shorter t x h1 = search (rules, same_Some, measure_ends, length-drop)
 
--- less is left behind a token
+-- less is left after a token
 pub next_shorter : (t : List ℕ) (x : Token × List ℕ) → next_token t ≡ Some x → length x.1 < length t
 next_shorter t x h =
     let n = prefix_len is_token_blank t in

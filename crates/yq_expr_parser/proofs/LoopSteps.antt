@@ -94,7 +94,7 @@ turn s form less xs ts w h x r e o a =
     ap (λ o. onto xs (either o (λ r. with_front x (parted_at s form r)) (Some (x ∷ [], r)))) (sym a)
     ∙ (ap (onto xs) (sym (behind_many s form less x r) ∙ sym (ap (λ o. o >>= λ y. with_front y.0 (many (after_mark s form) y.1)) e)) ∙ h)
 
--- a form is read, and the mark is behind it
+-- a form is read, and the mark is after it
 pub parted_more : {X Y : Type 0} (v : X → Y) (s : List ℕ) (form : Parse Y) → Lessens (after_mark s form) → (xs : List X) (ts : List Token) (w : Option (List Y × List Token))
     → onto (map v xs) (parted_at s form ts) ≡ w → (x : X) (r : List Token) → form ts ≡ Some (v x, r) → (ys : List X) → ys ≡ xs ++ x ∷ []
     → (q : List Token) → after s r ≡ Some q → onto (map v ys) (parted_at s form q) ≡ w
@@ -102,7 +102,7 @@ parted_more v s form less xs ts w h x r e ys pushed q a =
     ap (λ l. onto (map v l) (parted_at s form q)) pushed
     ∙ rw map_push (sym (onto_front (map v xs) (v x) (parted_at s form q)) ∙ turn s form less (map v xs) ts w h (v x) r e (Some q) a)
 
--- a form is read, and no mark is behind it
+-- a form is read, and no mark is after it
 pub parted_end : {X Y : Type 0} (v : X → Y) (s : List ℕ) (form : Parse Y) → Lessens (after_mark s form) → (xs : List X) (ts : List Token) (w : Option (List Y × List Token))
     → onto (map v xs) (parted_at s form ts) ≡ w → (x : X) (r : List Token) → form ts ≡ Some (v x, r) → (ys : List X) → ys ≡ xs ++ x ∷ []
     → after s r ≡ None → w ≡ Some (map v ys, r)

@@ -8,7 +8,7 @@ use Rattle.yq_expr_parser.{specs.Lexing.after, specs.Parse.{many, bracketed_at, 
 use Rattle.yq_expr_parser.proofs.Readers.{either_cases, after_takes, string_takes, number_takes, named_takes, Takes, TakesMaybe, Shortens}
 use Rattle.yq_expr_parser.proofs.Readers.{same_form, many_takes, many_shortens}
 
--- a bracket from behind its opening mark
+-- a bracket from after its opening mark
 abbrev Inner : Production PathStep
 Inner s ts rest = (all : List Token) → HasSymbol (codes "[") all ts → IsBracket s all rest
 

@@ -14,19 +14,19 @@ beyond other n None = None
 beyond other n (Some x) = Some (other || x.0, n + x.1)
 
 unfoldable mutual
-  -- behind the opening quote: whether there is a `\(`, and how far it is to behind the closing quote (own)
+  -- after the opening quote: whether there is a `\(`, and how far it is to after the closing quote (own)
   pub closing : List ℕ → Option (Bool × ℕ)
   closing [] = None
   closing (b ∷ bs) =
       if b == 34 then Some (false, 1) else (if b == 92 then escaping bs else beyond false 1 (closing bs))
 
-  -- the same from behind a backslash (own)
+  -- the same from after a backslash (own)
   pub escaping : List ℕ → Option (Bool × ℕ)
   escaping [] = None
   escaping (b ∷ bs) =
       if b == 40 then beyond true 2 (closing bs) else (if is_some (escaped_character b) then beyond false 2 (closing bs) else None)
 
--- a string of that form, or a foreign token, that so many bytes stand before (own)
+-- a string of that form, or a foreign token, that so many bytes come before (own)
 abbrev pub quoted : TokenForm → ℕ → Option (Bool × ℕ) → Option (TokenForm × ℕ)
 quoted f n None = None
 quoted f n (Some x) = Some (if x.0 then form.Foreign else f, n + x.1)
@@ -40,7 +40,7 @@ fraction_len (b ∷ bs) = if b == 46 && front is_ascii_digit bs then 1 + prefix_
 abbrev pub number_len : List ℕ → ℕ
 number_len t = let n = prefix_len is_ascii_digit t in n + fraction_len (drop n t)
 
--- the token that begins with a dot, from behind the dot (own)
+-- the token that begins with a dot, from after the dot (own)
 abbrev pub dotted : List ℕ → Option (TokenForm × ℕ)
 dotted [] = Some (form.Symbol, 1)
 dotted (b ∷ bs) =
@@ -73,21 +73,21 @@ token_measure (b ∷ bs) =
     else worded (b ∷ bs))))
 
 unfoldable mutual
-  -- the content of a string, from behind its opening quote (own)
+  -- the content of a string, from after its opening quote (own)
   pub string_content : List ℕ → List ℕ
   string_content [] = []
   string_content (b ∷ bs) = if b == 34 then [] else (if b == 92 then content_escaped bs else b ∷ string_content bs)
 
-  -- the same from behind a backslash (own)
+  -- the same from after a backslash (own)
   pub content_escaped : List ℕ → List ℕ
   content_escaped [] = []
   content_escaped (b ∷ bs) = character_before (escaped_character b) (string_content bs)
 
--- whether a byte of a string stands for itself (own)
+-- whether a byte of a string means itself (own)
 abbrev pub is_plain_byte : ℕ → Bool
 is_plain_byte b = not (b == 34) && not (b == 92)
 
--- the character that an escape in front stands for, as a text, and what follows it (own)
+-- the character that an escape in front means, as a text, and what follows it (own)
 abbrev pub escape_front : List ℕ → Option (List ℕ × List ℕ)
 escape_front (b ∷ c ∷ bs) = if b == 92 then option_map (λ e. (e ∷ [], bs)) (escaped_character c) else None
 escape_front (b ∷ []) = None
@@ -112,7 +112,7 @@ token_of form.Unread p = unread
 abbrev pub past_blank : List ℕ → List ℕ
 past_blank t = drop (prefix_len is_token_blank t) t
 
--- the text cut behind the token of that form and length; where there is none, nothing follows (own)
+-- the text cut after the token of that form and length; where there is none, nothing follows (own)
 abbrev pub cut_token : List ℕ → Option (TokenForm × ℕ) → Token × List ℕ
 cut_token t None = (unread, [])
 cut_token t (Some x) = (token_of x.0 (take x.1 t), drop x.1 t)

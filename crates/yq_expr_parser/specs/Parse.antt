@@ -57,14 +57,14 @@ parenthesized_at form ts = after (codes "(") ts >>= closed_at (codes ")") form
 abbrev pub index_at : List ℕ × List Token → Option (PathStep × List Token)
 index_at x = int_value x.0 >>= λ n. after (codes "]") x.1 >>= λ r. Some (index n, r)
 
--- a step in brackets, from behind the opening one (own)
+-- a step in brackets, from after the opening one (own)
 unfoldable pub bracketed_at : Parse PathStep
 bracketed_at ts =
     either (after (codes "]") ts) (λ r. Some (each, r))
     (either (taken as_number ts) index_at
     (taken as_string ts >>= λ x. after (codes "]") x.1 >>= λ r. Some (key x.0, r)))
 
--- what stands in brackets, if an opening one is in front (own)
+-- what is in brackets, if an opening one is in front (own)
 abbrev pub bracket_at : List Token → Option (Option (PathStep × List Token))
 bracket_at ts = either (after (codes "[") ts) (λ r. bracketed_at r >>= λ x. Some (Some x)) (Some None)
 
@@ -101,7 +101,7 @@ parse_scalar ts =
     (either (word_at ts) plain_as
     (taken as_string ts >>= λ x. Some (string_of x.0, x.1)))
 
--- forms with commas between them, from behind the opening mark (own)
+-- forms with commas between them, from after the opening mark (own)
 abbrev pub listed_at : {A : Type 0} → List ℕ → Parse A → Parse (List A)
 listed_at closing form ts = either (after closing ts) (λ r. Some ([], r)) (closed_at closing (parted_at (codes ",") form) ts)
 
@@ -251,7 +251,7 @@ abbrev pub unless_pattern : Option Program → Outcome
 unless_pattern None = refused error.Syntax
 unless_pattern (Some p) = if has_pattern p then refused error.Pattern else parsed p
 
--- a text's outcome, from what was told of its tokens (own)
+-- a text's outcome, from what was found of its tokens (own)
 abbrev pub parse_outcome : Option Bool → Option Program → Outcome
 parse_outcome None p = refused error.Syntax
 parse_outcome (Some true) p = refused error.NotInProfile

@@ -21,11 +21,11 @@ abbrev pub Succeeds : {X Y : Type 0} → (X → Y) → Result X ParseError → Y
 Succeeds view (Ok x) read = read ≡ view x
 Succeeds view (Err e) read = e ≡ error.Memory
 
--- a form and the text behind it, as they are seen (own)
+-- a form and the text after it, as they are seen (own)
 abbrev pub with_tokens : {X Y : Type 0} → (X → Y) → X × Bor (List ℕ) → Y × List Token
 with_tokens view x = (view x.0, tokens x.1.now)
 
--- The answer is the form that reading gives and the text behind it, unless memory ran out (own).
+-- The answer is the form that reading gives and the text after it, unless memory ran out (own).
 abbrev pub ReadsForm : {X Y : Type 0} → (X → Y) → Result (X × Bor (List ℕ)) ParseError → Option (Y × List Token) → Type 0
 ReadsForm view r read = GivesForm (with_tokens view) r read
 
@@ -33,11 +33,11 @@ ReadsForm view r read = GivesForm (with_tokens view) r read
 abbrev pub ReadsMaybe : {X Y : Type 0} → (X → Y) → Result (Option (X × Bor (List ℕ))) ParseError → Option (Option (Y × List Token)) → Type 0
 ReadsMaybe view r read = GivesForm (option_map (with_tokens view)) r read
 
--- less text is behind a form (own)
+-- less text is after a form (own)
 abbrev pub Shortens : {X : Type 0} → List ℕ → Result (X × Bor (List ℕ)) ParseError → Type 0
 Shortens text r = IfOk r (λ x. length x.1.now < length text)
 
--- less text is behind a form, if there is one (own)
+-- less text is after a form, if there is one (own)
 abbrev pub IsShorter : {X : Type 0} → List ℕ → Option (X × Bor (List ℕ)) → Type 0
 IsShorter text None = Unit {0}
 IsShorter text (Some x) = length x.1.now < length text

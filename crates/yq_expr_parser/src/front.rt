@@ -45,7 +45,7 @@ pub(crate) fn expect<'t>(text: &'t str, symbol: &str) -> Result<&'t str, ParseEr
     after(text, symbol).ok_or(ParseError::Syntax)
 }
 
-/// A form and what follows the mark, which has to be behind the form.
+/// A form and what follows the mark, which has to be after the form.
 pub(crate) fn closed<'t, T: Drop>(
     form: T,
     text: &'t str,

@@ -1,4 +1,4 @@
-//! What is told of a text before it is parsed.
+//! What is known of a text before it is parsed.
 ghost use Rattle.std.specs.Prelude.{◌≡◌, ◌+◌, ◌^◌, ◌<◌, false};
 ghost use Rattle.yq_expr_parser.{specs.ReadAnswers.GivesForm, specs.Lexing.tokens, specs.TokenView.token_view};
 ghost use Rattle.yq_expr_parser.specs.Outcome as grammar;

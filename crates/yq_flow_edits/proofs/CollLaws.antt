@@ -39,7 +39,7 @@ collection_within k h cs ds e = elim (eqb k 125) as (λ c. cond c (tree.map None
 named_within : (n : List ℕ) (h : tree.Children → tree.Children) (v : tree.Node) → with_name n (within h v) ≡ within h (with_name n v)
 named_within n h v = search rules
 
--- behind an anchor
+-- after an anchor
 name_open : (n g : List ℕ) (k : ℕ) (t u : List ℕ) → IsName n (g ++ (opening_bracket k ∷ t)) → IsName n (g ++ (opening_bracket k ∷ u))
 name_open n [] k t u h = name_by n (opening_bracket k ∷ t) (opening_bracket k ∷ u) h.ends h
 name_open n (b ∷ g) k t u h = name_by n (b ∷ (g ++ (opening_bracket k ∷ t))) (b ∷ (g ++ (opening_bracket k ∷ u))) h.ends h

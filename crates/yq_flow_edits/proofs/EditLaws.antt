@@ -33,11 +33,11 @@ edited x e h s gap are same text = record {
   tree = s.new_tree e.gap e.items h same;
 }
 
--- behind the opening bracket
+-- after the opening bracket
 pub opened : (k : ℕ) (g h : List ℕ) (is new : Items) (rest old fresh_ behind : List ℕ) → Becomes (g ++ flow_items_text k is rest) (h ++ flow_items_text k new rest) old fresh_ behind → Becomes (coll_text k g is rest) (coll_text k h new rest) old fresh_ behind
 opened k g h is new rest old fresh_ behind t = put_before (opening_bracket k ∷ []) _ _ old fresh_ behind t
 
--- behind the gap too
+-- after the gap too
 pub behind_gap : (k : ℕ) (g : List ℕ) (is new : Items) (rest old fresh_ behind : List ℕ) → Becomes (flow_items_text k is rest) (flow_items_text k new rest) old fresh_ behind → Becomes (coll_text k g is rest) (coll_text k g new rest) old fresh_ behind
 behind_gap k g is new rest old fresh_ behind t = opened k g g is new rest old fresh_ behind (put_before g _ _ old fresh_ behind t)
 

@@ -51,7 +51,7 @@ key_in_items t is k s same = sym (ap (λ (x : declared.Step). remove_part t (tre
 pub index_in_entries : (t : List ℕ) (es : List Field) (i : ℕ) (s : declared.Step) → s ≡ declared.TheVariants.Index i → None ≡ remove_part t (tree_step s) (entries_end es)
 index_in_entries t es i s same = sym (ap (λ (x : declared.Step). remove_part t (tree_step x) (entries_end es)) same ∙ no_index t i es)
 
--- behind an item that stays
+-- after an item that stays
 pub item_further : (t : List ℕ) (left : ℕ) (is : List Inline) → 1 ≤ length is → (left ≡ 0 → ⊥) → None ≡ only_end (Nth (left - 1)) (items_end (take (length is - 1) (drop 1 is))) →
     remove_part t (Nth (left - 1)) (items_end (take (length is - 1) (drop 1 is))) ≡ remove_part t (Nth left) (items_end is)
 item_further t left [] some more none = absurd (omega (arith, some))

@@ -1,4 +1,4 @@
--- An item replaced, and one added behind the last.
+-- An item replaced, and one added after the last.
 use Rattle.std.proofs.Common.{◌≡◌, ℕ, Bool, true, false, not, ◌&&◌, ◌||◌, cond, List, [], ◌∷◌, ◌++◌, Some, None, refl, sym, ap, ◌∙◌, subst}
 use Rattle.std.{proofs.Common.{arith, append_assoc, rules}, proofs.Math.Bool.and-false}
 use Rattle.std.{proofs.lemmas.Bool.{false≢true, or_right, not-true, or_parts}, proofs.lemmas.Option.same_Some}
@@ -19,15 +19,15 @@ use Rattle.yq_flow_edits.{specs.FlowEdits.FitsItem, specs.Removals.{is_marks, en
 use Rattle.yq_flow_edits.{proofs.ItemSwaps.item_cut, proofs.LocalLaws.{Front, filled, space_before}}
 use Rattle.yq_core.specs.Tree as tree
 
--- Items of a collection give way to others, with this tree: these stand before the same rest, a gap before the ones may stand before the others, and
--- bytes of their text give way to others.
+-- Items of a collection are replaced by others, with this tree: these come before the same rest, a gap before the ones may come before the others, and
+-- bytes of their text are replaced by others.
 pub record Local (d k : ℕ) (is new : Items) (cs : tree.Children) (rest old fresh_ behind : List ℕ) : Type 0 where
   pub tree : items_tree new ≡ cs
   pub are : AreFlowItems d k new rest
   pub front : Front (flow_items_text k is rest) (flow_items_text k new rest)
   pub text : Becomes (flow_items_text k is rest) (flow_items_text k new rest) old fresh_ behind
 
--- an item before another text behind its node
+-- an item before another text after its node
 pub record ItemStands (d k : ℕ) (key : Key) (n : FlowNode) (u : List ℕ) : Type 0 where
   pub key_is : IsInlineKey k key (node_text n u)
   pub node_is : IsFlowNode true (Some 0) d n u
@@ -60,7 +60,7 @@ put_before p t u old new behind h = record {
 pub becomes_same : (t u x y old new behind : List ℕ) → t ≡ x → u ≡ y → Becomes x y old new behind → Becomes t u old new behind
 becomes_same t u x y old new behind a b h = record { before = h.before; was = a ∙ h.was; is = b ∙ h.is }
 
--- behind an item that others follow stands a comma
+-- after an item that others follow is a comma
 pub comma_like : (b g h t u : List ℕ) → Alike (Some true) (b ++ (44 ∷ (g ++ t))) (b ++ (44 ∷ (h ++ u)))
 comma_like b g h t u = alike_append (Some true) b (44 ∷ (g ++ t)) (44 ∷ (h ++ u)) (stop refl)
 
@@ -132,7 +132,7 @@ ends_mark k t c e = ends_by Unmarked k t c e (λ r. record { dash = refl; dot = 
 pub marker_append : (t rest : List ℕ) → begins_marker t ≡ false → Unmarked rest → is_marker (t ++ rest) ≡ false
 marker_append t rest h1 h2 = search (rules, no_first, no_second, no_third)
 
--- whether a marker is in front is told by a text before what begins with neither
+-- whether a marker is in front is given by a text before what begins with neither
 pub marks_own : (t rest : List ℕ) → Unmarked rest → begins_marker (t ++ rest) ≡ begins_marker t
 marks_own t rest h1 = search (rules, and-false)
 
@@ -172,7 +172,7 @@ keeps_from line (b ∷ p) t u m a = (
   later [] r = refl
   later (c ∷ q) r = r
 
--- a comma directly behind
+-- a comma directly after
 pub comma_apart : (line : Bool) (p u : List ℕ) → IsApartFrom line p (44 ∷ u)
 comma_apart line p u = record { unmarked = and-false (ends_marked line p); unbroken = and-false (ends_return p) }
 
@@ -189,7 +189,7 @@ gap_before d k key n t u q h s x keeps gap =
     let cut : (z : List ℕ) → key_text key (node_text n z) ≡ key_text key (node_text n []) ++ z = λ z. ap (key_text key) (node_then n z) ∙ key_append key (node_text n []) z in
     subst (IsInlineGap q) (sym (cut u)) (gap_some q (key_text key (node_text n [])) t u (item_some d k key n t h s x) keeps (subst (IsInlineGap q) (cut t) gap))
 
--- one more behind the last
+-- one more after the last
 pub add_local : (d k : ℕ) (key : Key) (m : FlowNode) (gap : List ℕ) (is : Items) (rest : List ℕ) → is_close k ≡ true → is_none is ≡ false → AreFlowItems d k is rest → FitsItem d k key m (behind_last k gap is rest) →
     Local d k is (add_item key m gap is) (append_child (key_label (key_content key)) (tree_of m) (items_tree is)) rest [] (44 ∷ (32 ∷ key_text key (node_text m []))) (behind_last k gap is rest)
 unfolding flow_items_text AreFlowItems items_tree

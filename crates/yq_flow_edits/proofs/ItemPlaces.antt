@@ -1,4 +1,4 @@
--- Where an item or entry stands among others, and what ends it.
+-- Where an item or entry is among others, and what ends it.
 use Rattle.std.proofs.Common.{◌≡◌, ℕ, ◌≤◌, length, arith, length-append, Bool, true, false, cond, List, [], ◌∷◌, ◌++◌, Some, refl, sym, ap}
 use Rattle.std.{proofs.Common.{◌∙◌, subst, append_assoc}, proofs.lemmas.Bool.false≢true, proofs.lemmas.Option.{none-some, same_Some}}
 use Rattle.yq_core.{specs.Paths.{Step, is_here, further}, specs.Alike.EndsItem, specs.Entries.{EntryPieces, item_at, pieces_text}}
@@ -6,7 +6,7 @@ use Rattle.yq_core.{specs.Nodes.{Items, none, item, key_text, sep_text, node_tex
 use Rattle.yq_core.{specs.Tree.key_label, proofs.NodeAgain.{items_longer, sep_longer}, proofs.NodeKeeps.sep_ends}
 use Rattle.yq_flow_edits.{specs.FlowEdits.{FitsItem, behind_last, is_none}, proofs.ItemSwaps.item_cut}
 
--- An item or entry stands behind a text, and what ends it behind that.
+-- An item or entry comes after a text, and what ends it after that.
 pub record Behind (d k : ℕ) (t : List ℕ) (y : EntryPieces) : Type 0 where
   pub before : List ℕ
   pub text : t ≡ before ++ pieces_text y
@@ -45,7 +45,7 @@ last_behind d k gap (item key n sep (item key2 n2 sep2 is)) rest some a =
     let tail : List ℕ = flow_items_text k (item key2 n2 sep2 is) rest in
     (more.0, more.1, further_behind d k (key_text key (node_text n (sep_text sep tail))) tail (key_text key (node_text n (sep_text sep []))) more.0 (item_cut key n sep tail) more.2)
 
--- ---- what stands behind is no less than what stands behind the closing bracket
+-- ---- what comes after is no less than what comes after the closing bracket
 
 pub item_rest : (k : ℕ) (s : Step) (is : Items) (rest : List ℕ) (y : EntryPieces) → item_at k s is rest ≡ Some y → length rest ≤ length y.rest
 item_rest k s none rest y e = absurd (none-some _ e)

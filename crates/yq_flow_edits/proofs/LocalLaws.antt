@@ -56,7 +56,7 @@ unmarked_gap g y m = rw m (and-false (at_break (gap_place_after Token g)))
 abbrev pub Front : List ℕ → List ℕ → Type 0
 Front x y = (g : List ℕ) → IsInlineGap g x → IsInlineGap g y
 
--- another node behind the same key
+-- another node after the same key
 refit : (k : ℕ) (key : Key) (x y : List ℕ) → begins_node true x ≡ true → begins_node true y ≡ true → is_marker y ≡ false → IsInlineKey k key x → IsInlineKey k key y × Front (key_text key x) (key_text key y)
 refit k bare x y bx by m h = (h, λ g a. gap_new g x y bx by (unmarked_gap g y m) a)
 refit k (keyed p b g) x y bx by m h =
@@ -100,7 +100,7 @@ coll_no_anchor k cs = elim (eqb k 125) as (λ c. anchor_of (cond c (tree.map Non
 filled_by : (d k : ℕ) (m : FlowNode) (key : Key) (n : FlowNode) (rest : List ℕ) → is_empty_node n ≡ false → FitsNode d m rest → IsInlineKey k key (node_text n rest) → IsFlowNode true (Some 0) d n rest → IsInlineKey k key (node_text m rest) × Front (key_text key (node_text n rest)) (key_text key (node_text m rest))
 filled_by d k m key n rest some f h x = refit k key (node_text n rest) (node_text m rest) (some_begins true (Some 0) d n rest some x) (some_begins true (Some 0) d m rest f.some f.is) f.unmarked h
 
--- in the place of a node that is something, behind an anchor
+-- in the place of a node that is something, after an anchor
 anchored_filled : (d k : ℕ) (m : FlowNode) (key : Key) (n g : List ℕ) (node : FlowNode) (rest : List ℕ) → is_empty_node node ≡ false → takes_anchor node ≡ true → tree_of (anchored n g m) ≡ put_value (tree_of m) (tree_of (anchored n g node)) → FitsNode d m rest →
     IsInlineKey k key (node_text (anchored n g node) rest) → IsFlowNode true (Some 0) d (anchored n g node) rest → Filled d k m key (anchored n g node) rest key (anchored n g m)
 unfolding node_text IsFlowNode
@@ -125,7 +125,7 @@ anchored_filled d k m key n g node rest some takes tree f h x =
       label = refl;
     }
 
--- in the place of nothing behind a `:`
+-- in the place of nothing after a `:`
 spaced : (k : ℕ) (p b x y : List ℕ) → is_close k ≡ true → begins_node true x ≡ false → begins_node true y ≡ true → is_safe true x ≡ false → IsInlineKey k (keyed p b []) x → IsInlineKey k (keyed p b (32 ∷ [])) y
 spaced k p b x y c bx by unsafe h =
     let like : Alike (Some true) (58 ∷ x) (58 ∷ (32 ∷ y)) = colon unsafe refl in

@@ -5,14 +5,14 @@ use Rattle.std.proofs.lemmas.Bool.{le-leb, lt-ltb}
 use Rattle.yq_core.{specs.PlainText.begins_marker, specs.Text.is_feed, specs.Alike.fresh}
 use Rattle.yq_flow_edits.{specs.FlowPlaces.{behind_feed, marks_before}, specs.Removals.{is_marks, ends_marked}}
 
--- behind a byte
+-- after a byte
 feed_behind : (w : List ℕ) (b : ℕ) (x : List ℕ) (at : ℕ) → at ≡ suc (length w) → behind_feed (w ++ (b ∷ x)) at ≡ is_feed b
 feed_behind w b x at h =
     let less : at - 1 ≡ length w = omega (arith, h) in
     let lt : nat_lt 0 at ≡ true = lt-ltb 0 at (omega (arith, h)) in
     rw (lt, less, drop-append_seam w (b ∷ x)) refl
 
--- behind a byte that is no LF, and a gap
+-- after a byte that is no LF, and a gap
 pub line_behind : (g w : List ℕ) (b : ℕ) (x : List ℕ) (at : ℕ) → at ≡ suc (length w + length g) → behind_feed (w ++ (b ∷ (g ++ x))) at ≡ fresh (is_feed b) g
 line_behind [] w b x at h = feed_behind w b x at (omega (arith, h))
 line_behind (c ∷ g) w b x at h =
@@ -41,7 +41,7 @@ by_test : (t : List ℕ) (from at n : ℕ) → at - from ≡ n → marks_before 
 unfolding test_at
 by_test t from at n h = ap (λ k. nat_le 3 k && (behind_feed t (at - 3) && begins_marker (drop (at - 3) t))) h
 
--- and by what stands there
+-- and by what is there
 pub marks_are : (p w x : List ℕ) (t : List ℕ) (from at : ℕ) → t ≡ w ++ (p ++ x) → from ≡ length w → at ≡ from + length p → marks_before t from at ≡ ends_marked (behind_feed t from) p
 unfolding test_at
 marks_are [] w x t from at is f a = by_test t from at 0 (omega (arith, a))

@@ -24,7 +24,7 @@ use Rattle.yq_flow_edits.proofs.RemoveTexts.{removed_text, sep_front}
 use Rattle.yq_flow_edits.proofs.ReturnLaws.{Whole, item_return, pairs_behind, pairs_end, return_some, whole_by, whole_front}
 use Rattle.yq_core.specs.Tree as tree
 
--- ---- a space behind a gap that ends a line
+-- ---- a space after a gap that ends a line
 
 go_append : (s : GapPlace) (g : List ℕ) (b : ℕ) (x : List ℕ) → AllGo s g (b ∷ x) → goes (gap_place_after s g) b x ≡ true → AllGo s (g ++ (b ∷ [])) x
 go_append s [] b x a h = (h, tt)
@@ -61,7 +61,7 @@ gap_moves g x own u bx by m h = go (fresh false g && begins_marker own) refl whe
 
 -- ---- what is left
 
--- What is left of items behind a gap without the one at a step; and where its bytes go no CR stands before an LF.
+-- What is left of items after a gap without the one at a step; and where its bytes go no CR comes before an LF.
 record Left (d k : ℕ) (s : Step) (g : List ℕ) (is : Items) (rest : List ℕ) (e : FlowEdit) : Type 0 where
   are : AreFlowItems d k e.items rest
   gap : IsInlineGap e.gap (flow_items_text k e.items rest)
@@ -88,7 +88,7 @@ before_left d k s g key n sep (item key2 n2 sep2 is) rest e c here gap a at =
       whole = λ x b same. whole_front b (key_text key (node_text n (sep_text sep [])) ++ y) (ap (front is_feed) (sym (item_cut key n sep y)) ∙ node_no_feed (key_text key (node_text n (sep_text sep y))) bx);
     })
 
--- the item behind another one, where that has another separator
+-- the item after another one, where that has another separator
 last_left : (d k : ℕ) (s : Step) (g : List ℕ) (key : Key) (n : FlowNode) (sep : Sep) (key2 : Key) (n2 : FlowNode) (sep2 left : Sep) (rest old lead behind_ : List ℕ) → is_close k ≡ true →
     is_here s (key_label (key_content key)) ≡ false → is_here (further s) (key_label (key_content key2)) ≡ true → IsInlineGap g (flow_items_text k (item key n sep (item key2 n2 sep2 none)) rest) → AreFlowItems d k (item key n sep (item key2 n2 sep2 none)) rest →
     ends_return (key_text key (node_text n [])) ≡ false → IsSep k left (k ∷ rest) → IsApartFrom (fresh false g) (key_text key (node_text n [])) (sep_text left (k ∷ rest)) → LastBytes k rest sep key2 n2 sep2 left old lead behind_ →
@@ -137,7 +137,7 @@ last_of d k s g key n sep (item key2 n2 sep2 none) rest e c here ends gap a at =
   go true there at = subst (Left d k s g (item key n sep (item key2 n2 sep2 none)) rest) (same_Some _ _ at) (one there (ends_marked (fresh false g) own) refl)
   go false there at = absurd (none-some _ at)
 
--- one of the items behind another one
+-- one of the items after another one
 behind_left : (d k : ℕ) (s : Step) (g : List ℕ) (key : Key) (n : FlowNode) (sep : Sep) (is : Items) (rest : List ℕ) (e : FlowEdit) → is_close k ≡ true → is_here s (key_label (key_content key)) ≡ false →
     IsInlineGap g (flow_items_text k (item key n sep is) rest) → AreFlowItems d k (item key n sep is) rest → removing_from k rest (further s) (gap_of sep) is ≡ Some e → (IsInlineGap (gap_of sep) (flow_items_text k is rest) → Left d k (further s) (gap_of sep) is rest e) →
     Left d k s g (item key n sep is) rest (edit_from_item g key n sep e)
@@ -208,6 +208,6 @@ module _ (x : CollAt) (s : Step) (e : FlowEdit) (h : IsCollAt x) (at : removing 
       let l = left_in [] pairs in
       edited x e (remove_child s) (around_is x h) l.gap l.are l.tree (opened c.close c.gap e.gap c.items e.items c.rest e.old (e.lead ++ e.written) e.behind (removed_text c.close c.rest s c.gap c.items e at).text)
 
-  -- in a longer text no CR stands before an LF
+  -- in a longer text no CR comes before an LF
   pub removed_whole : (text before : List ℕ) → pairs_returns (text ++ node_text x.node x.rest) ≡ true → text ++ node_text x.node x.rest ≡ before ++ (e.old ++ e.behind) → Whole before (e.old ++ e.behind)
   removed_whole text before pairs same = (left_in text pairs).whole (text ++ ((around_is x h).before ++ (opening_bracket x.coll.close ∷ []))) before (sym (behind_open text) ∙ same)

@@ -1,4 +1,4 @@
--- What the code tells of an item or entry that is taken out is where the bytes of the edit stand.
+-- What the code tells of an item or entry that is taken out is where the bytes of the edit are.
 use Rattle.std.proofs.Common.{◌≡◌, ⊎_elim, ℕ, suc, ◌+◌, ◌-◌, Bool, true, false, ◌&&◌, eqb, cond, List, [], ◌∷◌, ◌++◌, length, drop, Option}
 use Rattle.std.proofs.Common.{Some, None, option_map, refl, sym, ap, ◌∙◌, arith, append_assoc, length-append, eqb-true, rules}
 use Rattle.std.{proofs.Math.Seq.drop-append_seam, proofs.lemmas.Bool.{false≢true, or_cases}, proofs.lemmas.Option.same_Some}
@@ -58,7 +58,7 @@ next_placed d k g key n sep (item key2 n2 sep2 is) rest t w b c a feed text =
 
 -- ---- the last one
 
--- the comma behind it
+-- the comma after it
 comma_part : List ℕ → ℕ → ℕ → PlacedEdit
 comma_part t from e = cond (begins_with 44 (drop (past_gap t e) t)) (record { start = from; end = past_gap t e; lead = [] }) (record { start = from; end = e; lead = 44 ∷ [] })
 
@@ -157,7 +157,7 @@ same_place : (total : ℕ) (g : List ℕ) (key : Key) (n : FlowNode) (sep : Sep)
 same_place total g key n sep None = refl
 same_place total g key n sep (Some e) = refl
 
--- behind an item stand a comma and the gap before the next one
+-- after an item are a comma and the gap before the next one
 further_placed : (d k : ℕ) (s : Step) (g : List ℕ) (key : Key) (n : FlowNode) (sep : Sep) (is : Items) (rest t w : List ℕ) (b : ℕ) → is_close k ≡ true → AreFlowItems d k (item key n sep is) rest → t ≡ w ++ (b ∷ (g ++ flow_items_text k (item key n sep is) rest)) →
     ((p v : List ℕ) (e : ℕ) → is_feed e ≡ false → t ≡ v ++ (e ∷ (p ++ flow_items_text k is rest)) → remove_part t s (locate_items (length t) k is rest) ≡ option_map (place_edit (length t)) (removing_from k rest s p is)) →
     remove_part t s (locate_items (length t) k is rest) ≡ option_map (place_edit (length t)) (removing_from k rest s (gap_of sep) is)

@@ -20,7 +20,7 @@ pub option_some : {A B : Type 0} (f : A → B) (o : Option A) (y : B) → option
 option_some f None y e = absurd (none-some _ e)
 option_some f (Some x) y e = (x, refl, same_Some _ _ e)
 
--- ---- what stands behind an item
+-- ---- what comes after an item
 
 -- the text between an item and the gap before the next one
 pub sep_front : Sep → List ℕ
@@ -37,7 +37,7 @@ unfolding sep_front
 sep_own (last b) x = refl
 sep_own (comma b g) x = sym (append_assoc b (44 ∷ []) (g ++ x))
 
--- the text of items behind a gap, from the gap before the next one on
+-- the text of items after a gap, from the gap before the next one on
 front_cut : (g : List ℕ) (key : Key) (n : FlowNode) (f z : List ℕ) → g ++ key_text key (node_text n (f ++ z)) ≡ (g ++ (key_text key (node_text n []) ++ f)) ++ z
 front_cut g key n f z = search (rules, text_cut, append_assoc)
 
@@ -46,7 +46,7 @@ behind_cut g key n sep x = ap (λ l. g ++ key_text key (node_text n l)) (sep_own
 
 -- ---- the bytes
 
--- What is known of the bytes of an item that is taken out of items behind a gap.
+-- What is known of the bytes of an item that is taken out of items after a gap.
 pub record RemovedText (k : ℕ) (rest g : List ℕ) (is : Items) (e : FlowEdit) : Type 0 where
   pub text : Becomes (g ++ flow_items_text k is rest) (e.gap ++ flow_items_text k e.items rest) e.old (e.lead ++ e.written) e.behind
   pub none_written : e.written ≡ []
@@ -75,7 +75,7 @@ before_text k rest g key n sep (item key2 n2 sep2 is) e at =
 pub next_is : (sep : Sep) (key : Key) (n : FlowNode) (u : List ℕ) → next_text sep key n ++ u ≡ sep_text sep (key_text key (node_text n u))
 next_is sep key n u = sym (ap (sep_text sep) (text_cut key n u) ∙ sep_append sep (key_text key (node_text n [])) u)
 
--- An item before the last one has another separator when that is taken out, and these bytes give way.
+-- An item before the last one has another separator when that is taken out, and these bytes are replaced.
 pub record LastBytes (k : ℕ) (rest : List ℕ) (sep : Sep) (key : Key) (n : FlowNode) (sep2 left : Sep) (old lead behind : List ℕ) : Type 0 where
   pub was : old ++ behind ≡ sep_text sep (key_text key (node_text n (sep_text sep2 (k ∷ rest))))
   pub is : lead ++ behind ≡ sep_text left (k ∷ rest)

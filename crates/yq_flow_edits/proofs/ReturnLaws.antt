@@ -20,7 +20,7 @@ append_some : (x : List ℕ) (b : ℕ) (y : List ℕ) → NotEmpty (x ++ (b ∷ 
 append_some [] b y = (b, (y, refl))
 append_some (a ∷ x) b y = (a, (x ++ (b ∷ y), refl))
 
--- behind a text that isn't empty
+-- after a text that isn't empty
 pub return_some : (x y : List ℕ) → NotEmpty y → ends_return (x ++ y) ≡ ends_return y
 return_some x y s = subst (λ (l : List ℕ). ends_return (x ++ l) ≡ ends_return l) (sym s.1.1) (return_append x s.0 s.1.0)
 
@@ -28,7 +28,7 @@ return_some x y s = subst (λ (l : List ℕ). ends_return (x ++ l) ≡ ends_retu
 abbrev pub Whole : List ℕ → List ℕ → Type 0
 Whole p t = (ends_return p && front is_feed t) ≡ false
 
--- what doesn't begin with an LF may stand behind any text
+-- what doesn't begin with an LF may come after any text
 pub whole_front : (p t : List ℕ) → front is_feed t ≡ false → Whole p t
 whole_front p t h = ap (λ b. ends_return p && b) h ∙ and-false (ends_return p)
 

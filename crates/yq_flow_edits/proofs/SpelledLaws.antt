@@ -1,4 +1,4 @@
--- What is written in flow style is a node that stands for its tree.
+-- What is written in flow style is a node that means its tree.
 use Rattle.std.proofs.Common.{◌≡◌, ℕ, zero, suc, ◌-◌, ◌≤◌, Bool, true, false, not, ◌||◌, eqb, List, [], ◌∷◌, ◌++◌, drop, Option, Some, None}
 use Rattle.std.{proofs.Common.{refl, ap, inl, arith, eq-eqb, ⊎_elim, rules}, proofs.Math.Nat.{le-max_left, le-max_right}}
 use Rattle.std.{proofs.lemmas.Bool.{or_cases, or_right}, specs.Str.IsUtf8}

@@ -83,7 +83,7 @@ quoted_string : (s : ScalarText) → can_write_plain s true ≡ false → string
 unfolding can_write_plain
 quoted_string s h = ap (λ (k : Kind). record { kind = k; text = s.text }) (sym (string_kind s.kind (string_by (is_string s.kind) _ h)))
 
--- a written scalar stands for its scalar, and is one wherever a plain one may end
+-- a written scalar means its scalar, and is one wherever a plain one may end
 pub record IsWritten (s : ScalarText) (p : List ℕ) : Type 0 where
   pub scalar : scalar_of p ≡ s
   pub content : scalar_content p ≡ s.text

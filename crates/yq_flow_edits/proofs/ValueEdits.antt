@@ -24,7 +24,7 @@ change_last (r ∷ ss) s f = ap (λ (g : tree.Node → tree.Node). λ n. within 
 edited_same : (x : CollAt) (e : FlowEdit) (f g : tree.Node → tree.Node) → f ≡ g → IsFlowEdited x e f → IsFlowEdited x e g
 edited_same x e f g same h = record { inline = h.inline; text = h.text; tree = h.tree ∙ ap (λ (k : tree.Node → tree.Node). k (tree_of x.node)) same }
 
--- a node that stands for a tree, in the place of another one
+-- a node that means a tree, in the place of another one
 put_same : (x : CollAt) (s : Step) (m : FlowNode) (v : tree.Node) → tree_of m ≡ v → changed_at x.steps (within (change_child s (put_value (tree_of m)))) ≡ changed_at (x.steps ++ (s ∷ [])) (put_value v)
 put_same x s m v e = ap (λ (w : tree.Node). changed_at x.steps (within (change_child s (put_value w)))) e ∙ change_last x.steps s (put_value v)
 
@@ -46,7 +46,7 @@ scalar_replaced x s y v style h found is i can =
     let fits = scalar_fits c.close (room_in x) v style y.rest j.closes (item_behind j.inner_depth c.close s c.items c.rest y j.items found).ends is i can in
     edited_same x (replacing s y m x.coll) _ _ (put_same x s m (scalar_node v) (scalar_same v style is i can)) (replaced x s y m h found fits)
 
--- what stands behind an appended item ends one
+-- what comes after an appended item ends one
 last_ends : (d k : ℕ) (gap : List ℕ) (is : Items) (rest : List ℕ) → IsInlineGap gap (flow_items_text k is rest) → AreFlowItems d k is rest → EndsItem k (behind_last k gap is rest)
 unfolding flow_items_text
 last_ends d k gap none rest h a = record { gap = gap; close = k; rest = rest; spelled = refl; is_gap = h; ends = or_right (eqb k 44) (eqb k k) (eq-eqb k k refl) }

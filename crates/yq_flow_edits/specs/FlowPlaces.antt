@@ -1,4 +1,4 @@
--- Where the bytes of an edit of a flow collection stand in the text, by the places of the collection's parts.
+-- Where the bytes of an edit of a flow collection are in the text, by the places of the collection's parts.
 use Rattle.std.specs.Option.{option_or}
 use Rattle.std.specs.Prelude.{ℕ, ◌+◌, ◌-◌, Bool, ◌&&◌, List, [], ◌∷◌, ◌++◌, drop, length, nat_le, nat_lt, Option, Some, None, option_map}
 use Rattle.std.specs.Prelude.{min, if◌then◌else◌}
@@ -9,7 +9,7 @@ use Rattle.yq_core.specs.Places.{Placed, placed, CoreNode, nothing, name, text, 
 use Rattle.yq_core.{specs.Reading.flow_gap_len, specs.Trees.unplaced_key, specs.Tree.key_label}
 use Rattle.yq_flow_edits.{specs.declared.flow_place.EditPlace.EditPlace, specs.FlowEdits.FlowEdit}
 
--- where bytes that give way begin and end, and what takes their place before that which is written (own)
+-- where bytes that are replaced begin and end, and what takes their place before that which is written (own)
 pub record PlacedEdit : Type 0 where
   pub start : ℕ
   pub end : ℕ
@@ -23,7 +23,7 @@ edit_view p = record { start = p.start; end = p.end; lead = p.lead.now }
 abbrev pub place_edit : ℕ → FlowEdit → PlacedEdit
 place_edit total e = record { start = total - length (e.old ++ e.behind); end = total - length e.behind; lead = e.lead }
 
--- in the place of a content, or where nothing is written behind the node and a space (own)
+-- in the place of a content, or where nothing is written after the node and a space (own)
 abbrev pub replace_at : ℕ → Option (ℕ × ℕ) → PlacedEdit
 replace_at e None = record { start = e; end = e; lead = 32 ∷ [] }
 replace_at e (Some p) = record { start = p.0; end = p.1; lead = [] }
@@ -38,12 +38,12 @@ last_end end = None
 last_end (part key n end) = Some (end_of n)
 last_end (part key n (part j m parts)) = last_end (part j m parts)
 
--- behind the last item or entry and a comma, or at a place if there is none (own)
+-- after the last item or entry and a comma, or at a place if there is none (own)
 abbrev pub append_at : ℕ → Option ℕ → PlacedEdit
 append_at at None = record { start = at; end = at; lead = [] }
 append_at at (Some e) = record { start = e; end = e; lead = 44 ∷ (32 ∷ []) }
 
--- the same in a content from c to e: the first item or entry is written right behind the opening bracket (own)
+-- the same in a content from c to e: the first item or entry is written right after the opening bracket (own)
 abbrev pub append_in : ℕ → ℕ → CoreNode → Option PlacedEdit
 append_in c e nothing = None
 append_in c e (name n) = None
@@ -60,7 +60,7 @@ abbrev pub first_start : Parts → Option ℕ
 first_start end = None
 first_start (part key n parts) = Some (entry_start (key, n))
 
--- an LF stands before this place (own)
+-- an LF comes before this place (own)
 abbrev pub behind_feed : List ℕ → ℕ → Bool
 behind_feed t at = nat_lt 0 at && front is_feed (drop (at - 1) t)
 

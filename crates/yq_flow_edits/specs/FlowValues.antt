@@ -6,8 +6,8 @@ use Rattle.yq_flow_edits.specs.FlowEdits.{FitsItem, FitsNode}
 use Rattle.yq_core.specs.Tree as tree
 use Rattle.yq_core.specs.Scalars as scalars
 
--- A text spells an entry of a flow mapping: before what stands behind an entry, and where so many collections may be nested, it is the text of one
--- with that key, whose node stands for the tree (YAML 1.2.2, section 7.4.2).
+-- A text spells an entry of a flow mapping: before what comes after an entry, and where so many collections may be nested, it is the text of one
+-- with that key, whose node means the tree (YAML 1.2.2, section 7.4.2).
 pub record SpellsEntry (k : List ℕ) (v : tree.Node) (t : List ℕ) : Type 0 where
   pub key : Key
   pub node : FlowNode
@@ -16,7 +16,7 @@ pub record SpellsEntry (k : List ℕ) (v : tree.Node) (t : List ℕ) : Type 0 wh
   pub same_key : key_content key ≡ Some k
   pub same : tree_of node ≡ v
 
--- A text spells a scalar in flow collections: it stands for the scalar, is one line of a text, and may be put before what stands behind an item or
+-- A text spells a scalar in flow collections: it means the scalar, is one line of a text, and may be put before what comes after an item or
 -- entry (YAML 1.2.2, section 7.3).
 pub record SpellsInFlow (s : ScalarText) (p : List ℕ) : Type 0 where
   pub same : scalars.scalar_of p ≡ s

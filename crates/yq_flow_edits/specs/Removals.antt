@@ -28,7 +28,7 @@ pub record IsApartFrom (line : Bool) (p u : List ℕ) : Type 0 where
   pub unmarked : (ends_marked line p && separates u) ≡ false
   pub unbroken : (ends_return p && front is_feed u) ≡ false
 
--- a space between a gap and an item that comes to stand behind it, if the gap ends a line and the item begins with `---` or `...` (own)
+-- a space between a gap and an item that ends up after it, if the gap ends a line and the item begins with `---` or `...` (own)
 abbrev pub space_to : List ℕ → List ℕ → List ℕ
 space_to g t = if fresh false g && begins_marker t then 32 ∷ [] else []
 
@@ -36,21 +36,21 @@ space_to g t = if fresh false g && begins_marker t then 32 ∷ [] else []
 abbrev pub gap_to : List ℕ → List ℕ → List ℕ
 gap_to g t = g ++ space_to g t
 
--- what stands behind an item with another gap behind its comma (own)
+-- what comes after an item with another gap after its comma (own)
 abbrev pub with_gap : List ℕ → Sep → Sep
 with_gap g (last b) = last (b ++ g)
 with_gap g (comma b h) = comma b g
 
--- the gap behind an item's comma (own)
+-- the gap after an item's comma (own)
 abbrev pub gap_of : Sep → List ℕ
 gap_of (last b) = []
 gap_of (comma b g) = g
 
--- An edit of what stands behind an item is one of the items from that one on (own).
+-- An edit of what comes after an item is one of the items from that one on (own).
 abbrev pub edit_from_item : List ℕ → Key → FlowNode → Sep → FlowEdit → FlowEdit
 edit_from_item g key n sep e = record { gap = g; items = item key n (with_gap e.gap sep) e.items; old = e.old; lead = e.lead; written = e.written; behind = e.behind }
 
--- an item behind a gap goes up to the next one; nothing, if none follows it (own)
+-- an item after a gap goes up to the next one; nothing, if none follows it (own)
 abbrev pub before_next : ℕ → List ℕ → List ℕ → Key → FlowNode → Sep → Items → Option FlowEdit
 before_next k rest g key n sep none = None
 before_next k rest g key n sep (item key2 n2 sep2 is) =
@@ -73,14 +73,14 @@ abbrev pub last_gone : ℕ → List ℕ → List ℕ → Key → FlowNode → Se
 last_gone k rest g key n sep key2 n2 sep2 =
     record { gap = g; items = item key n sep2 none; old = next_text sep key2 n2; lead = []; written = []; behind = sep_text sep2 (k ∷ rest) }
 
--- the last item goes up to the comma behind it, or a comma comes in its place if there is none (own)
+-- the last item goes up to the comma after it, or a comma comes in its place if there is none (own)
 abbrev pub comma_left : ℕ → List ℕ → List ℕ → Key → FlowNode → Sep → Key → FlowNode → Sep → FlowEdit
 comma_left k rest g key n sep key2 n2 (last b) =
     record { gap = g; items = item key n (comma [] b) none; old = next_text sep key2 n2; lead = 44 ∷ []; written = []; behind = b ++ (k ∷ rest) }
 comma_left k rest g key n sep key2 n2 (comma b h) =
     record { gap = g; items = item key n (comma [] h) none; old = next_text sep key2 n2 ++ b; lead = []; written = []; behind = 44 ∷ (h ++ (k ∷ rest)) }
 
--- The last one: a comma stays behind an item that ends in `---` or `...` in column 0, which would else become a document marker (own).
+-- The last one: a comma stays after an item that ends in `---` or `...` in column 0, which would else become a document marker (own).
 abbrev pub last_removed : ℕ → List ℕ → List ℕ → Key → FlowNode → Sep → Key → FlowNode → Sep → FlowEdit
 last_removed k rest g key n sep key2 n2 sep2 =
     if ends_marked (fresh false g)
@@ -92,7 +92,7 @@ last_out k rest s g key n sep none = None
 last_out k rest s g key n sep (item key2 n2 sep2 none) = if is_here s (key_label (key_content key2)) then Some (last_removed k rest g key n sep key2 n2 sep2) else None
 last_out k rest s g key n sep (item key2 n2 sep2 (item key3 n3 sep3 is)) = None
 
--- the item at a step is taken out of the items behind a gap; nothing for a sole one (own)
+-- the item at a step is taken out of the items after a gap; nothing for a sole one (own)
 abbrev pub removing_from : ℕ → List ℕ → Step → List ℕ → Items → Option FlowEdit
 removing_from k rest s g none = None
 removing_from k rest s g (item key n sep is) =

@@ -1,4 +1,4 @@
--- The trees that values stand for, and the texts that spell them.
+-- The trees that values mean, and the texts that spell them.
 use Rattle.std.{specs.Prelude.{◌≡◌, ℕ, ◌+◌, ◌≤◌, Bool, true, false, List, ◌++◌, Option, Some, None, ⊤, ℤ}, specs.Str.IsUtf8}
 use Rattle.yq_core.{specs.declared.style.Place.Place, specs.Characters.is_text, specs.Keys.depth, specs.Piece.further_spaces}
 use Rattle.yq_core.{specs.Plain.{ends_plain, holds_break}, specs.Scalar.{ScalarText, IsScalar}, specs.Tree.key_label}
@@ -30,7 +30,7 @@ abbrev mutual
   AreValueTrees keyed (tree.child label n cs) = IsLabel keyed label × IsValueTree n × AreValueTrees keyed cs
 
 -- A text spells a tree: before any rest at which a plain scalar ends, and where so many collections may be nested, it is the text of an inline
--- node that stands for the tree (YAML 1.2.2, sections 3.2.1, 7.3 and 7.4).
+-- node that means the tree (YAML 1.2.2, sections 3.2.1, 7.3 and 7.4).
 pub record Spells (v : tree.Node) (t : List ℕ) : Type 0 where
   pub node : FlowNode
   pub written : (rest : List ℕ) → node_text node rest ≡ t ++ rest
@@ -38,7 +38,7 @@ pub record Spells (v : tree.Node) (t : List ℕ) : Type 0 where
       ends_plain (in_flow place) (further_spaces place n) rest ≡ true → IsInline place n around node rest
   pub same : tree_of node ≡ v
 
--- A text spells a scalar outside flow collections: it stands for the scalar, is one line of a text, and is a scalar before any rest at which a plain
+-- A text spells a scalar outside flow collections: it means the scalar, is one line of a text, and is a scalar before any rest at which a plain
 -- one ends (YAML 1.2.2, section 7.3).
 pub record SpellsScalar (s : ScalarText) (p : List ℕ) : Type 0 where
   pub same : scalars.scalar_of p ≡ s

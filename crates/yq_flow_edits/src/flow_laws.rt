@@ -12,7 +12,7 @@ ghost use Rattle.yq_flow_edits.{specs.Valued.{IsLabel, IsValid, IsValueTree, Spe
 ghost use Rattle.yq_core.specs.Tree as tree;
 ghost use Rattle.yq_core.specs.Written as scalars;
 
-/// The content of an item or entry of a flow collection gives way to another node, behind its own
+/// The content of an item or entry of a flow collection is replaced by another node, after its own
 /// anchor.
 pub fn replaced_in_flow()
     // To any node that may be put there.
@@ -33,10 +33,10 @@ pub fn replaced_in_flow()
         (changed_at (x.steps ++ (s ∷ [])) (put_value (scalar_node v))) }
 {}
 
-/// A flow collection gets one more item or entry: behind the last one, or right behind the opening
+/// A flow collection gets one more item or entry: after the last one, or right after the opening
 /// bracket.
 pub fn appended_in_flow()
-    // Any item or entry that may stand there.
+    // Any item or entry that may be there.
     ensures item { (x : CollAt) (key : Key) (m : FlowNode) → IsCollAt x →
         FitsItem (room_in x) x.coll.close key m (behind_appended x.coll) →
         IsFlowEdited x (appending key m x.coll)
@@ -49,7 +49,7 @@ pub fn appended_in_flow()
 {}
 
 /// An item or entry that isn't the sole one is taken out of a flow collection, in a text in which an LF
-/// stands behind each CR.
+/// comes after each CR.
 pub fn removed_in_flow()
     ensures { (x : CollAt) (s : Step) (e : FlowEdit) → IsCollAt x → removing s x.coll ≡ Some e →
         pairs_returns (node_text x.node x.rest) ≡ true →

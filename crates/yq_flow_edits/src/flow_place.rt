@@ -1,4 +1,4 @@
-//! Where the bytes of an edit of a flow collection stand.
+//! Where the bytes of an edit of a flow collection are.
 ghost use Rattle.std.specs.Prelude.{◌≡◌, option_map};
 ghost use Rattle.yq_core.specs.View.{inline_view};
 ghost use Rattle.yq_core.specs.Entries as places;
@@ -7,8 +7,8 @@ ghost use Rattle.yq_flow_edits.specs.FlowPlaces as spec;
 
 use yq_core::{Form, Inline, Piece};
 
-/// Where an edit changes a text, in bytes: what stands from `start` to `end` gives way to `lead` and,
-/// behind that, to what is written.
+/// Where an edit changes a text, in bytes: what is from `start` to `end` is replaced by `lead` and,
+/// after that, to what is written.
 #[derive(Clone, Copy)]
 pub struct EditPlace {
     pub start: usize,
@@ -50,7 +50,7 @@ fn map_end(entries: &Vec<(String, Piece, Inline<'_>)>) -> Option<usize>
     entries_end(entries.as_slice())
 }
 
-/// Where one more is written: behind the last one, or at a place if there is none.
+/// Where one more is written: after the last one, or at a place if there is none.
 fn append_at(at: usize, last: Option<usize>) -> EditPlace
     ensures { spec.edit_view result ≡ spec.append_at at last }
 {
@@ -68,7 +68,7 @@ fn append_at(at: usize, last: Option<usize>) -> EditPlace
     }
 }
 
-/// Where another content of the node is written: in the place of its content, or behind the node
+/// Where another content of the node is written: in the place of its content, or after the node
 /// and a space where nothing but perhaps an anchor is written.
 pub fn replace_place(node: &Inline<'_>) -> EditPlace
     ensures { spec.edit_view result ≡ spec.replace_place (inline_view node.now) }
@@ -87,7 +87,7 @@ pub fn replace_place(node: &Inline<'_>) -> EditPlace
     }
 }
 
-/// Where one more item or entry is written: behind the last one, or right behind the opening
+/// Where one more item or entry is written: after the last one, or right after the opening
 /// bracket. Nothing where the node is no collection.
 pub fn append_place(node: &Inline<'_>) -> Option<EditPlace>
     ensures { option_map spec.edit_view result ≡ spec.append_place (inline_view node.now) }

@@ -1,4 +1,4 @@
-//! Where the bytes of an item or entry of a flow collection stand that is taken out.
+//! Where the bytes of an item or entry of a flow collection are that is taken out.
 ghost use Rattle.std.specs.Prelude.{◌≡◌, drop, option_map};
 ghost use Rattle.yq_core.specs.View.{inline_view};
 ghost use Rattle.yq_core.specs.Paths as paths;
@@ -10,7 +10,7 @@ use crate::flow_place::{EditPlace, end_of};
 use yq_core::text::begins_marker;
 use yq_core::{Form, Inline, Piece, Step, first_is, gap_len};
 
-/// What stands behind so many bytes.
+/// What comes after so many bytes.
 pub fn behind(text: &[u8], at: usize) -> &[u8]
     ensures { result.now ≡ drop at text.now }
 {
@@ -21,7 +21,7 @@ pub fn behind(text: &[u8], at: usize) -> &[u8]
     }
 }
 
-/// Whether an LF stands before a place.
+/// Whether an LF comes before a place.
 fn behind_feed(text: &[u8], at: usize) -> bool
     ensures { result ≡ spec.behind_feed text.now at }
 {

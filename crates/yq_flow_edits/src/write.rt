@@ -11,7 +11,7 @@ use yq_core::{Kind, Place, Scalar, Style, Value};
 use yq_scalar::write_scalar;
 use yq_scalar_reader::can_write;
 
-/// Whether the scalar stands plain there.
+/// Whether the scalar is plain there.
 #[tactic(auto, unfolding(yq_core::specs::Writable::can_write_plain), using(yq_core::proofs::NodesWrittenLaws::other_plain))]
 fn is_plain(scalar: &Scalar, place: Place) -> bool
     ensures value { result ≡ writable.can_write scalar.now Plain place }

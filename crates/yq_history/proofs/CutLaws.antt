@@ -27,6 +27,6 @@ module _ (f j u : List ℕ) (started s : State) (c : FileMap) where
       inl (subst (λ x. IsJournal x started) (sym (ap (λ m. get m j) put ∙ get_other e f u j (λ x. apart (sym x)))) open_there),
     )
 
-  -- the journal behind the move was written, with the new text in the file
+  -- the journal after the move was written, with the new text in the file
   pub cut_settled : (d : FileMap) → get d f ≡ Some u → IsJournal (get d j) s → IsCutShort u started s f j c d
   cut_settled d text journal = inr (text, inr journal)

@@ -62,7 +62,7 @@ journal_left f j c d t started z r there same journal cut out = record {
 
 -- ---- moves
 
--- a move that stands leads to its text
+-- a move that applies leads to its text
 pub way_free : (records : List Record) (at : ℕ) (step : Move) (t u : List ℕ) (started z : State) →
     way_fault records at step t ≡ None → moved_text records at step t ≡ Some u → goes_to (no_way records at step) (moved_text records at step t) started z ≡ writes_both u started z
 way_free records at step t u started z free is =

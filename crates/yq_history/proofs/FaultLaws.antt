@@ -1,4 +1,4 @@
--- What is told where a call within a move failed.
+-- What is reported where a call within a move failed.
 use Rattle.std.proofs.Common.{◌≡◌, ℕ, true, false, List, Some, None, Result, Ok, Err, OnOk, IfErr, IfSome, IsTrue, IsNone, option_map}
 use Rattle.std.{proofs.Common.{is_some, if◌then◌else◌, sym, ap, ◌∙◌, subst, refl, true≢false}, specs.Option.option_or}
 use Rattle.std.proofs.lemmas.Option.{same_Some, none-some}
@@ -13,11 +13,11 @@ use Rattle.yq_journal.specs.declared.fault.JournalError.TheVariants as error
 use Rattle.yq_journal.specs.declared.fault.JournalFault.TheVariants as journal
 use Rattle.yq_store.specs.declared.store.FileWriteError.TheVariants as write
 
--- what is told of an error
+-- what is known of an error
 pub told : {T : Type 0} (P : Fault → Type 0) (r : Result T Fault) (e : Fault) → r ≡ Err e → P e → IfErr r P
 told P r e is h = subst (λ x. IfErr x P) (sym is) h
 
--- nothing is told of a success
+-- nothing is known of a success
 pub no_success : {T : Type 0} (P : Type 0) (r : Result T Fault) (e : Fault) → r ≡ Err e → OnOk r P
 no_success P r e is = subst (λ x. OnOk x P) (sym is) tt
 
@@ -87,7 +87,7 @@ module _ (s : State) (step : Move) (t u : List ℕ) (settled : IsNone s.pending)
     | Some y ↦ λ e. e
   ] (sym way_of ∙ is)
 
-  -- its fault is the one that is told
+  -- its fault is the one that is reported
   pub start_fault : (x : JournalError) → ErrorIs x (move_fault s step t) → is_outer_fault (of_journal x) ≡ false → option_map of_fault (no_way s.records s.at step) ≡ Some (of_journal x)
   start_fault error.Memory is inside = absurd (true≢false inside)
   start_fault (error.Fault f) is inside = ap (option_map of_fault) (no_way_named f is)

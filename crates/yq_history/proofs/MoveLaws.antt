@@ -151,7 +151,7 @@ no_way_free records at step t free = elim (no_way records at step) as (λ o. opt
   | Some y ↦ λ e. absurd (none-some y (sym e))
 ] free
 
--- what is known behind a move of a pair from one text to another, by its contract: it was carried out from any history, or cut short; or the journal had no way for it
+-- what is known after a move of a pair from one text to another, by its contract: it was carried out from any history, or cut short; or the journal had no way for it
 pub record IsMove {T : Type 0} (c d : FileMap) (f j : List ℕ) (s : State) (t u : List ℕ) (step : Move) (r : Result T Fault) : Type 0 where
   pub leads : moved_text s.records s.at step t ≡ Some u
   pub ok : (h : History) → PairAtRest c f j s t h → OnOk r (PairStands d f j (after_move h step u))
@@ -165,7 +165,7 @@ pub record IsMove {T : Type 0} (c d : FileMap) (f j : List ℕ) (s : State) (t u
 
 -- an undo or a redo of a pair
 module _ (f j : List ℕ) (h : History) (w : Direction) where
-  -- the pair behind it
+  -- the pair after it
   abbrev pub MoveDone : {T : Type 0} → FileMap → Result T Fault → Type 0
   MoveDone d r = Arrives d f j (move_cause (walk_move w) (Some h)) (Some h) (move_next (walk_move w) (Some h)) r
 

@@ -13,7 +13,7 @@ pub line_is : {E : Type 0} (r : Result (String Global) E) (n : ℕ) (state expr 
 line_is (Ok s) n state expr word text p q is = is ∙ ap₂ (λ x y. ((decimal n ++ x) ++ y) ++ 10 ∷ []) p q
 line_is (Err e) n state expr word text p q is = tt
 
--- the lines behind n, of one record more
+-- the lines after n, of one record more
 lines_more_at : (n done m : ℕ) (rs : List Record) (i : ℕ) (r : Record) → m ≡ n + i → slice_get rs i ≡ Some r →
     listing_after n done (map (λ (q : Record). q.expr) (take (suc i) rs)) ≡ listing_after n done (map (λ (q : Record). q.expr) (take i rs)) ++ edit_line (m + 1) (nat_lt m done) r.expr
 lines_more_at n done m [] i r is found = cc

@@ -10,7 +10,7 @@ use Rattle.yq_history.{specs.Faults.{is_outer_fault, of_fault}, specs.Listing.re
 use Rattle.yq_store.specs.FileMap.{FileMap}
 
 -- what a command does: it is refused; it writes nothing and prints these bytes; or it prints nothing, and leaves this text in the file
--- and the second of these journals beside it, where the first one, in which its move is open, stands until the text does
+-- and the second of these journals beside it, where the first one, in which its move is open, is until the text does
 pub data Effect : Type 0 where
   refuses : Cause → Effect
   writes_nothing : List ℕ → Effect
@@ -35,7 +35,7 @@ from_pair (Some t) journal go = from_journal (journal_beside journal) t go
 abbrev pub from_names : FileMap → List ℕ → List ℕ → (List ℕ → State → Effect) → Effect
 from_names c file journal go = from_pair (get c file) (get c journal) go
 
--- what a move does, by the text to which it leads, the journal in which it is open, and that behind it; J3 where it leads nowhere
+-- what a move does, by the text to which it leads, the journal in which it is open, and that after it; J3 where it leads nowhere
 abbrev pub leads_to : Option (List ℕ) → State → State → Effect
 leads_to None started s = refuses (named DoesNotStand)
 leads_to (Some u) started s = writes_both u started s
@@ -68,7 +68,7 @@ printed_by (writes_nothing o) = o
 printed_by _ = []
 
 -- what a command leaves that was cut short: the file as it was, and the journal so too or with the move open; or the new text in the file,
--- and beside it the journal with the move open, or the one behind it
+-- and beside it the journal with the move open, or the one after it
 abbrev pub IsCutShort : List ℕ → State → State → List ℕ → List ℕ → FileMap → FileMap → Type 0
 IsCutShort u started s file journal old new =
     ((get new file ≡ get old file) × ((get new journal ≡ get old journal) ⊎ IsJournal (get new journal) started))

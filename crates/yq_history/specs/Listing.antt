@@ -12,7 +12,7 @@ state_word false = codes " undone "
 abbrev pub edit_line : ℕ → Bool → List ℕ → List ℕ
 edit_line number is_done expr = decimal number ++ state_word is_done ++ quoted expr ++ 10 ∷ []
 
--- the lines of the edits with these expressions behind the first n, of which so many are done
+-- the lines of the edits with these expressions after the first n, of which so many are done
 abbrev pub listing_after : ℕ → ℕ → List (List ℕ) → List ℕ
 listing_after n done [] = []
 listing_after n done (expr ∷ exprs) = edit_line (n + 1) (nat_lt n done) expr ++ listing_after (n + 1) done exprs

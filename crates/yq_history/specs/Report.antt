@@ -15,6 +15,6 @@ text bytes = record { printed = bytes; is_match = true }
 abbrev pub nothing : Report
 nothing = text []
 
--- what that of the code stands for
+-- what that of the code means
 abbrev pub report_by : declared.Report → Report
 report_by s = record { printed = string_bytes s.text; is_match = s.is_match }

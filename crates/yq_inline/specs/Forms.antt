@@ -7,10 +7,10 @@ use Rattle.yq_core.specs.Reading.{read_core, one_level_less, read_gap, kids_of}
 abbrev pub placed_form : Bool → Option ℕ → ℕ → ℕ → List ℕ → Option (CoreNode × List ℕ)
 placed_form flow spaces total d t = read_core flow spaces (kids_of d) t >>= λ x. Some (core_between total t x.0 x.1, x.1)
 
--- what follows an opening bracket and the gap behind it, where one more collection may be nested (own)
+-- what follows an opening bracket and the gap after it, where one more collection may be nested (own)
 abbrev pub after_bracket : ℕ → List ℕ → Option (List ℕ)
 after_bracket d t = one_level_less d (λ e. read_gap t >>= λ gap. Some gap.1)
 
--- what follows an item of a sequence and what stands behind it (own)
+-- what follows an item of a sequence and what comes after it (own)
 abbrev pub after_item : Placed → List ℕ → Option (List ℕ)
 after_item item t = if bare_placed item then None else past_sep 93 t

@@ -2,25 +2,9 @@
 ghost use Rattle.std.specs.Prelude.{◌≢◌};
 ghost use Rattle.yq_core.specs.declared.fault.FaultKind.TheVariants.{NotUtf8};
 
-use std::num::NonZeroU64;
+use yq_core::fault_place::fault;
 use yq_core::text::{behind_spaces, spaces_len};
 use yq_core::{FaultKind, ReadFault};
-
-/// A fault that begins where this rest of the whole text does.
-pub fn fault(kind: FaultKind, whole: &str, rest: &str) -> ReadFault
-    requires { kind ≢ NotUtf8 }
-    ensures { result.kind ≢ NotUtf8 }
-{
-    let before = whole
-        .as_bytes()
-        .split_at(whole.len().saturating_sub(rest.len()))
-        .0;
-    let breaks = before.iter().filter(|b| **b == b'\n').count() as u64;
-    ReadFault {
-        kind,
-        line: NonZeroU64::MIN.saturating_add(breaks),
-    }
-}
 
 /// The whole text from the line on which this rest of it begins.
 fn from_line<'t>(whole: &'t str, rest: &str) -> &'t [u8] {
@@ -32,9 +16,9 @@ fn from_line<'t>(whole: &'t str, rest: &str) -> &'t [u8] {
     }
 }
 
-/// Whether a flow collection behind whose bracket stood `open` is not closed before this rest of the
-/// whole text: at its end, and where a line that is indented no further than that of the bracket stands
-/// behind it, on which a key or dash stands before the bracket.
+/// Whether a flow collection after whose bracket was `open` is not closed before this rest of the
+/// whole text: at its end, and where a line that is indented no further than that of the bracket is
+/// after it, on which a key or dash comes before the bracket.
 fn is_unclosed(whole: &str, open: &str, rest: &str) -> bool {
     let opened = from_line(whole, open);
     let line = from_line(whole, rest);
@@ -42,7 +26,7 @@ fn is_unclosed(whole: &str, open: &str, rest: &str) -> bool {
     rest.is_empty() || (is_left && !matches!(behind_spaces(opened), [b'[' | b'{', ..]))
 }
 
-/// A fault in a flow collection behind whose bracket stood `open`: where this rest of the whole text
+/// A fault in a flow collection after whose bracket was `open`: where this rest of the whole text
 /// begins, or, where the collection isn't closed before it, where that begins.
 pub fn flow_fault(kind: FaultKind, whole: &str, open: &str, rest: &str) -> ReadFault
     requires { kind ≢ NotUtf8 }

@@ -1,4 +1,4 @@
-//! What stands behind the items of a sequence.
+//! What comes after the items of a sequence.
 ghost use Rattle.std.specs.Prelude.{◌≡◌, ◌≢◌, ◌≤◌, IfErr, IfOk, false, length};
 ghost use Rattle.yq_core.{specs.Answers.ReadsAs, specs.declared.fault.FaultKind.TheVariants.NotUtf8, specs.Places.bare_placed};
 ghost use Rattle.yq_core.specs.View.{inline_view};
@@ -9,8 +9,8 @@ use crate::pieces::{no_node, read_sep};
 use crate::reading::is_bare;
 use yq_core::{FaultKind, Inline, ReadFault};
 
-/// What follows an item and the comma behind it, if there is one; the item, which is not to be nothing,
-/// is in front of `text`, and behind the `[` stood `open`.
+/// What follows an item and the comma after it, if there is one; the item, which is not to be nothing,
+/// is in front of `text`, and after the `[` was `open`.
 pub(crate) fn read_behind<'t>(
     whole: &str,
     open: &str,

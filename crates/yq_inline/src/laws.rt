@@ -23,7 +23,7 @@ pub fn one_tree()
         placed_tree (locate total node rest) ≡ tree_of node }
 {}
 
-/// Each item and entry to which a path leads stands in the text of the node where its places say, and
+/// Each item and entry to which a path leads is in the text of the node where its places say, and
 /// its node is an inline node there, in which one collection less may be nested for each step.
 pub fn entry_places()
     ensures places { (total : ℕ) (steps : List Step) (x : EntryPieces) →

@@ -1,10 +1,10 @@
-//! The gap between two tokens, and that behind an opening bracket, read.
+//! The gap between two tokens, and that after an opening bracket, read.
 ghost use Rattle.std.specs.Prelude.{◌≢◌, ◌≤◌, IfErr, IfOk, length};
 ghost use Rattle.yq_core.{specs.Answers.ReadsAs, specs.declared.fault.FaultKind.TheVariants.NotUtf8};
 ghost use Rattle.yq_inline.specs.Forms.{after_bracket};
 ghost use Rattle.yq_core.specs.Reading as reading;
 
-use crate::fault::fault;
+use yq_core::fault_place::fault;
 use yq_core::text::is_marker;
 use yq_core::{FaultKind, ReadFault, gap_len};
 
@@ -23,7 +23,7 @@ pub fn read_gap<'t>(whole: &str, text: &'t str) -> Result<(&'t str, &'t str), Re
     Ok((gap, rest))
 }
 
-/// What follows an opening bracket and the gap behind it, where so many collections may be nested still.
+/// What follows an opening bracket and the gap after it, where so many collections may be nested still.
 pub(crate) fn read_open<'t>(whole: &str, depth: usize, text: &'t str) -> Result<&'t str, ReadFault>
     ensures read { ReadsAs (λ x. x.now) result (after_bracket depth text.now) }
     ensures shorter { IfOk result (λ x. length x.now ≤ length text.now) }

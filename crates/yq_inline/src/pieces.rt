@@ -1,4 +1,4 @@
-//! The pieces of inline nodes, read one behind the other.
+//! The pieces of inline nodes, read one after the other.
 ghost use Rattle.std.{specs.Prelude.{◌≡◌, ◌≢◌, ◌<◌, ◌≤◌, IfErr, IfOk, length, true}, specs.List.prefix_len};
 ghost use Rattle.yq_core.{specs.Answers.ReadsAs, specs.Quoted.IsQuotedText, specs.declared.fault.FaultKind.TheVariants.NotUtf8};
 ghost use Rattle.yq_core.specs.Nodes as nodes;
@@ -6,8 +6,9 @@ ghost use Rattle.yq_core.specs.PlacedReading as reading;
 ghost use Rattle.yq_core.specs.Reading as spec;
 ghost use Rattle.yq_core.specs.Scalars as scalars;
 
-use crate::fault::{fault, flow_fault};
+use crate::fault::flow_fault;
 use crate::lead::read_gap;
+use yq_core::fault_place::fault;
 use yq_core::text::{is_white, separates, split_white};
 use yq_core::{FaultKind, ReadFault, first_is, is_quoted, strip};
 use yq_scalar_reader::plain::{begins_plain, holds_break, is_flow_indicator, split_plain};
@@ -123,7 +124,7 @@ pub fn read_scalar<'t>(
     Ok(split_plain(flow, spaces, text))
 }
 
-/// What stands between an anchor and its node, and what follows it.
+/// What is between an anchor and its node, and what follows it.
 fn read_apart<'t>(flow: bool, whole: &str, text: &'t str) -> Result<(&'t str, &'t str), ReadFault>
     ensures read { ReadsAs (λ x. (x.0.now, x.1.now)) result (spec.apart_at flow text.now) }
     ensures shorter { IfOk result (λ x. length x.1.now ≤ length text.now) }
@@ -136,7 +137,7 @@ fn read_apart<'t>(flow: bool, whole: &str, text: &'t str) -> Result<(&'t str, &'
     }
 }
 
-/// The same, if a content begins behind it.
+/// The same, if a content begins after it.
 #[tactic(auto, unfolding(yq_core::specs::Reading::lead_at))]
 pub fn read_lead<'t>(
     flow: bool,
@@ -156,7 +157,7 @@ pub fn read_lead<'t>(
     }
 }
 
-/// The gap behind a `:`, if a node begins behind it.
+/// The gap after a `:`, if a node begins after it.
 #[tactic(auto, unfolding(yq_core::specs::Reading::lead_at))]
 fn read_value_lead<'t>(whole: &str, text: &'t str) -> Result<(&'t str, &'t str), ReadFault>
     ensures read { ReadsAs (λ x. (x.0.now, x.1.now)) result
@@ -179,7 +180,7 @@ fn ends_key(piece: &str, text: &[u8]) -> bool
     is_quoted(piece.as_bytes()) || separates(text) || first_is(b',', text) || first_is(b'}', text)
 }
 
-/// What follows the `:` of a key; behind the mapping's `{` stood `open`.
+/// What follows the `:` of a key; after the mapping's `{` was `open`.
 #[tactic(auto, unfolding(yq_core::specs::Reading::after_colon))]
 fn read_colon<'t>(piece: &str, whole: &str, open: &str, text: &'t str) -> Result<&'t str, ReadFault>
     ensures read { ReadsAs (λ x. x.now) result (spec.after_colon piece.now text.now) }
@@ -192,7 +193,7 @@ fn read_colon<'t>(piece: &str, whole: &str, open: &str, text: &'t str) -> Result
     }
 }
 
-/// What follows an item and the comma behind it, if there is one; behind the collection's bracket stood
+/// What follows an item and the comma after it, if there is one; after the collection's bracket was
 /// `open`.
 #[tactic(auto, unfolding(yq_core::specs::Reading::sep_at, yq_core::specs::Reading::sep_behind))]
 pub fn read_sep<'t>(close: u8, whole: &str, open: &str, text: &'t str) -> Result<&'t str, ReadFault>
@@ -213,8 +214,8 @@ pub fn read_sep<'t>(close: u8, whole: &str, open: &str, text: &'t str) -> Result
     }
 }
 
-/// A key with what quotes it, and what follows its `:` and the gap behind it; behind the mapping's `{`
-/// stood `open`.
+/// A key with what quotes it, and what follows its `:` and the gap after it; after the mapping's `{`
+/// was `open`.
 #[tactic(auto, unfolding(yq_core::specs::Reading::read_flow_key))]
 pub fn read_key<'t>(whole: &str, open: &str, text: &'t str) -> Result<(&'t str, &'t str), ReadFault>
     ensures read { ReadsAs (λ x. (x.0.now, x.1.now)) result (reading.split_key text.now) }

@@ -4,10 +4,10 @@ ghost use Rattle.yq_core.{specs.Answers.{Gives, IsOfText}, specs.declared.style.
 ghost use Rattle.yq_core.{specs.Spans.{HasSpans, IsNested}, specs.View.inline_view};
 ghost use Rattle.yq_core.specs.Inline as spec;
 
-use crate::fault::fault;
 use crate::pieces::no_node;
 use crate::reading::{is_bare, read_node};
 use std::alloc::Global;
+use yq_core::fault_place::fault;
 use yq_core::{DEPTH_LIMIT, FaultKind, Inline, Place, ReadError, further_spaces};
 use yq_scalar_reader::in_flow;
 
@@ -41,9 +41,9 @@ fn inline_at<'t>(
 }
 
 /// The inline node that begins at an offset, in bytes, of a text. `indent` is the indentation of its
-/// parent, in columns, and -1 below no parent; `depth` is how many collections stand round the node.
+/// parent, in columns, and -1 below no parent; `depth` is how many collections are round the node.
 ///
-/// The node is something, if only an anchor. Outside flow collections what an anchor stands before is on
+/// The node is something, if only an anchor. Outside flow collections what an anchor comes before is on
 /// the anchor's line. A node with which more than 64 collections would be
 /// nested is refused, before it is read.
 #[tactic(auto, using(yq_core::proofs::InlineLaws::inline_laws, yq_core::proofs::SpanLaws::spans_by, yq_core::proofs::NestedLaws::nested_by))]
@@ -66,7 +66,7 @@ pub fn read_inline<'t>(
         Gives inline_view result (Some p) }
     // Its places lie in order, each at a character of the text or at its end.
     ensures spans { IfOk result (λ node. HasSpans text.now (inline_view node)) }
-    // Its parts lie inside it, one behind the other, each key before its value.
+    // Its parts lie inside it, one after the other, each key before its value.
     ensures nested { IfOk result (λ node. IsNested (inline_view node)) }
     // A fault is never that the bytes are not UTF-8.
     ensures fault { IfErr result IsOfText }

@@ -5,12 +5,12 @@ ghost use Rattle.yq_inline.specs.Forms.{placed_form};
 ghost use Rattle.yq_core.specs.Places as spec;
 ghost use Rattle.yq_core.specs.PlacedReading as reading;
 
-use crate::fault::fault;
 use crate::item::read_behind;
 use crate::lead::read_open;
 use crate::pieces::{begins_content, read_lead, read_name, read_sep};
 use crate::scalar::{read_entry_key, read_text};
 use std::alloc::Global;
+use yq_core::fault_place::fault;
 use yq_core::{FaultKind, Form, Inline, Piece, ReadError, strip};
 
 /// A node without an anchor between two rests of the whole text.
@@ -36,14 +36,14 @@ pub(crate) fn is_bare(node: &Inline<'_>) -> bool
     node.anchor.is_none() && matches!(node.form, Form::Empty)
 }
 
-/// Whether an anchor may stand before the node.
+/// Whether an anchor may come before the node.
 fn takes_anchor(node: &Inline<'_>) -> bool
     ensures { result ≡ reading.takes_placed (inline_view node.now) }
 {
     node.anchor.is_none() && !matches!(node.form, Form::Alias(_))
 }
 
-/// Whether the node may stand behind an anchor and this gap.
+/// Whether the node may come after an anchor and this gap.
 fn stands_behind(gap: &str, node: &Inline<'_>) -> bool
     ensures { result ≡ reading.stands_behind gap.now (inline_view node.now) }
 {
@@ -162,7 +162,7 @@ fn read_form<'t>(
     Ok((Form::Empty, text))
 }
 
-/// A sequence behind its `[`, and what follows it.
+/// A sequence after its `[`, and what follows it.
 #[cycle(nodes)]
 fn read_sequence<'t>(
     alloc: Global,
@@ -183,7 +183,7 @@ fn read_sequence<'t>(
     }
 }
 
-/// A mapping behind its `{`, and what follows it.
+/// A mapping after its `{`, and what follows it.
 #[cycle(nodes)]
 fn read_mapping<'t>(
     alloc: Global,
@@ -204,7 +204,7 @@ fn read_mapping<'t>(
     }
 }
 
-/// The item in front up to behind its `,`, and what follows; behind the `[` stood `open`.
+/// The item in front up to after its `,`, and what follows; after the `[` was `open`.
 #[cycle(nodes)]
 fn read_item<'t>(
     alloc: Global,
@@ -228,7 +228,7 @@ fn read_item<'t>(
     }
 }
 
-/// The items in front, and what follows their `]`; behind their `[` stood `open`.
+/// The items in front, and what follows their `]`; after their `[` was `open`.
 #[cycle(nodes)]
 #[tactic(auto, using(yq_core::proofs::Steps::items_more, yq_core::proofs::Steps::items_end))]
 fn read_items<'t>(
@@ -257,7 +257,7 @@ fn read_items<'t>(
     }
 }
 
-/// The entry in front up to behind its `,`, and what follows; behind the `{` stood `open`.
+/// The entry in front up to after its `,`, and what follows; after the `{` was `open`.
 #[cycle(nodes)]
 fn read_entry<'t>(
     alloc: Global,
@@ -278,7 +278,7 @@ fn read_entry<'t>(
     Ok(((key, piece, value), rest))
 }
 
-/// The entries in front, and what follows their `}`; behind their `{` stood `open`.
+/// The entries in front, and what follows their `}`; after their `{` was `open`.
 #[cycle(nodes)]
 #[tactic(auto, using(yq_core::proofs::Steps::entries_more, yq_core::proofs::Steps::items_end))]
 fn read_entries<'t>(

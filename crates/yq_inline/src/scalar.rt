@@ -1,4 +1,4 @@
-//! Scalars and keys with what they stand for and their pieces.
+//! Scalars and keys with what they mean and their pieces.
 ghost use Rattle.std.specs.Prelude.{◌≡◌, ◌<◌, ◌≤◌, IfErr, IfOk, length, string_bytes, true};
 ghost use Rattle.yq_core.{specs.Answers.{Gives, IsOfText}, specs.Quoted.IsQuotedText, specs.Written.IsOneLine, specs.View.form_view};
 ghost use Rattle.yq_core.specs.PlacedReading as reading;
@@ -22,7 +22,7 @@ pub fn style_of(piece: &[u8]) -> Style
     }
 }
 
-/// The text that a scalar, as it is written, stands for.
+/// The text that a scalar, as it is written, means.
 #[tactic(auto, unfolding(yq_core::specs::Scalars::scalar_content))]
 fn content_of(alloc: Global, piece: &str) -> Result<String, AllocError>
     requires { scalars.is_quoted piece.now ≡ true → IsQuotedText piece.now }
@@ -35,7 +35,7 @@ fn content_of(alloc: Global, piece: &str) -> Result<String, AllocError>
     }
 }
 
-/// The scalar that it stands for.
+/// The scalar that it means.
 #[tactic(auto, unfolding(yq_core::specs::Scalars::scalar_of))]
 fn scalar_of(alloc: Global, piece: &str) -> Result<Scalar, AllocError>
     requires { scalars.is_quoted piece.now ≡ true → IsQuotedText piece.now }
@@ -73,7 +73,7 @@ pub(crate) fn read_text<'t>(
     Ok((Form::Scalar(scalar, place), rest))
 }
 
-/// The key in front with its content and piece, and what follows its `:`; behind the mapping's `{` stood
+/// The key in front with its content and piece, and what follows its `:`; after the mapping's `{` was
 /// `open`.
 pub(crate) fn read_entry_key<'t>(
     alloc: Global,

@@ -154,7 +154,7 @@ all_stand to_data of_data (x ∷ xs) k = ap₂ (λ o p. and_more o p) k.0.stands
 abbrev array_of : {A : Type 0} → (A → Data) → List A → Data
 array_of to_data xs = array (list_data to_data xs)
 
--- the things that an array stands for
+-- the things that an array means
 abbrev things_of : {A : Type 0} → (Data → Option A) → Data → Option (List A)
 things_of of_data d = option_and_then (each_of of_data) (as_array d)
 

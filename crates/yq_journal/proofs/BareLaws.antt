@@ -57,7 +57,7 @@ kept_padding : (n : ℕ) → AreKept (replicate n 61)
 kept_padding zero = tt
 kept_padding (suc n) = (padding_is_kept, kept_padding n)
 
--- base64 stands in a string of JSON as it is
+-- base64 is in a string of JSON as it is
 pub base64_escapes : (m : List ℕ) → IsBytes m → escape (encode_of standard m) ≡ encode_of standard m
 base64_escapes m h = escape_kept (encode_of standard m) (kept_append (encode_symbols symbols m) _ (kept_symbols m h) (kept_padding _))
 

@@ -1,4 +1,4 @@
--- What stands before and behind a cursor, as bytes go over it.
+-- What comes before and after a cursor, as bytes go over it.
 use Rattle.std.proofs.Common.{◌≡◌, ◌≢◌, ℕ, ◌+◌, ◌<◌, List, ◌++◌, length, take, drop, refl, sym, ap, ◌∙◌, arith, append_assoc, append-nil}
 use Rattle.std.{proofs.Common.{length-append, Some, None, rules}, specs.Prelude.reverse, proofs.lemmas.Grind.common_steps}
 use Rattle.std.proofs.Math.Seq.{drop-append_seam, take-append_seam}
@@ -13,11 +13,11 @@ append_same : (xs ys zs ws : List ℕ) → length xs ≡ length ys → xs ++ zs 
 append_same xs ys zs ws long same =
     sym (take-append_seam xs zs) ∙ ap (take (length xs)) same ∙ ap (λ n. take n (ys ++ ws)) long ∙ take-append_seam ys ws
 
--- bytes go from behind the cursor to before it, those that were moved back first
+-- bytes go from after the cursor to before it, those that were moved back first
 pub moved_over : (front back rest front' back' : List ℕ) (n : ℕ) → front' ++ reverse back' ≡ front ++ reverse back → (0 < n → length back' ≡ 0) → (front' ++ take n rest) ++ (reverse back' ++ drop n rest) ≡ front ++ (reverse back ++ rest)
 moved_over front back rest front' back' n h1 h2 = search (rules, append-nil, append_assoc, nil_from_length, over_rest)
 
--- bytes go from before the cursor to behind it
+-- bytes go from before the cursor to after it
 pub moved_back : (front back rest front' back' : List ℕ) → back' ++ reverse front' ≡ back ++ reverse front → front' ++ (reverse back' ++ rest) ≡ front ++ (reverse back ++ rest)
 moved_back front back rest front' back' same =
     let turned : front' ++ reverse back' ≡ front ++ reverse back =

@@ -110,7 +110,7 @@ redo_stands s h t k fits =
 pub way_of : (s : State) (t : List ℕ) (h : History) (step : Move) → AtRest s t h → no_way s.records s.at step ≡ step_fault h step
 way_of s t h step h1 = search (rules, same_length)
 
--- an undo of a journal at rest stands wherever the history has one
+-- an undo of a journal at rest applies wherever the history has one
 pub undo_fault : (s : State) (t : List ℕ) (h : History) → AtRest s t h → way_fault s.records s.at Undo t ≡ step_fault h Undo
 undo_fault s t h k =
     elim (s.at == 0) as (λ b. (s.at == 0) ≡ b → option_or (if b then Some fault.NothingToUndo else None) (if_moves (moved_text s.records s.at Undo t)) ≡ (if b then Some fault.NothingToUndo else None)) [
@@ -132,6 +132,6 @@ or_none : (o : Option JournalFault) → option_or o None ≡ o
 or_none None = refl
 or_none (Some f) = refl
 
--- an edit whose record stands before the text has the history's fault alone
+-- an edit whose record applies before the text has the history's fault alone
 pub edit_fault : (s : State) (t u : List ℕ) (h : History) (r : Record) → AtRest s t h → done r t ≡ Some u → way_fault s.records s.at (Edit r) t ≡ step_fault h (Edit r)
 edit_fault s t u h r k d = ap (option_or (no_way s.records s.at (Edit r))) (ap if_moves d) ∙ or_none (no_way s.records s.at (Edit r)) ∙ way_of s t h (Edit r) k

@@ -65,7 +65,7 @@ if_not : {A : Type 0} {o : Option A} {y : A} (b : Bool) → (if b then None else
 if_not true h = cc
 if_not false h = (refl, h)
 
--- where a move stands, the journal and its history go on together
+-- where a move applies, the journal and its history go on together
 pub move_moves : (s : State) (h : History) (t u : List ℕ) (step : Move) → AtRest s t h → moved_text s.records s.at step t ≡ Some u → AtRest (journal_after s step) u (after_move h step u)
 move_moves s h t u (Edit r) k m = edit_moves s h t u r k m
 move_moves s h t u Undo k m =

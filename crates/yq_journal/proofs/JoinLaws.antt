@@ -55,6 +55,6 @@ good_count rs at n some fits h = ap (λ b. if b then None else Some BadCount) (b
 pub split_first : (rs : List Record) (r : Record) → 1 ≤ length rs → r ≡ get_or rs 0 r → rs ≡ r ∷ take (length rs - 1) (drop 1 rs)
 split_first rs r h1 h2 = search (rules, take_all)
 
--- want of memory is told where there is no fault
+-- want of memory is reported where there is no fault
 pub reports_memory : {T : Type 0} (r : Result T JournalError) (e : JournalError) (o : Option JournalFault) → r ≡ Err e → e ≡ error.Memory → o ≡ None → IfErr r (λ x. Reports x o)
 reports_memory r e o is memory none = subst (λ x. IfErr x (λ y. Reports y o)) (sym (is ∙ ap Err memory)) none

@@ -84,7 +84,7 @@ read_more f vs i v found y target within is reads so_far =
     ∙ ap (λ o. option_map (λ ys. found ++ ys) (and_more o (each_of f (items_view (drop (i + 1) vs))))) (sym reads)
     ∙ sym (ap (λ l. option_map (λ ys. found ++ ys) (each_of f (items_view l))) (item_left vs i v within is)) ∙ so_far
 
--- an item that stands for nothing, and so the list
+-- an item that means nothing, and so the list
 pub read_none : {A : Type 0} (f : Data → Option A) (vs : List Value) (i : ℕ) (v : Value) (found : List A) (target : Option (List A)) → i < length vs → v ≡ get_or vs i v → f (view v) ≡ None
     → option_map (λ ys. found ++ ys) (each_of f (items_view (drop i vs))) ≡ target → None ≡ target
 read_none f vs i v found target within is reads so_far =

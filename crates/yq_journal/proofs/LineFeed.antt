@@ -1,4 +1,4 @@
--- A line feed behind a printed JSON text changes nothing of what is read.
+-- A line feed after a printed JSON text changes nothing of what is read.
 use Rattle.std.proofs.Common.{◌≡◌, ℕ, Bool, true, false, cond, ◌&&◌, List, [], ◌∷◌, ◌++◌, refl, sym, ap, ap₂, ◌∙◌, append_assoc, append-nil}
 use Rattle.std.proofs.Common.{rules}
 use Rattle.json.specs.Token.{Token, begin_object, end_object, begin_array, end_array, key, string, number, boolean, null, bad}
@@ -24,7 +24,7 @@ abbrev lexemes : Bool → List Token → List Lexeme
 lexemes c [] = []
 lexemes c (t ∷ ts) = cond (c && begins t) (comma ∷ []) [] ++ (token_lexemes t ++ lexemes (ends t) ts)
 
--- after a value stands a comma, a closing bracket, or what follows the text
+-- after a value is a comma, a closing bracket, or what follows the text
 ends_with : (ts : List Token) (r : List ℕ) → ends_word r ≡ true → ends_word (print_from true ts ++ r) ≡ true
 unfolding print_from
 ends_with [] r h = h

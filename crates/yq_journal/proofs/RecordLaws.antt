@@ -6,7 +6,7 @@ use Rattle.yq_text.specs.Splice.{Splice, swapped, change_done, all_done, flipped
 use Rattle.yq_text.proofs.SpliceLaws.{taken_back, done_again, flipped-append}
 use Rattle.yq_journal.specs.Record.{Record, if_length, done, undone}
 
--- what a record that stands says of the two texts
+-- what a record that applies says of the two texts
 pub record Stands (before_len after_len : ℕ) (changes : List Splice) (b c : List ℕ) : Type 0 where
   pub starts : length b ≡ before_len
   pub leads : all_done changes b ≡ Some c

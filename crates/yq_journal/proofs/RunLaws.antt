@@ -1,4 +1,4 @@
--- A run of a list gives way to one element, by turning the list.
+-- A run of a list is replaced by one element, by turning the list.
 use Rattle.std.proofs.Common.{◌≡◌, ℕ, suc, ◌+◌, ◌-◌, ◌≤◌, ◌<◌, List, [], ◌∷◌, ◌++◌, length, take, drop, set, sym, ap, ◌∙◌, arith}
 use Rattle.std.{proofs.Common.{append_assoc, length-drop}, proofs.Math.Seq.{drop-append_seam, take-append_seam}}
 use Rattle.std.{proofs.lemmas.Grind.common_steps, proofs.lemmas.List.take-take}
@@ -15,7 +15,7 @@ take_over [] ys n m is = let none : n + m ≡ m = omega (arith, is) in ap (λ k.
 take_over (x ∷ xs) ys zero m is = absurd (omega (arith, is))
 take_over (x ∷ xs) ys (suc n) m is = let more : suc n + m ≡ suc (n + m) = omega arith in ap (λ k. take k (x ∷ (xs ++ ys))) more ∙ ap (λ l. x ∷ l) (take_over xs ys n m (omega (arith, is)))
 
--- the list from a place on, then up to it, cut behind an element before that place, and turned back
+-- the list from a place on, then up to it, cut after an element before that place, and turned back
 pub turned : {A : Type 0} (xs : List A) (i e k : ℕ) (y : A) → i < e → e ≤ length xs → k ≡ length xs - e
     → drop k (take (k + i + 1) (drop e (set xs i y) ++ take e (set xs i y))) ++ take k (take (k + i + 1) (drop e (set xs i y) ++ take e (set xs i y)))
     ≡ take i xs ++ (y ∷ drop e xs)

@@ -14,7 +14,7 @@ use Rattle.yq_journal.{specs.State.{State, joined_of, last_done, squashed}, proo
 done_join : (r q : Record) (b c d : List ℕ) → done r b ≡ Some c → done q c ≡ Some d → done (join r q) b ≡ Some d
 done_join r q b c d e f = search (rules, stands_of, of_stands, all_done-append)
 
--- the text behind all of these
+-- the text after all of these
 text_end : List ℕ → List Revision → List ℕ
 text_end t [] = t
 text_end t (e ∷ es) = text_end e.text es
@@ -112,7 +112,7 @@ length-squashed_front : (h : History) (n : ℕ) → 1 ≤ n → n ≤ h.at → h
 unfolding squashed_front
 length-squashed_front h n some fits within = search (rules, length-take-le, length-drop, length-latest_of, length-append)
 
--- the text behind the joined edits is that behind these
+-- the text after the joined edits is that after these
 end_of_squash : (h : History) (n : ℕ)
     → text_end (text_end h.first (take (h.at - n) h.later)) (latest_of (drop (h.at - n) (take h.at h.later))) ≡ text_end h.first (take h.at h.later)
 end_of_squash h n =

@@ -1,4 +1,4 @@
--- Splices that can be done, told from the bytes of the text before them.
+-- Splices that can be done, found from the bytes of the text before them.
 use Rattle.std.proofs.Common.{◌≡◌, ◌≢◌, ◌⊎◌, ℕ, suc, ◌+◌, ◌-◌, ◌≤◌, ◌<◌, Bool, true, false, List, [], ◌∷◌, ◌++◌, length, take, drop, nat_le}
 use Rattle.std.proofs.Common.{Option, Some, None, refl, sym, ap, ◌∙◌, subst, arith, length-append, if◌then◌else◌, eq-eqb, rules}
 use Rattle.std.{specs.Prelude.{◌==◌, ◌^◌, option_and_then, slice_get, is_some}, proofs.Math.Seq.{drop-append_seam, take-append_seam}}
@@ -210,6 +210,6 @@ pub length-turned : (back : Bool) (ss : List Splice) → length (flipped_if back
 length-turned false ss = refl
 length-turned true ss = length-flipped ss
 
--- where lengths are within, splices that are done end with the length that is told
+-- where lengths are within, splices that are done end with the length that is reported
 pub ends_alike : (ss : List Splice) (n m : ℕ) (b : List ℕ) → lengths_done ss n ≡ Some m → length b ≡ n → is_some (all_done ss b) ≡ is_some (if length b == n then if_length m (all_done ss b) else None)
 ends_alike ss n m b lengths long = search (rules, lengths_follow, none-some, same_Some, eq-eqb)

@@ -13,7 +13,7 @@ changes_data cs = array (list_data change_data cs)
 abbrev pub records_data : List Record → Data
 records_data rs = array (list_data record_data rs)
 
--- the numbers of a thing's value are numbers of JSON, its text is read as that value, and the value stands for the thing (RFC 8259)
+-- the numbers of a thing's value are numbers of JSON, its text is read as that value, and the value means the thing (RFC 8259)
 pub record IsReadBack {A : Type 0} (to_data : A → Data) (of_data : Data → Option A) (x : A) : Type 0 where
   pub numbers : HasNumbers (outline (to_data x))
   pub reads : of_json (outline (to_data x)) ≡ Some (to_data x)

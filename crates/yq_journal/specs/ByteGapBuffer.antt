@@ -2,7 +2,7 @@
 use Rattle.std.specs.Prelude.{List, ℕ, ◌++◌}
 use Rattle.yq_text.specs.Splice.{Splice}
 
--- what stands before the cursor, and what behind it (own)
+-- what comes before the cursor, and what after it (own)
 pub record ByteGapView : Type 0 where
   pub before : List ℕ
   pub behind : List ℕ

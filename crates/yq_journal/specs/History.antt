@@ -13,7 +13,7 @@ pub record History : Type 0 where
   pub later : List Revision
   pub at : ℕ
 
--- the text behind so many edits (own)
+-- the text after so many edits (own)
 abbrev pub text_after_edits : List ℕ → List Revision → ℕ → List ℕ
 text_after_edits t es zero = t
 text_after_edits t [] (suc n) = t

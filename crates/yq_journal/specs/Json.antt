@@ -44,7 +44,7 @@ and_more None xs = None
 and_more (Some x) None = None
 and_more (Some x) (Some xs) = Some (x ∷ xs)
 
--- what each item of an array stands for (RFC 8259, section 5)
+-- what each item of an array means (RFC 8259, section 5)
 abbrev pub each_of : {A : Type 0} → (Data → Option A) → Items → Option (List A)
 each_of f no_items = Some []
 each_of f (item d ds) = and_more (f d) (each_of f ds)
@@ -58,17 +58,17 @@ change_from (Some at) None new = None
 change_from (Some at) (Some old) None = None
 change_from (Some at) (Some old) (Some new) = Some (record { at = at; old = old; new = new })
 
--- the splice that a value stands for: the keys are at, new, old (own)
+-- the splice that a value means: the keys are at, new, old (own)
 unfoldable pub splice_of : Data → Option Splice
 splice_of d = if has_keys 3 d then change_from (number_at (codes "at") d) (bytes_at (codes "old") d) (bytes_at (codes "new") d) else None
 
--- the splices that a value stands for (own)
+-- the splices that a value means (own)
 abbrev pub splices_of : Data → Option (List Splice)
 splices_of d = option_and_then (each_of splice_of) (as_array d)
 
 -- ---- a record
 
--- whether a record stands for an edit at least, and its splices lead from its one length to its other (own)
+-- whether a record means an edit at least, and its splices lead from its one length to its other (own)
 abbrev pub is_record : Record → Bool
 is_record r = nat_le 1 r.count && is_length (lengths_done r.changes r.before_len) r.after_len
 
@@ -84,7 +84,7 @@ record_from (Some e) (Some cs) (Some b) (Some a) (Some n) =
     then Some (record { expr = e; changes = cs; before_len = b; after_len = a; count = n })
     else None
 
--- how many edits a record stands for: version 1 has no such key, and each stands for one (own)
+-- how many edits a record means: version 1 has no such key, and each means one (own)
 abbrev pub count_at : Bool → Data → Option ℕ
 count_at true d = number_at (codes "count") d
 count_at false d = Some 1
@@ -94,14 +94,14 @@ abbrev pub record_keys : Bool → ℕ
 record_keys true = 5
 record_keys false = 4
 
--- the record that a value stands for: the keys are after_len, before_len, count (from version 2), expr, splices (own)
+-- the record that a value means: the keys are after_len, before_len, count (from version 2), expr, splices (own)
 unfoldable pub record_of : Bool → Data → Option Record
 record_of counted d = if has_keys (record_keys counted) d
     then record_from (string_at (codes "expr") d) (option_and_then splices_of (get (codes "splices") d)) (number_at (codes "before_len") d)
     (number_at (codes "after_len") d) (count_at counted d)
     else None
 
--- the records that a value stands for (own)
+-- the records that a value means (own)
 abbrev pub records_of : Bool → Data → Option (List Record)
 records_of counted d = option_and_then (each_of (record_of counted)) (as_array d)
 
@@ -128,7 +128,7 @@ open_from (Some step) (Some from) = Some (record { step = step; from = from })
 abbrev pub move_at : Bool → Data → Option Move
 move_at counted d = option_and_then (λ kind. option_and_then (move_of counted kind) (get (codes "record") d)) (string_at (codes "kind") d)
 
--- the open move that a value stands for: the keys are from, kind, record (own)
+-- the open move that a value means: the keys are from, kind, record (own)
 unfoldable pub open_move_of : Bool → Data → Option Pending
 open_move_of counted d = if has_keys 3 d then open_from (move_at counted d) (bytes_at (codes "from") d) else None
 
@@ -138,7 +138,7 @@ pending_of counted d = if is_some (as_null d) then Some None else option_map Som
 
 -- ---- a journal
 
--- whether an open move stands on its text and changes it (own)
+-- whether an open move applies to its text and changes it (own)
 abbrev pub can_move : List Record → ℕ → Option Pending → Bool
 can_move records at None = true
 can_move records at (Some p) = not (is_some (way_fault records at p.step p.from)) && not (is_reached (moved_text records at p.step p.from) p.from)
@@ -158,11 +158,11 @@ state_from (Some at) (Some p) (Some rs) = if is_sound_journal (state rs at p) th
 abbrev pub has_count : ℕ → Option Bool
 has_count v = if v == 1 then Some false else if v == 2 then Some true else None
 
--- the journal of a version that a value stands for (own)
+-- the journal of a version that a value means (own)
 unfoldable pub state_of : Bool → Data → Option State
 state_of counted d = state_from (number_at (codes "at") d) (option_and_then (pending_of counted) (get (codes "pending") d)) (option_and_then (records_of counted) (get (codes "records") d))
 
--- the journal that a value stands for: the keys are at, pending, records, version (own)
+-- the journal that a value means: the keys are at, pending, records, version (own)
 unfoldable pub journal_of : Data → Option State
 journal_of d = if has_keys 4 d then option_and_then (λ counted. state_of counted d) (option_and_then has_count (number_at (codes "version") d)) else None
 

@@ -3,7 +3,7 @@ use Rattle.std.specs.Prelude.{◌≡◌, ◌==◌, ℕ, ◌+◌, ◌-◌, ◌^�
 use Rattle.std.specs.Prelude.{if◌then◌else◌, Option, Some, None}
 use Rattle.yq_text.specs.Splice.{Splice, all_done, flipped, lengths_done}
 
--- a record: an edit's expression, its splices, the lengths of the texts before and after it, and how many edits it stands for (own)
+-- a record: an edit's expression, its splices, the lengths of the texts before and after it, and how many edits it means (own)
 pub record Record : Type 0 where
   pub expr : List ℕ
   pub changes : List Splice
@@ -11,7 +11,7 @@ pub record Record : Type 0 where
   pub after_len : ℕ
   pub count : ℕ
 
--- what holds of every record: it stands for an edit at least, and its splices lead from its one length to its other (own)
+-- what holds of every record: it means an edit at least, and its splices lead from its one length to its other (own)
 pub record IsRecord (r : Record) : Type 0 where
   pub counted : 1 ≤ r.count
   pub lengths : lengths_done r.changes r.before_len ≡ Some r.after_len
@@ -26,11 +26,11 @@ abbrev pub if_length : ℕ → Option (List ℕ) → Option (List ℕ)
 if_length n None = None
 if_length n (Some b) = if length b == n then Some b else None
 
--- the text that an edit leads to from this one, where its record stands before it (own)
+-- the text that an edit leads to from this one, where its record applies before it (own)
 abbrev pub done : Record → List ℕ → Option (List ℕ)
 done r b = if length b == r.before_len then if_length r.after_len (all_done r.changes b) else None
 
--- the text that it led from to this one, where its record stands after it (own)
+-- the text that it led from to this one, where its record applies after it (own)
 abbrev pub undone : Record → List ℕ → Option (List ℕ)
 undone r b = if length b == r.after_len then if_length r.before_len (all_done (flipped r.changes) b) else None
 

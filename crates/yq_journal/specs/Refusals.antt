@@ -14,7 +14,7 @@ abbrev pub ErrorIs : JournalError → Option JournalFault → Type 0
 ErrorIs error.Memory fault = Unit {0}
 ErrorIs (error.Fault f) fault = fault ≡ Some f
 
--- an error names the fault; want of memory is told only where there is none (own)
+-- an error names the fault; want of memory is reported only where there is none (own)
 abbrev pub Reports : JournalError → Option JournalFault → Type 0
 Reports error.Memory fault = fault ≡ None
 Reports (error.Fault f) fault = fault ≡ Some f
@@ -59,7 +59,7 @@ count_fault records at n = if nat_le 1 n && nat_le n at && meet (last_done recor
 abbrev pub squash_fault : State → ℕ → Option JournalFault
 squash_fault s n = if is_some s.pending then Some Unsettled else count_fault s.records s.at n
 
--- an open move stands on its text and changes it (own)
+-- an open move applies to its text and changes it (own)
 pub record CanMove (records : List Record) (at : ℕ) (step : Move) (from : List ℕ) : Type 0 where
   pub stands : way_fault records at step from ≡ None
   pub changes : moved_text records at step from ≢ Some from

@@ -19,7 +19,7 @@ pub record State : Type 0 where
 abbrev pub empty_state : State
 empty_state = record { records = []; at = 0; pending = None }
 
--- the text that a move leads to from this one, where it stands (own)
+-- the text that a move leads to from this one, where it applies (own)
 abbrev pub moved_text : List Record → ℕ → Move → List ℕ → Option (List ℕ)
 moved_text records at (Edit r) t = done r t
 moved_text records at Undo t = if at == 0 then None else option_and_then (λ r. undone r t) (slice_get records (at - 1))

@@ -95,7 +95,7 @@ impl<'t> ByteGapBuffer<'t> {
         Ok(true)
     }
 
-    /// Moves the cursor to so many bytes behind an offset, where they are there.
+    /// Moves the cursor to so many bytes after an offset, where they are there.
     fn reach(&mut self, at: usize, count: usize) -> Result<bool, AllocError>
         ensures moved { IfOk result (λ there. IsTrue there →
             (buffer_bytes self.new ≡ buffer_bytes self.old) ×
@@ -109,7 +109,7 @@ impl<'t> ByteGapBuffer<'t> {
         self.forward(count)
     }
 
-    /// Puts the new bytes in the place of the old ones, where these stand at the offset.
+    /// Puts the new bytes in the place of the old ones, where these apply at the offset.
     fn exchange(&mut self, at: usize, old: &[u8], new: &[u8]) -> Result<bool, AllocError>
         ensures { IfOk result (λ done. (if done then Some (buffer_bytes self.new) else None) ≡
             change_done (splice_of_parts at old.now new.now) (buffer_bytes self.old)) }
@@ -125,7 +125,7 @@ impl<'t> ByteGapBuffer<'t> {
         Ok(true)
     }
 
-    /// Does splices in order, where they stand.
+    /// Does splices in order, where they apply.
     fn do_all(&mut self, splices: &[Splice]) -> Result<bool, AllocError>
         ensures { IfOk result (λ done. (if done then Some (buffer_bytes self.new) else None) ≡
             all_done splices.now (buffer_bytes self.old)) }
@@ -138,7 +138,7 @@ impl<'t> ByteGapBuffer<'t> {
         Ok(true)
     }
 
-    /// Takes splices back, the last one first, where they stand.
+    /// Takes splices back, the last one first, where they apply.
     fn undo_all(&mut self, splices: &[Splice]) -> Result<bool, AllocError>
         ensures { IfOk result (λ done. (if done then Some (buffer_bytes self.new) else None) ≡
             all_done (flipped splices.now) (buffer_bytes self.old)) }
@@ -170,7 +170,7 @@ impl<'t> ByteGapBuffer<'t> {
     }
 }
 
-/// The text with the splices done in order, or taken back, the last one first, where they stand.
+/// The text with the splices done in order, or taken back, the last one first, where they apply.
 pub(crate) fn spliced(
     alloc: Global,
     splices: &[Splice],

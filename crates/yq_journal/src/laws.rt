@@ -5,7 +5,7 @@ ghost use Rattle.yq_journal.{specs.History.{History, after_squash}, specs.Record
 ghost use Rattle.yq_journal.specs.State.{State, journal_after, moved_text, with_move, settled_beside, squashed};
 ghost use Rattle.yq_journal.{specs.declared.moves.Move.Move, specs.declared.moves.Move.TheVariants.{Edit, Redo, Undo}};
 
-/// A move that stands makes of a journal and its history the ones after it,
+/// A move that applies makes of a journal and its history the ones after it,
 /// also where it leaves the text equal.
 pub fn moves_go_on()
     ensures { (s : State) (h : History) (t u : List ℕ) (step : Move) → AtRest s t h →
@@ -33,7 +33,7 @@ pub fn settling_rests()
 {}
 
 /// A move of a journal at rest is refused exactly where its history refuses
-/// it: an undo or a redo always stands where there is one.
+/// it: an undo or a redo always applies where there is one.
 #[tactic(auto, using(crate::proofs::GoodLaws::undo_fault, crate::proofs::GoodLaws::redo_fault, crate::proofs::GoodLaws::edit_fault))]
 pub fn faults_are_of_history()
     ensures undo { (s : State) (t : List ℕ) (h : History) → AtRest s t h →

@@ -17,7 +17,7 @@ pub struct Record {
     pub splices: Vec<Splice>,
     pub before_len: u64,
     pub after_len: u64,
-    /// How many edits it stands for.
+    /// How many edits it means.
     pub count: u64,
 }
 
@@ -64,7 +64,7 @@ impl Record {
 }
 
 /// The text that an edit leads to from this one: refused as `DoesNotStand`
-/// exactly where its record doesn't stand before it.
+/// exactly where its record doesn't apply to it.
 pub fn redo_record(alloc: Global, patch: &Record, text: &[u8]) -> Result<Vec<u8>, JournalError>
     ensures ok { IfOk result (λ v. done patch.now text.now ≡ Some v.items) }
     ensures err { IfErr result (λ e. ErrorIs e (if_moves (done patch.now text.now))) }
@@ -79,7 +79,7 @@ pub fn redo_record(alloc: Global, patch: &Record, text: &[u8]) -> Result<Vec<u8>
 }
 
 /// The text from which an edit led to this one: refused as `DoesNotStand`
-/// exactly where its record doesn't stand after it.
+/// exactly where its record doesn't apply back from it.
 pub fn undo_record(alloc: Global, patch: &Record, text: &[u8]) -> Result<Vec<u8>, JournalError>
     ensures ok { IfOk result (λ v. undone patch.now text.now ≡ Some v.items) }
     ensures err { IfErr result (λ e. ErrorIs e (if_moves (undone patch.now text.now))) }
@@ -94,7 +94,7 @@ pub fn undo_record(alloc: Global, patch: &Record, text: &[u8]) -> Result<Vec<u8>
 }
 
 /// What a record did is undone, and what it undid is done again, on every
-/// text on which it stands.
+/// text on which it is.
 pub fn record_inverts()
     ensures { (r : Record) (b c : List ℕ) → (done r b ≡ Some c) ↔ (undone r c ≡ Some b) }
 {}

@@ -1,4 +1,4 @@
-//! Whether splices can be done on a text, told without memory.
+//! Whether splices can be done on a text, found without memory.
 ghost use Rattle.std.specs.Prelude.{◌≡◌, ◌≢◌, ◌⊎◌, ◌+◌, ◌-◌, ◌^◌, ◌<◌, ◌≤◌, ◌↔◌, ℕ, IfSome, IsTrue, List, None, Some, drop, length};
 ghost use Rattle.std.specs.Prelude.{is_some, slice_get, take};
 ghost use Rattle.yq_text.specs.Splice.{Splice, all_done, flipped, lengths_done};
@@ -68,7 +68,7 @@ fn byte_after(splices: &[Splice], back: bool, count: usize, text: &[u8], at: usi
     byte_at(text, i)
 }
 
-/// Whether bytes stand at an offset of the text that the first splices make.
+/// Whether bytes are at an offset of the text that the first splices make.
 fn is_there(
     splices: &[Splice],
     back: bool,
@@ -106,7 +106,7 @@ fn stand(splices: &[Splice], back: bool, text: &[u8]) -> bool
     true
 }
 
-/// Whether a record stands before a text: the text has its length, and the
+/// Whether a record applies before a text: the text has its length, and the
 /// splices find their old bytes, one after the other. This takes no memory.
 pub fn stands_before(patch: &Record, text: &[u8]) -> bool
     ensures { result ≡ is_some (done patch.now text.now) }
@@ -122,7 +122,7 @@ fn stand_back(splices: &[Splice], _before_len: u64, text: &[u8]) -> bool
     stand(splices, true, text)
 }
 
-/// Whether a record stands after a text: the text has its length, and the
+/// Whether a record applies after a text: the text has its length, and the
 /// splices, the last one first, find their new bytes. This takes no memory.
 pub fn stands_after(patch: &Record, text: &[u8]) -> bool
     ensures { result ≡ is_some (undone patch.now text.now) }

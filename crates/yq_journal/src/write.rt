@@ -44,7 +44,7 @@ fn push_move(text: &mut String, alloc: Global, step: &Move) -> Result<(), AllocE
     }
 }
 
-/// Adds an open move. Its base64 is written where it stands, and not copied.
+/// Adds an open move. Its base64 is written where it is, and not copied.
 fn push_open(text: &mut String, alloc: Global, open: &Open) -> Result<(), AllocError>
     ensures { OnOk result (Adds spec.pending_data (spec.pending_of true) (Some open.now)
         (string_bytes text.old) (string_bytes text.new)) }

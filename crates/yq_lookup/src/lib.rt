@@ -1,4 +1,4 @@
-//! Where nodes, entries and comments stand in a text, found row by row.
+//! Where nodes, entries and comments are in a text, found row by row.
 #![tactic(auto)]
 
 mod cut_text;

@@ -1,4 +1,4 @@
-//! Where entries, contents and comments stand in a text; what stands at a path, in pieces; and what is
+//! Where entries, contents and comments are in a text; what is at a path, in pieces; and what is
 //! taken out.
 
 mod comment_place;

@@ -31,7 +31,7 @@ text_named (Some a) (scalar c k t) = refl
 text_named (Some a) (list c cs) = refl
 text_named (Some a) (map c cs) = refl
 
--- the anchor of a node without one, behind two
+-- the anchor of a node without one, after two
 pub anchor_scalar : (a b : Option (List ℕ)) (k : Kind) (t : List ℕ) → anchor_of (anchored a (with_anchor_name b (scalar None k t))) ≡ first_anchor a b
 anchor_scalar a None k t = refl
 anchor_scalar a (Some b) k t = refl

@@ -1,4 +1,4 @@
--- What nodes of the code stand for.
+-- What nodes of the code mean.
 use Rattle.std.specs.Prelude.{None}
 use Rattle.yq_core.{specs.Tree.{Node, scalar, list, map}, specs.Trees.placed_tree}
 use Rattle.yq_outline.{specs.Bodies.borrowed, specs.Ends.part, specs.Outline.{Outline, anchored, null_node, children}}
@@ -11,7 +11,7 @@ use Rattle.yq_nodes.specs.declared.nodes.body.Body as bodies
 abbrev pub body_outline : Under → Outline
 body_outline u = part (document_lines u.document u.text.now) (number_of u.document u.text.now u.first) u.floor
 
--- what a node of the code stands for, but for the anchor before it (own)
+-- what a node of the code means, but for the anchor before it (own)
 abbrev pub body_node : bodies.Body → Node
 body_node bodies.TheVariants.Null = null_node
 body_node (bodies.TheVariants.Scalar kind text) = scalar None kind text.now

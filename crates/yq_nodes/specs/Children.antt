@@ -20,7 +20,7 @@ rest_of (rests.TheVariants.Lines under) = outline.children (body_outline under)
 rest_of (rests.TheVariants.Items items) = parts_tree (items_end items.now)
 rest_of (rests.TheVariants.Entries entries) = parts_tree (entries_end entries.now)
 
--- how many lines of a document stand from one on (own)
+-- how many lines of a document are from one on (own)
 abbrev pub lines_left : Under → ℕ
 lines_left u = count_from u.text.now u.document u.first
 
@@ -35,7 +35,7 @@ rest_length (rests.TheVariants.Entries entries) = length entries.now
 abbrev pub left_of : declared.Children → Children
 left_of c = rest_of c.rest
 
--- The first of these lines begins an item or entry, and the others are behind it and the lines under it (own).
+-- The first of these lines begins an item or entry, and the others are after it and the lines under it (own).
 pub record Passes (old new : Under) : Type 0 where
   pub first : IsLineIn old.text.now old.document old.first
   pub children_are : outline.children (body_outline old) ≡ child (outline.label first.line)

@@ -9,25 +9,25 @@ use Rattle.yq_nodes.specs.declared.nodes.node.NodeKind.TheVariants as kinds
 use Rattle.yq_nodes.specs.declared.nodes.node.Slot as slots
 use Rattle.yq_outline.specs.Comments as comments
 
--- the node that one of the code stands for (own)
+-- the node that one of the code means (own)
 abbrev pub node_of : declared.Node → Node
 node_of n = named_node n.named
 
--- what is told of the entry or item of a line (own)
+-- what is known of the entry or item of a line (own)
 abbrev pub written_label : WrittenLabel → Label
 written_label w = record { key = borrowed w.key; head_comment = comments.head_comment w.gap.now; line_comment = comments.line_comment w.tail.now }
 
--- what is told of what stands in such a place (own)
+-- what is known of what is in such a place (own)
 abbrev pub slot_label : slots.Slot → Label
 slot_label slots.TheVariants.Root = plain_label
 slot_label (slots.TheVariants.Line w) = written_label w
 slot_label (slots.TheVariants.Inline key) = key_label (borrowed key)
 
--- what is told of the entry or item of a node of the code (own)
+-- what is known of the entry or item of a node of the code (own)
 abbrev pub label_of : declared.Node → Label
 label_of n = slot_label n.slot
 
--- the node that one of the code stands for, with its label (own)
+-- the node that one of the code means, with its label (own)
 abbrev pub labelled_of : declared.Node → Labelled
 labelled_of n = (label_of n, node_of n)
 

@@ -24,7 +24,7 @@ not_chosen r b x y is h = subst (λ (c : Bool). GivesSegments r (cond c x y)) (s
 
 -- ---- a value, outside flow collections or in one
 
--- something stands outside
+-- something is outside
 pub put_outside : {E : Type 0} (r : Result (Option (List Segment)) E) (k : List Segment) (b : Bool) (ss : List Segment) (block y : Option (List Segment)) → block ≡ Some ss → GivesSegments r (cond b (Some k) (Some ss)) → GivesSegments r (cond b (Some k) (option_or block y))
 put_outside r k b ss block y is h = subst (λ (z : Option (List Segment)). GivesSegments r (cond b (Some k) z)) (sym (ap (λ (z : Option (List Segment)). option_or z y) is)) h
 

@@ -16,7 +16,7 @@ use Rattle.yq_semantics.specs.Operations.{remove}
 use Rattle.yq_edit_laws.{proofs.CutLaws.cut_read, specs.Valid.segments_by}
 use Rattle.yq_operation.specs.RowsGone.{IsSmall}
 
--- a text behind another one
+-- a text after another one
 pub texts_joined : (t u : List ℕ) → IsUtf8 t → IsUtf8 u → IsUtf8 (t ++ u)
 texts_joined = IsUtf8-append
 

@@ -3,6 +3,6 @@ use Rattle.std.specs.Prelude.{◌+◌, ◌≤◌, length}
 use Rattle.yq_text.specs.Limit.{text_limit}
 use Rattle.yq_places.specs.RemovalPlaces.{Removal}
 
--- what stands before lines that go, these, and what stands behind them are a text together (own)
+-- what comes before lines that go, these, and what comes after them are a text together (own)
 abbrev pub IsSmall : Removal → Type 0
 IsSmall x = (length x.before + length x.gone) + (length x.gap + length x.behind) ≤ text_limit

@@ -1,4 +1,4 @@
-//! What an operation exchanges in a text, by its kind and by what stands at its place.
+//! What an operation exchanges in a text, by its kind and by what is at its place.
 ghost use Rattle.std.specs.Prelude.{◌≡◌, ◌∷◌, IfOk, [], Some, None, if◌then◌else◌};
 ghost use Rattle.yq_core.specs.Values.{value_node};
 ghost use Rattle.yq_outline.specs.Bodies.{borrowed};
@@ -42,7 +42,7 @@ fn unless_kept<'d>(
     Ok(segments)
 }
 
-/// A value put in a flow collection, whose row's head is read once; where nothing stands at the path
+/// A value put in a flow collection, whose row's head is read once; where nothing is at the path
 /// outside flow collections.
 fn replaced_inside<'d>(
     alloc: Global,

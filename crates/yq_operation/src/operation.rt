@@ -15,7 +15,7 @@ use yq_outline::KnownItems;
 use yq_semantics::Op;
 use yq_text::{ChangedMiddle, Edited, exchange};
 
-/// What an operation changes in a text with its cut, and what is known behind it of its way.
+/// What an operation changes in a text with its cut, and what is known after it of its way.
 pub fn change_one<'d>(
     alloc: Global,
     cut: &CutText<'d, '_>,

@@ -39,7 +39,7 @@ fn bytes_of(alloc: Global, text: Halves<'_>) -> Result<Vec<u8>, AllocError>
     Ok(bytes)
 }
 
-/// What it changes that lines go, where nothing behind them is mended.
+/// What it changes that lines go, where nothing after them is mended.
 fn lines_gone(alloc: Global, removal: &Removal<'_>) -> Result<Option<ChangedMiddle>, AllocError>
     requires { IsSmall (removal_view removal.now) }
     ensures { IfOk result (λ o. IfSome o (IsChange (rows_removed (removal_view removal.now)))) }
@@ -66,7 +66,7 @@ fn lines_gone(alloc: Global, removal: &Removal<'_>) -> Result<Option<ChangedMidd
 }
 
 /// What it changes that one of several items or entries is taken out with its lines, outside flow
-/// collections; nothing, where something behind them is mended, or its line doesn't begin its rows.
+/// collections; nothing, where something after them is mended, or its line doesn't begin its rows.
 fn rows_gone(
     alloc: Global,
     cut: &CutText<'_, '_>,

@@ -1,4 +1,4 @@
--- Aliases of a node stand in heads of its lines.
+-- Aliases of a node are in heads of its lines.
 use Rattle.std.proofs.Common.{◌≡◌, ℕ, zero, suc, ◌+◌, ltb, Bool, true, false, ◌||◌, cond, List, [], ◌∷◌, ◌++◌, drop, Option, refl, sym, ap}
 use Rattle.std.{proofs.Common.{◌∙◌, rules}, specs.List.list_any, proofs.lemmas.Bool.{false≢true, or_parts}}
 use Rattle.std.proofs.lemmas.List.Folds.{list_any-append}
@@ -43,7 +43,7 @@ none_shaped o cs h1 = search (rules, none_collection)
 none_entry : (head : Option Node) (n : Node) → refer (head_names head) ≡ false → refer (names_of n) ≡ false → refer (names_of (head_or head n)) ≡ false
 none_entry head n h1 h2 = search rules
 
--- lines without aliases under which nodes stand
+-- lines without aliases under which nodes are
 none_children : (o : Outline) → refer (line_names (flatten o)) ≡ false → refer (names_in (children o)) ≡ false
 none_children end h = refl
 none_children (row l u a) h =

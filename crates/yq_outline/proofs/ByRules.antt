@@ -90,7 +90,7 @@ to_entries n end c e = no_more
 to_entries n (row l u a) c e =
     entry e.0 (entry_mark l.mark c) (under_of l l.head u refl e.1 e.3.0 (subst (λ k. k < e.3.0) (sym e.0) e.3.1) e.3.2 (λ b. to_entries e.3.0 u b e.3.2)) (to_entries n a (next_entries l n a c e.0 e.4) e.4) refl
 
--- lines that stand for a node are none, or the node's by the rules
+-- lines that mean a node are none, or the node's by the rules
 pub rules_from : (n : ℕ) (lines : List Line) (v : Node) → Stands lines v n → (l : Line) (ls : List Line) → lines ≡ l ∷ ls → IsNodeOutline n lines v
 rules_from n lines v s l ls is = go s.outline s.even s.lines_are s.node_is
   where

@@ -40,7 +40,7 @@ node_lines d l u a sound = go l.mark refl d sound
 is_nothing : (o : Outline) → has_no_lines o ≡ true → o ≡ end
 is_nothing o h1 = search (rules, false≢true)
 
--- what is under a line of a collection, and what is behind
+-- what is under a line of a collection, and what is after
 rest_parts : (l : Line) (u a : Outline) → Rest (row l u a) → IsSound u × Rest a
 rest_parts l u a r = search (rules, and_parts, ltb-true, eqb-true, asked_line, asked, keys_with)
 
@@ -99,7 +99,7 @@ nowhere key (row l u a) none = go (key_of l.mark) none (nowhere key a)
         cond (key_is key k) (Some (record { place = here; line = l; under = u; after = a })) (option_map (next_to l u) (find_row (To key) a)) ≡ None
     go k h1 h2 = search (rules, or_parts, bytes_eq, cond-false, differs, differ)
 
--- The first of lines with different keys is not the entry of a key that one behind it has.
+-- The first of lines with different keys is not the entry of a key that one after it has.
 module _ (ls : List Line) (at floor next : ℕ) (l : Line) (is : slice_get ls at ≡ Some l) (deep : true ≡ not (has_no_lines (part ls at floor))) (ends : IsEndOf ls at next) (differ' : are_distinct (keys_of (children (part ls at floor))) ≡ true) where
   own : are_distinct (with_first (key_of l.mark) (keys_of (children (part ls next floor)))) ≡ true
   own = subst (λ (o : Outline). are_distinct (keys_of (children o)) ≡ true) (row_parts ls at floor next l is (deeper_line ls at floor l is (not_end _ deep)) (ends.2 l is)) differ'

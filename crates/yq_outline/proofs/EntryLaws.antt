@@ -28,7 +28,7 @@ module _ (ls : List Line) (start floor depth : ℕ) (l : Line) (is : slice_get l
   pub start_bare : l.mark ≡ Bare → is_sound_outline depth (part ls start floor) ≡ ((is_some l.head && has_no_lines (part ls (start + 1) floor)) && head_is_sound depth l.head)
   start_bare mark = cc (part_row ls start floor l is first_lt, sound_bare depth l _ _ mark, lone (level l) floor (group _) first_lt)
 
--- one line, with those under it and those behind it
+-- one line, with those under it and those after it
 one_line : (ls : List Line) (at floor next d n : ℕ) (keys : List (List ℕ)) (l : Line) → slice_get ls at ≡ Some l → true ≡ not (has_no_lines (part ls at floor)) → IsEndOf ls at next → IsEntryLevel n →
     asked d n keys (part ls at floor) ≡ (line_is_sound d n l (part ls (at + 1) (level l)) && (is_sound_outline d (part ls (at + 1) (level l)) && asked d n (keys_with keys l.mark) (part ls next floor)))
 one_line ls at floor next d n keys l is deep ends entries =
@@ -53,6 +53,6 @@ pub one_passes : (ls : List Line) (at floor next d n : ℕ) (keys : List (List �
 one_passes ls at floor next d n keys l is deep ends entries all so_far e =
     both_pass all (line_is_sound d n l (part ls (at + 1) (level l))) (is_sound_outline d (part ls (at + 1) (level l))) (asked d n (keys_with keys l.mark) (part ls next floor)) (so_far ∙ one_line ls at floor next d n keys l is deep ends entries) e
 
--- behind the last line the keys are left to ask of
+-- after the last line the keys are left to ask of
 pub no_more : (d n : ℕ) (keys : List (List ℕ)) (o : Outline) → false ≡ not (has_no_lines o) → asked d n keys o ≡ are_distinct keys
 no_more d n keys o h1 = search (rules, le-leb, append-nil, false≢true)

@@ -63,7 +63,7 @@ FoundNode r = option_and_then (λ x. node_at x.1 (content_under x.0.line x.0.und
 pub children-collection : (m : LineMark) (cs : Children) → IsEntry m → children_of (outline_node m cs) ≡ cs
 children-collection m cs h1 = search rules
 
--- the node at a path is the one that its line stands for
+-- the node at a path is the one that its line means
 pub path_node : (s : Step) (ss : List Step) (o : Outline) → node_at (s ∷ ss) (value o) ≡ FoundNode (find s ss o)
 path_node s ss end = refl
 path_node s [] (row k v a) = search (rules, option_and_then, children-collection, row_child, node-anchored)

@@ -1,4 +1,4 @@
--- The comment lines that end lines, behind others, or where the lines are repaired.
+-- The comment lines that end lines, after others, or where the lines are repaired.
 use Rattle.std.proofs.Common.{◌≡◌, ℕ, Bool, true, false, ◌&&◌, List, [], ◌∷◌, ◌++◌, Option, Some, refl, sym, ap, ◌∙◌, ⊎_elim, replicate}
 use Rattle.std.proofs.Common.{eqb-true, drop, rules}
 use Rattle.std.proofs.lemmas.Bool.{false≢true, cond_both, cond-true, cond-false, false_from_ne_true, and_parts, cases_Bool}
@@ -8,7 +8,7 @@ use Rattle.yq_core.{specs.Lines.{is_hash, is_blank}, specs.Text.{upto, cut, is_w
 use Rattle.yq_core.{proofs.SpaceLaws.white_drop, proofs.BlockRepairLaws.white_front}
 use Rattle.yq_outline.specs.Comments.{less_space, comment_text, are_comments, last_comments}
 
--- lines behind lines
+-- lines after lines
 all_behind : (ls ms : RawLines) → are_comments ls ≡ false → are_comments (ls ++ ms) ≡ false
 all_behind [] ms h = absurd (false≢true (sym h))
 all_behind (l ∷ ls) ms h = ⊎_elim {0, 0, 0}

@@ -63,7 +63,7 @@ mutual
 abbrev pub Field : Type 0
 Field = String Global × Piece × Inline
 
--- behind the last entry the keys are left to ask of
+-- after the last entry the keys are left to ask of
 pub entries_left : (d i : ℕ) (es : List Field) (keys : List (List ℕ)) (b all : Bool) → length es ≤ i →
     all ≡ (are_sound d (parts_tree (entries_end (drop i es))) && are_distinct (keys ++ keys_of (parts_tree (entries_end (drop i es))))) → IsTrue b ↔ AreDistinct keys → b ≡ all
 entries_left d i es keys b all past is agrees = cc (drop_all i es past, le-leb 0 d (omega arith), append-nil keys, distinct_agrees keys b agrees)

@@ -63,11 +63,11 @@ module _ (s : RowsView) (d : Stretch) (h : HasRows s d) (floor row n : ℕ) (y :
     over_key : (key : List ℕ) (w : ℕ × Line × Outline) → HasKeys q → line_here e (To key) ≡ Some w → line_here q (To key) ≡ line_here e (To key)
     over_key key w keys found = over (To key) (other_key (lines_of_rows h.rows) (line_number d h.rows q) floor (line_number d h.rows e) l.line l.is here ends keys key w found)
 
-  -- the rows behind an item and in front of the last one
+  -- the rows after an item and in front of the last one
   abbrev behind : Position → List Slices
   behind q = drop (q.row + 1) (take row s.rows)
 
-  -- An item of the walk, behind which so many others are passed.
+  -- An item of the walk, after which so many others are passed.
   record Passing (q : Position) (p : ℕ) : Type 0 where
     pub piece : Slices
     pub at : IsLine s d q
@@ -100,7 +100,7 @@ module _ (s : RowsView) (d : Stretch) (h : HasRows s d) (floor row n : ℕ) (y :
       let rest : drop (suc z.before) (behind q) ≡ drop ((a + z.before) + 1) (take row s.rows) = drop-drop (suc z.before) a (take row s.rows) ∙ ap (λ (k : ℕ). drop k (take row s.rows)) sum in
       search (rules, get_taken, get_dropped, a, inner, long, rest)
 
-  -- behind an item that is passed comes the next one, or the last one
+  -- after an item that is passed comes the next one, or the last one
   abbrev after : (q : Position) → Sibling n (behind q) → Position
   after q z = record { row = (q.row + 1) + z.before; line = 0 }
 

@@ -1,4 +1,4 @@
--- Where steps lead in what lines stand for, with the label there.
+-- Where steps lead in what lines mean, with the label there.
 use Rattle.std.proofs.Common.{◌≡◌, ℕ, List, [], ◌∷◌, Option, Some, None, option_map, option_and_then, refl, sym, ◌∙◌, rules}
 use Rattle.yq_core.{specs.Tree.{Node, children_of}, specs.Paths.Step}
 use Rattle.yq_outline.specs.Labelled.{Labelled, labelled_at, labelled_from}

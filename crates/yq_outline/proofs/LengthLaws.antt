@@ -1,4 +1,4 @@
--- How long rows and the ends of parts are, and what stands before their pieces.
+-- How long rows and the ends of parts are, and what comes before their pieces.
 use Rattle.std.proofs.Common.{◌≡◌, ◌⊎◌, inl, inr, ℕ, zero, suc, ◌+◌, ◌-◌, ◌<◌, ◌≤◌, List, [], ◌∷◌, ◌++◌, length, map, take, replicate, Some}
 use Rattle.std.proofs.Common.{ap, ◌∙◌, arith, length-append, rules}
 use Rattle.std.proofs.lemmas.Bool.{cases_lt, lt-ltb, le-ltb, le-leb, lt-leb, cond-true, cond-false}
@@ -120,7 +120,7 @@ content-length n i (marked p marker c) r is = go (cases_lt i (length p.rows)) (�
         again (slice_back p.rows (rows_of c) i r past is) ∙ ap (λ (k : ℕ). rows_first (i - length p.rows) c + sum_by (passed_length k) (bounds_from (n + length p.rows) c) + begin_length (slices r)) same in
         omega (arith, text, part-length p (marker ++ before_content (i - length p.rows) c), length-append marker (before_content (i - length p.rows) c), rows_past i p.rows (rows_of c) past, sum, all, deep)
 
--- where the head of a row stands, by the pieces
+-- where the head of a row is, by the pieces
 head_is : (c : Cut) (i : ℕ) (r : Row) (start end : ℕ) → slice_get (rows_of c) i ≡ Some r → start ≡ row_start i (rows_view c) + front_length (slices r) → end ≡ start + length (slices r).head → (start, end) ≡ head_place i c r
 head_is c i r start end is e f =
     let s : Slices = slices r in
@@ -135,7 +135,7 @@ head_agrees s i start front head x there start_is front_is head_len c rows_view_
 passed_less : (i : ℕ) (b : Bound) → passed_length i b ≤ bound_length b
 passed_less i b = search rules
 
--- what stands before a row and the row are within the whole
+-- what comes before a row and the row are within the whole
 pub row_fits : (s : RowsView) (i : ℕ) (x : Slices) → slice_get s.rows i ≡ Some x → row_start i s + row_length x ≤ view_length s
 row_fits s i x is =
     let ends = sum_by-le-sum_by (passed_length i) bound_length s.bounds (passed_less i) in

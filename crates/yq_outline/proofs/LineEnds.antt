@@ -1,11 +1,11 @@
--- Where the lines under a line end, by how many of those behind it are deeper.
+-- Where the lines under a line end, by how many of those after it are deeper.
 use Rattle.std.proofs.Common.{◌≡◌, ℕ, zero, suc, ◌+◌, ◌<◌, ◌≤◌, ltb, List, [], ◌∷◌, ◌++◌, length, drop, Some, Bool, cond, refl, sym, ap}
 use Rattle.std.{proofs.Common.{◌∙◌, arith, length-drop, rules}, proofs.lemmas.Bool.{lt-ltb, ltb-true, cond-true}}
 use Rattle.std.{proofs.lemmas.List.drop-drop, proofs.lemmas.Option.{same_Some, slice_get_within}, specs.List.slice_get}
 use Rattle.yq_outline.{specs.Ends.{IsEndOf, deeper_count, lines_end}, specs.Group.{deeper_lines, shallow, group}}
 use Rattle.yq_outline.{specs.Outline.{Line, level, Outline, end, row, flatten}, proofs.Decides.flatten-group, proofs.EndsLaws.has_line}
 
--- behind the lines that are deeper than one level and those that are deeper than a lower one
+-- after the lines that are deeper than one level and those that are deeper than a lower one
 shallow_twice : (k m : ℕ) (o : Outline) → k < m → shallow k (shallow m o) ≡ shallow k o
 shallow_twice k m end h = refl
 shallow_twice k m (row l u a) h = go (ltb m (level l)) refl (shallow_twice k m a h)
@@ -35,7 +35,7 @@ end_within [] n h = absurd (omega (arith, h))
 end_within (l ∷ ls) zero h = (omega arith, omega (arith, count_within (level l) ls))
 end_within (l ∷ ls) (suc n) h = let again = end_within ls n (omega (arith, h)) in (omega (arith, again.0), omega (arith, again.1))
 
--- the end of a line behind others
+-- the end of a line after others
 pub end_behind : (xs ys : List Line) (l : Line) → lines_end (length xs) (xs ++ (l ∷ ys)) ≡ suc (length xs) + deeper_count (level l) ys
 end_behind [] ys l = omega arith
 end_behind (x ∷ xs) ys l = omega (arith, end_behind xs ys l)

@@ -82,7 +82,7 @@ names_children n (row l u a) even each apart =
     let behind = names_children n a even.4 (each_back fu fa each.1) (apart_back fu fa apart.1) in
     search (rules, with-append, append_assoc, line_names-append, fu, fa, hn, here, behind)
 
--- The names of the node that lines stand for are those of the lines, in order.
+-- The names of the node that lines mean are those of the lines, in order.
 pub names_lines : (ls : List Line) → is_fine (group ls) ≡ true → HaveOneAnchorEach ls → HaveHeadsApart ls → names_of (value (group ls)) ≡ line_names ls
 names_lines ls fine each apart =
     let o = group ls in
@@ -108,10 +108,10 @@ part-all ls = deeper-all (group ls)
 pub all_value : (ls : List Line) → anchored None (value (part ls 0 0)) ≡ value (group ls)
 all_value ls = anchored_none (value (part ls 0 0)) ∙ ap value (part-all ls)
 
--- lines that don't stand for a node, or not for one that is sound
+-- lines that don't mean a node, or not for one that is sound
 pub lines_unsound : (ls : List Line) → false ≡ is_sound_outline depth_limit (part ls 0 0) → false ≡ lines_are_sound ls
 lines_unsound ls h = search (rules, part-all, and-false)
 
--- of lines that stand for a sound node, their anchors and aliases are left to ask of
+-- of lines that mean a sound node, their anchors and aliases are left to ask of
 pub lines_named : (ls : List Line) → HaveHeadsApart ls → true ≡ is_sound_outline depth_limit (part ls 0 0) → names_are_sound ls ≡ lines_are_sound ls
 lines_named ls apart h = search (rules, part-all, and_parts, names_lines, anchors_are)

@@ -1,4 +1,4 @@
--- The nodes that lines stand for.
+-- The nodes that lines mean.
 use Rattle.std.{proofs.Common.{◌≡◌, ℕ, ◌+◌, ◌<◌, List, Option, Some, None, ap, ◌∙◌, rules}, specs.List.slice_get}
 use Rattle.yq_core.specs.Tree.{Node, list, map}
 use Rattle.yq_outline.{specs.Ends.{part, rest}, specs.Group.deeper_lines}

@@ -1,4 +1,4 @@
--- A plain scalar on one line stands for itself, and a quoted one without escapes for what is between its quotes.
+-- A plain scalar on one line means itself, and a quoted one without escapes for what is between its quotes.
 use Rattle.std.proofs.Common.{◌≡◌, ℕ, Bool, true, false, ◌&&◌, cond, eqb, ◌⊎◌, List, [], ◌∷◌, ◌++◌, refl, sym, ap, ◌∙◌, ⊎_elim}
 use Rattle.std.proofs.Common.{append_assoc, append-nil, subst, ◌-◌, length, take, drop, slice_index, rules}
 use Rattle.std.{proofs.lemmas.Bool.{cases_Bool, or_parts}, specs.List.list_any}
@@ -10,11 +10,11 @@ use Rattle.yq_core.specs.Scalars.{is_quoted, scalar_content}
 no_break : (b : ℕ) (bs : List ℕ) → holds_break bs ≡ false → (is_return b && front is_feed bs) ≡ false
 no_break b bs h1 = search (rules, ⊎_elim, cases_Bool, or_parts)
 
--- a byte of what stands in these quotes, or in none, stands for itself
+-- a byte of what is in these quotes, or in none, means itself
 abbrev Itself : ℕ → ℕ → List ℕ → Type 0
 Itself quote b bs = (quoted_item quote b bs ≡ b ∷ []) × ((item_len quote b bs ≡ 0) × (item_before quote b bs ≡ within))
 
--- the bytes stand for themselves that aren't found by a test
+-- the bytes mean themselves that aren't found by a test
 abbrev Keeps : ℕ → (ℕ → Bool) → Type 0
 Keeps quote test = (b : ℕ) (bs : List ℕ) → test b ≡ false → Itself quote b bs
 
@@ -50,7 +50,7 @@ keeps_single b bs h = (refl, (rw h refl, refl))
 keeps : (quote : ℕ) → (quote ≡ 34) ⊎ (quote ≡ 39) → Keeps quote (λ b. eqb b (sign quote))
 keeps quote h1 = search (rules, keeps_double, keeps_single)
 
--- a quoted scalar on one line without escapes stands for what is between its quotes
+-- a quoted scalar on one line without escapes means what is between its quotes
 in_quotes : (quote : ℕ) → (quote ≡ 34) ⊎ (quote ≡ 39) → (t : List ℕ) → holds_break t ≡ false → list_any (λ b. eqb b (cond (eqb quote 34) 92 39)) t ≡ false → content_on quote 0 within [] t ≡ t
 in_quotes quote quotes t h g = unfolds quote (λ b. eqb b (sign quote)) (keeps quote quotes) [] t h g
 
@@ -62,7 +62,7 @@ borrowed_quoted piece inner bytes q same is broken escaped =
     let none = subst (λ (l : List ℕ). list_any (λ b. eqb b (cond (eqb (slice_index l 0) 34) 92 39)) inner ≡ false) same escaped in
     sym (in_quotes (slice_index piece 0) quotes inner broken none) ∙ ap (λ t. content_on (slice_index piece 0) 0 within [] t) is
 
--- a key or scalar that is neither quoted nor broken stands for itself
+-- a key or scalar that is neither quoted nor broken means itself
 pub kept : (t : List ℕ) → is_quoted t ≡ false → holds_break t ≡ false → t ≡ scalar_content t
 unfolding scalar_content
 kept t quoted broken = rw quoted (sym (one_line t broken))

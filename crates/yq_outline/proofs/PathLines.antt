@@ -8,11 +8,11 @@ use Rattle.yq_outline.specs.Places.{Context, here, below, beside, compose, lines
 use Rattle.yq_outline.{specs.Positions.{position, line_here, begins_with_node, reach_in, reach_under, reach_from}, proofs.EndsLaws.has_line}
 use Rattle.yq_outline.proofs.NameLaws.{part-all}
 
--- what a search found, by its index behind so many lines
+-- what a search found, by its index after so many lines
 abbrev behind : ℕ → Option (FoundLine × List Step) → Option (ℕ × List Step)
 behind n r = option_map (λ x. (n + length (lines_before x.0.place), x.1)) r
 
--- the same behind none
+-- the same after none
 behind_none : (r : Option (FoundLine × List Step)) → behind 0 r ≡ option_map (λ x. (length (lines_before x.0.place), x.1)) r
 behind_none r = search rules
 
@@ -57,7 +57,7 @@ alone x = refl
 other_find : (s : Step) (ss : List Step) (o : Outline) → begins_with_node o ≡ false → find s ss o ≡ searched s ss o
 other_find s ss o h1 = search (rules, alone, option_and_then)
 
--- how many lines stand before one in a hole of a hole
+-- how many lines come before one in a hole of a hole
 length-compose : (p q : Context) → length (lines_before (compose p q)) ≡ length (lines_before p) + length (lines_before q)
 length-compose here q = omega arith
 length-compose (below l p a) q = omega (arith, length-compose p q)

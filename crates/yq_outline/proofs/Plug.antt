@@ -24,7 +24,7 @@ closed h o h1 = search (rules, none-some)
 pub entry_whole : (m : LineMark) (h : Option Node) (o : Outline) → IsEntry m → IsWhole m h o
 entry_whole m h o h1 = search rules
 
--- what stands in a place at the level that it allows makes an even outline
+-- what is in a place at the level that it allows makes an even outline
 pub plug-even : (n m : ℕ) (p : Context) (o : Outline) → Allows n p m → IsEven m o → IsEven n (plug p o)
 plug-even n m here o h e = subst (λ k. IsEven k o) (sym h) e
 plug-even n m (below l p a) o h e =

@@ -40,14 +40,14 @@ pub lines_count : (above : List (List ℕ)) (column : ℕ) (ns : List ℕ) (m : 
 lines_count above column [] m c = refl
 lines_count above column (n ∷ ns) m c = ap suc (lines_count [] (suc (column + n)) ns m c)
 
--- no comment stands in no text
+-- no comment is in no text
 pub no_comments : head_comment [] ≡ []
 unfolding text_lines
 no_comments = refl
 
 -- ---- the anchor and the comments of each line of a row
 
--- What stands beside the mark of line k of a row: an anchor and a comment on the last one, and on the first one the comment above.
+-- What is beside the mark of line k of a row: an anchor and a comment on the last one, and on the first one the comment above.
 pub record IsBeside (above : List (List ℕ)) (ns : List ℕ) (c : Content) (k : ℕ) (l : Line) : Type 0 where
   pub dash : k < length ns → (l.anchor ≡ None) × (l.line_comment ≡ None)
   pub mark : k ≡ length ns → (l.anchor ≡ content_anchor c) × (l.line_comment ≡ comments.line_comment (tail_of c))
@@ -62,7 +62,7 @@ beside_in above column (n ∷ ns) m c (suc k) l h e =
     let x = beside_in [] (suc (column + n)) ns m c k l (omega (arith, h)) e in
     search (rules, cases_lt, x)
 
--- ---- a quoted key or scalar on one line without escapes stands for what is between its quotes
+-- ---- a quoted key or scalar on one line without escapes means what is between its quotes
 
 any_drop : (f : ℕ → Bool) (n : ℕ) (t : List ℕ) → list_any f t ≡ false → list_any f (drop n t) ≡ false
 any_drop f zero t e = e

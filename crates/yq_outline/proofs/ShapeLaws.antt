@@ -1,4 +1,4 @@
--- The node for which lines stand is a tree.
+-- The node that lines mean is a tree.
 use Rattle.std.proofs.Common.{◌≡◌, ◌≢◌, ℕ, zero, suc, ◌+◌, ◌*◌, List, [], ◌∷◌, ◌++◌, Option, Some, None, refl, sym, ap, ◌∙◌, subst, arith}
 use Rattle.std.{proofs.Common.rules, proofs.lemmas.Option.same_Some, specs.List.All}
 use Rattle.yq_core.specs.Keys.{keys_of, AreDistinct, HasUniqueKeys, EachHasUniqueKeys}
@@ -21,13 +21,13 @@ back_shaped : (ls ms : List Line) → HeadsAreShaped (ls ++ ms) → HeadsAreShap
 back_shaped [] ms h = h
 back_shaped (l ∷ ls) ms h = back_shaped ls ms h.1
 
--- the rank of a key: what stands at its level has one too
+-- the rank of a key: what is at its level has one too
 is_key : (m : LineMark) → (m ≡ Bare → ⊥) → (b c : ℕ) → 3 * b + rank m ≡ 3 * c + 2 → (k : List ℕ) × (key_of m ≡ Some k)
 is_key Bare some b c e = absurd (some refl)
 is_key (Key k) some b c e = (k, refl)
 is_key Dash some b c e = absurd (omega (arith, e))
 
--- the rank of a dash: what stands at its level has no key
+-- the rank of a dash: what is at its level has no key
 is_item : (m : LineMark) → (m ≡ Bare → ⊥) → (b c : ℕ) → 3 * b + rank m ≡ 3 * c + 3 → key_of m ≡ None
 is_item m h1 b c h2 = search rules
 

@@ -8,7 +8,7 @@ use Rattle.yq_outline.specs.Outline.{LineMark, Bare, Dash, rank, Line, level, Ou
 use Rattle.yq_outline.{specs.Group.{deeper_lines, shallow, is_open, is_whole, level_or, is_even, is_fine}, specs.Ends.has_no_lines}
 use Rattle.yq_outline.specs.Sound.{has_unique_keys, each_has_unique_keys, is_sound_outline, head_is_sound, line_is_sound, is_entry_line}
 
--- what is asked of the items or entries from one on, where these keys stand before it
+-- what is asked of the items or entries from one on, where these keys come before it
 abbrev pub asked : ℕ → ℕ → List (List ℕ) → Outline → Bool
 asked d n keys o = is_even n o && (leb (deepest (children o)) d && (each_has_unique_keys (children o) && are_distinct (keys ++ keys_of (children o))))
 
@@ -74,7 +74,7 @@ even_row n l u a entry lev open' deep = search (rules, eq-eqb, whole_entry, lt-l
 keys_again : (keys : List (List ℕ)) (k : Option (List ℕ)) (more : List (List ℕ)) → keys ++ with_first k more ≡ (keys ++ with_first k []) ++ more
 keys_again keys k more = search (rules, append_assoc)
 
--- what is asked of a line and of those behind it
+-- what is asked of a line and of those after it
 asked_row : (d n : ℕ) (keys : List (List ℕ)) (l : Line) (u a : Outline) → is_entry_line l.mark ≡ true → level l ≡ n → is_open l.head u ≡ true → level l < level_or (level l + 1) u →
     asked d n keys (row l u a) ≡ (head_is_sound d l.head && (is_sound_outline d u && asked d n (keys_with keys l.mark) a))
 asked_row d n keys l u a entry lev open' deep =
@@ -87,7 +87,7 @@ not_level d n keys l u a e = rw (ne_eqb (level l) n e) refl
 not_open : (d n : ℕ) (keys : List (List ℕ)) (l : Line) (u a : Outline) → level l ≡ n → is_open l.head u ≡ false → asked d n keys (row l u a) ≡ false
 not_open d n keys l u a lev e = rw (eq-eqb (level l) n lev, e) refl
 
--- what is asked of a line in a collection, of those under it and of those behind it
+-- what is asked of a line in a collection, of those under it and of those after it
 pub asked_line : (d n : ℕ) (keys : List (List ℕ)) (l : Line) (u a : Outline) → IsEntryLevel n → level l < level_or (level l + 1) u →
     asked d n keys (row l u a) ≡ (line_is_sound d n l u && (is_sound_outline d u && asked d n (keys_with keys l.mark) a))
 asked_line d n keys l u a entries deep = go (cases_eq (level l) n)
@@ -144,7 +144,7 @@ sound_entries d l u a entry = go l.mark refl entry
 pub too_deep : (l : Line) (u a : Outline) → is_entry_line l.mark ≡ true → is_sound_outline 0 (row l u a) ≡ false
 too_deep l u a entry = search (rules, false≢true, leb-zero, and-false)
 
--- a node on a line of its own, with what is under it and behind it
+-- a node on a line of its own, with what is under it and after it
 alone : (d n : ℕ) (h : Option Node) (u a : Outline) → n < n + 1 →
     ((is_open h u && (is_whole Bare h a && (ltb n (level_or (n + 1) u) && (is_even (level_or (n + 1) u) u && is_even n a)))) && (leb (depth (head_or h (value u))) d && has_unique_keys (head_or h (value u))))
     ≡ ((is_some h && (has_no_lines u && has_no_lines a)) && head_is_sound d h)
@@ -154,7 +154,7 @@ alone d n h u a h1 = search (rules, lt-ltb)
 pub sound_bare : (d : ℕ) (l : Line) (u a : Outline) → l.mark ≡ Bare → is_sound_outline d (row l u a) ≡ ((is_some l.head && (has_no_lines u && has_no_lines a)) && head_is_sound d l.head)
 sound_bare d l u a mark = search (rules, eq-eqb, depth-anchored, unique-anchored, alone)
 
--- nothing is under a line and nothing behind it, where the next one is not deeper than a lower level
+-- nothing is under a line and nothing after it, where the next one is not deeper than a lower level
 pub lone : (n floor : ℕ) (o : Outline) → floor < n → (has_no_lines (deeper_lines n o) && has_no_lines (deeper_lines floor (shallow n o))) ≡ has_no_lines (deeper_lines floor o)
 lone n floor end h = refl
 lone n floor (row l u a) h = search rules

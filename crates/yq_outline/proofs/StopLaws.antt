@@ -1,4 +1,4 @@
--- Where lines end that are deeper than a level: behind one of them and those under it.
+-- Where lines end that are deeper than a level: after one of them and those under it.
 use Rattle.std.proofs.Common.{◌≡◌, ℕ, suc, ◌+◌, ◌<◌, ltb, Bool, cond, List, [], ◌∷◌, length, drop, Some, refl, sym, ap, ◌∙◌, arith, rules}
 use Rattle.std.{proofs.lemmas.Bool.{lt-ltb, ltb-true, cond-true}, proofs.lemmas.List.drop-drop, proofs.lemmas.Option.slice_get_within}
 use Rattle.std.specs.List.{slice_get}

@@ -5,7 +5,7 @@ use Rattle.yq_core.specs.Tree.{Node}
 use Rattle.yq_outline.specs.Outline.{Line, level, Outline, end, row, flatten, value, IsEven, Stands}
 use Rattle.yq_outline.specs.Group.{deeper_lines, shallow, lead, group}
 
--- one outline behind another
+-- one outline after another
 abbrev pub join : Outline → Outline → Outline
 join end b = b
 join (row l under after) b = row l under (join after b)

@@ -49,7 +49,7 @@ first_shallow : (n : ℕ) (above : List (List ℕ)) (column : ℕ) (ns : List �
 first_shallow n above column [] m c l ys e h = count_stop n (mark_line above column m c) ys (let same : level (mark_line above column m c) ≡ level l = ap level (same_Some _ _ e) in omega (arith, h, same))
 first_shallow n above column (k ∷ ns) m c l ys e h = count_stop n (dash_line above column) _ (let same : level (dash_line above column) ≡ level l = ap level (same_Some _ _ e) in omega (arith, h, same))
 
--- the lines behind one of a row are as deep up to the row's end
+-- the lines after one of a row are as deep up to the row's end
 behind_line : (n : ℕ) (above : List (List ℕ)) (column : ℕ) (ns : List ℕ) (m : rows.RowMark) (c : Content) (k : ℕ) (l : Line) (ys : List Line) → k ≤ length ns → slice_get (lines_from above column ns m c) k ≡ Some l → n ≤ level l →
     deeper_count n (drop (suc k) (lines_from above column ns m c ++ ys)) ≡ (length ns - k) + deeper_count n ys
 behind_line n above column [] m c zero l ys h e deep = omega arith
@@ -98,7 +98,7 @@ lines_upto (x ∷ rs) (suc i) d r e =
     ap (λ (k : ℕ). length (lines_of_rows (take k (x ∷ rs)))) one
     ∙ omega (arith, lines_upto rs i d r e, length-append (row_lines x) (lines_of_rows (take (suc i + d) rs)), length-append (row_lines x) (lines_of_rows (take i rs)))
 
--- the rows behind one
+-- the rows after one
 rows_agree_drop : (k : ℕ) (rs : List Row) → RowsAgree rs → RowsAgree (drop k rs)
 rows_agree_drop zero rs h = h
 rows_agree_drop (suc k) [] h = h
@@ -121,7 +121,7 @@ line_of_row rs i k r e h =
     front (x ∷ xs) ys zero h = refl
     front (x ∷ xs) ys (suc n) h = front xs ys n (omega (arith, h))
 
--- where lines end that follow one of a row and are deeper than a level: at the first row behind its own that doesn't begin deeper
+-- where lines end that follow one of a row and are deeper than a level: at the first row after its own that doesn't begin deeper
 module _ (rs : List Row) (i k : ℕ) (r : Row) (l : Line) (t : RowsAgree rs) (e : slice_get rs i ≡ Some r) (h : k ≤ length r.dashes) (is : slice_get (row_lines r) k ≡ Some l) where
   abbrev at : ℕ
   at = length (lines_of_rows (take i rs)) + k

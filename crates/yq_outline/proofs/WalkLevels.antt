@@ -63,7 +63,7 @@ line_in above column (n ∷ ns) m c (suc k) h =
     let x = line_in [] (suc (column + n)) ns m c k (omega (arith, h)) in
     search (rules, length-replicate, length-append, x)
 
--- a dash stands before what follows it
+-- a dash comes before what follows it
 dash_before : (k : ℕ) (ns t : List ℕ) → k < length ns → length (dashes_text (take k ns) []) < length (dashes_text ns t)
 dash_before k [] t h = absurd (omega (arith, h))
 dash_before zero (n ∷ ns) t h = omega arith
@@ -96,7 +96,7 @@ rank_of_level k x n e = search rules
 
 -- ---- what is asked of the anchors and names of all lines of rows, row by row
 
--- a row's anchor stands before the row's last line's node, and no other one does
+-- a row's anchor comes before the row's last line's node, and no other one does
 free_from : (above : List (List ℕ)) (column : ℕ) (ns : List ℕ) (m : rows.RowMark) (c : Content) (ls : List Line) →
     have_one_anchor_each (lines_from above column ns m c ++ ls) ≡ (is_free (content_anchor c) ls && have_one_anchor_each ls)
 free_from above column [] m c ls = refl

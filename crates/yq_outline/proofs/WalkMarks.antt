@@ -12,7 +12,7 @@ use Rattle.yq_row_table.specs.View.{Slices, slices, RowsView}
 use Rattle.yq_row_table.specs.Rows as rows
 use Rattle.yq_row_table.specs.View as views
 
--- what is told of a line's mark, by its rank
+-- what is known of a line's mark, by its rank
 bare_ranked : (m : LineMark) → has_no_mark m ≡ eqb (rank m) 1
 bare_ranked m = search rules
 

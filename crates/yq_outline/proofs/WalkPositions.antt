@@ -20,7 +20,7 @@ row_agrees_at [] i r t e = absurd (cc)
 row_agrees_at (x ∷ rs) zero r t e = subst RowAgrees (same_Some _ _ e) t.0
 row_agrees_at (x ∷ rs) (suc i) r t e = row_agrees_at rs i r t.1 e
 
--- A line of a document, with its row and what is told of it.
+-- A line of a document, with its row and what is known of it.
 pub record Located (s : RowsView) (d : Stretch) (h : HasRows s d) (q : Position) : Type 0 where
   pub row : Row
   pub line : Line
@@ -56,7 +56,7 @@ deeper_agrees s d h q n floor at agrees =
     let same : n ≡ level l.line = agrees (slices l.row) l.pieces ∙ sym l.level_agrees in
     ap (ltb floor) same ∙ deeper_at (lines_of_rows h.rows) (line_number d h.rows q) floor l.line l.is
 
--- behind the last row there is none
+-- after the last row there is none
 pub end_number : (s : RowsView) (d : Stretch) (h : HasRows s d) (q : Position) → IsPosition s d q → d.end ≤ q.row → line_number d h.rows q ≡ length (lines_of_rows h.rows)
 end_number s d h q at past =
     let last : q.row ≡ d.end = omega (arith, at.upto, past) in
@@ -80,7 +80,7 @@ line_position s d q at = record { from = at.from; upto = omega (arith, at.upto);
 pub position_line : (s : RowsView) (d : Stretch) (q : Position) → IsPosition s d q → q.row < d.end → IsLine s d q
 position_line s d q at less = record { from = at.from; upto = less; line = at.line }
 
--- the number of the first line behind rows that begin deeper than a level
+-- the number of the first line after rows that begin deeper than a level
 rows_upto : (s : RowsView) (d : Stretch) (h : HasRows s d) (q e : Position) (n : ℕ) → IsLine s d q → e.row ≡ (q.row + 1) + deeper_rows n (take (d.end - (q.row + 1)) (drop (q.row + 1) s.rows)) → e.line ≡ 0 →
     length (lines_of_rows (take (suc (q.row - d.first) + deeper_rows n (map slices (drop (suc (q.row - d.first)) h.rows))) h.rows)) ≡ line_number d h.rows e
 rows_upto s d h q e n at row none =
@@ -141,7 +141,7 @@ head_none o x y h1 = search (rules, false≢true)
 pub no_line : (steps : List Step) (ls : List Line) → None ≡ reached steps ls → None ≡ line_at_steps steps ls
 no_line steps ls h1 = search (rules, option_and_then)
 
--- ---- the rows of items, one behind the other
+-- ---- the rows of items, one after the other
 
 pub get_taken : (ss : List Slices) (n i : ℕ) → i < n → slice_get (take n ss) i ≡ slice_get ss i
 get_taken [] zero i h = refl

@@ -1,4 +1,4 @@
--- What lines of the code stand for.
+-- What lines of the code mean.
 use Rattle.std.specs.Prelude.{ℕ, List, Option, option_map}
 use denote.Bor.{Bor}
 

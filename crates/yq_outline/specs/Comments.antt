@@ -7,7 +7,7 @@ abbrev pub less_space : List ℕ → List ℕ
 less_space [] = []
 less_space (b ∷ bs) = if b == 32 then bs else b ∷ bs
 
--- the text of a comment behind white space: what follows the `#` up to the break, less one leading space (YAML 1.2.2, section 6.6; own)
+-- the text of a comment after white space: what follows the `#` up to the break, less one leading space (YAML 1.2.2, section 6.6; own)
 abbrev pub comment_text : List ℕ → Option (List ℕ)
 comment_text t = let c = past_white t in if front (λ b. b == 35) c then Some (less_space (cut ends_line (drop 1 c)).0) else None
 

@@ -9,7 +9,7 @@ use Rattle.yq_outline.specs.Places.{lines_before, FoundLine, find}
 abbrev pub part : List Line → ℕ → ℕ → Outline
 part ls start floor = deeper_lines floor (group (drop start ls))
 
--- the lines behind those, as an outline
+-- the lines after those, as an outline
 abbrev pub rest : List Line → ℕ → ℕ → Outline
 rest ls start floor = shallow floor (group (drop start ls))
 

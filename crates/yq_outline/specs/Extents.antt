@@ -1,4 +1,4 @@
--- Reading (own; a reader may skip it): where what a row spells stands in its text, by the pieces of rows.
+-- Reading (own; a reader may skip it): where what a row spells is in its text, by the pieces of rows.
 use Rattle.std.{specs.List.{sum_by, count_by}, specs.Prelude.{ℕ, suc, ◌+◌, ◌-◌, ◌≤◌, ◌≡◌, ◌==◌, List, [], ◌∷◌, ◌++◌, length, if◌then◌else◌}}
 use Rattle.yq_row_table.{specs.Exchange.before_content, specs.Offsets.row_length, specs.Rows.{Row, Cut, cut_text}}
 use Rattle.yq_row_table.specs.View.{Slices, slices, RowsView, rows_view}
@@ -6,7 +6,7 @@ use Rattle.yq_text.specs.Limit.{text_limit}
 use Rattle.yq_core.specs.Text.{is_empty}
 pub use Rattle.yq_row_table.specs.RowStarts.{bound_length, passed_length, row_start}
 
--- The place of a row's head: behind the text before the row's content, white space, an anchor and the white space behind that.
+-- The place of a row's head: after the text before the row's content, white space, an anchor and the white space after that.
 abbrev pub head_place : ℕ → Cut → Row → ℕ × ℕ
 head_place i c r =
     let s = slices r in
@@ -20,11 +20,11 @@ front_length s = length s.gap + s.column + length s.dashes + length s.key + leng
 abbrev pub view_length : RowsView → ℕ
 view_length s = sum_by row_length s.rows + sum_by bound_length s.bounds
 
--- how many dashes stand in a text
+-- how many dashes are in a text
 abbrev pub dash_count : List ℕ → ℕ
 dash_count t = count_by (λ b. b == 45) t
 
--- how many lines of a row stand before its last one: one for each dash but for a mark that is a dash
+-- how many lines of a row come before its last one: one for each dash but for a mark that is a dash
 abbrev pub lines_before_mark : Slices → ℕ
 lines_before_mark s = if is_empty s.colon then dash_count s.dashes - 1 else dash_count s.dashes
 
@@ -34,7 +34,7 @@ pub record IsRowsView (s : RowsView) : Type 0 where
   pub is : s ≡ rows_view cut
   pub size : length (cut_text cut) ≤ text_limit
 
--- how far it is in a text to the dash before which k others stand, or to the end
+-- how far it is in a text to the dash before which k others are, or to the end
 unfoldable pub dash_at : ℕ → List ℕ → ℕ
 dash_at k [] = 0
 dash_at k (b ∷ bs) = if b == 45 then (if k == 0 then 0 else suc (dash_at (k - 1) bs)) else suc (dash_at k bs)

@@ -17,7 +17,7 @@ mutual
         level l ≡ n → (l.mark ≡ Bare → ⊥) → IsUnder l under v → AreEntryLines n after cs → all ≡ under ++ after →
         AreEntryLines n (l ∷ all) (child (label l) (anchored l.anchor v) cs)
 
-  -- an entry's head, the deeper lines behind it, or a null where there is neither (7.2)
+  -- an entry's head, the deeper lines after it, or a null where there is neither (7.2)
   pub data IsUnder : Line → List Line → Node → Type 0 where
     headed : {l : Line} {v : Node} → l.head ≡ Some v → IsUnder l [] v
     missing : {l : Line} → l.head ≡ None → IsUnder l [] null_node

@@ -8,7 +8,7 @@ abbrev pub deeper_lines : ℕ → Outline → Outline
 deeper_lines n end = end
 deeper_lines n (row l under after) = if nat_lt n (level l) then row l under (deeper_lines n after) else end
 
--- what of an outline is behind those
+-- what of an outline is after those
 abbrev pub shallow : ℕ → Outline → Outline
 shallow n end = end
 shallow n (row l under after) = if nat_lt n (level l) then shallow n after else row l under after
@@ -51,6 +51,6 @@ is_even n (row l under after) =
 abbrev pub is_fine : Outline → Bool
 is_fine o = is_even (level_or 0 o) o
 
--- the node that lines stand for, if their outline is even
+-- the node that lines mean, if their outline is even
 abbrev pub stand : List Line → Option Node
 stand ls = let o = group ls in if is_fine o then Some (value o) else None

@@ -2,7 +2,7 @@
 use Rattle.std.specs.Prelude.{List, [], ◌∷◌, Option, Some, None, option_and_then, if◌then◌else◌}
 use Rattle.yq_core.{specs.Paths.{Step, is_here, further}, specs.Tree.{Label, Node, Children, none, child, children_of}}
 
--- an item or entry, or a root: what is told of it, and its node (own)
+-- an item or entry, or a root: what is known of it, and its node (own)
 abbrev pub Labelled : Type 0
 Labelled = Label × Node
 

@@ -8,7 +8,7 @@ use Rattle.yq_outline.specs.Places.{lines_before, lines_after, FoundLine, find, 
 abbrev pub with_lines : FoundLine → List Line → List Line
 with_lines f ls = lines_before f.place ++ (ls ++ (flatten f.after ++ lines_after f.place))
 
--- Where the line of a node and the lines under it give way to others, at the same level, the lines stand for the tree with that node exchanged.
+-- Where the line of a node and the lines under it are replaced by others, at the same level, the lines mean the tree with that node exchanged.
 abbrev pub NodeExchanged : Type 0
 NodeExchanged =
     (n : ℕ) (o : Outline) (s : Step) (ss rest : List Step) (f : FoundLine) → IsEven n o → find s ss o ≡ Some (f, rest) →

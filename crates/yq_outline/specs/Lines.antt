@@ -25,7 +25,7 @@ head_of (Nothing tail) = None
 head_of (Inline space node tail) = node_head node
 head_of (Block space anchor block) = Some (tree.scalar None Text (block_content block))
 
--- the tail of a row's first line behind its mark (YAML 1.2.2, section 6.6)
+-- the tail of a row's first line after its mark (YAML 1.2.2, section 6.6)
 abbrev pub tail_of : Content → List ℕ
 tail_of (Nothing tail) = tail
 tail_of (Inline space node tail) = tail
@@ -41,7 +41,7 @@ line_mark (rows.Key key colon) = Key (scalar_content key)
 abbrev pub mark_line : List (List ℕ) → ℕ → rows.RowMark → Content → Line
 mark_line above column mark c = record { column = column; mark = line_mark mark; anchor = content_anchor c; head = head_of c; head_comment = above; line_comment = comments.line_comment (tail_of c) }
 
--- the line of a dash before the mark: a collection begins behind it (YAML 1.2.2, section 8.2.1; own)
+-- the line of a dash before the mark: a collection begins after it (YAML 1.2.2, section 8.2.1; own)
 abbrev pub dash_line : List (List ℕ) → ℕ → Line
 dash_line above column = record { column = column; mark = Dash; anchor = None; head = None; head_comment = above; line_comment = None }
 

@@ -41,6 +41,6 @@ are_bound known (Refers a ∷ names) = list_any (bytes_eq a) known && are_bound 
 abbrev pub names_are_sound : List Line → Bool
 names_are_sound ls = have_one_anchor_each ls && are_bound [] (line_names ls)
 
--- whether lines stand for a node, no mapping has a key twice, not too many collections are nested, and anchors and aliases are as is asked
+-- whether lines mean a node, no mapping has a key twice, not too many collections are nested, and anchors and aliases are as is asked
 abbrev pub lines_are_sound : List Line → Bool
 lines_are_sound ls = have_one_anchor_each ls && (are_bound [] (names_of (value (group ls))) && is_sound_outline depth_limit (group ls))

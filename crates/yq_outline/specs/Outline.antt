@@ -8,7 +8,7 @@ pub data LineMark : Type 0 where
   Key : List ℕ → LineMark
   Dash : LineMark
 
--- The line of one entry, item or node: its column, what it begins with, behind that an anchor and what its head spells, and its comments (8.2; own).
+-- The line of one entry, item or node: its column, what it begins with, after that an anchor and what its head spells, and its comments (8.2; own).
 pub record Line : Type 0 where
   pub column : ℕ
   pub mark : LineMark
@@ -23,7 +23,7 @@ rank Bare = 1
 rank (Key k) = 2
 rank Dash = 3
 
--- How deep a line is: a dash is a little deeper than a key in its column, so that a sequence may stand in the column of its key (8.2.3).
+-- How deep a line is: a dash is a little deeper than a key in its column, so that a sequence may be in the column of its key (8.2.3).
 unfoldable pub level : Line → ℕ
 level l = 3 * l.column + rank l.mark
 
@@ -51,7 +51,7 @@ IsWhole Bare None after = ⊥
 IsWhole (Key k) head after = ⊤
 IsWhole Dash head after = ⊤
 
--- All lines of one collection stand at one level, and what is under each of them at one deeper level (8.2).
+-- All lines of one collection are at one level, and what is under each of them at one deeper level (8.2).
 abbrev pub IsEven : ℕ → Outline → Type 0
 IsEven n end = ⊤
 IsEven n (row l under after) =
@@ -62,7 +62,7 @@ abbrev pub first_anchor : Option (List ℕ) → Option (List ℕ) → Option (Li
 first_anchor None b = b
 first_anchor (Some a) b = Some a
 
--- a node with the anchor that stands before it (6.9.2)
+-- a node with the anchor that comes before it (6.9.2)
 abbrev pub anchored : Option (List ℕ) → Node → Node
 anchored a (alias n) = alias n
 anchored a (scalar b k t) = scalar (first_anchor a b) k t
@@ -80,7 +80,7 @@ key_of Bare = None
 key_of (Key k) = Some k
 key_of Dash = None
 
--- what is told of a line's entry or item: its key and its comments (own)
+-- what is known of a line's entry or item: its key and its comments (own)
 abbrev pub label : Line → Label
 label l = record { key = key_of l.mark; head_comment = l.head_comment; line_comment = l.line_comment }
 
@@ -106,11 +106,11 @@ children end = none
 children (row l under after) =
     child (label l) (anchored l.anchor (head_or l.head (shaped under (children under)))) (children after)
 
--- the node that an outline stands for (8.2)
+-- the node that an outline means (8.2)
 abbrev pub value : Outline → Node
 value o = shaped o (children o)
 
--- Lines stand for a node at a level: they are those of an even outline, which stands for it (8.2).
+-- Lines mean a node at a level: they are those of an even outline, which means it (8.2).
 pub record Stands (lines : List Line) (node : Node) (n : ℕ) : Type 0 where
   pub outline : Outline
   pub even : IsEven n outline

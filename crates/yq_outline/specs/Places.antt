@@ -21,7 +21,7 @@ lines_before here = []
 lines_before (below l p after) = l ∷ lines_before p
 lines_before (beside l under p) = l ∷ (flatten under ++ lines_before p)
 
--- the lines behind the hole
+-- the lines after the hole
 abbrev pub lines_after : Context → List Line
 lines_after here = []
 lines_after (below l p after) = lines_after p ++ flatten after
@@ -40,7 +40,7 @@ pub record FoundLine : Type 0 where
   pub under : Outline
   pub after : Outline
 
--- a line that was found, where another one, with those under it, stands in front
+-- a line that was found, where another one, with those under it, is in front
 abbrev pub next_to : Line → Outline → FoundLine → FoundLine
 next_to l under f = record f { place = beside l under f.place }
 
@@ -74,6 +74,6 @@ find s (t ∷ ts) (row l under after) =
     bare_or l.mark (Some (record { place = here; line = l; under = under; after = after }, s ∷ (t ∷ ts)))
     (option_and_then (λ f. in_head f.line.head (Some (f, t ∷ ts)) (option_map (λ x. (place_inside f x.0, x.1)) (find t ts f.under))) (find_row s (row l under after)))
 
--- what the line of an entry or item and the lines under it stand for
+-- what the line of an entry or item and the lines under it mean
 abbrev pub content_under : Line → Outline → Node
 content_under l under = anchored l.anchor (head_or l.head (value under))

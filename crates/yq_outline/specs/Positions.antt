@@ -4,7 +4,7 @@ use Rattle.yq_core.{specs.Paths.Step, specs.Tree.Node}
 use Rattle.yq_outline.{specs.Ends.part, specs.Outline.{LineMark, Bare, Key, Dash, Line, level, Outline, end, row}}
 use Rattle.yq_outline.specs.Places.{lines_before, FoundLine, find}
 
--- where a line stands that was found among those from a place on, with those under it
+-- where a line is that was found among those from a place on, with those under it
 abbrev pub position : ℕ → Option FoundLine → Option (ℕ × Line × Outline)
 position start found = option_map (λ f. (start + length (lines_before f.place), f.line, f.under)) found
 

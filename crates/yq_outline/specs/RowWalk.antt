@@ -44,7 +44,7 @@ abbrev pub AreRowsDeep : ℕ → List Slices → Type 0
 AreRowsDeep n [] = Unit {0}
 AreRowsDeep n (s ∷ ss) = (n ≤ line_level 0 s) × AreRowsDeep n ss
 
--- Behind the line of a first item, which is deeper than a level, no row in front begins less deep. So many items begin as deep, it among them (8.2).
+-- After the line of a first item, which is deeper than a level, no row in front begins less deep. So many items begin as deep, it among them (8.2).
 pub record ArePassed (front : List Slices) (k : KnownItem) : Type 0 where
   pub piece : Slices
   pub there : slice_get front k.under.row ≡ Some piece
@@ -68,7 +68,7 @@ pub record IsKnownIn (ss : List Slices) (under : Position) (floor end : ℕ) (k 
   pub floor_is : k.floor ≡ floor
   pub within : k.row < end
 
--- The rows of a text from one up to another one stand in it as those of a document.
+-- The rows of a text from one up to another one are in it as those of a document.
 pub record HasRows (s : RowsView) (d : Stretch) : Type 0 where
   pub rows : List Row
   pub limit : Limit
@@ -84,7 +84,7 @@ pub record HasDocument (s : RowsView) (d : Stretch) : Type 0 where
   pub stand : HasRows s d
   pub sound : is_sound_outline depth_limit (group (lines_of_rows stand.rows)) ≡ true
 
--- A line of a document, or the end behind its rows.
+-- A line of a document, or the end after its rows.
 pub record IsPosition (s : RowsView) (d : Stretch) (q : Position) : Type 0 where
   pub from : d.first ≤ q.row
   pub upto : q.row ≤ d.end
@@ -108,7 +108,7 @@ pub record AreLinesTo (s : RowsView) (d : Stretch) (p q : Position) : Type 0 whe
   pub first : q.line ≡ 0
   pub order : (h : HasRows s d) → line_number d h.rows p ≤ line_number d h.rows q
 
--- the number of the line behind those from one on that are deeper than a level (8.2)
+-- the number of the line after those from one on that are deeper than a level (8.2)
 abbrev pub lines_stop : ℕ → ℕ → List Line → ℕ
 lines_stop n floor ls = n + deeper_count floor (drop n ls)
 
@@ -163,6 +163,6 @@ next_position (nexts.TheVariants.Head q) = q
 abbrev pub reached_view : Stretch → List Row → Position × Bor (List declared.Step) → ℕ × List Step
 reached_view d rs x = (line_number d rs x.0, map tree_step x.1.now)
 
--- the rows of a document as two numbers: how many rows of the text stand before them, and before what is behind them
+-- the rows of a document as two numbers: how many rows of the text come before them, and before what is after them
 abbrev pub stretch_view : Stretch → ℕ × ℕ
 stretch_view d = (d.first, d.end)

@@ -1,4 +1,4 @@
--- The laws of shape: the node for which lines stand is a tree, where what is written on them is (YAML 1.2.2, section 3.2.1).
+-- The laws of shape: the node that lines mean is a tree, where what is written on them is (YAML 1.2.2, section 3.2.1).
 use Rattle.std.specs.Prelude.{ℕ, List, [], ◌∷◌, Option, Some, None, ⊤}
 use Rattle.yq_core.{specs.Keys.HasUniqueKeys, specs.Shapes.{IsShaped, IsTree}, specs.Tree.Node}
 use Rattle.yq_outline.{specs.Grammar.IsNodeOutline, specs.Outline.Line}
@@ -13,7 +13,7 @@ abbrev pub HeadsAreShaped : List Line → Type 0
 HeadsAreShaped [] = ⊤
 HeadsAreShaped (l ∷ ls) = HeadIsShaped l.head × HeadsAreShaped ls
 
--- A node for which lines stand by the rules has items and keys where they belong, if what is written on the lines has (own).
+-- A node that lines mean by the rules has items and keys where they belong, if what is written on the lines has (own).
 abbrev pub ShapedByLines : Type 0
 ShapedByLines = (n : ℕ) (ls : List Line) (node : Node) → IsNodeOutline n ls node → HeadsAreShaped ls → IsShaped node
 

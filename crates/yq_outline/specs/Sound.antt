@@ -16,7 +16,7 @@ abbrev mutual
   each_has_unique_keys none = true
   each_has_unique_keys (child label n cs) = has_unique_keys n && each_has_unique_keys cs
 
--- whether an outline stands for a node in which at most d collections are nested and no mapping has a key twice
+-- whether an outline means a node in which at most d collections are nested and no mapping has a key twice
 abbrev pub is_sound_outline : ℕ → Outline → Bool
 is_sound_outline d o = is_fine o && (nat_le (depth (value o)) d && has_unique_keys (value o))
 

@@ -4,13 +4,13 @@ ghost use Rattle.yq_core.{specs.BlockRepair.{AreGap, repair}, specs.Tree.Node};
 ghost use Rattle.yq_outline.{specs.Comments.last_comments, specs.Outline.{Line, Stands}, specs.Grammar.IsNodeOutline};
 ghost use Rattle.yq_outline.{specs.Laws.NodeExchanged, specs.ShapedLines.{ShapedByLines, ShapedIsTree}};
 
-/// Lines stand for one node at most.
+/// Lines mean one node at most.
 pub fn one_node()
     ensures { (lines : List Line) (a b : Node) (m n : ℕ) → Stands lines a m → Stands lines b n →
         a ≡ b }
 {}
 
-/// What lines stand for is what the rules of block nodes give them (YAML 1.2.2, 8.2).
+/// What lines mean is what the rules of block nodes give them (YAML 1.2.2, 8.2).
 #[tactic(auto, using(crate::proofs::ByRules::rules_from, crate::proofs::ByRules::rules_give))]
 pub fn rules()
     ensures sound { (n : ℕ) (lines : List Line) (node : Node) → Stands lines node n → (l : Line)
@@ -19,7 +19,7 @@ pub fn rules()
         Stands lines node n }
 {}
 
-/// Lines stand for a node with items and keys where they belong, if what is written on them is such a
+/// Lines mean a node with items and keys where they belong, if what is written on them is such a
 /// node; and such a node, in which no mapping has a key twice, is a tree.
 #[tactic(auto, using(crate::proofs::ShapeLaws::shaped_by_lines, crate::proofs::ShapeLaws::shaped_is_tree))]
 pub fn lines_shaped()
@@ -32,7 +32,7 @@ pub fn exchanged()
     ensures { NodeExchanged }
 {}
 
-/// The comment lines that end lines, in front of which others stand that end in none, are those of
+/// The comment lines that end lines, in front of which others are that end in none, are those of
 /// the lines alone; repair leaves them.
 #[tactic(auto, using(crate::proofs::HeadLaws::comments_behind, crate::proofs::HeadLaws::head_repaired))]
 pub fn heads_joined()

@@ -1,4 +1,4 @@
-//! Block nodes of YAML by the indentation of their lines: what lines stand for, and what is asked of them.
+//! Block nodes of YAML by the indentation of their lines: what lines mean, and what is asked of them.
 //! The lines that rows have, their positions, and what is so of walks among them.
 #![tactic(auto)]
 

@@ -1,4 +1,4 @@
-//! Where lines of a document stand among its rows.
+//! Where lines of a document are among its rows.
 ghost use Rattle.std.specs.Prelude.{◌≡◌, ◌<◌, ◌-◌, None};
 ghost use Rattle.yq_outline.specs.Outline.{level};
 
@@ -9,16 +9,16 @@ pub struct Stretch {
     pub end: usize,
 }
 
-/// A line of a document by its row, of those of the text, and by how many lines of that row stand
-/// before it; or the end behind the document's rows.
+/// A line of a document by its row, of those of the text, and by how many lines of that row are
+/// before it; or the end after the document's rows.
 #[derive(Clone, Copy)]
 pub struct Position {
     pub row: usize,
     pub line: usize,
 }
 
-/// An item of a collection of rows, from which a walk over the items behind it may go on: how many
-/// of them stand before its row.
+/// An item of a collection of rows, from which a walk over the items after it may go on: how many
+/// of them come before its row.
 #[derive(Clone, Copy)]
 pub struct KnownItem {
     /// The line of the collection's first item.
@@ -29,7 +29,7 @@ pub struct KnownItem {
     pub level: usize,
     /// How many of its items begin before the row.
     pub index: usize,
-    /// How many rows of the text stand before the item's.
+    /// How many rows of the text come before the item's.
     pub row: usize,
 }
 

@@ -1,4 +1,4 @@
--- Where comments stand or would stand, by the row that the code has found.
+-- Where comments are or would be, by the row that the code has found.
 use Rattle.std.proofs.Common.{◌≡◌, ℕ, ◌+◌, ◌-◌, ◌≤◌, eqb, List, [], ◌∷◌, ◌++◌, length, take, drop, Option, Some, None, option_map, true}
 use Rattle.std.proofs.Common.{cond, refl, sym, ap, ◌∙◌, subst, arith, append_assoc, append-nil, length-append, rules}
 use Rattle.std.{proofs.Math.Seq.{take-append_seam, drop-append_seam}, proofs.lemmas.Bool.eq-eqb, proofs.lemmas.Option.slice_get-map}
@@ -15,7 +15,7 @@ use Rattle.yq_places.{proofs.CommentPieceLaws.{row_place, run_begins}, proofs.Pl
 use Rattle.yq_places.{proofs.SeamLaws.{IsSeam, seam_boundary, seam_then, gap_seam, row_seam}, proofs.StartLaws.start_agrees}
 use Rattle.yq_outline.specs.Extents.{row_start}
 
--- a row up to the end of the line of its mark, and behind that
+-- a row up to the end of the line of its mark, and after that
 pub row_text_parts : (r : Row) (rest : List ℕ) → print_row r rest ≡ text_to_line_end r ++ ((slices r).tail ++ ((slices r).raw ++ rest))
 row_text_parts r rest =
     let s : Slices = slices r in

@@ -1,4 +1,4 @@
--- Comments stand in their text between whole characters.
+-- Comments are in their text between whole characters.
 use Rattle.std.proofs.Common.{◌≡◌, ◌⊎◌, inl, inr, ℕ, zero, suc, ◌+◌, ◌-◌, ◌<◌, ◌≤◌, ℤ, eqb, List, [], ◌∷◌, ◌++◌, length, take, drop, Some}
 use Rattle.std.proofs.Common.{None, Bool, true, false, cond, ◌&&◌, refl, sym, ap, ◌∙◌, subst, arith, append-nil, append_assoc}
 use Rattle.std.{proofs.Common.{length-append, rules}, proofs.Math.Seq.{take-append_seam, drop-append_seam}}
@@ -31,7 +31,7 @@ pieces_at before old behind u start end =
     ∙ take-append_seam old behind) in
     search (rules, take-append_seam, front, within, middle)
 
--- the end of a piece: an LF is its last byte, or nothing is behind it
+-- the end of a piece: an LF is its last byte, or nothing is after it
 abbrev pub Ended : List ℕ → List ℕ → Type 0
 Ended p rest = IsLf p ⊎ (rest ≡ [])
 
@@ -76,7 +76,7 @@ upto_lf (x ∷ xs) = go (ends_line (x ∷ (xs ++ 10 ∷ []))) (upto_lf xs)
     go : (b : Bool) → upto ends_line (xs ++ 10 ∷ []) ≤ length xs → cond b 0 (suc (upto ends_line (xs ++ 10 ∷ []))) ≤ suc (length xs)
     go b h1 = search rules
 
--- behind a line's text is a break, or nothing
+-- after a line's text is a break, or nothing
 no_rest : (c more : List ℕ) → (cut ends_line c).1 ≡ [] → Ended c more → BeginsAscii more
 no_rest c more is (inr empty) = subst BeginsAscii (sym empty) tt
 no_rest c more is (inl lf) =

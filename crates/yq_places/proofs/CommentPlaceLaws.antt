@@ -1,4 +1,4 @@
--- Where the comments of a row stand, by its pieces.
+-- Where the comments of a row are, by its pieces.
 use Rattle.std.proofs.Common.{◌≡◌, ℕ, ◌+◌, ◌-◌, ◌<◌, ◌≤◌, eqb, List, [], ◌++◌, length, Option, Some, None, option_map, Bool, true, false}
 use Rattle.std.proofs.Common.{cond, refl, sym, ap, ◌∙◌, arith, length-append, length-drop, length-take, rules}
 use Rattle.std.{proofs.lemmas.Option.slice_get-map, specs.List.slice_get}
@@ -69,7 +69,7 @@ run_within gap run e = let same : run ≡ joined (last_run (text_lines gap)) = s
 run_is : (gap run : List ℕ) → text_lines run ≡ last_run (text_lines gap) → joined (last_run (text_lines gap)) ≡ run
 run_is gap run e = ap joined (sym e) ∙ joined_lines run
 
--- where a run stands in a gap, by its length
+-- where a run is in a gap, by its length
 abbrev span_of : ℕ → List ℕ → List ℕ → Option (ℕ × ℕ)
 span_of start gap run = cond (is_empty run) None (Some (start + length gap - length run, start + length gap))
 

@@ -121,7 +121,7 @@ document_lines n c s e =
     let d = map_some (placed_document n c) e in
     (d.0.part, (part_stands n c d.0 d.1).there, ap (λ (y : PrintedDocument). y.lines) (sym d.2))
 
--- Where the comments at a path stand, by their row lines.
+-- Where the comments at a path are, by their row lines.
 pub record AreSpans (path : Path) (c : Cut) : Type 0 where
   pub line : option_map piece_span (path_piece path parts.LineComment c) ≡ option_map piece_span (row_line_at path c >>= λ q. line_comment_in (document_row path.doc c + q.before) q c)
   pub head : option_map piece_span (path_piece path parts.HeadComment c) ≡ option_map piece_span (row_line_at path c >>= λ q. head_comment_in (document_row path.doc c + q.before) q c)

@@ -1,4 +1,4 @@
--- The comments that are told of entries and items are those in the pieces there.
+-- The comments that are known of entries and items are those in the pieces there.
 use Rattle.std.proofs.Common.{◌≡◌, ℕ, List, [], ◌∷◌, map, Option, Some, None, option_map, option_and_then, true, refl, sym, ap, ◌∙◌, subst}
 use Rattle.std.{proofs.Common.rules, proofs.lemmas.Option.slice_get-map, specs.List.slice_get, specs.Str.is_utf8}
 use Rattle.yq_core.{specs.Answers.◌>>=◌, specs.Paths.Step, specs.Tree.plain_label, proofs.Bools.guard_then}
@@ -21,7 +21,7 @@ use Rattle.yq_documents.specs.declared.path.Part.TheVariants as parts
 content_agrees : (before : List ℕ) (c : Content) (behind : List ℕ) → comments.line_comment (tail_of c) ≡ option_map comment_of (content_comment before c behind)
 content_agrees before c behind = simp (tail_is, tail_view)
 
--- What is told of an entry or item, and the pieces of its comments.
+-- What is known of an entry or item, and the pieces of its comments.
 record Agree (o : Option Labelled) (beside over : Option TextPiece) : Type 0 where
   pub line : (o >>= λ x. x.0.line_comment) ≡ option_map comment_of beside
   pub above : head_comment_of o ≡ comments_of over

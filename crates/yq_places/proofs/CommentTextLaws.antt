@@ -1,4 +1,4 @@
--- The texts of comments, by where they stand.
+-- The texts of comments, by where they are.
 use Rattle.std.proofs.Common.{◌≡◌, ℕ, ◌<◌, eqb, List, [], ◌∷◌, ◌++◌, length, drop, Some, None, option_map, Bool, true, false, cond, refl}
 use Rattle.std.{proofs.Common.{sym, ap, ◌∙◌, arith, rules}, proofs.lemmas.Bool.{eqb-true, cond-true, cond-false}}
 use mathlib.Core.List.{tail-eq_of_cons-eq}

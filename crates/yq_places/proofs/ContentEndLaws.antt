@@ -1,4 +1,4 @@
--- A content ends in a break, or the text ends behind it.
+-- A content ends in a break, or the text ends after it.
 use Rattle.std.proofs.Common.{◌≡◌, ◌⊎◌, inl, inr, ℕ, ℤ, Bool, true, false, ◌&&◌, List, [], ◌∷◌, ◌++◌, refl, sym, ap, ◌∙◌, subst, append-nil}
 use Rattle.std.{proofs.Common.rules, proofs.lemmas.Bool.{eqb-true, false_from_ne_true, false≢true, and_parts, or_parts}}
 use Rattle.yq_core.specs.Text.{front, is_white, is_feed, is_return, is_break, is_line, ends_line, NoneIn}
@@ -7,7 +7,7 @@ use Rattle.yq_row_table.{specs.Rows.{Content, Nothing, Inline, Block}, proofs.se
 use Rattle.yq_places.{specs.CollectionEnds.is_broken, specs.PrintedLines.{last_break, end_break}}
 use Rattle.yq_places.proofs.LastBreakLaws.{HasNoFeed, line_last, raw_last, no_last}
 
--- a text ends in a break that is a line, or has none, and nothing is behind it
+-- a text ends in a break that is a line, or has none, and nothing is after it
 abbrev pub Ends : Bool → List ℕ → List ℕ → Type 0
 Ends broken break rest = ((broken ≡ true) × (is_line break ≡ true)) ⊎ ((broken ≡ false) × (break ≡ []) × (rest ≡ []))
 

@@ -1,4 +1,4 @@
--- Rows cut behind a dash, and the lines of items and entries in their rows.
+-- Rows cut after a dash, and the lines of items and entries in their rows.
 use Rattle.std.proofs.Common.{◌≡◌, ℕ, zero, suc, ◌<◌, ◌≤◌, List, [], ◌∷◌, ◌++◌, length, take, drop, replicate, Some, refl, ap, ◌∙◌, subst}
 use Rattle.std.proofs.Common.{arith, append_assoc}
 use Rattle.yq_core.{specs.Paths.Step, proofs.Bools.bind_some}
@@ -9,7 +9,7 @@ use Rattle.yq_places.{specs.RowPieces.{past_dash, upto_dash}, specs.PlacedRows.{
 use Rattle.yq_places.{proofs.EntryPlaceLaws.row_line_is, proofs.PrintedTexts.map_some, proofs.SeamLaws.dashes_split}
 use Rattle.yq_documents.specs.LinesInRows.{row_line_of}
 
--- ---- a row, cut behind a dash
+-- ---- a row, cut after a dash
 
 from_dash : (k : ℕ) (ns t : List ℕ) → k < length ns → dashes_text (drop k ns) t ≡ 45 ∷ past_dash (drop k ns) t
 from_dash k [] t h = absurd (omega (arith, h))

@@ -1,4 +1,4 @@
--- What is told of the line that is in a row line.
+-- What is known of the line that is in a row line.
 use Rattle.std.proofs.Common.{◌≡◌, ◌⊎◌, inl, inr, ℕ, zero, suc, ◌+◌, ◌-◌, ◌<◌, ◌≤◌, List, [], ◌∷◌, ◌++◌, length, Some, None, option_map}
 use Rattle.std.{proofs.Common.{refl, sym, ap, ◌∙◌, subst, arith}, proofs.lemmas.Bool.{cases_lt, lt-ltb, le-ltb, cond-true, cond-false}}
 use Rattle.std.{proofs.lemmas.Option.same_Some, specs.List.slice_get}
@@ -8,7 +8,7 @@ use Rattle.yq_documents.specs.LinesInRows.{RowLine, behind_one, row_line}
 use Rattle.yq_outline.specs.Comments as comments
 use Rattle.yq_row_table.specs.Rows as rows
 
--- Line n of a row, before whose mark so many dashes stand: before the mark it is that of a dash.
+-- Line n of a row, before whose mark so many dashes are: before the mark it is that of a dash.
 pub record IsDashLine (dashes n : ℕ) (l : Line) : Type 0 where
   pub within : n ≤ dashes
   pub dash : n < dashes → (l.mark ≡ Dash) × (l.head ≡ None)

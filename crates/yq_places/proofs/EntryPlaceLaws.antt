@@ -30,7 +30,7 @@ row_line_is n rs s e = go (row_line n rs) (line_in_row n rs) e
     go : (o : Option RowLine) → If o (IsLineInRow rs) → o ≡ Some s → IsLineInRow rs s
     go o h1 h2 = search (rules, same_Some)
 
--- the row of a line of rows that stand among those of a cut
+-- the row of a line of rows that are among those of a cut
 pub row_there : (c : Cut) (rs more : List Row) (first n : ℕ) (s : RowLine) → drop first (rows_of c) ≡ rs ++ more → row_line n rs ≡ Some s → slice_get (rows_of c) (first + s.before) ≡ Some s.row
 row_there c rs more first n s there e = cc (get_dropped (rows_of c) first s.before, get_front rs more s.before s.row (row_line_is n rs s e).0)
 
@@ -49,7 +49,7 @@ no_flow_left k c rs steps left n h1 h2 = search (rules, eqb-true)
 pub no_flow : (k : ℕ) (c : Cut) (rs : List Row) (steps : List Step) → None ≡ reached steps (lines_of_rows rs) → None ≡ flow_entry_of k c rs steps
 no_flow k c rs steps e = ap (λ (o : Option (ℕ × List Step)). o >>= λ x. flow_entry_from k c rs x.0 x.1) e
 
--- the place of what stands in a line, or in flow
+-- the place of what is in a line, or in flow
 abbrev pub or_flow : TextSpan → TextSpan → TextSpan
 or_flow None y = y
 or_flow (Some x) y = Some x

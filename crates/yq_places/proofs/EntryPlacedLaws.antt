@@ -1,4 +1,4 @@
--- Entries, items and their contents stand in the text, from one whole character to another.
+-- Entries, items and their contents are in the text, from one whole character to another.
 use Rattle.std.proofs.Common.{◌≡◌, ◌⊎◌, inl, inr, ℕ, suc, ◌+◌, ◌-◌, ◌<◌, ◌≤◌, eqb, ltb, List, [], ◌∷◌, ◌++◌, length, drop, Option, Some}
 use Rattle.std.proofs.Common.{None, is_some, option_map, option_and_then, Bool, true, false, cond, refl, sym, subst, arith, length-append}
 use Rattle.std.{proofs.Common.rules, proofs.lemmas.Bool.{ltb-true, ltb-false, eqb-false}}

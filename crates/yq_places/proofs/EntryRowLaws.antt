@@ -1,4 +1,4 @@
--- Rows that stand in a text, with those in front of them and behind: where they begin and end there.
+-- Rows that are in a text, with those in front of them and after: where they begin and end there.
 use Rattle.std.proofs.Common.{◌≡◌, inr, ℕ, suc, ◌+◌, ◌-◌, ◌<◌, ◌≤◌, List, [], ◌∷◌, ◌++◌, length, length-append, take, drop, Some}
 use Rattle.std.{proofs.Common.{option_map, true, refl, sym, ap, ◌∙◌, subst, arith, append_assoc}, proofs.Math.Seq.take-append_seam}
 use Rattle.std.{proofs.lemmas.Option.{slice_get-map, slice_get_within}, specs.List.slice_get, specs.Str.{IsUtf8, IsCharBoundary}}

@@ -1,4 +1,4 @@
--- Rows end, before their breaks, at whole characters, and no later than rows behind them.
+-- Rows end, before their breaks, at whole characters, and no later than rows after them.
 use Rattle.std.proofs.Common.{◌≡◌, ◌⊎◌, inl, inr, ℕ, zero, suc, ◌-◌, ◌<◌, ◌≤◌, List, [], ◌∷◌, ◌++◌, length, take, drop, replicate, Some}
 use Rattle.std.proofs.Common.{Bool, true, false, cond, refl, sym, ap, ◌∙◌, subst, arith, eqb-true, append_assoc, length-append, rules}
 use Rattle.std.{proofs.lemmas.Bool.{cases_lt, lt-ltb, le-ltb, cond-true, cond-false, false≢true, and_parts}, specs.List.slice_get}

@@ -5,7 +5,7 @@ use Rattle.yq_core.specs.Text.{cut, cut_line, ends_line, front, is_feed, is_retu
 use Rattle.yq_core.specs.declared.block_types.Break.TheVariants.{Lf, CrLf}
 use Rattle.yq_places.{specs.FirstBreak.first_break, specs.PrintedLines.{is_last_break, last_break, less_break}}
 
--- a line that ends behind a CR and an LF
+-- a line that ends after a CR and an LF
 both_bytes : (b : ℕ) (bs : List ℕ) → is_return b ≡ true → front is_feed bs ≡ true → eqb (length (last_break (take (suc (line_len bs)) (b ∷ bs)))) 2 ≡ true
 unfolding line_len less_break
 both_bytes b bs h1 h2 = search rules

@@ -29,7 +29,7 @@ moved = refl
 abbrev apart : Cut
 apart = last (record { rows = entry [] 0 (2 ∷ []) (codes "a") (codes "1") ∷ entry break 3 [] (codes "b") (codes "2") ∷ []; end = [] })
 
--- from behind the dash to the end of the entry's line
+-- from after the dash to the end of the entry's line
 dropped : first_removal 0 (Nth 0 ∷ To (codes "a") ∷ []) apart
     ≡ Some (record { before = codes "-"; space = codes "  "; entry = codes "a: 1"; break = []; indent = []; behind = break ++ (break ++ (codes "   b: 2" ++ break)) })
 unfolding level inline.node_text less_break less_spaces upto line_len text_lines scalars.scalar_content reading.content_on

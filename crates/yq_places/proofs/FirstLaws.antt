@@ -20,7 +20,7 @@ use Rattle.yq_documents.specs.declared.path.Part.TheVariants as parts
 spaces_more : (b : ℕ) (t : List ℕ) → are_spaces t ≡ false → are_spaces (b ∷ t) ≡ false
 spaces_more b t e = search rules
 
--- a space behind a text
+-- a space after a text
 spaces_stay : (t : List ℕ) (n : ℕ) → n < length t → slice_index t n ≡ 32 → are_spaces (take (suc n) t) ≡ are_spaces (take n t)
 spaces_stay [] n h e = absurd (omega (arith, h))
 spaces_stay (b ∷ t) zero h e = ap (λ (c : ℕ). eqb c 32 && true) e
@@ -32,7 +32,7 @@ space_less [] n h e = absurd (omega (arith, h))
 space_less (b ∷ t) zero h e = ap (λ (c : ℕ). cond (eqb c 32 && true) [] (c ∷ [])) e
 space_less (b ∷ t) (suc n) h e = λ i. cond (spaces_stay (b ∷ t) (suc n) h e i) [] (b ∷ space_less t n (omega (arith, h)) e i)
 
--- another byte behind it
+-- another byte after it
 other_spaces : (t : List ℕ) (n : ℕ) → n < length t → (slice_index t n ≡ 32 → ⊥) → are_spaces (take (suc n) t) ≡ false
 other_spaces [] n h e = absurd (omega (arith, h))
 other_spaces (b ∷ t) zero h e = ap (λ c. c && true) (ne_eqb b 32 e)
@@ -87,7 +87,7 @@ front_less t n e = (λ i. take (e i) (spaces_parts t i)) ∙ take-append_seam (l
 
 -- ---- the text around an item or entry
 
--- An item or entry at a path stands between two places of a text.
+-- An item or entry at a path is between two places of a text.
 pub record EntryStands (t : List ℕ) (c : Cut) (path : Path) (start end : ℕ) : Type 0 where
   pub piece : TextPiece
   pub is : path_piece path parts.Entry c ≡ Some piece
@@ -131,7 +131,7 @@ entry_stands t c path start end u cut sound k n there at =
 
 -- ---- what the code tells of it
 
--- what is told of the line of an item or entry
+-- what is known of the line of an item or entry
 abbrev first_out_of : Option RowLine → Option TextPiece → Option FirstOut
 first_out_of o e = option_map first_out (o >>= λ s. cond (eqb s.line 0) None e)
 

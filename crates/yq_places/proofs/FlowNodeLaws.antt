@@ -65,7 +65,7 @@ row_along total r rest ss = kept_along ss (locate total (content_core r.content)
     go (Inline space node tail) = core_along total node (tail ++ rest) ss ∙ sym (collection_placed total ss node (tail ++ rest))
     go (rows.Block space anchor block) = nothing_along total (tail_of (rows.Block space anchor block) ++ rest) ss
 
--- ---- more text behind
+-- ---- more text after
 
 as_entry : Key → FlowNode → List ℕ → Option EntryPieces
 as_entry key n rest = Some (record { key = key; node = n; rest = rest })
@@ -116,7 +116,7 @@ content_more ss (rows.Block space anchor block) rest = refl
 
 -- ---- the collection
 
--- the flow collection to which steps lead among rows, before which k rows of a cut stand
+-- the flow collection to which steps lead among rows, before which k rows of a cut are
 abbrev pub rows_collection : ℕ → Cut → List Row → List Step → Option CollPieces
 rows_collection k c rs steps = head_line_of steps (lines_of_rows rs) >>= λ x. line_collection k c rs x.0 x.1
 

@@ -17,7 +17,7 @@ use Rattle.yq_core.specs.Tree as tree
 use Rattle.yq_core.specs.Entries as entries
 use Rattle.yq_outline.specs.Outline as outlines
 
--- a node behind another anchor
+-- a node after another anchor
 pub none_anchored : (n : tree.Node) → n ≡ outlines.anchored None n
 none_anchored n = search rules
 

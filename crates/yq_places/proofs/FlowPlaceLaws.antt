@@ -50,7 +50,7 @@ dash_takes_none l h1 h2 = search (rules, false≢true)
 pub mark_row_line : (rs : List Row) (n : ℕ) (l : Line) → slice_get (lines_of_rows rs) n ≡ Some l → TakesSteps l → MarkRowLine rs n
 mark_row_line rs n l e takes = search (rules, row_line_found, cases_lt)
 
--- the items and entries of a node are those behind its anchor
+-- the items and entries of a node are those after its anchor
 core_parts : (total : ℕ) (node : FlowNode) (rest : List ℕ) → parts_of (locate total (without_anchor node) rest) ≡ parts_of (locate total node rest)
 unfolding locate
 core_parts total node rest = search rules
@@ -65,7 +65,7 @@ kept_entry t ts p = search rules
 row_entry : (total : ℕ) (r : Row) (rest : List ℕ) (t : Step) (ts : List Step) → entry_within (t ∷ ts) (row_flow total r rest) ≡ placed_entry_at (t ∷ ts) (None, locate total (inline_node r.content) (tail_of r.content ++ rest))
 row_entry total r rest t ts = simp (core_is, kept_entry, option_and_then, core_parts)
 
--- what is told of a row's alias or flow collection tells where steps lead in it
+-- what is known of a row's alias or flow collection tells where steps lead in it
 pub flow_agrees : (k : ℕ) (c : Cut) (rs : List Row) (n : ℕ) (t : Step) (ts : List Step) (q : RowLine) → row_line n rs ≡ Some q →
     entry_within (t ∷ ts) (row_flow (length (cut_text c)) q.row (behind_row (k + q.before) c)) ≡ flow_entry k c rs n (t ∷ ts)
 flow_agrees k c rs n t ts q is = cc (row_entry (length (cut_text c)) q.row (behind_row (k + q.before) c) t ts)

@@ -34,7 +34,7 @@ entry_spans t (s ∷ ss) slot e h is = go (flow_part_at s (parts_of slot.1)) ref
     go : (o : Option PlacedEntry) → flow_part_at s (parts_of slot.1) ≡ o → ((x : PlacedEntry) → EntrySpans t x → placed_entry_at ss x ≡ Some e → EntrySpans t e) → option_and_then (placed_entry_at ss) o ≡ Some e → EntrySpans t e
     go o h1 h2 h3 = search (rules, part_spans, parts_spans)
 
--- an item or entry ends behind where it begins
+-- an item or entry ends after where it begins
 entry_order : (total : ℕ) (y : EntryPieces) → entry_start (locate_entry total y) ≤ end_of (locate_entry total y).1
 entry_order total y = go y.key
   where

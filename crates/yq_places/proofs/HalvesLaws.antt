@@ -8,7 +8,7 @@ use Rattle.yq_core.{specs.Text.{front, is_break, is_empty, is_feed, is_line, is_
 use Rattle.yq_row_table.specs.Reading.{begins_gap}
 use Rattle.yq_places.specs.PrintedLines.{less_break}
 
--- the byte at a place stands in the first half, or in the second one
+-- the byte at a place is in the first half, or in the second one
 pub byte_front : (a b : List ℕ) (n : ℕ) → n < length a → slice_index (a ++ b) n ≡ slice_index a n
 byte_front a b n h = get_or_append_left a b 0 n h
 
@@ -47,7 +47,7 @@ line_goes (x ∷ a) b h e = go a (is_feed x) h e (line_goes a b)
     go : (a : List ℕ) (c : Bool) → suc (length a) ≤ cond c 1 (suc (line_len a)) → cond c (is_empty a) (is_line a) ≡ false → (length a ≤ line_len a → is_line a ≡ false → line_len (a ++ b) ≡ line_len a + line_len b) → cond c 1 (suc (line_len (a ++ b))) ≡ cond c 1 (suc (line_len a)) + line_len b
     go a c h1 h2 h3 = search rules
 
--- a gap begins where white space is all there is, or by what stands behind it
+-- a gap begins where white space is all there is, or by what comes after it
 white_at : (t : List ℕ) (n : ℕ) → n ≡ prefix_len is_white t → past_white t ≡ drop n t
 white_at t n e = ap (λ k. drop k t) (upto_unless is_white t ∙ sym e)
 

@@ -43,7 +43,7 @@ content_ends n end x rest h1 = search (rules, cond-false, node_begins, block_mar
 head_ends : (t : List ℕ) (c : Cut) (i : ℕ) (r : Row) (end : ℕ) → IsCut t c → slice_get (rows_of c) i ≡ Some r → head_finish end (slices r) ≡ head_end end r.content
 head_ends t c i r end cut is = content_ends (parent_indent r) end r.content (behind_row i c) (row_in c i true r cut.parts is).row.content
 
--- what stands behind a head is within the text
+-- what comes after a head is within the text
 pub head_fits : (s : RowsView) (i : ℕ) (x : Slices) (place : ℕ × ℕ) → IsRowsView s → slice_get s.rows i ≡ Some x → ((c : Cut) → s ≡ rows_view c → (r : Row) → slice_get (rows_of c) i ≡ Some r → place ≡ head_place i c r) →
     place.1 + (length x.tail + length x.raw) ≤ text_limit
 head_fits s i x place h there at =

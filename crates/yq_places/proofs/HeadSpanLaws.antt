@@ -1,4 +1,4 @@
--- The heads of rows, and what stands in flow in them, go from one whole character to another.
+-- The heads of rows, and what is in flow in them, go from one whole character to another.
 use Rattle.std.proofs.Common.{◌≡◌, ℕ, ◌+◌, ◌-◌, ◌<◌, List, [], ◌∷◌, ◌++◌, length, drop, replicate, Option, Some, Bool, true, false, refl}
 use Rattle.std.{proofs.Common.{sym, ap, ◌∙◌, subst, arith, append_assoc, length-append, inl, rules}, proofs.Math.Seq.drop-append_seam}
 use Rattle.std.{proofs.lemmas.Bool.{false≢true, and_parts}, specs.List.slice_get, specs.Str.{IsUtf8, IsCharBoundary}}
@@ -21,7 +21,7 @@ use Rattle.yq_places.proofs.StartLaws.{front_in}
 use Rattle.yq_core.specs.declared.style.Place.TheVariants as places
 use Rattle.yq_row_table.specs.Rows as rows
 
--- where a node with its places begins, behind its anchor too, and where it ends
+-- where a node with its places begins, after its anchor too, and where it ends
 abbrev core_of : Placed → ℕ
 core_of (placed a s c e f) = c
 

@@ -22,7 +22,7 @@ compose_twice (beside l u p) q r = ap (beside l u) (compose_twice p q r)
 inside_twice : (f g b : FoundLine) → place_inside (place_inside f g) b ≡ place_inside f (place_inside g b)
 inside_twice f g b = ap (λ (p : Context). record b { place = p }) (compose_twice f.place (below f.line g.place f.after) (below g.line b.place g.after))
 
--- the line in whose head a node stands, under another line
+-- the line in whose head a node is, under another line
 head_inside : (f : FoundLine) (x : Reached) → head_line (place_inside f x.0) x.1 ≡ option_map (within f) (head_line x.0 x.1)
 head_inside f (g, s ∷ ss) = refl
 head_inside f (g, []) = go g.line.head (bare_line g.under)

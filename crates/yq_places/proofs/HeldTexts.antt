@@ -15,7 +15,7 @@ use Rattle.yq_places.specs.StandingReading.{AreRowsOf}
 use Rattle.yq_places.proofs.EntryRowLaws.{head_ends, line_boundary_at, line_cut, pieces_at, stop_boundary, stop_is, through_is}
 use Rattle.yq_outline.{specs.Extents.{head_place, row_start}, specs.RowWalk.line_column, proofs.WalkLevels.{last_is, to_dash}}
 
--- the column behind dashes
+-- the column after dashes
 columns : (c : ℕ) (ns : List ℕ) → behind_columns c ns ≡ c + length (dashes_text ns [])
 columns c [] = omega arith
 columns c (n ∷ ns) = omega (arith, columns (suc (c + n)) ns, length-append (replicate n 32) (dashes_text ns []), length-replicate {A = ℕ} n 32)
@@ -26,7 +26,7 @@ column_is r k h = omega (arith, columns r.column (take k r.dashes), to_dash k r.
 mark_column_is : (r : Row) (k : ℕ) → k ≡ length r.dashes → line_column k (slices r) ≡ mark_column r
 mark_column_is r k e = column_is r k (omega (arith, e)) ∙ ap (behind_columns r.column) (take_all k r.dashes (omega (arith, e)))
 
--- the pieces behind a mark before what stands there
+-- the pieces after a mark before what is there
 head_front : (x : Content) (s : Slices) (u : List ℕ) → s.space ≡ (content_cut x).0 → s.anchor ≡ (content_cut x).1 → s.apart ≡ (content_cut x).2 → s.space ++ (s.anchor ++ (s.apart ++ u)) ≡ anchor_before s ++ (space_before s ++ u)
 head_front x s u a b d = go s.anchor refl
   where
@@ -56,7 +56,7 @@ module _ (t : List ℕ) (s : RowsView) (e : RowsOfEntry) (row end : ℕ) (h : Ar
   same : slices e.row ≡ y
   same = same_Some _ _ (sym (pieces_at t s e row end h) ∙ there)
 
-  -- the text up to an anchor behind the mark
+  -- the text up to an anchor after the mark
   abbrev front : List ℕ
   front = (before_entry e ++ row_front e.row) ++ anchor_before (slices e.row)
 

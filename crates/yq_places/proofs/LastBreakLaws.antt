@@ -1,4 +1,4 @@
--- The break that ends a text, and what stands behind the last line of a content.
+-- The break that ends a text, and what comes after the last line of a content.
 use Rattle.std.proofs.Common.{◌≡◌, ◌⊎◌, ℕ, true, false, cond, List, [], ◌∷◌, ◌++◌, length, drop, refl, ap, ◌∙◌, rules}
 use Rattle.std.proofs.lemmas.Bool.{eqb-true}
 use Rattle.yq_core.{specs.Block.AreRaw, specs.Text.{is_empty, is_feed, is_return, is_line, joined}}

@@ -10,7 +10,7 @@ use Rattle.yq_row_table.proofs.LineEnds.{white_cut, white_again, white_none, tex
 use Rattle.yq_places.specs.CommentPlaces.{LineEnd, end_in_line}
 use Rattle.yq_core.specs.Text as text
 
--- more text behind a break
+-- more text after a break
 front_more : (p : ℕ → Rattle.std.proofs.Common.Bool) (c break more : List ℕ) → 0 < length break → front p (c ++ (break ++ more)) ≡ front p (c ++ break)
 front_more p [] [] more some = absurd (omega (arith, some))
 front_more p [] (b ∷ break) more some = refl
@@ -83,6 +83,6 @@ header_tail tail more h =
     })
     (or_cases (is_blank tail) (front is_white tail && is_hash (past_white tail)) parts.1)
 
--- the tail behind what is written on the line of a content
+-- the tail after what is written on the line of a content
 pub line_tail : (n : ℤ) (x : Content) (rest : List ℕ) → IsContent n x rest → IsTail (content_cut x).4 ((content_cut x).5 ++ rest)
 line_tail n x rest h1 = search (rules, header_tail)

@@ -1,4 +1,4 @@
--- Nodes alone on their lines, and collections behind dashes, by the rows that the code has found.
+-- Nodes alone on their lines, and collections after dashes, by the rows that the code has found.
 use Rattle.std.proofs.Common.{◌≡◌, ℕ, ◌+◌, ◌-◌, ◌<◌, ◌≤◌, true, List, [], ◌∷◌, ◌++◌, length, length-append, take, drop, replicate, Some}
 use Rattle.std.{proofs.Common.{refl, sym, ap, ◌∙◌, subst, arith, append_assoc}, proofs.Math.Seq.{drop-append_seam, take-append_seam}}
 use Rattle.std.{proofs.lemmas.Bool.{and_parts, false≢true}, proofs.lemmas.Option.same_Some, proofs.lemmas.Str.IsCharBoundary-at_seam}
@@ -82,7 +82,7 @@ module _ (t : List ℕ) (s : RowsView) (e : RowsOfEntry) (row end : ℕ) (h : Ar
       let own : head ≡ x.head = head_is ∙ ap (λ (z : Slices). z.head) (sym same) in
       λ i. record { before = b i; head = own i; behind = l i }
 
--- ---- a collection behind a dash
+-- ---- a collection after a dash
 
 module _ (t : List ℕ) (s : RowsView) (e : RowsOfEntry) (row end : ℕ) (h : AreRowsOf t s e row end) (u : IsUtf8 t) (line : ℕ) (line_is : line ≡ e.line) (less : e.line < length e.row.dashes) (y : Slices) (there : slice_get s.rows row ≡ Some y) (start stop : ℕ)
     (start_agrees : (x : Slices) → slice_get s.rows row ≡ Some x → start ≡ line_begin (row_start row s) x line) (stop_agrees : (x : Slices) → slice_get s.rows (end - 1) ≡ Some x → stop ≡ row_start (end - 1) s + row_length x) where

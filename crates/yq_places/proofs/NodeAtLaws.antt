@@ -1,4 +1,4 @@
--- What is told of the nodes at paths, as the code finds it.
+-- What is known of the nodes at paths, as the code finds it.
 use Rattle.std.proofs.Common.{rules, ◌≡◌, ◌⊎◌, inl, inr, ℕ, zero, suc, ◌+◌, ◌-◌, ◌<◌, ◌≤◌, ltb, eqb, Bool, true, false, not, cond, List, []}
 use Rattle.std.proofs.Common.{◌∷◌, length, take, map, Option, Some, None, option_map, option_and_then, refl, sym, ap, ◌∙◌, subst, arith}
 use Rattle.std.{proofs.lemmas.Bool.{cases_lt, lt-ltb, le-ltb, eq-eqb, ne_eqb, false≢true}, proofs.lemmas.List.length-map}
@@ -78,7 +78,7 @@ collection_is l u a other = go l.mark other
     go (Key k) e = ap mapping (several_is a)
     go Dash e = ap list (several_is a)
 
--- the collection for which lines stand, by the first of them and what is behind that
+-- the collection that lines mean, by the first of them and what is after that
 pub collection_view : (ls : List Line) (n floor next : ℕ) (l : Line) → slice_get ls n ≡ Some l → true ≡ not (has_no_lines (part ls n floor)) → begins_with_node (part ls n floor) ≡ false → IsEndOf ls n next →
     node_summary (value (part ls n floor)) ≡ cond (is_item (key_of l.mark)) (list (not (has_no_lines (part ls next floor)))) (mapping (not (has_no_lines (part ls next floor))))
 collection_view ls n floor next l is some other ends =

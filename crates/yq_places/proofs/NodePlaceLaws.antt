@@ -1,4 +1,4 @@
--- What is told of the node at a path, where it is written among lines.
+-- What is known of the node at a path, where it is written among lines.
 use Rattle.std.proofs.Common.{◌≡◌, ℕ, suc, ◌+◌, eqb, Bool, true, false, cond, List, [], ◌∷◌, length, Option, Some, None, option_map}
 use Rattle.std.{proofs.Common.{option_and_then, refl, sym, ap, ◌∙◌, arith}, proofs.lemmas.Bool.{eq-eqb, false≢true}, specs.List.slice_get}
 use Rattle.std.specs.Prelude.{is_some}
@@ -22,7 +22,7 @@ anchored_summary a (tree.scalar b k t) = refl
 anchored_summary a (tree.list b cs) = refl
 anchored_summary a (tree.map b cs) = refl
 
--- the node for which lines stand
+-- the node that lines mean
 lines_view : (ls : List Line) (n floor m : ℕ) (o : Outline) → part ls n floor ≡ o → IsEven m o → Some (node_summary (value o)) ≡ place_node ls (at_lines n floor) []
 lines_view ls n floor m end e even = ap (λ x. line_or (cond (begins_with_node x) (Some n) None) (summary_in_line ls []) (Some (node_summary (value x)))) (sym e)
 lines_view ls n floor m (row l u a) e even =

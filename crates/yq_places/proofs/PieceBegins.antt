@@ -11,7 +11,7 @@ use Rattle.yq_places.specs.PathPieces.{PrintedDocument, printed_document, found_
 use Rattle.yq_places.specs.PieceLaws.{ContentsBegin}
 use Rattle.yq_documents.specs.declared.path.Part.TheVariants as parts
 
--- a piece begins behind a text
+-- a piece begins after a text
 abbrev From : List ℕ → TextPiece → Type 0
 From before x = (front : List ℕ) × (x.before ≡ before ++ front)
 

@@ -9,7 +9,7 @@ use Rattle.yq_documents.specs.declared.path.Part.{Part}
 use Rattle.yq_core.specs.Nodes as inline
 use Rattle.yq_documents.specs.declared.path.Part.TheVariants as parts
 
--- an item's row in column 0, behind dashes
+-- an item's row in column 0, after dashes
 abbrev item : List ℕ → Content → Row
 item dashes c = record { gap = []; column = 0; dashes = dashes; mark = Dash; content = c }
 
@@ -35,7 +35,7 @@ cut = last (record {
 abbrev text_of : Part → List Step → Option (List ℕ)
 text_of part steps = printed_document 0 cut >>= piece_in part steps >>= λ p. Some p.text
 
--- a scalar behind an anchor, before a comment
+-- a scalar after an anchor, before a comment
 plain : text_of parts.Content (Nth 0 ∷ []) ≡ Some (codes "b")
 unfolding level inline.node_text
 plain = refl
@@ -68,7 +68,7 @@ nothing : text_of parts.Content (Nth 4 ∷ []) ≡ None
 unfolding level
 nothing = refl
 
--- comments behind and above
+-- comments after and above
 beside : text_of parts.LineComment (Nth 0 ∷ []) ≡ Some (codes "# c")
 unfolding level inline.node_text upto
 beside = refl

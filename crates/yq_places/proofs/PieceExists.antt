@@ -161,7 +161,7 @@ document_null (y ∷ ys) s n as_printed fine at none = go (find y ys (group (map
         let e = entry_there s y ys f.1 f.0 is in
         entry_null s y ys f.1 f.0 e.0 n is fine (entry_found s y ys f.1 f.0 e.0 is as_printed e.1) at (sym (ap (λ (o : Option BlockEntry). or_false (option_map (entry_written f.1) o)) e.1) ∙ none)
 
--- A document of a text: its lines, which are told by their texts and are even, and the node at a path, which is in its root.
+-- A document of a text: its lines, which are given by their texts and are even, and the node at a path, which is in its root.
 record IsRead (t : List ℕ) (p : Path) (s : PrintedDocument) : Type 0 where
   pub as_printed : ArePrinted s.lines s.behind
   pub fine : is_fine (group (map line_in s.lines)) ≡ true

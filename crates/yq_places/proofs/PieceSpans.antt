@@ -62,7 +62,7 @@ module _ (c : Cut) (p : Part) (more : List Row) (k : ℕ) (before behind : List 
       (b : RowLine) × (row_line n p.rows ≡ Some b) × (b.line ≡ length b.row.dashes)
   last_line n l e none_deeper = search (rules, row_line_at, cases_lt)
 
-  -- the node for which lines stand
+  -- the node that lines mean
   block_span : (from m : ℕ) (o : Outline) (e : ℕ) (rest : List ℕ) → from + m ≤ length (printed_lines p.rows) → IsEven e o → map line_in (take m (drop from (printed_lines p.rows))) ≡ flatten o →
       ArePrinted (take m (drop from (printed_lines p.rows))) rest →
       ((j : ℕ) → m ≡ suc j → (l x : PrintedLine) → slice_get (printed_lines p.rows) (from + j) ≡ Some l → slice_get (printed_lines p.rows) (suc (from + j)) ≡ Some x → level x.line ≤ level l.line) →

@@ -46,7 +46,7 @@ node_spells before (scalar p) behind x e v = (tree_of (scalar p), refl, piece_is
 node_spells before (coll close gap items) behind x e v = (tree_of (coll close gap items), refl, piece_is (coll close gap items) before behind x refl e v)
 node_spells before (anchored name gap node) behind x e v = node_spells (before ++ 38 ∷ (name ++ gap)) node behind x e (v.0, v.1, v.2, v.3.4)
 
--- what is written behind a mark
+-- what is written after a mark
 pub head_spells : (s : PrintedDocument) (before : List ℕ) (c : Content) (behind : List ℕ) (x : TextPiece) → head_piece before c behind ≡ Some x → IsWritten c behind → (h : tree.Node) × (head_of c ≡ Some h) × SpellsTree s x h
 head_spells s before (Nothing tail) behind x e w = absurd (none-some _ e)
 head_spells s before (Inline space node tail) behind x e w = let k = node_spells (before ++ space) node (tail ++ behind) x e w in (k.0, k.1, inl k.2)
@@ -69,7 +69,7 @@ bare_is m h1 = search rules
 run_of : (s : PrintedDocument) (before : List ℕ) (l : PrintedLine) (ls : List PrintedLine) (behind : List ℕ) (x : TextPiece) → IsIn s before (l ∷ ls) behind → run_piece before l ls behind ≡ x → IsLineRun s l ls x
 run_of s before l ls behind x h e = record { above = h.above; below = h.below; lines = h.lines; piece = sym e ∙ (λ i. run_piece (h.start i) l ls (h.stop i)) }
 
--- the node for which lines stand
+-- the node that lines mean
 pub block_spells : (s : PrintedDocument) (before : List ℕ) (ls : List PrintedLine) (behind : List ℕ) (x : TextPiece) (o : Outline) (m : ℕ) → IsIn s before ls behind → lines_piece before ls behind ≡ Some x →
     ArePrinted ls behind → map line_in ls ≡ flatten o → IsEven m o → SpellsNode s x (value o)
 block_spells s before [] behind x o m path_inside e as_printed lines even = absurd (none-some _ e)

@@ -1,4 +1,4 @@
--- Pieces with what stands before and behind them are the text.
+-- Pieces with what comes before and after them are the text.
 use Rattle.std.proofs.Common.{◌≡◌, ℕ, suc, eqb, List, [], ◌∷◌, ◌++◌, length, take, drop, map, Some, None, is_some, Bool, true, false, cond}
 use Rattle.std.{proofs.Common.{refl, sym, ap, ◌∙◌, append_assoc, rules}, proofs.lemmas.List.take-append-drop}
 use Rattle.std.{proofs.lemmas.Option.{none-some, same_Some}, specs.List.slice_get, specs.Str.is_utf8}
@@ -22,7 +22,7 @@ use Rattle.yq_places.proofs.PrintedTexts.{line_then, lines_then, lines_append, r
 use Rattle.yq_outline.{specs.Group.group, specs.Outline.flatten, specs.Places.{lines_before, find}}
 use Rattle.yq_documents.specs.declared.path.Part.TheVariants as parts
 
--- a piece with the text before and behind it
+-- a piece with the text before and after it
 abbrev pub piece_text : TextPiece → List ℕ
 piece_text p = p.before ++ (p.text ++ p.behind)
 
@@ -51,7 +51,7 @@ mark_whole before l ls behind x e = head_whole (before ++ (line_front l ++ l.mar
 pub block_whole : (before : List ℕ) (ls : List PrintedLine) (behind : List ℕ) (x : TextPiece) → lines_piece before ls behind ≡ Some x → piece_text x ≡ before ++ print_lines ls behind
 block_whole before ls behind x h1 = search (rules, none-some, mark_whole, same_Some, run_whole)
 
--- an entry, with the text before and behind it
+-- an entry, with the text before and after it
 abbrev pub entry_text : BlockEntry → List ℕ
 entry_text e = e.before ++ print_lines (e.line ∷ e.under) e.behind
 
@@ -64,7 +64,7 @@ content_whole e x is = go (is_some e.line.line.head) is
         block_whole (e.before ++ print_line e.line []) e.under e.behind x is
         ∙ (append_assoc e.before (print_line e.line []) (print_lines e.under e.behind) ∙ ap (λ l. e.before ++ l) (sym (line_then e.line [] (print_lines e.under e.behind))))
 
--- an item, with the text before and behind it
+-- an item, with the text before and after it
 abbrev pub item_text : FlowEntry → List ℕ
 item_text x = x.before ++ key_text x.key (node_text x.node x.behind)
 
@@ -169,7 +169,7 @@ entry_piece_whole parts.LineComment [] e x is =
     comment_whole (e.before ++ (line_front e.line ++ e.line.mark)) e.line.content (print_lines e.under e.behind) x is ∙ simp append_assoc refl
 entry_piece_whole y (s ∷ ss) e x is = absurd (none-some _ is)
 
--- the lines of a document with the text before and behind them
+-- the lines of a document with the text before and after them
 abbrev pub document_text : PrintedDocument → List ℕ
 document_text s = s.before ++ print_lines s.lines s.behind
 

@@ -14,7 +14,7 @@ use Rattle.yq_places.specs.PlacedRows.{PlacedPart, PlacedRow, placed_at, placed_
 use Rattle.yq_places.{specs.RowLineReading.{LineCounts, numbers}, proofs.PlacedPartLaws.{part_stands, row_before}}
 use Rattle.yq_places.proofs.RowLineSpans.{steps_row}
 
--- A row of a cut stands behind others, between these texts.
+-- A row of a cut comes after others, between these texts.
 pub record IsAt (c : Cut) (i : ℕ) (before : List ℕ) (r : Row) (behind : List ℕ) : Type 0 where
   pub there : slice_get (rows_of c) i ≡ Some r
   pub before_is : before_row i c ≡ before
@@ -70,7 +70,7 @@ document_placed n c = go (slice_get (document_parts c) n) refl
     go : (o : Option Part) → slice_get (document_parts c) n ≡ o → o ≡ part_of (option_map (λ p. placed_at (part_number n c) c) o)
     go o h1 = search (rules, part_there)
 
--- The line that the code tells is one of a row that stands there.
+-- The line that the code tells is one of a row that is there.
 pub record IsRowLineOf (path : Path) (c : Cut) (n : LineCounts) (w : PlacedRow) : Type 0 where
   pub is : row_of_path path.doc (steps_of path) c ≡ Some w
   pub line : n.1 ≡ w.line

@@ -1,4 +1,4 @@
--- What is told of lines with their texts, and the lines of a document.
+-- What is known of lines with their texts, and the lines of a document.
 use Rattle.std.proofs.Common.{◌≡◌, ◌⊎◌, inl, ℕ, suc, ◌+◌, List, [], ◌∷◌, ◌++◌, map, Option, Some, None, Bool, true, refl, sym, ap, ◌∙◌}
 use Rattle.std.{proofs.Common.{subst, replicate, ℤ, rules}, specs.List.slice_get}
 use Rattle.yq_core.{specs.Block.IsBlock, specs.Text.upto, specs.Nodes.{FlowNode, IsFlowNode}}
@@ -14,17 +14,17 @@ use Rattle.yq_places.proofs.PrintedTexts.{alone, from_is, map_some, lines_append
 use Rattle.yq_outline.specs.Comments as comments
 use Rattle.yq_row_table.specs.Rows as rows
 
--- an inline node is valid where it stands
+-- an inline node is valid where it is
 abbrev pub IsValid : FlowNode → List ℕ → Type 0
 IsValid node rest = (flow : Bool) × (spaces : Option ℕ) × (depth : ℕ) × IsFlowNode flow spaces depth node rest
 
--- a content is valid where it stands
+-- a content is valid where it is
 abbrev pub IsWritten : Content → List ℕ → Type 0
 IsWritten (Nothing tail) rest = Unit {0}
 IsWritten (Inline space node tail) rest = IsValid node (tail ++ rest)
 IsWritten (Block space anchor block) rest = (least : ℕ) × IsBlock least block rest
 
--- A line is told by its text.
+-- A line is given by its text.
 pub record IsPrinted (l : PrintedLine) (rest : List ℕ) : Type 0 where
   pub head : l.line.head ≡ head_of l.content
   pub above : l.line.head_comment ≡ comments.head_comment l.gap

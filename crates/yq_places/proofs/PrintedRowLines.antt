@@ -22,7 +22,7 @@ pub record IsInRow (ls : List PrintedLine) (gap spaces : List ℕ) (ns : List �
   pub deeper : n < length ns → (next : PrintedLine) × (slice_get ls (suc n) ≡ Some next) × (level line.line < level next.line) × (line.line.head ≡ None)
   pub dash : n < length ns → line.content ≡ Nothing []
 
--- the first line behind a dash is deeper
+-- the first line after a dash is deeper
 first_deeper : (above : List (List ℕ)) (column k : ℕ) (ns : List ℕ) (m : rows.RowMark) (c : Content) →
     (next : PrintedLine) × (slice_get (printed_from [] [] (suc (column + k)) ns m c) 0 ≡ Some next) × (level (dash_line above column) < level next.line)
 unfolding level
@@ -113,7 +113,7 @@ printed_line (r ∷ rs) n q e = go (cases_lt (length r.dashes) n) (λ p h. print
         subst (IsPrintedLine (r ∷ rs) n) p.2 (past h p.0 (again p.0 p.1))
     go (inr h) again = subst (IsPrintedLine (r ∷ rs) n) (same_Some _ _ (sym (cond-false _ _ _ (le-ltb (length r.dashes) n h)) ∙ e)) (here h)
 
--- A document's rows in the text of a cut, behind k others.
+-- A document's rows in the text of a cut, after k others.
 pub record IsPlaced (c : Cut) (k : ℕ) (p : Part) (s : PrintedDocument) : Type 0 where
   pub row : (i : ℕ) → i < length p.rows → before_row (k + i) c ≡ s.before ++ rows_text (take i p.rows) []
 

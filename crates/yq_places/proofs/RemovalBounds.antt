@@ -1,4 +1,4 @@
--- Rows of a document and the gaps behind them, among all rows of a text.
+-- Rows of a document and the gaps after them, among all rows of a text.
 use Rattle.std.proofs.Common.{◌≡◌, ℕ, zero, suc, ◌+◌, ◌-◌, ◌<◌, ◌≤◌, eqb, List, [], ◌∷◌, ◌++◌, length, length-append, take, Some, refl, ap}
 use Rattle.std.{proofs.Common.{◌∙◌, subst, arith, rules}, proofs.lemmas.Bool.{cond-true, cond-false, eq-eqb, ne_eqb}}
 use Rattle.std.{proofs.lemmas.Option.slice_get-map, specs.List.slice_get}
@@ -14,7 +14,7 @@ none_low : (i k : ℕ) (c : Cut) → i < k → bounds_at i (bounds_from k c) ≡
 none_low i k (last p) h = cond-false (eqb i (k + length p.rows)) (record { rows = k + length p.rows; end = p.end; marker = [] } ∷ []) [] (ne_eqb i (k + length p.rows) (λ e. omega (arith, e, h)))
 none_low i k (marked p marker c) h = cc (ne_eqb i (k + length p.rows) (λ e. omega (arith, e, h)), none_low i (k + length p.rows) c (omega (arith, h)))
 
--- Inside a document no part ends before a row; behind its last row it does.
+-- Inside a document no part ends before a row; after its last row it does.
 record EndsAt (k i : ℕ) (c : Cut) (p : Part) (j : ℕ) : Type 0 where
   pub inside : j < length p.rows → bounds_at i (bounds_from k c) ≡ []
   pub behind : j ≡ length p.rows → (b : Bound) × (bs : List Bound) × (bounds_at i (bounds_from k c) ≡ b ∷ bs) × (b.end ≡ p.end)
@@ -40,7 +40,7 @@ ends_at (suc m) k (marked p marker c) j i some at =
     let past = cond-false (eqb i (k + length p.rows)) (b ∷ others) others (ne_eqb i (k + length p.rows) (λ e. omega (arith, e, at, some))) in
     record { inside = λ x. past ∙ h.inside x; behind = λ x. let y = h.behind x in (y.0, y.1, past ∙ y.2, y.3) }
 
--- the gap before the rows of a document behind some, and its column
+-- the gap before the rows of a document after some, and its column
 pub gap_behind : (n : ℕ) (c : Cut) (d : PlacedPart) (some back : List Row) → placed_document n c ≡ Some d → d.part.rows ≡ some ++ back → 0 < length some →
     ((r : Row) (rs : List Row) → back ≡ r ∷ rs → slice_get (rows_of c) (document_row n c + length some) ≡ Some r) →
     gap_counts (document_row n c + length some) (rows_view c) ≡ (first_gap back d.part.end, next_column back)

@@ -17,7 +17,7 @@ use Rattle.yq_places.{specs.PlacedRows.{PlacedPart, placed_at, placed_document},
 use Rattle.yq_places.{proofs.CommentPieceLaws.{Ended, gap_end, tail_end}, proofs.PlacedPartLaws.{part_stands, text_at}}
 use Rattle.yq_places.proofs.RemovalTexts.{run_parts, texts_then}
 
--- Between two lines of a text: nothing is in front, an LF, or nothing is behind.
+-- Between two lines of a text: nothing is in front, an LF, or nothing is after.
 abbrev pub LineSeam : List ℕ → List ℕ → Type 0
 LineSeam a b = (a ≡ []) ⊎ Ended a b
 
@@ -69,7 +69,7 @@ row_ended r rest h = go (content_ended (parent_indent r) r.content rest h)
 both_none : (a b : List ℕ) → a ≡ [] → a ++ b ≡ [] → b ≡ []
 both_none a b e f = sym (ap (λ (x : List ℕ). x ++ b) e) ∙ f
 
--- a row, and rows behind it
+-- a row, and rows after it
 row_step : (r : Row) (rs : List Row) (u : List ℕ) → IsContent (parent_indent r) r.content (rows_text rs u) → LineSeam (rows_text rs []) u → Ended (print_row r (rows_text rs [])) u
 row_step r rs u h more = go (row_ended r (rows_text rs u) h) more
   where
@@ -89,7 +89,7 @@ rows_seam (r ∷ a) b limit end rest h =
 
 -- ---- documents
 
--- A document stands behind whole lines, and its rows are rows there.
+-- A document comes after whole lines, and its rows are rows there.
 pub record LiesIn (d : PlacedPart) : Type 0 where
   pub seam : LineSeam d.before (part_text d.part d.behind)
   pub rows : AreRows unlimited d.part.rows d.part.end d.behind
@@ -116,7 +116,7 @@ lies_in k c d h e = subst LiesIn (part_stands k c d e).is (lies_at (part_number 
 
 -- ---- what is taken out
 
--- The text before what is taken out, what is taken out, and the gap behind it, each of whole lines.
+-- The text before what is taken out, what is taken out, and the gap after it, each of whole lines.
 pub record AreLines (d : PlacedPart) (front own back : List Row) : Type 0 where
   pub before : AtLine (rows_out d (record { front = front; own = own; back = back })).before
   pub gone : Ended (comment_above own d.part.end ++ behind_first own [] []) (first_gap back d.part.end ++ behind_first back d.part.end d.behind)

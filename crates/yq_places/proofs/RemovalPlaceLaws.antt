@@ -49,7 +49,7 @@ from_count above column (n ∷ ns) m x = ap suc (from_count [] (suc (column + n)
 more_lines : (r : Row) (rs : List Row) → length (lines_of_rows (r ∷ rs)) ≡ suc (length r.dashes) + length (lines_of_rows rs)
 more_lines r rs = omega (arith, length-append (row_lines r) (lines_of_rows rs), from_count (head_comment r.gap) r.column r.dashes r.mark r.content)
 
--- A line's row is among the rows, and so many lines stand from it on.
+-- A line's row is among the rows, and so many lines are from it on.
 abbrev RowLineIn : ℕ → List Row → RowLine → Type 0
 RowLineIn n rs s = (s.before < length rs) × (n + length (lines_of_rows (drop s.before rs)) ≡ length (lines_of_rows rs) + s.line)
 

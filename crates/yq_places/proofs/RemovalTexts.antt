@@ -13,7 +13,7 @@ pub texts_then : (rs : List Row) (t u : List ℕ) → rows_text rs (t ++ u) ≡ 
 texts_then [] t u = refl
 texts_then (r ∷ rs) t u = ap (λ (x : List ℕ). print_row r x) (texts_then rs t u) ∙ row_then r (rows_text rs t) u
 
--- rows behind their gap, before a rest
+-- rows after their gap, before a rest
 pub first_then : (rs : List Row) (end rest : List ℕ) → no_rows rs ≡ false → rows_text rs rest ≡ first_gap rs end ++ (behind_first rs [] [] ++ rest)
 first_then [] end rest some = absurd (false≢true (sym some))
 first_then (r ∷ rs) end rest some = cc (texts_then rs [] rest, row_then (with_row_gap [] r) (rows_text rs []) rest)

@@ -202,7 +202,7 @@ cuts_agrees t s d x first at end start size gap u o a b g =
     subst (λ (n : ℕ). FourCuts t (rows_out d x) n size gap) (sym a) (subst (λ (n : ℕ). FourCuts t (rows_out d x) (length (rows_out d x).before) n gap) (sym b)
     (subst (λ (n : ℕ). FourCuts t (rows_out d x) (length (rows_out d x).before) (length (rows_out d x).gone) n) (sym g) (four_cuts t (rows_out d x) u o.text o.starts o.stops o.gap_stops)))
 
--- What the code holds for rows that are taken out: what stays of the gap, the gap behind them and its column, and the text cut in four.
+-- What the code holds for rows that are taken out: what stays of the gap, the gap after them and its column, and the text cut in four.
 pub record CodeAgrees (t : List ℕ) (d : PlacedPart) (x : OwnRows) (kept gap : List ℕ) (begin stop column : ℕ) : Type 0 where
   pub kept_is : kept ≡ kept_gap x.own d.part.end
   pub within : begin + length kept ≤ length t

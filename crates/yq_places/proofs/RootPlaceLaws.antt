@@ -22,7 +22,7 @@ use Rattle.yq_places.{proofs.RemovalLines.{LineSeam, lies_in, seam_join}, proofs
 abbrev rows_sum : List Row → ℕ
 rows_sum rows = sum_by row_length (map slices rows)
 
--- the rows of a part, and some behind it
+-- the rows of a part, and some after it
 rows_first : (a b : List Row) (m : ℕ) → sum_by row_length (take (length a + m) (map slices (a ++ b))) ≡ rows_sum a + sum_by row_length (take m (map slices b))
 rows_first a b m =
     ap (λ (l : List Slices). sum_by row_length (take (length a + m) l)) (map-append slices a b)

@@ -1,4 +1,4 @@
--- What stands at roots, by the rows that the code has found.
+-- What is at roots, by the rows that the code has found.
 use Rattle.std.proofs.Common.{◌≡◌, ℕ, ◌+◌, ◌-◌, true, false, cond, List, [], ◌∷◌, ◌++◌, length, replicate, Option, Some, None, option_map}
 use Rattle.std.{proofs.Common.{refl, sym, ap, ◌∙◌, subst, arith, append_assoc, append-nil}, proofs.lemmas.Bool.{cond-false, cond-true}}
 use Rattle.std.{proofs.lemmas.Option.{none-some, same_Some}, specs.List.slice_get, specs.Str.{IsUtf8, IsCharBoundary}}

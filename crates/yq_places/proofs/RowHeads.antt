@@ -1,10 +1,8 @@
 -- The head of a row of a text with its cut, read again.
 use Rattle.std.proofs.Common.{◌≡◌, ℕ, zero, suc, ◌+◌, ◌-◌, ◌<◌, ◌&&◌, Bool, true, List, [], ◌∷◌, ◌++◌, length, take, drop, Some, option_map}
-use Rattle.std.proofs.Common.{refl, sym, ap, ◌∙◌, subst, arith, append_assoc, append-nil, length-append}
-use Rattle.std.{proofs.Math.Seq.{take-append_seam, drop-append_seam}, proofs.lemmas.Bool.{and_parts, or_right}}
-use Rattle.std.{proofs.lemmas.List.{length-take-le, take-append-drop}, proofs.lemmas.Option.{slice_get_within, slice_get-map, same_Some}}
-use Rattle.std.{proofs.lemmas.Str.{IsCharBoundary-from_take, IsUtf8-append, IsUtf8-drop}, specs.List.slice_get}
-use Rattle.std.specs.Str.{IsUtf8, IsCharBoundary}
+use Rattle.std.{proofs.Common.{refl, sym, ap, ◌∙◌, subst, append_assoc, append-nil}, proofs.Math.Seq.drop-append_seam}
+use Rattle.std.{proofs.lemmas.Bool.{and_parts, or_right}, proofs.lemmas.List.{length-take-le, take-append-drop}}
+use Rattle.std.{proofs.lemmas.Option.{slice_get_within, slice_get-map, same_Some}, specs.List.slice_get, specs.Str.{IsUtf8, IsCharBoundary}}
 use Rattle.yq_core.{specs.Block.{ends_block, keeps}, specs.declared.block_lines.TextIndent.TextIndent, specs.Text.{is_line, text_lines}}
 use Rattle.yq_row_table.{specs.Exchange.{before_content, behind_row}, specs.Grammar.{IsCut, IsRow, Limit}}
 use Rattle.yq_row_table.{specs.Rows.{Content, Nothing, Inline, Block, Row, Cut, cut_text, parent_indent}, specs.Seams.{is_closed, is_seam}}
@@ -57,6 +55,16 @@ seam_end (Block space anchor block) = none_ends (keeps block.chomping) block.ind
 pub row_alone : (limit : Limit) (r : Row) (rest : List ℕ) → IsRow limit r rest → IsRow limit r []
 row_alone limit r rest h = (row_seam limit r rest [] h (seam_end r.content) (plain_before (parent_indent r) r.content [] [] [] no_gap refl)).row
 
+-- the row alone, read again
+abbrev pub has_head : (t : List ℕ) (c : Cut) (i : ℕ) (r : Row) → IsCut t c → slice_get (rows_of c) i ≡ Some r → (s : Slices) (x : List ℕ) → s ≡ slices r → x ≡ from_head (slices r) [] → content_is_fit r.content ≡ true → HasHead s x
+has_head t c i r cut is s x pieces own fit =
+    let row = row_in c i true r cut.parts is in
+    record { row = r; limit = row.limit; rest = []; pieces = pieces; text = own; valid = row_alone row.limit r (behind_row i c) row.row; fit = fit }
+
+-- the pieces from its head on are its text from there
+pub pieces_from : (x : List ℕ) (s : Slices) (r : Row) → s ≡ slices r → x ≡ s.head ++ (s.tail ++ s.raw) → x ≡ from_head (slices r) []
+pieces_from x s r e h = h ∙ ((λ j. (e j).head ++ ((e j).tail ++ (e j).raw)) ∙ ap (λ l. (slices r).head ++ ((slices r).tail ++ l)) (sym (append-nil (slices r).raw)))
+
 -- the text from its head on
 module _ (t : List ℕ) (c : Cut) (i : ℕ) (r : Row) (start : ℕ) (u : IsUtf8 t) (cut : IsCut t c) (is : slice_get (rows_of c) i ≡ Some r) (at : start ≡ (head_place i c r).0) where
   pub same_cut : IsCut (cut_text c) c
@@ -74,38 +82,6 @@ module _ (t : List ℕ) (c : Cut) (i : ℕ) (r : Row) (start : ℕ) (u : IsUtf8 
       let before : List ℕ = before_content i c ++ (s.space ++ (s.anchor ++ s.apart)) in
       let parts : from_head s (behind_row i c) ≡ from_head s [] ++ behind_row i c = simp append_assoc refl in
       (λ j. drop (at j) (cut.text j)) ∙ (ap (drop (length before)) (head_text c i r is) ∙ (drop-append_seam before (from_head s (behind_row i c)) ∙ parts))
-
-  size : length (slices r).head + length (slices r).tail + length (slices r).raw ≡ length (from_head (slices r) [])
-  size = let s : Slices = slices r in omega (arith, length-append s.head (s.tail ++ (s.raw ++ [])), length-append s.tail (s.raw ++ []), length-append s.raw [])
-
-  -- the text from the head to the end of the row
-  module _ (rest : List ℕ) (from : rest ≡ drop start t) where
-    own : rest ≡ from_head (slices r) [] ++ behind_row i c
-    own = from ∙ text_from
-
-    row_is : take (length (slices r).head + length (slices r).tail + length (slices r).raw) rest ≡ from_head (slices r) []
-    row_is = (λ j. take (size j) (own j)) ∙ take-append_seam (from_head (slices r) []) (behind_row i c)
-
-    -- the pieces that the code holds of it
-    module _ (s : Slices) (pieces : s ≡ slices r) (head tail raw : List ℕ) (h : head ≡ s.head) (a : tail ≡ s.tail) (w : raw ≡ s.raw) where
-      lengths : length head + length tail + length raw ≡ length (slices r).head + length (slices r).tail + length (slices r).raw
-      lengths = λ j. length ((h ∙ ap (λ (x : Slices). x.head) pieces) j) + length ((a ∙ ap (λ (x : Slices). x.tail) pieces) j) + length ((w ∙ ap (λ (x : Slices). x.raw) pieces) j)
-
-      pub row_taken : take (length head + length tail + length raw) rest ≡ from_head (slices r) []
-      row_taken = ap (λ n. take n rest) lengths ∙ row_is
-
-      pub row_boundary : IsUtf8 head → IsUtf8 tail → IsUtf8 raw → IsCharBoundary rest (length head + length tail + length raw)
-      row_boundary x y z =
-          let parts : from_head (slices r) [] ≡ head ++ (tail ++ (raw ++ [])) = λ j. sym (h ∙ ap (λ (x : Slices). x.head) pieces) j ++ (sym (a ∙ ap (λ (x : Slices). x.tail) pieces) j ++ (sym (w ∙ ap (λ (x : Slices). x.raw) pieces) j ++ [])) in
-          let all : IsUtf8 (head ++ (tail ++ (raw ++ []))) = IsUtf8-append head (tail ++ (raw ++ [])) x (IsUtf8-append tail (raw ++ []) y (subst IsUtf8 (sym (append-nil raw)) z)) in
-          IsCharBoundary-from_take rest (length head + length tail + length raw) (subst IsUtf8 (sym from) (IsUtf8-drop t start u head_boundary)) (omega (arith, lengths, size, ap length own, length-append (from_head (slices r) []) (behind_row i c)))
-          (subst IsUtf8 (sym (row_taken ∙ parts)) all)
-
-  -- the row alone, read again
-  abbrev pub has_head : (s : Slices) (x : List ℕ) → s ≡ slices r → x ≡ from_head (slices r) [] → content_is_fit r.content ≡ true → HasHead s x
-  has_head s x pieces own fit =
-      let row = row_in c i true r cut.parts is in
-      record { row = r; limit = row.limit; rest = []; pieces = pieces; text = own; valid = row_alone row.limit r (behind_row i c) row.row; fit = fit }
 
   -- the row in the text
   pub row_text : (x : List ℕ) → x ≡ from_head (slices r) [] → t ≡ take start t ++ (x ++ behind_row i c)

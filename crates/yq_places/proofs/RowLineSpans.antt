@@ -1,4 +1,4 @@
--- Where a part of a line stands, by the pieces of its row.
+-- Where a part of a line is, by the pieces of its row.
 use Rattle.std.proofs.Common.{◌≡◌, ℕ, suc, ◌+◌, ◌-◌, ◌<◌, ltb, List, [], ◌∷◌, length, Option, Some, None, option_map, Bool, cond, refl, sym}
 use Rattle.std.{proofs.Common.{ap, ◌∙◌, subst, rules}, proofs.lemmas.Option.{slice_get_within, slice_get-map, same_Some}}
 use Rattle.std.specs.List.{slice_get}

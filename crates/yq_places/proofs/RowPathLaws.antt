@@ -16,7 +16,7 @@ found_lines ls s ss rest f is =
     let whole : plug f.place (row f.line f.under f.after) ≡ group ls = at (IsFoundIn (group ls)) (find s ss (group ls)) (f, rest) is (path_whole s ss (group ls)) in
     sym (flatten-group ls) ∙ (ap flatten (sym whole) ∙ placed f f.line f.under)
 
--- what is found stands in an even outline
+-- what is found is in an even outline
 pub found_place : (ls : List Line) (s : Step) (ss rest : List Step) (f : FoundLine) → find s ss (group ls) ≡ Some (f, rest) → is_fine (group ls) ≡ true →
     Allows (level_or 0 (group ls)) f.place (level f.line) × IsEven (level f.line) (row f.line f.under f.after)
 found_place ls s ss rest f is fine =
@@ -28,7 +28,7 @@ found_place ls s ss rest f is fine =
 pub document_fine : (p : Part) → is_document p ≡ true → is_fine (group (lines_of_rows p.rows)) ≡ true
 document_fine p e = search (rules, and_parts)
 
--- ---- behind a line and what is under it the next line is no deeper
+-- ---- after a line and what is under it the next line is no deeper
 
 -- the first of lines, if there is one, is no deeper than a level
 abbrev pub StartsAt : ℕ → List Line → Type 0
@@ -42,7 +42,7 @@ even_starts : (n k : ℕ) (o : Outline) → IsEven n o → n ≤ k → StartsAt 
 even_starts n k end e h = tt
 even_starts n k (row l u a) e h = omega (arith, e.0, h)
 
--- what stands behind a place is no deeper than what it allows
+-- what comes after a place is no deeper than what it allows
 pub allowed_level : (n m : ℕ) (p : Context) → Allows n p m → n ≤ m
 allowed_level n m here h = omega (arith, h)
 allowed_level n m (below l p a) h = omega (arith, h.3.1, allowed_level h.3.0 m p h.3.2)

@@ -6,7 +6,7 @@ use Rattle.std.{proofs.lemmas.List.length-replicate, proofs.lemmas.Option.slice_
 use Rattle.yq_row_table.{specs.Rows.{Row, Cut}, specs.View.{Slices, slices, rows_of, rows_view}}
 use Rattle.yq_places.{specs.EntryReading.{before_line, row_ending, through_row, line_begin}, proofs.StartLaws.start_agrees}
 
--- where the head of a row stands, by where the row begins
+-- where the head of a row is, by where the row begins
 pub head_is : (c : Cut) (i : ℕ) (r : Row) → slice_get (rows_of c) i ≡ Some r → head_place i c r ≡ (row_start i (rows_view c) + front_length (slices r), row_start i (rows_view c) + front_length (slices r) + length (slices r).head)
 head_is c i r is =
     let s : Slices = slices r in

@@ -20,7 +20,7 @@ use Rattle.yq_documents.{specs.LinesInRows.{RowLine, row_line}, specs.Pieces.{Te
 use Rattle.yq_core.specs.Tree as tree
 use Rattle.yq_row_table.specs.Rows as rows
 
--- an anchor with the white space behind it, and what is behind that
+-- an anchor with the white space after it, and what is after that
 abbrev front_of : FlowNode → List ℕ
 front_of node = (anchor_cut node).0 ++ (anchor_cut node).1
 
@@ -48,7 +48,7 @@ node_size before x rest h v e = (_, refl, omega arith, omega arith)
 anchor_size : (a : Option rows.Anchor) → length (anchor_text a []) ≡ length (anchor_with_sign a) + length (apart_of a)
 anchor_size a = search (rules, length-append)
 
--- what stands before the head of a content
+-- what comes before the head of a content
 abbrev pub head_front : Content → List ℕ
 head_front c = let x = content_cut c in x.0 ++ (x.1 ++ x.2)
 

@@ -14,7 +14,7 @@ use Rattle.yq_row_table.{proofs.PlaceLaws.{row_then, part_then, row_in}, proofs.
 use Rattle.yq_places.{specs.EntryReading.before_line, specs.CommentReading.before_row}
 use Rattle.yq_places.proofs.CommentPieceLaws.{Ended, tail_end, content_end, gap_end, row_place}
 
--- a text ends between characters before a rest: it is empty, or its last byte is ASCII, or nothing is behind it
+-- a text ends between characters before a rest: it is empty, or its last byte is ASCII, or nothing is after it
 abbrev pub IsSeam : List ℕ → List ℕ → Type 0
 IsSeam p rest = (p ≡ []) ⊎ (EndsAscii p ⊎ (rest ≡ []))
 
@@ -53,7 +53,7 @@ row_ended limit r rest h =
     (ended_after s.gap _ rest (ended_after (replicate s.column 32) _ rest (ended_after s.dashes _ rest (ended_after s.key _ rest (ended_after s.colon _ rest
     (ended_after s.space _ rest (ended_after s.anchor _ rest (ended_after s.apart _ rest (ended_after s.head _ rest end)))))))))
 
--- the ends of rows, one behind the other
+-- the ends of rows, one after the other
 rows_split : (i : ℕ) (rows : List Row) (rest : List ℕ) → rows_text rows rest ≡ rows_text (take i rows) [] ++ rows_text (drop i rows) rest
 rows_split zero rows rest = refl
 rows_split (suc i) [] rest = refl

@@ -14,7 +14,7 @@ use Rattle.yq_outline.specs.Comments as comments
 use Rattle.yq_row_table.specs.Rows as rows
 use Rattle.yq_places.specs.Steps as spec
 
--- the step of the first collection that begins under a key, in lines behind one of a level
+-- the step of the first collection that begins under a key, in lines after one of a level
 abbrev pub step_behind : (dashes : Bool) → ℕ → List Line → ℕ
 step_behind dashes a [] = 2
 step_behind dashes a (l ∷ ls) = cond (begins_under_level dashes a (level l)) ((level l - a) / 3) (step_behind dashes (level l) ls)
@@ -65,7 +65,7 @@ pub steps_agrees : (dashes : Bool) (ls : List Line) → step_behind dashes 0 ls 
 steps_agrees dashes [] = refl
 steps_agrees dashes (l ∷ ls) = sym (step_agrees dashes l ls)
 
--- no collection stands under a dash and not on its line
+-- no collection is under a dash and not on its line
 under_dash : (dashes : Bool) (above : List (List ℕ)) (column n : ℕ) → begins_under_level dashes (level (dash_line above column)) n ≡ false
 unfolding level
 under_dash dashes above column n = ap (λ b. b && (eqb (n % 3) (cond dashes 0 2) && ltb (3 * column + 3) n)) (ne_eqb ((3 * column + 3) % 3) 2 (λ e. omega (arith, e)))

@@ -1,4 +1,4 @@
--- Nothing is told of comments in heads.
+-- Nothing is known of comments in heads.
 use Rattle.std.proofs.Common.{◌≡◌, ℕ, Bool, cond, List, [], ◌∷◌, Option, Some, None, option_and_then, refl, rules}
 use Rattle.yq_core.specs.Tree.{Label, Node, alias, scalar, list, map, Children, none, child, children_of}
 use Rattle.yq_core.{specs.Paths.{Step, is_here, further}, specs.Nodes.{Items, item}}
@@ -13,7 +13,7 @@ abbrev pub HasNone : Label → Type 0
 HasNone l = (l.head_comment ≡ []) × (l.line_comment ≡ None)
 
 abbrev mutual
-  -- no comments are told of what stands in a node
+  -- no comments are known of what is in a node
   pub Uncommented : Node → Type 0
   Uncommented (alias n) = Unit {0}
   Uncommented (scalar a k t) = Unit {0}

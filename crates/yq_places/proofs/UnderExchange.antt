@@ -1,4 +1,4 @@
--- The lines of rows behind other rows.
+-- The lines of rows after other rows.
 use Rattle.std.proofs.Common.{◌≡◌, List, [], ◌∷◌, ◌++◌, refl, sym, ap, ◌∙◌, append_assoc}
 use Rattle.yq_row_table.specs.Rows.{Row}
 use Rattle.yq_outline.{specs.Lines.{row_lines, lines_of_rows}, specs.Outline.Line}

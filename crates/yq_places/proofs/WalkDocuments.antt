@@ -65,7 +65,7 @@ found_document t s c n d cut is e known = go (slice_get (document_parts c) n) re
         let x = document_has t s c n p d cut is at (ap (λ (y : ℕ × ℕ). y.0) same) (ap (λ (y : ℕ × ℕ). y.1) same) known in
         record { part = p; there = at; first = ap (λ (y : ℕ × ℕ). y.0) same; document = x.0; rows = x.1 }
 
--- its rows stand among those of the cut
+-- its rows are among those of the cut
 pub found_in_cut : (t : List ℕ) (s : RowsView) (c : Cut) (n : ℕ) (d : Stretch) → IsCut t c → s ≡ rows_view c → (f : Found s c n d) → (k : InCut s d c) × (k.document.stand.rows ≡ f.part.rows)
 found_in_cut t s c n d cut is f =
     let b = part_begins c n f.part f.there in (

@@ -18,12 +18,12 @@ abbrev pub comments_of : Option TextPiece → List (List ℕ)
 comments_of None = []
 comments_of (Some p) = texts (text_lines p.text)
 
--- the head comment that is told of an entry or item; none where there is none
+-- the head comment that is known of an entry or item; none where there is none
 abbrev pub head_comment_of : Option Labelled → List (List ℕ)
 head_comment_of None = []
 head_comment_of (Some x) = x.0.head_comment
 
--- The comments that the tree has at a path are those that stand at their places, and it has none where there is no place.
+-- The comments that the tree has at a path are those that are at their places, and it has none where there is no place.
 abbrev pub CommentsStand : Type 0
 CommentsStand =
     (t : List ℕ) (c : Cut) (p : Path) → read_at t ≡ Some c →

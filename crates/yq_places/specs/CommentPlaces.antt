@@ -1,4 +1,4 @@
--- Where the comments of entries and items stand, or would stand, in a text (YAML 1.2.2, 6.6; own).
+-- Where the comments of entries and items are, or would be, in a text (YAML 1.2.2, 6.6; own).
 use Rattle.std.specs.Prelude.{ℕ, ◌==◌, List, ◌++◌, Option, Some, None, if◌then◌else◌}
 use Rattle.yq_core.{specs.Answers.◌>>=◌, specs.Paths.Step, specs.Text.{ends_line, joined, text_lines, no_white, past_white}}
 use Rattle.yq_row_table.{specs.Exchange.row_front, specs.Rows.{Row, behind_gap, Cut}, specs.View.slices}
@@ -48,7 +48,7 @@ gap_above before gap column rest = record {
 abbrev pub above_row : PlacedRow → LinesAbove
 above_row w = gap_above w.before w.row.gap w.row.column (behind_gap w.row w.behind)
 
--- the lines above the entry or item to which steps lead in document n, where its head comment stands or would stand, if its line is the
+-- the lines above the entry or item to which steps lead in document n, where its head comment is or would be, if its line is the
 -- first one of its row (6.6; own)
 abbrev pub lines_above : ℕ → List Step → Cut → Option LinesAbove
 lines_above n steps c = row_of_path n steps c >>= λ w. if w.line == 0 then Some (above_row w) else None

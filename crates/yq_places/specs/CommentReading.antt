@@ -1,4 +1,4 @@
--- Reading (own; a reader may skip it): where comments stand, by the pieces of rows.
+-- Reading (own; a reader may skip it): where comments are, by the pieces of rows.
 use Rattle.std.specs.Prelude.{ℕ, ◌+◌, ◌-◌, ◌==◌, List, length, Option, Some, None, if◌then◌else◌, [], ◌++◌, nat_lt, take}
 use Rattle.yq_core.specs.Text.{cut, front, ends_line, is_empty, joined, text_lines, no_white, past_white}
 use Rattle.yq_row_table.{specs.View.{Slices, slices}, specs.Exchange.{before_content, behind_row}}
@@ -25,20 +25,20 @@ line_comment_in i s c =
 abbrev pub head_comment_in : ℕ → RowLine → Cut → Option TextPiece
 head_comment_in i s c = if s.line == 0 then gap_comment (before_row i c) s.row.gap (behind_gap s.row (behind_row i c)) else None
 
--- where the comment in a tail stands, by where the tail begins
+-- where the comment in a tail is, by where the tail begins
 abbrev pub tail_span : ℕ → List ℕ → Option (ℕ × ℕ)
 tail_span start tail =
     let white = length (cut no_white tail).0 in
     if front (λ b. b == 35) (past_white tail) then Some (start + white, start + white + length (cut ends_line (past_white tail)).0) else None
 
--- where the line comment of a line stands, by where its row begins and that row's pieces
+-- where the line comment of a line is, by where its row begins and that row's pieces
 abbrev pub line_comment_span : ℕ → Slices → LineCounts → Option (ℕ × ℕ)
 line_comment_span start x s = if s.1 == s.2 then tail_span (start + front_length x + length x.head) x.tail else None
 
--- where the run of comment lines stands that ends a gap, by where the gap begins
+-- where the run of comment lines is that ends a gap, by where the gap begins
 abbrev pub gap_span : ℕ → List ℕ → Option (ℕ × ℕ)
 gap_span start gap = let run = joined (last_run (text_lines gap)) in if is_empty run then None else Some (start + length gap - length run, start + length gap)
 
--- where the head comment of a line stands, by where its row begins and that row's pieces
+-- where the head comment of a line is, by where its row begins and that row's pieces
 abbrev pub head_comment_span : ℕ → Slices → LineCounts → Option (ℕ × ℕ)
 head_comment_span start x s = if s.1 == 0 then gap_span start x.gap else None

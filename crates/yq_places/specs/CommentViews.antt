@@ -8,7 +8,7 @@ use Rattle.yq_places.specs.declared.places.lines_above.LinesAbove as declared_ab
 abbrev pub above_view : declared_above.LinesAbove → LinesAbove
 above_view w = record { before = whole w.before; run = w.run.now; column = w.column; behind = whole w.behind }
 
--- A gap stands in a text from a place on, in bytes, up to a whole character.
+-- A gap is in a text from a place on, in bytes, up to a whole character.
 pub record GapStands (t : List ℕ) (start : ℕ) (gap : List ℕ) : Type 0 where
   pub before : List ℕ
   pub rest : List ℕ

@@ -24,7 +24,7 @@ row_ending s = if is_empty s.raw then less_break s.tail else s.tail ++ less_brea
 abbrev pub through_row : ℕ → Row → Cut → List ℕ
 through_row i r c = before_tail i r c ++ row_ending (slices r)
 
--- the place of lines of rows, before which k rows of a cut stand: from the beginning of one line to the end of another one's row, before its break
+-- the place of lines of rows, before which k rows of a cut are: from the beginning of one line to the end of another one's row, before its break
 abbrev pub lines_place : ℕ → Cut → List Row → ℕ → ℕ → Option (ℕ × ℕ)
 lines_place k c rs from to =
     row_line from rs >>= λ a. row_line to rs >>= λ b. Some (length (before_line (k + a.before) a.line a.row c), length (through_row (k + b.before) b.row c))
@@ -43,23 +43,23 @@ head_end e (Block space anchor block) = e + length block.tail + length (joined b
 abbrev pub head_extent : ℕ → Row → Cut → ℕ × ℕ
 head_extent i r c = ((head_place i c r).0, head_end (head_place i c r).1 r.content)
 
--- the same of the head of line n of rows, before which k rows of a cut stand
+-- the same of the head of line n of rows, before which k rows of a cut are
 abbrev pub line_head : ℕ → Cut → List Row → ℕ → Option (ℕ × ℕ)
 line_head k c rs n = row_line n rs >>= λ s. Some (head_extent (k + s.before) s.row c)
 
--- the place of the node for which the lines from one up to another one stand: a node on a line of its own, or a block collection; without
+-- the place of the node that the lines from one up to another one mean: a node on a line of its own, or a block collection; without
 -- lines there is none (8.2)
 abbrev pub lines_content : ℕ → Cut → List Row → ℕ → ℕ → Option (ℕ × ℕ)
 lines_content k c rs from to =
     if from == to then None
     else (slice_get (lines_of_rows rs) from >>= λ l. if has_no_mark l.mark then line_head k c rs from else lines_place k c rs from (to - 1))
 
--- the place of the node of line n: its head, or what the lines under it stand for (8.2)
+-- the place of the node of line n: its head, or what the lines under it mean (8.2)
 abbrev pub line_content : ℕ → Cut → List Row → ℕ → Option (ℕ × ℕ)
 line_content k c rs n =
     slice_get (lines_of_rows rs) n >>= λ l. if is_some l.head then line_head k c rs n else lines_content k c rs (suc n) (lines_end n (lines_of_rows rs))
 
--- the inline node behind a row's mark, or nothing where there is none (7, 8.2)
+-- the inline node after a row's mark, or nothing where there is none (7, 8.2)
 abbrev pub inline_node : Content → FlowNode
 inline_node (Nothing tail) = empty
 inline_node (Inline space node tail) = node
@@ -69,7 +69,7 @@ inline_node (Block space anchor block) = empty
 abbrev pub placed_inline : ℕ → Row → Cut → Placed
 placed_inline i r c = locate (length (cut_text c)) (inline_node r.content) (tail_of r.content ++ behind_row i c)
 
--- the item or entry to which steps lead in the head of line n of rows, before which k rows of a cut stand (7.4)
+-- the item or entry to which steps lead in the head of line n of rows, before which k rows of a cut are (7.4)
 abbrev pub flow_entry : ℕ → Cut → List Row → ℕ → List Step → Option PlacedEntry
 flow_entry k c rs n steps = row_line n rs >>= λ s. placed_entry_at steps (None, placed_inline (k + s.before) s.row c)
 
@@ -118,11 +118,11 @@ flow_entry_from k c rs n (s ∷ ss) = flow_entry k c rs n (s ∷ ss)
 abbrev pub flow_entry_of : ℕ → Cut → List Row → List Step → Option PlacedEntry
 flow_entry_of k c rs steps = reached steps (lines_of_rows rs) >>= λ x. flow_entry_from k c rs x.0 x.1
 
--- the place of the entry or item at a path, unless it stands in flow
+-- the place of the entry or item at a path, unless it is in flow
 abbrev pub line_entry_at : Path → Cut → Option (ℕ × ℕ)
 line_entry_at p c = slice_get (document_parts c) p.doc >>= λ d. line_entry_of (document_row p.doc c) c d.rows (steps_of p)
 
--- the place of the content of the node at a path, unless it stands in flow
+-- the place of the content of the node at a path, unless it is in flow
 abbrev pub line_content_at : Path → Cut → Option (ℕ × ℕ)
 line_content_at p c = slice_get (document_parts c) p.doc >>= λ d. line_content_of (document_row p.doc c) c d.rows (steps_of p)
 

@@ -18,7 +18,7 @@ are_none (s ∷ ss) = false
 abbrev pub is_root : Path → Bool
 is_root p = are_none (steps_of p)
 
--- a node is a null, perhaps behind an anchor (7.2)
+-- a node is a null, perhaps after an anchor (7.2)
 abbrev pub IsNull : Node → Type 0
 IsNull n = (a : Option (List ℕ)) × (n ≡ anchored a null_node)
 

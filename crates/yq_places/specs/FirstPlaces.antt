@@ -1,4 +1,4 @@
--- Where the first item or entry of a compact collection stands in a text, and what is taken out of the text with it (YAML 1.2.2, 8.2.1; own).
+-- Where the first item or entry of a compact collection is in a text, and what is taken out of the text with it (YAML 1.2.2, 8.2.1; own).
 use Rattle.std.specs.Prelude.{ℕ, ◌==◌, ◌&&◌, Bool, true, List, [], ◌∷◌, length, drop, slice_get, Option, None, option_map, if◌then◌else◌}
 use Rattle.yq_core.{specs.Answers.◌>>=◌, specs.Paths.Step, specs.Text.{cut, cut_line, no_space}}
 use Rattle.yq_row_table.{specs.Rows.Cut, specs.Reading.begins_gap}
@@ -24,12 +24,12 @@ end_spaces t = drop (length (less_spaces t)) t
 abbrev pub line_row_line : ℕ → List Step → Cut → Option RowLine
 line_row_line n steps c = slice_get (document_parts c) n >>= λ p. row_line_of steps p.rows
 
--- the item or entry to which steps lead in document n, where its line isn't the first one of its row: behind a dash stands the first one of
+-- the item or entry to which steps lead in document n, where its line isn't the first one of its row: after a dash is the first one of
 -- a compact collection (8.2.1)
 abbrev pub first_entry : ℕ → List Step → Cut → Option TextPiece
 first_entry n steps c = line_row_line n steps c >>= λ s. if s.line == 0 then None else (printed_document n c >>= piece_in Entry steps)
 
--- What is taken out with the first item or entry of a compact collection, between the text before and the text behind: spaces, the item or
+-- What is taken out with the first item or entry of a compact collection, between the text before and the text after: spaces, the item or
 -- entry, its break and the next one's spaces, of which all but the second may be nothing (8.2.1; own).
 pub record FirstOut : Type 0 where
   pub before : List ℕ
@@ -39,7 +39,7 @@ pub record FirstOut : Type 0 where
   pub indent : List ℕ
   pub behind : List ℕ
 
--- what is taken out with such an item or entry: where a gap is behind its last line, what stands behind the dash up to the end of that line,
+-- what is taken out with such an item or entry: where a gap is after its last line, what comes after the dash up to the end of that line,
 -- before its break; else all up to the next one (8.2.1; own)
 abbrev pub first_out : TextPiece → FirstOut
 first_out p =

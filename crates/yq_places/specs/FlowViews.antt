@@ -12,7 +12,7 @@ use Rattle.yq_places.{specs.FlowNodes.flow_collection, specs.NodeReading.head_li
 abbrev pub placed_collection : ℕ → CollPieces → Placed
 placed_collection total w = locate total (coll w.close w.gap w.items) w.rest
 
--- what stands behind the anchor of a node, with its places
+-- what comes after the anchor of a node, with its places
 abbrev pub behind_anchor : Placed → Placed
 behind_anchor (placed a s c e f) = placed None c c e f
 
@@ -36,7 +36,7 @@ collection_along steps p = placed_entry_at steps (None, p) >>= λ e. collection_
 abbrev pub collection_view : FlowHead → Option Placed
 collection_view x = collection_along (map tree_step x.left.now) (inline_view x.node.value)
 
--- The collection to which the steps lead is this one of a text: the node stands in a piece of that text, where it could stand alone, and
+-- The collection to which the steps lead is this one of a text: the node is in a piece of that text, where it could be alone, and
 -- has its places in this piece (7.4; own).
 pub record IsHeadOfSteps (t : List ℕ) (w : CollPieces) (x : FlowHead) : Type 0 where
   pub front : List ℕ

@@ -10,7 +10,7 @@ use Rattle.yq_places.specs.declared.places.lines_cut.TailCut as declared_tail
 abbrev pub IsLastBreak : List ℕ → Type 0
 IsLastBreak t = (t ≡ []) ⊎ ((t ≡ 10 ∷ []) ⊎ (t ≡ 13 ∷ (10 ∷ [])))
 
--- Lines of a text: what is before them, whether there are none, they less their last break, that break, and what is behind.
+-- Lines of a text: what is before them, whether there are none, they less their last break, that break, and what is after.
 pub record LinesIn : Type 0 where
   pub before : List ℕ
   pub none : Bool
@@ -22,7 +22,7 @@ pub record LinesIn : Type 0 where
 abbrev pub lines_between : List ℕ → List ℕ → List ℕ → LinesIn
 lines_between before own behind = record { before = before; none = is_empty own; lines = less_break own; last = last_break own; behind = behind }
 
--- Lines stand in a text from a place on up to another one, in bytes.
+-- Lines are in a text from a place on up to another one, in bytes.
 pub record CutsLines (t : List ℕ) (from stop : ℕ) : Type 0 where
   pub before : List ℕ
   pub own : List ℕ

@@ -62,15 +62,15 @@ abbrev pub IsPlace : RowsView → Stretch → declared.NodePlace → Type 0
 IsPlace s d (declared.TheVariants.Head q) = IsLine s d q
 IsPlace s d (declared.TheVariants.Lines q floor) = IsPosition s d q
 
--- what is told of the node to which steps lead in a head, if there is one
+-- what is known of the node to which steps lead in a head, if there is one
 abbrev pub summary_in_head : List Step → Option tree.Node → Option NodeAt
 summary_in_head ss head = head >>= λ n. option_map node_summary (node_at ss n)
 
--- what is told of the node in the head of a line
+-- what is known of the node in the head of a line
 abbrev pub summary_in_line : List Line → List Step → ℕ → Option NodeAt
 summary_in_line ls ss n = slice_get ls n >>= λ l. summary_in_head ss l.head
 
--- what is told of the node for which an outline stands whose first line is no node itself
+-- what is known of the node that an outline means whose first line is no node itself
 abbrev pub summary_of_lines : List Line → NodePlace → Option NodeAt
 summary_of_lines ls (at_head n) = None
 summary_of_lines ls (at_lines n floor) = Some (node_summary (value (part ls n floor)))
@@ -80,6 +80,6 @@ abbrev pub line_or : {A : Type 0} → Option ℕ → (ℕ → Option A) → Opti
 line_or None f x = x
 line_or (Some n) f x = f n
 
--- what is told of the node that is written there, where steps go on
+-- what is known of the node that is written there, where steps go on
 abbrev pub place_node : List Line → NodePlace → List Step → Option NodeAt
 place_node ls p ss = line_or (place_line ls p) (summary_in_line ls ss) (summary_of_lines ls p)

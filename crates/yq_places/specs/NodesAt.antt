@@ -7,7 +7,7 @@ use Rattle.yq_documents.specs.Reading.{documents}
 use Rattle.yq_core.specs.Tree as tree
 use Rattle.yq_places.specs.declared.places.node_at.NodeAt as declared
 
--- What is told of a node: that it is an alias, which scalar it is, or that it is a sequence or a mapping, and whether that has several
+-- What is known of a node: that it is an alias, which scalar it is, or that it is a sequence or a mapping, and whether that has several
 -- items or entries (3.2.1).
 pub data NodeAt : Type 0 where
   alias : NodeAt
@@ -15,7 +15,7 @@ pub data NodeAt : Type 0 where
   list : (several : Bool) → NodeAt
   map : (several : Bool) → NodeAt
 
--- what is told of a node (3.2.1)
+-- what is known of a node (3.2.1)
 abbrev pub node_summary : tree.Node → NodeAt
 node_summary (tree.alias name) = alias
 node_summary (tree.scalar anchor kind text) = scalar (record { kind = kind; text = text })
@@ -47,7 +47,7 @@ summary_several (scalar s) = false
 summary_several (list several) = several
 summary_several (map several) = several
 
--- the scalar of which that is told
+-- the scalar of which that is known
 abbrev pub summary_scalar : NodeAt → Option ScalarText
 summary_scalar alias = None
 summary_scalar (scalar s) = Some s

@@ -1,4 +1,4 @@
--- The pieces of a text where nodes, entries, items and comments at paths stand (YAML 1.2.2, 7.4 and 8; own).
+-- The pieces of a text where nodes, entries, items and comments at paths are (YAML 1.2.2, 7.4 and 8; own).
 use Rattle.std.specs.Prelude.{ℕ, suc, List, [], ◌∷◌, ◌++◌, length, take, drop, map, slice_get, Option, Some, None, is_some, option_map}
 use Rattle.std.specs.Prelude.{option_and_then, if◌then◌else◌}
 use Rattle.yq_core.{specs.Answers.◌>>=◌, specs.Paths.{Step, is_here, further}}
@@ -13,7 +13,7 @@ use Rattle.yq_places.specs.PrintedLines.{PrintedLine, line_front, line_rest, pri
 use Rattle.yq_places.specs.PrintedLines.{lines_piece}
 use Rattle.yq_documents.specs.declared.path.Part.TheVariants as parts
 
--- A line and those under it, with the text before and behind them.
+-- A line and those under it, with the text before and after them.
 pub record BlockEntry : Type 0 where
   pub before : List ℕ
   pub line : PrintedLine
@@ -24,13 +24,13 @@ pub record BlockEntry : Type 0 where
 abbrev pub entry_piece : BlockEntry → TextPiece
 entry_piece e = run_piece e.before e.line e.under e.behind
 
--- the piece of an entry's or item's node: what is written behind its mark, or else that for which the lines under it stand
+-- the piece of an entry's or item's node: what is written after its mark, or else that that the lines under it mean
 abbrev pub content_piece : BlockEntry → Option TextPiece
 content_piece e =
     if is_some e.line.line.head then head_piece (e.before ++ (line_front e.line ++ e.line.mark)) e.line.content (print_lines e.under e.behind)
     else lines_piece (e.before ++ print_line e.line []) e.under e.behind
 
--- An item or entry of a flow collection, with the text before and behind it (7.4).
+-- An item or entry of a flow collection, with the text before and after it (7.4).
 pub record FlowEntry : Type 0 where
   pub before : List ℕ
   pub key : Key
@@ -57,7 +57,7 @@ abbrev pub flow_at : List Step → FlowEntry → Option FlowEntry
 flow_at [] x = Some x
 flow_at (s ∷ ss) x = option_and_then (flow_at ss) (flow_under s (x.before ++ key_text x.key []) x.node x.behind)
 
--- the inline node behind a mark, as an item without a key
+-- the inline node after a mark, as an item without a key
 abbrev pub content_inline : List ℕ → Content → List ℕ → Option FlowEntry
 content_inline before (Nothing tail) behind = None
 content_inline before (Inline space node tail) behind = Some (record { before = before ++ space; key = bare; node = node; behind = tail ++ behind })
@@ -75,7 +75,7 @@ flow_piece x = record { before = x.before; text = key_text x.key (node_text x.no
 abbrev pub flow_content : FlowEntry → Option TextPiece
 flow_content x = node_piece (x.before ++ key_text x.key []) x.node x.behind
 
--- The lines of a document, with the text before and behind them.
+-- The lines of a document, with the text before and after them.
 pub record PrintedDocument : Type 0 where
   pub before : List ℕ
   pub lines : List PrintedLine
@@ -89,7 +89,7 @@ printed_part s = record { before = s.before; lines = printed_lines s.part.rows; 
 abbrev pub printed_document : ℕ → Cut → Option PrintedDocument
 printed_document n c = option_map printed_part (placed_document n c)
 
--- line n of a document, with the m lines behind it as those under it
+-- line n of a document, with the m lines after it as those under it
 abbrev pub entry_with : PrintedDocument → ℕ → ℕ → Option BlockEntry
 entry_with s n m =
     slice_get s.lines n >>= λ l. Some (record {

@@ -1,4 +1,4 @@
--- What stands in pieces of a text (own).
+-- What is in pieces of a text (own).
 use Rattle.std.specs.Prelude.{◌≡◌, ◌<◌, ◌⊎◌, ℕ, List, [], ◌∷◌, ◌++◌, map, Option, Some, None, slice_get, Bool, true, false}
 use Rattle.yq_core.{specs.declared.kind.Kind.TheVariants.Text, specs.Block.{BlockText, block_text, IsBlock}}
 use Rattle.yq_core.{specs.BlockContent.block_content, specs.Tree.key_label, specs.Nodes.{Key, key_text, FlowNode, node_text, IsFlowNode}}
@@ -14,7 +14,7 @@ use Rattle.yq_places.specs.PrintedLines.{PrintedLine, print_lines, printed_lines
 use Rattle.yq_places.specs.PathPieces.{PrintedDocument, printed_document, path_piece}
 use Rattle.yq_core.specs.Tree as tree
 
--- A piece is an inline node without an anchor, which stands for a tree (7).
+-- A piece is an inline node without an anchor, which means a tree (7).
 pub record IsInlinePiece (p : TextPiece) (n : tree.Node) : Type 0 where
   pub node : FlowNode
   pub unnamed : node_anchor node ≡ None
@@ -29,14 +29,14 @@ pub record IsScalarPiece (p : TextPiece) (n : tree.Node) : Type 0 where
   pub valid : (least : ℕ) × IsBlock least block p.behind
   pub tree : n ≡ tree.scalar None Text (block_content block)
 
--- A piece is that of a run of lines of a document, which stands behind others and before others.
+-- A piece is that of a run of lines of a document, which comes after others and before others.
 pub record IsLineRun (s : PrintedDocument) (first : PrintedLine) (others : List PrintedLine) (p : TextPiece) : Type 0 where
   pub above : List PrintedLine
   pub below : List PrintedLine
   pub lines : s.lines ≡ above ++ (first ∷ (others ++ below))
   pub piece : p ≡ run_piece (s.before ++ print_lines above []) first others (print_lines below s.behind)
 
--- A piece is a run of lines of a document that begins with a key or dash, and these lines stand for a tree (8.2).
+-- A piece is a run of lines of a document that begins with a key or dash, and these lines mean a tree (8.2).
 pub record IsRunPiece (s : PrintedDocument) (p : TextPiece) (n : tree.Node) : Type 0 where
   pub first : PrintedLine
   pub others : List PrintedLine
@@ -85,7 +85,7 @@ EntriesSpell =
     path_piece p Entry c ≡ Some x →
     (n : Labelled) × (labelled_located p t ≡ Some n) × (IsEntryRun s x n ⊎ IsFlowPiece x n)
 
--- The lines of document n are those of its rows, and with the text before and behind them they are the whole text.
+-- The lines of document n are those of its rows, and with the text before and after them they are the whole text.
 abbrev pub LinesStand : Type 0
 LinesStand =
     (t : List ℕ) (c : Cut) (n : ℕ) (s : PrintedDocument) → read_at t ≡ Some c → printed_document n c ≡ Some s →

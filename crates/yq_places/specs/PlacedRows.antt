@@ -4,7 +4,7 @@ use Rattle.yq_core.{specs.Answers.◌>>=◌, specs.Paths.Step}
 use Rattle.yq_row_table.{specs.Rows.{Row, rows_text, Part, part_text, Cut, last, marked}, specs.Splices.{nth_part, behind_part}}
 use Rattle.yq_documents.{specs.Documents.document_parts, specs.PartNumbers.part_number, specs.LinesInRows.{RowLine, row_line_of}}
 
--- The part of a cut that is a document, with the text before and behind it (9.1; own).
+-- The part of a cut that is a document, with the text before and after it (9.1; own).
 pub record PlacedPart : Type 0 where
   pub before : List ℕ
   pub part : Part
@@ -24,7 +24,7 @@ placed_at i c = record { before = before_part i c; part = nth_part i c; behind =
 abbrev pub placed_document : ℕ → Cut → Option PlacedPart
 placed_document n c = option_map (λ p. placed_at (part_number n c) c) (slice_get (document_parts c) n)
 
--- A row with a line of it, with the text before the row and behind it.
+-- A row with a line of it, with the text before the row and after it.
 pub record PlacedRow : Type 0 where
   pub before : List ℕ
   pub row : Row

@@ -8,7 +8,7 @@ use Rattle.yq_documents.specs.Pieces.{TextPiece, head_piece}
 use Rattle.yq_outline.specs.Comments as comments
 use Rattle.yq_row_table.specs.Rows as rows
 
--- a break, and nothing behind it (5.4)
+-- a break, and nothing after it (5.4)
 abbrev pub is_last_break : List ℕ → Bool
 is_last_break [] = false
 is_last_break (b ∷ []) = is_feed b
@@ -24,7 +24,7 @@ less_break (b ∷ bs) = if is_last_break (b ∷ bs) then [] else b ∷ less_brea
 abbrev pub less_last : List ℕ → List ℕ → List ℕ
 less_last tail raw = if is_empty raw then less_break tail else tail ++ less_break raw
 
--- what stands behind a mark up to the break of its last line
+-- what comes after a mark up to the break of its last line
 abbrev pub less_end : Content → List ℕ
 less_end c = let x = content_cut c in x.0 ++ (x.1 ++ (x.2 ++ (x.3 ++ less_last x.4 x.5)))
 
@@ -36,7 +36,7 @@ last_break t = drop (length (less_break t)) t
 abbrev pub end_break : Content → List ℕ
 end_break c = let x = content_cut c in if is_empty x.5 then last_break x.4 else last_break x.5
 
--- A line with its text: the gap and the spaces before it, its key or dash, and what stands behind that.
+-- A line with its text: the gap and the spaces before it, its key or dash, and what comes after that.
 pub record PrintedLine : Type 0 where
   pub line : Line
   pub gap : List ℕ
@@ -61,7 +61,7 @@ abbrev pub print_lines : List PrintedLine → List ℕ → List ℕ
 print_lines [] rest = rest
 print_lines (l ∷ ls) rest = print_line l (print_lines ls rest)
 
--- a line for each dash and one for the mark, from a column on, the first behind a gap and spaces (8.2)
+-- a line for each dash and one for the mark, from a column on, the first after a gap and spaces (8.2)
 abbrev pub printed_from : List ℕ → List ℕ → ℕ → List ℕ → rows.RowMark → Content → List PrintedLine
 printed_from gap spaces column [] m c =
     record { line = mark_line (comments.head_comment gap) column m c; gap = gap; spaces = spaces; mark = mark_text m []; content = c } ∷ []
@@ -96,7 +96,7 @@ run_break l (k ∷ ks) = run_break k ks
 abbrev pub run_piece : List ℕ → PrintedLine → List PrintedLine → List ℕ → TextPiece
 run_piece before l ls behind = record { before = before ++ line_front l; text = run_text l ls; behind = run_break l ls ++ behind }
 
--- the node for which lines between two texts stand: one on a line of its own, or a block collection; without lines there is none (8.2)
+-- the node that lines between two texts mean: one on a line of its own, or a block collection; without lines there is none (8.2)
 abbrev pub lines_piece : List ℕ → List PrintedLine → List ℕ → Option TextPiece
 lines_piece before [] behind = None
 lines_piece before (l ∷ ls) behind =

@@ -9,7 +9,7 @@ use Rattle.yq_outline.{specs.Counts.count, specs.Ends.{line_at_steps, lines_end}
 use Rattle.yq_documents.{specs.Pieces.{before_run, last_run}, specs.Reading.documents, specs.LinesInRows.row_line}
 use Rattle.yq_places.specs.PlacedRows.{PlacedPart, placed_document}
 
--- The rows of an item or entry, between those in front of it and those behind it (8.2).
+-- The rows of an item or entry, between those in front of it and those after it (8.2).
 pub record OwnRows : Type 0 where
   pub front : List Row
   pub own : List Row
@@ -31,21 +31,21 @@ own_rows steps rs =
     line_at_steps steps (lines_of_rows rs) >>= λ n. row_line n rs >>= λ s.
     if s.line == 0 then Some (in_three s.before (row_count (lines_end n (lines_of_rows rs) - n) (drop s.before rs)) rs) else None
 
--- What a gap that comes to stand behind a block scalar has to fit: whether the scalar keeps the empty lines at its end, how far its text is
+-- What a gap that ends up after a block scalar has to fit: whether the scalar keeps the empty lines at its end, how far its text is
 -- indented, and in which column the next row begins (8.1.1; own).
 pub record Seam : Type 0 where
   pub keeps : Bool
   pub indent : ℕ
   pub column : ℕ
 
--- the seam behind a block scalar, if there is one, where no comment line stays behind it
+-- the seam after a block scalar, if there is one, where no comment line stays after it
 abbrev pub seam_behind : Option BlockText → (column : ℕ) → (kept : List ℕ) → Option Seam
 seam_behind None column kept = None
 seam_behind (Some b) column kept =
     if hold_comment (text_lines kept) then None else Some (record { keeps = keeps b.chomping; indent = b.indent.columns; column = column })
 
--- What is taken out of a text: the text before it, the lines that go, the gap behind them, the text behind that, and the seam of the gap,
--- if it comes to stand behind a block scalar.
+-- What is taken out of a text: the text before it, the lines that go, the gap after them, the text after that, and the seam of the gap,
+-- if it ends up after a block scalar.
 pub record Removal : Type 0 where
   pub before : List ℕ
   pub gone : List ℕ

@@ -18,11 +18,11 @@ gap_and_column [] (Some s) = (s.gap, s.column)
 abbrev pub gap_counts : ℕ → RowsView → List ℕ × ℕ
 gap_counts i s = gap_and_column (bounds_at i s.bounds) (slice_get s.rows i)
 
--- how many rows stand before a document, before an item or entry of it, and before what is behind that
+-- how many rows come before a document, before an item or entry of it, and before what is after that
 abbrev pub RowCounts : Type 0
 RowCounts = ℕ × ℕ × ℕ
 
--- these numbers for rows of an item or entry, where so many rows stand before the document
+-- these numbers for rows of an item or entry, where so many rows come before the document
 abbrev pub marks : ℕ → OwnRows → RowCounts
 marks k x = (k, k + length x.front, k + length x.front + length x.own)
 

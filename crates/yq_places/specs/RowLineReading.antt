@@ -7,7 +7,7 @@ use Rattle.yq_places.specs.declared.places.stretch.RowLine as declared
 abbrev pub LineCounts : Type 0
 LineCounts = ℕ × ℕ × ℕ
 
--- the numbers of a line, behind so many rows
+-- the numbers of a line, after so many rows
 abbrev pub numbers : ℕ → RowLine → LineCounts
 numbers k s = (k + s.before, s.line, length s.row.dashes)
 

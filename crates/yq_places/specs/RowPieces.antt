@@ -1,4 +1,4 @@
--- The pieces of a row behind its mark, and of one that is cut behind a dash (YAML 1.2.2, 8.1 and 8.2.1; own).
+-- The pieces of a row after its mark, and of one that is cut after a dash (YAML 1.2.2, 8.1 and 8.2.1; own).
 use Rattle.std.specs.Prelude.{ℕ, List, [], ◌∷◌, ◌++◌, replicate, take, if◌then◌else◌}
 use Rattle.yq_core.specs.Text.{is_empty}
 use Rattle.yq_row_table.{specs.Joined.dashed_row, specs.Rows.{Nothing, Row, dashes_text}, specs.View.Slices}
@@ -11,11 +11,11 @@ anchor_before s = if is_empty s.anchor then [] else s.space ++ s.anchor
 abbrev pub space_before : Slices → List ℕ
 space_before s = if is_empty s.anchor then s.space else s.apart
 
--- a row up to the dash before which so many others stand (8.2.1)
+-- a row up to the dash before which so many others are (8.2.1)
 abbrev pub upto_dash : ℕ → Row → Row
 upto_dash line r = dashed_row (take line r.dashes) (Nothing []) r
 
--- what stands behind a dash, by the spaces behind it and behind each dash after it (8.2.1)
+-- what comes after a dash, by the spaces after it and after each dash after it (8.2.1)
 abbrev pub past_dash : List ℕ → List ℕ → List ℕ
 past_dash [] rest = rest
 past_dash (n ∷ ns) rest = replicate n 32 ++ dashes_text ns rest

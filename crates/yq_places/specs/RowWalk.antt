@@ -25,11 +25,11 @@ pub record IsLineAt (s : RowsView) (d : Stretch) (steps : List Step) (q : Positi
 abbrev pub IsKnownLine : RowsView → KnownLine → Type 0
 IsKnownLine s k = IsLineAt s k.document (map tree_step k.steps.now) k.at
 
--- how many rows stand before document n of a cut, and up to its end
+-- how many rows come before document n of a cut, and up to its end
 abbrev pub document_row_range : ℕ → Cut → Option (ℕ × ℕ)
 document_row_range n c = option_map (λ p. (document_row n c, document_row n c + length p.rows)) (slice_get (document_parts c) n)
 
--- A text with its cut: these are the pieces of the cut, and its parts stand for documents.
+-- A text with its cut: these are the pieces of the cut, and its parts mean documents.
 pub record HasCut (t : List ℕ) (s : RowsView) : Type 0 where
   pub cut : IsCut t (cut_of t)
   pub rows : s ≡ rows_view (cut_of t)
@@ -44,6 +44,6 @@ pub record InCut (s : RowsView) (d : Stretch) (c : Cut) : Type 0 where
   pub more : List Row
   pub there : drop d.first (rows_of c) ≡ document.stand.rows ++ more
 
--- What is said of a document is so of its rows, with the numbers of its lines, in each cut in which these stand.
+-- What is said of a document is so of its rows, with the numbers of its lines, in each cut in which these are.
 abbrev pub InEach : RowsView → Stretch → (ℕ → Cut → List Row → (Position → ℕ) → Type 0) → Type 0
 InEach s d said = (c : Cut) (k : InCut s d c) → said d.first c k.document.stand.rows (line_number d k.document.stand.rows)

@@ -7,12 +7,12 @@ use Rattle.yq_places.{specs.PlacedRows.{PlacedPart, placed_document}, specs.Stan
 use Rattle.yq_outline.specs.declared.line_position.Stretch.{Stretch}
 use Rattle.yq_places.specs.declared.places.rows_of_entry.RowsOfEntry as declared
 
--- how many rows stand before the first one, how many lines of that before the one of the key or dash and before that of its mark, and how
--- many rows stand before what is behind
+-- how many rows come before the first one, how many lines of that before the one of the key or dash and before that of its mark, and how
+-- many rows come before what is after
 abbrev pub StandingCounts : Type 0
 StandingCounts = ℕ × ℕ × ℕ × ℕ
 
--- these numbers for a line of a document, behind so many rows
+-- these numbers for a line of a document, after so many rows
 abbrev pub numbers_of_entry : ℕ → List Row → RowLine → StandingCounts
 numbers_of_entry k rs s = (k + s.before, s.line, length s.row.dashes, k + s.before + 1 + under_count s (drop (suc s.before) rs))
 
@@ -38,7 +38,7 @@ pub record AreRowsOf (t : List ℕ) (s : RowsView) (e : RowsOfEntry) (row end : 
   pub row_is : row ≡ document_row document (cut_of t) + length e.front
   pub last_is : end ≡ row + suc (length e.under)
 
--- The rows of an item or entry stand in a text.
+-- The rows of an item or entry are in a text.
 pub record IsEntryIn (t : List ℕ) (s : RowsView) (e : RowsOfEntry) (m : declared.RowsOfEntry) : Type 0 where
   pub rows : AreRowsOf t s e m.row m.end
   pub line : m.line ≡ e.line
@@ -60,7 +60,7 @@ pub record BeginsRows (t : List ℕ) (s : RowsView) (row : ℕ) : Type 0 where
 abbrev pub root_entry : PlacedPart → Row → List Row → RowsOfEntry
 root_entry d r rs = record { start = d.before; front = []; row = r; line = 0; under = rs; back = []; end = d.part.end; behind = d.behind }
 
--- A document with rows has these numbers in a text: its first row, and the one behind its last.
+-- A document with rows has these numbers in a text: its first row, and the one after its last.
 pub record IsRootOf (t : List ℕ) (s : RowsView) (d : Stretch) : Type 0 where
   pub part : PlacedPart
   pub row : Row

@@ -1,4 +1,4 @@
--- What the code tells of what stands at a place (own).
+-- What the code tells of what is at a place (own).
 use Rattle.std.specs.Prelude.{◌≡◌, ℕ, ◌+◌, ◌==◌, ◌&&◌, not, true, false, List, length, Option, Some, None, if◌then◌else◌}
 use Rattle.yq_text.specs.Halves.{whole}
 use Rattle.yq_core.{specs.Answers.◌>>=◌, specs.Paths.Step, specs.Text.is_empty}
@@ -39,7 +39,7 @@ held_view h = record {
 abbrev pub lone_view : declared_lone.Lone → Lone
 lone_view w = record { before = whole w.before; head = w.head.now; behind = whole w.behind }
 
--- a collection behind a dash that the code lends
+-- a collection after a dash that the code lends
 abbrev pub compact_view : declared_compact.Compact → Compact
 compact_view p = record { mark = held_mark_view p.mark; column = p.column; before = whole p.before; old = whole p.old; last = p.last.now; behind = whole p.behind }
 
@@ -51,7 +51,7 @@ root_view w = record { column = w.column; before = whole w.before; old = whole w
 abbrev pub no_rows_view : declared_no_rows.NoRows → NoRows
 no_rows_view w = record { before = whole w.before; behind = whole w.behind }
 
--- what stands at a place, as the code lends it
+-- what is at a place, as the code lends it
 abbrev pub standing_view : declared.Standing → Standing
 standing_view (declared.TheVariants.Alone w) = alone (lone_view w)
 standing_view (declared.TheVariants.Beside h) = beside (held_view h)

@@ -1,4 +1,4 @@
--- What stands where steps lead in a text, by the rows in which it stands (YAML 1.2.2, 7.4, 8 and 9.1; own).
+-- What is where steps lead in a text, by the rows in which it is (YAML 1.2.2, 7.4, 8 and 9.1; own).
 use Rattle.std.specs.Prelude.{ℕ, ◌==◌, ◌||◌, ◌&&◌, not, suc, List, [], ◌∷◌, ◌++◌, drop, length, map, replicate, take, Option, Some, None}
 use Rattle.std.specs.Prelude.{option_map, Bool, false, if◌then◌else◌}
 use Rattle.yq_core.{specs.Answers.◌>>=◌, specs.Paths.Step, specs.Text.is_empty, specs.Collections.CollPieces}
@@ -15,8 +15,8 @@ use Rattle.yq_places.specs.RowPieces.{anchor_before, past_dash, space_before, up
 -- ---- the rows of an item or entry
 
 -- The rows of an item or entry in a text: the text before its document, and the document's rows in front of them; the first one of them,
--- and how many of its lines stand before that of the key or dash; those under it; the further rows of the document; its end gap;
--- and the text behind the document (8.2). A line is a key, a dash or a node alone; a row line is the row in which it stands; slices are a row's pieces.
+-- and how many of its lines come before that of the key or dash; those under it; the further rows of the document; its end gap;
+-- and the text after the document (8.2). A line is a key, a dash or a node alone; a row line is the row in which it is; slices are a row's pieces.
 pub record RowsOfEntry : Type 0 where
   pub start : List ℕ
   pub front : List Row
@@ -27,11 +27,11 @@ pub record RowsOfEntry : Type 0 where
   pub end : List ℕ
   pub behind : List ℕ
 
--- how many of the rows behind a line's own are under it: they begin deeper (8.2)
+-- how many of the rows after a line's own are under it: they begin deeper (8.2)
 abbrev pub under_count : RowLine → List Row → ℕ
 under_count s rs = deeper_rows (line_level s.line (slices s.row)) (map slices rs)
 
--- the rows of the item or entry of a line, with the first n of the rows behind it under it
+-- the rows of the item or entry of a line, with the first n of the rows after it under it
 abbrev pub entry_rows_with : PlacedPart → RowLine → ℕ → RowsOfEntry
 entry_rows_with d s n = record {
   start = d.before;
@@ -56,20 +56,20 @@ rows_of_entry n steps c = placed_document n c >>= λ d. option_map (entry_rows_a
 abbrev pub before_entry : RowsOfEntry → List ℕ
 before_entry e = e.start ++ rows_text e.front []
 
--- the text behind the rows of an item or entry
+-- the text after the rows of an item or entry
 abbrev pub behind_entry : RowsOfEntry → List ℕ
 behind_entry e = rows_text e.back (e.end ++ e.behind)
 
--- ---- what stands there, in pieces
+-- ---- what is there, in pieces
 
--- A key or dash: its column, whether it is a key, and whether its row has an anchor before what is written behind its last mark, or a
--- comment behind that (8.2).
+-- A key or dash: its column, whether it is a key, and whether its row has an anchor before what is written after its last mark, or a
+-- comment after that (8.2).
 pub record MarkPieces : Type 0 where
   pub column : ℕ
   pub keyed : Bool
   pub noted : Bool
 
--- A key or dash in a text, with what it holds. In order: the text up to its end, or to that of its anchor; the white space behind that, and
+-- A key or dash in a text, with what it holds. In order: the text up to its end, or to that of its anchor; the white space after that, and
 -- what is written there, an inline node, the header of a block scalar or nothing; the white space and the comment that end its line. Where
 -- lines are below, `break` ends its line, `lines` are they, and `last` is the break of the last one. Where none are, `break` and `lines` are
 -- nothing, and `last` ends its line (8.1, 8.2). Of `a: &x | # c`, with the line `  t` below: before `a: &x`, space and white one space each,
@@ -87,14 +87,14 @@ pub record Held : Type 0 where
   pub behind : List ℕ
 
 -- A node that is alone on its line, under a key or dash or as a root: the text before it, with its anchor; the node without that, which is
--- never nothing; and the text behind (7, 8.2).
+-- never nothing; and the text after (7, 8.2).
 pub record Lone : Type 0 where
   pub before : List ℕ
   pub head : List ℕ
   pub behind : List ℕ
 
--- A collection that begins on the line of a dash: the dash; the column of its items or entries; the text up to the dash, with it; what stands
--- behind it up to the end of the last line; the break of that; and the text behind (8.2.1).
+-- A collection that begins on the line of a dash: the dash; the column of its items or entries; the text up to the dash, with it; what is
+-- after it up to the end of the last line; the break of that; and the text after (8.2.1).
 pub record Compact : Type 0 where
   pub mark : MarkPieces
   pub column : ℕ
@@ -103,7 +103,7 @@ pub record Compact : Type 0 where
   pub last : List ℕ
   pub behind : List ℕ
 
--- A block collection that is a root: its column; the text before it; its own, up to the last break; that break; and the text behind (8.2, 9.1).
+-- A block collection that is a root: its column; the text before it; its own, up to the last break; that break; and the text after (8.2, 9.1).
 pub record BlockRoot : Type 0 where
   pub column : ℕ
   pub before : List ℕ
@@ -111,12 +111,12 @@ pub record BlockRoot : Type 0 where
   pub last : List ℕ
   pub behind : List ℕ
 
--- A document without rows: the text up to the end of its gap, and the text behind (7.2, 9.1).
+-- A document without rows: the text up to the end of its gap, and the text after (7.2, 9.1).
 pub record NoRows : Type 0 where
   pub before : List ℕ
   pub behind : List ℕ
 
--- What stands outside flow collections: a node alone on its line; one behind a key or dash on its line, or nothing; a block collection on the
+-- What is outside flow collections: a node alone on its line; one after a key or dash on its line, or nothing; a block collection on the
 -- lines under a key or dash, by its column; one that begins on the line of its dash; a block scalar, by its text's indentation in columns; a
 -- root that is a block collection; or no rows.
 pub data Standing : Type 0 where
@@ -162,19 +162,19 @@ lone before r behind =
 abbrev pub is_alone : Row → Bool
 is_alone r = is_empty r.dashes && has_no_mark (line_mark r.mark)
 
--- what stands behind a key or dash behind which no node is written: nothing, a node on the line under it, or a block collection (8.2)
+-- what comes after a key or dash after which no node is written: nothing, a node on the line under it, or a block collection (8.2)
 abbrev pub below : RowsOfEntry → List Row → Standing
 below e [] = beside (held e)
 below e (r ∷ rs) =
     if is_alone r then alone (lone (before_entry e ++ print_row e.row []) r (rows_text rs (behind_entry e))) else under (held e) r.column
 
--- what stands behind the mark of a row, by its content
+-- what comes after the mark of a row, by its content
 abbrev pub behind_mark : RowsOfEntry → Content → Standing
 behind_mark e (Nothing tail) = below e e.under
 behind_mark e (Inline space node tail) = if is_empty (slices e.row).head then below e e.under else beside (held e)
 behind_mark e (Block space anchor b) = block (held e) b.indent.columns
 
--- the text from behind a dash to the end of the rows of its item
+-- the text from after a dash to the end of the rows of its item
 abbrev pub dash_text : RowsOfEntry → List ℕ
 dash_text e = past_dash (drop e.line e.row.dashes) (behind_dashes e.row (rows_text e.under []))
 
@@ -193,7 +193,7 @@ compact_in e = record {
   behind = behind_entry e;
 }
 
--- what stands at an item or entry, by its rows: a line that is not the last one of its row is that of a dash with a compact collection (8.2.1)
+-- what is at an item or entry, by its rows: a line that is not the last one of its row is that of a dash with a compact collection (8.2.1)
 abbrev pub entry_standing : RowsOfEntry → Standing
 entry_standing e = if e.line == length e.row.dashes then behind_mark e e.row.content else compact (compact_in e)
 
@@ -209,12 +209,12 @@ block_root d r rs =
       behind = d.part.end ++ d.behind;
     }
 
--- what stands at the root of a document, by its rows (9.1)
+-- what is at the root of a document, by its rows (9.1)
 abbrev pub root_standing : PlacedPart → List Row → Standing
 root_standing d [] = no_rows (record { before = d.before ++ d.part.end; behind = d.behind })
 root_standing d (r ∷ rs) = if is_alone r then alone (lone d.before r (rows_text rs (d.part.end ++ d.behind))) else root (block_root d r rs)
 
--- what stands in document n where steps lead, outside flow collections
+-- what is in document n where steps lead, outside flow collections
 abbrev pub standing_at : ℕ → List Step → Cut → Option Standing
 standing_at n [] c = option_map (λ (d : PlacedPart). root_standing d d.part.rows) (placed_document n c)
 standing_at n (s ∷ ss) c = option_map entry_standing (rows_of_entry n (s ∷ ss) c)

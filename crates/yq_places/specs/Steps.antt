@@ -1,4 +1,4 @@
--- By how many columns the collections of a document stand deeper than their keys (own).
+-- By how many columns the collections of a document are deeper than their keys (own).
 use Rattle.std.specs.Prelude.{ℕ, ◌-◌, ◌&&◌, nat_lt, List, [], ◌∷◌, Option, Some, None, slice_get, Bool, true, false, not, if◌then◌else◌}
 use Rattle.yq_row_table.specs.Rows.{Cut, Part}
 use Rattle.yq_outline.{specs.Outline.{LineMark, Bare, Key, Dash, Line, level}, specs.Lines.lines_of_rows}
@@ -20,13 +20,13 @@ is_kind dashes Dash = dashes
 abbrev pub begins_under : (LineMark → Bool) → Line → Line → Bool
 begins_under is l m = is_key l.mark && (is m.mark && nat_lt (level l) (level m))
 
--- by how many columns the first collection of a kind that stands under a key is deeper than that key; 2 where there is none
+-- by how many columns the first collection of a kind that is under a key is deeper than that key; 2 where there is none
 abbrev pub first_step : (LineMark → Bool) → List Line → ℕ
 first_step is [] = 2
 first_step is (l ∷ []) = 2
 first_step is (l ∷ (m ∷ ls)) = if begins_under is l m then m.column - l.column else first_step is (m ∷ ls)
 
--- The steps of a document: how much deeper than its key a mapping, and a sequence, stands.
+-- The steps of a document: how much deeper than its key a mapping, and a sequence, is.
 pub record IndentSteps : Type 0 where
   pub mapping : ℕ
   pub sequence : ℕ

@@ -1,4 +1,4 @@
-//! Where nodes, entries and comments stand among the rows of a text: what stands there, in pieces, and what is taken out.
+//! Where nodes, entries and comments are among the rows of a text: what is there, in pieces, and what is taken out.
 #![tactic(auto)]
 
 mod places;
@@ -22,7 +22,7 @@ pub use places::node_place::{node_place, place_line};
 pub use places::removal_place::{Removal, Seam, own_rows, rows_out};
 pub use places::room::line_has_room;
 pub use places::root_standing::rows_standing;
-pub use places::row_head::{RowHead, in_one};
+pub use places::row_head::RowHead;
 pub use places::rows_of_entry::{RowsOfEntry, entry_along};
 pub use places::standing::{BlockRoot, Compact, Lone, NoRows, Standing};
 pub use places::steps::first_step;

@@ -1,4 +1,4 @@
-//! Where entries, contents and comments stand among rows; what stands there, in pieces; and what is taken out.
+//! Where entries, contents and comments are among rows; what is there, in pieces; and what is taken out.
 
 pub mod comment_place;
 pub mod content_place;

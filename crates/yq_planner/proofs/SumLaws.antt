@@ -38,7 +38,7 @@ pub item_more : (xs : List Node) (x : Node) (ds : Children) → append_children 
 item_more [] x ds = refl
 item_more (y ∷ xs) x ds = ap (child (key_label None) y) (item_more xs x ds)
 
--- behind items there is nothing more
+-- after items there is nothing more
 pub followed_none : (cs : Children) → append_children cs none ≡ cs
 followed_none none = refl
 followed_none (child label n cs) = ap (child label n) (followed_none cs)
@@ -51,7 +51,7 @@ pub one_item : (xs : List Node) (x v m : Node) → x ≡ m → v ≡ m → as_it
 one_item xs x v m a b one =
     ap (λ (y : Node). items (xs ++ y ∷ [])) a ∙ (item_last xs m ∙ ap (append_children (items xs)) (sym one ∙ ap as_items (sym b)))
 
--- an entry behind others
+-- an entry after others
 pub entry_last : (k : List ℕ) (v : Node) (es : List (List ℕ × Node)) → append_child (key_label (Some k)) v (entries es) ≡ entries (es ++ (k, v) ∷ [])
 entry_last k v [] = refl
 entry_last k v (e ∷ es) = ap (child (key_label (Some e.0)) e.1) (entry_last k v es)
@@ -151,7 +151,7 @@ numbered_more {X} f xs i x key k old new within is named before kept =
     let es : List (List ℕ × Node) = map f (take i xs) in
     cc (counted f xs i within, number_last k es (f x), map_push f (take i xs) x, take_more xs i x within)
 
--- one behind all
+-- one after all
 pub numbered_push : {X : Type 0} (f : X → List ℕ × Node) (xs all : List X) (x : X) (key k : List ℕ) (n : ℕ) (old new : Option ℕ) → key ≡ (f x).0 → n ≡ length xs →
     old ≡ entry_number k (map f xs) → new ≡ number_kept k old key n → all ≡ xs ++ x ∷ [] → new ≡ entry_number k (map f all)
 numbered_push {X} f xs all x key k n old new named many before kept pushed = search (rules, length-map, number_last, map_push)

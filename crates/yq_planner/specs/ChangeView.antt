@@ -1,4 +1,4 @@
--- The changes that those of the code stand for.
+-- The changes that those of the code mean.
 use Rattle.std.{specs.Prelude.{List, [], ◌∷◌, map, Option, Some, None, option_map, string_bytes}, specs.Global.Vec}
 use Rattle.yq_core.{specs.Entries.tree_step, specs.Values.value_node}
 use Rattle.yq_semantics.specs.Places.{FoundPlace}
@@ -7,12 +7,12 @@ use Rattle.yq_planner.specs.declared.updating.change.Addition as addition
 use Rattle.yq_planner.specs.declared.updating.change.Change as change
 use Rattle.yq_planner.specs.declared.updating.change.PlacedChange as changed
 
--- the addition that one of the code stands for (own)
+-- the addition that one of the code means (own)
 abbrev pub addition_of : addition.Addition → Addition
 addition_of (addition.TheVariants.Appends k v) = appends (option_map string_bytes k) (value_node v)
 addition_of (addition.TheVariants.Overwrites k v) = overwrites (string_bytes k) (value_node v)
 
--- the change that one of the code stands for (own)
+-- the change that one of the code means (own)
 abbrev pub change_of : change.Change → Change
 change_of (change.TheVariants.Replaces v) = replaces (value_node v)
 change_of (change.TheVariants.Adds xs) = adds (map addition_of xs.items)

@@ -1,4 +1,4 @@
-//! The texts that keys and scalars stand for.
+//! The texts that keys and scalars mean.
 ghost use Rattle.std.{specs.List.list_any, specs.Prelude.{◌≡◌, ◌==◌, IfOk, None, Some, if◌then◌else◌, true}};
 ghost use Rattle.yq_core.{specs.Quoted.IsQuotedText, specs.Scalar.plain_of, specs.Trees.scalar_node};
 ghost use Rattle.yq_outline.specs.View.{content_view, head_view, head_flow};
@@ -11,7 +11,7 @@ use yq_outline::{Head, ScalarContent, between_quotes};
 use yq_scalar_reader::folding::{plain_content, quoted_content};
 use yq_scalar_reader::plain::holds_break;
 
-/// Whether a backslash stands in double quotes, or a quote in single ones.
+/// Whether a backslash is in double quotes, or a quote in single ones.
 fn holds_escape(quote: u8, inner: &str) -> bool
     ensures { result ≡ list_any (λ b. b == (if quote == 34 then 92 else 39)) inner.now }
 {
@@ -19,7 +19,7 @@ fn holds_escape(quote: u8, inner: &str) -> bool
     inner.as_bytes().iter().any(|b| *b == sign)
 }
 
-/// The text that a quoted scalar stands for: one on one line without escapes is borrowed.
+/// The text that a quoted scalar means: one on one line without escapes is borrowed.
 fn quoted_text<'t>(alloc: Global, piece: &'t str) -> Result<ScalarContent<'t>, AllocError>
     requires { IsQuotedText piece.now }
     ensures { IfOk result (λ c. content_view c ≡ reading.quoted_content piece.now) }
@@ -32,7 +32,7 @@ fn quoted_text<'t>(alloc: Global, piece: &'t str) -> Result<ScalarContent<'t>, A
     Ok(ScalarContent::Slice(inner))
 }
 
-/// The text that a key or a scalar, as it is written, stands for: one on one line without escapes is borrowed.
+/// The text that a key or a scalar, as it is written, means: one on one line without escapes is borrowed.
 #[tactic(auto, unfolding(yq_core::specs::Scalars::scalar_content), using(yq_outline::proofs::OneLine::one_line))]
 pub(crate) fn content_of<'t>(alloc: Global, piece: &'t str) -> Result<ScalarContent<'t>, AllocError>
     requires { scalars.is_quoted piece.now ≡ true → IsQuotedText piece.now }

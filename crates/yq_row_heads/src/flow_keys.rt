@@ -5,8 +5,8 @@ ghost use Rattle.yq_core.specs.declared.fault.FaultKind.TheVariants.{NotUtf8};
 ghost use Rattle.yq_documents.specs.KeyReading as spec;
 
 use yq_core::characters::char_count;
+use yq_core::fault_place::fault_at;
 use yq_core::{FaultKind, Form, Inline, Piece, ReadFault};
-use yq_documents::fault_at;
 use yq_row_table::KEY_LIMIT;
 
 /// What is at fault in the key at a place of a text: it is to be no plain `<<`, and not too long.
@@ -17,10 +17,10 @@ fn key_fault(whole: &str, piece: &Piece) -> Option<ReadFault>
 {
     let key = &whole[piece.start..piece.end];
     if key == "<<" {
-        return Some(fault_at(FaultKind::MergeKey, whole, piece.start));
+        return Some(fault_at(FaultKind::MergeKey, whole.as_bytes(), piece.start));
     }
     if char_count(key) > KEY_LIMIT {
-        return Some(fault_at(FaultKind::BadKey, whole, piece.start));
+        return Some(fault_at(FaultKind::BadKey, whole.as_bytes(), piece.start));
     }
     None
 }

@@ -11,8 +11,8 @@ ghost use Rattle.yq_documents.specs.RowReading as spec;
 use crate::content::{content_of, plain_head};
 use crate::flow_keys::keys_fault;
 use std::alloc::{AllocError, Global};
-use std::num::NonZeroU64;
-use yq_core::{Form, Inline, Kind, Place, ReadError, ReadFault, first_is, is_quoted};
+use yq_core::fault_place::fault;
+use yq_core::{Form, Inline, Kind, Place, ReadError, first_is, is_quoted};
 use yq_documents::is_block_head;
 use yq_inline::read_inline;
 use yq_outline::{Head, ScalarContent};
@@ -80,17 +80,19 @@ fn read_node_head<'t>(
 }
 
 /// The block scalar in front, as a head.
-fn read_block_head<'t>(alloc: Global, parent: i64, text: &str) -> Result<Head<'t>, ReadError>
+fn read_block_head<'t>(
+    alloc: Global,
+    whole: &str,
+    parent: i64,
+    text: &str,
+) -> Result<Head<'t>, ReadError>
     ensures view { Gives head_view result (spec.block_head_at parent text.now) }
     ensures flow { IfOk result (λ h. head_flow h ≡ None) }
     ensures fault { IfErr result IsOfText }
 {
     let piece = match read_block(text, 0, parent) {
         Ok(piece) => piece,
-        Err(kind) => {
-            let line = NonZeroU64::MIN;
-            return Err(ReadError::Fault(ReadFault { kind, line }));
-        }
+        Err(kind) => return Err(ReadError::Fault(fault(kind, whole, text))),
     };
     let text = content(alloc, text, &piece)?;
     Ok(Head::Scalar(Kind::Text, ScalarContent::Own(text)))
@@ -118,7 +120,7 @@ pub fn read_head<'t>(
         return Ok(Head::Nothing);
     }
     if is_block_head(head.as_bytes()) {
-        return read_block_head(alloc, parent, text);
+        return read_block_head(alloc, whole, parent, text);
     }
     if is_quoted(head.as_bytes()) {
         return Ok(quoted_head(alloc, head)?);
@@ -146,6 +148,8 @@ pub fn row_head<'t>(
 {
     match read_head(alloc, whole, row.parent_indent(), row.head(), text) {
         Ok(head) => Ok(head),
-        Err(_) => Err(AllocError),
+        Err(ReadError::Memory) => Err(AllocError),
+        // The row has this head, and its keys are fit.
+        Err(ReadError::Fault(_)) => unreachable!(),
     }
 }

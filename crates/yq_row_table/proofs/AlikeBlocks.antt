@@ -49,7 +49,7 @@ put_alike : (b : ℕ) (ls ms : List (List ℕ)) → is_feed b ≡ false → Line
 put_alike b _ _ e (here {l} {m} {ls} {ms} h) = here (after_byte e h)
 put_alike b _ _ e (behind {l} {ls} {ms} h) = behind h
 
--- lines behind the same text
+-- lines after the same text
 pub lines_after : (p t u : List ℕ) → LinesAlike (text_lines t) (text_lines u) → LinesAlike (text_lines (p ++ t)) (text_lines (p ++ u))
 unfolding text_lines
 lines_after [] t u h = h
@@ -82,7 +82,7 @@ starts_alike t u h1 h2 = search (rules, false≢true, or_parts, not-true, put_se
 abbrev is_blank : ℕ → Bool
 is_blank b = eqb b 32
 
--- such lines begin with as many spaces, and with no break behind these
+-- such lines begin with as many spaces, and with no break after these
 line_spaces : (l m : List ℕ) → LineAlike l m → (spaces l ≡ spaces m) × LineAlike (behind_spaces l) (behind_spaces m)
 line_spaces _ _ (byte {b} {c} {t} {u} x y s r tab) = (prefix_none is_blank b t s ∙ sym (prefix_none is_blank c u r), rw (prefix_drop is_blank b t, prefix_drop is_blank c u) (rw (s, r) (byte x y s r tab)))
 line_spaces _ _ (after_byte {b} {t} {u} e h) =

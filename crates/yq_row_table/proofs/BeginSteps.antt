@@ -1,4 +1,4 @@
--- Dashes and the mark behind them, as the code reads them.
+-- Dashes and the mark after them, as the code reads them.
 use Rattle.std.proofs.Common.{◌≡◌, ℕ, suc, ◌+◌, ◌-◌, ◌<◌, ◌≤◌, true, false, not, ◌&&◌, List, [], ◌∷◌, ◌++◌, length, take, drop, Option}
 use Rattle.std.proofs.Common.{Some, None, refl, sym, ap, ◌∙◌, subst, arith, append_assoc, append-nil, length-append, replicate}
 use Rattle.std.{proofs.lemmas.List.length-replicate, specs.Str.{IsUtf8, IsCharBoundary}}
@@ -24,7 +24,7 @@ front_twice p q b =
     ap (λ (k : ℕ). record { dashes = p ++ (q ++ b.dashes); columns = k; mark = b.mark; rest = b.rest }) columns
     ∙ ap (λ (l : List ℕ). record { dashes = l; columns = length (p ++ q) + b.columns; mark = b.mark; rest = b.rest }) (sym (append_assoc p q b.dashes))
 
--- a dash and the spaces behind it
+-- a dash and the spaces after it
 dash_text : (rest s next : List ℕ) → is_dash rest ≡ true → (s, next) ≡ cut no_space (drop 1 rest) → rest ≡ (45 ∷ s) ++ next
 dash_text rest s next dash e =
     (dash_is rest dash).0 ∙ ap (λ l. 45 ∷ l) (cut_takes no_space (drop 1 rest) ∙ ap (λ (y : List ℕ × List ℕ). y.0 ++ y.1) (sym e))

@@ -1,4 +1,4 @@
--- What a gap behind a block scalar asks of it, by the pieces of its row.
+-- What a gap after a block scalar asks of it, by the pieces of its row.
 use Rattle.std.proofs.Common.{◌≡◌, ℕ, ℤ, true, false, eqb, cond, List, [], ◌∷◌, ◌++◌, Some, None, refl, sym, ap, ◌∙◌, append-nil}
 use Rattle.std.{proofs.Common.option_map, proofs.lemmas.Bool.{cond_both, false≢true}}
 use Rattle.yq_core.{specs.Block.{BlockText, IsBlock, ends_block, style_indicator}, specs.BlockReading.{indent_at, indicators_at}}

@@ -1,4 +1,4 @@
--- Block scalars behind a mark, as the code lends them.
+-- Block scalars after a mark, as the code lends them.
 use Rattle.std.proofs.Common.{◌≡◌, ℕ, suc, ◌+◌, ◌-◌, ◌<◌, ◌≤◌, true, false, not, ◌||◌, eqb, List, [], ◌∷◌, ◌++◌, length, take, drop, get_or}
 use Rattle.std.proofs.Common.{Option, Some, None, refl, sym, ap, ◌∙◌, subst, ⊎_elim, arith, eqb-true, ℤ, length-append, length-take}
 use Rattle.std.proofs.lemmas.Bool.{false≢true, or_cases, and_parts, cases_Bool}
@@ -72,7 +72,7 @@ block_read n t p h =
       end = omega (arith, ap (λ (q : Piece). q.end) (sym is));
     }
 
--- The header, the rest of its line, the raw lines and what follows, cut one behind the other.
+-- The header, the rest of its line, the raw lines and what follows, cut one after the other.
 pub record Cuts (n : ℤ) (t : List ℕ) (p : Piece) (h : Read n t p) : Type 0 where
   pub head : take p.head_end t ≡ style_indicator h.block.style ∷ h.block.indicators
   pub behind_head : drop p.head_end t ≡ h.block.tail ++ (joined h.block.raw ++ h.rest)
@@ -200,7 +200,7 @@ apart_some t a r g u h e f =
     let lead : (g, u) ≡ cut no_white (cut_anchor t).1 = f ∙ ap (λ (y : List ℕ × List ℕ). cut no_white y.1) e in
     ap (λ (y : List ℕ × List ℕ). (y.0, g, u)) e ∙ (ap (λ (y : List ℕ × List ℕ). ((cut_anchor t).0, y.0, y.1)) lead ∙ sym here)
 
--- a block scalar behind white space
+-- a block scalar after white space
 abbrev block_filled : (space anchor apart head tail raw rest : List ℕ) → Filled
 block_filled space anchor apart head tail raw rest = record { space = space; anchor = anchor; apart = apart; head = head; tail = tail; raw = raw; plain = false; alone = false; rest = rest }
 

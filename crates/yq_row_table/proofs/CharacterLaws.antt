@@ -4,7 +4,7 @@ use Rattle.std.{proofs.lemmas.Bool.{false≢true, and_from, and_parts, cases_Boo
 use Rattle.std.{proofs.lemmas.Str.chars-append, specs.List.list_all, specs.Str.{chars, IsUtf8}}
 use Rattle.yq_core.{specs.Characters.{is_text, is_text_char, pairs_returns}, specs.Text.{front, is_feed, is_return}}
 
--- an LF behind each CR, in pieces
+-- an LF after each CR, in pieces
 front_more : (a b : List ℕ) → front is_feed a ≡ true → front is_feed (a ++ b) ≡ true
 front_more [] b h = absurd (false≢true h)
 front_more (x ∷ a) b h = h

@@ -1,4 +1,4 @@
--- Behind a mark no dash and no key begins.
+-- After a mark no dash and no key begins.
 use Rattle.std.proofs.Common.{◌≡◌, ℕ, ℤ, suc, true, false, not, eqb, List, [], ◌∷◌, ◌++◌, drop, Option, Some, None, refl, rules}
 use Rattle.std.{proofs.Math.Bool.and-false, proofs.lemmas.Bool.cond_both}
 use Rattle.yq_core.{specs.Block.{BlockText, block_text}, specs.Piece.deeper, specs.Text.{cut, upto, no_space, is_white}}
@@ -9,7 +9,7 @@ use Rattle.yq_row_table.specs.Rows.{RowMark, Anchor, Content, Nothing, Inline, B
 use Rattle.yq_row_table.{proofs.Fronts.{tail_front, node_starts}, proofs.MarkAgain.Ended, proofs.NodeFronts.{node_begins, block_front}}
 use Rattle.yq_row_table.proofs.NoKeys.{no_key, tail_no_colon, NoEntry, node_no_entry}
 
--- White space, and behind it neither a space nor a dash or key.
+-- White space, and after it neither a space nor a dash or key.
 pub record NoEntryBehind (t : List ℕ) : Type 0 where
   pub white : List ℕ
   pub behind : List ℕ
@@ -50,7 +50,7 @@ content_no_entry n (Block space anchor block) rest h =
     let u = anchor_no_entry anchor block rest in
     record { white = space; behind = anchor_text anchor (block_text block rest); is = refl; blank = h.0; no_space = u.0; none = u.1 }
 
--- what stands alone on a line
+-- what is alone on a line
 pub alone_no_entry : (n : ℤ) (c : Content) (rest : List ℕ) → may_be_alone c ≡ true → IsContent n c rest → NoEntry (content_text c rest) × (begins_node false (content_text c rest) ≡ true)
 alone_no_entry n c rest h1 h2 = search (rules, node_no_entry, tail_no_colon, node_begins)
 

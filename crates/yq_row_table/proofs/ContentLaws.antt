@@ -1,4 +1,4 @@
--- What stands behind a mark, read and spelled.
+-- What comes after a mark, read and spelled.
 use Rattle.std.proofs.Common.{◌≡◌, ℕ, ℤ, true, false, cond, not, List, ◌∷◌, ◌++◌, drop, Option, Some, refl, sym, ap, ◌∙◌, subst, ⊎_elim}
 use Rattle.std.{proofs.Common.{eqb-true, rules}, proofs.lemmas.Bool.{false≢true, or_cases}, proofs.lemmas.Option.same_Some}
 use Rattle.yq_core.{specs.Answers.◌>>=◌, specs.Block.{IsBlock, BlockText, block_text}, specs.BlockReading.block_at, specs.Piece.deeper}

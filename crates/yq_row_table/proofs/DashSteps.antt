@@ -1,4 +1,4 @@
--- A dash behind which a further one stands, or a key, or neither.
+-- A dash after which a further one is, or a key, or neither.
 use Rattle.std.proofs.Common.{◌≡◌, ℕ, ◌-◌, ◌≤◌, Bool, true, false, cond, not, ◌&&◌, ◌||◌, List, ◌++◌, length, take, drop, Option, Some}
 use Rattle.std.{proofs.Common.{None, refl, sym, ap, arith}, proofs.lemmas.Bool.false≢true}
 use Rattle.yq_core.specs.Text.{cut, no_space, is_empty}
@@ -6,7 +6,7 @@ use Rattle.yq_row_table.specs.Slicing.{begun, with_dashes}
 use Rattle.yq_row_table.{specs.Reading.{read_row_key, begins_entry, is_dash, is_some, key_mark, read_marks}, specs.Rows.Key}
 use Rattle.yq_row_table.{proofs.BeginSteps.{dash_further, no_dash, mark_within}, proofs.FrontLaws.front_join}
 
--- the key behind spaces, if there are any
+-- the key after spaces, if there are any
 abbrev pub KeyBehind : List ℕ → List ℕ → Option (List ℕ × List ℕ × List ℕ)
 KeyBehind s next = cond (is_empty s) None (read_row_key next)
 
@@ -25,7 +25,7 @@ none_goes s next h k = go (is_empty s) (is_dash next) (read_row_key next) h k wh
   go false false None h k = refl
   go false false (Some x) h k = cc
 
--- a key behind a dash and spaces
+-- a key after a dash and spaces
 pub record HasKey (s next : List ℕ) (k : List ℕ × List ℕ × List ℕ) : Type 0 where
   pub key : read_row_key next ≡ Some k
   pub none : is_dash next ≡ false

@@ -1,4 +1,4 @@
--- Ends of parts by where they stand in a text.
+-- Ends of parts by where they are in a text.
 use Rattle.std.proofs.Common.{◌≡◌, ℕ, Fits, w32, ◌-◌, ◌<◌, ◌≤◌, ◌^◌, List, [], ◌∷◌, ◌++◌, length, take, drop, refl, sym, ap, ◌∙◌, subst}
 use Rattle.std.{proofs.Common.{arith, length-append, length-drop}, proofs.Math.Seq.drop-append_seam}
 use Rattle.std.{proofs.lemmas.List.{take-append-drop, take_at}, proofs.lemmas.Str.IsUtf8-append, specs.Str.IsUtf8}

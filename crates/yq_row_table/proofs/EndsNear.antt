@@ -12,7 +12,7 @@ use Rattle.yq_row_table.{proofs.KeptLaws.print_then, proofs.NearLaws.{ReadMarked
 use Rattle.yq_row_table.{proofs.PartsLaws.{parts_last, parts_marked, part_takes}, proofs.SliceLaws.print-length}
 use Rattle.yq_row_table.proofs.splices.SpliceTexts.{nil_before}
 
--- the end of a part, behind its rows
+-- the end of a part, after its rows
 ends_part : (n k : ℕ) (rs : List Row) (end marker : List ℕ) (xs : List Item) →
     ends_near n k (rows_items rs (end_item end marker ∷ xs)) ≡ end_at (n + length (rows_text rs [])) (k + length rs) end marker ∷ ends_near (n + length (rows_text rs (end ++ marker))) (k + length rs) xs
 ends_part n k [] end marker xs =

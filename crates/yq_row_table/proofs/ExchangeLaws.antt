@@ -1,4 +1,4 @@
--- What stands behind the mark of a row, exchanged for something else.
+-- What comes after the mark of a row, exchanged for something else.
 use Rattle.std.proofs.Common.{◌≡◌, ℕ, zero, suc, ◌-◌, ◌<◌, ◌≤◌, Bool, true, false, List, [], ◌∷◌, ◌++◌, length, Some, None, refl, arith}
 use Rattle.std.{proofs.Common.append_assoc, proofs.lemmas.Bool.false≢true, specs.List.slice_get}
 use Rattle.yq_core.{specs.Text.separates, specs.Alike.{Alike, byte}, proofs.Alikes.alike_append, proofs.AlikePieces.scalar_alike}
@@ -30,7 +30,7 @@ mark_kept (Key key sign) c new rest other e m s =
       near = m.near;
     }
 
--- a row with another content, behind a dash or a key
+-- a row with another content, after a dash or a key
 pub one_row : (limit : Limit) (r : Row) (new : Content) (rest other : List ℕ) → IsRow limit r rest → is_entry r.mark ≡ true → IsContent (parent_indent r) new other → separates (content_text new other) ≡ true → TakesPlace limit r rest (with_content new r) other
 one_row limit r new rest other h entry c s =
     takes_place limit r rest r.dashes r.mark new other h (dashes_text_alike r.dashes _ _ (mark_seam r.mark r.content rest (content_text new other) entry h.mark s)) h.dashes (mark_kept r.mark r.content new rest other entry h.mark s) c
@@ -40,7 +40,7 @@ pub relimit : (limit other : Limit) (rs : List Row) (end rest : List ℕ) → al
 relimit limit other [] end rest a h = h
 relimit limit other (r ∷ rs) end rest a h = (record { gap = h.0.gap; allowed = a; unmarked = h.0.unmarked; dashes = h.0.dashes; mark = h.0.mark; content = h.0.content }, h.1)
 
--- rows before other rows: what neighbours ask of each other is the limit behind and how the text in front begins
+-- rows before other rows: what neighbours ask of each other is the limit after and how the text in front begins
 pub chain : (front rows new : List Row) (limit : Limit) (end rest other_end other : List ℕ) → AreRows limit (front ++ rows) end rest → AreRows (asked_behind limit front) new other_end other → Alike (Some false) (rows_text rows (end ++ rest)) (rows_text new (other_end ++ other)) → AreRows limit (front ++ new) other_end other × Alike (Some false) (rows_text (front ++ rows) (end ++ rest)) (rows_text (front ++ new) (other_end ++ other))
 chain [] rows new limit end rest other_end other h n a = (n, a)
 chain (r ∷ front) rows new limit end rest other_end other h n a =

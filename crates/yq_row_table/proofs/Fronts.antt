@@ -51,7 +51,7 @@ return_stops bs h = record { no_node = rw h refl; no_block = refl; no_anchor = r
 pub stops_by : (t : List ℕ) → (ends_line t || is_hash t) ≡ true → Stops t
 stops_by t h1 = search (rules, ⊎_elim, eqb-true, and_parts, return_stops, or_cases)
 
--- A tail, by its white space and what stands behind it.
+-- A tail, by its white space and what comes after it.
 pub record TailFront (t : List ℕ) : Type 0 where
   pub white : List ℕ
   pub behind : List ℕ

@@ -105,7 +105,7 @@ gap_len-lines (l ∷ ls) rest h stop =
 pub gap_again : (p rest : List ℕ) → IsGapCut p rest → cut_gap (p ++ rest) ≡ (p, rest)
 gap_again p rest h = search (rules, gap_len-lines, take-append_seam, drop-append_seam)
 
--- where the text is cut behind its gap
+-- where the text is cut after its gap
 boundary_lines : (n : ℕ) (t : List ℕ) → IsUtf8 t → IsCharBoundary t (gap_lines n t)
 unfolding gap_lines
 boundary_lines zero t u = IsCharBoundary-start t u

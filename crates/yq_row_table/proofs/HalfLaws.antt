@@ -24,7 +24,7 @@ kept_end pre gap marker t k g m u =
       subst (λ (n : ℕ). EndStands whole (end_at n k gap marker)) at (end_stands whole gap marker t k ends g m u),
     )
 
--- The end of a part stands in the half in which it begins.
+-- The end of a part is in the half in which it begins.
 pub record InHalf (text : Halves) (e : EndPlace) : Type 0 where
   pub front : e.start < length text.front.now → EndStands text.front.now e
   pub back : length text.front.now ≤ e.start → EndStands text.back.now (record e { start = e.start - length text.front.now })
@@ -68,7 +68,7 @@ end_behind text pre gap marker t k e g m u =
       record { front = λ less. absurd (omega (arith, less)); back = λ more. rw (at, e) one.1 },
     )
 
--- an end in the first half; one that is empty may stand at its end
+-- an end in the first half; one that is empty may be at its end
 none_of : (gap marker t : List ℕ) → length (gap ++ (marker ++ t)) ≡ 0 → (gap ≡ []) × (marker ≡ [])
 none_of [] [] t e = (refl, refl)
 none_of [] (b ∷ marker) t e = absurd (omega (arith, e))

@@ -1,4 +1,4 @@
--- Inline nodes behind a mark, as the code lends them.
+-- Inline nodes after a mark, as the code lends them.
 use Rattle.std.proofs.Common.{◌≡◌, inl, inr, ℕ, ◌+◌, ◌-◌, ◌<◌, ◌≤◌, Bool, true, false, cond, not, ◌&&◌, ◌||◌, eqb, List, [], ◌∷◌, ◌++◌}
 use Rattle.std.proofs.Common.{length, take, drop, Option, Some, None, refl, sym, ap, ◌∙◌, subst, arith, ℤ}
 use Rattle.std.{proofs.lemmas.Bool.{false≢true, cond_both}, proofs.Math.Seq.{take-append_seam, drop-append_seam}}
@@ -39,7 +39,7 @@ anchor_boundary t u n one short e =
     let same : 1 + n ≡ n + 1 = omega arith in
     subst (IsCharBoundary t) same (IsCharBoundary-from_rest t 1 n (omega arith) at_name)
 
--- nothing, perhaps behind an anchor
+-- nothing, perhaps after an anchor
 abbrev pub is_nothing : FlowNode → Bool
 is_nothing empty = true
 is_nothing (alias n) = false
@@ -122,7 +122,7 @@ content_some spaces d (scalar p) rest h begins = refl
 content_some spaces d (coll k g is) rest h begins = refl
 content_some spaces d (anchored n g node) rest h begins = refl
 
--- what is behind an anchor
+-- what is after an anchor
 lead_front : (spaces : Option ℕ) (d : ℕ) (g : List ℕ) (node : FlowNode) (rest : List ℕ) → IsFlowNode false spaces d node rest → IsLead false (begins_content false) g (node_text node rest) → (is_empty_node node || not (is_empty g)) ≡ true → cut_lead (is_empty_node node) (g ++ node_text node rest) ≡ (g, node_text node rest)
 lead_front spaces d g node rest h (inl l) some =
     let there : is_empty_node node ≡ false = content_some spaces d node rest h l.1 in
@@ -186,14 +186,14 @@ node_read spaces total t rest s h =
 pub lead_here : (t a r g u : List ℕ) (b : Bool) (s : Placed) → (a, r) ≡ cut_anchor t → b ≡ nothing_placed s → (g, u) ≡ cut_lead b r → (g, u) ≡ cut_lead (nothing_placed s) (cut_anchor t).1
 lead_here t a r g u b s anchor same lead = lead ∙ (ap (λ c. cut_lead c r) same ∙ ap (λ (y : List ℕ × List ℕ). cut_lead (nothing_placed s) y.1) anchor)
 
--- the head is what stands before what follows the node
+-- the head is what comes before what follows the node
 pub head_within : (spaces : Option ℕ) (t rest u : List ℕ) (s : Placed) → Read spaces t rest s → u ≡ (cut_lead (nothing_placed s) (cut_anchor t).1).1 → length rest ≤ length u
 head_within spaces t rest u s r e = front_le u (anchor_cut r.node).2 rest (e ∙ r.head)
 
 pub head_boundary : (spaces : Option ℕ) (t rest u : List ℕ) (s : Placed) → Read spaces t rest s → u ≡ (cut_lead (nothing_placed s) (cut_anchor t).1).1 → IsUtf8 rest → IsCharBoundary u (length u - length rest)
 head_boundary spaces t rest u s r e utf8 = front_boundary u (anchor_cut r.node).2 rest (e ∙ r.head) utf8
 
--- a node behind white space, and its tail
+-- a node after white space, and its tail
 pub inline_some : (n : ℤ) (space t a r g u behind tail rest : List ℕ) (s : Placed) (some plain : Bool) → Read (Some (deeper n)) t behind s → (a, r) ≡ cut_anchor t → (g, u) ≡ cut_lead (nothing_placed s) (cut_anchor t).1 → read_tail behind ≡ Some (tail, rest) →
     plain ≡ plain_placed s → some ≡ (is_empty space && not (nothing_placed s)) →
     inline_sliced n space t ≡ Some (record { space = space; anchor = a; apart = g; head = take (length u - length behind) u; tail = tail; raw = []; plain = plain; alone = some; rest = rest })
@@ -218,7 +218,7 @@ pub inline_no_node : (n : ℤ) (space t : List ℕ) (total : ℕ) → placed_nod
 unfolding inline_content_at
 inline_no_node n space t total h = rw (no_node total (all_node false (Some (deeper n)) depth_limit t) h) refl
 
--- the white space behind an anchor, as the code cuts it
+-- the white space after an anchor, as the code cuts it
 pub lead_none : (b : Bool) (t : List ℕ) → b ≡ true → ([], t) ≡ cut_lead b t
 lead_none b t h = rw h refl
 

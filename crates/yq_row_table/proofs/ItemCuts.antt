@@ -29,13 +29,13 @@ row_before r (marked p marker c) = marked (with_row r p) marker c
 abbrev pub end_before : (gap marker : List ℕ) → Cut → Cut
 end_before gap marker c = if is_empty marker then last (record { rows = []; end = gap }) else marked (record { rows = []; end = gap }) marker c
 
--- the cut of items; behind those that don't end in the end of a text stands an empty end
+-- the cut of items; after those that don't end in the end of a text is an empty end
 abbrev pub cut_of : List Item → Cut
 cut_of [] = last (record { rows = []; end = [] })
 cut_of (row_item r ∷ xs) = row_before r (cut_of xs)
 cut_of (end_item gap marker ∷ xs) = end_before gap marker (cut_of xs)
 
--- A cut whose first row may stand where this limit is asked, and whose first part may have rows if that is so.
+-- A cut whose first row may be where this limit is asked, and whose first part may have rows if that is so.
 abbrev AreBehind : Limit → Bool → Cut → Type 0
 AreBehind limit started (last p) = AreRows limit p.rows p.end [] × ((started || no_rows p.rows) ≡ true)
 AreBehind limit started (marked p marker c) = AreRows limit p.rows p.end (marker ++ cut_text c) × ((started || no_rows p.rows) ≡ true) × IsMarkerLine marker (cut_text c) × AreParts (begins_document marker) c

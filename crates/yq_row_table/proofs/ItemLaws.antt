@@ -46,7 +46,7 @@ items_bounds (marked p marker c) n =
 pub items_view_is : (c : Cut) → view_of_items (items_of_cut c) ≡ rows_view c
 items_view_is c = ap (λ (l : List Slices). record { rows = l; bounds = bounds_in_items 0 (items_of_cut c) }) (items_rows c) ∙ ap (λ (l : List Bound). record { rows = map slices (rows_of c); bounds = l }) (items_bounds c 0)
 
--- items one behind the other
+-- items one after the other
 pub items_joined : (xs ys : List Item) (asked : Asked) (rest : List ℕ) → AreRowItems asked (xs ++ ys) rest → AreRowItems (asked_of asked xs) ys rest
 items_joined [] ys asked rest h = h
 items_joined (x ∷ xs) ys asked rest h = items_joined xs ys (asked_by asked x) rest h.1

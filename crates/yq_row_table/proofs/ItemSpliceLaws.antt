@@ -4,7 +4,7 @@ use Rattle.yq_row_table.specs.Items.{Item, row_item, end_item, rows_items, items
 use Rattle.yq_row_table.{specs.ItemSplices.{items_before, first_item, regapped, SplicedItems}, specs.Rows.{Row, Cut, last, marked}}
 use Rattle.yq_row_table.specs.Splices.{with_first_gap, end_gap}
 
--- the items behind the first one of rows and of the end behind them
+-- the items after the first one of rows and of the end after them
 abbrev later_items : List Row → (gap marker : List ℕ) → List Item → List Item
 later_items [] gap marker xs = xs
 later_items (r ∷ rs) gap marker xs = rows_items rs (end_item gap marker ∷ xs)

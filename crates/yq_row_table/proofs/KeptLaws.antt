@@ -52,7 +52,7 @@ kept_row pre r t h u =
       subst (λ (n : ℕ). IsCutIn whole (offsets_of n (slices r))) at stands,
     )
 
--- Rows by their distance from the beginning: whatever stands behind them.
+-- Rows by their distance from the beginning: whatever comes after them.
 abbrev pub KeptRows : List ℕ → List declared.Offsets → List Slices → Type 0
 KeptRows whole os ss = (rows_in whole os ≡ ss) × Stand whole os
 
@@ -72,7 +72,7 @@ near_kept (end_item gap marker ∷ xs) pre rest h u =
     let more = near_kept xs (pre ++ (gap ++ marker)) rest h.2 u in
     subst (λ (n : ℕ). KeptRows (pre ++ (gap ++ (marker ++ t))) (near n xs) (rows_in_items xs)) long (subst (λ (w : List ℕ). KeptRows w (near (length (pre ++ (gap ++ marker))) xs) (rows_in_items xs)) (sym (end_apart pre gap marker t)) more)
 
--- Rows by their distance from the end: whatever stands in front of them.
+-- Rows by their distance from the end: whatever is in front of them.
 pub far_near : (xs : List Item) (pre whole : List ℕ) → whole ≡ pre ++ items_text xs [] → map (row_from_end (length whole)) (far xs) ≡ near (length pre) xs
 far_near [] pre whole e = refl
 far_near (row_item r ∷ xs) pre whole e =
@@ -86,7 +86,7 @@ far_near (end_item gap marker ∷ xs) pre whole e =
     let long : length (pre ++ (gap ++ marker)) ≡ length pre + length (gap ++ marker) = length-append pre (gap ++ marker) in
     far_near xs (pre ++ (gap ++ marker)) whole (e ∙ end_apart pre gap marker t) ∙ ap (λ (k : ℕ). near k xs) long
 
--- Items behind others.
+-- Items after others.
 pub near_joined : (n : ℕ) (xs ys : List Item) → near n (xs ++ ys) ≡ near n xs ++ near (n + length (items_text xs [])) ys
 near_joined n [] ys = ap (λ (k : ℕ). near k ys) (omega arith)
 near_joined n (row_item r ∷ xs) ys =

@@ -76,7 +76,7 @@ start_front text p i o h within kept less = let s = some_row (halves_view text p
 pub start_back : (text : Halves) (p : Places) (i : ℕ) (o : declared.Offsets) → HavePlaces text p → i < length (halves_view text p).rows → slice_get (kept_rows p) i ≡ Some o → length p.front.items ≤ i → length (whole text) - o.start ≡ row_start i (halves_view text p)
 start_back text p i o h within kept more = let s = some_row (halves_view text p).rows i within in ap (λ (q : declared.Offsets). q.start) (place_back text p i o s.0 h s.1 kept more)
 
--- what stands in each half
+-- what is in each half
 pub front_found : (text : Halves) (p : Places) (i : ℕ) (o : declared.Offsets) → HavePlaces text p → slice_get (kept_rows p) i ≡ Some o → i < length p.front.items → IsCutIn text.front.now o
 front_found text p i o h kept less = stands_at text.front.now p.front.items i o (front_rows text p h).1 (sides_in p.front.items (reverse p.behind.items) i o kept less)
 

@@ -20,7 +20,7 @@ rows_kept text p v is =
 pub kept_within : (text : Halves) (p : Places) (i : ℕ) (v : RowsView) → halves_view text p ≡ v → i < length v.rows → i < length (kept_rows p)
 kept_within text p i v is less = subst (λ (n : ℕ). i < n) (sym (rows_kept text p v is)) less
 
--- an element of one list before another, or behind it
+-- an element of one list before another, or after it
 first_at : {A : Type 0} (xs ys : List A) (i : ℕ) (a : A) → i < length xs → a ≡ get_or xs i a → slice_get (xs ++ ys) i ≡ Some a
 first_at [] ys i a less is = absurd (omega (arith, less))
 first_at (x ∷ xs) ys zero a less is = ap Some (sym is)
@@ -39,7 +39,7 @@ pub front_placed : (p : Places) (len i : ℕ) (a : declared.Offsets) → i < vec
     → slice_get (placed_rows len p) i ≡ Some a
 front_placed p len i a less is = first_at p.front.items (map (row_from_end len) (reverse p.behind.items)) i a (omega (arith, less, p.front.ok.0)) is
 
--- An index behind the split among so many rows, of which so many stand in front of it: it is one of those behind, counted from the last one.
+-- An index after the split among so many rows, of which so many are in front of it: it is one of those after, counted from the last one.
 pub record IsBehind (p : Places) (i n m : ℕ) : Type 0 where
   pub some : 1 ≤ n
   pub place : i - m ≤ n - 1

@@ -1,4 +1,4 @@
--- A key has one line, so that its `:` stands in front of the end of the line.
+-- A key has one line, so that its `:` is in front of the end of the line.
 use Rattle.std.proofs.Common.{◌≡◌, inl, inr, ℕ, suc, ◌+◌, Bool, true, false, not, ◌&&◌, eqb, eqb-true, List, [], ◌∷◌, ◌++◌, Option, Some}
 use Rattle.std.proofs.Common.{None, refl, sym, ap, ◌∙◌, subst, arith, append_assoc, drop}
 use Rattle.std.{proofs.lemmas.Bool.{cases_Bool, false≢true, not-true, or_parts}, specs.List.prefix_len, specs.Option.option_or}
@@ -44,7 +44,7 @@ white_line : (w : List ℕ) → IsWhite w → holds_break w ≡ false
 white_line [] h = refl
 white_line (b ∷ w) h = rw (at_byte is_white b 10 h.0 refl, white_line w h.1) refl
 
--- what stands on the line in front of a `:`
+-- what is on the line in front of a `:`
 abbrev in_front : ℕ → Bool
 in_front b = not (eqb b 58) && not (eqb b 10)
 

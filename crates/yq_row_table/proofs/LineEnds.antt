@@ -100,7 +100,7 @@ pub white_none : (w c break : List ℕ) → IsWhite w → NoneIn ends_line c bre
 white_none [] c break h n = n
 white_none (b ∷ w) c break h n = (rw (at_byte is_white b 10 h.0 refl, at_byte is_white b 13 h.0 refl) refl, white_none w c break h.1 n)
 
--- the end of a line, behind white space
+-- the end of a line, after white space
 abbrev pub EndsLine : List ℕ → List ℕ → List ℕ × List ℕ → Type 0
 EndsLine w u x = (c : List ℕ) × IsLineEnd w c x.0 x.1 × (is_empty c ≡ ends_line u)
 
@@ -145,7 +145,7 @@ comment_none (b ∷ c) break h = (rw h.0 refl, h.1)
 pub line_end_line : (w c p rest : List ℕ) → IsLineEnd w c p rest → IsLine p rest
 line_end_line w c p rest h = record { text = w ++ c; break = h.break; spelled = h.spelled ∙ sym (append_assoc w c h.break); inside = white_none w c h.break h.blank (comment_none c h.break h.as_comment); ends = h.ends }
 
--- what stands behind the white space of such an end
+-- what comes after the white space of such an end
 pub line_end_behind : (w c p rest : List ℕ) → IsLineEnd w c p rest → (u : List ℕ) × (p ++ rest ≡ w ++ u) × (no_white u ≡ true) × ((ends_line u || is_hash u) ≡ true) × (ends_line u ≡ is_empty c)
 line_end_behind w c p rest h =
     let regroup : p ++ rest ≡ w ++ (c ++ (h.break ++ rest)) = rw h.spelled (simp append_assoc) in

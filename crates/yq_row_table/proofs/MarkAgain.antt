@@ -1,4 +1,4 @@
--- Dashes and the mark behind them are read again.
+-- Dashes and the mark after them are read again.
 use Rattle.std.proofs.Common.{◌≡◌, ℕ, zero, suc, ◌≤◌, ◌<◌, true, false, not, ◌&&◌, List, [], ◌∷◌, ◌++◌, length, None, refl, ap, arith}
 use Rattle.std.proofs.Common.{eqb-true, replicate, length-append, rules}
 use Rattle.std.{proofs.lemmas.Bool.{false≢true, not-true, or_right, and_parts, cases_Bool}, proofs.lemmas.List.length-replicate}
@@ -16,7 +16,7 @@ scalar_no_dash t h1 = search (rules, cases_Bool, eqb-true, not-true, and_parts)
 pub scalar_node : (t : List ℕ) → begins_scalar false t ≡ true → begins_node false t ≡ true
 scalar_node t h = or_right (begins_with 38 t) (begins_content false t) (or_right (begins_with 42 t) _ (or_right (begins_with 91 t) _ (or_right (begins_with 123 t) (begins_scalar false t) h)))
 
--- What stands behind a mark so that nothing but that mark is read.
+-- What comes after a mark so that nothing but that mark is read.
 abbrev pub Ended : RowMark → List ℕ → Type 0
 Ended Bare rest = (is_dash rest ≡ false) × (read_row_key rest ≡ None)
 Ended Dash rest = (separates rest ≡ true) × ((not (is_empty (cut no_space rest).0) && begins_entry (cut no_space rest).1) ≡ false)

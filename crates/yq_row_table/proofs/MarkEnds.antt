@@ -1,10 +1,10 @@
--- The text before the content of a row ends as what stands in front of it in its row.
+-- The text before the content of a row ends as what is in front of it in its row.
 use Rattle.std.{proofs.Common.{◌≡◌, inl, inr, ℕ, zero, suc, ◌-◌, List, [], ◌∷◌, ◌++◌, length, Some, sym, subst}, proofs.Math.Dec.ltb}
 use Rattle.std.{proofs.lemmas.Bool.{ltb-true, ltb-false, cases_Bool}, specs.List.slice_get}
 use Rattle.yq_row_table.{specs.Exchange.{row_front, before_at, before_content}, specs.Rows.{Row, part_text, Cut, last, marked}}
 use Rattle.yq_row_table.{specs.View.rows_of, proofs.ExchangeLaws.{slice_front, slice_back}, proofs.PlaceLaws.{row_then, part_then}}
 
--- how a text ends, which is the same behind another one
+-- how a text ends, which is the same after another one
 module _ (P : List ℕ → Type 0) (after : (xs p : List ℕ) → P p → P (xs ++ p)) where
   at_ends : (rows : List Row) (i : ℕ) (r : Row) → slice_get rows i ≡ Some r → P (row_front r) → P (before_at i rows)
   at_ends [] i r is e = cc

@@ -1,4 +1,4 @@
--- Dashes and the mark behind them, read and spelled.
+-- Dashes and the mark after them, read and spelled.
 use Rattle.std.proofs.Common.{◌≡◌, ℕ, zero, suc, ◌≤◌, true, false, cond, not, ◌&&◌, eqb, List, [], ◌∷◌, ◌++◌, length, take, drop, Option}
 use Rattle.std.proofs.Common.{Some, None, refl, ap, ◌∙◌, arith, eqb-true, replicate, length-drop, rules}
 use Rattle.std.proofs.lemmas.Bool.{false≢true, cond_both, not-false, and_parts}
@@ -58,7 +58,7 @@ unfolding dashes_at
 marks_none [] h = refl
 marks_none (x ∷ t) h = rw h refl
 
--- what stands behind a mark that was read
+-- what comes after a mark that was read
 abbrev pub IsMarked : RowMark → List ℕ → Type 0
 IsMarked Bare rest = Unit {0}
 IsMarked Dash rest = separates rest ≡ true

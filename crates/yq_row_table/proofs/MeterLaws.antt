@@ -1,4 +1,4 @@
--- Lines one behind the other, and their count.
+-- Lines one after the other, and their count.
 use Rattle.std.proofs.Common.{◌≡◌, ℕ, zero, suc, ◌+◌, ◌-◌, ◌<◌, ◌≤◌, true, List, [], ◌∷◌, length, drop, get_or, sym, ap, ◌∙◌, subst, ⊎_elim}
 use Rattle.std.{proofs.Common.{arith, eqb-true, length-take, length-drop}, proofs.lemmas.Bool.{false≢true, cases_Bool}}
 use Rattle.std.{proofs.Math.ListN.drop_of_length-le, proofs.lemmas.List.drop-drop}
@@ -20,7 +20,7 @@ line_boundary t (suc n) u h =
     let same : n + 1 ≡ suc n = omega arith in
     subst (IsCharBoundary t) same (IsCharBoundary-after_ascii t n u feed.0 (omega (arith, feed.1)))
 
--- behind a line the next one begins
+-- after a line the next one begins
 line_ends : (t : List ℕ) (n : ℕ) → suc n ≡ line_len t → suc n < length t → front is_feed (drop n t) ≡ true
 unfolding line_len
 line_ends [] n e less = absurd (omega arith)

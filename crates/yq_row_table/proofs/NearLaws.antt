@@ -36,7 +36,7 @@ rows_placed_end os n limit t g r all e none so_far = sym so_far ∙ (ap (rows_pl
 pub rows_placed_none : (os : List declared.Offsets) (n : ℕ) (limit : Limit) (t g r : List ℕ) (all : Option (List declared.Offsets)) → (g, r) ≡ cut_gap t → ends_part r ≡ false → row_sliced limit g r ≡ None → rows_placed os n (all_rows limit t) ≡ all → all ≡ None
 rows_placed_none os n limit t g r all e more none so_far = sym so_far ∙ ap (rows_placed os n) (gap_read limit t g r e ∙ rows_refused limit g r more (not_read (row_at limit g r) none))
 
--- how far from the beginning the next one stands
+-- how far from the beginning the next one is
 pub next_place : (whole t p rest : List ℕ) → Ends t whole → t ≡ p ++ rest → length whole - length rest ≡ (length whole - length t) + length p
 next_place whole t p rest h e =
     let within = front_le whole _ t (front_join whole t h) in
@@ -85,7 +85,7 @@ part_apart p marker rest =
     let long : (x : List ℕ) → rows_text p.rows x ≡ own ++ x = λ x. sym (rows_items_text p.rows [] x) ∙ items_apart (rows_items p.rows []) x in
     long (p.end ++ (marker ++ rest)) ∙ (ap (λ l. own ++ l) (sym (append_assoc p.end marker rest)) ∙ (sym (append_assoc own (p.end ++ marker) rest) ∙ ap (λ l. l ++ rest) (sym (long (p.end ++ marker)))))
 
--- A part that was read, and the marker behind it.
+-- A part that was read, and the marker after it.
 pub record ReadMarked (started : Bool) (t after marker next : List ℕ) : Type 0 where
   pub part : Part
   pub read : read_cut_part started t ≡ Some (part, after)
@@ -106,7 +106,7 @@ parts_placed_step os items whole started t after marker next all ends m placed s
     ∙ (sym (marked_placed os n p marker (all_parts (begins_document marker) next))
     ∙ (sym (ap (parts_placed os n) (parts_marked started t (p, after) (marker, next) m.read m.some m.line)) ∙ so_far)))
 
--- Rows and ends of parts that were read are kept where those of the items of the text stand.
+-- Rows and ends of parts that were read are kept where those of the items of the text are.
 pub record AreRead (t : List ℕ) (os : List declared.Offsets) (es : List EndPlace) (s : RowsView) : Type 0 where
   pub items : List Item
   pub text_is : t ≡ items_text items []

@@ -1,4 +1,4 @@
--- Before a tail, what stands behind a mark is no key and no dash.
+-- Before a tail, what comes after a mark is no key and no dash.
 use Rattle.std.proofs.Common.{◌≡◌, inl, inr, ℕ, suc, true, false, not, eqb, List, [], ◌∷◌, ◌++◌, ◌∙◌, ◌||◌, Bool, drop, if◌then◌else◌, take}
 use Rattle.std.proofs.Common.{Option, Some, None, refl, sym, ap, rules}
 use Rattle.std.{proofs.lemmas.Bool.{false≢true, cond_both, not-true, not-false, and_parts, cases_Bool, or_parts}, specs.Option.option_or}
@@ -20,7 +20,7 @@ pub no_key : (t : List ℕ) → begins_scalar false t ≡ false → read_row_key
 unfolding read_row_key
 no_key t h = rw (no_scalar None t h) refl
 
--- no `:` stands in front of a tail
+-- no `:` is in front of a tail
 pub tail_no_colon : (tail rest : List ℕ) → IsTail tail rest → read_colon (tail ++ rest) ≡ None
 unfolding read_colon
 tail_no_colon tail rest h =

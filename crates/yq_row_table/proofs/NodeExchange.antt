@@ -1,4 +1,4 @@
--- An inline node behind a dash or a key, exchanged for another one.
+-- An inline node after a dash or a key, exchanged for another one.
 use Rattle.std.proofs.Common.{◌≡◌, ℕ, ℤ, true, false, List, [], ◌∷◌, ◌++◌, Some, refl, sym, ap, ◌∙◌, subst, append_assoc, rules}
 use Rattle.std.{proofs.lemmas.Bool.{false≢true, or_parts}, specs.List.slice_get, specs.Str.IsUtf8}
 use Rattle.yq_core.{specs.Characters.is_text, specs.Piece.deeper, specs.Text.{front, is_feed, separates}}
@@ -10,7 +10,7 @@ use Rattle.yq_row_table.{proofs.CharacterLaws.text_exchanged, proofs.Fronts.{Sta
 use Rattle.yq_row_table.proofs.PlaceLaws.{place, new_place, RowIn, row_in}
 use Rattle.yq_core.specs.declared.style.Place.TheVariants as places
 
--- white space stands before the node
+-- white space comes before the node
 pub inline_starts : (n : ℤ) (node : FlowNode) (rest : List ℕ) → IsInline places.Block n 0 node rest → Starts (node_text node rest)
 inline_starts n node rest h = node_starts (node_text node rest) (node_begins (Some (deeper n)) depth_limit node rest h.valid h.something)
 
@@ -21,7 +21,7 @@ pub space_apart : (space old new : List ℕ) → IsWhite space → separates (sp
 space_apart [] old new blank h none = absurd (false≢true (sym none ∙ h))
 space_apart (b ∷ space) old new blank h none = rw blank.0 refl
 
--- What stands in a row: white space, a node and a tail, behind a dash or a key.
+-- What is in a row: white space, a node and a tail, after a dash or a key.
 pub record HoldsNode (r : Row) (space : List ℕ) (node : FlowNode) (end rest : List ℕ) : Type 0 where
   pub blank : IsWhite space
   pub inline : IsInline places.Block (parent_indent r) 0 node (end ++ rest)
@@ -47,7 +47,7 @@ node_fits t c i r space node new tail h is content entry inline next =
       next = next;
     }
 
--- where the node stands
+-- where the node is
 regroup : (before space : List ℕ) (node : FlowNode) (rest : List ℕ) → before ++ (space ++ node_text node rest) ≡ (before ++ space) ++ (node_text node [] ++ rest)
 regroup before space node rest = ap (λ l. before ++ (space ++ l)) (node_then node rest) ∙ sym (append_assoc before space (node_text node [] ++ rest))
 

@@ -1,4 +1,4 @@
--- Whole characters stand before, in and behind a node.
+-- Whole characters come before, in and after a node.
 use Rattle.std.proofs.Common.{◌≡◌, ◌⊎◌, inl, inr, ℕ, zero, suc, ◌+◌, ◌-◌, ◌<◌, ◌≤◌, replicate, true, false, ◌||◌, List, [], ◌∷◌, ◌++◌}
 use Rattle.std.proofs.Common.{length, take, drop, get_or, Some, refl, sym, ap, ◌∙◌, subst, arith, ⊎_elim, eqb-true, append_assoc}
 use Rattle.std.{proofs.Common.{append-nil, length-append, rules}, proofs.Math.Seq.{take-append_seam, drop-append_seam, get_or-append_seam}}
@@ -97,7 +97,7 @@ space_behind : (before space : List ℕ) → IsWhite space → EndsAscii before 
 space_behind before [] blank e = subst EndsAscii (sym (append-nil before)) e
 space_behind before (b ∷ space) blank e = ends_behind before (b ∷ space) (white_ends b space blank)
 
--- In front of a node is white space, behind a dash, a key or an indentation.
+-- In front of a node is white space, after a dash, a key or an indentation.
 node_ends : (t : List ℕ) (c : Cut) (i : ℕ) (r : Row) (space : List ℕ) (node : FlowNode) (tail : List ℕ) → IsCut t c → slice_get (rows_of c) i ≡ Some r → r.content ≡ Inline space node tail → (is_entry r.mark ≡ true) ⊎ (1 ≤ r.column) → EndsAscii (before_content i c ++ space)
 node_ends t c i r space node tail h is content place =
     let row = row_in c i true r h.parts is in

@@ -27,7 +27,7 @@ lines_other (l ∷ ls) t u some h = (
 pub gap_other : (p t u : List ℕ) → is_empty t ≡ false → IsGap p t → IsGap p u
 gap_other p t u some h = record { lines = h.lines; spelled = h.spelled; each = lines_other h.lines t u some h.each }
 
--- a tail isn't empty where something is behind it
+-- a tail isn't empty where something is after it
 no_break : (p t : List ℕ) → length p ≡ 0 → is_empty t ≡ false → IsBreak p t → ⊥
 no_break p t h1 h2 h3 = search (rules, false≢true)
 

@@ -1,4 +1,4 @@
--- Rows by where they stand in a text.
+-- Rows by where they are in a text.
 use Rattle.std.proofs.Common.{◌≡◌, ◌<◌, ◌≤◌, ℕ, zero, suc, ◌-◌, if◌then◌else◌, List, [], ◌∷◌, ◌++◌, length, map, take, drop, replicate}
 use Rattle.std.{proofs.Common.{refl, sym, ap, ◌∙◌, subst, arith, append_assoc, length-append}, proofs.Math.Seq.drop-append_seam}
 use Rattle.std.proofs.lemmas.List.{length-map, length-replicate, map-append, take-append-drop, take_at}
@@ -9,7 +9,7 @@ use Rattle.yq_row_table.specs.Offsets.{Ends, pieces_of, slices_in, rows_in, AreC
 use Rattle.yq_row_table.{specs.View.{Slices, slices_text}, proofs.FrontLaws.{front_drop, front_next, front_boundary}}
 use Rattle.yq_row_table.specs.declared.offsets.Offsets as declared
 
--- what stands behind a piece of the end of a text is one
+-- what comes after a piece of the end of a text is one
 pub ends_next : (whole t p rest : List ℕ) → Ends t whole → t ≡ p ++ rest → Ends rest whole
 ends_next whole t p rest h e = front_drop whole _ rest (front_next whole t p rest h e)
 
@@ -52,7 +52,7 @@ spaces_text n = IsUtf8-from_ascii (replicate n 32) (spaces_ascii n)
 pub texts : (s : Slices) → AreTexts s → AreAll (pieces s)
 texts s h = (h.gap, (spaces_text s.column, (h.dashes, (h.key, (h.colon, (h.space, (h.anchor, (h.apart, (h.head, (h.tail, (h.raw, tt)))))))))))
 
--- where a row stands that was read in front of the end of a text
+-- where a row is that was read in front of the end of a text
 pub row_stands : (whole t rest : List ℕ) (s : Slices) → Ends t whole → IsUtf8 t → t ≡ slices_text s rest → AreTexts s → IsCutIn whole (offsets_of (length whole - length t) s)
 row_stands whole t rest s h text e each =
     let start = length whole - length t in

@@ -1,4 +1,4 @@
--- The parent indentation of what stands behind a row's mark, told by the row's pieces.
+-- The parent indentation of what comes after a row's mark, given by the row's pieces.
 use Rattle.std.proofs.Common.{◌≡◌, ℕ, zero, suc, ◌+◌, ◌<◌, List, [], ◌∷◌, length, pos, Some, refl, sym, ap, ◌∙◌, subst, arith, replicate}
 use Rattle.std.{proofs.Common.length-append, proofs.lemmas.Bool.false≢true, proofs.lemmas.List.length-replicate}
 use Rattle.std.proofs.lemmas.Option.{same_Some}

@@ -32,7 +32,7 @@ marker_some t behind tail rest line three h e =
     let whole = e ∙ front_take t (take 3 t ++ tail) rest (marker_is t behind tail rest three h) in
     ap (λ o. o >>= λ x. Some (take 3 t ++ x.0, x.1)) (ap read_tail (sym three) ∙ h) ∙ ap (λ (l : List ℕ). Some (l, rest)) (sym whole)
 
--- A part that was read, behind other rows.
+-- A part that was read, after other rows.
 pub record OnePart (rows : List Slices) (started : Bool) (t : List ℕ) (found : List Slices) (end after : List ℕ) : Type 0 where
   pub part : Part
   pub read : read_cut_part started t ≡ Some (part, after)
@@ -82,7 +82,7 @@ parts_done rows bounds started t found end after k h none e =
     ap (parts_sliced rows bounds) (parts_last started t (p.part, after) p.read none)
     ∙ ap Some (last_view rows bounds p.part found end k (e ∙ p.count) p.rows_is p.end_is)
 
--- a part with a marker behind it
+-- a part with a marker after it
 more_view : (rows : List Slices) (bounds : List Bound) (p : Part) (found : List Slices) (end marker : List ℕ) (k : ℕ) (o : Option Cut) → k ≡ length rows + length p.rows → found ≡ rows ++ map slices p.rows → end ≡ p.end → k ≡ length found →
     parts_sliced rows bounds (o >>= λ c. Some (marked p marker c)) ≡ parts_sliced found (bounds ++ record { rows = k; end = end; marker = marker } ∷ []) o
 more_view rows bounds p found end marker k None count rows_is end_is e = refl

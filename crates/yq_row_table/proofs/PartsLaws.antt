@@ -86,7 +86,7 @@ cond_alike : {A : Type 0} (b : Bool) (x y z : A) → (b ≡ false → y ≡ z) �
 cond_alike true x y z h = refl
 cond_alike false x y z h = h refl
 
--- a part and those behind its marker, read in two ways that agree there
+-- a part and those after its marker, read in two ways that agree there
 marked_same : (f g : List ℕ × List ℕ → Option Cut) (part : Part × List ℕ) → ends_part part.1 ≡ true
     → ((marker : List ℕ × List ℕ) → length marker.1 < length part.1 → f marker ≡ g marker)
     → cond (is_empty part.1) (Some (last part.0)) (marker_at part.1 >>= λ marker. then_cut part.0 marker.0 (f marker))
@@ -108,7 +108,7 @@ parts_fuel (suc n) (suc m) started t a b =
     let less = part_le started t part e in
     marked_fuel n m part (part_takes started t part e).ends (λ marker short. parts_fuel n m (begins_document marker.0) marker.1 (omega arith) (omega arith)))
 
--- a part and those behind it
+-- a part and those after it
 abbrev pub parts_behind : Part × List ℕ → Option Cut
 parts_behind part = cond (is_empty part.1) (Some (last part.0)) (marker_at part.1 >>= λ marker. then_cut part.0 marker.0 (all_parts (begins_document marker.0) marker.1))
 

@@ -1,6 +1,7 @@
--- The pieces of a row, each behind the lengths of those before it.
-use Rattle.std.proofs.Common.{◌≡◌, ◌<◌, ◌≤◌, ℕ, zero, suc, ◌+◌, List, [], ◌∷◌, length, get_or, take, drop, refl, sym, ap, ◌∙◌, subst, arith}
-use Rattle.std.{proofs.lemmas.List.drop-drop, proofs.lemmas.Str.IsCharBoundary-from_rest, specs.Str.IsCharBoundary}
+-- The pieces of a row, each after the lengths of those before it.
+use Rattle.std.proofs.Common.{◌≡◌, ◌<◌, ◌≤◌, ℕ, zero, suc, ◌+◌, List, [], ◌∷◌, ◌++◌, length, get_or, take, drop, refl, sym, ap, ◌∙◌, subst}
+use Rattle.std.{proofs.Common.{arith, append_assoc, take-add}, proofs.lemmas.List.drop-drop, proofs.lemmas.Str.IsCharBoundary-from_rest}
+use Rattle.std.specs.Str.{IsCharBoundary}
 use Rattle.yq_row_table.{specs.Offsets.{AreCuts, lengths, parent_by, pieces_of}, specs.View.Slices}
 use Rattle.yq_row_table.specs.declared.offsets.Offsets as declared
 
@@ -10,7 +11,7 @@ sum_of k zero ls = k
 sum_of k (suc i) [] = k
 sum_of k (suc i) (n ∷ ls) = sum_of (k + n) i ls
 
--- a text behind pieces of the first of these lengths
+-- a text after pieces of the first of these lengths
 abbrev pub behind : ℕ → List ℕ → List ℕ → List ℕ
 behind zero ls t = t
 behind (suc i) [] t = t
@@ -28,7 +29,7 @@ sum_boundary k (suc i) (n ∷ ls) t less at h =
     let long : k ≤ length t = omega (arith, at.0) in
     sum_boundary (k + n) i ls t (omega (arith, less)) (IsCharBoundary-from_rest t k n long h.0) (subst (λ (u : List ℕ). AreCuts u ls) (drop-drop n k t) h.1)
 
--- A piece behind the gap and others, where the code finds it: it is cut between characters, and is what stands behind those.
+-- A piece after the gap and others, where the code finds it: it is cut between characters, and is what comes after those.
 pub record IsPiece (o : declared.Offsets) (i : ℕ) (t : List ℕ) (at : ℕ) : Type 0 where
   pub before : IsCharBoundary t at
   pub len : IsCharBoundary (drop at t) (get_or (drop 1 (lengths o)) i 0)
@@ -44,24 +45,58 @@ piece_at o i t at less h is =
       is = ap (λ (m : ℕ). take n (drop m t)) is ∙ ap (take n) (sym (behind_sum o.gap i (drop 1 (lengths o)) t));
     }
 
--- texts, each of which stands behind a piece of the one before
+-- the text after three pieces is these
+three_pieces : (h a w : ℕ) (u : List ℕ) → take (h + a + w) u ≡ take h u ++ (take a (drop h u) ++ take w (drop a (drop h u)))
+three_pieces h a w u =
+    take-add (h + a) w u ∙ ap (λ (x : List ℕ). take (h + a) u ++ take w x) (sym (drop-drop a h u))
+    ∙ (ap (λ (x : List ℕ). x ++ take w (drop a (drop h u))) (take-add h a u) ∙ append_assoc (take h u) (take a (drop h u)) (take w (drop a (drop h u))))
+
+-- The last three pieces of a row, from its head on, where the code finds them: they are cut between characters, and are what is there.
+pub record IsHeadOn (o : declared.Offsets) (t : List ℕ) (at : ℕ) : Type 0 where
+  pub before : IsCharBoundary t at
+  pub len : IsCharBoundary (drop at t) (o.head + o.tail + o.raw)
+  pub is : (s : Slices) → s ≡ pieces_of t o → take (o.head + o.tail + o.raw) (drop at t) ≡ s.head ++ (s.tail ++ s.raw)
+
+cuts_joined : (u : List ℕ) (k n : ℕ) → IsCharBoundary u k → IsCharBoundary (drop k u) n → IsCharBoundary u (k + n)
+cuts_joined u k n at next = IsCharBoundary-from_rest u k n (omega (arith, at.0)) next
+
+pub head_on : (o : declared.Offsets) (t : List ℕ) (at : ℕ) → AreCuts t (lengths o) → at ≡ sum_of o.gap 7 (drop 1 (lengths o)) → IsHeadOn o t at
+unfolding pieces_of
+head_on o t at h is =
+    let head = piece_at o 7 t at (omega arith) h is in
+    let tail = piece_at o 8 t (at + o.head) (omega arith) h (ap (λ n. n + o.head) is) in
+    let raw = piece_at o 9 t (at + o.head + o.tail) (omega arith) h (ap (λ n. n + o.head + o.tail) is) in
+    let u : List ℕ = drop at t in
+    let second : drop o.head u ≡ drop (at + o.head) t = drop-drop o.head at t in
+    let third : drop (o.head + o.tail) u ≡ drop (at + o.head + o.tail) t = drop-drop (o.head + o.tail) at t ∙ ap (λ n. drop n t) (omega arith) in
+    let front : IsCharBoundary u (o.head + o.tail) = cuts_joined u o.head o.tail head.len (subst (λ (x : List ℕ). IsCharBoundary x o.tail) (sym second) tail.len) in
+    record {
+      before = head.before;
+      len = cuts_joined u (o.head + o.tail) o.raw front (subst (λ (x : List ℕ). IsCharBoundary x o.raw) (sym third) raw.len);
+      is = λ s same.
+          three_pieces o.head o.tail o.raw u
+          ∙ ((λ j. take o.head u ++ (take o.tail (second j) ++ take o.raw ((drop-drop o.tail o.head u ∙ third) j)))
+          ∙ ((λ j. head.is j ++ (tail.is j ++ raw.is j)) ∙ ap (λ (x : Slices). x.head ++ (x.tail ++ x.raw)) (sym same)));
+    }
+
+-- texts, each of which comes after a piece of the one before
 abbrev pub Follow : List ℕ → List ℕ → List (List ℕ) → Type 0
 Follow t ls [] = Unit {0}
 Follow t [] (u ∷ us) = (u ≡ t) × Follow u [] us
 Follow t (n ∷ ls) (u ∷ us) = (u ≡ drop n t) × Follow u ls us
 
--- the text that stands behind all of them
+-- the text that comes after all of them
 abbrev pub last_text : List ℕ → List (List ℕ) → List ℕ
 last_text t [] = t
 last_text t (u ∷ us) = last_text u us
 
--- the text behind the first of them
+-- the text after the first of them
 abbrev pub text_at : ℕ → List ℕ → List (List ℕ) → List ℕ
 text_at zero t us = t
 text_at (suc k) t [] = t
 text_at (suc k) t (u ∷ us) = text_at k u us
 
--- it is what stands behind their lengths
+-- it is what comes after their lengths
 behind_is : (k : ℕ) (ls t : List ℕ) (us : List (List ℕ)) → k ≤ length us → Follow t ls us → text_at k t us ≡ behind k ls t
 behind_is zero ls t us less h = refl
 behind_is (suc k) ls t [] less h = absurd (omega (arith, less))

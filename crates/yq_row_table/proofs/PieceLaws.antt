@@ -55,7 +55,7 @@ pub key_again : (key colon rest : List ℕ) → IsKey key colon rest → read_ro
 unfolding read_row_key
 key_again key colon rest h = search (rules, scalar_again, colon_again, le-leb)
 
--- a tail, by how the text is cut behind its white space and behind its line
+-- a tail, by how the text is cut after its white space and after its line
 abbrev ends_tail : List ℕ × List ℕ → Bool
 ends_tail c = ends_line c.1 || (not (is_empty c.0) && is_hash c.1)
 

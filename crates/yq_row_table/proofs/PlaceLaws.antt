@@ -1,4 +1,4 @@
--- Where the content of a row stands in a text.
+-- Where the content of a row is in a text.
 use Rattle.std.proofs.Common.{◌≡◌, inl, inr, ℕ, zero, suc, ◌-◌, Bool, true, List, [], ◌∷◌, ◌++◌, length, drop, Some, refl, sym, ap, ◌∙◌}
 use Rattle.std.{proofs.Common.{subst, append_assoc, replicate, rules}, proofs.Math.Dec.ltb}
 use Rattle.std.{proofs.lemmas.Bool.{ltb-true, ltb-false, cases_Bool}, specs.List.slice_get}
@@ -67,7 +67,7 @@ new_place (marked p marker c) i r new h = elim (cases_Bool (ltb i (length p.rows
   | inr e ↦ rw e (part_place p marker (before_content (i - length p.rows) c) (content_text new (behind_row (i - length p.rows) c)) (cut_text (exchange (i - length p.rows) new c)) (new_place c (i - length p.rows) r new (slice_back p.rows (rows_of c) i r (ltb-false i (length p.rows) e) h)))
 ]
 
--- A row among others: it is one before what follows, and the next one may stand behind it.
+-- A row among others: it is one before what follows, and the next one may come after it.
 pub record RowIn (r : Row) (rest : List ℕ) (behind : List Row) : Type 0 where
   pub limit : Limit
   pub row : IsRow limit r rest

@@ -21,7 +21,7 @@ use Rattle.yq_row_table.specs.declared.offsets.Offsets as declared
 agrees_again : (column m n : ℕ) (dashes colon : List ℕ) → IsCharBoundary dashes m → IsCharBoundary colon n → parent_by (column + length (take m dashes)) (length (take n colon)) ≡ parent_by (column + m) n
 agrees_again column m n dashes colon h k = rw (length-take-le m dashes h.0, length-take-le n colon k.0) refl
 
--- what stands in a text that is characters is characters
+-- what is in a text that is characters is characters
 pub row_texts_in : (t : List ℕ) (o : declared.Offsets) → IsUtf8 t → IsCutIn t o → AreTexts (slices_in t o)
 unfolding pieces_of
 row_texts_in t o u h =
@@ -165,7 +165,7 @@ split_boundary t c p cut h =
     let back : IsUtf8 (items_text h.behind []) = items_texts h.behind [] (texts_parts h.before h.behind h.placed.texts).1 IsUtf8-nil in
     subst (IsCharBoundary t) (sym h.placed.split_is) (IsCharBoundary-at_seam t (items_text h.before []) (items_text h.behind []) (placed_text t c p cut h) back)
 
--- Rows and ends of parts as they are kept where a text was read; all stand in front of the split.
+-- Rows and ends of parts as they are kept where a text was read; all are in front of the split.
 pub record Scanned (t : List ℕ) (text : Halves) (p : Places) : Type 0 where
   pub read : AreRead t p.front.items p.ends.items (record { rows = rows_in t p.front.items; bounds = bounds_in t p.ends.items })
   pub front_is : text.front.now ≡ t

@@ -1,4 +1,4 @@
--- A plain scalar ends behind a row, where the next row of the part stands no deeper.
+-- A plain scalar ends after a row, where the next row of the part is no deeper.
 use Rattle.std.proofs.Common.{◌≡◌, inl, inr, ⊎_elim, ℕ, zero, suc, ◌+◌, ◌-◌, ◌<◌, Bool, true, false, not, ◌&&◌, ◌||◌, eqb, List, [], ◌∷◌}
 use Rattle.std.proofs.Common.{◌++◌, length, drop, Option, Some, None, refl, sym, ap, ◌∙◌, subst, arith, append_assoc, append-nil, replicate}
 use Rattle.std.{proofs.Common.{eqb-true, rules}, proofs.Math.Dec.ltb, proofs.Math.Bool.and-false}
@@ -19,7 +19,7 @@ abbrev pub line_or : Option (List ℕ) → List ℕ → List ℕ
 line_or None w = w
 line_or (Some l) w = l
 
--- a plain scalar that needs so many spaces doesn't go on with this text behind this white space, which begins a line
+-- a plain scalar that needs so many spaces doesn't go on with this text after this white space, which begins a line
 abbrev pub stops : ℕ → List ℕ → List ℕ → Bool
 stops d w u = is_empty u || (front (λ b. eqb b 35) u || not (begins_deep (Some d) (line_or (last_line w) w ++ u)))
 
@@ -127,7 +127,7 @@ breaks (b ∷ (c ∷ p)) h k = elim (cases_Bool (is_feed b)) [
     two : (b c : ℕ) (q : List ℕ) → b ≡ 13 → c ≡ 10 → q ≡ [] → Breaks (b ∷ (c ∷ q))
     two b c q x y z = record { before = 13 ∷ []; spelled = ap (λ l. l ∷ (c ∷ q)) x ∙ (ap (λ l. 13 ∷ (l ∷ q)) y ∙ ap (λ l. 13 ∷ (10 ∷ l)) z); inside = λ rest. (refl, tt) }
 
--- White space and breaks up to the text behind them: those of a line that ends, with those behind it.
+-- White space and breaks up to the text after them: those of a line that ends, with those after it.
 pub record Broken (d : ℕ) (white t : List ℕ) : Type 0 where
   pub before : List ℕ
   pub behind : List ℕ

@@ -38,7 +38,7 @@ LikeBefore (x ∷ xs) t u = Alike (Some false) t u
 abbrev CutEnd : Asked → List Item → (gap marker : List ℕ) → List Item → Type 0
 CutEnd asked xs gap marker back = AreRowItems asked (xs ++ cut_end gap) [] × LikeBefore xs (items_text (xs ++ (end_item gap marker ∷ back)) []) (items_text (xs ++ cut_end gap) [])
 
--- What stands behind the items and in front of the marker.
+-- What comes after the items and in front of the marker.
 pub record Before (gap marker : List ℕ) (back : List Item) : Type 0 where
   pub line : IsMarkerLine marker (items_text back [])
   pub some : is_empty (marker ++ items_text back []) ≡ false

@@ -23,7 +23,7 @@ ends_rise (end_item gap marker ∷ xs) n k (suc i) zero d le lt = absurd (omega 
 ends_rise (end_item gap marker ∷ xs) n k zero (suc j) d le lt = ends_above xs (n + length (gap ++ marker)) k j d (omega arith)
 ends_rise (end_item gap marker ∷ xs) n k (suc i) (suc j) d le lt = ends_rise xs (n + length (gap ++ marker)) k i j d (omega arith) (omega arith)
 
--- the ends that stand before row i are skipped, and those at row i are taken
+-- the ends that come before row i are skipped, and those at row i are taken
 pub skipped : (t : Halves) (i n : ℕ) (bounds : List ends.EndPlace) → n ≤ length bounds → AllWithin (λ b. ltb b.rows i ≡ true) bounds 0 n → bounds_at i (bounds_in_halves t bounds) ≡ bounds_at i (bounds_in_halves t (drop n bounds))
 skipped t i zero bounds le h = refl
 skipped t i (suc n) [] le h = absurd (omega arith)

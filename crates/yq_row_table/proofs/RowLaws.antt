@@ -10,7 +10,7 @@ use Rattle.yq_row_table.specs.Rows.{RowMark, Anchor, Content, Inline, dashes_tex
 use Rattle.yq_row_table.{specs.Rows.{behind_gap, behind_columns, parent_of, parent_indent}, proofs.ContentLaws.content_takes}
 use Rattle.yq_row_table.proofs.MarkLaws.{spaces_are, IsMarked, marks_take}
 
--- A row behind its gap and its indentation.
+-- A row after its gap and its indentation.
 pub record Marked (gap : List ℕ) (column : ℕ) (t : List ℕ) (r : Row) (rest : List ℕ) : Type 0 where
   pub gap_is : r.gap ≡ gap
   pub column_is : r.column ≡ column
@@ -42,7 +42,7 @@ marked_takes gap column t x h =
       content = c.1;
     })
 
--- A row that was read behind its gap, before a rest.
+-- A row that was read after its gap, before a rest.
 pub record RowCut (limit : Limit) (gap t : List ℕ) (r : Row) (rest : List ℕ) : Type 0 where
   pub gap_is : r.gap ≡ gap
   pub text : t ≡ behind_gap r rest

@@ -14,7 +14,7 @@ use Rattle.yq_row_table.proofs.RowLaws.{row_takes, row_shorter}
 use Rattle.yq_row_table.proofs.RowsLaws.{behind_le, with_front, no_more, rows_from, rows_cut, rows_step, rows_refused, rows_done}
 use Rattle.yq_row_table.proofs.SliceLaws.{slices_are}
 
--- what stands behind a mark
+-- what comes after a mark
 pub content_block : (n : ℤ) (t s u : List ℕ) → (s, u) ≡ cut no_white t → begins_block u ≡ true → filled_at n t ≡ block_sliced n s u
 unfolding read_content
 content_block n t s u e begins = rw (subst (λ (y : List ℕ × List ℕ). begins_block y.1 ≡ true) e begins) (ap (λ (y : List ℕ × List ℕ). block_sliced n y.0 y.1) (sym e))
@@ -95,7 +95,7 @@ row_as limit gap t indent rest bytes stands b o e same may is marks read =
     let ok = ap (λ (u : List ℕ). allows limit (length indent) && not (eqb (length indent) 0 && is_marker u)) (sym same) ∙ (sym may ∙ is) in
     row_slicing limit gap t indent rest e ok ∙ (ap (marked_sliced gap (length indent)) (sym marks) ∙ read)
 
--- rows behind others
+-- rows after others
 sliced_front : (front : List Slices) (r : Row) (o : Option (Part × List ℕ)) → rows_sliced front (with_front (r ∷ []) o) ≡ rows_sliced (front ++ slices r ∷ []) o
 sliced_front front r (Some x) = ap (λ (l : List Slices). Some (l, x.0.end, x.1)) (sym (append_assoc front (slices r ∷ []) (map slices x.0.rows)))
 sliced_front front r None = refl
@@ -125,7 +125,7 @@ no_row front limit gap t more h = ap (rows_sliced front) (rows_refused limit gap
 pub rows_end : (front : List Slices) (limit : Limit) (gap t : List ℕ) → ends_part t ≡ true → rows_sliced front (rows_from limit gap t) ≡ Some (front, gap, t)
 rows_end front limit gap t none = ap (rows_sliced front) (rows_done limit gap t none) ∙ ap (λ (l : List Slices). Some (l, gap, t)) (append-nil front)
 
--- a row that was read, with the gap before it, stands in front of what follows
+-- a row that was read, with the gap before it, is in front of what follows
 pub row_spelled : (limit : Limit) (gap t : List ℕ) (s : Slices) (l : Limit) (after : List ℕ) → row_sliced limit gap t ≡ Some (s, l, after) → gap ++ t ≡ slices_text s after
 row_spelled limit gap t s l after h =
     let x = bind_some (row_at limit gap t) h in

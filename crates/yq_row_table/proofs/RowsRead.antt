@@ -17,14 +17,14 @@ pub end_no_gap : (t : List ℕ) → ends_part t ≡ true → begins_gap t ≡ fa
 end_no_gap [] h = refl
 end_no_gap (b ∷ t) h = no_gap_line zero (b ∷ t) (marker_starts (b ∷ t) h)
 
--- a gap and what stands behind it
+-- a gap and what comes after it
 gap_law : (t : List ℕ) → IsGap (cut_gap t).0 (cut_gap t).1
 gap_law t = (gap_takes t).0
 
 gap_join : (t : List ℕ) → (cut_gap t).0 ++ (cut_gap t).1 ≡ t
 gap_join t = take-append-drop (gap_len t) t
 
--- Rows, the gap behind them, and what follows.
+-- Rows, the gap after them, and what follows.
 pub record RowsCut (limit : Limit) (t : List ℕ) (x : Part × List ℕ) : Type 0 where
   pub text : t ≡ part_text x.0 x.1
   pub rows : AreRows limit x.0.rows x.0.end x.1

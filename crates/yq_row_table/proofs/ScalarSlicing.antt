@@ -1,4 +1,4 @@
--- A scalar without an anchor behind a mark, as the code lends it.
+-- A scalar without an anchor after a mark, as the code lends it.
 use Rattle.std.proofs.Common.{◌≡◌, ℕ, Bool, true, false, not, ◌&&◌, ◌||◌, eqb, List, [], ◌∷◌, Option, Some, None, refl, sym, ℤ}
 use Rattle.std.{proofs.lemmas.Bool.{false≢true, or_from}, proofs.lemmas.List.append-nil}
 use Rattle.yq_core.{specs.Answers.◌>>=◌, specs.Piece.deeper, specs.Text.is_empty, specs.Inline.depth_limit}

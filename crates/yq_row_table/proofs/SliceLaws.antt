@@ -1,4 +1,4 @@
--- The pieces of a row, one behind the other, are the row.
+-- The pieces of a row, one after the other, are the row.
 use Rattle.std.proofs.Common.{◌≡◌, ℕ, ◌+◌, List, [], ◌∷◌, ◌++◌, length, refl, sym, ap, ◌∙◌, append_assoc, length-append, replicate, rules}
 use Rattle.std.proofs.lemmas.List.{length-replicate}
 use Rattle.yq_core.{specs.Nodes.{FlowNode, node_text}, proofs.NodesWrittenLaws.node_then}

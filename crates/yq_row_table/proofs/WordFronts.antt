@@ -74,7 +74,7 @@ row_front t = front is_alphanumeric t || begins_with 45 t
 pub row_gap : (t : List ℕ) → row_front t ≡ true → begins_gap t ≡ false
 row_gap t h = elim (or_cases (front is_alphanumeric t) (begins_with 45 t) h) [ inl w ↦ word_gap t w | inr d ↦ dash_gap t d ]
 
--- past the spaces in front, and past the white space behind them
+-- past the spaces in front, and past the white space after them
 past_behind : (t : List ℕ) → past_white (drop (prefix_len (λ b. eqb b 32) t) t) ≡ past_white t
 past_behind [] = refl
 past_behind (b ∷ l) = elim (cases_Bool (eqb b 32)) [

@@ -5,14 +5,14 @@ use Rattle.yq_row_table.specs.Exchange.{with_content, allows_first}
 use Rattle.yq_row_table.specs.Grammar.{IsContent, is_entry, is_more, limit_after, may_be_alone}
 use Rattle.yq_row_table.specs.Rows.{Content, Nothing, Inline, Block, Row, behind_indent, parent_indent}
 
--- nothing stands behind a mark but perhaps an anchor (own)
+-- nothing comes after a mark but perhaps an anchor (own)
 abbrev pub holds_nothing : Content → Bool
 holds_nothing (Nothing tail) = true
 holds_nothing (Inline space node tail) = not (is_more node)
 holds_nothing (Block space anchor block) = false
 
--- What is asked of a content that stands in the place of a row's that has neither a dash nor a key: it may stand alone on its line and is no marker
--- there, and behind it the next row of the part may stand (own).
+-- What is asked of a content that is in the place of a row's that has neither a dash nor a key: it may be alone on its line and is no marker
+-- there, and after it the next row of the part may be (own).
 pub record FitsAlone (new : Content) (r : Row) (rest : List ℕ) (behind : List Row) : Type 0 where
   pub bare : is_entry r.mark ≡ false
   pub unmarked : (r.column == 0 && is_marker (behind_indent (with_content new r) rest)) ≡ false

@@ -1,4 +1,4 @@
--- What is put behind a text that has no final break.
+-- What is put after a text that has no final break.
 use Rattle.std.specs.Prelude.{◌≡◌, ℕ, Bool, true, false, ◌&&◌, List, [], ◌++◌}
 use Rattle.yq_core.specs.Text.{is_break, is_empty, is_line}
 use Rattle.yq_row_table.{specs.Grammar.{IsPart, begins_document}, specs.Rows.{Row, Part, Cut, last, marked}}
@@ -8,7 +8,7 @@ use Rattle.yq_row_table.{specs.Seams.{tail_behind, retail, is_block}, specs.Spli
 abbrev pub is_one_break : List ℕ → Bool
 is_one_break break = is_break break && is_line break
 
--- a row with a break behind its tail (own)
+-- a row with a break after its tail (own)
 abbrev pub closed_by : List ℕ → Row → Row
 closed_by break r = retail (tail_behind r.content ++ break) r
 
@@ -18,7 +18,7 @@ pub record TakesBreak (r : Row) (break : List ℕ) : Type 0 where
   pub bare : is_line (tail_behind r.content) ≡ false
   pub break_is : is_one_break break ≡ true
 
--- Behind these rows of part k stands a row, and nothing behind that (own).
+-- After these rows of part k is a row, and nothing after that (own).
 pub record IsLastRow (k : ℕ) (front : List Row) (r : Row) (c : Cut) : Type 0 where
   pub row : StandsBetween k front r [] c
   pub end : (nth_part k c).end ≡ []
@@ -36,7 +36,7 @@ with_last_part break new (last p) = last p
 with_last_part break new (marked p marker (last q)) = marked p (marker ++ break) (last new)
 with_last_part break new (marked p marker (marked q other c)) = marked p marker (with_last_part break new (marked q other c))
 
--- A part may stand behind the last marker of a text: there is a marker, which may get a break, and it is a part behind it (own).
+-- A part may come after the last marker of a text: there is a marker, which may get a break, and it is a part after it (own).
 pub record PartFits (break : List ℕ) (new : Part) (c : Cut) : Type 0 where
   pub some : is_empty (last_marker c) ≡ false
   pub bare : is_line (last_marker c) ≡ false

@@ -1,8 +1,8 @@
--- Reading (own; a reader may skip it): what a gap behind a block scalar asks of it, by the pieces of its row.
+-- Reading (own; a reader may skip it): what a gap after a block scalar asks of it, by the pieces of its row.
 use Rattle.std.{specs.Prelude.{ℤ, ℕ, ◌==◌, ◌||◌, Bool, List, [], ◌∷◌, Option, None, if◌then◌else◌}, specs.Option.option_map}
 use Rattle.yq_core.{specs.Block.keeps, specs.BlockReading.{indent_at, indicators_at}, specs.Piece.deeper, specs.Text.text_lines}
 
--- how far raw lines behind this indentation indicator are indented, at least so far (own)
+-- how far raw lines after this indentation indicator are indented, at least so far (own)
 abbrev pub columns_at : ℕ → Option ℕ → List ℕ → Option ℕ
 columns_at least digit raw = option_map (λ f. f.columns) (indent_at least digit (text_lines raw))
 

@@ -1,9 +1,9 @@
--- A row counted through all parts of a cut, and the part in which it stands.
+-- A row counted through all parts of a cut, and the part in which it is.
 use Rattle.std.specs.Prelude.{◌≡◌, ℕ, List, [], ◌∷◌}
 use Rattle.yq_row_table.{specs.Exchange.{with_content, exchange, behind_row, rows_behind}, specs.Rows.{Content, Row, Cut}}
 use Rattle.yq_row_table.specs.Splices.{StandsBetween, first_gap, replace_row, nth_part, rest_behind}
 
--- Row i of a cut stands between other rows of a part; what stands behind it is what stands behind them, and with another content it stands in its own
+-- Row i of a cut is between other rows of a part; what comes after it is what comes after them, and with another content it is in its own
 -- place (own).
 pub record RowPlace (i : ℕ) (r : Row) (c : Cut) : Type 0 where
   pub part : ℕ

@@ -1,4 +1,4 @@
--- What stands behind the mark of a row, exchanged for something else.
+-- What comes after the mark of a row, exchanged for something else.
 use Rattle.std.specs.Prelude.{◌≡◌, ℕ, zero, suc, ◌+◌, ◌-◌, Bool, true, nat_lt, List, [], ◌∷◌, ◌++◌, length, drop, replicate, if◌then◌else◌}
 use Rattle.std.specs.Str.{IsUtf8, IsCharBoundary}
 use Rattle.yq_core.specs.Text.{separates}
@@ -36,7 +36,7 @@ before_at i [] = []
 before_at zero (r ∷ rs) = row_front r
 before_at (suc i) (r ∷ rs) = print_row r (before_at i rs)
 
--- the text of rows behind row i, before a rest (own)
+-- the text of rows after row i, before a rest (own)
 abbrev pub text_after_row : ℕ → List Row → List ℕ → List ℕ
 text_after_row i [] rest = rest
 text_after_row zero (r ∷ rs) rest = rows_text rs rest
@@ -47,35 +47,35 @@ abbrev pub before_content : ℕ → Cut → List ℕ
 before_content i (last p) = before_at i p.rows
 before_content i (marked p marker c) = if nat_lt i (length p.rows) then before_at i p.rows else part_text p (marker ++ before_content (i - length p.rows) c)
 
--- the text of a cut behind row i (own)
+-- the text of a cut after row i (own)
 abbrev pub behind_row : ℕ → Cut → List ℕ
 behind_row i (last p) = text_after_row i p.rows (p.end ++ [])
 behind_row i (marked p marker c) = if nat_lt i (length p.rows) then text_after_row i p.rows (p.end ++ (marker ++ cut_text c)) else behind_row (i - length p.rows) c
 
--- the rows of the same part behind row i (own)
+-- the rows of the same part after row i (own)
 abbrev pub rows_behind : ℕ → Cut → List Row
 rows_behind i (last p) = drop (suc i) p.rows
 rows_behind i (marked p marker c) = if nat_lt i (length p.rows) then drop (suc i) p.rows else rows_behind (i - length p.rows) c
 
--- the first of these rows, if there is one, may stand where this is asked (own)
+-- the first of these rows, if there is one, may be where this is asked (own)
 abbrev pub allows_first : Limit → List Row → Bool
 allows_first limit [] = true
 allows_first limit (r ∷ rs) = allows limit r.column
 
--- what is asked behind rows of which that was asked (own)
+-- what is asked after rows of which that was asked (own)
 abbrev pub asked_behind : Limit → List Row → Limit
 asked_behind limit [] = limit
 asked_behind limit (r ∷ rs) = asked_behind (limit_after r) rs
 
--- What is asked of a content that stands in the place of a row's, behind a dash or a key: it stands there, behind it the next row of the part may
--- stand, and white space, a break or the end is in front of it (own).
+-- What is asked of a content that is in the place of a row's, after a dash or a key: it is there, after it the next row of the part may
+-- are, and white space, a break or the end is in front of it (own).
 pub record FitsRow (new : Content) (r : Row) (rest : List ℕ) (behind : List Row) : Type 0 where
   pub entry : is_entry r.mark ≡ true
   pub content : IsContent (parent_indent r) new rest
   pub apart : separates (content_text new rest) ≡ true
   pub next : allows_first (limit_after (with_content new r)) behind ≡ true
 
--- A text of three pieces, of which the first two are whole characters, and so is what stands behind them (own).
+-- A text of three pieces, of which the first two are whole characters, and so is what comes after them (own).
 pub record HasPieces (t before old behind : List ℕ) : Type 0 where
   pub text : t ≡ before ++ (old ++ behind)
   pub start : IsCharBoundary t (length before)

@@ -11,7 +11,7 @@ IsWhite (b ∷ bs) = (is_white b ≡ true) × IsWhite bs
 abbrev pub IsBreak : List ℕ → List ℕ → Type 0
 IsBreak p rest = ((is_break p && is_line p) ≡ true) ⊎ ((p ≡ []) × (rest ≡ []))
 
--- nothing, or a `#` and what stands behind it on its line (YAML 1.2.2, section 6.6)
+-- nothing, or a `#` and what comes after it on its line (YAML 1.2.2, section 6.6)
 abbrev pub IsComment : List ℕ → List ℕ → Type 0
 IsComment [] break = Unit {0}
 IsComment (b ∷ bs) break = (b ≡ 35) × NoneIn ends_line bs break

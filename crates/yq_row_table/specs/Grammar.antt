@@ -18,29 +18,29 @@ pub record IsColon (p rest : List ℕ) : Type 0 where
   pub blank : IsWhite white
   pub separated : separates rest ≡ true
 
--- how many characters a key's `:` may stand behind the key's first one (YAML 1.2.2, section 8.2.2)
+-- how many characters a key's `:` may come after the key's first one (YAML 1.2.2, section 8.2.2)
 abbrev pub key_limit : ℕ
 key_limit = 1024
 
--- A key and its `:`, before a rest: a plain or quoted scalar on one line, and the `:` not too far behind its beginning (YAML 1.2.2, section 8.2.2).
+-- A key and its `:`, before a rest: a plain or quoted scalar on one line, and the `:` not too far after its beginning (YAML 1.2.2, section 8.2.2).
 pub record IsKey (key colon rest : List ℕ) : Type 0 where
   pub scalar : IsScalarAt false None key (colon ++ rest)
   pub colon_is : IsColon colon rest
   pub near : length (chars key) + length (chars colon) ≤ key_limit + 1
 
--- a tail: white space, an optional comment behind white space, and a break (YAML 1.2.2, section 6.6)
+-- a tail: white space, an optional comment after white space, and a break (YAML 1.2.2, section 6.6)
 pub record IsTail (p rest : List ℕ) : Type 0 where
   pub white : List ℕ
   pub comment : List ℕ
   pub line : IsLineEnd white comment p rest
   pub apart : (is_empty comment || not (is_empty white)) ≡ true
 
--- an anchor before a block scalar, if there is one: a name, and white space behind it (YAML 1.2.2, section 6.9.2)
+-- an anchor before a block scalar, if there is one: a name, and white space after it (YAML 1.2.2, section 6.9.2)
 abbrev pub IsAnchor : Option Anchor → List ℕ → Type 0
 IsAnchor None rest = Unit {0}
 IsAnchor (Some a) rest = IsName a.name (a.gap ++ rest) × IsWhite a.gap × (is_empty a.gap ≡ false)
 
--- What stands behind a mark, below a parent of this indentation, before a rest: a tail; white space, an inline node and a tail; or white space, an
+-- What comes after a mark, below a parent of this indentation, before a rest: a tail; white space, an inline node and a tail; or white space, an
 -- anchor, if there is one, and a block scalar (YAML 1.2.2, sections 6.9.2, 7 and 8.1).
 abbrev pub IsContent : ℤ → Content → List ℕ → Type 0
 IsContent n (Nothing tail) rest = IsTail tail rest
@@ -55,13 +55,13 @@ is_more (scalar p) = true
 is_more (coll close gap items) = true
 is_more (anchored name gap node) = not (is_empty_node node)
 
--- an inline node may stand on a line of its own, where it is more than an anchor; nothing else may (own)
+-- an inline node may be on a line of its own, where it is more than an anchor; nothing else may (own)
 abbrev pub may_be_alone : Content → Bool
 may_be_alone (Nothing tail) = false
 may_be_alone (Inline space node tail) = is_empty space && is_more node
 may_be_alone (rows.Block space anchor block) = false
 
--- A mark before what stands behind it and a rest: a node on a line of its own; a dash before white space, a break or the end; or a key (YAML 1.2.2,
+-- A mark before what comes after it and a rest: a node on a line of its own; a dash before white space, a break or the end; or a key (YAML 1.2.2,
 -- sections 8.2.1 and 8.2.2).
 abbrev pub IsMark : RowMark → Content → List ℕ → Type 0
 IsMark Bare content rest = may_be_alone content ≡ true
@@ -74,12 +74,12 @@ is_entry Bare = false
 is_entry Dash = true
 is_entry (Key key colon) = true
 
--- Dashes before a mark: behind each stand spaces, and behind the last a dash or a key (YAML 1.2.2, section 8.2.1).
+-- Dashes before a mark: after each are spaces, and after the last a dash or a key (YAML 1.2.2, section 8.2.1).
 abbrev pub AreDashes : List ℕ → RowMark → Type 0
 AreDashes [] mark = Unit {0}
 AreDashes (n ∷ ns) mark = (1 ≤ n) × (is_entry mark ≡ true) × AreDashes ns mark
 
--- What a row asks of the next one: below which column it stands, if the row asks that (own).
+-- What a row asks of the next one: below which column it is, if the row asks that (own).
 pub record Limit : Type 0 where
   pub column : Option ℕ
 
@@ -92,11 +92,11 @@ abbrev pub is_within : Option ℕ → ℕ → Bool
 is_within None column = true
 is_within (Some bound) column = nat_lt column bound
 
--- a row may stand at a column (own)
+-- a row may be at a column (own)
 abbrev pub allows : Limit → ℕ → Bool
 allows limit column = is_within limit.column column
 
--- a plain scalar, perhaps behind an anchor (YAML 1.2.2, section 7.3.3)
+-- a plain scalar, perhaps after an anchor (YAML 1.2.2, section 7.3.3)
 abbrev pub is_plain_content : FlowNode → Bool
 is_plain_content empty = false
 is_plain_content (alias name) = false
@@ -104,7 +104,7 @@ is_plain_content (scalar p) = not (is_quoted p)
 is_plain_content (coll close gap items) = false
 is_plain_content (anchored name gap node) = is_plain_content node
 
--- behind a plain scalar the next row is indented by no more than the scalar's parent (YAML 1.2.2, section 7.3.3; own)
+-- after a plain scalar the next row is indented by no more than the scalar's parent (YAML 1.2.2, section 7.3.3; own)
 abbrev pub limit_behind : ℤ → Content → Limit
 limit_behind n (Nothing tail) = unlimited
 limit_behind n (Inline space node tail) = if is_plain_content node then record { column = Some (deeper n) } else unlimited
@@ -123,7 +123,7 @@ pub record IsRow (limit : Limit) (r : Row) (rest : List ℕ) : Type 0 where
   pub mark : IsMark r.mark r.content rest
   pub content : IsContent (parent_indent r) r.content rest
 
--- rows one behind the other, and the gap behind the last one, before a rest (own)
+-- rows one after the other, and the gap after the last one, before a rest (own)
 abbrev pub AreRows : Limit → List Row → List ℕ → List ℕ → Type 0
 AreRows limit [] end rest = IsGap end rest
 AreRows limit (r ∷ rs) end rest = IsRow limit r (rows_text rs (end ++ rest)) × AreRows (limit_after r) rs end rest
@@ -152,7 +152,7 @@ ends_part t = is_empty t || is_marker t
 abbrev pub begins_document : List ℕ → Bool
 begins_document marker = front (λ b. b == 45) marker
 
--- the parts of a text in order; behind `...` no document is open up to the next `---` (YAML 1.2.2, section 9.1)
+-- the parts of a text in order; after `...` no document is open up to the next `---` (YAML 1.2.2, section 9.1)
 abbrev pub AreParts : Bool → Cut → Type 0
 AreParts started (last p) = IsPart started p []
 AreParts started (marked p marker c) = IsPart started p (marker ++ cut_text c) × IsMarkerLine marker (cut_text c) × AreParts (begins_document marker) c

@@ -1,9 +1,9 @@
--- A cut as a list: its rows and the ends of its parts, one behind the other.
+-- A cut as a list: its rows and the ends of its parts, one after the other.
 use Rattle.std.specs.Prelude.{◌≡◌, ◌⊎◌, ℕ, ◌+◌, Bool, true, List, [], ◌∷◌, ◌++◌}
 use Rattle.yq_row_table.{specs.Gap.IsGap, specs.Grammar.{IsRow, Limit, unlimited, limit_after, begins_document, IsMarkerLine}}
 use Rattle.yq_row_table.{specs.Rows.{Row, print_row, Cut, last, marked}, specs.View.{Slices, slices, Bound, RowsView}}
 
--- a row, or the end of a part: the gap behind its rows, and the line of the marker behind that, which the last part has not (YAML 1.2.2, section 9.1;
+-- a row, or the end of a part: the gap after its rows, and the line of the marker after that, which the last part has not (YAML 1.2.2, section 9.1;
 -- own)
 pub data Item : Type 0 where
   row_item : Row → Item
@@ -25,7 +25,7 @@ items_text [] rest = rest
 items_text (row_item r ∷ xs) rest = print_row r (items_text xs rest)
 items_text (end_item gap marker ∷ xs) rest = gap ++ (marker ++ items_text xs rest)
 
--- What items in front ask of the next one: where a row may stand, and whether one may, since a document is open (YAML 1.2.2, section 9.1.3; own).
+-- What items in front ask of the next one: where a row may be, and whether one may, since a document is open (YAML 1.2.2, section 9.1.3; own).
 pub record Asked : Type 0 where
   pub limit : Limit
   pub started : Bool
@@ -34,7 +34,7 @@ pub record Asked : Type 0 where
 abbrev pub nothing_asked : Asked
 nothing_asked = record { limit = unlimited; started = true }
 
--- what is asked behind an item of which that was asked (own)
+-- what is asked after an item of which that was asked (own)
 abbrev pub asked_by : Asked → Item → Asked
 asked_by asked (row_item r) = record { limit = limit_after r; started = asked.started }
 asked_by asked (end_item gap marker) = record { limit = unlimited; started = begins_document marker }
@@ -44,7 +44,7 @@ abbrev pub asked_of : Asked → List Item → Asked
 asked_of asked [] = asked
 asked_of asked (x ∷ xs) = asked_of (asked_by asked x) xs
 
--- What stands behind the gap of a part's end: the line of a marker, or nothing, at the end of the text (YAML 1.2.2, section 9.1).
+-- What comes after the gap of a part's end: the line of a marker, or nothing, at the end of the text (YAML 1.2.2, section 9.1).
 abbrev pub IsPartEnd : List ℕ → List Item → List ℕ → Type 0
 IsPartEnd marker xs rest = IsMarkerLine marker (items_text xs rest) ⊎ ((marker ≡ []) × (xs ≡ []) × (rest ≡ []))
 
@@ -53,7 +53,7 @@ abbrev pub IsItem : Asked → Item → List Item → List ℕ → Type 0
 IsItem asked (row_item r) xs rest = (asked.started ≡ true) × IsRow asked.limit r (items_text xs rest)
 IsItem asked (end_item gap marker) xs rest = IsGap gap (marker ++ items_text xs rest) × IsPartEnd marker xs rest
 
--- items one behind the other, before a rest (own)
+-- items one after the other, before a rest (own)
 abbrev pub AreRowItems : Asked → List Item → List ℕ → Type 0
 AreRowItems asked [] rest = Unit {0}
 AreRowItems asked (x ∷ xs) rest = IsItem asked x xs rest × AreRowItems (asked_by asked x) xs rest
@@ -64,7 +64,7 @@ rows_in_items [] = []
 rows_in_items (row_item r ∷ xs) = slices r ∷ rows_in_items xs
 rows_in_items (end_item gap marker ∷ xs) = rows_in_items xs
 
--- the ends of parts among items, before which so many rows stand (own)
+-- the ends of parts among items, before which so many rows are (own)
 abbrev pub bounds_in_items : ℕ → List Item → List Bound
 bounds_in_items n [] = []
 bounds_in_items n (row_item r ∷ xs) = bounds_in_items (n + 1) xs

@@ -1,4 +1,4 @@
--- Rows kept by where they stand (own; a reader of the contracts may skip it): in front of a split by the distance from the text's beginning, behind it by
+-- Rows kept by where they are (own; a reader of the contracts may skip it): in front of a split by the distance from the text's beginning, after it by
 -- that to the text's end.
 use Rattle.std.{specs.Prelude.{◌≡◌, ℕ, ◌+◌, ◌-◌, ◌<◌, ◌^◌, List, [], ◌∷◌, ◌++◌, drop, length, map, reverse, Option, Some}, specs.Str.IsUtf8}
 use Rattle.yq_core.specs.Answers.{◌>>=◌}
@@ -9,19 +9,19 @@ use Rattle.yq_row_table.{specs.Offsets.{AreTexts, offsets_of, pieces_of, rows_in
 use Rattle.yq_row_table.{specs.View.{slices, RowsView, Slices}, specs.declared.ends.EndPlace.EndPlace, specs.declared.places.Places.Places}
 use Rattle.yq_row_table.specs.declared.offsets.Offsets as declared
 
--- the rows of items, of which so many bytes stand in front (own)
+-- the rows of items, of which so many bytes are in front (own)
 abbrev pub near : ℕ → List Item → List declared.Offsets
 near n [] = []
 near n (row_item r ∷ xs) = offsets_of n (slices r) ∷ near (n + length (print_row r [])) xs
 near n (end_item gap marker ∷ xs) = near (n + length (gap ++ marker)) xs
 
--- the ends of parts among items, of which so many bytes and so many rows stand in front (own)
+-- the ends of parts among items, of which so many bytes and so many rows are in front (own)
 abbrev pub ends_near : ℕ → ℕ → List Item → List EndPlace
 ends_near n k [] = []
 ends_near n k (row_item r ∷ xs) = ends_near (n + length (print_row r [])) (k + 1) xs
 ends_near n k (end_item gap marker ∷ xs) = end_at n k gap marker ∷ ends_near (n + length (gap ++ marker)) k xs
 
--- rows that are read behind others, of which so many bytes stand in front (own)
+-- rows that are read after others, of which so many bytes are in front (own)
 abbrev pub rows_placed : List declared.Offsets → ℕ → Option (Part × List ℕ) → Option (List declared.Offsets)
 rows_placed offsets n read = read >>= λ x. Some (offsets ++ near n (rows_items x.0.rows []))
 
@@ -29,7 +29,7 @@ rows_placed offsets n read = read >>= λ x. Some (offsets ++ near n (rows_items 
 abbrev pub parts_placed : List declared.Offsets → ℕ → Option Cut → Option (List declared.Offsets)
 parts_placed offsets n read = read >>= λ c. Some (offsets ++ near n (items_of_cut c))
 
--- the ends of all parts, behind others (own)
+-- the ends of all parts, after others (own)
 abbrev pub ends_placed : List EndPlace → ℕ → ℕ → Option Cut → Option (List EndPlace)
 ends_placed ends n k read = read >>= λ c. Some (ends ++ ends_near n k (items_of_cut c))
 
@@ -49,15 +49,15 @@ far (end_item gap marker ∷ xs) = far xs
 abbrev pub row_from_end : ℕ → declared.Offsets → declared.Offsets
 row_from_end n o = record o { start = n - o.start }
 
--- the place of a row before which so many bytes more stand (own)
+-- the place of a row before which so many bytes more are (own)
 abbrev pub raised : ℕ → declared.Offsets → declared.Offsets
 raised n o = record o { start = o.start + n }
 
--- the end of a part before which so many rows and so many bytes stand, by the lengths of another one (own)
+-- the end of a part before which so many rows and so many bytes are, by the lengths of another one (own)
 abbrev pub moved_end : ℕ → ℕ → EndPlace → EndPlace
 moved_end rows start e = record e { rows = rows; start = start }
 
--- the rows in front of the split and those behind it, as they are kept (own)
+-- the rows in front of the split and those after it, as they are kept (own)
 abbrev pub kept_rows : Places → List declared.Offsets
 kept_rows p = p.front.items ++ reverse p.behind.items
 
@@ -65,7 +65,7 @@ kept_rows p = p.front.items ++ reverse p.behind.items
 abbrev pub placed_rows : ℕ → Places → List declared.Offsets
 placed_rows n p = p.front.items ++ map (row_from_end n) (reverse p.behind.items)
 
--- Rows and ends of parts are kept where those of items in front of the split and behind it stand, one behind the other, whose pieces are characters (own).
+-- Rows and ends of parts are kept where those of items in front of the split and after it are, one after the other, whose pieces are characters (own).
 pub record ArePlaced (p : Places) (before behind : List Item) : Type 0 where
   pub split_is : p.split ≡ length (items_text before [])
   pub front_are : p.front.items ≡ near 0 before
@@ -81,7 +81,7 @@ pub record IsPlaced (p : Places) (s : RowsView) : Type 0 where
   pub placed : ArePlaced p before behind
   pub rows_view_is : s ≡ view_of_items (before ++ behind)
 
--- Rows and ends of parts are kept where those of the two halves of a text stand (own).
+-- Rows and ends of parts are kept where those of the two halves of a text are (own).
 pub record HavePlaces (text : Halves) (p : Places) : Type 0 where
   pub before : List Item
   pub behind : List Item
@@ -89,7 +89,7 @@ pub record HavePlaces (text : Halves) (p : Places) : Type 0 where
   pub front_is : text.front.now ≡ items_text before []
   pub back_is : text.back.now ≡ items_text behind []
 
--- the pieces of a row behind the split, in the second half of the text (own)
+-- the pieces of a row after the split, in the second half of the text (own)
 abbrev pub slices_behind : List ℕ → declared.Offsets → Slices
 slices_behind back o = pieces_of (drop (length back - o.start) back) o
 

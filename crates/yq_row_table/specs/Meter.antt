@@ -15,7 +15,7 @@ abbrev pub count_after : ℕ → ℕ → ℕ
 count_after zero count = count
 count_after (suc n) count = count_after n (next_count count)
 
--- a line begins at this offset: at the beginning of a text, or behind the LF of a break (YAML 1.2.2, section 5.4; own)
+-- a line begins at this offset: at the beginning of a text, or after the LF of a break (YAML 1.2.2, section 5.4; own)
 abbrev pub begins_line : List ℕ → ℕ → Bool
 begins_line t zero = true
 begins_line t (suc n) = front is_feed (drop n t)

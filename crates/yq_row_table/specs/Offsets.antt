@@ -8,7 +8,7 @@ use Rattle.yq_row_table.specs.declared.offsets.Offsets as declared
 abbrev pub Ends : List ℕ → List ℕ → Type 0
 Ends text whole = drop (length whole - length text) whole ≡ text
 
--- the parent indentation of what stands behind a row's mark, by how many columns its indentation and its dashes take, and by how long its colon is (own)
+-- the parent indentation of what comes after a row's mark, by how many columns its indentation and its dashes take, and by how long its colon is (own)
 abbrev pub parent_by : ℕ → ℕ → ℤ
 parent_by columns zero = before_column columns
 parent_by columns (suc colon) = pos columns
@@ -41,7 +41,7 @@ pieces_of gap o =
       parent = parent_by (o.column + o.dashes) o.colon;
     }
 
--- the same where the row stands in the text (own)
+-- the same where the row is in the text (own)
 abbrev pub slices_in : List ℕ → declared.Offsets → Slices
 slices_in whole o = pieces_of (drop o.start whole) o
 
@@ -49,7 +49,7 @@ slices_in whole o = pieces_of (drop o.start whole) o
 abbrev pub rows_in : List ℕ → List declared.Offsets → List Slices
 rows_in whole offsets = map (slices_in whole) offsets
 
--- pieces of these lengths, one behind the other, are in front of a text, each cut between characters (own)
+-- pieces of these lengths, one after the other, are in front of a text, each cut between characters (own)
 abbrev pub AreCuts : List ℕ → List ℕ → Type 0
 AreCuts t [] = Unit {0}
 AreCuts t (n ∷ ns) = IsCharBoundary t n × AreCuts (drop n t) ns
@@ -58,7 +58,7 @@ AreCuts t (n ∷ ns) = IsCharBoundary t n × AreCuts (drop n t) ns
 abbrev pub lengths : declared.Offsets → List ℕ
 lengths o = o.gap ∷ o.column ∷ o.dashes ∷ o.key ∷ o.colon ∷ o.space ∷ o.anchor ∷ o.apart ∷ o.head ∷ o.tail ∷ o.raw ∷ []
 
--- what stands before a row, and its pieces, are in a text, each cut between characters (own)
+-- what comes before a row, and its pieces, are in a text, each cut between characters (own)
 abbrev pub IsCutIn : List ℕ → declared.Offsets → Type 0
 IsCutIn whole o = AreCuts whole (o.start ∷ lengths o)
 
@@ -66,11 +66,11 @@ IsCutIn whole o = AreCuts whole (o.start ∷ lengths o)
 abbrev pub Stand : List ℕ → List declared.Offsets → Type 0
 Stand whole offsets = All (IsCutIn whole) offsets
 
--- the pieces of a row tell the parent indentation of what stands behind its mark (own)
+-- the pieces of a row tell the parent indentation of what comes after its mark (own)
 abbrev pub ParentAgrees : Slices → Type 0
 ParentAgrees s = s.parent ≡ parent_by (s.column + length s.dashes) (length s.colon)
 
--- The pieces of a row are characters, and tell the parent indentation of what stands behind its mark (own).
+-- The pieces of a row are characters, and tell the parent indentation of what comes after its mark (own).
 pub record AreTexts (s : Slices) : Type 0 where
   pub gap : IsUtf8 s.gap
   pub dashes : IsUtf8 s.dashes
@@ -89,7 +89,7 @@ abbrev pub row_length : Slices → ℕ
 row_length s =
     length s.gap + (s.column + (length s.dashes + (length s.key + (length s.colon + (length s.space + (length s.anchor + (length s.apart + (length s.head + (length s.tail + length s.raw)))))))))
 
--- a row that begins behind so many bytes, by its lengths (own)
+-- a row that begins after so many bytes, by its lengths (own)
 abbrev pub offsets_of : ℕ → Slices → declared.Offsets
 offsets_of start s = record {
   start = start;
@@ -106,7 +106,7 @@ offsets_of start s = record {
   raw = length s.raw;
 }
 
--- how many bytes of a row stand before its key (own)
+-- how many bytes of a row come before its key (own)
 abbrev pub before_key : declared.Offsets → ℕ
 before_key o = o.gap + o.column + o.dashes
 

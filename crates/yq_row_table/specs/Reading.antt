@@ -43,14 +43,14 @@ read_colon t =
     let n = upto no_white t in
     if is_colon (drop n t) then Some (take (suc n) t, drop (suc n) t) else None
 
--- a key, what stands behind it up to its `:`, and what follows (own)
+-- a key, what comes after it up to its `:`, and what follows (own)
 unfoldable pub read_row_key : List ℕ → Option (List ℕ × List ℕ × List ℕ)
 read_row_key t = do
   key ← read_scalar false None t
   colon ← read_colon key.1
   if nat_le (length (chars key.0) + length (chars colon.0)) (key_limit + 1) then Some (key.0, colon.0, colon.1) else None
 
--- a `:` stands in front of the end of the line (own)
+-- a `:` is in front of the end of the line (own)
 abbrev pub holds_colon : List ℕ → Bool
 holds_colon t = begins_with 58 (drop (prefix_len (λ b. not (b == 58) && not (b == 10)) t) t)
 
@@ -77,7 +77,7 @@ key_mark t (Some k) = (Key k.0 k.1, k.2)
 abbrev pub mark_at : List ℕ → RowMark × List ℕ
 mark_at t = key_mark t (read_row_key t)
 
--- dashes, the mark behind them, and what follows (own)
+-- dashes, the mark after them, and what follows (own)
 abbrev pub Marks : Type 0
 Marks = List ℕ × RowMark × List ℕ
 
@@ -89,7 +89,7 @@ with_dash n m = (n ∷ m.0, m.1, m.2)
 abbrev pub undashed : RowMark × List ℕ → Marks
 undashed m = ([], m.0, m.1)
 
--- the dashes in front, at most n of them, the mark behind them, and what follows (own)
+-- the dashes in front, at most n of them, the mark after them, and what follows (own)
 unfoldable pub dashes_at : ℕ → List ℕ → Marks
 dashes_at zero t = undashed (mark_at t)
 dashes_at (suc n) t =
@@ -98,7 +98,7 @@ dashes_at (suc n) t =
     if not (is_empty s.0) && begins_entry s.1 then with_dash (length s.0) (dashes_at n s.1) else ([], Dash, drop 1 t))
     else undashed (mark_at t)
 
--- all dashes in front, the mark behind them, and what follows (own)
+-- all dashes in front, the mark after them, and what follows (own)
 abbrev pub read_marks : List ℕ → Marks
 read_marks t = dashes_at (length t) t
 
@@ -112,7 +112,7 @@ read_tail t =
 abbrev pub past_anchor : List ℕ → List ℕ
 past_anchor t = if begins_with 38 t then past_white (drop (upto (unless in_name) (drop 1 t)) (drop 1 t)) else t
 
--- a block scalar begins here, perhaps behind an anchor (YAML 1.2.2, section 8.1)
+-- a block scalar begins here, perhaps after an anchor (YAML 1.2.2, section 8.1)
 abbrev pub begins_block : List ℕ → Bool
 begins_block t = front (λ b. b == 124 || b == 62) (past_anchor t)
 
@@ -124,21 +124,21 @@ anchor_at t =
       Some (Some (record { name = name.0; gap = (cut no_white name.1).0 }), (cut no_white name.1).1))
     else Some (None, t)
 
--- a block scalar behind white space, and what follows (own)
+-- a block scalar after white space, and what follows (own)
 unfoldable pub block_content_at : ℤ → List ℕ → List ℕ → Option (Content × List ℕ)
 block_content_at n space t = do
   anchor ← anchor_at t
   block ← block_at (deeper n) anchor.1
   Some (Block space anchor.0 block.0, block.1)
 
--- an inline node behind white space, and its tail, and what follows (own)
+-- an inline node after white space, and its tail, and what follows (own)
 unfoldable pub inline_content_at : ℤ → List ℕ → List ℕ → Option (Content × List ℕ)
 inline_content_at n space t = do
   node ← all_node false (Some (deeper n)) depth_limit t
   tail ← read_tail node.1
   Some (Inline space node.0 tail.0, tail.1)
 
--- what stands behind a mark, below a parent of this indentation, and what follows (own)
+-- what comes after a mark, below a parent of this indentation, and what follows (own)
 unfoldable pub read_content : ℤ → List ℕ → Option (Content × List ℕ)
 read_content n t =
     let c = cut no_white t in
@@ -146,17 +146,17 @@ read_content n t =
     else (if begins_node false c.1 then inline_content_at n c.0 c.1
     else (read_tail t >>= λ x. Some (Nothing x.0, x.1)))
 
--- a mark may stand before what was read behind it (own)
+-- a mark may come before what was read after it (own)
 abbrev pub fits : RowMark → Content → Bool
 fits mark content = is_entry mark || may_be_alone content
 
--- a row behind its gap and indentation, whose marks were read, and what follows (own)
+-- a row after its gap and indentation, whose marks were read, and what follows (own)
 unfoldable pub marked_row_at : List ℕ → ℕ → Marks → Option (Row × List ℕ)
 marked_row_at gap column m = do
   content ← read_content (parent_of m.1 (behind_columns column m.0)) m.2
   if fits m.1 content.0 then Some (record { gap = gap; column = column; dashes = m.0; mark = m.1; content = content.0 }, content.1) else None
 
--- a row behind its gap, and what follows (own)
+-- a row after its gap, and what follows (own)
 unfoldable pub row_at : Limit → List ℕ → List ℕ → Option (Row × List ℕ)
 row_at limit gap t =
     let indent = cut no_space t in
@@ -167,7 +167,7 @@ row_at limit gap t =
 abbrev pub with_rows : List Row → Part × List ℕ → Part × List ℕ
 with_rows rows x = (record { rows = rows ++ x.0.rows; end = x.0.end }, x.1)
 
--- the rows of a part, at most n of them, the gap behind the last one, and what follows (own)
+-- the rows of a part, at most n of them, the gap after the last one, and what follows (own)
 unfoldable pub rows_at : ℕ → Limit → List ℕ → Option (Part × List ℕ)
 rows_at zero limit t = None
 rows_at (suc n) limit t =
@@ -177,7 +177,7 @@ rows_at (suc n) limit t =
       rows ← rows_at n (limit_after row.0) row.1
       Some (with_rows (row.0 ∷ []) rows))
 
--- all the rows of a part, the gap behind the last one, and what follows (own)
+-- all the rows of a part, the gap after the last one, and what follows (own)
 abbrev pub all_rows : Limit → List ℕ → Option (Part × List ℕ)
 all_rows limit t = rows_at (suc (length t)) limit t
 

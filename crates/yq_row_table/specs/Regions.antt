@@ -1,4 +1,4 @@
--- Regions (own): rows and ends of parts of a cut, one behind the other, and what reading them alone gives.
+-- Regions (own): rows and ends of parts of a cut, one after the other, and what reading them alone gives.
 use Rattle.std.specs.Prelude.{◌≡◌, ℕ, Bool, true, false, List, [], ◌∷◌, ◌++◌, Some, if◌then◌else◌}
 use Rattle.yq_row_table.{specs.Grammar.IsCut, specs.Items.{Item, end_item, items_of_cut, items_text}, specs.Reading.all_parts}
 use Rattle.yq_row_table.specs.Rows.{Cut, cut_text}
@@ -8,7 +8,7 @@ abbrev pub no_items : List Item → Bool
 no_items [] = true
 no_items (x ∷ xs) = false
 
--- These items stand in the cut of a text, behind some and before others; one of the two last lists isn't empty (own).
+-- These items are in the cut of a text, after some and before others; one of the two last lists isn't empty (own).
 pub record StandIn (xs back : List Item) : Type 0 where
   pub text : List ℕ
   pub cut : Cut
@@ -21,7 +21,7 @@ pub record StandIn (xs back : List Item) : Type 0 where
 abbrev pub ended : List Item → (gap marker : List ℕ) → List Item
 ended xs gap marker = xs ++ (end_item gap marker ∷ [])
 
--- what is read of these items alone: they, and an empty end behind them where they are not the last ones (own)
+-- what is read of these items alone: they, and an empty end after them where they are not the last ones (own)
 abbrev pub region_items : List Item → List Item → List Item
 region_items xs back = if no_items back then xs else ended xs [] []
 

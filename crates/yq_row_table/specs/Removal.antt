@@ -1,4 +1,4 @@
--- Rows taken away, and the gap that then stands in their place.
+-- Rows taken away, and the gap that then is in their place.
 use Rattle.std.specs.Prelude.{◌≡◌, ℕ, Bool, true, false, ◌||◌, not, List, [], ◌∷◌, ◌++◌, take, drop, ◌<◌, Option, Some, None, if◌then◌else◌}
 use Rattle.yq_core.{specs.Block.{BlockText, keeps}, specs.BlockRepair.repair, specs.Lines.is_blank, specs.Text.{joined, text_lines}}
 use Rattle.yq_row_table.{specs.Exchange.allows_first, specs.Grammar.no_rows, specs.Rows.{Content, Nothing, Inline, Block, Row, Part, Cut}}
@@ -24,7 +24,7 @@ abbrev pub hold_comment : List (List ℕ) → Bool
 hold_comment [] = false
 hold_comment (l ∷ ls) = not (is_blank l) || hold_comment ls
 
--- The gap in which a gap comes to stand behind what stays of another one: behind a block scalar, if no comment stays in front of it, it is repaired
+-- The gap in which a gap ends up after what stays of another one: after a block scalar, if no comment stays in front of it, it is repaired
 -- (own).
 abbrev pub seam_gap : Option BlockText → (column : ℕ) → (kept next : List ℕ) → List ℕ
 seam_gap None column kept next = kept ++ next
@@ -50,7 +50,7 @@ abbrev pub without_rows : (k i j : ℕ) → (kept : List (List ℕ)) → Cut →
 without_rows k i j kept c = splice k i j [] (removed_gap i j kept (nth_part k c)) c
 
 -- Rows from i up to j of part k may be taken away, of which there are some, and the front of the gap before them stays: the next row may follow, and
--- stands before the column of a block scalar's text (own).
+-- comes before the column of a block scalar's text (own).
 pub record RepairFits (k i j : ℕ) (kept run : List (List ℕ)) (c : Cut) : Type 0 where
   pub some : no_rows (back_rows k i c) ≡ false
   pub lines : text_lines (gap_before k i c) ≡ kept ++ run

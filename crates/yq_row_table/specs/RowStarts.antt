@@ -3,7 +3,7 @@ use Rattle.std.{specs.Prelude.{ℕ, ◌+◌, ◌*◌, nat_le, length, take, if�
 use Rattle.yq_core.specs.Text.{is_empty}
 use Rattle.yq_row_table.{specs.Offsets.row_length, specs.View.{Slices, Bound, RowsView}}
 
--- how long the end of a part is, with the marker behind it (own)
+-- how long the end of a part is, with the marker after it (own)
 abbrev pub bound_length : Bound → ℕ
 bound_length b = length b.end + length b.marker
 

@@ -2,27 +2,27 @@
 use Rattle.std.specs.Prelude.{ℕ, zero, suc, ◌+◌, ℤ, pos, negsuc, List, [], ◌∷◌, ◌++◌, replicate, Option, Some, None}
 use Rattle.yq_core.{specs.Block.{BlockText, block_text}, specs.Nodes.{FlowNode, node_text}}
 
--- what a row begins with behind the dashes before it: the content itself, a dash, or a key with the white space and `:` behind it (YAML 1.2.2,
+-- what a row begins with after the dashes before it: the content itself, a dash, or a key with the white space and `:` after it (YAML 1.2.2,
 -- sections 8.2.1 and 8.2.2)
 pub data RowMark : Type 0 where
   Bare : RowMark
   Dash : RowMark
   Key : (key colon : List ℕ) → RowMark
 
--- An anchor before a block scalar, by its name and the white space behind it (YAML 1.2.2, section 6.9.2).
+-- An anchor before a block scalar, by its name and the white space after it (YAML 1.2.2, section 6.9.2).
 pub record Anchor : Type 0 where
   pub name : List ℕ
   pub gap : List ℕ
 
--- what stands behind a row's mark: nothing or an inline node, with the tail that ends the line, or a block scalar with its lines (YAML 1.2.2,
+-- what comes after a row's mark: nothing or an inline node, with the tail that ends the line, or a block scalar with its lines (YAML 1.2.2,
 -- sections 7 and 8.1)
 pub data Content : Type 0 where
   Nothing : (tail : List ℕ) → Content
   Inline : (space : List ℕ) → FlowNode → (tail : List ℕ) → Content
   Block : (space : List ℕ) → Option Anchor → BlockText → Content
 
--- A row, by its pieces in order: its gap, how many spaces stand behind that, the dashes before its mark, each by how many spaces stand behind it,
--- the mark, and what stands behind the mark (YAML 1.2.2, section 8.2; own).
+-- A row, by its pieces in order: its gap, how many spaces come after that, the dashes before its mark, each by how many spaces come after it,
+-- the mark, and what comes after the mark (YAML 1.2.2, section 8.2; own).
 pub record Row : Type 0 where
   pub gap : List ℕ
   pub column : ℕ
@@ -46,21 +46,21 @@ abbrev pub anchor_text : Option Anchor → List ℕ → List ℕ
 anchor_text None rest = rest
 anchor_text (Some a) rest = 38 ∷ (a.name ++ (a.gap ++ rest))
 
--- the text of what stands behind a mark, before a rest (own)
+-- the text of what comes after a mark, before a rest (own)
 abbrev pub content_text : Content → List ℕ → List ℕ
 content_text (Nothing tail) rest = tail ++ rest
 content_text (Inline space node tail) rest = space ++ node_text node (tail ++ rest)
 content_text (Block space anchor block) rest = space ++ anchor_text anchor (block_text block rest)
 
--- what stands behind a row's dashes, before a rest (own)
+-- what comes after a row's dashes, before a rest (own)
 abbrev pub behind_dashes : Row → List ℕ → List ℕ
 behind_dashes r rest = mark_text r.mark (content_text r.content rest)
 
--- what stands behind a row's indentation, before a rest (own)
+-- what comes after a row's indentation, before a rest (own)
 abbrev pub behind_indent : Row → List ℕ → List ℕ
 behind_indent r rest = dashes_text r.dashes (behind_dashes r rest)
 
--- what stands behind a row's gap, before a rest (own)
+-- what comes after a row's gap, before a rest (own)
 abbrev pub behind_gap : Row → List ℕ → List ℕ
 behind_gap r rest = replicate r.column 32 ++ behind_indent r rest
 
@@ -73,7 +73,7 @@ abbrev pub rows_text : List Row → List ℕ → List ℕ
 rows_text [] rest = rest
 rows_text (r ∷ rs) rest = print_row r (rows_text rs rest)
 
--- the column behind dashes that begin at a column (own)
+-- the column after dashes that begin at a column (own)
 abbrev pub behind_columns : ℕ → List ℕ → ℕ
 behind_columns column [] = column
 behind_columns column (n ∷ ns) = behind_columns (suc (column + n)) ns
@@ -87,17 +87,17 @@ abbrev pub before_column : ℕ → ℤ
 before_column zero = negsuc 0
 before_column (suc n) = pos n
 
--- the parent indentation of what stands behind a mark in a column: that column, or, without a key or dash, one less (YAML 1.2.2, section 6.1; own)
+-- the parent indentation of what comes after a mark in a column: that column, or, without a key or dash, one less (YAML 1.2.2, section 6.1; own)
 abbrev pub parent_of : RowMark → ℕ → ℤ
 parent_of Bare column = before_column column
 parent_of Dash column = pos column
 parent_of (Key key colon) column = pos column
 
--- the parent indentation of what stands behind a row's mark (own)
+-- the parent indentation of what comes after a row's mark (own)
 abbrev pub parent_indent : Row → ℤ
 parent_indent r = parent_of r.mark (mark_column r)
 
--- The rows between two markers or the ends of the text, and the gap behind the last of them (YAML 1.2.2, section 9.1; own).
+-- The rows between two markers or the ends of the text, and the gap after the last of them (YAML 1.2.2, section 9.1; own).
 pub record Part : Type 0 where
   pub rows : List Row
   pub end : List ℕ
@@ -106,7 +106,7 @@ pub record Part : Type 0 where
 abbrev pub part_text : Part → List ℕ → List ℕ
 part_text p rest = rows_text p.rows (p.end ++ rest)
 
--- a text as its parts: the last one, or one with the line of the marker behind it, and the parts that follow (YAML 1.2.2, section 9.1)
+-- a text as its parts: the last one, or one with the line of the marker after it, and the parts that follow (YAML 1.2.2, section 9.1)
 pub data Cut : Type 0 where
   last : Part → Cut
   marked : Part → (marker : List ℕ) → Cut → Cut

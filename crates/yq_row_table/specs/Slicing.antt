@@ -11,7 +11,7 @@ use Rattle.yq_row_table.specs.View.{Slices, Bound, RowsView, last_dash, key_of_m
 use Rattle.yq_row_table.specs.View.{rows_view}
 use Rattle.yq_core.specs.declared.style.Style.TheVariants as styles
 
--- The dashes in front with a last one that is the mark, how many columns stand before the mark, the mark, and what follows (own).
+-- The dashes in front with a last one that is the mark, how many columns come before the mark, the mark, and what follows (own).
 pub record Begun : Type 0 where
   pub dashes : List ℕ
   pub columns : ℕ
@@ -26,7 +26,7 @@ begun m = record { dashes = dashes_text m.0 (last_dash m.1); columns = behind_co
 abbrev pub with_dashes : List ℕ → Begun → Begun
 with_dashes p b = record { dashes = p ++ b.dashes; columns = length p + b.columns; mark = b.mark; rest = b.rest }
 
--- What stands behind a mark, by its pieces; whether it is a plain scalar, whether it may stand on a line of its own, and what follows (own).
+-- What comes after a mark, by its pieces; whether it is a plain scalar, whether it may be on a line of its own, and what follows (own).
 pub record Filled : Type 0 where
   pub space : List ℕ
   pub anchor : List ℕ
@@ -38,13 +38,13 @@ pub record Filled : Type 0 where
   pub alone : Bool
   pub rest : List ℕ
 
--- a plain scalar stands behind a mark (own)
+-- a plain scalar comes after a mark (own)
 abbrev pub holds_plain : Content → Bool
 holds_plain (Nothing tail) = false
 holds_plain (Inline space node tail) = is_plain_content node
 holds_plain (Block space anchor block) = false
 
--- what stands behind a mark and what follows, as the code lends them (own)
+-- what comes after a mark and what follows, as the code lends them (own)
 abbrev pub borrowed_content : Content × List ℕ → Filled
 borrowed_content x = let c = content_cut x.0 in record {
   space = c.0;
@@ -58,7 +58,7 @@ borrowed_content x = let c = content_cut x.0 in record {
   rest = x.1;
 }
 
--- what stands behind a mark, as the code lends it (own)
+-- what comes after a mark, as the code lends it (own)
 abbrev pub filled_at : ℤ → List ℕ → Option Filled
 filled_at n t = read_content n t >>= λ x. Some (borrowed_content x)
 
@@ -91,7 +91,7 @@ row_of gap column b f = let n = parent_of b.mark (column + b.columns) in (
   f.rest,
 )
 
--- a row behind its gap and indentation, whose marks were read (own)
+-- a row after its gap and indentation, whose marks were read (own)
 abbrev pub marked_sliced : List ℕ → ℕ → Begun → Option SlicedRow
 marked_sliced gap column b =
     filled_at (parent_of b.mark (column + b.columns)) b.rest >>= λ f. if is_entry b.mark || f.alone then Some (row_of gap column b f) else None
@@ -100,7 +100,7 @@ marked_sliced gap column b =
 abbrev pub sliced : Row × List ℕ → SlicedRow
 sliced x = (slices x.0, limit_after x.0, x.1)
 
--- a row behind its gap, as the code lends it (own)
+-- a row after its gap, as the code lends it (own)
 abbrev pub row_sliced : Limit → List ℕ → List ℕ → Option SlicedRow
 row_sliced limit gap t = row_at limit gap t >>= λ x. Some (sliced x)
 
@@ -108,7 +108,7 @@ row_sliced limit gap t = row_at limit gap t >>= λ x. Some (sliced x)
 abbrev pub SlicedPart : Type 0
 SlicedPart = List Slices × List ℕ × List ℕ
 
--- the rows of a part behind others, its gap, and what follows (own)
+-- the rows of a part after others, its gap, and what follows (own)
 abbrev pub part_behind : List Slices → Part × List ℕ → SlicedPart
 part_behind rows x = (rows ++ map slices x.0.rows, x.0.end, x.1)
 
@@ -120,7 +120,7 @@ rows_sliced rows read = read >>= λ x. Some (part_behind rows x)
 abbrev pub anchor_len : List ℕ → ℕ
 anchor_len t = if begins_with 38 t then suc (upto (unless in_name) (drop 1 t)) else 0
 
--- the text cut behind an anchor in front (own)
+-- the text cut after an anchor in front (own)
 abbrev pub cut_anchor : List ℕ → List ℕ × List ℕ
 cut_anchor t = (take (anchor_len t) t, drop (anchor_len t) t)
 
@@ -128,7 +128,7 @@ cut_anchor t = (take (anchor_len t) t, drop (anchor_len t) t)
 abbrev pub read_view : Option Cut → Option RowsView
 read_view read = read >>= λ c. Some (rows_view c)
 
--- an anchor in front, the white space behind it, and what follows (own)
+-- an anchor in front, the white space after it, and what follows (own)
 abbrev pub cut_apart : List ℕ → List ℕ × List ℕ × List ℕ
 cut_apart t = if begins_with 38 t then ((cut_anchor t).0, (cut no_white (cut_anchor t).1).0, (cut no_white (cut_anchor t).1).1) else ([], [], t)
 
@@ -136,7 +136,7 @@ cut_apart t = if begins_with 38 t then ((cut_anchor t).0, (cut no_white (cut_anc
 abbrev pub cut_lead : Bool → List ℕ → List ℕ × List ℕ
 cut_lead bare t = if bare then ([], t) else cut no_white t
 
--- nothing, perhaps behind an anchor (own)
+-- nothing, perhaps after an anchor (own)
 abbrev pub nothing_placed : Placed → Bool
 nothing_placed (placed a s c e f) = bare_in None f
 
@@ -156,7 +156,7 @@ plain_in (text s p) = is_plain_style p.style
 plain_in (sequence s) = false
 plain_in (mapping s) = false
 
--- a plain scalar, perhaps behind an anchor (own)
+-- a plain scalar, perhaps after an anchor (own)
 abbrev pub plain_placed : Placed → Bool
 plain_placed (placed a s c e f) = plain_in f
 
@@ -164,15 +164,15 @@ plain_placed (placed a s c e f) = plain_in f
 abbrev pub begins_other : List ℕ → Bool
 begins_other t = front (λ b. b == 38 || b == 42 || b == 91 || b == 123) t
 
--- an inline node behind white space, as the code lends it (own)
+-- an inline node after white space, as the code lends it (own)
 abbrev pub inline_sliced : ℤ → List ℕ → List ℕ → Option Filled
 inline_sliced n space t = inline_content_at n space t >>= λ x. Some (borrowed_content x)
 
--- a block scalar behind white space, as the code lends it (own)
+-- a block scalar after white space, as the code lends it (own)
 abbrev pub block_sliced : ℤ → List ℕ → List ℕ → Option Filled
 block_sliced n space t = block_content_at n space t >>= λ x. Some (borrowed_content x)
 
--- parts behind rows and bounds (own)
+-- parts after rows and bounds (own)
 abbrev pub behind_parts : List Slices → List Bound → Cut → RowsView
 behind_parts rows bounds c = record { rows = rows ++ map slices (rows_of c); bounds = bounds ++ bounds_from (length rows) c }
 

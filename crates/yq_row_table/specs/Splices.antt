@@ -1,4 +1,4 @@
--- Splices: a cut, of which other rows stand in the place of some, with the gap behind them.
+-- Splices: a cut, of which other rows are in the place of some, with the gap after them.
 use Rattle.std.specs.Prelude.{◌≡◌, ◌≤◌, ℕ, zero, suc, Bool, true, List, [], ◌∷◌, ◌++◌, length, take, drop}
 use Rattle.yq_core.specs.Characters.{is_text}
 use Rattle.yq_text.specs.Limit.{text_limit}
@@ -14,7 +14,7 @@ abbrev pub with_first_gap : List ℕ → List Row → List Row
 with_first_gap gap [] = []
 with_first_gap gap (r ∷ rs) = with_row_gap gap r ∷ rs
 
--- the gap behind rows, where a gap is put in front of them (own)
+-- the gap after rows, where a gap is put in front of them (own)
 abbrev pub end_gap : List ℕ → List Row → List ℕ → List ℕ
 end_gap gap [] end = gap
 end_gap gap (r ∷ rs) end = end
@@ -24,12 +24,12 @@ abbrev pub first_gap : List Row → List ℕ → List ℕ
 first_gap [] end = end
 first_gap (r ∷ rs) end = r.gap
 
--- what stands behind the gap in front of rows (own)
+-- what comes after the gap in front of rows (own)
 abbrev pub behind_first : List Row → List ℕ → List ℕ → List ℕ
 behind_first [] end rest = rest
 behind_first (r ∷ rs) end rest = behind_gap r (rows_text rs (end ++ rest))
 
--- a part, whose rows from i up to j are others, with this gap behind them (own)
+-- a part, whose rows from i up to j are others, with this gap after them (own)
 abbrev pub splice_part : (i j : ℕ) → List Row → List ℕ → Part → Part
 splice_part i j new gap p = record { rows = take i p.rows ++ (new ++ with_first_gap gap (drop j p.rows)); end = end_gap gap (drop j p.rows) p.end }
 
@@ -45,13 +45,13 @@ nth_part k (last p) = p
 nth_part zero (marked p marker c) = p
 nth_part (suc k) (marked p marker c) = nth_part k c
 
--- the text behind that part (own)
+-- the text after that part (own)
 abbrev pub behind_part : ℕ → Cut → List ℕ
 behind_part k (last p) = []
 behind_part zero (marked p marker c) = marker ++ cut_text c
 behind_part (suc k) (marked p marker c) = behind_part k c
 
--- the marker before that part; before the first one stands this text (own)
+-- the marker before that part; before the first one is this text (own)
 abbrev pub marker_before : List ℕ → ℕ → Cut → List ℕ
 marker_before before k (last p) = before
 marker_before before zero (marked p marker c) = before
@@ -89,19 +89,19 @@ before_rows k i (last p) = rows_text (take i p.rows) []
 before_rows zero i (marked p marker c) = rows_text (take i p.rows) []
 before_rows (suc k) i (marked p marker c) = part_text p (marker ++ before_rows k i c)
 
--- the text of a cut behind the gap before row j of part k (own)
+-- the text of a cut after the gap before row j of part k (own)
 abbrev pub behind_rows : (k j : ℕ) → Cut → List ℕ
 behind_rows k j c = behind_first (back_rows k j c) (nth_part k c).end (behind_part k c)
 
--- a row of part k stands between the rows before it and those behind it (own)
+-- a row of part k is between the rows before it and those after it (own)
 abbrev pub StandsBetween : (k : ℕ) → List Row → Row → List Row → Cut → Type 0
 StandsBetween k front r back c = (nth_part k c).rows ≡ front ++ (r ∷ back)
 
--- the text of a cut behind a row of part k, where these rows of the part are behind it (own)
+-- the text of a cut after a row of part k, where these rows of the part are after it (own)
 abbrev pub rest_behind : (k : ℕ) → List Row → Cut → List ℕ
 rest_behind k back c = rows_text back ((nth_part k c).end ++ behind_part k c)
 
--- a cut, in which rows, with a gap behind them, stand in the place of the row behind these in part k (own)
+-- a cut, in which rows, with a gap after them, are in the place of the row after these in part k (own)
 abbrev pub replace_row : (k : ℕ) → List Row → List Row → List ℕ → Cut → Cut
 replace_row k front new gap c = splice k (length front) (suc (length front)) new gap c
 

@@ -1,4 +1,4 @@
--- Which rows and ends of parts a change of a text touches, by the bytes that it keeps in front and behind (own).
+-- Which rows and ends of parts a change of a text touches, by the bytes that it keeps before and after (own).
 use Rattle.std.specs.Prelude.{◌≡◌, ℕ, ◌-◌, nat_lt, List, [], ◌∷◌, ◌++◌, length, if◌then◌else◌}
 use Rattle.yq_row_table.{specs.Items.{Item, row_item, end_item, items_of_cut, items_text}, specs.Rows.{print_row, Cut}}
 
@@ -12,13 +12,13 @@ abbrev pub in_front : ℕ → List Item → List Item
 in_front n [] = []
 in_front n (i ∷ is) = if nat_lt (length (item_text i)) n then i ∷ in_front (n - length (item_text i)) is else []
 
--- the items that begin behind the place that is so many bytes in front of the end of their text (own)
+-- the items that begin after the place that is so many bytes in front of the end of their text (own)
 abbrev pub in_back : ℕ → List Item → List Item
 in_back n [] = []
 in_back n (i ∷ is) = if nat_lt (length (items_text (i ∷ is) [])) n then i ∷ is else in_back n is
 
--- The items of a cut that lie neither in front of so many bytes nor behind that many others at its end are exchanged, and no others: those that neither
--- end in front of the first bytes' end nor begin behind the last bytes' beginning. The other ones are those of the new cut that do so (own).
+-- The items of a cut that lie neither in front of so many bytes nor after that many others at its end are exchanged, and no others: those that neither
+-- end in front of the first bytes' end nor begin after the last bytes' beginning. The other ones are those of the new cut that do so (own).
 pub record TouchesOnly (front_kept back_kept : ℕ) (c new : Cut) : Type 0 where
   pub touched : List Item
   pub written : List Item

@@ -6,8 +6,8 @@ use Rattle.yq_row_table.specs.Rows.{last, marked}
 use Rattle.yq_row_table.specs.declared.row.Row as declared
 use Rattle.yq_row_table.specs.declared.ends.Bound as ends
 
--- The pieces of a row as texts: its gap, its column, its dashes, its key and what stands behind it up to the `:`, the white space behind these, an
--- anchor, the white space behind it, the head, the tail, and the raw lines of a block scalar; and the parent indentation of what stands behind its
+-- The pieces of a row as texts: its gap, its column, its dashes, its key and what comes after it up to the `:`, the white space after these, an
+-- anchor, the white space after it, the head, the tail, and the raw lines of a block scalar; and the parent indentation of what comes after its
 -- mark (own).
 pub record Slices : Type 0 where
   pub gap : List ℕ
@@ -35,13 +35,13 @@ key_of_mark Bare = []
 key_of_mark Dash = []
 key_of_mark (Key key colon) = key
 
--- what stands behind the key of a mark up to the `:` (own)
+-- what comes after the key of a mark up to the `:` (own)
 abbrev pub colon_of : RowMark → List ℕ
 colon_of Bare = []
 colon_of Dash = []
 colon_of (Key key colon) = colon
 
--- an anchor, the white space behind it, and what is behind that (own)
+-- an anchor, the white space after it, and what is after that (own)
 abbrev pub anchor_cut : FlowNode → List ℕ × List ℕ × List ℕ
 anchor_cut empty = ([], [], [])
 anchor_cut (alias name) = ([], [], node_text (alias name) [])
@@ -54,12 +54,12 @@ abbrev pub anchor_with_sign : Option Anchor → List ℕ
 anchor_with_sign None = []
 anchor_with_sign (Some a) = 38 ∷ a.name
 
--- the white space behind an anchor (own)
+-- the white space after an anchor (own)
 abbrev pub apart_of : Option Anchor → List ℕ
 apart_of None = []
 apart_of (Some a) = a.gap
 
--- the white space, the anchor, the white space behind it, the head, the tail and the raw lines (own)
+-- the white space, the anchor, the white space after it, the head, the tail and the raw lines (own)
 abbrev pub content_cut : Content → List ℕ × List ℕ × List ℕ × List ℕ × List ℕ × List ℕ
 content_cut (Nothing tail) = ([], [], [], [], tail, [])
 content_cut (Inline space node tail) = (space, (anchor_cut node).0, (anchor_cut node).1, (anchor_cut node).2, tail, [])
@@ -87,14 +87,14 @@ abbrev pub rows_of : Cut → List Row
 rows_of (last p) = p.rows
 rows_of (marked p marker c) = p.rows ++ rows_of c
 
--- The gap behind the rows of a part, and the line of the marker behind that, which the last part has not; and how many rows stand before the next
+-- The gap after the rows of a part, and the line of the marker after that, which the last part has not; and how many rows come before the next
 -- part (own).
 pub record Bound : Type 0 where
   pub rows : ℕ
   pub end : List ℕ
   pub marker : List ℕ
 
--- the bounds of the parts of a cut, before which so many rows stand (own)
+-- the bounds of the parts of a cut, before which so many rows are (own)
 abbrev pub bounds_from : ℕ → Cut → List Bound
 bounds_from n (last p) = record { rows = n + length p.rows; end = p.end; marker = [] } ∷ []
 bounds_from n (marked p marker c) = record { rows = n + length p.rows; end = p.end; marker = marker } ∷ bounds_from (n + length p.rows) c
@@ -103,7 +103,7 @@ bounds_from n (marked p marker c) = record { rows = n + length p.rows; end = p.e
 abbrev pub bounds_of : Cut → List Bound
 bounds_of c = bounds_from 0 c
 
--- those bounds before which i rows stand (own)
+-- those bounds before which i rows are (own)
 abbrev pub bounds_at : ℕ → List Bound → List Bound
 bounds_at i [] = []
 bounds_at i (b ∷ bs) = if i == b.rows then b ∷ bounds_at i bs else bounds_at i bs

@@ -2,7 +2,7 @@
 ghost use Rattle.std.specs.Prelude.{◌≡◌, ◌≤◌, ◌==◌};
 ghost use Rattle.yq_row_table.specs.Rows as rows;
 
-/// How many characters a key may have, and how many its `:` may stand behind its first one.
+/// How many characters a key may have, and how many its `:` may come after its first one.
 pub const KEY_LIMIT: usize = 1024;
 
 /// One column less, from -1 on.

@@ -6,20 +6,20 @@ ghost use Rattle.yq_row_table.specs.Ends as spec;
 /// The end of a part: the rows between two markers or the ends of the text.
 #[derive(Clone, Copy)]
 pub struct Bound<'t> {
-    /// How many rows stand before it, from the beginning of the text.
+    /// How many rows come before it, from the beginning of the text.
     pub rows: usize,
-    /// The gap behind the part's last row.
+    /// The gap after the part's last row.
     pub end: &'t str,
-    /// The line of the marker behind that gap; behind the last part there is none.
+    /// The line of the marker after that gap; after the last part there is none.
     pub marker: &'t str,
 }
 
-/// Where a part ends in its text: how many rows stand before it, where the gap there begins, and how
+/// Where a part ends in its text: how many rows come before it, where the gap there begins, and how
 /// long that gap and the line of the marker are, in bytes, each below the limit of a text's length,
 /// which a `u32` holds.
 #[derive(Clone, Copy)]
 pub struct EndPlace {
-    /// How many rows stand before it, from the beginning of the text.
+    /// How many rows come before it, from the beginning of the text.
     pub rows: usize,
     pub start: u32,
     pub gap: u32,
@@ -27,28 +27,28 @@ pub struct EndPlace {
 }
 
 impl EndPlace {
-    /// How many bytes stand before the end, which begins with its gap.
+    /// How many bytes come before the end, which begins with its gap.
     pub fn start(self) -> usize
         ensures { result ≡ self.start }
     {
         self.start as usize
     }
 
-    /// How many bytes stand before what is behind its gap.
+    /// How many bytes come before what is after its gap.
     pub fn stop(self) -> usize
         ensures { result ≡ self.start + self.gap }
     {
         self.start as usize + self.gap as usize
     }
 
-    /// How long the line of the marker behind its gap is, in bytes; behind the last part there is none.
+    /// How long the line of the marker after its gap is, in bytes; after the last part there is none.
     pub fn marker(self) -> usize
         ensures { result ≡ self.marker }
     {
         self.marker as usize
     }
 
-    /// The same end where so many rows and so many bytes stand before it.
+    /// The same end where so many rows and so many bytes come before it.
     pub fn moved(self, rows: usize, start: usize) -> EndPlace
         requires { start < 2 ^ 32 }
         ensures { result ≡ moved_end rows start self }

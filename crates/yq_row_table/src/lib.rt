@@ -1,4 +1,4 @@
-//! Rows of a text: what a cut into rows is, its laws, and cuts kept by where their rows stand.
+//! Rows of a text: what a cut into rows is, its laws, and cuts kept by where their rows are.
 #![tactic(auto)]
 
 mod block;

@@ -1,4 +1,4 @@
-//! Where the rows of a text stand in it.
+//! Where the rows of a text are in it.
 ghost use Rattle.std.specs.Prelude.{◌≡◌, ◌<◌, ◌+◌, ◌-◌, ◌^◌};
 ghost use Rattle.yq_row_table.{specs.Kept.{raised, row_from_end}, specs.RowStarts.row_level, specs.View.{Slices, row_view}};
 ghost use Rattle.yq_row_table.specs.Offsets as spec;
@@ -41,7 +41,7 @@ impl Offsets {
         }
     }
 
-    /// The same row where so many bytes more stand before it.
+    /// The same row where so many bytes more come before it.
     pub fn raised(self, by: usize) -> Offsets
         requires { self.start + by < 2 ^ 32 }
         ensures { result ≡ raised by self }
@@ -52,7 +52,7 @@ impl Offsets {
         }
     }
 
-    /// How many bytes stand before the row, with its gap.
+    /// How many bytes come before the row, with its gap.
     #[inline]
     pub fn start(&self) -> usize
         ensures { result ≡ self.now.start }
@@ -76,7 +76,7 @@ impl Offsets {
         3 * self.column as usize + mark
     }
 
-    /// The parent indentation of what stands behind the row's mark: the column of its key, else one
+    /// The parent indentation of what comes after the row's mark: the column of its key, else one
     /// column less than its indentation and its dashes take.
     fn parent(&self) -> i64
         ensures { result ≡ spec.parent_by (self.now.column + self.now.dashes) self.now.colon }

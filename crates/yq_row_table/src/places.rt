@@ -1,4 +1,4 @@
-//! Where the rows of a text and the ends of its parts stand, kept without the text.
+//! Where the rows of a text and the ends of its parts are, kept without the text.
 ghost use Rattle.std.specs.Prelude.{◌≡◌, ◌<◌, ◌^◌, ℕ, [], Some, length, slice_get};
 ghost use Rattle.yq_text.specs.Halves.{whole};
 ghost use Rattle.yq_row_table.{specs.Grammar.IsCut, specs.Items.view_of_items, specs.Kept.{IsPlaced, kept_rows, placed_rows}};
@@ -10,19 +10,19 @@ use crate::rows::Rows;
 use std::alloc::Global;
 use yq_text::Halves;
 
-/// Where the rows of a text and the ends of its parts stand, on both sides of a split of the text, which
-/// is between two of them. Rows in front of it are kept by how far from the text's beginning they stand,
-/// those behind it by how far from its end, the last one first: so that rows stay as they are where the
+/// Where the rows of a text and the ends of its parts are, on both sides of a split of the text, which
+/// is between two of them. Rows in front of it are kept by how far from the text's beginning they are,
+/// those after it by how far from its end, the last one first: so that rows stay as they are where the
 /// text changes between the two.
 #[derive(Drop)]
 pub struct Places {
     /// The rows in front of the split, each by how far from the beginning of the text it begins.
     pub front: Vec<Offsets>,
-    /// The rows behind the split, the last one first, each by how far from the end of the text it begins.
+    /// The rows after the split, the last one first, each by how far from the end of the text it begins.
     pub behind: Vec<Offsets>,
     /// The ends of all parts, each by how far from the beginning of the text it begins.
     pub ends: Vec<EndPlace>,
-    /// How many bytes of the text stand in front of the split.
+    /// How many bytes of the text are in front of the split.
     pub split: usize,
 }
 
@@ -46,7 +46,7 @@ impl Places {
         self.front.len() + self.behind.len()
     }
 
-    /// Where row `i`, counted from 0, stands, as it is kept.
+    /// Where row `i`, counted from 0, is, as it is kept.
     #[inline]
     pub(crate) fn kept(&self, i: usize) -> &Offsets
         requires { i < length (kept_rows self.now) }
@@ -59,7 +59,7 @@ impl Places {
         }
     }
 
-    /// Where row `i`, counted from 0, stands in the text of so many bytes.
+    /// Where row `i`, counted from 0, is in the text of so many bytes.
     pub fn place(&self, i: usize, len: usize) -> Offsets
         requires small { len < 2 ^ 32 }
         requires within { i < length (kept_rows self.now) }
@@ -71,7 +71,7 @@ impl Places {
         self.behind[self.behind.len() - 1 - (i - self.front.len())].turned(len)
     }
 
-    /// The rows of the text in which they stand, borrowed in two halves at the split.
+    /// The rows of the text in which they are, borrowed in two halves at the split.
     pub fn rows<'t>(self, text: Halves<'t>) -> Rows<'t>
         requires split { length text.front.now ≡ self.split }
         requires placed { (c : Cut) × IsCut (whole text) c × IsPlaced self (rows_view c) }

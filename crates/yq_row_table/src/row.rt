@@ -28,7 +28,7 @@ impl<'t> Row<'t> {
         self.gap
     }
 
-    /// How many spaces stand before the row's first dash, its key or its head.
+    /// How many spaces come before the row's first dash, its key or its head.
     pub fn column(&self) -> usize
         ensures { result ≡ (row_view self.now).column }
     {
@@ -49,7 +49,7 @@ impl<'t> Row<'t> {
         self.key
     }
 
-    /// The white space behind the key, and its `:`.
+    /// The white space after the key, and its `:`.
     pub fn colon(&self) -> &'t str
         ensures { result.now ≡ (row_view self.now).colon }
     {

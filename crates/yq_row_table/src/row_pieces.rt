@@ -1,5 +1,5 @@
 //! Pieces of rows by their number, without making the rows.
-ghost use Rattle.std.specs.Prelude.{◌≡◌, ◌<◌, Some, length, not, slice_get};
+ghost use Rattle.std.specs.Prelude.{◌≡◌, ◌<◌, ◌++◌, Some, length, not, slice_get};
 ghost use Rattle.yq_core.specs.Text.{is_empty};
 ghost use Rattle.yq_row_table.specs.View.{Slices};
 
@@ -67,6 +67,17 @@ impl<'t> Rows<'t> {
         row.tail(text)
     }
 
+    /// Row `i` from its head on: the head, what ends its line, and the lines of a block scalar.
+    #[inline]
+    pub fn from_head(&self, i: usize) -> &'t str
+        requires { i < length self.now.rows }
+        ensures { (s : Slices) → slice_get self.now.rows i ≡ Some s → result.now ≡
+            s.head ++ (s.tail ++ s.raw) }
+    {
+        let (row, text) = self.found(i);
+        row.from_head(text)
+    }
+
     /// Whether row `i` has dashes.
     #[inline]
     pub fn has_dashes(&self, i: usize) -> bool
@@ -77,7 +88,7 @@ impl<'t> Rows<'t> {
         self.places.kept(i).has_dashes()
     }
 
-    /// Whether row `i` has a colon behind its key.
+    /// Whether row `i` has a colon after its key.
     #[inline]
     pub fn has_colon(&self, i: usize) -> bool
         requires { i < length self.now.rows }

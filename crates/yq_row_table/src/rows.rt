@@ -1,4 +1,4 @@
-//! The rows of a text, kept by where they stand.
+//! The rows of a text, kept by where they are.
 ghost use Rattle.std.specs.Prelude.{◌≡◌, ◌<◌, ◌≤◌, ◌-◌, ℕ, List, drop, length, option_map, take, Some, slice_get};
 ghost use Rattle.yq_row_table.{specs.Grammar.IsCut, specs.Kept.{HavePlaces, IsPlaced, halves_view}};
 ghost use Rattle.yq_row_table.{specs.Offsets.{AreCuts, lengths, pieces_of}, specs.Removal.{block_numbers, block_of}};
@@ -16,7 +16,7 @@ use std::marker::Model;
 use yq_text::Halves;
 
 /// The rows of a text in two halves, and the gaps and markers that belong to no row. A row is kept by
-/// where it stands in one of the halves, and made anew each time.
+/// where it is in one of the halves, and made anew each time.
 #[derive(Drop)]
 pub struct Rows<'t> {
     pub(crate) text: Halves<'t>,
@@ -32,7 +32,7 @@ impl<'t> Model for Rows<'t> {
 }
 
 impl<'t> Rows<'t> {
-    /// The rows that stand at these places of a text in two halves.
+    /// The rows that are at these places of a text in two halves.
     pub fn of(text: Halves<'t>, places: Places) -> Rows<'t>
         requires { HavePlaces text places }
         ensures { result ≡ halves_view text.entry places }
@@ -40,7 +40,7 @@ impl<'t> Rows<'t> {
         Rows { text, places }
     }
 
-    /// Where they stand, without the text.
+    /// Where they are, without the text.
     pub fn into_places(self) -> Places
         ensures { IsPlaced result self.entry }
     {
@@ -54,7 +54,7 @@ impl<'t> Rows<'t> {
         self.places.len()
     }
 
-    /// Where row `i`, counted from 0, is kept, and what stands from there on in its half of the text.
+    /// Where row `i`, counted from 0, is kept, and what is from there on in its half of the text.
     #[inline]
     pub(crate) fn found(&self, i: usize) -> (&Offsets, &'t str)
         requires { i < length self.now.rows }
@@ -135,7 +135,7 @@ impl<'t> Rows<'t> {
         end.bound(self.text.back.split_at(start - split).1)
     }
 
-    /// Where part `i` ends in the text, counted from 0, behind its last gap, in bytes.
+    /// Where part `i` ends in the text, counted from 0, after its last gap, in bytes.
     pub fn part_end(&self, i: usize) -> usize
         requires { i < length self.now.bounds }
         ensures { (b : ends.Bound) → slice_get self.now.bounds i ≡ Some b → result ≡
@@ -161,7 +161,7 @@ impl<'t> Rows<'t> {
     }
 }
 
-/// Whether a document begins behind the line of this marker (YAML 1.2.2,
+/// Whether a document begins after the line of this marker (YAML 1.2.2,
 /// section 9.1.2).
 pub fn begins_document(marker: &[u8]) -> bool
     ensures { result ≡ grammar.begins_document marker.now }

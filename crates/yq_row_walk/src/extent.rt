@@ -1,4 +1,4 @@
-//! Where what rows spell stands in their text.
+//! Where what rows spell is in their text.
 ghost use Rattle.std.specs.Prelude.{◌≡◌, ◌<◌, ◌≤◌, ◌-◌, length, slice_get, Some};
 ghost use Rattle.yq_text.specs.Limit.{text_limit};
 ghost use Rattle.yq_row_table.{specs.Offsets.row_length, specs.Rows.{Cut, Row as RowOf}, specs.View.{rows_of, rows_view, row_view, Slices}};
@@ -60,14 +60,14 @@ pub fn head_place(rows: &Rows<'_>, i: usize) -> (usize, usize)
     (start, start + row.head().len())
 }
 
-/// How many dashes stand in a text.
+/// How many dashes are in a text.
 fn dash_count(text: &str) -> usize
     ensures { result ≡ spec.dash_count text.now }
 {
     text.as_bytes().iter().filter(|b| **b == b'-').count()
 }
 
-/// How many dashes stand in front of the last one.
+/// How many dashes are in front of the last one.
 fn before_last(dashes: &str) -> usize
     ensures { result ≡ spec.dash_count dashes.now - 1 }
 {
@@ -77,7 +77,7 @@ fn before_last(dashes: &str) -> usize
     dash_count(dashes).saturating_sub(1)
 }
 
-/// How many lines of row `i` stand before its last one.
+/// How many lines of row `i` come before its last one.
 pub fn lines_before_mark(rows: &Rows<'_>, i: usize) -> usize
     requires { i < length rows.now.rows }
     ensures { (x : Slices) → slice_get rows.now.rows i ≡ Some x →
@@ -94,7 +94,7 @@ pub fn lines_before_mark(rows: &Rows<'_>, i: usize) -> usize
     }
 }
 
-/// How far it is to the dash before which so many others stand, or to the end, in bytes.
+/// How far it is to the dash before which so many others are, or to the end, in bytes.
 #[tactic(auto, unfolding(yq_outline::specs::Extents::dash_at))]
 pub fn dash_at(dashes: &[u8], count: usize) -> usize
     ensures value { result ≡ spec.dash_at count dashes.now }

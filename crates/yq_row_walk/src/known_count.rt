@@ -37,7 +37,7 @@ pub fn counted(index: usize, is_item: bool) -> Option<usize>
     }
 }
 
-/// The item of a row behind one that is known.
+/// The item of a row after one that is known.
 #[inline(always)]
 fn known_further(rows: &Rows<'_>, known: KnownItem, row: usize) -> Option<KnownItem>
     requires known { IsKnown rows.now.rows known }

@@ -55,7 +55,7 @@ pub fn known_among(
     if_among(rows, document, under, floor, known.near)
 }
 
-/// The item of an index that isn't behind a known one's, unless it begins the collection.
+/// The item of an index that isn't after a known one's, unless it begins the collection.
 pub fn item_back(rows: &Rows<'_>, known: KnownItem, index: usize) -> Option<KnownItem>
     requires known { IsKnown rows.now.rows known }
     requires within { known.row ≤ length rows.now.rows }

@@ -11,7 +11,7 @@ use crate::position_marks::is_key;
 use yq_outline::{KnownItem, KnownItems, Position, Stretch};
 use yq_row_table::Rows;
 
-/// The item behind one that is known, before the row where a document ends.
+/// The item after one that is known, before the row where a document ends.
 fn item_behind(rows: &Rows<'_>, known: KnownItem, end: usize) -> Option<KnownItem>
     requires known { IsKnown rows.now.rows known }
     requires within { end ≤ length rows.now.rows }

@@ -36,7 +36,7 @@ fn level_behind(first: usize, dashes: &[u8], line: usize, has_colon: bool) -> us
     if has_colon { begin + 2 } else { begin + 1 }
 }
 
-/// How deep a line is, told by its row's dashes.
+/// How deep a line is, given by its row's dashes.
 #[inline(never)]
 fn level_within(rows: &Rows<'_>, position: Position) -> usize
     requires within { position.row < length rows.now.rows }
@@ -128,7 +128,7 @@ pub fn is_deeper(rows: &Rows<'_>, document: Stretch, position: Position, floor: 
     floor < level_at(rows, position)
 }
 
-/// What is behind a line and those under it.
+/// What is after a line and those under it.
 pub fn behind(rows: &Rows<'_>, document: Stretch, position: Position) -> Position
     requires rows_view { IsRowsView rows.now }
     requires document { HasRows rows.now document }
@@ -147,7 +147,7 @@ pub fn behind(rows: &Rows<'_>, document: Stretch, position: Position) -> Positio
     }
 }
 
-/// The line behind a line.
+/// The line after a line.
 #[inline(always)]
 pub fn next(rows: &Rows<'_>, document: Stretch, position: Position) -> Position
     requires document { HasRows rows.now document }

@@ -1,4 +1,4 @@
-//! Keys as they are written, compared with keys by what they stand for.
+//! Keys as they are written, compared with keys by what they mean.
 ghost use Rattle.std.{specs.List.list_any, specs.Prelude.{◌≡◌, ◌==◌, false, if◌then◌else◌, true}, specs.Str.bytes_eq};
 ghost use Rattle.yq_core.{specs.ContentReading.quoted_content, specs.Plain.holds_break, specs.Quoted.IsQuotedText};
 ghost use Rattle.yq_core.specs.Scalars as scalars;
@@ -7,7 +7,7 @@ use yq_core::{first_is, is_quoted};
 use yq_outline::between_quotes;
 use yq_scalar_reader::is_quoted_content;
 
-/// Whether a backslash stands in what is between double quotes, or a quote between single ones.
+/// Whether a backslash is in what is between double quotes, or a quote between single ones.
 #[inline(always)]
 fn holds_escape(is_double: bool, inner: &str) -> bool
     ensures { result ≡ list_any (λ b. b == (if is_double then 92 else 39)) inner.now }

@@ -1,4 +1,4 @@
--- What stands in front of the items that are near the end of a text, by the places that are kept.
+-- What is in front of the items that are near the end of a text, by the places that are kept.
 use Rattle.std.proofs.Common.{◌≡◌, ◌⊎◌, inl, inr, ⊎_elim, ℕ, ◌+◌, ◌-◌, ◌<◌, ◌≤◌, min, List, [], ◌∷◌, ◌++◌, length, map, reverse, get_or}
 use Rattle.std.proofs.Common.{take, refl, sym, ap, ◌∙◌, subst, arith, append_assoc, append-nil, length-append, rules}
 use Rattle.std.proofs.lemmas.List.{get_or_at, length-map, length-reverse, reverse-append, reverse-reverse, take_at}
@@ -45,7 +45,7 @@ all_unmapped : (n : ℕ) (P Q : declared.Offsets → Type 0) → ((o : declared.
 all_unmapped n P Q f [] h = All-nil Q
 all_unmapped n P Q f (o ∷ os) h = All-cons Q o os (f o (All-head P (row_from_end n o) (map (row_from_end n) os) h)) (all_unmapped n P Q f os (All-tail P (row_from_end n o) (map (row_from_end n) os) h))
 
--- Items near the end of their text, by the rows behind the gap, which stand there as they do at the end of any text, and by the ends of parts.
+-- Items near the end of their text, by the rows after the gap, which are there as they do at the end of any text, and by the ends of parts.
 pub record BackKept (p : Places) (front behind : List Item) (len back : ℕ) : Type 0 where
   pub before : List declared.Offsets
   pub rows : List declared.Offsets
@@ -151,7 +151,7 @@ first_bytes m len k z rows ends bytes long h = go z long h.rows_are h.ends_are h
       first_start [] = 0
       first_start (x ∷ xs) = x.start
 
--- ---- what stands in front of them
+-- ---- what is in front of them
 
 abbrev pub ByRows : Places → (len rows bytes : ℕ) → Type 0
 ByRows p len rows bytes = ((rows ≡ 0) × (bytes ≡ len)) ⊎ ((o : declared.Offsets) × (0 < rows) × (o ≡ get_or p.behind.items (rows - 1) o) × (bytes ≡ len - o.start))

@@ -44,7 +44,7 @@ pub begin_where : (P Q : ℕ → Type 0) → ((s : ℕ) → P s → Q s) → (n 
 begin_where P Q f n [] h = tt
 begin_where P Q f n (i ∷ xs) h = (f n h.0, begin_where P Q f (n + length (item_text i)) xs h.1)
 
--- The items in front of an offset, and the one behind them, begin in front of it; and all others do not.
+-- The items in front of an offset, and the one after them, begin in front of it; and all others do not.
 pub record FrontFound (n at : ℕ) (xs : List Item) : Type 0 where
   pub front : List Item
   pub first : Item

@@ -1,4 +1,4 @@
--- The `:` of a key behind white space.
+-- The `:` of a key after white space.
 use Rattle.std.proofs.Common.{◌≡◌, ℕ, suc, ◌+◌, ◌-◌, ◌==◌, true, List, [], ◌∷◌, ◌++◌, length, take, drop, eqb-true, Some, refl, sym, subst}
 use Rattle.std.{proofs.Common.{ap, ◌∙◌, arith, append_assoc, length-append, length-drop}, proofs.lemmas.Bool.{false≢true, and_parts}}
 use Rattle.std.specs.Str.{IsUtf8, IsCharBoundary}

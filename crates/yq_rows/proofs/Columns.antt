@@ -7,11 +7,11 @@ use Rattle.yq_row_table.{specs.Offsets.Ends, specs.Slicing.{Begun, with_dashes}}
 spaces_length : (t s rest : List ℕ) → (s, rest) ≡ cut no_space t → length t ≡ length s + length rest
 spaces_length t s rest e = ap length (cut_takes no_space t ∙ ap (λ (y : List ℕ × List ℕ). y.0 ++ y.1) (sym e)) ∙ length-append s rest
 
--- the column of a mark behind spaces
+-- the column of a mark after spaces
 pub column_small : (t s rest whole : List ℕ) (columns : ℕ) → (s, rest) ≡ cut no_space t → columns ≤ length rest → length t ≤ length whole → length whole < 4294967296 → length s + columns < 4294967296
 column_small t s rest whole columns e within short small = omega (arith, spaces_length t s rest e, within, short, small)
 
--- what follows the dash in front and the spaces behind it
+-- what follows the dash in front and the spaces after it
 pub behind_dash : (t behind s next : List ℕ) → length behind + 1 ≡ length t → (s, next) ≡ cut no_space behind → length next < length t
 behind_dash t behind s next one e = omega (arith, one, spaces_length behind s next e)
 

@@ -1,11 +1,11 @@
--- How many rows and ends of parts items have, and how many rows stand in front of an end.
+-- How many rows and ends of parts items have, and how many rows are in front of an end.
 use Rattle.std.proofs.Common.{◌≡◌, ℕ, suc, ◌+◌, ◌≤◌, List, [], ◌∷◌, ◌++◌, length, refl, ap, ◌∙◌, arith, rules}
 use Rattle.std.{proofs.lemmas.List.Elements.{All-cons, All-nil}, specs.List.All}
 use Rattle.yq_row_table.{specs.Ends.end_at, specs.Items.{Item, row_item, end_item}, specs.Kept.{near, ends_near}, specs.Rows.print_row}
 use Rattle.yq_row_table.specs.declared.ends.EndPlace.{EndPlace}
 use Rattle.yq_rows.{specs.Sides.text_length, proofs.BeginLaws.first_long}
 
--- ends of parts, one behind the other
+-- ends of parts, one after the other
 pub ends_joined : (n k : ℕ) (xs ys : List Item) → ends_near n k (xs ++ ys) ≡ ends_near n k xs ++ ends_near (n + text_length xs) (k + length (near n xs)) ys
 ends_joined n k [] ys = ap (λ (m : ℕ). ends_near m k ys) (let m : n ≡ n + text_length [] = omega arith in m) ∙ ap (λ (j : ℕ). ends_near (n + text_length []) j ys) (let j : k ≡ k + length (near n []) = omega arith in j)
 ends_joined n k (row_item r ∷ xs) ys =
@@ -28,7 +28,7 @@ ends_count n k m j [] = refl
 ends_count n k m j (row_item r ∷ xs) = ends_count (n + length (print_row r [])) (k + 1) (m + length (print_row r [])) (j + 1) xs
 ends_count n k m j (end_item gap marker ∷ xs) = ap suc (ends_count (n + length (gap ++ marker)) k (m + length (gap ++ marker)) j xs)
 
--- how many rows stand in front of an end
+-- how many rows are in front of an end
 pub ends_rows : (n k high : ℕ) (xs : List Item) → k + length (near n xs) ≤ high → All (λ e. e.rows ≤ high) (ends_near n k xs)
 ends_rows n k high [] h = All-nil (λ (e : EndPlace). e.rows ≤ high)
 ends_rows n k high (row_item r ∷ xs) h = ends_rows (n + length (print_row r [])) (k + 1) high xs (omega (arith, h))

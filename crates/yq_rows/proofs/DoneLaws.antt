@@ -33,7 +33,7 @@ same_places t u p q text h same =
 pub still_placed : (t u : List ℕ) (p : Places) → u ≡ t → IsPlacedIn t p → ArePlacesOf u p
 still_placed t u p text h = same_places t u p p text h (refl, refl, refl, refl)
 
--- what gives way, and what stands there then
+-- what is replaced, and what is there then
 pub gives_way : (t new : List ℕ) (kept : Kept) (p : Places) (x : Touched) (come : NewRows) → (k : TextChange t new kept p x) → ArePlacesRead k.read.written come → GivesWay p x come
 gives_way t new kept p x come k read = record {
   before = k.before;

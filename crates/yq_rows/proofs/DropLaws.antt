@@ -1,4 +1,4 @@
--- Rows that go from the end of a text, behind one that stays as it was read.
+-- Rows that go from the end of a text, after one that stays as it was read.
 use Rattle.std.proofs.Common.{◌≡◌, ℕ, ◌+◌, ◌-◌, ◌<◌, true, false, not, List, [], ◌∷◌, ◌++◌, length, map, reverse, take, drop, drop_at, suc}
 use Rattle.std.proofs.Common.{Some, get_or, slice_get, slice_set, refl, sym, ap, ◌∙◌, subst, arith, append-nil, append_assoc, length-append}
 use Rattle.std.{proofs.Common.{length-take, rules}, proofs.Math.Seq.get_or-append_seam, proofs.lemmas.List.{drop_all, set_split, take_at}}
@@ -15,7 +15,7 @@ use Rattle.yq_rows.{proofs.CountLaws.ends_joined, proofs.ExchangeLaws.texts_firs
 use Rattle.yq_rows.proofs.ItemPlaces.{BothSides, cut_long, placed_in, places_of, text_split}
 use Rattle.yq_row_table.specs.declared.offsets.Offsets as declared
 
--- the item behind some others is a row, where more rows than they have stand before the next end of a part
+-- the item after some others is a row, where more rows than they have come before the next end of a part
 row_next : (p : Places) (f ys : List Item) (e : EndPlace) → AreAt p (f ++ ys) → slice_get p.ends.items (length (ends_near 0 0 f)) ≡ Some e → length (near 0 f) < e.rows → (r : Row) × (rest : List Item) × (ys ≡ row_item r ∷ rest)
 row_next p f ys e at own less = go ys (at.ends_are ∙ ends_joined 0 0 f ys)
   where
@@ -29,7 +29,7 @@ row_next p f ys e at own less = go ys (at.ends_are ∙ ends_joined 0 0 f ys)
         let same : e ≡ end_at n k gap marker = sym (get_or_from_slice_get p.ends.items (length (ends_near 0 0 f)) e e own) ∙ there in
         absurd (omega (arith, less, ap (λ (x : EndPlace). x.rows) same))
 
--- the first row behind a split begins where it stands
+-- the first row after a split begins where it is
 first_there : (n m : ℕ) (os tail : List declared.Offsets) (r : Row) → map (row_from_end n) os ≡ offsets_of m (slices r) ∷ tail → first_byte n os ≡ m
 first_there n m [] tail r e = absurd cc
 first_there n m (o ∷ os) tail r e =

@@ -4,7 +4,7 @@ use Rattle.std.proofs.Common.{length-append, length-take, take-append-drop, take
 use Rattle.std.proofs.lemmas.List.{append_cancel_left, append_cancel_right, drop-append-le, get_or-take, take_at}
 use Rattle.std.{proofs.lemmas.Str.{IsCharBoundary-at_seam, IsCharBoundary-from_take, IsUtf8-take}, specs.Str.{IsCharBoundary, IsUtf8}}
 
--- Three pieces of a text, and how many of its bytes are kept in front and behind.
+-- Three pieces of a text, and how many of its bytes are kept before and after.
 pub record Pieces (t f m z : List ℕ) (front back : ℕ) : Type 0 where
   pub text : t ≡ f ++ (m ++ z)
   pub first : length f ≤ front

@@ -118,7 +118,7 @@ module _ (t new : List ℕ) (kept : Kept) (p : Places) (x : Touched) (h : Follow
         end = end_edge t (items_text f []) (items_text tch []) (items_text z []) kept.front kept.back pieces x.old.bytes end back_utf8;
       }
 
-  -- whether items stand behind
+  -- whether items come after
   more : x.more ≡ not (no_items z)
   more = more_is ∙ go z (omega (arith, ap (λ (a : Side). a.rows) old_is, rows)) (omega (arith, ap (λ (a : Side). a.ends) old_is, ends))
     where

@@ -12,7 +12,7 @@ use Rattle.yq_rows.proofs.BeginLaws.{begin_within, first_long, joined_long, rows
 use Rattle.yq_rows.proofs.SplitLaws.{Within, far_within, turned_twice}
 use Rattle.yq_row_table.specs.declared.offsets.Offsets as declared
 
--- the text of items in front of a split and behind it
+-- the text of items in front of a split and after it
 pub text_split : (b z : List Item) → items_text (b ++ z) [] ≡ items_text b [] ++ items_text z []
 text_split b z = items_text-append b z [] ∙ items_apart b (items_text z [])
 
@@ -34,7 +34,7 @@ cut_places p c h = places_are p (rows_view c) (items_of_cut c) h (sym (items_vie
 pub cut_long : (t : List ℕ) (c : Cut) → IsCut t c → length t ≡ text_length (items_of_cut c)
 cut_long t c h = ap length (h.text ∙ sym (items_of_text c))
 
--- ---- where rows stand
+-- ---- where rows are
 
 all_reversed : (P : declared.Offsets → Type 0) (os : List declared.Offsets) → All P os → All P (reverse os)
 all_reversed P [] h = All-nil P
@@ -52,7 +52,7 @@ behind_within p b z h =
 
 -- ---- rows on both sides of a split, and the items there
 
--- Items of which so many bytes stand in front, by the rows in front of a split and those behind it, which stand in a text of so many bytes.
+-- Items of which so many bytes are in front, by the rows in front of a split and those after it, which are in a text of so many bytes.
 record Divided (m n : ℕ) (front behind : List declared.Offsets) (xs : List Item) : Type 0 where
   pub before : List Item
   pub later : List Item
@@ -61,7 +61,7 @@ record Divided (m n : ℕ) (front behind : List declared.Offsets) (xs : List Ite
   pub behind_are : map (row_from_end n) behind ≡ near (m + text_length before) later
   pub first : first_byte n behind ≡ m + text_length before
 
--- the firsts of two lists that are one, and what is behind them
+-- the firsts of two lists that are one, and what is after them
 firsts : {A : Type 0} (x y : A) (xs ys : List A) → x ∷ xs ≡ y ∷ ys → x ≡ y
 firsts x y xs ys e = cc
 
@@ -137,7 +137,7 @@ long_by t c p cut h =
     let same = same_view (items_of_cut c) (h.before ++ h.behind) 0 [] (items_view_is c ∙ h.rows_view_is) in
     sym (cut_long t c cut ∙ ap length same.text)
 
--- where rows stand before they are moved
+-- where rows come before they are moved
 pub front_in : (t : List ℕ) (p : Places) (n : ℕ) → n ≡ length t → IsPlacedIn t p → All (Within n) p.front.items
 front_in t p n long h = subst (λ (m : ℕ). All (Within m) p.front.items) (long_by t h.cut p h.is_cut h.placed ∙ sym long) (front_within p h.placed.before h.placed.behind h.placed.placed)
 

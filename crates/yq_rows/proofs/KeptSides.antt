@@ -41,12 +41,12 @@ back_long n (i ∷ xs) = go (back_long n xs) (ltb (text_length (i ∷ xs)) n) re
     go : text_length (in_back n xs) ≤ n → (b : Bool) → ltb (text_length (i ∷ xs)) n ≡ b → text_length (cond b (i ∷ xs) (in_back n xs)) ≤ n
     go h1 b h2 = search (rules, ltb-true)
 
--- something stands behind, as a row or as the end of a part
+-- something comes after, as a row or as the end of a part
 pub some_behind : (i : Item) (z : List Item) → length (near 0 (i ∷ z)) + length (ends_near 0 0 (i ∷ z)) ≡ 0 → ⊥
 some_behind (row_item r) z h = omega (arith, h)
 some_behind (end_item gap marker) z h = omega (arith, h)
 
--- items that are kept behind, where others in front of them would be kept too
+-- items that are kept after, where others in front of them would be kept too
 abbrev BackMore : List Item → List Item → ℕ → Type 0
 BackMore a b n = (more : List Item) × (in_back n (a ++ b) ≡ more ++ b)
 

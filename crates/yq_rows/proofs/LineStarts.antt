@@ -8,7 +8,7 @@ use Rattle.yq_row_table.{specs.Grammar.{IsMarkerLine, IsTail}, specs.Meter.begin
 use Rattle.yq_rows.{proofs.LineLaws.NoFeed, proofs.MarkerLaws.{begins_fresh, fresh_joined, fresh_some}}
 use Rattle.yq_rows.proofs.RowLines.{both_all, comment_all, white_all}
 
--- ---- the byte at a place stands in the first half, or in the second one
+-- ---- the byte at a place is in the first half, or in the second one
 
 pub byte_front : (a b : List ℕ) (n : ℕ) → n < length a → slice_index (a ++ b) n ≡ slice_index a n
 byte_front a b n h = get_or_append_left a b 0 n h
@@ -71,7 +71,7 @@ marker_is_line (a ∷ (b ∷ (c ∷ p))) rest h last = ⊎_elim {0, 0, 0}
     (λ (e : (a ≡ 46) × (b ≡ 46) × (c ≡ 46)). three_is_line a b c p rest (ap is_feed e.0) (ap is_feed e.1) (ap is_feed e.2) h.tail last)
     (marker_byte a b c (p ++ rest) h.marker)
 
--- behind such a line another one begins
+-- after such a line another one begins
 pub line_of_marker : (a gap marker rest : List ℕ) (n : ℕ) → n ≡ length (a ++ (gap ++ marker)) → begins_line ((a ++ (gap ++ marker)) ++ rest) n ≡ true → 0 < length marker → IsMarkerLine marker rest → is_line marker ≡ true
 line_of_marker a gap marker rest n size begins some h =
     let q : List ℕ = a ++ (gap ++ marker) in

@@ -44,7 +44,7 @@ some_items : (u : List Item) (i : Item) → no_items (u ++ (i ∷ [])) ≡ false
 some_items [] i = refl
 some_items (x ∷ u) i = refl
 
-last_marker_is : (u : List Item) (i : Item) → marker_line (u ++ (i ∷ [])) ≡ marker_of i
+pub last_marker_is : (u : List Item) (i : Item) → marker_line (u ++ (i ∷ [])) ≡ marker_of i
 last_marker_is [] i = refl
 last_marker_is (x ∷ u) i = rw (some_items u i) (last_marker_is u i)
 
@@ -80,7 +80,7 @@ module _ (es : List EndPlace) (front old : Side) (at : ℕ) (some : front.ends <
   pub unmarked : (e : EndPlace) → slice_get es (old.ends - 1) ≡ Some e → false ≡ keeps_marker e old.rows at → None ≡ marked_end es front old at
   unmarked e h keeps = sym (chosen es front old at (Some e) some h ∙ cond-false (keeps_marker e old.rows at) (Some e) None (sym keeps))
 
--- What stands before, among and behind the touched items, and how many bytes are kept behind.
+-- What comes before, among and after the touched items, and how many bytes are kept after.
 pub record Stretch (f touched z : List Item) (es : List EndPlace) (front old : Side) (len back : ℕ) : Type 0 where
   pub rest : List EndPlace
   pub ends : es ≡ ends_near 0 0 (f ++ touched) ++ rest

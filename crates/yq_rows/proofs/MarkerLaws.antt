@@ -16,7 +16,7 @@ marker_there xs u z gap marker h is some = search (rules, ⊎_elim, items_joined
 
 -- ---- where lines begin
 
--- no marker stands at the beginning of a line in such a text
+-- no marker is at the beginning of a line in such a text
 unmarked_at : (at : Bool) (q m rest : List ℕ) → Unmarked at (q ++ m) rest → fresh at q ≡ true → 0 < length m → is_marker (m ++ rest) ≡ false
 unmarked_at at [] [] rest h e some = absurd (omega (arith, some))
 unmarked_at at [] (b ∷ m) rest h e some = h.0 e
@@ -27,7 +27,7 @@ no_marker at t q m rest k is e some =
     let piece : k.piece ≡ q ++ m = append_cancel_right k.piece (q ++ m) rest (sym k.spelled ∙ (is ∙ sym (append_assoc q m rest))) in
     unmarked_at at q m rest (subst (λ (l : List ℕ). Unmarked at l rest) piece k.apart) e some
 
-line_at : (at : Bool) (b : ℕ) (q m : List ℕ) → fresh at (b ∷ q) ≡ front is_feed (drop (length q) ((b ∷ q) ++ m))
+pub line_at : (at : Bool) (b : ℕ) (q m : List ℕ) → fresh at (b ∷ q) ≡ front is_feed (drop (length q) ((b ∷ q) ++ m))
 line_at at b [] m = refl
 line_at at b (c ∷ q) m = line_at (is_feed b) c q m
 
@@ -39,7 +39,7 @@ pub fresh_joined : (at : Bool) (a b : List ℕ) → fresh at (a ++ b) ≡ fresh 
 fresh_joined at [] b = refl
 fresh_joined at (x ∷ a) b = fresh_joined (is_feed x) a b
 
-fresh_any : (at : Bool) (q : List ℕ) → fresh at q ≡ true → fresh true q ≡ true
+pub fresh_any : (at : Bool) (q : List ℕ) → fresh at q ≡ true → fresh true q ≡ true
 fresh_any at [] h = refl
 fresh_any at (b ∷ q) h = h
 
@@ -48,10 +48,10 @@ fresh_some at other [] some h = absurd (omega (arith, some))
 fresh_some at other (b ∷ q) some h = h
 
 -- two ways to cut a text, by the length of the second piece
-abbrev Cuts : (a b c d : List ℕ) → Type 0
+abbrev pub Cuts : (a b c d : List ℕ) → Type 0
 Cuts a b c d = (q : List ℕ) × (b ≡ q ++ d) × (c ≡ a ++ q)
 
-two_cuts : (a b c d : List ℕ) → a ++ b ≡ c ++ d → length d ≤ length b → Cuts a b c d
+pub two_cuts : (a b c d : List ℕ) → a ++ b ≡ c ++ d → length d ≤ length b → Cuts a b c d
 two_cuts [] b c d e less = (c, e, refl)
 two_cuts (x ∷ a) b [] d e less = absurd (omega (arith, less, ap length e, length-append a b))
 two_cuts (x ∷ a) b (y ∷ c) d e less =

@@ -158,7 +158,7 @@ pub node_none : (flow : Bool) (spaces : Option ℕ) (d : ℕ) (t n r g s : List 
 node_none flow spaces d t n r g s amp e f h =
     ap measured (node_anchored flow spaces 0 d t n r g s amp e f ∙ ap (λ o. o >>= then_anchored 0 t n g) (unread (placed_content flow spaces 0 d s) h))
 
--- a node behind an anchor, by whether it may stand there
+-- a node after an anchor, by whether it may be there
 anchored_is : (flow : Bool) (spaces : Option ℕ) (d : ℕ) (t n r g s u : List ℕ) (a : Bool) (k : MeasuredKind) → begins_with 38 t ≡ true → name_at (drop 1 t) ≡ Some (n, r) → lead_at flow (begins_content flow) r ≡ Some (g, s) → measured (placed_content flow spaces 0 d s) ≡ Some ((a, k), u) →
     measured (placed_node flow spaces 0 d t) ≡ cond (node_may_follow g (a, k)) (Some ((true, k), u)) None
 anchored_is flow spaces d t n r g s u a k amp e f h =

@@ -1,4 +1,4 @@
--- Nodes that were measured behind a mark, as the code lends them.
+-- Nodes that were measured after a mark, as the code lends them.
 use Rattle.std.proofs.Common.{◌≡◌, ℕ, Bool, false, List, Option, Some, None, refl, sym, ap, ◌∙◌, subst, ℤ}
 use Rattle.yq_core.{specs.Piece.deeper, specs.declared.style.Style.Style, specs.Inline.depth_limit}
 use Rattle.yq_core.{specs.Places.{Placed, placed, nothing, name, text, sequence, mapping}, specs.PlacedReading.placed_node}

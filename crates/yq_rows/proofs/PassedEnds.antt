@@ -83,7 +83,7 @@ ends_test n k rows at gap marker same low =
     ap (λ (b : Bool). (b && ltb 0 (length marker)) && eqb ((n + length gap) + length marker) at) (eq-eqb k rows same)
     ∙ ap (λ (b : Bool). ltb 0 (length marker) && b) (same_test ((n + length gap) + length marker) at (length (gap ++ marker)) (at - n) (λ e. omega (arith, e, size, low)) (λ e. omega (arith, e, size, low)))
 
--- the place behind it, or the one in front
+-- the place after it, or the one in front
 abbrev pub test : (begins : Bool) → ℕ → Side → Bool → Side
 test begins at front b = if begins && b then record { rows = front.rows; ends = front.ends + 1; bytes = at } else front
 

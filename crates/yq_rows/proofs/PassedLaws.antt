@@ -1,4 +1,4 @@
--- What a change keeps in front: the end of a part too, where it begins behind the line of its marker.
+-- What a change keeps in front: the end of a part too, where it begins after the line of its marker.
 use Rattle.std.proofs.Common.{◌≡◌, ⊎_elim, ◌&&◌, Bool, true, false, ℕ, ◌+◌, ◌-◌, ◌<◌, ◌≤◌, if◌then◌else◌, List, [], ◌∷◌, ◌++◌, length, take}
 use Rattle.std.proofs.Common.{drop, Option, slice_get, refl, sym, ap, ◌∙◌, subst, arith, append_assoc, append-nil, length-append}
 use Rattle.std.{proofs.Common.{length-drop, length-take, rules}, proofs.lemmas.Bool.and_parts}
@@ -19,7 +19,7 @@ use Rattle.yq_rows.proofs.PassedEnds.{FirstEnd, end_joined, end_read, first_end,
 
 -- ---- items in front
 
--- What a change keeps in front, what it touches and what it writes behind that, and what is read of this.
+-- What a change keeps in front, what it touches and what it writes after that, and what is read of this.
 pub record FrontStays (t new : List ℕ) (kept : Kept) (p : Places) (h : Follows t p kept new) (x : Side) : Type 0 where
   pub front : List Item
   pub touched : List Item

@@ -29,7 +29,7 @@ pub record Parted (text : List ℕ) (written : List Item) (u : Option EndPlace) 
   pub ends : settled_ends (ends_near 0 0 (region_items items back)) u more ≡ ends_near 0 0 written
   pub texts : TextsIn (region_items items back) → TextsIn written
 
--- one end behind others
+-- one end after others
 last_more : (es : List EndPlace) (e : EndPlace) → length (es ++ e ∷ []) - 1 ≡ length es
 last_more es e = omega (arith, length-append es (e ∷ []))
 

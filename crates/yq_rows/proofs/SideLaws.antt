@@ -1,4 +1,4 @@
--- What stands in front of the items that a change touches, by the places that are kept.
+-- What is in front of the items that a change touches, by the places that are kept.
 use Rattle.std.proofs.Common.{◌≡◌, ◌⊎◌, inl, inr, ⊎_elim, le-ltb, ℕ, zero, suc, ◌+◌, ◌-◌, ◌<◌, ◌≤◌, List, [], ◌∷◌, ◌++◌, length, map}
 use Rattle.std.proofs.Common.{reverse, get_or, refl, sym, ap, ◌∙◌, subst, arith, append_assoc, append-nil, length-append, take, take_at}
 use Rattle.std.{proofs.Common.rules, proofs.lemmas.List.{get_or_append_left, get_or_at}, proofs.lemmas.Option.slice_get-get_or}
@@ -75,7 +75,7 @@ at_end front (end_item gap marker) rows es e n count h long some own high =
     let there = end_there front gap marker h.rest es e count h.ends_are h.count_is own in
     sides_same n (count - 1) e.start (side_of front) (long ∙ (ap length h.rows_are ∙ ap length (rows_end front gap marker))) (omega (arith, there.1)) (ap (λ (x : EndPlace). x.start) there.0)
 
--- no end of a part stands behind the last row there
+-- no end of a part comes after the last row there
 abbrev pub NoEndBehind : ℕ → List EndPlace → ℕ → Type 0
 NoEndBehind n es count = 0 < count → (e : EndPlace) × (e ≡ get_or es (count - 1) e) × (e.rows < n)
 

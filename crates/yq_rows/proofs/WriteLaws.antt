@@ -4,7 +4,7 @@ use Rattle.std.{proofs.Common.{append_assoc, length-append, length-drop}, proofs
 use Rattle.std.{specs.Prelude.slice_index, specs.Str.IsCharBoundary}
 use Rattle.yq_rows.{specs.Reading.region_text, specs.declared.kept.Kept.Kept, specs.declared.touched.Touched.Touched}
 
--- a place behind the first bytes of a text, in what follows them
+-- a place after the first bytes of a text, in what follows them
 boundary_behind : (t : List ℕ) (a n : ℕ) → a ≤ n → IsCharBoundary t n → IsCharBoundary (drop a t) (n - a)
 boundary_behind t a n less h =
     let all : a + (n - a) ≡ n = omega (arith, less) in

@@ -1,9 +1,9 @@
--- Rows that go from the end of a text, behind one that stays as it was read (own; a reader of the contracts may skip it).
+-- Rows that go from the end of a text, after one that stays as it was read (own; a reader of the contracts may skip it).
 use Rattle.std.specs.Prelude.{◌≡◌, ℕ, ◌+◌, ◌<◌, false, length, reverse, None, Some, slice_get}
 use Rattle.yq_row_table.{specs.Kept.moved_end, specs.declared.ends.EndPlace.EndPlace, specs.declared.places.Places.Places}
 use Rattle.yq_rows.{specs.Sides.first_byte, specs.declared.kept.Kept.Kept, specs.declared.touched.Touched.Touched}
 
--- A change takes away the rows behind the split, up to the end of the text; of what stands in front of them it touches one row alone, which ends where
+-- A change takes away the rows after the split, up to the end of the text; of what is in front of them it touches one row alone, which ends where
 -- they begin; and so the text ends then (own).
 pub record DropsLast (p : Places) (len : ℕ) (x : Touched) (kept : Kept) (last : EndPlace) : Type 0 where
   pub nothing_kept : kept.back ≡ 0

@@ -1,4 +1,4 @@
--- What a change touches and what is written in its place, and rows and ends of parts that give way to others (own; a reader of the contracts may skip it).
+-- What a change touches and what is written in its place, and rows and ends of parts that are replaced by others (own; a reader of the contracts may skip it).
 use Rattle.std.specs.Prelude.{◌≡◌, ℕ, ◌+◌, ◌-◌, ◌<◌, ◌^◌, List, ◌++◌, drop, length, map, reverse, take}
 use Rattle.yq_row_table.{specs.Grammar.IsCut, specs.Items.{Item, items_of_cut}, specs.Kept.{near, far, moved_end, ArePlaced}}
 use Rattle.yq_row_table.{specs.Rows.Cut, specs.Touched.TouchesOnly, specs.declared.ends.EndPlace.EndPlace}
@@ -7,7 +7,7 @@ use Rattle.yq_rows.{specs.Following.{exchanged, read_text}, specs.Reading.{ArePl
 use Rattle.yq_rows.{specs.Sides.{AreAt, origin, side_of, text_length}, specs.declared.kept.Kept.Kept}
 use Rattle.yq_rows.{specs.declared.session_reading.NewRows.NewRows, specs.declared.sides.Side.Side, specs.declared.touched.Touched.Touched}
 
--- the end of a part that stood behind one place, behind another (own)
+-- the end of a part that came after one place, after another (own)
 abbrev pub moved_from : Side → Side → EndPlace → EndPlace
 moved_from from to e = moved_end ((e.rows - from.rows) + to.rows) ((e.start - from.bytes) + to.bytes) e
 
@@ -15,7 +15,7 @@ moved_from from to e = moved_end ((e.rows - from.rows) + to.rows) ((e.start - fr
 abbrev pub IsMovable : Side → Side → EndPlace → Type 0
 IsMovable from to e = ((e.rows - from.rows) + to.rows < 2 ^ 64) × ((e.start - from.bytes) + to.bytes < 2 ^ 32)
 
--- Rows and ends of parts of items between others give way to those of items that were read (own).
+-- Rows and ends of parts of items between others are replaced by those of items that were read (own).
 pub record GivesWay (p : Places) (x : Touched) (come : NewRows) : Type 0 where
   pub before : List Item
   pub touched : List Item
@@ -50,10 +50,10 @@ pub record TextChange (t new : List ℕ) (kept : Kept) (p : Places) (x : Touched
 abbrev pub SamePlaces : Places → Places → Type 0
 SamePlaces old new = (new.front.items ≡ old.front.items) × (new.behind.items ≡ old.behind.items) × (new.ends.items ≡ old.ends.items) × (new.split ≡ old.split)
 
--- the ends of parts in front of those that give way, those that were read, and those behind, each where it then stands (own)
+-- the ends of parts in front of those that are replaced, those that were read, and those after, each where it then is (own)
 abbrev pub joined_ends : Side → Side → Side → List EndPlace → List EndPlace → List EndPlace
 joined_ends front old new ends found = take front.ends ends ++ (map (moved_from origin front) found ++ map (moved_from old new) (drop old.ends ends))
 
--- rows and ends of parts are kept where they stand once those that were read have the place of the touched ones (own)
+-- rows and ends of parts are kept where they are once those that were read have the place of the touched ones (own)
 abbrev pub RowsExchanged : Places → Touched → NewRows → Places → Type 0
 RowsExchanged p x come new = (h : GivesWay p x come) → ArePlaced new (h.before ++ h.written) h.behind

@@ -20,8 +20,8 @@ pub record IsPlacedIn (t : List ℕ) (p : Places) : Type 0 where
   pub is_cut : IsCut t cut
   pub placed : IsPlaced p (rows_view cut)
 
--- Places of a text, how many of its bytes are kept in front and behind, and those that come in the place of the others: only rows and ends of parts that
--- lie neither in front of the first of these nor behind the last ones are exchanged (own).
+-- Places of a text, how many of its bytes are kept before and after, and those that come in the place of the others: only rows and ends of parts that
+-- lie neither in front of the first of these nor after the last ones are exchanged (own).
 pub record Follows (t : List ℕ) (places : Places) (kept : Kept) (new : List ℕ) : Type 0 where
   pub old_cut : Cut
   pub new_cut : Cut
@@ -40,7 +40,7 @@ is_end_of n (row_item r ∷ xs) = false
 is_end_of n (end_item gap marker ∷ xs) = nat_lt 0 (length marker) && length (gap ++ marker) == n
 
 -- whether a change keeps all of the end of a part with which what it touches begins: of the bytes that it keeps in front this and the line of its
--- marker are the last ones, and a line begins behind them (own)
+-- marker are the last ones, and a line begins after them (own)
 abbrev pub keeps_end : (kept : Kept) (c : Cut) (touched : List Item) → Bool
 keeps_end kept c touched =
     begins_line (cut_text c) kept.front && is_end_of (kept.front - length (items_text (in_front kept.front (items_of_cut c)) [])) touched
@@ -49,12 +49,12 @@ keeps_end kept c touched =
 abbrev pub behind_end : Bool → List Item → List Item
 behind_end keeps xs = if keeps then drop 1 xs else xs
 
--- the line of the marker behind an item, where that is the end of a part (own)
+-- the line of the marker after an item, where that is the end of a part (own)
 abbrev pub marker_of : Item → List ℕ
 marker_of (row_item r) = []
 marker_of (end_item gap marker) = marker
 
--- the line of the marker behind the last of items (own)
+-- the line of the marker after the last of items (own)
 abbrev pub marker_line : List Item → List ℕ
 marker_line [] = []
 marker_line (x ∷ xs) = if no_items xs then marker_of x else marker_line xs
@@ -67,13 +67,13 @@ kept_marker n xs = if nat_le (length (marker_line xs)) n then length (marker_lin
 abbrev pub without_line : ℕ → List ℕ → List ℕ
 without_line n t = if begins_line t (length t - n) then take (length t - n) t else t
 
--- what is read of items that come in the place of others: their text without the line of a marker which the change keeps behind, where it begins a line
+-- what is read of items that come in the place of others: their text without the line of a marker which the change keeps after, where it begins a line
 -- still (own)
 abbrev pub text_read : (kept : ℕ) (touched written : List Item) → List ℕ
 text_read kept touched written = without_line (kept_marker kept touched) (items_text written [])
 
 -- The text that is read where rows and ends of parts are exchanged: that of those that come, without an end in front that the change keeps, and without
--- the line of a marker that it keeps behind, where this begins a line still (own).
+-- the line of a marker that it keeps after, where this begins a line still (own).
 abbrev pub read_text : (kept : Kept) (c new : Cut) → TouchesOnly kept.front kept.back c new → List ℕ
 read_text kept c new h =
     text_read (kept.back - length (items_text (in_back kept.back (items_of_cut c)) [])) (behind_end (keeps_end kept c h.touched) h.touched)

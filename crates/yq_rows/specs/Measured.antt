@@ -1,4 +1,4 @@
--- What is told of an inline node of which only the end is found (own).
+-- What is known of an inline node of which only the end is found (own).
 use Rattle.std.specs.Prelude.{ℕ, Bool, true, false, ◌||◌, ◌&&◌, not, List, Option, Some, None}
 use Rattle.yq_core.{specs.Answers.◌>>=◌, specs.Text.is_empty}
 use Rattle.yq_core.specs.Places.{Placed, placed, CoreNode, nothing, name, text, sequence, mapping}
@@ -64,7 +64,7 @@ is_alias kinds.Collection = false
 abbrev pub is_no_node : Bool × MeasuredKind → Bool
 is_no_node m = not m.0 && is_nothing m.1
 
--- a node may stand behind an anchor and this gap (own)
+-- a node may come after an anchor and this gap (own)
 abbrev pub node_may_follow : List ℕ → Bool × MeasuredKind → Bool
 node_may_follow gap m = (is_no_node m || not (is_empty gap)) && (not m.0 && not (is_alias m.1))
 

@@ -5,7 +5,7 @@ use Rattle.yq_row_table.{specs.Items.{Item, items_text}, specs.Kept.{near, ends_
 use Rattle.yq_row_table.{specs.Regions.{IsReadAlone, ended, no_items}, specs.declared.ends.EndPlace.EndPlace}
 use Rattle.yq_rows.{specs.declared.kept.Kept.Kept, specs.declared.session_reading.NewRows.NewRows, specs.declared.touched.Touched.Touched}
 
--- the text of what comes in the place of what a change touches: what stays of that in front, what comes, and what stays behind (own)
+-- the text of what comes in the place of what a change touches: what stays of that in front, what comes, and what stays after (own)
 abbrev pub region_text : List ℕ → Touched → Kept → List ℕ → List ℕ
 region_text t x kept new = drop x.front.bytes (take kept.front t) ++ (new ++ drop (length t - kept.back) (take x.old.bytes t))
 

@@ -1,4 +1,4 @@
--- What stands in front of items that a change touches, and in front of those behind them, by places (own; a reader of the contracts may skip it).
+-- What is in front of items that a change touches, and in front of those after them, by places (own; a reader of the contracts may skip it).
 use Rattle.std.specs.Prelude.{◌≡◌, ◌==◌, ◌&&◌, Bool, ℕ, suc, ◌+◌, ◌-◌, ◌<◌, ◌≤◌, ◌^◌, nat_le, nat_lt, List, [], ◌∷◌, ◌++◌, length, map}
 use Rattle.std.specs.Prelude.{reverse, Option, Some, None, slice_get, if◌then◌else◌}
 use Rattle.yq_core.specs.Answers.{◌>>=◌}
@@ -11,7 +11,7 @@ use Rattle.yq_row_table.specs.declared.offsets.Offsets as declared
 abbrev pub text_length : List Item → ℕ
 text_length xs = length (items_text xs [])
 
--- rows in front of a split and those behind it, the last one first, by their places in a text of so many bytes (own)
+-- rows in front of a split and those after it, the last one first, by their places in a text of so many bytes (own)
 abbrev pub both_sides : ℕ → List declared.Offsets → List declared.Offsets → List declared.Offsets
 both_sides n front behind = front ++ map (row_from_end n) (reverse behind)
 
@@ -20,7 +20,7 @@ abbrev pub first_byte : ℕ → List declared.Offsets → ℕ
 first_byte n [] = n
 first_byte n (o ∷ os) = n - o.start
 
--- Rows and ends of parts are kept where those of these items stand, one behind the other, whose pieces are characters (own).
+-- Rows and ends of parts are kept where those of these items are, one after the other, whose pieces are characters (own).
 pub record AreAt (p : Places) (xs : List Item) : Type 0 where
   pub rows_are : placed_rows (text_length xs) p ≡ near 0 xs
   pub ends_are : p.ends.items ≡ ends_near 0 0 xs
@@ -31,7 +31,7 @@ pub record AreAt (p : Places) (xs : List Item) : Type 0 where
 abbrev pub LastBefore : ℕ → List declared.Offsets → Type 0
 LastBefore at rows = (o : declared.Offsets) → slice_get rows (length rows - 1) ≡ Some o → o.start < at
 
--- the first of some rows that are kept last first, in a text of so many bytes, begins at an offset or behind it (own)
+-- the first of some rows that are kept last first, in a text of so many bytes, begins at an offset or after it (own)
 abbrev pub FirstFrom : ℕ → ℕ → List declared.Offsets → Type 0
 FirstFrom at len rows = (o : declared.Offsets) → slice_get rows (length rows - 1) ≡ Some o → at ≤ len - o.start
 
@@ -49,27 +49,27 @@ abbrev pub nearer : ℕ → List declared.Offsets → List declared.Offsets
 nearer back [] = []
 nearer back (o ∷ os) = if nat_lt o.start back then o ∷ os else nearer back os
 
--- the items that don't begin behind the place that is so many bytes in front of the end of their text (own)
+-- the items that don't begin after the place that is so many bytes in front of the end of their text (own)
 abbrev pub not_in_back : ℕ → List Item → List Item
 not_in_back n [] = []
 not_in_back n (i ∷ is) = if nat_lt (text_length (i ∷ is)) n then [] else i ∷ not_in_back n is
 
--- so many rows stand before the end of a part, and the line of its marker, if there is one, begins at an offset or behind it (own)
+-- so many rows come before the end of a part, and the line of its marker, if there is one, begins at an offset or after it (own)
 abbrev pub keeps_marker : EndPlace → (rows at : ℕ) → Bool
 keeps_marker e rows at = e.rows == rows && nat_lt 0 e.marker && nat_le at (e.start + e.gap)
 
--- the last end of a part behind one place and in front of another one, where it is the last item there and keeps its marker (own)
+-- the last end of a part after one place and in front of another one, where it is the last item there and keeps its marker (own)
 abbrev pub marked_end : List EndPlace → (front old : Side) → ℕ → Option EndPlace
 marked_end ends front old at =
     if nat_le old.ends front.ends then None
     else (slice_get ends (old.ends - 1) >>= λ e. if keeps_marker e old.rows at then Some e else None)
 
--- so many rows stand before the end of a part, and the line of its marker, if there is one, ends at an offset (own)
+-- so many rows come before the end of a part, and the line of its marker, if there is one, ends at an offset (own)
 abbrev pub ends_at : EndPlace → (rows at : ℕ) → Bool
 ends_at e rows at = e.rows == rows && nat_lt 0 e.marker && ((e.start + e.gap) + e.marker) == at
 
--- what stands in front of the place behind the end of a part, where that comes next behind some others and its marker's line ends at an offset, at which
--- a line begins; else what stands in front of it (own)
+-- what is in front of the place after the end of a part, where that comes next after some others and its marker's line ends at an offset, at which
+-- a line begins; else what is in front of it (own)
 abbrev pub past_end : Option EndPlace → Side → (at : ℕ) → (begins : Bool) → Side
 past_end None front at begins = front
 past_end (Some e) front at begins =
@@ -83,10 +83,10 @@ side_of xs = record { rows = length (near 0 xs); ends = length (ends_near 0 0 xs
 abbrev pub origin : Side
 origin = record { rows = 0; ends = 0; bytes = 0 }
 
--- this is what stands in front of the last item that begins in front of an offset, at which the split is (own)
+-- this is what is in front of the last item that begins in front of an offset, at which the split is (own)
 abbrev pub IsSideBefore : Places → ℕ → Side → Type 0
 IsSideBefore p at side = (xs : List Item) → AreAt p xs → IsSplitAt at (text_length xs) p → at ≤ text_length xs → side ≡ side_of (in_front at xs)
 
--- this is what stands in front of the first item that is nearer to the end than so many bytes, where the split is in front of it (own)
+-- this is what is in front of the first item that is nearer to the end than so many bytes, where the split is in front of it (own)
 abbrev pub IsSideBehind : Places → (len back : ℕ) → Side → Type 0
 IsSideBehind p len back side = (xs : List Item) (at : ℕ) → AreAt p xs → IsSplitAt at len p → at + back ≤ len → len ≡ text_length xs → side ≡ side_of (not_in_back back xs)

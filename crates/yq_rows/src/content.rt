@@ -1,4 +1,4 @@
-//! What stands behind a row's mark.
+//! What comes after a row's mark.
 ghost use Rattle.std.{specs.Option.option_map, specs.Prelude.{◌≡◌, ◌≢◌, ◌≤◌, ◌==◌, ◌||◌, ◌&&◌, not, length, true, false, IfErr}};
 ghost use Rattle.yq_core.{specs.Answers.{Gives, IsOfText}, specs.Text.{front, is_empty}};
 ghost use Rattle.yq_core.specs.declared.fault.FaultKind.TheVariants.{NotUtf8};
@@ -9,12 +9,13 @@ ghost use Rattle.yq_core.specs.Scalars as scalars;
 ghost use Rattle.yq_row_table.specs.Slicing as slicing;
 ghost use Rattle.yq_row_table.specs.Reading as spec;
 
-use crate::fault::{block_fault, fault};
+use crate::fault::block_fault;
 use crate::gap::is_hash;
 use crate::marks::RowMark;
 use crate::measuring::{Measured, MeasuredKind, measure_node};
 use crate::naming::{no_content, no_further_line, no_tail};
 use crate::words::{begins_word, read_front};
+use yq_core::fault_place::fault;
 use yq_core::lines::split_line;
 use yq_core::text::{ends_line, split_white};
 use yq_core::{
@@ -23,12 +24,12 @@ use yq_core::{
 use yq_inline::pieces::{begins_scalar, name_len};
 use yq_scalar::read_block;
 
-/// What stands behind a mark, by its pieces.
+/// What comes after a mark, by its pieces.
 #[derive(Clone, Copy)]
 pub struct Filling<'t> {
     pub space: &'t str,
     pub anchor: &'t str,
-    /// The white space behind the anchor.
+    /// The white space after the anchor.
     pub apart: &'t str,
     pub head: &'t str,
     pub tail: &'t str,
@@ -36,7 +37,7 @@ pub struct Filling<'t> {
     pub raw: &'t str,
     /// Whether it is a plain scalar.
     pub plain: bool,
-    /// Whether it may stand on a line of its own.
+    /// Whether it may be on a line of its own.
     pub alone: bool,
     /// What follows it.
     pub rest: &'t str,
@@ -59,7 +60,7 @@ pub(crate) fn find_tail(text: &str) -> Option<(&str, &str)>
     }
 }
 
-/// The text cut behind the anchor in front.
+/// The text cut after the anchor in front.
 fn split_anchor(text: &str) -> (&str, &str)
     ensures { (result.0.now, result.1.now) ≡ slicing.cut_anchor text.now }
 {
@@ -69,7 +70,7 @@ fn split_anchor(text: &str) -> (&str, &str)
     }
 }
 
-/// The anchor in front, the white space behind it, and what follows.
+/// The anchor in front, the white space after it, and what follows.
 fn split_apart(text: &str) -> (&str, &str, &str)
     ensures { (result.0.now, result.1.now, result.2.now) ≡ slicing.cut_apart text.now }
 {
@@ -88,7 +89,7 @@ fn is_block_mark(text: &[u8]) -> bool
     matches!(text, [b'|' | b'>', ..])
 }
 
-/// Whether a block scalar begins here, perhaps behind an anchor.
+/// Whether a block scalar begins here, perhaps after an anchor.
 #[tactic(auto, using(yq_row_table::proofs::BlockSlicing::block_begins))]
 fn begins_block(text: &str) -> bool
     ensures { result ≡ spec.begins_block text.now }
@@ -103,7 +104,7 @@ fn begins_other(text: &[u8]) -> bool
     matches!(text, [b'&' | b'*' | b'[' | b'{', ..])
 }
 
-/// A block scalar behind white space.
+/// A block scalar after white space.
 fn read_block_content<'t>(
     whole: &str,
     parent: i64,
@@ -137,21 +138,21 @@ fn read_block_content<'t>(
     })
 }
 
-/// Whether the node is a plain scalar, perhaps behind an anchor.
+/// Whether the node is a plain scalar, perhaps after an anchor.
 fn is_plain(node: Measured<'_>) -> bool
     ensures { result ≡ is_plain_kind node.entry.kind }
 {
     matches!(node.kind, MeasuredKind::Plain)
 }
 
-/// Whether the node is nothing, perhaps behind an anchor.
+/// Whether the node is nothing, perhaps after an anchor.
 fn is_nothing(node: Measured<'_>) -> bool
     ensures { result ≡ measured.is_nothing node.entry.kind }
 {
     matches!(node.kind, MeasuredKind::Nothing)
 }
 
-/// The white space between an anchor and its node, and what follows it; before nothing stands none.
+/// The white space between an anchor and its node, and what follows it; before nothing is none.
 fn split_lead(nothing: bool, text: &str) -> (&str, &str)
     ensures { (result.0.now, result.1.now) ≡ slicing.cut_lead nothing text.now }
 {
@@ -162,14 +163,14 @@ fn split_lead(nothing: bool, text: &str) -> (&str, &str)
     }
 }
 
-/// Whether a node behind this white space may stand on a line of its own.
+/// Whether a node after this white space may be on a line of its own.
 fn may_be_alone(space: &str, nothing: bool) -> bool
     ensures { result ≡ (is_empty space.now && not nothing) }
 {
     space.is_empty() && !nothing
 }
 
-/// A node that an anchor, an alias or a flow collection begins, behind white space, and its tail.
+/// A node that an anchor, an alias or a flow collection begins, after white space, and its tail.
 fn read_inline_content<'t>(
     whole: &str,
     mark: RowMark<'t>,
@@ -209,7 +210,7 @@ fn read_inline_content<'t>(
     }
 }
 
-/// The fault of a scalar behind white space that no tail follows: that of its last line, where this is
+/// The fault of a scalar after white space that no tail follows: that of its last line, where this is
 /// no further line of it, or else its own.
 fn scalar_fault(
     whole: &str,
@@ -228,7 +229,7 @@ fn scalar_fault(
     }
 }
 
-/// A scalar without an anchor behind white space, and its tail. Only its end is found.
+/// A scalar without an anchor after white space, and its tail. Only its end is found.
 #[inline(always)]
 fn read_scalar_content<'t>(
     whole: &str,
@@ -263,7 +264,7 @@ fn read_scalar_content<'t>(
     }
 }
 
-/// What stands behind a mark, below a parent of this indentation.
+/// What comes after a mark, below a parent of this indentation.
 pub(crate) fn read_content<'t>(
     whole: &str,
     mark: RowMark<'t>,

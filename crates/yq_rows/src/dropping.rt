@@ -1,4 +1,4 @@
-//! Rows that go from the end of a text, behind one that stays as it was read.
+//! Rows that go from the end of a text, after one that stays as it was read.
 ghost use Rattle.std.specs.Prelude.{◌≡◌, ◌≤◌, ◌<◌, ◌+◌, ◌-◌, ◌^◌, IfSome, IsTrue, None, [], drop, false, length, slice_set, take};
 ghost use Rattle.std.specs.Str.{IsCharBoundary};
 ghost use Rattle.yq_text.specs.TextGapBuffer.{buffer_text};
@@ -12,7 +12,7 @@ use crate::{Meter, count_lines};
 use yq_row_table::{EndPlace, Places};
 use yq_text::TextGapBuffer;
 
-/// Whether more than so many rows stand before the end of a text, and neither a gap nor a marker.
+/// Whether more than so many rows come before the end of a text, and neither a gap nor a marker.
 fn is_bare(end: EndPlace, rows: usize) -> bool
     ensures rows { IsTrue result → rows < end.rows }
     ensures gap { IsTrue result → end.gap ≡ 0 }
@@ -60,7 +60,7 @@ pub(crate) fn end_dropped(
     Some(end.moved(rows, kept.front))
 }
 
-/// The rows behind the split go, and the last end of a part gives way to another one.
+/// The rows after the split go, and the last end of a part is replaced by another one.
 pub(crate) fn drop_rows(places: &mut Places, end: EndPlace, at: usize)
     requires { 1 ≤ length places.old.ends.items }
     ensures front { places.new.front.items ≡ places.old.front.items }

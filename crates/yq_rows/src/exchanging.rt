@@ -1,4 +1,4 @@
-//! Rows and ends of parts that give way to others.
+//! Rows and ends of parts that are replaced by others.
 ghost use Rattle.std.{specs.Prelude.{◌≡◌, ◌<◌, ◌≤◌, ◌+◌, ◌^◌, ◌++◌, IfOk, OnOk, OnErr, length, map, drop}, specs.List.All};
 ghost use Rattle.std.specs.Vec.{vec_capacity, vec_len};
 ghost use Rattle.yq_row_table.specs.Kept.{kept_rows, placed_rows, raised};
@@ -10,7 +10,7 @@ use crate::touched::Touched;
 use std::alloc::{AllocError, Global};
 use yq_row_table::{EndPlace, Offsets, Places};
 
-/// The end of a part that stood behind one place, behind another.
+/// The end of a part that came after one place, after another.
 fn moved_end(end: EndPlace, from: Side, to: Side) -> EndPlace
     requires { IsMovable from to end }
     ensures { result ≡ moved_from from to end }
@@ -20,7 +20,7 @@ fn moved_end(end: EndPlace, from: Side, to: Side) -> EndPlace
     end.moved(rows, start)
 }
 
-/// Adds ends of parts that stood behind one place, now behind another.
+/// Adds ends of parts that came after one place, now after another.
 fn push_moved(
     joined: &mut Vec<EndPlace>,
     ends: &[EndPlace],
@@ -37,7 +37,7 @@ fn push_moved(
     Ok(())
 }
 
-/// The ends of parts in front of those that give way, the new ones, and those behind.
+/// The ends of parts in front of those that are replaced, the new ones, and those after.
 fn join_ends(
     alloc: Global,
     ends: &[EndPlace],
@@ -64,8 +64,8 @@ fn join_ends(
     Ok(joined)
 }
 
-/// Ends of parts give way to those that were found, and those behind are moved: the last one alone in
-/// its place, where none gives way and none was found.
+/// Ends of parts are replaced by those that were found, and those after are moved: the last one alone in
+/// its place, where none is replaced and none was found.
 fn exchange_ends(
     alloc: Global,
     ends: &mut Vec<EndPlace>,
@@ -91,7 +91,7 @@ fn exchange_ends(
     Ok(())
 }
 
-/// Adds rows of a text of `len` bytes, before which so many more stand; there is room for them.
+/// Adds rows of a text of `len` bytes, before which so many more are; there is room for them.
 fn push_rows(rows: &mut Vec<Offsets>, found: &Places, len: usize, by: usize)
     requires small { len < 2 ^ 32 }
     requires room { vec_len rows.old + length (kept_rows found.now) ≤ vec_capacity rows.old }
@@ -104,8 +104,8 @@ fn push_rows(rows: &mut Vec<Offsets>, found: &Places, len: usize, by: usize)
     }
 }
 
-/// Rows and ends of parts that a change touches give way to those that were read; those behind them stand
-/// behind these, and the split is between the two.
+/// Rows and ends of parts that a change touches are replaced by those that were read; those after them are
+/// after these, and the split is between the two.
 pub(crate) fn exchange(
     alloc: Global,
     places: &mut Places,

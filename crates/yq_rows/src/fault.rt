@@ -2,38 +2,14 @@
 ghost use Rattle.std.specs.Prelude.{◌≢◌};
 ghost use Rattle.yq_core.specs.declared.fault.FaultKind.TheVariants.{NotUtf8};
 
-use std::num::NonZeroU64;
 use yq_core::characters::is_text_char;
+use yq_core::fault_place::{fault, fault_at};
 use yq_core::lines::line_len;
 use yq_core::text::{behind_spaces, is_blank, spaces_len};
 use yq_core::{FaultKind, ReadFault};
 use yq_text::TEXT_LIMIT;
 
-/// A fault behind so many line breaks.
-fn behind(kind: FaultKind, breaks: u64) -> ReadFault
-    requires { kind ≢ NotUtf8 }
-    ensures { result.kind ≢ NotUtf8 }
-{
-    ReadFault {
-        kind,
-        line: NonZeroU64::MIN.saturating_add(breaks),
-    }
-}
-
-/// A fault that begins where this rest of the whole text does.
-pub(crate) fn fault(kind: FaultKind, whole: &str, rest: &str) -> ReadFault
-    requires { kind ≢ NotUtf8 }
-    ensures { result.kind ≢ NotUtf8 }
-{
-    let before = whole
-        .as_bytes()
-        .split_at(whole.len().saturating_sub(rest.len()))
-        .0;
-    let breaks = before.iter().filter(|b| **b == b'\n').count() as u64;
-    behind(kind, breaks)
-}
-
-/// How many spaces the first line behind a header begins with that isn't blank; the most that there are
+/// How many spaces the first line after a header begins with that isn't blank; the most that there are
 /// where all are blank.
 fn text_indent(raw: &[u8]) -> usize {
     let mut rest = raw;
@@ -59,16 +35,15 @@ fn is_at_fault(kind: FaultKind, column: usize, line: &[u8]) -> bool {
     }
 }
 
-/// How many lines stand before the first of these that may be at fault; none where none may be.
-fn lines_before(kind: FaultKind, column: usize, raw: &[u8]) -> Option<u64> {
-    let mut count = 0u64;
+/// How many bytes there are from where the indentation ends of the first of these lines that may be at
+/// fault; none where none may be.
+fn from_fault(kind: FaultKind, column: usize, raw: &[u8]) -> Option<usize> {
     let mut rest = raw;
     'lines: while !rest.is_empty() {
         let (line, after) = rest.split_at(line_len(rest));
         if is_at_fault(kind, column, line) {
-            return Some(count);
+            return Some(behind_spaces(rest).len());
         }
-        count = count.saturating_add(1);
         rest = after;
     }
     None
@@ -80,18 +55,14 @@ pub(crate) fn block_fault(kind: FaultKind, whole: &str, rest: &str) -> ReadFault
     requires { kind ≢ NotUtf8 }
     ensures { result.kind ≢ NotUtf8 }
 {
-    let at_header = fault(kind, whole, rest);
     let raw = rest.as_bytes().split_at(line_len(rest.as_bytes())).1;
-    let found = match lines_before(kind, text_indent(raw), raw) {
-        Some(count) => Some(count),
-        None => lines_before(kind, usize::MAX, raw),
+    let found = match from_fault(kind, text_indent(raw), raw) {
+        Some(len) => Some(len),
+        None => from_fault(kind, usize::MAX, raw),
     };
     match found {
-        Some(count) => ReadFault {
-            kind,
-            line: at_header.line.saturating_add(1).saturating_add(count),
-        },
-        None => at_header,
+        Some(len) => fault_at(kind, whole.as_bytes(), whole.len().saturating_sub(len)),
+        None => fault(kind, whole, rest),
     }
 }
 
@@ -100,21 +71,23 @@ pub(crate) fn text_fault(text: &str) -> ReadFault
     ensures { result.kind ≢ NotUtf8 }
 {
     if text.len() > TEXT_LIMIT {
-        return behind(FaultKind::TooLarge, 0);
+        return fault_at(FaultKind::TooLarge, text.as_bytes(), 0);
     }
-    let mut breaks = 0u64;
-    let mut returned = false;
-    'chars: for c in text.chars() {
-        if returned && c != '\n' {
-            return behind(FaultKind::CarriageReturn, breaks);
+    let mut returned = None;
+    'chars: for (at, c) in text.char_indices() {
+        if let Some(before) = returned
+            && c != '\n'
+        {
+            return fault_at(FaultKind::CarriageReturn, text.as_bytes(), before);
         }
         if !is_text_char(c) {
-            return behind(FaultKind::ControlCharacter, breaks);
+            return fault_at(FaultKind::ControlCharacter, text.as_bytes(), at);
         }
-        if c == '\n' {
-            breaks = breaks.saturating_add(1);
-        }
-        returned = c == '\r';
+        returned = if c == '\r' { Some(at) } else { None };
     }
-    behind(FaultKind::CarriageReturn, breaks)
+    fault_at(
+        FaultKind::CarriageReturn,
+        text.as_bytes(),
+        returned.unwrap_or(text.len()),
+    )
 }

@@ -15,7 +15,7 @@ use std::alloc::{AllocError, Global};
 use yq_row_table::Places;
 use yq_text::{Halves, TextGapBuffer};
 
-/// The byte at a place; 0 behind the text.
+/// The byte at a place; 0 after the text.
 #[tactic(auto, using(crate::proofs::LineStarts::byte_front, crate::proofs::LineStarts::byte_back))]
 fn byte_at(text: Halves<'_>, at: usize) -> u8
     ensures { result ≡ slice_index (whole text.entry) at }
@@ -57,7 +57,7 @@ fn write(text: &mut TextGapBuffer, kept: Kept, new: &str)
 /// Writes what comes into a text in the place of the bytes that a change doesn't keep, and places of its
 /// rows come to be those of the new text. Of that no more is read than what comes in the place of the
 /// touched rows and ends of parts, without an end whose marker's line is the last that stays in front,
-/// and without the line of a marker that stays behind them: the lines of that are counted. Other rows and bytes stay as they are, in front and behind: the time goes to the
+/// and without the line of a marker that stays after them: the lines of that are counted. Other rows and bytes stay as they are, before and after: the time goes to the
 /// touched rows, the ends of parts, and the rows and bytes between this change and the one before.
 ///
 /// # Errors

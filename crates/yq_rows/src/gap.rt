@@ -54,7 +54,7 @@ fn gap_len(text: &[u8]) -> usize
     text.len() - rest.len()
 }
 
-/// The text cut behind the gap in front.
+/// The text cut after the gap in front.
 #[inline(always)]
 pub(crate) fn split_gap(text: &str) -> (&str, &str)
     ensures { (result.0.now, result.1.now) ≡ spec.cut_gap text.now }

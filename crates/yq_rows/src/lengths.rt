@@ -17,7 +17,7 @@ fn len_of(piece: &str) -> u32
     piece.len() as u32
 }
 
-/// The lengths of a row's pieces, as they were read, where it begins behind so many bytes.
+/// The lengths of a row's pieces, as they were read, where it begins after so many bytes.
 #[inline]
 fn measure(
     start: usize,
@@ -50,7 +50,7 @@ fn measure(
     }
 }
 
-/// Where a row stands in the whole text, that was read in front of this end of it.
+/// Where a row is in the whole text, that was read in front of this end of it.
 #[inline]
 pub(crate) fn offsets_of(
     whole: &str,

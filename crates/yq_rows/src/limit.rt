@@ -9,7 +9,7 @@ use yq_core::{Place, further_spaces};
 /// What a row asks of the next one.
 #[derive(Clone, Copy)]
 pub(crate) struct Limit {
-    /// Below which column that row stands, if this is asked.
+    /// Below which column that row is, if this is asked.
     column: Option<usize>,
 }
 
@@ -34,7 +34,7 @@ impl Limit {
         }
     }
 
-    /// Whether a row may stand at a column.
+    /// Whether a row may be at a column.
     pub(crate) fn allows(self, column: usize) -> bool
         ensures { result ≡ grammar.allows (limit_view self) column }
     {

@@ -15,23 +15,23 @@ use yq_core::first_is;
 use yq_core::text::{separates, split_spaces, split_white};
 use yq_row_table::{KEY_LIMIT, before_column};
 
-/// What a row begins with behind the dashes before it.
+/// What a row begins with after the dashes before it.
 #[derive(Clone, Copy)]
 pub enum RowMark<'t> {
     /// Neither a dash nor a key.
     Bare,
     /// A dash.
     Dash,
-    /// A key, and what stands behind it up to its `:`.
+    /// A key, and what comes after it up to its `:`.
     Key(&'t str, &'t str),
 }
 
-/// How a row begins behind its indentation.
+/// How a row begins after its indentation.
 #[derive(Clone, Copy)]
 pub struct Begin<'t> {
     /// The dashes, also one that is the mark.
     pub dashes: &'t str,
-    /// How many columns stand before the mark.
+    /// How many columns come before the mark.
     pub columns: usize,
     pub mark: RowMark<'t>,
     /// What follows the mark.
@@ -45,7 +45,7 @@ pub(crate) fn is_entry(mark: RowMark<'_>) -> bool
     matches!(mark, RowMark::Dash | RowMark::Key(..))
 }
 
-/// The key of a mark, and what stands behind it up to its `:`; nothing where it has none.
+/// The key of a mark, and what comes after it up to its `:`; nothing where it has none.
 #[inline]
 pub(crate) fn key_of<'t>(mark: RowMark<'t>) -> (&'t str, &'t str)
     ensures key { result.0.now ≡ view.key_of_mark (mark_view mark.entry) }
@@ -57,7 +57,7 @@ pub(crate) fn key_of<'t>(mark: RowMark<'t>) -> (&'t str, &'t str)
     }
 }
 
-/// The parent indentation of what stands behind a mark in a column: that column, or, without a key
+/// The parent indentation of what comes after a mark in a column: that column, or, without a key
 /// or dash, one less.
 pub(crate) fn parent_of(mark: RowMark<'_>, column: usize) -> i64
     requires { column ≤ 4294967295 }
@@ -91,7 +91,7 @@ fn find_colon(text: &str) -> Option<(&str, &str)>
     Some(text.split_at(white.len() + 1))
 }
 
-/// Whether a key, and what stands behind it up to its `:`, are as short as they have to be. Characters
+/// Whether a key, and what comes after it up to its `:`, are as short as they have to be. Characters
 /// are counted where there are more bytes than that.
 #[tactic(auto, using(yq_row_table::proofs::KeyRoom::room_by_bytes))]
 fn has_key_room(key: &str, colon: &str) -> bool
@@ -104,7 +104,7 @@ fn has_key_room(key: &str, colon: &str) -> bool
     key_chars <= KEY_LIMIT + 1 && char_count(colon) <= KEY_LIMIT + 1 - key_chars
 }
 
-/// The key in front, what stands behind it up to its `:`, and what follows.
+/// The key in front, what comes after it up to its `:`, and what follows.
 #[tactic(auto, unfolding(yq_row_table::specs::Reading::read_row_key))]
 #[inline(always)]
 fn find_key(text: &str) -> Option<(&str, &str, &str)>
@@ -138,14 +138,14 @@ pub(crate) fn begins_entry(text: &str) -> bool
     is_dash(text.as_bytes()) || find_key(text).is_some()
 }
 
-/// Whether behind a dash and these spaces a further dash stands.
+/// Whether after a dash and these spaces a further dash is.
 fn goes_on(spaces: &str, next: &str) -> bool
     ensures { result ≡ (not (is_empty spaces.now) && spec.is_dash next.now) }
 {
     !spaces.is_empty() && is_dash(next.as_bytes())
 }
 
-/// How many bytes stand in front of the first `:` or LF.
+/// How many bytes are in front of the first `:` or LF.
 fn colon_len(text: &[u8]) -> usize
     ensures value { result ≡ prefix_len (λ b. not (b == 58) && not (b == 10)) text.now }
     ensures within { result ≤ length text.now }
@@ -155,14 +155,14 @@ fn colon_len(text: &[u8]) -> usize
         .count()
 }
 
-/// Whether a `:` stands in front of the end of the line.
+/// Whether a `:` is in front of the end of the line.
 fn holds_colon(text: &[u8]) -> bool
     ensures { result ≡ spec.holds_colon text.now }
 {
     first_is(b':', text.split_at(colon_len(text)).1)
 }
 
-/// The key behind a dash and these spaces, what stands behind it up to its `:`, and what follows. No
+/// The key after a dash and these spaces, what comes after it up to its `:`, and what follows. No
 /// scalar is read where the line has no `:`.
 #[tactic(auto, using(yq_row_table::proofs::KeyLines::no_key_line))]
 fn key_behind<'t>(spaces: &str, next: &'t str) -> Option<(&'t str, &'t str, &'t str)>
@@ -186,7 +186,7 @@ fn read_mark(text: &str) -> (RowMark<'_>, &str)
     }
 }
 
-/// The dashes in front, the mark behind them, and what follows.
+/// The dashes in front, the mark after them, and what follows.
 pub(crate) fn read_begin(text: &str) -> Begin<'_>
     ensures read { begin_view result ≡ begun (spec.read_marks text.now) }
     ensures within { result.columns ≤ length text.now }

@@ -6,14 +6,15 @@ ghost use Rattle.yq_rows.specs.Measured.{measured, measured_view, past_node};
 ghost use Rattle.yq_rows.specs.Measured as spec;
 ghost use Rattle.yq_core.specs.PlacedReading as reading;
 
+use yq_core::fault_place::fault;
 use yq_core::{FaultKind, ReadFault, strip};
-use yq_inline::fault::{fault, flow_fault};
+use yq_inline::fault::flow_fault;
 use yq_inline::pieces::{
     begins_content, no_node, read_key, read_lead, read_name, read_scalar, read_sep,
 };
 use yq_inline::read_gap;
 
-/// What a node is, behind its anchor.
+/// What a node is, after its anchor.
 #[derive(Clone, Copy)]
 pub enum MeasuredKind {
     /// Nothing.
@@ -55,7 +56,7 @@ fn is_bare(node: Measured<'_>) -> bool
     !node.anchored && matches!(node.kind, MeasuredKind::Nothing)
 }
 
-/// Whether the node may stand behind an anchor and this gap.
+/// Whether the node may come after an anchor and this gap.
 fn may_follow(gap: &str, node: Measured<'_>) -> bool
     ensures { result ≡ spec.node_may_follow gap.now (node.entry.anchored, node.entry.kind) }
 {
@@ -140,7 +141,7 @@ fn measure_content<'t>(
     Ok(unanchored(MeasuredKind::Nothing, text))
 }
 
-/// What follows a mapping, or else a sequence, of which the `{` or `[` stood before the text.
+/// What follows a mapping, or else a sequence, of which the `{` or `[` came before the text.
 #[cycle(ends)]
 #[tactic(auto, using(crate::proofs::MeasureSteps::coll_no_gap, crate::proofs::MeasureSteps::coll_too_deep, crate::proofs::MeasureSteps::coll_items))]
 fn measure_collection<'t>(
@@ -161,7 +162,7 @@ fn measure_collection<'t>(
     measure_parts(whole, depth - 1, keyed, text, rest)
 }
 
-/// What follows the entry, or item, in front and the `,` behind it; behind the `{` or `[` stood `open`.
+/// What follows the entry, or item, in front and the `,` after it; after the `{` or `[` was `open`.
 #[cycle(ends)]
 #[tactic(auto, using(crate::proofs::MeasureSteps::item_none, crate::proofs::MeasureSteps::item_bare, crate::proofs::MeasureSteps::item_some, crate::proofs::MeasureSteps::entry_no_key, crate::proofs::MeasureSteps::entry_none, crate::proofs::MeasureSteps::entry_some))]
 fn measure_part<'t>(
@@ -188,7 +189,7 @@ fn measure_part<'t>(
     read_sep(b']', whole, open, item.rest)
 }
 
-/// What follows the entries, or items, in front and their `}` or `]`; behind their `{` or `[` stood
+/// What follows the entries, or items, in front and their `}` or `]`; after their `{` or `[` was
 /// `open`.
 #[cycle(ends)]
 #[tactic(auto, using(crate::proofs::MeasureSteps::parts_none, crate::proofs::MeasureSteps::items_last))]

@@ -11,7 +11,7 @@ fn holds_tab(space: &str) -> bool {
     space.as_bytes().iter().any(|b| *b == b'\t')
 }
 
-/// Why nothing can be read behind a mark and this white space, below a parent of this indentation.
+/// Why nothing can be read after a mark and this white space, below a parent of this indentation.
 pub(crate) fn no_content(mark: RowMark<'_>, parent: i64, space: &str, rest: &str) -> FaultKind
     ensures { result ≢ NotUtf8 }
 {
@@ -28,7 +28,7 @@ pub(crate) fn no_content(mark: RowMark<'_>, parent: i64, space: &str, rest: &str
     }
 }
 
-/// Why the line can't end behind a mark, white space, and a node whose content is this head.
+/// Why the line can't end after a mark, white space, and a node whose content is this head.
 pub(crate) fn no_tail(
     mark: RowMark<'_>,
     space: &str,
@@ -87,7 +87,7 @@ pub(crate) fn no_further_line(
     })
 }
 
-/// Why this can't stand on a line of its own, behind white space.
+/// Why this can't be on a line of its own, after white space.
 pub(crate) fn not_alone(space: &str, head: &str) -> FaultKind
     ensures { result ≢ NotUtf8 }
 {

@@ -1,4 +1,4 @@
-//! Rows, read one behind the other.
+//! Rows, read one after the other.
 ghost use Rattle.std.specs.Prelude.{◌≡◌, ◌≢◌, ◌<◌, ◌≤◌, ◌+◌, ◌++◌, ◌-◌, ◌^◌, ◌==◌, ◌&&◌, ◌||◌, ℕ, List, not, length, true, IfErr, IfOk};
 ghost use Rattle.yq_core.{specs.Answers.{Gives, IsOfText, ReadsAs}, specs.declared.fault.FaultKind.TheVariants.NotUtf8};
 ghost use Rattle.yq_row_table.{specs.Grammar.{unlimited, ends_part}, specs.Kept.rows_placed};
@@ -10,18 +10,18 @@ ghost use Rattle.yq_row_table.specs.Grammar as grammar;
 ghost use Rattle.yq_row_table.specs.Reading as spec;
 
 use crate::content::{Filling, find_tail, read_content};
-use crate::fault::fault;
 use crate::gap::split_gap;
 use crate::lengths::offsets_of;
 use crate::limit::Limit;
 use crate::marks::{Begin, is_entry, parent_of, read_begin};
 use crate::naming::not_alone;
 use std::alloc::Global;
+use yq_core::fault_place::fault;
 use yq_core::text::{is_marker, split_spaces};
 use yq_core::{FaultKind, ReadError, ReadFault};
 use yq_row_table::Offsets;
 
-/// What stands behind the marks of a row that are read already, below a parent of this indentation.
+/// What comes after the marks of a row that are read already, below a parent of this indentation.
 #[inline]
 fn read_marked<'t>(
     whole: &'t str,
@@ -43,7 +43,7 @@ fn read_marked<'t>(
     Ok(content)
 }
 
-/// Whether a row may stand at a column before this text.
+/// Whether a row may be at a column before this text.
 fn may_stand(limit: Limit, column: usize, text: &[u8]) -> bool
     ensures { result ≡ (grammar.allows (limit_view limit) column && not
         (column == 0 && Text.is_marker text.now)) }
@@ -51,7 +51,7 @@ fn may_stand(limit: Limit, column: usize, text: &[u8]) -> bool
     limit.allows(column) && !(column == 0 && is_marker(text))
 }
 
-/// Where the row in front stands, whose gap is read already, what it asks of the next one, and what
+/// Where the row in front is, whose gap is read already, what it asks of the next one, and what
 /// follows.
 #[tactic(auto, unfolding(yq_row_table::specs::Reading::row_at))]
 #[inline]
@@ -95,7 +95,7 @@ fn ends_part(text: &[u8]) -> bool
     text.is_empty() || is_marker(text)
 }
 
-/// Adds where the rows in front stand, up to a marker or the end; gives the gap behind them, and what
+/// Adds where the rows in front are, up to a marker or the end; gives the gap after them, and what
 /// follows.
 fn read_rows<'t>(
     alloc: Global,
@@ -133,7 +133,7 @@ fn read_rows<'t>(
     }
 }
 
-/// Why no row may stand here, where no document is open.
+/// Why no row may be here, where no document is open.
 fn no_document(text: &[u8]) -> FaultKind
     ensures { result ≢ NotUtf8 }
 {
@@ -143,14 +143,14 @@ fn no_document(text: &[u8]) -> FaultKind
     }
 }
 
-/// Whether rows may stand in front: where a document is open, or where there are none.
+/// Whether rows may be in front: where a document is open, or where there are none.
 fn may_begin(is_open: bool, text: &[u8]) -> bool
     ensures { result ≡ (is_open || ends_part text.now) }
 {
     is_open || ends_part(text)
 }
 
-/// Adds where the rows of a part stand; gives the gap behind them, and what follows. Where no document
+/// Adds where the rows of a part are; gives the gap after them, and what follows. Where no document
 /// is open there may be no rows.
 #[tactic(auto, unfolding(yq_row_table::specs::Reading::read_cut_part))]
 pub(crate) fn read_part<'t>(

@@ -24,7 +24,7 @@ pub(crate) struct NewRows {
     pub len: usize,
 }
 
-/// What stands between two places of a text.
+/// What is between two places of a text.
 fn between<'t>(text: Halves<'t>, from: usize, to: usize) -> Halves<'t>
     requires end { IsCharBoundary (whole text) to }
     requires begin { IsCharBoundary (take to (whole text)) from }
@@ -61,7 +61,7 @@ pub(crate) fn region(
     Ok(region)
 }
 
-/// The end of a part whose marker's line stands at the end of a region and needn't be read: where it
+/// The end of a part whose marker's line is at the end of a region and needn't be read: where it
 /// begins a line still.
 fn unread(region: &str, marked: Option<EndPlace>) -> Option<EndPlace>
     ensures { result ≡ spec.unread_end region.now marked }
@@ -90,7 +90,7 @@ fn read_part(region: &str, unread: Option<EndPlace>) -> &str
 }
 
 /// The ends of parts that were read come to be those of a region: the last one is given the marker that
-/// wasn't read, or, where others stand behind the region, the empty one behind it goes.
+/// wasn't read, or, where others come after the region, the empty one after it goes.
 fn settle(ends: &mut Vec<EndPlace>, unread: Option<EndPlace>, more: bool)
     requires { 1 ≤ length ends.old.items }
     ensures { ends.new.items ≡ spec.settled_ends ends.old.items unread more }

@@ -1,10 +1,10 @@
-//! What stands in front of what a change touches, and in front of what stands behind that.
+//! What is in front of what a change touches, and in front of what comes after that.
 ghost use Rattle.std.specs.Prelude.{◌≡◌, ◌<◌, ◌≤◌, ◌^◌, length, reverse};
 ghost use Rattle.yq_rows.specs.Sides as spec;
 
 use yq_row_table::{EndPlace, Offsets, Places};
 
-/// How many rows, ends of parts and bytes stand in front of a place in a text.
+/// How many rows, ends of parts and bytes are in front of a place in a text.
 #[derive(Clone, Copy)]
 pub struct Side {
     pub rows: usize,
@@ -42,7 +42,7 @@ fn rows_nearer(behind: &[Offsets], back: usize) -> usize
     rest.len()
 }
 
-/// What stands in front of the last row or end of a part that begins in front of an offset, at which
+/// What is in front of the last row or end of a part that begins in front of an offset, at which
 /// the split is.
 pub fn side_before(places: &Places, at: usize) -> Side
     ensures { spec.IsSideBefore places.now at result }
@@ -73,7 +73,7 @@ pub fn side_before(places: &Places, at: usize) -> Side
     }
 }
 
-/// What stands in front of the first row or end of a part that is nearer than `back` bytes to the end of
+/// What is in front of the first row or end of a part that is nearer than `back` bytes to the end of
 /// the text, which has `len` bytes; the split is in front of it.
 pub fn side_behind(places: &Places, len: usize, back: usize) -> Side
     requires small { len < 2 ^ 32 }

@@ -7,7 +7,7 @@ use std::alloc::AllocError;
 use yq_row_table::{Offsets, Places};
 use yq_text::TextGapBuffer;
 
-/// Moves rows that begin at an offset or behind it to the other side of the split.
+/// Moves rows that begin at an offset or after it to the other side of the split.
 fn to_behind(
     front: &mut Vec<Offsets>,
     behind: &mut Vec<Offsets>,
@@ -60,8 +60,8 @@ fn to_front(
     Ok(())
 }
 
-/// Moves rows so that those that begin in front of an offset of a text of so many bytes stand in front
-/// of the split, and the others behind it.
+/// Moves rows so that those that begin in front of an offset of a text of so many bytes are in front
+/// of the split, and the others after it.
 fn move_rows(places: &mut Places, len: usize, at: usize) -> Result<(), AllocError>
     requires small { len < 2 ^ 32 }
     requires within { All (λ o. o.start ≤ len) places.old.front.items }
@@ -76,7 +76,7 @@ fn move_rows(places: &mut Places, len: usize, at: usize) -> Result<(), AllocErro
     to_front(&mut places.front, &mut places.behind, len, at)
 }
 
-/// Where the first of the rows behind the split begins in a text of so many bytes, or where that ends.
+/// Where the first of the rows after the split begins in a text of so many bytes, or where that ends.
 pub(crate) fn begin_of(behind: &[Offsets], len: usize) -> usize
     ensures { result ≡ first_byte len (reverse behind.now) }
 {
@@ -86,8 +86,8 @@ pub(crate) fn begin_of(behind: &[Offsets], len: usize) -> usize
     }
 }
 
-/// Moves the split of the rows of a text: behind it stands the first row that begins at an offset or
-/// behind it.
+/// Moves the split of the rows of a text: after it is the first row that begins at an offset or
+/// after it.
 ///
 /// # Errors
 /// Want of memory. The split is then somewhere between.

@@ -11,17 +11,17 @@ use yq_row_table::{EndPlace, Places};
 /// The rows and ends of parts that a change touches.
 #[derive(Clone, Copy)]
 pub(crate) struct Touched {
-    /// What stands in front of them.
+    /// What is in front of them.
     pub front: Side,
-    /// What stands in front of those behind them.
+    /// What is in front of those after them.
     pub old: Side,
-    /// Whether others stand behind them.
+    /// Whether others come after them.
     pub more: bool,
     /// The last of them, where that is the end of a part and the change keeps the line of its marker.
     pub marked: Option<EndPlace>,
 }
 
-/// Whether so many rows stand before an end of a part, and the line of its marker, if there is one, ends
+/// Whether so many rows come before an end of a part, and the line of its marker, if there is one, ends
 /// at an offset.
 fn ends_at(end: EndPlace, rows: usize, at: usize) -> bool
     ensures { result ≡ spec.ends_at end rows at }
@@ -29,8 +29,8 @@ fn ends_at(end: EndPlace, rows: usize, at: usize) -> bool
     end.rows == rows && end.marker() > 0 && end.stop() + end.marker() == at
 }
 
-/// The place behind the end of a part that comes next behind what stands in front, where its marker's
-/// line ends at an offset, at which a line begins; else what stands in front.
+/// The place after the end of a part that comes next after what is in front, where its marker's
+/// line ends at an offset, at which a line begins; else what is in front.
 fn past_end(ends: &[EndPlace], front: Side, at: usize, begins: bool) -> Side
     ensures { result ≡ spec.past_end (slice_get ends.now front.ends) front at begins }
 {
@@ -47,16 +47,16 @@ fn past_end(ends: &[EndPlace], front: Side, at: usize, begins: bool) -> Side
     front
 }
 
-/// Whether so many rows stand before an end of a part, and the line of its marker, if there is one, begins
-/// at an offset or behind it.
+/// Whether so many rows come before an end of a part, and the line of its marker, if there is one, begins
+/// at an offset or after it.
 fn keeps_marker(end: EndPlace, rows: usize, at: usize) -> bool
     ensures { result ≡ spec.keeps_marker end rows at }
 {
     end.rows == rows && end.marker() > 0 && at <= end.stop()
 }
 
-/// The last end of a part among those that a change touches, where no row stands behind it there and the
-/// line of its marker begins at an offset or behind it.
+/// The last end of a part among those that a change touches, where no row comes after it there and the
+/// line of its marker begins at an offset or after it.
 fn marked_end(ends: &[EndPlace], front: Side, old: Side, at: usize) -> Option<EndPlace>
     ensures { result ≡ spec.marked_end ends.now front old at }
 {
@@ -71,7 +71,7 @@ fn marked_end(ends: &[EndPlace], front: Side, old: Side, at: usize) -> Option<En
     }
 }
 
-/// Whether rows or ends of parts stand behind others.
+/// Whether rows or ends of parts come after others.
 fn has_more(places: &Places, old: Side) -> bool
     ensures { result ≡ (nat_lt old.rows (length (kept_rows places.now))
         || nat_lt old.ends (length places.now.ends.items)) }

@@ -1,5 +1,5 @@
-//! A list of several commands in one call: each is carried out behind those before it, with no call of the
-//! store more than it needs, also behind a refused one and behind a store and an output that failed.
+//! A list of several commands in one call: each is carried out after those before it, with no call of the
+//! store more than it needs, also after a refused one and after a store and an output that failed.
 
 use crate::asked::{FILE, Request, commands, store_with_file};
 use std::alloc::{AllocError, Global};

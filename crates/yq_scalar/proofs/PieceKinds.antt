@@ -48,7 +48,7 @@ is_quoted text p h is = elim h.piece [
 pub either_kind : (s a b : Style) (n : ℕ) → kind a ≡ n → kind b ≡ n → (s ≡ a) ⊎ (s ≡ b) → kind s ≡ n
 either_kind s a b n first second h = ⊎_elim {0, 0, 0} (λ (e : s ≡ a). ap kind e ∙ first) (λ (e : s ≡ b). ap kind e ∙ second) h
 
--- what stands between the ends of a quoted piece is a scalar in quotes
+-- what is between the ends of a quoted piece is a scalar in quotes
 pub text_quoted : (text : List ℕ) (p : Piece) (t : List ℕ) → IsQuotedScalar text p → t ≡ piece_text text p
     → (q : ℕ) × ((ls : QuotedLines) × ((rest : List ℕ) × IsQuoted q ls t rest))
 text_quoted text p t h e =

@@ -1,10 +1,10 @@
--- What is added to a text, one behind the other.
+-- What is added to a text, one after the other.
 use Rattle.std.proofs.Common.{inl, inr, ◌≡◌, ◌<◌, ℕ, Bool, ◌==◌, List, [], ◌∷◌, ◌++◌, Option, Some, Result, Ok, Err, OnOk, is_ok}
 use Rattle.std.{proofs.Common.{if◌then◌else◌, sym, ap, ◌∙◌, append_assoc, arith, encode_utf8}, proofs.lemmas.Bool.cases_Bool}
 use Rattle.std.{proofs.lemmas.Option.same_Some, proofs.lemmas.Str.encode_ascii}
 use Rattle.yq_core.specs.Written.{double_by, in_double, letter_of, written_letters}
 
--- what is added behind what was added
+-- what is added after what was added
 pub more_added : (out mid now a b : List ℕ) → mid ≡ out ++ a → now ≡ mid ++ b → now ≡ out ++ (a ++ b)
 more_added out mid now a b h e = e ∙ (ap (λ (l : List ℕ). l ++ b) h ∙ append_assoc out a b)
 
@@ -21,7 +21,7 @@ pub on_same : {X E : Type 0} (r : Result X E) (out now a b : List ℕ) → a ≡
 on_same (Ok x) out now a b same e = e ∙ ap (λ (l : List ℕ). out ++ l) same
 on_same (Err x) out now a b same e = tt
 
--- the letters that stand behind a backslash are ASCII
+-- the letters that come after a backslash are ASCII
 abbrev AreSmall : List (ℕ × ℕ) → Type 0
 AreSmall [] = Unit {0}
 AreSmall (e ∷ es) = (e.0 < 128) × AreSmall es

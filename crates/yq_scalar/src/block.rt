@@ -65,7 +65,7 @@ fn read_at(text: &[u8], start: usize, least: usize) -> Result<Piece, FaultKind>
 ///
 /// The error comes exactly where none begins there, or where what follows it may not: it is
 /// [`FaultKind::BadBlockHeader`] at an impossible header, [`FaultKind::BadIndent`] where a blank line is
-/// longer than the indentation of the first text line, [`FaultKind::TabIndent`] where a tab stands in
+/// longer than the indentation of the first text line, [`FaultKind::TabIndent`] where a tab is in
 /// the indentation of a line, and [`FaultKind::NoFinalBreak`] where the text ends in a line of the
 /// scalar. No memory is taken.
 pub fn read_block(text: &str, at: usize, parent: i64) -> Result<Piece, FaultKind>

@@ -1,4 +1,4 @@
-//! What a block scalar stands for (YAML 1.2.2, sections 8.1.1.2, 8.1.2 and 8.1.3).
+//! What a block scalar means (YAML 1.2.2, sections 8.1.1.2, 8.1.2 and 8.1.3).
 ghost use Rattle.std.{specs.Prelude.{◌≡◌, ◌<◌, ◌≤◌, ◌==◌, ◌&&◌, not, ◌++◌, ℤ, length, OnOk, IfOk}, specs.Str.IsCharBoundary};
 ghost use Rattle.std.specs.String.{string_bytes};
 ghost use Rattle.yq_core.{specs.Block.{IsBlockPiece, IsBlockScalar}, specs.Text.{front, is_white, text_lines}};
@@ -39,7 +39,7 @@ fn begins_white(text: &[u8]) -> bool
     matches!(text, [first, ..] if is_white(*first))
 }
 
-/// Adds what stands between a line and the one before it.
+/// Adds what is between a line and the one before it.
 fn push_joint(
     out: &mut String,
     before: LineBefore,
@@ -65,7 +65,7 @@ fn push_joint(
     }
 }
 
-/// Adds what stands behind the last line.
+/// Adds what comes after the last line.
 fn push_ending(
     out: &mut String,
     chomping: Chomping,
@@ -95,14 +95,14 @@ fn push_line(out: &mut String, text: &str, broken: bool) -> Result<(), AllocErro
     if broken { out.push_str("\n") } else { Ok(()) }
 }
 
-/// Whether an LF stands behind a line's text.
+/// Whether an LF comes after a line's text.
 fn goes_on(strip: bool, after: &str) -> bool
     ensures { result ≡ not (strip && length after.now == 0) }
 {
     !(strip && after.is_empty())
 }
 
-/// Adds what raw lines in literal style stand for.
+/// Adds what raw lines in literal style mean.
 fn push_literal(
     out: &mut String,
     strip: bool,
@@ -121,7 +121,7 @@ fn push_literal(
     Ok(())
 }
 
-/// What a line of text is for the one behind it.
+/// What a line of text is for the one after it.
 fn kind_of(text: &[u8]) -> LineBefore
     ensures { result ≡ spec.is_spaced_line text.now }
 {
@@ -132,7 +132,7 @@ fn kind_of(text: &[u8]) -> LineBefore
     }
 }
 
-/// Adds what raw lines in folded style stand for.
+/// Adds what raw lines in folded style mean.
 fn push_folded(
     out: &mut String,
     chomping: Chomping,
@@ -168,7 +168,7 @@ fn strips(chomping: Chomping) -> bool
     matches!(chomping, Chomping::Strip)
 }
 
-/// What raw lines stand for, which is no longer than they are.
+/// What raw lines mean, which is no longer than they are.
 fn content_of(
     alloc: Global,
     style: BlockStyle,
@@ -218,7 +218,7 @@ fn indent_of(digit: Option<u8>, columns: usize, raw: &[u8]) -> TextIndent
     }
 }
 
-/// What the block scalar at a piece of a text stands for: its lines without their indentation, each
+/// What the block scalar at a piece of a text means: its lines without their indentation, each
 /// break as an LF or folded, the breaks at the end as its header asks.
 pub(crate) fn block_content(alloc: Global, text: &str, piece: &Piece) -> Result<String, AllocError>
     requires { IsBlockScalar text.now piece.now }

@@ -21,7 +21,7 @@ pub fn one_block()
 {}
 
 /// What is written for a string that can be written literal is a block scalar, before whatever may
-/// stand behind one, and stands for the string.
+/// come after one, and means the string.
 pub fn literal_spells()
     ensures block { (least m : ℕ) (b : Break) (s : ScalarText) (tail rest : List ℕ) →
         IsUtf8 s.text → can_write s Literal Block ≡ true → least ≤ m → is_tail tail ≡ true →
@@ -32,7 +32,7 @@ pub fn literal_spells()
         block_content (written_block s.text m (break_text b) tail) ≡ s.text }
 {}
 
-/// A repaired gap may stand behind a block scalar, before a less indented line or the end, and its
+/// A repaired gap may come after a block scalar, before a less indented line or the end, and its
 /// comments are the same. The gap ends in a break, or the text with it.
 pub fn repaired()
     ensures stands { (least column : ℕ) (b : BlockText) (old gap rest : List ℕ) →

@@ -1,4 +1,4 @@
-//! A gap that comes to stand behind a block scalar.
+//! A gap that ends up after a block scalar.
 ghost use Rattle.std.{specs.Prelude.{◌≡◌, ◌++◌, [], OnOk, IfOk, if◌then◌else◌}, specs.String.string_bytes};
 ghost use Rattle.yq_core.specs.Text.{joined, text_lines};
 ghost use Rattle.yq_core.specs.BlockRepair as spec;
@@ -14,7 +14,7 @@ pub fn is_short(indent: usize, line: &[u8]) -> bool
     ends_line(behind_spaces(line)) && spaces_len(line) <= indent
 }
 
-/// A line that begins with fewer spaces, and no tab behind them.
+/// A line that begins with fewer spaces, and no tab after them.
 pub fn is_outside(indent: usize, line: &[u8]) -> bool
     ensures { result ≡ spec.is_outdented_comment indent line.now }
 {
@@ -84,7 +84,7 @@ fn push_gap(
     Ok(())
 }
 
-/// The gap made fit to stand behind the block scalar of a piece: its blank lines go if the scalar keeps
+/// The gap made fit to come after the block scalar of a piece: its blank lines go if the scalar keeps
 /// empty lines, else those that are no empty lines of the scalar are emptied; its first comment line is
 /// moved to a column if it would be text of the scalar.
 ///

@@ -86,7 +86,7 @@ fn header_text(closed: bool) -> &'static str
 }
 
 /// The header and the raw lines of a literal block scalar whose text is indented by so many columns:
-/// each line of the text, behind the indentation unless it is empty, with this break.
+/// each line of the text, after the indentation unless it is empty, with this break.
 ///
 /// Memory is taken once.
 pub fn write_block(

@@ -1,4 +1,4 @@
-//! Scalars of YAML where they stand in a text, block scalars among them, and scalars as they are written.
+//! Scalars of YAML where they are in a text, block scalars among them, and scalars as they are written.
 #![tactic(auto)]
 
 pub mod block;

@@ -1,4 +1,4 @@
-//! What the scalar of a piece stands for.
+//! What the scalar of a piece means.
 ghost use Rattle.std.specs.Prelude.{◌≡◌, IfOk, string_bytes, ℕ, ℤ};
 ghost use Rattle.yq_core.{specs.Block.IsBlockPiece, specs.Piece.IsPlainPiece, specs.PlainContent.IsPlainLines};
 ghost use Rattle.yq_core.{specs.Quoted.{QuotedLines, quoted_lines_content as content_of}, specs.QuotedPiece.IsQuotedPiece};
@@ -11,7 +11,7 @@ use std::alloc::{AllocError, Global};
 use yq_core::{Piece, Style};
 use yq_scalar_reader::{plain_content, quoted_content};
 
-/// What the scalar of a piece stands for, where the piece was given for this text: the lines of a plain
+/// What the scalar of a piece means, where the piece was given for this text: the lines of a plain
 /// or quoted scalar folded and its escapes read, those of a block scalar without their indentation.
 ///
 /// Memory is taken once.
@@ -41,7 +41,7 @@ fn content_at(alloc: Global, text: &str, piece: &Piece) -> Result<String, AllocE
     }
 }
 
-/// What stands between the start and the end of a plain or quoted scalar's piece.
+/// What is between the start and the end of a plain or quoted scalar's piece.
 fn piece_text<'t>(text: &'t str, piece: &Piece) -> &'t str
     requires { spec.IsInlineScalar text.now piece.now }
     ensures { result.now ≡ spec.piece_text text.now piece.now }

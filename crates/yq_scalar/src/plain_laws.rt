@@ -16,7 +16,7 @@ pub fn one_plain()
 {}
 
 /// What can be written plain is a plain scalar on one line, before whatever ends one, and its text
-/// stands for the same kind and text.
+/// means the same kind and text.
 pub fn plain_spells()
     ensures piece { (s : ScalarText) (place : Place) (spaces : Option ℕ) (rest : List ℕ) →
         IsUtf8 s.text → IsScalar s.kind s.text → can_write s Plain place ≡ true →

@@ -15,21 +15,21 @@ pub fn one_quoted()
         (p ≡ q) × (rest ≡ other) }
 {}
 
-/// What is read as the content of a quoted scalar is what its lines stand for.
+/// What is read as the content of a quoted scalar is what its lines mean.
 pub fn quoted_folds()
     ensures { (quote : ℕ) (ls : QuotedLines) (piece rest : List ℕ) → IsQuoted quote ls piece rest →
         quoted_content piece ≡ quoted_lines_content ls }
 {}
 
 /// Each text is made of lines, and what is read as the content of a plain scalar is what these
-/// stand for.
+/// mean.
 pub fn plain_folds()
     ensures lines { (text : List ℕ) → ((ls : QuotedLines) × IsPlainLines ls text) }
     ensures content { (ls : QuotedLines) (text : List ℕ) → IsPlainLines ls text →
         plain_content text ≡ quoted_lines_content ls }
 {}
 
-/// What is written in quotes is a quoted scalar that stands for its string, is a text, and holds no
+/// What is written in quotes is a quoted scalar that means its string, is a text, and holds no
 /// break; in single quotes it is one before any rest but a further quote.
 pub fn quoted_spells()
     ensures double { (t rest : List ℕ) → IsUtf8 t →

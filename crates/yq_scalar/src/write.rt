@@ -8,7 +8,7 @@ ghost use Rattle.yq_core.specs.Written as spec;
 use std::alloc::{AllocError, Global};
 use yq_core::{Place, Scalar, Style, is_text_char};
 
-/// The letter that stands behind a backslash for the character.
+/// The letter that comes after a backslash for the character.
 fn letter_of(c: char) -> Option<char>
     ensures { result ≡ spec.letter_of c spec.written_letters }
 {

@@ -31,7 +31,7 @@ pub fn double_is_read_back()
         can_write s Double place ≡ true → spec.QuotedIsReadBack Double s before rest }
 {}
 
-/// What is written as a literal block scalar, before whatever may stand behind one, is one piece there,
+/// What is written as a literal block scalar, before whatever may come after one, is one piece there,
 /// whose content is the string.
 pub fn literal_is_read_back()
     ensures { (s : ScalarText) (n : ℤ) (m : ℕ) (br : Break) (before tail rest : List ℕ) →

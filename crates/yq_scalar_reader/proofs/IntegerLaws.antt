@@ -80,7 +80,7 @@ based_parsed base (d ∷ ds) r most test h =
     subst (λ (x : List ℕ × ℤ). OkIff r (IsNumeral base x.0 × FitsSigned w64 x.1) x.1) (pair own.0 own.1) h in
     parsed (are_digits base (d ∷ ds)) n (IsNumeral base (d ∷ ds)) r (digits_takes base (d ∷ ds)) (digits_again base (d ∷ ds)) same
 
--- behind `0` and the letter of a base a text may be cut
+-- after `0` and the letter of a base a text may be cut
 pub boundary_base : (letter : ℕ) (t : List ℕ) → letter < 128 → IsUtf8 t → has_base letter t ≡ true → IsCharBoundary t 2
 boundary_base letter [] low u h = absurd (false≢true h)
 boundary_base letter (a ∷ []) low u h = absurd (false≢true h)

@@ -1,4 +1,4 @@
--- A text without what it begins with, and whether the rest is what stands behind that.
+-- A text without what it begins with, and whether the rest is what comes after that.
 use Rattle.std.proofs.Common.{◌≡◌, ◌≢◌, ◌<◌, ◌-◌, ℕ, zero, suc, Bool, true, false, eqb, List, [], ◌∷◌, ◌++◌, length, replicate, Option}
 use Rattle.std.proofs.Common.{Some, None, refl, sym, inl, inr, ap, ◌∙◌, arith, eqb-true, bytes_eq}
 use Rattle.std.{proofs.lemmas.Bool.{cases_Bool, eq-eqb, ne_eqb}, proofs.lemmas.Slice.Eq.bytes_eq-Decides, proofs.Math.Utf8.encode}
@@ -21,7 +21,7 @@ same_front : (p c x : List ℕ) → bytes_eq (p ++ c) (p ++ x) ≡ bytes_eq c x
 same_front [] c x = refl
 same_front (b ∷ p) c x = rw (eq-eqb b b refl) (same_front p c x)
 
--- a text that begins with these bytes is compared behind them
+-- a text that begins with these bytes is compared after them
 pub same_behind : (p c w x : List ℕ) → w ≡ p ++ x → bytes_eq (p ++ c) w ≡ bytes_eq c x
 same_behind p c w x e = ap (bytes_eq (p ++ c)) e ∙ same_front p c x
 

@@ -1,11 +1,11 @@
--- What bytes of a plain or quoted scalar stand for, one part after the other (own).
+-- What bytes of a plain or quoted scalar mean, one part after the other (own).
 use Rattle.std.{specs.Prelude.{◌≡◌, ◌≢◌, ℕ, List, ◌++◌, Bool, false, replicate, encode_utf8, Option, MatchOption}, specs.Str.bytes_eq}
 use denote.Bor.{Bor}
 use Rattle.yq_scalar_reader.specs.declared.folded.Folded.{Folded}
 use Rattle.yq_core.{specs.ContentReading.content_behind, specs.Text.feed}
 use Rattle.yq_scalar_reader.specs.declared.folded.Folded.TheVariants as folded
 
--- the text that bytes of a scalar stand for (own)
+-- the text that bytes of a scalar mean (own)
 abbrev pub folded_text : Folded → List ℕ
 folded_text (folded.Text t) = t.now
 folded_text (folded.Char c) = encode_utf8 c
@@ -15,11 +15,11 @@ folded_text (folded.Breaks n) = replicate n feed
 abbrev pub StripsText : List ℕ → List ℕ → Option (Bor (List ℕ)) → Type 0
 StripsText p t r = MatchOption r ((rest : List ℕ) → t ≢ p ++ rest) (λ x. t ≡ p ++ x.now)
 
--- the rest of a scalar in these quotes, perhaps behind a joined line, stands for this content (own)
+-- the rest of a scalar in these quotes, perhaps after a joined line, means this content (own)
 abbrev pub stands_for : ℕ → Bool → List ℕ → List ℕ → Bool
 stands_for quote joined text content = bytes_eq (content_behind quote joined text) content
 
--- Content and text less what the text begins with: the text stands for the content exactly where one rest does for the other; nothing where it doesn't (own).
+-- Content and text less what the text begins with: the text means the content exactly where one rest does for the other; nothing where it doesn't (own).
 abbrev pub StripsItem : ℕ → Bool → List ℕ → List ℕ → Option (Bor (List ℕ) × Bor (List ℕ) × Bool) → Type 0
 StripsItem quote joined text content r =
     MatchOption r (stands_for quote joined text content ≡ false)

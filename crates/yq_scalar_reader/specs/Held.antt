@@ -4,7 +4,7 @@ use Rattle.yq_scalar_reader.specs.declared.plain_text.Holder.{Holder}
 use Rattle.yq_core.{specs.PlainText.is_plain_char, specs.Text.{is_feed, is_white}, specs.Writable.{is_single_char, is_literal_char}}
 use Rattle.yq_scalar_reader.specs.declared.plain_text.Holder.TheVariants as holders
 
--- a character that stands there as it is (own)
+-- a character that is there as it is (own)
 abbrev pub is_written_as_is : Holder → ℕ → Bool
 is_written_as_is holders.Plain c = is_plain_char c
 is_written_as_is holders.Single c = is_single_char c

@@ -1,4 +1,4 @@
-//! What white space, breaks, escapes and other bytes of plain and quoted scalars stand for (YAML 1.2.2, sections 5.7, 6.5 and 7.3).
+//! What white space, breaks, escapes and other bytes of plain and quoted scalars mean (YAML 1.2.2, sections 5.7, 6.5 and 7.3).
 ghost use Rattle.std.specs.Prelude.{◌≡◌, ◌++◌, ◌<◌, ◌≤◌, [], length, true, false};
 ghost use Rattle.yq_scalar_reader.specs.Folded.{folded_text};
 ghost use Rattle.yq_core.{specs.Plain.no_gap, specs.Text.{upto, cut, is_space}, specs.Quoted.IsQuotedText};
@@ -7,7 +7,7 @@ ghost use Rattle.yq_core.specs.ContentReading as spec;
 use crate::quoted::escape;
 use yq_core::text::{is_break, is_space};
 
-/// What bytes of a plain or quoted scalar stand for.
+/// What bytes of a plain or quoted scalar mean.
 #[derive(Clone, Copy)]
 pub enum Folded<'t> {
     /// That text.
@@ -18,7 +18,7 @@ pub enum Folded<'t> {
     Breaks(usize),
 }
 
-/// A run of bytes that stand for themselves, two single quotes, or an escape.
+/// A run of bytes that mean themselves, two single quotes, or an escape.
 #[derive(Clone, Copy)]
 pub struct FoldedItem<'t> {
     pub folded: Folded<'t>,
@@ -61,7 +61,7 @@ fn breaks(text: &[u8]) -> usize
     n
 }
 
-/// What white space and breaks stand for, behind an escaped break or not.
+/// What white space and breaks mean, after an escaped break or not.
 pub fn fold_gap<'t>(joined: bool, space: &'t str) -> Folded<'t>
     ensures { folded_text result ≡ spec.space_text joined space.now }
 {
@@ -103,7 +103,7 @@ fn ends_run(quote: u8, text: &[u8]) -> bool
     text.is_empty() || is_space(text) || is_pair(quote, text) || is_slash(quote, text)
 }
 
-/// How many bytes in front stand for themselves.
+/// How many bytes in front mean themselves.
 fn run_len(quote: u8, text: &[u8]) -> usize
     ensures { result ≡ upto (spec.ends_run quote) text.now }
 {
@@ -194,7 +194,7 @@ pub fn fold_item<'t>(quote: u8, text: &'t str) -> FoldedItem<'t>
     }
 }
 
-/// The quote of a quoted scalar, and what stands between its quotes.
+/// The quote of a quoted scalar, and what is between its quotes.
 pub fn inside(piece: &str) -> (u8, &str)
     requires { IsQuotedText piece.now }
     ensures { spec.quoted_text result.0 result.1.now ≡ spec.quoted_content piece.now }

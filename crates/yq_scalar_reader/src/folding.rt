@@ -1,4 +1,4 @@
-//! What plain and quoted scalars stand for (YAML 1.2.2, sections 5.7, 6.5 and 7.3).
+//! What plain and quoted scalars mean (YAML 1.2.2, sections 5.7, 6.5 and 7.3).
 ghost use Rattle.std.specs.Prelude.{◌≡◌, ◌++◌, ◌<◌, ◌≤◌, ℕ, List, length, OnOk, IfOk, string_bytes};
 ghost use Rattle.yq_scalar_reader.specs.Folded.{folded_text};
 ghost use Rattle.yq_core.{specs.PlainContent.IsPlainLines, specs.Quoted.{QuotedLines, IsQuoted, IsQuotedText, quoted_lines_content}};
@@ -8,7 +8,7 @@ use crate::folded::{Folded, fold_gap, fold_item, inside, split_space};
 use crate::pushing::push_breaks;
 use std::alloc::{AllocError, Global};
 
-/// Adds what bytes stand for.
+/// Adds what bytes mean.
 fn push_folded(out: &mut String, folded: Folded<'_>) -> Result<(), AllocError>
     ensures { OnOk result (string_bytes out.new ≡ string_bytes out.old ++ folded_text folded.entry) }
 {
@@ -19,7 +19,7 @@ fn push_folded(out: &mut String, folded: Folded<'_>) -> Result<(), AllocError>
     }
 }
 
-/// Adds what white space, breaks and the item behind them stand for, and gives what follows, and
+/// Adds what white space, breaks and the item after them mean, and gives what follows, and
 /// whether that is a joined line.
 fn push_next<'a>(
     out: &mut String,
@@ -38,8 +38,8 @@ fn push_next<'a>(
     Ok((item.rest, item.joined))
 }
 
-/// How many bytes what stands in these quotes, or in none, may stand for: in double quotes an escape of
-/// two bytes stands for three at most.
+/// How many bytes what is in these quotes, or in none, may mean: in double quotes an escape of
+/// two bytes means three at most.
 fn content_room(quote: u8, len: usize) -> usize
     ensures { len ≤ result }
 {
@@ -50,7 +50,7 @@ fn content_room(quote: u8, len: usize) -> usize
     }
 }
 
-/// The content of what stands in these quotes, or in none.
+/// The content of what is in these quotes, or in none.
 fn fold(alloc: Global, quote: u8, text: &str) -> Result<String, AllocError>
     ensures { IfOk result (λ s. string_bytes s ≡ spec.quoted_text quote text.now) }
 {
@@ -65,7 +65,7 @@ fn fold(alloc: Global, quote: u8, text: &str) -> Result<String, AllocError>
     Ok(out)
 }
 
-/// What a plain scalar of that text stands for: its lines, folded.
+/// What a plain scalar of that text means: its lines, folded.
 pub fn plain_content(alloc: Global, text: &str) -> Result<String, AllocError>
     ensures exact { IfOk result (λ s. string_bytes s ≡ spec.plain_content text.now) }
     ensures found { (ls : QuotedLines) → IsPlainLines ls text.now →
@@ -74,7 +74,7 @@ pub fn plain_content(alloc: Global, text: &str) -> Result<String, AllocError>
     fold(alloc, 0, text)
 }
 
-/// What a quoted scalar, given with its quotes, stands for: its escapes and lines, folded.
+/// What a quoted scalar, given with its quotes, means: its escapes and lines, folded.
 pub fn quoted_content(alloc: Global, piece: &str) -> Result<String, AllocError>
     requires { IsQuotedText piece.now }
     ensures exact { IfOk result (λ s. string_bytes s ≡ spec.quoted_content piece.now) }

@@ -146,7 +146,7 @@ pub fn plain_len(flow: bool, spaces: Option<usize>, text: &[u8]) -> usize
     }
 }
 
-/// The text cut where a plain scalar in front has to end. `flow` tells that it stands in a flow
+/// The text cut where a plain scalar in front has to end. `flow` tells that it is in a flow
 /// collection, and `spaces` with how many spaces a further line of it begins at least; with `None`
 /// it has one line.
 pub fn split_plain(flow: bool, spaces: Option<usize>, text: &str) -> (&str, &str)

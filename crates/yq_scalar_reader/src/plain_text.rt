@@ -14,7 +14,7 @@ pub fn is_plain_char(c: char) -> bool
     is_text_char(c) && !matches!(c, '\t' | '\n' | '\r' | '\u{85}' | '\u{2028}' | '\u{2029}')
 }
 
-/// In what a scalar's characters stand as they are.
+/// In what a scalar's characters are as they are.
 #[derive(Clone, Copy)]
 pub enum Holder {
     Plain,
@@ -23,7 +23,7 @@ pub enum Holder {
     Literal,
 }
 
-/// Whether the character stands there as it is.
+/// Whether the character is there as it is.
 fn holds(holder: Holder, c: char) -> bool
     ensures { result ≡ is_written_as_is holder c }
 {
@@ -34,7 +34,7 @@ fn holds(holder: Holder, c: char) -> bool
     }
 }
 
-/// Whether each character stands there as it is.
+/// Whether each character is there as it is.
 pub fn holds_each(holder: Holder, text: &str) -> bool
     ensures { result ≡ list_all (is_written_as_is holder) (chars text.now) }
 {
@@ -52,7 +52,7 @@ fn begins_plainly(text: &[u8]) -> bool
     }
 }
 
-/// Whether the character in front, before what follows it, has to stand in quotes.
+/// Whether the character in front, before what follows it, has to be in quotes.
 fn needs_quotes(flow: bool, text: &[u8]) -> bool
     ensures { result ≡ spec.needs_quotes flow text.now }
 {
@@ -63,7 +63,7 @@ fn needs_quotes(flow: bool, text: &[u8]) -> bool
     }
 }
 
-/// Whether nothing in the text has to stand in quotes.
+/// Whether nothing in the text has to be in quotes.
 fn needs_no_quotes(flow: bool, text: &[u8]) -> bool
     ensures { result ≡ spec.no_rest (spec.needs_quotes flow) text.now }
 {

@@ -15,7 +15,7 @@ fn hex_digit(b: u8) -> Option<u32>
     char::from(b).to_digit(16)
 }
 
-/// The character that the letter behind a backslash stands for.
+/// The character that the letter after a backslash means.
 fn char_of(b: u8) -> Option<char>
     ensures { result ≡ beside b letters }
 {
@@ -41,7 +41,7 @@ fn char_of(b: u8) -> Option<char>
     }
 }
 
-/// The number that two digits spell behind `front`.
+/// The number that two digits spell after `front`.
 #[tactic(auto, unfolding(yq_core::specs::QuotedReading::hex), using(yq_core::proofs::EscapeLaws::digit_below))]
 fn hex_two(front: u32, text: &[u8]) -> Option<u32>
     requires { front < 16777216 }
@@ -56,7 +56,7 @@ fn hex_two(front: u32, text: &[u8]) -> Option<u32>
     Some((front * 16 + high) * 16 + low)
 }
 
-/// The number that four digits spell behind `front`.
+/// The number that four digits spell after `front`.
 fn hex_four(front: u32, text: &[u8]) -> Option<u32>
     requires { front < 65536 }
     ensures { result ≡ spec.hex 4 front text.now }
@@ -65,7 +65,7 @@ fn hex_four(front: u32, text: &[u8]) -> Option<u32>
     hex_two(high, text.split_at(2).1)
 }
 
-/// The number that six digits spell behind `front`.
+/// The number that six digits spell after `front`.
 fn hex_six(front: u32, text: &[u8]) -> Option<u32>
     requires { front < 256 }
     ensures { result ≡ spec.hex 6 front text.now }
@@ -91,7 +91,7 @@ fn coded(digits: usize, code: Option<u32>) -> Option<(char, usize)>
     Some((c, digits + 1))
 }
 
-/// The character that an escape stands for, and its length, behind the backslash.
+/// The character that an escape means, and its length, after the backslash.
 #[tactic(auto, unfolding(yq_core::specs::QuotedReading::leading_escape))]
 pub fn escape(text: &[u8]) -> Option<(char, usize)>
     ensures { result ≡ spec.leading_escape text.now }
@@ -117,7 +117,7 @@ fn closes(quote: u8, text: &[u8]) -> bool
     }
 }
 
-/// How many bytes behind the first belong to it.
+/// How many bytes after the first belong to it.
 fn behind(quote: u8, first: u8, rest: &[u8]) -> Option<usize>
     ensures { result ≡ spec.escape_len quote first rest.now }
 {
@@ -172,7 +172,7 @@ fn scalar_len(text: &[u8]) -> Option<usize>
     }
 }
 
-/// The text cut behind the quoted scalar in front: the scalar with its quotes, and what follows it.
+/// The text cut after the quoted scalar in front: the scalar with its quotes, and what follows it.
 fn cut_quoted(text: &str) -> Option<(&str, &str)>
     ensures { option_map (λ x. (x.0.now, x.1.now)) result ≡ spec.quoted_at text.now }
 {

@@ -1,4 +1,4 @@
-//! Plain and quoted scalars compared with what they may stand for, without memory (YAML 1.2.2, sections 5.7, 6.5 and 7.3).
+//! Plain and quoted scalars compared with what they may mean, without memory (YAML 1.2.2, sections 5.7, 6.5 and 7.3).
 ghost use Rattle.std.{specs.Prelude.{◌≡◌, ◌<◌, length, replicate, IfSome}, specs.Str.bytes_eq};
 ghost use Rattle.yq_scalar_reader.specs.Folded.{folded_text, StripsItem, StripsText};
 ghost use Rattle.yq_core.{specs.Quoted.IsQuotedText, specs.Text.feed};
@@ -24,7 +24,7 @@ fn strip_breaks(text: &str, count: usize) -> Option<&str>
     Some(rest)
 }
 
-/// A text without what bytes stand for, where it begins with that.
+/// A text without what bytes mean, where it begins with that.
 fn strip_folded<'w>(text: &'w str, folded: Folded<'_>) -> Option<&'w str>
     ensures { StripsText (folded_text folded.entry) text.now result }
 {
@@ -35,7 +35,7 @@ fn strip_folded<'w>(text: &'w str, folded: Folded<'_>) -> Option<&'w str>
     }
 }
 
-/// A text without what white space, breaks and the item behind them stand for, where it begins with
+/// A text without what white space, breaks and the item after them mean, where it begins with
 /// that; then what follows these, and whether that is a joined line.
 fn strip_next<'w, 't>(
     wanted: &'w str,
@@ -53,7 +53,7 @@ fn strip_next<'w, 't>(
     Some((left, item.rest, item.joined))
 }
 
-/// Whether what stands in these quotes, or in none, stands for that content.
+/// Whether what is in these quotes, or in none, means that content.
 fn folds_to(quote: u8, text: &str, content: &str) -> bool
     ensures { result ≡ bytes_eq (spec.quoted_text quote text.now) content.now }
 {
@@ -73,14 +73,14 @@ fn folds_to(quote: u8, text: &str, content: &str) -> bool
     wanted.is_empty()
 }
 
-/// Whether a plain scalar of that text stands for that content.
+/// Whether a plain scalar of that text means that content.
 pub fn is_plain_content(text: &str, content: &str) -> bool
     ensures { result ≡ bytes_eq (spec.plain_content text.now) content.now }
 {
     folds_to(0, text, content)
 }
 
-/// Whether a quoted scalar, given with its quotes, stands for that content.
+/// Whether a quoted scalar, given with its quotes, means that content.
 pub fn is_quoted_content(piece: &str, content: &str) -> bool
     requires { IsQuotedText piece.now }
     ensures { result ≡ bytes_eq (spec.quoted_content piece.now) content.now }

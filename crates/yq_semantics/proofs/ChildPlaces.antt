@@ -95,7 +95,7 @@ items_at Q i (child label n cs) h q =
       items_at Q (suc i) cs h.1 (λ r m e. let next : i + suc r ≡ suc i + r = omega arith in subst (λ (j : ℕ). Q (Nth j) m) next (q (suc r) m e)),
     )
 
--- a step stands before those to others
+-- a step comes before those to others
 abbrev pub StepsBefore : paths.Step → List (paths.Step × Node) → Type 0
 StepsBefore s [] = Unit {0}
 StepsBefore s (x ∷ xs) = Diverge s x.0 × StepsBefore s xs

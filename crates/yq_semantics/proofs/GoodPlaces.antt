@@ -31,7 +31,7 @@ sound_join : (root : Node) (ps qs : List FoundPlace) → AreSound root ps → Ar
 sound_join root [] qs h k = k
 sound_join root (p ∷ ps) qs h k = (h.0, sound_join root ps qs h.1 k)
 
--- what lies in a place stands before what that place stands before
+-- what lies in a place comes before what that place comes before
 lying_before : (x p : List paths.Step) (ps : List FoundPlace) → (r : List paths.Step) → x ≡ p ++ r → IsBeforeAll p ps → IsBeforeAll x ps
 lying_before x p [] r e h = tt
 lying_before x p (q ∷ qs) r e h = (subst (λ (y : List paths.Step). Before y q.path) (sym e) (before_left p q.path r h.0), lying_before x p qs r e h.1)

@@ -38,7 +38,7 @@ pub before_not_in : (p : List Step) → Before p [] → ⊥
 before_not_in [] h = h
 before_not_in (s ∷ p) h = h
 
--- behind the same step
+-- after the same step
 pub before_under : (s : Step) (p q : List Step) → Before (s ∷ p) (s ∷ q) → Before p q
 before_under s p q (inl h) = absurd (parts_not s h)
 before_under s p q (inr h) = h.1

@@ -22,7 +22,7 @@ pub data Addition : Type 0 where
   appends : Option (List ℕ) → Node → Addition
   overwrites : List ℕ → Node → Addition
 
--- what is changed at a node: it gives way to a value, gets more, is removed, or has the text of a comment set (own)
+-- what is changed at a node: it is replaced by a value, gets more, is removed, or has the text of a comment set (own)
 pub data Change : Type 0 where
   replaces : Node → Change
   adds : List Addition → Change
@@ -53,7 +53,7 @@ step_key (key k) = Some k
 step_key (index i) = None
 step_key each = None
 
--- a value under missing keys below a node: a mapping gets an entry more, and a null gives way to a mapping (own)
+-- a value under missing keys below a node: a mapping gets an entry more, and a null is replaced by a mapping (own)
 abbrev pub created : Node → PathStep → List PathStep → Node → Change
 created (tree.map anchor cs) m ms v = adds (appends (step_key m) (nested ms v) ∷ [])
 created n m ms v = replaces (nested (m ∷ ms) v)

@@ -14,7 +14,7 @@ use Rattle.yq_semantics.specs.declared.program.CommentPlace.TheVariants as place
 abbrev pub Production : Type 0 → Type 1
 Production A = A → List Token → List Token → Type 0
 
--- the mark or word s stands in front (own)
+-- the mark or word s is in front (own)
 abbrev pub HasSymbol : List ℕ → List Token → List Token → Type 0
 HasSymbol s ts rest = ts ≡ symbol s ∷ rest
 

@@ -16,7 +16,7 @@ pub data NodeEdit : Type 0 where
 abbrev pub NodeEdits : Type 0
 NodeEdits = List Step → Option NodeEdit
 
--- the step to an item or entry, by how many stand before it (own)
+-- the step to an item or entry, by how many come before it (own)
 abbrev pub step_to : ℕ → Label → Step
 step_to i label = step_by i label.key
 
@@ -48,7 +48,7 @@ abbrev mutual
   node_edit_inside f (list anchor cs) = list anchor (each_at_once f 0 cs)
   node_edit_inside f (map anchor cs) = map anchor (each_at_once f 0 cs)
 
-  -- the same of items or entries, so many of which stand before these (own)
+  -- the same of items or entries, so many of which come before these (own)
   pub each_at_once : NodeEdits → ℕ → Children → Children
   each_at_once f i none = none
   each_at_once f i (child label n cs) =
@@ -81,7 +81,7 @@ abbrev pub done_by : List (List Step × NodeEdit) → NodeEdits
 done_by [] q = None
 done_by (x ∷ xs) q = and_at x.0 x.1 (done_by xs) q
 
--- items or entries, with something done where a step leads: to the one there, with those behind it (own)
+-- items or entries, with something done where a step leads: to the one there, with those after it (own)
 abbrev pub at_child : Step → (Label → Node → Children → Children) → Children → Children
 at_child s h none = none
 at_child s h (child label n cs) = if is_here s label then h label n cs else child label n (at_child (further s) h cs)

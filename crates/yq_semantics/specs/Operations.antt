@@ -13,7 +13,7 @@ pub data Operation : Type 0 where
   line_comment : ℕ → List Step → List ℕ → Operation
   head_comment : ℕ → List Step → List ℕ → Operation
 
--- the operation that one of the code stands for (own)
+-- the operation that one of the code means (own)
 abbrev pub operation_of : declared.Op → Operation
 operation_of (declared.TheVariants.Replace p v) = replace p.doc (steps_of p) (value_node v)
 operation_of (declared.TheVariants.Append p k v) = append p.doc (steps_of p) (option_map string_bytes k) (value_node v)
@@ -21,6 +21,6 @@ operation_of (declared.TheVariants.Remove p) = remove p.doc (steps_of p)
 operation_of (declared.TheVariants.LineComment p text) = line_comment p.doc (steps_of p) (string_bytes text)
 operation_of (declared.TheVariants.HeadComment p text) = head_comment p.doc (steps_of p) (string_bytes text)
 
--- the operations that those of the code stand for, in order (own)
+-- the operations that those of the code mean, in order (own)
 abbrev pub operations_of : List declared.Op → List Operation
 operations_of ops = map operation_of ops

@@ -41,12 +41,12 @@ abbrev pub found_place : PathStep → FoundPlace → ChildFound → List FoundPl
 found_place s p None = miss s p
 found_place s p (Some x) = child_place p x ∷ []
 
--- the step to an entry, or to an item, by how many stand before it (own)
+-- the step to an entry, or to an item, by how many come before it (own)
 abbrev pub step_by : ℕ → Option (List ℕ) → paths.Step
 step_by i None = Nth i
 step_by i (Some k) = To k
 
--- items or entries, each with the step to it, by how many stand before these (own)
+-- items or entries, each with the step to it, by how many come before these (own)
 abbrev pub stepped : ℕ → Children → List (paths.Step × Node)
 stepped i none = []
 stepped i (child label n cs) = (step_by i label.key, n) ∷ stepped (suc i) cs

@@ -4,12 +4,12 @@ use Rattle.yq_core.{specs.PathOrder.Before, specs.Paths.node_at, specs.Tree.Node
 use Rattle.yq_semantics.specs.Places.{FoundPlace}
 use Rattle.yq_core.specs.Paths as paths
 
--- a path stands before each of these places (own)
+-- a path comes before each of these places (own)
 abbrev pub IsBeforeAll : List paths.Step → List FoundPlace → Type 0
 IsBeforeAll x [] = ⊤
 IsBeforeAll x (q ∷ qs) = Before x q.path × IsBeforeAll x qs
 
--- no two of these places are the same, and none lies in another; items stand in order (own)
+-- no two of these places are the same, and none lies in another; items are in order (own)
 abbrev pub AreApart : List FoundPlace → Type 0
 AreApart [] = ⊤
 AreApart (p ∷ ps) = IsBeforeAll p.path ps × AreApart ps

@@ -35,7 +35,7 @@ begins_name b = is_ascii_alphabetic b || b == 95
 abbrev pub is_name_byte : ℕ → Bool
 is_name_byte b = is_ascii_alphanumeric b || b == 95 || b == 45
 
--- the words that stand before a parenthesis (own)
+-- the words that come before a parenthesis (own)
 abbrev pub call_words : List (List ℕ)
 call_words = codes "select" ∷ codes "del" ∷ codes "has" ∷ []
 
@@ -55,7 +55,7 @@ is_keyword name = is_one_of call_words name || is_one_of place_words name || is_
 abbrev pub is_mark_character : ℕ → Bool
 is_mark_character b = b == 46 || b == 91 || b == 93 || b == 40 || b == 41 || b == 123 || b == 125 || b == 44 || b == 58 || b == 124 || b == 61 || b == 43
 
--- what stands before `=` in a mark of two characters: |= += == != (own)
+-- what comes before `=` in a mark of two characters: |= += == != (own)
 abbrev pub is_mark_before : ℕ → Bool
 is_mark_before b = b == 124 || b == 43 || b == 61 || b == 33
 
@@ -63,7 +63,7 @@ is_mark_before b = b == 124 || b == 43 || b == 61 || b == 33
 abbrev pub is_foreign : ℕ → Bool
 is_foreign b = b == 42 || b == 47 || b == 37 || b == 60 || b == 62 || b == 36 || b == 59 || b == 63 || b == 64 || b == 38 || b == 126 || b == 94 || b == 33 || b == 45
 
--- the character that stands behind a backslash for a character: \" \\ \n \t \r (own)
+-- the character that comes after a backslash for a character: \" \\ \n \t \r (own)
 abbrev pub escaped_character : ℕ → Option ℕ
 escaped_character b =
     if b == 34 then Some 34 else (if b == 92 then Some 92 else (if b == 110 then Some 10
@@ -84,7 +84,7 @@ abbrev pub spelling : List Character → List ℕ
 spelling [] = []
 spelling (c ∷ cs) = spelled_character c ++ spelling cs
 
--- every byte but a quote and a backslash stands for itself; the escapes are \" \\ \n \t \r, and \( (own)
+-- every byte but a quote and a backslash means itself; the escapes are \" \\ \n \t \r, and \( (own)
 abbrev pub IsCharacter : Character → Type 0
 IsCharacter (itself b) = (b == 34 || b == 92) ≡ false
 IsCharacter (escaped e) = (e == 40 || is_some (escaped_character e)) ≡ true
@@ -116,11 +116,11 @@ abbrev pub IsString : (List ℕ → Token) → Token → List ℕ → Type 0
 IsString make t piece =
     (cs : List Character) × AreCharacters cs × (piece ≡ 34 ∷ (spelling cs ++ 34 ∷ [])) × (t ≡ (if interpolates cs then foreign else make (said cs)))
 
--- a name, behind which it doesn't go on (own)
+-- a name, after which it doesn't go on (own)
 abbrev pub IsBareName : List ℕ → List ℕ → Type 0
 IsBareName name rest = (front begins_name name ≡ true) × (list_all is_name_byte name ≡ true) × (unless is_name_byte rest ≡ true)
 
--- digits, one or more, behind which they don't go on (own)
+-- digits, one or more, after which they don't go on (own)
 abbrev pub AreDigits : List ℕ → List ℕ → Type 0
 AreDigits digits rest = (front is_ascii_digit digits ≡ true) × (list_all is_ascii_digit digits ≡ true) × (unless is_ascii_digit rest ≡ true)
 
@@ -139,7 +139,7 @@ IsUnsigned piece rest =
 abbrev pub IsNumberToken : List ℕ → List ℕ → Type 0
 IsNumberToken piece rest = IsUnsigned piece rest ⊎ ((number : List ℕ) × (piece ≡ 45 ∷ number) × IsUnsigned number rest)
 
--- whether a step or `..` begins behind a dot before this (own)
+-- whether a step or `..` begins after a dot before this (own)
 abbrev pub dot_goes_on : List ℕ → Bool
 dot_goes_on [] = false
 dot_goes_on (b ∷ bs) = b == 46 || b == 34 || begins_name b

@@ -128,10 +128,10 @@ pub struct Comment {
     pub text: String,
 }
 
-/// Where a comment stands.
+/// Where a comment is.
 #[derive(Clone, Copy, PartialEq, Eq)]
 pub enum CommentPlace {
-    /// Behind the entry, on its line.
+    /// After the entry, on its line.
     Line,
     /// On lines of its own before the entry.
     Head,

@@ -162,7 +162,7 @@ module _ (op : Operation) (t : List ℕ) (operand : HasOperand op) (fitting : Is
       back_edge = subst (λ (y : List ℕ). IsCharBoundary y (length y - x.back)) of_text (subst (λ (n : ℕ). IsCharBoundary (old_text own) (length (old_text own) - n)) (sym change.back) (cut_back own change.back_text));
     }
 
-    -- and behind that
+    -- and after that
     module _ (new : List ℕ) (becomes : new ≡ exchanged kept t (string_bytes x.new)) where
       text_after : new_bytes ≡ new
       text_after = new_bytes_are ∙ sym becomes

@@ -33,7 +33,7 @@ NotOpened (reading.Fault fault) t = (¬ HasReading t) × (fault.kind ≢ NotUtf8
 NotOpened reading.Memory t = ⊤
 
 -- The lines were counted that are read where an operation exchanges rows and ends of parts: of those that it wrote, in the place of those that its
--- segments touch, without an end behind whose marker's line it begins and without the line of a marker that stays; and no others. Each of those is
+-- segments touch, without an end after whose marker's line it begins and without the line of a marker that stays; and no others. Each of those is
 -- touched by a range of what was put (own).
 pub record IsScanned (op : Operation) (t new : List ℕ) (before after : ℕ) : Type 0 where
   pub cut : Cut

@@ -44,7 +44,7 @@ pub fn apply_op(alloc: Global, text: &str, op: &Op) -> Result<Edited, EditError>
     carry(alloc, text, op)
 }
 
-/// Operations carried out on a text, whose rows stand there; their splices come behind others. The rows
+/// Operations carried out on a text, whose rows are there; their splices come after others. The rows
 /// follow each operation but the last one.
 pub(crate) fn carry_all(
     alloc: Global,
@@ -75,7 +75,7 @@ pub(crate) fn carry_all(
     })
 }
 
-/// An edit whose splices come behind others.
+/// An edit whose splices come after others.
 pub(crate) fn edited_behind(splices: Vec<Splice>, edited: Edited) -> Result<Edited, AllocError>
     ensures { IfOk result (λ e. (e.text ≡ edited.text) ×
         (e.splices.items ≡ splices.items ++ edited.splices.items)) }
@@ -117,7 +117,7 @@ fn carry_at_once<'d>(
     carry_in_rows(alloc, cut, ops)
 }
 
-/// Operations carried out one by one on a copy of a text that was read; their splices come behind others.
+/// Operations carried out one by one on a copy of a text that was read; their splices come after others.
 fn carry_each(
     alloc: Global,
     text: &str,
@@ -136,7 +136,7 @@ fn carry_each(
     carry_all(alloc, kept, places, splices, ops)
 }
 
-/// The operations of a plan carried out on a text that was read; their splices come behind others. For a
+/// The operations of a plan carried out on a text that was read; their splices come after others. For a
 /// sole one the text is not copied.
 pub fn carry_plan(
     alloc: Global,

@@ -104,7 +104,7 @@ fn edit_text(alloc: Global, text: &str, program: &Program) -> Result<Edited, Edi
 pub fn edit(alloc: Global, text: &str, program: &Program) -> Result<Edited, EditError>
     // The new text, or why there is none.
     ensures exact { Edits result (spec.edit_of (program_of program.now) text.now) }
-    // Each update exchanges segments of the text as it then stands, all else stays, and the text behind it
+    // Each update exchanges segments of the text as it then is, all else stays, and the text after it
     // reads as what the update means.
     ensures edited { IfOk result (λ e. IsEdited (program_of program.now) text.now
         (string_bytes e.text) e.splices.items) }

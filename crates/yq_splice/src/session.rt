@@ -25,8 +25,8 @@ use yq_semantics::Op;
 use yq_text::{ChangedMiddle, Edited, Halves, Splice, TextGapBuffer};
 use yq_tree::read;
 
-/// A text that reads, kept with where its rows stand, both on two sides of where it was changed last: so that
-/// operations are applied to it one after the other, each passes what stands between its place and the last
+/// A text that reads, kept with where its rows are, both on two sides of where it was changed last: so that
+/// operations are applied to it one after the other, each passes what is between its place and the last
 /// one's, and of the rows only those that it touches are read again. The way to the next one's place goes on
 /// from an item on the way of the last one.
 #[derive(Drop)]
@@ -75,7 +75,7 @@ impl Session {
         })
     }
 
-    /// Begins with a text whose rows stand there, of which no line was counted.
+    /// Begins with a text whose rows are there, of which no line was counted.
     pub(crate) fn of(alloc: Global, text: String, places: Places) -> Session
         requires { HasPlaces (string_bytes text) places }
         ensures { result.text ≡ string_bytes text }
@@ -89,7 +89,7 @@ impl Session {
         }
     }
 
-    /// What an operation changes in the text, and what is known of its way behind it, from which the
+    /// What an operation changes in the text, and what is known of its way after it, from which the
     /// next one may go on.
     fn change(&mut self, op: &Op) -> Result<(ChangedMiddle, KnownItems), EditError>
         ensures same { self.new ≡ self.old }
@@ -157,8 +157,8 @@ impl Session {
         Ok(splices)
     }
 
-    /// The text as it stands, in the two halves in which it is kept: to lend it as one `&str` would move one
-    /// of them, which an operation behind that would have to move back.
+    /// The text as it is, in the two halves in which it is kept: to lend it as one `&str` would move one
+    /// of them, which an operation after that would have to move back.
     pub fn text(&self) -> Halves<'_>
         ensures text { whole result ≡ self.now.text }
         ensures read { HasReading self.now.text }
@@ -180,7 +180,7 @@ impl Session {
         self.text.into_string()
     }
 
-    /// Ends the session by an operation, whose splices come behind others. The rows need not follow it.
+    /// Ends the session by an operation, whose splices come after others. The rows need not follow it.
     pub(crate) fn close_by(self, op: &Op, splices: Vec<Splice>) -> Result<Edited, EditError>
         ensures { Edits result (edit_after splices.items
             (carried (operation_of op.now) self.text)) }

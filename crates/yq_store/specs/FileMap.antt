@@ -22,7 +22,7 @@ get_written m k v =
     get-insert nat_list_cmp_total m k v k
     ∙ ap (λ b. cond b (Some v) (get m k)) (is_eq-slice_cmp k k ∙ (bytes_eq-Decides k k).1 refl)
 
--- names that differ are told apart
+-- names that differ are distinguished
 differ : (q k : List ℕ) → q ≢ k → bytes_eq q k ≡ false
 differ q k d = elim (bytes_eq q k) as (λ b. bytes_eq q k ≡ b → b ≡ false) [
   | true ↦ λ e. absurd (d ((bytes_eq-Decides q k).0 e))

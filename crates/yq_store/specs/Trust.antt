@@ -1,4 +1,4 @@
--- Whose journals are believed, and who may replace files (own).
+-- Whose journals are believed, and which users may replace files (own).
 use Rattle.std.specs.Prelude.{ℕ, ◌==◌, ◌&&◌, ◌||◌, Bool, not, bit_and, nat_le}
 use Rattle.yq_store.{specs.declared.disk.trust.Trust.Trust, specs.declared.disk.trust.Writers.Writers}
 

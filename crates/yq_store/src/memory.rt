@@ -1,4 +1,4 @@
-//! A store in memory, which can be told to fail.
+//! A store in memory, which can be made to fail.
 ghost use Rattle.std.{specs.Prelude.{◌≡◌, true, [], IfOk, OnErr, option_map}, specs.String.string_bytes};
 ghost use Rattle.yq_store.specs.FileMap.{file_bytes};
 ghost use Rattle.std.specs.FinMap as map;

@@ -1,4 +1,4 @@
--- What stands between the segments that are kept at both ends.
+-- What is between the segments that are kept at both ends.
 use Rattle.std.proofs.Common.{◌≡◌, ℕ, ◌+◌, Bool, true, false, cond, List, [], ◌∷◌, ◌++◌, length, nat_eq, refl, sym, ap, ◌∙◌, arith}
 use Rattle.std.{proofs.Common.{append_assoc, append-nil, length-append, rules}, proofs.lemmas.Bool.false≢true}
 use Rattle.yq_text.specs.Splice.{Splice}
@@ -6,7 +6,7 @@ use Rattle.yq_text.specs.Script.{Segment, keep, put, old_text, new_text, keep_be
 use Rattle.yq_text.{specs.Script.{changes_behind, are_kept, kept_front, kept_back, from_first, to_last}, proofs.TouchLaws.put_twice}
 use Rattle.yq_text.proofs.KeptSegments.{last_kept, new_kept, one_kept}
 
--- ---- the last one that gives way
+-- ---- the last one that is replaced
 
 pub last_stays : (ss : List Segment) (t : List ℕ) → to_last (ss ++ (keep t ∷ [])) ≡ to_last ss
 last_stays [] t = refl
@@ -23,7 +23,7 @@ to_last_put [] o w = refl
 to_last_put (keep u ∷ ss) o w = λ i. cond (last_gives ss o w i) [] (keep u ∷ to_last_put ss o w i)
 to_last_put (put p x ∷ ss) o w = ap (λ s. put p x ∷ s) (to_last_put ss o w)
 
--- ---- what is kept behind it
+-- ---- what is kept after it
 
 pub back_gives : (ss : List Segment) (o w : List ℕ) → kept_back (ss ++ (put o w ∷ [])) ≡ []
 back_gives [] o w = refl
@@ -57,7 +57,7 @@ back_first (put o w ∷ ss) e = refl
 
 -- ---- the splices
 
--- those of segments behind an exchange that touches them
+-- those of segments after an exchange that touches them
 abbrev run : ℕ → List ℕ → List ℕ → List Segment → List Splice
 run n o w [] = splice_at n o w
 run n o w (keep [] ∷ ss) = run n o w ss

@@ -1,4 +1,4 @@
--- The first segment and those behind it, as a loop over them takes it apart.
+-- The first segment and those after it, as a loop over them takes it apart.
 use Rattle.std.proofs.Common.{◌≡◌, ℕ, ◌+◌, ◌-◌, ◌<◌, ◌≤◌, List, [], ◌∷◌, ◌++◌, length, take, drop, get_or, false, nat_eq, refl, sym, ap}
 use Rattle.std.proofs.Common.{◌∙◌, arith, append-nil, length-append, length-drop, length-take-le, String, Global}
 use Rattle.std.{proofs.lemmas.List.take_rest, specs.String.string_bytes}
@@ -8,7 +8,7 @@ use Rattle.yq_text.{specs.Segments.{segment_of, segments_of}, specs.Splice.Splic
 use Rattle.yq_text.{proofs.BetweenLaws.loop_kept, proofs.TouchLaws.put_twice}
 use Rattle.yq_text.specs.declared.segment.Segment.TheVariants as held
 
--- those behind the first one
+-- those after the first one
 abbrev pub later : List Held → List Held
 later xs = take (length xs - 1) (drop 1 xs)
 
@@ -65,7 +65,7 @@ kept_found done more all n m o w o2 w2 t ss us some is so_far adds at gone come 
     (λ i. more ++ splices_at m (put_before (gone i) (come i) (merged us)))
     ∙ loop_kept done more all n m o w t us some (ap (λ s. done ++ splices_at n (put_before o w (merged s))) (sym is) ∙ so_far) adds at
 
--- and where one more gives way, which that exchange goes on with
+-- and where one more is replaced, which that exchange goes on with
 pub put_found : (done more all : List Splice) (n m : ℕ) (o w p u o2 w2 : List ℕ) (ss us : List Segment) → ss ≡ put p u ∷ us →
     done ++ splices_at n (put_before o w (merged ss)) ≡ all →
     more ≡ done → m ≡ n → o2 ≡ o ++ p → w2 ≡ w ++ u → more ++ splices_at m (put_before o2 w2 (merged us)) ≡ all

@@ -1,4 +1,4 @@
--- What segments keep in front and behind.
+-- What segments keep before and after.
 use Rattle.std.proofs.Common.{◌≡◌, ℕ, ◌≤◌, Bool, true, false, cond, List, [], ◌∷◌, ◌++◌, length, refl, sym, ap, ◌∙◌, arith, append_assoc}
 use Rattle.std.{proofs.Common.{append-nil, length-append, rules}, proofs.lemmas.Bool.false≢true}
 use Rattle.yq_text.specs.Script.{Segment, keep, put, old_text, new_text, are_kept, kept_front, kept_back}
@@ -20,7 +20,7 @@ new_kept (put o w ∷ ss) e = absurd (false≢true e)
 
 -- ---- the texts of segments
 
--- What is kept behind ends the texts of segments.
+-- What is kept after ends the texts of segments.
 pub record IsBehind (ss : List Segment) : Type 0 where
   pub old : List ℕ
   pub new : List ℕ
@@ -49,7 +49,7 @@ behind (put o w ∷ ss) =
 pub back_within : (ss : List Segment) → length (kept_back ss) ≤ length (old_text ss)
 back_within ss = let h = behind ss in omega (arith, ap length h.old_is, length-append h.old (kept_back ss))
 
--- The texts of segments of which one gives way stand between what is kept in front and what is kept behind.
+-- The texts of segments of which one is replaced are between what is kept in front and what is kept after.
 pub record IsBetween (ss : List Segment) : Type 0 where
   pub old : List ℕ
   pub new : List ℕ
@@ -64,7 +64,7 @@ between [] e = absurd (false≢true (sym e))
 between (keep t ∷ ss) e = let h = between ss e in record { old = h.old; new = h.new; old_is = one_between t (kept_front ss) h.old _ ss e h.old_is; new_is = one_between t (kept_front ss) h.new _ ss e h.new_is }
 between (put o w ∷ ss) e = let h = behind (put o w ∷ ss) in record { old = h.old; new = h.new; old_is = h.old_is; new_is = h.new_is }
 
--- ---- segments between a kept one in front and one behind
+-- ---- segments between a kept one in front and one after
 
 pub last_kept : (ss : List Segment) (b : List ℕ) → are_kept (ss ++ (keep b ∷ [])) ≡ are_kept ss
 last_kept [] b = refl

@@ -14,7 +14,7 @@ but_last_long xs some = sym (length-take-le (length xs - 1) xs (omega (arith, so
 pub but_last_fewer : {A : Type 0} (xs : List A) → 1 ≤ length xs → length (take (length xs - 1) xs) < length xs
 but_last_fewer xs some = omega (arith, some, but_last_long xs some)
 
--- segments with the last one behind the others
+-- segments with the last one after the others
 module _ (xs : List Held) (x d : Held) (some : 1 ≤ length xs) (is : x ≡ get_or xs (length xs - 1) d) where
   abbrev but_last : List Held
   but_last = take (length xs - 1) xs
@@ -36,7 +36,7 @@ module _ (xs : List Held) (x d : Held) (some : 1 ≤ length xs) (is : x ≡ get_
   pub back_put : (o : Halves) (w : String Global) → x ≡ held.Put o w → kept_back (segments_of xs) ≡ []
   back_put o w puts = ap kept_back (with_last ∙ ap (λ y. segments_of but_last ++ (segment_of y ∷ [])) puts) ∙ back_gives (segments_of but_last) (whole o) (string_bytes w)
 
--- a text behind another one
+-- a text after another one
 pub texts_joined : (t u : List ℕ) → IsUtf8 t → IsUtf8 u → IsUtf8 (t ++ u)
 texts_joined = IsUtf8-append
 

@@ -1,4 +1,4 @@
--- Where the split of a text may come to stand, in bytes, and what room there is.
+-- Where the split of a text may end up, in bytes, and what room there is.
 use Rattle.std.proofs.Common.{◌≡◌, ℕ, ◌+◌, ◌-◌, ◌≤◌, List, ◌++◌, Fits, Vec, w64, drop, length, take, arith, length-append, length-drop}
 use Rattle.std.{proofs.Common.{length-take, refl, vec_len}, specs.Global.Global, specs.Str.IsCharBoundary}
 use Rattle.yq_text.{specs.TextGapBuffer.IsKept, proofs.SplitLaws.reaches}
@@ -9,7 +9,7 @@ kept_length xs f b n k e =
     let both = length-append (take f xs) (drop b xs) in
     omega (arith, e, k.order, k.within, both, length-take f xs, length-drop b xs)
 
--- bytes that are written at the split, and those behind it that give way
+-- bytes that are written at the split, and those after it that are replaced
 pub record IsRoom (v : Vec ℕ Global) (f b n gone : ℕ) : Type 0 where
   pub within : f + n ≤ length v.items
   pub fits : Fits w64 (b + gone)

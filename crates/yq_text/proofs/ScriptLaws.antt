@@ -27,7 +27,7 @@ splice_leads front o w rest n e = go (bytes_eq o w) refl
         (done-from_exchanges (record { at = n; old = o; new = w }) (front ++ (o ++ rest)) (front ++ (w ++ rest))
         (record { front = front; rest = rest; offset = e; before = refl; after = refl }))
 
--- splices done behind a front
+-- splices done after a front
 pub splices_lead : (front : List ℕ) (n : ℕ) (ss : List Segment) → length front ≡ n → all_done (splices_at n ss) (front ++ old_text ss) ≡ Some (front ++ new_text ss)
 splices_lead front n [] e = refl
 splices_lead front n (keep t ∷ ss) e =
@@ -53,7 +53,7 @@ splice_lengths : (n : ℕ) (o w : List ℕ) (m : ℕ) → n + length o + m < 2 ^
 unfolding length_done
 splice_lengths n o w m old new = search (rules, le-leb, lt-ltb, bytes_eq-Decides)
 
--- lengths reached behind n bytes
+-- lengths reached after n bytes
 pub splices_lengths : (n : ℕ) (ss : List Segment) → n + length (old_text ss) + length (new_text ss) < 2 ^ 64 → lengths_done (splices_at n ss) (n + length (old_text ss)) ≡ Some (n + length (new_text ss))
 splices_lengths n [] h = refl
 splices_lengths n (keep t ∷ ss) h =

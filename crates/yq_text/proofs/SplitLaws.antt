@@ -55,17 +55,17 @@ moved_on xs at f b k i l =
     (same_lists _ _ (search (rules, places, k, past)) (λ n d h. grind (arith, places, k, past)))
     (search (rules, k)) (search (rules, places, past))
 
--- what stands in front of the room when a text was written there
+-- what is in front of the room when a text was written there
 pub written_front : (xs ys : List ℕ) (f : ℕ) → f + length ys ≤ length xs →
     take (f + length ys) (paste xs f ys (length ys)) ≡ take f xs ++ ys
 written_front xs ys f l = search (rules, overwrites)
 
--- how far a text reaches that is written into the room and over bytes behind it
+-- how far a text reaches that is written into the room and over bytes after it
 pub reaches : (xs ys : List ℕ) (f b gone : ℕ) → IsKept xs f b → IsCharBoundary (drop b xs) gone →
     length ys ≤ b - f + gone → (f + length ys ≤ b + gone) × (b + gone ≤ length xs)
 reaches xs ys f b gone k i l = (search (rules, k), search (rules, places, k, i))
 
--- what stands behind the room when a text was written there and bytes behind it are given to it
+-- what comes after the room when a text was written there and bytes after it are given to it
 pub written_back : (xs ys : List ℕ) (f b gone : ℕ) → IsKept xs f b → IsCharBoundary (drop b xs) gone →
     length ys ≤ b - f + gone → drop (b + gone) (paste xs f ys (length ys)) ≡ drop gone (drop b xs)
 written_back xs ys f b gone k i l =

@@ -7,7 +7,7 @@ pub same_changes : (ss us : List Segment) → merged ss ≡ merged us → change
 unfolding changes
 same_changes ss us e = ap (splices_at 0) e
 
--- the same segments behind others
+-- the same segments after others
 merged_behind : (ss us rs : List Segment) → merged us ≡ merged rs → merged (ss ++ us) ≡ merged (ss ++ rs)
 merged_behind [] us rs e = e
 merged_behind (keep t ∷ ss) us rs e = ap (keep_before t) (merged_behind ss us rs e)

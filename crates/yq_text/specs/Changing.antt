@@ -4,7 +4,7 @@ use Rattle.yq_text.specs.Exchanging.{NotExchanged, exchange_of, gives}
 use Rattle.yq_text.specs.Script.{Segment, old_text, new_text, are_kept, kept_front, kept_back}
 use Rattle.yq_text.{specs.declared.changed.ChangedMiddle.ChangedMiddle, specs.declared.exchange_error.ExchangeError.ExchangeError}
 
--- What segments change of their text: so many bytes stay at both ends, which are characters, and where one gives way, the new text is the old one with
+-- What segments change of their text: so many bytes stay at both ends, which are characters, and where one is replaced, the new text is the old one with
 -- another text between these (own).
 pub record IsChange (ss : List Segment) (c : ChangedMiddle) : Type 0 where
   pub front : c.front ≡ length (kept_front ss)

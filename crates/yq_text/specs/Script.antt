@@ -3,7 +3,7 @@ use Rattle.std.specs.Prelude.{◌≡◌, ℕ, ◌+◌, ◌-◌, Bool, true, fals
 use Rattle.std.specs.Str.{bytes_eq}
 use Rattle.yq_text.specs.Splice.{Splice}
 
--- a segment of a text: it stays, or it gives way to another one (own)
+-- a segment of a text: it stays, or it is replaced by another one (own)
 pub data Segment : Type 0 where
   keep : (text : List ℕ) → Segment
   put : (old new : List ℕ) → Segment
@@ -20,7 +20,7 @@ new_text [] = []
 new_text (keep t ∷ ss) = t ++ new_text ss
 new_text (put o w ∷ ss) = w ++ new_text ss
 
--- the text before what stands at its end (own)
+-- the text before what is at its end (own)
 abbrev pub script_text_before : List ℕ → List ℕ → List ℕ
 script_text_before t behind = take (length t - length behind) t
 
@@ -47,13 +47,13 @@ merged (put o w ∷ ss) = put_before o w (merged ss)
 abbrev pub splice_at : ℕ → List ℕ → List ℕ → List Splice
 splice_at n o w = if bytes_eq o w then [] else (record { at = n; old = o; new = w } ∷ [])
 
--- a splice for each exchanged segment, behind n bytes of the text as it then stands (own)
+-- a splice for each exchanged segment, after n bytes of the text as it then is (own)
 abbrev pub splices_at : ℕ → List Segment → List Splice
 splices_at n [] = []
 splices_at n (keep t ∷ ss) = splices_at (n + length t) ss
 splices_at n (put o w ∷ ss) = splice_at n o w ++ splices_at (n + length w) ss
 
--- the splices of segments that stand behind n bytes of a text (own)
+-- the splices of segments that come after n bytes of a text (own)
 abbrev pub changes_behind : ℕ → List Segment → List Splice
 changes_behind n ss = splices_at n (merged ss)
 
@@ -79,25 +79,25 @@ are_kept [] = true
 are_kept (keep t ∷ ss) = are_kept ss
 are_kept (put o w ∷ ss) = false
 
--- the text of the kept segments in front of the first one that gives way (own)
+-- the text of the kept segments in front of the first one that is replaced (own)
 abbrev pub kept_front : List Segment → List ℕ
 kept_front [] = []
 kept_front (keep t ∷ ss) = t ++ kept_front ss
 kept_front (put o w ∷ ss) = []
 
--- the text of the kept segments behind the last one that gives way (own)
+-- the text of the kept segments after the last one that is replaced (own)
 abbrev pub kept_back : List Segment → List ℕ
 kept_back [] = []
 kept_back (keep t ∷ ss) = if are_kept ss then t ++ kept_back ss else kept_back ss
 kept_back (put o w ∷ ss) = kept_back ss
 
--- the segments from the first one that gives way on (own)
+-- the segments from the first one that is replaced on (own)
 abbrev pub from_first : List Segment → List Segment
 from_first [] = []
 from_first (keep t ∷ ss) = from_first ss
 from_first (put o w ∷ ss) = put o w ∷ ss
 
--- the segments up to the last one that gives way (own)
+-- the segments up to the last one that is replaced (own)
 abbrev pub to_last : List Segment → List Segment
 to_last [] = []
 to_last (keep t ∷ ss) = if are_kept ss then [] else keep t ∷ to_last ss
@@ -108,7 +108,7 @@ pub record Extent : Type 0 where
   pub from : ℕ
   pub to : ℕ
 
--- the places of the exchanged segments in the old text, behind n bytes (own)
+-- the places of the exchanged segments in the old text, after n bytes (own)
 abbrev pub extents : ℕ → List Segment → List Extent
 extents n [] = []
 extents n (keep t ∷ ss) = extents (n + length t) ss

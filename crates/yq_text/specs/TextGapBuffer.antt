@@ -1,7 +1,7 @@
 -- What a gap buffer of text holds: two halves, with room between them (own).
 use Rattle.std.{specs.Prelude.{ℕ, List, ◌++◌, ◌≤◌, length, take, drop}, specs.Str.IsUtf8}
 
--- A text in front of a split and behind it, and for how many bytes there is room between the two (own).
+-- A text in front of a split and after it, and for how many bytes there is room between the two (own).
 pub record TextGapView : Type 0 where
   pub front : List ℕ
   pub back : List ℕ
@@ -11,7 +11,7 @@ pub record TextGapView : Type 0 where
 abbrev pub buffer_text : TextGapView → List ℕ
 buffer_text s = s.front ++ s.back
 
--- of these bytes so many stand in front of the room, those behind it begin so far on, and both are text (own)
+-- of these bytes so many are in front of the room, those after it begin so far on, and both are text (own)
 pub record IsKept (bytes : List ℕ) (front back : ℕ) : Type 0 where
   pub order : front ≤ back
   pub within : back ≤ length bytes

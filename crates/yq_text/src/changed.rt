@@ -5,11 +5,11 @@ use crate::splice::Splice;
 /// What an edit changes of a text whose ends stay.
 #[derive(Drop)]
 pub struct ChangedMiddle {
-    /// How many bytes stay in front of all that gives way; all, where nothing does.
+    /// How many bytes stay in front of all that is replaced; all, where nothing does.
     pub front: usize,
-    /// How many bytes stay behind all that gives way; all, where nothing does.
+    /// How many bytes stay after all that is replaced; all, where nothing does.
     pub back: usize,
-    /// What stands between them in the new text.
+    /// What is between them in the new text.
     pub new: String,
     /// The splices that, done in order, lead to the new text. An edit that
     /// changes no byte has none.

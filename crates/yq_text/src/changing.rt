@@ -21,7 +21,7 @@ fn text_len(text: Halves<'_>) -> usize
     text.front.as_bytes().len() + text.back.as_bytes().len()
 }
 
-/// How many bytes are kept in front of the first segment that gives way, and the segments from there on.
+/// How many bytes are kept in front of the first segment that is replaced, and the segments from there on.
 fn from_first<'s, 't>(segments: &'s [Segment<'t>]) -> (usize, &'s [Segment<'t>])
     requires { length (script.old_text (segments_of segments.now)) < 2 ^ 64 }
     ensures front { result.0 ≡ length (script.kept_front (segments_of segments.now)) }
@@ -40,7 +40,7 @@ fn from_first<'s, 't>(segments: &'s [Segment<'t>]) -> (usize, &'s [Segment<'t>])
     (len, rest)
 }
 
-/// The segments up to the last one that gives way.
+/// The segments up to the last one that is replaced.
 fn to_last<'s, 't>(segments: &'s [Segment<'t>]) -> &'s [Segment<'t>]
     ensures { segments_of result.now ≡ script.to_last (segments_of segments.now) }
 {
@@ -54,7 +54,7 @@ fn to_last<'s, 't>(segments: &'s [Segment<'t>]) -> &'s [Segment<'t>]
     rest
 }
 
-/// How many bytes are kept behind the last segment that gives way; those of all segments where none does.
+/// How many bytes are kept after the last segment that is replaced; those of all segments where none does.
 fn kept_back(segments: &[Segment<'_>]) -> usize
     requires { length (script.old_text (segments_of segments.now)) < 2 ^ 64 }
     ensures back { result ≡ length (script.kept_back (segments_of segments.now)) }
@@ -73,7 +73,7 @@ fn kept_back(segments: &[Segment<'_>]) -> usize
 }
 
 /// What segments change of their text, and the splices of that ([`exchange`](crate::exchange)). Bytes
-/// that stay in front of all that gives way or behind it are not moved.
+/// that stay in front of all that is replaced or after it are not moved.
 ///
 /// The new text may have 16,777,216 bytes at most ([`ExchangeError::TooLarge`]).
 pub fn changes(alloc: Global, segments: &Segments<'_>) -> Result<ChangedMiddle, ExchangeError>

@@ -9,7 +9,7 @@ use crate::splice::Splice;
 use std::alloc::{AllocError, Global};
 use std::mem::replace;
 
-/// What is made of the segments so far: the new text, its splices, and behind them the exchange that the
+/// What is made of the segments so far: the new text, its splices, and after them the exchange that the
 /// next segment may go on with, at its offset in the new text.
 #[derive(Drop)]
 pub(crate) struct Draft {
@@ -69,7 +69,7 @@ fn push_kept(text: &mut String, kept: Halves<'_>) -> Result<(), AllocError>
     push_text(text, kept.back)
 }
 
-/// Adds what gives way to bytes.
+/// Adds what is replaced by bytes.
 fn push_gone(bytes: &mut Vec<u8>, gone: Halves<'_>) -> Result<(), AllocError>
     ensures { OnOk result (bytes.new.items ≡ bytes.old.items ++ whole gone.entry) }
 {
@@ -101,7 +101,7 @@ impl Draft {
         Ok(())
     }
 
-    /// Adds a segment that gives way.
+    /// Adds a segment that is replaced.
     pub(crate) fn put(&mut self, gone: Halves<'_>, come: &str) -> Result<(), AllocError>
         ensures text { OnOk result (string_bytes self.new.text ≡
             string_bytes self.old.text ++ come.now) }

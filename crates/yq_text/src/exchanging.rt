@@ -11,7 +11,7 @@ use crate::segment::{Segment, Segments};
 use crate::{Halves, TEXT_LIMIT};
 use std::alloc::Global;
 
-/// What stands in the new text for a segment.
+/// What is in the new text for a segment.
 fn new_of<'s>(segment: &'s Segment<'_>) -> Halves<'s>
     ensures { (ss : List script.Segment) →
         script.new_text (segment_of segment.now ∷ ss) ≡ whole result ++ script.new_text ss }
@@ -40,7 +40,7 @@ pub(crate) fn new_len(segments: &[Segment<'_>]) -> Option<usize>
     Some(len)
 }
 
-/// The new text of segments, which is about that long, and their splices behind so many bytes.
+/// The new text of segments, which is about that long, and their splices after so many bytes.
 #[tactic(auto, using(crate::proofs::BetweenLaws::behind_nothing, crate::proofs::BetweenLaws::loop_kept))]
 pub(crate) fn build(
     alloc: Global,

@@ -2,7 +2,7 @@
 ghost use Rattle.std.{specs.Prelude.{◌≡◌, ◌<◌, ◌^◌, ◌==◌, [], drop, length, take}, specs.Str.IsCharBoundary};
 ghost use Rattle.yq_text.specs.Halves.{whole};
 
-/// A text in two halves, one behind the other.
+/// A text in two halves, one after the other.
 #[derive(Clone, Copy)]
 pub struct Halves<'t> {
     pub front: &'t str,
@@ -37,7 +37,7 @@ impl<'t> Halves<'t> {
         self.front.is_empty() && self.back.is_empty()
     }
 
-    /// The text cut behind so many bytes.
+    /// The text cut after so many bytes.
     pub fn split_at(self, at: usize) -> (Halves<'t>, Halves<'t>)
         requires { IsCharBoundary (whole self) at }
         ensures front { whole result.0 ≡ take at (whole self.entry) }

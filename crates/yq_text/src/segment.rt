@@ -6,16 +6,16 @@ use crate::Halves;
 use std::alloc::AllocError;
 use std::marker::Model;
 
-/// A segment of a text, which stands in two halves.
+/// A segment of a text, which is in two halves.
 #[derive(Drop)]
 pub enum Segment<'t> {
     /// It stays.
     Keep(Halves<'t>),
-    /// The first text gives way to the second one.
+    /// The first text is replaced by the second one.
     Put(Halves<'t>, String),
 }
 
-/// Segments of a text, in its order. What they keep and what gives way is borrowed from the text, and what
+/// Segments of a text, in its order. What they keep and what is replaced is borrowed from the text, and what
 /// comes is owned.
 #[derive(Drop)]
 pub struct Segments<'t> {
@@ -41,7 +41,7 @@ impl<'t> Segments<'t> {
         Segments { segments }
     }
 
-    /// Puts a segment behind the others.
+    /// Puts a segment after the others.
     pub fn push(&mut self, segment: Segment<'t>) -> Result<(), AllocError>
         ensures { OnOk result (self.new ≡ self.old ++ segment_of segment.entry ∷ []) }
     {

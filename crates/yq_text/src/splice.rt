@@ -4,7 +4,7 @@ ghost use Rattle.yq_text.specs.Splice.{Splice, Exchanges, change_done, all_done,
 
 use std::marker::Model;
 
-/// At a byte offset, the old bytes give way to the new ones.
+/// At a byte offset, the old bytes are replaced by the new ones.
 #[derive(Debug, Drop)]
 pub struct Splice {
     pub at: u64,
@@ -20,8 +20,8 @@ impl Model for Splice {
     ghost view = { λ s. record { at = s.at; old = s.old.items; new = s.new.items } };
 }
 
-/// A splice is done exactly where its old bytes stand between a front of
-/// `at` bytes and a rest, and its new bytes then stand between the same two.
+/// A splice is done exactly where its old bytes are between a front of
+/// `at` bytes and a rest, and its new bytes then are between the same two.
 pub fn splice_exchanges()
     ensures { (s : Splice) (b c : List ℕ) → (change_done s b ≡ Some c) ↔ Exchanges s b c }
 {}

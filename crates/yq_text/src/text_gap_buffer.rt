@@ -14,9 +14,9 @@ use std::marker::Model;
 #[derive(Drop)]
 pub struct TextGapBuffer {
     bytes: Vec<u8>,
-    /// How many bytes stand in front of the split.
+    /// How many bytes are in front of the split.
     front: usize,
-    /// Where the bytes behind it begin.
+    /// Where the bytes after it begin.
     back: usize,
 }
 
@@ -92,9 +92,9 @@ impl TextGapBuffer {
             return Ok(());
         }
         let len = self.bytes.len();
-        let Some(end) = len.checked_add(max(more - room, len)) else {
-            return Err(AllocError);
-        };
+        let growth = max(more - room, len);
+        self.bytes.reserve(growth)?;
+        let end = len + growth;
         self.bytes.resize(end, 0)?;
         self.bytes
             .copy_within(self.back..len, end - (len - self.back));
@@ -123,7 +123,7 @@ impl TextGapBuffer {
         }
     }
 
-    /// So many bytes behind the split give way to a text, which comes to stand in front of it; there is
+    /// So many bytes after the split are replaced by a text, which ends up in front of it; there is
     /// room for it.
     pub fn exchange(&mut self, gone: usize, text: &str)
         requires gone { IsCharBoundary self.old.back gone }

@@ -1,4 +1,4 @@
--- Texts whose parts stand for no documents.
+-- Texts whose parts mean no documents.
 use Rattle.std.{proofs.Common.{ℕ, List, ap, ◌∙◌}, proofs.lemmas.Bool.cond-false}
 use Rattle.yq_core.{specs.Answers.{◌>>=◌, ReadFails}, specs.declared.fault.ReadError.ReadError}
 use Rattle.yq_row_table.{specs.Grammar.IsCut, specs.Rows.Cut, proofs.ScanLaws.scan_again}
@@ -6,7 +6,7 @@ use Rattle.yq_documents.specs.Reading.{all_documents, checked, checked_at}
 use Rattle.yq_compose.specs.Deciding.{Denies}
 use Rattle.yq_core.specs.declared.fault.ReadError.TheVariants as errors
 
--- a text with parts that stand for no documents
+-- a text with parts that mean no documents
 pub text_denied : (t : List ℕ) (c : Cut) (e : ReadError) → IsCut t c → Denies e (all_documents c) → ReadFails e (checked_at t)
 unfolding checked_at
 text_denied t c errors.Memory h denied = tt

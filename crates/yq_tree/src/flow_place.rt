@@ -1,4 +1,4 @@
-//! Where items and entries stand in flow collections, and their contents.
+//! Where items and entries are in flow collections, and their contents.
 ghost use Rattle.std.specs.Prelude.{◌≡◌, map, option_map};
 ghost use Rattle.yq_core.specs.Entries.{content_place, entry_place, entry_view, tree_step};
 ghost use Rattle.yq_outline.specs.View.{head_flow};

@@ -1,4 +1,4 @@
-//! Where the parts of entries and items stand.
+//! Where the parts of entries and items are.
 ghost use Rattle.std.specs.Prelude.{◌≡◌, option_map};
 ghost use Rattle.yq_documents.{specs.Pieces.{piece_span, span}, specs.Reading.cut_of};
 ghost use Rattle.yq_places.specs.PathPieces.{path_piece};
@@ -35,7 +35,7 @@ fn content_place(documents: &Documents<'_>, path: &Path) -> Option<Span>
 }
 
 /// The place of a part of the node at a path, in bytes from the start of the text; none, where the
-/// path leads nowhere or the node has no such part. `Content` is what stands in the head, without its
+/// path leads nowhere or the node has no such part. `Content` is what is in the head, without its
 /// anchor: a block scalar with its lines and their breaks; or a block collection, from its first key
 /// or dash to the end of its last line, before its break; a null of which nothing but perhaps an
 /// anchor is written has none. `Entry` goes from the key or dash to the end of the entry's or item's

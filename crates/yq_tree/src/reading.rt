@@ -1,14 +1,16 @@
 //! Reading bytes as documents.
 ghost use Rattle.std.{specs.Prelude.{◌≡◌, ◌↔◌, ℕ, List, IfErr, IfOk, Some, MatchResult, true, false}, specs.Str.is_utf8};
+ghost use Rattle.std.specs.Str.Lossy.{utf8_valid_len};
 ghost use Rattle.yq_core.{specs.declared.fault.FaultKind.TheVariants.NotUtf8, specs.Answers.{Gives, IsOfText}};
+ghost use Rattle.yq_core.specs.FaultPlace.{IsAtBadByte, IsFaultAt};
 ghost use Rattle.yq_row_table.{specs.Grammar.IsCut, specs.Rows.Cut};
 ghost use Rattle.yq_places.specs.Answers.{IsNotUtf8};
 ghost use Rattle.yq_documents.{specs.Documents.{Document, ReadsDocuments}, specs.Ready.TextIsReady};
 ghost use Rattle.yq_documents.specs.Reading as spec;
 
 use std::alloc::Global;
-use std::num::NonZeroU64;
 use yq_compose::read_rows;
+use yq_core::fault_place::fault_at;
 use yq_core::{FaultKind, ReadError, ReadFault};
 use yq_documents::Documents;
 use yq_outline::lines_shaped;
@@ -17,18 +19,15 @@ use yq_rows::scan;
 /// The text that bytes are in UTF-8. Bytes that are none are refused as
 /// `NotUtf8`, on the line of the first byte that isn't UTF-8.
 pub fn text_of(bytes: &[u8]) -> Result<&str, ReadFault>
-    ensures { MatchResult result (λ s. (is_utf8 bytes.now ≡ true) × (s.now ≡ bytes.now))
+    ensures utf8 { MatchResult result (λ s. (is_utf8 bytes.now ≡ true) × (s.now ≡ bytes.now))
         (λ f. (is_utf8 bytes.now ≡ false) × (f.kind ≡ NotUtf8)) }
+    ensures place { IfErr result (IsFaultAt bytes.now (utf8_valid_len bytes.now)) }
 {
     match std::str::from_utf8(bytes) {
         Ok(text) => Ok(text),
         Err(error) => {
-            let text = bytes.iter().take(error.valid_up_to());
-            let breaks = text.filter(|b| **b == b'\n').count() as u64;
-            Err(ReadFault {
-                kind: FaultKind::NotUtf8,
-                line: NonZeroU64::MIN.saturating_add(breaks),
-            })
+            let at = error.valid_up_to();
+            Err(fault_at(FaultKind::NotUtf8, bytes, at))
         }
     }
 }
@@ -59,6 +58,8 @@ pub fn read(alloc: Global, bytes: &[u8]) -> Result<Documents<'_>, ReadError>
         Gives spec.documents_of result (Some docs) }
     // The fault that bytes are no text comes where they are none.
     ensures not_utf8 { IsNotUtf8 result ↔ (is_utf8 bytes.now ≡ false) }
+    // It is at the first byte that isn't UTF-8, and on its line.
+    ensures bad_byte { IfErr result (IsAtBadByte bytes.now) }
     // The documents are known by the bytes, and their cut is what reading from left to right gives.
     ensures text { IfOk result (λ d. d ≡ bytes.now) }
     ensures exact { Gives spec.cut_of result (spec.read_at bytes.now) }
@@ -83,7 +84,7 @@ pub fn one_reading()
         ReadsDocuments bytes others → docs ≡ others }
 {}
 
-/// What reading from left to right gives is a text's cut, whose parts stand for documents.
+/// What reading from left to right gives is a text's cut, whose parts mean documents.
 pub fn cut_read()
     ensures taken { (t : List ℕ) (c : Cut) → spec.checked_at t ≡ Some c →
         IsCut t c × (spec.all_documents c ≡ true) }

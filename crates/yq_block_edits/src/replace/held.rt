@@ -154,7 +154,7 @@ fn put_behind<'t>(
     Ok(Segments::new(segments))
 }
 
-/// A value behind a dash, in the place of a compact collection.
+/// A value after a dash, in the place of a compact collection.
 pub(crate) fn compact_put<'t>(
     alloc: Global,
     layout: &Layout,

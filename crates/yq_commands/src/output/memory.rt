@@ -1,4 +1,4 @@
-//! An output in memory, which can be told to fail.
+//! An output in memory, which can be made to fail.
 ghost use Rattle.std.specs.Prelude.{◌≡◌, true, []};
 
 use crate::output::{Out, PutError};

@@ -13,7 +13,7 @@ use std::alloc::Global;
 use yq_nodes::Node;
 use yq_semantics::{Condition, ExprError, Stage};
 
-/// Puts a place behind others if the condition holds there.
+/// Puts a place after others if the condition holds there.
 fn push_kept<'a, 't>(
     alloc: Global,
     doc: usize,

@@ -54,7 +54,7 @@ impl<'a> Missing<'a> {
     }
 }
 
-/// The step to an item or entry before which so many stand.
+/// The step to an item or entry before which so many are.
 fn step_to<'a>(child: &Node<'a, '_>, before: usize) -> NodeStep<'a>
     ensures { node_step_of result ≡ spec.step_by before (label_of child.now).key }
 {
@@ -92,7 +92,7 @@ impl<'a, 't> FoundPlace<'a, 't> {
         }
     }
 
-    /// The place of an item or entry one step below a path, before which so many stand.
+    /// The place of an item or entry one step below a path, before which so many are.
     pub fn nth_below(
         path: &'a NodePath<'a>,
         before: usize,

@@ -15,7 +15,7 @@ use yq_core::Kind;
 use yq_nodes::{Node, NodeKind};
 use yq_semantics::{ExprError, PathStep, Refusal};
 
-/// Puts the place from which the step is missing behind others. `[]` leads to
+/// Puts the place from which the step is missing after others. `[]` leads to
 /// none there.
 fn push_missing<'a, 't>(
     bump: &'a Bump,
@@ -36,7 +36,7 @@ fn push_missing<'a, 't>(
     }
 }
 
-/// Puts the place of what was found behind others, or that from which the step
+/// Puts the place of what was found after others, or that from which the step
 /// is missing.
 fn push_found<'a, 't>(
     bump: &'a Bump,
@@ -59,7 +59,7 @@ fn push_found<'a, 't>(
     }
 }
 
-/// Puts the places of all items or values of a place's node behind others.
+/// Puts the places of all items or values of a place's node after others.
 fn push_children<'a, 't>(
     bump: &'a Bump,
     place: &FoundPlace<'a, 't>,
@@ -83,7 +83,7 @@ fn push_children<'a, 't>(
     Ok(())
 }
 
-/// Puts the places of all items or values of a place's node behind others.
+/// Puts the places of all items or values of a place's node after others.
 fn push_all<'a, 't>(
     bump: &'a Bump,
     place: &FoundPlace<'a, 't>,
@@ -100,7 +100,7 @@ fn push_all<'a, 't>(
     }
 }
 
-/// Puts the places to which a step leads from a place behind others.
+/// Puts the places to which a step leads from a place after others.
 #[tactic(auto, using(crate::proofs::PlaceLaws::missed_on))]
 fn push_step<'a, 't>(
     bump: &'a Bump,

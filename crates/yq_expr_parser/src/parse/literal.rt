@@ -96,7 +96,7 @@ pub(super) fn literal(alloc: Global, text: &str, depth: usize) -> Result<(Value,
     scalar_value(alloc, text)
 }
 
-/// The items of a list, from behind its opening bracket.
+/// The items of a list, from after its opening bracket.
 #[cycle(literal)]
 fn list(alloc: Global, text: &str, depth: usize) -> Result<(Vec<Value>, &str), ParseError>
     ensures value { ReadsForm (λ v. map value_node v.items) result (spec.listed_at (codes "]")
@@ -118,7 +118,7 @@ fn list(alloc: Global, text: &str, depth: usize) -> Result<(Vec<Value>, &str), P
     }
 }
 
-/// The fields of a mapping, from behind its opening brace.
+/// The fields of a mapping, from after its opening brace.
 #[cycle(literal)]
 fn mapping(
     alloc: Global,

@@ -11,7 +11,7 @@ use std::alloc::Global;
 use yq_scalar_reader::int_value;
 use yq_semantics::PathStep;
 
-/// A step in brackets, from behind the opening one.
+/// A step in brackets, from after the opening one.
 #[tactic(auto, unfolding(crate::specs::Parse::bracketed_at))]
 fn bracketed(alloc: Global, text: &str) -> Result<(PathStep, &str), ParseError>
     ensures value { ReadsForm program_step result (spec.bracketed_at (tokens text.now)) }

@@ -14,7 +14,7 @@ fn is_escape(b: u8) -> bool
     matches!(b, b'"' | b'\\' | b'n' | b't' | b'r')
 }
 
-/// Behind an opening quote: whether there is a `\(`, and how far it is to behind the closing quote.
+/// After an opening quote: whether there is a `\(`, and how far it is to after the closing quote.
 #[tactic(auto, unfolding(crate::specs::Lexing::closing, crate::specs::Lexing::escaping))]
 fn closing(text: &[u8]) -> Option<(bool, usize)>
     ensures value { result ≡ spec.closing text.now }
@@ -148,7 +148,7 @@ fn quoted(
     ))
 }
 
-/// The token that begins with a dot, from behind the dot.
+/// The token that begins with a dot, from after the dot.
 fn dotted(text: &[u8]) -> Option<(TokenForm, usize)>
     ensures { result ≡ spec.dotted text.now }
 {

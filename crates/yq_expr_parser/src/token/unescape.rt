@@ -77,7 +77,7 @@ fn escape(b: u8) -> Option<&'static str>
     }
 }
 
-/// The character that an escape in front stands for, and what follows it.
+/// The character that an escape in front means, and what follows it.
 fn split_escape(text: &str) -> Option<(&'static str, &str)>
     ensures value { option_map {U = List ℕ × List ℕ} (λ x. (x.0.now, x.1.now)) result ≡
         spec.escape_front text.now }
@@ -92,7 +92,7 @@ fn split_escape(text: &str) -> Option<(&'static str, &str)>
     }
 }
 
-/// The content of a string, from behind its opening quote.
+/// The content of a string, from after its opening quote.
 pub(super) fn content(alloc: Global, text: &str) -> Result<String, AllocError>
     ensures { IfOk result (λ s. string_bytes s ≡ spec.string_content text.now) }
 {

@@ -46,7 +46,7 @@ fn splices(alloc: Global, value: &Value) -> Result<Option<Vec<Splice>>, AllocErr
     Ok(Some(found))
 }
 
-/// How many edits a record stands for: before version 2 it is one, with no key.
+/// How many edits a record means: before version 2 it is one, with no key.
 fn count(value: &Value, counted: bool) -> Option<u64>
     ensures { result ≡ spec.count_at counted (view value.now) }
 {

@@ -1,4 +1,4 @@
-//! What stands under the keys of an object.
+//! What is under the keys of an object.
 ghost use Rattle.std.{specs.Prelude.{◌≡◌, IfOk, option_map}, specs.Result.result_ok};
 ghost use Rattle.base64.{specs.Engines.standard, specs.GeneralPurpose.decode_of};
 ghost use Rattle.serde_json.specs.View.{view};

@@ -88,7 +88,7 @@ pub(super) fn pending(
     }
 }
 
-/// Whether an open move stands on its text and changes it.
+/// Whether an open move applies to its text and changes it.
 pub(super) fn can_move(
     alloc: Global,
     records: &[Record],

@@ -14,7 +14,7 @@ struct Scan<'t> {
     rest: &'t [u8],
 }
 
-/// What a short escape of JSON stands for: the byte behind the backslash.
+/// What a short escape of JSON means: the byte after the backslash.
 fn unescaped(byte: u8) -> Option<u8> {
     match byte {
         b'"' | b'\\' => Some(byte),
@@ -27,7 +27,7 @@ fn unescaped(byte: u8) -> Option<u8> {
     }
 }
 
-/// How many bytes stand before the first quote or backslash.
+/// How many bytes come before the first quote or backslash.
 fn bare_len(bytes: &[u8]) -> usize
     ensures { result ≤ length bytes.now }
 {
@@ -52,7 +52,7 @@ impl<'t> Scan<'t> {
         }
     }
 
-    /// Takes a key, with what stands before it, and the number behind it.
+    /// Takes a key, with what comes before it, and the number after it.
     fn number(&mut self, key: &[u8]) -> Option<u64> {
         let rest = self.rest.strip_prefix(key)?;
         let mut number = 0u64;
@@ -67,7 +67,7 @@ impl<'t> Scan<'t> {
         None
     }
 
-    /// Takes a key, with the quote behind it, and the bytes whose base64 stands up to the next quote.
+    /// Takes a key, with the quote after it, and the bytes whose base64 is up to the next quote.
     fn bytes(&mut self, alloc: Global, key: &[u8]) -> Result<Option<Vec<u8>>, AllocError> {
         let Some(rest) = self.rest.strip_prefix(key) else {
             return Ok(None);
@@ -81,7 +81,7 @@ impl<'t> Scan<'t> {
         Ok(None)
     }
 
-    /// Takes a key, with the quote behind it, and a text with no escapes but short ones up to the next quote.
+    /// Takes a key, with the quote after it, and a text with no escapes but short ones up to the next quote.
     fn text(&mut self, alloc: Global, key: &[u8]) -> Result<Option<String>, AllocError> {
         let Some(rest) = self.rest.strip_prefix(key) else {
             return Ok(None);
@@ -126,7 +126,7 @@ impl<'t> Scan<'t> {
         Ok(Some(Splice { at, old, new }))
     }
 
-    /// Takes splices, with the bracket behind them.
+    /// Takes splices, with the bracket after them.
     fn splices(&mut self, alloc: Global) -> Result<Option<Vec<Splice>>, AllocError> {
         let mut found = Vec::new(alloc);
         if self.take(b"]") {
@@ -177,7 +177,7 @@ impl<'t> Scan<'t> {
         }))
     }
 
-    /// Takes records, with the bracket behind them.
+    /// Takes records, with the bracket after them.
     fn records(&mut self, alloc: Global) -> Result<Option<Vec<Record>>, AllocError> {
         let mut found = Vec::new(alloc);
         if self.take(b"]") {

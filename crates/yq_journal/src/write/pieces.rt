@@ -9,7 +9,7 @@ use itoa::Buffer;
 use serde_json::Value;
 use std::alloc::{AllocError, Global};
 
-/// Adds a key, with what stands before it, and a number.
+/// Adds a key, with what comes before it, and a number.
 pub(super) fn push_number(text: &mut String, key: &str, number: u64) -> Result<(), AllocError>
     ensures added { OnOk result (string_bytes text.new ≡
         (string_bytes text.old ++ key.now) ++ decimal number) }

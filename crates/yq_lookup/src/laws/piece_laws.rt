@@ -1,8 +1,8 @@
-//! Laws on the pieces of a text where nodes, entries, items and comments stand, for the crates above.
+//! Laws on the pieces of a text where nodes, entries, items and comments are, for the crates above.
 ghost use Rattle.yq_places.specs.Existence.{ContentsExist, EntriesExist};
 ghost use Rattle.yq_places.specs.PieceLaws.{ContentsBegin, ContentsSpell, EntriesSpell, LinesStand, PiecesHold};
 
-/// The lines of a document with the text before and behind them are the text; and each piece of it
+/// The lines of a document with the text before and after them are the text; and each piece of it
 /// is in it, from one whole character to another.
 pub fn pieces_hold()
     ensures lines { LinesStand }

@@ -1,4 +1,4 @@
-//! Where the comments of entries and items stand.
+//! Where the comments of entries and items are.
 ghost use Rattle.std.specs.Prelude.{◌≡◌, ◌<◌, option_map};
 ghost use Rattle.yq_documents.{specs.Pieces.{piece_span, span}, specs.Reading.cut_of};
 ghost use Rattle.yq_places.specs.PathPieces.{path_piece};
@@ -9,7 +9,7 @@ use yq_documents::{Path, Span};
 use yq_places::{head_comment_in, line_comment_in};
 
 impl<'t> CutText<'_, 't> {
-    /// The place of the comment behind the entry or item at a path, on the line of its key or dash.
+    /// The place of the comment after the entry or item at a path, on the line of its key or dash.
     pub fn line_comment_place(&self, path: &Path) -> Option<Span>
         ensures { option_map span result ≡
             option_map piece_span (path_piece path.now parts.LineComment (cut_of self.now)) }

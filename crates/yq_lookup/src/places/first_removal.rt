@@ -11,9 +11,9 @@ use yq_places::{FirstRemoval, cut_at, first_out};
 
 impl<'t> CutText<'_, 't> {
     /// What is taken out of the text with the item or entry at a path, if it is the first one of a
-    /// compact collection: up to the next one, if its line is the next one; else from behind the dash
+    /// compact collection: up to the next one, if its line is the next one; else from after the dash
     /// to the end of the last line, before its break. None, where its line is the first one of a row, or
-    /// it stands in flow.
+    /// it is in flow.
     pub fn first_removal(&self, path: &Path) -> Option<FirstRemoval<'t>>
         ensures { option_map first_view result ≡
             spec.first_removal path.now.doc (steps_of path.now) (cut_of self.now) }

@@ -9,7 +9,7 @@ use yq_places::{Held, held_in};
 
 impl<'t> CutText<'_, 't> {
     /// The key or dash of the item or entry at a path, with what it holds, if its line is the last one
-    /// of its row. The root has none, nor has what stands in flow.
+    /// of its row. The root has none, nor has what is in flow.
     pub fn held(&self, path: &Path) -> Option<Held<'t>>
         ensures { option_map row_agrees.held_view result ≡
             row_agrees.held_at path.now.doc (steps_of path.now) (cut_of self.now) }

@@ -1,4 +1,4 @@
-//! Lines above rows, where head comments stand or would stand.
+//! Lines above rows, where head comments are or would be.
 ghost use Rattle.std.specs.Prelude.{◌≡◌, option_map};
 ghost use Rattle.yq_text.specs.Halves.{whole};
 ghost use Rattle.yq_places.specs.CommentViews.{above_view};
@@ -11,8 +11,8 @@ use yq_places::{LinesAbove, above};
 use yq_row_walk::row_start;
 
 impl<'t> CutText<'_, 't> {
-    /// The lines above the entry or item at a path, where its head comment stands or would stand. The
-    /// root has none, nor has what stands in flow, nor what begins behind a dash.
+    /// The lines above the entry or item at a path, where its head comment is or would be. The
+    /// root has none, nor has what is in flow, nor what begins after a dash.
     pub fn lines_above(&self, path: &Path) -> Option<LinesAbove<'t>>
         ensures { option_map above_view result ≡
             spec.lines_above path.now.doc (steps_of path.now) (cut_of self.now) }

@@ -11,7 +11,7 @@ use yq_places::{Removal, own_rows, rows_out};
 use yq_row_walk::behind;
 
 impl<'t> CutText<'_, 't> {
-    /// Where the rows of the item or entry at a path begin and end, behind where those of its document
+    /// Where the rows of the item or entry at a path begin and end, after where those of its document
     /// begin.
     fn own(&self, path: &Path) -> Option<(usize, usize, usize)>
         ensures { option_map (λ m. (m.0, m.1, m.2)) result ≡
@@ -30,7 +30,7 @@ impl<'t> CutText<'_, 't> {
 
     /// What is taken out of the text with the item or entry at a path: the lines of the comment above
     /// it, and its rows, less the gap before the first one. None, where its line is not the first one of
-    /// a row, as in flow, or behind another dash.
+    /// a row, as in flow, or after another dash.
     pub fn removal(&self, path: &Path) -> Option<Removal<'t>>
         ensures { option_map reading.removal_view result ≡
             spec.removal_place path.now.doc (steps_of path.now) (cut_of self.now) }

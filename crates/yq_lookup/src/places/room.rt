@@ -8,7 +8,7 @@ use yq_places::line_has_room;
 
 impl<'t> CutText<'_, 't> {
     /// Whether the text has room for a comment at a path: `HeadComment` above the row that the
-    /// entry's or item's key or dash begins, `LineComment` behind what stands on the line of that key
+    /// entry's or item's key or dash begins, `LineComment` after what is on the line of that key
     /// or dash, where it is the row's last one. The root has none, nor have items and entries in flow,
     /// and the other parts are no comments.
     pub fn has_room(&self, path: &Path, part: Part) -> bool

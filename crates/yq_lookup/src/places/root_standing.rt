@@ -1,4 +1,4 @@
-//! What stands at roots.
+//! What is at roots.
 ghost use Rattle.std.specs.Prelude.{◌≡◌, ◌<◌, [], option_map};
 ghost use Rattle.yq_text.specs.Halves.{whole};
 ghost use Rattle.yq_documents.specs.Reading.{cut_of};
@@ -34,7 +34,7 @@ impl<'t> CutText<'_, 't> {
         Some(NoRows { before, behind })
     }
 
-    /// What stands at the root of document `doc`.
+    /// What is at the root of document `doc`.
     pub(crate) fn root_standing(&self, doc: usize) -> Option<Standing<'t>>
         ensures { option_map row_agrees.standing_view result ≡
             spec.standing_at doc [] (cut_of self.now) }

@@ -1,4 +1,4 @@
-//! What stands in a text where paths lead, outside flow collections.
+//! What is in a text where paths lead, outside flow collections.
 ghost use Rattle.std.specs.Prelude.{◌≡◌, option_map};
 ghost use Rattle.yq_documents.{specs.Located.steps_of, specs.Reading.cut_of};
 ghost use Rattle.yq_places.{specs.Standings.standing_at, specs.StandingViews.standing_view};
@@ -8,7 +8,7 @@ use yq_documents::Path;
 use yq_places::{Standing, entry_standing};
 
 impl<'t> CutText<'_, 't> {
-    /// What stands at a path; none where no item, entry or document is there, or where it stands in a
+    /// What is at a path; none where no item, entry or document is there, or where it is in a
     /// flow collection.
     pub fn standing(&self, path: &Path) -> Option<Standing<'t>>
         ensures { option_map standing_view result ≡

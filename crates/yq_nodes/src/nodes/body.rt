@@ -1,4 +1,4 @@
-//! What nodes are, where they stand on lines or in heads.
+//! What nodes are, where they are on lines or in heads.
 
 use crate::nodes::under::Under;
 use yq_core::{Inline, Kind};
@@ -8,13 +8,13 @@ use yq_core::{Inline, Kind};
 pub(crate) enum Body<'d, 't> {
     /// A null of which nothing is written.
     Null,
-    /// A scalar behind a mark.
+    /// A scalar after a mark.
     Scalar(Kind, &'d str),
     /// The entries of these lines.
     Map(Under<'d, 't>),
     /// The items of these lines.
     List(Under<'d, 't>),
-    /// An alias or a flow collection behind a mark, or what is in one.
+    /// An alias or a flow collection after a mark, or what is in one.
     Inline(&'d Inline<'t>),
 }
 

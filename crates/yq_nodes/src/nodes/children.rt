@@ -68,7 +68,7 @@ impl<'d, 't> Node<'d, 't> {
     }
 }
 
-/// The lines behind the first of these and those under it, if there are any.
+/// The lines after the first of these and those under it, if there are any.
 pub(crate) fn behind_first<'d, 't>(under: Under<'d, 't>) -> Option<Under<'d, 't>>
     ensures behind { spec.PassesFirst under.entry result }
     ensures fewer { IfSome result (λ u. spec.lines_left u < spec.lines_left under.entry) }

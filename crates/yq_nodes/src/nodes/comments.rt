@@ -19,7 +19,7 @@ impl<'t> Node<'_, 't> {
         }
     }
 
-    /// The comment behind its entry or item, on its line.
+    /// The comment after its entry or item, on its line.
     pub fn line_comment(&self) -> Option<&'t str>
         ensures { borrowed result ≡ (label_of self.now).line_comment }
     {

@@ -47,7 +47,7 @@ pub(crate) fn first_anchor<'d>(first: Option<&'d str>, second: Option<&'d str>) 
     }
 }
 
-/// The anchor of a node behind another anchor; an alias has none.
+/// The anchor of a node after another anchor; an alias has none.
 #[tactic(auto, using(crate::proofs::KindLaws::anchor_scalar, crate::proofs::KindLaws::anchor_list, crate::proofs::KindLaws::anchor_map, crate::proofs::KindLaws::anchor_alias))]
 pub(crate) fn inline_anchor<'t>(before: Option<&'t str>, node: &Inline<'t>) -> Option<&'t str>
     ensures { borrowed result ≡ anchor_of (anchored (borrowed before.entry)

@@ -41,14 +41,14 @@ pub(crate) struct WrittenLabel<'d, 't> {
     pub(crate) tail: &'t str,
 }
 
-/// Where a node stands.
+/// Where a node is.
 #[derive(Clone, Copy)]
 pub(crate) enum Slot<'d, 't> {
     /// It is the root of a document.
     Root,
     /// In the entry or item of a line.
     Line(WrittenLabel<'d, 't>),
-    /// In a flow collection, behind this key, if it has one.
+    /// In a flow collection, after this key, if it has one.
     Inline(Option<&'d str>),
 }
 
@@ -59,7 +59,7 @@ pub struct Node<'d, 't> {
     pub(crate) named: Named<'d, 't>,
 }
 
-/// Whether an alias may stand in what a node is: none does, where none stands in the text's lines.
+/// Whether an alias may be in what a node is: none does, where none is in the text's lines.
 fn body_refers(body: &Body<'_, '_>) -> bool
     ensures { result ≡ false → list_any is_reference (names_of (body_node body.now)) ≡ false }
 {
@@ -111,7 +111,7 @@ impl<'d, 't> Node<'d, 't> {
         }
     }
 
-    /// A node of a flow collection, behind its key, if it has one.
+    /// A node of a flow collection, after its key, if it has one.
     #[tactic(auto, using(yq_outline::proofs::NodeLaws::anchored_none))]
     pub(crate) fn of_inline(key: Option<&'d str>, node: &'d Inline<'t>) -> Node<'d, 't>
         ensures node { spec.node_of result ≡ placed_tree (inline.inline_view node.now) }
@@ -170,7 +170,7 @@ impl<'d, 't> Node<'d, 't> {
         }
     }
 
-    /// Whether an alias may stand in it: none does, where none stands in the text's lines.
+    /// Whether an alias may be in it: none does, where none is in the text's lines.
     #[tactic(auto, using(yq_outline::proofs::AliasLaws::none_anchored))]
     pub fn may_refer(&self) -> bool
         ensures { result ≡ false → list_any is_reference (names_of (spec.node_of self.now)) ≡

@@ -1,4 +1,4 @@
-//! The nodes for which lines stand.
+//! The nodes that lines mean.
 ghost use Rattle.std.specs.Prelude.{◌≡◌, ◌<◌, length};
 ghost use Rattle.yq_outline.{specs.Bodies.borrowed, specs.Outline.{anchored, value}, specs.Places.content_under};
 ghost use Rattle.yq_documents.{specs.Reading.documents_of, specs.Stretches.{IsLineIn, OfLineIn, lines_under}};
@@ -12,7 +12,7 @@ use crate::nodes::under::Under;
 use yq_documents::Documents;
 use yq_outline::Position;
 
-/// The node that lines stand for, behind an anchor. A node on a line of its own is that line's, with
+/// The node that lines mean, after an anchor. A node on a line of its own is that line's, with
 /// the first anchor before it.
 pub(crate) fn lines_node<'d, 't>(under: Under<'d, 't>, before: Option<&'t str>) -> Named<'d, 't>
     ensures { spec.named_node result ≡

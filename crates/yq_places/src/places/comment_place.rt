@@ -1,4 +1,4 @@
-//! Where the comments of entries and items stand.
+//! Where the comments of entries and items are.
 ghost use Rattle.std.specs.Prelude.{◌≡◌, ◌<◌, ◌≤◌, ◌+◌, length, option_map, slice_get, Some};
 ghost use Rattle.yq_text.specs.Limit.{text_limit};
 ghost use Rattle.yq_row_table.specs.View.{Slices};

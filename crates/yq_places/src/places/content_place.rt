@@ -1,4 +1,4 @@
-//! Where the contents of nodes stand outside flow collections.
+//! Where the contents of nodes are outside flow collections.
 ghost use Rattle.std.specs.Prelude.{◌≡◌, map, option_map};
 ghost use Rattle.yq_core.specs.Entries.{tree_step};
 ghost use Rattle.yq_outline.{specs.Extents.IsRowsView, specs.RowWalk.{AreKnown, HasDocument, IsPosition, lines_stop}};
@@ -17,7 +17,7 @@ use yq_outline::{KnownItems, Position, Stretch};
 use yq_row_table::Rows;
 use yq_row_walk::{is_bare, is_deeper};
 
-/// The place of the node for which the lines stand, from one on, that are deeper than a level.
+/// The place of the node that the lines mean, from one on, that are deeper than a level.
 fn lines_content(
     rows: &Rows<'_>,
     document: Stretch,

@@ -1,4 +1,4 @@
-//! Where entries and items stand in block collections.
+//! Where entries and items are in block collections.
 ghost use Rattle.std.specs.Prelude.{◌≡◌, ◌<◌, ◌-◌, map, option_map, Some};
 ghost use Rattle.yq_core.specs.Entries.{tree_step};
 ghost use Rattle.yq_outline.{specs.Extents.IsRowsView, specs.RowWalk.{AreKnown, AreLinesTo, HasDocument}};

@@ -1,4 +1,4 @@
-//! What stands at items and entries, by their rows.
+//! What is at items and entries, by their rows.
 ghost use Rattle.std.specs.Prelude.{◌≡◌, ◌<◌, true, List, ℕ};
 ghost use Rattle.yq_text.specs.Halves.{whole};
 ghost use Rattle.yq_row_table.{specs.Grammar.IsMark, specs.Rows.{Row as RowOf, rows_text}, specs.View.{slices, row_view}};
@@ -71,7 +71,7 @@ fn compact_in<'t>(rows: &Rows<'t>, text: Halves<'t>, at: RowsOfEntry) -> Compact
     }
 }
 
-/// What stands behind a key or dash behind which no node is written on its line.
+/// What comes after a key or dash after which no node is written on its line.
 fn below<'t>(rows: &Rows<'t>, text: Halves<'t>, at: RowsOfEntry) -> Standing<'t>
     requires { HasEntry (whole text) rows.now at }
     ensures { (e : spec.RowsOfEntry) → IsEntryIn (whole text.entry) rows.now e at →
@@ -88,7 +88,7 @@ fn below<'t>(rows: &Rows<'t>, text: Halves<'t>, at: RowsOfEntry) -> Standing<'t>
     Standing::Under(held_in(rows, text, at), row.column())
 }
 
-/// What stands at an item or entry.
+/// What is at an item or entry.
 pub fn entry_standing<'t>(rows: &Rows<'t>, text: Halves<'t>, at: RowsOfEntry) -> Standing<'t>
     requires { HasEntry (whole text) rows.now at }
     ensures { (e : spec.RowsOfEntry) → IsEntryIn (whole text.entry) rows.now e at →

@@ -12,15 +12,15 @@ use yq_text::Halves;
 pub struct FirstRemoval<'d> {
     /// The text before what goes.
     pub before: Halves<'d>,
-    /// The spaces behind the dash, if they go.
+    /// The spaces after the dash, if they go.
     pub space: Halves<'d>,
     /// The item or entry, which goes.
     pub entry: Halves<'d>,
-    /// The break behind it, if that goes.
+    /// The break after it, if that goes.
     pub line: Halves<'d>,
     /// The spaces before the next one, if they go.
     pub indent: Halves<'d>,
-    /// The text behind what goes.
+    /// The text after what goes.
     pub behind: Halves<'d>,
 }
 

@@ -14,7 +14,7 @@ pub struct FlowHead<'s, 't> {
     pub left: &'s [Step],
     /// The text that begins with the node: a piece of the text that was read.
     pub text: &'t str,
-    /// How many bytes of that stand before the piece.
+    /// How many bytes of that come before the piece.
     pub before: usize,
 }
 

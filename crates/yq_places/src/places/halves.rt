@@ -15,7 +15,7 @@ pub fn is_text(text: Halves<'_>)
     ensures { IsUtf8 (whole text.entry) }
 {}
 
-/// The byte at a place; 0 behind the text.
+/// The byte at a place; 0 after the text.
 #[tactic(auto, using(crate::proofs::HalvesLaws::byte_front, crate::proofs::HalvesLaws::byte_back))]
 fn byte_at(text: Halves<'_>, at: usize) -> u8
     ensures { result ≡ slice_index (whole text.entry) at }
@@ -56,7 +56,7 @@ fn front_whites(text: Halves<'_>) -> usize
     }
 }
 
-/// The text cut behind the spaces in front.
+/// The text cut after the spaces in front.
 pub fn split_spaces<'t>(text: Halves<'t>) -> (Halves<'t>, Halves<'t>)
     ensures { (whole result.0, whole result.1) ≡ scan.cut scan.no_space (whole text.entry) }
 {
@@ -93,7 +93,7 @@ fn front_line(text: Halves<'_>) -> usize
     }
 }
 
-/// The text cut behind the line in front and its break.
+/// The text cut after the line in front and its break.
 pub fn split_line<'t>(text: Halves<'t>) -> (Halves<'t>, Halves<'t>)
     ensures { (whole result.0, whole result.1) ≡ scan.cut_line (whole text.entry) }
 {

@@ -24,7 +24,7 @@ pub struct EntryMark {
     pub column: usize,
     /// Whether it is a key.
     pub keyed: bool,
-    /// Whether its row has an anchor before what is written behind its last mark, or a comment behind
+    /// Whether its row has an anchor before what is written after its last mark, or a comment after
     /// that.
     pub noted: bool,
 }
@@ -36,11 +36,11 @@ pub struct Held<'t> {
     pub mark: EntryMark,
     /// The text up to it, or to its anchor, with these.
     pub before: Halves<'t>,
-    /// The white space behind that.
+    /// The white space after that.
     pub space: &'t str,
     /// What is written there: an inline node, the header of a block scalar or nothing.
     pub head: &'t str,
-    /// The white space that ends its line, or stands before the line's comment.
+    /// The white space that ends its line, or comes before the line's comment.
     pub white: &'t str,
     /// The comment, if the line has one.
     pub comment: &'t str,
@@ -50,7 +50,7 @@ pub struct Held<'t> {
     pub lines: Halves<'t>,
     /// The break that ends it all: of the last line under it, or of its own line.
     pub last: &'t str,
-    /// The text behind.
+    /// The text after.
     pub behind: Halves<'t>,
 }
 

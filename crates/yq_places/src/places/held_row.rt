@@ -1,4 +1,4 @@
-//! Keys and dashes whose line is the last one of its row, with that row and what it holds behind them.
+//! Keys and dashes whose line is the last one of its row, with that row and what it holds after them.
 ghost use Rattle.std.specs.Prelude.{[], ◌≡◌, ◌<◌, ◌&&◌, length, not, slice_get, IfSome, Some};
 ghost use Rattle.yq_core.specs.Text.{is_empty};
 ghost use Rattle.yq_row_table.{specs.Rows.{Cut, Row as RowOf}, specs.View.{rows_of, rows_view}};
@@ -14,23 +14,23 @@ use yq_outline::Position;
 use yq_row_table::Rows;
 use yq_row_walk::{front_len, lines_before_mark};
 
-/// A key or dash of a text whose line is the last one of its row, with what that row holds behind it.
+/// A key or dash of a text whose line is the last one of its row, with what that row holds after it.
 #[derive(Clone, Copy)]
 pub struct HeldRow<'t> {
-    /// How many rows of the text stand before it.
+    /// How many rows of the text come before it.
     pub row: usize,
     /// Whether an inline node is written there.
     pub inline: bool,
-    /// How many bytes of the text stand before what is written there.
+    /// How many bytes of the text come before what is written there.
     pub start: usize,
     /// What is written there: an inline node, the header of a block scalar or nothing.
     pub head: &'t str,
-    /// The end of the line behind that, with its break.
+    /// The end of the line after that, with its break.
     pub tail: &'t str,
 }
 
 impl<'t> HeldRow<'t> {
-    /// The white space that ends its line, or stands before the line's comment, and that comment, if the
+    /// The white space that ends its line, or comes before the line's comment, and that comment, if the
     /// line has one.
     pub fn line_end(&self) -> (&'t str, &'t str)
         ensures white { result.0.now ≡ (end_in_line [] self.now.tail.now).white }
@@ -48,7 +48,7 @@ fn is_inline(head: &str) -> bool
     !(head.is_empty() || is_block_head(head.as_bytes()))
 }
 
-/// The row of a line, with what it holds behind that, if it is its last one.
+/// The row of a line, with what it holds after that, if it is its last one.
 pub fn row_of_last<'t>(rows: &Rows<'t>, at: Position) -> Option<HeldRow<'t>>
     requires within { at.row < length rows.now.rows }
     requires rows_view { IsRowsView rows.now }

@@ -12,7 +12,7 @@ use yq_outline::{KnownItem, KnownItems, Position, Stretch};
 use yq_row_table::Rows;
 use yq_row_walk::{counted, first_known, known_among, level_at, rows_under};
 
-/// The row from which on the end is looked for, behind a line, of lines that are deeper than a level, of which
+/// The row from which on the end is looked for, after a line, of lines that are deeper than a level, of which
 /// this is the first one: that of an item among them that is known, or the next one.
 #[inline(always)]
 fn search_row(
@@ -38,7 +38,7 @@ fn search_row(
     }
 }
 
-/// What is behind the lines from one on that are deeper than a level, of which that is one.
+/// What is after the lines from one on that are deeper than a level, of which that is one.
 pub fn behind_all(
     rows: &Rows<'_>,
     document: Stretch,
@@ -63,7 +63,7 @@ pub fn behind_all(
     }
 }
 
-/// The line behind one of a row, of whose lines so many stand before the last one.
+/// The line after one of a row, of whose lines so many come before the last one.
 #[inline(always)]
 fn line_behind(document: Stretch, at: Position, last: usize) -> Position
     requires { at.row < document.end }
@@ -83,7 +83,7 @@ fn line_behind(document: Stretch, at: Position, last: usize) -> Position
     }
 }
 
-/// The row behind those of a line of a level, in whose row so many stand before the last one, and of the
+/// The row after those of a line of a level, in whose row so many come before the last one, and of the
 /// lines under it.
 #[inline(always)]
 pub fn row_behind(

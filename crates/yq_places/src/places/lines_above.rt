@@ -1,4 +1,4 @@
-//! Lines above rows, where head comments stand or would stand.
+//! Lines above rows, where head comments are or would be.
 ghost use Rattle.std.specs.Prelude.{◌≡◌};
 ghost use Rattle.yq_text.specs.Halves.{whole};
 ghost use Rattle.yq_places.specs.CommentViews.{above_view, GapStands};
@@ -20,7 +20,7 @@ pub struct LinesAbove<'d> {
     pub behind: Halves<'d>,
 }
 
-/// The lines above a row in a column, before which, from a place on, a gap stands.
+/// The lines above a row in a column, before which, from a place on, a gap is.
 pub fn above<'d>(text: Halves<'d>, start: usize, gap: &'d str, column: usize) -> LinesAbove<'d>
     requires gap { GapStands (whole text) start gap.now }
     ensures { (h : GapStands (whole text.entry) start gap.now) →

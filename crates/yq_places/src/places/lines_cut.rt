@@ -12,7 +12,7 @@ use yq_core::text::split_white;
 use yq_row_table::Row;
 use yq_text::Halves;
 
-/// Lines of a text, less their last break, with what is before and behind them.
+/// Lines of a text, less their last break, with what is before and after them.
 #[derive(Clone, Copy)]
 pub struct LinesCut<'t> {
     pub before: Halves<'t>,

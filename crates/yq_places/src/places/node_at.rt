@@ -93,7 +93,7 @@ pub fn head_node<'t>(
     }
 }
 
-/// What the node is for which the lines stand, from one on, that are deeper than a level, where the
+/// What the node is that the lines mean, from one on, that are deeper than a level, where the
 /// first of them is no node itself.
 fn lines_node<'t>(rows: &Rows<'_>, document: Stretch, under: Position, floor: usize) -> NodeAt<'t>
     requires rows_view { IsRowsView rows.now }

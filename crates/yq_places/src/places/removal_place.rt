@@ -22,7 +22,7 @@ use yq_row_table::Rows;
 use yq_row_walk::{behind, row_start};
 use yq_text::Halves;
 
-/// What a gap that comes to stand behind a block scalar asks.
+/// What a gap that ends up after a block scalar asks.
 #[derive(Clone, Copy)]
 pub struct Seam {
     /// Whether the scalar keeps the empty lines at its end.
@@ -40,11 +40,11 @@ pub struct Removal<'d> {
     pub before: Halves<'d>,
     /// The lines that go: the comment above the item or entry, and its rows.
     pub gone: Halves<'d>,
-    /// The gap behind them.
+    /// The gap after them.
     pub gap: &'d str,
-    /// The text behind that gap.
+    /// The text after that gap.
     pub behind: Halves<'d>,
-    /// The seam of that gap, where it then stands behind a block scalar.
+    /// The seam of that gap, where it then comes after a block scalar.
     pub seam: Option<Seam>,
 }
 
@@ -72,7 +72,7 @@ fn holds_comment(gap: &str) -> bool
     false
 }
 
-/// Where the rows of the item or entry begin and end to which steps lead, behind where those of its
+/// Where the rows of the item or entry begin and end to which steps lead, after where those of its
 /// document begin, if its line is the first one of a row.
 pub fn own_rows(
     rows: &Rows<'_>,
@@ -113,7 +113,7 @@ fn gap_before<'t>(rows: &Rows<'t>, i: usize) -> (&'t str, usize)
     }
 }
 
-/// What a gap asks that stands behind the block scalar of the row before row `at` of a document, the
+/// What a gap asks that comes after the block scalar of the row before row `at` of a document, the
 /// first row of which is this one; none, where that row holds no block scalar.
 fn block_before(rows: &Rows<'_>, first: usize, at: usize) -> Option<(bool, usize)>
     requires order { first ≤ at }
@@ -130,7 +130,7 @@ fn block_before(rows: &Rows<'_>, first: usize, at: usize) -> Option<(bool, usize
     }
 }
 
-/// The seam behind a block scalar, where no comment line stays behind it.
+/// The seam after a block scalar, where no comment line stays after it.
 fn seam_of(block: Option<(bool, usize)>, column: usize, kept: &str) -> Option<Seam>
     ensures { (b : Option BlockText) → option_map (λ b. (b.0, b.1)) block ≡
         option_map block_numbers b → option_map reading.seam_view result ≡

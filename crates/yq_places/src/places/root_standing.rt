@@ -1,4 +1,4 @@
-//! What stands at roots.
+//! What is at roots.
 ghost use Rattle.std.specs.Prelude.{◌≡◌, ◌<◌, ◌∷◌};
 ghost use Rattle.yq_text.specs.Halves.{whole};
 ghost use Rattle.yq_places.specs.StandingReading.{IsRootOf};
@@ -37,7 +37,7 @@ fn block_root_in<'t>(rows: &Rows<'t>, text: Halves<'t>, document: Stretch) -> Bl
     }
 }
 
-/// What stands at the root of a document with rows.
+/// What is at the root of a document with rows.
 pub fn rows_standing<'t>(rows: &Rows<'t>, text: Halves<'t>, document: Stretch) -> Standing<'t>
     requires { IsRootOf (whole text) rows.now document }
     ensures { (h : IsRootOf (whole text.entry) rows.now document) →

@@ -62,7 +62,7 @@ pub fn row_end(rows: &Rows<'_>, i: usize) -> usize
 }
 
 /// Where what a head spells ends, in bytes, by where it ends on its first line: a block scalar ends
-/// behind its last line.
+/// after its last line.
 fn head_end(row: &Row<'_>, end: usize) -> usize
     requires { end + (length (row_view row.now).tail + length (row_view row.now).raw) ≤ text_limit }
     ensures { result ≡ spec.head_finish end (row_view row.now) }

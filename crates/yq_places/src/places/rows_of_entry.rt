@@ -16,13 +16,13 @@ use yq_row_walk::{level_at, lines_before_mark};
 /// The rows of an item or entry.
 #[derive(Clone, Copy)]
 pub struct RowsOfEntry {
-    /// How many rows of the text stand before the first one.
+    /// How many rows of the text come before the first one.
     pub row: usize,
-    /// How many lines of that row stand before the one of the key or dash.
+    /// How many lines of that row come before the one of the key or dash.
     pub line: usize,
-    /// How many lines of it stand before that of its mark.
+    /// How many lines of it come before that of its mark.
     pub dashes: usize,
-    /// How many rows of the text stand before what is behind the last one.
+    /// How many rows of the text come before what is after the last one.
     pub end: usize,
 }
 

@@ -1,4 +1,4 @@
-//! What stands in a text where paths lead, outside flow collections.
+//! What is in a text where paths lead, outside flow collections.
 use crate::places::held::{EntryMark, Held};
 use yq_text::Halves;
 
@@ -9,7 +9,7 @@ pub struct Lone<'t> {
     pub before: Halves<'t>,
     /// The node without its anchor, never nothing.
     pub head: &'t str,
-    /// The text behind it.
+    /// The text after it.
     pub behind: Halves<'t>,
 }
 
@@ -22,11 +22,11 @@ pub struct Compact<'t> {
     pub column: usize,
     /// The text up to the dash, with it.
     pub before: Halves<'t>,
-    /// What stands behind the dash, up to the end of the last line.
+    /// What comes after the dash, up to the end of the last line.
     pub old: Halves<'t>,
     /// The break of that line.
     pub last: &'t str,
-    /// The text behind.
+    /// The text after.
     pub behind: Halves<'t>,
 }
 
@@ -41,7 +41,7 @@ pub struct BlockRoot<'t> {
     pub old: Halves<'t>,
     /// That break.
     pub last: &'t str,
-    /// The text behind.
+    /// The text after.
     pub behind: Halves<'t>,
 }
 
@@ -50,11 +50,11 @@ pub struct BlockRoot<'t> {
 pub struct NoRows<'t> {
     /// The text up to the end of its gap.
     pub before: Halves<'t>,
-    /// The text behind.
+    /// The text after.
     pub behind: Halves<'t>,
 }
 
-/// What stands in a text where a path leads, outside flow collections.
+/// What is in a text where a path leads, outside flow collections.
 #[derive(Clone, Copy)]
 pub enum Standing<'t> {
     /// A node alone on its line.

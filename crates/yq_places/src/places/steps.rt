@@ -1,4 +1,4 @@
-//! By how many columns the collections of a document stand deeper than their keys.
+//! By how many columns the collections of a document are deeper than their keys.
 ghost use Rattle.std.specs.Prelude.{◌≡◌};
 ghost use Rattle.yq_outline.{specs.Lines.lines_of_rows, specs.Extents.IsRowsView, specs.RowWalk.HasRows};
 ghost use Rattle.yq_places.specs.StepReading as reading;
@@ -8,7 +8,7 @@ use yq_outline::{Position, Stretch};
 use yq_row_table::Rows;
 use yq_row_walk::{level_at, lines_before_mark};
 
-/// Whether of two lines of these levels, one right behind the other, the first is a key and the other
+/// Whether of two lines of these levels, one right after the other, the first is a key and the other
 /// begins a collection under it, one of dashes or of keys.
 fn begins_under(above: usize, level: usize, dashes: bool) -> bool
     ensures { result ≡ reading.begins_under_level dashes above level }
@@ -17,7 +17,7 @@ fn begins_under(above: usize, level: usize, dashes: bool) -> bool
     above % 3 == 2 && (level % 3 == kind && above < level)
 }
 
-/// By how many columns the first sequence, or mapping, that stands under a key is deeper than that
+/// By how many columns the first sequence, or mapping, that is under a key is deeper than that
 /// key. It begins a row, since a key ends one.
 pub fn first_step(rows: &Rows<'_>, document: Stretch, dashes: bool) -> usize
     requires rows_view { IsRowsView rows.now }

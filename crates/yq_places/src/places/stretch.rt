@@ -13,11 +13,11 @@ use yq_row_walk::{line_at, lines_before_mark};
 /// A line of a row.
 #[derive(Clone, Copy)]
 pub struct RowLine {
-    /// How many rows of the text stand before the row.
+    /// How many rows of the text come before the row.
     pub row: usize,
-    /// How many lines of the row stand before this one.
+    /// How many lines of the row come before this one.
     pub line: usize,
-    /// How many lines of the row stand before that of its mark.
+    /// How many lines of the row come before that of its mark.
     pub dashes: usize,
 }
 

@@ -15,7 +15,7 @@ pub enum Addition {
 /// What is changed at a node.
 #[derive(Drop)]
 pub enum Change {
-    /// It gives way to a value.
+    /// It is replaced by a value.
     Replaces(Value),
     /// It gets these, one after the other.
     Adds(Vec<Addition>),

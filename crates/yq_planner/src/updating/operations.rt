@@ -27,7 +27,7 @@ fn add_op(alloc: Global, path: &Path, addition: Addition) -> Result<Op, AllocErr
     }
 }
 
-/// Puts the operations of additions at a path behind others.
+/// Puts the operations of additions at a path after others.
 fn push_adds(
     alloc: Global,
     path: &Path,
@@ -55,7 +55,7 @@ fn comment_op(path: Path, place: CommentPlace, text: String) -> Op
     }
 }
 
-/// Puts the operations of a change in document `doc` behind others.
+/// Puts the operations of a change in document `doc` after others.
 fn push_change(
     alloc: Global,
     doc: usize,
@@ -79,7 +79,7 @@ fn push_change(
 }
 
 /// Changes in the order in which they are made: removals last to first, since
-/// what goes shifts what stands behind it.
+/// what goes shifts what comes after it.
 #[tactic(auto, using(yq_semantics::proofs::Lists::map_reverse))]
 fn ordered(removal: bool, changes: Vec<PlacedChange>) -> Vec<PlacedChange>
     ensures { map changed_of result.items ≡ spec.ordered removal (map changed_of changes.items) }
@@ -91,7 +91,7 @@ fn ordered(removal: bool, changes: Vec<PlacedChange>) -> Vec<PlacedChange>
     ordered
 }
 
-/// Puts the operations of changes in document `doc` behind others.
+/// Puts the operations of changes in document `doc` after others.
 fn push_changes(
     alloc: Global,
     doc: usize,

@@ -35,7 +35,7 @@ fn int_sum(alloc: Global, one: &str, other: &str) -> Result<Value, ExprError>
     }
 }
 
-/// One string behind another.
+/// One string after another.
 fn text_sum(alloc: Global, one: &str, other: &str) -> Result<Value, AllocError>
     ensures { IfOk result (λ v. value_node v ≡ scalar None Text (one.now ++ other.now)) }
 {
@@ -69,7 +69,7 @@ pub fn is_null(value: &Value) -> bool
     }
 }
 
-/// Puts what a list gets from a value behind its items: the items of a list,
+/// Puts what a list gets from a value after its items: the items of a list,
 /// or the value as one item.
 fn push_items(items: &mut Vec<Value>, value: Value) -> Result<(), AllocError>
     ensures { OnOk result (items_of items.new.items ≡ append_children (items_of items.old.items)
@@ -82,7 +82,7 @@ fn push_items(items: &mut Vec<Value>, value: Value) -> Result<(), AllocError>
     }
 }
 
-/// Puts items behind others.
+/// Puts items after others.
 fn push_all(items: &mut Vec<Value>, others: Vec<Value>) -> Result<(), AllocError>
     ensures { OnOk result (items_of items.new.items ≡ append_children (items_of items.old.items)
         (items_of others.items)) }
@@ -93,7 +93,7 @@ fn push_all(items: &mut Vec<Value>, others: Vec<Value>) -> Result<(), AllocError
     Ok(())
 }
 
-/// Puts a value in the place of that of its key, or behind the entries, which
+/// Puts a value in the place of that of its key, or after the entries, which
 /// have these numbers.
 fn put_entry(
     alloc: Global,

@@ -1,4 +1,4 @@
--- A gap that stands behind a block scalar in the place of another one, repaired.
+-- A gap that comes after a block scalar in the place of another one, repaired.
 use Rattle.std.proofs.Common.{◌≡◌, ◌⊎◌, ℕ, ◌<◌, true, false, List, [], ◌∷◌, ◌++◌, Option, Some, None, refl, sym, ap, ◌∙◌, subst, ⊎_elim}
 use Rattle.std.{proofs.Common.{append_assoc, rules}, proofs.lemmas.Bool.{cond_both, cases_Bool}}
 use Rattle.yq_core.{specs.Block.{RawLines, BlockText, IsBlock, ends_block, keeps}, specs.BlockRepair.{AreGap, repair, is_behind}}
@@ -24,7 +24,7 @@ gap_front gap x ks run h is =
     let same : h.lines ≡ ks ++ run = sym (gap_lines gap x h) ∙ is in
     lines_front ks run x (subst (λ (ls : RawLines). AreGapLines ls x) same h.each)
 
--- a gap behind a block scalar
+-- a gap after a block scalar
 pub block_seam : (least column : ℕ) (b : BlockText) (ks : RawLines) (x next rest : List ℕ) → IsBlock least b (joined ks ++ x) → AreGapLines ks x → is_empty x ≡ false → IsGap next rest → column < b.indent.columns → is_behind b.indent (text_lines rest) ≡ true →
     ends_block (keeps b.chomping) b.indent (text_lines (seam_gap (Some b) column (joined ks) next ++ rest)) ≡ true
 block_seam least column b ks x next rest h k some n less behind =

@@ -1,4 +1,4 @@
--- What rows in front ask of a text that stands behind them in the place of another one.
+-- What rows in front ask of a text that comes after them in the place of another one.
 use Rattle.std.proofs.Common.{◌≡◌, ℕ, ℤ, true, false, ◌||◌, List, [], ◌∷◌, ◌++◌, refl, sym, ap, ◌∙◌, ⊎_elim, replicate, Some, rules}
 use Rattle.std.proofs.lemmas.Bool.{false≢true, or_right}
 use Rattle.yq_core.{specs.Text.{is_empty, is_line, text_lines}, specs.Alike.Alike, proofs.Alikes.alike_empty}
@@ -20,7 +20,7 @@ pub rows_some : (limit : Limit) (rs : List Row) (end rest : List ℕ) → no_row
 rows_some limit [] end rest n h = absurd (false≢true (sym n))
 rows_some limit (r ∷ rs) end rest n h = row_some limit r (rows_text rs (end ++ rest)) h.0
 
--- what stands behind a content
+-- what comes after a content
 pub closed_line : (tail u : List ℕ) → is_line tail ≡ true → is_closed tail u ≡ true
 closed_line tail u h = rw h refl
 
@@ -34,7 +34,7 @@ tail_any tail t u some h = ⊎_elim {0, 0, 0} (λ e. closed_line tail u e) (λ e
 content_was : (n : ℤ) (c : Content) (t : List ℕ) → IsContent n c t → is_seam c t ≡ true
 content_was n c t h1 = search (rules, tail_was)
 
--- where text is behind it, and it is no block scalar, any other text may be
+-- where text is after it, and it is no block scalar, any other text may be
 content_any : (n : ℤ) (c : Content) (t u : List ℕ) → is_block c ≡ false → is_empty t ≡ false → IsContent n c t → is_seam c u ≡ true
 content_any n c t u h1 h2 h3 = search (rules, tail_any, false≢true)
 
@@ -67,11 +67,11 @@ seams_alike front t u a h = seams_same front t u (alike_empty (Some false) t u a
 pub seams_row : (front : List Row) (limit other : Limit) (r s : Row) (t u : List ℕ) → IsRow limit r t → IsRow other s u → s.gap ≡ r.gap → s.column ≡ r.column → are_seamed front (print_row r t) ≡ true → are_seamed front (print_row s u) ≡ true
 seams_row front limit other r s t u h k gap column was = search (rules, starts_alike, row_starts, lines_after, seams_same, row_some)
 
--- where a break is behind the tail
+-- where a break is after the tail
 content_line : (c : Content) (u : List ℕ) → is_block c ≡ false → is_line (tail_behind c) ≡ true → is_seam c u ≡ true
 content_line c u h1 h2 = search (rules, closed_line, false≢true)
 
--- Behind rows of which the last one ends in a break and holds no block scalar, any text may stand.
+-- After rows of which the last one ends in a break and holds no block scalar, any text may be.
 pub seams_line : (front : List Row) (u : List ℕ) → ends_in_line front ≡ true → ends_in_block front ≡ false → are_seamed front u ≡ true
 seams_line [] u e b = refl
 seams_line (r ∷ []) u e b = content_line r.content u b e

@@ -1,4 +1,4 @@
--- Gaps one behind the other, and what stays in front of a gap behind a block scalar.
+-- Gaps one after the other, and what stays in front of a gap after a block scalar.
 use Rattle.std.proofs.Common.{◌≡◌, ℕ, Bool, true, false, not, List, [], ◌∷◌, ◌++◌, refl, sym, ap, ◌∙◌, subst, ⊎_elim, rules}
 use Rattle.std.proofs.lemmas.Bool.{false≢true, not-false, not-true, and_parts, cases_Bool, or_parts}
 use Rattle.yq_core.{specs.Block.{RawLines, ends_block, is_empty_line, is_less_indented}, specs.declared.block_lines.TextIndent.TextIndent}
@@ -7,7 +7,7 @@ use Rattle.yq_core.{proofs.SpaceLaws.char_not_blank, proofs.LineLaws.joined-appe
 use Rattle.yq_row_table.{specs.Gap.{AreGapLines, IsGap}, specs.Removal.hold_comment, proofs.NothingLaws.{some_behind, line_end_other}}
 use Rattle.yq_row_table.proofs.seams.GapSeams.{gap_lines_of, lines_before, repaired_gap}
 
--- gaps one behind the other
+-- gaps one after the other
 lines_joined : (ls ms : List (List ℕ)) (x y : List ℕ) → is_empty x ≡ false → AreGapLines ls x → AreGapLines ms y → AreGapLines (ls ++ ms) y
 lines_joined [] ms x y some h k = k
 lines_joined (l ∷ ls) ms x y some h k = (
@@ -15,7 +15,7 @@ lines_joined (l ∷ ls) ms x y some h k = (
   lines_joined ls ms x y some h.1 k,
 )
 
--- A gap before a text that isn't empty, and a gap behind it.
+-- A gap before a text that isn't empty, and a gap after it.
 pub gap_joined : (g h x y : List ℕ) → is_empty x ≡ false → IsGap g x → IsGap h y → IsGap (g ++ h) y
 gap_joined g h x y some a b = record {
   lines = a.lines ++ b.lines;

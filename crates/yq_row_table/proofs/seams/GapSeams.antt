@@ -1,4 +1,4 @@
--- Gaps joined, and repaired behind a block scalar.
+-- Gaps joined, and repaired after a block scalar.
 use Rattle.std.proofs.Common.{◌≡◌, ◌⊎◌, inl, inr, ℕ, Bool, true, false, ◌&&◌, ◌||◌, List, [], ◌∷◌, ◌++◌, refl, sym, ap, ◌∙◌, subst, ⊎_elim}
 use Rattle.std.proofs.Common.{append_assoc, append-nil, replicate, rules}
 use Rattle.std.proofs.lemmas.Bool.{false≢true, cond_both, and_parts, cases_Bool, or_parts}

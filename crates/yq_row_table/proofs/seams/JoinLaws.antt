@@ -1,4 +1,4 @@
--- A row behind the dashes of another one.
+-- A row after the dashes of another one.
 use Rattle.std.proofs.Common.{◌≡◌, ℕ, zero, suc, ℤ, ◌+◌, ◌≤◌, true, false, List, [], ◌∷◌, ◌++◌, refl, sym, ap, ◌∙◌, subst, arith, replicate}
 use Rattle.std.{proofs.Common.Some, proofs.lemmas.Bool.false≢true}
 use Rattle.yq_core.{specs.Text.{is_empty, separates}, specs.Alike.{Alike, byte}}
@@ -41,7 +41,7 @@ row_joined limit other r q t u h k f =
 pub limit_joined : (r q : Row) → q.column ≡ mark_column r → limit_after (joined_row r q) ≡ limit_after q
 limit_joined r q e = ap (λ (n : ℤ). limit_behind n q.content) (same_parent r q e)
 
--- a row with other pieces behind its first dashes
+-- a row with other pieces after its first dashes
 dashes_front : (ns ms : List ℕ) (old : RowMark) → AreDashes (ns ++ ms) old → AreDashes ns Dash
 dashes_front [] ms old h = tt
 dashes_front (n ∷ ns) ms old h = (h.0, refl, dashes_front ns ms old h.2)

@@ -1,4 +1,4 @@
--- What stands behind a gap is less indented than a block scalar's text.
+-- What comes after a gap is less indented than a block scalar's text.
 use Rattle.std.proofs.Common.{◌≡◌, ℕ, zero, suc, ◌<◌, true, false, ◌&&◌, eqb, List, [], ◌∷◌, ◌++◌, refl, sym, ap, ◌∙◌, ⊎_elim, replicate}
 use Rattle.std.{proofs.Common.rules, proofs.lemmas.Bool.{false≢true, lt-ltb, not-true, or_cases, and_from, or_parts}}
 use Rattle.yq_core.{specs.Block.is_less_indented, specs.BlockRepair.is_behind, specs.declared.block_lines.TextIndent.TextIndent}

@@ -6,7 +6,7 @@ use Rattle.yq_core.proofs.Alikes.{alike_marker}
 use Rattle.yq_row_table.{specs.Grammar.IsMarkerLine, specs.Seams.is_closed, specs.SpliceFits.is_after, proofs.EmptyTexts.none_is}
 use Rattle.yq_row_table.{proofs.NothingLaws.tail_apart, proofs.seams.SeamLaws.{tail_kept, tail_line}}
 
--- what stands behind a marker's line
+-- what comes after a marker's line
 pub marker_byte : (a b c : ℕ) (t : List ℕ) → is_marker (a ∷ (b ∷ (c ∷ t))) ≡ true → ((a ≡ 45) × (b ≡ 45) × (c ≡ 45)) ⊎ ((a ≡ 46) × (b ≡ 46) × (c ≡ 46))
 marker_byte a b c t h =
     let p = (and_parts ((eqb a 45 && eqb b 45 && eqb c 45) || (eqb a 46 && eqb b 46 && eqb c 46)) (separates t) h).0 in
@@ -38,7 +38,7 @@ marker_seam (a ∷ (b ∷ (c ∷ p))) t u h closed = ⊎_elim {0, 0, 0}
     (λ e. three_seam a b c p t u (rw e.0 refl) (rw e.1 refl) (rw e.2 refl) (λ r. rw e.2 refl) h closed)
     (marker_byte a b c (p ++ t) h.marker)
 
--- a marker with text behind it
+-- a marker with text after it
 pub marker_line_is : (p t : List ℕ) → IsMarkerLine p t → is_empty t ≡ false → is_line p ≡ true
 marker_line_is [] t h some = absurd (let l = h.long in omega (arith, l))
 marker_line_is (a ∷ []) t h some = absurd (let l = h.long in omega (arith, l))

@@ -11,7 +11,7 @@ use Rattle.yq_core.{proofs.NodeKeeps.{node_text_alike, items_text_alike, items_a
 use Rattle.yq_row_table.{specs.Grammar.is_plain_content, proofs.Fronts.node_starts, proofs.NothingLaws.name_again}
 use Rattle.yq_row_table.proofs.seams.ScalarSeams.{apart_no_node, name_seam, name_alike, quoted_seam, Joint, plain_seam, plain_unquoted}
 
--- the plain scalar of a node, if it is one, perhaps behind an anchor
+-- the plain scalar of a node, if it is one, perhaps after an anchor
 abbrev pub plain_text : FlowNode → List ℕ
 plain_text empty = []
 plain_text (alias name) = []
@@ -19,7 +19,7 @@ plain_text (scalar p) = p
 plain_text (coll close gap items) = []
 plain_text (anchored name gap node) = plain_text node
 
--- What stands behind a node, and what may stand there: white space, a break or the end is in front of both, no node stands in the line behind it, a plain
+-- What comes after a node, and what may be there: white space, a break or the end is in front of both, no node is in the line after it, a plain
 -- scalar ends there, and no break comes to be at its end.
 pub record Behind (spaces : Option ℕ) (node : FlowNode) (t u : List ℕ) : Type 0 where
   pub was : separates t ≡ true

@@ -20,13 +20,13 @@ plain_of (Nothing tail) = []
 plain_of (Inline space node tail) = plain_text node
 plain_of (Block space anchor block) = []
 
--- what stands behind the node of a content
+-- what comes after the node of a content
 abbrev pub behind_node : Content → List ℕ → List ℕ
 behind_node (Nothing tail) rest = tail ++ rest
 behind_node (Inline space node tail) rest = tail ++ rest
 behind_node (Block space anchor block) rest = rest
 
--- no break comes to be behind a content with another tail
+-- no break comes to be after a content with another tail
 abbrev pub Joined : Content → List ℕ → (new rest : List ℕ) → Type 0
 Joined c t new u = Joint (plain_of c) (behind_node c t) (behind_node (with_tail new c) u)
 

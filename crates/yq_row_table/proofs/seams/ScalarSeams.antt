@@ -71,7 +71,7 @@ follow_more a b c m n h1 h2 = search (rules, false≢true)
 follow_ended : (a b c m : Bool) → (a || c) ≡ true → (not a && not b && not c && m) ≡ false
 follow_ended a b c m h1 = search (rules, false≢true)
 
--- behind one byte more that is white space or a break
+-- after one byte more that is white space or a break
 cut_more : (b : ℕ) (t : List ℕ) → is_space (b ∷ t) ≡ true → cut no_gap (b ∷ t) ≡ (b ∷ (cut no_gap t).0, (cut no_gap t).1)
 unfolding upto
 cut_more b t e = rw e refl

@@ -1,4 +1,4 @@
--- Rows before rows that stand in the place of others.
+-- Rows before rows that are in the place of others.
 use Rattle.std.proofs.Common.{◌≡◌, ◌⊎◌, inl, inr, ℕ, zero, suc, ℤ, Bool, true, false, ◌||◌, if◌then◌else◌, List, [], ◌∷◌, ◌++◌, Some, take}
 use Rattle.std.proofs.Common.{drop, refl, sym, ap, ◌∙◌, subst, ⊎_elim, append_assoc, rules}
 use Rattle.std.{proofs.lemmas.Bool.{false≢true, or_cases, and_parts}, proofs.lemmas.List.take-append-drop}
@@ -47,7 +47,7 @@ tail_kept tail t u c h =
 joint_tail : (p tail t u : List ℕ) → is_closed tail u ≡ true → IsTail tail t → Joint p (tail ++ t) (tail ++ u)
 joint_tail p tail t u h1 h2 = search (rules, closed_end, no_line, ⊎_elim, no_tail, empty_or)
 
--- behind a plain scalar the lines are not deep
+-- after a plain scalar the lines are not deep
 abbrev pub PlainEnds : ℤ → Content → List ℕ → Type 0
 PlainEnds n (Nothing tail) u = Unit {0}
 PlainEnds n (Inline space node tail) u = is_plain_content node ≡ true → IsTail tail u → ends_plain false (Some (deeper n)) (tail ++ u) ≡ true
@@ -71,7 +71,7 @@ row_seam limit r t u h s e =
     let kept = row_tail limit r t (tail_behind r.content) u h (own_fits n r.content t u h.content s e) (own_joined n r.content t u h.content s) in
     subst (λ (c : Content). TakesPlace limit r t (with_content c r) u) (own_tail r.content) kept
 
--- where the next row stands
+-- where the next row is
 pub part_line : (d : ℕ) (t : List ℕ) → ends_part t ≡ true → AtLine d t
 part_line d t h = ⊎_elim {0, 0, 0} (λ e. subst (AtLine d) (sym (empty_is t e)) (end_line d)) (λ e. marker_line d t e) (or_cases (is_empty t) (is_marker t) h)
 
@@ -85,7 +85,7 @@ plain_before n (Inline space node tail) rs end rest h e = λ plain last.
     let next : allows_first (record { column = Some d }) rs ≡ true = rw plain at allowed in
     tail_ends d last.white last.comment tail (rows_text rs (end ++ rest)) last.line last.apart (rows_line d rs asked end rest h next (part_line d rest e))
 
--- The text behind rows and the rows before it.
+-- The text after rows and the rows before it.
 abbrev pub RowsKept : Limit → List Row → List Row → List Row → List ℕ → List ℕ → List ℕ → List ℕ → Type 0
 RowsKept limit front rows new end rest other_end other =
     AreRows limit (front ++ new) other_end other
@@ -106,7 +106,7 @@ rows_seam (r ∷ (q ∷ front)) rows new limit end rest other_end other h f =
 pub row_before : (limit : Limit) (r : Row) (t : List ℕ) (rs : List Row) (end rest : List ℕ) → IsRow limit r t → MayFollowRows limit (r ∷ []) rs end rest → IsRow limit r (rows_text rs (end ++ rest))
 row_before limit r t rs end rest h f = (row_seam limit r t (rows_text rs (end ++ rest)) h f.seam (plain_before (parent_indent r) r.content rs end rest f.rows f.ends)).row
 
--- rows behind the new ones
+-- rows after the new ones
 pub rows_text-append : (a b : List Row) (t : List ℕ) → rows_text (a ++ b) t ≡ rows_text a (rows_text b t)
 rows_text-append [] b t = refl
 rows_text-append (r ∷ a) b t = ap (print_row r) (rows_text-append a b t)

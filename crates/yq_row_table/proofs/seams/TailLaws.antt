@@ -1,4 +1,4 @@
--- Another tail behind a row's content, in a text in which an LF stands behind each CR.
+-- Another tail after a row's content, in a text in which an LF comes after each CR.
 use Rattle.std.proofs.Common.{◌≡◌, ◌⊎◌, inl, inr, ℕ, ℤ, true, false, ◌&&◌, List, [], ◌∷◌, ◌++◌, Option, refl, sym, ap, ◌∙◌, subst, ⊎_elim}
 use Rattle.std.proofs.Common.{append_assoc, append-nil, length, take, rules}
 use Rattle.std.proofs.lemmas.Bool.{false≢true, false_from_ne_true, or_right, and_parts, or_parts}
@@ -15,7 +15,7 @@ use Rattle.yq_row_table.{proofs.ExchangeLaws.chain, proofs.PlaceLaws.row_front-a
 use Rattle.yq_row_table.{proofs.seams.SeamLaws.{plain_before, line_by_break, rows_drop}, proofs.seams.NodeSeams.plain_text}
 use Rattle.yq_row_table.{proofs.seams.ScalarSeams.{ends_return, last_no_space}, proofs.seams.RowSeams.{Joined, row_tail}}
 
--- a CR at the end of a piece has an LF behind it
+-- a CR at the end of a piece has an LF after it
 pub return_then : (p t : List ℕ) → pairs_returns (p ++ t) ≡ true → ends_return p ≡ true → front is_feed t ≡ true
 unfolding pairs_returns
 return_then [] t h e = absurd (false≢true e)
@@ -90,7 +90,7 @@ tail_closed tail break u b bare pairs h = ⊎_elim {0, 0, 0}
     })
     h.line.ends
 
--- a tail may stand there, where rows stand behind it
+-- a tail may be there, where rows come after it
 pub fits_by : (n : ℤ) (c : Content) (new : List ℕ) (rs : List Row) (end rest : List ℕ) → is_block c ≡ false → IsTail new (rows_text rs (end ++ rest)) → AreRows (limit_behind n c) rs end rest → ends_part rest ≡ true → TailFits n new c (rows_text rs (end ++ rest))
 fits_by n (Nothing tail) new rs end rest b t h e = t
 fits_by n (Inline space node tail) new rs end rest b t h e = (t, λ plain. plain_before n (Inline space node new) rs end rest h e plain t)
@@ -102,7 +102,7 @@ content_tail n c t h1 h2 = search (rules, false≢true)
 pub tail_pairs : (c : Content) (t : List ℕ) → is_block c ≡ false → pairs_returns (content_text c t) ≡ true → pairs_returns (tail_behind c ++ t) ≡ true
 tail_pairs c t h1 h2 = search (rules, pairs_back, node_then, false≢true)
 
--- A row at the end of the text, without a break, gets one, and rows stand behind it.
+-- A row at the end of the text, without a break, gets one, and rows come after it.
 pub row_closed : (limit : Limit) (r : Row) (break : List ℕ) (new : List Row) (end rest : List ℕ) → IsRow limit r [] → TakesBreak r break → pairs_returns (print_row r []) ≡ true → AreRows (limit_after r) new end rest → ends_part rest ≡ true →
     TakesPlace limit r [] (closed_by break r) (rows_text new (end ++ rest))
 row_closed limit r break new end rest h f pairs n e =
@@ -117,7 +117,7 @@ limit_tail n c new = search rules
 pub limit_closed : (break : List ℕ) (r : Row) → limit_after (closed_by break r) ≡ limit_after r
 limit_closed break r = limit_tail (parent_indent r) r.content (tail_behind r.content ++ break)
 
--- Rows behind the last one of a text without a final break: that one gets a break, and the rows stand behind it.
+-- Rows after the last one of a text without a final break: that one gets a break, and the rows come after it.
 pub rows_appended : (front : List Row) (r : Row) (break : List ℕ) (new : List Row) (limit : Limit) (end : List ℕ) → AreRows limit (front ++ (r ∷ [])) [] [] → TakesBreak r break → pairs_returns (print_row r []) ≡ true →
     AreRows (limit_after r) new end [] → AreRows limit (front ++ (closed_by break r ∷ new)) end []
 rows_appended front r break new limit end h f pairs n =

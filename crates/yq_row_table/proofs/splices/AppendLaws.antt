@@ -1,4 +1,4 @@
--- Rows behind the last one of a text without a final break, in a cut.
+-- Rows after the last one of a text without a final break, in a cut.
 use Rattle.std.proofs.Common.{◌≡◌, ℕ, suc, true, false, List, [], ◌∷◌, ◌++◌, length, refl, sym, ap, ◌∙◌, subst, Some}
 use Rattle.yq_core.{specs.Characters.pairs_returns, specs.Alike.Alike}
 use Rattle.yq_row_table.{specs.Exchange.{allows_first, asked_behind}, specs.Grammar.{Limit, limit_after, AreRows, no_rows, IsCut}}
@@ -7,7 +7,7 @@ use Rattle.yq_row_table.specs.Splices.{behind_first, nth_part, behind_part, back
 use Rattle.yq_row_table.{proofs.splices.PartPlaces.{row_stands, rows_after, rows_from}, proofs.splices.SpliceCases.replaced}
 use Rattle.yq_row_table.{proofs.splices.SpliceTexts.row_pairs, proofs.seams.TailLaws.{row_closed, limit_closed}}
 
--- nothing is behind the last row
+-- nothing is after the last row
 nothing_behind : (rs : List Row) (end rest : List ℕ) → rs ≡ [] → rest ≡ [] → behind_first rs end rest ≡ []
 nothing_behind rs end rest e f = ap (λ (x : List Row). behind_first x end rest) e ∙ f
 

@@ -1,4 +1,4 @@
--- A row counted through all parts stands in one of them, and there its content is exchanged.
+-- A row counted through all parts is in one of them, and there its content is exchanged.
 use Rattle.std.proofs.Common.{◌≡◌, inl, inr, ℕ, zero, suc, ◌-◌, true, List, [], ◌∷◌, ◌++◌, length, take, drop, Some, refl, sym, ap, ◌∙◌}
 use Rattle.std.{proofs.Common.{subst, false, rules}, proofs.Math.Dec.ltb, proofs.lemmas.Bool.{false≢true, ltb-true, ltb-false, cases_Bool}}
 use Rattle.std.specs.List.{slice_get}

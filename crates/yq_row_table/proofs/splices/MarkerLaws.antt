@@ -1,4 +1,4 @@
--- Rows behind the last marker of a text, which has no break.
+-- Rows after the last marker of a text, which has no break.
 use Rattle.std.proofs.Common.{◌≡◌, ℕ, Bool, true, false, List, [], ◌∷◌, ◌++◌, refl, sym, ap, ◌∙◌, subst, ⊎_elim, arith, append-nil, Some}
 use Rattle.std.{proofs.lemmas.Bool.{false≢true, and_parts}, specs.List.list_all, specs.Str.chars}
 use Rattle.yq_core.{specs.Characters.{is_text_char, pairs_returns}, specs.Text.{is_empty, is_feed, is_space, is_line}}
@@ -31,7 +31,7 @@ marker_closed (a ∷ (b ∷ (c ∷ p))) break u h bare is pairs = ⊎_elim {0, 0
     (λ e. three_closed a b c p break u (rw e.0 refl) (rw e.1 refl) (rw e.2 refl) (λ r. rw e.2 refl) h bare is pairs)
     (marker_byte a b c (p ++ []) h.marker)
 
--- behind a marker without a break is nothing
+-- after a marker without a break is nothing
 marker_end : (p t : List ℕ) → IsMarkerLine p t → is_line p ≡ false → t ≡ []
 marker_end [] t h bare = absurd (let l = h.long in omega (arith, l))
 marker_end (a ∷ []) t h bare = absurd (let l = h.long in omega (arith, l))

@@ -1,4 +1,4 @@
--- Part k of a cut, and what stands before and behind it.
+-- Part k of a cut, and what comes before and after it.
 use Rattle.std.proofs.Common.{◌≡◌, ℕ, zero, suc, Bool, true, false, List, [], ◌∷◌, ◌++◌, length, drop, refl, ap, ◌∙◌, subst}
 use Rattle.std.{proofs.Math.Seq.drop-append_seam, proofs.lemmas.Bool.or_right}
 use Rattle.yq_core.specs.Text.{is_empty, is_marker}
@@ -10,7 +10,7 @@ use Rattle.yq_row_table.{proofs.seams.FrontSeams.rows_some, proofs.seams.MarkerS
 part_some : (started : Bool) (p : Part) (rest : List ℕ) → no_rows p.rows ≡ false → IsPart started p rest → is_empty (part_text p rest) ≡ false
 part_some started p rest n h = rows_some unlimited p.rows p.end rest n h.rows
 
--- Before a part with rows stands nothing, or a marker's line with a break.
+-- Before a part with rows is nothing, or a marker's line with a break.
 pub part_after : (c : Cut) (k : ℕ) (started : Bool) (u : List ℕ) → AreParts started c → no_rows (nth_part k c).rows ≡ false → is_after (marker_before [] k c) u ≡ true
 part_after (last p) k started u h n = refl
 part_after (marked p marker c) zero started u h n = refl

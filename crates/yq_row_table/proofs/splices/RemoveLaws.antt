@@ -1,4 +1,4 @@
--- Rows taken away, with the gap behind them repaired.
+-- Rows taken away, with the gap after them repaired.
 use Rattle.std.proofs.Common.{◌≡◌, ℕ, ◌<◌, true, false, List, [], ◌∷◌, ◌++◌, Option, Some, None, take, refl, sym, ap, ◌∙◌, subst}
 use Rattle.std.{proofs.Common.append_assoc, proofs.lemmas.Bool.false≢true}
 use Rattle.yq_core.{specs.Block.{RawLines, BlockText, IsBlock}, specs.BlockRepair.is_behind, specs.Text.{is_empty, text_lines, joined}}
@@ -13,7 +13,7 @@ use Rattle.yq_row_table.{proofs.seams.LessLaws.behind_less, proofs.NothingLaws.s
 use Rattle.yq_row_table.{proofs.seams.FrontSeams.behind_row_some, proofs.splices.PartPlaces.{part_in, part_ends}}
 use Rattle.yq_row_table.{proofs.splices.SpliceCases.removed, proofs.splices.SpliceTexts.{first_text, first_is}}
 
--- what stands where rows are taken away
+-- what is where rows are taken away
 pub behind_some : (limit : Limit) (rs : List Row) (end rest : List ℕ) → no_rows rs ≡ false → AreRows limit rs end rest → is_empty (behind_first rs end rest) ≡ false
 behind_some limit [] end rest n h = absurd (false≢true (sym n))
 behind_some limit (r ∷ rs) end rest n h = behind_row_some limit r (rows_text rs (end ++ rest)) h.0
@@ -30,7 +30,7 @@ by_block front back end rest column ks x next u (Some b) is e less lower whole o
     let block : IsBlock last.least b (joined ks ++ x) = subst (IsBlock last.least b) old last.block in
     last.seam (seam_gap (Some b) column (joined ks) next ++ u) (block_seam last.least column b ks x next u block kept some follows less (lower b.indent less))
 
--- Rows are taken away, and the gap in their place is repaired behind a block scalar.
+-- Rows are taken away, and the gap in their place is repaired after a block scalar.
 pub removed_repaired : (t : List ℕ) (c : Cut) (k i j : ℕ) (ks run : RawLines) → IsCut t c → RepairFits k i j ks run c → CutsItsText (without_rows k i j ks c)
 removed_repaired t c k i j ks run h f =
     let p = nth_part k c in

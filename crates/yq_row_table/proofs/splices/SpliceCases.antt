@@ -31,11 +31,11 @@ inserted t c k i new gap h f =
     let first : not (no_rows (front_rows k i c)) ≡ true = ap not f.front in
     spliced t c k i i new gap h (record { rows = f.rows; next = f.next; seam = f.seam; start = rw first refl; inside = rw begun refl })
 
--- Before a part with rows a text may stand as far as the marker goes.
+-- Before a part with rows a text may be as far as the marker goes.
 starts : (t : List ℕ) (c : Cut) (k i : ℕ) (u : List ℕ) → IsCut t c → no_rows (back_rows k i c) ≡ false → (not (no_rows (front_rows k i c)) || is_after (marker_before [] k c) u) ≡ true
 starts t c k i u h some = or_right (not (no_rows (front_rows k i c))) (is_after (marker_before [] k c) u) (part_after c k true u h.parts (more_of i (nth_part k c).rows some))
 
--- rows in the place of others, where what the rows in front ask of the text behind them is kept
+-- rows in the place of others, where what the rows in front ask of the text after them is kept
 pub placed : (t : List ℕ) (c : Cut) (k i j : ℕ) (new : List Row) (gap : List ℕ) → IsCut t c → no_rows (back_rows k i c) ≡ false → AreRows (asked_at k i c) new gap (behind_rows k j c) → allows_first (asked_behind (asked_at k i c) new) (back_rows k j c) ≡ true →
     ((fs : List Row) → are_seamed fs (rows_text (back_rows k i c) ((nth_part k c).end ++ behind_part k c)) ≡ true → are_seamed fs (rows_text new (gap ++ behind_rows k j c)) ≡ true) → CutsItsText (splice k i j new gap c)
 placed t c k i j new gap h some rows next keeps =

@@ -12,7 +12,7 @@ use Rattle.yq_row_table.{specs.Splices.{is_started, CutsItsText}, proofs.AlikeRo
 use Rattle.yq_row_table.{proofs.ExchangeLaws.{CutExchanged, marked_behind}, proofs.seams.MarkerSeams.marker_seam}
 use Rattle.yq_row_table.proofs.seams.SeamLaws.{rows_seam, rows_join, rows_drop, rows_parted, spliced_text}
 
--- A text and another one behind what stands before them: they begin alike, or the other one may stand there.
+-- A text and another one after what comes before them: they begin alike, or the other one may be there.
 abbrev Fronts : List ℕ → List ℕ → List ℕ → Type 0
 Fronts marker t u = Alike (Some false) t u ⊎ (is_after marker u ≡ true)
 

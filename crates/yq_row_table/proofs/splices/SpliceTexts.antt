@@ -1,4 +1,4 @@
--- The text of a cut at rows, and of a cut in which other rows stand there.
+-- The text of a cut at rows, and of a cut in which other rows are there.
 use Rattle.std.proofs.Common.{◌≡◌, ℕ, zero, suc, ◌≤◌, true, List, [], ◌∷◌, ◌++◌, take, drop, refl, sym, ap, ◌∙◌, arith, append_assoc, rules}
 use Rattle.std.{proofs.lemmas.Bool.and_parts, proofs.lemmas.List.take-append-drop, specs.List.list_all, specs.Str.chars}
 use Rattle.yq_row_table.{specs.Gap.IsGap, specs.Grammar.{Limit, AreRows, IsCut}}
@@ -76,7 +76,7 @@ front_text c k i =
     let p = nth_part k c in
     old_text c k i i (omega arith) ∙ (ap (λ (rs : List Row). before_rows k i c ++ rows_text rs (first_gap (drop i p.rows) p.end ++ behind_rows k i c)) (none_between i p.rows) ∙ ap (λ (x : List ℕ). before_rows k i c ++ x) (sym (first_text (drop i p.rows) p.end (behind_part k c))))
 
--- in a cut an LF stands behind each CR, so also from a row on
+-- in a cut an LF comes after each CR, so also from a row on
 pub row_pairs : (t : List ℕ) (c : Cut) (k i : ℕ) → IsCut t c → pairs_returns (rows_text (back_rows k i c) ((nth_part k c).end ++ behind_part k c)) ≡ true
 row_pairs t c k i h =
     let whole : pairs_returns (cut_text c) ≡ true = ap pairs_returns (sym h.text) ∙ (and_parts (list_all is_text_char (chars t)) (pairs_returns t) h.characters).1 in

@@ -1,12 +1,12 @@
 //! Pieces of a row by its lengths, without the others.
-ghost use Rattle.std.{specs.Prelude.{◌≡◌, drop, not, take}, specs.Str.IsCharBoundary};
+ghost use Rattle.std.{specs.Prelude.{◌≡◌, ◌++◌, drop, not, take}, specs.Str.IsCharBoundary};
 ghost use Rattle.yq_core.specs.Text.{is_empty};
 ghost use Rattle.yq_row_table.specs.View.{Slices};
 ghost use Rattle.yq_row_table.specs.Offsets as spec;
 
 use crate::offsets::Offsets;
 
-/// So many bytes of a text behind so many others.
+/// So many bytes of a text after so many others.
 #[inline]
 fn piece(text: &str, before: usize, len: usize) -> &str
     requires before { IsCharBoundary text.now before }
@@ -27,7 +27,7 @@ impl Offsets {
         text.split_at(self.gap as usize).0
     }
 
-    /// How many bytes of the row stand before its key.
+    /// How many bytes of the row come before its key.
     #[inline]
     fn before_key(&self) -> usize
         ensures { result ≡ spec.before_key self.now }
@@ -35,7 +35,7 @@ impl Offsets {
         self.gap as usize + self.column as usize + self.dashes as usize
     }
 
-    /// How many bytes of the row stand before its anchor.
+    /// How many bytes of the row come before its anchor.
     #[inline]
     fn before_anchor(&self) -> usize
         ensures { result ≡ spec.before_anchor self.now }
@@ -43,7 +43,7 @@ impl Offsets {
         self.before_key() + self.key as usize + self.colon as usize + self.space as usize
     }
 
-    /// How many bytes of the row stand before its head.
+    /// How many bytes of the row come before its head.
     #[inline]
     fn before_head(&self) -> usize
         ensures { result ≡ spec.before_head self.now }
@@ -104,6 +104,20 @@ impl Offsets {
         )
     }
 
+    /// The row in front of a text, from its head on.
+    #[inline]
+    pub(crate) fn from_head<'t>(&self, text: &'t str) -> &'t str
+        requires { spec.AreCuts text.now (spec.lengths self.now) }
+        ensures { (s : Slices) → s ≡ spec.pieces_of text.now self.now → result.now ≡
+            s.head ++ (s.tail ++ s.raw) }
+    {
+        piece(
+            text,
+            self.before_head(),
+            self.head as usize + self.tail as usize + self.raw as usize,
+        )
+    }
+
     /// Whether the row has dashes.
     #[inline]
     pub(crate) fn has_dashes(&self) -> bool
@@ -113,7 +127,7 @@ impl Offsets {
         self.dashes > 0
     }
 
-    /// Whether the row has a colon behind its key.
+    /// Whether the row has a colon after its key.
     #[inline]
     pub(crate) fn has_colon(&self) -> bool
         ensures { (s : Slices) → self.now ≡ spec.offsets_of self.now.start s → result ≡

@@ -1,12 +1,12 @@
-//! Laws of what is put behind a text that has no final break.
+//! Laws of what is put after a text that has no final break.
 ghost use Rattle.std.specs.Prelude.{◌≡◌, ℕ, List, [], ◌∷◌, ◌++◌, true};
 ghost use Rattle.yq_core.specs.Characters.{pairs_returns};
 ghost use Rattle.yq_row_table.specs.Appending.{IsLastRow, PartFits, TakesBreak, closed_by, with_last_part};
 ghost use Rattle.yq_row_table.{specs.Grammar.{AreRows, IsCut, Limit, limit_after}, specs.Rows.{Cut, Part, Row, print_row}};
 ghost use Rattle.yq_row_table.specs.Splices.{CutsItsText, replace_row};
 
-/// Rows behind the last one of a text without a final break: that one gets a break, and the rows
-/// stand behind it.
+/// Rows after the last one of a text without a final break: that one gets a break, and the rows
+/// come after it.
 #[tactic(auto, using(yq_row_table::proofs::seams::TailLaws::rows_appended))]
 pub fn rows_appended()
     ensures { (front : List Row) (r : Row) (break : List ℕ) (new : List Row) (limit : Limit)
@@ -24,7 +24,7 @@ pub fn end_appended()
         CutsItsText (replace_row k front (closed_by break r ∷ new) gap c) }
 {}
 
-/// A part behind the last marker of a text, which has no break: the marker gets one.
+/// A part after the last marker of a text, which has no break: the marker gets one.
 #[tactic(auto, using(yq_row_table::proofs::splices::MarkerLaws::marker_appended))]
 pub fn marker_appended()
     ensures { (t : List ℕ) (c : Cut) (break : List ℕ) (new : Part) → IsCut t c →

@@ -4,7 +4,7 @@ ghost use Rattle.yq_row_table.{specs.Grammar.{AreParts, unlimited}, specs.ItemSp
 ghost use Rattle.yq_row_table.specs.Items.{Asked, AreRowItems, Item, asked_of, items_of_cut, items_text, view_of_items};
 ghost use Rattle.yq_row_table.{specs.Regions.{IsReadAlone, StandIn, ended}, specs.Rows.{Cut, Row, cut_text}, specs.View.rows_view};
 
-/// The rows and ends of a cut are its text, and what the code lends of it; each is one behind those
+/// The rows and ends of a cut are its text, and what the code lends of it; each is one after those
 /// in front of it.
 pub fn items_are()
     ensures text { (c : Cut) → items_text (items_of_cut c) [] ≡ cut_text c }
@@ -17,7 +17,7 @@ pub fn items_are()
         AreRowItems asked (xs ++ ys) rest → AreRowItems (asked_of asked xs) ys rest }
 {}
 
-/// Rows and ends of a cut, read alone, are the same, whatever stands in front of them and behind;
+/// Rows and ends of a cut, read alone, are the same, whatever is in front of them and after;
 /// so is the end of a part without the line of its marker.
 pub fn region_alone()
     ensures alone { (xs back : List Item) → StandIn xs back → IsReadAlone xs back }
@@ -25,7 +25,7 @@ pub fn region_alone()
         StandIn (ended xs gap marker) back → IsReadAlone (ended xs gap []) [] }
 {}
 
-/// A splice of a cut, by its items: the rows that give way and the item behind them are exchanged,
+/// A splice of a cut, by its items: the rows that are replaced and the item after them are exchanged,
 /// and all others stay.
 pub fn items_spliced()
     ensures { (k i j : ℕ) (new : List Row) (gap : List ℕ) (c : Cut) →

@@ -1,4 +1,4 @@
-//! Laws of seams: what a row asks of the text behind it, and rows that take the place of others.
+//! Laws of seams: what a row asks of the text after it, and rows that take the place of others.
 ghost use Rattle.std.specs.Prelude.{◌≡◌, ℕ, Bool, List, [], ◌∷◌, ◌++◌, false, true};
 ghost use Rattle.yq_core.{specs.BlockRepair.repair, specs.Characters.pairs_returns, specs.Text.{is_empty, joined, text_lines}};
 ghost use Rattle.yq_row_table.{specs.Gap.IsGap, specs.Grammar.{IsRow, AreRows, Limit, limit_after}};
@@ -6,7 +6,7 @@ ghost use Rattle.yq_row_table.specs.Joined.{CompactFits, DashFits, Joins, compac
 ghost use Rattle.yq_row_table.specs.Rows.{Content, Row, mark_column, parent_indent, print_row, rows_text};
 ghost use Rattle.yq_row_table.specs.Seams.{MayFollowRows, TailFits, TakesPlace, retail};
 
-/// A row before one text is a row before another one that may stand behind it: rows that begin where
+/// A row before one text is a row before another one that may come after it: rows that begin where
 /// the row allows, and what its tail or block scalar asks.
 pub fn row_seamed()
     ensures { (limit : Limit) (r : Row) (t : List ℕ) (behind : List Row) (end rest : List ℕ) →
@@ -15,7 +15,7 @@ pub fn row_seamed()
         IsRow limit r (rows_text behind (end ++ rest)) }
 {}
 
-/// Rows behind rows, exchanged for others: what the last row in front asks of the text behind it.
+/// Rows after rows, exchanged for others: what the last row in front asks of the text after it.
 pub fn rows_seamed()
     ensures { (front rows new : List Row) (limit : Limit) (end rest new_end new_rest : List ℕ) →
         AreRows limit (front ++ rows) end rest →
@@ -30,7 +30,7 @@ pub fn row_retailed()
         TailFits (parent_indent r) new r.content u → TakesPlace limit r t (retail new r) u }
 {}
 
-/// What stands behind a row's dashes, exchanged for a row that begins in that column.
+/// What comes after a row's dashes, exchanged for a row that begins in that column.
 pub fn row_joined()
     ensures row { (limit other : Limit) (r q : Row) (t u : List ℕ) → IsRow limit r t →
         IsRow other q u → Joins r q → TakesPlace limit r t (joined_row r q) u }
@@ -38,8 +38,8 @@ pub fn row_joined()
         limit_after q }
 {}
 
-/// A row up to one of its dashes, with another content behind that; and a row behind whose dash
-/// stands a row in place of its content.
+/// A row up to one of its dashes, with another content after that; and a row after whose dash
+/// is a row in place of its content.
 pub fn row_dashed()
     ensures cut { (limit : Limit) (r : Row) (dashes : List ℕ) (n : ℕ) (more : List ℕ)
         (new : Content) (t u : List ℕ) → IsRow limit r t → DashFits r dashes n more new u →
@@ -49,7 +49,7 @@ pub fn row_dashed()
         TakesPlace limit r t (compact_row n r q) u }
 {}
 
-/// A gap behind what stays of another one: the lines are those of both, and it is a gap where the
+/// A gap after what stays of another one: the lines are those of both, and it is a gap where the
 /// second one is; repaired, it is one too.
 pub fn gaps_joined()
     ensures lines { (kept next x : List ℕ) → is_empty x ≡ false → IsGap kept x →

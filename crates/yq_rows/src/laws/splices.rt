@@ -1,4 +1,4 @@
-//! Laws of splices: a cut, of which other rows stand in the place of some.
+//! Laws of splices: a cut, of which other rows are in the place of some.
 ghost use Rattle.std.specs.Prelude.{◌≡◌, ◌≤◌, ℕ, List, [], ◌∷◌, ◌++◌, Some, false, length, slice_get, true};
 ghost use Rattle.yq_row_table.{specs.Counted.RowPlace, specs.Exchange.allows_first, specs.Grammar.{IsCut, limit_after}};
 ghost use Rattle.yq_row_table.{specs.Removal.{RepairFits, without_rows}, specs.Rows.{Cut, Row, cut_text, parent_indent, rows_text}};
@@ -7,8 +7,8 @@ ghost use Rattle.yq_row_table.specs.SpliceFits.{FitsIn, InsertFits, RemoveFits, 
 ghost use Rattle.yq_row_table.specs.Splices.{CutsItsText, StandsBetween, asked_at, before_rows, behind_rows, first_gap, gap_before};
 ghost use Rattle.yq_row_table.{specs.Splices.{replace_row, nth_part, rows_between, splice, rest_behind}, specs.View.rows_of};
 
-/// A cut, of which other rows stand in the place of some, is a cut where they fit and the new text
-/// may stand. Its text is that before those rows, the new rows with the gap behind them, and the
+/// A cut, of which other rows are in the place of some, is a cut where they fit and the new text
+/// may be. Its text is that before those rows, the new rows with the gap after them, and the
 /// rest.
 pub fn rows_spliced()
     ensures cut { (t : List ℕ) (c : Cut) (k i j : ℕ) (new : List Row) (gap : List ℕ) → IsCut t c →
@@ -30,7 +30,7 @@ pub fn rows_replaced()
         CutsItsText (splice k i j new gap c) }
 {}
 
-/// One row exchanged for another one that takes its place, behind which the next row may stand.
+/// One row exchanged for another one that takes its place, after which the next row may be.
 #[tactic(auto, using(yq_row_table::proofs::splices::RowReplaced::row_replaced))]
 pub fn row_replaced()
     ensures { (t : List ℕ) (c : Cut) (k : ℕ) (front : List Row) (r : Row) (back : List Row)
@@ -40,7 +40,7 @@ pub fn row_replaced()
         CutsItsText (replace_row k front (new ∷ []) (first_gap back (nth_part k c).end) c) }
 {}
 
-/// One row exchanged for another one behind the same gap and at the same column: the rows in front
+/// One row exchanged for another one after the same gap and at the same column: the rows in front
 /// ask no more of it.
 #[tactic(auto, using(yq_row_table::proofs::splices::RowReplaced::row_exchanged))]
 pub fn row_exchanged()
@@ -50,7 +50,7 @@ pub fn row_exchanged()
         CutsItsText (replace_row k front (new ∷ []) (first_gap back (nth_part k c).end) c) }
 {}
 
-/// A cut, of which a row has another tail that fits, is a cut where the new text may stand.
+/// A cut, of which a row has another tail that fits, is a cut where the new text may be.
 #[tactic(auto, using(yq_row_table::proofs::splices::RowReplaced::tail_replaced))]
 pub fn tail_replaced()
     ensures { (t : List ℕ) (c : Cut) (k : ℕ) (front : List Row) (r : Row) (back : List Row)
@@ -59,8 +59,8 @@ pub fn tail_replaced()
         CutsItsText (replace_row k front (retail new r ∷ []) (first_gap back (nth_part k c).end) c) }
 {}
 
-/// Rows put in behind a row: what that row asks of the text behind it, and where the next row
-/// stands. Behind a tail with a break any text may stand.
+/// Rows put in after a row: what that row asks of the text after it, and where the next row
+/// is. After a tail with a break any text may be.
 #[tactic(auto, using(yq_row_table::proofs::splices::SpliceCases::inserted, yq_row_table::proofs::seams::FrontSeams::seams_line))]
 pub fn rows_inserted()
     ensures cut { (t : List ℕ) (c : Cut) (k i : ℕ) (new : List Row) (gap : List ℕ) → IsCut t c →
@@ -70,8 +70,8 @@ pub fn rows_inserted()
         ends_in_block front ≡ false → are_seamed front u ≡ true }
 {}
 
-/// A cut, from which rows are taken away, is a cut where a gap stands in their place, the next row
-/// may stand there, and behind a block scalar stands what ends it. So is the cut whose gap is
+/// A cut, from which rows are taken away, is a cut where a gap is in their place, the next row
+/// may be there, and after a block scalar is what ends it. So is the cut whose gap is
 /// repaired.
 #[tactic(auto, using(yq_row_table::proofs::splices::SpliceCases::removed, yq_row_table::proofs::splices::RemoveLaws::removed_repaired))]
 pub fn rows_removed()
@@ -82,7 +82,7 @@ pub fn rows_removed()
         CutsItsText (without_rows k i j kept c) }
 {}
 
-/// A row counted through all parts stands in one of them between other rows.
+/// A row counted through all parts is in one of them between other rows.
 #[tactic(auto, using(yq_row_table::proofs::splices::ContentPlaces::row_placed))]
 pub fn row_placed()
     ensures { (c : Cut) (i : ℕ) (r : Row) → slice_get (rows_of c) i ≡ Some r → RowPlace i r c }

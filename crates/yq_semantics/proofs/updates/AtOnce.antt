@@ -26,7 +26,7 @@ each_same s f g same i (child label n cs) h =
     ap (λ (k : NodeEdits). child_done k label n (each_at_once f (suc i) cs)) (node_edits_same (under (step_to i label) f) (under (step_to i label) g) (same (step_to i label) h.0))
     ∙ ap (child_done (under (step_to i label) g) label n) (each_same s f g same (suc i) cs h.1)
 
--- what is done at a child, and at what a step leads to behind it
+-- what is done at a child, and at what a step leads to after it
 abbrev at_rest : Step → (Label → Node → Children → Children) → Option NodeEdit → Label → Node → Children → Type 0
 at_rest s h d label m rest = at_child s h (child_by d label m rest) ≡ child_by d label m (at_child (further s) h rest)
 
@@ -92,7 +92,7 @@ entries_distinct : (cs : Children) → AreEntries cs → AreDistinct cs
 entries_distinct none h = tt
 entries_distinct (child label n cs) h = ((λ k e. subst (λ j. IsNew j cs) (same_Some _ _ (sym h.0.1 ∙ e)) h.0.2), entries_distinct cs h.1)
 
--- what is done at the first child and those behind it
+-- what is done at the first child and those after it
 abbrev first_done : NodeEdits → ℕ → Option (List ℕ) → List (List ℕ) → Option (List ℕ) → Node → Children → Children
 first_done f i o hc lc n rest = child_done (under (step_by i o) f) (record { key = o; head_comment = hc; line_comment = lc }) n rest
 

@@ -28,7 +28,7 @@ pub each_op : (doc : ℕ) (P : Changed → Type 0) (Q : Operation → Type 0) �
 each_op doc P Q so [] h = tt
 each_op doc P Q so (c ∷ cs) h = each_join Q (change_ops doc c) (ops_of doc cs) (so c h.0) (each_op doc P Q so cs h.1)
 
--- what two judgements give, one behind the other
+-- what two judgements give, one after the other
 pub joined_gives : {X : Type 0} (j k : Judgement (List X)) (xs : List X) → and_then (λ first. and_then (λ others. gives (first ++ others)) k) j ≡ gives xs →
     (first : List X) × (others : List X) × (j ≡ gives first) × (k ≡ gives others) × (first ++ others ≡ xs)
 joined_gives {X} j k xs h = search (rules, then_gives, gives_same)

@@ -33,7 +33,7 @@ named = scalar (Some (codes "x")) kinds.Int (codes "1")
 abbrev other : Node
 other = alias (codes "x")
 
--- what stands under two keys, and under one
+-- what is under two keys, and under one
 abbrev two : Node → Node → Node
 two n m = map None (entry (codes "a") n (entry (codes "b") m none))
 

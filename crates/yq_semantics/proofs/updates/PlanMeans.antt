@@ -74,7 +74,7 @@ from_means u rooms n (d ∷ ds) front css is ready h =
     ∙ (from_means u rooms (suc n) ds (front ++ new ∷ []) two.0 longer ready.1 two.1
     ∙ append_assoc front (new ∷ []) (all_changed rooms (suc n) two.0 ds))))
 
--- a plan comes of changes, where a comment's text may stand
+-- a plan comes of changes, where a comment's text may be
 pub plan_parts : (u : Update) (rooms : ℕ → Room) (docs : List Document) (ops : List Operation) → plan u rooms docs ≡ gives ops →
     (css : List (List Changed)) × (has_comment u ≡ true)
     × (changes_from u rooms 0 (roots_of docs) ≡ gives css) × (update_changes u rooms (roots_of docs) ≡ gives css) × (all_ops (is_removal u) 0 css ≡ ops)

@@ -1,4 +1,4 @@
--- What an update changes stands in order.
+-- What an update changes is in order.
 use Rattle.std.proofs.lemmas.Bool.{cases_Bool}
 use Rattle.std.proofs.Common.{◌≡◌, ◌≢◌, ℕ, Bool, true, List, [], ◌∷◌, ◌++◌, refl, sym, ap, subst, ◌∙◌, rules}
 use Rattle.yq_core.{specs.Tree.{Node, Children, none, child, children_of}, specs.PathOrder.Before, specs.Shapes.IsTree}
@@ -113,7 +113,7 @@ changes_ordered doc room root (assign left operator.Add right) ps cs a h = with_
 changes_ordered doc room root (delete left) ps cs a h = at_ordered root IsGone remove_at remove_so ps cs a h
 changes_ordered doc room root (comment left place text) ps cs a h = at_ordered root IsSaid (comment_at room place text) (say_so room place text) ps cs a h
 
--- what an update changes in a tree stands in order, and is of its kind
+-- what an update changes in a tree is in order, and is of its kind
 pub update_kind : (u : Update) (doc : ℕ) (room : Room) (root : Node) (cs : List Changed) → IsTree root → changes_in u doc room root ≡ gives cs → InOrder (IsOf u) cs
 update_kind u doc room root cs tree h =
     let x = then_gives (changes_at doc room root u) (places doc (left_pipe u) root) cs h in
@@ -123,7 +123,7 @@ update_kind u doc room root cs tree h =
 abbrev pub AreOrdered : Bool → List Changed → Type 0
 AreOrdered removal cs = InPairs Before cs × MayFold removal cs
 
--- what an update changes in a tree stands in order
+-- what an update changes in a tree is in order
 pub update_ordered : (u : Update) (doc : ℕ) (room : Room) (root : Node) (cs : List Changed) → IsTree root → changes_in u doc room root ≡ gives cs → AreOrdered (is_removal u) cs
 update_ordered u doc room root cs tree h = let k = update_kind u doc room root cs tree h in (k.0, of_may_fold u cs k.1)
 

@@ -25,7 +25,7 @@ items_are (v ∷ vs) = (refl, items_are vs)
 own_key : (o : Option (List ℕ)) (k : List ℕ) → o ≡ Some k → Some (key_or_empty o) ≡ o
 own_key o k h = ap (λ (x : Option (List ℕ)). Some (key_or_empty x)) h ∙ sym h
 
--- copies of an entry and of those behind it
+-- copies of an entry and of those after it
 abbrev First : Label → Node → Children → List (List ℕ × Node) → Type 0
 First label n cs es = (v : Node) × (rest : List (List ℕ × Node)) × (copy n ≡ gives v) × (entry_copies cs ≡ gives rest) × ((keyed label.key v ∷ rest) ≡ es)
 

@@ -1,4 +1,4 @@
--- What is done spares a path: it is apart from it, and what goes stands behind.
+-- What is done spares a path: it is apart from it, and what goes comes after.
 use Rattle.std.proofs.Common.{◌≡◌, ℕ, suc, ◌<◌, List, [], ◌∷◌, Option, Some, None, refl, ap, ◌∙◌, inl, inr, rules}
 use Rattle.yq_core.{specs.Tree.{Label, Node, list, Children, none, child, map}, specs.Paths.{Nth, Step}, specs.PathOrder.{Before, Apart}}
 use Rattle.yq_semantics.specs.NodeEdits.{step_to, NodeEdit, line, head, goes, NodeEdits, under, done_at, child_by, node_edit_inside}
@@ -9,7 +9,7 @@ use Rattle.yq_semantics.proofs.PathLaws.{before_not_in, before_under, apart_unde
 pub node_edits_same : (f g : NodeEdits) → ((q : List Step) → f q ≡ g q) → f ≡ g
 node_edits_same f g h = λ i q. h q i
 
--- What is done at a child leaves a child with the same key in front of those behind it, or these alone: so is what is so of both.
+-- What is done at a child leaves a child with the same key in front of those after it, or these alone: so is what is so of both.
 pub child_kept_or_gone : (P : (Children → Children) → Type 0) (d : Option NodeEdit) (label : Label) (m : Node) →
     ((hc : List (List ℕ)) (lc : Option (List ℕ)) → P (λ rest. child (record { key = label.key; head_comment = hc; line_comment = lc }) m rest)) → (d ≡ Some goes → P (λ rest. rest)) → P (λ rest. child_by d label m rest)
 child_kept_or_gone P (Some (line text)) label m kept gone = kept label.head_comment text
@@ -42,7 +42,7 @@ pub spares_root : (f : NodeEdits) (p : List Step) → Spares f p → f [] ≡ No
 spares_root f [] h = nothing (f []) [] [] (apart_root []) (h [])
 spares_root f (s ∷ p) h = nothing (f []) (s ∷ p) [] (apart_not_in s p) (h [])
 
--- an item that goes stands behind
+-- an item that goes comes after
 pub spares_behind : (m i : ℕ) (p : List Step) → Before (Nth m ∷ p) (Nth i ∷ []) → m < i
 spares_behind m i p (inl h) = h
 spares_behind m i p (inr h) = absurd (before_not_in p h.1)

@@ -92,7 +92,7 @@ fn check_first<R: Files<File = File> + Clock + Alloc<A = Global>>(
 }
 
 /// Replaces the file to which this name led, by one with the owner, the group and the mode of the open
-/// one, whatever stands at its path by now; only what is no regular file is not written over. Keeps the lock.
+/// one, whatever is at its path by now; only what is no regular file is not written over. Keeps the lock.
 pub fn write_own<R: Files<File = File> + RandomSource + Clock + Env + Alloc<A = Global>>(
     rt: &R,
     edited: &mut EditedFile,

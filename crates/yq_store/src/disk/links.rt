@@ -18,7 +18,7 @@ const PROCESSES: &str = "/proc";
 /// Where a name leads through its symbolic links.
 #[derive(Drop)]
 pub struct Target {
-    /// The path behind the last link, whether or not a file is there.
+    /// The path after the last link, whether or not a file is there.
     pub path: PathBuf,
     /// Who made the links on the way, of which the first is the name.
     pub makers: Vec<Maker>,
@@ -34,7 +34,7 @@ fn device_of_processes<R: Files>(rt: &R) -> Option<u64> {
     }
 }
 
-/// What stands at a path, where anything does: a link itself, and not what it leads to. At a path through
+/// What is at a path, where anything does: a link itself, and not what it leads to. At a path through
 /// a file that is no folder nothing is, and one through the files that tell of processes, on this device,
 /// is refused.
 fn found_at<R: Files>(
@@ -82,7 +82,7 @@ pub fn target_of<R: Files + Alloc<A = Global>>(rt: &R, name: &str) -> io::Result
     Err(io::Error::from(ErrorKind::FilesystemLoop))
 }
 
-/// The folder in which the last name of a path stands.
+/// The folder in which the last name of a path is.
 pub fn folder_of(path: &PathBuf) -> &str {
     match path.parent() {
         Some(folder) if !folder.as_str().is_empty() => folder.as_str(),

@@ -11,7 +11,7 @@ use std::rt::{Env, Files};
 use std::time::{Clock, Duration};
 use std::{env, io, thread};
 
-/// How many tries for a lock may fail: with a pause behind each, a minute long.
+/// How many tries for a lock may fail: with a pause after each, a minute long.
 const MOST_TRIES: u32 = 12_000;
 
 /// After how many of them a run tells for what it waits: about a second.

@@ -7,7 +7,7 @@ use std::path::PathBuf;
 use std::rt::Files;
 use std::{fs, io};
 
-/// An open file, and the path at which it stands.
+/// An open file, and the path at which it is.
 #[derive(Drop)]
 pub struct OpenedFile {
     pub path: PathBuf,
@@ -39,7 +39,7 @@ fn open_path<R: Files>(rt: &R, path: &str, writes: bool) -> io::Result<(R::File,
 }
 
 /// Opens the file that was found at the path to which a name leads, and gives whether it is open for
-/// writing; nothing where another file was opened, since what stands at the path was exchanged. What is
+/// writing; nothing where another file was opened, since what is at the path was exchanged. What is
 /// no regular file, such as a folder, a device or a pipe, isn't opened. The system is asked for the name
 /// as it was given, too: it may refuse to follow a stranger's link.
 pub fn open_found<R: Files<File = File>>(

@@ -1,4 +1,4 @@
-//! What may not be replaced, told before anything is written.
+//! What may not be replaced, found before anything is written.
 
 use crate::disk::links::{Target, folder_of};
 use crate::disk::opening::open_found;
@@ -16,7 +16,7 @@ use std::{fs, io};
 /// What is written before the number of a mount in what the system tells of an open file.
 const MOUNT: &str = "mnt_id:";
 
-/// The number of a mount in what the system tells of an open file, where it is told.
+/// The number of a mount in what the system tells of an open file, where it is reported.
 fn mount_in(info: Vec<u8>) -> Option<u64> {
     for line in std::str::from_utf8(&info).unwrap_or("").lines() {
         if let Some(number) = line.strip_prefix(MOUNT) {

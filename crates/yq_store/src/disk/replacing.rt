@@ -44,7 +44,7 @@ fn is_synced(folder: &File) -> bool {
 
 /// Replaces the file at a path, or makes it, with these rights, and gives the new file, which is
 /// locked if that is asked for. After a failure the path has its old bytes, but for a failure to
-/// write the folder out to the disk, which comes last: then it has the new ones. Want of memory is told
+/// write the folder out to the disk, which comes last: then it has the new ones. Want of memory is reported
 /// as such only before anything is written.
 pub fn replace_file<R: Files<File = File> + RandomSource + Env + Alloc<A = Global>>(
     rt: &R,

@@ -21,7 +21,7 @@ const PRIVATE: u32 = 0o600;
 /// How many hexadecimal digits end the name of a temporary file.
 const DIGITS: usize = 16;
 
-/// How many bytes of a file's name stand in that of its temporary files: with the rest they are 255,
+/// How many bytes of a file's name are in that of its temporary files: with the rest they are 255,
 /// the most that a name may have.
 const MOST_OF_NAME: usize = 234;
 

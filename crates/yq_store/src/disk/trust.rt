@@ -1,4 +1,4 @@
-//! Whose journals are believed, and who may replace files.
+//! Whose journals are believed, and which users may replace files.
 ghost use Rattle.std.specs.Prelude.{◌≡◌};
 ghost use Rattle.yq_store.specs.Trust as spec;
 

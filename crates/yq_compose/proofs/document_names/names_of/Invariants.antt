@@ -3,7 +3,7 @@ use Rattle.yq_outline.{specs.Names.line_names, specs.Lines.lines_of_rows}
 use Rattle.yq_compose.{specs.Ahead.IsAhead, specs.Checking.IsChecked, specs.Named.all_named}
 use Rattle.yq_compose.proofs.document_names.names_of.Given as goal
 
--- the names so far stand before those from here on, and what is made of a row that is no later is at hand
+-- the names so far come before those from here on, and what is made of a row that is no later is at hand
 abbrev pub invariant-rows : goal.invariant-rows
 invariant-rows l = record {
   ahead : (k : IsChecked l.x) → (n : ℕ) × (n ≤ l.i) × IsAhead l.x.decoded.now n l.decoded;

@@ -9,6 +9,3 @@ entries_fault-returns-then-not-are_distinct-clause-sound t c =
 pub entries_fault-returns-clause-sound : goal.entries_fault-returns-clause-sound
 entries_fault-returns-clause-sound t c =
     sym (entries_left c.args.depth c.each.entry-index c.deref-entry-items.result.now (map (λ k. k.now) c.each.keys.items) _ _ (omega (arith, c.each-test.false)) c.each.invariant (rw c.as_mut_slice.ensures.value at c.if-not-are_distinct.ensures))
-
-pub entries_fault-returns-then-not-are_distinct-clause-fault : goal.entries_fault-returns-then-not-are_distinct-clause-fault
-entries_fault-returns-then-not-are_distinct-clause-fault t c = c.fault_at.ensures

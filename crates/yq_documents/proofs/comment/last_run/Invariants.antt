@@ -4,7 +4,7 @@ use Rattle.yq_documents.proofs.RunLaws.{run_or}
 use Rattle.yq_documents.specs.Pieces as pieces
 use Rattle.yq_documents.proofs.comment.last_run.Given as goal
 
--- the run is what stands here, if the lines behind it are comments
+-- the run is what is here, if the lines after it are comments
 abbrev pub invariant-lines : goal.invariant-lines
 invariant-lines l = record {
   run_text : IsUtf8 l.run;

@@ -10,7 +10,7 @@ returns-then-begins_row c = sym (row_gap c.args.text.now (sym c.begins_row.ensur
 pub returns-then-begins_row-2 : goal.returns-then-begins_row-2
 returns-then-begins_row-2 c = sym (indented_gap c.args.text.now c.split_at.result.1.now c.spaces_len.result c.spaces_len.ensures.value c.split_at.ensures.back (sym c.begins_row-2.ensures ∙ c.if-begins_row-2.true))
 
--- a text that isn't empty begins a gap by what stands behind its white space
+-- a text that isn't empty begins a gap by what comes after its white space
 gap_by : (t u w : List ℕ) (n : ℕ) → (length t == 0) ≡ false → n ≡ prefix_len (λ b. b == 32) t → u ≡ drop n t → w ≡ past_white u → begins_gap t ≡ (ends_line w || is_hash w)
 gap_by [] u w n some spaces back past = absurd (false≢true (sym some))
 gap_by (b ∷ bs) u w n some spaces back past = ap (λ (l : List ℕ). ends_line l || is_hash l) (behind_spaces (b ∷ bs) u n spaces back ∙ sym past)

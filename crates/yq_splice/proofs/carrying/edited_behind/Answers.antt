@@ -1,7 +1,7 @@
 use Rattle.std.proofs.Common.{◌≡◌, List, [], ◌∷◌, ◌++◌, length, refl, sym, ◌∙◌, eqb-true, arith}
 use Rattle.yq_splice.proofs.carrying.edited_behind.Goals as goal
 
--- what stands behind nothing
+-- what comes after nothing
 behind_nothing : {A : Type 0} (xs ys : List A) → length xs ≡ 0 → ys ≡ xs ++ ys
 behind_nothing [] ys e = refl
 behind_nothing (x ∷ xs) ys e = absurd (omega (arith, e))

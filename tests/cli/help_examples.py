@@ -4,7 +4,7 @@ import os
 import re
 import subprocess
 
-from guides import man_page, section
+from docs_agree import man_page, section
 from harness import SECONDS, equal
 from pages import shell
 

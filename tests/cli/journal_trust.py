@@ -3,7 +3,7 @@
 import os
 
 from harness import NOBODY, as_nobody, as_user, each_user, equal
-from strangers import EMPTY, ONE, RECORDED, SOME_GROUP, is_believed, is_refused, put, told
+from other_users import EMPTY, ONE, RECORDED, SOME_GROUP, is_believed, is_refused, put, told
 
 
 def check_a_journal_that_others_may_write_is_not_believed(folder):
