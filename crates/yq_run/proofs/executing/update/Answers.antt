@@ -37,7 +37,7 @@ returns g c =
           matched_as _ c.edit_from.result _ _ _ e.expected
           (effect_expected c.args.options c.args.expr.now c.in_ok-text.text.items (program_edits (program_of c.in_ok-program.program) c.in_ok-text.text.items) c.in_ok-text.state
           ∙ ap (works_as_expected c.args.options.expect_change) (sym (c.in_ok-text.ensures.found keeps does))
-          ∙ ap (λ q. works_as_expected c.args.options.expect_change (update_effect c.args.expr.now q _ _)) (sym c.in_ok-program.ensures.ok));
+          ∙ ap (λ q. works_as_expected c.args.options.expect_change (update_effect c.args.expr.now q (get (g.D.Store.content c.args.store.now) c.args.file.now) (get (g.D.Store.content c.args.store.now) c.args.journal.now))) (sym c.in_ok-program.ensures.ok));
       unasked = e.unasked;
       unparsed = parsed_free c.edit_from.result c.args.expr.now (program_of c.in_ok-program.program) c.in_ok-program.ensures.ok;
       kept = λ keeps. subst (λ m. IfErr c.edit_from.result (λ y. is_outer_fault y ≡ false → g.D.Store.content c.edit_from.new.store ≡ m)) (o.same keeps) (e.kept keeps);
