@@ -1,9 +1,8 @@
 -- Names that are made of paths.
-use Rattle.std.proofs.Common.{◌≡◌, ◌≢◌, ◌∙◌, ◌++◌, ◌∷◌, ◌<◌, ◌≤◌, ◌==◌, ◌&&◌, ℕ, suc, Bool, true, false, not, if◌then◌else◌, List, [], inl}
-use Rattle.std.proofs.Common.{inr, length, get_or, codes, drop, flat_map, encode_utf8, encode_utf8_all, append-nil, append_assoc, refl, sym}
-use Rattle.std.{proofs.Common.{ap, ap₂, arith}, proofs.lemmas.Bool.{and_from, cases_eq, cases_lt, ne_eqb}}
+use Rattle.std.proofs.Common.{◌≡◌, ◌≢◌, ◌∙◌, ◌++◌, ◌∷◌, ◌<◌, ◌≤◌, ◌==◌, ◌&&◌, ℕ, suc, true, not, if◌then◌else◌, List, [], inl, inr, length}
+use Rattle.std.proofs.Common.{get_or, codes, drop, flat_map, encode_utf8, encode_utf8_all, append-nil, append_assoc, refl, sym, ap, ap₂}
+use Rattle.std.{proofs.Common.{arith, Result, Ok, Err, OnOk, is_ok}, proofs.lemmas.Bool.{and_from, cases_eq, cases_lt, ne_eqb}}
 use Rattle.std.{proofs.lemmas.Str.{encode_ascii, inside_one}, proofs.lemmas.List.{append_cancel_left, append_cancel_right}}
-use Rattle.std.specs.List.{list_all}
 use Rattle.yq_args.specs.JournalNames.{escaped_byte, escaped_path, name_of_path, journal_in_folder, is_one_name}
 
 -- ---- characters
@@ -27,6 +26,11 @@ other_char c no_percent no_slash = elim (cases_lt c 128) [
     | inr h ↦ h
   ]))
 ]
+
+-- a character that was pushed, as it is in a name
+pub pushed : {T E : Type 0} (r : Result T E) (new old l m : List ℕ) → new ≡ (if is_ok r then old ++ l else old) → l ≡ m → OnOk r (new ≡ old ++ m)
+pushed (Ok v) new old l m is same = is ∙ ap (λ x. old ++ x) same
+pushed (Err e) new old l m is same = tt
 
 escaped_append : (xs ys : List ℕ) → escaped_path (xs ++ ys) ≡ escaped_path xs ++ escaped_path ys
 escaped_append [] ys = refl

@@ -6,7 +6,7 @@ use Rattle.yq_semantics.specs.Program.{Program}
 use Rattle.yq_journal.{specs.declared.moves.Move.Move, specs.Good.{Good, journal_beside}, specs.History.History}
 use Rattle.yq_journal.specs.Refusals.{most_records, no_way, squash_fault}
 use Rattle.yq_journal.specs.State.{State, journal_after, moved_text, with_move, settled_beside, squashed}
-use Rattle.yq_commands.{specs.declared.answer.Answer.Answer, specs.declared.answer.Answer.TheVariants.Refused}
+use Rattle.yq_commands.specs.declared.answer.Answer.{Answer}
 use Rattle.yq_commands.specs.Editing.{EditOutcome, unreadable, refused, edited, program_edits, program_in}
 use Rattle.yq_commands.specs.CommandEffects.{edit_effect, edit_writes, update_effect, OfEffect, IsListing, IsUnparsed, expression_fault}
 use Rattle.yq_commands.{specs.FileEdits.HasEdited, specs.Edits.edit_record, specs.CommandNames.{IsOn, IsNotNamed}}
