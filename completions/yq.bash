@@ -4,7 +4,7 @@
 # The table of options: begin.
 _yq_commands='eval undo redo history squash'
 _yq_options='--journal -h --help'
-_yq_eval_options='-i --inplace -e --exit-status -N --no-doc --text'
+_yq_eval_options='-i --inplace -e --exit-status -N --no-doc --expect-change --text'
 # The table of options: end.
 
 # The words up to the cursor, a line each. Bash cuts a word at = and : and the like; here it is whole, as the line has it.

@@ -156,6 +156,7 @@ def run_all(modules, readers, argv):
     if len(argv) < 2 or not os.access(argv[1], os.X_OK):
         print("no program to run", file=sys.stderr)
         return 1
+    os.environ.pop("YQ_JOURNALS", None)
     wanted = argv[2] if len(argv) > 2 else ""
     tally = Tally()
     with tempfile.TemporaryDirectory(prefix="yq-cli-") as top:

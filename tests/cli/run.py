@@ -25,6 +25,7 @@ import fault_injection
 import forms
 import help_examples
 import installing
+import journal_folder
 import journal_trust
 import limits
 import links
@@ -46,7 +47,7 @@ from tables import run_tables
 
 CHECKS = [
     edits, arguments, help_examples, completions, docs_agree, compared, installing, failures, links, lists, owners,
-    other_users, journal_trust, swaps, temp_files, limits, stacks, slow_texts, disks, containers, reads, shells,
+    other_users, journal_folder, journal_trust, swaps, temp_files, limits, stacks, slow_texts, disks, containers, reads, shells,
     random_edits, forms, mutations, concurrency, external_writes, fault_injection, memory,
 ]
 

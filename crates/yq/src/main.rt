@@ -2,6 +2,7 @@
 #![tactic(auto)]
 
 mod counted_out;
+mod folder;
 mod hint;
 mod program;
 

@@ -1,6 +1,7 @@
 //! The program's words, carried out over real files and standard output.
 
 use crate::counted_out::CountedOut;
+use crate::folder::WithFolder;
 use crate::hint::Hint;
 use std::io::IsTerminal;
 use std::slice;
@@ -11,16 +12,17 @@ use yq_store::DiskStore;
 
 /// The answer to a command whose output goes to `out`, and what is reported beside it.
 fn answer_to(rt: &HostRuntime, out: &mut CountedOut<'_>) -> Result<(Answer, Option<Hint>), Fault> {
-    let command = asked_command(rt)?;
+    let (command, folder) = asked_command(rt)?;
     if let Command::Help = command {
         put_help(rt, out)?;
         return Ok((Answer::Done, None));
     }
     let on_terminal = rt.stderr().is_terminal();
     let (file, purpose) = purpose_of(&command);
-    let mut store = DiskStore::new(rt, file, purpose).reporting(on_terminal);
+    let files = DiskStore::new(rt, file, purpose).reporting(on_terminal);
+    let mut store = WithFolder::new(rt, files, file, folder);
     let answers = run_list(rt.alloc(), &mut store, out, slice::from_ref(&command))?;
-    let hint = match (store.hint(), &command) {
+    let hint = match (store.files().hint(), &command) {
         (Some(hint), _) => Some(Hint::Journal(hint)),
         (None, Command::History { .. }) if on_terminal => Hint::of_records(out.lines()),
         (None, _) => None,

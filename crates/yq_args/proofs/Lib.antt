@@ -4,5 +4,6 @@ pub mod ClapLevel
 pub mod ClapWalk
 pub mod Counts
 pub mod AskedLaws
+pub mod JournalNameLaws
 pub mod LineLaws
 pub mod WordsFound

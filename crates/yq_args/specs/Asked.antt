@@ -56,6 +56,7 @@ pub record HasNames (rows : List Row) (file journal : Text) : Type 0 where
 pub record HasOptions (rows : List Row) (options : EvalOptions) : Type 0 where
   pub exit_status : IsSwitch (one_of (codes "exit-status") rows) options.exit_status
   pub no_doc : IsSwitch (one_of (codes "no-doc") rows) options.no_doc
+  pub expect_change : IsSwitch (one_of (codes "expect-change") rows) options.expect_change
 
 -- the command's word is this one, and what comes after it has this property
 abbrev pub CommandIs : Text → (List Row → Type 0) → Option (Text × List Row) → Type 0
@@ -116,6 +117,11 @@ finds (Some found) = passes found.0 found.1
 abbrev pub IsNotTaken : List Text → WordsError → Type 0
 IsNotTaken full fault =
     (fault ≡ OutOfMemory) ⊎ ((is_usage fault ≡ true) × (takes yq full ≡ true → finds (subcommand_of yq full) ≡ false))
+
+-- the words name a journal
+abbrev pub names_journal : Option (Text × List Row) → Bool
+names_journal None = false
+names_journal (Some found) = is_some (first_of (codes "journal") found.1)
 
 -- the program's own checks of the texts that clap finds: FILE isn't `-`, the journal has another name, and N is a number of 64 bits
 abbrev pub checks : List Row → Bool

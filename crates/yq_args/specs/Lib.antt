@@ -1,4 +1,6 @@
 pub mod Asked
+pub mod JournalNames
+pub mod OtherJournal
 pub mod Line
 pub mod Parts
 pub mod Setting

@@ -19,6 +19,10 @@ text_option = record (new_rule (codes "text")) { long = Some (codes "text") }
 abbrev pub switch : List ℕ → ℕ → Rule
 switch id short = record (new_rule id) { short = Some short; long = Some id; action = Some SetTrue }
 
+-- an option without a value, and without a letter
+abbrev pub long_switch : List ℕ → Rule
+long_switch id = record (new_rule id) { long = Some id; action = Some SetTrue }
+
 -- a command with `[--journal PATH] FILE`
 abbrev pub file_command : List ℕ → App
 file_command name = with_rule (with_rule (new_app name) journal_option) (positional (codes "file"))
@@ -29,11 +33,15 @@ squash_command =
     with_rule (with_rule (with_rule (new_app (codes "squash")) journal_option) (positional (codes "n"))) (positional (codes "file"))
 
 -- the command `eval` with `-i`, `-e` and `-N`
-abbrev pub switches_command : App
-switches_command =
+abbrev pub lettered_command : App
+lettered_command =
     with_rule (with_rule (with_rule (new_app (codes "eval")) (switch (codes "inplace") 105)) (switch (codes "exit-status") 101)) (switch (codes "no-doc") 78)
 
--- the command `eval [-i] [-e] [-N] [--journal PATH] [--text TEXT] EXPR FILE`
+-- the same with all options that have no value
+abbrev pub switches_command : App
+switches_command = with_rule lettered_command (long_switch (codes "expect-change"))
+
+-- the command `eval [-i] [-e] [-N] [--expect-change] [--journal PATH] [--text TEXT] EXPR FILE`
 abbrev pub eval_command : App
 eval_command =
     with_rule (with_rule (with_rule (with_rule switches_command journal_option) text_option) (positional (codes "expr"))) (positional (codes "file"))

@@ -2,16 +2,17 @@
 use Rattle.std.specs.Prelude.{List, [], ◌∷◌, codes}
 use Rattle.clap.specs.Words.{App, Rule, with_rule, with_subcommand}
 use Rattle.yq_args.specs.declared.line.Argument.{Argument}
-use Rattle.yq_args.specs.declared.line.Argument.TheVariants.{Inplace, ExitStatus, NoDoc, Journal, Text, Expr, Count, File}
+use Rattle.yq_args.specs.declared.line.Argument.TheVariants.{Inplace, ExitStatus, NoDoc, ExpectChange, Journal, Text, Expr, Count, File}
 use Rattle.yq_args.specs.declared.line.SubCommand.{SubCommand}
 use Rattle.yq_args.specs.declared.line.SubCommand.TheVariants.{Eval, Undo, Redo, History, Squash}
-use Rattle.yq_args.specs.Line.{positional, journal_option, text_option, switch, file_command, squash_command, eval_command}
+use Rattle.yq_args.specs.Line.{positional, journal_option, text_option, switch, long_switch, file_command, squash_command, eval_command}
 
 -- the rule of an argument
 abbrev pub argument_rule : Argument → Rule
 argument_rule Inplace = switch (codes "inplace") 105
 argument_rule ExitStatus = switch (codes "exit-status") 101
 argument_rule NoDoc = switch (codes "no-doc") 78
+argument_rule ExpectChange = long_switch (codes "expect-change")
 argument_rule Journal = journal_option
 argument_rule Text = text_option
 argument_rule Expr = positional (codes "expr")

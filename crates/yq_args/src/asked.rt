@@ -1,6 +1,6 @@
 //! What the words of a command ask for.
-ghost use Rattle.std.specs.Prelude.{◌≡◌, ◌≢◌, ◌⊎◌, ◌++◌, Bool, Option, List, ℕ, Ok, IfOk, IfErr, codes, false, true, map, Some, None};
-ghost use Rattle.std.{specs.Prelude.option_map, specs.String.string_bytes};
+ghost use Rattle.std.specs.Prelude.{◌≡◌, ◌≢◌, ◌⊎◌, ◌++◌, Bool, Option, List, ℕ, Ok, IfOk, IfErr, codes, false, true, is_some, map, Some};
+ghost use Rattle.std.{specs.Prelude.{None, option_map}, specs.String.string_bytes};
 ghost use Rattle.clap.specs.Words.{first_of, one_of, rows_of, found_of};
 ghost use Rattle.yq_args.specs.declared.command.Command.TheVariants.{Help};
 ghost use Rattle.yq_args.specs.Asked as spec;
@@ -47,6 +47,13 @@ fn journal_name(alloc: Global, option: Option<&str>, file: &str) -> Result<Strin
     }
 }
 
+/// Whether a journal is named.
+pub fn has_journal(matches: &ArgMatches) -> bool
+    ensures { result ≡ is_some (first_of (codes "journal") (rows_of (found_of matches.now))) }
+{
+    text_of(matches, "journal").is_some()
+}
+
 /// The names of the file and of its journal.
 fn names_of(alloc: Global, matches: &ArgMatches) -> Result<(String, String), WordsError>
     ensures ok { IfOk result (λ names. spec.HasNames (rows_of (found_of matches.now))
@@ -76,6 +83,7 @@ fn options_of(matches: &ArgMatches) -> EvalOptions
     EvalOptions {
         exit_status: switch_of(matches, "exit-status"),
         no_doc: switch_of(matches, "no-doc"),
+        expect_change: switch_of(matches, "expect-change"),
     }
 }
 

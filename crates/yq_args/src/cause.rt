@@ -13,4 +13,10 @@ pub enum UsageCause {
     JournalIsFile,
     /// N is no number of 64 bits.
     BadCount,
+    /// The folder of journals has no absolute path in UTF-8.
+    JournalFolder,
+    /// The name of the journal in the folder of journals would be too long.
+    LongJournalName,
+    /// The path of FILE isn't had, or isn't UTF-8, and the journal's name would be made of it.
+    FilePath,
 }

@@ -1,6 +1,8 @@
 //! Commands.
+ghost use Rattle.std.specs.Prelude.{◌≡◌, IfOk, IfErr, string_bytes, true, false};
+ghost use Rattle.yq_args.specs.OtherJournal as spec;
 
-use crate::EvalOptions;
+use crate::{EvalOptions, UsageCause};
 
 /// What the words of a command line ask for. A command's journal has another name than its file.
 #[derive(Drop)]
@@ -36,4 +38,65 @@ pub enum Command {
     },
     /// Prints the help.
     Help,
+}
+
+impl Command {
+    /// Whether this is the name of the command's file.
+    fn names_file(&self, name: &str) -> bool
+        ensures { result ≡ spec.names_file self.now name.now }
+    {
+        match self {
+            Command::Eval { file, .. }
+            | Command::Undo { file, .. }
+            | Command::Redo { file, .. }
+            | Command::History { file, .. }
+            | Command::Squash { file, .. } => name == file.as_str(),
+            Command::Help => false,
+        }
+    }
+
+    /// The same command, with another journal; refused where that has the name of the file.
+    pub fn with_journal(self, journal: String) -> Result<Command, UsageCause>
+        ensures ok { IfOk result (λ c. c ≡ spec.with_journal self journal) }
+        ensures apart { IfOk result (λ c. spec.names_file self (string_bytes journal) ≡ false) }
+        ensures err { IfErr result (λ e. (e ≡ UsageCause.JournalIsFile) ×
+            (spec.names_file self (string_bytes journal) ≡ true)) }
+    {
+        if self.names_file(&journal) {
+            return Err(UsageCause::JournalIsFile);
+        }
+        match self {
+            Command::Eval {
+                expr,
+                file,
+                journal: _old,
+                in_place,
+                options,
+            } => Ok(Command::Eval {
+                expr,
+                file,
+                journal,
+                in_place,
+                options,
+            }),
+            Command::Undo {
+                file,
+                journal: _old,
+            } => Ok(Command::Undo { file, journal }),
+            Command::Redo {
+                file,
+                journal: _old,
+            } => Ok(Command::Redo { file, journal }),
+            Command::History {
+                file,
+                journal: _old,
+            } => Ok(Command::History { file, journal }),
+            Command::Squash {
+                n,
+                file,
+                journal: _old,
+            } => Ok(Command::Squash { n, file, journal }),
+            Command::Help => Ok(Command::Help),
+        }
+    }
 }

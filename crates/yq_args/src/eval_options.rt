@@ -7,4 +7,6 @@ pub struct EvalOptions {
     pub exit_status: bool,
     /// `-N`: no marker is printed between documents.
     pub no_doc: bool,
+    /// `--expect-change`: an update is to change a byte.
+    pub expect_change: bool,
 }

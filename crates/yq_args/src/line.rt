@@ -18,6 +18,8 @@ enum Argument {
     ExitStatus,
     /// `-N`
     NoDoc,
+    /// `--expect-change`
+    ExpectChange,
     /// `--journal PATH`
     Journal,
     /// `--text TEXT`
@@ -59,6 +61,14 @@ fn switch<'a>(alloc: Global, id: &'a str, short: char) -> Arg<'a>
         .action(ArgAction::SetTrue)
 }
 
+/// An option without a value, and without a letter.
+fn long_switch<'a>(alloc: Global, id: &'a str) -> Arg<'a>
+    ensures rule { rule_of result ≡ spec.long_switch id.entry.now }
+    ensures local { result.global ≡ false }
+{
+    Arg::new(alloc, id).long(id).action(ArgAction::SetTrue)
+}
+
 /// An argument as `clap` has it.
 fn arg_of<'a>(alloc: Global, argument: Argument) -> Arg<'a>
     ensures rule { rule_of result ≡ argument_rule argument }
@@ -68,6 +78,7 @@ fn arg_of<'a>(alloc: Global, argument: Argument) -> Arg<'a>
         Argument::Inplace => switch(alloc, "inplace", 'i'),
         Argument::ExitStatus => switch(alloc, "exit-status", 'e'),
         Argument::NoDoc => switch(alloc, "no-doc", 'N'),
+        Argument::ExpectChange => long_switch(alloc, "expect-change"),
         Argument::Journal => Arg::new(alloc, "journal").long("journal"),
         Argument::Text => Arg::new(alloc, "text").long("text"),
         Argument::Expr => positional(alloc, "expr"),
@@ -87,6 +98,7 @@ fn parts_of<'a>(word: SubCommand) -> (&'a str, &'a [Argument])
                 Argument::Inplace,
                 Argument::ExitStatus,
                 Argument::NoDoc,
+                Argument::ExpectChange,
                 Argument::Journal,
                 Argument::Text,
                 Argument::Expr,

@@ -105,6 +105,17 @@ fn line_of<'w>(
             Some(found.names[0]),
             ", of the edits that are to be joined",
         ),
+        UsageCause::JournalFolder => ("YQ_JOURNALS is no absolute path in UTF-8", None, ""),
+        UsageCause::LongJournalName => (
+            "the journal's name in YQ_JOURNALS would be longer than 255 bytes: name one by '--journal PATH'",
+            None,
+            "",
+        ),
+        UsageCause::FilePath => (
+            "FILE's path isn't had, or isn't UTF-8, so its journal has no name in YQ_JOURNALS",
+            None,
+            "",
+        ),
         UsageCause::Words => line_of_words(command, is_named, is_file, found),
     }
 }

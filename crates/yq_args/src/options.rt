@@ -109,10 +109,11 @@ const FOREIGN: [ForeignOption; 19] = [
 ];
 
 /// The names of the program's own options, and what to do in place of one that is near.
-const OWN: [(&str, &str); 6] = [
+const OWN: [(&str, &str); 7] = [
     ("--inplace", ": did you mean '--inplace'?"),
     ("--exit-status", ": did you mean '--exit-status'?"),
     ("--no-doc", ": did you mean '--no-doc'?"),
+    ("--expect-change", ": did you mean '--expect-change'?"),
     ("--journal", ": did you mean '--journal'?"),
     ("--text", ": did you mean '--text'?"),
     ("--help", ": did you mean '--help'?"),
@@ -140,7 +141,7 @@ pub fn is_known(command: &str, option: &str) -> bool {
     }
     match option {
         "--help" => true,
-        "--inplace" | "--exit-status" | "--no-doc" => command == "eval",
+        "--inplace" | "--exit-status" | "--no-doc" | "--expect-change" => command == "eval",
         _ => {
             option.starts_with("--journal=") || (command == "eval" && option.starts_with("--text="))
         }

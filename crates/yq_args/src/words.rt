@@ -4,6 +4,7 @@ ghost use Rattle.clap.specs.Words.{IsAmong, fault_of, subcommand_of, takes};
 ghost use Rattle.yq_args.{specs.declared.command.Command.TheVariants.Help, specs.declared.words_error.WordsError.WordsError, specs.Line.yq};
 ghost use Rattle.yq_args.specs.Asked as spec;
 
+use crate::asked::has_journal;
 use crate::{Command, UsageCause, WordsError, command_in, matched, split_command};
 use clap::error::ErrorKind;
 use std::alloc::{AllocError, Global};
@@ -73,6 +74,22 @@ fn command_by(alloc: Global, full: &[&str], asked: bool) -> Result<Command, Word
         Ok(matches) => match matches.subcommand() {
             Some((name, found)) => command_in(alloc, name, found),
             None => Err(WordsError::Usage(UsageCause::Words)),
+        },
+    }
+}
+
+/// Whether words that `clap` takes name a journal.
+pub fn names_journal(alloc: Global, words: &[&str]) -> Result<bool, WordsError>
+    ensures { IfOk result (λ named. named ≡ spec.names_journal (subcommand_of yq
+        (spec.full_words (map (λ w. w.now) words.now)))) }
+{
+    let full = full_words(alloc, words)?;
+    match matched(alloc, &full) {
+        Err(e) if e.kind() == ErrorKind::OutOfMemory => Err(WordsError::OutOfMemory),
+        Err(_) => Err(WordsError::Usage(UsageCause::Words)),
+        Ok(matches) => match matches.subcommand() {
+            Some((_, found)) => Ok(has_journal(found)),
+            None => Ok(false),
         },
     }
 }

@@ -1,5 +1,5 @@
 -- What a command comes to, by the contract of the call that carries it out.
-use Rattle.std.{proofs.Common.{◌≡◌, ◌≢◌, ℕ, List, Option, Result, Ok, Err, OnOk, sym, ◌∙◌, subst}, specs.FinMap.get}
+use Rattle.std.{proofs.Common.{◌≡◌, ◌≢◌, ℕ, Bool, List, [], Option, Result, Ok, Err, OnOk, sym, ◌∙◌, subst}, specs.FinMap.get}
 use Rattle.yq_journal.{specs.State.State, specs.History.History}
 use Rattle.yq_history.{specs.declared.fault.Fault.Fault, specs.Causes.Cause, specs.Effects.{Effect, Works, from_names}}
 use Rattle.yq_history.{specs.Pair.{Arrives, GoodIn, OthersStay}, specs.Report.Report}
@@ -8,7 +8,8 @@ use Rattle.yq_store.specs.FileMap.{FileMap}
 use Rattle.yq_commands.{specs.CommandEffects.{IsListing, OfEffect, update_effect}, specs.CommandNames.{Differs, IsNotNamed, IsOn}}
 use Rattle.yq_commands.{specs.CommandSteps.{cause_of, next_of, update_cause, update_next}, specs.Editing.program_in}
 use Rattle.yq_commands.{specs.Evaluation.{cause_in, evaluated, report_in}, specs.FileEdits.{HasEdited, IsFileEdited, PrintsEdited}}
-use Rattle.yq_commands.specs.Prints.{report_of}
+use Rattle.yq_commands.{specs.Expecting.{ReportsExpected, report_edit, works_as_expected}, specs.Prints.report_of}
+use Rattle.yq_commands.proofs.ExpectingLaws.{report_silent, same_report}
 
 -- ---- what is promised of a command, clause by clause
 
@@ -26,6 +27,9 @@ ListsOn c r o x = (file journal : List ℕ) → IsOn file journal x → OnOk r (
 
 abbrev pub EditsOn : {T : Type 0} → FileMap → FileMap → Result T Fault → List ℕ → Command → Type 0
 EditsOn c d r o x = OnOk r (HasEdited x c d o)
+
+abbrev pub ExpectsOn : {T : Type 0} → FileMap → Result T Fault → Bool → Command → Type 0
+ExpectsOn c r m x = (file journal : List ℕ) → IsOn file journal x → ReportsExpected r m x c file journal
 
 abbrev pub OthersOn : FileMap → FileMap → Command → Type 0
 OthersOn c d x = (q : List ℕ) → IsNotNamed q x → get d q ≡ get c q
@@ -68,6 +72,21 @@ module _ (s t f j : List ℕ) (file_is : s ≡ f) (journal_is : t ≡ j) where
   update_edits c d (Ok v) e x is h = λ apart.
       subst (λ y. IsFileEdited y (get c f) (get d f)) is (subst (λ y. IsFileEdited e (get c y) (get d y)) file_is (h (λ same. apart (sym file_is ∙ same ∙ journal_is))))
   update_edits c d (Err q) e x is h = tt
+
+  pub update_expects : (c : FileMap) {T : Type 0} (r : Result T Fault) (m b : Bool) (e x : List ℕ) → e ≡ x →
+      OnOk r (m ≡ works_as_expected b (update_effect e (program_in e) (get c s) (get c t))) →
+      (file journal : List ℕ) → (f ≡ file) × (j ≡ journal) → OnOk r (m ≡ works_as_expected b (update_effect x (program_in x) (get c file) (get c journal)))
+  update_expects c r m b e x is h file journal on =
+      by_names (λ u v. OnOk r (m ≡ works_as_expected b (update_effect x (program_in x) (get c u) (get c v)))) file journal on
+      (subst (λ y. OnOk r (m ≡ works_as_expected b (update_effect y (program_in y) (get c s) (get c t)))) is h)
+
+  pub update_shows : (c : FileMap) {T : Type 0} (r : Result T Fault) (o : Report) (options : EvalOptions) (e x : List ℕ) → e ≡ x → o.printed ≡ [] →
+      ((h : Option History) → GoodIn c s t h → OnOk r (o.is_match ≡ (report_edit options (program_in e) h).is_match)) →
+      (file journal : List ℕ) → (f ≡ file) × (j ≡ journal) → (h : Option History) → GoodIn c file journal h → OnOk r (o ≡ report_edit options (program_in x) h)
+  update_shows c r o options e x is silent matched file journal on =
+      by_names (λ u v. (h : Option History) → GoodIn c u v h → OnOk r (o ≡ report_edit options (program_in x) h)) file journal on
+      (subst (λ y. (h : Option History) → GoodIn c s t h → OnOk r (o ≡ report_edit options (program_in y) h)) is
+      (λ h good. same_report r o (report_edit options (program_in e) h) (silent ∙ report_silent options (program_in e) h) (matched h good)))
 
 -- ---- by the name of a file, and the bytes of an expression that isn't carried out in place
 

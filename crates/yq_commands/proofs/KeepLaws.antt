@@ -6,12 +6,13 @@ use Rattle.yq_semantics.specs.Program.{Program}
 use Rattle.yq_journal.{specs.declared.moves.Move.Move, specs.Good.{Good, journal_beside}, specs.History.History}
 use Rattle.yq_journal.specs.Refusals.{most_records, no_way, squash_fault}
 use Rattle.yq_journal.specs.State.{State, journal_after, moved_text, with_move, settled_beside, squashed}
-use Rattle.yq_commands.{specs.declared.answer.Answer.Answer, specs.declared.answer.Answer.TheVariants.{Done, Refused}}
+use Rattle.yq_commands.specs.declared.answer.Answer.{Answer}
 use Rattle.yq_commands.specs.Editing.{EditOutcome, unreadable, refused, edited, program_edits, program_in}
 use Rattle.yq_commands.specs.CommandEffects.{edit_effect, edit_writes, update_effect, OfEffect, IsListing, IsUnparsed, expression_fault}
 use Rattle.yq_commands.{specs.FileEdits.HasEdited, specs.Edits.edit_record, specs.CommandNames.{IsOn, IsNotNamed}}
 use Rattle.yq_commands.specs.Lists.{answer_by, IsUnrelated, AllOnOrApart, Reply, IsAnswer, Goes, RunsAll, ReportsEffect, HasEffect, RunsTo}
-use Rattle.yq_commands.{specs.Lists.{Keeps, ReportsUnparsed, is_inner_refusal}, specs.Prints.{report_of, prints, reads_journal}}
+use Rattle.yq_commands.specs.Lists.{Keeps, ReportsUnparsed, is_accepted, is_inner_refusal}
+use Rattle.yq_commands.{specs.Expecting.{ReportsExpected, expects_change, works_as_expected}, specs.Prints.{report_of, prints}}
 use Rattle.yq_commands.{specs.CommandSteps.{cause_of, next_of}, proofs.ReplyLaws.{reply, reply-answer, reply-printed, no_refusal}}
 use Rattle.yq_commands.proofs.ListLaws.{arrived, not_true}
 use Rattle.yq_args.specs.declared.command.Command.{Command}
@@ -19,8 +20,8 @@ use Rattle.yq_args.specs.declared.command.Command.TheVariants.{Eval, Undo, Redo,
 use Rattle.yq_history.{specs.declared.fault.Fault.Fault, specs.Causes.named}
 use Rattle.yq_history.specs.Effects.{Effect, refuses, writes_nothing, writes_both, from_settled, from_journal, from_pair, leads_to, goes_to}
 use Rattle.yq_history.specs.Effects.{move_effect, joins_to, squash_effect, listing_effect, printed_by, Works}
-use Rattle.yq_history.{specs.Faults.{is_outer_fault, is_output}, specs.Pair.{GoodIn, Arrives}, specs.Report.{Report, nothing}}
-use Rattle.yq_history.{proofs.EffectLaws.on_ok, proofs.PairLaws.same_pair}
+use Rattle.yq_history.{specs.Faults.{is_outer_fault, is_output}, specs.Pair.{GoodIn, Arrives}, specs.Report.Report, proofs.EffectLaws.on_ok}
+use Rattle.yq_history.proofs.PairLaws.{same_pair}
 use Rattle.yq_store.specs.FileMap.{FileMap}
 use Rattle.yq_journal.specs.declared.moves.Move.TheVariants as move
 use Rattle.yq_history.specs.declared.fault.Fault.TheVariants as fault
@@ -89,31 +90,31 @@ reports_refused T (refuses z) f j c e y p = p
 reports_refused T (writes_nothing o) f j c e y p = p
 reports_refused T (writes_both u started s) f j c e y p = p
 
-module _ (x : Effect) (f j : List ℕ) (c e : FileMap) where
+module _ (b : Bool) (x : Effect) (f j : List ℕ) (c e : FileMap) where
   -- what an answer tells, with the bytes that are printed if it is one of those that print
   abbrev ReportsOf : Answer → List ℕ → Type 0
-  ReportsOf a o = ReportsEffect x f j c e (reply a o).answer (reply a o).printed
+  ReportsOf a o = ReportsEffect b x f j c e (reply a o).answer (reply a o).printed
 
-  reports_by : (m : Bool) (o : List ℕ) → m ≡ true → Works x f j c e {T = Unit {0}} (Ok tt) → o ≡ printed_by x → ReportsOf (answer_by m) o
-  reports_by true o is p q = (p, q)
-  reports_by false o is p q = cc
+  reports_by : (m : Bool) (o : List ℕ) → m ≡ works_as_expected b x → Works x f j c e {T = Unit {0}} (Ok tt) → o ≡ printed_by x → ReportsOf (answer_by m) o
+  reports_by true o is p q = (sym is, p, q)
+  reports_by false o is p q = (sym is, p, q)
 
   reports_each : {T : Type 0} (r : Result T Fault) (a : Answer) (s : Report) →
-      IsAnswer r a s → s.is_match ≡ true → IfErr r (λ y. is_output y ≡ false) → Works x f j c e r → OnOk r (s.printed ≡ printed_by x) → ReportsOf a s.printed
-  reports_each (Ok v) a s (inl is) matched no_output p o = subst (λ y. ReportsOf y s.printed) (sym is) (reports_by s.is_match s.printed matched (reports_done x f j c e v p) o)
-  reports_each (Ok v) a s (inr is) matched no_output p o = subst (λ y. ReportsOf y s.printed) (sym is.0) (tt, refl)
-  reports_each {T = T} (Err y) a s is matched no_output p o =
+      IsAnswer r a s → IfErr r (λ y. is_output y ≡ false) → Works x f j c e r → OnOk r (s.printed ≡ printed_by x) → OnOk r (s.is_match ≡ works_as_expected b x) → ReportsOf a s.printed
+  reports_each (Ok v) a s (inl is) no_output p o m = subst (λ y. ReportsOf y s.printed) (sym is) (reports_by s.is_match s.printed m (reports_done x f j c e v p) o)
+  reports_each (Ok v) a s (inr is) no_output p o m = subst (λ y. ReportsOf y s.printed) (sym is.0) (tt, refl)
+  reports_each {T = T} (Err y) a s is no_output p o m =
       subst (λ z. ReportsOf z s.printed) (sym is)
       (subst (λ b. MatchBool b (Unit {0}) (Works x f j c e {T = Unit {0}} (Err y))) (sym no_output) (reports_refused T x f j c e y p), refl)
 
 of_effect : (cmd : Command) (file journal : Option (List ℕ)) (P R Q : Effect → Type 0) →
-    (reads_journal cmd ≡ true → (x : Effect) → P x → R x → Q x) → OfEffect cmd file journal P → OfEffect cmd file journal R → OfEffect cmd file journal Q
-of_effect (Eval expr f j true options) file journal P R Q more p q = more refl (update_effect (string_bytes expr) (program_in (string_bytes expr)) file journal) p q
+    ((x : Effect) → P x → R x → Q x) → OfEffect cmd file journal P → OfEffect cmd file journal R → OfEffect cmd file journal Q
+of_effect (Eval expr f j true options) file journal P R Q more p q = more (update_effect (string_bytes expr) (program_in (string_bytes expr)) file journal) p q
 of_effect (Eval expr f j false options) file journal P R Q more p q = tt
-of_effect (Undo f j) file journal P R Q more p q = more refl (from_pair file journal (move_effect move.Undo)) p q
-of_effect (Redo f j) file journal P R Q more p q = more refl (from_pair file journal (move_effect move.Redo)) p q
-of_effect (Lists f j) file journal P R Q more p q = more refl (from_pair file journal listing_effect) p q
-of_effect (Squash n f j) file journal P R Q more p q = more refl (from_pair file journal (squash_effect n)) p q
+of_effect (Undo f j) file journal P R Q more p q = more (from_pair file journal (move_effect move.Undo)) p q
+of_effect (Redo f j) file journal P R Q more p q = more (from_pair file journal (move_effect move.Redo)) p q
+of_effect (Lists f j) file journal P R Q more p q = more (from_pair file journal listing_effect) p q
+of_effect (Squash n f j) file journal P R Q more p q = more (from_pair file journal (squash_effect n)) p q
 of_effect Help file journal P R Q more p q = tt
 
 -- ---- one command
@@ -125,8 +126,8 @@ pub record IsDone {T : Type 0} (c e : FileMap) (cmd : Command) (r : Result T Fau
   pub output : (f j : List ℕ) → IsOn f j cmd → (h : Option History) → GoodIn c f j h → OnOk r (s ≡ report_of cmd h)
   pub effect : (f j : List ℕ) → f ≢ j → IsOn f j cmd → OfEffect cmd (get c f) (get c j) (λ x. Works x f j c e r)
   pub listed : (f j : List ℕ) → IsOn f j cmd → OnOk r (IsListing cmd (get c f) (get c j) s.printed)
-  pub silent : prints cmd ≡ false → s ≡ nothing
-  pub matched : reads_journal cmd ≡ true → s.is_match ≡ true
+  pub silent : prints cmd ≡ false → s.printed ≡ []
+  pub expected : (f j : List ℕ) → IsOn f j cmd → ReportsExpected r s.is_match cmd c f j
   pub still : prints cmd ≡ true → e ≡ c
   pub kept : IfErr r (λ x. is_outer_fault x ≡ false → e ≡ c)
   pub others : (q : List ℕ) → IsNotNamed q cmd → get e q ≡ get c q
@@ -135,17 +136,17 @@ pub record IsDone {T : Type 0} (c e : FileMap) (cmd : Command) (r : Result T Fau
   pub unparsed : (f : Fault) → expression_fault cmd ≡ Some f → IsUnparsed f r
 
 -- a refusal from inside left the content
-kept_by : {T : Type 0} (c e : FileMap) (r : Result T Fault) (a : Answer) (s : Report) → IsAnswer r a s → s ≡ nothing → is_inner_refusal a ≡ true → IfErr r (λ x. is_outer_fault x ≡ false → e ≡ c) → e ≡ c
+kept_by : {T : Type 0} (c e : FileMap) (r : Result T Fault) (a : Answer) (s : Report) → IsAnswer r a s → s.printed ≡ [] → is_inner_refusal a ≡ true → IfErr r (λ x. is_outer_fault x ≡ false → e ≡ c) → e ≡ c
 kept_by c e (Ok v) a s (inl is) silent k same = let no : false ≡ true = sym (ap is_inner_refusal is ∙ no_refusal s.is_match) ∙ k in cc
-kept_by c e (Ok v) a s (inr is) silent k same = absurd (is.1 (ap (λ (x : Report). x.printed) silent))
+kept_by c e (Ok v) a s (inr is) silent k same = absurd (is.1 silent)
 kept_by c e (Err x) a s is silent k same = same (not_true (is_outer_fault x) (sym (ap is_inner_refusal is) ∙ k))
 
 -- what was accepted of an edit
 edited_by : {T : Type 0} (c e : FileMap) (cmd : Command) (r : Result T Fault) (a : Answer) (s : Report) → IsAnswer r a s → OnOk r (HasEdited cmd c e s.printed) →
-    (reply a s.printed).answer ≡ Done → HasEdited cmd c e (reply a s.printed).printed
+    is_accepted (reply a s.printed).answer ≡ true → HasEdited cmd c e (reply a s.printed).printed
 edited_by c e cmd (Ok v) a s (inl is) has done = subst (HasEdited cmd c e) (sym (ap (λ y. (reply y s.printed).printed) is ∙ reply-printed s.is_match s.printed)) has
-edited_by c e cmd (Ok v) a s (inr is) has done = let no : Refused fault.OutFailed ≡ Done = sym (reply-answer a s.printed ∙ is.0) ∙ done in cc
-edited_by c e cmd (Err x) a s is has done = let no : Refused x ≡ Done = sym (reply-answer a s.printed ∙ is) ∙ done in cc
+edited_by c e cmd (Ok v) a s (inr is) has done = let no : false ≡ true = sym (ap is_accepted (reply-answer a s.printed ∙ is.0)) ∙ done in cc
+edited_by c e cmd (Err x) a s is has done = let no : false ≡ true = sym (ap is_accepted (reply-answer a s.printed ∙ is)) ∙ done in cc
 
 -- the answer to an expression that is no program
 unparsed_by : {T : Type 0} (f : Fault) (r : Result T Fault) (a : Answer) (s : Report) → IsAnswer r a s → IsUnparsed f r → ReportsUnparsed f (reply a s.printed).answer
@@ -164,9 +165,12 @@ module _ {T : Type 0} (c e : FileMap) (cmd : Command) (r : Result T Fault) (a : 
 
   has_effect : HasEffect cmd (reply a s.printed) c e
   has_effect = λ f j apart on.
-      of_effect cmd (get c f) (get c j) (λ x. Works x f j c e r) (λ x. OnOk r (s.printed ≡ printed_by x)) (λ x. ReportsOf x f j c e a s.printed)
-      (λ reads x. reports_each x f j c e r a s k.answered (k.matched reads) k.no_output) (k.effect f j apart on)
-      (shows_effect cmd (get c f) (get c j) r s (λ p. ap (λ (x : Report). x.printed) (k.silent p)) (k.listed f j on))
+      let shown = λ (x : Effect). OnOk r (s.printed ≡ printed_by x) in
+      let matched = λ (x : Effect). OnOk r (s.is_match ≡ works_as_expected (expects_change cmd) x) in
+      of_effect cmd (get c f) (get c j) (λ x. Works x f j c e r) (λ x. shown x × matched x) (λ x. ReportsOf (expects_change cmd) x f j c e a s.printed)
+      (λ x works has. reports_each (expects_change cmd) x f j c e r a s k.answered k.no_output works has.0 has.1) (k.effect f j apart on)
+      (of_effect cmd (get c f) (get c j) shown matched (λ x. shown x × matched x) (λ x p q. (p, q))
+      (shows_effect cmd (get c f) (get c j) r s k.silent (k.listed f j on)) (k.expected f j on))
 
   -- what a command leaves
   pub left_by : RunsTo cmd (reply a s.printed) c e

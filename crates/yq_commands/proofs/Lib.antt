@@ -2,6 +2,7 @@ pub mod EditEffects
 pub mod EditLaws
 pub mod EditingLaws
 pub mod ExecuteLaws
+pub mod ExpectingLaws
 pub mod FileEditLaws
 pub mod OutcomeLaws
 pub mod ReadLaws

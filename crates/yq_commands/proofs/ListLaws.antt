@@ -10,7 +10,7 @@ use Rattle.yq_commands.{specs.declared.answer.Answer.Answer, specs.declared.answ
 use Rattle.yq_commands.specs.Editing.{EditOutcome, unreadable, refused, edited, program_edits, program_in}
 use Rattle.yq_commands.specs.Lists.{answer_by, Reply, answers_in, IsAnswer, CommandRefused, IsCarriedOut, RunsCommand, Goes, RunsAll}
 use Rattle.yq_commands.specs.Lists.{IsReply, GoesExactly, RunExactly, reports_failure, reports_output, count_passing, failures_in}
-use Rattle.yq_commands.{specs.Lists.{output_failures_in, is_memory, has_memory}, specs.Prints.report_of}
+use Rattle.yq_commands.{specs.Lists.{output_failures_in, is_memory, has_memory}, specs.Prints.report_of, proofs.ExpectingLaws.report_silent}
 use Rattle.yq_commands.{specs.CommandSteps.{cause_of, next_of, edit_cause, edit_next, update_cause, update_next}, proofs.ReplyLaws.reply}
 use Rattle.yq_args.specs.declared.command.Command.{Command}
 use Rattle.yq_args.specs.declared.command.Command.TheVariants.{Eval, Undo, Redo, History as Lists, Squash, Help}
@@ -23,7 +23,8 @@ use Rattle.yq_history.specs.declared.fault.Fault.TheVariants as fault
 
 -- a command that prints leaves its history
 printing_stays : (c : Command) (h : Option History) → (report_of c h).printed ≢ [] → next_of c h ≡ h
-printing_stays (Eval expr file journal true options) h some = absurd (some refl)
+printing_stays (Eval expr file journal true options) h some =
+    absurd (some (sym (report_silent options (program_in (string_bytes expr)) h)))
 printing_stays (Eval expr file journal false options) h some = refl
 printing_stays (Undo file journal) h some = absurd (some refl)
 printing_stays (Redo file journal) h some = absurd (some refl)

@@ -22,10 +22,10 @@ use Rattle.yq_semantics.specs.Judgement as judgement
 use Rattle.yq_semantics.specs.declared.expr_error.ExprError.TheVariants as matching
 
 -- the fault of an edit tells why its text isn't shown
-pub reports_edit : (o : EditOutcome) (x : Fault) → Refuses o x → IsFor (cause_in (show_edit o)) x
-reports_edit (unreadable old) x is = is
-reports_edit (refused f) x is = is
-reports_edit (edited u changes) x is = absurd is
+pub reports_edit : (options : EvalOptions) (t : List ℕ) (o : EditOutcome) (x : Fault) → Refuses o x → IsFor (cause_in (show_edit options t o)) x
+reports_edit options t (unreadable old) x is = is
+reports_edit options t (refused f) x is = is
+reports_edit options t (edited u changes) x is = absurd is
 
 -- ---- of a text
 
@@ -74,14 +74,14 @@ module _ (options : EvalOptions) (t : List ℕ) where
       for_cause p (named (of_refusal x)) r (of_refusal x) fails (λ memory. (found_shows p docs (refuses x) is reads why, refl))
 
   -- an update of a text
-  pub edit_shows : (p : Program) → is_read p ≡ false → shows options p t ≡ show_edit (program_edits p t)
+  pub edit_shows : (p : Program) → is_read p ≡ false → shows options p t ≡ show_edit options t (program_edits p t)
   unfolding shows
   edit_shows (read pipe) is = cc
   edit_shows (updates us) is = refl
 
   -- an update that is refused
   pub edit_fails : (p : Program) {T : Type 0} (r : Result T Fault) (x : Fault) → is_read p ≡ false → r ≡ Err x → (x ≢ OutOfMemory → Refuses (program_edits p t) x) → HasFault p r
-  edit_fails p r x is fails why = subst (HasFault p) (sym fails) (λ memory. subst (λ o. IsFor (cause_in o) x) (sym (edit_shows p is)) (reports_edit (program_edits p t) x (why memory)))
+  edit_fails p r x is fails why = subst (HasFault p) (sym fails) (λ memory. subst (λ o. IsFor (cause_in o) x) (sym (edit_shows p is)) (reports_edit options t (program_edits p t) x (why memory)))
 
 -- ---- of a file
 

@@ -6,15 +6,15 @@ use Rattle.yq_semantics.{specs.Copies.matches, specs.Judgement.{Judgement, gives
 use Rattle.yq_journal.specs.History.{History, text_at}
 use Rattle.yq_args.specs.declared.eval_options.EvalOptions.{EvalOptions}
 use Rattle.yq_history.{specs.declared.fault.Fault.Fault, specs.declared.fault.Fault.TheVariants.NotThere}
-use Rattle.yq_history.{specs.Causes.{Cause, named, no_reading}, specs.Report.{Report, text, nothing}}
+use Rattle.yq_history.{specs.Causes.{Cause, named, no_reading}, specs.Report.{Report, nothing}}
 use Rattle.yq_commands.{specs.Editing.{EditOutcome, unreadable, refused, edited, program_edits}, specs.CommandFaults.of_refusal}
-use Rattle.yq_commands.specs.Reads.{report_matches}
+use Rattle.yq_commands.{specs.Expecting.changes_as_expected, specs.Reads.report_matches}
 
--- of an edit the new text is shown
-abbrev pub show_edit : EditOutcome → Result Report Cause
-show_edit (unreadable old) = Err (no_reading old)
-show_edit (refused f) = Err (named f)
-show_edit (edited t changes) = Ok (text t)
+-- of an edit of this text the new text is shown; with `--expect-change` it is to be another one
+abbrev pub show_edit : EvalOptions → List ℕ → EditOutcome → Result Report Cause
+show_edit options t (unreadable old) = Err (no_reading old)
+show_edit options t (refused f) = Err (named f)
+show_edit options t (edited u changes) = Ok (record { printed = u; is_match = changes_as_expected options t u })
 
 -- of a read its matches are shown, by what matching comes to
 abbrev pub show_found : EvalOptions → Judgement (List (ℕ × Node)) → Result Report Cause
@@ -29,7 +29,7 @@ show_read options pipe t (Some docs) = show_found options (matches pipe docs)
 -- what a program shows of a text, or why it shows nothing
 unfoldable pub shows : EvalOptions → Program → List ℕ → Result Report Cause
 shows options (read pipe) t = show_read options pipe t (option_map documents (read_at t))
-shows options (updates us) t = show_edit (program_edits (updates us) t)
+shows options (updates us) t = show_edit options t (program_edits (updates us) t)
 
 -- what is shown of a file, by what is shown of its text
 abbrev pub of_file : (List ℕ → Result Report Cause) → Option History → Result Report Cause

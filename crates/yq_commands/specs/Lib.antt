@@ -6,6 +6,7 @@ pub mod CommandSteps
 pub mod Editing
 pub mod Edits
 pub mod Evaluation
+pub mod Expecting
 pub mod FileEdits
 pub mod Lists
 pub mod Prints

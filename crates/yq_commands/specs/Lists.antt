@@ -4,7 +4,8 @@ use Rattle.std.{specs.Prelude.{MatchBool, MatchResult, Option, Some, None, Resul
 use Rattle.yq_journal.specs.History.{History}
 use Rattle.yq_commands.{specs.declared.answer.Answer.Answer, specs.declared.answer.Answer.TheVariants.{Done, NoMatch, Refused}}
 use Rattle.yq_commands.{specs.CommandNames.{IsOn, IsNotNamed}, specs.CommandEffects.{OfEffect, expression_fault}, specs.FileEdits.HasEdited}
-use Rattle.yq_commands.{specs.Prints.{report_of, prints}, specs.CommandSteps.{cause_of, next_of}}
+use Rattle.yq_commands.{specs.Expecting.{expects_change, works_as_expected}, specs.Prints.{report_of, prints}}
+use Rattle.yq_commands.specs.CommandSteps.{cause_of, next_of}
 use Rattle.yq_args.specs.declared.command.Command.{Command}
 use Rattle.yq_history.{specs.declared.fault.Fault.Fault, specs.declared.fault.Fault.TheVariants.{OutFailed, OutOfMemory}}
 use Rattle.yq_history.{specs.Causes.{Cause, IsFor}, specs.Effects.{Effect, Works, printed_by}}
@@ -94,18 +95,20 @@ abbrev pub is_inner_refusal : Answer → Bool
 is_inner_refusal (Refused e) = not (is_outer_fault e)
 is_inner_refusal _ = false
 
--- what a command's answer and the bytes that it printed tell of an effect: it came about and printed its bytes; or it was refused and printed nothing;
--- that the output failed tells nothing, and that there is no match is never reported
-abbrev pub ReportsEffect : Effect → List ℕ → List ℕ → FileMap → FileMap → Answer → List ℕ → Type 0
-ReportsEffect x file journal old new Done o = Works x file journal old new {T = Unit {0}} (Ok tt) × (o ≡ printed_by x)
-ReportsEffect x file journal old new NoMatch o = ⊥
-ReportsEffect x file journal old new (Refused e) o = MatchBool (is_output e) (Unit {0}) (Works x file journal old new {T = Unit {0}} (Err e)) × (o ≡ [])
+-- what a command's answer and the bytes that it printed tell of an effect: it came about and printed its bytes, and the answer says whether it is as
+-- expected; or it was refused and printed nothing; that the output failed tells nothing
+abbrev pub ReportsEffect : Bool → Effect → List ℕ → List ℕ → FileMap → FileMap → Answer → List ℕ → Type 0
+ReportsEffect expects x file journal old new Done o =
+    (works_as_expected expects x ≡ true) × Works x file journal old new {T = Unit {0}} (Ok tt) × (o ≡ printed_by x)
+ReportsEffect expects x file journal old new NoMatch o =
+    (works_as_expected expects x ≡ false) × Works x file journal old new {T = Unit {0}} (Ok tt) × (o ≡ printed_by x)
+ReportsEffect expects x file journal old new (Refused e) o = MatchBool (is_output e) (Unit {0}) (Works x file journal old new {T = Unit {0}} (Err e)) × (o ≡ [])
 
 -- the reply, and what the file and the journal then hold, are those of the command's effect on what they held, be they good for a history or not
 abbrev pub HasEffect : Command → Reply → FileMap → FileMap → Type 0
 HasEffect c r old new =
     (file journal : List ℕ) → file ≢ journal → IsOn file journal c →
-    OfEffect c (get old file) (get old journal) (λ x. ReportsEffect x file journal old new r.answer r.printed)
+    OfEffect c (get old file) (get old journal) (λ x. ReportsEffect (expects_change c) x file journal old new r.answer r.printed)
 
 -- from every history for which a pair is good it goes on to one for which the pair is good then
 abbrev pub StepsHistory : Command → Reply → FileMap → FileMap → Type 0
@@ -118,6 +121,11 @@ abbrev pub ReportsUnparsed : Fault → Answer → Type 0
 ReportsUnparsed f (Refused e) = e ≢ OutOfMemory → e ≡ f
 ReportsUnparsed f _ = ⊥
 
+-- the command was carried out
+abbrev pub is_accepted : Answer → Bool
+is_accepted (Refused e) = false
+is_accepted _ = true
+
 -- A command that prints, or is refused so, leaves every name; any other leaves the names that it doesn't name; it has its effect, and steps histories.
 -- What was accepted of an expression with updates has edited the file's text; an expression that is no program is refused before all else.
 pub record RunsTo (c : Command) (r : Reply) (old new : FileMap) : Type 0 where
@@ -125,7 +133,7 @@ pub record RunsTo (c : Command) (r : Reply) (old new : FileMap) : Type 0 where
   pub others : (q : List ℕ) → IsNotNamed q c → get new q ≡ get old q
   pub effect : HasEffect c r old new
   pub steps : StepsHistory c r old new
-  pub edited : r.answer ≡ Done → HasEdited c old new r.printed
+  pub edited : is_accepted r.answer ≡ true → HasEdited c old new r.printed
   pub unparsed : (f : Fault) → expression_fault c ≡ Some f → ReportsUnparsed f r.answer
 
 -- one command after another

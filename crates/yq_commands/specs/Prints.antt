@@ -3,12 +3,12 @@ use Rattle.std.{specs.Prelude.{Bool, true, false, Option}, specs.String.string_b
 use Rattle.yq_journal.specs.History.{History}
 use Rattle.yq_args.specs.declared.command.Command.{Command}
 use Rattle.yq_args.specs.declared.command.Command.TheVariants.{Eval, Undo, Redo, History as Lists, Squash, Help}
-use Rattle.yq_commands.{specs.Editing.program_in, specs.Evaluation.{evaluated, report_in}}
+use Rattle.yq_commands.{specs.Editing.program_in, specs.Evaluation.{evaluated, report_in}, specs.Expecting.report_edit}
 use Rattle.yq_history.{specs.Listing.listing_output, specs.Report.{Report, text, nothing}}
 
 -- what a command shows where it is carried out; of help nothing is said
 abbrev pub report_of : Command → Option History → Report
-report_of (Eval expr file journal true options) h = nothing
+report_of (Eval expr file journal true options) h = report_edit options (program_in (string_bytes expr)) h
 report_of (Eval expr file journal false options) h = report_in (evaluated options (program_in (string_bytes expr)) h)
 report_of (Undo file journal) h = nothing
 report_of (Redo file journal) h = nothing

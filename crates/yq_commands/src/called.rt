@@ -2,6 +2,7 @@
 
 use crate::Out;
 use crate::help::{USAGE, help_text};
+use crate::journals::with_own_journal;
 use crate::words::command_of;
 use std::alloc::AllocError;
 use std::fs::metadata;
@@ -42,11 +43,12 @@ fn as_slices<'w>(rt: &HostRuntime, owned: &'w [String]) -> Result<Vec<&'w str>, 
     Ok(words)
 }
 
-/// The command that the words ask for.
-pub fn asked_command(rt: &HostRuntime) -> Result<Command, Fault> {
+/// The command that the words ask for, and the folder of its journal where the environment names that.
+pub fn asked_command(rt: &HostRuntime) -> Result<(Command, Option<String>), Fault> {
     let owned = owned_words(rt)?;
     let words = as_slices(rt, &owned)?;
-    command_of(rt.alloc(), &words)
+    let command = command_of(rt.alloc(), &words)?;
+    with_own_journal(rt, &words, command)
 }
 
 /// What is reported after the line of a refusal of the program's words: why, and the ways to call it.

@@ -8,8 +8,8 @@ use yq_history::{Fault, Report};
 
 /// The ways to call the program, whose name means `%`.
 pub const USAGE: &str = "\
-Usage: % [eval|e] [-i] [-e] [-N] [--text TEXT] [--journal PATH]
-          EXPR FILE
+Usage: % [eval|e] [-i] [-e] [-N] [--expect-change] [--text TEXT]
+          [--journal PATH] EXPR FILE
        % undo|redo|history [--journal PATH] FILE
        % squash [--journal PATH] N FILE
 ";
@@ -28,15 +28,16 @@ Commands:
   squash   join the last N edits of FILE into one
 
 Options:
-  -i, --inplace       write the updated text to FILE, and record the
-                      edit
-  -e, --exit-status   end with status 1 where nothing but null and false
-                      is read
-  -N, --no-doc        print no marker between documents
-      --text TEXT     set what EXPR leads to, to TEXT as it is
-      --journal PATH  where the edits are recorded, in place of
-                      FILE.undo.json
-  -h, --help          print the commands and options
+  -i, --inplace        write the updated text to FILE, and record the
+                       edit
+  -e, --exit-status    end with status 1 where nothing but null and
+                       false is read
+  -N, --no-doc         print no marker between documents
+      --expect-change  end with status 1 where an update changes no byte
+      --text TEXT      set what EXPR leads to, to TEXT as it is
+      --journal PATH   where the edits are recorded, in place of
+                       FILE.undo.json
+  -h, --help           print the commands and options
 
 Examples:
   % .server.port f.yaml

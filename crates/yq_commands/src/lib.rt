@@ -8,6 +8,7 @@ mod called;
 mod commits;
 mod faults;
 pub mod help;
+mod journals;
 mod output;
 mod purpose;
 mod reading;

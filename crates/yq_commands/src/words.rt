@@ -10,7 +10,7 @@ use yq_args::{Command, WordsError, read_words};
 use yq_history::Fault;
 
 /// Why words are no command.
-fn words_fault(error: WordsError) -> Fault
+pub fn words_fault(error: WordsError) -> Fault
     ensures { result ≡ of_words error }
 {
     match error {

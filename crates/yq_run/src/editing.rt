@@ -5,14 +5,16 @@ ghost use Rattle.yq_semantics.specs.View.{program_of};
 ghost use Rattle.yq_journal.specs.History.{History};
 ghost use Rattle.yq_text.specs.Splice.{all_done, lengths_done};
 ghost use Rattle.yq_commands.{specs.CommandEffects.edit_effect, specs.CommandSteps.{update_cause, update_next}};
-ghost use Rattle.yq_commands.{specs.Editing.{Refuses, edited, program_edits}, specs.FileEdits.{HoldsEdited, IsTextEdited}};
+ghost use Rattle.yq_commands.{specs.Expecting.{changes_as_expected, edits_as_expected}, specs.Editing.{Refuses, edited, program_edits}};
+ghost use Rattle.yq_commands.specs.FileEdits.{HoldsEdited, IsTextEdited};
 ghost use Rattle.yq_history.{specs.Effects.Works, specs.Faults.{is_failure, is_outer_fault, is_output, failures_after}};
 ghost use Rattle.yq_history.specs.Pair.{Arrives, OthersStay, PairAtRest};
 ghost use Rattle.std.specs.FinMap as map;
 
 use std::alloc::Global;
+use yq_args::EvalOptions;
 use yq_commands::{commit, edit_fault, utf8_text};
-use yq_history::Fault;
+use yq_history::{Fault, Report};
 use yq_journal::Journal;
 use yq_semantics::Program;
 use yq_splice::{Edited, edit};
@@ -41,7 +43,15 @@ pub fn edit_text(alloc: Global, program: &Program, text: &[u8]) -> Result<Edited
     }
 }
 
-/// Edits a file beside its settled journal. An edit to an equal text writes nothing.
+/// Whether an edit from one text to another changes what it is asked to change.
+pub fn is_as_expected(options: EvalOptions, old: &[u8], new: &[u8]) -> bool
+    ensures { result ≡ changes_as_expected options old.now new.now }
+{
+    !(options.expect_change && new == old)
+}
+
+/// Edits a file beside its settled journal. An edit to an equal text writes nothing. The report tells
+/// whether the edit changes what it is asked to change.
 pub fn edit_from<D: Store>(
     alloc: Global,
     store: &mut D,
@@ -51,6 +61,8 @@ pub fn edit_from<D: Store>(
     program: &Program,
     expr: &str,
     text: Vec<u8>,
+    options: EvalOptions,
+    report: &mut Report,
 ) -> Result<(), Fault>
     requires at_rest { IsNone state.old.pending }
     ensures arrives { IsTrue D.keeps → file.now ≢ journal.now → (h : History) →
@@ -65,6 +77,11 @@ pub fn edit_from<D: Store>(
         map.get (D.content store.old) file.now ≡ Some text.items →
         OnOk result (HoldsEdited (program_of program.now) text.items
         (map.get (D.content store.new) file.now)) }
+    ensures silent { report.new.text ≡ report.old.text }
+    ensures expected { OnOk result (report.new.is_match ≡ edits_as_expected options text.items
+        (program_edits (program_of program.now) text.items)) }
+    ensures unasked { options.expect_change ≡ false → report.old.is_match ≡ true →
+        report.new.is_match ≡ true }
     ensures kept { IsTrue D.keeps → IfErr result (λ e. is_outer_fault e ≡ false →
         D.content store.new ≡ D.content store.old) }
     ensures others { IsTrue D.keeps → OthersStay (D.content store.old)
@@ -76,15 +93,7 @@ pub fn edit_from<D: Store>(
         text: edited_to,
         splices,
     } = edit_text(alloc, program, text.as_slice())?;
-    commit(
-        alloc,
-        store,
-        file,
-        journal,
-        state,
-        expr,
-        splices,
-        text,
-        edited_to.as_bytes(),
-    )
+    let new = edited_to.as_bytes();
+    report.is_match = is_as_expected(options, text.as_slice(), new);
+    commit(alloc, store, file, journal, state, expr, splices, text, new)
 }

@@ -10,7 +10,7 @@ ghost use Rattle.yq_commands.specs.Evaluation.{cause_in, evaluated, of_file, rep
 ghost use Rattle.yq_commands.specs.FileEdits.{IsTextEdited, PrintsEdited};
 ghost use Rattle.std.specs.FinMap as map;
 
-use crate::editing::edit_text;
+use crate::editing::{edit_text, is_as_expected};
 use std::alloc::Global;
 use yq_args::EvalOptions;
 use yq_commands::{parse, show_read};
@@ -20,23 +20,27 @@ use yq_splice::Edited;
 use yq_store::Store;
 
 /// What an update shows of a text: the edited one.
-fn show_edit(alloc: Global, program: &Program, text: &[u8]) -> Result<Report, Fault>
+fn show_edit(
+    alloc: Global,
+    program: &Program,
+    text: &[u8],
+    options: EvalOptions,
+) -> Result<Report, Fault>
     requires { is_read (program_of program.now) ≡ false }
     ensures edited { IfOk result (λ s. IsTextEdited (program_of program.now) text.now
         (string_bytes s.text)) }
-    ensures ok { (options : EvalOptions) →
-        IfOk result (λ s. shows options (program_of program.now) text.now ≡
+    ensures ok { IfOk result (λ s. shows options (program_of program.now) text.now ≡
         Ok (report_by s)) }
-    ensures err { (options : EvalOptions) →
-        IfErr result (λ e. e ≢ Fault.OutOfMemory →
+    ensures err { IfErr result (λ e. e ≢ Fault.OutOfMemory →
         IsFor (cause_in (shows options (program_of program.now) text.now)) e) }
     ensures inside { IfErr result (λ e. is_failure e ≡ false) }
     ensures no_output { IfErr result (λ e. is_output e ≡ false) }
 {
-    let Edited { text, .. } = edit_text(alloc, program, text)?;
+    let Edited { text: edited, .. } = edit_text(alloc, program, text)?;
+    let is_match = is_as_expected(options, text, edited.as_bytes());
     Ok(Report {
-        text,
-        is_match: true,
+        text: edited,
+        is_match,
     })
 }
 
@@ -59,7 +63,7 @@ fn show(
     if program.is_read() {
         show_read(alloc, program, text, options)
     } else {
-        show_edit(alloc, program, text)
+        show_edit(alloc, program, text, options)
     }
 }
 

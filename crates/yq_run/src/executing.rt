@@ -1,9 +1,10 @@
 //! One command, carried out over a store.
-ghost use Rattle.std.{specs.Prelude.{◌≡◌, ◌≢◌, ℕ, List, Option, Some, IfErr, OnOk, IsTrue, true, false}, specs.String.string_bytes};
+ghost use Rattle.std.{specs.Prelude.{◌≡◌, ◌≢◌, ℕ, List, [], Option, Some, IfErr, OnOk, IsTrue, true, false}, specs.String.string_bytes};
 ghost use Rattle.yq_journal.specs.History.{History};
 ghost use Rattle.yq_commands.{specs.CommandNames.{IsOn, IsNotNamed}, specs.Editing.program_in};
 ghost use Rattle.yq_commands.specs.CommandEffects.{IsListing, IsUnparsed, OfEffect, expression_fault, fault_of, update_effect};
 ghost use Rattle.yq_commands.{specs.FileEdits.{HasEdited, IsFileEdited}, specs.Prints.{prints, reads_journal, report_of}};
+ghost use Rattle.yq_commands.specs.Expecting.{ReportsExpected, expects_change, report_edit, works_as_expected};
 ghost use Rattle.yq_commands.specs.CommandSteps.{cause_of, next_of, update_cause, update_next};
 ghost use Rattle.yq_history.{specs.Effects.Works, specs.Faults.{is_outer_fault, is_output, failures_after}};
 ghost use Rattle.yq_history.{specs.Pair.{Arrives, GoodIn, OthersStay}, specs.Report.{nothing, report_by}};
@@ -12,7 +13,7 @@ ghost use Rattle.std.specs.FinMap as map;
 use crate::editing::edit_from;
 use crate::evaluating::evaluate;
 use std::alloc::Global;
-use yq_args::Command;
+use yq_args::{Command, EvalOptions};
 use yq_commands::help::help;
 use yq_commands::parse;
 use yq_history::{Direction, Fault, Report, listing, move_file, open_pair, squash};
@@ -25,6 +26,8 @@ fn update<D: Store>(
     file: &str,
     journal: &str,
     expr: &str,
+    options: EvalOptions,
+    report: &mut Report,
 ) -> Result<(), Fault>
     ensures arrives { IsTrue D.keeps → file.now ≢ journal.now → (h : Option History) →
         GoodIn (D.content store.old) file.now journal.now h →
@@ -38,6 +41,15 @@ fn update<D: Store>(
         OnOk result (IsFileEdited expr.now (map.get (D.content store.old) file.now)
         (map.get (D.content store.new) file.now)) }
     ensures unparsed { (f : Fault) → fault_of (program_in expr.now) ≡ Some f → IsUnparsed f result }
+    ensures silent { report.new.text ≡ report.old.text }
+    ensures output { IsTrue D.keeps → (h : Option History) →
+        GoodIn (D.content store.old) file.now journal.now h → OnOk result
+        (report.new.is_match ≡ (report_edit options (program_in expr.now) h).is_match) }
+    ensures expected { IsTrue D.keeps → OnOk result (report.new.is_match ≡
+        works_as_expected options.expect_change (update_effect expr.now (program_in expr.now)
+        (map.get (D.content store.old) file.now) (map.get (D.content store.old) journal.now))) }
+    ensures unasked { options.expect_change ≡ false → report.old.is_match ≡ true →
+        report.new.is_match ≡ true }
     ensures kept { IsTrue D.keeps → IfErr result (λ e. is_outer_fault e ≡ false →
         D.content store.new ≡ D.content store.old) }
     ensures others { IsTrue D.keeps → OthersStay (D.content store.old)
@@ -48,7 +60,7 @@ fn update<D: Store>(
     let program = parse(alloc, expr)?;
     let (text, mut state) = open_pair(alloc, store, file, journal)?;
     edit_from(
-        alloc, store, file, journal, &mut state, &program, expr, text,
+        alloc, store, file, journal, &mut state, &program, expr, text, options, report,
     )
 }
 
@@ -80,8 +92,11 @@ pub fn execute<D: Store>(
         OnOk result (HasEdited command.now (D.content store.old) (D.content store.new)
         (string_bytes report.new.text)) }
     ensures unparsed { (f : Fault) → expression_fault command.now ≡ Some f → IsUnparsed f result }
-    ensures silent { prints command.now ≡ false → report_by report.new ≡ nothing }
-    ensures matched { reads_journal command.now ≡ true → report.new.is_match ≡ true }
+    ensures silent { prints command.now ≡ false → string_bytes report.new.text ≡ [] }
+    ensures expected { IsTrue D.keeps → (file journal : List ℕ) → IsOn file journal command.now →
+        ReportsExpected result report.new.is_match command.now (D.content store.old) file journal }
+    ensures matched { reads_journal command.now ≡ true → expects_change command.now ≡ false →
+        report.new.is_match ≡ true }
     ensures still { IsTrue D.keeps → prints command.now ≡ true →
         D.content store.new ≡ D.content store.old }
     ensures kept { IsTrue D.keeps → IfErr result (λ e. is_outer_fault e ≡ false →
@@ -97,8 +112,16 @@ pub fn execute<D: Store>(
             file,
             journal,
             in_place: true,
-            ..
-        } => update(alloc, store, file.as_str(), journal.as_str(), expr.as_str()),
+            options,
+        } => update(
+            alloc,
+            store,
+            file.as_str(),
+            journal.as_str(),
+            expr.as_str(),
+            *options,
+            report,
+        ),
         Command::Eval {
             expr,
             file,

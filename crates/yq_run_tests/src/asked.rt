@@ -39,6 +39,7 @@ fn command(alloc: Global, asked: Request) -> Result<Command, AllocError> {
         options: EvalOptions {
             exit_status: !in_place,
             no_doc: false,
+            expect_change: false,
         },
     })
 }

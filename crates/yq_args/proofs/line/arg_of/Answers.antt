@@ -12,6 +12,9 @@ returns-in-ExitStatus-clause-rule c = c.switch-in-ExitStatus.ensures.rule ∙ ap
 pub returns-in-NoDoc-clause-rule : goal.returns-in-NoDoc-clause-rule
 returns-in-NoDoc-clause-rule c = c.switch-in-NoDoc.ensures.rule ∙ ap argument_rule (sym c.in-NoDoc.is)
 
+pub returns-in-ExpectChange-clause-rule : goal.returns-in-ExpectChange-clause-rule
+returns-in-ExpectChange-clause-rule c = c.long_switch.ensures.rule ∙ ap argument_rule (sym c.in-ExpectChange.is)
+
 pub returns-in-Expr-clause-rule : goal.returns-in-Expr-clause-rule
 returns-in-Expr-clause-rule c = c.positional.ensures.rule ∙ ap argument_rule (sym c.in-Expr.is)
 

@@ -6,9 +6,11 @@ use Rattle.yq_history.{specs.Pair.GoodIn, specs.Report.{Report, report_by, text}
 use Rattle.yq_history.{specs.Steps.{listing_cause, move_cause, move_next, squash_cause, squash_next}, proofs.EffectLaws.on_ok}
 use Rattle.yq_args.specs.declared.command.Command.TheVariants.{Eval}
 use Rattle.yq_commands.{specs.CommandEffects.{expression_fault, fault_of}, specs.Editing.program_in, specs.Prints.{prints, reads_journal}}
-use Rattle.yq_commands.proofs.ExecuteLaws.{ArrivesOn, EditsOn, ListsOn, OthersOn, ShowsOn, WorksOn, by_names, evaluate_arrives}
+use Rattle.yq_commands.{specs.Expecting.expects_change, proofs.ExpectingLaws.none_expected}
+use Rattle.yq_commands.proofs.ExecuteLaws.{ArrivesOn, EditsOn, ExpectsOn, ListsOn, OthersOn, ShowsOn, WorksOn, by_names, evaluate_arrives}
 use Rattle.yq_commands.proofs.ExecuteLaws.{evaluate_edits, evaluate_shows, pair_arrives, pair_others, pair_works, update_arrives}
-use Rattle.yq_commands.{proofs.ExecuteLaws.{update_edits, update_works}, proofs.OutcomeLaws.{each_error, memory_counted, memory_no_output}}
+use Rattle.yq_commands.proofs.ExecuteLaws.{update_edits, update_expects, update_shows, update_works}
+use Rattle.yq_commands.proofs.OutcomeLaws.{each_error, memory_counted, memory_no_output}
 use Rattle.yq_journal.specs.declared.moves.Move.TheVariants as move
 use Rattle.yq_run.proofs.executing.execute.Goals as goal
 
@@ -23,8 +25,9 @@ returns-in-Undo g c =
       listed = λ keeps. subst (ListsOn _ c.move_file.result _) (sym is) (λ file journal on. on_ok c.move_file.result tt);
       edited = λ keeps. subst (EditsOn _ _ c.move_file.result _) (sym is) (on_ok c.move_file.result tt);
       unparsed = λ f fault. absurd (none-some f (sym (ap expression_fault is) ∙ fault));
-      silent = λ hidden. c.requires.empty;
-      matched = λ reads. ap (λ (s : Report). s.is_match) c.requires.empty;
+      silent = λ hidden. ap (λ (s : Report). s.printed) c.requires.empty;
+      expected = λ keeps. subst (ExpectsOn _ c.move_file.result _) (sym is) (λ file journal on. on_ok c.move_file.result (ap (λ (s : Report). s.is_match) c.requires.empty ∙ none_expected _));
+      matched = λ reads free. ap (λ (s : Report). s.is_match) c.requires.empty;
       still = λ keeps shown. absurd (false≢true (sym (ap prints is) ∙ shown));
       kept = e.kept;
       others = λ keeps. subst (OthersOn _ _) (sym is) (pair_others _ _ _ _ c.as_str-in-Undo.ensures.value c.as_str-in-Undo-2.ensures.value _ _ (e.others keeps));
@@ -43,8 +46,9 @@ returns-in-Redo g c =
       listed = λ keeps. subst (ListsOn _ c.move_file-in-Redo.result _) (sym is) (λ file journal on. on_ok c.move_file-in-Redo.result tt);
       edited = λ keeps. subst (EditsOn _ _ c.move_file-in-Redo.result _) (sym is) (on_ok c.move_file-in-Redo.result tt);
       unparsed = λ f fault. absurd (none-some f (sym (ap expression_fault is) ∙ fault));
-      silent = λ hidden. c.requires.empty;
-      matched = λ reads. ap (λ (s : Report). s.is_match) c.requires.empty;
+      silent = λ hidden. ap (λ (s : Report). s.printed) c.requires.empty;
+      expected = λ keeps. subst (ExpectsOn _ c.move_file-in-Redo.result _) (sym is) (λ file journal on. on_ok c.move_file-in-Redo.result (ap (λ (s : Report). s.is_match) c.requires.empty ∙ none_expected _));
+      matched = λ reads free. ap (λ (s : Report). s.is_match) c.requires.empty;
       still = λ keeps shown. absurd (false≢true (sym (ap prints is) ∙ shown));
       kept = e.kept;
       others = λ keeps. subst (OthersOn _ _) (sym is) (pair_others _ _ _ _ c.as_str-in-Redo.ensures.value c.as_str-in-Redo-2.ensures.value _ _ (e.others keeps));
@@ -63,8 +67,9 @@ returns-in-Squash g c =
       listed = λ keeps. subst (ListsOn _ c.squash.result _) (sym is) (λ file journal on. on_ok c.squash.result tt);
       edited = λ keeps. subst (EditsOn _ _ c.squash.result _) (sym is) (on_ok c.squash.result tt);
       unparsed = λ f fault. absurd (none-some f (sym (ap expression_fault is) ∙ fault));
-      silent = λ hidden. c.requires.empty;
-      matched = λ reads. ap (λ (s : Report). s.is_match) c.requires.empty;
+      silent = λ hidden. ap (λ (s : Report). s.printed) c.requires.empty;
+      expected = λ keeps. subst (ExpectsOn _ c.squash.result _) (sym is) (λ file journal on. on_ok c.squash.result (ap (λ (s : Report). s.is_match) c.requires.empty ∙ none_expected _));
+      matched = λ reads free. ap (λ (s : Report). s.is_match) c.requires.empty;
       still = λ keeps shown. absurd (false≢true (sym (ap prints is) ∙ shown));
       kept = e.kept;
       others = λ keeps. subst (OthersOn _ _) (sym is) (pair_others _ _ _ _ c.as_str-in-Squash.ensures.value c.as_str-in-Squash-2.ensures.value _ _ (λ q apart beside. e.others keeps q beside));
@@ -88,7 +93,8 @@ returns-in-History g c =
       edited = λ keeps. subst (EditsOn _ _ c.listing.result _) (sym is) (on_ok c.listing.result tt);
       unparsed = λ f fault. absurd (none-some f (sym (ap expression_fault is) ∙ fault));
       silent = λ hidden. absurd (true≢false (sym (ap prints is) ∙ hidden));
-      matched = λ reads. e.matched;
+      expected = λ keeps. subst (ExpectsOn _ c.listing.result _) (sym is) (λ file journal on. on_ok c.listing.result (e.matched ∙ none_expected _));
+      matched = λ reads free. e.matched;
       still = λ keeps shown. e.same keeps;
       kept = λ keeps. each_error _ c.listing.result (λ x inside. e.same keeps);
       others = λ keeps q apart. ap (λ m. get m q) (e.same keeps);
@@ -107,7 +113,8 @@ returns-in-Help g c =
       edited = λ keeps. subst (EditsOn _ _ c.help.result _) (sym is) (on_ok c.help.result tt);
       unparsed = λ f fault. absurd (none-some f (sym (ap expression_fault is) ∙ fault));
       silent = λ hidden. absurd (true≢false (sym (ap prints is) ∙ hidden));
-      matched = λ reads. absurd (false≢true (sym (ap reads_journal is) ∙ reads));
+      expected = λ keeps. subst (ExpectsOn _ c.help.result _) (sym is) (λ file journal on. absurd on);
+      matched = λ reads free. absurd (false≢true (sym (ap reads_journal is) ∙ reads));
       still = λ keeps shown. refl;
       kept = λ keeps. each_error _ c.help.result (λ x inside. refl);
       others = λ keeps q apart. refl;
@@ -129,7 +136,8 @@ returns-in-Eval g c =
       edited = λ keeps. subst (EditsOn _ _ c.evaluate.result _) (sym is) (evaluate_edits _ _ c.as_str-in-Eval.ensures.value _ _ c.as_str-in-Eval-2.ensures.value a.options _ c.evaluate.result _ (e.edited keeps));
       unparsed = λ f fault. e.unparsed f (ap (λ y. fault_of (program_in y)) c.as_str-in-Eval-2.ensures.value ∙ sym (ap expression_fault is) ∙ fault);
       silent = λ hidden. absurd (true≢false (sym (ap prints is) ∙ hidden));
-      matched = λ reads. absurd (false≢true (sym (ap reads_journal is) ∙ reads));
+      expected = λ keeps. subst (ExpectsOn _ c.evaluate.result _) (sym is) (λ file journal on. tt);
+      matched = λ reads free. absurd (false≢true (sym (ap reads_journal is) ∙ reads));
       still = λ keeps shown. e.same keeps;
       kept = λ keeps. each_error _ c.evaluate.result (λ x inside. e.same keeps);
       others = λ keeps q apart. ap (λ m. get m q) (e.same keeps);
@@ -146,12 +154,16 @@ returns-in-Eval-default-default-default-true-default g c =
     record {
       arrives = λ keeps. subst (ArrivesOn _ _ c.update.result) (sym is) (update_arrives _ _ _ _ c.as_str.ensures.value c.as_str-in-Eval-default-default-default-true-default.ensures.value _ _ c.update.result _ _ c.as_str-in-Eval-default-default-default-true-default-2.ensures.value (e.arrives keeps));
       effect = λ keeps. subst (WorksOn _ _ c.update.result) (sym is) (update_works _ _ _ _ c.as_str.ensures.value c.as_str-in-Eval-default-default-default-true-default.ensures.value _ _ c.update.result _ _ c.as_str-in-Eval-default-default-default-true-default-2.ensures.value (e.effect keeps));
-      output = λ keeps. subst (ShowsOn _ c.update.result _) (sym is) (λ file journal on h good. on_ok c.update.result c.requires.empty);
+      output = λ keeps. subst (ShowsOn _ c.update.result _) (sym is)
+          (update_shows _ _ _ _ c.as_str.ensures.value c.as_str-in-Eval-default-default-default-true-default.ensures.value _ c.update.result (report_by c.update.new.report) a.options _ _ c.as_str-in-Eval-default-default-default-true-default-2.ensures.value
+          (ap string_bytes e.silent ∙ ap (λ (s : Report). s.printed) c.requires.empty) (e.output keeps));
       listed = λ keeps. subst (ListsOn _ c.update.result _) (sym is) (λ file journal on. on_ok c.update.result tt);
       edited = λ keeps. subst (EditsOn _ _ c.update.result _) (sym is) (update_edits _ _ _ _ c.as_str.ensures.value c.as_str-in-Eval-default-default-default-true-default.ensures.value _ _ c.update.result _ _ c.as_str-in-Eval-default-default-default-true-default-2.ensures.value (e.edited keeps));
       unparsed = λ f fault. e.unparsed f (ap (λ y. fault_of (program_in y)) c.as_str-in-Eval-default-default-default-true-default-2.ensures.value ∙ sym (ap expression_fault is) ∙ fault);
-      silent = λ hidden. c.requires.empty;
-      matched = λ reads. ap (λ (s : Report). s.is_match) c.requires.empty;
+      silent = λ hidden. ap string_bytes e.silent ∙ ap (λ (s : Report). s.printed) c.requires.empty;
+      expected = λ keeps. subst (ExpectsOn _ c.update.result _) (sym is)
+          (update_expects _ _ _ _ c.as_str.ensures.value c.as_str-in-Eval-default-default-default-true-default.ensures.value _ c.update.result _ a.options.expect_change _ _ c.as_str-in-Eval-default-default-default-true-default-2.ensures.value (e.expected keeps));
+      matched = λ reads free. e.unasked (sym (ap expects_change is) ∙ free) (ap (λ (s : Report). s.is_match) c.requires.empty);
       still = λ keeps shown. absurd (false≢true (sym (ap prints is) ∙ shown));
       kept = e.kept;
       others = λ keeps. subst (OthersOn _ _) (sym is) (pair_others _ _ _ _ c.as_str.ensures.value c.as_str-in-Eval-default-default-default-true-default.ensures.value _ _ (e.others keeps));

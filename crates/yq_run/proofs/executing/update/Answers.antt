@@ -2,9 +2,10 @@ use Rattle.std.{proofs.Common.{◌≡◌, ℕ, List, false, Ok, Err, IfErr, sym,
 use Rattle.std.specs.FinMap.{get}
 use Rattle.yq_journal.specs.State.{State}
 use Rattle.yq_semantics.specs.View.{program_of}
-use Rattle.yq_commands.{specs.Editing.program_edits, specs.CommandEffects.edit_effect, proofs.EditEffects.{not_parsed, parsed_works}}
+use Rattle.yq_commands.{specs.Editing.program_edits, specs.CommandEffects.{edit_effect, update_effect}}
+use Rattle.yq_commands.{specs.Expecting.{report_edit, works_as_expected}, proofs.EditEffects.{not_parsed, parsed_works}}
 use Rattle.yq_commands.{proofs.FileEditLaws.{file_comes, parsed_free, unparsed_fault}, specs.CommandSteps.{update_cause, update_next}}
-use Rattle.yq_commands.proofs.OutcomeLaws.{arrives_as, opened}
+use Rattle.yq_commands.{proofs.ExpectingLaws.{effect_expected, history_expected, matched_as}, proofs.OutcomeLaws.{arrives_as, opened}}
 use Rattle.yq_history.{proofs.EffectLaws.{not_opened, from_opened}, specs.Faults.{failures_after, is_outer_fault}}
 use Rattle.yq_run.proofs.executing.update.Goals as goal
 
@@ -27,6 +28,17 @@ returns g c =
           let held = c.in_ok-text.ensures.text keeps in
           file_comes c.edit_from.result c.args.expr.now (program_of c.in_ok-program.program) c.in_ok-text.text.items _ _ c.in_ok-program.ensures.ok held
           (c.edit_from.ensures.edited keeps apart (ap (λ m. get m c.args.file.now) same ∙ held));
+      silent = e.silent;
+      output = λ keeps h good. matched_as _ c.edit_from.result _ _ _ e.expected
+          (history_expected c.args.options (program_of c.in_ok-program.program) _ c.args.file.now c.args.journal.now c.in_ok-text.text.items (c.in_ok-text.ensures.text keeps) h good
+          ∙ ap (λ q. (report_edit c.args.options q h).is_match) (sym c.in_ok-program.ensures.ok));
+      expected = λ keeps.
+          let does = λ (t : List ℕ) (s : State). edit_effect c.args.expr.now (program_edits (program_of c.in_ok-program.program) t) t s in
+          matched_as _ c.edit_from.result _ _ _ e.expected
+          (effect_expected c.args.options c.args.expr.now c.in_ok-text.text.items (program_edits (program_of c.in_ok-program.program) c.in_ok-text.text.items) c.in_ok-text.state
+          ∙ ap (works_as_expected c.args.options.expect_change) (sym (c.in_ok-text.ensures.found keeps does))
+          ∙ ap (λ q. works_as_expected c.args.options.expect_change (update_effect c.args.expr.now q (get (g.D.Store.content c.args.store.now) c.args.file.now) (get (g.D.Store.content c.args.store.now) c.args.journal.now))) (sym c.in_ok-program.ensures.ok));
+      unasked = e.unasked;
       unparsed = parsed_free c.edit_from.result c.args.expr.now (program_of c.in_ok-program.program) c.in_ok-program.ensures.ok;
       kept = λ keeps. subst (λ m. IfErr c.edit_from.result (λ y. is_outer_fault y ≡ false → g.D.Store.content c.edit_from.new.store ≡ m)) (o.same keeps) (e.kept keeps);
       others = λ keeps q apart beside. e.others keeps q apart beside ∙ ap (λ m. get m q) (o.same keeps);
