@@ -1,7 +1,7 @@
 -- A value under more missing keys than collections may be nested is refused, whatever it is.
-use Rattle.std.proofs.Common.{◌≡◌, ℕ, suc, ◌+◌, ◌<◌, nat_lt, Bool, true, false, cond, ◌||◌, List, [], ◌∷◌, ◌++◌, length, map, IsTrue}
-use Rattle.std.proofs.Common.{IfErr, Result, Ok, Err, refl, sym, ap, ◌∙◌, arith, rules, if◌then◌else◌}
-use Rattle.std.{specs.List.{list_all, list_any}, proofs.lemmas.Bool.Decides.nat_tests, proofs.lemmas.List.length-map}
+use Rattle.std.proofs.Common.{◌≡◌, ℕ, suc, ◌+◌, ◌<◌, nat_lt, Bool, true, false, cond, ◌||◌, List, [], ◌∷◌, ◌++◌, length, map, IsTrue, IfErr}
+use Rattle.std.{proofs.Common.{Result, Ok, Err, refl, sym, ap, ◌∙◌, arith, rules, if◌then◌else◌}, specs.List.{list_all, list_any}}
+use Rattle.std.{proofs.lemmas.Bool.Decides.nat_tests, proofs.lemmas.List.length-map}
 use Rattle.yq_core.{specs.Inline.depth_limit, specs.Keys.depth, specs.Paths.Step, specs.Tree.{Node, alias, scalar, list}}
 use Rattle.yq_expr.specs.ManyKeys.{AreManyKeys, is_key_step, is_long_step}
 use Rattle.yq_semantics.specs.Changes.{Change, Changed, add_at, add_below, all_allowed, created, has_long_key, is_too_deep, is_too_long}

@@ -31,7 +31,7 @@ pub returns-then-not-is_quoted-clause-agrees : goal.returns-then-not-is_quoted-c
 returns-then-not-is_quoted-clause-agrees c = λ r is.
     let k = c.requires.cut in
     let key = c.key-key.ensures (slices r) (pieces_there c.args.text.now c.args.rows.now k c.args.i r is) in
-    key_unquoted c.args.text.now c.args.rows.now k c.args.i r is c.key-key.result.now key (ap is_quoted (sym c.as_bytes.ensures.value) ∙ (sym c.is_quoted.ensures ∙ c.if-not-is_quoted.true))
+    key_unquoted c.args.text.now c.args.rows.now k c.args.i r is c.key-key.result.now key (ap is_quoted (sym c.as_bytes-2.ensures.value) ∙ (sym c.is_quoted.ensures ∙ c.if-not-is_quoted.true))
 
 pub borrows_text-requires : goal.borrows_text-requires
 borrows_text-requires c =
@@ -55,7 +55,7 @@ pub quoted_content-requires : goal.quoted_content-requires
 quoted_content-requires c =
     let k = c.requires.cut in
     let r = row_at c.args.text.now c.args.rows.now k c.args.i c.requires.within in
-    key_quoted c.args.text.now c.args.rows.now k c.args.i r.0 r.1 c.key-key.result.now (c.key-key.ensures (slices r.0) (pieces_there c.args.text.now c.args.rows.now k c.args.i r.0 r.1)) (ap is_quoted (sym c.as_bytes.ensures.value) ∙ (sym c.is_quoted.ensures ∙ c.if-not-is_quoted.false))
+    key_quoted c.args.text.now c.args.rows.now k c.args.i r.0 r.1 c.key-key.result.now (c.key-key.ensures (slices r.0) (pieces_there c.args.text.now c.args.rows.now k c.args.i r.0 r.1)) (ap is_quoted (sym c.as_bytes-2.ensures.value) ∙ (sym c.is_quoted.ensures ∙ c.if-not-is_quoted.false))
 
 pub returns-clause-fits : goal.returns-clause-fits
 returns-clause-fits c = λ r is.
@@ -66,4 +66,4 @@ returns-clause-fits c = λ r is.
 pub returns-clause-agrees : goal.returns-clause-agrees
 returns-clause-agrees c = λ r is.
     let key = c.key-key.ensures (slices r) (pieces_there c.args.text.now c.args.rows.now c.requires.cut c.args.i r is) in
-    c.in_ok-quoted_content.ensures.exact ∙ (sym (quoted_is c.key-key.result.now (ap is_quoted (sym c.as_bytes.ensures.value) ∙ (sym c.is_quoted.ensures ∙ c.if-not-is_quoted.false))) ∙ ap scalar_content key)
+    c.in_ok-quoted_content.ensures.exact ∙ (sym (quoted_is c.key-key.result.now (ap is_quoted (sym c.as_bytes-2.ensures.value) ∙ (sym c.is_quoted.ensures ∙ c.if-not-is_quoted.false))) ∙ ap scalar_content key)

@@ -1,4 +1,5 @@
-use Rattle.std.{proofs.Common.{rules, w64, sym, ◌∙◌}, proofs.lemmas.Int.to_z-of_z, proofs.lemmas.Str.IsCharBoundary-start, specs.String.string_bytes}
+use Rattle.std.{proofs.Common.{rules, w64, sym, ◌∙◌}, proofs.lemmas.Int.to_z-of_z, proofs.lemmas.Str.IsCharBoundary-start}
+use Rattle.std.specs.String.{string_bytes}
 use Rattle.yq_documents.proofs.BlockHead.{block_refused, block_read}
 use Rattle.yq_core.proofs.BlockFound.{block_of_text}
 use Rattle.yq_row_heads.proofs.head.read_block_head.Goals as goal
