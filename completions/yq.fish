@@ -44,5 +44,6 @@ complete -c yq -n __yq_evaluates -s e -l exit-status -d 'end with status 1 where
 complete -c yq -n __yq_evaluates -s N -l no-doc -d 'print no marker between documents'
 complete -c yq -n __yq_evaluates -l text -x -d 'set what EXPR leads to, to TEXT as it is'
 complete -c yq -l journal -r -F -d 'where the edits are recorded, in place of FILE.undo.json'
+complete -c yq -l explain -d 'say where and why a command is refused, as on a terminal'
 complete -c yq -s h -l help -d 'print the commands and options'
 # The table of options: end.

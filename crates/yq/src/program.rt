@@ -1,5 +1,6 @@
 //! The program's words, carried out over real files and standard output.
 
+use crate::explaining::put_code;
 use std::io::IsTerminal;
 use std::slice;
 use yq_args::Command;
@@ -9,6 +10,9 @@ use yq_store::DiskStore;
 
 /// The answer to a command whose output goes to `out`.
 fn answer_to<W: Out>(rt: &HostRuntime, out: &mut W) -> Result<Answer, Fault> {
+    if put_code(rt, out)? {
+        return Ok(Answer::Done);
+    }
     let command = asked_command(rt)?;
     if let Command::Help = command {
         put_help(rt, out)?;

@@ -2,10 +2,10 @@
 use Rattle.std.specs.Prelude.{List, [], ◌∷◌, codes}
 use Rattle.clap.specs.Words.{App, Rule, with_rule, with_subcommand}
 use Rattle.yq_args.specs.declared.line.Argument.{Argument}
-use Rattle.yq_args.specs.declared.line.Argument.TheVariants.{Inplace, ExitStatus, NoDoc, Journal, Text, Expr, Count, File}
+use Rattle.yq_args.specs.declared.line.Argument.TheVariants.{Inplace, ExitStatus, NoDoc, Journal, Explain, Text, Expr, Count, File}
 use Rattle.yq_args.specs.declared.line.SubCommand.{SubCommand}
 use Rattle.yq_args.specs.declared.line.SubCommand.TheVariants.{Eval, Undo, Redo, History, Squash}
-use Rattle.yq_args.specs.Line.{positional, journal_option, text_option, switch, file_command, squash_command, eval_command}
+use Rattle.yq_args.specs.Line.{positional, journal_option, text_option, switch, long_switch, file_command, squash_command, eval_command}
 
 -- the rule of an argument
 abbrev pub argument_rule : Argument → Rule
@@ -13,6 +13,7 @@ argument_rule Inplace = switch (codes "inplace") 105
 argument_rule ExitStatus = switch (codes "exit-status") 101
 argument_rule NoDoc = switch (codes "no-doc") 78
 argument_rule Journal = journal_option
+argument_rule Explain = long_switch (codes "explain")
 argument_rule Text = text_option
 argument_rule Expr = positional (codes "expr")
 argument_rule Count = positional (codes "n")

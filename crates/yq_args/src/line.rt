@@ -20,6 +20,8 @@ enum Argument {
     NoDoc,
     /// `--journal PATH`
     Journal,
+    /// `--explain`
+    Explain,
     /// `--text TEXT`
     Text,
     /// EXPR
@@ -59,6 +61,14 @@ fn switch<'a>(alloc: Global, id: &'a str, short: char) -> Arg<'a>
         .action(ArgAction::SetTrue)
 }
 
+/// An option without a value, and without a letter.
+fn long_switch<'a>(alloc: Global, id: &'a str) -> Arg<'a>
+    ensures rule { rule_of result ≡ spec.long_switch id.entry.now }
+    ensures local { result.global ≡ false }
+{
+    Arg::new(alloc, id).long(id).action(ArgAction::SetTrue)
+}
+
 /// An argument as `clap` has it.
 fn arg_of<'a>(alloc: Global, argument: Argument) -> Arg<'a>
     ensures rule { rule_of result ≡ argument_rule argument }
@@ -69,6 +79,7 @@ fn arg_of<'a>(alloc: Global, argument: Argument) -> Arg<'a>
         Argument::ExitStatus => switch(alloc, "exit-status", 'e'),
         Argument::NoDoc => switch(alloc, "no-doc", 'N'),
         Argument::Journal => Arg::new(alloc, "journal").long("journal"),
+        Argument::Explain => long_switch(alloc, "explain"),
         Argument::Text => Arg::new(alloc, "text").long("text"),
         Argument::Expr => positional(alloc, "expr"),
         Argument::Count => positional(alloc, "n"),
@@ -88,17 +99,32 @@ fn parts_of<'a>(word: SubCommand) -> (&'a str, &'a [Argument])
                 Argument::ExitStatus,
                 Argument::NoDoc,
                 Argument::Journal,
+                Argument::Explain,
                 Argument::Text,
                 Argument::Expr,
                 Argument::File,
             ],
         ),
-        SubCommand::Undo => ("undo", &[Argument::Journal, Argument::File]),
-        SubCommand::Redo => ("redo", &[Argument::Journal, Argument::File]),
-        SubCommand::History => ("history", &[Argument::Journal, Argument::File]),
+        SubCommand::Undo => (
+            "undo",
+            &[Argument::Journal, Argument::Explain, Argument::File],
+        ),
+        SubCommand::Redo => (
+            "redo",
+            &[Argument::Journal, Argument::Explain, Argument::File],
+        ),
+        SubCommand::History => (
+            "history",
+            &[Argument::Journal, Argument::Explain, Argument::File],
+        ),
         SubCommand::Squash => (
             "squash",
-            &[Argument::Journal, Argument::Count, Argument::File],
+            &[
+                Argument::Journal,
+                Argument::Explain,
+                Argument::Count,
+                Argument::File,
+            ],
         ),
     }
 }
