@@ -3,7 +3,7 @@
 
 # The table of options: begin.
 _yq_commands='eval undo redo history squash'
-_yq_options='--journal -h --help'
+_yq_options='--journal --explain -h --help'
 _yq_eval_options='-i --inplace -e --exit-status -N --no-doc --expect-change --text'
 # The table of options: end.
 

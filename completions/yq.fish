@@ -45,5 +45,6 @@ complete -c yq -n __yq_evaluates -s N -l no-doc -d 'print no marker between docu
 complete -c yq -n __yq_evaluates -l expect-change -d 'end with status 1 where an update changes no byte'
 complete -c yq -n __yq_evaluates -l text -x -d 'set what EXPR leads to, to TEXT as it is'
 complete -c yq -l journal -r -F -d 'where the edits are recorded, in place of FILE.undo.json'
+complete -c yq -l explain -d 'say where and why a command is refused, as on a terminal'
 complete -c yq -s h -l help -d 'print the commands and options'
 # The table of options: end.

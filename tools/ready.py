@@ -5,7 +5,7 @@
 - names that have a better word in the glossary, and names of crates that crates.txt doesn't list
 - lines that say memory ran out where none was asked for (tools/memory.py)
 - clauses that are too wide, wrong bodies of both tiers that can't be applied, versions that differ, options that help, man page or a
-  completion tells otherwise than the table, and links of pages that lead nowhere
+  completion tells otherwise than the table, rows of codes that are other than the manual's, and links of pages that lead nowhere
 
 usage: ready.py
 
@@ -21,6 +21,7 @@ import sys
 import tempfile
 
 from clauses import too_wide
+from codes import retold_codes
 from crates import ROOT, RT, libraries, listed
 from edits import hindrance, names_in
 from glossary import coined
@@ -149,6 +150,12 @@ def otherwise_told():
         yield f"{path} tells of the options otherwise than completions/options.json: tools/options.py writes it anew"
 
 
+def other_codes():
+    """Rows of codes that are other than the manual's."""
+    for path, _ in retold_codes():
+        yield f"{path} has other rows than docs/MANUAL.md: tools/codes.py writes them anew"
+
+
 def lost_links():
     """Links of pages that lead nowhere."""
     for page, link in broken_links():
@@ -165,7 +172,7 @@ def main(words):
         shutil.copytree(ROOT, copy, symlinks=True, ignore=LEFT)
         of_copy = (misplaced, badly_laid, misformed, faulty_definitions, coined, unasked, unknown_crates)
         found = [it for look in of_copy for it in look(copy)]
-        found += [*too_wide(), *not_applied(), *other_versions(), *otherwise_told(), *lost_links()]
+        found += [*too_wide(), *not_applied(), *other_versions(), *otherwise_told(), *other_codes(), *lost_links()]
     finally:
         shutil.rmtree(room, ignore_errors=True)
     for it in found:

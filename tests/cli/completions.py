@@ -132,7 +132,7 @@ def check_fish_completes(folder):
     commands, flags = helped(folder)
     equal(in_fish(folder, "yq "), sorted(commands))
     equal(in_fish(folder, "yq --"), sorted(flag for flag in flags if flag.startswith("--")))
-    equal(in_fish(folder, "yq undo --"), ["--help", "--journal"])
+    equal(in_fish(folder, "yq undo --"), ["--explain", "--help", "--journal"])
     equal(in_fish(folder, "yq .a "), ["a.yaml", "b c.yml", "dir/"])
     for words in ("undo", "redo", "history", "squash 2"):
         equal(in_fish(folder, f"yq {words} "), ["a.yaml", "dir/"], words)

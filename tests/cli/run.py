@@ -19,6 +19,7 @@ import containers
 import disks
 import docs_agree
 import edits
+import explaining
 import external_writes
 import failures
 import fault_injection
@@ -46,7 +47,7 @@ from pages import run_pages
 from tables import run_tables
 
 CHECKS = [
-    edits, arguments, help_examples, completions, docs_agree, compared, installing, failures, links, lists, owners,
+    edits, arguments, explaining, help_examples, completions, docs_agree, compared, installing, failures, links, lists, owners,
     other_users, journal_folder, journal_trust, swaps, temp_files, limits, stacks, slow_texts, disks, containers, reads, shells,
     random_edits, forms, mutations, concurrency, external_writes, fault_injection, memory,
 ]

@@ -2,10 +2,12 @@
 #![tactic(auto)]
 
 mod counted_out;
+mod explaining;
 mod folder;
 mod hint;
 mod program;
 
+use crate::explaining::report_cause;
 use crate::program::answer_to_words;
 use std::io;
 use std::process::ExitCode;
@@ -19,11 +21,15 @@ const CLOSED: u8 = 141;
 fn report_answer(rt: &HostRuntime, answer: Answer) -> io::Result<ExitCode> {
     match answer {
         Answer::Done => return Ok(ExitCode::SUCCESS),
-        Answer::NoMatch => eprintln!(rt; "Error: N1 no matches found")?,
+        Answer::NoMatch => {
+            eprintln!(rt; "Error: N1 no matches found")?;
+            report_cause(rt, None)?
+        }
         Answer::Refused(fault) => {
             eprintln!(rt; "Error: {fault}")?;
-            if let Fault::Usage(cause) = fault {
-                report_usage(rt, cause)?
+            match fault {
+                Fault::Usage(cause) => report_usage(rt, cause)?,
+                _ => report_cause(rt, Some(fault))?,
             }
         }
     }

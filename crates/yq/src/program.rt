@@ -1,6 +1,7 @@
 //! The program's words, carried out over real files and standard output.
 
 use crate::counted_out::CountedOut;
+use crate::explaining::put_code;
 use crate::folder::WithFolder;
 use crate::hint::Hint;
 use std::io::IsTerminal;
@@ -12,6 +13,9 @@ use yq_store::DiskStore;
 
 /// The answer to a command whose output goes to `out`, and what is reported beside it.
 fn answer_to(rt: &HostRuntime, out: &mut CountedOut<'_>) -> Result<(Answer, Option<Hint>), Fault> {
+    if put_code(rt, out)? {
+        return Ok((Answer::Done, None));
+    }
     let (command, folder) = asked_command(rt)?;
     if let Command::Help = command {
         put_help(rt, out)?;

@@ -23,14 +23,18 @@ switch id short = record (new_rule id) { short = Some short; long = Some id; act
 abbrev pub long_switch : List ℕ → Rule
 long_switch id = record (new_rule id) { long = Some id; action = Some SetTrue }
 
--- a command with `[--journal PATH] FILE`
-abbrev pub file_command : List ℕ → App
-file_command name = with_rule (with_rule (new_app name) journal_option) (positional (codes "file"))
+-- a command with the options of every command, `[--journal PATH] [--explain]`
+abbrev pub with_common : App → App
+with_common app = with_rule (with_rule app journal_option) (long_switch (codes "explain"))
 
--- the command `squash [--journal PATH] N FILE`
+-- a command with these options and FILE
+abbrev pub file_command : List ℕ → App
+file_command name = with_rule (with_common (new_app name)) (positional (codes "file"))
+
+-- the command `squash` with these options, N and FILE
 abbrev pub squash_command : App
 squash_command =
-    with_rule (with_rule (with_rule (new_app (codes "squash")) journal_option) (positional (codes "n"))) (positional (codes "file"))
+    with_rule (with_rule (with_common (new_app (codes "squash"))) (positional (codes "n"))) (positional (codes "file"))
 
 -- the command `eval` with `-i`, `-e` and `-N`
 abbrev pub lettered_command : App
@@ -41,10 +45,10 @@ lettered_command =
 abbrev pub switches_command : App
 switches_command = with_rule lettered_command (long_switch (codes "expect-change"))
 
--- the command `eval [-i] [-e] [-N] [--expect-change] [--journal PATH] [--text TEXT] EXPR FILE`
+-- the command `eval [-i] [-e] [-N] [--expect-change] [--journal PATH] [--explain] [--text TEXT] EXPR FILE`
 abbrev pub eval_command : App
 eval_command =
-    with_rule (with_rule (with_rule (with_rule switches_command journal_option) text_option) (positional (codes "expr"))) (positional (codes "file"))
+    with_rule (with_rule (with_rule (with_common switches_command) text_option) (positional (codes "expr"))) (positional (codes "file"))
 
 -- the commands `eval` and `undo`
 unfoldable pub two_commands : App

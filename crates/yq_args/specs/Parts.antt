@@ -2,7 +2,7 @@
 use Rattle.std.specs.Prelude.{List, [], ◌∷◌, codes}
 use Rattle.clap.specs.Words.{App, Rule, with_rule, with_subcommand}
 use Rattle.yq_args.specs.declared.line.Argument.{Argument}
-use Rattle.yq_args.specs.declared.line.Argument.TheVariants.{Inplace, ExitStatus, NoDoc, ExpectChange, Journal, Text, Expr, Count, File}
+use Rattle.yq_args.specs.declared.line.Argument.TheVariants.{Inplace, ExitStatus, NoDoc, ExpectChange, Journal, Explain, Text, Expr, Count, File}
 use Rattle.yq_args.specs.declared.line.SubCommand.{SubCommand}
 use Rattle.yq_args.specs.declared.line.SubCommand.TheVariants.{Eval, Undo, Redo, History, Squash}
 use Rattle.yq_args.specs.Line.{positional, journal_option, text_option, switch, long_switch, file_command, squash_command, eval_command}
@@ -14,6 +14,7 @@ argument_rule ExitStatus = switch (codes "exit-status") 101
 argument_rule NoDoc = switch (codes "no-doc") 78
 argument_rule ExpectChange = long_switch (codes "expect-change")
 argument_rule Journal = journal_option
+argument_rule Explain = long_switch (codes "explain")
 argument_rule Text = text_option
 argument_rule Expr = positional (codes "expr")
 argument_rule Count = positional (codes "n")

@@ -22,6 +22,8 @@ enum Argument {
     ExpectChange,
     /// `--journal PATH`
     Journal,
+    /// `--explain`
+    Explain,
     /// `--text TEXT`
     Text,
     /// EXPR
@@ -80,6 +82,7 @@ fn arg_of<'a>(alloc: Global, argument: Argument) -> Arg<'a>
         Argument::NoDoc => switch(alloc, "no-doc", 'N'),
         Argument::ExpectChange => long_switch(alloc, "expect-change"),
         Argument::Journal => Arg::new(alloc, "journal").long("journal"),
+        Argument::Explain => long_switch(alloc, "explain"),
         Argument::Text => Arg::new(alloc, "text").long("text"),
         Argument::Expr => positional(alloc, "expr"),
         Argument::Count => positional(alloc, "n"),
@@ -100,17 +103,32 @@ fn parts_of<'a>(word: SubCommand) -> (&'a str, &'a [Argument])
                 Argument::NoDoc,
                 Argument::ExpectChange,
                 Argument::Journal,
+                Argument::Explain,
                 Argument::Text,
                 Argument::Expr,
                 Argument::File,
             ],
         ),
-        SubCommand::Undo => ("undo", &[Argument::Journal, Argument::File]),
-        SubCommand::Redo => ("redo", &[Argument::Journal, Argument::File]),
-        SubCommand::History => ("history", &[Argument::Journal, Argument::File]),
+        SubCommand::Undo => (
+            "undo",
+            &[Argument::Journal, Argument::Explain, Argument::File],
+        ),
+        SubCommand::Redo => (
+            "redo",
+            &[Argument::Journal, Argument::Explain, Argument::File],
+        ),
+        SubCommand::History => (
+            "history",
+            &[Argument::Journal, Argument::Explain, Argument::File],
+        ),
         SubCommand::Squash => (
             "squash",
-            &[Argument::Journal, Argument::Count, Argument::File],
+            &[
+                Argument::Journal,
+                Argument::Explain,
+                Argument::Count,
+                Argument::File,
+            ],
         ),
     }
 }

@@ -71,7 +71,7 @@ fn line_of_words<'w>(
         let end = if command == "eval" {
             hint(option)
         } else {
-            ": '--journal PATH' is the only one of this command"
+            ": '--journal PATH' and '--explain' are those of this command"
         };
         return ("unexpected option", Some(option), end);
     }

@@ -109,12 +109,13 @@ const FOREIGN: [ForeignOption; 19] = [
 ];
 
 /// The names of the program's own options, and what to do in place of one that is near.
-const OWN: [(&str, &str); 7] = [
+const OWN: [(&str, &str); 8] = [
     ("--inplace", ": did you mean '--inplace'?"),
     ("--exit-status", ": did you mean '--exit-status'?"),
     ("--no-doc", ": did you mean '--no-doc'?"),
     ("--expect-change", ": did you mean '--expect-change'?"),
     ("--journal", ": did you mean '--journal'?"),
+    ("--explain", ": did you mean '--explain'?"),
     ("--text", ": did you mean '--text'?"),
     ("--help", ": did you mean '--help'?"),
 ];
@@ -140,7 +141,7 @@ pub fn is_known(command: &str, option: &str) -> bool {
         return unknown_letter(command, option).is_none();
     }
     match option {
-        "--help" => true,
+        "--help" | "--explain" => true,
         "--inplace" | "--exit-status" | "--no-doc" | "--expect-change" => command == "eval",
         _ => {
             option.starts_with("--journal=") || (command == "eval" && option.starts_with("--text="))

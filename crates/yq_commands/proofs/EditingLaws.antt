@@ -1,5 +1,5 @@
 -- Texts without a reading, and why a program is refused on a text.
-use Rattle.std.proofs.Common.{◌≡◌, ◌≢◌, ℕ, List, true, false, if◌then◌else◌, None, refl, sym, ap, subst, ◌∙◌, true≢false}
+use Rattle.std.proofs.Common.{◌≡◌, ◌≢◌, ℕ, List, true, false, if◌then◌else◌, None, refl, sym, ap, subst, ◌∙◌, true≢false, Err}
 use Rattle.std.specs.Str.{is_utf8}
 use Rattle.yq_core.{specs.declared.ReadFault.ReadFault, specs.declared.fault.FaultKind.TheVariants.NotUtf8}
 use Rattle.yq_documents.specs.Reading.{read_at, checked_at}
@@ -8,8 +8,11 @@ use Rattle.yq_edit_laws.{specs.Carried.{edit_of, program_done}, specs.Edit.by_re
 use Rattle.yq_edit_laws.specs.declared.edit_error.EditError.{EditError}
 use Rattle.yq_history.{specs.declared.fault.Fault.Fault, specs.declared.fault.Fault.TheVariants.{OutOfMemory, Unreadable}}
 use Rattle.yq_history.specs.Causes.{IsUnreadable}
-use Rattle.yq_commands.{specs.Editing.{Refuses, program_edits, unreadable, edit_outcome}, specs.CommandFaults.{of_edit, of_refusal}}
+use Rattle.yq_commands.specs.Editing.{Refuses, program_edits, program_in, result_of, unreadable, edit_outcome}
+use Rattle.yq_commands.specs.CommandFaults.{of_edit, of_parse, of_refusal}
+use Rattle.yq_expr_parser.{specs.declared.error.ParseError.ParseError, specs.Outcome.AnswersError, specs.Parse.outcome}
 use Rattle.yq_edit_laws.specs.declared.edit_error.EditError.TheVariants as error
+use Rattle.yq_expr_parser.specs.declared.error.ParseError.TheVariants as parse
 
 -- bytes that are no UTF-8
 pub not_read : (t : List ℕ) → is_utf8 t ≡ false → read_at t ≡ None
@@ -23,6 +26,14 @@ unread p t is = ap (λ o. edit_outcome t (by_reading (λ c. program_done p t) o)
 
 pub unread_refuses : (p : Program) (t : List ℕ) (e : Fault) → read_at t ≡ None → IsUnreadable t e → Refuses (program_edits p t) e
 unread_refuses p t e none reports = subst (λ o. Refuses o e) (sym (unread p t none)) reports
+
+-- why an expression has no program
+pub parse_refused : (t : List ℕ) (e : ParseError) → AnswersError e (outcome t) → of_parse e ≢ OutOfMemory → program_in t ≡ Err (of_parse e)
+unfolding program_in
+parse_refused t parse.Syntax h other = ap result_of h
+parse_refused t parse.NotInProfile h other = ap result_of h
+parse_refused t parse.Pattern h other = ap result_of h
+parse_refused t parse.Memory h other = absurd (other refl)
 
 -- ---- whether a fault tells that they are no UTF-8
 

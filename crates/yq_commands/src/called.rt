@@ -13,7 +13,7 @@ use yq_args::{Command, UsageCause, first_name, push_named, usage_text};
 use yq_history::Fault;
 
 /// The program's words, less its own name.
-fn owned_words(rt: &HostRuntime) -> Result<Vec<String>, Fault> {
+pub fn own_words(rt: &HostRuntime) -> Result<Vec<String>, Fault> {
     match std::env::args(rt) {
         Ok(args) => Ok(args.skip(1).collect(rt.alloc())?),
         Err(e) if e.kind() == ErrorKind::OutOfMemory => Err(Fault::OutOfMemory),
@@ -35,7 +35,7 @@ fn own_name(rt: &HostRuntime) -> Result<String, AllocError> {
 }
 
 /// The words as slices.
-fn as_slices<'w>(rt: &HostRuntime, owned: &'w [String]) -> Result<Vec<&'w str>, AllocError> {
+pub fn as_slices<'w>(rt: &HostRuntime, owned: &'w [String]) -> Result<Vec<&'w str>, AllocError> {
     let mut words = Vec::with_capacity(rt.alloc(), owned.len())?;
     for word in owned {
         words.push(word.as_str())?;
@@ -45,7 +45,7 @@ fn as_slices<'w>(rt: &HostRuntime, owned: &'w [String]) -> Result<Vec<&'w str>, 
 
 /// The command that the words ask for, and the folder of its journal where the environment names that.
 pub fn asked_command(rt: &HostRuntime) -> Result<(Command, Option<String>), Fault> {
-    let owned = owned_words(rt)?;
+    let owned = own_words(rt)?;
     let words = as_slices(rt, &owned)?;
     let command = command_of(rt.alloc(), &words)?;
     with_own_journal(rt, &words, command)
@@ -53,7 +53,7 @@ pub fn asked_command(rt: &HostRuntime) -> Result<(Command, Option<String>), Faul
 
 /// What is reported after the line of a refusal of the program's words: why, and the ways to call it.
 fn usage_lines(rt: &HostRuntime, cause: UsageCause) -> Result<String, Fault> {
-    let owned = owned_words(rt).unwrap_or(Vec::new(rt.alloc()));
+    let owned = own_words(rt).unwrap_or(Vec::new(rt.alloc()));
     let words = as_slices(rt, &owned)?;
     let is_file = match metadata(rt, Path::new(first_name(&words))) {
         Ok(found) => !found.is_dir(),

@@ -1,5 +1,6 @@
 //! The fault of a command for each cause that expressions tell.
-ghost use Rattle.std.specs.Prelude.{◌≡◌};
+ghost use Rattle.std.specs.Prelude.{◌≡◌, false};
+ghost use Rattle.yq_history.specs.Faults.{is_failure, is_output};
 ghost use Rattle.yq_commands.specs.CommandFaults.{of_edit, of_matching, of_parse, of_refusal};
 
 use yq_edit_laws::EditError;
@@ -9,7 +10,9 @@ use yq_semantics::{ExprError, Refusal};
 
 /// Why an expression has no program.
 pub fn parse_fault(error: ParseError) -> Fault
-    ensures { result ≡ of_parse error }
+    ensures value { result ≡ of_parse error }
+    ensures inside { is_failure result ≡ false }
+    ensures no_output { is_output result ≡ false }
 {
     match error {
         ParseError::Syntax => Fault::Syntax,

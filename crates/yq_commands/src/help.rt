@@ -12,6 +12,7 @@ Usage: % [eval|e] [-i] [-e] [-N] [--expect-change] [--text TEXT]
           [--journal PATH] EXPR FILE
        % undo|redo|history [--journal PATH] FILE
        % squash [--journal PATH] N FILE
+       % --explain CODE
 ";
 
 /// What `--help` prints after the ways to call the program.
@@ -37,6 +38,8 @@ Options:
       --text TEXT      set what EXPR leads to, to TEXT as it is
       --journal PATH   where the edits are recorded, in place of
                        FILE.undo.json
+      --explain        say where and why a command is refused, as on a
+                       terminal
   -h, --help           print the commands and options
 
 Examples:
@@ -52,7 +55,7 @@ Examples:
   % undo f.yaml
 
 Values:   \"text\" 8080 0.5 true null [1, \"b\"] {\"key\": 1} .other.path
-Codes:    man %, DIAGNOSTICS: what E1, Y9 and the others mean
+Codes:    % --explain Y9 says what Y9 means; man % has them all
 Version:  0.1.0
 ";
 

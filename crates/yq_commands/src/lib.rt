@@ -17,7 +17,7 @@ mod words;
 
 pub use answer::Answer;
 pub use answers::answer_of;
-pub use called::{asked_command, put_help, report_usage};
+pub use called::{as_slices, asked_command, own_words, put_help, report_usage};
 pub use commits::commit;
 pub use faults::edit_fault;
 pub use output::memory::MemoryOut;

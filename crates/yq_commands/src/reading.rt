@@ -13,14 +13,17 @@ use yq_semantics::Program;
 use yq_tree::text_of;
 
 /// The program of an expression.
-#[tactic(auto, unfolding(crate::specs::Editing::program_in))]
+#[tactic(auto, using(crate::proofs::EditingLaws::parse_refused), unfolding(crate::specs::Editing::program_in))]
 pub fn parse(alloc: Global, expr: &str) -> Result<Program, Fault>
     ensures ok { IfOk result (λ p. program_in expr.now ≡ Ok (program_of p)) }
     ensures err { IfErr result (λ e. e ≢ Fault.OutOfMemory → program_in expr.now ≡ Err e) }
     ensures inside { IfErr result (λ e. is_failure e ≡ false) }
     ensures no_output { IfErr result (λ e. is_output e ≡ false) }
 {
-    parse_expr(alloc, expr).map_err(parse_fault)
+    match parse_expr(alloc, expr) {
+        Ok(program) => Ok(program),
+        Err(fault) => Err(parse_fault(fault.error)),
+    }
 }
 
 /// The text of a file's bytes, which are refused where they are no UTF-8, however many they are.

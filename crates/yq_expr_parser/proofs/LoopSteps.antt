@@ -2,8 +2,8 @@
 use Rattle.std.proofs.Common.{◌≡◌, ℕ, List, [], ◌∷◌, ◌++◌, ◌<◌, subst, length, map, Option, Some, None, option_map, refl, sym, ap, ◌∙◌}
 use Rattle.std.{proofs.Common.{append_assoc, append-nil, Result, Err}, proofs.lemmas.List.map_push, specs.Borrow.Bor, specs.Prelude.codes}
 use Rattle.yq_core.specs.Answers.{◌>>=◌}
-use Rattle.yq_expr_parser.{specs.declared.error.ParseError.ParseError, specs.ReadAnswers.{ParseFails, GivesForm, with_tokens, IsShorter}}
-use Rattle.yq_expr_parser.specs.Lexing.{tokens, after}
+use Rattle.yq_expr_parser.{specs.declared.error.ParseError.ParseError, specs.declared.error.ParseFault.ParseFault}
+use Rattle.yq_expr_parser.{specs.ReadAnswers.{ParseFails, GivesForm, with_tokens, IsShorter}, specs.Lexing.{tokens, after}}
 use Rattle.yq_expr_parser.specs.Parse.{Parse, either, with_front, many, step_at, after_mark, parted_at, literal_at, field_at, stage_at}
 use Rattle.yq_expr_parser.specs.Parse.{term_at, parse_update}
 use Rattle.yq_expr_parser.proofs.Readers.{Lessens, many_next, Takes, Shortens, behind_takes, behind_shortens}
@@ -59,7 +59,7 @@ pub step_end : {X Y : Type 0} (v : X → Y) (next : List Token → Option (Optio
 step_end v next less xs rest w h o e is = loop_end next less (map v xs) (tokens rest) w h (e ∙ ap (λ o. Some (option_map (with_tokens v) o)) is)
 
 -- an error that is passed on
-pub failed : {Z Y : Type 0} (view : Z → Y) (r : Result Z ParseError) (f : ParseError) (w : Option Y) → ((x : ParseError) × (r ≡ Err x) × (x ≡ f)) → ParseFails f w → GivesForm view r w
+pub failed : {Z Y : Type 0} (view : Z → Y) (r : Result Z ParseFault) (f : ParseFault) (w : Option Y) → ((x : ParseFault) × (r ≡ Err x) × (x ≡ f)) → ParseFails f.error w → GivesForm view r w
 failed view r f w p h = rw (p.1, p.2) h
 
 pub before_some : {X : Type 0} (text : List ℕ) (o : Option (X × Bor (List ℕ))) (x : X) (b : Bor (List ℕ)) → IsShorter text o → o ≡ Some (x, b) → length b.now < length text

@@ -3,9 +3,10 @@ use Rattle.std.proofs.Common.{◌≡◌, ◌⊎◌, ℕ, zero, suc, ◌+◌, ◌
 use Rattle.std.proofs.Common.{Result, Ok, Err, refl, sym, ap, ◌∙◌, subst, inl, inr, arith, ltb-true, rules}
 use Rattle.std.{proofs.lemmas.Bool.{false≢true, or_cases, lt-ltb, or_parts}, proofs.lemmas.Option.none-some, specs.Prelude.{IfOk, IfErr}}
 use Rattle.yq_core.proofs.Bools.{chosen}
-use Rattle.yq_expr_parser.{specs.declared.error.ParseError.ParseError, specs.Lexing.{tokens, AreRead}}
+use Rattle.yq_expr_parser.{specs.declared.error.ParseError.ParseError, specs.declared.error.ParseFault.ParseFault}
+use Rattle.yq_expr_parser.specs.Lexing.{tokens, AreRead}
 use Rattle.yq_expr_parser.specs.Outcome.{parsed, refused, count_if, is_opening, is_closing, opening_count, closing_count, IsTooDeep}
-use Rattle.yq_expr_parser.specs.Outcome.{HasForeign, has_pattern, Derives, ExprRefused, Answers}
+use Rattle.yq_expr_parser.specs.Outcome.{HasForeign, has_pattern, Derives, ExprRefused, Answers, AnswersError}
 use Rattle.yq_expr_parser.specs.Parse.{is_unread, is_foreign_token, surveyed, program_at, unless_pattern, parse_outcome, outcome}
 use Rattle.yq_expr_parser.{proofs.TextTokens.{tokens_take, tokens_again}, proofs.UpdateTakes.program_takes}
 use Rattle.yq_expr_parser.proofs.ProgramAgain.{program_again}
@@ -182,17 +183,21 @@ outcome_again text p h none = let again = derives_again text p h in rw (again.0,
 
 -- ---- clauses
 
-pub found_by : {X : Type 0} (view : X → Program) (text : List ℕ) (r : Result X ParseError) → Answers view r (outcome text) → IfOk r (λ x. Derives text (view x) × (has_pattern (view x) ≡ false))
+pub found_by : {X : Type 0} (view : X → Program) (text : List ℕ) (r : Result X ParseFault) → Answers view r (outcome text) → IfOk r (λ x. Derives text (view x) × (has_pattern (view x) ≡ false))
 found_by view text (Ok x) h = outcome_parsed text (view x) h
 found_by view text (Err e) h = tt
 
-pub refused_by : {X : Type 0} (view : X → Program) (text : List ℕ) (r : Result X ParseError) → Answers view r (outcome text) → IfErr r (λ e. ExprRefused e text)
-refused_by view text r h1 = search (rules, outcome_refused)
+error_refused : (text : List ℕ) (e : ParseError) → AnswersError e (outcome text) → ExprRefused e text
+error_refused text e h1 = search (rules, outcome_refused)
 
-pub only_by : {X : Type 0} (view : X → Program) (text : List ℕ) (r : Result X ParseError) → Answers view r (outcome text)
+pub refused_by : {X : Type 0} (view : X → Program) (text : List ℕ) (r : Result X ParseFault) → Answers view r (outcome text) → IfErr r (λ e. ExprRefused e.error text)
+refused_by view text (Ok x) h = tt
+refused_by view text (Err e) h = error_refused text e.error h
+
+pub only_by : {X : Type 0} (view : X → Program) (text : List ℕ) (r : Result X ParseFault) → Answers view r (outcome text)
     → (p : Program) → Derives text p → has_pattern p ≡ false → Answers view r (parsed p)
 only_by view text r h p d none = subst (Answers view r) (outcome_again text p d none) h
 
-pub values_by : {X : Type 0} (view : X → Program) (text : List ℕ) (r : Result X ParseError) → Answers view r (outcome text) → IfOk r (λ x. LiteralsHold (view x))
+pub values_by : {X : Type 0} (view : X → Program) (text : List ℕ) (r : Result X ParseFault) → Answers view r (outcome text) → IfOk r (λ x. LiteralsHold (view x))
 values_by view text (Ok x) h = let d = (outcome_parsed text (view x) h).0 in literals_hold (view x) d.0 d.4
 values_by view text (Err e) h = tt

@@ -3,8 +3,8 @@ use Rattle.std.proofs.Common.{◌≡◌, ℕ, suc, ◌-◌, ◌<◌, length, ari
 use Rattle.std.{proofs.Common.{ap, ◌∙◌, subst, map, option_map, Result, Ok, Err}, specs.Borrow.Bor}
 use Rattle.std.specs.Prelude.{if◌then◌else◌, ◌==◌, is_some, codes}
 use Rattle.yq_core.{specs.Answers.◌>>=◌, specs.Values.items}
-use Rattle.yq_expr_parser.{specs.declared.error.ParseError.ParseError, specs.ReadAnswers.{ParseFails, GivesForm, ReadsForm, with_tokens}}
-use Rattle.yq_expr_parser.specs.Lexing.{tokens, after}
+use Rattle.yq_expr_parser.{specs.declared.error.ParseError.ParseError, specs.declared.error.ParseFault.ParseFault}
+use Rattle.yq_expr_parser.{specs.ReadAnswers.{ParseFails, GivesForm, ReadsForm, with_tokens}, specs.Lexing.{tokens, after}}
 use Rattle.yq_expr_parser.specs.Parse.{either, many, listed_at, field_at, literal_at, scalar_node_at, mapping_of, written_path}
 use Rattle.yq_expr_parser.{proofs.Readers.Lessens, proofs.LoopSteps.{onto, step_more}}
 use Rattle.yq_semantics.{specs.Program.PathStep, specs.Tokens.Token}
@@ -34,19 +34,22 @@ bind_fails f o _ h = h
 pub fails_as : {A : Type 0} (e : ParseError) (o z : Option A) → o ≡ z → ParseFails e z → ParseFails e o
 fails_as e o z is h = subst (ParseFails e) (sym is) h
 
-pub gives_as : {X Y : Type 0} (view : X → Y) (r : Result X ParseError) (o z : Option Y) → o ≡ z → GivesForm view r z → GivesForm view r o
+pub gives_as : {X Y : Type 0} (view : X → Y) (r : Result X ParseFault) (o z : Option Y) → o ≡ z → GivesForm view r z → GivesForm view r o
 gives_as view r o z is h = subst (GivesForm view r) (sym is) h
 
+closed_fails : {X Y : Type 0} (e : ParseError) (x : X) (y : Y) (o : Option (List Token)) → ParseFails e (option_map (λ q. (x, q)) o) → ParseFails e (o >>= λ q. Some (y, q))
+closed_fails error.Syntax x y (Some q) h = cc
+closed_fails error.Syntax x y None h = refl
+closed_fails error.Memory x y o h = tt
+closed_fails error.NotInProfile x y o h = h
+closed_fails error.Pattern x y o h = h
+
 -- a form that a mark closes, as it is seen
-pub closed_reads : {X Y : Type 0} (view : X → Y) (r : Result (X × Bor (List ℕ)) ParseError) (x : X) (o : Option (List Token))
+pub closed_reads : {X Y : Type 0} (view : X → Y) (r : Result (X × Bor (List ℕ)) ParseFault) (x : X) (o : Option (List Token))
     → ReadsForm (λ x. x) r (option_map (λ q. (x, q)) o) → ReadsForm view r (o >>= λ q. Some (view x, q))
 closed_reads view (Ok y) x (Some q) h = ap (option_map (λ p. (view p.0, p.1))) h
 closed_reads view (Ok y) x None h = cc
-closed_reads view (Err error.Syntax) x (Some q) h = cc
-closed_reads view (Err error.Syntax) x None h = refl
-closed_reads view (Err error.Memory) x o h = tt
-closed_reads view (Err error.NotInProfile) x o h = h
-closed_reads view (Err error.Pattern) x o h = h
+closed_reads view (Err e) x o h = closed_fails e.error x (view x) o h
 
 -- ---- forms one after the other, from the first one on
 

@@ -1,7 +1,7 @@
 -- What comes of a text: its program, or the first refusal in order.
 use Rattle.std.specs.Prelude.{◌≡◌, ◌≢◌, ℕ, ◌+◌, ◌<◌, ◌⊎◌, Bool, true, false, ◌||◌, ◌==◌, List, [], ◌∷◌, take, codes, Result, Ok, Err}
 use Rattle.std.specs.List.{list_any}
-use Rattle.yq_expr_parser.specs.declared.error.ParseError.{ParseError}
+use Rattle.yq_expr_parser.{specs.declared.error.ParseError.ParseError, specs.declared.error.ParseFault.ParseFault}
 use Rattle.yq_semantics.specs.Program.{PathStep, key, index, each, Operand, value_at, document_index, Condition, compares, has, Stage, path}
 use Rattle.yq_semantics.specs.Program.{select, Term, literal, found, Update, assign, delete, comment, Program, read, updates}
 use Rattle.yq_semantics.{specs.Tokens.{Token, foreign, is_symbol, AreTokens}, specs.Grammar.IsProgram}
@@ -122,6 +122,6 @@ AnswersError error.Pattern o = o ≡ refused error.Pattern
 AnswersError error.Memory o = Unit {0}
 
 -- An answer is that program or that refusal; want of memory says nothing (own).
-abbrev pub Answers : {X : Type 0} → (X → Program) → Result X ParseError → Outcome → Type 0
+abbrev pub Answers : {X : Type 0} → (X → Program) → Result X ParseFault → Outcome → Type 0
 Answers view (Ok x) o = o ≡ parsed (view x)
-Answers view (Err e) o = AnswersError e o
+Answers view (Err e) o = AnswersError e.error o

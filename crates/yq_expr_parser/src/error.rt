@@ -1,5 +1,5 @@
-//! Why a text is not a program.
-ghost use Rattle.std.specs.Prelude.{◌≡◌};
+//! Why a text is not a program, and where.
+ghost use Rattle.std.specs.Prelude.{◌≡◌, ◌≤◌, length};
 ghost use Rattle.yq_expr_parser.specs.declared.error.ParseError.TheVariants.{Memory};
 
 use std::alloc::{AllocError, AllocFailed};
@@ -17,18 +17,47 @@ pub enum ParseError {
     Memory,
 }
 
-impl From<AllocError> for ParseError {
-    ghost from_gives = { λ _ e. e ≡ Memory };
+/// Why a text is not a program, and where.
+#[derive(Clone, Copy, Debug)]
+pub struct ParseFault {
+    pub error: ParseError,
+    /// How many bytes of the text there are from the token at fault on.
+    pub left: usize,
+    /// What an expression has there: a mark, or the name of a form; empty where that isn't known.
+    pub expected: &'static str,
+}
 
-    fn from(_e: AllocError) -> ParseError {
-        ParseError::Memory
+impl ParseFault {
+    /// Where the token at fault begins in the text, in bytes.
+    pub fn at(&self, text: &str) -> usize
+        ensures { result ≤ length text.now }
+    {
+        text.len().saturating_sub(self.left)
     }
 }
 
-impl<T: Drop> From<AllocFailed<T>> for ParseError {
-    ghost from_gives = { λ _ e. e ≡ Memory };
+impl From<AllocError> for ParseFault {
+    ghost from_gives = { λ _ e. e.error ≡ Memory };
 
-    fn from(_e: AllocFailed<T>) -> ParseError {
-        ParseError::Memory
+    fn from(_e: AllocError) -> ParseFault {
+        let error = ParseError::Memory;
+        ParseFault {
+            error,
+            left: 0,
+            expected: "",
+        }
+    }
+}
+
+impl<T: Drop> From<AllocFailed<T>> for ParseFault {
+    ghost from_gives = { λ _ e. e.error ≡ Memory };
+
+    fn from(_e: AllocFailed<T>) -> ParseFault {
+        let error = ParseError::Memory;
+        ParseFault {
+            error,
+            left: 0,
+            expected: "",
+        }
     }
 }

@@ -5,8 +5,8 @@ ghost use Rattle.yq_expr_parser.specs.TokenView.{token_view};
 ghost use Rattle.yq_semantics.specs.Tokens.{Token};
 ghost use Rattle.yq_expr_parser.specs.Lexing as spec;
 
-use crate::error::ParseError;
-use crate::token::split_token;
+use crate::error::{ParseError, ParseFault};
+use crate::token::{left_of, split_token};
 use std::alloc::Global;
 
 /// Whether no token is left.
@@ -37,20 +37,24 @@ pub(crate) fn after<'t>(text: &'t str, symbol: &str) -> Option<&'t str>
 }
 
 /// What follows the mark or word, which has to be in front.
-pub(crate) fn expect<'t>(text: &'t str, symbol: &str) -> Result<&'t str, ParseError>
+pub(crate) fn expect<'t>(text: &'t str, symbol: &'static str) -> Result<&'t str, ParseFault>
     ensures value { GivesForm (λ r. spec.tokens r.now) result
         (spec.after symbol.now (spec.tokens text.now)) }
     ensures shorter { IfOk result (λ r. length r.now < length text.now) }
 {
-    after(text, symbol).ok_or(ParseError::Syntax)
+    after(text, symbol).ok_or(ParseFault {
+        error: ParseError::Syntax,
+        left: left_of(text),
+        expected: symbol,
+    })
 }
 
 /// A form and what follows the mark, which has to be after the form.
 pub(crate) fn closed<'t, T: Drop>(
     form: T,
     text: &'t str,
-    mark: &str,
-) -> Result<(T, &'t str), ParseError>
+    mark: &'static str,
+) -> Result<(T, &'t str), ParseFault>
     ensures value { ReadsForm (λ x. x) result
         (option_map (λ r. (form, r)) (spec.after mark.now (spec.tokens text.now))) }
     ensures shorter { Shortens text.now result }
@@ -75,24 +79,37 @@ pub(crate) fn number(text: &str) -> Option<(&str, &str)>
     }
 }
 
-/// The string in front, which has to be there, and what follows it.
+/// The string in front, which has to be there, and what follows it. `expected` names the form that is
+/// there in expressions.
 #[tactic(auto, using(crate::proofs::Lexing::tokens_next))]
-pub(crate) fn string(alloc: Global, text: &str) -> Result<(String, &str), ParseError>
+pub(crate) fn string<'t>(
+    alloc: Global,
+    text: &'t str,
+    expected: &'static str,
+) -> Result<(String, &'t str), ParseFault>
     ensures value { ReadsForm string_bytes result (spec.taken spec.as_string (spec.tokens text.now)) }
     ensures shorter { Shortens text.now result }
 {
     match split_token(text) {
         Some((token, rest)) => match token.string(alloc)? {
             Some(content) => Ok((content, rest)),
-            None => Err(ParseError::Syntax),
+            None => Err(ParseFault {
+                error: ParseError::Syntax,
+                left: left_of(text),
+                expected: expected,
+            }),
         },
-        None => Err(ParseError::Syntax),
+        None => Err(ParseFault {
+            error: ParseError::Syntax,
+            left: 0,
+            expected: expected,
+        }),
     }
 }
 
 /// The key of the named step in front and what follows it, if one is there.
 #[tactic(auto, using(crate::proofs::Lexing::tokens_next))]
-pub(crate) fn key(alloc: Global, text: &str) -> Result<Option<(String, &str)>, ParseError>
+pub(crate) fn key(alloc: Global, text: &str) -> Result<Option<(String, &str)>, ParseFault>
     ensures value { Succeeds (option_map (with_tokens string_bytes)) result
         (spec.taken spec.as_step (spec.tokens text.now)) }
     ensures shorter { IfOk result (λ o. IsShorter text.now o) }

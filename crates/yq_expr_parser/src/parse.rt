@@ -10,29 +10,30 @@ mod path;
 mod pipe;
 mod update;
 
-use crate::error::ParseError;
+use crate::error::{ParseError, ParseFault};
 use crate::front::is_end;
-use crate::pattern::has_pattern;
+use crate::pattern::{has_pattern, pattern_left};
 use crate::survey::survey;
+use crate::token::left_of;
 use std::alloc::Global;
 use yq_semantics::{Program, Stage, Syntax, Update};
 
 /// The program that a text says. Refusals come in this order: a token that can't be read, then a
 /// token of other expressions or more than 64 open brackets, then what is no program, then a
 /// pattern.
-pub fn parse_expr(alloc: Global, text: &str) -> Result<Program, ParseError>
+pub fn parse_expr(alloc: Global, text: &str) -> Result<Program, ParseFault>
     ensures exact { Answers program_of result (spec.outcome text.now) }
     ensures found { IfOk result (λ p. Derives text.now (program_of p) ×
         (has_pattern (program_of p) ≡ false)) }
     ensures only { (p : Outline) → Derives text.now p → has_pattern p ≡ false →
         Answers program_of result (parsed p) }
-    ensures refused { IfErr result (λ e. ExprRefused e text.now) }
+    ensures refused { IfErr result (λ e. ExprRefused e.error text.now) }
 {
     parse(alloc, text)
 }
 
 /// The program of a text.
-fn parse(alloc: Global, text: &str) -> Result<Program, ParseError>
+fn parse(alloc: Global, text: &str) -> Result<Program, ParseFault>
     ensures { Answers program_of result (spec.outcome text.now) }
 {
     let syntax = syntax(alloc, text)?;
@@ -41,21 +42,30 @@ fn parse(alloc: Global, text: &str) -> Result<Program, ParseError>
 
 /// The syntax tree of the program of a text.
 #[tactic(auto, unfolding(crate::specs::Parse::outcome))]
-fn syntax(alloc: Global, text: &str) -> Result<Syntax, ParseError>
+fn syntax(alloc: Global, text: &str) -> Result<Syntax, ParseFault>
     ensures { Answers program_of result (spec.outcome text.now) }
 {
-    if survey(text)? {
-        return Err(ParseError::NotInProfile);
+    let (is_other, left) = survey(text)?;
+    if is_other {
+        return Err(ParseFault {
+            error: ParseError::NotInProfile,
+            left,
+            expected: "",
+        });
     }
     let syntax = program(alloc, text)?;
     if has_pattern(&syntax) {
-        return Err(ParseError::Pattern);
+        return Err(ParseFault {
+            error: ParseError::Pattern,
+            left: pattern_left(text),
+            expected: "",
+        });
     }
     Ok(syntax)
 }
 
 /// A pipe, and no more.
-fn read(alloc: Global, text: &str) -> Result<Vec<Stage>, ParseError>
+fn read(alloc: Global, text: &str) -> Result<Vec<Stage>, ParseFault>
     ensures { GivesForm (λ v. map stage_of v.items) result
         (spec.whole_form spec.pipe_at (tokens text.now)) }
 {
@@ -63,31 +73,60 @@ fn read(alloc: Global, text: &str) -> Result<Vec<Stage>, ParseError>
     if is_end(rest) {
         Ok(stages)
     } else {
-        Err(ParseError::Syntax)
+        Err(ParseFault {
+            error: ParseError::Syntax,
+            left: left_of(rest),
+            expected: "end",
+        })
     }
 }
 
 /// Updates, and no more.
 #[tactic(auto, unfolding(crate::specs::Parse::updates_at))]
-fn updates(alloc: Global, text: &str) -> Result<Syntax, ParseError>
+fn updates(alloc: Global, text: &str) -> Result<Syntax, ParseFault>
     ensures { GivesForm program_of result (spec.updates_at literal_depth (tokens text.now)) }
 {
     let (updates, rest) = update::updates(alloc, text)?;
     if is_end(rest) {
         Ok(Syntax::Updates(updates))
     } else {
-        Err(ParseError::Syntax)
+        Err(ParseFault {
+            error: ParseError::Syntax,
+            left: left_of(rest),
+            expected: "end",
+        })
+    }
+}
+
+/// That one of two faults that is further on in the text.
+fn further(fault: ParseFault, other: ParseFault) -> ParseFault {
+    if fault.left < other.left {
+        fault
+    } else {
+        other
     }
 }
 
 /// A program: a pipe if the text is one, and else updates.
 #[tactic(auto, unfolding(crate::specs::Parse::program_at))]
-fn program(alloc: Global, text: &str) -> Result<Syntax, ParseError>
+fn program(alloc: Global, text: &str) -> Result<Syntax, ParseFault>
     ensures { GivesForm program_of result (spec.program_at literal_depth (tokens text.now)) }
 {
     match read(alloc, text) {
         Ok(stages) => Ok(Syntax::Read(stages)),
-        Err(ParseError::Syntax) => updates(alloc, text),
-        Err(e) => Err(e),
+        Err(first) => match first.error {
+            ParseError::Syntax => match updates(alloc, text) {
+                Ok(syntax) => Ok(syntax),
+                Err(fault) => {
+                    let place = further(first, fault);
+                    Err(ParseFault {
+                        error: fault.error,
+                        left: place.left,
+                        expected: place.expected,
+                    })
+                }
+            },
+            ParseError::NotInProfile | ParseError::Pattern | ParseError::Memory => Err(first),
+        },
     }
 }

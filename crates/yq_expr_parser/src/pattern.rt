@@ -3,6 +3,7 @@ ghost use Rattle.std.{specs.List.list_any, specs.Prelude.{◌≡◌, ◌==◌, �
 ghost use Rattle.yq_semantics.specs.View.{program_step, operand_of, condition_of, stage_of, term_of, update_of, program_of};
 ghost use Rattle.yq_expr_parser.specs.Outcome as spec;
 
+use crate::token::{Token, left_of, split_token};
 use yq_semantics::{Condition, Operand, PathStep, Stage, Syntax, Term, Update};
 
 /// Whether the text has a `*` or a `?`.
@@ -99,6 +100,25 @@ fn any_matches(updates: &[Update]) -> bool
     updates.iter().any(|update| update_matches(update))
 }
 
+/// Whether a bracket after the token opens a list, and no step.
+fn precedes_list(token: Token<'_>) -> bool {
+    token.is_symbol("=")
+        || token.is_symbol("|=")
+        || token.is_symbol("+=")
+        || token.is_symbol("+")
+        || token.is_symbol("[")
+        || token.is_symbol(",")
+        || token.is_symbol(":")
+}
+
+/// Whether a string after the token is compared, or is a key.
+fn precedes_key(token: Token<'_>, opens_list: bool) -> bool {
+    token.is_symbol("==")
+        || token.is_symbol("!=")
+        || token.is_symbol("(")
+        || (token.is_symbol("[") && !opens_list)
+}
+
 /// Whether the program asks for keys or values that match a pattern.
 #[tactic(auto, using(yq_semantics::proofs::Lists::list_any_map))]
 pub(crate) fn has_pattern(syntax: &Syntax) -> bool
@@ -108,4 +128,21 @@ pub(crate) fn has_pattern(syntax: &Syntax) -> bool
         Syntax::Read(stages) => pipe_matches(stages),
         Syntax::Updates(updates) => any_matches(updates),
     }
+}
+
+/// How much of the text of such a program is left from the first token on that is such a key, or such a
+/// string that isn't written as a value.
+pub(crate) fn pattern_left(text: &str) -> usize {
+    let mut is_key = false;
+    let mut opens_list = false;
+    let mut rest = text;
+    'tokens: while let Some((token, behind)) = split_token(rest) {
+        if is_pattern(token.piece()) && (is_key || token.is_step()) {
+            return left_of(rest);
+        }
+        is_key = precedes_key(token, opens_list);
+        opens_list = precedes_list(token);
+        rest = behind;
+    }
+    0
 }

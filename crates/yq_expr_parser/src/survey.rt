@@ -4,8 +4,8 @@ ghost use Rattle.yq_expr_parser.{specs.ReadAnswers.GivesForm, specs.Lexing.token
 ghost use Rattle.yq_expr_parser.specs.Outcome as grammar;
 ghost use Rattle.yq_expr_parser.specs.Parse as spec;
 
-use crate::error::ParseError;
-use crate::token::{Token, split_token};
+use crate::error::{ParseError, ParseFault};
+use crate::token::{Token, left_of, split_token};
 
 /// How many brackets may be open at one place.
 const MAX_OPEN: usize = 64;
@@ -29,24 +29,36 @@ fn counted(found: bool, n: usize) -> usize
     if found { n + 1 } else { n }
 }
 
-/// Whether the text has a token that only other expressions have, or too many open brackets.
+/// How much is left from the first token on that is found.
+fn first_left(is_found: bool, left: usize, rest: &str) -> usize {
+    if is_found { left } else { left_of(rest) }
+}
+
+/// Whether the text has a token that only other expressions have, or too many open brackets, and how
+/// much is left from the first such token on.
 #[tactic(auto, using(crate::proofs::Lexing::tokens_next), unfolding(crate::specs::Parse::surveyed))]
-pub(crate) fn survey(text: &str) -> Result<bool, ParseError>
-    ensures { GivesForm (λ b. b) result (spec.surveyed false 0 0 (tokens text.now)) }
+pub(crate) fn survey(text: &str) -> Result<(bool, usize), ParseFault>
+    ensures { GivesForm (λ x. x.0) result (spec.surveyed false 0 0 (tokens text.now)) }
 {
     let mut other = false;
+    let mut left = 0;
     let mut opened = 0;
     let mut closed = 0;
     let mut rest = text;
     'tokens: loop {
         let Some((token, behind)) = split_token(rest) else {
-            return Ok(other);
+            return Ok((other, left));
         };
         if token.is_unread() {
-            return Err(ParseError::Syntax);
+            return Err(ParseFault {
+                error: ParseError::Syntax,
+                left: left_of(rest),
+                expected: "",
+            });
         }
         opened = counted(is_opening(token), opened);
         closed = counted(is_closing(token), closed);
+        left = first_left(other, left, rest);
         other = other || token.is_foreign() || closed + MAX_OPEN < opened;
         rest = behind;
     }

@@ -64,6 +64,11 @@ fn past_blank(text: &str) -> &str
     text.split_at(blanks_len(text.as_bytes())).1
 }
 
+/// How many bytes there are from the token in front on.
+pub(crate) fn left_of(text: &str) -> usize {
+    past_blank(text).len()
+}
+
 /// The token in front and what follows it, if the text doesn't end before.
 #[tactic(auto, using(crate::proofs::Lexing::boundary_token, crate::proofs::Lexing::token_some))]
 pub(crate) fn split_token(text: &str) -> Option<(Token<'_>, &str)>
@@ -103,6 +108,11 @@ impl<'t> Token<'t> {
             | TokenForm::Foreign
             | TokenForm::Unread => false,
         }
+    }
+
+    /// How it is written.
+    pub(crate) fn piece(self) -> &'t str {
+        self.piece
     }
 
     /// Whether no token begins there.

@@ -4,8 +4,9 @@ ghost use Rattle.yq_expr_parser.{specs.ReadAnswers.{ReadsForm, Shortens, IsShort
 ghost use Rattle.yq_core.{specs.Values.{value_node, field_of}, specs.Keys.are_distinct};
 ghost use Rattle.yq_expr_parser.specs.Parse as spec;
 
-use crate::error::ParseError;
+use crate::error::{ParseError, ParseFault};
 use crate::front::{after, closed, expect, number, string};
+use crate::token::left_of;
 use std::alloc::{AllocError, Global};
 use yq_core::{Scalar, Value};
 use yq_scalar_reader::are_distinct;
@@ -29,7 +30,7 @@ fn word(text: &str) -> Option<(&'static str, &str)>
 
 /// A scalar.
 #[tactic(auto, unfolding(crate::specs::Parse::parse_scalar))]
-pub(super) fn scalar(alloc: Global, text: &str) -> Result<(Scalar, &str), ParseError>
+pub(super) fn scalar(alloc: Global, text: &str) -> Result<(Scalar, &str), ParseFault>
     ensures value { ReadsForm (λ s. s) result (spec.parse_scalar (tokens text.now)) }
     ensures shorter { Shortens text.now result }
 {
@@ -41,7 +42,7 @@ pub(super) fn scalar(alloc: Global, text: &str) -> Result<(Scalar, &str), ParseE
         let scalar = Scalar::plain(alloc, word)?;
         return Ok((scalar, rest));
     }
-    let (content, rest) = string(alloc, text)?;
+    let (content, rest) = string(alloc, text, "value")?;
     Ok((Scalar::string(content), rest))
 }
 
@@ -65,7 +66,7 @@ fn keys_differ(alloc: Global, fields: &Vec<(String, Value)>) -> Result<bool, All
 }
 
 /// A scalar as a value.
-fn scalar_value(alloc: Global, text: &str) -> Result<(Value, &str), ParseError>
+fn scalar_value(alloc: Global, text: &str) -> Result<(Value, &str), ParseFault>
     ensures value { ReadsForm value_node result (spec.scalar_node_at (tokens text.now)) }
     ensures shorter { Shortens text.now result }
 {
@@ -75,7 +76,7 @@ fn scalar_value(alloc: Global, text: &str) -> Result<(Value, &str), ParseError>
 /// A literal in which `depth` collections are nested at most.
 #[cycle(literal)]
 #[tactic(auto, unfolding(crate::specs::Parse::literal_at))]
-pub(super) fn literal(alloc: Global, text: &str, depth: usize) -> Result<(Value, &str), ParseError>
+pub(super) fn literal(alloc: Global, text: &str, depth: usize) -> Result<(Value, &str), ParseFault>
     ensures value { ReadsForm value_node result (spec.literal_at depth (tokens text.now)) }
     ensures shorter { Shortens text.now result }
 {
@@ -91,14 +92,18 @@ pub(super) fn literal(alloc: Global, text: &str, depth: usize) -> Result<(Value,
         if keys_differ(alloc, &fields)? {
             return Ok((Value::Map(fields), rest));
         }
-        return Err(ParseError::Syntax);
+        return Err(ParseFault {
+            error: ParseError::Syntax,
+            left: left_of(text),
+            expected: "other keys",
+        });
     }
     scalar_value(alloc, text)
 }
 
 /// The items of a list, from after its opening bracket.
 #[cycle(literal)]
-fn list(alloc: Global, text: &str, depth: usize) -> Result<(Vec<Value>, &str), ParseError>
+fn list(alloc: Global, text: &str, depth: usize) -> Result<(Vec<Value>, &str), ParseFault>
     ensures value { ReadsForm (λ v. map value_node v.items) result (spec.listed_at (codes "]")
         (spec.literal_at depth) (tokens text.now)) }
     ensures shorter { Shortens text.now result }
@@ -124,7 +129,7 @@ fn mapping(
     alloc: Global,
     text: &str,
     depth: usize,
-) -> Result<(Vec<(String, Value)>, &str), ParseError>
+) -> Result<(Vec<(String, Value)>, &str), ParseFault>
     ensures value { ReadsForm (λ v. map field_of v.items) result (spec.listed_at (codes "}") (spec.field_at (spec.literal_at depth)) (tokens text.now)) }
     ensures shorter { Shortens text.now result }
 {
@@ -145,11 +150,11 @@ fn mapping(
 
 /// A string, `:` and a literal.
 #[cycle(literal)]
-fn field(alloc: Global, text: &str, depth: usize) -> Result<((String, Value), &str), ParseError>
+fn field(alloc: Global, text: &str, depth: usize) -> Result<((String, Value), &str), ParseFault>
     ensures value { ReadsForm field_of result (spec.field_at (spec.literal_at depth) (tokens text.now)) }
     ensures shorter { Shortens text.now result }
 {
-    let (key, rest) = string(alloc, text)?;
+    let (key, rest) = string(alloc, text, "key")?;
     let rest = expect(rest, ":")?;
     let (value, rest) = literal(alloc, rest, depth)?;
     Ok(((key, value), rest))

@@ -5,15 +5,16 @@ ghost use Rattle.yq_expr_parser.specs.Lexing.{tokens};
 ghost use Rattle.yq_semantics.specs.View.{program_step};
 ghost use Rattle.yq_expr_parser.specs.Parse as spec;
 
-use crate::error::ParseError;
+use crate::error::{ParseError, ParseFault};
 use crate::front::{after, closed, key, number, string};
+use crate::token::left_of;
 use std::alloc::Global;
 use yq_scalar_reader::int_value;
 use yq_semantics::PathStep;
 
 /// A step in brackets, from after the opening one.
 #[tactic(auto, unfolding(crate::specs::Parse::bracketed_at))]
-fn bracketed(alloc: Global, text: &str) -> Result<(PathStep, &str), ParseError>
+fn bracketed(alloc: Global, text: &str) -> Result<(PathStep, &str), ParseFault>
     ensures value { ReadsForm program_step result (spec.bracketed_at (tokens text.now)) }
     ensures shorter { Shortens text.now result }
 {
@@ -21,15 +22,19 @@ fn bracketed(alloc: Global, text: &str) -> Result<(PathStep, &str), ParseError>
         return Ok((PathStep::Each, rest));
     }
     if let Some((digits, rest)) = number(text) {
-        let index = int_value(digits).ok_or(ParseError::Syntax)?;
+        let index = int_value(digits).ok_or(ParseFault {
+            error: ParseError::Syntax,
+            left: left_of(text),
+            expected: "step",
+        })?;
         return closed(PathStep::Index(index), rest, "]");
     }
-    let (key, rest) = string(alloc, text)?;
+    let (key, rest) = string(alloc, text, "step")?;
     closed(PathStep::Key(key), rest, "]")
 }
 
 /// A step in brackets, if an opening one is in front.
-fn bracket(alloc: Global, text: &str) -> Result<Option<(PathStep, &str)>, ParseError>
+fn bracket(alloc: Global, text: &str) -> Result<Option<(PathStep, &str)>, ParseFault>
     ensures value { ReadsMaybe program_step result (spec.bracket_at (tokens text.now)) }
     ensures shorter { IfOk result (λ o. IsShorter text.now o) }
 {
@@ -41,7 +46,7 @@ fn bracket(alloc: Global, text: &str) -> Result<Option<(PathStep, &str)>, ParseE
 
 /// A step of a path, if one is in front.
 #[tactic(auto, unfolding(crate::specs::Parse::step_at))]
-fn next_step(alloc: Global, text: &str) -> Result<Option<(PathStep, &str)>, ParseError>
+fn next_step(alloc: Global, text: &str) -> Result<Option<(PathStep, &str)>, ParseFault>
     ensures value { ReadsMaybe program_step result (spec.step_at (tokens text.now)) }
     ensures shorter { IfOk result (λ o. IsShorter text.now o) }
 {
@@ -55,7 +60,7 @@ fn next_step(alloc: Global, text: &str) -> Result<Option<(PathStep, &str)>, Pars
 }
 
 /// The steps in front, all of them.
-fn steps(alloc: Global, text: &str) -> Result<(Vec<PathStep>, &str), ParseError>
+fn steps(alloc: Global, text: &str) -> Result<(Vec<PathStep>, &str), ParseFault>
     ensures value { ReadsForm (λ v. map program_step v.items) result
         (spec.many spec.step_at (tokens text.now)) }
     ensures within { IfOk result (λ x. length x.1.now ≤ length text.now) }
@@ -76,13 +81,17 @@ fn steps(alloc: Global, text: &str) -> Result<(Vec<PathStep>, &str), ParseError>
 
 /// A path: its steps, none for `.`.
 #[tactic(auto, unfolding(crate::specs::Parse::path_at))]
-pub(super) fn path(alloc: Global, text: &str) -> Result<(Vec<PathStep>, &str), ParseError>
+pub(super) fn path(alloc: Global, text: &str) -> Result<(Vec<PathStep>, &str), ParseFault>
     ensures value { ReadsForm (λ v. map program_step v.items) result
         (spec.path_at (tokens text.now)) }
     ensures shorter { Shortens text.now result }
 {
     if after(text, "[").is_some() {
-        return Err(ParseError::Syntax);
+        return Err(ParseFault {
+            error: ParseError::Syntax,
+            left: left_of(text),
+            expected: ".",
+        });
     }
     let (steps, rest) = steps(alloc, text)?;
     if steps.is_empty() {

@@ -6,7 +6,7 @@ ghost use Rattle.yq_expr_parser.specs.Parse as spec;
 
 use super::literal::literal;
 use super::pipe::{left, pipe};
-use crate::error::ParseError;
+use crate::error::ParseFault;
 use crate::front::{after, begins_step, closed, expect, string};
 use std::alloc::Global;
 use yq_semantics::{Assignment, Comment, CommentPlace, Operator, Stage, Term, Update};
@@ -30,7 +30,7 @@ fn begins_left(text: &str) -> bool
 
 /// A term of a sum.
 #[tactic(auto, unfolding(crate::specs::Parse::term_at))]
-fn term(alloc: Global, text: &str) -> Result<(Term, &str), ParseError>
+fn term(alloc: Global, text: &str) -> Result<(Term, &str), ParseFault>
     ensures value { ReadsForm term_of result (spec.term_at literal_depth (tokens text.now)) }
     ensures shorter { Shortens text.now result }
 {
@@ -42,7 +42,7 @@ fn term(alloc: Global, text: &str) -> Result<(Term, &str), ParseError>
 
 /// A sum: its terms.
 #[tactic(auto, unfolding(crate::specs::Parse::right_at))]
-fn right(alloc: Global, text: &str) -> Result<(Vec<Term>, &str), ParseError>
+fn right(alloc: Global, text: &str) -> Result<(Vec<Term>, &str), ParseFault>
     ensures value { ReadsForm (λ v. map term_of v.items) result
         (spec.right_at literal_depth (tokens text.now)) }
     ensures shorter { Shortens text.now result }
@@ -74,7 +74,7 @@ fn operator(text: &str) -> Option<(Operator, &str)>
 }
 
 /// The place of a comment.
-fn place(text: &str) -> Result<(CommentPlace, &str), ParseError>
+fn place(text: &str) -> Result<(CommentPlace, &str), ParseFault>
     ensures value { ReadsForm (λ p. p) result (spec.place_at (tokens text.now)) }
     ensures shorter { Shortens text.now result }
 {
@@ -86,7 +86,7 @@ fn place(text: &str) -> Result<(CommentPlace, &str), ParseError>
 
 /// What is done with what `left` finds.
 #[tactic(auto, unfolding(crate::specs::Parse::action_at))]
-fn action(alloc: Global, left: Vec<Stage>, text: &str) -> Result<(Update, &str), ParseError>
+fn action(alloc: Global, left: Vec<Stage>, text: &str) -> Result<(Update, &str), ParseFault>
     ensures value { ReadsForm update_of result (spec.action_at literal_depth (map stage_of left.items)
         (tokens text.now)) }
     ensures shorter { Shortens text.now result }
@@ -103,13 +103,13 @@ fn action(alloc: Global, left: Vec<Stage>, text: &str) -> Result<(Update, &str),
         ));
     }
     let (place, rest) = place(text)?;
-    let (text, rest) = string(alloc, expect(rest, "=")?)?;
+    let (text, rest) = string(alloc, expect(rest, "=")?, "text")?;
     Ok((Update::Comment(Comment { left, place, text }), rest))
 }
 
 /// An update.
 #[tactic(auto, unfolding(crate::specs::Parse::parse_update))]
-fn update(alloc: Global, text: &str) -> Result<(Update, &str), ParseError>
+fn update(alloc: Global, text: &str) -> Result<(Update, &str), ParseFault>
     ensures value { ReadsForm update_of result (spec.parse_update literal_depth (tokens text.now)) }
     ensures shorter { Shortens text.now result }
 {
@@ -122,7 +122,7 @@ fn update(alloc: Global, text: &str) -> Result<(Update, &str), ParseError>
 }
 
 /// Updates, one after the other.
-pub(super) fn updates(alloc: Global, text: &str) -> Result<(Vec<Update>, &str), ParseError>
+pub(super) fn updates(alloc: Global, text: &str) -> Result<(Vec<Update>, &str), ParseFault>
     ensures value { ReadsForm (λ v. map update_of v.items) result
         (spec.parted_at (codes "|") (spec.parse_update literal_depth) (tokens text.now)) }
     ensures shorter { Shortens text.now result }

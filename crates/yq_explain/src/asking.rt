@@ -1,0 +1,30 @@
+//! The words that ask for such lines.
+
+/// Whether `--explain` is one of the options.
+pub fn asks_lines(words: &[&str]) -> bool {
+    let mut rest = words;
+    'words: while let [word, behind @ ..] = rest {
+        match *word {
+            "--explain" => return true,
+            "--" => return false,
+            _ => rest = behind,
+        }
+    }
+    false
+}
+
+/// The code of which alone the words ask.
+pub fn asked_code<'w>(words: &[&'w str]) -> Option<&'w str> {
+    match words {
+        ["--explain", code] if is_code(code) => Some(code),
+        _ => None,
+    }
+}
+
+/// Whether a word is written as codes are: a capital letter and a number.
+fn is_code(word: &str) -> bool {
+    match word.as_bytes() {
+        [letter, digit, ..] => letter.is_ascii_uppercase() && digit.is_ascii_digit(),
+        _ => false,
+    }
+}

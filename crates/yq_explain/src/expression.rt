@@ -1,0 +1,48 @@
+//! Where an expression is at fault, in lines.
+
+use crate::advice::advice_on;
+use crate::caret::{push_caret, push_name};
+use crate::expected::push_expected;
+use crate::rows::push_rows;
+use std::alloc::{AllocError, Global};
+use yq_expr_parser::{ParseFault, parse_expr};
+
+/// Adds what can be done about an expression that is refused; where neither that nor what was expected
+/// is known, what the code stands for.
+fn push_advice(
+    alloc: Global,
+    out: &mut String,
+    expr: &str,
+    fault: ParseFault,
+    code: &str,
+) -> Result<(), AllocError> {
+    match advice_on(alloc, expr, fault)? {
+        Some(advice) => {
+            out.push_str(advice.what)?;
+            if !advice.instead.is_empty() {
+                out.push_str(": ")?;
+                push_name(out, advice.instead.as_str())?;
+            }
+            out.push('\n')
+        }
+        None if fault.expected.is_empty() => push_rows(out, code, false).map(|_| ()),
+        None => Ok(()),
+    }
+}
+
+/// Where an expression is at fault, in lines: its line with a caret below the token at fault, what was
+/// expected there, and what can be done. Of one that is none of these, what the code stands for.
+pub fn expression_lines(alloc: Global, expr: &str, code: &str) -> Result<String, AllocError> {
+    let mut out = String::new(alloc);
+    match parse_expr(alloc, expr) {
+        Ok(_) => {
+            push_rows(&mut out, code, false)?;
+        }
+        Err(fault) => {
+            push_caret(&mut out, expr, fault.at(expr))?;
+            push_expected(&mut out, fault.expected)?;
+            push_advice(alloc, &mut out, expr, fault, code)?;
+        }
+    }
+    Ok(out)
+}

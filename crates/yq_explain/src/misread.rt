@@ -1,0 +1,137 @@
+//! What is no expression.
+
+use crate::advice::{Advice, BY_SELECT, advise, of_value, rewrite};
+use crate::parts::{Parts, first_char, last_char, parted_at_value};
+use crate::updates::{of_comma, of_equals, of_step};
+use std::alloc::{AllocError, Global};
+
+/// The expression with double quotes in the place of single ones.
+fn with_double(alloc: Global, expr: &str) -> Result<String, AllocError> {
+    let mut text = String::new(alloc);
+    'chars: for c in expr.chars() {
+        text.push(if c == '\'' { '"' } else { c })?;
+    }
+    Ok(text)
+}
+
+/// About a text in quotes that can't be read.
+fn of_quote(alloc: Global, expr: &str, p: Parts<'_>) -> Result<Option<Advice>, AllocError> {
+    if p.after.contains('"') {
+        return advise(
+            alloc,
+            "a text ends at its second quote; after '\\' there is one of \", \\, n, t and r",
+        );
+    }
+    rewrite(alloc, "a text ends at its second quote", &[expr, "\""])
+}
+
+/// How a key of other characters is written.
+const OTHER_KEY: &str = "a key of other characters is written in double quotes";
+
+/// About a dot before what is no name.
+fn of_dot(alloc: Global, p: Parts<'_>) -> Result<Option<Advice>, AllocError> {
+    let key = parted_at_value(p.after, 0);
+    match first_char(p.after) {
+        Some(c) if c.is_ascii_digit() => {
+            let (number, rest) = match key.token.split_once('.') {
+                Some((number, _)) => p
+                    .after
+                    .split_at_checked(number.len())
+                    .unwrap_or((number, "")),
+                None => (key.token, key.after),
+            };
+            let parts = [p.before, "[", number, "]", rest];
+            rewrite(alloc, "an item is named by its number in brackets", &parts)
+        }
+        Some(_) if !key.token.is_empty() => {
+            let parts = [p.before, ".\"", key.token, "\"", key.after];
+            rewrite(alloc, OTHER_KEY, &parts)
+        }
+        _ => Ok(None),
+    }
+}
+
+/// About a place at which no token begins.
+fn of_unread(
+    alloc: Global,
+    expr: &str,
+    at: usize,
+    p: Parts<'_>,
+) -> Result<Option<Advice>, AllocError> {
+    match p.token.chars().next() {
+        None => rewrite(alloc, "the path of the whole document is a dot", &["."]),
+        Some('"') => of_quote(alloc, expr, p),
+        Some('\'') => Ok(Some(Advice {
+            what: "a text is written in double quotes",
+            instead: with_double(alloc, expr)?,
+        })),
+        Some('.') => of_dot(alloc, p),
+        _ if p.before.ends_with('.') => {
+            let key = parted_at_value(expr, at);
+            let path = key.before.len().saturating_add(1);
+            let word = key.token.split_once('.').unwrap_or(("", key.token)).1;
+            let before = expr.split_at_checked(path).unwrap_or((expr, "")).0;
+            rewrite(alloc, OTHER_KEY, &[before, "\"", word, "\"", key.after])
+        }
+        _ => Ok(None),
+    }
+}
+
+/// About a token behind an opening bracket, or where a key or value is missing.
+fn of_bracket(alloc: Global, p: Parts<'_>, expected: &str) -> Result<Option<Advice>, AllocError> {
+    match (p.token.chars().next(), expected) {
+        (Some(':'), "]") => advise(
+            alloc,
+            "each item is named by its own number: there are no ranges",
+        ),
+        (Some('}' | ']'), "key" | "value") => {
+            let before = p.before.trim_end();
+            let parts = [before.strip_suffix(',').unwrap_or(before), p.token, p.after];
+            rewrite(alloc, "no comma comes before a closing bracket", &parts)
+        }
+        (_, "step") => advise(alloc, BY_SELECT),
+        _ => Ok(None),
+    }
+}
+
+/// About what is no expression; `expected` is what the parser expected there.
+pub fn of_misread(
+    alloc: Global,
+    expr: &str,
+    at: usize,
+    p: Parts<'_>,
+    expected: &str,
+) -> Result<Option<Advice>, AllocError> {
+    if expected.is_empty() || expr.trim().is_empty() {
+        return of_unread(alloc, expr, at, p);
+    }
+    match p.token.chars().next() {
+        Some(_) if expected == "(" => {
+            let parts = [p.before.trim_end(), "(", p.token, p.after.trim_end(), ")"];
+            return rewrite(alloc, "parentheses come after it", &parts);
+        }
+        Some('=' | '|' | '+') => return of_equals(alloc, p, expected),
+        Some(':') if expected == "head_comment" => {
+            let parts = [p.before.trim_end(), " =", p.after];
+            return rewrite(alloc, "a value is set by '='", &parts);
+        }
+        Some(',') => return of_comma(alloc, p),
+        Some('[') if expected == "." => {
+            let parts = [p.before, ".", p.token, p.after];
+            return rewrite(alloc, "a path begins with a dot", &parts);
+        }
+        Some('.' | '[') if matches!(last_char(p.before), Some(')')) => {
+            return of_step(alloc, p);
+        }
+        Some('.') if first_char(parted_at_value(expr, at).token) != Some('.') => {
+            return of_value(alloc, expr, at);
+        }
+        Some('.') if matches!(first_char(p.after), Some('0'..='9')) => return of_dot(alloc, p),
+        Some('.') if expected == "end" => {
+            let parts = [p.before.trim_end(), " | ", p.token, p.after];
+            return rewrite(alloc, "'|' comes between two updates", &parts);
+        }
+        _ => {}
+    }
+    of_bracket(alloc, p, expected)
+}

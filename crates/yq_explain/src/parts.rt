@@ -1,0 +1,105 @@
+//! An expression, parted at the token at fault.
+
+/// An expression, parted at the token at fault.
+#[derive(Clone, Copy)]
+pub struct Parts<'e> {
+    /// What stands before the token.
+    pub before: &'e str,
+    /// A word, or a mark of one character or of two that are equal.
+    pub token: &'e str,
+    pub after: &'e str,
+}
+
+/// Whether a character is one of words.
+pub fn is_word_char(c: char) -> bool {
+    c.is_alphanumeric() || c == '_'
+}
+
+/// Whether a character can be one of a value without quotes.
+fn is_value_char(c: char) -> bool {
+    is_word_char(c) || matches!(c, '.' | '-' | '/' | '@' | '~')
+}
+
+/// How many bytes the word in front has.
+fn word_len(text: &str) -> usize {
+    let mut len = 0usize;
+    'chars: for c in text.chars() {
+        if !is_word_char(c) {
+            return len;
+        }
+        len = len.saturating_add(c.len_utf8());
+    }
+    len
+}
+
+/// How many bytes the value without quotes in front has.
+fn value_len(text: &str) -> usize {
+    let mut len = 0usize;
+    'chars: for c in text.chars() {
+        if !is_value_char(c) {
+            return len;
+        }
+        len = len.saturating_add(c.len_utf8());
+    }
+    len
+}
+
+/// Where the value without quotes begins with which a text ends.
+fn value_start(text: &str) -> usize {
+    let mut start = 0usize;
+    let mut at = 0usize;
+    'chars: for c in text.chars() {
+        at = at.saturating_add(c.len_utf8());
+        if !is_value_char(c) {
+            start = at;
+        }
+    }
+    start
+}
+
+/// How many bytes the mark in front has: one character, or two where these are equal.
+fn mark_len(text: &str) -> usize {
+    let mut chars = text.chars();
+    match (chars.next(), chars.next()) {
+        (Some(first), Some(second)) if first == second => first.len_utf8().saturating_mul(2),
+        (Some(first), _) => first.len_utf8(),
+        (None, _) => 0,
+    }
+}
+
+/// An expression, parted where its token at fault begins.
+pub fn parted(expr: &str, at: usize) -> Parts<'_> {
+    let (before, rest) = expr.split_at_checked(at).unwrap_or((expr, ""));
+    let word = word_len(rest);
+    let len = if word > 0 { word } else { mark_len(rest) };
+    let (token, after) = rest.split_at_checked(len).unwrap_or((rest, ""));
+    Parts {
+        before,
+        token,
+        after,
+    }
+}
+
+/// The same, parted at the whole value without quotes that goes on at this place.
+pub fn parted_at_value(expr: &str, at: usize) -> Parts<'_> {
+    let before = expr.split_at_checked(at).unwrap_or((expr, "")).0;
+    let (before, rest) = expr
+        .split_at_checked(value_start(before))
+        .unwrap_or((expr, ""));
+    let (token, after) = rest.split_at_checked(value_len(rest)).unwrap_or((rest, ""));
+    Parts {
+        before,
+        token,
+        after,
+    }
+}
+
+/// The last character of a text, less white space at its end.
+pub fn last_char(text: &str) -> Option<char> {
+    text.trim_end().chars().last()
+}
+
+/// The first character of a text, less white space in front.
+pub fn first_char(text: &str) -> Option<char> {
+    text.trim_start().chars().next()
+}

@@ -1,0 +1,65 @@
+//! Updates whose places or parts are not written as they are here.
+
+use crate::advice::{Advice, advise, rewrite};
+use crate::parts::Parts;
+use std::alloc::{AllocError, Global};
+
+/// How selected places are updated.
+const IN_PARENTHESES: &str = "selected places are written in parentheses";
+
+/// About an operator, where a comparison or nothing was expected.
+pub fn of_equals(
+    alloc: Global,
+    p: Parts<'_>,
+    expected: &str,
+) -> Result<Option<Advice>, AllocError> {
+    let before = p.before.trim_end();
+    if before.ends_with("==") {
+        return rewrite(alloc, "values are compared by '=='", &[before, p.after]);
+    }
+    match expected {
+        "!=" => rewrite(
+            alloc,
+            "values are compared by '=='",
+            &[p.before, "==", p.after],
+        ),
+        "end" if before.contains('|') => {
+            let parts = ["(", before, ") ", p.token, p.after];
+            rewrite(alloc, IN_PARENTHESES, &parts)
+        }
+        _ => Ok(None),
+    }
+}
+
+/// About a comma.
+pub fn of_comma(alloc: Global, p: Parts<'_>) -> Result<Option<Advice>, AllocError> {
+    let before = p.before.trim_end();
+    if before.starts_with("del(") {
+        let parts = [before, ") | del(", p.after.trim_start()];
+        return rewrite(alloc, "one 'del' for each place", &parts);
+    }
+    if before.contains('=') {
+        let parts = [before, " |", p.after];
+        return rewrite(alloc, "'|' comes between two updates", &parts);
+    }
+    advise(alloc, "one path in each run: there is no ','")
+}
+
+/// About steps after a closing parenthesis.
+pub fn of_step(alloc: Global, p: Parts<'_>) -> Result<Option<Advice>, AllocError> {
+    let before = p.before.trim_end();
+    let inner = match before.strip_prefix('(') {
+        Some(inner) => inner.strip_suffix(')').unwrap_or(inner),
+        None => before,
+    };
+    let (steps, rest) = match p.after.split_once(' ') {
+        Some((steps, rest)) => (steps, rest),
+        None => (p.after, ""),
+    };
+    if rest.contains('=') {
+        let parts = ["(", inner, " | ", p.token, steps, ") ", rest];
+        return rewrite(alloc, IN_PARENTHESES, &parts);
+    }
+    let parts = [inner, " | ", p.token, steps, " ", rest];
+    rewrite(alloc, "steps come after '|'", &parts)
+}
