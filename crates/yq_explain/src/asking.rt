@@ -2,12 +2,11 @@
 
 /// Whether `--explain` is one of the options.
 pub fn asks_lines(words: &[&str]) -> bool {
-    let mut rest = words;
-    'words: while let [word, behind @ ..] = rest {
+    'words: for word in words {
         match *word {
             "--explain" => return true,
             "--" => return false,
-            _ => rest = behind,
+            _ => {}
         }
     }
     false
