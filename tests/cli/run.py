@@ -27,6 +27,7 @@ import help_examples
 import installing
 import journal_trust
 import links
+import journals
 import memory
 import mutations
 import other_users
@@ -42,7 +43,7 @@ from tables import run_tables
 
 CHECKS = [
     edits, arguments, help_examples, completions, docs_agree, compared, installing, failures, links, owners, other_users,
-    journal_trust, swaps, temp_files, disks, containers, reads, shells, random_edits, forms, mutations, concurrency,
+    journal_trust, swaps, temp_files, disks, containers, reads, shells, random_edits, forms, mutations, journals, concurrency,
     external_writes, fault_injection, memory,
 ]
 
