@@ -28,6 +28,7 @@ import help_examples
 import installing
 import journal_folder
 import journal_trust
+import journals
 import limits
 import links
 import lists
@@ -49,7 +50,7 @@ from tables import run_tables
 CHECKS = [
     edits, arguments, explaining, help_examples, completions, docs_agree, compared, installing, failures, links, lists, owners,
     other_users, journal_folder, journal_trust, swaps, temp_files, limits, stacks, slow_texts, disks, containers, reads, shells,
-    random_edits, forms, mutations, concurrency, external_writes, fault_injection, memory,
+    random_edits, forms, mutations, journals, concurrency, external_writes, fault_injection, memory,
 ]
 
 sys.exit(run_all(CHECKS, [run_tables, run_pages], sys.argv))

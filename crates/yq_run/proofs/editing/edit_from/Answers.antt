@@ -25,7 +25,7 @@ returns g c =
       expected = on_ok c.commit.result
           (c.is_as_expected-report.ensures ∙ ap (λ t. changes_as_expected c.args.options t c.as_bytes-new.result.now) c.as_slice-2.ensures.value
           ∙ ap (edits_as_expected c.args.options c.args.text.items) (sym gives));
-      unasked = λ free matched. c.is_as_expected-report.ensures ∙ free_edit c.args.options _ _ free;
+      unasked = λ free matched. c.is_as_expected-report.ensures ∙ free_edit c.args.options c.as_slice-2.result.now c.as_bytes-new.result.now free;
       kept = e.kept;
       others = e.others;
       no_output = e.no_output;
