@@ -56,7 +56,7 @@ fn line_of_words<'w>(
 ) -> UsageLine<'w> {
     let first = found.names[0];
     if !is_named && found.is_behind && is_command_word(first) {
-        return ("no command behind '--':", Some(first), " is EXPR there");
+        return ("no command after '--':", Some(first), " is EXPR there");
     }
     if !is_named
         && !found.is_behind
@@ -81,7 +81,7 @@ fn line_of_words<'w>(
     match surplus(command, found) {
         Some(word) => ("unexpected word", Some(word), ": each run takes one FILE"),
         None => (
-            "an option stands twice, or has a value that it doesn't take",
+            "an option is there twice, or has a value that it doesn't take",
             None,
             "",
         ),

@@ -69,7 +69,7 @@ const FOREIGN: [ForeignOption; 19] = [
     ForeignOption {
         letters: b"vqD",
         names: &["--verbose", "--quiet", "--silent", "--debug"],
-        hint: ": nothing is told but what is refused",
+        hint: ": nothing is reported but what is refused",
     },
     ForeignOption {
         letters: b"d",
@@ -94,7 +94,7 @@ const FOREIGN: [ForeignOption; 19] = [
     ForeignOption {
         letters: b"0",
         names: &["--nul-output"],
-        hint: ": a line feed stands behind each value",
+        hint: ": a line feed comes after each value",
     },
     ForeignOption {
         letters: b"",
@@ -104,7 +104,7 @@ const FOREIGN: [ForeignOption; 19] = [
     ForeignOption {
         letters: b"E",
         names: &["--expression", "--regexp"],
-        hint: ": EXPR stands before FILE, without an option",
+        hint: ": EXPR comes before FILE, without an option",
     },
 ];
 
@@ -121,7 +121,7 @@ const OWN: [(&str, &str); 8] = [
 ];
 
 /// What to do in place of any other option.
-const OTHER: &str = ": a word behind '--' may begin with '-'";
+const OTHER: &str = ": a word after '--' may begin with '-'";
 
 /// The first letter after `-` that is none of a command's options.
 fn unknown_letter(command: &str, option: &str) -> Option<u8> {
@@ -152,9 +152,9 @@ pub fn is_known(command: &str, option: &str) -> bool {
 /// What is missing after an option that takes a value, where none is there.
 pub fn without_value(command: &str, option: &str) -> Option<&'static str> {
     match option {
-        "--journal" => Some("no PATH behind '--journal'"),
+        "--journal" => Some("no PATH after '--journal'"),
         "--text" if command == "eval" => {
-            Some("no TEXT behind '--text': one that begins with '-' stands in '--text=TEXT'")
+            Some("no TEXT after '--text': one that begins with '-' goes into '--text=TEXT'")
         }
         _ => None,
     }
