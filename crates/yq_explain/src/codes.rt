@@ -5,18 +5,18 @@
 pub type Row = (&'static str, &'static str, &'static str, &'static str);
 
 // The rows of the manual: begin.
-pub const ROWS: [Row; 63] = [
+pub const ROWS: [Row; 64] = [
     (
         "U1",
         "usage",
-        "The words don't fit: a flag that isn't there, no FILE, two files, '-' as FILE, the journal named as the file, an N that is no number. The line below tells which word, and what to do.",
+        "The words don't fit: a flag that isn't there, no FILE, two files, '-' as FILE, the journal named as the file, an N that is no number. The next line says which word, and what to do.",
         "'yq --help'. For standard input name '/dev/stdin', in reads. After '--' are names that begin with '-'.",
     ),
     (
         "E1",
         "syntax",
-        "The expression is none.",
-        "Look for a quote that isn't closed, a path that doesn't begin with a dot ('.[0]', not '[0]'), a pipe on a left side without parentheses, a key twice in a literal, an index that is no whole number.",
+        "The expression is not valid.",
+        "Look for a quote that isn't closed, a path that doesn't begin with a dot ('.[0]', not '[0]'), a pipe on a left side without parentheses. It may also be a key twice in a literal, or an index that is no whole number.",
     ),
     (
         "E1",
@@ -28,7 +28,7 @@ pub const ROWS: [Row; 63] = [
         "E2",
         "not in profile",
         "A word or operator of yq version 4 that isn't taken on here.",
-        "FROM-YQ-V4.md tells what to use.",
+        "FROM-YQ-V4.md says what to use.",
     ),
     (
         "E2",
@@ -57,14 +57,14 @@ pub const ROWS: [Row; 63] = [
     (
         "S2",
         "read failed",
-        "The file or its journal can't be read, or is a folder, a device or, for an edit, a pipe, or an open file below '/proc'; the journal belongs to a user who may not write the file, or such a user may write it; the file system has no locks; the file's name is longer than 245 bytes, so that the journal's is too long; the file is too long for 'undo', 'redo' or 'squash'; or another run kept the file's lock for 60 seconds.",
-        "Look at the rights of both, and at the journal's owner: see \"A journal that is refused\" of MANUAL.md. '--journal' names a shorter one. Where every command waits for a minute, a run hangs or is stopped ('fuser f.yaml' names it): end it, or try again.",
+        "The file or its journal can't be read, or is a folder, a device, an open file below '/proc' or, for an edit, a pipe. Or the journal belongs to a user that may not write the file, or such a user may write it. Or the file system has no locks, or another run kept the file's lock for 60 seconds. Or the file's name is longer than 245 bytes, so that the journal's is too long; the journal has more than 96 MiB; or the file is too long for 'undo', 'redo' or 'squash'.",
+        "Look at the rights of both, and at the journal's owner: see \"A journal that is refused\" of MANUAL.md. '--journal' names a shorter one, and 'YQ_JOURNAL_LIMIT' reads a larger one. Where every command waits for a minute, a run hangs or is stopped ('fuser f.yaml' names it): end it, or try again.",
     ),
     (
         "S3",
         "write failed",
-        "The file, its journal or their folder can't be written: rights, a full disk, a read-only disk, a file that is mounted on its own, a journal's name that is a link to nothing; or another program saved the file while the command ran.",
-        "Mend that, or try again. The next command settles what was begun.",
+        "The file, its journal or their folder can't be written: rights, a full disk, a read-only disk, a file that is mounted on its own, a journal's name that is a link to nothing. Or the journal would have more than 64 MiB, or another program saved the file while the command ran.",
+        "Mend that, or try again; of a journal that is too large, see \"The journal\" of MANUAL.md. The next command settles what was begun.",
     ),
     (
         "S4",
@@ -93,7 +93,7 @@ pub const ROWS: [Row; 63] = [
     (
         "J4",
         "bad journal",
-        "The journal's text isn't one.",
+        "The journal is not valid.",
         "Restore it, or remove it: the file stays, its history is lost.",
     ),
     (
@@ -106,7 +106,7 @@ pub const ROWS: [Row; 63] = [
         "J6",
         "journal full",
         "4,096 edits are recorded.",
-        "'yq squash N f.yaml', or put the journal away.",
+        "'yq squash 4096 f.yaml' joins them all, a smaller number the last ones; or put the journal away.",
     ),
     (
         "J7",
@@ -121,10 +121,16 @@ pub const ROWS: [Row; 63] = [
         "",
     ),
     (
+        "N1",
+        "no matches found",
+        "With '--expect-change': the update changes no byte.",
+        "",
+    ),
+    (
         "M1",
         "out of memory",
         "The system gave no more memory.",
-        "Nothing was written but whole texts; try again.",
+        "The file is intact: try again.",
     ),
     (
         "X1",
@@ -192,7 +198,12 @@ pub const ROWS: [Row; 63] = [
         "A line comment has one line; a comment holds printable characters only.",
         "'head_comment' takes several lines.",
     ),
-    ("X12", "root delete", "The whole document would go.", ""),
+    (
+        "X12",
+        "root delete",
+        "The whole document would go.",
+        "",
+    ),
     (
         "X13",
         "too deep",
@@ -229,7 +240,12 @@ pub const ROWS: [Row; 63] = [
         "A character that isn't printable, or a byte order mark.",
         "Remove it; in a text in double quotes it can be written as an escape.",
     ),
-    ("Y3", "tab indent", "A tab in the indentation.", "Spaces."),
+    (
+        "Y3",
+        "tab indent",
+        "A tab in the indentation.",
+        "Spaces.",
+    ),
     (
         "Y4",
         "directive",
@@ -242,7 +258,12 @@ pub const ROWS: [Row; 63] = [
         "A tag.",
         "Not taken on: it changes what a text means.",
     ),
-    ("Y6", "explicit key", "A key after '?'.", "'a: 1'."),
+    (
+        "Y6",
+        "explicit key",
+        "A key after '?'.",
+        "'a: 1'.",
+    ),
     (
         "Y7",
         "merge key",
