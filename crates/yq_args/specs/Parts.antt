@@ -2,8 +2,8 @@
 use Rattle.std.specs.Prelude.{List, [], ◌∷◌, codes}
 use Rattle.clap.specs.Words.{App, Rule, with_rule, with_subcommand}
 use Rattle.yq_args.specs.declared.line.Argument.{Argument}
-use Rattle.yq_args.specs.declared.line.Argument.TheVariants.{Inplace, ExitStatus, NoDoc, ExpectChange, Journal, Explain, Text, Expr, Count, File}
-use Rattle.yq_args.specs.declared.line.SubCommand.{SubCommand}
+use Rattle.yq_args.specs.declared.line.Argument.TheVariants.{Inplace, ExitStatus, NoDoc, ExpectChange, Journal, Explain, Text, Expr, Count}
+use Rattle.yq_args.{specs.declared.line.Argument.TheVariants.File, specs.declared.line.SubCommand.SubCommand}
 use Rattle.yq_args.specs.declared.line.SubCommand.TheVariants.{Eval, Undo, Redo, History, Squash}
 use Rattle.yq_args.specs.Line.{positional, journal_option, text_option, switch, long_switch, file_command, squash_command, eval_command}
 

@@ -198,12 +198,7 @@ pub const ROWS: [Row; 64] = [
         "A line comment has one line; a comment holds printable characters only.",
         "'head_comment' takes several lines.",
     ),
-    (
-        "X12",
-        "root delete",
-        "The whole document would go.",
-        "",
-    ),
+    ("X12", "root delete", "The whole document would go.", ""),
     (
         "X13",
         "too deep",
@@ -240,12 +235,7 @@ pub const ROWS: [Row; 64] = [
         "A character that isn't printable, or a byte order mark.",
         "Remove it; in a text in double quotes it can be written as an escape.",
     ),
-    (
-        "Y3",
-        "tab indent",
-        "A tab in the indentation.",
-        "Spaces.",
-    ),
+    ("Y3", "tab indent", "A tab in the indentation.", "Spaces."),
     (
         "Y4",
         "directive",
@@ -258,12 +248,7 @@ pub const ROWS: [Row; 64] = [
         "A tag.",
         "Not taken on: it changes what a text means.",
     ),
-    (
-        "Y6",
-        "explicit key",
-        "A key after '?'.",
-        "'a: 1'.",
-    ),
+    ("Y6", "explicit key", "A key after '?'.", "'a: 1'."),
     (
         "Y7",
         "merge key",
