@@ -37,7 +37,8 @@ fails_as e o z is h = subst (ParseFails e) (sym is) h
 pub gives_as : {X Y : Type 0} (view : X → Y) (r : Result X ParseFault) (o z : Option Y) → o ≡ z → GivesForm view r z → GivesForm view r o
 gives_as view r o z is h = subst (GivesForm view r) (sym is) h
 
-closed_fails : {X Y : Type 0} (e : ParseError) (x : X) (y : Y) (o : Option (List Token)) → ParseFails e (option_map (λ q. (x, q)) o) → ParseFails e (o >>= λ q. Some (y, q))
+closed_fails : {X Y : Type 0} (e : ParseError) (x : X) (y : Y) (o : Option (List Token)) → ParseFails {Y = X × List Token} e (option_map (λ q. (x, q)) o)
+    → ParseFails {Y = Y × List Token} e (o >>= λ q. Some (y, q))
 closed_fails error.Syntax x y (Some q) h = cc
 closed_fails error.Syntax x y None h = refl
 closed_fails error.Memory x y o h = tt
