@@ -13,7 +13,7 @@ BEGIN, END = "// The rows of the manual: begin.\n", "// The rows of the manual: 
 
 
 def plain(cell):
-    """A cell's text without the marks of Markdown; what stands between backticks is in quotes."""
+    """A cell's text without the marks of Markdown; what is between backticks is in quotes."""
     text = LINK.sub(r"\1", HERE.sub(r'"\1" of MANUAL.md', cell.strip().replace("\\|", "|")))
     return re.sub(r"`([^`]*)`", lambda it: it[1] if it[0] == text else f"'{it[1]}'", text)
 

@@ -4,6 +4,7 @@
 - definitions whose comments name no section, and names that two files of specs/ define
 - names that have a better word in the glossary, and names of crates that crates.txt doesn't list
 - lines that say memory ran out where none was asked for (tools/memory.py)
+- sentences of the pages with more than 35 words, and words that have a plainer one (tools/plain.py)
 - clauses that are too wide, wrong bodies of both tiers that can't be applied, versions that differ, options that help, man page or a
   completion tells otherwise than the table, rows of codes that are other than the manual's, and links of pages that lead nowhere
 
@@ -28,6 +29,7 @@ from glossary import coined
 from imports import misformed
 from memory import unasked
 from options import retold
+from plain import not_plain
 from version import other_versions
 
 sys.path.append(os.path.join(ROOT, "tests", "cli"))
@@ -170,7 +172,7 @@ def main(words):
     try:
         copy = os.path.join(room, "copy")
         shutil.copytree(ROOT, copy, symlinks=True, ignore=LEFT)
-        of_copy = (misplaced, badly_laid, misformed, faulty_definitions, coined, unasked, unknown_crates)
+        of_copy = (misplaced, badly_laid, misformed, faulty_definitions, coined, unasked, unknown_crates, not_plain)
         found = [it for look in of_copy for it in look(copy)]
         found += [*too_wide(), *not_applied(), *other_versions(), *otherwise_told(), *other_codes(), *lost_links()]
     finally:

@@ -7,7 +7,7 @@ use crate::parts::{Parts, first_char, is_word_char, last_char, parted, parted_at
 use std::alloc::{AllocError, Global};
 use yq_expr_parser::{ParseError, ParseFault};
 
-/// What can be done, and the expression as it may have been meant; that is empty where it can't be told.
+/// What can be done, and the expression as it may have been meant; that is empty where it isn't known.
 #[derive(Drop)]
 pub struct Advice {
     pub what: &'static str,
@@ -97,7 +97,7 @@ fn of_word(
     }
 }
 
-/// What can be done about an expression in which a fault was found, if that can be told.
+/// What can be done about an expression in which a fault was found, if that is known.
 pub fn advice_on(
     alloc: Global,
     expr: &str,

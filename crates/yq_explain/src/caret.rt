@@ -41,7 +41,7 @@ pub fn push_name(out: &mut String, name: &str) -> Result<(), AllocError> {
     Ok(())
 }
 
-/// Adds what stands before a place on its line, cut in front where the whole line is long. In how many columns it is.
+/// Adds what is before a place on its line, cut in front where the whole line is long. In how many columns it is.
 fn push_before(out: &mut String, before: &str, after: &str) -> Result<usize, AllocError> {
     let count = before.chars().count();
     let is_long = count.saturating_add(after.chars().count()) > COLUMNS;
@@ -61,7 +61,7 @@ fn push_before(out: &mut String, before: &str, after: &str) -> Result<usize, All
     Ok(columns)
 }
 
-/// Adds what stands from a place on, to the last column.
+/// Adds what is from a place on, to the last column.
 fn push_after(out: &mut String, after: &str, before: usize) -> Result<(), AllocError> {
     let mut columns = before;
     'chars: for c in after.chars() {
@@ -73,7 +73,7 @@ fn push_after(out: &mut String, after: &str, before: usize) -> Result<(), AllocE
     Ok(())
 }
 
-/// What stands before a place on its line.
+/// What is before a place on its line.
 pub fn line_before(before: &str) -> &str {
     match before.rsplit_once('\n') {
         Some((_, line)) => line,
@@ -81,7 +81,7 @@ pub fn line_before(before: &str) -> &str {
     }
 }
 
-/// What stands from a place on, on its line.
+/// What is from a place on, on its line.
 fn line_after(after: &str) -> &str {
     let line = match after.split_once('\n') {
         Some((line, _)) => line,

@@ -1,4 +1,4 @@
-//! What each code stands for: the rows of the manual's tables on what is refused, which tools/codes.py
+//! What each code means: the rows of the manual's tables on what is refused, which tools/codes.py
 //! writes here.
 
 /// A code, its words, what causes it, and what to do.
@@ -58,13 +58,13 @@ pub const ROWS: [Row; 64] = [
         "S2",
         "read failed",
         "The file or its journal can't be read, or is a folder, a device, an open file below '/proc' or, for an edit, a pipe. Or the journal belongs to a user that may not write the file, or such a user may write it. Or the file system has no locks, or another run kept the file's lock for 60 seconds. Or the file's name is longer than 245 bytes, so that the journal's is too long; the journal has more than 96 MiB; or the file is too long for 'undo', 'redo' or 'squash'.",
-        "Look at the rights of both, and at the journal's owner: see \"A journal that is refused\" of MANUAL.md. '--journal' names a shorter one, and 'YQ_JOURNAL_LIMIT' reads a larger one. Where every command waits for a minute, a run hangs or is stopped ('fuser f.yaml' names it): end it, or try again.",
+        "Look at the rights of both, and at the journal's owner: see \"A journal that is refused\" of MANUAL.md. Where each command waits for a minute, 'fuser f.yaml' names the run that has the lock: end it. Without locks, 'YQ_NO_LOCK=1'. '--journal' gives the journal a shorter name, and 'YQ_JOURNAL_LIMIT=N' reads one of N MiB.",
     ),
     (
         "S3",
         "write failed",
         "The file, its journal or their folder can't be written: rights, a full disk, a read-only disk, a file that is mounted on its own, a journal's name that is a link to nothing. Or the journal would have more than 64 MiB, or another program saved the file while the command ran.",
-        "Mend that, or try again; of a journal that is too large, see \"The journal\" of MANUAL.md. The next command settles what was begun.",
+        "Mend that. Where 'yq history f.yaml' lists the edit as done, it was made: don't repeat it. Of a journal that is too large, see \"The journal\" of MANUAL.md.",
     ),
     (
         "S4",
@@ -130,7 +130,7 @@ pub const ROWS: [Row; 64] = [
         "M1",
         "out of memory",
         "The system gave no more memory.",
-        "The file is intact: try again.",
+        "The file is whole. Where 'yq history f.yaml' lists the edit as done, it was made: don't repeat it.",
     ),
     (
         "X1",
@@ -245,8 +245,8 @@ pub const ROWS: [Row; 64] = [
     (
         "Y5",
         "tag",
-        "A tag.",
-        "Not taken on: it changes what a text means.",
+        "A tag, anywhere in the file.",
+        "The file is refused whole, as a tag changes what a text means. Edit it by another program; it can't be undone here.",
     ),
     ("Y6", "explicit key", "A key after '?'.", "'a: 1'."),
     (

@@ -8,7 +8,7 @@ use std::alloc::{AllocError, Global};
 use yq_expr_parser::{ParseFault, parse_expr};
 
 /// Adds what can be done about an expression that is refused; where neither that nor what was expected
-/// is known, what the code stands for.
+/// is known, what the code means.
 fn push_advice(
     alloc: Global,
     out: &mut String,
@@ -31,7 +31,7 @@ fn push_advice(
 }
 
 /// Where an expression is at fault, in lines: its line with a caret below the token at fault, what was
-/// expected there, and what can be done. Of one that is none of these, what the code stands for.
+/// expected there, and what can be done. Of one that is none of these, what the code means.
 pub fn expression_lines(alloc: Global, expr: &str, code: &str) -> Result<String, AllocError> {
     let mut out = String::new(alloc);
     match parse_expr(alloc, expr) {

@@ -77,7 +77,7 @@ fn of_unread(
     }
 }
 
-/// About a token behind an opening bracket, or where a key or value is missing.
+/// About a token after an opening bracket, or where a key or value is missing.
 fn of_bracket(alloc: Global, p: Parts<'_>, expected: &str) -> Result<Option<Advice>, AllocError> {
     match (p.token.chars().next(), expected) {
         (Some(':'), "]") => advise(

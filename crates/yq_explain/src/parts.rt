@@ -3,7 +3,7 @@
 /// An expression, parted at the token at fault.
 #[derive(Clone, Copy)]
 pub struct Parts<'e> {
-    /// What stands before the token.
+    /// What is before the token.
     pub before: &'e str,
     /// A word, or a mark of one character or of two that are equal.
     pub token: &'e str,

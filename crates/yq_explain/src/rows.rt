@@ -1,4 +1,4 @@
-//! What a code stands for, in lines.
+//! What a code means, in lines.
 
 use crate::codes::ROWS;
 use std::alloc::{AllocError, Global};
