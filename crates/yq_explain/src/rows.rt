@@ -7,11 +7,10 @@ use yq_history::Fault;
 /// The code with which the line of a fault begins.
 pub fn code_of(alloc: Global, fault: Fault) -> Result<String, AllocError> {
     let line = format!(in alloc; "{fault}")?;
-    let code = match line.split_once(' ') {
-        Some((code, _)) => code,
-        None => line.as_str(),
-    };
-    String::from_str(alloc, code)
+    match line.split_once(' ') {
+        Some((code, _)) => String::from_str(alloc, code),
+        None => String::from_str(alloc, &line),
+    }
 }
 
 /// Adds a line after its head, where there is something to say.
