@@ -8,7 +8,7 @@ from crates import ROOT
 FROM, TO = "docs/MANUAL.md", "crates/yq_explain/src/codes.rt"
 ROW = re.compile(r"^\| `(?:null⏎)?Error: (\w\d+)(?: line \d+:)? ([\w ]+)` \|(.*)\|$", re.MULTILINE)
 HERE, LINK = re.compile(r"\[([^]]*)\]\(#[^)]*\)"), re.compile(r"\[([^]]*)\]\([^)]*\)")
-CELL, TEXT = re.compile(r"(?<!\\)\|"), re.compile(r'"((?:[^"\\]|\\.)*)"')
+CELL = re.compile(r"(?<!\\)\|")
 BEGIN, END = "// The rows of the manual: begin.\n", "// The rows of the manual: end.\n"
 
 
@@ -26,22 +26,18 @@ def rows():
         yield code, words, cause, cure
 
 
-def quoted():
-    return [text.replace("\\", "\\\\").replace('"', '\\"') for row in rows() for text in row]
-
-
 def in_rust():
-    texts = quoted()
-    lines = "".join("    (\n" + "".join(f'        "{text}",\n' for text in texts[i : i + 4]) + "    ),\n" for i in range(0, len(texts), 4))
-    return f"pub const ROWS: [Row; {len(texts) // 4}] = [\n{lines}];\n"
+    """The rows as a text, each a line of four parts with tabs between them."""
+    lines = ("\\t".join(text.replace("\\", "\\\\").replace('"', '\\"') for text in row) for row in rows())
+    return 'pub const ROWS: &str = "\\\n' + "".join(f"{line}\n" for line in lines) + '";\n'
 
 
 def retold_codes():
-    """The file that has other rows than the manual, with the text that it is to have before `rt fmt`."""
+    """The file that has other rows than the manual, with the text that it is to have."""
     text = Path(ROOT, TO).read_text("utf-8")
     head, rest = text.split(BEGIN, 1)
     now, end = rest.split(END, 1)
-    if TEXT.findall(now) != quoted():
+    if now != in_rust():
         yield TO, head + BEGIN + in_rust() + END + end
 
 

@@ -23,14 +23,22 @@ fn push_line(out: &mut String, head: &str, line: &str) -> Result<(), AllocError>
     out.push('\n')
 }
 
+/// A row's text up to a tab, and what comes after that.
+fn cell(row: &str) -> (&str, &str) {
+    row.split_once('\t').unwrap_or((row, ""))
+}
+
 /// Adds what causes a fault of this code, and what to do, and with its words before, where these are
 /// asked for. Whether there is such a code.
 pub fn push_rows(out: &mut String, code: &str, with_words: bool) -> Result<bool, AllocError> {
     let mut found = false;
-    'rows: for (own, words, cause, cure) in &ROWS {
-        if code != *own {
+    'rows: for row in ROWS.lines() {
+        let (own, row) = cell(row);
+        if code != own {
             continue 'rows;
         }
+        let (words, row) = cell(row);
+        let (cause, cure) = cell(row);
         if with_words && !found {
             out.push_str(own)?;
             push_line(out, " ", words)?;
