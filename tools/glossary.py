@@ -14,6 +14,8 @@ NAME = re.compile(r"[A-Za-z_][A-Za-z0-9_']*")
 # What isn't a name: comments and texts.
 COMMENT = {".rt": re.compile(r"//.*"), ".antt": re.compile(r"(^|\s)--(\s.*|$)")}
 TEXT = re.compile(r'"(?:\\.|[^"\\])*"')
+# A text of several lines.
+LINES = re.compile(r'"\\\n(?:\\.|[^"\\])*"')
 
 
 def other_words():
@@ -46,7 +48,7 @@ def coined(top):
                     if kind not in COMMENT:
                         continue
                     with open(path, encoding="utf-8") as source:
-                        text = "\n".join(COMMENT[kind].sub("", TEXT.sub('""', line)) for line in source.read().split("\n"))
+                        text = "\n".join(COMMENT[kind].sub("", TEXT.sub('""', line)) for line in LINES.sub('""', source.read()).split("\n"))
                     for name in sorted(set(NAME.findall(text)) | {os.path.splitext(file)[0]}):
                         for word in parts(name):
                             if word in words:
