@@ -20,22 +20,30 @@ def check_help(folder):
         equal(folder.run(*words), first, words)
 
 
-def with_full_output(folder, *words):
-    """Runs the program with a standard output that takes nothing."""
-    with open("/dev/full", "wb") as full:
-        done = subprocess.run(
-            [folder.yq, *words], cwd=folder.path, stdin=subprocess.DEVNULL, stdout=full, stderr=subprocess.PIPE
-        )
+def run_to(output, folder, words):
+    """Runs the program with this standard output."""
+    done = subprocess.run([folder.yq, *words], cwd=folder.path, stdin=subprocess.DEVNULL, stdout=output, stderr=subprocess.PIPE)
     return done.returncode, done.stderr
 
 
-def check_an_output_that_takes_nothing(folder):
+def with_full_output(folder, *words):
+    """Runs the program with a standard output that takes nothing."""
+    with open("/dev/full", "wb") as full:
+        return run_to(full, folder, words)
+
+
+def prints_in_vain(folder, run, answer):
+    """Whatever prints gets this answer by a run whose output takes nothing, and leaves each file."""
     folder.write("f", WEB)
     folder.accepts("-i", ".port = 9090", "f")
     before = {name: folder.read(name) for name in folder.names()}
     for words in ([".port = 1", "f"], [".port", "f"], ["-e", ".zzz", "f"], ["history", "f"], ["--help"]):
-        equal(with_full_output(folder, *words), (1, b"Error: S4 out failed\n"), words)
+        equal(run(folder, *words), answer, words)
         equal({name: folder.read(name) for name in folder.names()}, before, words)
+
+
+def check_an_output_that_takes_nothing(folder):
+    prints_in_vain(folder, with_full_output, (1, b"Error: S4 out failed\n"))
     equal(with_full_output(folder, "undo", "f"), (0, b""))
     equal(folder.read("f"), WEB)
 
@@ -45,22 +53,14 @@ def with_closed_output(folder, *words):
     reader, writer = os.pipe()
     os.close(reader)
     try:
-        done = subprocess.run(
-            [folder.yq, *words], cwd=folder.path, stdin=subprocess.DEVNULL, stdout=writer, stderr=subprocess.PIPE
-        )
+        return run_to(writer, folder, words)
     finally:
         os.close(writer)
-    return done.returncode, done.stderr
 
 
 def check_an_output_that_nobody_reads(folder):
     """It ends without a line of its own, with the status of what a signal ended; what prints nothing is carried out."""
-    folder.write("f", WEB)
-    folder.accepts("-i", ".port = 9090", "f")
-    before = {name: folder.read(name) for name in folder.names()}
-    for words in ([".port = 1", "f"], [".port", "f"], ["-e", ".zzz", "f"], ["history", "f"], ["--help"]):
-        equal(with_closed_output(folder, *words), (CLOSED, b""), words)
-        equal({name: folder.read(name) for name in folder.names()}, before, words)
+    prints_in_vain(folder, with_closed_output, (CLOSED, b""))
     equal(with_closed_output(folder, ".port.x", "f"), (1, b"Error: X1 not a map\n"))
     equal(with_closed_output(folder, "undo", "f"), (0, b""))
     equal(folder.read("f"), WEB)

@@ -116,16 +116,20 @@ def is_between(first, path, call, waits):
     holds_all(both, [1, 2])
 
 
-def check_a_run_between_any_two_calls_of_another(folder):
-    first = prepared(folder)
-    own, taken, given = calls_of(first, folder.name("whole"), words(1))
+def between_any_two_calls(folder, first, of, check):
+    """Stops a command after each of its calls, each time in a copy of the folder, and checks what comes of it."""
+    own, taken, given = calls_of(first, folder.name("whole"), of)
     with ThreadPoolExecutor(len(own)) as pool:
         jobs = []
         for i, call in enumerate(own):
             path = folder.name(f"{call.name}-{call.number}")
-            jobs.append(pool.submit(is_between, first, path, call, taken <= i < given))
+            jobs.append(pool.submit(check, first, path, call, taken <= i < given))
         for job in jobs:
             job.result()
+
+
+def check_a_run_between_any_two_calls_of_another(folder):
+    between_any_two_calls(folder, prepared(folder), words(1), is_between)
 
 
 def is_listed(first, path, call, waits):
@@ -140,14 +144,7 @@ def is_listed(first, path, call, waits):
 def check_an_edit_between_any_two_calls_of_a_history(folder):
     first = prepared(folder)
     first.accepts(*words(1))
-    own, taken, given = calls_of(first, folder.name("whole"), ["history", "f"])
-    with ThreadPoolExecutor(len(own)) as pool:
-        jobs = []
-        for i, call in enumerate(own):
-            path = folder.name(f"{call.name}-{call.number}")
-            jobs.append(pool.submit(is_listed, first, path, call, taken <= i < given))
-        for job in jobs:
-            job.result()
+    between_any_two_calls(folder, first, ["history", "f"], is_listed)
 
 
 def check_a_history_waits_for_a_move(folder):

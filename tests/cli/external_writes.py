@@ -30,30 +30,34 @@ def given_another_mode(folder):
 WAYS = [written_in_place, renamed_over, given_another_mode]
 
 
-def calls_before_the_first_write(first, path, words, nobody):
-    """Those from the reading of the file on, up to the last look at it."""
+def calls_of_a_run(first, path, words, nobody):
+    """Those that are the program's own."""
     folder = first.copy(path)
     os.chmod(folder.path, 0o777)
     status, err, trace = traced(folder, words, nobody=nobody)
     equal((status, err), (0, b""), words)
-    own = own_calls([call for call in calls_in(trace) if call.name != "exit_group"], "f")
+    return own_calls([call for call in calls_in(trace) if call.name != "exit_group"], "f")
+
+
+def last_look(own, end):
+    """Where, up to an index, the last look at the file is."""
+    return max(i for i, call in enumerate(own) if call.name == "statx" and '"f"' in call.text and i < end)
+
+
+def calls_before_the_first_write(first, path, words, nobody):
+    """Those from the reading of the file on, up to the last look at it."""
+    own = calls_of_a_run(first, path, words, nobody)
     read = next(i for i, call in enumerate(own) if call.name == "read")
     made = next(i for i, call in enumerate(own) if "O_EXCL" in call.text)
-    looked = [i for i, call in enumerate(own) if call.name == "statx" and '"f"' in call.text and i < made]
-    return own[read : looked[-1]]
+    return own[read : last_look(own, made)]
 
 
 def calls_between_the_writes(first, path, words, nobody):
     """Those from the first temporary file on, up to the last look at the file before another is renamed over it."""
-    folder = first.copy(path)
-    os.chmod(folder.path, 0o777)
-    status, err, trace = traced(folder, words, nobody=nobody)
-    equal((status, err), (0, b""), words)
-    own = own_calls([call for call in calls_in(trace) if call.name != "exit_group"], "f")
+    own = calls_of_a_run(first, path, words, nobody)
     made = next(i for i, call in enumerate(own) if "O_EXCL" in call.text)
     renamed = next(i for i, call in enumerate(own) if call.name == "rename" and ', "f")' in call.text)
-    looked = [i for i, call in enumerate(own) if call.name == "statx" and '"f"' in call.text and i < renamed]
-    return own[made : looked[-1]]
+    return own[made : last_look(own, renamed)]
 
 
 def is_put_back(first, path, call, words, way, nobody):

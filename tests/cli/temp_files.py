@@ -181,26 +181,24 @@ def own_randoms(folder):
     return [call.number for call in calls_in(trace) if call.name == "getrandom" and ", 8, 0)" in call.text]
 
 
-def check_another_name_is_tried(folder):
-    """Where another run is at work on a file of that name."""
+def edit_with_its_name_taken(folder, more=""):
+    """An edit, while another run is at work on a file of its first name; its status, its error, and how many names it tried."""
     folder.write("f", WEB)
     folder.write(SAME_NAME, b"left")
     first = own_randoms(folder)[0]
     with open(folder.name(SAME_NAME), "rb") as left:
         fcntl.flock(left, fcntl.LOCK_EX)
-        status, err, trace = traced(folder, EDIT, f"getrandom:retval=8:when={first}")
-    equal((status, err, names_tried(trace)), (0, b"", 4))
+        status, err, trace = traced(folder, EDIT, f"getrandom:retval=8:when={first}{more}")
+    return status, err, names_tried(trace)
+
+
+def check_another_name_is_tried(folder):
+    equal(edit_with_its_name_taken(folder), (0, b"", 4))
     equal((folder.read("f"), folder.read(SAME_NAME)), (EDITED, b"left"))
     equal(folder.names(), [SAME_NAME, "f", "f.undo.json"])
 
 
 def check_names_are_not_tried_for_ever(folder):
-    folder.write("f", WEB)
-    folder.write(SAME_NAME, b"left")
-    first = own_randoms(folder)[0]
-    with open(folder.name(SAME_NAME), "rb") as left:
-        fcntl.flock(left, fcntl.LOCK_EX)
-        status, err, trace = traced(folder, EDIT, f"getrandom:retval=8:when={first}+")
-    equal((status, err, names_tried(trace)), (1, b"Error: S3 write failed\n", 64))
+    equal(edit_with_its_name_taken(folder, "+"), (1, b"Error: S3 write failed\n", 64))
     equal((folder.read("f"), folder.read(SAME_NAME)), (WEB, b"left"))
     equal(folder.names(), [SAME_NAME, "f"])
