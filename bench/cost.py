@@ -1,4 +1,4 @@
-"""Counts the instructions and the memory of reads, and times an edit, beside floors and other readers, in one run.
+"""Counts the instructions and the memory of reads, and times an edit, next to floors and other readers, in one run.
 
 usage: cost.py PATH_OF_YQ [FOLDER]
 
@@ -7,12 +7,12 @@ read by yq, which prints one value of its middle; by the floor (floor.c), which 
 by libyaml (libyaml.c), its events and its documents as trees; by Debian's python3-yaml, whose loader stands over libyaml;
 and by yaml.v3 of Go. What isn't there is told as skipped. Instructions are counted by valgrind's callgrind, less those of
 a read of one line; they don't vary from run to run. Those of Python aren't counted. The memory is the peak of the
-resident memory, told by a small program (measured.c), and the time the processor's, the least of three turns.
+resident memory, said by a small program (measured.c), and the time the processor's, the least of three turns.
 
-Edits: one on 16 MB beside the floor of edit.py, which does the same reads, writes and syncs.
+Edits: one on 16 MB next to the floor of edit.py, which does the same reads, writes and syncs.
 
 FOLDER: the YAML files below it of 1,000 bytes and more, read by yq as the texts are, with the instructions for a byte. A
-read that is refused behind the reading counts; a text that is none is left out.
+read that is refused after the reading counts; a text that is none is left out.
 """
 
 import os
@@ -72,7 +72,7 @@ def by_go(folder):
 
 
 def readers(yq, folder):
-    """The name of each reader, the words of its command, where `@` stands for what yq reads, and whether callgrind counts."""
+    """The name of each reader, the words of its command, where `@` means what yq reads, and whether callgrind counts."""
     if compiled(folder, "measured.c")[0] is None:
         print("no cc: a peak of the memory below that of Python isn't seen")
     floor, no_floor = compiled(folder, "floor.c")

@@ -1,9 +1,9 @@
-"""Times an edit and its undo on nested block mappings of 1 MB and 16 MB, beside a floor.
+"""Times an edit and its undo on nested block mappings of 1 MB and 16 MB, next to a floor.
 
 usage: edit.py PATH_OF_YQ [TURNS]
 
 The floor does what each of the two commands cannot do without: it starts a process that ends at once, reads the file,
-writes a journal of that size beside its name, syncs it, renames it and syncs the folder, then the file, then the
+writes a journal of that size next to its name, syncs it, renames it and syncs the folder, then the file, then the
 journal again.
 All numbers of a table are of one run; the ratios are what to look at.
 """

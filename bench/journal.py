@@ -1,11 +1,11 @@
-"""Tells what the journal costs an edit, an undo and a history, by how many records it holds, and what many edits cost.
+"""Says what the journal costs an edit, an undo and a history, by how many records it holds, and what many edits cost.
 
 usage: journal.py PATH_OF_YQ [EDITS]
 
-First so many edits (1,000 where no number is given) of a file of 1,000 lines, each by a process of its own, beside `sed -i` and
+First so many edits (1,000 where no number is given) of a file of 1,000 lines, each by a process of its own, next to `sed -i` and
 a process that ends at once: the processor's time of all, and of the first and the last tenth.
-Then, on a file of 30 lines beside journals of 1, 1,000 and 4,000 records of 175 bytes: where valgrind is there, the instructions
-of an edit, an undo and a history, which don't vary; else the processor's time. Last, an edit of a file of 100,000 items behind
+Then, on a file of 30 lines next to journals of 1, 1,000 and 4,000 records of 175 bytes: where valgrind is there, the instructions
+of an edit, an undo and a history, which don't vary; else the processor's time. Last, an edit of a file of 100,000 items after
 three updates of all of them, whose journal holds 300,000 splices: processor's time, and the peak of the resident memory.
 """
 
@@ -43,7 +43,7 @@ def written(folder, name, data):
 
 
 def records(count):
-    """A text of 30 lines that stands behind so many edits of its port, and its journal as the program writes it."""
+    """A text of 30 lines that stands after so many edits of its port, and its journal as the program writes it."""
     rows = [b"key%d: value%d\n" % (n, n) for n in range(29)]
     texts = [b"".join(rows[:15] + [b"port: %d\n" % port] + rows[15:]) for port in (8000, 8001)]
     found = []

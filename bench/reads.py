@@ -1,4 +1,4 @@
-"""Times reads of texts of 1 MB and 16 MB, beside a floor, and tells the memory that they take.
+"""Times reads of texts of 1 MB and 16 MB, next to a floor, and tells the memory that they take.
 
 usage: reads.py PATH_OF_YQ [TURNS]
 

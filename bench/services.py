@@ -1,4 +1,4 @@
-"""Texts of services, as they stand in files of deployments: nested mappings, sequences, quoted scalars, comments, flow
+"""Texts of services, as they are in files of deployments: nested mappings, sequences, quoted scalars, comments, flow
 mappings, block scalars. One size gives the same text each time.
 
 usage: services.py SIZE > FILE

@@ -1,4 +1,4 @@
-"""Times updates of many places, and programs of many updates, beside one read and one print of the same text, in one run.
+"""Times updates of many places, and programs of many updates, next to one read and one print of the same text, in one run.
 
 usage: updates.py PATH_OF_YQ [MOST]
 

@@ -2,8 +2,8 @@
 
 usage: alike.py [LEAST [COUNT [WORD]]]      at least LEAST lines alike (6), the COUNT longest pairs (20), WORD in one of their paths
 
-Comments, empty lines, imports and lines of brackets alone are passed over, and don't count. Where a run of lines stands in more than
-40 places it is a form, and isn't told. The longest pairs come first; one of which both places begin in places of longer ones is left
+Comments, empty lines, imports and lines of brackets alone are passed over, and don't count. Where a run of lines is in more than
+40 places it is a form, and isn't reported. The longest pairs come first; one of which both places begin in places of longer ones is left
 out.
 """
 
@@ -76,7 +76,7 @@ def pairs(texts, least):
             for other in each[n + 1 :]:
                 (a, i), (b, j) = one, other
                 is_first = i == 0 or j == 0 or texts[a][i - 1][0] != texts[b][j - 1][0]
-                # The same lines twice, one right behind the other, are no longer than what lies between their beginnings.
+                # The same lines twice, one right after the other, are no longer than what lies between their beginnings.
                 count = length_of(texts, one, other, j - i if a == b else sys.maxsize)
                 if is_first and count >= least:
                     yield count, one, other

@@ -3,7 +3,7 @@
 usage: build.py
 
 `rt ci` does it in a copy of these crates without their wrong bodies, many side by side. Where the kit keeps what it proves on this machine, only
-what has changed, and what stands above that, is proved again, here and in the gate.
+what has changed, and what is above that, is proved again, here and in the gate.
 """
 
 import os

@@ -7,7 +7,7 @@ from crates import ROOT, folder, name_of
 
 
 def copy_to(copy, crates, tried=()):
-    """Copies crates without what must fail; of those to be tried, the wrong bodies stand in its place."""
+    """Copies crates without what must fail; of those to be tried, the wrong bodies are in its place."""
     os.mkdir(copy)
     shutil.copy2(os.path.join(ROOT, "HANDLES"), copy)
     with open(os.path.join(ROOT, "crates.txt"), encoding="utf-8") as lines, open(os.path.join(copy, "crates.txt"), "w", encoding="utf-8") as out:

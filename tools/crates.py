@@ -6,7 +6,7 @@ import resource
 import time
 
 ROOT = os.path.dirname(os.path.dirname(os.path.abspath(__file__)))
-# The toolchain's command; another one may stand in the environment, as RT="nice rt".
+# The toolchain's command; another one may be in the environment, as RT="nice rt".
 RT = os.environ.get("RT", "rt").split()
 
 
@@ -55,7 +55,7 @@ def folder(crate):
 
 
 def kept_by_host():
-    """The processor seconds that the host of a virtual machine gave to others since the machine's start; 0 where it doesn't tell."""
+    """The processor seconds that the host of a virtual machine gave to others since the machine's start; 0 where it doesn't say."""
     return (number_in("/proc/stat", r"^cpu +(?:\d+ +){7}(\d+)") or 0) / os.sysconf("SC_CLK_TCK")
 
 

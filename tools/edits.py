@@ -14,7 +14,7 @@ def names_in(crate, tier="wrong-bodies"):
 
 
 def hindrance(crate, name, tier="wrong-bodies"):
-    """Why an edit can't be applied to its crate as it stands, or None: each old text stands once in its file, and the new one names no
+    """Why an edit can't be applied to its crate as it is, or None: each old text is once in its file, and the new one names no
     crate that crates.txt doesn't list for this one."""
     texts, path, old, libraries = {}, None, None, listed()
     with open(os.path.join(folder(crate), tier, name), encoding="utf-8") as lines:

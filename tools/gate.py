@@ -2,8 +2,8 @@
 
 usage: gate.py PATH_OF_YQ [--anew]      with --anew, `rt ci` takes nothing that an earlier run passed
 
-Where `rt ci` passes, a table tells what each crate took, or has taken where it was kept, and the longest chain of proofs; the page
-docs/GATE.md gets both. Where it doesn't pass, the reasons are told once more at the end: what the prover says of each crate that is
+Where `rt ci` passes, a table says what each crate took, or has taken where it was kept, and the longest chain of proofs; the page
+docs/GATE.md gets both. Where it doesn't pass, the reasons are reported once more at the end: what the prover says of each crate that is
 not proved, and each wrong body that is not refused. Else the last two lines are the processor seconds (user and system) that all of
 it took, and what tests/cli says last, or that it said nothing.
 The status is that of `rt ci`, or of tests/cli where `rt ci` passed.

@@ -1,4 +1,4 @@
-"""The notices of the toolchain's libraries that the program contains: those that crates.txt names, and those that these stand on."""
+"""The notices of the toolchain's libraries that the program contains: those that crates.txt names, and those that these are built on."""
 
 import os
 import re
@@ -7,7 +7,7 @@ import subprocess
 from crates import ROOT, RT
 
 NAMED = re.compile(r"(?<![\w:])(\w+)::")
-# `core` holds tables made of Unicode's data, of which the terms stand with another library.
+# `core` holds tables made of Unicode's data, of which the terms are with another library.
 DATA_OF = {"core": "unicode"}
 RULE = "=" * 80
 HEAD = """\

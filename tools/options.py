@@ -1,4 +1,4 @@
-"""Help, man page and completions tell of commands and options as completions/options.json has them; this script writes it there."""
+"""Help, man page and completions name commands and options as completions/options.json has them; this script writes it there."""
 
 import json
 import re
@@ -62,7 +62,7 @@ def in_zsh(commands, options):
 
 
 def retold():
-    """The files that tell something else than the table, each with the text that it is to have."""
+    """The files that say something else than the table, each with the text that it is to have."""
     table = json.loads(Path(ROOT, "completions/options.json").read_text("utf-8"), object_hook=lambda it: SimpleNamespace(**it))
     places = [(f"completions/{name}", BEGIN, END, told) for name, told in (("yq.bash", in_bash), ("yq.fish", in_fish), ("_yq", in_zsh))]
     places.append(("crates/yq_commands/src/help.rt", "\nCommands:\n", "\nExamples:\n", in_help))

@@ -6,7 +6,7 @@
 - lines that say memory ran out where none was asked for (tools/memory.py)
 - sentences of the pages with more than 35 words, and words that have a plainer one (tools/plain.py)
 - clauses that are too wide, wrong bodies of both tiers that can't be applied, versions that differ, options that help, man page or a
-  completion tells otherwise than the table, rows of codes that are other than the manual's, and links of pages that lead nowhere
+  completion says otherwise than the table, rows of codes that are other than the manual's, and links of pages that lead nowhere
 
 usage: ready.py
 
@@ -36,13 +36,13 @@ sys.path.append(os.path.join(ROOT, "tests", "cli"))
 
 from docs_agree import broken_links
 
-# Where a crate's sources stand, by their ending.
+# Where a crate's sources are, by their ending.
 PLACES = {".rt": ("src",), ".antt": ("specs", "proofs")}
 LEFT = shutil.ignore_patterns(".git", "out", "__pycache__")
 # How a definition of specs/ begins, at the left or in a mutual block.
 DEFINITION = re.compile(r"(?:(?:abbrev|unfoldable) )?pub (?:(?:data|record) )?(?!(?:use|mod) )(\S+)")
 INNER = re.compile(r"  pub (?:(?:data|record) )?(\S+)")
-# How a comment says that what stands below is own, and how it names a section.
+# How a comment says that what is below is own, and how it names a section.
 OWN = re.compile(r"\(own[;)]|[;,] own\)")
 SECTION = re.compile(r"\d\.\d|\(\d+[,;)]|RFC \d")
 # A crate's name, how a lemma of such a name begins, and the files that keep names of earlier days.
@@ -137,7 +137,7 @@ def unknown_crates(top):
 
 
 def not_applied():
-    """Wrong bodies that can't be applied to the code as it stands."""
+    """Wrong bodies that can't be applied to the code as it is."""
     for crate in libraries():
         for tier in ("must-fail", "wrong-bodies"):
             for name in names_in(crate, tier):
@@ -147,7 +147,7 @@ def not_applied():
 
 
 def otherwise_told():
-    """Files that tell of options otherwise than the table."""
+    """Files that name options otherwise than the table."""
     for path, _ in retold():
         yield f"{path} tells of the options otherwise than completions/options.json: tools/options.py writes it anew"
 

@@ -2,7 +2,7 @@
 
 import re
 
-# Of each crate, so many lines are told again.
+# Of each crate, so many lines are reported again.
 MOST = 24
 ERROR = re.compile(r"(note: )?\S+:\d+:\d+: |error\b|rt: |thread |.*\bFAILED\b")
 FAILURE = re.compile(r"rt: (\S+.* NOT PROVED|.*: (NOT REFUSED|BAD EDIT)\b|.*\bFAILED\b|.*: the program )")
@@ -11,7 +11,7 @@ HARMLESS = re.compile(r"rt: (note: |chose |warning: )|note: proofs/.*unused")
 
 
 class Reasons:
-    """Hears the lines of a run one by one, and tells at its end those that say why it failed."""
+    """Hears the lines of a run one by one, and says at its end those that say why it failed."""
 
     def __init__(self):
         # The lines since a crate's heading, the last lines of all, and what is to be told.

@@ -96,14 +96,14 @@ class Watch:
         self.close(now - PAUSE)
 
     def end(self, crate, kind):
-        """Tells the end of a task, once."""
+        """Says the end of a task, once."""
         task = self.tasks.get((crate, kind))
         if task and not task.is_told:
             task.is_told = True
             self.ends(crate, kind, task)
 
     def close(self, seen=float("inf")):
-        """Tells the end of each task of which no check was seen since."""
+        """Says the end of each task of which no check was seen since."""
         for (crate, kind), task in self.tasks.items():
             if task.seen < seen:
                 self.end(crate, kind)

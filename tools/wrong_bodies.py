@@ -1,7 +1,7 @@
 """Tries the wrong bodies of crates/NAME/wrong-bodies/*.edit: the prover must refuse each.
 
 usage: wrong_bodies.py [--look] [CRATE ..]      all crates that have some, if none is named
-With --look it only tells which of them can't be applied to the code as it stands.
+With --look it only says which of them can't be applied to the code as it is.
 
 `rt ci` tries them in a temporary copy of these crates and of those below, in which they replace must-fail/. What it proves of the
 crates themselves is kept on this machine, where the kit does that. The rows of these crates in docs/EVIDENCE.md are written anew.
@@ -24,7 +24,7 @@ REFUSED = re.compile(r"rt: must-fail (\w+)/(\w+)\.edit: refused, as it must be: 
 
 
 def look(crates):
-    """Tells which wrong bodies can't be applied, and whether all can."""
+    """Says which wrong bodies can't be applied, and whether all can."""
     found = [(crate, name, hindrance(crate, name)) for crate in crates for name in names_in(crate)]
     for crate, name, why in found:
         if why:

@@ -1,4 +1,4 @@
-"""What shells complete behind `yq`: each script is driven in its shell, that of zsh by keys."""
+"""What shells complete after `yq`: each script is driven in its shell, that of zsh by keys."""
 
 import fcntl
 import os
@@ -112,7 +112,7 @@ def check_bash_keeps_to_its_own_names(folder):
 
 
 def in_fish(folder, line):
-    """What fish offers for a line, without what it tells of each."""
+    """What fish offers for a line, without what it says of each."""
     words = 'source $argv[1]; complete -C "$argv[2]"'
     return sorted(offer.split("\t")[0] for offer in run(folder, "fish", "--no-config", "-c", words, script("yq.fish"), line))
 

@@ -95,7 +95,7 @@ def calls_of(first, path, given):
 
 
 def run_between(first, path, call, waits, given, later, file="f"):
-    """One run is stopped behind a call, and another one runs, which waits where the first one has the lock."""
+    """One run is stopped after a call, and another one runs, which waits where the first one has the lock."""
     both = first.copy(path)
     held = Held(both, call, given)
     old = both.files()
@@ -133,7 +133,7 @@ def check_a_run_between_any_two_calls_of_another(folder):
 
 
 def is_listed(first, path, call, waits):
-    """A history, stopped behind a call, while two edits are made."""
+    """A history, stopped after a call, while two edits are made."""
     both, ended, later = run_between(first, path, call, waits, ["history", "f"], words(2))
     equal((ended[0], ended[2], later), (0, b"", DONE), call)
     order = listed(both, ended[1])
@@ -148,7 +148,7 @@ def check_an_edit_between_any_two_calls_of_a_history(folder):
 
 
 def check_a_history_waits_for_a_move(folder):
-    """Behind each of the three writes of an edit."""
+    """After each of the three writes of an edit."""
     first = prepared(folder)
     own, _taken, _given = calls_of(first, folder.name("whole"), words(1))
     renames = [call for call in own if call.name == "rename"]

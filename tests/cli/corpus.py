@@ -3,12 +3,12 @@
 usage: corpus.py PATH_OF_YQ FOLDER
 
 In each file of the folder and those below it (`.yaml`, `.yml`) it looks for the first line in column 0 of a word, `: ` and
-a plain word, that stands once in the file, and sets that key's value. The file is to be refused and to stay as it
+a plain word, that is once in the file, and sets that key's value. The file is to be refused and to stay as it
 was, or to change in that value's bytes alone and to be the first bytes again when the edit is undone. A file without such a
 line is only read.
 
 Where PyYAML is there and reads the file too, four random edits are done in it as well: values set, added and taken out,
-and comments set, at places of the file. Each is to read as it is meant, beside a second implementation, and all are
+and comments set, at places of the file. Each is to read as it is meant, next to a second implementation, and all are
 undone to the byte. The last lines count what came of the files; its status is 1 if a byte changed that was not to, or if
 no file was found.
 """

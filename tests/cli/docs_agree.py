@@ -1,4 +1,4 @@
-"""The pages and the man page agree with help, with the answers that the program has, and with what stands in the repository."""
+"""The pages and the man page agree with help, with the answers that the program has, and with what is in the repository."""
 
 import os
 import re
@@ -22,7 +22,7 @@ def section(lines, head):
 
 
 def helped(folder):
-    """The commands and options that help tells of."""
+    """The commands and options that help names."""
     lines = folder.accepts("--help").decode().splitlines()
     commands = {line.split()[0] for line in section(lines, "Commands:") if line[2] != " "}
     options = {word for line in section(lines, "Options:") for word in re.findall(r"(?<!\S)--?[A-Za-z-]+", line[:22])}
@@ -30,7 +30,7 @@ def helped(folder):
 
 
 def version_told(folder):
-    """The version that help tells of."""
+    """The version that help names."""
     return re.search(r"^Version: +(\S+)$", folder.accepts("--help").decode(), re.MULTILINE)[1]
 
 
@@ -102,7 +102,7 @@ def pages():
 
 
 def broken_links():
-    """The links of pages that lead to no file or section of the repository, each behind its page."""
+    """The links of pages that lead to no file or section of the repository, each after its page."""
     for page in pages():
         for link in LINK.findall("\n".join(lines_of(page))):
             path, _, anchor = link.partition("#")

@@ -1,4 +1,4 @@
-"""What a person is told of a refusal, on a terminal and with --explain; without either there is one line."""
+"""What a person reads about a refusal, on a terminal and with --explain; without either there is one line."""
 
 import json
 import os
@@ -42,7 +42,7 @@ def on_terminal(folder, words):
     return run.returncode, out, seen.replace(b"\r\n", b"\n")
 
 
-def is_told(row, words, err):
+def is_explained(row, words, err):
     """The first line is the fault's, and those after it have the place and what to do."""
     lines = err.decode().splitlines()
     equal(lines[0], f"Error: {row['refused']}", words)
@@ -53,7 +53,7 @@ def is_told(row, words, err):
         equal(lines[1:3], [f"  {expr}", "  " + " " * len(row["before"]) + "^"], words)
 
 
-def check_each_mistake_is_told_on_a_terminal_and_with_the_option(folder):
+def check_each_mistake_is_explained_on_a_terminal_and_with_the_option(folder):
     told = table()
     for name, text in told["files"].items():
         folder.write(name, text.encode())
@@ -67,14 +67,14 @@ def check_each_mistake_is_told_on_a_terminal_and_with_the_option(folder):
             equal(plain, b"Error: " + row["refused"].encode() + b"\n", words)
             status, out, err = folder.run(*explained(words))
             equal((status, out), (1, prints), words)
-            is_told(row, words, err)
+            is_explained(row, words, err)
             equal(on_terminal(folder, words), (1, prints, err), words)
         else:
-            is_told(row, words, plain)
+            is_explained(row, words, plain)
     equal(folder.files(), before)
 
 
-def check_the_place_of_a_fault_of_a_text_is_told(folder):
+def check_the_place_of_a_fault_of_a_text_is_reported(folder):
     """The file, the line, the column in characters, and the line with a caret; of a pipe the line's number alone."""
     long = "k" * 60 + ": [" + "x" * 60 + ": }"
     for text, line, place, caret in (

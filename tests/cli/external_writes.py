@@ -61,7 +61,7 @@ def calls_between_the_writes(first, path, words, nobody):
 
 
 def is_put_back(first, path, call, words, way, nobody):
-    """The file is theirs, the journal has the bytes that it had or is not there, and nothing is left beside them."""
+    """The file is theirs, the journal has the bytes that it had or is not there, and nothing is left next to them."""
     folder = first.copy(path)
     os.chmod(folder.path, 0o777)
     held = Held(folder, call, words, nobody)

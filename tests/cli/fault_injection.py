@@ -85,7 +85,7 @@ def modes_stay(folder):
 
 
 def leftovers(folder):
-    """What a cut left beside the two files: name, mode and bytes."""
+    """What a cut left next to the two files: name, mode and bytes."""
     names = [name for name in folder.names() if name not in (FILE, JOURNAL)]
     return [(name, folder.mode(name), folder.read(name)) for name in names]
 

@@ -1,9 +1,9 @@
 """Files of the forms in which YAML is written for real programs (tests/data/forms/*.yaml): read, edited and undone.
 
-usage: forms.py PATH_OF_YQ [SEED]      tells what was tried on each
+usage: forms.py PATH_OF_YQ [SEED]      says what was tried on each
 
 tests/data/forms/rows.json has for each file what is written by hand of it: `{"reads": [[EXPR, VALUE], ..], "edits": [[EXPR, OLD, NEW], ..]}`,
-where a read prints the value and a line feed, and an edit of the file makes NEW of OLD, which stands once in it, and is undone; or
+where a read prints the value and a line feed, and an edit of the file makes NEW of OLD, which is once in it, and is undone; or
 `{"refused": LINE}`. Where PyYAML is there, values at random places are read and random edits done too, as a second implementation
 means them, with a seed that is another one in each run and is printed; YQ_SEED in the environment of run.py sets it.
 """
@@ -63,7 +63,7 @@ def as_written(folder, text, row, tally):
 
 
 def leaves(node, steps=()):
-    """The scalars of a document that are not behind an alias, by their paths."""
+    """The scalars of a document to which no alias leads, by their paths."""
     if node.kind in ("list", "map"):
         for step, child in node.under():
             yield from leaves(child, (*steps, step))
@@ -112,7 +112,7 @@ def one_form(yaml, folder, name, row, seed):
 
 
 def run_forms(folder, seed, each=False):
-    """What was tried on all files, told by one line, or by one for each of them too; and what isn't so."""
+    """What was tried on all files, said by one line, or by one for each of them too; and what isn't so."""
     yaml, found = library(), rows()
     jobs = []
     with ThreadPoolExecutor(os.cpu_count()) as pool:

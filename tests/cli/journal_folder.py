@@ -26,7 +26,7 @@ def name_of(path):
 
 
 def told(folder, line, *words, before):
-    """The words are refused, with this line behind `U1 usage`, and nothing is written."""
+    """The words are refused, with this line after `U1 usage`, and nothing is written."""
     old = folder.files()
     status, out, err = folder.run(*words, before=before)
     equal((status, out, err.decode().splitlines()[:2]), (1, b"", ["Error: U1 usage", line]), words)
@@ -224,7 +224,7 @@ def check_a_folder_of_another_user(folder):
 
 
 def check_whose_journal_is_believed_there(folder):
-    """A journal in the folder is judged as one beside its file."""
+    """A journal in the folder is judged as one next to its file."""
     os.chmod(folder.path, 0o755)
     for place, user, before in each_user(folder):
         kept = [*before, *kept_in(place)]

@@ -102,7 +102,7 @@ def record_of(value, version):
 
 
 def done(record, text, back=False):
-    """The text behind a record, or before it; None where it doesn't stand."""
+    """The text after a record, or before it; None where it doesn't apply."""
     before, after = (record.after, record.before) if back else (record.before, record.after)
     if len(text) != before:
         return None
@@ -152,7 +152,7 @@ def state_of(data):
 
 
 def settled(state, text):
-    """The journal beside a text, with no open move; None where its move neither starts from the text nor leads to it."""
+    """The journal next to a text, with no open move; None where its move neither starts from the text nor leads to it."""
     if state.pending is None:
         return state
     if state.pending[2] == text:

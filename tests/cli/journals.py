@@ -3,7 +3,7 @@
 usage: journals.py PATH_OF_YQ COUNT [SEED]
 
 A reader of its own (journal_reader.py), written after docs/JOURNAL.md, says of each journal what `history` prints or why it is refused, and what an
-undo, a redo or a squash leaves; behind an edit the journal has the records that were done as they were, and one more. What is written
+undo, a redo or a squash leaves; after an edit the journal has the records that were done as they were, and one more. What is written
 is always the documented text. The seed is another one in each run and is printed; with the same seed (here, or as YQ_SEED in the
 environment of run.py) the same journals come.
 """
@@ -43,7 +43,7 @@ def changed(source, text):
 
 
 def good_journal(source):
-    """A journal, and a text beside it."""
+    """A journal, and a text next to it."""
     texts, records = [b"n: 10x\n"], []
     for _ in range(source.choice([0, 1, 1, 2, 3, 5])):
         text, splices = changed(source, texts[-1])
@@ -142,7 +142,7 @@ def with_bytes(source, data):
 
 
 def mutated(source):
-    """A journal's text, mostly with a fault or written otherwise, and the text beside it."""
+    """A journal's text, mostly with a fault or written otherwise, and the text next to it."""
     value, text = good_journal(source)
     kind = source.choice(["good", "value", "value", "value", "form", "bytes", "bytes", "both"])
     if kind in ("value", "both"):
@@ -158,7 +158,7 @@ def mutated(source):
     return data, text if source.random() < 0.9 else text + b"#\n"
 
 
-# ---- the program beside the reader
+# ---- the program next to the reader
 
 
 def is_edited(folder, text, data, state):

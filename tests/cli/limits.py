@@ -73,7 +73,7 @@ def check_an_edit_does_not_make_the_journal_too_large(folder):
 
 
 def check_a_journal_whose_name_is_too_long(folder):
-    """It is told, with what helps."""
+    """It is reported, with what helps."""
     for length in (246, 255):
         name = "a" * length
         folder.write(name, ONE)

@@ -51,7 +51,7 @@ def check_a_default_list_opens_nothing_beside_a_mode_without_group(folder):
 
 
 def check_a_default_list_gives_what_the_group_may(folder):
-    """And no more: SECURITY.md tells it among what doesn't hold."""
+    """And no more: SECURITY.md says it among what doesn't hold."""
     named, other = with_default_list(folder)
     for mode, reads, writes in ((0o640, True, False), (0o660, True, True), (0o620, False, True)):
         edited(folder, mode)

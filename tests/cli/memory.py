@@ -22,7 +22,7 @@ def grown(folder, words, *refused):
 
 
 def growths(folder, words):
-    """The numbers of the calls by which a command grows, behind those that load it and the C library's own first one."""
+    """The numbers of the calls by which a command grows, after those that load it and the C library's own first one."""
     status, err, trace = grown(folder, words)
     calls = calls_in(trace)
     equal((status, err), (0, b""))

@@ -68,7 +68,7 @@ def mutated(source, text, other):
 
 
 def edit(source, text):
-    """An edit at a path of words that stand in the text, mostly."""
+    """An edit at a path of words that are in the text, mostly."""
     keys = [f'.["{it.decode()}"]' for it in set(re.findall(rb"[A-Za-z_]\w*(?=['\"]? *:)", text))]
     steps = [source.choice([*sorted(keys), *sorted(keys), *STEPS] if keys else STEPS) for _ in range(source.choice([0, 1, 1, 1, 2, 2]))]
     path = "".join(steps)

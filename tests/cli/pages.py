@@ -2,13 +2,13 @@
 
 A fenced block that is marked `console` is one example, in an empty folder of its own:
 
-- `$ WORDS` is run by sh, with the program as `yq`. The lines behind it, up to the next `$ `, are what it prints on
+- `$ WORDS` is run by sh, with the program as `yq`. The lines after it, up to the next `$ `, are what it prints on
   standard output and standard error. A command that is a `yq` alone ends with status 1 where one of them begins with
   `Error: `, and else with 0.
-- `$ cat NAME`, where NAME isn't there yet, makes that file of the lines behind it.
+- `$ cat NAME`, where NAME isn't there yet, makes that file of the lines after it.
 
 A table with the columns `f.yaml`, `Command` (or else `Here`) and `Result` has one example in each row that has a command:
-the text of the file, the command, and what it prints, or, behind a `-i` that is accepted, the text of the file then. A
+the text of the file, the command, and what it prints, or, after a `-i` that is accepted, the text of the file then. A
 refused command leaves the file. In a text `⏎` is LF, `␍` CR and `⇥` a tab.
 """
 
@@ -118,7 +118,7 @@ def is_alone(words):
 
 
 def runs(folder, words, wanted, status=0):
-    """The words print what is wanted; the status of a `yq` alone tells whether it was refused."""
+    """The words print what is wanted; the status of a `yq` alone says whether it was refused."""
     printed, status = shell(folder, words, status)
     equal(printed, wanted, words)
     if is_alone(words):

@@ -1,9 +1,9 @@
-"""Random edits of random texts, beside PyYAML and a second implementation of what updates mean.
+"""Random edits of random texts, next to PyYAML and a second implementation of what updates mean.
 
 usage: random_edits.py PATH_OF_YQ COUNT [SEED]
 
 Each edited text reads as the meant tree, each refusal is the meant one, an edit that is undone gives the first bytes
-back. Its last line tells how many lists of commands were run, and what came of their edits.
+back. Its last line says how many lists of commands were run, and what came of their edits.
 """
 
 import collections

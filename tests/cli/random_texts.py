@@ -62,7 +62,7 @@ class Texts:
         return self.source.choice(["", " # c", "  "]) + "\n"
 
     def value(self, column, depth, has_key):
-        """What stands behind the key or dash of a line of that column, with its break."""
+        """What is after the key or dash of a line of that column, with its break."""
         share = self.source.random()
         if share < 0.12:
             return (" " + self.anchor()).rstrip() + self.line_end()

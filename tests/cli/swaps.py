@@ -19,7 +19,7 @@ WORKERS = 2 * (os.cpu_count() or 1)
 
 
 def of_nobody(folder, name):
-    """A folder of nobody's with a file, beside what only root may read or run with its rights."""
+    """A folder of nobody's with a file, next to what only root may read or run with its rights."""
     place = type(folder)(folder.yq, folder.name(name))
     os.mkdir(place.path)
     os.chmod(place.path, 0o755)
@@ -67,7 +67,7 @@ def calls_of(box, path, words):
 
 
 def link_put(folder, name, call, target):
-    """A link takes the place of the file behind a call, and stays."""
+    """A link takes the place of the file after a call, and stays."""
     place, box = of_nobody(folder, name)
     held = Held(box, call, EDIT)
     os.symlink("../root/" + target, box.name("link"))
@@ -110,7 +110,7 @@ def link_for_a_while(folder, name, begin, end):
 
 
 def check_a_link_to_a_secret_comes_and_goes(folder):
-    """From behind any of the first looks at the file to behind any later one."""
+    """From after any of the first looks at the file to after any later one."""
     as_nobody()
     _place, box = of_nobody(folder, "first")
     looks = [call.number for call in calls_of(box, folder.name("whole"), EDIT) if call.name == "statx"]
@@ -150,7 +150,7 @@ def check_a_link_to_another_journal_comes_and_goes(folder):
 
 
 def pipe_put(folder, name, call, words, owner):
-    """A pipe takes the place of the journal behind a call."""
+    """A pipe takes the place of the journal after a call."""
     _place, box = of_nobody(folder, name)
     os.chmod(box.path, 0o1777)
     box.write("f.undo.json", b"x")

@@ -9,12 +9,12 @@ A table is `{"about": .., "source": .., "rows": [..]}`, and a row one of
   `U1 usage` and the ways to call the program.
 - `{"files": {NAME: T, ..}, "steps": [STEP, ..]}`, where a step is `{"set": {NAME: T}}` or `{"words": [..],
   "refused"?: LINE, "prints"?: OUT, "no_match"?: true, "files"?: {NAME: T}, "same"?: true | [NAME, ..]}`. A T that is null
-  stands for no file.
+  means no file.
 
 What is refused prints nothing and writes nothing; `same` says that a step writes nothing, or none of these files;
 `no_match` says that what it was asked for isn't there. A row may have a `name`.
 A text is a string, `{"base64": ..}`, `{"repeat": T, "times": N, "then"?: T}`, `{"json": ..}` (as journals are written:
-keys sorted, no spaces, a line feed at the end), or a list of such, one behind the other.
+keys sorted, no spaces, a line feed at the end), or a list of such, one after the other.
 """
 
 import base64
@@ -30,7 +30,7 @@ NO_MATCH = b"Error: N1 no matches found\n"
 
 
 def text_of(value):
-    """The bytes that a text of a table stands for."""
+    """The bytes that a text of a table means."""
     if isinstance(value, str):
         return value.encode()
     if isinstance(value, list):

@@ -1,4 +1,4 @@
-"""What a cut left beside a file is neither read nor in the way, and goes with the next edit, unless a run is at work on it."""
+"""What a cut left next to a file is neither read nor in the way, and goes with the next edit, unless a run is at work on it."""
 
 import fcntl
 import os
@@ -36,7 +36,7 @@ def check_what_a_cut_left_goes_at_once(folder):
 
 
 def check_what_a_run_is_at_work_on_stays(folder):
-    """A lock on it tells that, however old it is."""
+    """A lock on it says that, however old it is."""
     folder.write("f", WEB)
     names = [f".f.yq-{DIGITS}", f".f.undo.json.yq-{DIGITS}"]
     held = []
@@ -54,7 +54,7 @@ def check_what_a_run_is_at_work_on_stays(folder):
 
 
 def check_what_can_not_be_opened_goes_after_an_hour(folder):
-    """What another user left: whether a run is at work on it isn't told."""
+    """What another user left: whether a run is at work on it isn't reported."""
     before = as_nobody()
     folder.give_away()
     folder.write("f", WEB)

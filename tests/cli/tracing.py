@@ -96,7 +96,7 @@ def child_of(pid):
 
 
 class Held:
-    """A run that is stopped behind one of its system calls."""
+    """A run that is stopped after one of its system calls."""
 
     def __init__(self, folder, call, words, nobody=False, rests=True):
         if rests:
@@ -121,7 +121,7 @@ class Held:
 
 
 def stepped(folder, name, words, at_stop, nobody=False):
-    """Stops a run behind each of its system calls of a name, and does something at each stop. Gives status and standard error."""
+    """Stops a run after each of its system calls of a name, and does something at each stop. Gives status and standard error."""
     rest(folder)
     log = folder.path + ".trace"
     line = [*traced_line(log, nobody), "-e", f"inject={name}:signal=STOP:when=1+", folder.yq, *words]
