@@ -98,6 +98,31 @@ def check_the_place_of_a_fault_of_a_text_is_reported(folder):
     equal((status, out, err.decode().splitlines()[:2]), (1, b"", ["Error: Y14 line 2: unknown alias", "/dev/stdin, line 2"]))
 
 
+def check_the_value_that_refuses_a_path_is_named(folder):
+    """Its path, what it is, and the line of its key or dash; nothing where several paths or updates are tried."""
+    text = "a: 1\nb: {c: [x, {d: true}]}\n\"k k\": &n 1.5\ne: *n\n---\nf:\n- - 2\n  - y\n"
+    folder.write("f", text.encode())
+    for expr, line in (
+        (".a.b", ".a is a number, line 1"),
+        (".b.c[1].d.e = 1", ".b.c[1].d is true or false, line 2"),
+        (".b.c[-1][0] = 1", ".b.c[1] is a mapping, line 2"),
+        (".b.c[2]", ".b.c is a sequence of 2 items, line 2"),
+        ('."k k".x = 1', '."k k" is a number, line 3'),
+        (".e.x", ".e is an alias, line 4"),
+        ("(select(di == 0) | .a.x) = 1", None),
+        (".b.c[].d.e = 1", None),
+        (".z = 1 | .a.x = 1", None),
+        ("del(.f[0][1].x)", ".f[0][1] is a text, line 8"),
+        (".f[0].x line_comment = \"c\"", ".f[0] is a sequence of 2 items, line 7"),
+    ):
+        _, _, err = folder.run("--explain", expr, "f")
+        lines = err.decode().splitlines()
+        equal(lines[1], "FILE: f", (expr, lines))
+        equal(lines[2] if line else lines[2].startswith("Cause: "), line or True, (expr, lines))
+    folder.write("g", b"- 1\n")
+    equal(folder.run("--explain", ".a", "g")[2].decode().splitlines()[2], ". is a sequence of 1 item, line 1")
+
+
 def piped(folder, text, *words):
     done = subprocess.run([folder.yq, *words], cwd=folder.path, input=text, capture_output=True, timeout=SECONDS)
     return done.returncode, done.stdout, done.stderr

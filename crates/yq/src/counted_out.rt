@@ -1,6 +1,7 @@
 //! Standard output, and how many lines it took.
 ghost use Rattle.std.specs.Prelude.{[], false};
 
+use memchr::memchr_iter;
 use yq_run::{Out, PutError, StandardOut};
 
 /// Standard output, and how many lines it took.
@@ -34,13 +35,7 @@ impl<'a> CountedOut<'a> {
 
 /// How many line feeds bytes have.
 fn line_feeds(bytes: &[u8]) -> u64 {
-    let mut count = 0u64;
-    'bytes: for byte in bytes {
-        if *byte == b'\n' {
-            count = count.saturating_add(1);
-        }
-    }
-    count
+    memchr_iter(b'\n', bytes).count() as u64
 }
 
 impl<'a> Out for CountedOut<'a> {

@@ -6,7 +6,8 @@ use std::path::Path;
 use std::{fs, io};
 use yq_args::Command;
 use yq_explain::{
-    asked_code, asks_lines, code_of, expression_lines, place_lines, push_name, push_rows,
+    asked_code, asks_lines, code_of, expression_lines, names_value, place_lines, push_name,
+    push_rows, push_value_line,
 };
 use yq_history::Fault;
 use yq_run::{Out, as_slices, asked_command, own_words, purpose_of};
@@ -19,6 +20,23 @@ fn bytes_of(rt: &HostRuntime, file: &str) -> Option<Vec<u8>> {
     match metadata(rt, Path::new(file)) {
         Ok(found) if found.is_file() && found.len() <= MOST => fs::read(rt, file).ok(),
         _ => None,
+    }
+}
+
+/// Adds the line about the value of a file that refuses an expression, where there is one.
+fn push_value(
+    rt: &HostRuntime,
+    text: &mut String,
+    file: &str,
+    expr: &str,
+    fault: Fault,
+) -> Result<(), Fault> {
+    if !names_value(fault) {
+        return Ok(());
+    }
+    match bytes_of(rt, file) {
+        Some(bytes) => Ok(push_value_line(rt.alloc(), text, &bytes, expr, fault)?),
+        None => Ok(()),
     }
 }
 
@@ -39,10 +57,13 @@ fn lines_of(
             push_rows(&mut text, code, false)?;
             Ok(text)
         }
-        _ => {
+        (fault, command) => {
             let mut text = String::from_str(rt.alloc(), "FILE: ")?;
             push_name(&mut text, file)?;
             text.push('\n')?;
+            if let (Some(fault), Command::Eval { expr, .. }) = (fault, command) {
+                push_value(rt, &mut text, file, expr.as_str(), fault)?;
+            }
             push_rows(&mut text, code, false)?;
             Ok(text)
         }
@@ -80,7 +101,7 @@ pub fn report_cause(rt: &HostRuntime, fault: Option<Fault>) -> io::Result<()> {
     }
 }
 
-/// Puts what a code stands for to an output, if the words ask for that alone; whether they do.
+/// Puts what a code means to an output, if the words ask for that alone; whether they do.
 pub fn put_code<W: Out>(rt: &HostRuntime, out: &mut W) -> Result<bool, Fault> {
     let owned = own_words(rt)?;
     let words = as_slices(rt, &owned)?;

@@ -1,15 +1,13 @@
-//! What is reported beside the answer to a command.
+//! What is reported next to the answer to a command.
 
 use std::fmt::{self, Display, Formatter, Write};
+use yq_journal::MAX_RECORDS;
 use yq_store::JournalHint;
 
 /// From how many records on a listing says how many there are.
 const MANY_RECORDS: u64 = 4_000;
 
-/// How many records a journal may have.
-const MOST_RECORDS: u64 = 4_096;
-
-/// What is reported beside the answer to a command.
+/// What is reported next to the answer to a command.
 #[derive(Clone, Copy)]
 pub enum Hint {
     /// Why a journal was neither read nor written.
@@ -19,7 +17,7 @@ pub enum Hint {
 }
 
 impl Hint {
-    /// What is reported beside a listing of so many records.
+    /// What is reported next to a listing of so many records.
     pub fn of_records(records: u64) -> Option<Hint> {
         if records < MANY_RECORDS {
             return None;
@@ -34,7 +32,7 @@ impl Display for Hint {
             Hint::Journal(hint) => Display::fmt(hint, f),
             Hint::Records(records) => write!(
                 f,
-                "the journal has {records} of {MOST_RECORDS} records; `squash` joins some of them"
+                "the journal has {records} of {MAX_RECORDS} records; `squash` joins some of them"
             ),
         }
     }

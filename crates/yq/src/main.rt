@@ -17,7 +17,7 @@ use yq_run::{Answer, report_usage};
 /// The status with which a shell shows what ended because the reader of its output closed the pipe.
 const CLOSED: u8 = 141;
 
-/// Tells an answer on standard error, and gives the status.
+/// Reports an answer on standard error, and gives the status.
 fn report_answer(rt: &HostRuntime, answer: Answer) -> io::Result<ExitCode> {
     match answer {
         Answer::Done => return Ok(ExitCode::SUCCESS),

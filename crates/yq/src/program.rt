@@ -11,7 +11,7 @@ use yq_history::Fault;
 use yq_run::{Answer, asked_command, purpose_of, put_help, run_list};
 use yq_store::DiskStore;
 
-/// The answer to a command whose output goes to `out`, and what is reported beside it.
+/// The answer to a command whose output goes to `out`, and what is reported next to it.
 fn answer_to(rt: &HostRuntime, out: &mut CountedOut<'_>) -> Result<(Answer, Option<Hint>), Fault> {
     if put_code(rt, out)? {
         return Ok((Answer::Done, None));
@@ -37,7 +37,7 @@ fn answer_to(rt: &HostRuntime, out: &mut CountedOut<'_>) -> Result<(Answer, Opti
     }
 }
 
-/// The answer to the program's words, and what is reported beside it; none where the reader of standard output
+/// The answer to the program's words, and what is reported next to it; none where the reader of standard output
 /// has closed it.
 pub fn answer_to_words(rt: &HostRuntime) -> Option<(Answer, Option<Hint>)> {
     let mut out = CountedOut::new(rt);

@@ -14,9 +14,12 @@ mod parts;
 mod rows;
 mod text_place;
 mod updates;
+mod value_line;
+mod value_place;
 
 pub use asking::{asked_code, asks_lines};
 pub use caret::push_name;
 pub use expression::expression_lines;
 pub use rows::{code_of, push_rows};
 pub use text_place::place_lines;
+pub use value_line::{names_value, push_value_line};

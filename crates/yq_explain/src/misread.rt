@@ -94,6 +94,30 @@ fn of_bracket(alloc: Global, p: Parts<'_>, expected: &str) -> Result<Option<Advi
     }
 }
 
+/// About a dot at which a path or value was cut.
+fn of_late_dot(
+    alloc: Global,
+    expr: &str,
+    at: usize,
+    p: Parts<'_>,
+    expected: &str,
+) -> Result<Option<Advice>, AllocError> {
+    if matches!(last_char(p.before), Some(')')) {
+        return of_step(alloc, p);
+    }
+    if first_char(parted_at_value(expr, at).token) != Some('.') {
+        return of_value(alloc, expr, at);
+    }
+    if matches!(first_char(p.after), Some('0'..='9')) {
+        return of_dot(alloc, p);
+    }
+    if expected == "end" {
+        let parts = [p.before.trim_end(), " | ", p.token, p.after];
+        return rewrite(alloc, "'|' comes between two updates", &parts);
+    }
+    of_bracket(alloc, p, expected)
+}
+
 /// About what is no expression; `expected` is what the parser expected there.
 pub fn of_misread(
     alloc: Global,
@@ -108,30 +132,20 @@ pub fn of_misread(
     match p.token.chars().next() {
         Some(_) if expected == "(" => {
             let parts = [p.before.trim_end(), "(", p.token, p.after.trim_end(), ")"];
-            return rewrite(alloc, "parentheses come after it", &parts);
+            rewrite(alloc, "parentheses come after it", &parts)
         }
-        Some('=' | '|' | '+') => return of_equals(alloc, p, expected),
+        Some('=' | '|' | '+') => of_equals(alloc, p, expected),
         Some(':') if expected == "head_comment" => {
             let parts = [p.before.trim_end(), " =", p.after];
-            return rewrite(alloc, "a value is set by '='", &parts);
+            rewrite(alloc, "a value is set by '='", &parts)
         }
-        Some(',') => return of_comma(alloc, p),
+        Some(',') => of_comma(alloc, p),
         Some('[') if expected == "." => {
             let parts = [p.before, ".", p.token, p.after];
-            return rewrite(alloc, "a path begins with a dot", &parts);
+            rewrite(alloc, "a path begins with a dot", &parts)
         }
-        Some('.' | '[') if matches!(last_char(p.before), Some(')')) => {
-            return of_step(alloc, p);
-        }
-        Some('.') if first_char(parted_at_value(expr, at).token) != Some('.') => {
-            return of_value(alloc, expr, at);
-        }
-        Some('.') if matches!(first_char(p.after), Some('0'..='9')) => return of_dot(alloc, p),
-        Some('.') if expected == "end" => {
-            let parts = [p.before.trim_end(), " | ", p.token, p.after];
-            return rewrite(alloc, "'|' comes between two updates", &parts);
-        }
-        _ => {}
+        Some('[') if matches!(last_char(p.before), Some(')')) => of_step(alloc, p),
+        Some('.') => of_late_dot(alloc, expr, at, p, expected),
+        _ => of_bracket(alloc, p, expected),
     }
-    of_bracket(alloc, p, expected)
 }

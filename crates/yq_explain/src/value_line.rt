@@ -1,0 +1,133 @@
+//! The line about the value at which a path goes no further.
+
+use crate::caret::push_name;
+use crate::value_place::{pipe_of, refusing};
+use memchr::memchr_iter;
+use std::alloc::{AllocError, Global};
+use yq_core::{Kind, Step};
+use yq_documents::{Documents, Part, Path};
+use yq_expr_parser::parse_expr;
+use yq_history::Fault;
+use yq_nodes::{Node, NodeKind};
+use yq_tree::{extent, locate, read};
+
+/// Whether a key is a step of a path without quotes.
+fn is_plain(key: &str) -> bool {
+    !key.is_empty()
+        && !key.starts_with(|c: char| c.is_ascii_digit())
+        && key
+            .chars()
+            .all(|c| c.is_ascii_alphanumeric() || c == '_' || c == '-')
+}
+
+/// Adds a step as an expression has it.
+fn push_step(alloc: Global, out: &mut String, step: &Step) -> Result<(), AllocError> {
+    match step {
+        Step::Key(key) if is_plain(key.as_str()) => {
+            out.push('.')?;
+            out.push_str(key.as_str())
+        }
+        Step::Key(key) => {
+            out.push_str(".\"")?;
+            push_name(out, key.as_str())?;
+            out.push('"')
+        }
+        Step::Index(item) => {
+            let item = format!(in alloc; "[{item}]")?;
+            out.push_str(item.as_str())
+        }
+    }
+}
+
+/// Adds a path as an expression has it.
+fn push_path(alloc: Global, out: &mut String, steps: &[Step]) -> Result<(), AllocError> {
+    match steps.first() {
+        Some(Step::Key(_)) => {}
+        _ => out.push('.')?,
+    }
+    'steps: for step in steps {
+        push_step(alloc, out, step)?;
+    }
+    Ok(())
+}
+
+/// Adds what a node is, in words.
+fn push_kind(alloc: Global, out: &mut String, node: &Node<'_, '_>) -> Result<(), AllocError> {
+    let words = match node.kind() {
+        NodeKind::Alias => "an alias",
+        NodeKind::Map => "a mapping",
+        NodeKind::Scalar(Kind::Text) => "a text",
+        NodeKind::Scalar(Kind::Int | Kind::Float) => "a number",
+        NodeKind::Scalar(Kind::Bool) => "true or false",
+        NodeKind::Scalar(Kind::Null) => "null",
+        NodeKind::List => "a sequence of ",
+    };
+    out.push_str(words)?;
+    if node.kind() != NodeKind::List {
+        return Ok(());
+    }
+    let count = node.count();
+    let items = if count == 1 { "item" } else { "items" };
+    let words = format!(in alloc; "{count} {items}")?;
+    out.push_str(words.as_str())
+}
+
+/// The line, from 1, on which the entry, item or root at a path begins, in bytes that were read.
+fn line_of(documents: &Documents<'_>, path: &Path, bytes: &[u8]) -> Option<usize> {
+    let span = match extent(documents, path, Part::Entry) {
+        Some(span) => span,
+        None => extent(documents, path, Part::Content)?,
+    };
+    let before = bytes.get(..span.start)?;
+    Some(memchr_iter(b'\n', before).count().saturating_add(1))
+}
+
+/// Adds the line about the value at a path.
+fn push_value(
+    alloc: Global,
+    out: &mut String,
+    documents: &Documents<'_>,
+    path: &Path,
+    bytes: &[u8],
+) -> Result<(), AllocError> {
+    let Some(node) = locate(documents, path) else {
+        return Ok(());
+    };
+    push_path(alloc, out, &path.steps)?;
+    out.push_str(" is ")?;
+    push_kind(alloc, out, &node)?;
+    if let Some(line) = line_of(documents, path, bytes) {
+        let line = format!(in alloc; ", line {line}")?;
+        out.push_str(line.as_str())?;
+    }
+    out.push('\n')
+}
+
+/// Adds which value of a file with these bytes refuses the steps of an expression with this fault, and on
+/// which line it is, counted from 1. Nothing where no value does, or where more than one path may lead to it.
+pub fn push_value_line(
+    alloc: Global,
+    out: &mut String,
+    bytes: &[u8],
+    expr: &str,
+    fault: Fault,
+) -> Result<(), AllocError> {
+    let Ok(documents) = read(alloc, bytes) else {
+        return Ok(());
+    };
+    let Ok(program) = parse_expr(alloc, expr) else {
+        return Ok(());
+    };
+    match refusing(alloc, &documents, pipe_of(&program), fault)? {
+        Some(path) => push_value(alloc, out, &documents, &path, bytes),
+        None => Ok(()),
+    }
+}
+
+/// Whether a value is named for such a fault.
+pub fn names_value(fault: Fault) -> bool {
+    matches!(
+        fault,
+        Fault::NotAMap | Fault::NotASequence | Fault::IndexOutOfRange | Fault::ThroughAlias
+    )
+}
