@@ -9,6 +9,7 @@ use yq_semantics::{PathStep, Program, Stage, Syntax, Update};
 use yq_tree::locate;
 
 /// Where a step of a pipe leads.
+#[derive(Clone, Copy)]
 enum Way {
     Further,
     /// The value that was reached refuses the step.
