@@ -219,6 +219,14 @@ def expected(words, text, state):
     return (None, led, new) if led is not None else ("J3 does not stand", text, None)
 
 
+HIDDEN = re.compile("[\x7f-\x9f\u061c\u200e\u200f\u2028-\u202e\u2066-\u2069]")
+
+
+def shown(expr):
+    """A JSON string on which no terminal acts."""
+    return HIDDEN.sub(lambda found: f"\\u{ord(found[0]):04x}", json.dumps(expr, ensure_ascii=False))
+
+
 def lines_of(state):
-    parts = (f"{n + 1} {'done' if n < state.at else 'undone'} {json.dumps(it.expr, ensure_ascii=False)}\n" for n, it in enumerate(state.records))
+    parts = (f"{n + 1} {'done' if n < state.at else 'undone'} {shown(it.expr)}\n" for n, it in enumerate(state.records))
     return "".join(parts).encode()

@@ -10,6 +10,7 @@ mod printing;
 mod report;
 mod squashing;
 mod undoing;
+mod visible;
 
 pub use direction::Direction;
 pub use fault::Fault;

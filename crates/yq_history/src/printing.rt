@@ -11,6 +11,7 @@ ghost use Rattle.yq_history.specs.Listing as spec;
 use crate::fault::Fault;
 use crate::pair::open_pair;
 use crate::report::Report;
+use crate::visible::visible;
 use serde_json::Value;
 use std::alloc::{AllocError, Global};
 use yq_journal::Journal;
@@ -48,7 +49,8 @@ fn edit_line(alloc: Global, number: usize, is_done: bool, expr: &str) -> Result<
     ensures { IfOk result (λ s. string_bytes s ≡ spec.edit_line number is_done expr.now) }
 {
     let state = state_word(is_done);
-    let expr = quoted(alloc, expr)?;
+    let quoted = quoted(alloc, expr)?;
+    let expr = visible(alloc, &quoted)?;
     joined_line(alloc, number, state, &expr)
 }
 

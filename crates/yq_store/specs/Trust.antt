@@ -1,5 +1,5 @@
 -- Whose journals are believed, and which users may replace files (own).
-use Rattle.std.specs.Prelude.{ℕ, ◌==◌, ◌&&◌, ◌||◌, Bool, not, bit_and, nat_le}
+use Rattle.std.specs.Prelude.{ℕ, ◌==◌, ◌&&◌, ◌||◌, Bool, not, bit_and, nat_le, Option, Some, None}
 use Rattle.yq_store.{specs.declared.disk.trust.Trust.Trust, specs.declared.disk.trust.Writers.Writers}
 
 -- everyone may write the file: the bit 2 of its mode
@@ -9,6 +9,15 @@ everyone_writes w = not (bit_and w.mode 2 == 0)
 -- the group of the file may write it: the bit 16 of its mode
 abbrev pub group_writes : Writers → Bool
 group_writes w = not (bit_and w.mode 16 == 0)
+
+-- a run of this user, or of root where the system doesn't report it, with this file
+abbrev pub trust_of : Option ℕ → Writers → Trust
+trust_of (Some user) file = record { user = user; file = file }
+trust_of None file = record { user = 0; file = file }
+
+-- the same run, with another file
+abbrev pub with_file : Trust → Writers → Trust
+with_file t file = record { user = t.user; file = file }
 
 -- the owner is the user of the run, root or the file's owner, or could have written the file by its mode
 abbrev pub covers : Trust → ℕ → ℕ → Bool

@@ -3,7 +3,9 @@ ghost use Rattle.std.specs.Prelude.{◌≡◌, false};
 ghost use Rattle.std.specs.FinMap as map;
 
 mod as_read;
+mod belief;
 mod edited;
+mod found;
 pub mod hint;
 mod journal;
 mod journal_limit;
@@ -106,7 +108,7 @@ impl<
             return Err(io::Error::from(ErrorKind::Other));
         };
         let writes = self.purpose != Purpose::List;
-        let bytes = read_journal(
+        let journal = read_journal(
             &self.rt,
             alloc,
             name,
@@ -114,12 +116,15 @@ impl<
             edited.as_read.state,
             writes,
         );
-        self.hint = hint_of(&bytes);
+        self.hint = hint_of(&journal);
         // What only lists has read all: it holds nobody back while it prints.
         if self.purpose == Purpose::List {
             self.edited = None;
         }
-        bytes
+        match journal? {
+            Some(journal) => Ok(Some(journal.into_bytes())),
+            None => Ok(None),
+        }
     }
 
     /// Replaces a file. Want of memory is an error only where every file is as before.

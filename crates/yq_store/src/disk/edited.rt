@@ -14,7 +14,7 @@ use crate::disk::reading::MOST_OF_TEXT;
 use crate::disk::replacing::replace_file;
 use crate::disk::state::FileState;
 use crate::disk::temporary::remove_left;
-use crate::disk::trust::Trust;
+use crate::disk::trust::{Trust, Writers, user_of_run};
 use std::alloc::Global;
 use std::fs::File;
 use std::io::{Eprint, ErrorKind};
@@ -57,7 +57,7 @@ pub fn read_edited<R: Files<File = File> + Clock + Eprint + Env + Alloc<A = Glob
     *edited = Some(EditedFile {
         opened,
         as_read,
-        trust: Trust::of(rt, &found),
+        trust: Trust::of_user(user_of_run(rt), Writers::of(&found)),
         is_checked: false,
         old_journal: None,
     });
@@ -112,7 +112,7 @@ pub fn write_own<R: Files<File = File> + RandomSource + Clock + Env + Alloc<A = 
         edited.is_checked = true;
     }
     let OpenedFile { path, file, .. } = &edited.opened;
-    let rights = Rights::of(&file.metadata()?);
+    let rights = Rights::of(Writers::of(&file.metadata()?));
     match replace_file(rt, path, bytes, rights, Some((&edited.as_read, file)))? {
         Some(file) => {
             edited.opened.file = file;

@@ -1,4 +1,6 @@
 //! What tells one file from another, and whether it was changed.
+ghost use Rattle.std.specs.Prelude.{◌≡◌};
+ghost use Rattle.yq_store.specs.Belief as spec;
 
 use crate::disk::links::is_absence;
 use std::fs::Metadata;
@@ -36,9 +38,16 @@ impl FileState {
         Duration::from_secs(u64::try_from(seconds).unwrap_or(0)).saturating_add(part)
     }
 
+    /// Whether both are states of one file, changed in between or not.
+    pub fn is_same(&self, other: FileState) -> bool
+        ensures { result ≡ spec.is_same_file self.now other }
+    {
+        self.device == other.device && self.inode == other.inode
+    }
+
     /// Whether this is the state of a file, changed since then or not.
     pub fn is_of(&self, file: &Metadata) -> bool {
-        self.device == file.dev() && self.inode == file.ino()
+        self.is_same(FileState::of(file))
     }
 }
 

@@ -1,5 +1,5 @@
 //! Whose journals are believed, and which users may replace files.
-ghost use Rattle.std.specs.Prelude.{◌≡◌};
+ghost use Rattle.std.{specs.Prelude.◌≡◌, specs.Fs.metadata_mode};
 ghost use Rattle.yq_store.specs.Trust as spec;
 
 use std::fs::{self, Metadata};
@@ -21,11 +21,11 @@ const STICKY: u32 = 0o1000;
 /// What the system tells of the run itself belongs to the user of the run.
 const OWN_RUN: &str = "/proc/self";
 
-/// The user of the run, or root, whose journals are believed anyway, where the system doesn't tell.
-fn user_of_run<R: Files>(rt: &R) -> u32 {
+/// The user of the run, where the system reports it.
+pub fn user_of_run<R: Files>(rt: &R) -> Option<u32> {
     match fs::metadata(rt, OWN_RUN) {
-        Ok(run) => run.uid(),
-        Err(_) => ROOT,
+        Ok(run) => Some(run.uid()),
+        Err(_) => None,
     }
 }
 
@@ -40,14 +40,16 @@ pub fn maker_of(found: &Metadata) -> Maker {
 /// Who may write a file: its owner, and whom its mode allows it.
 #[derive(Clone, Copy)]
 pub struct Writers {
-    owner: u32,
-    group: u32,
-    mode: u32,
+    pub owner: u32,
+    pub group: u32,
+    pub mode: u32,
 }
 
 impl Writers {
-    /// Those of a file, as the system tells it.
-    pub fn of(file: &Metadata) -> Writers {
+    /// Those of a file, as the system reports it.
+    pub fn of(file: &Metadata) -> Writers
+        ensures { result.mode ≡ metadata_mode file.now }
+    {
         Writers {
             owner: file.uid(),
             group: file.gid(),
@@ -65,19 +67,25 @@ pub struct Trust {
 }
 
 impl Trust {
-    /// In a run of the user who runs it, with this file.
-    pub fn of<R: Files>(rt: &R, file: &Metadata) -> Trust {
-        Trust {
-            user: user_of_run(rt),
-            file: Writers::of(file),
-        }
+    /// In a run of this user with this file; of root, whose journals are believed anyway, where the system
+    /// doesn't report the user.
+    pub fn of_user(user: Option<u32>, file: Writers) -> Trust
+        ensures { result ≡ spec.trust_of user file }
+    {
+        let user = match user {
+            Some(user) => user,
+            None => ROOT,
+        };
+        Trust { user, file }
     }
 
     /// In the same run, with another file.
-    pub fn of_other(&self, file: &Metadata) -> Trust {
+    pub fn with_file(&self, file: Writers) -> Trust
+        ensures { result ≡ spec.with_file self.now file }
+    {
         Trust {
             user: self.user,
-            file: Writers::of(file),
+            file,
         }
     }
 
