@@ -6,3 +6,4 @@ pub mod Pair
 pub mod Report
 pub mod Steps
 pub mod Directions
+pub mod Calls
