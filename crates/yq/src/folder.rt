@@ -55,6 +55,8 @@ impl<'a, R: Files + Drop, S: Store + Drop> Store for WithFolder<'a, R, S> {
 
     ghost failures = { λ s. S.failures s.store };
 
+    ghost leads = { λ s c t. S.leads s.store c t.store };
+
     fn read(&mut self, alloc: Global, name: &str) -> Result<Vec<u8>, FileReadError> {
         self.store.read(alloc, name)
     }

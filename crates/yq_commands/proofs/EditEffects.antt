@@ -48,7 +48,7 @@ module _ (f j : List ℕ) (c : FileMap) (expr : List ℕ) (s : State) (t : List 
     by_room true = refl
     by_room false = ap (λ r. edit_writes r t u s) (sym is_edit)
 
-    edit_moves : (o : EditOutcome) → o ≡ edited u cs → u ≢ t → moved_text s.records s.at (move.Edit edit) t ≡ Some u → edit_effect expr o t s ≡ move_effect (move.Edit edit) t s
+    pub edit_moves : (o : EditOutcome) → o ≡ edited u cs → u ≢ t → moved_text s.records s.at (move.Edit edit) t ≡ Some u → edit_effect expr o t s ≡ move_effect (move.Edit edit) t s
     edit_moves o is changes leads =
         ap (λ x. edit_effect expr x t s) is
         ∙ ap (λ b. by_tests u cs b (nat_le most_records s.at)) (bytes_differ u t changes)

@@ -11,3 +11,4 @@ pub mod CountLaws
 pub mod KeepLaws
 pub mod ListLaws
 pub mod ReplyLaws
+pub mod CommandCalls

@@ -11,3 +11,4 @@ pub mod FileEdits
 pub mod Lists
 pub mod Prints
 pub mod Reads
+pub mod Calls

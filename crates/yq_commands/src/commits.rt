@@ -4,7 +4,7 @@ ghost use Rattle.yq_journal.specs.History.{History};
 ghost use Rattle.yq_text.specs.Splice.{Splice, all_done, lengths_done};
 ghost use Rattle.yq_commands.{specs.Editing.{edited, program_edits}, specs.Edits.edit_record, specs.CommandEffects.edit_effect};
 ghost use Rattle.yq_commands.specs.CommandSteps.{update_cause, update_next};
-ghost use Rattle.yq_history.{specs.Effects.Works, specs.Faults.{is_outer_fault, is_output, failures_after}};
+ghost use Rattle.yq_history.{specs.Calls.Makes, specs.Effects.Works, specs.Faults.{is_outer_fault, is_output, failures_after}};
 ghost use Rattle.yq_history.specs.Pair.{Arrives, OthersStay, PairAtRest};
 ghost use Rattle.std.specs.FinMap as map;
 ghost use Rattle.yq_semantics.specs.Program as spec;
@@ -64,6 +64,9 @@ pub fn commit<D: Store>(
         (D.content store.new) file.now journal.now }
     ensures no_output { IfErr result (λ e. is_output e ≡ false) }
     ensures count { D.failures store.new ≡ failures_after result (D.failures store.old) }
+    ensures calls { (p : spec.Program) → program_edits p old.items ≡ edited new.now splices.items →
+        Makes D.leads result file.now journal.now old.items (edit_effect expr.now
+        (program_edits p old.items) old.items state.old) store.old store.new }
 {
     if new == old.as_slice() {
         return Ok(());

@@ -5,3 +5,4 @@ pub mod PairLaws
 pub mod PrintLaws
 pub mod SquashLaws
 pub mod FaultLaws
+pub mod CallLaws

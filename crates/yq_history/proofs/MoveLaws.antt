@@ -209,7 +209,7 @@ module _ (f j : List ℕ) (h : History) (w : Direction) where
         (subst (λ x. OnErr r (PairStands d f j h ⊎ PairStands d f j (after_move h x u))) same (m.err h k))
         (fault_outside r (no_way s.records s.at again) (ap (no_way s.records s.at) (same ∙ sym is) ∙ no_way_free s.records s.at step t free) m.fault)
 
-bytes_same : (t : List ℕ) → bytes_eq t t ≡ true
+pub bytes_same : (t : List ℕ) → bytes_eq t t ≡ true
 bytes_same t = (bytes_eq-Decides t t).1 refl
 
 pub bytes_differ : (t u : List ℕ) → t ≢ u → bytes_eq t u ≡ false
@@ -225,8 +225,13 @@ settles_moved s t u step m d =
     ∙ ap (λ o. if is_reached o u then Some (journal_after s step) else None) m
     ∙ ap (λ b. if b then Some (journal_after s step) else None) (bytes_same u)
 
+-- the journal with the move open, settled beside the new text
+pub settled_is : (s : State) (t u : List ℕ) (step : Move) (y z : State) →
+    moved_text s.records s.at step t ≡ Some u → u ≢ t → y ≡ with_move s step t → settled_beside y u ≡ Some z → z ≡ journal_after s step
+settled_is s t u step y z m changes is settles = same_Some z (journal_after s step) (sym settles ∙ ap (λ x. settled_beside x u) is ∙ settles_moved s t u step m changes)
+
 -- the journal that a move leaves
 pub moved_journal : (j : List ℕ) (s : State) (t u : List ℕ) (step : Move) (y z : State) (g l : FileMap) →
     moved_text s.records s.at step t ≡ Some u → u ≢ t → y ≡ with_move s step t → settled_beside y u ≡ Some z → Writes g l j z → IsJournal (get l j) (journal_after s step)
 moved_journal j s t u step y z g l m changes is settles w =
-    subst (IsJournal (get l j)) (same_Some z (journal_after s step) (sym settles ∙ ap (λ x. settled_beside x u) is ∙ settles_moved s t u step m changes)) (journal_written g l j z w)
+    subst (IsJournal (get l j)) (settled_is s t u step y z m changes is settles) (journal_written g l j z w)

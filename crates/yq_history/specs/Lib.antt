@@ -7,3 +7,4 @@ pub mod Report
 pub mod Steps
 pub mod Directions
 pub mod Visible
+pub mod Calls

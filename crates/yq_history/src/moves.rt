@@ -2,7 +2,8 @@
 ghost use Rattle.std.specs.Prelude.{◌≡◌, ◌≢◌, ◌⊎◌, Some, None, Err, false, IsTrue, IsNone, IfErr, OnOk, OnErr, option_map};
 ghost use Rattle.yq_journal.{specs.Good.after_move, specs.History.History, specs.Refusals.no_way, specs.State.{journal_after, moved_text}};
 ghost use Rattle.yq_journal.specs.declared.fault.JournalFault.{JournalFault};
-ghost use Rattle.yq_history.{specs.Effects.IsMoveCutShort, specs.Faults.{is_outer_fault, is_output, failures_after, of_fault}};
+ghost use Rattle.yq_history.{specs.Calls.Makes, specs.Effects.{IsMoveCutShort, move_effect}};
+ghost use Rattle.yq_history.specs.Faults.{is_outer_fault, is_output, failures_after, of_fault};
 ghost use Rattle.yq_history.specs.Pair.{IsJournal, OthersStay, PairAtRest, PairStands};
 ghost use Rattle.std.specs.FinMap as map;
 
@@ -52,6 +53,8 @@ pub fn carry_out<D: Store>(
         (D.content store.new) file.now journal.now }
     ensures no_output { IfErr result (λ e. is_output e ≡ false) }
     ensures count { D.failures store.new ≡ failures_after result (D.failures store.old) }
+    ensures calls { Makes D.leads result file.now journal.now old.items
+        (move_effect step old.items state.old) store.old store.new }
 {
     state.start_with(step, old)?;
     write_journal(alloc, store, journal, state)?;

@@ -2,7 +2,8 @@
 ghost use Rattle.std.specs.Prelude.{◌≡◌, ◌≢◌, ◌⊎◌, ℕ, List, Option, Some, None, false, IfOk, OnOk, IfErr, OnErr, IsTrue, IsNone};
 ghost use Rattle.yq_journal.{specs.Good.journal_beside, specs.History.History, specs.State.State};
 ghost use Rattle.yq_history.{specs.Effects.{Effect, from_names, refuses}, specs.Faults.{is_outer_fault, is_output, failures_after}};
-ghost use Rattle.yq_history.{specs.Pair.{GoodIn, Opens, Writes}, specs.Causes.named};
+ghost use Rattle.yq_history.{specs.Calls.{IsOpened, PutsJournal, ReadsJournal, ReadsPair}, specs.Pair.{GoodIn, Opens, Writes}};
+ghost use Rattle.yq_history.specs.Causes.{named};
 ghost use Rattle.std.specs.FinMap as map;
 
 use crate::fault::Fault;
@@ -20,6 +21,8 @@ fn read_journal<D: Store>(alloc: Global, store: &mut D, journal: &str) -> Result
     ensures same { IsTrue D.keeps → D.content store.new ≡ D.content store.old }
     ensures no_output { IfErr result (λ e. is_output e ≡ false) }
     ensures count { D.failures store.new ≡ failures_after result (D.failures store.old) }
+    ensures calls { ReadsJournal D.leads result journal.now (λ beside s t. (t ≡ s) ×
+        IfOk result (λ j. journal_beside beside ≡ Some j)) store.old store.new }
 {
     match store.read(alloc, journal) {
         Ok(bytes) => Ok(Journal::from_json(alloc, &bytes)?),
@@ -44,6 +47,7 @@ pub fn write_journal<D: Store>(
         map.get (D.content store.new) q ≡ map.get (D.content store.old) q }
     ensures no_output { IfErr result (λ e. is_output e ≡ false) }
     ensures count { D.failures store.new ≡ failures_after result (D.failures store.old) }
+    ensures calls { PutsJournal D.leads result journal.now state.now store.old store.new }
 {
     let bytes = state.to_json(alloc)?;
     store.replace(journal, &bytes)?;
@@ -71,6 +75,8 @@ pub fn open_pair<D: Store>(
     ensures at_rest { IfOk result (λ p. IsNone p.1.pending) }
     ensures no_output { IfErr result (λ e. is_output e ≡ false) }
     ensures count { D.failures store.new ≡ failures_after result (D.failures store.old) }
+    ensures calls { ReadsPair D.leads result file.now journal.now (IsOpened result) store.old
+        store.new }
 {
     let text = store.read(alloc, file)?;
     let mut state = read_journal(alloc, store, journal)?;

@@ -3,7 +3,7 @@ ghost use Rattle.std.specs.Prelude.{◌≡◌, ◌∷◌, ◌++◌, [], Option, 
 ghost use Rattle.std.specs.String.{string_bytes};
 ghost use Rattle.yq_journal.specs.History.{History};
 ghost use Rattle.yq_history.{specs.Effects.{Works, from_names, listing_effect, printed_by}, specs.Faults.{is_output, failures_after}};
-ghost use Rattle.yq_history.{specs.Pair.{Arrives, GoodIn}, specs.Report.{nothing, report_by, text as report_text}};
+ghost use Rattle.yq_history.{specs.Pair.{Arrives, GoodIn}, specs.Report.{nothing, report_by, text as report_text}, specs.Calls.CallsOnPair};
 ghost use Rattle.yq_history.specs.Steps.{listing_cause};
 ghost use Rattle.json.specs.Print as json;
 ghost use Rattle.yq_history.specs.Listing as spec;
@@ -90,6 +90,8 @@ pub fn listing<D: Store>(
     ensures same { IsTrue D.keeps → D.content store.new ≡ D.content store.old }
     ensures no_output { IfErr result (λ e. is_output e ≡ false) }
     ensures count { D.failures store.new ≡ failures_after result (D.failures store.old) }
+    ensures calls { CallsOnPair D.leads result file.now journal.now listing_effect
+        store.old store.new }
 {
     let (_text, state) = open_pair(alloc, store, file, journal)?;
     report.text = lines_of(alloc, &state)?;

@@ -1,7 +1,7 @@
 //! Squashes: the last edits of a file joined into one in its journal.
 ghost use Rattle.std.specs.Prelude.{◌≡◌, ◌≢◌, ℕ, List, Option, Some, Err, IfErr, IsTrue, IsNone, false};
 ghost use Rattle.yq_journal.{specs.History.History, specs.Refusals.squash_fault, specs.declared.fault.JournalFault.JournalFault};
-ghost use Rattle.yq_history.specs.Effects.{Works, from_names, squash_effect};
+ghost use Rattle.yq_history.{specs.Calls.{CallsOnPair, Makes}, specs.Effects.{Works, from_names, squash_effect}};
 ghost use Rattle.yq_history.{specs.Faults.{is_outer_fault, is_output, failures_after, of_fault}, specs.Pair.{Arrives, GoodIn, PairAtRest}};
 ghost use Rattle.yq_history.specs.Steps.{squash_cause, squash_next};
 ghost use Rattle.std.specs.FinMap as map;
@@ -38,6 +38,8 @@ fn squash_from<D: Store>(
         map.get (D.content store.new) q ≡ map.get (D.content store.old) q }
     ensures no_output { IfErr result (λ e. is_output e ≡ false) }
     ensures count { D.failures store.new ≡ failures_after result (D.failures store.old) }
+    ensures calls { (file t : List ℕ) → Makes D.leads result file journal.now t
+        (squash_effect n t state.old) store.old store.new }
 {
     state.squash(n)?;
     if n == 1 {
@@ -68,6 +70,8 @@ pub fn squash<D: Store>(
         map.get (D.content store.new) q ≡ map.get (D.content store.old) q }
     ensures no_output { IfErr result (λ e. is_output e ≡ false) }
     ensures count { D.failures store.new ≡ failures_after result (D.failures store.old) }
+    ensures calls { CallsOnPair D.leads result file.now journal.now (squash_effect n)
+        store.old store.new }
 {
     let (_text, mut state) = open_pair(alloc, store, file, journal)?;
     squash_from(alloc, store, journal, &mut state, n)

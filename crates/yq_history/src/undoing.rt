@@ -4,7 +4,8 @@ ghost use Rattle.yq_journal.{specs.Good.after_move, specs.History.History, specs
 ghost use Rattle.yq_journal.specs.State.{journal_after, moved_text};
 ghost use Rattle.yq_history.{specs.Effects.{Works, from_names, move_effect}, specs.Faults.{is_outer_fault, is_output, failures_after}};
 ghost use Rattle.yq_history.specs.Pair.{Arrives, GoodIn, IsJournal, OthersStay, PairAtRest, PairStands};
-ghost use Rattle.yq_history.{specs.Steps.{move_cause, move_next}, specs.Directions.walk_move};
+ghost use Rattle.yq_history.{specs.Calls.{CallsOnPair, Makes, PutsJournal}, specs.Steps.{move_cause, move_next}};
+ghost use Rattle.yq_history.specs.Directions.{walk_move};
 ghost use Rattle.std.specs.FinMap as map;
 
 use crate::{Direction, Fault, carry_out, open_pair, write_journal};
@@ -43,6 +44,8 @@ fn move_only<D: Store>(
         map.get (D.content store.new) q ≡ map.get (D.content store.old) q }
     ensures no_output { IfErr result (λ e. is_output e ≡ false) }
     ensures count { D.failures store.new ≡ failures_after result (D.failures store.old) }
+    ensures calls { PutsJournal D.leads result journal.now (journal_after state.old (walk_move dir))
+        store.old store.new }
 {
     dir.make(state, text)?;
     write_journal(alloc, store, journal, state)
@@ -73,6 +76,8 @@ fn move_from<D: Store>(
         (D.content store.new) file.now journal.now }
     ensures no_output { IfErr result (λ e. is_output e ≡ false) }
     ensures count { D.failures store.new ≡ failures_after result (D.failures store.old) }
+    ensures calls { Makes D.leads result file.now journal.now text.items
+        (move_effect (walk_move dir) text.items state.old) store.old store.new }
 {
     let old = text.as_slice();
     let new = state.target(alloc, &dir.step(), old)?;
@@ -104,6 +109,8 @@ pub fn move_file<D: Store>(
         (D.content store.new) file.now journal.now }
     ensures no_output { IfErr result (λ e. is_output e ≡ false) }
     ensures count { D.failures store.new ≡ failures_after result (D.failures store.old) }
+    ensures calls { CallsOnPair D.leads result file.now journal.now (move_effect (walk_move dir))
+        store.old store.new }
 {
     let (text, mut state) = open_pair(alloc, store, file, journal)?;
     move_from(alloc, store, file, journal, &mut state, dir, text)

@@ -7,7 +7,7 @@ ghost use Rattle.yq_text.specs.Splice.{all_done, lengths_done};
 ghost use Rattle.yq_commands.{specs.CommandEffects.edit_effect, specs.CommandSteps.{update_cause, update_next}};
 ghost use Rattle.yq_commands.{specs.Expecting.{changes_as_expected, edits_as_expected}, specs.Editing.{Refuses, edited, program_edits}};
 ghost use Rattle.yq_commands.specs.FileEdits.{HoldsEdited, IsTextEdited};
-ghost use Rattle.yq_history.{specs.Effects.Works, specs.Faults.{is_failure, is_outer_fault, is_output, failures_after}};
+ghost use Rattle.yq_history.{specs.Calls.Makes, specs.Effects.Works, specs.Faults.{is_failure, is_outer_fault, is_output, failures_after}};
 ghost use Rattle.yq_history.specs.Pair.{Arrives, OthersStay, PairAtRest};
 ghost use Rattle.std.specs.FinMap as map;
 
@@ -88,6 +88,9 @@ pub fn edit_from<D: Store>(
         (D.content store.new) file.now journal.now }
     ensures no_output { IfErr result (λ e. is_output e ≡ false) }
     ensures count { D.failures store.new ≡ failures_after result (D.failures store.old) }
+    ensures calls { Makes D.leads result file.now journal.now text.items (edit_effect expr.now
+        (program_edits (program_of program.now) text.items) text.items state.old) store.old
+        store.new }
 {
     let Edited {
         text: edited_to,

@@ -4,8 +4,8 @@ ghost use Rattle.std.specs.String.{string_bytes};
 ghost use Rattle.yq_semantics.{specs.Program.is_read, specs.View.program_of};
 ghost use Rattle.yq_journal.specs.History.{History};
 ghost use Rattle.yq_history.{specs.Causes.IsFor, specs.Faults.{is_failure, is_output, failures_after}, specs.Pair.{Arrives, GoodIn}};
-ghost use Rattle.yq_history.specs.Report.{report_by};
-ghost use Rattle.yq_commands.{specs.CommandEffects.{IsUnparsed, fault_of}, specs.Editing.program_in};
+ghost use Rattle.yq_history.{specs.Calls.ReadsFile, specs.Report.report_by};
+ghost use Rattle.yq_commands.{specs.Calls.CallsOfEvaluation, specs.CommandEffects.{IsUnparsed, fault_of}, specs.Editing.program_in};
 ghost use Rattle.yq_commands.specs.Evaluation.{cause_in, evaluated, of_file, report_in, shows};
 ghost use Rattle.yq_commands.specs.FileEdits.{IsTextEdited, PrintsEdited};
 ghost use Rattle.std.specs.FinMap as map;
@@ -90,6 +90,7 @@ fn evaluate_program<D: Store>(
     ensures same { IsTrue D.keeps → D.content store.new ≡ D.content store.old }
     ensures no_output { IfErr result (λ e. is_output e ≡ false) }
     ensures count { D.failures store.new ≡ failures_after result (D.failures store.old) }
+    ensures calls { ReadsFile D.leads result file.now (λ text s t. t ≡ s) store.old store.new }
 {
     let text = store.read(alloc, file)?;
     *report = show(alloc, program, &text, options)?;
@@ -121,6 +122,7 @@ pub fn evaluate<D: Store>(
     ensures same { IsTrue D.keeps → D.content store.new ≡ D.content store.old }
     ensures no_output { IfErr result (λ e. is_output e ≡ false) }
     ensures count { D.failures store.new ≡ failures_after result (D.failures store.old) }
+    ensures calls { CallsOfEvaluation D.leads result expr.now file.now store.old store.new }
 {
     let program = parse(alloc, expr)?;
     evaluate_program(alloc, store, file, &program, options, report)

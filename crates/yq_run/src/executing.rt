@@ -4,6 +4,7 @@ ghost use Rattle.yq_journal.specs.History.{History};
 ghost use Rattle.yq_commands.{specs.CommandNames.{IsOn, IsNotNamed}, specs.Editing.program_in};
 ghost use Rattle.yq_commands.specs.CommandEffects.{IsListing, IsUnparsed, OfEffect, expression_fault, fault_of, update_effect};
 ghost use Rattle.yq_commands.{specs.FileEdits.{HasEdited, IsFileEdited}, specs.Prints.{prints, reads_journal, report_of}};
+ghost use Rattle.yq_commands.specs.Calls.{CallsOf, CallsOfUpdate};
 ghost use Rattle.yq_commands.specs.Expecting.{ReportsExpected, expects_change, report_edit, works_as_expected};
 ghost use Rattle.yq_commands.specs.CommandSteps.{cause_of, next_of, update_cause, update_next};
 ghost use Rattle.yq_history.{specs.Effects.Works, specs.Faults.{is_outer_fault, is_output, failures_after}};
@@ -56,6 +57,7 @@ fn update<D: Store>(
         (D.content store.new) file.now journal.now }
     ensures no_output { IfErr result (λ e. is_output e ≡ false) }
     ensures count { D.failures store.new ≡ failures_after result (D.failures store.old) }
+    ensures calls { CallsOfUpdate D.leads result expr.now file.now journal.now store.old store.new }
 {
     let program = parse(alloc, expr)?;
     let (text, mut state) = open_pair(alloc, store, file, journal)?;
@@ -105,6 +107,7 @@ pub fn execute<D: Store>(
         map.get (D.content store.new) q ≡ map.get (D.content store.old) q }
     ensures no_output { IfErr result (λ e. is_output e ≡ false) }
     ensures count { D.failures store.new ≡ failures_after result (D.failures store.old) }
+    ensures calls { CallsOf D.leads result command.now store.old store.new }
 {
     match command {
         Command::Eval {

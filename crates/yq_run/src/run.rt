@@ -4,7 +4,7 @@ ghost use Rattle.std.specs.List.{list_all};
 ghost use Rattle.yq_journal.specs.History.{History};
 ghost use Rattle.yq_commands.specs.CommandNames.{IsNotNamed};
 ghost use Rattle.yq_commands.specs.Lists.{AllOnOrApart, Keeps, RunsAll, RunExactly, Reply, answers_in, printed_in, has_memory, failures_in};
-ghost use Rattle.yq_commands.specs.Lists.{output_failures_in};
+ghost use Rattle.yq_commands.{specs.Lists.output_failures_in, specs.Calls.CallsOfAll};
 ghost use Rattle.yq_history.specs.Pair.{GoodIn};
 ghost use Rattle.std.specs.FinMap as map;
 
@@ -51,6 +51,8 @@ pub fn run_list<D: Store, W: Out>(
     ensures out_count { W.failures out.old < 2 ^ 64 →
         IfOk result (λ answers. W.failures out.new ≡
         min (W.failures out.old + output_failures_in answers.items) (2 ^ 64 - 1)) }
+    ensures calls { IfOk result (λ answers.
+        CallsOfAll D.leads commands.now answers.items store.old store.new) }
     ensures one_each { IfOk result (λ answers. length answers.items ≡ length commands.now) }
     ensures err { OnErr result ((store.new ≡ store.old) × (out.new ≡ out.old)) }
 {

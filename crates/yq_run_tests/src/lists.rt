@@ -34,6 +34,11 @@ static LIST: [Request; 16] = [
 /// The calls of the store that the list makes.
 const CALLS: u64 = 42;
 
+/// Those of them that read, and all that write, the one that makes the file among them.
+const READS: u64 = 28;
+
+const WRITES: u64 = 15;
+
 /// The first call that writes the file in the last edit.
 const FAILING: u64 = 36;
 
@@ -82,5 +87,7 @@ fn go_on(rt: HostRuntime) -> Result<(), Fail> {
     assert!(rt; is_answered(alloc, &mut store, &mut out)?);
     assert!(rt; out.bytes() == PRINTED.as_bytes());
     assert_eq!(rt; store.calls(), CALLS);
+    assert_eq!(rt; store.reads(), READS);
+    assert_eq!(rt; store.writes(), WRITES);
     Ok(())
 }

@@ -1,5 +1,6 @@
 //! A store of real files.
 ghost use Rattle.std.specs.Prelude.{◌≡◌, false};
+ghost use Rattle.yq_store.specs.Calls.{reads_after, writes_after};
 ghost use Rattle.std.specs.FinMap as map;
 
 mod as_read;
@@ -49,6 +50,8 @@ pub struct DiskStore<'a, R: Drop> {
     reports: bool,
     hint: Option<JournalHint>,
     failures: u64,
+    reads: u64,
+    writes: u64,
 }
 
 impl<'a, R: Drop> DiskStore<'a, R> {
@@ -62,6 +65,8 @@ impl<'a, R: Drop> DiskStore<'a, R> {
             reports: false,
             hint: None,
             failures: 0,
+            reads: 0,
+            writes: 0,
         }
     }
 
@@ -85,7 +90,9 @@ impl<
 > DiskStore<'a, R> {
     /// The bytes of a file, if there is one. A command that looks at a journal locks its file first.
     fn bytes_of(&mut self, alloc: Global, name: &str) -> io::Result<Option<Vec<u8>>>
-        ensures { self.new.failures ≡ self.old.failures }
+        ensures failures { self.new.failures ≡ self.old.failures }
+        ensures reads { self.new.reads ≡ self.old.reads }
+        ensures writes { self.new.writes ≡ self.old.writes }
     {
         if self.purpose == Purpose::Print {
             return match fs::open(&self.rt, name) {
@@ -129,7 +136,9 @@ impl<
 
     /// Replaces a file. Want of memory is an error only where every file is as before.
     fn put(&mut self, name: &str, bytes: &[u8]) -> io::Result<()>
-        ensures { self.new.failures ≡ self.old.failures }
+        ensures failures { self.new.failures ≡ self.old.failures }
+        ensures reads { self.new.reads ≡ self.old.reads }
+        ensures writes { self.new.writes ≡ self.old.writes }
     {
         match &mut self.edited {
             None => Err(io::Error::from(ErrorKind::Other)),
@@ -154,7 +163,11 @@ impl<
 
     ghost failures = { λ s. s.failures };
 
+    ghost leads = { λ s c t. (t.reads ≡ reads_after c s.reads) ×
+        (t.writes ≡ writes_after c s.writes) };
+
     fn read(&mut self, alloc: Global, name: &str) -> Result<Vec<u8>, FileReadError> {
+        self.reads = self.reads.saturating_add(1);
         match self.bytes_of(alloc, name) {
             Ok(Some(bytes)) => Ok(bytes),
             Ok(None) => Err(FileReadError::NotThere),
@@ -167,6 +180,7 @@ impl<
     }
 
     fn replace(&mut self, name: &str, bytes: &[u8]) -> Result<(), FileWriteError> {
+        self.writes = self.writes.saturating_add(1);
         match self.put(name, bytes) {
             Ok(()) => Ok(()),
             Err(e) if e.kind() == ErrorKind::OutOfMemory => Err(FileWriteError::OutOfMemory),

@@ -1,6 +1,6 @@
 //! A store in memory, which can be made to fail.
 ghost use Rattle.std.{specs.Prelude.{◌≡◌, true, [], IfOk, OnErr, option_map}, specs.String.string_bytes};
-ghost use Rattle.yq_store.specs.FileMap.{file_bytes};
+ghost use Rattle.yq_store.{specs.Calls.{reads_after, writes_after}, specs.FileMap.file_bytes};
 ghost use Rattle.std.specs.FinMap as map;
 
 use crate::store::{FileReadError, FileWriteError, Store};
@@ -22,6 +22,8 @@ pub struct MemoryStore {
     calls: u64,
     fails: Option<(u64, Left)>,
     failures: u64,
+    reads: u64,
+    writes: u64,
 }
 
 impl MemoryStore {
@@ -29,6 +31,8 @@ impl MemoryStore {
     pub fn new(alloc: Global) -> MemoryStore
         ensures log { result.log.items ≡ [] }
         ensures failures { result.failures ≡ 0 }
+        ensures reads { result.reads ≡ 0 }
+        ensures writes { result.writes ≡ 0 }
     {
         MemoryStore {
             log: VecDeque::new(alloc),
@@ -36,6 +40,8 @@ impl MemoryStore {
             calls: 0,
             fails: None,
             failures: 0,
+            reads: 0,
+            writes: 0,
         }
     }
 
@@ -43,6 +49,8 @@ impl MemoryStore {
     pub fn fail_at(&mut self, call: u64, left: Left)
         ensures log { self.new.log ≡ self.old.log }
         ensures failures { self.new.failures ≡ self.old.failures }
+        ensures reads { self.new.reads ≡ self.old.reads }
+        ensures writes { self.new.writes ≡ self.old.writes }
     {
         self.calls = 0;
         self.fails = Some((call, left));
@@ -62,6 +70,20 @@ impl MemoryStore {
         self.failures
     }
 
+    /// How many calls of `read` there were.
+    pub fn reads(&self) -> u64
+        ensures { result ≡ self.now.reads }
+    {
+        self.reads
+    }
+
+    /// How many calls of `replace` there were.
+    pub fn writes(&self) -> u64
+        ensures { result ≡ self.now.writes }
+    {
+        self.writes
+    }
+
     /// The bytes of a file, without a call of the store.
     pub fn bytes(&self, name: &str) -> Option<&Vec<u8>>
         ensures { option_map (λ v. v.now.items) result ≡
@@ -75,6 +97,8 @@ impl MemoryStore {
         ensures log { self.new.log ≡ self.old.log }
         ensures failures { self.new.failures ≡ self.old.failures }
         ensures alloc { self.new.alloc ≡ self.old.alloc }
+        ensures reads { self.new.reads ≡ self.old.reads }
+        ensures writes { self.new.writes ≡ self.old.writes }
     {
         self.calls = self.calls.saturating_add(1);
         match self.fails {
@@ -117,7 +141,11 @@ impl Store for MemoryStore {
 
     ghost failures = { λ s. s.failures };
 
+    ghost leads = { λ s c t. (t.reads ≡ reads_after c s.reads) ×
+        (t.writes ≡ writes_after c s.writes) };
+
     fn read(&mut self, alloc: Global, name: &str) -> Result<Vec<u8>, FileReadError> {
+        self.reads = self.reads.saturating_add(1);
         if self.next_call().is_some() {
             self.failures = self.failures.saturating_add(1);
             return Err(FileReadError::ReadFailed);
@@ -133,6 +161,7 @@ impl Store for MemoryStore {
 
     #[tactic(auto, using(crate::specs::FileMap::get_other))]
     fn replace(&mut self, name: &str, bytes: &[u8]) -> Result<(), FileWriteError> {
+        self.writes = self.writes.saturating_add(1);
         let next_call = self.next_call();
         if next_call == Some(Left::OldBytes) {
             self.failures = self.failures.saturating_add(1);

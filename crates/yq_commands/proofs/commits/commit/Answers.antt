@@ -1,8 +1,9 @@
 use Rattle.std.{proofs.Common.{◌≢◌, ℕ, List, length, ◌∙◌, sym, ap, subst, true≢false}, proofs.lemmas.Result.err_from_is_err_and}
 use Rattle.std.proofs.lemmas.Slice.Eq.{bytes_eq-Decides}
-use Rattle.yq_history.{specs.Effects.Works, specs.Faults.is_outer_fault, proofs.EffectLaws.works_outside}
+use Rattle.yq_history.{specs.Calls.Makes, proofs.CallLaws.{fails, makes_none}, specs.Effects.Works, specs.Faults.is_outer_fault}
+use Rattle.yq_history.proofs.EffectLaws.{works_outside}
 use Rattle.yq_commands.{specs.CommandEffects.edit_effect, specs.Editing.program_edits, specs.Edits.edit_record}
-use Rattle.yq_commands.{proofs.EditLaws.{edit_done, edit_ends}, proofs.EditEffects.edit_works}
+use Rattle.yq_commands.{proofs.EditLaws.{edit_done, edit_ends}, proofs.EditEffects.{edit_moves, edit_works}}
 use Rattle.yq_journal.specs.Record.{Record, done}
 use Rattle.yq_commands.proofs.commits.commit.Goals as goal
 
@@ -46,6 +47,9 @@ returns g c =
       others = e.others;
       no_output = e.no_output;
       count = e.count;
+      calls = λ p gives.
+          subst (λ x. Makes g.D.Store.leads c.carry_out.result c.args.file.now c.args.journal.now c.args.old.items x c.args.store.now c.carry_out.new.store)
+          (sym (edit_moves c.args.file.now c.args.journal.now (g.D.Store.content c.args.store.now) c.args.expr.now c.args.state.now c.args.old.items _ _ _ made (program_edits p c.args.old.items) gives changes leads)) e.calls;
     }
 
 pub returns-in_err-edit-clause-effect : goal.returns-in_err-edit-clause-effect
@@ -54,3 +58,9 @@ returns-in_err-edit-clause-effect g c = λ keeps apart p gives.
     let content = g.D.Store.content c.args.store.now in
     let effect = edit_effect c.args.expr.now (program_edits p c.args.old.items) c.args.old.items c.args.state.now in
     subst (Works effect c.args.file.now c.args.journal.now content content) (sym r.1) (works_outside (Unit {0}) effect c.args.file.now c.args.journal.now content r.0 (ap is_outer_fault r.2))
+
+pub returns-in_err-edit-clause-calls : goal.returns-in_err-edit-clause-calls
+returns-in_err-edit-clause-calls g c = λ p gives.
+    let r = err_from_is_err_and c.from_residual.result c.from_residual.ensures.1 in
+    makes_none g.D.Store.leads c.from_residual.result c.args.file.now c.args.journal.now c.args.old.items (edit_effect c.args.expr.now (program_edits p c.args.old.items) c.args.old.items c.args.state.now) c.args.store.now
+    (fails c.from_residual.result _ r.1)

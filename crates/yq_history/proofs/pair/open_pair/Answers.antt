@@ -1,6 +1,6 @@
-use Rattle.std.{proofs.Common.{◌≡◌, sym, ap, ◌∙◌}, specs.FinMap.get}
+use Rattle.std.{proofs.Common.{◌≡◌, Ok, sym, ap, ◌∙◌}, specs.FinMap.get}
 use Rattle.yq_journal.{specs.Good.journal_beside, specs.State.settled_beside}
-use Rattle.yq_history.{proofs.PairLaws.opens, proofs.EffectLaws.settles}
+use Rattle.yq_history.{proofs.CallLaws.opens_journal, proofs.PairLaws.opens, proofs.EffectLaws.settles}
 use Rattle.yq_history.proofs.pair.open_pair.Goals as goal
 
 pub returns-clause-opens : goal.returns-clause-opens
@@ -21,3 +21,12 @@ returns-clause-found g c = λ keeps go.
     settles (get (content c.args.store.now) c.args.file.now) (get (content c.args.store.now) c.args.journal.now) _ (c.in_ok-text.ensures.found keeps)
     _ (sym (ap (λ m. journal_beside (get m c.args.journal.now)) first) ∙ c.in_ok-state.ensures.ok keeps)
     _ (sym (ap (settled_beside c.in_ok-state.state) c.deref.ensures.value) ∙ c.in_ok-settle.ensures.ok) go
+
+pub returns-clause-calls : goal.returns-clause-calls
+returns-clause-calls g c = (
+  Ok c.in_ok-text.text.items,
+  c.read.new.self,
+  c.in_ok-text.ensures.call,
+  opens_journal g.D.Store.leads c.in_ok-text.text c.in_ok-state.state c.settle.new.self (sym (ap (settled_beside c.in_ok-state.state) c.deref.ensures.value) ∙ c.in_ok-settle.ensures.ok)
+      c.args.journal.now c.read.new.self c.read_journal.new.store c.in_ok-state.ensures.calls,
+)

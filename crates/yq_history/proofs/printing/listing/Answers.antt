@@ -1,6 +1,7 @@
 use Rattle.std.{proofs.Common.{ℕ, Bool, List, Ok, Err, sym, ap, ap₂, ◌∙◌, refl}, proofs.lemmas.Result.err_from_is_err_and}
 use Rattle.yq_history.{specs.Effects.{listing_effect, printed_by}, specs.Listing.record_lines, specs.Faults.is_outer_fault}
 use Rattle.yq_history.{specs.Report.Report, proofs.PrintLaws.listed_output, proofs.EffectLaws.{not_opened, from_opened, listing_cut}}
+use Rattle.yq_history.proofs.CallLaws.{opened_calls, unopened_calls}
 use Rattle.yq_history.proofs.printing.listing.Goals as goal
 
 pub returns-clause-output : goal.returns-clause-output
@@ -35,3 +36,18 @@ returns-in_err-_text-clause-matched g c = ap (λ (s : Report). s.is_match) c.req
 
 pub returns-in_err-report-clause-matched : goal.returns-in_err-report-clause-matched
 returns-in_err-report-clause-matched g c = ap (λ (s : Report). s.is_match) c.requires.empty
+
+pub returns-in_err-_text-clause-calls : goal.returns-in_err-_text-clause-calls
+returns-in_err-_text-clause-calls g c =
+    let p = err_from_is_err_and c.from_residual.result c.from_residual.ensures.1 in
+    unopened_calls g.D.Store.leads c.from_residual.result c.args.file.now c.args.journal.now listing_effect _ (p.1 ∙ ap Err p.2) c.args.store.now c.open_pair.new.store c.in_err-_text.ensures.calls
+
+pub returns-in_err-report-clause-calls : goal.returns-in_err-report-clause-calls
+returns-in_err-report-clause-calls g c =
+    opened_calls g.D.Store.leads c.from_residual-in_err-report.result c.args.file.now c.args.journal.now listing_effect (c.in_ok-_text._text, c.in_ok-_text.state)
+    c.open_pair.new.store c.open_pair.new.store refl c.args.store.now c.in_ok-_text.ensures.calls
+
+pub returns-clause-calls : goal.returns-clause-calls
+returns-clause-calls g c =
+    opened_calls g.D.Store.leads {T = Unit {0}} (Ok tt) c.args.file.now c.args.journal.now listing_effect (c.in_ok-_text._text, c.in_ok-_text.state)
+    c.open_pair.new.store c.open_pair.new.store refl c.args.store.now c.in_ok-_text.ensures.calls

@@ -1,7 +1,8 @@
-use Rattle.std.{proofs.Common.{inl, inr, ℕ, refl, subst}, proofs.lemmas.Result.err_from_is_err_and, proofs.lemmas.Bool.{eq-eqb, ne_eqb}}
+use Rattle.std.{proofs.Common.{inl, inr, ℕ, refl, subst, Ok}, proofs.lemmas.Result.err_from_is_err_and, proofs.lemmas.Bool.{eq-eqb, ne_eqb}}
 use Rattle.yq_history.proofs.MoveLaws.{none_of, either, journal_written, on_err_map, on_ok_map}
 use Rattle.yq_history.{proofs.SquashLaws.{squash_refused, squash_of_one, squash_ends}, specs.Pair.IsJournal}
 use Rattle.yq_history.proofs.EffectLaws.{squash_not_done, squash_one_works, squash_works}
+use Rattle.yq_history.{proofs.CallLaws.{fails, makes_none, puts_as, squashed_one, squash_write}, specs.Effects.squash_effect}
 use Rattle.yq_history.proofs.squashing.squash_from.Goals as goal
 
 pub returns-in_err-squash-clause-arrives : goal.returns-in_err-squash-clause-arrives
@@ -33,3 +34,17 @@ returns-clause-effect g c = λ keeps file t apart there.
     (on_ok_map _ (c.write_journal.ensures.ok keeps) (λ w. subst (IsJournal _) c.in_ok-squash.ensures.ok (journal_written _ _ _ _ w)))
     (on_err_map _ (c.write_journal.ensures.err keeps) (λ x. either x inl (λ w. inr (subst (IsJournal _) c.in_ok-squash.ensures.ok (journal_written _ _ _ _ w)))))
     c.write_journal.ensures.outside
+
+pub returns-in_err-squash-clause-calls : goal.returns-in_err-squash-clause-calls
+returns-in_err-squash-clause-calls g c = λ file t.
+    let p = err_from_is_err_and c.from_residual.result c.from_residual.ensures.1 in
+    makes_none g.D.Store.leads c.from_residual.result file c.args.journal.now t (squash_effect c.args.n t c.args.state.now) c.args.store.now (fails c.from_residual.result _ p.1)
+
+pub returns-then-n-eq1-clause-calls : goal.returns-then-n-eq1-clause-calls
+returns-then-n-eq1-clause-calls g c = λ file t.
+    squashed_one g.D.Store.leads {T = Unit {0}} (Ok tt) file c.args.journal.now t c.args.state.now c.args.n c.args.store.now c.args.store.now (eq-eqb c.args.n 1 c.if-n-eq1.true) c.in_ok-squash.ensures.free refl
+
+pub returns-clause-calls : goal.returns-clause-calls
+returns-clause-calls g c = λ file t.
+    squash_write g.D.Store.leads c.write_journal.result file c.args.journal.now t c.args.state.now c.args.n c.args.store.now c.write_journal.new.store (ne_eqb c.args.n 1 c.if-n-eq1.false) c.in_ok-squash.ensures.free
+    (puts_as g.D.Store.leads c.write_journal.result c.args.journal.now _ _ c.args.store.now c.write_journal.new.store c.in_ok-squash.ensures.ok c.write_journal.ensures.calls)

@@ -1,7 +1,9 @@
-use Rattle.std.{proofs.Common.{Some, sym, ap, ◌∙◌}, proofs.lemmas.Result.err_from_is_err_and, proofs.lemmas.Slice.Eq.bytes_eq-Decides}
+use Rattle.std.{proofs.Common.{Some, sym, ap, ◌∙◌, subst}, proofs.lemmas.Result.err_from_is_err_and}
+use Rattle.std.proofs.lemmas.Slice.Eq.{bytes_eq-Decides}
 use Rattle.yq_journal.{specs.Refusals.way_fault, specs.State.{journal_after, moved_text, with_move}}
 use Rattle.yq_history.{proofs.MoveLaws.{refused_move, equal_move, other_move}, specs.Directions.walk_move}
-use Rattle.yq_history.proofs.EffectLaws.{move_refused, move_equal, move_other, way_free}
+use Rattle.yq_history.{proofs.EffectLaws.{move_refused, move_equal, move_other, way_free}, proofs.CallLaws.{fails, makes_none, one_write}}
+use Rattle.yq_history.{specs.Calls.Makes, specs.Effects.move_effect}
 use Rattle.yq_history.proofs.undoing.move_from.Goals as goal
 
 pub returns-in_err-new-clause-arrives : goal.returns-in_err-new-clause-arrives
@@ -71,3 +73,21 @@ returns-else-eq-clause-effect g c = λ keeps apart there.
       refused = e.refused;
       barred = e.barred keeps;
     })
+
+pub returns-in_err-new-clause-calls : goal.returns-in_err-new-clause-calls
+returns-in_err-new-clause-calls g c =
+    let p = err_from_is_err_and c.from_residual.result c.from_residual.ensures.1 in
+    makes_none g.D.Store.leads c.from_residual.result c.args.file.now c.args.journal.now c.args.text.items (move_effect (walk_move c.args.dir) c.args.text.items c.args.state.now) c.args.store.now (fails c.from_residual.result _ p.1)
+
+pub returns-then-eq-clause-calls : goal.returns-then-eq-clause-calls
+returns-then-eq-clause-calls g c =
+    rw (← c.as_slice-old.ensures.value)
+    (let s = c.args.state.now in
+    let free = ap (λ x. way_fault s.records s.at x c.as_slice-old.result.now) (sym c.step.ensures) ∙ c.in_ok-new.ensures.free in
+    let same = ap (λ x. moved_text s.records s.at x c.as_slice-old.result.now) (sym c.step.ensures) ∙ c.in_ok-new.ensures.ok ∙ ap Some (sym c.as_slice.ensures.value ∙ (bytes_eq-Decides c.as_slice.result.now c.as_slice-old.result.now).0 (sym c.eq.ensures ∙ c.if-eq.true)) in
+    one_write g.D.Store.leads c.move_only.result c.args.file.now c.args.journal.now s (walk_move c.args.dir) c.as_slice-old.result.now c.args.store.now c.move_only.new.store free same c.move_only.ensures.calls)
+
+pub returns-else-eq-clause-calls : goal.returns-else-eq-clause-calls
+returns-else-eq-clause-calls g c =
+    subst (λ x. Makes g.D.Store.leads c.carry_out.result c.args.file.now c.args.journal.now c.args.text.items (move_effect x c.args.text.items c.args.state.now) c.args.store.now c.carry_out.new.store)
+    c.step-else-eq.ensures c.carry_out.ensures.calls

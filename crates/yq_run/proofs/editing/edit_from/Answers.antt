@@ -1,5 +1,5 @@
 use Rattle.std.{proofs.Common.{◌≡◌, ℕ, List, Err, string_bytes, refl, sym, ap, ◌∙◌, subst}, proofs.lemmas.Result.err_from_is_err_and}
-use Rattle.yq_history.{proofs.EffectLaws.on_ok, proofs.MoveLaws.on_ok_map}
+use Rattle.yq_history.{proofs.CallLaws.{fails, makes_none}, proofs.EffectLaws.on_ok, proofs.MoveLaws.on_ok_map}
 use Rattle.yq_semantics.specs.View.{program_of}
 use Rattle.yq_commands.{specs.Editing.{edited, program_edits}, specs.FileEdits.IsTextEdited, proofs.EditEffects.edit_fails}
 use Rattle.yq_commands.{specs.Expecting.{changes_as_expected, edits_as_expected}, proofs.ExpectingLaws.free_edit}
@@ -30,6 +30,7 @@ returns g c =
       others = e.others;
       no_output = e.no_output;
       count = e.count;
+      calls = e.calls (program_of c.args.program.now) gives;
     }
 
 pub returns-in_err-edited_to-clause-effect : goal.returns-in_err-edited_to-clause-effect
@@ -38,3 +39,8 @@ returns-in_err-edited_to-clause-effect g c =
     rw (← c.as_slice.ensures.value)
     (λ keeps apart. edit_fails c.args.file.now c.args.journal.now (g.D.Store.content c.args.store.now) c.args.expr.now c.args.state.now c.as_slice.result.now
     (program_edits (program_of c.args.program.now) c.as_slice.result.now) c.from_residual.result _ (p.1 ∙ ap Err p.2) c.in_err-edited_to.ensures.err)
+
+pub returns-in_err-edited_to-clause-calls : goal.returns-in_err-edited_to-clause-calls
+returns-in_err-edited_to-clause-calls g c =
+    let p = err_from_is_err_and c.from_residual.result c.from_residual.ensures.1 in
+    makes_none g.D.Store.leads c.from_residual.result c.args.file.now c.args.journal.now c.args.text.items _ c.args.store.now (fails c.from_residual.result _ p.1)

@@ -1,6 +1,7 @@
 use Rattle.std.{proofs.Common.{Err, ap, ◌∙◌}, proofs.lemmas.Result.err_from_is_err_and}
 use Rattle.yq_semantics.specs.View.{program_of}
-use Rattle.yq_commands.proofs.FileEditLaws.{parsed_free, printed_comes, unparsed_fault}
+use Rattle.yq_history.proofs.CallLaws.{fails}
+use Rattle.yq_commands.{proofs.CommandCalls.{none_yet, parsed_calls}, proofs.FileEditLaws.{parsed_free, printed_comes, unparsed_fault}}
 use Rattle.yq_run.proofs.evaluating.evaluate.Goals as goal
 
 pub returns-clause-edited : goal.returns-clause-edited
@@ -13,3 +14,11 @@ returns-in_err-program-clause-unparsed g c =
 
 pub returns-clause-unparsed : goal.returns-clause-unparsed
 returns-clause-unparsed g c = parsed_free c.evaluate_program.result c.args.expr.now (program_of c.in_ok-program.program) c.in_ok-program.ensures.ok
+
+pub returns-in_err-program-clause-calls : goal.returns-in_err-program-clause-calls
+returns-in_err-program-clause-calls g c =
+    let p = err_from_is_err_and c.from_residual.result c.from_residual.ensures.1 in
+    none_yet g.D.Store.leads c.from_residual.result _ c.args.store.now _ (fails c.from_residual.result _ p.1)
+
+pub returns-clause-calls : goal.returns-clause-calls
+returns-clause-calls g c = parsed_calls g.D.Store.leads c.evaluate_program.result _ c.args.store.now _ (program_of c.in_ok-program.program) _ c.in_ok-program.ensures.ok c.evaluate_program.ensures.calls

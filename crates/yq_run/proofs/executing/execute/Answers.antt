@@ -9,7 +9,8 @@ use Rattle.yq_commands.{specs.CommandEffects.{expression_fault, fault_of}, specs
 use Rattle.yq_commands.{specs.Expecting.expects_change, proofs.ExpectingLaws.none_expected}
 use Rattle.yq_commands.proofs.ExecuteLaws.{ArrivesOn, EditsOn, ExpectsOn, ListsOn, OthersOn, ShowsOn, WorksOn, by_names, evaluate_arrives}
 use Rattle.yq_commands.proofs.ExecuteLaws.{evaluate_edits, evaluate_shows, pair_arrives, pair_others, pair_works, update_arrives}
-use Rattle.yq_commands.proofs.ExecuteLaws.{update_edits, update_expects, update_shows, update_works}
+use Rattle.yq_commands.{proofs.ExecuteLaws.{update_edits, update_expects, update_shows, update_works}, specs.Calls.CallsOf}
+use Rattle.yq_commands.proofs.CommandCalls.{evaluation_calls, pair_calls, update_calls}
 use Rattle.yq_commands.proofs.OutcomeLaws.{each_error, memory_counted, memory_no_output}
 use Rattle.yq_journal.specs.declared.moves.Move.TheVariants as move
 use Rattle.yq_run.proofs.executing.execute.Goals as goal
@@ -33,6 +34,7 @@ returns-in-Undo g c =
       others = λ keeps. subst (OthersOn _ _) (sym is) (pair_others _ _ _ _ c.as_str-in-Undo.ensures.value c.as_str-in-Undo-2.ensures.value _ _ (e.others keeps));
       no_output = e.no_output;
       count = e.count;
+      calls = subst (λ x. CallsOf g.D.Store.leads c.move_file.result x c.args.store.now c.move_file.new.store) (sym is) (pair_calls g.D.Store.leads _ _ _ _ _ c.as_str-in-Undo.ensures.value c.as_str-in-Undo-2.ensures.value (move_effect move.Undo) _ _ e.calls);
     }
 
 pub returns-in-Redo : goal.returns-in-Redo
@@ -54,6 +56,7 @@ returns-in-Redo g c =
       others = λ keeps. subst (OthersOn _ _) (sym is) (pair_others _ _ _ _ c.as_str-in-Redo.ensures.value c.as_str-in-Redo-2.ensures.value _ _ (e.others keeps));
       no_output = e.no_output;
       count = e.count;
+      calls = subst (λ x. CallsOf g.D.Store.leads c.move_file-in-Redo.result x c.args.store.now c.move_file-in-Redo.new.store) (sym is) (pair_calls g.D.Store.leads _ _ _ _ _ c.as_str-in-Redo.ensures.value c.as_str-in-Redo-2.ensures.value (move_effect move.Redo) _ _ e.calls);
     }
 
 pub returns-in-Squash : goal.returns-in-Squash
@@ -75,6 +78,7 @@ returns-in-Squash g c =
       others = λ keeps. subst (OthersOn _ _) (sym is) (pair_others _ _ _ _ c.as_str-in-Squash.ensures.value c.as_str-in-Squash-2.ensures.value _ _ (λ q apart beside. e.others keeps q beside));
       no_output = e.no_output;
       count = e.count;
+      calls = subst (λ x. CallsOf g.D.Store.leads c.squash.result x c.args.store.now c.squash.new.store) (sym is) (pair_calls g.D.Store.leads _ _ _ _ _ c.as_str-in-Squash.ensures.value c.as_str-in-Squash-2.ensures.value (squash_effect c.in-Squash.n) _ _ e.calls);
     }
 
 pub returns-in-History : goal.returns-in-History
@@ -100,6 +104,7 @@ returns-in-History g c =
       others = λ keeps q apart. ap (λ m. get m q) (e.same keeps);
       no_output = e.no_output;
       count = e.count;
+      calls = subst (λ x. CallsOf g.D.Store.leads c.listing.result x c.args.store.now c.listing.new.store) (sym is) (pair_calls g.D.Store.leads _ _ _ _ _ c.as_str-in-History.ensures.value c.as_str-in-History-2.ensures.value (listing_effect) _ _ e.calls);
     }
 
 pub returns-in-Help : goal.returns-in-Help
@@ -120,6 +125,7 @@ returns-in-Help g c =
       others = λ keeps q apart. refl;
       no_output = memory_no_output c.help.result c.help.ensures.memory;
       count = memory_counted c.help.result _ c.help.ensures.memory;
+      calls = subst (λ x. CallsOf g.D.Store.leads c.help.result x c.args.store.now c.args.store.now) (sym is) refl;
     }
 
 pub returns-in-Eval : goal.returns-in-Eval
@@ -143,6 +149,7 @@ returns-in-Eval g c =
       others = λ keeps q apart. ap (λ m. get m q) (e.same keeps);
       no_output = e.no_output;
       count = e.count;
+      calls = subst (λ x. CallsOf g.D.Store.leads c.evaluate.result x c.args.store.now c.evaluate.new.store) (sym is) (evaluation_calls g.D.Store.leads _ _ _ _ _ c.as_str-in-Eval.ensures.value c.as_str-in-Eval-2.ensures.value _ _ e.calls);
     }
 
 pub returns-in-Eval-default-default-default-true-default : goal.returns-in-Eval-default-default-default-true-default
@@ -169,4 +176,5 @@ returns-in-Eval-default-default-default-true-default g c =
       others = λ keeps. subst (OthersOn _ _) (sym is) (pair_others _ _ _ _ c.as_str.ensures.value c.as_str-in-Eval-default-default-default-true-default.ensures.value _ _ (e.others keeps));
       no_output = e.no_output;
       count = e.count;
+      calls = subst (λ x. CallsOf g.D.Store.leads c.update.result x c.args.store.now c.update.new.store) (sym is) (update_calls g.D.Store.leads _ _ _ _ _ c.as_str.ensures.value c.as_str-in-Eval-default-default-default-true-default.ensures.value _ _ c.as_str-in-Eval-default-default-default-true-default-2.ensures.value _ _ e.calls);
     }

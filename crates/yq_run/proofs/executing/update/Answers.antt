@@ -6,7 +6,9 @@ use Rattle.yq_commands.{specs.Editing.program_edits, specs.CommandEffects.{edit_
 use Rattle.yq_commands.{specs.Expecting.{report_edit, works_as_expected}, proofs.EditEffects.{not_parsed, parsed_works}}
 use Rattle.yq_commands.{proofs.FileEditLaws.{file_comes, parsed_free, unparsed_fault}, specs.CommandSteps.{update_cause, update_next}}
 use Rattle.yq_commands.{proofs.ExpectingLaws.{effect_expected, history_expected, matched_as}, proofs.OutcomeLaws.{arrives_as, opened}}
-use Rattle.yq_history.{proofs.EffectLaws.{not_opened, from_opened}, specs.Faults.{failures_after, is_outer_fault}}
+use Rattle.yq_commands.proofs.CommandCalls.{none_yet, parsed_calls}
+use Rattle.yq_history.{proofs.CallLaws.{fails, unopened_calls, opened_calls}, proofs.EffectLaws.{not_opened, from_opened}}
+use Rattle.yq_history.specs.Faults.{failures_after, is_outer_fault}
 use Rattle.yq_run.proofs.executing.update.Goals as goal
 
 pub returns : goal.returns
@@ -44,6 +46,9 @@ returns g c =
       others = λ keeps q apart beside. e.others keeps q apart beside ∙ ap (λ m. get m q) (o.same keeps);
       no_output = e.no_output;
       count = e.count ∙ ap (failures_after c.edit_from.result) o.count;
+      calls = parsed_calls g.D.Store.leads c.edit_from.result _ c.args.store.now _ (program_of c.in_ok-program.program) _ c.in_ok-program.ensures.ok
+          (opened_calls g.D.Store.leads c.edit_from.result c.args.file.now c.args.journal.now (λ text. edit_effect c.args.expr.now (program_edits (program_of c.in_ok-program.program) text) text)
+          (c.in_ok-text.text, c.in_ok-text.state) c.open_pair.new.store c.edit_from.new.store e.calls c.args.store.now o.calls);
     }
 
 pub returns-in_err-program-clause-effect : goal.returns-in_err-program-clause-effect
@@ -65,3 +70,15 @@ returns-in_err-program-clause-unparsed g c =
 
 pub returns-in_err-text-clause-unparsed : goal.returns-in_err-text-clause-unparsed
 returns-in_err-text-clause-unparsed g c = parsed_free c.from_residual-in_err-text.result c.args.expr.now (program_of c.in_ok-program.program) c.in_ok-program.ensures.ok
+
+pub returns-in_err-program-clause-calls : goal.returns-in_err-program-clause-calls
+returns-in_err-program-clause-calls g c =
+    let p = err_from_is_err_and c.from_residual.result c.from_residual.ensures.1 in
+    none_yet g.D.Store.leads c.from_residual.result _ c.args.store.now _ (fails c.from_residual.result _ p.1)
+
+pub returns-in_err-text-clause-calls : goal.returns-in_err-text-clause-calls
+returns-in_err-text-clause-calls g c =
+    let p = err_from_is_err_and c.from_residual-in_err-text.result c.from_residual-in_err-text.ensures.1 in
+    parsed_calls g.D.Store.leads c.from_residual-in_err-text.result _ c.args.store.now _ (program_of c.in_ok-program.program) _ c.in_ok-program.ensures.ok
+    (unopened_calls g.D.Store.leads c.from_residual-in_err-text.result c.args.file.now c.args.journal.now (λ text. edit_effect c.args.expr.now (program_edits (program_of c.in_ok-program.program) text) text)
+    _ (p.1 ∙ ap Err p.2) c.args.store.now c.open_pair.new.store c.in_err-text.ensures.calls)

@@ -3,9 +3,10 @@ use Rattle.std.{proofs.Common.{vec_len, if◌then◌else◌}, specs.List.list_al
 use Rattle.std.proofs.lemmas.List.{append-nil, take_more}
 use Rattle.yq_store.specs.Count.{count_plus_one}
 use Rattle.yq_commands.specs.CommandNames.{IsNotNamed}
-use Rattle.yq_commands.specs.Lists.{Keeps, failures_in, output_failures_in, reports_failure, reports_output}
-use Rattle.yq_commands.{proofs.CountLaws.{count_more, no_answers, put_more, put_passing}, proofs.KeepLaws.{keeps_more, left_by, run_of}}
-use Rattle.yq_commands.{proofs.ListLaws.{all_inside, exact_run, is_inside}, proofs.ReplyLaws.{answers_more, reply, taken_more}}
+use Rattle.yq_commands.{specs.Lists.{Keeps, failures_in, output_failures_in, reports_failure, reports_output}, specs.Calls.CallsOfAll}
+use Rattle.yq_commands.{proofs.CommandCalls.calls_more, proofs.CountLaws.{count_more, no_answers, put_more, put_passing}}
+use Rattle.yq_commands.{proofs.KeepLaws.{keeps_more, left_by, run_of}, proofs.ListLaws.{all_inside, exact_run, is_inside}}
+use Rattle.yq_commands.proofs.ReplyLaws.{answers_more, reply, taken_more}
 use Rattle.yq_history.specs.Report.{report_by}
 use Rattle.yq_run.proofs.run.run_list.Goals as goal
 
@@ -15,6 +16,7 @@ commands-init g c = record {
   room = search rules;
   run = λ keeps. ([], search rules, (λ observable same below. sym (append-nil (g.W.Out.taken c.args.out.now))), search rules);
   others = search rules;
+  calls = search rules;
   sum = λ small. no_answers reports_failure c.in_ok-answers.answers.items (g.D.Store.failures c.args.store.now) (search rules) small;
   out_sum = λ small. no_answers reports_output c.in_ok-answers.answers.items (g.W.Out.failures c.args.out.now) (search rules) small;
 }
@@ -67,6 +69,9 @@ commands-preserved g c =
           );
       others = λ keeps q not_named.
           c.execute-done.ensures.others keeps q (subst (IsNotNamed q) (sym c.command-item.is) (not_named c.commands.command-index cmd within)) ∙ before.others keeps q not_named;
+      calls = subst (λ rs. CallsOfAll g.D.Store.leads (take (c.commands.command-index + 1) c.args.commands.now) rs c.args.store.now c.execute-done.new.store) (sym pushed)
+          (subst (λ cs. CallsOfAll g.D.Store.leads cs (c.commands.answers.items ++ answer ∷ []) c.args.store.now c.execute-done.new.store) (sym more)
+          (calls_more g.D.Store.leads (take c.commands.command-index c.args.commands.now) c.commands.answers.items cmd done answer report c.args.store.now c.commands.store c.execute-done.new.store before.calls answered ran.calls));
       sum = λ small. subst (λ rs. g.D.Store.failures c.execute-done.new.store ≡ min (g.D.Store.failures c.args.store.now + failures_in rs) (2 ^ 64 - 1)) (sym pushed)
           (count_more done c.commands.answers.items answer report (g.D.Store.failures c.args.store.now) _ _ answered (before.sum small) c.execute-done.ensures.count);
       out_sum = λ small. subst (λ rs. failures c.answer_of-answer.new.out ≡ min (failures c.args.out.now + output_failures_in rs) (2 ^ 64 - 1)) (sym pushed)
@@ -79,6 +84,11 @@ returns-clause-run g c = λ keeps.
     let all : take c.commands.command-index c.args.commands.now ≡ c.args.commands.now = grind (arith, common_steps) in
     let kept = subst (λ cs. Keeps (g.D.Store.content c.args.store.now) cs now.0 (g.D.Store.content c.commands.store)) all now.3 in
     (now.0, now.1, now.2, kept, (λ file journal apart fit h good. run_of file journal apart c.args.commands.now now.0 _ _ h kept fit good))
+
+pub returns-clause-calls : goal.returns-clause-calls
+returns-clause-calls g c =
+    let all : take c.commands.command-index c.args.commands.now ≡ c.args.commands.now = grind (arith, common_steps) in
+    subst (λ cs. CallsOfAll g.D.Store.leads cs c.commands.answers.items c.args.store.now c.commands.store) all c.commands.invariant.calls
 
 pub returns-clause-exact : goal.returns-clause-exact
 returns-clause-exact g c = λ keeps same below no_output under memory.

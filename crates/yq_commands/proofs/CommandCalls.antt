@@ -1,0 +1,41 @@
+-- The calls of a command, from those of the calls of which it is made.
+use Rattle.std.proofs.Common.{◌≡◌, inl, inr, ℕ, false, List, [], ◌∷◌, ◌++◌, Result, Ok, Err, is_ok, sym, subst, refl}
+use Rattle.yq_semantics.specs.Program.{Program}
+use Rattle.yq_args.specs.declared.command.Command.{Command}
+use Rattle.yq_history.{specs.declared.fault.Fault.Fault, specs.Report.Report, specs.Calls.CallsOnPair, specs.Effects.Effect}
+use Rattle.yq_store.specs.Calls.{Call}
+use Rattle.yq_commands.{specs.declared.answer.Answer.Answer, specs.Lists.IsAnswer}
+use Rattle.yq_commands.specs.Calls.{CallsOf, CallsOfAll, CallsOfEvaluation, CallsOfUpdate, IfProgram}
+use Rattle.yq_journal.specs.State.{State}
+
+module _ {S : Type 0} (leads : S → Call → S → Type 0) where
+  module _ {T : Type 0} (r : Result T Fault) (next : Program → S → S → Type 0) (s : S) where
+    -- no call was made before the fault
+    pub none_yet : (q : Result Program Fault) → is_ok r ≡ false → IfProgram leads r q next s s
+    none_yet (Ok p) bad = inl (bad, refl)
+    none_yet (Err f) bad = refl
+
+    -- the calls after the expression was read
+    pub parsed_calls : (q : Result Program Fault) (p : Program) (t : S) → q ≡ Ok p → next p s t → IfProgram leads r q next s t
+    parsed_calls q p t is k = subst (λ x. IfProgram leads r x next s t) (sym is) (inr k)
+
+  -- ---- by the names of a command
+
+  module _ {T : Type 0} (r : Result T Fault) where
+    pub pair_calls : (x y f j : List ℕ) → x ≡ f → y ≡ j → (go : List ℕ → State → Effect) (s t : S) → CallsOnPair leads r x y go s t → CallsOnPair leads r f j go s t
+    pair_calls x y f j file_is journal_is go s t k = subst (λ z. CallsOnPair leads r z j go s t) file_is (subst (λ z. CallsOnPair leads r x z go s t) journal_is k)
+
+    pub evaluation_calls : (x f e expr : List ℕ) → x ≡ f → e ≡ expr → (s t : S) → CallsOfEvaluation leads r e x s t → CallsOfEvaluation leads r expr f s t
+    evaluation_calls x f e expr file_is is s t k = subst (λ z. CallsOfEvaluation leads r expr z s t) file_is (subst (λ z. CallsOfEvaluation leads r z x s t) is k)
+
+    pub update_calls : (x y f j : List ℕ) → x ≡ f → y ≡ j → (e expr : List ℕ) → e ≡ expr → (s t : S) → CallsOfUpdate leads r e x y s t → CallsOfUpdate leads r expr f j s t
+    update_calls x y f j file_is journal_is e expr is s t k =
+        subst (λ z. CallsOfUpdate leads r expr z j s t) file_is (subst (λ z. CallsOfUpdate leads r expr x z s t) journal_is (subst (λ z. CallsOfUpdate leads r z x y s t) is k))
+
+  -- one command more
+  pub calls_more : (cs : List Command) (as' : List Answer) (c : Command) (r : Result (Unit {0}) Fault) (a : Answer) (o : Report) (s m t : S) →
+      CallsOfAll leads cs as' s m → IsAnswer r a o → CallsOf leads r c m t → CallsOfAll leads (cs ++ c ∷ []) (as' ++ a ∷ []) s t
+  calls_more [] [] c r a o s m t all answered one = (r, o, answered, t, subst (λ x. CallsOf leads r c x t) all one, refl)
+  calls_more (d ∷ cs) (b ∷ as') c r a o s m t all answered one = (all.0, all.1, all.2, all.3, all.4, calls_more cs as' c r a o all.3 m t all.5 answered one)
+  calls_more [] (b ∷ as') c r a o s m t all answered one = absurd all
+  calls_more (d ∷ cs) [] c r a o s m t all answered one = absurd all

@@ -1,0 +1,44 @@
+-- How a command calls a store, by what that answers (own).
+use Rattle.std.{specs.Prelude.{◌≡◌, ◌⊎◌, ℕ, List, [], ◌∷◌, true, false, is_ok, Result, Ok, Err}, specs.String.string_bytes}
+use Rattle.yq_semantics.specs.Program.{Program}
+use Rattle.yq_args.specs.declared.command.Command.{Command}
+use Rattle.yq_args.specs.declared.command.Command.TheVariants.{Eval, Undo, Redo, History as Lists, Squash, Help}
+use Rattle.yq_history.{specs.declared.fault.Fault.Fault, specs.Calls.{CallsOnPair, ReadsFile}, specs.Report.Report}
+use Rattle.yq_history.specs.Effects.{move_effect, squash_effect, listing_effect}
+use Rattle.yq_store.specs.Calls.{Call}
+use Rattle.yq_commands.{specs.declared.answer.Answer.Answer, specs.Lists.IsAnswer, specs.CommandEffects.edit_effect}
+use Rattle.yq_commands.specs.Editing.{program_in, program_edits}
+use Rattle.yq_journal.specs.declared.moves.Move.TheVariants as move
+
+module _ {S T : Type 0} (leads : S → Call → S → Type 0) (r : Result T Fault) where
+  -- the calls of an expression: none where it is no program, or where memory was refused as it was read
+  abbrev pub IfProgram : Result Program Fault → (Program → S → S → Type 0) → S → S → Type 0
+  IfProgram (Err f) next s t = t ≡ s
+  IfProgram (Ok p) next s t = ((is_ok r ≡ false) × (t ≡ s)) ⊎ next p s t
+
+  -- one that isn't carried out in place: the file is read, and nothing else
+  abbrev pub CallsOfEvaluation : List ℕ → List ℕ → S → S → Type 0
+  CallsOfEvaluation expr file s t = IfProgram (program_in expr) (λ p. ReadsFile leads r file (λ text u v. v ≡ u)) s t
+
+  -- one that is
+  abbrev pub CallsOfUpdate : List ℕ → List ℕ → List ℕ → S → S → Type 0
+  CallsOfUpdate expr file journal s t =
+      IfProgram (program_in expr) (λ p. CallsOnPair leads r file journal (λ text. edit_effect expr (program_edits p text) text)) s t
+
+  -- the calls of a command
+  abbrev pub CallsOf : Command → S → S → Type 0
+  CallsOf (Eval expr f j true options) s t = CallsOfUpdate (string_bytes expr) (string_bytes f) (string_bytes j) s t
+  CallsOf (Eval expr f j false options) s t = CallsOfEvaluation (string_bytes expr) (string_bytes f) s t
+  CallsOf (Undo f j) s t = CallsOnPair leads r (string_bytes f) (string_bytes j) (move_effect move.Undo) s t
+  CallsOf (Redo f j) s t = CallsOnPair leads r (string_bytes f) (string_bytes j) (move_effect move.Redo) s t
+  CallsOf (Lists f j) s t = CallsOnPair leads r (string_bytes f) (string_bytes j) listing_effect s t
+  CallsOf (Squash n f j) s t = CallsOnPair leads r (string_bytes f) (string_bytes j) (squash_effect n) s t
+  CallsOf Help s t = t ≡ s
+
+-- the calls of commands with these answers, one after the other
+abbrev pub CallsOfAll : {S : Type 0} → (S → Call → S → Type 0) → List Command → List Answer → S → S → Type 0
+CallsOfAll leads [] [] s t = t ≡ s
+CallsOfAll {S} leads (c ∷ cs) (a ∷ as') s t =
+    (r : Result (Unit {0}) Fault) × (o : Report) × IsAnswer r a o × (m : S) × CallsOf leads r c s m × CallsOfAll leads cs as' m t
+CallsOfAll leads [] (a ∷ as') s t = ⊥
+CallsOfAll leads (c ∷ cs) [] s t = ⊥

@@ -1,0 +1,24 @@
+-- Calls of a store, with what it answered (own).
+use Rattle.std.{specs.Prelude.{ℕ, List, Result, Ok, Err, Vec}, specs.declared.alloc.Global.Global}
+use Rattle.yq_store.{specs.Count.count_plus_one, specs.declared.store.FileReadError.FileReadError}
+use Rattle.yq_store.specs.declared.store.FileWriteError.{FileWriteError}
+
+-- a name was read, or bytes were put under it
+pub data Call : Type 0 where
+  reads : List ℕ → Result (List ℕ) FileReadError → Call
+  writes : List ℕ → List ℕ → Result (Unit {0}) FileWriteError → Call
+
+-- what was read
+abbrev pub bytes_read : Result (Vec ℕ Global) FileReadError → Result (List ℕ) FileReadError
+bytes_read (Ok v) = Ok v.items
+bytes_read (Err e) = Err e
+
+-- how many reads there were, after a call more
+abbrev pub reads_after : Call → ℕ → ℕ
+reads_after (reads q a) n = count_plus_one n
+reads_after (writes q b a) n = n
+
+-- how many writes there were, after a call more
+abbrev pub writes_after : Call → ℕ → ℕ
+writes_after (reads q a) n = n
+writes_after (writes q b a) n = count_plus_one n
