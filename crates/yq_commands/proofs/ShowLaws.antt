@@ -9,15 +9,16 @@ use Rattle.yq_semantics.specs.Program.{Program, Stage, is_read, read, updates}
 use Rattle.yq_journal.specs.History.{History, text_at}
 use Rattle.yq_history.{specs.declared.fault.Fault.Fault, specs.declared.fault.Fault.TheVariants.{OutOfMemory, Unreadable}}
 use Rattle.yq_history.{specs.Causes.{Cause, IsFor, named, no_reading, IsUnreadable}, specs.Faults.{is_outer_fault, fault_of_reading}}
-use Rattle.yq_history.{specs.Pair.{Arrives, GoodIn}, specs.Report.Report, proofs.MoveLaws.{cut, is_refused}}
-use Rattle.yq_history.proofs.PairLaws.{good_text, same_pair}
+use Rattle.yq_history.{specs.Pair.{Arrives, GoodIn}, specs.Report.{Report, report_by}, proofs.MoveLaws.{cut, is_refused}}
+use Rattle.yq_history.{specs.Output.{Showing, Shows, showing_by}, proofs.PairLaws.{good_text, same_pair}}
 use Rattle.yq_store.specs.FileMap.{FileMap}
 use Rattle.yq_args.specs.declared.eval_options.EvalOptions.{EvalOptions}
 use Rattle.yq_commands.specs.Editing.{EditOutcome, unreadable, refused, edited, Refuses, program_edits}
 use Rattle.yq_commands.specs.CommandFaults.{of_refusal, of_matching}
-use Rattle.yq_commands.specs.Evaluation.{of_file, show_edit, show_found, show_read, shows, cause_in, report_in}
+use Rattle.yq_commands.specs.Evaluation.{of_file, IsShowing, show_edit, show_found, show_read, shows, cause_in, report_in}
 use Rattle.yq_commands.proofs.EditingLaws.{unread_text}
 use Rattle.yq_core.specs.declared.fault.ReadError.TheVariants as reading
+use Rattle.yq_history.specs.declared.report.Report as declared
 use Rattle.yq_semantics.specs.Judgement as judgement
 use Rattle.yq_semantics.specs.declared.expr_error.ExprError.TheVariants as matching
 
@@ -85,7 +86,15 @@ module _ (options : EvalOptions) (t : List ℕ) where
 
 -- ---- of a file
 
-module _ (c e : FileMap) (f j : List ℕ) (of_text : List ℕ → Result Report Cause) (t : List ℕ) (same : e ≡ c) (file_is : get c f ≡ Some t) where
+is_showing : (name : List ℕ) (r : Result Showing Cause) (s : Report) → IsShowing name r s → (due : Showing) × (r ≡ Ok due) × Shows name due s
+is_showing name (Ok due) s shows = (due, refl, shows)
+is_showing name (Err x) s shows = absurd shows
+
+-- what a read shows are these bytes
+pub read_showing : (name : List ℕ) (r : Result Showing Cause) (s : declared.Report) → r ≡ Ok (showing_by s) → IsShowing name r (report_by s)
+read_showing name r s is = subst (λ x. IsShowing name x (report_by s)) (sym is) (record { output = refl; is_match = refl })
+
+module _ (c e : FileMap) (f j : List ℕ) (of_text : List ℕ → Result Showing Cause) (t : List ℕ) (same : e ≡ c) (file_is : get c f ≡ Some t) where
   -- a file that is there has a history, of which it is the text at the cursor
   there : (h : Option History) → GoodIn c f j h → (x : History) × (h ≡ Some x) × (text_at x ≡ t)
   there None good = let no : None ≡ Some t = sym good ∙ file_is in cc
@@ -107,8 +116,10 @@ module _ (c e : FileMap) (f j : List ℕ) (of_text : List ℕ → Result Report 
     ] refl
 
     -- it was carried out on it
-    pub show_done : {T : Type 0} (v : T) (s : Report) → of_text t ≡ Ok s → Arrives e f j (cause_in (of_file of_text h)) h h {T = T} (Ok v)
-    show_done v s is = (ap cause_in (file_shows ∙ is), still_good)
+    pub show_done : {T : Type 0} (v : T) (name : List ℕ) (s : Report) → IsShowing name (of_text t) s → Arrives e f j (cause_in (of_file of_text h)) h h {T = T} (Ok v)
+    show_done v name s shows = let x = is_showing name (of_text t) s shows in (ap cause_in (file_shows ∙ x.1), still_good)
 
-    pub report_is : (s : Report) → of_text t ≡ Ok s → s ≡ report_in (of_file of_text h)
-    report_is s is = sym (ap report_in (file_shows ∙ is))
+    pub report_is : (name : List ℕ) (s : Report) → IsShowing name (of_text t) s → Shows name (report_in (of_file of_text h)) s
+    report_is name s shows =
+        let x = is_showing name (of_text t) s shows in
+        subst (λ due. Shows name due s) (sym (ap report_in (file_shows ∙ x.1))) x.2

@@ -5,3 +5,9 @@ pub mod PairLaws
 pub mod PrintLaws
 pub mod SquashLaws
 pub mod FaultLaws
+pub mod HunkLaws
+pub mod PartLoops
+pub mod DiffPrintLaws
+pub mod LineCuts
+pub mod UnifiedLaws
+pub mod ListedLaws
