@@ -1,6 +1,11 @@
 -- The texts around the records of a journal are those of its history, and lines of edits, one more.
 use Rattle.std.proofs.Common.{◌≡◌, ℕ, suc, ◌+◌, ◌≤◌, List, [], ◌∷◌, ◌++◌, length, map, take, drop, nat_lt, Option, Some, None, refl, sym}
 use Rattle.std.{proofs.Common.{ap, ap₂, ◌∙◌, arith, append_assoc, subst}, specs.Prelude.option_and_then}
+use Rattle.std.specs.String.{string_bytes}
+use Rattle.std.specs.declared.alloc.Global.{Global}
+use Rattle.std.specs.Prelude.{String}
+use Rattle.std.proofs.lemmas.List.{append-nil}
+use Rattle.yq_history.specs.ListedView.{backwards}
 use Prim.Native.Nat.{zero}
 use Rattle.yq_journal.{specs.Good.{AtRest, Leads}, specs.History.{History, Revision, text_after_edits}, specs.Record.{Record, done, undone}}
 use Rattle.yq_journal.{specs.State.State, proofs.RecordLaws.undone_after_done}
@@ -118,3 +123,9 @@ listed_before file n m done r (q ∷ rs) t change rest old is after next more = 
   subst (λ o. IsAfterLine file o (text_before q (texts_back rs t)) change) is after,
   subst (λ k. AreDiffLines file k done (map (λ (x : Record). x.expr) (q ∷ rs)) (texts_back (q ∷ rs) t) rest) next more,
 )
+
+-- ---- texts, the last one first
+
+pub backwards_more : (ss : List (String Global)) (s : String Global) → backwards (ss ++ s ∷ []) ≡ string_bytes s ++ backwards ss
+backwards_more [] s = sym (append-nil (string_bytes s))
+backwards_more (t ∷ ss) s = ap (λ x. x ++ string_bytes t) (backwards_more ss s) ∙ append_assoc (string_bytes s) (backwards ss) (string_bytes t)
