@@ -17,7 +17,6 @@ use Rattle.yq_store.specs.FileMap.{FileMap}
 use Rattle.yq_journal.specs.declared.fault.JournalError.TheVariants as error
 use Rattle.yq_journal.specs.declared.fault.JournalFault.TheVariants as journal
 use Rattle.yq_history.specs.declared.fault.Fault.TheVariants as fault
-use Rattle.yq_store.specs.declared.store.FileReadError.TheVariants as read
 
 pub on_ok : {T E P : Type 0} (r : Result T E) → P → OnOk r P
 on_ok (Ok v) p = p

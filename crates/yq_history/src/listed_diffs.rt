@@ -1,10 +1,11 @@
 //! The lines of a history, each with what its edit changed. Of the texts that the edits lead through, two are
 //! in memory at a time.
-ghost use Rattle.std.specs.Prelude.{◌≡◌, ◌≤◌, Some, IfOk, OnOk, IfErr, length, map, option_and_then, option_map, take};
+ghost use Rattle.std.specs.Prelude.{◌≡◌, ◌≤◌, Some, IfOk, OnOk, IfErr, [], ◌++◌, drop, length, option_and_then, take};
 ghost use Rattle.std.specs.String.{string_bytes};
-ghost use Rattle.yq_journal.specs.Record.{Record as JournalRecord, done, undone};
+ghost use Rattle.yq_journal.specs.Record.{done, undone};
 ghost use Rattle.yq_history.specs.ListedDiffs.{AreDiffLines, IsAfterLine, IsDiffOrNote, texts_around, texts_back};
 ghost use Rattle.yq_history.specs.ListedView.{backwards, bytes_of_some, exprs_of};
+ghost use Rattle.yq_history.specs.Listing as spec;
 
 use crate::diff::unified::unified_diff;
 use crate::printing::edit_line;
@@ -18,7 +19,23 @@ const UNFIT: &str = "no diff: this edit doesn't fit FILE any more\n";
 /// What comes after the line of an edit of whose texts one is no UTF-8.
 const NO_TEXT: &str = "no diff: FILE is not UTF-8 before or after this edit\n";
 
-/// What an edit of a file changed from one text to another.
+/// What an edit of a file changed from a text to bytes.
+fn change_to(
+    alloc: Global,
+    file: &str,
+    record: &Record,
+    old: &str,
+    new: &[u8],
+) -> Result<String, AllocError>
+    ensures { IfOk result (λ s. IsDiffOrNote file.now old.now new.now (string_bytes s)) }
+{
+    match from_utf8(new) {
+        Ok(new) => unified_diff(alloc, file, old, new, &record.splices),
+        Err(_) => String::from_str(alloc, NO_TEXT),
+    }
+}
+
+/// What an edit of a file changed from bytes to others.
 fn change(
     alloc: Global,
     file: &str,
@@ -28,9 +45,9 @@ fn change(
 ) -> Result<String, AllocError>
     ensures { IfOk result (λ s. IsDiffOrNote file.now old.now new.now (string_bytes s)) }
 {
-    match (from_utf8(old), from_utf8(new)) {
-        (Ok(old), Ok(new)) => unified_diff(alloc, file, old, new, &record.splices),
-        _ => String::from_str(alloc, NO_TEXT),
+    match from_utf8(old) {
+        Ok(old) => change_to(alloc, file, record, old, new),
+        Err(_) => String::from_str(alloc, NO_TEXT),
     }
 }
 
@@ -98,6 +115,34 @@ fn change_on(
     }
 }
 
+/// How many records are done.
+#[tactic(auto, using(crate::proofs::ListedLaws::none_at, crate::proofs::ListedLaws::none_at_all))]
+fn done_count(state: &Journal) -> usize
+    ensures at { result ≤ state.now.at }
+    ensures within { result ≤ length state.now.records }
+    ensures all { drop result (take state.now.at state.now.records) ≡ [] }
+{
+    let at = state.at();
+    let len = state.len();
+    if at < len { at } else { len }
+}
+
+/// The line of an edit with what comes after it. Its number counts from 1.
+fn line_with(
+    alloc: Global,
+    number: usize,
+    is_done: bool,
+    expr: &str,
+    change: &str,
+) -> Result<String, AllocError>
+    ensures { IfOk result (λ s. string_bytes s ≡ spec.edit_line number is_done expr.now ++
+        change.now) }
+{
+    let mut line = edit_line(alloc, number, is_done, expr)?;
+    line.push_str(change)?;
+    Ok(line)
+}
+
 /// The lines of the done edits, each with what it changed, the last one first.
 fn done_lines(
     alloc: Global,
@@ -111,13 +156,13 @@ fn done_lines(
 {
     let mut lines = Vec::with_capacity(alloc, state.at())?;
     let mut near = Some(Vec::from_slice(alloc, text)?);
-    let mut left = state.at();
+    let mut left = done_count(state);
     'records: while left > 0 {
         left -= 1;
         let record = state.record(left);
         let (change, far) = change_back(alloc, file, record, near)?;
-        let mut line = edit_line(alloc, left + 1, left < state.at(), &record.expr)?;
-        line.push_str(&change)?;
+        let is_done = left < state.at();
+        let line = line_with(alloc, left + 1, is_done, &record.expr, &change)?;
         lines.push(line)?;
         near = far;
     }
@@ -146,13 +191,15 @@ pub(crate) fn lines_with_diffs(
     ensures { IfOk result (λ s. AreDiffLines file.now 0 state.now.at (exprs_of state.now.records)
         (texts_around state.now text.items) (string_bytes s)) }
 {
-    let mut lines = joined_back(alloc, done_lines(alloc, file, state, &text)?)?;
+    let done = done_lines(alloc, file, state, &text)?;
+    let mut lines = joined_back(alloc, done)?;
     let mut near = Some(text);
     'records: for i in state.at()..state.len() {
         let record = state.record(i);
         let (change, far) = change_on(alloc, file, record, near)?;
-        lines.push_str(&edit_line(alloc, i + 1, i < state.at(), &record.expr)?)?;
-        lines.push_str(&change)?;
+        let is_done = i < state.at();
+        let line = line_with(alloc, i + 1, is_done, &record.expr, &change)?;
+        lines.push_str(&line)?;
         near = far;
     }
     Ok(lines)

@@ -1,17 +1,17 @@
-use Rattle.std.{proofs.Common.{Ok, Err, sym, ap, ◌∙◌, subst, refl}, proofs.lemmas.Result.err_from_is_err_and}
-use Rattle.yq_history.{specs.Effects.{listing_effect, printed_by}, specs.Faults.is_outer_fault, specs.Output.{IsOutput, record_output}}
-use Rattle.yq_history.{specs.Report.Report, proofs.PrintLaws.listed_output, proofs.EffectLaws.{not_opened, from_opened, listing_cut}}
+use Rattle.std.{proofs.Common.{Ok, Err, sym, ap, ◌∙◌, refl}, proofs.lemmas.Result.err_from_is_err_and}
+use Rattle.yq_history.{specs.Effects.{listing_effect, printed_by}, specs.Faults.is_outer_fault, specs.Output.record_output}
+use Rattle.yq_history.{specs.Report.Report, proofs.PrintLaws.listed_output, proofs.ListedLaws.output_as, proofs.EffectLaws.{not_opened, from_opened, listing_cut}}
 use Rattle.yq_history.proofs.printing.listing.Goals as goal
 
 pub returns-clause-output : goal.returns-clause-output
 returns-clause-output g c = λ keeps h good. record {
-  output = subst (λ o. IsOutput c.args.file.now o _) (listed_output c.args.diffs _ _ _ h c.in_ok-text.text c.in_ok-text.state (c.in_ok-text.ensures.opens keeps h good)) c.in_ok-report.ensures;
+  output = output_as c.args.file.now _ _ _ (listed_output c.args.diffs _ _ _ h c.in_ok-text.text c.in_ok-text.state (c.in_ok-text.ensures.opens keeps h good)) c.in_ok-report.ensures;
   is_match = ap (λ (s : Report). s.is_match) c.requires.empty;
 }
 
 pub returns-clause-lines : goal.returns-clause-lines
 returns-clause-lines g c = λ keeps.
-    subst (λ x. IsOutput c.args.file.now (printed_by x) _) (sym (c.in_ok-text.ensures.found keeps (listing_effect c.args.diffs))) c.in_ok-report.ensures
+    output_as c.args.file.now _ _ _ (sym (ap printed_by (c.in_ok-text.ensures.found keeps (listing_effect c.args.diffs)))) c.in_ok-report.ensures
 
 pub returns-in_err-text-clause-effect : goal.returns-in_err-text-clause-effect
 returns-in_err-text-clause-effect g c = λ keeps.
