@@ -6,11 +6,12 @@ use Rattle.yq_history.{specs.Effects.{Effect, Works, from_names, listing_effect,
 use Rattle.yq_history.{specs.Report.{Report, nothing}, specs.Output.{IsOutput, Shows, listing_output, showing, showing_nothing}}
 use Rattle.yq_args.{specs.declared.command.Command.Command, specs.declared.eval_options.EvalOptions.EvalOptions}
 use Rattle.yq_store.specs.FileMap.{FileMap}
-use Rattle.yq_commands.{specs.CommandEffects.{IsListing, OfEffect, update_effect}, specs.CommandNames.{Differs, IsNotNamed, IsOn, file_of}}
+use Rattle.yq_commands.specs.CommandEffects.{IsListing, OfEffect, update_effect, output_by}
+use Rattle.yq_commands.specs.CommandNames.{Differs, IsNotNamed, IsOn, file_of}
 use Rattle.yq_commands.{specs.CommandSteps.{cause_of, next_of, update_cause, update_next}, specs.Editing.program_in}
 use Rattle.yq_commands.specs.Evaluation.{cause_in, evaluated, report_in}
 use Rattle.yq_commands.specs.FileEdits.{HasEdited, IsFileEdited, PrintsChange, PrintsUpdate}
-use Rattle.yq_commands.{specs.Expecting.{ReportsExpected, report_edit, works_as_expected}, specs.Prints.{output_by, report_of}}
+use Rattle.yq_commands.{specs.Expecting.{ReportsExpected, report_edit, works_as_expected}, specs.Prints.report_of}
 
 -- ---- what is promised of a command, clause by clause
 

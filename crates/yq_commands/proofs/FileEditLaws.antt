@@ -7,10 +7,10 @@ use Rattle.yq_edit_laws.{specs.Answers.Edits, specs.Carried.edit_of, specs.Theor
 use Rattle.yq_history.{specs.declared.fault.Fault.Fault, specs.declared.fault.Fault.TheVariants.OutOfMemory}
 use Rattle.yq_history.{specs.Effects.{Works, refuses, writes_nothing}, specs.Output.{IsOutput, bytes}}
 use Rattle.yq_history.{specs.Unified.{IsPrintedDiff, print_diff}, specs.Causes.named}
-use Rattle.yq_commands.specs.CommandEffects.{IsUnparsed, fault_of, edit_effect, edit_writes}
+use Rattle.yq_commands.specs.CommandEffects.{IsUnparsed, fault_of, edit_effect, edit_writes, output_by}
 use Rattle.yq_commands.specs.Editing.{program_in, EditOutcome, edited, refused, unreadable}
 use Rattle.yq_commands.specs.FileEdits.{HoldsEdited, IsFileEdited, IsTextEdited, PrintsChange, PrintsEdit, PrintsUpdate}
-use Rattle.yq_commands.{specs.Edits.edit_record, specs.Expecting.change_output, specs.Prints.output_by, proofs.KeepLaws.edit_silent}
+use Rattle.yq_commands.{specs.Edits.edit_record, specs.Expecting.change_output, proofs.KeepLaws.edit_silent}
 use Rattle.yq_journal.{specs.State.State, specs.Refusals.most_records}
 use Rattle.yq_store.specs.FileMap.{FileMap}
 use Rattle.yq_history.specs.declared.fault.Fault.TheVariants as fault

@@ -1,15 +1,14 @@
 -- What a command does to a file and its journal, by their bytes as they are, good for a history or not (own).
-use Rattle.std.specs.Prelude.{◌≡◌, ◌≢◌, ℕ, List, [], length, nat_le, if◌then◌else◌, Option, Some, None, Result, Ok, Err, MatchResult, true}
-use Rattle.std.{specs.Str.bytes_eq, specs.String.string_bytes}
+use Rattle.std.specs.Prelude.{◌≡◌, ◌≢◌, ℕ, List, [], length, nat_le, Bool, if◌then◌else◌, Option, Some, None, Result, Ok, Err, MatchResult}
+use Rattle.std.{specs.Prelude.true, specs.Str.bytes_eq, specs.String.string_bytes}
 use Rattle.yq_semantics.specs.Program.{Program}
 use Rattle.yq_journal.{specs.Record.Record, specs.Refusals.most_records, specs.State.{State, journal_after, with_move}}
 use Rattle.yq_args.specs.declared.command.Command.{Command}
 use Rattle.yq_args.specs.declared.command.Command.TheVariants.{Eval, Undo, Redo, History as Lists, Squash}
 use Rattle.yq_history.{specs.declared.fault.Fault.Fault, specs.declared.fault.Fault.TheVariants.{JournalFull, OutOfMemory}}
 use Rattle.yq_history.specs.Effects.{Effect, refuses, writes_nothing, writes_both, from_pair, move_effect, squash_effect, listing_effect}
-use Rattle.yq_history.{specs.Effects.printed_by, specs.Causes.{named, no_reading}, specs.Output.{IsOutput, bytes}}
+use Rattle.yq_history.{specs.Effects.printed_by, specs.Causes.{named, no_reading}, specs.Output.{IsOutput, Output, bytes, diff}}
 use Rattle.yq_commands.{specs.Editing.{EditOutcome, unreadable, refused, edited, program_in, program_edits}, specs.Edits.edit_record}
-use Rattle.yq_commands.specs.Prints.{output_by}
 use Rattle.yq_journal.specs.declared.moves.Move.TheVariants as move
 
 -- what the edit of a record does from one text to another
@@ -52,6 +51,11 @@ expression_fault _ = None
 -- a command is refused for such a fault, or for want of memory, and for nothing else
 abbrev pub IsUnparsed : Fault → {T : Type 0} → Result T Fault → Type 0
 IsUnparsed f r = MatchResult r (λ v. ⊥) (λ e. e ≢ OutOfMemory → e ≡ f)
+
+-- the output of a command by its effect; of one that prints what it writes, a diff of what its file held and what it holds
+abbrev pub output_by : Bool → Option (List ℕ) → Effect → Output
+output_by true (Some old) (writes_both new started s) = diff old new
+output_by _ held x = printed_by x
 
 -- the bytes are those that `history`, or an edit in place with `--diff`, prints by what a file and a journal hold; of other commands nothing is said
 abbrev pub IsListing : Command → Option (List ℕ) → Option (List ℕ) → List ℕ → Type 0

@@ -3,9 +3,9 @@ use Rattle.std.specs.Prelude.{◌≡◌, ◌≢◌, ◌⊎◌, ◌||◌, ◌&&�
 use Rattle.std.{specs.Prelude.{MatchBool, MatchResult, Option, Some, None, Result, Ok, Err}, specs.FinMap.get}
 use Rattle.yq_journal.specs.History.{History}
 use Rattle.yq_commands.{specs.declared.answer.Answer.Answer, specs.declared.answer.Answer.TheVariants.{Done, NoMatch, Refused}}
-use Rattle.yq_commands.{specs.CommandNames.{IsOn, IsNotNamed, file_of}, specs.CommandEffects.{OfEffect, expression_fault}}
+use Rattle.yq_commands.{specs.CommandNames.{IsOn, IsNotNamed, file_of}, specs.CommandEffects.{OfEffect, expression_fault, output_by}}
 use Rattle.yq_commands.{specs.FileEdits.HasEdited, specs.Expecting.{expects_change, works_as_expected}}
-use Rattle.yq_commands.{specs.Prints.{output_by, prints, prints_change, report_of}, specs.CommandSteps.{cause_of, next_of}}
+use Rattle.yq_commands.{specs.Prints.{prints, prints_change, report_of}, specs.CommandSteps.{cause_of, next_of}}
 use Rattle.yq_args.specs.declared.command.Command.{Command}
 use Rattle.yq_history.{specs.declared.fault.Fault.Fault, specs.declared.fault.Fault.TheVariants.{OutFailed, OutOfMemory}}
 use Rattle.yq_history.{specs.Causes.{Cause, IsFor}, specs.Effects.{Effect, Works}, specs.Output.{IsOutput, Showing}}

@@ -1,11 +1,10 @@
 -- What a command prints (own).
-use Rattle.std.{specs.Prelude.{ℕ, Bool, true, false, List, Option, Some}, specs.String.string_bytes}
+use Rattle.std.{specs.Prelude.{Bool, true, false, Option}, specs.String.string_bytes}
 use Rattle.yq_journal.specs.History.{History}
 use Rattle.yq_args.specs.declared.command.Command.{Command}
 use Rattle.yq_args.specs.declared.command.Command.TheVariants.{Eval, Undo, Redo, History as Lists, Squash, Help}
 use Rattle.yq_commands.{specs.Editing.program_in, specs.Evaluation.{evaluated, report_in}, specs.Expecting.report_edit}
-use Rattle.yq_history.specs.Effects.{Effect, writes_both, printed_by}
-use Rattle.yq_history.specs.Output.{Output, Showing, diff, listing_output, showing, showing_nothing}
+use Rattle.yq_history.specs.Output.{Showing, listing_output, showing, showing_nothing}
 
 -- what a command shows where it is carried out; of help nothing is said
 abbrev pub report_of : Command → Option History → Showing
@@ -36,8 +35,3 @@ prints _ = false
 abbrev pub prints_change : Command → Bool
 prints_change (Eval expr file journal true options) = options.diff
 prints_change _ = false
-
--- the output of such a command, by what its file held and its effect, and that of any other
-abbrev pub output_by : Bool → Option (List ℕ) → Effect → Output
-output_by true (Some old) (writes_both new started s) = diff old new
-output_by _ held x = printed_by x

@@ -1,24 +1,17 @@
 -- The texts around the records of a journal are those of its history, and lines of edits, one more.
 use Rattle.std.proofs.Common.{◌≡◌, ℕ, suc, ◌+◌, ◌≤◌, List, [], ◌∷◌, ◌++◌, length, map, take, drop, nat_lt, Option, Some, None, refl, sym}
-use Rattle.std.{proofs.Common.{ap, ap₂, ◌∙◌, arith, append_assoc, subst}, specs.Prelude.option_and_then}
-use Rattle.std.specs.String.{string_bytes}
-use Rattle.std.specs.declared.alloc.Global.{Global}
-use Rattle.std.specs.Prelude.{String}
-use Rattle.std.proofs.lemmas.List.{append-nil}
-use Rattle.yq_history.specs.ListedView.{backwards}
-use Rattle.std.proofs.Common.{◌-◌, ◌<◌, ◌⊎◌, inl, inr, Bool, true, false, ◌&&◌, Result, Ok, Err, IfOk, MatchBool, slice_get}
-use Rattle.std.proofs.lemmas.Str.{is_utf8-from_IsUtf8, IsUtf8-from_is_utf8}
-use Rattle.std.proofs.lemmas.Bool.{false_from_ne_true}
+use Rattle.std.proofs.Common.{ap, ap₂, ◌∙◌, arith, append_assoc, subst, ◌-◌, ◌<◌, ◌⊎◌, inl, inr, Bool, true, false, ◌&&◌, Result, Ok, Err}
+use Rattle.std.{proofs.Common.{IfOk, MatchBool, slice_get}, specs.Prelude.{option_and_then, String}, specs.String.string_bytes}
+use Rattle.std.{specs.declared.alloc.Global.Global, proofs.lemmas.List.append-nil}
+use Rattle.std.{proofs.lemmas.Str.{is_utf8-from_IsUtf8, IsUtf8-from_is_utf8}, proofs.lemmas.Bool.false_from_ne_true}
 use Rattle.std.specs.Str.{IsUtf8, is_utf8}
-use Rattle.yq_history.specs.ListedView.{exprs_of}
-use Rattle.yq_history.specs.ListedDiffs.{IsDiffOrNote, no_text_line}
-use Rattle.yq_history.specs.Output.{IsOutput, Output}
-use Rattle.yq_history.specs.Unified.{IsPrintedDiff}
+use Rattle.yq_history.specs.ListedView.{backwards, exprs_of}
+use Rattle.yq_history.specs.ListedDiffs.{IsDiffOrNote, no_text_line, AreDiffLines, IsAfterLine, text_before, texts_around, texts_back}
+use Rattle.yq_history.{specs.ListedDiffs.{texts_of, texts_on}, specs.Output.{IsOutput, Output}, specs.Unified.IsPrintedDiff}
+use Rattle.yq_history.specs.Listing.{edit_line}
 use Prim.Native.Nat.{zero}
 use Rattle.yq_journal.{specs.Good.{AtRest, Leads}, specs.History.{History, Revision, text_after_edits}, specs.Record.{Record, done, undone}}
 use Rattle.yq_journal.{specs.State.State, proofs.RecordLaws.undone_after_done}
-use Rattle.yq_history.specs.Listing.{edit_line}
-use Rattle.yq_history.specs.ListedDiffs.{AreDiffLines, IsAfterLine, text_before, texts_around, texts_back, texts_of, texts_on}
 
 -- ---- by a history
 

@@ -1,12 +1,12 @@
 -- What is printed of a journal is what is printed of its history.
-use Rattle.std.proofs.Common.{◌≡◌, ℕ, Bool, true, false, suc, ◌+◌, List, [], ◌∷◌, ◌++◌, map, nat_lt, slice_get, take, Option, Some, None, Result, Ok, Err}
-use Rattle.std.{proofs.Common.{IfOk, String, Vec, sym, ap, ap₂, ◌∙◌, refl, arith, append_assoc}, specs.Prelude.decimal}
+use Rattle.std.proofs.Common.{◌≡◌, ℕ, Bool, true, false, suc, ◌+◌, List, [], ◌∷◌, ◌++◌, map, nat_lt, slice_get, take, Option, Some, None}
+use Rattle.std.{proofs.Common.{Result, Ok, Err, IfOk, String, Vec, sym, ap, ap₂, ◌∙◌, refl, arith, append_assoc}, specs.Prelude.decimal}
 use Rattle.std.{specs.String.string_bytes, specs.declared.alloc.Global.Global, proofs.lemmas.List.append-nil}
 use Prim.Native.Nat.{zero}
 use Rattle.yq_journal.{specs.Good.{Leads, AtRest}, specs.History.{History, Revision}, specs.Record.Record, specs.State.State}
 use Rattle.yq_store.specs.FileMap.{FileMap}
-use Rattle.yq_history.{specs.Pair.Opens, specs.Listing.{edit_line, listing_after, history_lines}, specs.Output.{listing_output, record_output}}
-use Rattle.yq_history.proofs.ListedLaws.{history_texts}
+use Rattle.yq_history.{specs.Pair.Opens, specs.Listing.{edit_line, listing_after, history_lines}}
+use Rattle.yq_history.{specs.Output.{listing_output, record_output}, proofs.ListedLaws.history_texts}
 use Rattle.yq_history.specs.Output as output
 
 -- a line by other names of its texts

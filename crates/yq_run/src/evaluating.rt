@@ -38,8 +38,16 @@ fn show_edit(
 {
     let (edited, change) = edit_text(alloc, file, program, text, options.diff)?;
     let is_match = is_as_expected(options, text, edited.text.as_bytes());
-    let text = if options.diff { change } else { edited.text };
-    Ok(Report { text, is_match })
+    if options.diff {
+        return Ok(Report {
+            text: change,
+            is_match,
+        });
+    }
+    Ok(Report {
+        text: edited.text,
+        is_match,
+    })
 }
 
 /// What a program shows of a file's text, which need be no UTF-8.

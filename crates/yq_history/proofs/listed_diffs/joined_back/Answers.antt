@@ -1,5 +1,4 @@
-use Rattle.std.proofs.Common.{◌++◌, append_assoc, ap, sym, ◌∙◌, string_bytes}
-use Rattle.std.specs.Prelude.{option_to_list}
+use Rattle.std.{proofs.Common.{◌++◌, append_assoc, ap, sym, ◌∙◌, string_bytes}, specs.Prelude.option_to_list}
 use Rattle.yq_history.{specs.ListedView.backwards, proofs.ListedLaws.backwards_more}
 use Rattle.yq_history.proofs.listed_diffs.joined_back.Goals as goal
 

@@ -1,6 +1,5 @@
 use Rattle.std.proofs.Common.{◌≡◌, ◌≤◌, take, string_bytes}
-use Rattle.yq_history.{specs.ListedDiffs.AreDiffLines, specs.ListedView.{bytes_of_some, exprs_of}}
-use Rattle.yq_history.proofs.ListedLaws.{last_of, texts_to}
+use Rattle.yq_history.{specs.ListedDiffs.AreDiffLines, specs.ListedView.{bytes_of_some, exprs_of}, proofs.ListedLaws.{last_of, texts_to}}
 use Rattle.yq_history.proofs.listed_diffs.lines_with_diffs.Given as goal
 
 -- the lines so far are those of the records up to here, and the text is the one after these

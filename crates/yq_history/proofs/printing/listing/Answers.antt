@@ -1,6 +1,7 @@
 use Rattle.std.{proofs.Common.{Ok, Err, sym, ap, ◌∙◌, refl}, proofs.lemmas.Result.err_from_is_err_and}
 use Rattle.yq_history.{specs.Effects.{listing_effect, printed_by}, specs.Faults.is_outer_fault, specs.Output.record_output}
-use Rattle.yq_history.{specs.Report.Report, proofs.PrintLaws.listed_output, proofs.ListedLaws.output_as, proofs.EffectLaws.{not_opened, from_opened, listing_cut}}
+use Rattle.yq_history.{specs.Report.Report, proofs.PrintLaws.listed_output, proofs.ListedLaws.output_as}
+use Rattle.yq_history.proofs.EffectLaws.{not_opened, from_opened, listing_cut}
 use Rattle.yq_history.proofs.printing.listing.Goals as goal
 
 pub returns-clause-output : goal.returns-clause-output

@@ -2,9 +2,8 @@ use Rattle.std.{proofs.Common.{◌≡◌, ℕ, List, false, Ok, Err, IfErr, sym,
 use Rattle.std.specs.FinMap.{get}
 use Rattle.yq_journal.specs.State.{State}
 use Rattle.yq_semantics.specs.View.{program_of}
-use Rattle.yq_commands.{specs.Editing.program_edits, specs.CommandEffects.{edit_effect, update_effect}}
-use Rattle.yq_commands.{specs.Expecting.{report_edit, works_as_expected}, specs.Prints.output_by}
-use Rattle.yq_commands.proofs.EditEffects.{not_parsed, parsed_works}
+use Rattle.yq_commands.{specs.Editing.program_edits, specs.CommandEffects.{edit_effect, update_effect, output_by}}
+use Rattle.yq_commands.{specs.Expecting.{report_edit, works_as_expected}, proofs.EditEffects.{not_parsed, parsed_works}}
 use Rattle.yq_commands.proofs.FileEditLaws.{both_come, change_output_by, file_comes, parsed_free, unparsed_fault}
 use Rattle.yq_commands.{specs.CommandSteps.{update_cause, update_next}, proofs.ExpectingLaws.{effect_expected, history_showing, matched_as}}
 use Rattle.yq_commands.proofs.OutcomeLaws.{arrives_as, opened}
