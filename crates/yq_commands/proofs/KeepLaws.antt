@@ -1,7 +1,9 @@
 -- What a command leaves of the store's names, and a list of them.
-use Rattle.std.proofs.Common.{◌≡◌, ◌≢◌, ◌⊎◌, inl, inr, ℕ, Bool, true, false, ◌||◌, nat_le, length, ◌==◌, if◌then◌else◌, List, [], ◌∷◌, ◌++◌}
-use Rattle.std.proofs.Common.{Option, Some, None, Result, Ok, Err, OnOk, MatchBool, IfErr, sym, ap, ◌∙◌, subst, refl}
-use Rattle.std.{proofs.lemmas.List.Elements.{All-head, All-tail}, specs.Str.bytes_eq, specs.FinMap.get, specs.String.string_bytes}
+use Rattle.std.proofs.lemmas.Bool.{false≢true}
+use Rattle.std.proofs.Common.{◌&&◌, not, true≢false, ◌≡◌, ◌≢◌, ◌⊎◌, inl, inr, ℕ, Bool, true, false, ◌||◌, nat_le, length, ◌==◌}
+use Rattle.std.proofs.Common.{if◌then◌else◌, List, [], ◌∷◌, ◌++◌, Option, Some, None, Result, Ok, Err, OnOk, MatchBool, IfErr, sym, ap, ◌∙◌}
+use Rattle.std.{proofs.Common.{subst, refl}, proofs.lemmas.List.Elements.{All-head, All-tail}, specs.Str.bytes_eq, specs.FinMap.get}
+use Rattle.std.specs.String.{string_bytes}
 use Rattle.yq_semantics.specs.Program.{Program}
 use Rattle.yq_journal.{specs.declared.moves.Move.Move, specs.Good.{Good, journal_beside}, specs.History.History}
 use Rattle.yq_journal.specs.Refusals.{most_records, no_way, squash_fault}
@@ -67,9 +69,9 @@ pub update_silent : (expr : List ℕ) (p : Result Program Fault) (file journal :
 update_silent expr (Err f) file journal = refl
 update_silent expr (Ok p) file journal = from_silent file journal (λ t s. edit_effect expr (program_edits p t) t s) (λ t s. edit_silent expr (program_edits p t) t s)
 
-on_ok_by : {T A B : Type 0} (r : Result T Fault) → OnOk r (A → B) → A → OnOk r B
-on_ok_by (Ok v) h a = h a
-on_ok_by (Err e) h a = tt
+on_ok_by : {T : Type 0} (A B : Type 0) (r : Result T Fault) → OnOk r (A → B) → A → OnOk r B
+on_ok_by A B (Ok v) h a = h a
+on_ok_by A B (Err e) h a = tt
 
 -- an edit in place is of a file and a journal of two names
 abbrev HasTwoNames : Command → Type 0
@@ -89,7 +91,7 @@ two_names Help f j apart on = tt
 shows_effect : {T : Type 0} (cmd : Command) (file journal : Option (List ℕ)) (r : Result T Fault) (s : Report) → HasTwoNames cmd →
     (prints cmd ≡ false → prints_change cmd ≡ false → s.printed ≡ []) → OnOk r (IsListing cmd file journal s.printed) →
     OfEffect cmd file journal (λ x. OnOk r (IsOutput (file_of cmd) (output_by (prints_change cmd) file x) s.printed))
-shows_effect (Eval expr f j true options) file journal r s apart silent listed = on_ok_by r listed apart
+shows_effect (Eval expr f j true options) file journal r s apart silent listed = on_ok_by _ _ r listed apart
 shows_effect (Eval expr f j false options) file journal r s apart silent listed = tt
 shows_effect (Undo f j) file journal r s apart silent listed =
     on_ok r (subst (λ o. IsOutput (string_bytes f) o s.printed) (sym (from_silent file journal (move_effect move.Undo) (move_silent move.Undo))) (silent refl refl))

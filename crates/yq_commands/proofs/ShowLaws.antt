@@ -132,8 +132,8 @@ module _ (c e : FileMap) (f j : List ℕ) (of_text : List ℕ → Result Showing
 -- by the new text, or with `--diff` by what changed
 pub edit_showing : (options : EvalOptions) (file t u : List ℕ) (changes : List Splice) (p : Program) (s : Report) → is_read p ≡ false → program_edits p t ≡ edited u changes →
     IsOutput file (edit_output options t u) s.printed → s.is_match ≡ changes_as_expected options t u → IsShowing file (shows options p t) s
-edit_showing options file t u changes p s updates gives output is_match =
-    subst (λ r. IsShowing file r s) (sym (edit_shows options t p updates ∙ ap (show_edit options t) gives)) (record { output = output; is_match = is_match })
+edit_showing options file t u changes p s update gives output is_match =
+    subst (λ r. IsShowing file r s) (sym (edit_shows options t p update ∙ ap (show_edit options t) gives)) (record { output = output; is_match = is_match })
 
 -- the output, by whether a diff is asked for
 pub text_output : (options : EvalOptions) (file t u printed : List ℕ) → options.diff ≡ false → printed ≡ u → IsOutput file (edit_output options t u) printed

@@ -2,13 +2,13 @@
 ghost use Rattle.std.{specs.Prelude.{◌≡◌, ◌≢◌, ℕ, List, [], Option, Some, IfErr, OnOk, IsTrue, true, false}, specs.String.string_bytes};
 ghost use Rattle.yq_journal.specs.History.{History};
 ghost use Rattle.yq_commands.{specs.CommandNames.{IsOn, IsNotNamed, file_of}, specs.Editing.program_in};
-ghost use Rattle.yq_commands.specs.CommandEffects.{IsListing, IsUnparsed, OfEffect, expression_fault, fault_of, update_effect};
+ghost use Rattle.yq_commands.specs.CommandEffects.{IsListing, IsUnparsed, OfEffect, expression_fault, fault_of, update_effect, output_by};
 ghost use Rattle.yq_commands.specs.FileEdits.{HasEdited, IsFileEdited, PrintsChange};
 ghost use Rattle.yq_commands.specs.Expecting.{ReportsExpected, expects_change, report_edit, works_as_expected};
 ghost use Rattle.yq_commands.specs.CommandSteps.{cause_of, next_of, update_cause, update_next};
+ghost use Rattle.yq_commands.specs.Prints.{prints, prints_change, reads_journal, report_of};
 ghost use Rattle.yq_history.{specs.Effects.Works, specs.Faults.{is_outer_fault, is_output, failures_after}, specs.Output.{IsOutput, Shows}};
 ghost use Rattle.yq_history.{specs.Pair.{Arrives, GoodIn, OthersStay}, specs.Report.{nothing, report_by}};
-ghost use Rattle.yq_commands.{specs.CommandEffects.output_by, specs.Prints.{prints, prints_change, reads_journal, report_of}};
 ghost use Rattle.std.specs.FinMap as map;
 
 use crate::editing::edit_from;
