@@ -1,5 +1,5 @@
 -- What a command comes to, by the contract of the call that carries it out.
-use Rattle.std.{proofs.Common.{ap, ◌≡◌, ◌≢◌, ℕ, Bool, List, [], Option, Result, Ok, Err, OnOk, sym, ◌∙◌, subst}, specs.FinMap.get}
+use Rattle.std.{proofs.Common.{ap, ◌≡◌, ◌≢◌, ℕ, Bool, List, Option, Result, Ok, Err, OnOk, sym, ◌∙◌, subst}, specs.FinMap.get}
 use Rattle.yq_journal.{specs.State.State, specs.History.History}
 use Rattle.yq_history.{specs.declared.fault.Fault.Fault, specs.Causes.Cause}
 use Rattle.yq_history.{specs.Effects.{Effect, Works, from_names, listing_effect, printed_by}, specs.Pair.{Arrives, GoodIn, OthersStay}}

@@ -14,10 +14,10 @@ use Rattle.yq_commands.specs.CommandEffects.{edit_effect, edit_writes, update_ef
 use Rattle.yq_commands.{specs.CommandEffects.output_by, specs.FileEdits.HasEdited, specs.Edits.edit_record}
 use Rattle.yq_commands.specs.CommandNames.{IsOn, IsNotNamed, file_of}
 use Rattle.yq_commands.specs.Lists.{answer_by, IsUnrelated, AllOnOrApart, Reply, IsAnswer, Goes, RunsAll, ReportsEffect, HasEffect, RunsTo}
-use Rattle.yq_commands.specs.Lists.{Keeps, ReportsUnparsed, is_accepted, is_inner_refusal, leaves_names}
+use Rattle.yq_commands.specs.Lists.{Keeps, ReportsUnparsed, is_accepted, leaves_names}
 use Rattle.yq_commands.specs.Expecting.{ReportsExpected, expects_change, works_as_expected}
 use Rattle.yq_commands.{specs.Prints.{prints, prints_change, report_of}, specs.CommandSteps.{cause_of, next_of}}
-use Rattle.yq_commands.{proofs.ReplyLaws.{reply, reply-answer, reply-printed, no_refusal}, proofs.ListLaws.{arrived, not_true}}
+use Rattle.yq_commands.{proofs.ReplyLaws.{reply, reply-answer, reply-printed}, proofs.ListLaws.{arrived, not_true}}
 use Rattle.yq_args.specs.declared.command.Command.{Command}
 use Rattle.yq_args.specs.declared.command.Command.TheVariants.{Eval, Undo, Redo, History as Lists, Squash, Help}
 use Rattle.yq_history.{specs.declared.fault.Fault.Fault, specs.Causes.named}

@@ -1,5 +1,5 @@
 -- Runs of commands.
-use Rattle.std.proofs.Common.{◌≡◌, ◌≢◌, ◌⊎◌, inl, inr, ℕ, ◌+◌, Bool, true, false, ◌&&◌, not, nat_le, if◌then◌else◌, List, [], ◌∷◌, Option}
+use Rattle.std.proofs.Common.{◌≡◌, ◌⊎◌, inl, inr, ℕ, ◌+◌, Bool, true, false, ◌&&◌, not, nat_le, if◌then◌else◌, List, [], ◌∷◌, Option}
 use Rattle.std.proofs.Common.{Some, None, Result, Ok, Err, OnOk, MatchBool, IfErr, option_map, sym, ap, ◌∙◌, subst, refl, arith}
 use Rattle.std.{proofs.lemmas.Bool.and_parts, proofs.lemmas.Option.none-some, specs.List.list_all, specs.Str.bytes_eq}
 use Rattle.std.specs.String.{string_bytes}
