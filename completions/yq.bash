@@ -4,7 +4,8 @@
 # The table of options: begin.
 _yq_commands='eval undo redo history squash'
 _yq_options='--journal --explain -h --help'
-_yq_eval_options='-i --inplace -e --exit-status -N --no-doc --expect-change --text'
+_yq_eval_options='-i --inplace -e --exit-status -N --no-doc -d --diff --expect-change --text'
+_yq_history_options='-d --diff'
 # The table of options: end.
 
 # The words up to the cursor, a line each. Bash cuts a word at = and : and the like; here it is whole, as the line has it.
@@ -80,6 +81,7 @@ _yq() {
     fi
     case $command in
         e | eval) options+=" $_yq_eval_options" ;;
+        history) options+=" $_yq_history_options" ;;
     esac
     if [[ $word == -* ]]; then
         mapfile -t COMPREPLY < <(compgen -W "$options" -- "$word")

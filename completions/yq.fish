@@ -4,6 +4,10 @@ function __yq_evaluates
     not __fish_seen_subcommand_from undo redo history squash
 end
 
+function __yq_has_diffs
+    not __fish_seen_subcommand_from undo redo squash
+end
+
 # The files that may be meant, those of YAML first, without journals; behind undo and the like those that have a journal, if there are any.
 function __yq_files
     set -l yaml
@@ -42,6 +46,7 @@ complete -c yq -n __fish_is_first_token -a squash -d 'join the last N edits of F
 complete -c yq -n __yq_evaluates -s i -l inplace -d 'write the updated text to FILE, and record the edit'
 complete -c yq -n __yq_evaluates -s e -l exit-status -d 'end with status 1 where nothing but null and false is read'
 complete -c yq -n __yq_evaluates -s N -l no-doc -d 'print no marker between documents'
+complete -c yq -n __yq_has_diffs -s d -l diff -d 'print what an update changes, or changed'
 complete -c yq -n __yq_evaluates -l expect-change -d 'end with status 1 where an update changes no byte'
 complete -c yq -n __yq_evaluates -l text -x -d 'set what EXPR leads to, to TEXT as it is'
 complete -c yq -l journal -r -F -d 'where the edits are recorded, in place of FILE.undo.json'

@@ -38,8 +38,9 @@ def in_man(_commands, options):
 
 
 def in_bash(commands, options):
-    of = {command: " ".join(way for it in options if it.of == command for way in it.ways) for command in ("", "eval")}
-    return f"_yq_commands='{' '.join(it.name for it in commands)}'\n_yq_options='{of['']}'\n_yq_eval_options='{of['eval']}'\n"
+    of = {key: " ".join(way for it in options if key in (it.of or [""]) for way in it.ways) for key in ("", "eval", "history")}
+    lines = [("_commands", " ".join(it.name for it in commands))] + [(f"{'_' * bool(key)}{key}_options", of[key]) for key in of]
+    return "".join(f"_yq{name}='{words}'\n" for name, words in lines)
 
 
 def in_fish(commands, options):
@@ -47,17 +48,18 @@ def in_fish(commands, options):
     for it in options:
         value = {"PATH": "-r -F ", "": ""}.get(it.value, "-x ")
         ways = " ".join(way.replace("--", "-l ").replace("-", "-s ", len(way) == 2) for way in it.ways)
-        told.append("-n __yq_evaluates " * bool(it.of) + f"{ways} {value}-d '{it.about}'")
+        told.append(("", "-n __yq_evaluates ", "-n __yq_has_diffs ")[len(it.of)] + f"{ways} {value}-d '{it.about}'")
     return "".join(f"complete -c yq {line}\n" for line in told)
 
 
 def in_zsh(commands, options):
-    lists = {"commands": [f"'{it.name}:{it.about}'" for it in commands], "common": [], "evaluating": []}
+    lists = {"commands": [f"'{it.name}:{it.about}'" for it in commands], "common": [], "evaluating": [], "listing": []}
     for it in options:
         value = {"PATH": ":journal:_files", "": ""}.get(it.value, f":{it.value}:")
         way = f"{{{','.join(it.ways)}}}" if it.ways[1:] else it.ways[0] + "=" * bool(it.value)
-        apart = "- *" if "--help" in it.ways else " ".join(it.ways)
-        lists["evaluating" if it.of else "common"].append(f"'({apart})'{way}'[{it.about}]{value}'")
+        line = f"'({'- *' if '--help' in it.ways else ' '.join(it.ways)})'{way}'[{it.about}]{value}'"
+        for of in it.of or [""]:
+            lists[{"": "common", "eval": "evaluating", "history": "listing"}[of]].append(line)
     return "".join(f"    {name}=(\n" + "".join(f"        {it}\n" for it in told) + "    )\n" for name, told in lists.items()) + "    "
 
 

@@ -52,7 +52,7 @@ def check_bash_completes(folder):
     commands, flags = helped(folder)
     registered = run(folder, "bash", "--norc", "--noprofile", "-c", 'source "$0"; complete -p yq', script("yq.bash"))
     equal(registered, ["complete -F _yq yq"])
-    moving = sorted(flags - {"-i", "--inplace", "-e", "--exit-status", "-N", "--no-doc", "--expect-change", "--text"})
+    moving = sorted(flags - {"-i", "--inplace", "-e", "--exit-status", "-N", "--no-doc", "-d", "--diff", "--expect-change", "--text"})
     edited, files = ["a.yaml", "dir"], ["a.yaml", "b c.yml", "dir"]
     for words, offered in (
         ([""], sorted(commands)),
@@ -62,6 +62,7 @@ def check_bash_completes(folder):
         (["eval", "-"], sorted(flags)),
         (["undo", "-"], moving),
         (["squash", "-"], moving),
+        (["history", "-"], sorted([*moving, "-d", "--diff"])),
         ([".a", ""], files),
         (["-i", ".a = 1", ""], files),
         (["e", ".a", ""], files),

@@ -16,6 +16,7 @@ import compared
 import completions
 import concurrency
 import containers
+import diffs
 import disks
 import docs_agree
 import edits
@@ -48,7 +49,7 @@ from pages import run_pages
 from tables import run_tables
 
 CHECKS = [
-    edits, arguments, explaining, help_examples, completions, docs_agree, compared, installing, failures, links, lists, owners,
+    edits, diffs, arguments, explaining, help_examples, completions, docs_agree, compared, installing, failures, links, lists, owners,
     other_users, journal_folder, journal_trust, swaps, temp_files, limits, stacks, slow_texts, disks, containers, reads, shells,
     random_edits, forms, mutations, journals, concurrency, external_writes, fault_injection, memory,
 ]

@@ -28,7 +28,9 @@ fn answer_to(rt: &HostRuntime, out: &mut CountedOut<'_>) -> Result<(Answer, Opti
     let answers = run_list(rt.alloc(), &mut store, out, slice::from_ref(&command))?;
     let hint = match (store.files().hint(), &command) {
         (Some(hint), _) => Some(Hint::Journal(hint)),
-        (None, Command::History { .. }) if on_terminal => Hint::of_records(out.lines()),
+        (None, Command::History { diffs: false, .. }) if on_terminal => Hint::of_records(
+            out.lines(),
+        ),
         (None, _) => None,
     };
     match answers.first() {

@@ -1,7 +1,7 @@
 -- Names that are made of paths.
-use Rattle.std.proofs.Common.{◌≡◌, ◌≢◌, ◌∙◌, ◌++◌, ◌∷◌, ◌<◌, ◌≤◌, ◌==◌, ◌&&◌, ℕ, suc, true, not, if◌then◌else◌, List, [], inl, inr, length}
-use Rattle.std.proofs.Common.{get_or, codes, drop, flat_map, encode_utf8, encode_utf8_all, append-nil, append_assoc, refl, sym, ap, ap₂}
-use Rattle.std.{proofs.Common.{arith, Result, Ok, Err, OnOk, is_ok}, proofs.lemmas.Bool.{and_from, cases_eq, cases_lt, ne_eqb}}
+use Rattle.std.proofs.Common.{◌≡◌, ◌≢◌, ◌∙◌, ◌++◌, ◌∷◌, ◌<◌, ◌≤◌, ℕ, suc, true, not, if◌then◌else◌, List, [], inl, inr, length, get_or}
+use Rattle.std.proofs.Common.{codes, drop, flat_map, encode_utf8, encode_utf8_all, append-nil, append_assoc, refl, sym, ap, ap₂, arith}
+use Rattle.std.{proofs.Common.{Result, Ok, Err, OnOk, is_ok}, proofs.lemmas.Bool.{and_from, cases_eq, cases_lt, ne_eqb}}
 use Rattle.std.{proofs.lemmas.Str.{encode_ascii, inside_one}, proofs.lemmas.List.{append_cancel_left, append_cancel_right}}
 use Rattle.yq_args.specs.JournalNames.{escaped_byte, escaped_path, name_of_path, journal_in_folder, is_one_name}
 

@@ -56,6 +56,7 @@ pub record HasNames (rows : List Row) (file journal : Text) : Type 0 where
 pub record HasOptions (rows : List Row) (options : EvalOptions) : Type 0 where
   pub exit_status : IsSwitch (one_of (codes "exit-status") rows) options.exit_status
   pub no_doc : IsSwitch (one_of (codes "no-doc") rows) options.no_doc
+  pub diff : IsSwitch (one_of (codes "diff") rows) options.diff
   pub expect_change : IsSwitch (one_of (codes "expect-change") rows) options.expect_change
 
 -- the command's word is this one, and what comes after it has this property
@@ -73,7 +74,9 @@ IsAsked found (Eval expr file journal in_place options) = CommandIs (codes "eval
     × HasOptions rows options) found
 IsAsked found (Undo file journal) = CommandIs (codes "undo") (λ rows. HasNames rows (string_bytes file) (string_bytes journal)) found
 IsAsked found (Redo file journal) = CommandIs (codes "redo") (λ rows. HasNames rows (string_bytes file) (string_bytes journal)) found
-IsAsked found (History file journal) = CommandIs (codes "history") (λ rows. HasNames rows (string_bytes file) (string_bytes journal)) found
+IsAsked found (History file journal diffs) = CommandIs (codes "history") (λ rows.
+    HasNames rows (string_bytes file) (string_bytes journal)
+    × IsSwitch (one_of (codes "diff") rows) diffs) found
 IsAsked found (Squash n file journal) = CommandIs (codes "squash") (λ rows.
     (option_and_then count_in (first_of (codes "n") rows) ≡ Some n)
     × HasNames rows (string_bytes file) (string_bytes journal)) found

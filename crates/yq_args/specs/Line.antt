@@ -31,21 +31,27 @@ with_common app = with_rule (with_rule app journal_option) (long_switch (codes "
 abbrev pub file_command : List ℕ → App
 file_command name = with_rule (with_common (new_app name)) (positional (codes "file"))
 
+-- the command `history` with these options, `[-d]` and FILE
+abbrev pub history_command : App
+history_command =
+    with_rule (with_rule (with_common (new_app (codes "history"))) (switch (codes "diff") 100)) (positional (codes "file"))
+
 -- the command `squash` with these options, N and FILE
 abbrev pub squash_command : App
 squash_command =
     with_rule (with_rule (with_common (new_app (codes "squash"))) (positional (codes "n"))) (positional (codes "file"))
 
--- the command `eval` with `-i`, `-e` and `-N`
+-- the command `eval` with `-i`, `-e`, `-N` and `-d`
 abbrev pub lettered_command : App
 lettered_command =
-    with_rule (with_rule (with_rule (new_app (codes "eval")) (switch (codes "inplace") 105)) (switch (codes "exit-status") 101)) (switch (codes "no-doc") 78)
+    with_rule (with_rule (with_rule (with_rule (new_app (codes "eval")) (switch (codes "inplace") 105)) (switch (codes "exit-status") 101))
+    (switch (codes "no-doc") 78)) (switch (codes "diff") 100)
 
 -- the same with all options that have no value
 abbrev pub switches_command : App
 switches_command = with_rule lettered_command (long_switch (codes "expect-change"))
 
--- the command `eval [-i] [-e] [-N] [--expect-change] [--journal PATH] [--explain] [--text TEXT] EXPR FILE`
+-- the command `eval [-i] [-e] [-N] [-d] [--expect-change] [--journal PATH] [--explain] [--text TEXT] EXPR FILE`
 abbrev pub eval_command : App
 eval_command =
     with_rule (with_rule (with_rule (with_common switches_command) text_option) (positional (codes "expr"))) (positional (codes "file"))
@@ -56,7 +62,7 @@ two_commands = with_subcommand (with_subcommand (new_app (codes "yq")) eval_comm
 
 -- these two, and `redo` and `history`
 unfoldable pub four_commands : App
-four_commands = with_subcommand (with_subcommand two_commands (file_command (codes "redo")).top) (file_command (codes "history")).top
+four_commands = with_subcommand (with_subcommand two_commands (file_command (codes "redo")).top) history_command.top
 
 -- the whole command line: these four, and `squash`
 unfoldable pub yq : App

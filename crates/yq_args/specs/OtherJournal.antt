@@ -8,7 +8,7 @@ abbrev pub with_journal : Command → String Global → Command
 with_journal (Eval expr file old in_place options) journal = Eval expr file journal in_place options
 with_journal (Undo file old) journal = Undo file journal
 with_journal (Redo file old) journal = Redo file journal
-with_journal (History file old) journal = History file journal
+with_journal (History file old diffs) journal = History file journal diffs
 with_journal (Squash n file old) journal = Squash n file journal
 with_journal Help journal = Help
 
@@ -17,6 +17,6 @@ abbrev pub names_file : Command → List ℕ → Bool
 names_file (Eval expr file journal in_place options) name = bytes_eq name (string_bytes file)
 names_file (Undo file journal) name = bytes_eq name (string_bytes file)
 names_file (Redo file journal) name = bytes_eq name (string_bytes file)
-names_file (History file journal) name = bytes_eq name (string_bytes file)
+names_file (History file journal diffs) name = bytes_eq name (string_bytes file)
 names_file (Squash n file journal) name = bytes_eq name (string_bytes file)
 names_file Help name = false

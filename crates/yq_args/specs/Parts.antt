@@ -2,16 +2,18 @@
 use Rattle.std.specs.Prelude.{List, [], ◌∷◌, codes}
 use Rattle.clap.specs.Words.{App, Rule, with_rule, with_subcommand}
 use Rattle.yq_args.specs.declared.line.Argument.{Argument}
-use Rattle.yq_args.specs.declared.line.Argument.TheVariants.{Inplace, ExitStatus, NoDoc, ExpectChange, Journal, Explain, Text, Expr, Count}
-use Rattle.yq_args.{specs.declared.line.Argument.TheVariants.File, specs.declared.line.SubCommand.SubCommand}
+use Rattle.yq_args.specs.declared.line.Argument.TheVariants.{Inplace, ExitStatus, NoDoc, Diff, ExpectChange, Journal, Explain, Text, Expr}
+use Rattle.yq_args.{specs.declared.line.Argument.TheVariants.{Count, File}, specs.declared.line.SubCommand.SubCommand}
 use Rattle.yq_args.specs.declared.line.SubCommand.TheVariants.{Eval, Undo, Redo, History, Squash}
-use Rattle.yq_args.specs.Line.{positional, journal_option, text_option, switch, long_switch, file_command, squash_command, eval_command}
+use Rattle.yq_args.specs.Line.{positional, journal_option, text_option, switch, long_switch, file_command, history_command, squash_command}
+use Rattle.yq_args.specs.Line.{eval_command}
 
 -- the rule of an argument
 abbrev pub argument_rule : Argument → Rule
 argument_rule Inplace = switch (codes "inplace") 105
 argument_rule ExitStatus = switch (codes "exit-status") 101
 argument_rule NoDoc = switch (codes "no-doc") 78
+argument_rule Diff = switch (codes "diff") 100
 argument_rule ExpectChange = long_switch (codes "expect-change")
 argument_rule Journal = journal_option
 argument_rule Explain = long_switch (codes "explain")
@@ -30,7 +32,7 @@ abbrev pub command_app : SubCommand → App
 command_app Eval = eval_command
 command_app Undo = file_command (codes "undo")
 command_app Redo = file_command (codes "redo")
-command_app History = file_command (codes "history")
+command_app History = history_command
 command_app Squash = squash_command
 
 -- a command with these ones below it, after those that it has

@@ -83,6 +83,7 @@ fn options_of(matches: &ArgMatches) -> EvalOptions
     EvalOptions {
         exit_status: switch_of(matches, "exit-status"),
         no_doc: switch_of(matches, "no-doc"),
+        diff: switch_of(matches, "diff"),
         expect_change: switch_of(matches, "expect-change"),
     }
 }
@@ -134,7 +135,11 @@ pub fn command_in(alloc: Global, name: &str, matches: &ArgMatches) -> Result<Com
     match name {
         "undo" => Ok(Command::Undo { file, journal }),
         "redo" => Ok(Command::Redo { file, journal }),
-        "history" => Ok(Command::History { file, journal }),
+        "history" => Ok(Command::History {
+            file,
+            journal,
+            diffs: switch_of(matches, "diff"),
+        }),
         _ => Err(WordsError::Usage(UsageCause::Words)),
     }
 }

@@ -29,6 +29,8 @@ pub enum Command {
     History {
         file: String,
         journal: String,
+        /// Each with what it changed.
+        diffs: bool,
     },
     /// Joins the last edits of a file into one.
     Squash {
@@ -90,7 +92,12 @@ impl Command {
             Command::History {
                 file,
                 journal: _old,
-            } => Ok(Command::History { file, journal }),
+                diffs,
+            } => Ok(Command::History {
+                file,
+                journal,
+                diffs,
+            }),
             Command::Squash {
                 n,
                 file,

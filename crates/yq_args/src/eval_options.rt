@@ -7,6 +7,8 @@ pub struct EvalOptions {
     pub exit_status: bool,
     /// `-N`: no marker is printed between documents.
     pub no_doc: bool,
+    /// `-d`: an update prints what it changes.
+    pub diff: bool,
     /// `--expect-change`: an update is to change a byte.
     pub expect_change: bool,
 }

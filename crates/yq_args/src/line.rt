@@ -18,6 +18,8 @@ enum Argument {
     ExitStatus,
     /// `-N`
     NoDoc,
+    /// `-d`
+    Diff,
     /// `--expect-change`
     ExpectChange,
     /// `--journal PATH`
@@ -80,6 +82,7 @@ fn arg_of<'a>(alloc: Global, argument: Argument) -> Arg<'a>
         Argument::Inplace => switch(alloc, "inplace", 'i'),
         Argument::ExitStatus => switch(alloc, "exit-status", 'e'),
         Argument::NoDoc => switch(alloc, "no-doc", 'N'),
+        Argument::Diff => switch(alloc, "diff", 'd'),
         Argument::ExpectChange => long_switch(alloc, "expect-change"),
         Argument::Journal => Arg::new(alloc, "journal").long("journal"),
         Argument::Explain => long_switch(alloc, "explain"),
@@ -101,6 +104,7 @@ fn parts_of<'a>(word: SubCommand) -> (&'a str, &'a [Argument])
                 Argument::Inplace,
                 Argument::ExitStatus,
                 Argument::NoDoc,
+                Argument::Diff,
                 Argument::ExpectChange,
                 Argument::Journal,
                 Argument::Explain,
@@ -119,7 +123,12 @@ fn parts_of<'a>(word: SubCommand) -> (&'a str, &'a [Argument])
         ),
         SubCommand::History => (
             "history",
-            &[Argument::Journal, Argument::Explain, Argument::File],
+            &[
+                Argument::Journal,
+                Argument::Explain,
+                Argument::Diff,
+                Argument::File,
+            ],
         ),
         SubCommand::Squash => (
             "squash",

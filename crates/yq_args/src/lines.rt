@@ -68,10 +68,10 @@ fn line_of_words<'w>(
         return (line, None, "");
     }
     if let Some(option) = found.unknown {
-        let end = if command == "eval" {
-            hint(option)
-        } else {
-            ": '--journal PATH' and '--explain' are those of this command"
+        let end = match command {
+            "eval" => hint(option),
+            "history" => ": '--diff', '--journal PATH' and '--explain' are those of this command",
+            _ => ": '--journal PATH' and '--explain' are those of this command",
         };
         return ("unexpected option", Some(option), end);
     }

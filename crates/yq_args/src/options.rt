@@ -72,9 +72,9 @@ const FOREIGN: [ForeignOption; 19] = [
         hint: ": nothing is reported but what is refused",
     },
     ForeignOption {
-        letters: b"d",
-        names: &["--diff", "--dry-run"],
-        hint: ": '% EXPR FILE | diff FILE -' shows what EXPR changes",
+        letters: b"",
+        names: &["--dry-run"],
+        hint: ": '% --diff EXPR FILE' shows what EXPR changes",
     },
     ForeignOption {
         letters: b"S",
@@ -109,10 +109,11 @@ const FOREIGN: [ForeignOption; 19] = [
 ];
 
 /// The names of the program's own options, and what to do in place of one that is near.
-const OWN: [(&str, &str); 8] = [
+const OWN: [(&str, &str); 9] = [
     ("--inplace", ": did you mean '--inplace'?"),
     ("--exit-status", ": did you mean '--exit-status'?"),
     ("--no-doc", ": did you mean '--no-doc'?"),
+    ("--diff", ": did you mean '--diff'?"),
     ("--expect-change", ": did you mean '--expect-change'?"),
     ("--journal", ": did you mean '--journal'?"),
     ("--explain", ": did you mean '--explain'?"),
@@ -125,7 +126,11 @@ const OTHER: &str = ": a word after '--' may begin with '-'";
 
 /// The first letter after `-` that is none of a command's options.
 fn unknown_letter(command: &str, option: &str) -> Option<u8> {
-    let known: &[u8] = if command == "eval" { b"hieN" } else { b"h" };
+    let known: &[u8] = match command {
+        "eval" => b"hieNd",
+        "history" => b"hd",
+        _ => b"h",
+    };
     let letters = option.strip_prefix('-').unwrap_or(option);
     'letters: for letter in letters.as_bytes() {
         if !known.contains(letter) {
@@ -142,6 +147,7 @@ pub fn is_known(command: &str, option: &str) -> bool {
     }
     match option {
         "--help" | "--explain" => true,
+        "--diff" => matches!(command, "eval" | "history"),
         "--inplace" | "--exit-status" | "--no-doc" | "--expect-change" => command == "eval",
         _ => {
             option.starts_with("--journal=") || (command == "eval" && option.starts_with("--text="))

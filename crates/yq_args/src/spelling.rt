@@ -26,10 +26,7 @@ const OTHERS: [(&str, &str); 18] = [
     ("w", ": '% -i EXPR FILE' edits FILE"),
     ("delete", ": '% -i del(PATH) FILE' edits FILE"),
     ("d", ": '% -i del(PATH) FILE' edits FILE"),
-    (
-        "diff",
-        ": '% EXPR FILE | diff FILE -' shows what EXPR changes",
-    ),
+    ("diff", ": '% --diff EXPR FILE' shows what EXPR changes"),
     ("version", ": '% --help' tells the version"),
     ("help", ": did you mean '--help'?"),
 ];

@@ -7,7 +7,7 @@ use Rattle.yq_journal.{specs.Record.Record, specs.Refusals.{most_records, no_way
 use Rattle.yq_journal.specs.State.{State, journal_after, moved_text, with_move}
 use Rattle.yq_history.specs.declared.fault.Fault.{Fault}
 use Rattle.yq_history.{specs.Effects.{Effect, refuses, writes_nothing, from_pair, goes_to, move_effect, Works}, specs.Faults.is_outer_fault}
-use Rattle.yq_history.{specs.Causes.named, proofs.EffectLaws.{works_outside, works_refused, works_carried}}
+use Rattle.yq_history.{specs.Output.bytes, specs.Causes.named, proofs.EffectLaws.{works_outside, works_refused, works_carried}}
 use Rattle.yq_history.proofs.MoveLaws.{IsMove, bytes_differ}
 use Rattle.yq_store.specs.FileMap.{FileMap}
 use Rattle.yq_commands.specs.CommandEffects.{edit_effect, edit_writes, update_effect}
@@ -39,7 +39,7 @@ module _ (f j : List ℕ) (c : FileMap) (expr : List ℕ) (s : State) (t : List 
   -- the effect of an edit to another text, by whether the texts are equal and the journal has no room
   abbrev by_tests : List ℕ → List Splice → Bool → Bool → Effect
   by_tests u cs equal full =
-      if equal then writes_nothing []
+      if equal then writes_nothing (bytes [])
       else if full then refuses (named fault.JournalFull) else edit_writes (edit_record expr cs (length t) (length u)) t u s
 
   -- an edit to another text is a move

@@ -1,15 +1,17 @@
 -- What a command comes to, by the contract of the call that carries it out.
-use Rattle.std.{proofs.Common.{◌≡◌, ◌≢◌, ℕ, Bool, List, [], Option, Result, Ok, Err, OnOk, sym, ◌∙◌, subst}, specs.FinMap.get}
+use Rattle.std.{proofs.Common.{ap, ◌≡◌, ◌≢◌, ℕ, Bool, List, Option, Result, Ok, Err, OnOk, sym, ◌∙◌, subst}, specs.FinMap.get}
 use Rattle.yq_journal.{specs.State.State, specs.History.History}
-use Rattle.yq_history.{specs.declared.fault.Fault.Fault, specs.Causes.Cause, specs.Effects.{Effect, Works, from_names}}
-use Rattle.yq_history.{specs.Pair.{Arrives, GoodIn, OthersStay}, specs.Report.Report}
+use Rattle.yq_history.{specs.declared.fault.Fault.Fault, specs.Causes.Cause}
+use Rattle.yq_history.{specs.Effects.{Effect, Works, from_names, listing_effect, printed_by}, specs.Pair.{Arrives, GoodIn, OthersStay}}
+use Rattle.yq_history.{specs.Report.{Report, nothing}, specs.Output.{IsOutput, Shows, listing_output, showing, showing_nothing}}
 use Rattle.yq_args.{specs.declared.command.Command.Command, specs.declared.eval_options.EvalOptions.EvalOptions}
 use Rattle.yq_store.specs.FileMap.{FileMap}
-use Rattle.yq_commands.{specs.CommandEffects.{IsListing, OfEffect, update_effect}, specs.CommandNames.{Differs, IsNotNamed, IsOn}}
+use Rattle.yq_commands.specs.CommandEffects.{IsListing, OfEffect, update_effect, output_by}
+use Rattle.yq_commands.specs.CommandNames.{Differs, IsNotNamed, IsOn, file_of}
 use Rattle.yq_commands.{specs.CommandSteps.{cause_of, next_of, update_cause, update_next}, specs.Editing.program_in}
-use Rattle.yq_commands.{specs.Evaluation.{cause_in, evaluated, report_in}, specs.FileEdits.{HasEdited, IsFileEdited, PrintsEdited}}
+use Rattle.yq_commands.specs.Evaluation.{cause_in, evaluated, report_in}
+use Rattle.yq_commands.specs.FileEdits.{HasEdited, IsFileEdited, PrintsChange, PrintsUpdate}
 use Rattle.yq_commands.{specs.Expecting.{ReportsExpected, report_edit, works_as_expected}, specs.Prints.report_of}
-use Rattle.yq_commands.proofs.ExpectingLaws.{report_silent, same_report}
 
 -- ---- what is promised of a command, clause by clause
 
@@ -20,7 +22,7 @@ abbrev pub WorksOn : {T : Type 0} → FileMap → FileMap → Result T Fault →
 WorksOn c d r x = (file journal : List ℕ) → file ≢ journal → IsOn file journal x → OfEffect x (get c file) (get c journal) (λ e. Works e file journal c d r)
 
 abbrev pub ShowsOn : {T : Type 0} → FileMap → Result T Fault → Report → Command → Type 0
-ShowsOn c r s x = (file journal : List ℕ) → IsOn file journal x → (h : Option History) → GoodIn c file journal h → OnOk r (s ≡ report_of x h)
+ShowsOn c r s x = (file journal : List ℕ) → IsOn file journal x → (h : Option History) → GoodIn c file journal h → OnOk r (Shows (file_of x) (report_of x h) s)
 
 abbrev pub ListsOn : {T : Type 0} → FileMap → Result T Fault → List ℕ → Command → Type 0
 ListsOn c r o x = (file journal : List ℕ) → IsOn file journal x → OnOk r (IsListing x (get c file) (get c journal) o)
@@ -33,6 +35,10 @@ ExpectsOn c r m x = (file journal : List ℕ) → IsOn file journal x → Report
 
 abbrev pub OthersOn : FileMap → FileMap → Command → Type 0
 OthersOn c d x = (q : List ℕ) → IsNotNamed q x → get d q ≡ get c q
+
+-- nothing is shown
+pub empty_shows : (file : List ℕ) (s : Report) → s ≡ nothing → Shows file showing_nothing s
+empty_shows file s empty = record { output = ap (λ (x : Report). x.printed) empty; is_match = ap (λ (x : Report). x.is_match) empty }
 
 -- ---- by the names of a file and a journal
 
@@ -68,10 +74,13 @@ module _ (s t f j : List ℕ) (file_is : s ≡ f) (journal_is : t ≡ j) where
       by_names (λ u v. u ≢ v → Works (update_effect x (program_in x) (get c u) (get c v)) u v c d r) file journal on
       (subst (λ y. s ≢ t → Works (update_effect y (program_in y) (get c s) (get c t)) s t c d r) is h) apart
 
-  pub update_edits : (c d : FileMap) {T : Type 0} (r : Result T Fault) (e x : List ℕ) → e ≡ x → (s ≢ t → OnOk r (IsFileEdited e (get c s) (get d s))) → OnOk r (f ≢ j → IsFileEdited x (get c f) (get d f))
-  update_edits c d (Ok v) e x is h = λ apart.
-      subst (λ y. IsFileEdited y (get c f) (get d f)) is (subst (λ y. IsFileEdited e (get c y) (get d y)) file_is (h (λ same. apart (sym file_is ∙ same ∙ journal_is))))
-  update_edits c d (Err q) e x is h = tt
+  pub update_edits : (c d : FileMap) {T : Type 0} (r : Result T Fault) (b : Bool) (o : List ℕ) (e x : List ℕ) → e ≡ x →
+      (s ≢ t → OnOk r (IsFileEdited e (get c s) (get d s) × PrintsChange b s (get c s) (get d s) o)) →
+      OnOk r (f ≢ j → IsFileEdited x (get c f) (get d f) × PrintsChange b f (get c f) (get d f) o)
+  update_edits c d (Ok v) b o e x is h = λ apart.
+      subst (λ y. IsFileEdited y (get c f) (get d f) × PrintsChange b f (get c f) (get d f) o) is
+      (subst (λ y. IsFileEdited e (get c y) (get d y) × PrintsChange b y (get c y) (get d y) o) file_is (h (λ same. apart (sym file_is ∙ same ∙ journal_is))))
+  update_edits c d (Err q) b o e x is h = tt
 
   pub update_expects : (c : FileMap) {T : Type 0} (r : Result T Fault) (m b : Bool) (e x : List ℕ) → e ≡ x →
       OnOk r (m ≡ works_as_expected b (update_effect e (program_in e) (get c s) (get c t))) →
@@ -80,13 +89,37 @@ module _ (s t f j : List ℕ) (file_is : s ≡ f) (journal_is : t ≡ j) where
       by_names (λ u v. OnOk r (m ≡ works_as_expected b (update_effect x (program_in x) (get c u) (get c v)))) file journal on
       (subst (λ y. OnOk r (m ≡ works_as_expected b (update_effect y (program_in y) (get c s) (get c t)))) is h)
 
-  pub update_shows : (c : FileMap) {T : Type 0} (r : Result T Fault) (o : Report) (options : EvalOptions) (e x : List ℕ) → e ≡ x → o.printed ≡ [] →
-      ((h : Option History) → GoodIn c s t h → OnOk r (o.is_match ≡ (report_edit options (program_in e) h).is_match)) →
-      (file journal : List ℕ) → (f ≡ file) × (j ≡ journal) → (h : Option History) → GoodIn c file journal h → OnOk r (o ≡ report_edit options (program_in x) h)
-  update_shows c r o options e x is silent matched file journal on =
-      by_names (λ u v. (h : Option History) → GoodIn c u v h → OnOk r (o ≡ report_edit options (program_in x) h)) file journal on
-      (subst (λ y. (h : Option History) → GoodIn c s t h → OnOk r (o ≡ report_edit options (program_in y) h)) is
-      (λ h good. same_report r o (report_edit options (program_in e) h) (silent ∙ report_silent options (program_in e) h) (matched h good)))
+  pub update_shows : (c : FileMap) {T : Type 0} (r : Result T Fault) (o : Report) (options : EvalOptions) (e x : List ℕ) → e ≡ x →
+      ((h : Option History) → GoodIn c s t h → OnOk r (Shows s (report_edit options (program_in e) h) o)) →
+      (file journal : List ℕ) → (f ≡ file) × (j ≡ journal) → (h : Option History) → GoodIn c file journal h → OnOk r (Shows f (report_edit options (program_in x) h) o)
+  update_shows c r o options e x is shows file journal on =
+      by_names (λ u v. (h : Option History) → GoodIn c u v h → OnOk r (Shows f (report_edit options (program_in x) h) o)) file journal on
+      (subst (λ y. (h : Option History) → GoodIn c s t h → OnOk r (Shows y (report_edit options (program_in x) h) o)) file_is
+      (subst (λ y. (h : Option History) → GoodIn c s t h → OnOk r (Shows s (report_edit options (program_in y) h) o)) is shows))
+
+  pub update_lists : (c : FileMap) {T : Type 0} (r : Result T Fault) (o : List ℕ) (b : Bool) (e x : List ℕ) → e ≡ x →
+      (s ≢ t → OnOk r (IsOutput s (output_by b (get c s) (update_effect e (program_in e) (get c s) (get c t))) o)) →
+      (file journal : List ℕ) → (f ≡ file) × (j ≡ journal) → OnOk r (f ≢ j → IsOutput f (output_by b (get c file) (update_effect x (program_in x) (get c file) (get c journal))) o)
+  update_lists c (Ok v) o b e x is shows file journal on = λ apart.
+      by_names (λ u v. IsOutput f (output_by b (get c u) (update_effect x (program_in x) (get c u) (get c v))) o) file journal on
+      (subst (λ y. IsOutput y (output_by b (get c s) (update_effect x (program_in x) (get c s) (get c t))) o) file_is
+      (subst (λ y. IsOutput s (output_by b (get c s) (update_effect y (program_in y) (get c s) (get c t))) o) is (shows (λ same. apart (sym file_is ∙ same ∙ journal_is)))))
+  update_lists c (Err q) o b e x is shows file journal on = tt
+
+  -- a listing
+  pub listing_shows : (c : FileMap) {T : Type 0} (r : Result T Fault) (o : Report) (diffs : Bool) →
+      ((h : Option History) → GoodIn c s t h → OnOk r (Shows s (showing (listing_output diffs h)) o)) →
+      (file journal : List ℕ) → (f ≡ file) × (j ≡ journal) → (h : Option History) → GoodIn c file journal h → OnOk r (Shows f (showing (listing_output diffs h)) o)
+  listing_shows c r o diffs shows file journal on =
+      by_names (λ u v. (h : Option History) → GoodIn c u v h → OnOk r (Shows f (showing (listing_output diffs h)) o)) file journal on
+      (subst (λ y. (h : Option History) → GoodIn c s t h → OnOk r (Shows y (showing (listing_output diffs h)) o)) file_is shows)
+
+  pub listing_lists : (c : FileMap) {T : Type 0} (r : Result T Fault) (o : List ℕ) (diffs : Bool) →
+      OnOk r (IsOutput s (printed_by (from_names c s t (listing_effect diffs))) o) →
+      (file journal : List ℕ) → (f ≡ file) × (j ≡ journal) → OnOk r (IsOutput f (printed_by (from_names c file journal (listing_effect diffs))) o)
+  listing_lists c r o diffs shows file journal on =
+      by_names (λ u v. OnOk r (IsOutput f (printed_by (from_names c u v (listing_effect diffs))) o)) file journal on
+      (subst (λ y. OnOk r (IsOutput y (printed_by (from_names c s t (listing_effect diffs))) o)) file_is shows)
 
 -- ---- by the name of a file, and the bytes of an expression that isn't carried out in place
 
@@ -99,11 +132,13 @@ module _ (s f : List ℕ) (file_is : s ≡ f) (e x : List ℕ) (is : e ≡ x) (o
       (subst (λ y. (k : Option History) → GoodIn c s journal k → Arrives d s journal (cause_in (evaluated options (program_in y) k)) k k r) is (h journal))
 
   pub evaluate_shows : (c : FileMap) {T : Type 0} (r : Result T Fault) (o : Report) →
-      ((journal : List ℕ) (h : Option History) → GoodIn c s journal h → OnOk r (o ≡ report_in (evaluated options (program_in e) h))) →
-      (file journal : List ℕ) → f ≡ file → (h : Option History) → GoodIn c file journal h → OnOk r (o ≡ report_in (evaluated options (program_in x) h))
+      ((journal : List ℕ) (h : Option History) → GoodIn c s journal h → OnOk r (Shows s (report_in (evaluated options (program_in e) h)) o)) →
+      (file journal : List ℕ) → f ≡ file → (h : Option History) → GoodIn c file journal h → OnOk r (Shows f (report_in (evaluated options (program_in x) h)) o)
   evaluate_shows c r o h file journal on =
-      subst (λ y. (k : Option History) → GoodIn c y journal k → OnOk r (o ≡ report_in (evaluated options (program_in x) k))) (file_is ∙ on)
-      (subst (λ y. (k : Option History) → GoodIn c s journal k → OnOk r (o ≡ report_in (evaluated options (program_in y) k))) is (h journal))
+      subst (λ y. (k : Option History) → GoodIn c y journal k → OnOk r (Shows f (report_in (evaluated options (program_in x) k)) o)) (file_is ∙ on)
+      (subst (λ y. (k : Option History) → GoodIn c s journal k → OnOk r (Shows y (report_in (evaluated options (program_in x) k)) o)) file_is
+      (subst (λ y. (k : Option History) → GoodIn c s journal k → OnOk r (Shows s (report_in (evaluated options (program_in y) k)) o)) is (h journal)))
 
-  pub evaluate_edits : (c : FileMap) {T : Type 0} (r : Result T Fault) (o : List ℕ) → OnOk r (PrintsEdited e (get c s) o) → OnOk r (PrintsEdited x (get c f) o)
-  evaluate_edits c r o h = subst (λ y. OnOk r (PrintsEdited y (get c f) o)) is (subst (λ y. OnOk r (PrintsEdited e (get c y) o)) file_is h)
+  pub evaluate_edits : (c : FileMap) {T : Type 0} (r : Result T Fault) (b : Bool) (o : List ℕ) → OnOk r (PrintsUpdate b e s (get c s) o) → OnOk r (PrintsUpdate b x f (get c f) o)
+  evaluate_edits c r b o h =
+      subst (λ y. OnOk r (PrintsUpdate b y f (get c f) o)) is (subst (λ y. OnOk r (PrintsUpdate b e y (get c y) o)) file_is h)

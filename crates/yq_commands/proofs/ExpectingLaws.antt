@@ -5,11 +5,11 @@ use Rattle.yq_semantics.specs.Program.{Program}
 use Rattle.yq_journal.{specs.History.{History, text_at}, specs.Refusals.most_records, specs.State.State}
 use Rattle.yq_args.specs.declared.eval_options.EvalOptions.{EvalOptions}
 use Rattle.yq_history.{specs.Causes.named, specs.Effects.{Effect, refuses, writes_nothing, writes_both}, specs.Pair.GoodIn}
-use Rattle.yq_history.{specs.Report.Report, specs.declared.fault.Fault.Fault, proofs.PairLaws.good_text}
+use Rattle.yq_history.{specs.Output.bytes, specs.declared.fault.Fault.Fault, proofs.PairLaws.good_text}
 use Rattle.yq_store.specs.FileMap.{FileMap}
 use Rattle.yq_commands.{specs.CommandEffects.{edit_effect, edit_writes}, specs.Edits.edit_record}
 use Rattle.yq_commands.specs.Editing.{EditOutcome, unreadable, refused, edited, program_edits}
-use Rattle.yq_commands.specs.Expecting.{changes_as_expected, edits_as_expected, report_edit, works_as_expected}
+use Rattle.yq_commands.specs.Expecting.{changes_as_expected, edits_as_expected, report_edit, showing_change, works_as_expected}
 use Rattle.yq_history.specs.declared.fault.Fault.TheVariants as fault
 
 -- where no change is expected, every effect is as expected
@@ -23,7 +23,7 @@ pub free_edit : (options : EvalOptions) (t u : List ℕ) → options.expect_chan
 free_edit options t u free = ap (λ b. not (b && bytes_eq u t)) free
 
 by_tests : (expects equal full : Bool) (x : Effect) → true ≡ works_as_expected expects x →
-    not (expects && equal) ≡ works_as_expected expects (if equal then writes_nothing [] else if full then refuses (named fault.JournalFull) else x)
+    not (expects && equal) ≡ works_as_expected expects (if equal then writes_nothing (bytes []) else if full then refuses (named fault.JournalFull) else x)
 by_tests true true full x is = refl
 by_tests false true full x is = refl
 by_tests true false true x is = refl
@@ -39,23 +39,12 @@ effect_expected options expr t (refused f) s = refl
 effect_expected options expr t (edited u cs) s =
     by_tests options.expect_change (bytes_eq u t) (nat_le most_records s.at) (edit_writes (edit_record expr cs (length t) (length u)) t u s) refl
 
--- and where that of its history is
-pub history_expected : (options : EvalOptions) (p : Program) (c : FileMap) (f j t : List ℕ) → get c f ≡ Some t → (h : Option History) → GoodIn c f j h →
-    edits_as_expected options t (program_edits p t) ≡ (report_edit options (Ok p) h).is_match
-history_expected options p c f j t there None good = let no : None ≡ Some t = sym good ∙ there in cc
-history_expected options p c f j t there (Some x) good =
-    ap (λ u. edits_as_expected options u (program_edits p u)) (sym (same_Some (text_at x) t (sym (good_text c f j (Some x) good) ∙ there)))
-
--- an edit in place prints nothing
-pub report_silent : (options : EvalOptions) (p : Result Program Fault) (h : Option History) → [] ≡ (report_edit options p h).printed
-report_silent options (Err f) h = refl
-report_silent options (Ok p) None = refl
-report_silent options (Ok p) (Some h) = refl
-
--- what is shown, by its parts
-pub same_report : {T : Type 0} (r : Result T Fault) (s t : Report) → s.printed ≡ t.printed → OnOk r (s.is_match ≡ t.is_match) → OnOk r (s ≡ t)
-same_report (Ok v) s t printed matched = λ i. record { printed = printed i; is_match = matched i }
-same_report (Err e) s t printed matched = tt
+-- what an edit in place shows of a text is what it shows of the file
+pub history_showing : (options : EvalOptions) (p : Program) (c : FileMap) (f j t : List ℕ) → get c f ≡ Some t → (h : Option History) → GoodIn c f j h →
+    showing_change options t (program_edits p t) ≡ report_edit options (Ok p) h
+history_showing options p c f j t there None good = let no : None ≡ Some t = sym good ∙ there in cc
+history_showing options p c f j t there (Some x) good =
+    ap (λ u. showing_change options u (program_edits p u)) (sym (same_Some (text_at x) t (sym (good_text c f j (Some x) good) ∙ there)))
 
 -- what is told, in other words
 pub matched_as : (T : Type 0) (r : Result T Fault) (m a b : Bool) → OnOk r (m ≡ a) → a ≡ b → OnOk r (m ≡ b)

@@ -1,7 +1,9 @@
 -- What a command leaves of the store's names, and a list of them.
-use Rattle.std.proofs.Common.{◌≡◌, ◌≢◌, ◌⊎◌, inl, inr, ℕ, Bool, true, false, ◌||◌, nat_le, length, ◌==◌, if◌then◌else◌, List, [], ◌∷◌, ◌++◌}
-use Rattle.std.proofs.Common.{Option, Some, None, Result, Ok, Err, OnOk, MatchBool, IfErr, sym, ap, ◌∙◌, subst, refl}
-use Rattle.std.{proofs.lemmas.List.Elements.{All-head, All-tail}, specs.Str.bytes_eq, specs.FinMap.get, specs.String.string_bytes}
+use Rattle.std.proofs.lemmas.Bool.{false≢true}
+use Rattle.std.proofs.Common.{◌&&◌, not, true≢false, ◌≡◌, ◌≢◌, ◌⊎◌, inl, inr, ℕ, Bool, true, false, ◌||◌, nat_le, length, ◌==◌}
+use Rattle.std.proofs.Common.{if◌then◌else◌, List, [], ◌∷◌, ◌++◌, Option, Some, None, Result, Ok, Err, OnOk, MatchBool, IfErr, sym, ap, ◌∙◌}
+use Rattle.std.{proofs.Common.{subst, refl}, proofs.lemmas.List.Elements.{All-head, All-tail}, specs.Str.bytes_eq, specs.FinMap.get}
+use Rattle.std.specs.String.{string_bytes}
 use Rattle.yq_semantics.specs.Program.{Program}
 use Rattle.yq_journal.{specs.declared.moves.Move.Move, specs.Good.{Good, journal_beside}, specs.History.History}
 use Rattle.yq_journal.specs.Refusals.{most_records, no_way, squash_fault}
@@ -9,74 +11,96 @@ use Rattle.yq_journal.specs.State.{State, journal_after, moved_text, with_move, 
 use Rattle.yq_commands.specs.declared.answer.Answer.{Answer}
 use Rattle.yq_commands.specs.Editing.{EditOutcome, unreadable, refused, edited, program_edits, program_in}
 use Rattle.yq_commands.specs.CommandEffects.{edit_effect, edit_writes, update_effect, OfEffect, IsListing, IsUnparsed, expression_fault}
-use Rattle.yq_commands.{specs.FileEdits.HasEdited, specs.Edits.edit_record, specs.CommandNames.{IsOn, IsNotNamed}}
+use Rattle.yq_commands.{specs.CommandEffects.output_by, specs.FileEdits.HasEdited, specs.Edits.edit_record}
+use Rattle.yq_commands.specs.CommandNames.{IsOn, IsNotNamed, file_of}
 use Rattle.yq_commands.specs.Lists.{answer_by, IsUnrelated, AllOnOrApart, Reply, IsAnswer, Goes, RunsAll, ReportsEffect, HasEffect, RunsTo}
-use Rattle.yq_commands.specs.Lists.{Keeps, ReportsUnparsed, is_accepted, is_inner_refusal}
-use Rattle.yq_commands.{specs.Expecting.{ReportsExpected, expects_change, works_as_expected}, specs.Prints.{report_of, prints}}
-use Rattle.yq_commands.{specs.CommandSteps.{cause_of, next_of}, proofs.ReplyLaws.{reply, reply-answer, reply-printed, no_refusal}}
-use Rattle.yq_commands.proofs.ListLaws.{arrived, not_true}
+use Rattle.yq_commands.specs.Lists.{Keeps, ReportsUnparsed, is_accepted, leaves_names}
+use Rattle.yq_commands.specs.Expecting.{ReportsExpected, expects_change, works_as_expected}
+use Rattle.yq_commands.{specs.Prints.{prints, prints_change, report_of}, specs.CommandSteps.{cause_of, next_of}}
+use Rattle.yq_commands.{proofs.ReplyLaws.{reply, reply-answer, reply-printed}, proofs.ListLaws.{arrived, not_true}}
 use Rattle.yq_args.specs.declared.command.Command.{Command}
 use Rattle.yq_args.specs.declared.command.Command.TheVariants.{Eval, Undo, Redo, History as Lists, Squash, Help}
 use Rattle.yq_history.{specs.declared.fault.Fault.Fault, specs.Causes.named}
 use Rattle.yq_history.specs.Effects.{Effect, refuses, writes_nothing, writes_both, from_settled, from_journal, from_pair, leads_to, goes_to}
 use Rattle.yq_history.specs.Effects.{move_effect, joins_to, squash_effect, listing_effect, printed_by, Works}
-use Rattle.yq_history.{specs.Faults.{is_outer_fault, is_output}, specs.Pair.{GoodIn, Arrives}, specs.Report.Report, proofs.EffectLaws.on_ok}
-use Rattle.yq_history.proofs.PairLaws.{same_pair}
+use Rattle.yq_history.{specs.Faults.{is_outer_fault, is_output}, specs.Output.{IsOutput, Shows, bytes}, specs.Pair.{GoodIn, Arrives}}
+use Rattle.yq_history.{specs.Report.Report, proofs.EffectLaws.on_ok, proofs.PairLaws.same_pair}
 use Rattle.yq_store.specs.FileMap.{FileMap}
 use Rattle.yq_journal.specs.declared.moves.Move.TheVariants as move
 use Rattle.yq_history.specs.declared.fault.Fault.TheVariants as fault
 
 -- ---- what effects print: of these but a listing nothing
 
-module _ (file journal : Option (List ℕ)) (go : List ℕ → State → Effect) (silent : (t : List ℕ) (s : State) → printed_by (go t s) ≡ []) where
-  from_silent : printed_by (from_pair file journal go) ≡ []
-  from_silent = elim file as (λ o. printed_by (from_pair o journal go) ≡ []) [
+module _ (file journal : Option (List ℕ)) (go : List ℕ → State → Effect) (silent : (t : List ℕ) (s : State) → printed_by (go t s) ≡ bytes []) where
+  from_silent : printed_by (from_pair file journal go) ≡ bytes []
+  from_silent = elim file as (λ o. printed_by (from_pair o journal go) ≡ bytes []) [
     | None ↦ refl
-    | Some t ↦ elim (journal_beside journal) as (λ o. printed_by (from_journal o t go) ≡ []) [
+    | Some t ↦ elim (journal_beside journal) as (λ o. printed_by (from_journal o t go) ≡ bytes []) [
       | None ↦ refl
-      | Some s ↦ elim (settled_beside s t) as (λ o. printed_by (from_settled o t go) ≡ []) [ None ↦ refl | Some z ↦ silent t z ]
+      | Some s ↦ elim (settled_beside s t) as (λ o. printed_by (from_settled o t go) ≡ bytes []) [ None ↦ refl | Some z ↦ silent t z ]
     ]
   ]
 
-move_silent : (step : Move) (t : List ℕ) (s : State) → printed_by (move_effect step t s) ≡ []
-move_silent step t s = elim (no_way s.records s.at step) as (λ o. printed_by (goes_to o (moved_text s.records s.at step t) (with_move s step t) (journal_after s step)) ≡ []) [
-  | None ↦ elim (moved_text s.records s.at step t) as (λ o. printed_by (leads_to o (with_move s step t) (journal_after s step)) ≡ []) [ None ↦ refl | Some u ↦ refl ]
+move_silent : (step : Move) (t : List ℕ) (s : State) → printed_by (move_effect step t s) ≡ bytes []
+move_silent step t s = elim (no_way s.records s.at step) as (λ o. printed_by (goes_to o (moved_text s.records s.at step t) (with_move s step t) (journal_after s step)) ≡ bytes []) [
+  | None ↦ elim (moved_text s.records s.at step t) as (λ o. printed_by (leads_to o (with_move s step t) (journal_after s step)) ≡ bytes []) [ None ↦ refl | Some u ↦ refl ]
   | Some y ↦ refl
 ]
 
-if_silent : (b : Bool) (x y : Effect) → printed_by x ≡ [] → printed_by y ≡ [] → printed_by (if b then x else y) ≡ []
+if_silent : (b : Bool) (x y : Effect) → printed_by x ≡ bytes [] → printed_by y ≡ bytes [] → printed_by (if b then x else y) ≡ bytes []
 if_silent true x y p q = p
 if_silent false x y p q = q
 
-squash_silent : (n : ℕ) (t : List ℕ) (s : State) → printed_by (squash_effect n t s) ≡ []
-squash_silent n t s = elim (squash_fault s n) as (λ o. printed_by (joins_to o n t (squashed s n)) ≡ []) [
-  | None ↦ if_silent (n == 1) (writes_nothing []) (writes_both t (squashed s n) (squashed s n)) refl refl
+squash_silent : (n : ℕ) (t : List ℕ) (s : State) → printed_by (squash_effect n t s) ≡ bytes []
+squash_silent n t s = elim (squash_fault s n) as (λ o. printed_by (joins_to o n t (squashed s n)) ≡ bytes []) [
+  | None ↦ if_silent (n == 1) (writes_nothing (bytes [])) (writes_both t (squashed s n) (squashed s n)) refl refl
   | Some y ↦ refl
 ]
 
-edit_silent : (expr : List ℕ) (o : EditOutcome) (t : List ℕ) (s : State) → printed_by (edit_effect expr o t s) ≡ []
+pub edit_silent : (expr : List ℕ) (o : EditOutcome) (t : List ℕ) (s : State) → printed_by (edit_effect expr o t s) ≡ bytes []
 edit_silent expr (unreadable old) t s = refl
 edit_silent expr (refused f) t s = refl
 edit_silent expr (edited u cs) t s =
     let left = edit_writes (edit_record expr cs (length t) (length u)) t u s in
     let full = refuses (named fault.JournalFull) in
-    if_silent (bytes_eq u t) (writes_nothing []) (if nat_le most_records s.at then full else left) refl (if_silent (nat_le most_records s.at) full left refl refl)
+    if_silent (bytes_eq u t) (writes_nothing (bytes [])) (if nat_le most_records s.at then full else left) refl (if_silent (nat_le most_records s.at) full left refl refl)
 
-update_silent : (expr : List ℕ) (p : Result Program Fault) (file journal : Option (List ℕ)) → printed_by (update_effect expr p file journal) ≡ []
+pub update_silent : (expr : List ℕ) (p : Result Program Fault) (file journal : Option (List ℕ)) → printed_by (update_effect expr p file journal) ≡ bytes []
 update_silent expr (Err f) file journal = refl
 update_silent expr (Ok p) file journal = from_silent file journal (λ t s. edit_effect expr (program_edits p t) t s) (λ t s. edit_silent expr (program_edits p t) t s)
 
--- what a command shows are the bytes of its effect
-shows_effect : {T : Type 0} (cmd : Command) (file journal : Option (List ℕ)) (r : Result T Fault) (s : Report) →
-    (prints cmd ≡ false → s.printed ≡ []) → OnOk r (IsListing cmd file journal s.printed) → OfEffect cmd file journal (λ x. OnOk r (s.printed ≡ printed_by x))
-shows_effect (Eval expr f j true options) file journal r s silent listed =
-    on_ok r (silent refl ∙ sym (update_silent (string_bytes expr) (program_in (string_bytes expr)) file journal))
-shows_effect (Eval expr f j false options) file journal r s silent listed = tt
-shows_effect (Undo f j) file journal r s silent listed = on_ok r (silent refl ∙ sym (from_silent file journal (move_effect move.Undo) (move_silent move.Undo)))
-shows_effect (Redo f j) file journal r s silent listed = on_ok r (silent refl ∙ sym (from_silent file journal (move_effect move.Redo) (move_silent move.Redo)))
-shows_effect (Lists f j) file journal r s silent listed = listed
-shows_effect (Squash n f j) file journal r s silent listed = on_ok r (silent refl ∙ sym (from_silent file journal (squash_effect n) (squash_silent n)))
-shows_effect Help file journal r s silent listed = tt
+on_ok_by : {T : Type 0} (A B : Type 0) (r : Result T Fault) → OnOk r (A → B) → A → OnOk r B
+on_ok_by A B (Ok v) h a = h a
+on_ok_by A B (Err e) h a = tt
+
+-- an edit in place is of a file and a journal of two names
+abbrev HasTwoNames : Command → Type 0
+HasTwoNames (Eval expr f j true options) = string_bytes f ≢ string_bytes j
+HasTwoNames _ = Unit {0}
+
+two_names : (cmd : Command) (f j : List ℕ) → f ≢ j → IsOn f j cmd → HasTwoNames cmd
+two_names (Eval expr x y true options) f j apart on = λ same. apart (sym on.0 ∙ same ∙ on.1)
+two_names (Eval expr x y false options) f j apart on = tt
+two_names (Undo x y) f j apart on = tt
+two_names (Redo x y) f j apart on = tt
+two_names (Lists x y diffs) f j apart on = tt
+two_names (Squash n x y) f j apart on = tt
+two_names Help f j apart on = tt
+
+-- what a command shows is the output of its effect
+shows_effect : {T : Type 0} (cmd : Command) (file journal : Option (List ℕ)) (r : Result T Fault) (s : Report) → HasTwoNames cmd →
+    (prints cmd ≡ false → prints_change cmd ≡ false → s.printed ≡ []) → OnOk r (IsListing cmd file journal s.printed) →
+    OfEffect cmd file journal (λ x. OnOk r (IsOutput (file_of cmd) (output_by (prints_change cmd) file x) s.printed))
+shows_effect (Eval expr f j true options) file journal r s apart silent listed = on_ok_by _ _ r listed apart
+shows_effect (Eval expr f j false options) file journal r s apart silent listed = tt
+shows_effect (Undo f j) file journal r s apart silent listed =
+    on_ok r (subst (λ o. IsOutput (string_bytes f) o s.printed) (sym (from_silent file journal (move_effect move.Undo) (move_silent move.Undo))) (silent refl refl))
+shows_effect (Redo f j) file journal r s apart silent listed =
+    on_ok r (subst (λ o. IsOutput (string_bytes f) o s.printed) (sym (from_silent file journal (move_effect move.Redo) (move_silent move.Redo))) (silent refl refl))
+shows_effect (Lists f j diffs) file journal r s apart silent listed = listed
+shows_effect (Squash n f j) file journal r s apart silent listed =
+    on_ok r (subst (λ o. IsOutput (string_bytes f) o s.printed) (sym (from_silent file journal (squash_effect n) (squash_silent n))) (silent refl refl))
+shows_effect Help file journal r s apart silent listed = tt
 
 -- ---- what a reply tells of an effect
 
@@ -90,22 +114,26 @@ reports_refused T (refuses z) f j c e y p = p
 reports_refused T (writes_nothing o) f j c e y p = p
 reports_refused T (writes_both u started s) f j c e y p = p
 
-module _ (b : Bool) (x : Effect) (f j : List ℕ) (c e : FileMap) where
+module _ (cmd : Command) (x : Effect) (f j : List ℕ) (c e : FileMap) where
   -- what an answer tells, with the bytes that are printed if it is one of those that print
   abbrev ReportsOf : Answer → List ℕ → Type 0
-  ReportsOf a o = ReportsEffect b x f j c e (reply a o).answer (reply a o).printed
+  ReportsOf a o = ReportsEffect cmd x f j c e (reply a o).answer (reply a o).printed
 
-  reports_by : (m : Bool) (o : List ℕ) → m ≡ works_as_expected b x → Works x f j c e {T = Unit {0}} (Ok tt) → o ≡ printed_by x → ReportsOf (answer_by m) o
+  -- the bytes are the output of the effect
+  abbrev IsOutputOf : List ℕ → Type 0
+  IsOutputOf o = IsOutput f (output_by (prints_change cmd) (get c f) x) o
+
+  reports_by : (m : Bool) (o : List ℕ) → m ≡ works_as_expected (expects_change cmd) x → Works x f j c e {T = Unit {0}} (Ok tt) → IsOutputOf o → ReportsOf (answer_by m) o
   reports_by true o is p q = (sym is, p, q)
   reports_by false o is p q = (sym is, p, q)
 
   reports_each : {T : Type 0} (r : Result T Fault) (a : Answer) (s : Report) →
-      IsAnswer r a s → IfErr r (λ y. is_output y ≡ false) → Works x f j c e r → OnOk r (s.printed ≡ printed_by x) → OnOk r (s.is_match ≡ works_as_expected b x) → ReportsOf a s.printed
+      IsAnswer r a s → IfErr r (λ y. is_output y ≡ false) → Works x f j c e r → OnOk r (IsOutputOf s.printed) → OnOk r (s.is_match ≡ works_as_expected (expects_change cmd) x) → ReportsOf a s.printed
   reports_each (Ok v) a s (inl is) no_output p o m = subst (λ y. ReportsOf y s.printed) (sym is) (reports_by s.is_match s.printed m (reports_done x f j c e v p) o)
-  reports_each (Ok v) a s (inr is) no_output p o m = subst (λ y. ReportsOf y s.printed) (sym is.0) (tt, refl)
+  reports_each (Ok v) a s (inr is) no_output p o m = subst (λ y. ReportsOf y s.printed) (sym is.0) (reports_done x f j c e v p, refl)
   reports_each {T = T} (Err y) a s is no_output p o m =
       subst (λ z. ReportsOf z s.printed) (sym is)
-      (subst (λ b. MatchBool b (Unit {0}) (Works x f j c e {T = Unit {0}} (Err y))) (sym no_output) (reports_refused T x f j c e y p), refl)
+      (subst (λ b. MatchBool b (Works x f j c e {T = Unit {0}} (Ok tt)) (Works x f j c e {T = Unit {0}} (Err y))) (sym no_output) (reports_refused T x f j c e y p), refl)
 
 of_effect : (cmd : Command) (file journal : Option (List ℕ)) (P R Q : Effect → Type 0) →
     ((x : Effect) → P x → R x → Q x) → OfEffect cmd file journal P → OfEffect cmd file journal R → OfEffect cmd file journal Q
@@ -113,7 +141,7 @@ of_effect (Eval expr f j true options) file journal P R Q more p q = more (updat
 of_effect (Eval expr f j false options) file journal P R Q more p q = tt
 of_effect (Undo f j) file journal P R Q more p q = more (from_pair file journal (move_effect move.Undo)) p q
 of_effect (Redo f j) file journal P R Q more p q = more (from_pair file journal (move_effect move.Redo)) p q
-of_effect (Lists f j) file journal P R Q more p q = more (from_pair file journal listing_effect) p q
+of_effect (Lists f j diffs) file journal P R Q more p q = more (from_pair file journal (listing_effect diffs)) p q
 of_effect (Squash n f j) file journal P R Q more p q = more (from_pair file journal (squash_effect n)) p q
 of_effect Help file journal P R Q more p q = tt
 
@@ -123,10 +151,10 @@ of_effect Help file journal P R Q more p q = tt
 pub record IsDone {T : Type 0} (c e : FileMap) (cmd : Command) (r : Result T Fault) (a : Answer) (s : Report) : Type 0 where
   pub answered : IsAnswer r a s
   pub arrives : (f j : List ℕ) → f ≢ j → IsOn f j cmd → (h : Option History) → GoodIn c f j h → Arrives e f j (cause_of cmd h) h (next_of cmd h) r
-  pub output : (f j : List ℕ) → IsOn f j cmd → (h : Option History) → GoodIn c f j h → OnOk r (s ≡ report_of cmd h)
+  pub output : (f j : List ℕ) → IsOn f j cmd → (h : Option History) → GoodIn c f j h → OnOk r (Shows (file_of cmd) (report_of cmd h) s)
   pub effect : (f j : List ℕ) → f ≢ j → IsOn f j cmd → OfEffect cmd (get c f) (get c j) (λ x. Works x f j c e r)
   pub listed : (f j : List ℕ) → IsOn f j cmd → OnOk r (IsListing cmd (get c f) (get c j) s.printed)
-  pub silent : prints cmd ≡ false → s.printed ≡ []
+  pub silent : prints cmd ≡ false → prints_change cmd ≡ false → s.printed ≡ []
   pub expected : (f j : List ℕ) → IsOn f j cmd → ReportsExpected r s.is_match cmd c f j
   pub still : prints cmd ≡ true → e ≡ c
   pub kept : IfErr r (λ x. is_outer_fault x ≡ false → e ≡ c)
@@ -135,11 +163,39 @@ pub record IsDone {T : Type 0} (c e : FileMap) (cmd : Command) (r : Result T Fau
   pub edited : OnOk r (HasEdited cmd c e s.printed)
   pub unparsed : (f : Fault) → expression_fault cmd ≡ Some f → IsUnparsed f r
 
--- a refusal from inside left the content
-kept_by : {T : Type 0} (c e : FileMap) (r : Result T Fault) (a : Answer) (s : Report) → IsAnswer r a s → s.printed ≡ [] → is_inner_refusal a ≡ true → IfErr r (λ x. is_outer_fault x ≡ false → e ≡ c) → e ≡ c
-kept_by c e (Ok v) a s (inl is) silent k same = let no : false ≡ true = sym (ap is_inner_refusal is ∙ no_refusal s.is_match) ∙ k in cc
-kept_by c e (Ok v) a s (inr is) silent k same = absurd (is.1 silent)
-kept_by c e (Err x) a s is silent k same = same (not_true (is_outer_fault x) (sym (ap is_inner_refusal is) ∙ k))
+-- a command on a file names it
+on_file : (cmd : Command) (f j : List ℕ) → IsOn f j cmd → file_of cmd ≡ f
+on_file (Eval expr x y true options) f j on = on.0
+on_file (Eval expr x y false options) f j on = on
+on_file (Undo x y) f j on = on.0
+on_file (Redo x y) f j on = on.0
+on_file (Lists x y diffs) f j on = on.0
+on_file (Squash n x y) f j on = on.0
+on_file Help f j on = absurd on
+
+-- of tests for whether a refusal left the names, those that hold
+leaves_outside : (p q r : Bool) → p ≡ false → (p || (q && r)) ≡ true → (q ≡ true) × (r ≡ true)
+leaves_outside true q r none holds = absurd (true≢false none)
+leaves_outside false true true none holds = (refl, refl)
+leaves_outside false true false none holds = absurd (false≢true holds)
+leaves_outside false false r none holds = absurd (false≢true holds)
+
+not_and : (q : Bool) → not (q && true) ≡ true → q ≡ false
+not_and true holds = absurd (false≢true holds)
+not_and false holds = refl
+
+leaves_accepted : (cmd : Command) (m : Bool) → leaves_names cmd (answer_by m) ≡ prints cmd
+leaves_accepted cmd true = refl
+leaves_accepted cmd false = refl
+
+-- a refusal that leaves the names left the content
+kept_by : {T : Type 0} (c e : FileMap) (cmd : Command) (r : Result T Fault) (a : Answer) (s : Report) → IsAnswer r a s → (prints_change cmd ≡ false → s.printed ≡ []) → prints cmd ≡ false →
+    leaves_names cmd a ≡ true → IfErr r (λ x. is_outer_fault x ≡ false → e ≡ c) → e ≡ c
+kept_by c e cmd (Ok v) a s (inl is) silent none k same = absurd (false≢true (sym (ap (leaves_names cmd) is ∙ leaves_accepted cmd s.is_match ∙ none) ∙ k))
+kept_by c e cmd (Ok v) a s (inr is) silent none k same =
+    absurd (is.1 (silent (not_and (prints_change cmd) (leaves_outside (prints cmd) true _ none (sym (ap (leaves_names cmd) is.0) ∙ k)).1)))
+kept_by c e cmd (Err x) a s is silent none k same =
+    same (not_true (is_outer_fault x) (leaves_outside (prints cmd) (not (is_outer_fault x)) _ none (sym (ap (leaves_names cmd) is) ∙ k)).0)
 
 -- what was accepted of an edit
 edited_by : {T : Type 0} (c e : FileMap) (cmd : Command) (r : Result T Fault) (a : Answer) (s : Report) → IsAnswer r a s → OnOk r (HasEdited cmd c e s.printed) →
@@ -165,20 +221,21 @@ module _ {T : Type 0} (c e : FileMap) (cmd : Command) (r : Result T Fault) (a : 
 
   has_effect : HasEffect cmd (reply a s.printed) c e
   has_effect = λ f j apart on.
-      let shown = λ (x : Effect). OnOk r (s.printed ≡ printed_by x) in
+      let shown = λ (x : Effect). OnOk r (IsOutput f (output_by (prints_change cmd) (get c f) x) s.printed) in
       let matched = λ (x : Effect). OnOk r (s.is_match ≡ works_as_expected (expects_change cmd) x) in
-      of_effect cmd (get c f) (get c j) (λ x. Works x f j c e r) (λ x. shown x × matched x) (λ x. ReportsOf (expects_change cmd) x f j c e a s.printed)
-      (λ x works has. reports_each (expects_change cmd) x f j c e r a s k.answered k.no_output works has.0 has.1) (k.effect f j apart on)
+      of_effect cmd (get c f) (get c j) (λ x. Works x f j c e r) (λ x. shown x × matched x) (λ x. ReportsOf cmd x f j c e a s.printed)
+      (λ x works has. reports_each cmd x f j c e r a s k.answered k.no_output works has.0 has.1) (k.effect f j apart on)
       (of_effect cmd (get c f) (get c j) shown matched (λ x. shown x × matched x) (λ x p q. (p, q))
-      (shows_effect cmd (get c f) (get c j) r s k.silent (k.listed f j on)) (k.expected f j on))
+      (subst (λ y. OfEffect cmd (get c f) (get c j) (λ x. OnOk r (IsOutput y (output_by (prints_change cmd) (get c f) x) s.printed))) (on_file cmd f j on)
+      (shows_effect cmd (get c f) (get c j) r s (two_names cmd f j apart on) k.silent (k.listed f j on))) (k.expected f j on))
 
   -- what a command leaves
   pub left_by : RunsTo cmd (reply a s.printed) c e
   left_by = record {
-    all = λ holds. elim (prints cmd) as (λ b. prints cmd ≡ b → (b || is_inner_refusal (reply a s.printed).answer) ≡ true → e ≡ c) [
-      | true ↦ λ p q. k.still p
-      | false ↦ λ p q. kept_by c e r a s k.answered (k.silent p) (sym (ap is_inner_refusal (reply-answer a s.printed)) ∙ q) k.kept
-    ] refl holds;
+    all = λ holds. elim (prints cmd) as (λ b. prints cmd ≡ b → e ≡ c) [
+      | true ↦ λ p. k.still p
+      | false ↦ λ p. kept_by c e cmd r a s k.answered (k.silent p) p (sym (ap (leaves_names cmd) (reply-answer a s.printed)) ∙ holds) k.kept
+    ] refl;
     others = k.others;
     effect = has_effect;
     steps = λ f j apart fits h good. goes_on f j apart fits h good;

@@ -1,6 +1,6 @@
 -- Runs of commands.
-use Rattle.std.proofs.Common.{◌≡◌, ◌≢◌, ◌⊎◌, inl, inr, ℕ, ◌+◌, Bool, true, false, ◌&&◌, not, nat_le, if◌then◌else◌, List, [], ◌∷◌, Option}
-use Rattle.std.proofs.Common.{Some, None, Result, Ok, Err, OnOk, MatchBool, IfErr, option_map, sym, ap, ◌∙◌, subst, refl, arith}
+use Rattle.std.proofs.Common.{◌≡◌, ◌⊎◌, inl, inr, ℕ, ◌+◌, Bool, true, false, ◌&&◌, not, nat_le, if◌then◌else◌, List, [], ◌∷◌, Option, Some}
+use Rattle.std.proofs.Common.{None, Result, Ok, Err, OnOk, MatchBool, IfErr, option_map, sym, ap, ◌∙◌, subst, refl, arith}
 use Rattle.std.{proofs.lemmas.Bool.and_parts, proofs.lemmas.Option.none-some, specs.List.list_all, specs.Str.bytes_eq}
 use Rattle.std.specs.String.{string_bytes}
 use Rattle.yq_semantics.specs.Program.{Program}
@@ -10,31 +10,21 @@ use Rattle.yq_commands.{specs.declared.answer.Answer.Answer, specs.declared.answ
 use Rattle.yq_commands.specs.Editing.{EditOutcome, unreadable, refused, edited, program_edits, program_in}
 use Rattle.yq_commands.specs.Lists.{answer_by, Reply, answers_in, IsAnswer, CommandRefused, IsCarriedOut, RunsCommand, Goes, RunsAll}
 use Rattle.yq_commands.specs.Lists.{IsReply, GoesExactly, RunExactly, reports_failure, reports_output, count_passing, failures_in}
-use Rattle.yq_commands.{specs.Lists.{output_failures_in, is_memory, has_memory}, specs.Prints.report_of, proofs.ExpectingLaws.report_silent}
+use Rattle.yq_commands.{specs.Lists.{output_failures_in, is_memory, has_memory}, specs.Prints.report_of, specs.CommandNames.file_of}
 use Rattle.yq_commands.{specs.CommandSteps.{cause_of, next_of, edit_cause, edit_next, update_cause, update_next}, proofs.ReplyLaws.reply}
 use Rattle.yq_args.specs.declared.command.Command.{Command}
 use Rattle.yq_args.specs.declared.command.Command.TheVariants.{Eval, Undo, Redo, History as Lists, Squash, Help}
 use Rattle.yq_history.{specs.declared.fault.Fault.Fault, specs.Causes.{Cause, IsFor, named}}
-use Rattle.yq_history.{specs.Faults.{is_failure, is_outer_fault, is_output, of_fault}, specs.Pair.{GoodIn, Arrives}, specs.Report.Report}
+use Rattle.yq_history.{specs.Faults.{is_failure, is_outer_fault, is_output, of_fault}, specs.Output.{Showing, Shows}}
+use Rattle.yq_history.{specs.Pair.{GoodIn, Arrives}, specs.Report.Report}
 use Rattle.yq_history.specs.Steps.{unless_fault, move_cause, move_next, squash_cause, squash_next}
 use Rattle.yq_store.specs.FileMap.{FileMap}
 use Rattle.yq_journal.specs.declared.moves.Move.TheVariants as move
 use Rattle.yq_history.specs.declared.fault.Fault.TheVariants as fault
 
--- a command that prints leaves its history
-printing_stays : (c : Command) (h : Option History) → (report_of c h).printed ≢ [] → next_of c h ≡ h
-printing_stays (Eval expr file journal true options) h some =
-    absurd (some (sym (report_silent options (program_in (string_bytes expr)) h)))
-printing_stays (Eval expr file journal false options) h some = refl
-printing_stays (Undo file journal) h some = absurd (some refl)
-printing_stays (Redo file journal) h some = absurd (some refl)
-printing_stays (Lists file journal) h some = refl
-printing_stays (Squash n file journal) h some = absurd (some refl)
-printing_stays Help h some = refl
-
 module _ (c : Command) (h k : Option History) (x : Fault) (no_output : is_output x ≡ false) where
   by_output : MatchBool (is_outer_fault x) ((k ≡ h) ⊎ (k ≡ next_of c h)) (IsFor (cause_of c h) x × (k ≡ h)) → CommandRefused c h x k
-  by_output p = subst (λ b. MatchBool b ((cause_of c h ≡ None) × (k ≡ h)) (MatchBool (is_outer_fault x) ((k ≡ h) ⊎ (k ≡ next_of c h)) (IsFor (cause_of c h) x × (k ≡ h)))) (sym no_output) p
+  by_output p = subst (λ b. MatchBool b ((cause_of c h ≡ None) × (k ≡ next_of c h)) (MatchBool (is_outer_fault x) ((k ≡ h) ⊎ (k ≡ next_of c h)) (IsFor (cause_of c h) x × (k ≡ h)))) (sym no_output) p
 
   outside_refused : is_outer_fault x ≡ true → (k ≡ h) ⊎ (k ≡ next_of c h) → CommandRefused c h x k
   outside_refused out p = by_output (subst (λ b. MatchBool b ((k ≡ h) ⊎ (k ≡ next_of c h)) (IsFor (cause_of c h) x × (k ≡ h))) (sym out) p)
@@ -55,17 +45,16 @@ module _ (e : FileMap) (f j : List ℕ) (c : Command) (h : Option History) where
 
   -- a command that arrives is a step
   pub arrived : {T : Type 0} (r : Result T Fault) (a : Answer) (s : Report) →
-      IsAnswer r a s → OnOk r (s ≡ report_of c h) → IfErr r (λ x. is_output x ≡ false) → Arrives e f j (cause_of c h) h (next_of c h) r →
+      IsAnswer r a s → OnOk r (Shows (file_of c) (report_of c h) s) → IfErr r (λ x. is_output x ≡ false) → Arrives e f j (cause_of c h) h (next_of c h) r →
       (k : Option History) × RunsCommand c h (reply a s.printed).answer (reply a s.printed).printed k × GoodIn e f j k
   arrived (Ok v) a s (inl is) shows no_output p = (
     next_of c h,
     subst (λ y. RunsCommand c h (reply y s.printed).answer (reply y s.printed).printed (next_of c h)) (sym is)
-        (carried_out s.is_match s.printed (next_of c h) (p.0, ap (λ (x : Report). x.is_match) shows, ap (λ (x : Report). x.printed) shows, refl)),
+        (carried_out s.is_match s.printed (next_of c h) (p.0, shows.is_match, shows.output, refl)),
     p.1,
   )
   arrived (Ok v) a s (inr is) shows no_output p =
-      let stays : next_of c h ≡ h = printing_stays c h (λ none. is.1 (ap (λ (x : Report). x.printed) shows ∙ none)) in
-      (h, subst (λ y. RunsCommand c h (reply y s.printed).answer (reply y s.printed).printed h) (sym is.0) (refl, (p.0, refl)), subst (GoodIn e f j) stays p.1)
+      (next_of c h, subst (λ y. RunsCommand c h (reply y s.printed).answer (reply y s.printed).printed (next_of c h)) (sym is.0) (refl, (p.0, refl)), p.1)
   arrived (Err x) a s is shows no_output p =
       let k = refused_step x (is_outer_fault x) no_output refl p in
       (k.0, subst (λ y. RunsCommand c h (reply y s.printed).answer (reply y s.printed).printed k.0) (sym is) (refl, k.1), k.2)
@@ -107,7 +96,7 @@ stays (Eval expr file journal true options) h x is = update_stays (string_bytes 
 stays (Eval expr file journal false options) h x is = refl
 stays (Undo file journal) h x is = move_stays move.Undo h x is
 stays (Redo file journal) h x is = move_stays move.Redo h x is
-stays (Lists file journal) h x is = refl
+stays (Lists file journal diffs) h x is = refl
 stays (Squash n file journal) h x is = squash_stays n h x is
 stays Help h x is = refl
 
@@ -126,23 +115,23 @@ pub not_true : (b : Bool) → not b ≡ true → b ≡ false
 not_true true e = cc
 not_true false e = refl
 
-for_some : (o : Option Cause) (e : Fault) (s : Report) (r : Reply) → r.answer ≡ Refused e → r.printed ≡ [] → IsFor o e → IsReply o s r × ((x : Cause) × (o ≡ Some x))
-for_some None e s r is none f = absurd f
-for_some (Some x) e s r is none f = (((e, is, f), none), (x, refl))
+for_some : (f : List ℕ) (o : Option Cause) (e : Fault) (s : Showing) (r : Reply) → r.answer ≡ Refused e → r.printed ≡ [] → IsFor o e → IsReply f o s r × ((x : Cause) × (o ≡ Some x))
+for_some f None e s r is none why = absurd why
+for_some f (Some x) e s r is none why = (((e, is, why), none), (x, refl))
 
 inside_step : (c : Command) (h k : Option History) (e : Fault) → is_outer_fault e ≡ false → is_output e ≡ false → CommandRefused c h e k → IsFor (cause_of c h) e × (k ≡ h)
 inside_step c h k e out no_output s =
     subst (λ b. MatchBool b ((k ≡ h) ⊎ (k ≡ next_of c h)) (IsFor (cause_of c h) e × (k ≡ h))) out
-    (subst (λ b. MatchBool b ((cause_of c h ≡ None) × (k ≡ h)) (MatchBool (is_outer_fault e) ((k ≡ h) ⊎ (k ≡ next_of c h)) (IsFor (cause_of c h) e × (k ≡ h)))) no_output s)
+    (subst (λ b. MatchBool b ((cause_of c h ≡ None) × (k ≡ next_of c h)) (MatchBool (is_outer_fault e) ((k ≡ h) ⊎ (k ≡ next_of c h)) (IsFor (cause_of c h) e × (k ≡ h)))) no_output s)
 
-exact_step : (c : Command) (h k : Option History) (r : Reply) (a : Answer) → r.answer ≡ a → RunsCommand c h a r.printed k → is_inside a ≡ true → IsReply (cause_of c h) (report_of c h) r × (k ≡ next_of c h)
-exact_step c h k r Done is s i = (subst (λ o. IsReply o (report_of c h) r) (sym s.0) (is ∙ ap answer_by s.1, s.2), s.3)
-exact_step c h k r NoMatch is s i = (subst (λ o. IsReply o (report_of c h) r) (sym s.0) (is ∙ ap answer_by s.1, s.2), s.3)
+exact_step : (c : Command) (h k : Option History) (r : Reply) (a : Answer) → r.answer ≡ a → RunsCommand c h a r.printed k → is_inside a ≡ true → IsReply (file_of c) (cause_of c h) (report_of c h) r × (k ≡ next_of c h)
+exact_step c h k r Done is s i = (subst (λ o. IsReply (file_of c) o (report_of c h) r) (sym s.0) (is ∙ ap answer_by s.1, s.2), s.3)
+exact_step c h k r NoMatch is s i = (subst (λ o. IsReply (file_of c) o (report_of c h) r) (sym s.0) (is ∙ ap answer_by s.1, s.2), s.3)
 exact_step c h k r (Refused e) is s i =
     let out = not_true (is_outer_fault e) (and_parts (not (is_outer_fault e)) (not (is_output e)) i).0 in
     let no_output = not_true (is_output e) (and_parts (not (is_outer_fault e)) (not (is_output e)) i).1 in
     let p = inside_step c h k e out no_output s.1 in
-    let q = for_some (cause_of c h) e (report_of c h) r is s.0 p.0 in
+    let q = for_some (file_of c) (cause_of c h) e (report_of c h) r is s.0 p.0 in
     (q.0, p.1 ∙ sym (stays c h q.1.0 q.1.1))
 
 exact_goes : (f j : List ℕ) (c : Command) (h k : Option History) (r : Reply) → Goes f j c h r k → is_inside r.answer ≡ true → GoesExactly f j c h r k

@@ -1,6 +1,7 @@
 -- What is shown of a file, by what is shown of its text.
 use Rattle.std.proofs.Common.{◌≡◌, ◌≢◌, inl, true, false, ℕ, List, Option, Some, None, option_map, Result, Ok, Err, IfErr, sym, ap, ◌∙◌}
-use Rattle.std.{proofs.Common.{subst, refl, true≢false}, proofs.lemmas.Option.same_Some, specs.FinMap.get, specs.Str.is_utf8}
+use Rattle.std.{proofs.Common.{subst, refl, true≢false, if◌then◌else◌, IfOk}, proofs.lemmas.Option.same_Some, specs.FinMap.get}
+use Rattle.std.specs.Str.{is_utf8}
 use Rattle.yq_core.{specs.Answers.ReadFails, specs.Tree.Node, specs.declared.fault.ReadError.ReadError}
 use Rattle.yq_places.specs.Answers.{IsNotUtf8}
 use Rattle.yq_documents.{specs.Documents.Document, specs.Reading.{documents, read_at}}
@@ -9,15 +10,18 @@ use Rattle.yq_semantics.specs.Program.{Program, Stage, is_read, read, updates}
 use Rattle.yq_journal.specs.History.{History, text_at}
 use Rattle.yq_history.{specs.declared.fault.Fault.Fault, specs.declared.fault.Fault.TheVariants.{OutOfMemory, Unreadable}}
 use Rattle.yq_history.{specs.Causes.{Cause, IsFor, named, no_reading, IsUnreadable}, specs.Faults.{is_outer_fault, fault_of_reading}}
-use Rattle.yq_history.{specs.Pair.{Arrives, GoodIn}, specs.Report.Report, proofs.MoveLaws.{cut, is_refused}}
-use Rattle.yq_history.proofs.PairLaws.{good_text, same_pair}
+use Rattle.yq_history.{specs.Pair.{Arrives, GoodIn}, specs.Report.{Report, report_by}, proofs.MoveLaws.{cut, is_refused}}
+use Rattle.yq_history.{specs.Output.{Showing, Shows, showing_by, IsOutput, bytes, diff}, proofs.PairLaws.{good_text, same_pair}}
 use Rattle.yq_store.specs.FileMap.{FileMap}
 use Rattle.yq_args.specs.declared.eval_options.EvalOptions.{EvalOptions}
 use Rattle.yq_commands.specs.Editing.{EditOutcome, unreadable, refused, edited, Refuses, program_edits}
 use Rattle.yq_commands.specs.CommandFaults.{of_refusal, of_matching}
-use Rattle.yq_commands.specs.Evaluation.{of_file, show_edit, show_found, show_read, shows, cause_in, report_in}
-use Rattle.yq_commands.proofs.EditingLaws.{unread_text}
+use Rattle.yq_commands.specs.Evaluation.{of_file, IsShowing, show_edit, show_found, show_read, shows, cause_in, report_in, edit_output}
+use Rattle.yq_commands.{proofs.EditingLaws.unread_text, specs.Expecting.{change_output, changes_as_expected}}
+use Rattle.yq_commands.specs.FileEdits.{IsTextEdited, PrintsEdit}
+use Rattle.yq_text.specs.Splice.{Splice}
 use Rattle.yq_core.specs.declared.fault.ReadError.TheVariants as reading
+use Rattle.yq_history.specs.declared.report.Report as declared
 use Rattle.yq_semantics.specs.Judgement as judgement
 use Rattle.yq_semantics.specs.declared.expr_error.ExprError.TheVariants as matching
 
@@ -85,7 +89,15 @@ module _ (options : EvalOptions) (t : List ℕ) where
 
 -- ---- of a file
 
-module _ (c e : FileMap) (f j : List ℕ) (of_text : List ℕ → Result Report Cause) (t : List ℕ) (same : e ≡ c) (file_is : get c f ≡ Some t) where
+is_showing : (name : List ℕ) (r : Result Showing Cause) (s : Report) → IsShowing name r s → (due : Showing) × (r ≡ Ok due) × Shows name due s
+is_showing name (Ok due) s shows = (due, refl, shows)
+is_showing name (Err x) s shows = absurd shows
+
+-- what a read shows are these bytes
+read_showing : (name : List ℕ) (r : Result Showing Cause) (s : declared.Report) → r ≡ Ok (showing_by s) → IsShowing name r (report_by s)
+read_showing name r s is = subst (λ x. IsShowing name x (report_by s)) (sym is) (record { output = refl; is_match = refl })
+
+module _ (c e : FileMap) (f j : List ℕ) (of_text : List ℕ → Result Showing Cause) (t : List ℕ) (same : e ≡ c) (file_is : get c f ≡ Some t) where
   -- a file that is there has a history, of which it is the text at the cursor
   there : (h : Option History) → GoodIn c f j h → (x : History) × (h ≡ Some x) × (text_at x ≡ t)
   there None good = let no : None ≡ Some t = sym good ∙ file_is in cc
@@ -107,8 +119,43 @@ module _ (c e : FileMap) (f j : List ℕ) (of_text : List ℕ → Result Report 
     ] refl
 
     -- it was carried out on it
-    pub show_done : {T : Type 0} (v : T) (s : Report) → of_text t ≡ Ok s → Arrives e f j (cause_in (of_file of_text h)) h h {T = T} (Ok v)
-    show_done v s is = (ap cause_in (file_shows ∙ is), still_good)
+    pub show_done : {T : Type 0} (v : T) (name : List ℕ) (s : Report) → IsShowing name (of_text t) s → Arrives e f j (cause_in (of_file of_text h)) h h {T = T} (Ok v)
+    show_done v name s shows = let x = is_showing name (of_text t) s shows in (ap cause_in (file_shows ∙ x.1), still_good)
 
-    pub report_is : (s : Report) → of_text t ≡ Ok s → s ≡ report_in (of_file of_text h)
-    report_is s is = sym (ap report_in (file_shows ∙ is))
+    pub report_is : (name : List ℕ) (s : Report) → IsShowing name (of_text t) s → Shows name (report_in (of_file of_text h)) s
+    report_is name s shows =
+        let x = is_showing name (of_text t) s shows in
+        subst (λ due. Shows name due s) (sym (ap report_in (file_shows ∙ x.1))) x.2
+
+-- ---- an update that is shown
+
+-- by the new text, or with `--diff` by what changed
+pub edit_showing : (options : EvalOptions) (file t u : List ℕ) (changes : List Splice) (p : Program) (s : Report) → is_read p ≡ false → program_edits p t ≡ edited u changes →
+    IsOutput file (edit_output options t u) s.printed → s.is_match ≡ changes_as_expected options t u → IsShowing file (shows options p t) s
+edit_showing options file t u changes p s update gives output is_match =
+    subst (λ r. IsShowing file r s) (sym (edit_shows options t p update ∙ ap (show_edit options t) gives)) (record { output = output; is_match = is_match })
+
+-- the output, by whether a diff is asked for
+pub text_output : (options : EvalOptions) (file t u printed : List ℕ) → options.diff ≡ false → printed ≡ u → IsOutput file (edit_output options t u) printed
+text_output options file t u printed off is = subst (λ b. IsOutput file (if b then diff t u else bytes u) printed) (sym off) is
+
+pub diff_output : (options : EvalOptions) (file t u : List ℕ) (changes : List Splice) (o : EditOutcome) (printed : List ℕ) → options.diff ≡ true → o ≡ edited u changes →
+    IsOutput file (change_output options.diff t o) printed → IsOutput file (edit_output options t u) printed
+diff_output options file t u changes o printed on gives shows =
+    subst (λ b. IsOutput file (if b then diff t u else bytes u) printed) (sym on)
+    (subst (λ x. IsOutput file (change_output true t x) printed) gives (subst (λ b. IsOutput file (change_output b t o) printed) on shows))
+
+-- what was printed of it
+pub text_printed : (options : EvalOptions) (file t printed : List ℕ) (p : Program) → options.diff ≡ false → IsTextEdited p t printed → PrintsEdit options.diff file p t printed
+text_printed options file t printed p off edited_to = subst (λ b. PrintsEdit b file p t printed) (sym off) edited_to
+
+pub diff_printed : (options : EvalOptions) (file t u : List ℕ) (changes : List Splice) (o : EditOutcome) (printed : List ℕ) (p : Program) → options.diff ≡ true → o ≡ edited u changes →
+    IsOutput file (change_output options.diff t o) printed → IsTextEdited p t u → PrintsEdit options.diff file p t printed
+diff_printed options file t u changes o printed p on gives shows edited_to =
+    subst (λ b. PrintsEdit b file p t printed) (sym on)
+    (u, edited_to, subst (λ x. IsOutput file (change_output true t x) printed) gives (subst (λ b. IsOutput file (change_output b t o) printed) on shows))
+
+-- a read that is shown
+pub read_shows : {E : Type 0} (name : List ℕ) (x : Result Showing Cause) (r : Result declared.Report E) → IfOk r (λ s. x ≡ Ok (showing_by s)) → IfOk r (λ s. IsShowing name x (report_by s))
+read_shows name x (Ok s) is = read_showing name x s is
+read_shows name x (Err e) is = tt

@@ -31,7 +31,7 @@ module _ {S T : Type 0} (leads : S → Call → S → Type 0) (r : Result T Faul
   CallsOf (Eval expr f j false options) s t = CallsOfEvaluation (string_bytes expr) (string_bytes f) s t
   CallsOf (Undo f j) s t = CallsOnPair leads r (string_bytes f) (string_bytes j) (move_effect move.Undo) s t
   CallsOf (Redo f j) s t = CallsOnPair leads r (string_bytes f) (string_bytes j) (move_effect move.Redo) s t
-  CallsOf (Lists f j) s t = CallsOnPair leads r (string_bytes f) (string_bytes j) listing_effect s t
+  CallsOf (Lists f j diffs) s t = CallsOnPair leads r (string_bytes f) (string_bytes j) (listing_effect diffs) s t
   CallsOf (Squash n f j) s t = CallsOnPair leads r (string_bytes f) (string_bytes j) (squash_effect n) s t
   CallsOf Help s t = t ≡ s
 

@@ -1,13 +1,13 @@
 -- What a command does to a file and its journal, by their bytes as they are, good for a history or not (own).
-use Rattle.std.specs.Prelude.{◌≡◌, ◌≢◌, ℕ, List, [], length, nat_le, if◌then◌else◌, Option, Some, None, Result, Ok, Err, MatchResult, true}
-use Rattle.std.{specs.Str.bytes_eq, specs.String.string_bytes}
+use Rattle.std.specs.Prelude.{◌≡◌, ◌≢◌, ℕ, List, [], length, nat_le, Bool, if◌then◌else◌, Option, Some, None, Result, Ok, Err, MatchResult}
+use Rattle.std.{specs.Prelude.true, specs.Str.bytes_eq, specs.String.string_bytes}
 use Rattle.yq_semantics.specs.Program.{Program}
 use Rattle.yq_journal.{specs.Record.Record, specs.Refusals.most_records, specs.State.{State, journal_after, with_move}}
 use Rattle.yq_args.specs.declared.command.Command.{Command}
 use Rattle.yq_args.specs.declared.command.Command.TheVariants.{Eval, Undo, Redo, History as Lists, Squash}
 use Rattle.yq_history.{specs.declared.fault.Fault.Fault, specs.declared.fault.Fault.TheVariants.{JournalFull, OutOfMemory}}
 use Rattle.yq_history.specs.Effects.{Effect, refuses, writes_nothing, writes_both, from_pair, move_effect, squash_effect, listing_effect}
-use Rattle.yq_history.{specs.Effects.printed_by, specs.Causes.{named, no_reading}}
+use Rattle.yq_history.{specs.Effects.printed_by, specs.Causes.{named, no_reading}, specs.Output.{IsOutput, Output, bytes, diff}}
 use Rattle.yq_commands.{specs.Editing.{EditOutcome, unreadable, refused, edited, program_in, program_edits}, specs.Edits.edit_record}
 use Rattle.yq_journal.specs.declared.moves.Move.TheVariants as move
 
@@ -20,7 +20,7 @@ abbrev pub edit_effect : List ℕ → EditOutcome → List ℕ → State → Eff
 edit_effect expr (unreadable old) t s = refuses (no_reading old)
 edit_effect expr (refused f) t s = refuses (named f)
 edit_effect expr (edited u changes) t s =
-    if bytes_eq u t then writes_nothing []
+    if bytes_eq u t then writes_nothing (bytes [])
     else if nat_le most_records s.at then refuses (named JournalFull)
     else edit_writes (edit_record expr changes (length t) (length u)) t u s
 
@@ -34,7 +34,7 @@ abbrev pub OfEffect : Command → Option (List ℕ) → Option (List ℕ) → (E
 OfEffect (Eval expr f j true options) file journal holds = holds (update_effect (string_bytes expr) (program_in (string_bytes expr)) file journal)
 OfEffect (Undo f j) file journal holds = holds (from_pair file journal (move_effect move.Undo))
 OfEffect (Redo f j) file journal holds = holds (from_pair file journal (move_effect move.Redo))
-OfEffect (Lists f j) file journal holds = holds (from_pair file journal listing_effect)
+OfEffect (Lists f j diffs) file journal holds = holds (from_pair file journal (listing_effect diffs))
 OfEffect (Squash n f j) file journal holds = holds (from_pair file journal (squash_effect n))
 OfEffect _ file journal holds = Unit {0}
 
@@ -52,7 +52,15 @@ expression_fault _ = None
 abbrev pub IsUnparsed : Fault → {T : Type 0} → Result T Fault → Type 0
 IsUnparsed f r = MatchResult r (λ v. ⊥) (λ e. e ≢ OutOfMemory → e ≡ f)
 
--- the bytes are those that `history` prints of what a file and a journal hold; of other commands nothing is said
+-- the output of a command by its effect; of one that prints what it writes, a diff of what its file held and what it holds
+abbrev pub output_by : Bool → Option (List ℕ) → Effect → Output
+output_by true (Some old) (writes_both new started s) = diff old new
+output_by _ held x = printed_by x
+
+-- the bytes are those that `history`, or an edit in place with `--diff`, prints by what a file and a journal hold; of other commands nothing is said
 abbrev pub IsListing : Command → Option (List ℕ) → Option (List ℕ) → List ℕ → Type 0
-IsListing (Lists f j) file journal printed = printed ≡ printed_by (from_pair file journal listing_effect)
+IsListing (Eval expr f j true options) file journal printed =
+    string_bytes f ≢ string_bytes j →
+    IsOutput (string_bytes f) (output_by options.diff file (update_effect (string_bytes expr) (program_in (string_bytes expr)) file journal)) printed
+IsListing (Lists f j diffs) file journal printed = IsOutput (string_bytes f) (printed_by (from_pair file journal (listing_effect diffs))) printed
 IsListing _ file journal printed = Unit {0}

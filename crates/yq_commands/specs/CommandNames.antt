@@ -1,5 +1,5 @@
 -- The file and the journal that a command names (own).
-use Rattle.std.{specs.Prelude.{◌≡◌, ◌≢◌, ℕ, List, true, false}, specs.String.string_bytes}
+use Rattle.std.{specs.Prelude.{◌≡◌, ◌≢◌, ℕ, List, [], true, false}, specs.String.string_bytes}
 use Rattle.yq_args.specs.declared.command.Command.{Command}
 use Rattle.yq_args.specs.declared.command.Command.TheVariants.{Eval, Undo, Redo, History as Lists, Squash, Help}
 
@@ -9,7 +9,7 @@ IsOn file journal (Eval expr f j true options) = (string_bytes f ≡ file) × (s
 IsOn file journal (Eval expr f j false options) = string_bytes f ≡ file
 IsOn file journal (Undo f j) = (string_bytes f ≡ file) × (string_bytes j ≡ journal)
 IsOn file journal (Redo f j) = (string_bytes f ≡ file) × (string_bytes j ≡ journal)
-IsOn file journal (Lists f j) = (string_bytes f ≡ file) × (string_bytes j ≡ journal)
+IsOn file journal (Lists f j diffs) = (string_bytes f ≡ file) × (string_bytes j ≡ journal)
 IsOn file journal (Squash n f j) = (string_bytes f ≡ file) × (string_bytes j ≡ journal)
 IsOn file journal Help = ⊥
 
@@ -23,6 +23,15 @@ IsNotNamed q (Eval expr f j true options) = Differs q (string_bytes f) (string_b
 IsNotNamed q (Eval expr f j false options) = q ≢ string_bytes f
 IsNotNamed q (Undo f j) = Differs q (string_bytes f) (string_bytes j)
 IsNotNamed q (Redo f j) = Differs q (string_bytes f) (string_bytes j)
-IsNotNamed q (Lists f j) = Differs q (string_bytes f) (string_bytes j)
+IsNotNamed q (Lists f j diffs) = Differs q (string_bytes f) (string_bytes j)
 IsNotNamed q (Squash n f j) = Differs q (string_bytes f) (string_bytes j)
 IsNotNamed q Help = Unit {0}
+
+-- the file that the command names; help names none
+abbrev pub file_of : Command → List ℕ
+file_of (Eval expr f j in_place options) = string_bytes f
+file_of (Undo f j) = string_bytes f
+file_of (Redo f j) = string_bytes f
+file_of (Lists f j diffs) = string_bytes f
+file_of (Squash n f j) = string_bytes f
+file_of Help = []

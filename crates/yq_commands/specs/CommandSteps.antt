@@ -50,7 +50,7 @@ cause_of (Eval expr file journal true options) h = update_cause (program_in (str
 cause_of (Eval expr file journal false options) h = cause_in (evaluated options (program_in (string_bytes expr)) h)
 cause_of (Undo file journal) h = move_cause move.Undo h
 cause_of (Redo file journal) h = move_cause move.Redo h
-cause_of (Lists file journal) h = listing_cause h
+cause_of (Lists file journal diffs) h = listing_cause h
 cause_of (Squash n file journal) h = squash_cause n h
 cause_of Help h = None
 

@@ -5,7 +5,8 @@ use Rattle.yq_semantics.specs.Program.{Program}
 use Rattle.yq_journal.specs.History.{History, text_at}
 use Rattle.yq_args.{specs.declared.command.Command.Command, specs.declared.command.Command.TheVariants.Eval}
 use Rattle.yq_args.specs.declared.eval_options.EvalOptions.{EvalOptions}
-use Rattle.yq_history.{specs.declared.fault.Fault.Fault, specs.Effects.{Effect, writes_nothing}, specs.Report.{Report, nothing}}
+use Rattle.yq_history.{specs.declared.fault.Fault.Fault, specs.Effects.{Effect, writes_nothing}}
+use Rattle.yq_history.specs.Output.{Output, Showing, bytes, diff, showing_nothing}
 use Rattle.yq_store.specs.FileMap.{FileMap}
 use Rattle.yq_commands.{specs.CommandEffects.OfEffect, specs.Editing.{EditOutcome, edited, program_edits}}
 
@@ -18,11 +19,20 @@ abbrev pub edits_as_expected : EvalOptions → List ℕ → EditOutcome → Bool
 edits_as_expected options old (edited new changes) = changes_as_expected options old new
 edits_as_expected options old _ = true
 
--- what an edit in place shows: it prints nothing
-abbrev pub report_edit : EvalOptions → Result Program Fault → Option History → Report
-report_edit options (Err f) h = nothing
-report_edit options (Ok p) None = nothing
-report_edit options (Ok p) (Some h) = record { printed = []; is_match = edits_as_expected options (text_at h) (program_edits p (text_at h)) }
+-- what is printed of an edit in place: nothing, or with `--diff` what changed
+abbrev pub change_output : Bool → List ℕ → EditOutcome → Output
+change_output true old (edited new changes) = diff old new
+change_output _ old outcome = bytes []
+
+-- what an edit in place shows of a text
+abbrev pub showing_change : EvalOptions → List ℕ → EditOutcome → Showing
+showing_change options old outcome = record { output = change_output options.diff old outcome; is_match = edits_as_expected options old outcome }
+
+-- the same of a file, by what an expression is
+abbrev pub report_edit : EvalOptions → Result Program Fault → Option History → Showing
+report_edit options (Err f) h = showing_nothing
+report_edit options (Ok p) None = showing_nothing
+report_edit options (Ok p) (Some h) = showing_change options (text_at h) (program_edits p (text_at h))
 
 -- a command is asked to change a byte
 abbrev pub expects_change : Command → Bool

@@ -1,8 +1,9 @@
 -- What an accepted edit makes of the text that a file holds (own).
-use Rattle.std.{specs.Prelude.{◌≡◌, ◌≢◌, ℕ, List, true, false, Option, Some, Ok}, specs.FinMap.get, specs.String.string_bytes}
+use Rattle.std.{specs.Prelude.{◌≡◌, ◌≢◌, ℕ, Bool, List, [], true, false, Option, Some, Ok}, specs.FinMap.get, specs.String.string_bytes}
 use Rattle.yq_semantics.specs.Program.{Program, Update, updates}
 use Rattle.yq_text.specs.Splice.{Splice}
 use Rattle.yq_edit_laws.{specs.Carried.edit_of, specs.Edit.gives, specs.Theorems.IsEdited}
+use Rattle.yq_history.specs.Unified.{IsPrintedDiff}
 use Rattle.yq_store.specs.FileMap.{FileMap}
 use Rattle.yq_args.{specs.declared.command.Command.Command, specs.declared.command.Command.TheVariants.Eval}
 use Rattle.yq_commands.specs.Editing.{program_in}
@@ -12,6 +13,11 @@ pub record IsTextEdited (p : Program) (t new : List ℕ) : Type 0 where
   pub splices : List Splice
   pub exact : edit_of p t ≡ gives new splices
   pub edited : IsEdited p t new splices
+
+-- what was printed of a text is the one that a program makes of it, or with `--diff` a diff of the two
+abbrev pub PrintsEdit : Bool → List ℕ → Program → List ℕ → List ℕ → Type 0
+PrintsEdit false file p t printed = IsTextEdited p t printed
+PrintsEdit true file p t printed = (new : List ℕ) × IsTextEdited p t new × IsPrintedDiff file t new printed
 
 -- the text is there that a program makes of another one
 abbrev pub HoldsEdited : Program → List ℕ → Option (List ℕ) → Type 0
@@ -30,10 +36,30 @@ abbrev pub PrintsEdited : List ℕ → Option (List ℕ) → List ℕ → Type 0
 PrintsEdited expr old printed =
     (us : List Update) → program_in expr ≡ Ok (updates us) → IsFileEdited expr old (Some printed)
 
--- the edited text: an edit in place leaves it in the file, any other update prints it; nothing is said of other commands
+-- What was printed is a diff of the text that a file holds and the one that the program of an expression makes of it.
+pub record IsFileDiffed (expr file : List ℕ) (old : Option (List ℕ)) (printed : List ℕ) : Type 0 where
+  pub text : List ℕ
+  pub old_is : old ≡ Some text
+  pub new : List ℕ
+  pub edited : IsFileEdited expr old (Some new)
+  pub diff : IsPrintedDiff file text new printed
+
+-- what was printed of an update is the edited text, or with `--diff` a diff
+abbrev pub PrintsUpdate : Bool → List ℕ → List ℕ → Option (List ℕ) → List ℕ → Type 0
+PrintsUpdate false expr file old printed = PrintsEdited expr old printed
+PrintsUpdate true expr file old printed = (us : List Update) → program_in expr ≡ Ok (updates us) → IsFileDiffed expr file old printed
+
+-- what was printed of an edit in place: nothing, or with `--diff` a diff of what the file held and what it holds
+abbrev pub PrintsChange : Bool → List ℕ → Option (List ℕ) → Option (List ℕ) → List ℕ → Type 0
+PrintsChange false file old new printed = printed ≡ []
+PrintsChange true file (Some t) (Some u) printed = IsPrintedDiff file t u printed
+PrintsChange true file _ _ printed = ⊥
+
+-- the edited text: an edit in place leaves it in the file, any other update prints it, or with `--diff` a diff; nothing is said of other commands
 abbrev pub HasEdited : Command → FileMap → FileMap → List ℕ → Type 0
 HasEdited (Eval expr f j true options) old new printed =
     string_bytes f ≢ string_bytes j → IsFileEdited (string_bytes expr) (get old (string_bytes f)) (get new (string_bytes f))
+    × PrintsChange options.diff (string_bytes f) (get old (string_bytes f)) (get new (string_bytes f)) printed
 HasEdited (Eval expr f j false options) old new printed =
-    PrintsEdited (string_bytes expr) (get old (string_bytes f)) printed
+    PrintsUpdate options.diff (string_bytes expr) (string_bytes f) (get old (string_bytes f)) printed
 HasEdited _ old new printed = Unit {0}

@@ -1,14 +1,14 @@
 -- Lists of commands as runs of a history (own).
-use Rattle.std.specs.Prelude.{◌≡◌, ◌≢◌, ◌⊎◌, ◌||◌, ◌+◌, ℕ, Bool, true, false, not, List, [], ◌∷◌, map, flat_map, All, if◌then◌else◌}
+use Rattle.std.specs.Prelude.{◌≡◌, ◌≢◌, ◌⊎◌, ◌||◌, ◌&&◌, ◌+◌, ℕ, Bool, true, false, not, List, [], ◌∷◌, map, flat_map, All, if◌then◌else◌}
 use Rattle.std.{specs.Prelude.{MatchBool, MatchResult, Option, Some, None, Result, Ok, Err}, specs.FinMap.get}
 use Rattle.yq_journal.specs.History.{History}
 use Rattle.yq_commands.{specs.declared.answer.Answer.Answer, specs.declared.answer.Answer.TheVariants.{Done, NoMatch, Refused}}
-use Rattle.yq_commands.{specs.CommandNames.{IsOn, IsNotNamed}, specs.CommandEffects.{OfEffect, expression_fault}, specs.FileEdits.HasEdited}
-use Rattle.yq_commands.{specs.Expecting.{expects_change, works_as_expected}, specs.Prints.{report_of, prints}}
-use Rattle.yq_commands.specs.CommandSteps.{cause_of, next_of}
+use Rattle.yq_commands.{specs.CommandNames.{IsOn, IsNotNamed, file_of}, specs.CommandEffects.{OfEffect, expression_fault, output_by}}
+use Rattle.yq_commands.{specs.FileEdits.HasEdited, specs.Expecting.{expects_change, works_as_expected}}
+use Rattle.yq_commands.{specs.Prints.{prints, prints_change, report_of}, specs.CommandSteps.{cause_of, next_of}}
 use Rattle.yq_args.specs.declared.command.Command.{Command}
 use Rattle.yq_history.{specs.declared.fault.Fault.Fault, specs.declared.fault.Fault.TheVariants.{OutFailed, OutOfMemory}}
-use Rattle.yq_history.{specs.Causes.{Cause, IsFor}, specs.Effects.{Effect, Works, printed_by}}
+use Rattle.yq_history.{specs.Causes.{Cause, IsFor}, specs.Effects.{Effect, Works}, specs.Output.{IsOutput, Showing}}
 use Rattle.yq_history.{specs.Faults.{is_failure, is_outer_fault, is_output}, specs.Pair.GoodIn, specs.Report.Report}
 use Rattle.yq_store.specs.FileMap.{FileMap}
 
@@ -42,16 +42,17 @@ answer_by false = NoMatch
 abbrev pub IsAnswer : {T : Type 0} → Result T Fault → Answer → Report → Type 0
 IsAnswer r a s = MatchResult r (λ _. (a ≡ answer_by s.is_match) ⊎ ((a ≡ Refused OutFailed) × (s.printed ≢ []))) (λ x. a ≡ Refused x)
 
--- a command was refused: its output failed, and the history stays; or, where a call of the store failed or memory was refused, it was carried out or not;
+-- a command was refused: it was carried out, but its output failed; or, where a call of the store failed or memory was refused, it was carried out or not;
 -- or it was refused for its cause, and the history stays
 abbrev pub CommandRefused : Command → Option History → Fault → Option History → Type 0
 CommandRefused c h e k =
-    MatchBool (is_output e) ((cause_of c h ≡ None) × (k ≡ h))
+    MatchBool (is_output e) ((cause_of c h ≡ None) × (k ≡ next_of c h))
     (MatchBool (is_outer_fault e) ((k ≡ h) ⊎ (k ≡ next_of c h)) (IsFor (cause_of c h) e × (k ≡ h)))
 
 -- a command was carried out: what it was asked for is there or not, and it printed these bytes
 abbrev pub IsCarriedOut : Command → Option History → Bool → List ℕ → Option History → Type 0
-IsCarriedOut c h is_match o k = (cause_of c h ≡ None) × (is_match ≡ (report_of c h).is_match) × (o ≡ (report_of c h).printed) × (k ≡ next_of c h)
+IsCarriedOut c h is_match o k =
+    (cause_of c h ≡ None) × (is_match ≡ (report_of c h).is_match) × IsOutput (file_of c) (report_of c h).output o × (k ≡ next_of c h)
 
 -- from a history, a command gives this answer, prints these bytes, and goes on to another history: it is carried out, or it is refused and prints nothing
 abbrev pub RunsCommand : Command → Option History → Answer → List ℕ → Option History → Type 0
@@ -72,14 +73,14 @@ RunsAll file journal h (c ∷ cs) [] k = ⊥
 
 -- ---- where nothing failed from outside
 
--- the reply that a cause calls for: what is shown where there is none, and else a refusal that prints nothing
-abbrev pub IsReply : Option Cause → Report → Reply → Type 0
-IsReply None report r = (r.answer ≡ answer_by report.is_match) × (r.printed ≡ report.printed)
-IsReply (Some x) report r = ((e : Fault) × (r.answer ≡ Refused e) × IsFor (Some x) e) × (r.printed ≡ [])
+-- the reply that a cause calls for: what is to be shown of the file where there is none, and else a refusal that prints nothing
+abbrev pub IsReply : List ℕ → Option Cause → Showing → Reply → Type 0
+IsReply file None due r = (r.answer ≡ answer_by due.is_match) × IsOutput file due.output r.printed
+IsReply file (Some x) due r = ((e : Fault) × (r.answer ≡ Refused e) × IsFor (Some x) e) × (r.printed ≡ [])
 
 -- a command on the pair has the reply that its cause calls for, and steps its history; one apart leaves it
 abbrev pub GoesExactly : List ℕ → List ℕ → Command → Option History → Reply → Option History → Type 0
-GoesExactly file journal c h r k = (IsOn file journal c × IsReply (cause_of c h) (report_of c h) r × (k ≡ next_of c h)) ⊎ (IsUnrelated file journal c × (k ≡ h))
+GoesExactly file journal c h r k = (IsOn file journal c × IsReply (file_of c) (cause_of c h) (report_of c h) r × (k ≡ next_of c h)) ⊎ (IsUnrelated file journal c × (k ≡ h))
 
 -- one command after another
 abbrev pub RunExactly : List ℕ → List ℕ → Option History → List Command → List Reply → Option History → Type 0
@@ -96,19 +97,22 @@ is_inner_refusal (Refused e) = not (is_outer_fault e)
 is_inner_refusal _ = false
 
 -- what a command's answer and the bytes that it printed tell of an effect: it came about and printed its bytes, and the answer says whether it is as
--- expected; or it was refused and printed nothing; that the output failed tells nothing
-abbrev pub ReportsEffect : Bool → Effect → List ℕ → List ℕ → FileMap → FileMap → Answer → List ℕ → Type 0
-ReportsEffect expects x file journal old new Done o =
-    (works_as_expected expects x ≡ true) × Works x file journal old new {T = Unit {0}} (Ok tt) × (o ≡ printed_by x)
-ReportsEffect expects x file journal old new NoMatch o =
-    (works_as_expected expects x ≡ false) × Works x file journal old new {T = Unit {0}} (Ok tt) × (o ≡ printed_by x)
-ReportsEffect expects x file journal old new (Refused e) o = MatchBool (is_output e) (Unit {0}) (Works x file journal old new {T = Unit {0}} (Err e)) × (o ≡ [])
+-- expected; or it was refused and printed nothing; where the output failed, it came about
+abbrev pub ReportsEffect : Command → Effect → List ℕ → List ℕ → FileMap → FileMap → Answer → List ℕ → Type 0
+ReportsEffect c x file journal old new Done o =
+    (works_as_expected (expects_change c) x ≡ true) × Works x file journal old new {T = Unit {0}} (Ok tt)
+    × IsOutput file (output_by (prints_change c) (get old file) x) o
+ReportsEffect c x file journal old new NoMatch o =
+    (works_as_expected (expects_change c) x ≡ false) × Works x file journal old new {T = Unit {0}} (Ok tt)
+    × IsOutput file (output_by (prints_change c) (get old file) x) o
+ReportsEffect c x file journal old new (Refused e) o =
+    MatchBool (is_output e) (Works x file journal old new {T = Unit {0}} (Ok tt)) (Works x file journal old new {T = Unit {0}} (Err e)) × (o ≡ [])
 
 -- the reply, and what the file and the journal then hold, are those of the command's effect on what they held, be they good for a history or not
 abbrev pub HasEffect : Command → Reply → FileMap → FileMap → Type 0
 HasEffect c r old new =
     (file journal : List ℕ) → file ≢ journal → IsOn file journal c →
-    OfEffect c (get old file) (get old journal) (λ x. ReportsEffect (expects_change c) x file journal old new r.answer r.printed)
+    OfEffect c (get old file) (get old journal) (λ x. ReportsEffect c x file journal old new r.answer r.printed)
 
 -- from every history for which a pair is good it goes on to one for which the pair is good then
 abbrev pub StepsHistory : Command → Reply → FileMap → FileMap → Type 0
@@ -126,10 +130,15 @@ abbrev pub is_accepted : Answer → Bool
 is_accepted (Refused e) = false
 is_accepted _ = true
 
+-- the command writes no name, or its answer is a refusal that left every name: not one for its output where it writes what it prints
+abbrev pub leaves_names : Command → Answer → Bool
+leaves_names c (Refused e) = prints c || (is_inner_refusal (Refused e) && not (prints_change c && is_output e))
+leaves_names c a = prints c
+
 -- A command that prints, or is refused so, leaves every name; any other leaves the names that it doesn't name; it has its effect, and steps histories.
 -- What was accepted of an expression with updates has edited the file's text; an expression that is no program is refused before all else.
 pub record RunsTo (c : Command) (r : Reply) (old new : FileMap) : Type 0 where
-  pub all : (prints c || is_inner_refusal r.answer) ≡ true → new ≡ old
+  pub all : leaves_names c r.answer ≡ true → new ≡ old
   pub others : (q : List ℕ) → IsNotNamed q c → get new q ≡ get old q
   pub effect : HasEffect c r old new
   pub steps : StepsHistory c r old new

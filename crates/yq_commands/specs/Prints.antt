@@ -4,17 +4,17 @@ use Rattle.yq_journal.specs.History.{History}
 use Rattle.yq_args.specs.declared.command.Command.{Command}
 use Rattle.yq_args.specs.declared.command.Command.TheVariants.{Eval, Undo, Redo, History as Lists, Squash, Help}
 use Rattle.yq_commands.{specs.Editing.program_in, specs.Evaluation.{evaluated, report_in}, specs.Expecting.report_edit}
-use Rattle.yq_history.{specs.Listing.listing_output, specs.Report.{Report, text, nothing}}
+use Rattle.yq_history.specs.Output.{Showing, listing_output, showing, showing_nothing}
 
 -- what a command shows where it is carried out; of help nothing is said
-abbrev pub report_of : Command → Option History → Report
+abbrev pub report_of : Command → Option History → Showing
 report_of (Eval expr file journal true options) h = report_edit options (program_in (string_bytes expr)) h
 report_of (Eval expr file journal false options) h = report_in (evaluated options (program_in (string_bytes expr)) h)
-report_of (Undo file journal) h = nothing
-report_of (Redo file journal) h = nothing
-report_of (Lists file journal) h = text (listing_output h)
-report_of (Squash n file journal) h = nothing
-report_of Help h = nothing
+report_of (Undo file journal) h = showing_nothing
+report_of (Redo file journal) h = showing_nothing
+report_of (Lists file journal diffs) h = showing (listing_output diffs h)
+report_of (Squash n file journal) h = showing_nothing
+report_of Help h = showing_nothing
 
 -- the command reads the journal of its file
 abbrev pub reads_journal : Command → Bool
@@ -27,6 +27,11 @@ reads_journal _ = true
 abbrev pub prints : Command → Bool
 prints (Eval expr file journal true options) = false
 prints (Eval expr file journal false options) = true
-prints (Lists file journal) = true
+prints (Lists file journal diffs) = true
 prints Help = true
 prints _ = false
+
+-- the command writes what it changes to names, and prints it
+abbrev pub prints_change : Command → Bool
+prints_change (Eval expr file journal true options) = options.diff
+prints_change _ = false

@@ -3,7 +3,7 @@ use Rattle.std.specs.Prelude.{ℕ, ◌==◌, Bool, true, false, not, ◌&&◌, �
 use Rattle.yq_core.{specs.declared.kind.Kind.Kind, specs.Tree.{Node, alias, scalar, list, map}, specs.SchemaReading.is_true_word}
 use Rattle.yq_edit_rules.specs.Print.{print_text}
 use Rattle.yq_args.specs.declared.eval_options.EvalOptions.{EvalOptions}
-use Rattle.yq_history.specs.Report.{Report}
+use Rattle.yq_history.specs.Output.{Showing, bytes}
 use Rattle.yq_core.specs.declared.kind.Kind.TheVariants as kinds
 
 -- what comes before a match, by the document of the one before it: the line `---`, where that is another document
@@ -37,8 +37,8 @@ have_no_match [] = true
 have_no_match (m ∷ ms) = is_no_match m.1 && have_no_match ms
 
 -- what is shown of matches: with `-e` there is to be one other than null and false
-abbrev pub report_matches : EvalOptions → List (ℕ × Node) → Report
+abbrev pub report_matches : EvalOptions → List (ℕ × Node) → Showing
 report_matches options ms = record {
-  printed = matches_behind options.no_doc None ms;
+  output = bytes (matches_behind options.no_doc None ms);
   is_match = not (options.exit_status && have_no_match ms);
 }

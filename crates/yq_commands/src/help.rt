@@ -8,9 +8,10 @@ use yq_history::{Fault, Report};
 
 /// The ways to call the program, whose name means `%`.
 pub const USAGE: &str = "\
-Usage: % [eval|e] [-i] [-e] [-N] [--expect-change] [--text TEXT]
+Usage: % [eval|e] [-i] [-e] [-N] [-d] [--expect-change] [--text TEXT]
           [--journal PATH] EXPR FILE
-       % undo|redo|history [--journal PATH] FILE
+       % undo|redo [--journal PATH] FILE
+       % history [-d] [--journal PATH] FILE
        % squash [--journal PATH] N FILE
        % --explain CODE
 ";
@@ -34,6 +35,7 @@ Options:
   -e, --exit-status    end with status 1 where nothing but null and
                        false is read
   -N, --no-doc         print no marker between documents
+  -d, --diff           print what an update changes, or changed
       --expect-change  end with status 1 where an update changes no byte
       --text TEXT      set what EXPR leads to, to TEXT as it is
       --journal PATH   where the edits are recorded, in place of
@@ -44,7 +46,7 @@ Options:
 
 Examples:
   % .server.port f.yaml
-  % '.server.port = 9090' f.yaml | diff f.yaml -
+  % --diff '.server.port = 9090' f.yaml
   % -i '.server.port = 9090' f.yaml
   % -i '.labels.\"app.io/name\" = \"web\"' f.yaml
   % -i --text=\"$HOME\" .server.home f.yaml

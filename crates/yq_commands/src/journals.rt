@@ -59,7 +59,7 @@ fn names_of(command: &Command) -> Option<(&str, &str)> {
         Command::Eval { file, journal, .. }
         | Command::Undo { file, journal }
         | Command::Redo { file, journal }
-        | Command::History { file, journal }
+        | Command::History { file, journal, .. }
         | Command::Squash { file, journal, .. } => Some((file.as_str(), journal.as_str())),
     }
 }

@@ -5,7 +5,7 @@ ghost use Rattle.yq_core.specs.Values.{value_node};
 ghost use Rattle.yq_eval.specs.MatchView.{matches_of};
 ghost use Rattle.yq_edit_rules.specs.Print.{print_text};
 ghost use Rattle.yq_semantics.{specs.Program.is_read, specs.View.program_of};
-ghost use Rattle.yq_history.{specs.Causes.IsFor, specs.Faults.{is_failure, is_output}, specs.Report.report_by};
+ghost use Rattle.yq_history.{specs.Causes.IsFor, specs.Faults.{is_failure, is_output}, specs.Output.showing_by};
 ghost use Rattle.yq_commands.specs.Evaluation.{cause_in, shows};
 ghost use Rattle.yq_commands.specs.Reads as spec;
 
@@ -102,7 +102,7 @@ fn report_matches(
     options: EvalOptions,
     matches: &[Match],
 ) -> Result<Report, AllocError>
-    ensures { IfOk result (λ s. report_by s ≡ spec.report_matches options
+    ensures { IfOk result (λ s. showing_by s ≡ spec.report_matches options
         (matches_of matches.now)) }
 {
     let text = printed_matches(alloc, options.no_doc, matches)?;
@@ -119,7 +119,7 @@ pub fn show_read(
 ) -> Result<Report, Fault>
     requires { is_read (program_of program.now) ≡ true }
     ensures ok { IfOk result (λ s. shows options (program_of program.now) text.now ≡
-        Ok (report_by s)) }
+        Ok (showing_by s)) }
     ensures err { IfErr result (λ e. e ≢ Fault.OutOfMemory →
         IsFor (cause_in (shows options (program_of program.now) text.now)) e) }
     ensures inside { IfErr result (λ e. is_failure e ≡ false) }

@@ -9,8 +9,9 @@ use Rattle.yq_journal.specs.State.{State, journal_after, moved_text, with_move, 
 use Rattle.yq_history.{specs.declared.fault.Fault.Fault, specs.declared.direction.Direction.Direction}
 use Rattle.yq_history.specs.Effects.{Effect, refuses, writes_nothing, writes_both, from_pair, from_journal, from_settled, leads_to, goes_to}
 use Rattle.yq_history.specs.Effects.{move_effect, joins_to, squash_effect, IsCutShort, Works}
-use Rattle.yq_history.{specs.Faults.{is_outer_fault, of_fault, of_journal}, specs.Pair.IsJournal, specs.Causes.{IsFor, named}}
-use Rattle.yq_history.{specs.Directions.walk_move, proofs.MoveLaws.{IsMove, either, fault_outside, no_way_free, on_err_map}}
+use Rattle.yq_history.{specs.Faults.{is_outer_fault, of_fault, of_journal}, specs.Output.{Output, bytes}, specs.Pair.IsJournal}
+use Rattle.yq_history.{specs.Causes.{IsFor, named}, specs.Directions.walk_move}
+use Rattle.yq_history.proofs.MoveLaws.{IsMove, either, fault_outside, no_way_free, on_err_map}
 use Rattle.yq_history.proofs.CutLaws.{cut_unwritten, cut_settled}
 use Rattle.yq_store.specs.FileMap.{FileMap}
 use Rattle.yq_journal.specs.declared.fault.JournalError.TheVariants as error
@@ -160,8 +161,8 @@ module _ (f j : List ℕ) (c : FileMap) (s : State) (t : List ℕ) (n : ℕ) whe
   pub squash_not_done : {T : Type 0} (r : Result T Fault) (e : Fault) (x : JournalError) → r ≡ Err e → e ≡ of_journal x → Reports x (squash_fault s n) → Works (squash_effect n t s) f j c c r
   squash_not_done {T = T} r e x is of reports = subst (Works (squash_effect n t s) f j c c) (sym (is ∙ ap Err of)) (joined_by T x reports)
 
-  by_count : (b : Bool) → (n == 1) ≡ b → squash_fault s n ≡ None → squash_effect n t s ≡ (if b then writes_nothing [] else writes_both t (squashed s n) (squashed s n))
-  by_count b is free = ap (λ o. joins_to o n t (squashed s n)) free ∙ ap (λ x. if x then writes_nothing [] else writes_both t (squashed s n) (squashed s n)) is
+  by_count : (b : Bool) → (n == 1) ≡ b → squash_fault s n ≡ None → squash_effect n t s ≡ (if b then writes_nothing (bytes []) else writes_both t (squashed s n) (squashed s n))
+  by_count b is free = ap (λ o. joins_to o n t (squashed s n)) free ∙ ap (λ x. if x then writes_nothing (bytes []) else writes_both t (squashed s n) (squashed s n)) is
 
   -- of one edit nothing is written
   pub squash_one_works : {T : Type 0} (v : T) → (n == 1) ≡ true → squash_fault s n ≡ None → Works (squash_effect n t s) f j c c {T = T} (Ok v)
@@ -177,5 +178,5 @@ module _ (f j : List ℕ) (c : FileMap) (s : State) (t : List ℕ) (n : ℕ) whe
 -- ---- listings
 
 -- memory was refused, and nothing was written
-pub listing_cut : (f j : List ℕ) (c : FileMap) (o : List ℕ) {T : Type 0} (r : Result T Fault) (e : Fault) → r ≡ Err e → is_outer_fault e ≡ true → Works (writes_nothing o) f j c c r
+pub listing_cut : (f j : List ℕ) (c : FileMap) (o : Output) {T : Type 0} (r : Result T Fault) (e : Fault) → r ≡ Err e → is_outer_fault e ≡ true → Works (writes_nothing o) f j c c r
 listing_cut f j c o {T = T} r e is out = subst (Works (writes_nothing o) f j c c) (sym is) (works_outside T (writes_nothing o) f j c e out)

@@ -6,3 +6,9 @@ pub mod PrintLaws
 pub mod SquashLaws
 pub mod FaultLaws
 pub mod CallLaws
+pub mod HunkLaws
+pub mod PartLoops
+pub mod DiffPrintLaws
+pub mod LineCuts
+pub mod UnifiedLaws
+pub mod ListedLaws

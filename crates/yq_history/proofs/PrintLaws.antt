@@ -1,11 +1,13 @@
 -- What is printed of a journal is what is printed of its history.
-use Rattle.std.proofs.Common.{◌≡◌, ℕ, suc, ◌+◌, List, [], ◌∷◌, ◌++◌, map, nat_lt, slice_get, take, Option, Some, None, Result, Ok, Err}
-use Rattle.std.{proofs.Common.{IfOk, String, Vec, sym, ap, ap₂, ◌∙◌, refl, arith, append_assoc}, specs.Prelude.decimal}
+use Rattle.std.proofs.Common.{◌≡◌, ℕ, Bool, true, false, suc, ◌+◌, List, [], ◌∷◌, ◌++◌, map, nat_lt, slice_get, take, Option, Some, None}
+use Rattle.std.{proofs.Common.{Result, Ok, Err, IfOk, String, Vec, sym, ap, ap₂, ◌∙◌, refl, arith, append_assoc}, specs.Prelude.decimal}
 use Rattle.std.{specs.String.string_bytes, specs.declared.alloc.Global.Global, proofs.lemmas.List.append-nil}
 use Prim.Native.Nat.{zero}
 use Rattle.yq_journal.{specs.Good.{Leads, AtRest}, specs.History.{History, Revision}, specs.Record.Record, specs.State.State}
 use Rattle.yq_store.specs.FileMap.{FileMap}
-use Rattle.yq_history.{specs.Pair.Opens, specs.Listing.{edit_line, listing_after, history_lines, listing_output}}
+use Rattle.yq_history.{specs.Pair.Opens, specs.Listing.{edit_line, listing_after, history_lines}}
+use Rattle.yq_history.{specs.Output.{listing_output, record_output}, proofs.ListedLaws.history_texts}
+use Rattle.yq_history.specs.Output as output
 
 -- a line by other names of its texts
 pub line_is : {E : Type 0} (r : Result (String Global) E) (n : ℕ) (state expr word text : List ℕ) →
@@ -42,7 +44,13 @@ same_exprs t (r ∷ rs) [] l = absurd l
 pub listed : (s : State) (t : List ℕ) (h : History) → AtRest s t h → listing_after 0 s.at (map (λ (r : Record). r.expr) s.records) ≡ history_lines h
 listed s t h k = ap₂ (λ at exprs. listing_after 0 at exprs) k.reports.cursor (same_exprs h.first s.records h.later k.reports.leads)
 
--- and so are those of a pair that was read and settled
-pub listed_output : (c : FileMap) (f j : List ℕ) (h : Option History) (v : Vec ℕ Global) (s : State) → Opens c f j h (Ok (v, s)) → listing_after 0 s.at (map (λ (r : Record). r.expr) s.records) ≡ listing_output h
-listed_output c f j None v s opens = absurd opens
-listed_output c f j (Some x) v s opens = listed s v.items x opens.at_rest
+same_listing : (diffs : Bool) (s : State) (t : List ℕ) (h : History) → AtRest s t h → record_output diffs t s ≡ listing_output diffs (Some h)
+same_listing false s t h k = ap output.bytes (listed s t h k)
+same_listing true s t h k =
+    (λ i. output.listed (k.reports.cursor i) (same_exprs h.first s.records h.later k.reports.leads i) (history_texts s t h k i))
+
+-- and so is what is printed of a pair that was read and settled
+pub listed_output : (diffs : Bool) (c : FileMap) (f j : List ℕ) (h : Option History) (v : Vec ℕ Global) (s : State) → Opens c f j h (Ok (v, s)) →
+    record_output diffs v.items s ≡ listing_output diffs h
+listed_output diffs c f j None v s opens = absurd opens
+listed_output diffs c f j (Some x) v s opens = same_listing diffs s v.items x opens.at_rest

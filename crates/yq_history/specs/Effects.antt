@@ -1,19 +1,20 @@
 -- What is done to a file and its journal, by their bytes as they are, good for a history or not (own).
-use Rattle.std.specs.Prelude.{◌≡◌, ◌⊎◌, ◌==◌, ℕ, List, [], if◌then◌else◌, Option, Some, None, Result, Ok, Err, IsTrue, MatchBool}
+use Rattle.std.specs.Prelude.{◌≡◌, ◌⊎◌, ◌==◌, ℕ, Bool, List, [], if◌then◌else◌, Option, Some, None, Result, Ok, Err, IsTrue, MatchBool}
 use Rattle.std.specs.FinMap.{get}
 use Rattle.yq_journal.{specs.declared.fault.JournalFault.JournalFault, specs.declared.moves.Move.Move, specs.Good.journal_beside}
 use Rattle.yq_journal.specs.Refusals.{no_way, squash_fault}
 use Rattle.yq_journal.specs.State.{State, journal_after, moved_text, with_move, settled_beside, squashed}
 use Rattle.yq_history.specs.declared.fault.Fault.{Fault}
 use Rattle.yq_history.{specs.declared.fault.Fault.TheVariants.{NotThere, DoesNotStand, BadJournal, Unsettled}, specs.Pair.IsJournal}
-use Rattle.yq_history.{specs.Faults.{is_outer_fault, of_fault}, specs.Listing.record_lines, specs.Causes.{Cause, IsFor, named}}
+use Rattle.yq_history.{specs.Faults.{is_outer_fault, of_fault}, specs.Output.{Output, bytes, record_output}}
+use Rattle.yq_history.specs.Causes.{Cause, IsFor, named}
 use Rattle.yq_store.specs.FileMap.{FileMap}
 
--- what a command does: it is refused; it writes nothing and prints these bytes; or it prints nothing, and leaves this text in the file
+-- what a command does: it is refused; it writes nothing and has this output; or it has none of its own, and leaves this text in the file
 -- and the second of these journals beside it, where the first one, in which its move is open, is until the text does
 pub data Effect : Type 0 where
   refuses : Cause → Effect
-  writes_nothing : List ℕ → Effect
+  writes_nothing : Output → Effect
   writes_both : List ℕ → State → State → Effect
 
 -- what goes on from a text and its journal, settled beside it; J5 where it can't be settled
@@ -52,20 +53,20 @@ move_effect step t s = goes_to (no_way s.records s.at step) (moved_text s.record
 -- what a squash does, by its fault: the file stays, no move is opened, and one edit stays as it is
 abbrev pub joins_to : Option JournalFault → ℕ → List ℕ → State → Effect
 joins_to (Some f) n t s = refuses (named (of_fault f))
-joins_to None n t s = if n == 1 then writes_nothing [] else writes_both t s s
+joins_to None n t s = if n == 1 then writes_nothing (bytes []) else writes_both t s s
 
 -- what a squash of the last n edits does to a text and its settled journal
 abbrev pub squash_effect : ℕ → List ℕ → State → Effect
 squash_effect n t s = joins_to (squash_fault s n) n t (squashed s n)
 
--- what `history` does to a text and its settled journal
-abbrev pub listing_effect : List ℕ → State → Effect
-listing_effect t s = writes_nothing (record_lines s)
+-- what `history` does to a text and its settled journal, with `--diff` or without
+abbrev pub listing_effect : Bool → List ℕ → State → Effect
+listing_effect diffs t s = writes_nothing (record_output diffs t s)
 
--- the bytes that are printed where the effect came about
-abbrev pub printed_by : Effect → List ℕ
+-- the output where the effect came about
+abbrev pub printed_by : Effect → Output
 printed_by (writes_nothing o) = o
-printed_by _ = []
+printed_by _ = bytes []
 
 -- what a command leaves that was cut short: the file as it was, and the journal so too or with the move open; or the new text in the file,
 -- and beside it the journal with the move open, or the one after it

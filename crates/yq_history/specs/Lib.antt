@@ -1,10 +1,17 @@
 pub mod Causes
+pub mod DiffParts
+pub mod DiffPrinting
 pub mod Effects
 pub mod Faults
+pub mod Hunks
+pub mod ListedDiffs
+pub mod ListedView
 pub mod Listing
+pub mod Output
 pub mod Pair
 pub mod Report
 pub mod Steps
 pub mod Directions
 pub mod Visible
 pub mod Calls
+pub mod Unified

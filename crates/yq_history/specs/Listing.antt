@@ -1,5 +1,5 @@
 -- What `history` prints (own).
-use Rattle.std.specs.Prelude.{ℕ, ◌+◌, Bool, true, false, List, [], ◌∷◌, ◌++◌, map, nat_lt, codes, decimal, Option, Some, None}
+use Rattle.std.specs.Prelude.{ℕ, ◌+◌, Bool, true, false, List, [], ◌∷◌, ◌++◌, map, nat_lt, codes, decimal}
 use Rattle.json.specs.Print.{quoted}
 use Rattle.yq_journal.{specs.History.{History, Revision}, specs.Record.Record, specs.State.State}
 use Rattle.yq_history.specs.Visible.{visible}
@@ -25,8 +25,3 @@ record_lines s = listing_after 0 s.at (map (λ (r : Record). r.expr) s.records)
 -- the lines of a history, one for each edit, oldest first, numbered from 1
 abbrev pub history_lines : History → List ℕ
 history_lines h = listing_after 0 h.at (map (λ (e : Revision). e.expr) h.later)
-
--- the lines of a file's history, where it is there
-abbrev pub listing_output : Option History → List ℕ
-listing_output None = []
-listing_output (Some h) = history_lines h

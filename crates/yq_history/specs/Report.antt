@@ -7,13 +7,9 @@ pub record Report : Type 0 where
   pub printed : List ℕ
   pub is_match : Bool
 
--- bytes that are printed
-abbrev pub text : List ℕ → Report
-text bytes = record { printed = bytes; is_match = true }
-
 -- nothing is printed
 abbrev pub nothing : Report
-nothing = text []
+nothing = record { printed = []; is_match = true }
 
 -- what that of the code means
 abbrev pub report_by : declared.Report → Report

@@ -2,8 +2,10 @@
 #![tactic(auto)]
 
 mod causes;
+mod diff;
 mod direction;
 mod fault;
+mod listed_diffs;
 mod moves;
 mod pair;
 mod printing;
@@ -12,6 +14,7 @@ mod squashing;
 mod undoing;
 mod visible;
 
+pub use diff::unified::unified_diff;
 pub use direction::Direction;
 pub use fault::Fault;
 pub use moves::carry_out;

@@ -4,11 +4,12 @@ ghost use Rattle.std.specs.String.{string_bytes};
 ghost use Rattle.yq_journal.specs.History.{History};
 ghost use Rattle.yq_history.{specs.Effects.{Works, from_names, listing_effect, printed_by}, specs.Faults.{is_output, failures_after}};
 ghost use Rattle.yq_history.{specs.Pair.{Arrives, GoodIn}, specs.Report.{nothing, report_by, text as report_text}, specs.Calls.CallsOnPair};
-ghost use Rattle.yq_history.specs.Steps.{listing_cause};
+ghost use Rattle.yq_history.{specs.Steps.listing_cause, specs.Output.{IsOutput, Shows, listing_output, record_output, showing}};
 ghost use Rattle.json.specs.Print as json;
 ghost use Rattle.yq_history.specs.Listing as spec;
 
 use crate::fault::Fault;
+use crate::listed_diffs::lines_with_diffs;
 use crate::pair::open_pair;
 use crate::report::Report;
 use crate::visible::visible;
@@ -45,7 +46,12 @@ fn joined_line(alloc: Global, number: usize, state: &str, expr: &str) -> Result<
 }
 
 /// The line of an edit. Its number counts from 1.
-fn edit_line(alloc: Global, number: usize, is_done: bool, expr: &str) -> Result<String, AllocError>
+pub(crate) fn edit_line(
+    alloc: Global,
+    number: usize,
+    is_done: bool,
+    expr: &str,
+) -> Result<String, AllocError>
     ensures { IfOk result (λ s. string_bytes s ≡ spec.edit_line number is_done expr.now) }
 {
     let state = state_word(is_done);
@@ -66,12 +72,31 @@ fn lines_of(alloc: Global, state: &Journal) -> Result<String, AllocError>
     Ok(lines)
 }
 
+/// What is printed of the edits of a file: a line for each, and with `diffs` what it changed.
+fn output_of(
+    alloc: Global,
+    file: &str,
+    state: &Journal,
+    text: Vec<u8>,
+    diffs: bool,
+) -> Result<String, AllocError>
+    ensures { IfOk result (λ s. IsOutput file.now (record_output diffs text.items state.now)
+        (string_bytes s)) }
+{
+    if diffs {
+        lines_with_diffs(alloc, file, state, text)
+    } else {
+        lines_of(alloc, state)
+    }
+}
+
 /// Lists the edits of a file.
 pub fn listing<D: Store>(
     alloc: Global,
     store: &mut D,
     file: &str,
     journal: &str,
+    diffs: bool,
     report: &mut Report,
 ) -> Result<(), Fault>
     requires empty { report_by report.old ≡ nothing }
@@ -79,21 +104,22 @@ pub fn listing<D: Store>(
         GoodIn (D.content store.old) file.now journal.now h →
         Arrives (D.content store.new) file.now journal.now (listing_cause h) h h result }
     ensures effect { IsTrue D.keeps → Works (from_names (D.content store.old) file.now journal.now
-        listing_effect) file.now journal.now (D.content store.old)
+        (listing_effect diffs)) file.now journal.now (D.content store.old)
         (D.content store.new) result }
-    ensures lines { IsTrue D.keeps → OnOk result (string_bytes report.new.text ≡
-        printed_by (from_names (D.content store.old) file.now journal.now listing_effect)) }
+    ensures lines { IsTrue D.keeps → OnOk result (IsOutput file.now
+        (printed_by (from_names (D.content store.old) file.now journal.now (listing_effect diffs)))
+        (string_bytes report.new.text)) }
     ensures output { IsTrue D.keeps → (h : Option History) →
         GoodIn (D.content store.old) file.now journal.now h →
-        OnOk result (report_by report.new ≡ report_text (spec.listing_output h)) }
+        OnOk result (Shows file.now (showing (listing_output diffs h)) (report_by report.new)) }
     ensures matched { report.new.is_match ≡ true }
     ensures same { IsTrue D.keeps → D.content store.new ≡ D.content store.old }
     ensures no_output { IfErr result (λ e. is_output e ≡ false) }
     ensures count { D.failures store.new ≡ failures_after result (D.failures store.old) }
-    ensures calls { CallsOnPair D.leads result file.now journal.now listing_effect
+    ensures calls { CallsOnPair D.leads result file.now journal.now (listing_effect diffs)
         store.old store.new }
 {
-    let (_text, state) = open_pair(alloc, store, file, journal)?;
-    report.text = lines_of(alloc, &state)?;
+    let (text, state) = open_pair(alloc, store, file, journal)?;
+    report.text = output_of(alloc, file, &state, text, diffs)?;
     Ok(())
 }

@@ -1,13 +1,13 @@
 //! One command, carried out over a store.
 ghost use Rattle.std.{specs.Prelude.{◌≡◌, ◌≢◌, ℕ, List, [], Option, Some, IfErr, OnOk, IsTrue, true, false}, specs.String.string_bytes};
 ghost use Rattle.yq_journal.specs.History.{History};
-ghost use Rattle.yq_commands.{specs.CommandNames.{IsOn, IsNotNamed}, specs.Editing.program_in};
-ghost use Rattle.yq_commands.specs.CommandEffects.{IsListing, IsUnparsed, OfEffect, expression_fault, fault_of, update_effect};
-ghost use Rattle.yq_commands.{specs.FileEdits.{HasEdited, IsFileEdited}, specs.Prints.{prints, reads_journal, report_of}};
-ghost use Rattle.yq_commands.specs.Calls.{CallsOf, CallsOfUpdate};
+ghost use Rattle.yq_commands.{specs.CommandNames.{IsOn, IsNotNamed, file_of}, specs.Editing.program_in};
+ghost use Rattle.yq_commands.specs.CommandEffects.{IsListing, IsUnparsed, OfEffect, expression_fault, fault_of, update_effect, output_by};
+ghost use Rattle.yq_commands.specs.FileEdits.{HasEdited, IsFileEdited, PrintsChange};
+ghost use Rattle.yq_commands.{specs.Prints.{prints, reads_journal, report_of, prints_change}, specs.Calls.{CallsOf, CallsOfUpdate}};
 ghost use Rattle.yq_commands.specs.Expecting.{ReportsExpected, expects_change, report_edit, works_as_expected};
 ghost use Rattle.yq_commands.specs.CommandSteps.{cause_of, next_of, update_cause, update_next};
-ghost use Rattle.yq_history.{specs.Effects.Works, specs.Faults.{is_outer_fault, is_output, failures_after}};
+ghost use Rattle.yq_history.{specs.Effects.Works, specs.Faults.{is_outer_fault, is_output, failures_after}, specs.Output.{IsOutput, Shows}};
 ghost use Rattle.yq_history.{specs.Pair.{Arrives, GoodIn, OthersStay}, specs.Report.{nothing, report_by}};
 ghost use Rattle.std.specs.FinMap as map;
 
@@ -20,7 +20,7 @@ use yq_commands::parse;
 use yq_history::{Direction, Fault, Report, listing, move_file, open_pair, squash};
 use yq_store::Store;
 
-/// Edits a file in place.
+/// Edits a file in place, and reports with `--diff` what changed.
 fn update<D: Store>(
     alloc: Global,
     store: &mut D,
@@ -30,6 +30,7 @@ fn update<D: Store>(
     options: EvalOptions,
     report: &mut Report,
 ) -> Result<(), Fault>
+    requires empty { string_bytes report.old.text ≡ [] }
     ensures arrives { IsTrue D.keeps → file.now ≢ journal.now → (h : Option History) →
         GoodIn (D.content store.old) file.now journal.now h →
         Arrives (D.content store.new) file.now journal.now (update_cause (program_in expr.now) h) h
@@ -40,12 +41,18 @@ fn update<D: Store>(
         (D.content store.new) result }
     ensures edited { IsTrue D.keeps → file.now ≢ journal.now →
         OnOk result (IsFileEdited expr.now (map.get (D.content store.old) file.now)
-        (map.get (D.content store.new) file.now)) }
+        (map.get (D.content store.new) file.now) × PrintsChange options.diff file.now
+        (map.get (D.content store.old) file.now) (map.get (D.content store.new) file.now)
+        (string_bytes report.new.text)) }
     ensures unparsed { (f : Fault) → fault_of (program_in expr.now) ≡ Some f → IsUnparsed f result }
-    ensures silent { report.new.text ≡ report.old.text }
+    ensures silent { options.diff ≡ false → string_bytes report.new.text ≡ [] }
     ensures output { IsTrue D.keeps → (h : Option History) →
         GoodIn (D.content store.old) file.now journal.now h → OnOk result
-        (report.new.is_match ≡ (report_edit options (program_in expr.now) h).is_match) }
+        (Shows file.now (report_edit options (program_in expr.now) h) (report_by report.new)) }
+    ensures listed { IsTrue D.keeps → file.now ≢ journal.now → OnOk result (IsOutput file.now
+        (output_by options.diff (map.get (D.content store.old) file.now)
+        (update_effect expr.now (program_in expr.now) (map.get (D.content store.old) file.now)
+        (map.get (D.content store.old) journal.now))) (string_bytes report.new.text)) }
     ensures expected { IsTrue D.keeps → OnOk result (report.new.is_match ≡
         works_as_expected options.expect_change (update_effect expr.now (program_in expr.now)
         (map.get (D.content store.old) file.now) (map.get (D.content store.old) journal.now))) }
@@ -86,7 +93,8 @@ pub fn execute<D: Store>(
         (λ x. Works x file journal (D.content store.old) (D.content store.new) result) }
     ensures output { IsTrue D.keeps → (file journal : List ℕ) → IsOn file journal command.now →
         (h : Option History) → GoodIn (D.content store.old) file journal h →
-        OnOk result (report_by report.new ≡ report_of command.now h) }
+        OnOk result (Shows (file_of command.now) (report_of command.now h)
+        (report_by report.new)) }
     ensures listed { IsTrue D.keeps → (file journal : List ℕ) → IsOn file journal command.now →
         OnOk result (IsListing command.now (map.get (D.content store.old) file)
         (map.get (D.content store.old) journal) (string_bytes report.new.text)) }
@@ -94,7 +102,8 @@ pub fn execute<D: Store>(
         OnOk result (HasEdited command.now (D.content store.old) (D.content store.new)
         (string_bytes report.new.text)) }
     ensures unparsed { (f : Fault) → expression_fault command.now ≡ Some f → IsUnparsed f result }
-    ensures silent { prints command.now ≡ false → string_bytes report.new.text ≡ [] }
+    ensures silent { prints command.now ≡ false → prints_change command.now ≡ false →
+        string_bytes report.new.text ≡ [] }
     ensures expected { IsTrue D.keeps → (file journal : List ℕ) → IsOn file journal command.now →
         ReportsExpected result report.new.is_match command.now (D.content store.old) file journal }
     ensures matched { reads_journal command.now ≡ true → expects_change command.now ≡ false →
@@ -149,9 +158,18 @@ pub fn execute<D: Store>(
                 Direction::Redo,
             )
         }
-        Command::History { file, journal } => {
-            listing(alloc, store, file.as_str(), journal.as_str(), report)
-        }
+        Command::History {
+            file,
+            journal,
+            diffs,
+        } => listing(
+            alloc,
+            store,
+            file.as_str(),
+            journal.as_str(),
+            *diffs,
+            report,
+        ),
         Command::Squash { n, file, journal } => {
             squash(alloc, store, file.as_str(), journal.as_str(), *n)
         }

@@ -16,7 +16,7 @@ use yq_history::Report;
 use yq_store::Store;
 
 /// Carries out commands in order, and gives an answer to each. A refused command changes no file,
-/// prints nothing, and doesn't end the list. An error means that none was carried out.
+/// unless what it changed is what can't be printed; it prints nothing, and doesn't end the list. An error means that none was carried out.
 pub fn run_list<D: Store, W: Out>(
     alloc: Global,
     store: &mut D,

@@ -26,7 +26,13 @@ fn command(alloc: Global, asked: Request) -> Result<Command, AllocError> {
     let (expr, in_place) = match asked {
         Request::Undo => return Ok(Command::Undo { file, journal }),
         Request::Redo => return Ok(Command::Redo { file, journal }),
-        Request::History => return Ok(Command::History { file, journal }),
+        Request::History => {
+            return Ok(Command::History {
+                file,
+                journal,
+                diffs: false,
+            });
+        }
         Request::Squash(n) => return Ok(Command::Squash { n, file, journal }),
         Request::Show(expr) => (expr, false),
         Request::Edit(expr) => (expr, true),

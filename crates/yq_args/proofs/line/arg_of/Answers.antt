@@ -12,6 +12,9 @@ returns-in-ExitStatus-clause-rule c = c.switch-in-ExitStatus.ensures.rule ∙ ap
 pub returns-in-NoDoc-clause-rule : goal.returns-in-NoDoc-clause-rule
 returns-in-NoDoc-clause-rule c = c.switch-in-NoDoc.ensures.rule ∙ ap argument_rule (sym c.in-NoDoc.is)
 
+pub returns-in-Diff-clause-rule : goal.returns-in-Diff-clause-rule
+returns-in-Diff-clause-rule c = c.switch-in-Diff.ensures.rule ∙ ap argument_rule (sym c.in-Diff.is)
+
 pub returns-in-ExpectChange-clause-rule : goal.returns-in-ExpectChange-clause-rule
 returns-in-ExpectChange-clause-rule c = c.long_switch.ensures.rule ∙ ap argument_rule (sym c.in-ExpectChange.is)
 

@@ -1,30 +1,41 @@
 use Rattle.std.{proofs.Common.{◌≡◌, ℕ, List, Err, string_bytes, refl, sym, ap, ◌∙◌, subst}, proofs.lemmas.Result.err_from_is_err_and}
 use Rattle.yq_history.{proofs.CallLaws.{fails, makes_none}, proofs.EffectLaws.on_ok, proofs.MoveLaws.on_ok_map}
+use Rattle.yq_history.specs.Output.{IsOutput, bytes}
 use Rattle.yq_semantics.specs.View.{program_of}
 use Rattle.yq_commands.{specs.Editing.{edited, program_edits}, specs.FileEdits.IsTextEdited, proofs.EditEffects.edit_fails}
-use Rattle.yq_commands.{specs.Expecting.{changes_as_expected, edits_as_expected}, proofs.ExpectingLaws.free_edit}
-use Rattle.yq_commands.proofs.FileEditLaws.{holds_comes}
+use Rattle.yq_commands.{specs.Expecting.{change_output, changes_as_expected, edits_as_expected}, proofs.ExpectingLaws.free_edit}
+use Rattle.yq_commands.proofs.FileEditLaws.{change_comes, holds_comes}
 use Rattle.yq_run.proofs.editing.edit_from.Goals as goal
 
 pub returns : goal.returns
 returns g c =
     let e = c.commit.ensures in
-    let a = c.in_ok-edited_to in
-    let u : List ℕ = string_bytes a.field-0.text in
+    let a = c.in_ok-edited in
+    let p = program_of c.args.program.now in
+    let diffs = c.args.options.diff in
+    let u : List ℕ = string_bytes a.edited.text in
     let new : u ≡ c.as_bytes-new.result.now = sym c.as_bytes-new.ensures.value in
-    let gives : program_edits (program_of c.args.program.now) c.args.text.items ≡ edited c.as_bytes-new.result.now a.field-0.splices.items =
-    ap (program_edits (program_of c.args.program.now)) (sym c.as_slice.ensures.value) ∙ a.ensures.ok ∙ (λ i. edited (new i) a.field-0.splices.items) in
+    let gives : program_edits p c.args.text.items ≡ edited c.as_bytes-new.result.now a.edited.splices.items =
+    ap (program_edits p) (sym c.as_slice.ensures.value) ∙ a.ensures.ok ∙ (λ i. edited (new i) a.edited.splices.items) in
+    let change : IsOutput c.args.file.now (change_output diffs c.args.text.items (program_edits p c.args.text.items)) (string_bytes a.change) =
+    subst (λ (t : List ℕ). IsOutput c.args.file.now (change_output diffs t (program_edits p t)) (string_bytes a.change)) c.as_slice.ensures.value a.ensures.change in
     record {
-      arrives = λ keeps apart h k. e.arrives keeps apart h (program_of c.args.program.now) k gives;
-      effect = λ keeps apart. e.effect keeps apart (program_of c.args.program.now) gives;
+      arrives = λ keeps apart h k. e.arrives keeps apart h p k gives;
+      effect = λ keeps apart. e.effect keeps apart p gives;
       edited = λ keeps apart there.
           on_ok_map _ (e.text keeps apart there)
-          (holds_comes (program_of c.args.program.now) c.args.text.items u c.as_bytes-new.result.now _
-          (subst (λ (t : List ℕ). IsTextEdited (program_of c.args.program.now) t u) c.as_slice.ensures.value a.ensures.edited) (sym new));
-      silent = refl;
-      expected = on_ok c.commit.result
-          (c.is_as_expected-report.ensures ∙ ap (λ t. changes_as_expected c.args.options t c.as_bytes-new.result.now) c.as_slice-2.ensures.value
-          ∙ ap (edits_as_expected c.args.options c.args.text.items) (sym gives));
+          (holds_comes p c.args.text.items u c.as_bytes-new.result.now _
+          (subst (λ (t : List ℕ). IsTextEdited p t u) c.as_slice.ensures.value a.ensures.edited) (sym new));
+      printed = λ keeps apart there.
+          on_ok_map _ (e.text keeps apart there)
+          (λ is. change_comes diffs c.args.file.now c.args.text.items c.as_bytes-new.result.now a.edited.splices.items (program_edits p c.args.text.items) _ (string_bytes a.change) gives is change);
+      silent = λ off. subst (λ b. IsOutput c.args.file.now (change_output b c.args.text.items (program_edits p c.args.text.items)) (string_bytes a.change)) off change;
+      shows = on_ok c.commit.result
+          (record {
+            output = change;
+            is_match = c.is_as_expected-report.ensures ∙ ap (λ t. changes_as_expected c.args.options t c.as_bytes-new.result.now) c.as_slice-2.ensures.value
+                ∙ ap (edits_as_expected c.args.options c.args.text.items) (sym gives);
+          });
       unasked = λ free matched. c.is_as_expected-report.ensures ∙ free_edit c.args.options c.as_slice-2.result.now c.as_bytes-new.result.now free;
       kept = e.kept;
       others = e.others;
@@ -33,14 +44,14 @@ returns g c =
       calls = e.calls (program_of c.args.program.now) gives;
     }
 
-pub returns-in_err-edited_to-clause-effect : goal.returns-in_err-edited_to-clause-effect
-returns-in_err-edited_to-clause-effect g c =
+pub returns-in_err-edited-clause-effect : goal.returns-in_err-edited-clause-effect
+returns-in_err-edited-clause-effect g c =
     let p = err_from_is_err_and c.from_residual.result c.from_residual.ensures.1 in
     rw (← c.as_slice.ensures.value)
     (λ keeps apart. edit_fails c.args.file.now c.args.journal.now (g.D.Store.content c.args.store.now) c.args.expr.now c.args.state.now c.as_slice.result.now
-    (program_edits (program_of c.args.program.now) c.as_slice.result.now) c.from_residual.result _ (p.1 ∙ ap Err p.2) c.in_err-edited_to.ensures.err)
+    (program_edits (program_of c.args.program.now) c.as_slice.result.now) c.from_residual.result _ (p.1 ∙ ap Err p.2) c.in_err-edited.ensures.err)
 
-pub returns-in_err-edited_to-clause-calls : goal.returns-in_err-edited_to-clause-calls
-returns-in_err-edited_to-clause-calls g c =
+pub returns-in_err-edited-clause-calls : goal.returns-in_err-edited-clause-calls
+returns-in_err-edited-clause-calls g c =
     let p = err_from_is_err_and c.from_residual.result c.from_residual.ensures.1 in
     makes_none g.D.Store.leads c.from_residual.result c.args.file.now c.args.journal.now c.args.text.items _ c.args.store.now (fails c.from_residual.result _ p.1)

@@ -5,7 +5,7 @@ use Rattle.yq_commands.{proofs.CommandCalls.{none_yet, parsed_calls}, proofs.Fil
 use Rattle.yq_run.proofs.evaluating.evaluate.Goals as goal
 
 pub returns-clause-edited : goal.returns-clause-edited
-returns-clause-edited g c = λ keeps. printed_comes c.evaluate_program.result c.args.expr.now (program_of c.in_ok-program.program) _ _ c.in_ok-program.ensures.ok (c.evaluate_program.ensures.edited keeps)
+returns-clause-edited g c = λ keeps. printed_comes c.evaluate_program.result c.args.options.diff c.args.expr.now c.args.file.now (program_of c.in_ok-program.program) _ _ c.in_ok-program.ensures.ok (c.evaluate_program.ensures.edited keeps)
 
 pub returns-in_err-program-clause-unparsed : goal.returns-in_err-program-clause-unparsed
 returns-in_err-program-clause-unparsed g c =

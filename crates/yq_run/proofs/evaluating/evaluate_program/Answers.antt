@@ -12,12 +12,12 @@ returns-in_err-report-clause-arrives g c = λ keeps journal h good.
 pub returns-clause-arrives : goal.returns-clause-arrives
 returns-clause-arrives g c = λ keeps journal h good.
     show_done (g.D.Store.content c.args.store.now) _ _ _ (shows c.args.options (program_of c.args.program.now)) c.deref.result.now (c.in_ok-text.ensures.same keeps)
-    (c.in_ok-text.ensures.found keeps ∙ ap Some (sym c.deref.ensures.value)) h good {T = ℕ} 0 _ c.in_ok-report.ensures.ok
+    (c.in_ok-text.ensures.found keeps ∙ ap Some (sym c.deref.ensures.value)) h good {T = ℕ} 0 c.args.file.now _ c.in_ok-report.ensures.ok
 
 pub returns-clause-output : goal.returns-clause-output
 returns-clause-output g c = λ keeps journal h good.
     report_is (g.D.Store.content c.args.store.now) (g.D.Store.content c.args.store.now) _ _ (shows c.args.options (program_of c.args.program.now)) c.deref.result.now refl
-    (c.in_ok-text.ensures.found keeps ∙ ap Some (sym c.deref.ensures.value)) h good _ c.in_ok-report.ensures.ok
+    (c.in_ok-text.ensures.found keeps ∙ ap Some (sym c.deref.ensures.value)) h good c.args.file.now _ c.in_ok-report.ensures.ok
 
 pub returns-clause-edited : goal.returns-clause-edited
 returns-clause-edited g c = λ keeps updates. (c.deref.result.now, c.in_ok-text.ensures.found keeps ∙ ap Some (sym c.deref.ensures.value), c.in_ok-report.ensures.edited updates)

@@ -5,11 +5,13 @@ use Rattle.yq_history.{specs.Effects.{from_names, listing_effect, move_effect, p
 use Rattle.yq_history.{specs.Pair.GoodIn, specs.Report.{Report, report_by, text}}
 use Rattle.yq_history.{specs.Steps.{listing_cause, move_cause, move_next, squash_cause, squash_next}, proofs.EffectLaws.on_ok}
 use Rattle.yq_args.specs.declared.command.Command.TheVariants.{Eval}
-use Rattle.yq_commands.{specs.CommandEffects.{expression_fault, fault_of}, specs.Editing.program_in, specs.Prints.{prints, reads_journal}}
-use Rattle.yq_commands.{specs.Expecting.expects_change, proofs.ExpectingLaws.none_expected}
+use Rattle.yq_commands.{specs.CommandEffects.{expression_fault, fault_of}, specs.Editing.program_in}
+use Rattle.yq_commands.{specs.Prints.{prints, reads_journal, prints_change}, specs.Expecting.expects_change}
+use Rattle.yq_commands.proofs.ExpectingLaws.{none_expected}
 use Rattle.yq_commands.proofs.ExecuteLaws.{ArrivesOn, EditsOn, ExpectsOn, ListsOn, OthersOn, ShowsOn, WorksOn, by_names, evaluate_arrives}
 use Rattle.yq_commands.proofs.ExecuteLaws.{evaluate_edits, evaluate_shows, pair_arrives, pair_others, pair_works, update_arrives}
-use Rattle.yq_commands.{proofs.ExecuteLaws.{update_edits, update_expects, update_shows, update_works}, specs.Calls.CallsOf}
+use Rattle.yq_commands.proofs.ExecuteLaws.{update_edits, update_expects, update_shows, update_works, empty_shows, listing_lists}
+use Rattle.yq_commands.{proofs.ExecuteLaws.{listing_shows, update_lists}, specs.Calls.CallsOf}
 use Rattle.yq_commands.proofs.CommandCalls.{evaluation_calls, pair_calls, update_calls}
 use Rattle.yq_commands.proofs.OutcomeLaws.{each_error, memory_counted, memory_no_output}
 use Rattle.yq_journal.specs.declared.moves.Move.TheVariants as move
@@ -22,11 +24,11 @@ returns-in-Undo g c =
     record {
       arrives = λ keeps. subst (ArrivesOn _ _ c.move_file.result) (sym is) (pair_arrives _ _ _ _ c.as_str-in-Undo.ensures.value c.as_str-in-Undo-2.ensures.value _ _ c.move_file.result (move_cause move.Undo) (move_next move.Undo) (e.arrives keeps));
       effect = λ keeps. subst (WorksOn _ _ c.move_file.result) (sym is) (pair_works _ _ _ _ c.as_str-in-Undo.ensures.value c.as_str-in-Undo-2.ensures.value _ _ c.move_file.result (move_effect move.Undo) (e.effect keeps));
-      output = λ keeps. subst (ShowsOn _ c.move_file.result _) (sym is) (λ file journal on h good. on_ok c.move_file.result c.requires.empty);
+      output = λ keeps. subst (ShowsOn _ c.move_file.result _) (sym is) (λ file journal on h good. on_ok c.move_file.result (empty_shows _ _ c.requires.empty));
       listed = λ keeps. subst (ListsOn _ c.move_file.result _) (sym is) (λ file journal on. on_ok c.move_file.result tt);
       edited = λ keeps. subst (EditsOn _ _ c.move_file.result _) (sym is) (on_ok c.move_file.result tt);
       unparsed = λ f fault. absurd (none-some f (sym (ap expression_fault is) ∙ fault));
-      silent = λ hidden. ap (λ (s : Report). s.printed) c.requires.empty;
+      silent = λ hidden still. ap (λ (s : Report). s.printed) c.requires.empty;
       expected = λ keeps. subst (ExpectsOn _ c.move_file.result _) (sym is) (λ file journal on. on_ok c.move_file.result (ap (λ (s : Report). s.is_match) c.requires.empty ∙ none_expected _));
       matched = λ reads free. ap (λ (s : Report). s.is_match) c.requires.empty;
       still = λ keeps shown. absurd (false≢true (sym (ap prints is) ∙ shown));
@@ -44,11 +46,11 @@ returns-in-Redo g c =
     record {
       arrives = λ keeps. subst (ArrivesOn _ _ c.move_file-in-Redo.result) (sym is) (pair_arrives _ _ _ _ c.as_str-in-Redo.ensures.value c.as_str-in-Redo-2.ensures.value _ _ c.move_file-in-Redo.result (move_cause move.Redo) (move_next move.Redo) (e.arrives keeps));
       effect = λ keeps. subst (WorksOn _ _ c.move_file-in-Redo.result) (sym is) (pair_works _ _ _ _ c.as_str-in-Redo.ensures.value c.as_str-in-Redo-2.ensures.value _ _ c.move_file-in-Redo.result (move_effect move.Redo) (e.effect keeps));
-      output = λ keeps. subst (ShowsOn _ c.move_file-in-Redo.result _) (sym is) (λ file journal on h good. on_ok c.move_file-in-Redo.result c.requires.empty);
+      output = λ keeps. subst (ShowsOn _ c.move_file-in-Redo.result _) (sym is) (λ file journal on h good. on_ok c.move_file-in-Redo.result (empty_shows _ _ c.requires.empty));
       listed = λ keeps. subst (ListsOn _ c.move_file-in-Redo.result _) (sym is) (λ file journal on. on_ok c.move_file-in-Redo.result tt);
       edited = λ keeps. subst (EditsOn _ _ c.move_file-in-Redo.result _) (sym is) (on_ok c.move_file-in-Redo.result tt);
       unparsed = λ f fault. absurd (none-some f (sym (ap expression_fault is) ∙ fault));
-      silent = λ hidden. ap (λ (s : Report). s.printed) c.requires.empty;
+      silent = λ hidden still. ap (λ (s : Report). s.printed) c.requires.empty;
       expected = λ keeps. subst (ExpectsOn _ c.move_file-in-Redo.result _) (sym is) (λ file journal on. on_ok c.move_file-in-Redo.result (ap (λ (s : Report). s.is_match) c.requires.empty ∙ none_expected _));
       matched = λ reads free. ap (λ (s : Report). s.is_match) c.requires.empty;
       still = λ keeps shown. absurd (false≢true (sym (ap prints is) ∙ shown));
@@ -66,11 +68,11 @@ returns-in-Squash g c =
     record {
       arrives = λ keeps. subst (ArrivesOn _ _ c.squash.result) (sym is) (pair_arrives _ _ _ _ c.as_str-in-Squash.ensures.value c.as_str-in-Squash-2.ensures.value _ _ c.squash.result (squash_cause c.in-Squash.n) (squash_next c.in-Squash.n) (e.arrives keeps));
       effect = λ keeps. subst (WorksOn _ _ c.squash.result) (sym is) (pair_works _ _ _ _ c.as_str-in-Squash.ensures.value c.as_str-in-Squash-2.ensures.value _ _ c.squash.result (squash_effect c.in-Squash.n) (e.effect keeps));
-      output = λ keeps. subst (ShowsOn _ c.squash.result _) (sym is) (λ file journal on h good. on_ok c.squash.result c.requires.empty);
+      output = λ keeps. subst (ShowsOn _ c.squash.result _) (sym is) (λ file journal on h good. on_ok c.squash.result (empty_shows _ _ c.requires.empty));
       listed = λ keeps. subst (ListsOn _ c.squash.result _) (sym is) (λ file journal on. on_ok c.squash.result tt);
       edited = λ keeps. subst (EditsOn _ _ c.squash.result _) (sym is) (on_ok c.squash.result tt);
       unparsed = λ f fault. absurd (none-some f (sym (ap expression_fault is) ∙ fault));
-      silent = λ hidden. ap (λ (s : Report). s.printed) c.requires.empty;
+      silent = λ hidden still. ap (λ (s : Report). s.printed) c.requires.empty;
       expected = λ keeps. subst (ExpectsOn _ c.squash.result _) (sym is) (λ file journal on. on_ok c.squash.result (ap (λ (s : Report). s.is_match) c.requires.empty ∙ none_expected _));
       matched = λ reads free. ap (λ (s : Report). s.is_match) c.requires.empty;
       still = λ keeps shown. absurd (false≢true (sym (ap prints is) ∙ shown));
@@ -85,18 +87,17 @@ pub returns-in-History : goal.returns-in-History
 returns-in-History g c =
     let e = c.listing.ensures in
     let is = c.in-History.is in
-    let old = g.D.Store.content c.args.store.now in
     let report = c.listing.new.report in
     record {
       arrives = λ keeps. subst (ArrivesOn _ _ c.listing.result) (sym is) (pair_arrives _ _ _ _ c.as_str-in-History.ensures.value c.as_str-in-History-2.ensures.value _ _ c.listing.result listing_cause (λ h. h) (λ apart. e.arrives keeps));
-      effect = λ keeps. subst (WorksOn _ _ c.listing.result) (sym is) (pair_works _ _ _ _ c.as_str-in-History.ensures.value c.as_str-in-History-2.ensures.value _ _ c.listing.result listing_effect (λ apart. e.effect keeps));
+      effect = λ keeps. subst (WorksOn _ _ c.listing.result) (sym is) (pair_works _ _ _ _ c.as_str-in-History.ensures.value c.as_str-in-History-2.ensures.value _ _ c.listing.result (listing_effect c.in-History.diffs) (λ apart. e.effect keeps));
       output = λ keeps. subst (ShowsOn _ c.listing.result _) (sym is)
-          (λ file journal on h good. by_names _ _ _ _ c.as_str-in-History.ensures.value c.as_str-in-History-2.ensures.value (λ x y. (h : Option History) → GoodIn old x y h → OnOk c.listing.result (report_by report ≡ text (listing_output h))) file journal on (e.output keeps) h good);
+          (listing_shows _ _ _ _ c.as_str-in-History.ensures.value c.as_str-in-History-2.ensures.value _ c.listing.result (report_by report) c.in-History.diffs (e.output keeps));
       listed = λ keeps. subst (ListsOn _ c.listing.result _) (sym is)
-          (λ file journal on. by_names _ _ _ _ c.as_str-in-History.ensures.value c.as_str-in-History-2.ensures.value (λ x y. OnOk c.listing.result (string_bytes report.text ≡ printed_by (from_names old x y listing_effect))) file journal on (e.lines keeps));
+          (listing_lists _ _ _ _ c.as_str-in-History.ensures.value c.as_str-in-History-2.ensures.value _ c.listing.result (string_bytes report.text) c.in-History.diffs (e.lines keeps));
       edited = λ keeps. subst (EditsOn _ _ c.listing.result _) (sym is) (on_ok c.listing.result tt);
       unparsed = λ f fault. absurd (none-some f (sym (ap expression_fault is) ∙ fault));
-      silent = λ hidden. absurd (true≢false (sym (ap prints is) ∙ hidden));
+      silent = λ hidden still. absurd (true≢false (sym (ap prints is) ∙ hidden));
       expected = λ keeps. subst (ExpectsOn _ c.listing.result _) (sym is) (λ file journal on. on_ok c.listing.result (e.matched ∙ none_expected _));
       matched = λ reads free. e.matched;
       still = λ keeps shown. e.same keeps;
@@ -104,7 +105,7 @@ returns-in-History g c =
       others = λ keeps q apart. ap (λ m. get m q) (e.same keeps);
       no_output = e.no_output;
       count = e.count;
-      calls = subst (λ x. CallsOf g.D.Store.leads c.listing.result x c.args.store.now c.listing.new.store) (sym is) (pair_calls g.D.Store.leads _ _ _ _ _ c.as_str-in-History.ensures.value c.as_str-in-History-2.ensures.value (listing_effect) _ _ e.calls);
+      calls = subst (λ x. CallsOf g.D.Store.leads c.listing.result x c.args.store.now c.listing.new.store) (sym is) (pair_calls g.D.Store.leads _ _ _ _ _ c.as_str-in-History.ensures.value c.as_str-in-History-2.ensures.value (listing_effect c.in-History.diffs) _ _ e.calls);
     }
 
 pub returns-in-Help : goal.returns-in-Help
@@ -117,7 +118,7 @@ returns-in-Help g c =
       listed = λ keeps. subst (ListsOn _ c.help.result _) (sym is) (λ file journal on. absurd on);
       edited = λ keeps. subst (EditsOn _ _ c.help.result _) (sym is) (on_ok c.help.result tt);
       unparsed = λ f fault. absurd (none-some f (sym (ap expression_fault is) ∙ fault));
-      silent = λ hidden. absurd (true≢false (sym (ap prints is) ∙ hidden));
+      silent = λ hidden still. absurd (true≢false (sym (ap prints is) ∙ hidden));
       expected = λ keeps. subst (ExpectsOn _ c.help.result _) (sym is) (λ file journal on. absurd on);
       matched = λ reads free. absurd (false≢true (sym (ap reads_journal is) ∙ reads));
       still = λ keeps shown. refl;
@@ -139,9 +140,9 @@ returns-in-Eval g c =
       effect = λ keeps. subst (WorksOn _ _ c.evaluate.result) (sym is) (λ file journal apart on. tt);
       output = λ keeps. subst (ShowsOn _ c.evaluate.result _) (sym is) (evaluate_shows _ _ c.as_str-in-Eval.ensures.value _ _ c.as_str-in-Eval-2.ensures.value a.options _ c.evaluate.result _ (e.output keeps));
       listed = λ keeps. subst (ListsOn _ c.evaluate.result _) (sym is) (λ file journal on. on_ok c.evaluate.result tt);
-      edited = λ keeps. subst (EditsOn _ _ c.evaluate.result _) (sym is) (evaluate_edits _ _ c.as_str-in-Eval.ensures.value _ _ c.as_str-in-Eval-2.ensures.value a.options _ c.evaluate.result _ (e.edited keeps));
+      edited = λ keeps. subst (EditsOn _ _ c.evaluate.result _) (sym is) (evaluate_edits _ _ c.as_str-in-Eval.ensures.value _ _ c.as_str-in-Eval-2.ensures.value a.options _ c.evaluate.result a.options.diff _ (e.edited keeps));
       unparsed = λ f fault. e.unparsed f (ap (λ y. fault_of (program_in y)) c.as_str-in-Eval-2.ensures.value ∙ sym (ap expression_fault is) ∙ fault);
-      silent = λ hidden. absurd (true≢false (sym (ap prints is) ∙ hidden));
+      silent = λ hidden still. absurd (true≢false (sym (ap prints is) ∙ hidden));
       expected = λ keeps. subst (ExpectsOn _ c.evaluate.result _) (sym is) (λ file journal on. tt);
       matched = λ reads free. absurd (false≢true (sym (ap reads_journal is) ∙ reads));
       still = λ keeps shown. e.same keeps;
@@ -162,12 +163,12 @@ returns-in-Eval-default-default-default-true-default g c =
       arrives = λ keeps. subst (ArrivesOn _ _ c.update.result) (sym is) (update_arrives _ _ _ _ c.as_str.ensures.value c.as_str-in-Eval-default-default-default-true-default.ensures.value _ _ c.update.result _ _ c.as_str-in-Eval-default-default-default-true-default-2.ensures.value (e.arrives keeps));
       effect = λ keeps. subst (WorksOn _ _ c.update.result) (sym is) (update_works _ _ _ _ c.as_str.ensures.value c.as_str-in-Eval-default-default-default-true-default.ensures.value _ _ c.update.result _ _ c.as_str-in-Eval-default-default-default-true-default-2.ensures.value (e.effect keeps));
       output = λ keeps. subst (ShowsOn _ c.update.result _) (sym is)
-          (update_shows _ _ _ _ c.as_str.ensures.value c.as_str-in-Eval-default-default-default-true-default.ensures.value _ c.update.result (report_by c.update.new.report) a.options _ _ c.as_str-in-Eval-default-default-default-true-default-2.ensures.value
-          (ap string_bytes e.silent ∙ ap (λ (s : Report). s.printed) c.requires.empty) (e.output keeps));
-      listed = λ keeps. subst (ListsOn _ c.update.result _) (sym is) (λ file journal on. on_ok c.update.result tt);
-      edited = λ keeps. subst (EditsOn _ _ c.update.result _) (sym is) (update_edits _ _ _ _ c.as_str.ensures.value c.as_str-in-Eval-default-default-default-true-default.ensures.value _ _ c.update.result _ _ c.as_str-in-Eval-default-default-default-true-default-2.ensures.value (e.edited keeps));
+          (update_shows _ _ _ _ c.as_str.ensures.value c.as_str-in-Eval-default-default-default-true-default.ensures.value _ c.update.result (report_by c.update.new.report) a.options _ _ c.as_str-in-Eval-default-default-default-true-default-2.ensures.value (e.output keeps));
+      listed = λ keeps. subst (ListsOn _ c.update.result _) (sym is)
+          (update_lists _ _ _ _ c.as_str.ensures.value c.as_str-in-Eval-default-default-default-true-default.ensures.value _ c.update.result _ a.options.diff _ _ c.as_str-in-Eval-default-default-default-true-default-2.ensures.value (e.listed keeps));
+      edited = λ keeps. subst (EditsOn _ _ c.update.result _) (sym is) (update_edits _ _ _ _ c.as_str.ensures.value c.as_str-in-Eval-default-default-default-true-default.ensures.value _ _ c.update.result a.options.diff _ _ _ c.as_str-in-Eval-default-default-default-true-default-2.ensures.value (e.edited keeps));
       unparsed = λ f fault. e.unparsed f (ap (λ y. fault_of (program_in y)) c.as_str-in-Eval-default-default-default-true-default-2.ensures.value ∙ sym (ap expression_fault is) ∙ fault);
-      silent = λ hidden. ap string_bytes e.silent ∙ ap (λ (s : Report). s.printed) c.requires.empty;
+      silent = λ hidden still. e.silent (sym (ap prints_change is) ∙ still);
       expected = λ keeps. subst (ExpectsOn _ c.update.result _) (sym is)
           (update_expects _ _ _ _ c.as_str.ensures.value c.as_str-in-Eval-default-default-default-true-default.ensures.value _ c.update.result _ a.options.expect_change _ _ c.as_str-in-Eval-default-default-default-true-default-2.ensures.value (e.expected keeps));
       matched = λ reads free. e.unasked (sym (ap expects_change is) ∙ free) (ap (λ (s : Report). s.is_match) c.requires.empty);
@@ -178,3 +179,6 @@ returns-in-Eval-default-default-default-true-default g c =
       count = e.count;
       calls = subst (λ x. CallsOf g.D.Store.leads c.update.result x c.args.store.now c.update.new.store) (sym is) (update_calls g.D.Store.leads _ _ _ _ _ c.as_str.ensures.value c.as_str-in-Eval-default-default-default-true-default.ensures.value _ _ c.as_str-in-Eval-default-default-default-true-default-2.ensures.value _ _ e.calls);
     }
+
+pub update-requires : goal.update-requires
+update-requires g c = ap (λ (s : Report). s.printed) c.requires.empty

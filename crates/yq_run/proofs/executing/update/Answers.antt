@@ -2,13 +2,14 @@ use Rattle.std.{proofs.Common.{◌≡◌, ℕ, List, false, Ok, Err, IfErr, sym,
 use Rattle.std.specs.FinMap.{get}
 use Rattle.yq_journal.specs.State.{State}
 use Rattle.yq_semantics.specs.View.{program_of}
-use Rattle.yq_commands.{specs.Editing.program_edits, specs.CommandEffects.{edit_effect, update_effect}}
+use Rattle.yq_commands.{specs.Editing.program_edits, specs.CommandEffects.{edit_effect, update_effect, output_by}}
 use Rattle.yq_commands.{specs.Expecting.{report_edit, works_as_expected}, proofs.EditEffects.{not_parsed, parsed_works}}
-use Rattle.yq_commands.{proofs.FileEditLaws.{file_comes, parsed_free, unparsed_fault}, specs.CommandSteps.{update_cause, update_next}}
-use Rattle.yq_commands.{proofs.ExpectingLaws.{effect_expected, history_expected, matched_as}, proofs.OutcomeLaws.{arrives_as, opened}}
-use Rattle.yq_commands.proofs.CommandCalls.{none_yet, parsed_calls}
+use Rattle.yq_commands.proofs.FileEditLaws.{file_comes, parsed_free, unparsed_fault, both_come, change_output_by}
+use Rattle.yq_commands.specs.CommandSteps.{update_cause, update_next}
+use Rattle.yq_commands.proofs.ExpectingLaws.{effect_expected, history_expected, matched_as, history_showing}
+use Rattle.yq_commands.{proofs.OutcomeLaws.{arrives_as, opened}, proofs.CommandCalls.{none_yet, parsed_calls}}
 use Rattle.yq_history.{proofs.CallLaws.{fails, unopened_calls, opened_calls}, proofs.EffectLaws.{not_opened, from_opened}}
-use Rattle.yq_history.specs.Faults.{failures_after, is_outer_fault}
+use Rattle.yq_history.{specs.Faults.{failures_after, is_outer_fault}, specs.Output.{IsOutput, Shows}, proofs.MoveLaws.on_ok_map}
 use Rattle.yq_run.proofs.executing.update.Goals as goal
 
 pub returns : goal.returns
@@ -28,15 +29,30 @@ returns g c =
       edited = λ keeps apart.
           let same = c.in_ok-text.ensures.same keeps in
           let held = c.in_ok-text.ensures.text keeps in
-          file_comes c.edit_from.result c.args.expr.now (program_of c.in_ok-program.program) c.in_ok-text.text.items _ _ c.in_ok-program.ensures.ok held
-          (c.edit_from.ensures.edited keeps apart (ap (λ m. get m c.args.file.now) same ∙ held));
+          let there = ap (λ m. get m c.args.file.now) same ∙ held in
+          both_come c.edit_from.result c.args.options.diff c.args.expr.now c.args.file.now c.in_ok-text.text.items _ _ _ held
+          (file_comes c.edit_from.result c.args.expr.now (program_of c.in_ok-program.program) c.in_ok-text.text.items _ _ c.in_ok-program.ensures.ok held (e.edited keeps apart there))
+          (e.printed keeps apart there);
       silent = e.silent;
-      output = λ keeps h good. matched_as _ c.edit_from.result _ _ _ e.expected
-          (history_expected c.args.options (program_of c.in_ok-program.program) _ c.args.file.now c.args.journal.now c.in_ok-text.text.items (c.in_ok-text.ensures.text keeps) h good
-          ∙ ap (λ q. (report_edit c.args.options q h).is_match) (sym c.in_ok-program.ensures.ok));
+      output = λ keeps h good.
+          on_ok_map c.edit_from.result e.shows
+          (subst (λ due. Shows c.args.file.now due _)
+          (history_showing c.args.options (program_of c.in_ok-program.program) _ c.args.file.now c.args.journal.now c.in_ok-text.text.items (c.in_ok-text.ensures.text keeps) h good
+          ∙ ap (λ q. report_edit c.args.options q h) (sym c.in_ok-program.ensures.ok)));
+      listed = λ keeps apart.
+          let does = λ (t : List ℕ) (s : State). edit_effect c.args.expr.now (program_edits (program_of c.in_ok-program.program) t) t s in
+          let held = c.in_ok-text.ensures.text keeps in
+          let effect = c.in_ok-text.ensures.found keeps does in
+          let diffs = c.args.options.diff in
+          on_ok_map c.edit_from.result
+          (change_output_by diffs c.args.file.now c.args.file.now c.args.journal.now c.args.expr.now c.in_ok-text.text.items (program_edits (program_of c.in_ok-program.program) c.in_ok-text.text.items) c.in_ok-text.state _ _ c.edit_from.result _ (e.effect keeps apart) (on_ok_map c.edit_from.result e.shows (λ s. s.output)))
+          (subst (λ x. IsOutput c.args.file.now x _)
+          (ap (λ o. output_by diffs o (does c.in_ok-text.text.items c.in_ok-text.state)) (sym held)
+          ∙ ap (output_by diffs (get (g.D.Store.content c.args.store.now) c.args.file.now)) (sym effect)
+          ∙ ap (λ q. output_by diffs (get (g.D.Store.content c.args.store.now) c.args.file.now) (update_effect c.args.expr.now q (get (g.D.Store.content c.args.store.now) c.args.file.now) (get (g.D.Store.content c.args.store.now) c.args.journal.now))) (sym c.in_ok-program.ensures.ok)));
       expected = λ keeps.
           let does = λ (t : List ℕ) (s : State). edit_effect c.args.expr.now (program_edits (program_of c.in_ok-program.program) t) t s in
-          matched_as _ c.edit_from.result _ _ _ e.expected
+          matched_as _ c.edit_from.result _ _ _ (on_ok_map c.edit_from.result e.shows (λ s. s.is_match))
           (effect_expected c.args.options c.args.expr.now c.in_ok-text.text.items (program_edits (program_of c.in_ok-program.program) c.in_ok-text.text.items) c.in_ok-text.state
           ∙ ap (works_as_expected c.args.options.expect_change) (sym (c.in_ok-text.ensures.found keeps does))
           ∙ ap (λ q. works_as_expected c.args.options.expect_change (update_effect c.args.expr.now q (get (g.D.Store.content c.args.store.now) c.args.file.now) (get (g.D.Store.content c.args.store.now) c.args.journal.now))) (sym c.in_ok-program.ensures.ok));
