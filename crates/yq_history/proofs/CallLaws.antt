@@ -7,7 +7,7 @@ use Rattle.yq_journal.specs.State.{State, journal_after, moved_text, settled_bes
 use Rattle.yq_store.{specs.Calls.{Call, writes}, specs.declared.store.FileReadError.FileReadError}
 use Rattle.yq_history.{specs.declared.fault.Fault.Fault, specs.Faults.{of_read, of_write}}
 use Rattle.yq_history.specs.Calls.{AfterFile, AfterJournal, CallsOnPair, IsOpened, Makes, Puts, PutsJournal, ReadsJournal, ReadsPair}
-use Rattle.yq_history.specs.Calls.{writes_of}
+use Rattle.yq_history.{specs.Calls.writes_of, specs.Output.bytes}
 use Rattle.yq_history.specs.Effects.{Effect, refuses, writes_nothing, writes_both, from_pair, goes_to, leads_to, move_effect, joins_to}
 use Rattle.yq_history.{specs.Effects.squash_effect, proofs.EffectLaws.settles, proofs.MoveLaws.{bytes_differ, bytes_same, no_way_free}}
 use Rattle.yq_store.specs.declared.store.FileReadError.TheVariants as read
@@ -85,13 +85,13 @@ module _ {S : Type 0} (leads : S → Call → S → Type 0) where
     pub squashed_one : (n == 1) ≡ true → squash_fault s n ≡ None → e ≡ a → Makes leads r f j t (squash_effect n t s) a e
     squashed_one one free same =
         subst (λ x. Makes leads r f j t x a e)
-        (sym (ap (λ o. joins_to o n t (squashed s n)) free ∙ ap (λ b. if b then writes_nothing [] else writes_both t (squashed s n) (squashed s n)) one)) same
+        (sym (ap (λ o. joins_to o n t (squashed s n)) free ∙ ap (λ b. if b then writes_nothing (bytes []) else writes_both t (squashed s n) (squashed s n)) one)) same
 
     -- of several
     pub squash_write : (n == 1) ≡ false → squash_fault s n ≡ None → PutsJournal leads r j (squashed s n) a e → Makes leads r f j t (squash_effect n t s) a e
     squash_write some free puts =
         subst (λ x. Makes leads r f j t x a e)
-        (sym (ap (λ o. joins_to o n t (squashed s n)) free ∙ ap (λ b. if b then writes_nothing [] else writes_both t (squashed s n) (squashed s n)) some))
+        (sym (ap (λ o. joins_to o n t (squashed s n)) free ∙ ap (λ b. if b then writes_nothing (bytes []) else writes_both t (squashed s n) (squashed s n)) some))
         (subst (λ x. Puts leads r x a e)
         (sym (ap (λ b. if b then (j, journal_text (squashed s n)) ∷ [] else (j, journal_text (squashed s n)) ∷ (f, t) ∷ (j, journal_text (squashed s n)) ∷ []) (bytes_same t))) puts)
 

@@ -3,7 +3,7 @@ ghost use Rattle.std.specs.Prelude.{◌≡◌, ◌∷◌, ◌++◌, [], Option, 
 ghost use Rattle.std.specs.String.{string_bytes};
 ghost use Rattle.yq_journal.specs.History.{History};
 ghost use Rattle.yq_history.{specs.Effects.{Works, from_names, listing_effect, printed_by}, specs.Faults.{is_output, failures_after}};
-ghost use Rattle.yq_history.{specs.Pair.{Arrives, GoodIn}, specs.Report.{nothing, report_by, text as report_text}, specs.Calls.CallsOnPair};
+ghost use Rattle.yq_history.{specs.Pair.{Arrives, GoodIn}, specs.Report.{nothing, report_by}, specs.Calls.CallsOnPair};
 ghost use Rattle.yq_history.{specs.Steps.listing_cause, specs.Output.{IsOutput, Shows, listing_output, record_output, showing}};
 ghost use Rattle.json.specs.Print as json;
 ghost use Rattle.yq_history.specs.Listing as spec;
