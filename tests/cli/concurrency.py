@@ -10,7 +10,7 @@ import subprocess
 import time
 from concurrent.futures import ThreadPoolExecutor, wait
 
-from harness import SECONDS, each_user, equal
+from harness import NOBODY, SECONDS, each_user, equal
 from tracing import Held, calls_in, own_calls, traced
 
 DONE, NO_LOCK = (0, b"", b""), (1, b"", b"Error: S2 read failed\n")
@@ -254,23 +254,31 @@ def check_a_wait_is_told_on_a_terminal(folder):
     equal(folder.read("f"), b"n: 2\n")
 
 
+def goes_on_without_locks(place, error, nobody):
+    """A command that may write is refused where locks fail in this way, unless it is asked for."""
+    failing = f"flock:error={error}"
+    for word in (None, "", "0", "yes"):
+        env = {**os.environ, **({} if word is None else {"YQ_NO_LOCK": word})}
+        status, err, trace = traced(place, words(1), failing, env=env, nobody=nobody)
+        equal((status, err, place.names(), place.read("f")), (1, NO_LOCK[2], ["f"], text(value(0))), (error, word))
+    status, err, trace = traced(place, words(1), failing, env={**os.environ, "YQ_NO_LOCK": "1"}, nobody=nobody)
+    equal((status, err), (0, b""), error)
+    opens = [line for line in trace if line.startswith("openat(") and '"f"' in line]
+    equal((len(opens), "O_RDWR" in opens[0]), (1, True), opens)
+    equal(traced(place, ["history", "f"], failing, nobody=nobody)[:2], (0, b""))
+    holds_all(place, [1])
+
+
 def check_a_file_system_without_locks(folder):
-    """What may write is refused there, unless it is asked for. One that lends a lock only to who may write finds the file open so."""
-    for error in ("ENOLCK", "EOPNOTSUPP", "ENOSYS"):
-        place = type(folder)(folder.yq, folder.name(error))
-        os.mkdir(place.path)
-        place.write("f", text(value(0)))
-        failing = f"flock:error={error}"
-        for word in (None, "", "0", "yes"):
-            env = {**os.environ, **({} if word is None else {"YQ_NO_LOCK": word})}
-            status, err, trace = traced(place, words(1), failing, env=env)
-            equal((status, err, place.names(), place.read("f")), (1, NO_LOCK[2], ["f"], text(value(0))), (error, word))
-        status, err, trace = traced(place, words(1), failing, env={**os.environ, "YQ_NO_LOCK": "1"})
-        equal((status, err), (0, b""), error)
-        opens = [line for line in trace if line.startswith("openat(") and '"f"' in line]
-        equal((len(opens), "O_RDWR" in opens[0]), (1, True), opens)
-        equal(traced(place, ["history", "f"], failing)[:2], (0, b""))
-        holds_all(place, [1])
+    """One that lends a lock only to who may write finds the file open so."""
+    for of_user, user, _before in each_user(folder):
+        for error in ("ENOLCK", "EOPNOTSUPP", "ENOSYS"):
+            place = type(folder)(folder.yq, of_user.name(error))
+            os.mkdir(place.path)
+            place.write("f", text(value(0)))
+            for path in (place.path, place.name("f")):
+                os.chown(path, user, user)
+            goes_on_without_locks(place, error, user == NOBODY)
     folder.write("f", text(value(0)))
     for error in ("EBADF", "EIO"):
         status, err, _trace = traced(folder, words(1), f"flock:error={error}", env={**os.environ, "YQ_NO_LOCK": "1"})

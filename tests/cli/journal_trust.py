@@ -136,12 +136,13 @@ def check_a_journal_of_a_group_that_can_not_be_given(folder):
 
 def check_a_journal_that_is_its_file(folder):
     """By another spelling of its name."""
-    folder.write("f", EMPTY)
-    os.mkdir(folder.name("d"))
-    os.symlink("f", folder.name("l"))
-    for journal in ("./f", "d/../f", "l"):
-        for words in (["-i", ".n = 2"], ["undo"], ["history"]):
-            is_refused(folder, "S2 read failed", *words, "--journal", journal, "f")
+    for place, user, before in each_user(folder):
+        put(place, "f", EMPTY, user, user, 0o644)
+        os.mkdir(place.name("d"))
+        os.symlink("f", place.name("l"))
+        for journal in ("./f", "d/../f", "l"):
+            for words in (["-i", ".n = 2"], ["undo"], ["history"]):
+                is_refused(place, "S2 read failed", *words, "--journal", journal, "f", before=before)
 
 
 def check_a_folder_in_which_only_owners_rename(folder):

@@ -1,24 +1,31 @@
 """A folder with a default access list, which each file that is made there gets."""
 
+import errno
 import os
-import shutil
+import struct
 import subprocess
 
 from harness import NOBODY, Skip, as_user, equal
 
 SOMEBODY = 12345
 ONE, TWO = b"n: 1 # secret\n", b"n: 2 # secret\n"
+ACCESS, DEFAULT = "system.posix_acl_access", "system.posix_acl_default"
+# A list in the form of the kernel (linux/posix_acl_xattr.h): its version, and of each entry whom it is for, what they may, and their number.
+OWNER, USER, GROUP, MASK, OTHERS, NO_ONE = 1, 2, 4, 16, 32, 0xFFFF_FFFF
+ENTRIES = [(OWNER, 7, NO_ONE), (USER, 7, NOBODY), (GROUP, 5, NO_ONE), (MASK, 7, NO_ONE), (OTHERS, 5, NO_ONE)]
+LIST = struct.pack("<I", 2) + b"".join(struct.pack("<HHI", *entry) for entry in ENTRIES)
 
 
 def with_default_list(folder):
     """What runs a command as the user whom the list names, and as one whom it doesn't."""
     named, other = as_user(NOBODY, NOBODY), as_user(SOMEBODY, SOMEBODY)
-    if shutil.which("setfacl") is None:
-        raise Skip("needs setfacl")
     os.chmod(folder.path, 0o755)
-    done = subprocess.run(["setfacl", "-d", "-m", f"u:{NOBODY}:rwx", folder.path], capture_output=True)
-    if done.returncode != 0:
-        raise Skip("the file system has no access lists")
+    try:
+        os.setxattr(folder.path, DEFAULT, LIST)
+    except OSError as why:
+        if why.errno != errno.ENOTSUP:
+            raise
+        raise Skip("the file system has no access lists") from None
     return named, other
 
 
@@ -29,8 +36,7 @@ def may(folder, before, test, name):
 def edited(folder, mode):
     """A file of this mode, without a list, that was edited twice."""
     folder.write("new", ONE)
-    if shutil.which("setfacl"):
-        subprocess.run(["setfacl", "-b", folder.name("new")], check=True)
+    os.removexattr(folder.name("new"), ACCESS)
     os.chmod(folder.name("new"), mode)
     os.rename(folder.name("new"), folder.name("f"))
     folder.accepts("-i", ".n = 2", "f")

@@ -39,6 +39,7 @@ import other_users
 import owners
 import random_edits
 import reads
+import same_tick
 import shells
 import slow_texts
 import stacks
@@ -51,7 +52,7 @@ from tables import run_tables
 CHECKS = [
     edits, diffs, arguments, explaining, help_examples, completions, docs_agree, compared, installing, failures, links, lists, owners,
     other_users, journal_folder, journal_trust, swaps, temp_files, limits, stacks, slow_texts, disks, containers, reads, shells,
-    random_edits, forms, mutations, journals, concurrency, external_writes, fault_injection, memory,
+    random_edits, forms, mutations, journals, concurrency, external_writes, same_tick, fault_injection, memory,
 ]
 
 sys.exit(run_all(CHECKS, [run_tables, run_pages], sys.argv))

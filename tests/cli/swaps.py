@@ -8,7 +8,7 @@ import threading
 import time
 from concurrent.futures import ThreadPoolExecutor
 
-from harness import NOBODY, as_nobody, equal
+from harness import NOBODY, as_nobody, each_user, equal
 from tracing import Held, calls_in, own_calls, stepped, traced
 
 ONE, TWO = b"n: 1 # text of nobody\n", b"n: 2 # text of nobody\n"
@@ -183,22 +183,32 @@ def check_a_pipe_in_the_place_of_the_journal(folder):
     each(folder, pipe_put, rows)
 
 
-def journal_is_kept(folder, name, first, call):
+def journal_is_kept(folder, name, first, call, nobody):
     """A call that says "not there" while the journal is there begins no new one."""
     copy = first.copy(folder.name(name))
-    status, err, _trace = traced(copy, ["-i", ".n = 3", "f"], f"{call.name}:error=ENOENT:when={call.number}")
-    done = copy.accepts("history", "f").count(b" done ")
+    os.chmod(copy.path, 0o777)
+    status, err, _trace = traced(copy, ["-i", ".n = 3", "f"], f"{call.name}:error=ENOENT:when={call.number}", nobody=nobody)
+    done = copy.accepts("history", "f", nobody=nobody).count(b" done ")
     equal((status, done) in ((0, 2), (1, 1)) and err in LINE, True, (call, status, done, err))
 
 
 def check_a_journal_is_not_taken_for_none(folder):
-    first = type(folder)(folder.yq, folder.name("first"))
-    os.mkdir(first.path)
-    first.write("f", b"n: 1\n")
-    first.accepts(*EDIT)
-    calls = calls_of(first, folder.name("whole"), ["-i", ".n = 3", "f"])
-    made = next(i for i, call in enumerate(calls) if "O_EXCL" in call.text)
-    each(folder, journal_is_kept, [(first, call) for call in calls[:made] if call.name in ("statx", "openat", "read")])
+    for place, user, before in each_user(folder):
+        first = type(folder)(folder.yq, place.name("first"))
+        os.mkdir(first.path)
+        first.write("f", b"n: 1\n")
+        for path in (first.path, first.name("f")):
+            os.chown(path, user, user)
+        first.accepts(*EDIT, before=before)
+        whole = first.copy(place.name("whole"))
+        os.chown(whole.path, user, user)
+        status, err, trace = traced(whole, ["-i", ".n = 3", "f"], nobody=user == NOBODY)
+        equal((status, err), (0, b""))
+        calls = own_calls([call for call in calls_in(trace) if call.name != "exit_group"], "f")
+        made = next(i for i, call in enumerate(calls) if "O_EXCL" in call.text)
+        rows = [(first, call, user == NOBODY) for call in calls[:made] if call.name in ("statx", "openat", "read")]
+        equal(len(rows) > 10, True, rows)
+        each(place, journal_is_kept, rows)
 
 
 RUNS = 1_000

@@ -96,14 +96,14 @@ def child_of(pid):
 
 
 class Held:
-    """A run that is stopped after one of its system calls."""
+    """A run that is stopped after one of its system calls; another one may be made to do something else."""
 
-    def __init__(self, folder, call, words, nobody=False, rests=True):
+    def __init__(self, folder, call, words, nobody=False, rests=True, also=None):
         if rests:
             rest(folder)
         log = folder.path + ".trace"
         stop = f"inject={call.name}:signal=STOP:when={call.number}"
-        line = [*traced_line(log, nobody), "-e", stop, folder.yq, *words]
+        line = [*traced_line(log, nobody), "-e", stop, *(["-e", f"inject={also}"] if also else []), folder.yq, *words]
         self.run = subprocess.Popen(
             line, cwd=folder.path, stdin=subprocess.DEVNULL, stdout=subprocess.PIPE, stderr=subprocess.PIPE
         )

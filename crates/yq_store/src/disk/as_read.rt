@@ -15,6 +15,9 @@ use std::time::{Clock, Duration};
 /// milliseconds than these.
 const TICK: u64 = 20;
 
+/// How many milliseconds more these are where a file system keeps whole seconds, or every other one.
+const WHOLE_SECONDS: u64 = 2_000;
+
 /// How many milliseconds a file is empty at most that another program empties and then writes.
 const SAVING: u64 = 50;
 
@@ -26,10 +29,17 @@ pub struct FileAsRead {
     text: Option<Vec<u8>>,
 }
 
-/// Whether a file was changed last less than so many milliseconds ago, or later than the clock says.
+/// Whether a file was changed last less than so many milliseconds ago, or later than the clock says. Where its
+/// time has no part of a second, that may be up to two seconds before the change.
 fn is_younger<R: Clock>(rt: &R, found: &Metadata, most: u64) -> io::Result<bool> {
-    let age = rt.since_1970()?.saturating_sub(FileState::of(found).time());
-    Ok(age.as_millis() < most as u128)
+    let time = FileState::of(found).time();
+    let more = if time.subsec_nanos() == 0 {
+        WHOLE_SECONDS
+    } else {
+        0
+    };
+    let age = rt.since_1970()?.saturating_sub(time);
+    Ok(age.as_millis() < most.saturating_add(more) as u128)
 }
 
 /// What the system tells of an open file that is to be read. An empty one that was changed just now may be
