@@ -13,17 +13,17 @@ use crate::listed_diffs::lines_with_diffs;
 use crate::pair::open_pair;
 use crate::report::Report;
 use crate::visible::visible;
-use serde_json::Value;
 use std::alloc::{AllocError, Global};
-use yq_journal::Journal;
+use yq_journal::{Journal, push_quoted};
 use yq_store::Store;
 
 /// A text as a JSON string.
 fn quoted(alloc: Global, text: &str) -> Result<String, AllocError>
     ensures { IfOk result (λ s. string_bytes s ≡ json.quoted text.now) }
 {
-    let value = Value::String(String::from_str(alloc, text)?);
-    value.to_string(alloc)
+    let mut quoted = String::new(alloc);
+    push_quoted(&mut quoted, alloc, text)?;
+    Ok(quoted)
 }
 
 /// The word for an edit that is done, or undone.

@@ -151,14 +151,14 @@ all_stand to_data of_data [] k = refl
 all_stand to_data of_data (x ∷ xs) k = ap₂ (λ o p. and_more o p) k.0.stands (all_stand to_data of_data xs k.1)
 
 -- a list of things as an array
-abbrev array_of : {A : Type 0} → (A → Data) → List A → Data
+abbrev pub array_of : {A : Type 0} → (A → Data) → List A → Data
 array_of to_data xs = array (list_data to_data xs)
 
 -- the things that an array means
-abbrev things_of : {A : Type 0} → (Data → Option A) → Data → Option (List A)
+abbrev pub things_of : {A : Type 0} → (Data → Option A) → Data → Option (List A)
 things_of of_data d = option_and_then (each_of of_data) (as_array d)
 
-list_kept : {A : Type 0} (to_data : A → Data) (of_data : Data → Option A) (xs : List A) → AreReadBack to_data of_data xs → IsReadBack (array_of to_data) (things_of of_data) xs
+pub list_kept : {A : Type 0} (to_data : A → Data) (of_data : Data → Option A) (xs : List A) → AreReadBack to_data of_data xs → IsReadBack (array_of to_data) (things_of of_data) xs
 list_kept to_data of_data xs k = record {
   numbers = numbers_of to_data of_data xs k;
   reads = ap (option_map array) (items_read to_data of_data xs k);

@@ -1,7 +1,8 @@
 -- Which bytes JSON doesn't escape: those of base64, and those of a text that has none that it escapes.
-use Rattle.std.proofs.Common.{◌≡◌, ◌≢◌, ◌≤◌, ◌<◌, ◌/◌, ◌%◌, ◌*◌, ◌+◌, ℕ, zero, suc, List, [], ◌∷◌, ◌++◌, Bool, true, replicate, slice_index}
-use Rattle.std.{proofs.Common.{refl, sym, ap, ap₂, ◌∙◌, arith, drop, length, get_or}, specs.Prelude.⊤, specs.Str.bytes_eq}
-use Rattle.std.{proofs.lemmas.Slice.Eq.bytes_eq-Decides, proofs.lemmas.List.drop_more}
+use Rattle.std.proofs.Common.{◌≡◌, ◌==◌, ◌||◌, ◌<◌, ◌/◌, ◌%◌, ◌*◌, ◌+◌, ℕ, zero, suc, List, [], ◌∷◌, ◌++◌, Bool, true, false, nat_lt}
+use Rattle.std.{proofs.Common.{replicate, slice_index, refl, sym, ap, ap₂, ◌∙◌, arith, take, length, get_or, append-nil}, specs.Prelude.⊤}
+use Rattle.std.{specs.Str.bytes_eq, proofs.lemmas.Slice.Eq.bytes_eq-Decides, proofs.lemmas.List.take_more}
+use Rattle.std.{proofs.lemmas.Grind.flat_map-append, proofs.lemmas.Bool.{eqb-false, ltb-false, or_parts}}
 use Rattle.base64.{specs.Engines.standard, specs.GeneralPurpose.{IsBytes, encode_of}, specs.Rfc4648.encode_symbols, specs.Tables.all_below}
 use Rattle.base64.proofs.Tables.{all_below_at}
 use Rattle.json.{specs.Print.{escape, escape_byte}, proofs.Printed.Strings.escape_byte_plain}
@@ -63,9 +64,17 @@ base64_escapes m h = escape_kept (encode_of standard m) (kept_append (encode_sym
 
 -- ---- a text, byte by byte
 
+-- one more byte of a text is escaped
+pub escape_more : (xs : List ℕ) (i : ℕ) → i < length xs → escape (take (i + 1) xs) ≡ escape (take i xs) ++ escape_byte (get_or xs i 0)
+escape_more xs i within =
+    ap escape (take_more xs i 0 within) ∙ flat_map-append escape_byte (take i xs) (get_or xs i 0 ∷ []) ∙ ap (λ l. escape (take i xs) ++ l) (append-nil (escape_byte (get_or xs i 0)))
+
 -- one more byte that isn't escaped
-pub bare_more : (xs : List ℕ) (i : ℕ) → i < length xs → 32 ≤ get_or xs i 0 → get_or xs i 0 ≢ 34 → get_or xs i 0 ≢ 92
-    → (escape (drop i xs) ≡ drop i xs → escape xs ≡ xs) → escape (drop (i + 1) xs) ≡ drop (i + 1) xs → escape xs ≡ xs
-bare_more xs i within low quote backslash so_far rest =
-    let left : drop i xs ≡ get_or xs i 0 ∷ drop (i + 1) xs = drop_more xs i 0 within in
-    so_far (ap escape left ∙ ap₂ (λ (a b : List ℕ). a ++ b) (escape_byte_plain (get_or xs i 0) quote backslash low) rest ∙ sym left)
+pub bare_more : (xs : List ℕ) (i : ℕ) → i < length xs → ((nat_lt (get_or xs i 0) 32 || (get_or xs i 0 == 34)) || (get_or xs i 0 == 92)) ≡ false
+    → escape (take i xs) ≡ take i xs → escape (take (i + 1) xs) ≡ take (i + 1) xs
+bare_more xs i within none so_far =
+    let x : ℕ = get_or xs i 0 in
+    let signs = or_parts (nat_lt x 32 || (x == 34)) (x == 92) none in
+    let low = or_parts (nat_lt x 32) (x == 34) signs.0 in
+    escape_more xs i within ∙ ap₂ (λ (a b : List ℕ). a ++ b) so_far (escape_byte_plain x (eqb-false x 34 low.1) (eqb-false x 92 signs.1) (ltb-false x 32 low.0))
+    ∙ sym (take_more xs i 0 within)

@@ -8,6 +8,8 @@ pub mod LineFeed
 pub mod BareLaws
 pub mod ReadBackLaws
 pub mod AddedLaws
+pub mod FrontLaws
+pub mod NumberLaws
 pub mod RunLaws
 pub mod SquashLaws
 pub mod StandLaws

@@ -7,4 +7,5 @@ pub mod Turned
 pub mod Good
 pub mod History
 pub mod Json
+pub mod RecordJson
 pub mod Added

@@ -8,6 +8,7 @@ mod laws;
 mod lengths;
 mod moves;
 mod opening;
+mod quoting;
 mod read;
 mod record;
 mod squash;
@@ -22,5 +23,6 @@ pub use laws::{
 };
 pub use lengths::leads;
 pub use moves::{MAX_RECORDS, Move, lead, leads_to, make};
+pub use quoting::push_quoted;
 pub use record::{Record, record_inverts, redo_record, undo_record};
 pub use stands::{stands_after, stands_before};

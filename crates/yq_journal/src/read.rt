@@ -1,5 +1,5 @@
 //! A journal from its text.
-ghost use Rattle.std.{specs.Prelude.{◌≡◌, None, Some, IfOk, IfErr, IfSome, option_map, if◌then◌else◌}, specs.Str.is_utf8};
+ghost use Rattle.std.{specs.Prelude.{◌≡◌, None, Some, IfOk, IfErr, option_map, if◌then◌else◌}, specs.Str.is_utf8};
 ghost use Rattle.serde_json.{specs.Read.read, specs.View.view};
 ghost use Rattle.yq_journal.{specs.Refusals.{ErrorIs, if_journal}, specs.State.state};
 ghost use Rattle.yq_journal.specs.Json as spec;
@@ -7,6 +7,7 @@ ghost use Rattle.yq_journal.specs.Json as spec;
 pub(crate) mod edits;
 mod fields;
 mod open_move;
+mod pieces;
 mod scan;
 
 use crate::journal::{Journal, Open};
@@ -94,20 +95,6 @@ fn value_of(alloc: Global, bytes: &[u8]) -> Result<Option<Value>, AllocError>
     }
 }
 
-/// The journal that bytes are, where they are the very text that is written of it.
-fn as_written(alloc: Global, bytes: &[u8]) -> Result<Option<Journal>, AllocError>
-    ensures { IfOk result (λ o. IfSome o (λ j. spec.journal_in bytes.now ≡ Some j)) }
-{
-    let Some(journal) = scanned(alloc, bytes)? else {
-        return Ok(None);
-    };
-    let text = journal.to_json(alloc)?;
-    if text.as_slice() != bytes {
-        return Ok(None);
-    }
-    Ok(Some(journal))
-}
-
 /// The journal that bytes are, read to a tree of values.
 fn by_tree(alloc: Global, bytes: &[u8]) -> Result<Option<Journal>, AllocError>
     ensures { IfOk result (λ o. o ≡ spec.journal_in bytes.now) }
@@ -125,7 +112,7 @@ impl Journal {
         ensures ok { IfOk result (λ j. spec.journal_in bytes.now ≡ Some j) }
         ensures err { IfErr result (λ e. ErrorIs e (if_journal (spec.journal_in bytes.now))) }
     {
-        if let Some(journal) = as_written(alloc, bytes)? {
+        if let Some(journal) = scanned(alloc, bytes)? {
             return Ok(journal);
         }
         match by_tree(alloc, bytes)? {

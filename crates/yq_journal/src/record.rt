@@ -19,24 +19,26 @@ pub struct Record {
     pub after_len: u64,
     /// How many edits it means.
     pub count: u64,
+    /// The text that is written of it, where it was read so.
+    pub(crate) written: Option<Vec<u8>>,
 }
 
 impl Model for Record {
     ghost use Rattle.std.specs.String.{string_bytes};
-    ghost use Rattle.yq_journal.specs.Record.{Record, IsRecord};
+    ghost use Rattle.yq_journal.{specs.Added.HoldsRecord, specs.Record.Record};
 
     ghost Value = { Record };
 
     ghost view = { λ r. record { expr = string_bytes r.expr; changes = r.splices.items; before_len = r.before_len; after_len = r.after_len; count = r.count } };
 
-    ghost invariant = { λ r. IsRecord (record {
+    ghost invariant = { λ r. HoldsRecord (record {
       expr = string_bytes r.expr;
       changes =
           r.splices.items;
       before_len = r.before_len;
       after_len = r.after_len;
       count = r.count;
-    }) };
+    }) r.written };
 }
 
 impl Record {
@@ -59,6 +61,7 @@ impl Record {
             before_len,
             after_len,
             count: 1,
+            written: None,
         }
     }
 }

@@ -102,6 +102,7 @@ fn join_all(alloc: Global, first: &Record, rest: &[Record]) -> Result<Record, Al
         before_len,
         after_len,
         count,
+        written: None,
     })
 }
 

@@ -106,6 +106,7 @@ pub(super) fn record(
         before_len,
         after_len,
         count,
+        written: None,
     }))
 }
 

@@ -1,6 +1,7 @@
 //! What is under the keys of an object.
-ghost use Rattle.std.{specs.Prelude.{◌≡◌, IfOk, option_map}, specs.Result.result_ok};
-ghost use Rattle.base64.{specs.Engines.standard, specs.GeneralPurpose.decode_of};
+ghost use Rattle.std.{specs.Prelude.{◌≡◌, IfOk, IfSome, Ok, option_map}, specs.Result.result_ok};
+ghost use Rattle.base64.{specs.Engines.standard, specs.GeneralPurpose.{decode_of, encode_of}};
+ghost use Rattle.json.specs.Print.{escape};
 ghost use Rattle.serde_json.specs.View.{view};
 ghost use Rattle.yq_journal.specs.Json as spec;
 
@@ -25,8 +26,12 @@ pub(super) fn text<'a>(value: &'a Value, key: &str) -> Option<&'a str>
 
 /// Bytes from padded standard base64.
 pub(super) fn decoded(alloc: Global, text: &[u8]) -> Result<Option<Vec<u8>>, AllocError>
-    ensures { IfOk result (λ o. option_map (λ v. v.items) o ≡
+    ensures value { IfOk result (λ o. option_map (λ v. v.items) o ≡
         result_ok (decode_of standard text.now)) }
+    ensures exact { IfOk result (λ o. IfSome o (λ v.
+        text.now ≡ escape (encode_of standard v.items))) }
+    ensures reads_back { IfOk result (λ o. IfSome o (λ v.
+        decode_of standard (encode_of standard v.items) ≡ Ok v.items)) }
 {
     match STANDARD.decode(alloc, text) {
         Ok(bytes) => Ok(Some(bytes)),

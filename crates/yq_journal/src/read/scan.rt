@@ -1,217 +1,200 @@
-//! A journal from a text of the written form, by one pass and with no tree of values. No clause says what
-//! is scanned: it counts only once it was written anew and compared.
-ghost use Rattle.std.specs.Prelude.{◌≤◌, length};
+//! A journal from a text of the written form, by one pass and with no tree of values. What is scanned is the
+//! very text that is written of it, so the records keep theirs, and it is not written anew.
+ghost use Rattle.std.specs.Prelude.{◌≡◌, ◌-◌, ◌^◌, ◌<◌, ◌≤◌, ◌++◌, IfOk, IfSome, Some, codes, decimal, length, take, true};
+ghost use Rattle.yq_journal.specs.Added.{IsInFront, changes_data, records_data};
+ghost use Rattle.serde_json.specs.Written.{comma_if};
+ghost use Rattle.yq_journal.specs.Json as spec;
 
-use super::fields::decoded;
+use super::pieces::{after, bytes, number, string};
 use crate::journal::Journal;
 use crate::{MAX_RECORDS, Record, leads};
 use std::alloc::{AllocError, Global};
+use std::str::from_utf8;
 use yq_text::Splice;
 
-/// What is left of a text.
-#[derive(Drop)]
-struct Scan<'t> {
-    rest: &'t [u8],
-}
-
-/// What a short escape of JSON means: the byte after the backslash.
-fn unescaped(byte: u8) -> Option<u8> {
-    match byte {
-        b'"' | b'\\' => Some(byte),
-        b'b' => Some(8),
-        b't' => Some(9),
-        b'n' => Some(10),
-        b'f' => Some(12),
-        b'r' => Some(13),
-        _ => None,
-    }
-}
-
-/// How many bytes come before the first quote or backslash.
-fn bare_len(bytes: &[u8]) -> usize
-    ensures { result ≤ length bytes.now }
+/// What comes after the comma before an item, where it isn't the first one of a list.
+fn after_comma(text: &[u8], later: bool) -> Option<&[u8]>
+    ensures { IfSome result (λ rest. text.now ≡ comma_if later ++ rest.now) }
 {
-    'bytes: for i in 0..bytes.len() {
-        let byte = bytes[i];
-        if byte == b'"' || byte == b'\\' {
-            return i;
-        }
-    }
-    bytes.len()
+    if later { after(text, b",") } else { Some(text) }
 }
 
-impl<'t> Scan<'t> {
-    /// Takes these bytes, where they are next.
-    fn take(&mut self, bytes: &[u8]) -> bool {
-        match self.rest.strip_prefix(bytes) {
-            Some(rest) => {
-                self.rest = rest;
-                true
-            }
-            None => false,
-        }
-    }
+/// The offset of a splice, and what comes after it and the next key.
+#[tactic(auto, using(crate::proofs::FrontLaws::and_then))]
+fn offset(text: &[u8]) -> Option<(u64, &[u8])>
+    ensures text { IfSome result (λ p. text.now ≡ ((codes "{\"at\":" ++ decimal p.0) ++
+        codes ",\"new\":\"") ++ p.1.now) }
+    ensures fits { IfSome result (λ p. p.0 < 2 ^ 64) }
+{
+    let (at, rest) = number(after(text, b"{\"at\":")?)?;
+    Some((at, after(rest, b",\"new\":\"")?))
+}
 
-    /// Takes a key, with what comes before it, and the number after it.
-    fn number(&mut self, key: &[u8]) -> Option<u64> {
-        let rest = self.rest.strip_prefix(key)?;
-        let mut number = 0u64;
-        'digits: for i in 0..rest.len() {
-            let byte = rest[i];
-            if !byte.is_ascii_digit() {
-                self.rest = &rest[i..];
-                return Some(number);
-            }
-            number = number.checked_mul(10)?.checked_add((byte - b'0') as u64)?;
-        }
-        None
-    }
-
-    /// Takes a key, with the quote after it, and the bytes whose base64 is up to the next quote.
-    fn bytes(&mut self, alloc: Global, key: &[u8]) -> Result<Option<Vec<u8>>, AllocError> {
-        let Some(rest) = self.rest.strip_prefix(key) else {
-            return Ok(None);
-        };
-        'bytes: for i in 0..rest.len() {
-            if rest[i] == b'"' {
-                self.rest = &rest[i + 1..];
-                return decoded(alloc, &rest[..i]);
-            }
-        }
-        Ok(None)
-    }
-
-    /// Takes a key, with the quote after it, and a text with no escapes but short ones up to the next quote.
-    fn text(&mut self, alloc: Global, key: &[u8]) -> Result<Option<String>, AllocError> {
-        let Some(rest) = self.rest.strip_prefix(key) else {
-            return Ok(None);
-        };
-        let mut found = Vec::new(alloc);
-        let mut left = rest;
-        'runs: for _ in 0..rest.len() {
-            let end = bare_len(left);
-            found.extend_from_slice(&left[..end])?;
-            match &left[end..] {
-                [b'"', behind @ ..] => {
-                    self.rest = behind;
-                    return Ok(String::from_utf8(found).ok());
-                }
-                [_, byte, behind @ ..] => {
-                    let Some(meant) = unescaped(*byte) else {
-                        return Ok(None);
-                    };
-                    found.push(meant)?;
-                    left = behind;
-                }
-                _ => return Ok(None),
-            }
-        }
-        Ok(None)
-    }
-
-    /// Takes a splice.
-    fn splice(&mut self, alloc: Global) -> Result<Option<Splice>, AllocError> {
-        let Some(at) = self.number(b"{\"at\":") else {
-            return Ok(None);
-        };
-        let Some(new) = self.bytes(alloc, b",\"new\":\"")? else {
-            return Ok(None);
-        };
-        let Some(old) = self.bytes(alloc, b",\"old\":\"")? else {
-            return Ok(None);
-        };
-        if !self.take(b"}") {
-            return Ok(None);
-        }
-        Ok(Some(Splice { at, old, new }))
-    }
-
-    /// Takes splices, with the bracket after them.
-    fn splices(&mut self, alloc: Global) -> Result<Option<Vec<Splice>>, AllocError> {
-        let mut found = Vec::new(alloc);
-        if self.take(b"]") {
-            return Ok(Some(found));
-        }
-        'splices: for _ in 0..self.rest.len() {
-            let Some(splice) = self.splice(alloc)? else {
-                return Ok(None);
-            };
-            found.push(splice)?;
-            if self.take(b"]") {
-                return Ok(Some(found));
-            }
-            if !self.take(b",") {
-                return Ok(None);
-            }
-        }
-        Ok(None)
-    }
-
-    /// Takes a record.
-    fn record(&mut self, alloc: Global) -> Result<Option<Record>, AllocError> {
-        let (Some(after_len), Some(before_len), Some(count)) = (
-            self.number(b"{\"after_len\":"),
-            self.number(b",\"before_len\":"),
-            self.number(b",\"count\":"),
-        ) else {
-            return Ok(None);
-        };
-        let Some(expr) = self.text(alloc, b",\"expr\":\"")? else {
-            return Ok(None);
-        };
-        if !self.take(b",\"splices\":[") {
-            return Ok(None);
-        }
-        let Some(splices) = self.splices(alloc)? else {
-            return Ok(None);
-        };
-        if !self.take(b"}") || count == 0 || !leads(&splices, before_len, after_len) {
-            return Ok(None);
-        }
-        Ok(Some(Record {
-            expr,
-            splices,
-            before_len,
-            after_len,
-            count,
-        }))
-    }
-
-    /// Takes records, with the bracket after them.
-    fn records(&mut self, alloc: Global) -> Result<Option<Vec<Record>>, AllocError> {
-        let mut found = Vec::new(alloc);
-        if self.take(b"]") {
-            return Ok(Some(found));
-        }
-        'records: for _ in 0..MAX_RECORDS {
-            let Some(record) = self.record(alloc)? else {
-                return Ok(None);
-            };
-            found.push(record)?;
-            if self.take(b"]") {
-                return Ok(Some(found));
-            }
-            if !self.take(b",") {
-                return Ok(None);
-            }
-        }
-        Ok(None)
+/// A splice, and what comes after it.
+fn splice<'t>(alloc: Global, text: &'t [u8]) -> Result<Option<(Splice, &'t [u8])>, AllocError>
+    ensures { IfOk result (λ o. IfSome o (λ p. IsInFront spec.change_data spec.splice_of p.0
+        text.now p.1.now)) }
+{
+    let Some((at, rest)) = offset(text) else {
+        return Ok(None);
+    };
+    let Some((new, rest)) = bytes(alloc, rest)? else {
+        return Ok(None);
+    };
+    let Some(rest) = after(rest, b"\",\"old\":\"") else {
+        return Ok(None);
+    };
+    let Some((old, rest)) = bytes(alloc, rest)? else {
+        return Ok(None);
+    };
+    match after(rest, b"\"}") {
+        Some(rest) => Ok(Some((Splice { at, old, new }, rest))),
+        None => Ok(None),
     }
 }
 
-/// A journal with no open move, whose text begins as these bytes do.
-pub(super) fn scanned(alloc: Global, bytes: &[u8]) -> Result<Option<Journal>, AllocError> {
-    let mut scan = Scan { rest: bytes };
-    let Some(at) = scan.number(b"{\"at\":") else {
+/// A list of splices, and what comes after it.
+fn splices<'t>(alloc: Global, text: &'t [u8]) -> Result<Option<(Vec<Splice>, &'t [u8])>, AllocError>
+    ensures { IfOk result (λ o. IfSome o (λ p. IsInFront changes_data spec.splices_of p.0.items
+        text.now p.1.now)) }
+{
+    let Some(begun) = after(text, b"[") else {
         return Ok(None);
     };
-    if !scan.take(b",\"pending\":null,\"records\":[") {
+    let mut found = Vec::with_capacity(alloc, 1)?;
+    let mut left = begun;
+    let mut later = false;
+    'splices: for _ in 0..text.len() {
+        if let Some(rest) = after(left, b"]") {
+            return Ok(Some((found, rest)));
+        }
+        let Some(next) = after_comma(left, later) else {
+            return Ok(None);
+        };
+        let Some((splice, rest)) = splice(alloc, next)? else {
+            return Ok(None);
+        };
+        found.push(splice)?;
+        left = rest;
+        later = true;
+    }
+    Ok(None)
+}
+
+/// A copy of what comes before the rest of a text.
+fn front(alloc: Global, text: &[u8], rest: &[u8]) -> Result<Vec<u8>, AllocError>
+    ensures { IfOk result (λ v. v.items ≡ take (length text.now - length rest.now) text.now) }
+{
+    Vec::from_slice(alloc, &text[..text.len().saturating_sub(rest.len())])
+}
+
+/// The lengths and the count of a record, and what comes after them and the next key.
+fn numbers(text: &[u8]) -> Option<(u64, u64, u64, &[u8])>
+    ensures text { IfSome result (λ p. text.now ≡ ((((((codes "{\"after_len\":" ++ decimal p.0) ++
+        codes ",\"before_len\":") ++ decimal p.1) ++ codes ",\"count\":") ++ decimal p.2) ++
+        codes ",\"expr\":") ++ p.3.now) }
+    ensures fits { IfSome result (λ p. (p.0 < 2 ^ 64) × (p.1 < 2 ^ 64) × (p.2 < 2 ^ 64)) }
+{
+    let (after_len, rest) = number(after(text, b"{\"after_len\":")?)?;
+    let (before_len, rest) = number(after(rest, b",\"before_len\":")?)?;
+    let (count, rest) = number(after(rest, b",\"count\":")?)?;
+    Some((after_len, before_len, count, after(rest, b",\"expr\":")?))
+}
+
+/// A record that keeps its text, and what comes after it.
+fn record<'t>(alloc: Global, text: &'t [u8]) -> Result<Option<(Record, &'t [u8])>, AllocError>
+    ensures { IfOk result (λ o. IfSome o (λ p. IsInFront spec.record_data (spec.record_of true) p.0
+        text.now p.1.now)) }
+{
+    let Some((after_len, before_len, count, rest)) = numbers(text) else {
+        return Ok(None);
+    };
+    let Some((expr, rest)) = string(alloc, rest)? else {
+        return Ok(None);
+    };
+    let Some(rest) = after(rest, b",\"splices\":") else {
+        return Ok(None);
+    };
+    let Some((splices, rest)) = splices(alloc, rest)? else {
+        return Ok(None);
+    };
+    let Some(rest) = after(rest, b"}") else {
+        return Ok(None);
+    };
+    if count == 0 {
         return Ok(None);
     }
-    let Some(records) = scan.records(alloc)? else {
+    if !leads(&splices, before_len, after_len) {
+        return Ok(None);
+    }
+    let written = front(alloc, text, rest)?;
+    let record = Record {
+        expr,
+        splices,
+        before_len,
+        after_len,
+        count,
+        written: Some(written),
+    };
+    Ok(Some((record, rest)))
+}
+
+/// A list of records, no more than a journal may hold, and what comes after it.
+fn records<'t>(alloc: Global, text: &'t [u8]) -> Result<Option<(Vec<Record>, &'t [u8])>, AllocError>
+    ensures { IfOk result (λ o. IfSome o (λ p. IsInFront records_data (spec.records_of true) p.0.items
+        text.now p.1.now)) }
+{
+    let Some(begun) = after(text, b"[") else {
         return Ok(None);
     };
-    if records.len() > MAX_RECORDS || at > records.len() as u64 {
+    let mut found = Vec::new(alloc);
+    let mut left = begun;
+    let mut later = false;
+    'records: for _ in 0..=MAX_RECORDS {
+        if let Some(rest) = after(left, b"]") {
+            return Ok(Some((found, rest)));
+        }
+        let Some(next) = after_comma(left, later) else {
+            return Ok(None);
+        };
+        let Some((record, rest)) = record(alloc, next)? else {
+            return Ok(None);
+        };
+        found.push(record)?;
+        left = rest;
+        later = true;
+    }
+    Ok(None)
+}
+
+/// The cursor of a journal with no open move, and what comes after it and the key of the records.
+fn cursor(text: &[u8]) -> Option<(u64, &[u8])>
+    ensures text { IfSome result (λ p. text.now ≡ ((codes "{\"at\":" ++ decimal p.0) ++
+        codes ",\"pending\":null,\"records\":") ++ p.1.now) }
+    ensures fits { IfSome result (λ p. p.0 < 2 ^ 64) }
+{
+    let (at, rest) = number(after(text, b"{\"at\":")?)?;
+    Some((at, after(rest, b",\"pending\":null,\"records\":")?))
+}
+
+/// The journal with no open move that is written as these bytes.
+pub(super) fn scanned(alloc: Global, bytes: &[u8]) -> Result<Option<Journal>, AllocError>
+    ensures text { IfOk result (λ o. IfSome o (λ j. bytes.now ≡ spec.journal_text j)) }
+    ensures reads_back { IfOk result (λ o. IfSome o (λ j. spec.journal_in bytes.now ≡ Some j)) }
+{
+    let Ok(_) = from_utf8(bytes) else {
+        return Ok(None);
+    };
+    let Some((at, rest)) = cursor(bytes) else {
+        return Ok(None);
+    };
+    let Some((records, rest)) = records(alloc, rest)? else {
+        return Ok(None);
+    };
+    let Some(end) = after(rest, b",\"version\":2}\n") else {
+        return Ok(None);
+    };
+    if end.len() > 0 || records.len() > MAX_RECORDS || at > records.len() as u64 {
         return Ok(None);
     }
     Ok(Some(Journal {

@@ -1,11 +1,13 @@
 //! The text of records and of their splices.
-ghost use Rattle.std.{specs.Prelude.{OnOk, true}, specs.String.string_bytes};
+ghost use Rattle.std.{specs.Prelude.{[], IfSome, OnOk, true}, specs.String.string_bytes};
 ghost use Rattle.yq_journal.specs.Added.{Adds, changes_data, records_data};
 ghost use Rattle.yq_journal.specs.Json as spec;
 
-use super::pieces::{push_base64, push_comma, push_number, push_quoted};
+use super::pieces::{push_base64, push_comma, push_number};
 use crate::Record;
+use crate::quoting::push_quoted;
 use std::alloc::{AllocError, Global};
+use std::str::from_utf8;
 use yq_text::Splice;
 
 /// Adds a splice.
@@ -38,12 +40,8 @@ fn push_splices(text: &mut String, splices: &[Splice]) -> Result<(), AllocError>
     Ok(())
 }
 
-/// Adds a record.
-pub(super) fn push_record(
-    text: &mut String,
-    alloc: Global,
-    patch: &Record,
-) -> Result<(), AllocError>
+/// Adds a record, piece by piece.
+fn push_pieces(text: &mut String, alloc: Global, patch: &Record) -> Result<(), AllocError>
     ensures { OnOk result (Adds spec.record_data (spec.record_of true) patch.now
         (string_bytes text.old) (string_bytes text.new)) }
 {
@@ -56,6 +54,31 @@ pub(super) fn push_record(
     push_splices(text, &patch.splices)?;
     text.push_str("}")?;
     Ok(())
+}
+
+/// The text that a record keeps, which is the one that is written of it.
+fn kept_text(patch: &Record) -> Option<&str>
+    ensures { IfSome result (λ s. Adds spec.record_data (spec.record_of true) patch.now [] s.now) }
+{
+    match &patch.written {
+        Some(written) => from_utf8(written).ok(),
+        None => None,
+    }
+}
+
+/// Adds a record: the text that it keeps as it is, else piece by piece.
+pub(super) fn push_record(
+    text: &mut String,
+    alloc: Global,
+    patch: &Record,
+) -> Result<(), AllocError>
+    ensures { OnOk result (Adds spec.record_data (spec.record_of true) patch.now
+        (string_bytes text.old) (string_bytes text.new)) }
+{
+    match kept_text(patch) {
+        Some(kept) => Ok(text.push_str(kept)?),
+        None => push_pieces(text, alloc, patch),
+    }
 }
 
 /// Adds records.
