@@ -1,10 +1,9 @@
 -- A text over all of which a run of bytes in quotes goes means itself.
 use Rattle.std.proofs.Common.{◌≡◌, ℕ, suc, ◌+◌, Bool, true, false, ◌&&◌, ◌||◌, cond, not, eqb, eqb-true, List, [], ◌∷◌, ◌++◌, length, refl}
 use Rattle.std.{proofs.Common.{sym, ap, ◌∙◌, ⊎_elim, append_assoc, append-nil, arith}, proofs.lemmas.Bool.{cases_Bool, or_parts}}
-use Rattle.std.{specs.List.prefix_len}
-use Rattle.yq_core.specs.ContentReading.{within, content_on, quoted_item, item_len, item_before}
-use Rattle.yq_core.{specs.Runs.{is_stop, run_goes_on}, specs.declared.runs.Run.TheVariants.Quoted}
-use Rattle.yq_core.specs.Text.{is_white, is_feed, is_return, is_break, front}
+use Rattle.std.specs.List.{prefix_len}
+use Rattle.yq_core.{specs.ContentReading.{within, content_on, quoted_item, item_len, item_before}, specs.Runs.{is_stop, run_goes_on}}
+use Rattle.yq_core.{specs.declared.runs.Run.TheVariants.Quoted, specs.Text.{is_white, is_feed, is_return, front}}
 
 abbrev GoesOver : ℕ → List ℕ → Type 0
 GoesOver q t = prefix_len (run_goes_on (Quoted q)) t ≡ length t
@@ -30,9 +29,6 @@ no_feed q (b ∷ bs) h = (other q b (parts q b bs h).0).2
 both : (a c : Bool) → c ≡ false → (a && c) ≡ false
 both true c h = h
 both false c h = refl
-
-either : (a c : Bool) → a ≡ false → (a && c) ≡ false
-either a c h = ap (λ x. x && c) h
 
 -- no break is in front
 unbroken : (q b : ℕ) (bs : List ℕ) → GoesOver q bs → (is_return b && front is_feed bs) ≡ false
