@@ -1,6 +1,11 @@
 pub mod PutComes
+pub mod RunEdits
 pub mod RunLaws
+pub mod MoreRuns
 pub mod RunAnswers
+pub mod MoreAnswers
+pub mod CutRunLaws
+pub mod CutAnswers
 pub mod RowRunLaws
 pub mod RowRunAnswers
 pub mod RowPutLaws

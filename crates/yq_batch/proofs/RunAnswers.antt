@@ -9,13 +9,14 @@ use Rattle.yq_row_table.specs.Rows.{Cut, cut_text}
 use Rattle.yq_documents.specs.Reading.{cut_of, read_at}
 use Rattle.yq_places.{specs.FlowViews.{LeadsToHead, ReportsHead}, specs.NodesAt.node_in, specs.Standings.last_step}
 use Rattle.yq_places.specs.declared.places.flow_node.FlowHead.{FlowHead}
-use Rattle.yq_semantics.specs.Operations.{Operation, replace}
-use Rattle.yq_text.{specs.Script.splice_at, specs.Splice.Splice}
+use Rattle.yq_semantics.{specs.Operations.{Operation, replace}, specs.declared.refusal.Refusal.TheVariants.TooLarge}
+use Rattle.yq_text.{specs.Limit.text_limit, specs.Script.splice_at, specs.Splice.Splice}
 use Rattle.yq_edit_rules.{specs.Operands.HasOperand, specs.Replacing.keeps_scalar}
 use Rattle.yq_edit_laws.{specs.EditPlaces.{LiesIn, moved_on}, specs.PartPuts.{IsHeadOfPath, ArePuts, IsWrittenPart, put_edit}}
 use Rattle.yq_edit_laws.{specs.declared.put.PartPut.PartPut, proofs.CutLaws.text_read, proofs.FlowAnswers.whole_text}
 use Rattle.yq_edit_laws.{specs.Answers.EditFails, specs.Carried.carried, specs.Edit.{gives, refuses}, specs.Theorems.IsFitting}
 use Rattle.yq_edit_laws.{specs.declared.edit_error.EditError.EditError, proofs.ApplyLaws.applied_by, proofs.TextFaults.text_utf8}
+use Rattle.yq_edit_laws.proofs.LaterEnds.{ends_same}
 use Rattle.yq_batch.specs.Runs.{EndsAt, EndsInCollection, HasPut, IsPutRun, PutFails, PutsAt, Runs, RunsOn, now_text, run_front}
 use Rattle.yq_batch.{specs.Runs.text_with_run, specs.declared.run.PutRun.PutRun}
 use Rattle.yq_batch.proofs.RunLaws.{goes_on, kept_there, large_there, put_there}
@@ -33,6 +34,7 @@ run_begins t n stem read leads =
       read = ap read_at same ∙ read;
       leads = leads;
       stays = λ left s y there less begins. there;
+      ends = λ left w found after. (w, found, ends_same w);
     }
 
 -- the same of a run that the code begins
@@ -92,6 +94,41 @@ module _ (t u : List ℕ) (read : read_at t ≡ Some (cut_of t)) (all : u ≡ t)
   pub lies_in : (op : Operation) (n : ℕ) (steps : List Step) (x : FlowHead) (p : PartPut) → PutsAt op t n steps x p → LiesIn u (moved_on x.before (edit_view p.place))
   lies_in op n steps x p h = subst (λ (l : List ℕ). LiesIn l (moved_on x.before (edit_view p.place))) (sym text_is) h.placed.lies
 
+-- an operation exchanges what is between two places of the text that was read
+module _ (t u : List ℕ) (n : ℕ) (stem : List Step) (op : Operation) (before : PutRun) (start finish : ℕ) (new : List ℕ) (all : u ≡ cut_text (cut_of t)) (operand : HasOperand op)
+    (fitting : IsFitting op (now_text (cut_of t) before)) where
+  abbrev out : List ℕ
+  out = run_front (cut_text (cut_of t)) before start ++ new
+
+  abbrev made : List ℕ
+  made = text_with_run (cut_text (cut_of t)) out finish
+
+  abbrev cs : List Splice
+  cs = splice_at (length (run_front (cut_text (cut_of t)) before start)) (drop start (take finish (cut_text (cut_of t)))) new
+
+  pub run_on : (length made ≤ text_limit → carried op (now_text (cut_of t) before) ≡ gives made cs) → (length made ≤ text_limit → IsPutRun (cut_of t) n stem out finish) → (after : PutRun) → HasPut u start finish new before after →
+      RunsOn op (cut_of t) n stem before after
+  run_on there on after has_put =
+      let a : HasPut (cut_text (cut_of t)) start finish new before after = subst (λ (l : List ℕ). HasPut l start finish new before after) all has_put in
+      let text : made ≡ now_text (cut_of t) after = λ i. text_with_run (cut_text (cut_of t)) (sym a.text i) (sym a.done i) in
+      let comes : carried op (now_text (cut_of t) before) ≡ gives (now_text (cut_of t) after) cs = there a.size ∙ ap (λ (l : List ℕ). gives l cs) text in
+      record {
+        new_bytes = cs;
+        comes = comes;
+        applied = applied_by op (now_text (cut_of t) before) operand fitting (now_text (cut_of t) after) cs comes;
+        splices = a.splices;
+        run = subst (λ (d : ℕ). IsPutRun (cut_of t) n stem (string_bytes after.text) d) (sym a.done) (subst (λ (l : List ℕ). IsPutRun (cut_of t) n stem l finish) (sym a.text) (on a.size));
+      }
+
+  -- too large a text
+  pub run_fails : (text_limit < length made → carried op (now_text (cut_of t) before) ≡ refuses TooLarge) → (e : EditError) → PutFails e u start finish new before → EditFails e (carried op (now_text (cut_of t) before))
+  run_fails large e fails = go e (subst (λ (l : List ℕ). PutFails e l start finish new before) all fails)
+    where
+      go : (e : EditError) → PutFails e (cut_text (cut_of t)) start finish new before → EditFails e (carried op (now_text (cut_of t) before))
+      go (error.Read fault) fails = absurd fails
+      go (error.Refused why) fails = large fails.1 ∙ ap refuses (sym fails.0)
+      go error.Memory fails = tt
+
 module _ (t u : List ℕ) (n : ℕ) (steps : List Step) (op : Operation) (before : PutRun) (x : FlowHead) (p : PartPut) (read : read_at t ≡ Some (cut_of t)) (all : u ≡ t)
     (run : Runs (cut_of t) n steps before) (h : PutsAt op t n steps x p) (behind : before.done ≤ x.before + p.place.start) (passes : before.done < x.before + p.place.end) (fitting : IsFitting op (now_text (cut_of t) before)) where
   abbrev c : Cut
@@ -138,28 +175,13 @@ module _ (t u : List ℕ) (n : ℕ) (steps : List Step) (op : Operation) (before
     -- another value
     pub put_on : (after : PutRun) → HasPut u start finish new before after → RunsOn op c n steps before after
     put_on after has_put =
-        let a : HasPut (cut_text c) start finish new before after = subst (λ (l : List ℕ). HasPut l start finish new before after) whole_is has_put in
-        let cs : List Splice = splice_at (length (run_front (cut_text c) before start)) (drop start (take finish (cut_text c))) new in
-        let text : text_with_run (cut_text c) (run_front (cut_text c) before start ++ new) finish ≡ now_text c after = λ i. text_with_run (cut_text c) (sym a.text i) (sym a.done i) in
-        let comes : carried own now ≡ gives (now_text c after) cs =
-        put_there c n steps h.path h.value (string_bytes before.text) before.done again run h.ends h.part h.standing x p.place h.placed behind passes (string_bytes s) is.0 is.1 a.size
-        ∙ ap (λ (l : List ℕ). gives l cs) text in
-        let on = goes_on c n steps h.path h.value (string_bytes before.text) before.done again run h.ends h.part h.standing x p.place h.placed behind passes (string_bytes s) is.0 is.1 h.valid own_fits a.size in
-        runs_so after (record {
-          new_bytes = cs;
-          comes = comes;
-          applied = applied_by own now h.valid own_fits (now_text c after) cs comes;
-          splices = a.splices;
-          run = subst (λ (d : ℕ). IsPutRun c n steps (string_bytes after.text) d) (sym a.done) (subst (λ (l : List ℕ). IsPutRun c n steps l finish) (sym a.text) on);
-        })
-
-    large : (e : EditError) → PutFails e (cut_text c) start finish new before → EditFails e (carried own now)
-    large (error.Read fault) fails = absurd fails
-    large (error.Refused why) fails =
-        large_there c n steps h.path h.value (string_bytes before.text) before.done again run h.ends h.part h.standing x p.place h.placed behind passes (string_bytes s) is.0 is.1 fails.1
-        ∙ ap refuses (sym fails.0)
-    large error.Memory fails = tt
+        runs_so after (run_on t u n steps own before start finish new whole_is h.valid own_fits
+        (put_there c n steps h.path h.value (string_bytes before.text) before.done again run h.ends h.part h.standing x p.place h.placed behind passes (string_bytes s) is.0 is.1)
+        (goes_on c n steps h.path h.value (string_bytes before.text) before.done again run h.ends h.part h.standing x p.place h.placed behind passes (string_bytes s) is.0 is.1 h.valid own_fits) after has_put)
 
     -- too large a text
     pub put_fails : (e : EditError) → PutFails e u start finish new before → EditFails e (carried op now)
-    put_fails e fails = subst (λ (o : Operation). EditFails e (carried o now)) (sym h.operation) (large e (subst (λ (l : List ℕ). PutFails e l start finish new before) whole_is fails))
+    put_fails e fails =
+        subst (λ (o : Operation). EditFails e (carried o now)) (sym h.operation)
+        (run_fails t u n steps own before start finish new whole_is h.valid own_fits
+        (large_there c n steps h.path h.value (string_bytes before.text) before.done again run h.ends h.part h.standing x p.place h.placed behind passes (string_bytes s) is.0 is.1) e fails)

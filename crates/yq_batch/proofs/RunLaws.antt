@@ -1,30 +1,25 @@
 -- One more value put in a head, after those that were.
-use Rattle.std.proofs.Common.{◌≡◌, ℕ, ◌+◌, ◌-◌, ◌≤◌, ◌<◌, true, false, List, [], ◌++◌, length, take, drop, Option, Some, refl, sym, ap, ◌∙◌}
-use Rattle.std.{proofs.Common.{subst, append_assoc, arith, length-append}, proofs.Math.Seq.{take-append_seam, drop-append_seam}}
-use Rattle.std.{proofs.lemmas.List.drop-append-le, proofs.lemmas.Option.same_Some}
-use Rattle.yq_text.{specs.Limit.text_limit, specs.Script.{new_text, splice_at}, specs.Splice.Splice}
+use Rattle.std.proofs.Common.{◌≡◌, ℕ, ◌+◌, ◌-◌, ◌≤◌, ◌<◌, true, false, List, [], ◌++◌, length, Option, Some, refl, sym, ap, ◌∙◌, subst}
+use Rattle.std.{proofs.Common.{arith, length-append}, proofs.lemmas.Option.same_Some}
+use Rattle.yq_text.{specs.Limit.text_limit, specs.Script.new_text}
 use Rattle.yq_core.{specs.Paths.Step, specs.Tree.Node, specs.Answers.◌>>=◌, proofs.Bools.bind_some, specs.Collections.CollPieces}
 use Rattle.yq_core.{specs.Entries.item_at, specs.Nodes.{node_text, without_anchor}, proofs.NodesWrittenLaws.node_then, specs.Trees.tree_of}
 use Rattle.yq_flow_edits.{specs.FlowEdits.FlowEdit, specs.FlowPlaces.PlacedEdit, specs.Valued.IsValueTree}
 use Rattle.yq_flow_edits.specs.declared.flow_place.EditPlace.{EditPlace}
 use Rattle.yq_row_table.specs.Rows.{Cut, cut_text}
-use Rattle.yq_documents.{specs.Reading.{documents, read_at}, proofs.ReadLaws.parts_read}
+use Rattle.yq_documents.specs.Reading.{read_at}
 use Rattle.yq_places.{specs.FlowNodes.flow_collection, specs.NodesAt.node_in, specs.Standings.{FlowPart, flow_standing, last_step}}
 use Rattle.yq_places.specs.declared.places.flow_node.FlowHead.{FlowHead}
-use Rattle.yq_semantics.{specs.Fits.Fits, specs.Operations.replace, specs.Rooms.room_of}
-use Rattle.yq_semantics.specs.declared.refusal.Refusal.TheVariants.{TooLarge}
+use Rattle.yq_semantics.{specs.Operations.replace, specs.declared.refusal.Refusal.TheVariants.TooLarge}
 use Rattle.yq_edit_rules.{specs.FlowParts.flow_segments, specs.Replacing.keeps_scalar}
-use Rattle.yq_edit_laws.{specs.PartPuts.{IsPartOf, IsPlaceOf, put_edit}, proofs.CutLaws.text_read, proofs.FlowPartNodes.part_node}
-use Rattle.yq_edit_laws.{proofs.FlowPutLaws.{head_behind, next, part_behind, replaced_reads}, proofs.FlowStandings.{EntryAt, entry_found}}
-use Rattle.yq_edit_laws.{specs.Carried.carried, specs.Edit.{edit_of_segments, gives, refuses}, specs.Theorems.IsFitting}
-use Rattle.yq_edit_laws.proofs.ApplyLaws.{fits}
-use Rattle.yq_batch.specs.Runs.{EndsInCollection, IsPutRun, text_with_run}
-use Rattle.yq_batch.proofs.PutComes.{kept_comes, made_text, new_is, put_comes, segments_come, segments_large}
+use Rattle.yq_edit_laws.{specs.PartPuts.{IsEditPlace, IsPartOf, IsPlaceOf, put_edit}, proofs.CutLaws.text_read}
+use Rattle.yq_edit_laws.{proofs.FlowPartNodes.part_node, proofs.FlowPutLaws.{end_behind, head_behind, next, part_behind, replaced_reads}}
+use Rattle.yq_edit_laws.{proofs.LaterEnds.ends_on, proofs.FlowStandings.{EntryAt, entry_found}, specs.Carried.carried}
+use Rattle.yq_edit_laws.{specs.Edit.{edit_of_segments, gives, refuses}, specs.Theorems.IsFitting}
+use Rattle.yq_batch.{specs.Runs.{EndsInCollection, IsPutRun, text_with_run}, proofs.PutComes.{kept_comes, put_comes}}
+use Rattle.yq_batch.proofs.RunEdits.{edit_large, edit_size, edit_there, fits_now, new_text_is, run_out, run_splices}
 
--- what a run has written, with what stays up to the next place
-abbrev between : List ℕ → List ℕ → (done start : ℕ) → List ℕ
-between out t done start = out ++ drop done (take start t)
-
+-- A value is put at a part.
 module _ (c : Cut) (n : ℕ) (stem path : List Step) (v : Node) (out : List ℕ) (done : ℕ) (whole : read_at (cut_text c) ≡ Some c) (run : IsPutRun c n stem out done)
     (ends : EndsInCollection stem path) (z : FlowPart) (standing : flow_standing n c (last_step path) ≡ Some z) (x : FlowHead) (place : EditPlace)
     (placed : IsPlaceOf (cut_text c) v z x place) (behind : done ≤ x.before + place.start) (passes : done < x.before + place.end) where
@@ -50,7 +45,7 @@ module _ (c : Cut) (n : ℕ) (stem path : List Step) (v : Node) (out : List ℕ)
   abbrev e : FlowEdit
   e = put_edit v first_part
 
-  at : IsPlaceOf t v first_part x place
+  at : IsEditPlace t e x place
   at = subst (λ (y : FlowPart). IsPlaceOf t v y x place) (sym (entry_found c n path z standing).1) placed
 
   start_is : start ≡ length t - length (e.old ++ e.behind)
@@ -60,10 +55,7 @@ module _ (c : Cut) (n : ℕ) (stem path : List Step) (v : Node) (out : List ℕ)
   finish_is = ap (λ (p : PlacedEdit). p.end) at.place_is
 
   size : length t ≡ length at.before + (length e.old + length e.behind)
-  size = omega (arith, ap length at.text, length-append at.before (e.old ++ e.behind), length-append e.old e.behind)
-
-  front_size : start ≡ length at.before
-  front_size = omega (arith, start_is, size, length-append e.old e.behind)
+  size = edit_size t e x place at
 
   -- and as it is now
   abbrev left : List Step
@@ -104,65 +96,23 @@ module _ (c : Cut) (n : ℕ) (stem path : List Step) (v : Node) (out : List ℕ)
     written_is : written ≡ e.written
     written_is = is ∙ ap (λ (y : FlowPart). (put_edit v y).written) (sym (entry_found c n path z standing).1)
 
-    abbrev front : List ℕ
-    front = between out t done start
-
     abbrev new_out : List ℕ
-    new_out = front ++ (place.lead.now ++ written)
+    new_out = run_out t out done start (place.lead.now ++ written)
 
-    abbrev cs : List Splice
-    cs = splice_at (length front) (drop start (take finish t)) (place.lead.now ++ written)
-
-    front_is : take start t ≡ at.before
-    front_is = (λ i. take (front_size i) (at.text i)) ∙ take-append_seam at.before (e.old ++ e.behind)
-
-    rest_is : drop done t ≡ drop done (take start t) ++ (e.old ++ e.behind)
-    rest_is =
-        ap (drop done) at.text
-        ∙ (drop-append-le done at.before (e.old ++ e.behind) (omega (arith, behind, front_size))
-        ∙ ap (λ (l : List ℕ). drop done l ++ (e.old ++ e.behind)) (sym front_is))
-
-    split : cut_text run.cut ≡ front ++ (e.old ++ e.behind)
-    split = text ∙ (ap (λ (l : List ℕ). out ++ l) rest_is ∙ sym (append_assoc out (drop done (take start t)) (e.old ++ e.behind)))
-
-    whole_split : t ≡ (at.before ++ e.old) ++ e.behind
-    whole_split = at.text ∙ sym (append_assoc at.before e.old e.behind)
-
-    finish_size : finish ≡ length (at.before ++ e.old)
-    finish_size = omega (arith, finish_is, size, length-append at.before e.old)
-
-    old_is : drop start (take finish t) ≡ e.old
-    old_is =
-        let upto : take finish t ≡ at.before ++ e.old = (λ i. take (finish_size i) (whole_split i)) ∙ take-append_seam (at.before ++ e.old) e.behind in
-        (λ i. drop (front_size i) (upto i)) ∙ drop-append_seam at.before e.old
-
-    left_is : drop finish t ≡ e.behind
-    left_is = (λ i. drop (finish_size i) (whole_split i)) ∙ drop-append_seam (at.before ++ e.old) e.behind
-
-    lead_is : place.lead.now ≡ e.lead
-    lead_is = ap (λ (p : PlacedEdit). p.lead) at.place_is
-
-    new_bytes_are : made_text front e ≡ text_with_run t new_out finish
-    new_bytes_are = λ i. (front ++ (sym lead_is i ++ sym written_is i)) ++ sym left_is i
-
-    cs_is : splice_at (length front) e.old (e.lead ++ e.written) ≡ cs
-    cs_is = λ i. splice_at (length front) (sym old_is i) (sym lead_is i ++ sym written_is i)
-
-    comes : carried (replace n path v) now ≡ edit_of_segments (flow_segments (cut_text run.cut) e)
+    pub comes : carried (replace n path v) now ≡ edit_of_segments (flow_segments (cut_text run.cut) e)
     comes = ap (carried (replace n path v)) (sym text) ∙ put_comes run.cut n path v read a (sym same_kept ∙ other)
 
-    pub put_there : length (text_with_run t new_out finish) ≤ text_limit → carried (replace n path v) now ≡ gives (text_with_run t new_out finish) cs
-    put_there small = comes ∙ (segments_come (cut_text run.cut) front e split (omega (arith, small, ap length new_bytes_are)) ∙ λ i. gives (new_bytes_are i) (cs_is i))
+    pub put_there : length (text_with_run t new_out finish) ≤ text_limit → carried (replace n path v) now ≡ gives (text_with_run t new_out finish) (run_splices t out done start finish (place.lead.now ++ written))
+    put_there = edit_there c n stem out done run e x place at behind written written_is (replace n path v) comes
 
     pub large_there : text_limit < length (text_with_run t new_out finish) → carried (replace n path v) now ≡ refuses TooLarge
-    large_there large = comes ∙ segments_large (cut_text run.cut) front e split (omega (arith, large, ap length new_bytes_are))
+    large_there = edit_large c n stem out done run e x place at behind written written_is (replace n path v) comes
 
     -- the run goes on after it
     pub goes_on : IsValueTree v → IsFitting (replace n path v) now → length (text_with_run t new_out finish) ≤ text_limit → IsPutRun c n stem new_out finish
     goes_on value fitting small =
-        let new_bytes : new_text (flow_segments (cut_text run.cut) e) ≡ text_with_run t new_out finish = new_is (cut_text run.cut) front e split ∙ new_bytes_are in
-        let same : fitting.read.parts ≡ run.cut = same_Some _ _ (sym (parts_read now fitting.before fitting.read).0 ∙ run.read) in
-        let fit : Fits (room_of (cut_text run.cut)) (replace n path v) (documents run.cut) = subst (λ (d : Cut). Fits (room_of (cut_text d)) (replace n path v) (documents d)) same (fits (replace n path v) now value fitting) in
+        let new_bytes : new_text (flow_segments (cut_text run.cut) e) ≡ text_with_run t new_out finish = new_text_is c n stem out done run e x place at behind written written_is in
+        let fit = fits_now (replace n path v) now run.cut value fitting run.read in
         let reads = replaced_reads run.cut n path v read a value fit (omega (arith, small, ap length new_bytes)) in
         record {
           within = omega (arith, finish_is);
@@ -173,4 +123,8 @@ module _ (c : Cut) (n : ℕ) (stem path : List Step) (v : Node) (out : List ℕ)
           stays = λ ss r y there less begins.
               part_behind run.cut n path v read a stem left refl run.leads ss r y
               (run.stays ss r y there (omega (arith, less, passes)) (omega (arith, begins, passes))) (omega (arith, less, finish_is, size)) (omega (arith, begins, finish_is, size));
+          ends = λ ss w found after.
+              let d = run.ends ss w found (omega (arith, after.0, passes), λ none. omega (arith, after.1 none, passes)) in
+              let f = end_behind run.cut n path v read a stem left refl run.leads ss d.0 d.1 (omega (arith, after.0, finish_is, size, ap length d.2.behind)) in
+              (f.0, f.1, ends_on w d.0 f.0 d.2 f.2);
         }

@@ -1,15 +1,19 @@
--- Values put one after the other in the flow collections of one head, which was read once (YAML 1.2.2, 7.4; own).
-use Rattle.std.{specs.Prelude.{◌≡◌, ⊤, ℕ, ◌-◌, ◌<◌, ◌≤◌, List, ◌++◌, drop, take, length, Some, string_bytes}, specs.Str.IsCharBoundary}
+-- Values put one after the other in the flow collections of one head, which was read once, and items and entries put into these (YAML 1.2.2, 7.4; own).
+use Rattle.std.specs.Prelude.{◌≡◌, ⊤, ℕ, ◌-◌, ◌<◌, ◌≤◌, true, List, ◌++◌, drop, take, length, Option, Some, string_bytes}
+use Rattle.std.specs.Str.{IsCharBoundary}
 use Rattle.yq_text.{specs.Limit.text_limit, specs.Script.splice_at, specs.Splice.Splice}
-use Rattle.yq_core.{specs.Paths.Step, specs.Tree.Node, specs.Entries.EntryPieces, specs.Nodes.{node_text, without_anchor}}
+use Rattle.yq_core.{specs.Paths.Step, specs.Tree.Node, specs.Collections.CollPieces, specs.Entries.EntryPieces}
+use Rattle.yq_core.specs.Nodes.{node_text, without_anchor}
 use Rattle.yq_flow_edits.specs.Valued.{IsValueTree}
 use Rattle.yq_row_table.specs.Rows.{Cut, cut_text}
 use Rattle.yq_documents.specs.Reading.{cut_of, read_at}
-use Rattle.yq_places.{specs.FlowViews.LeadsToHead, specs.NodesAt.node_in, specs.Standings.{FlowPart, flow_standing, last_step}}
-use Rattle.yq_places.specs.declared.places.flow_node.FlowHead.{FlowHead}
-use Rattle.yq_semantics.{specs.Operations.{Operation, replace}, specs.declared.refusal.Refusal.TheVariants.TooLarge}
-use Rattle.yq_edit_laws.{specs.PartPuts.{IsPartOf, IsPlaceOf, IsWrittenPart}, specs.declared.put.PartPut.PartPut, specs.Carried.carried}
-use Rattle.yq_edit_laws.{specs.Edit.gives, specs.Theorems.IsApplied, specs.declared.edit_error.EditError.EditError}
+use Rattle.yq_places.{specs.FlowNodes.flow_collection, specs.FlowViews.LeadsToHead, specs.NodesAt.node_in}
+use Rattle.yq_places.{specs.Standings.{FlowPart, flow_standing, last_step}, specs.declared.places.flow_node.FlowHead.FlowHead}
+use Rattle.yq_semantics.{specs.Operations.{Operation, append, replace}, specs.declared.refusal.Refusal.TheVariants.TooLarge}
+use Rattle.yq_edit_rules.{specs.FlowParts.takes_key, specs.Operands.HasOperand}
+use Rattle.yq_edit_laws.specs.PartPuts.{EndsAfter, EndsAsIn, IsEditPlace, IsPartOf, IsPlaceOf, IsWrittenPart, more_edit}
+use Rattle.yq_edit_laws.{specs.declared.append.MorePut.MorePut, specs.declared.put.PartPut.PartPut, specs.Carried.carried, specs.Edit.gives}
+use Rattle.yq_edit_laws.{specs.Theorems.IsApplied, specs.declared.edit_error.EditError.EditError}
 use Rattle.yq_batch.specs.declared.run.PutRun.{PutRun}
 use Rattle.yq_edit_laws.specs.declared.edit_error.EditError.TheVariants as error
 
@@ -17,8 +21,9 @@ use Rattle.yq_edit_laws.specs.declared.edit_error.EditError.TheVariants as error
 abbrev pub text_with_run : List ℕ → (out : List ℕ) → (done : ℕ) → List ℕ
 text_with_run t out done = out ++ drop done t
 
--- The first bytes of a cut's text were replaced by others, by values put at parts of the head to which steps lead: the text reads, the steps lead to a head
--- in it, and the parts whose contents are in the bytes that stay are there as they were, in whichever collections (own).
+-- The first bytes of a cut's text were replaced by others, by values put at parts of the head to which steps lead, and items and entries put into its
+-- collections: the text reads, the steps lead to a head in it, and the parts whose contents are in the bytes that stay are there as they were, in whichever
+-- collections, and so are the ends of collections (own).
 pub record IsPutRun (c : Cut) (n : ℕ) (stem : List Step) (out : List ℕ) (done : ℕ) : Type 0 where
   pub within : done ≤ length (cut_text c)
   pub edge : IsCharBoundary (cut_text c) done
@@ -27,6 +32,7 @@ pub record IsPutRun (c : Cut) (n : ℕ) (stem : List Step) (out : List ℕ) (don
   pub leads : LeadsToHead cut n stem
   pub stays : (left : List Step) (s : Step) (y : EntryPieces) → IsPartOf c n (stem ++ left) s y → length y.rest < length (cut_text c) - done →
       length (node_text (without_anchor y.node) y.rest) ≤ length (cut_text c) - done → IsPartOf cut n (stem ++ left) s y
+  pub ends : (left : List Step) (w : CollPieces) → flow_collection n (stem ++ left) c ≡ Some w → EndsAfter (length (cut_text c) - done) w → EndsAsIn w cut n (stem ++ left)
 
 -- a path ends in the collection to which steps lead on in the head to which others lead (own)
 abbrev pub EndsAt : (stem left steps : List Step) → Type 0
@@ -55,6 +61,19 @@ pub record PutsAt (op : Operation) (t : List ℕ) (n : ℕ) (stem : List Step) (
   pub standing : flow_standing n (cut_of t) (last_step path) ≡ Some part
   pub placed : IsPlaceOf (cut_text (cut_of t)) value part x p.place
   pub written : IsWrittenPart (node_in n path (cut_of t)) value part p.written
+
+-- An operation puts an item or entry into a collection of the head to which steps lead in document n of a text, which was read (own).
+pub record AddsAt (op : Operation) (t : List ℕ) (n : ℕ) (stem : List Step) (x : FlowHead) (p : MorePut) : Type 0 where
+  pub left : List Step
+  pub key : Option (List ℕ)
+  pub value : Node
+  pub operation : op ≡ append n (stem ++ left) key value
+  pub valid : HasOperand (append n (stem ++ left) key value)
+  pub collection : CollPieces
+  pub found : flow_collection n (stem ++ left) (cut_of t) ≡ Some collection
+  pub takes : takes_key collection.close key ≡ true
+  pub placed : IsEditPlace (cut_text (cut_of t)) (more_edit key value collection) x p.place
+  pub written : string_bytes p.written ≡ (more_edit key value collection).written
 
 -- what a run has written, with what stays up to a place (own)
 abbrev pub run_front : List ℕ → PutRun → ℕ → List ℕ

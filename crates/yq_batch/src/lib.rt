@@ -1,7 +1,9 @@
 //! Operations carried out together on a text that was read once, each after the one before.
 #![tactic(auto)]
 
+mod adding;
 mod in_rows;
+mod removals;
 mod run;
 mod together;
 

@@ -19,7 +19,7 @@ pub(crate) struct PutRun {
 }
 
 /// What is between two places of a text.
-fn between<'t>(text: Halves<'t>, from: usize, to: usize) -> Halves<'t>
+pub(crate) fn between<'t>(text: Halves<'t>, from: usize, to: usize) -> Halves<'t>
     requires order { from ≤ to }
     requires from { IsCharBoundary (whole text) from }
     requires to { IsCharBoundary (whole text) to }
@@ -29,7 +29,7 @@ fn between<'t>(text: Halves<'t>, from: usize, to: usize) -> Halves<'t>
 }
 
 /// The bytes of a text.
-fn bytes_of(alloc: Global, text: Halves<'_>) -> Result<Vec<u8>, AllocError>
+pub(crate) fn bytes_of(alloc: Global, text: Halves<'_>) -> Result<Vec<u8>, AllocError>
     ensures { IfOk result (λ v. v.items ≡ whole text.entry) }
 {
     let mut bytes = Vec::new(alloc);
@@ -39,7 +39,7 @@ fn bytes_of(alloc: Global, text: Halves<'_>) -> Result<Vec<u8>, AllocError>
 }
 
 /// Adds a splice, if it changes bytes.
-fn push_splice(
+pub(crate) fn push_splice(
     splices: &mut Vec<Splice>,
     at: usize,
     old: Vec<u8>,
@@ -88,6 +88,19 @@ impl PutRun {
         ensures { result ≡ true → (self.now.done ≤ start) × (self.now.done < end) }
     {
         self.done <= start && self.done < end
+    }
+
+    /// Whether what comes at a place of the old text, after what leads to it, is after all that were
+    /// replaced; what nothing leads to is right after a bracket, and so after what comes before that.
+    pub(crate) fn comes_before(&self, start: usize, lead: &str) -> bool
+        ensures { result ≡ true → (self.now.done ≤ start) ×
+            (lead.now ≡ [] → self.now.done < start) }
+    {
+        if lead.is_empty() {
+            self.done < start
+        } else {
+            self.done <= start
+        }
     }
 
     /// A text comes in the place of what is between two places.

@@ -1,6 +1,6 @@
-//! Values that an update puts in the flow collections of one head: they are carried out together, and the
-//! head is read once.
-ghost use Rattle.std.specs.Prelude.{◌≡◌, true, map, IfErr, IfOk, IfSome, string_bytes};
+//! Values that an update puts in the flow collections of one head, and items and entries that it puts into
+//! these: they are carried out together, and the head is read once.
+ghost use Rattle.std.specs.Prelude.{◌≡◌, ◌++◌, true, map, IfErr, IfOk, IfSome, string_bytes};
 ghost use Rattle.yq_core.specs.Entries.{tree_step};
 ghost use Rattle.yq_documents.{specs.Located.steps_of, specs.Reading.cut_of};
 ghost use Rattle.yq_places.specs.FlowViews.{ReportsHead};
@@ -9,6 +9,8 @@ ghost use Rattle.yq_edit_laws.{specs.Answers.EditFails, specs.Carried.{carry_all
 ghost use Rattle.yq_edit_laws.specs.Valid.{AreServed};
 ghost use Rattle.yq_batch.specs.Runs as spec;
 
+use crate::adding::add_one;
+use crate::removals::remove_each;
 use crate::run::PutRun;
 use std::alloc::{AllocError, Global};
 use yq_core::Step;
@@ -45,9 +47,24 @@ fn are_same_steps(some: &[Step], others: &[Step]) -> bool
     true
 }
 
+/// The steps that go on in a head, if a path leads there by the steps that lead to the head.
+pub(crate) fn steps_on<'s>(steps: &'s [Step], stem: &[Step]) -> Option<&'s [Step]>
+    ensures { IfSome result (λ left. map tree_step steps.now ≡
+        map tree_step stem.now ++ map tree_step left.now) }
+{
+    if steps.len() < stem.len() {
+        return None;
+    }
+    let (front, left) = steps.split_at(stem.len());
+    if !are_same_steps(front, stem) {
+        return None;
+    }
+    Some(left)
+}
+
 /// The steps that go on in a head to the collection in which a path ends, if it leads there by the steps
 /// that lead to the head.
-fn steps_in_head<'s>(path: &'s Path, doc: usize, stem: &[Step]) -> Option<&'s [Step]>
+pub(crate) fn steps_in_head<'s>(path: &'s Path, doc: usize, stem: &[Step]) -> Option<&'s [Step]>
     ensures { IfSome result (λ left. (path.now.doc ≡ doc) ×
         spec.EndsAt (map tree_step stem.now) (map tree_step left.now) (steps_of path.now)) }
 {
@@ -57,13 +74,9 @@ fn steps_in_head<'s>(path: &'s Path, doc: usize, stem: &[Step]) -> Option<&'s [S
     if path.doc != doc {
         return None;
     }
-    if above.len() < stem.len() {
+    let Some(left) = steps_on(above, stem) else {
         return None;
-    }
-    let (front, left) = above.split_at(stem.len());
-    if !are_same_steps(front, stem) {
-        return None;
-    }
+    };
     Some(left)
 }
 
@@ -129,7 +142,34 @@ fn put_one<'s>(
     Ok(true)
 }
 
-/// Carries out operations that put values in the collections of a head; nothing, where one of them does
+/// Carries out an operation on the text of a run, if it changes a collection of a head, after those that
+/// were changed.
+fn carry_next<'s>(
+    alloc: Global,
+    cut: &CutText<'_, '_>,
+    doc: usize,
+    stem: &[Step],
+    head: &mut FlowHead<'s, '_>,
+    op: &'s Op,
+    run: &mut PutRun,
+) -> Result<bool, EditError>
+    requires head { ReportsHead cut.now (cut_of cut.now) doc (map tree_step stem.now) head.old }
+    requires run { spec.Runs (cut_of cut.now) doc (map tree_step stem.now) run.old }
+    requires fits { IsFitting (operation_of op.now) (spec.now_text (cut_of cut.now) run.old) }
+    ensures head { ReportsHead cut.now (cut_of cut.now) doc (map tree_step stem.now) head.new }
+    ensures ok { IfOk result (λ b. b ≡ true → spec.RunsOn (operation_of op.now) (cut_of cut.now) doc
+        (map tree_step stem.now) run.old run.new) }
+    ensures err { IfErr result (λ e. EditFails e (carried (operation_of op.now)
+        (spec.now_text (cut_of cut.now) run.old))) }
+{
+    match op {
+        Op::Replace(_, _) => put_one(alloc, cut, doc, stem, head, op, run),
+        Op::Append(_, _, _) => add_one(alloc, cut, doc, stem, head, op, run),
+        Op::Remove(_) | Op::LineComment(_, _) | Op::HeadComment(_, _) => Ok(false),
+    }
+}
+
+/// Carries out operations that change the collections of a head; nothing, where one of them does
 /// something else, or is in front of one before it.
 fn put_each<'s>(
     alloc: Global,
@@ -149,8 +189,8 @@ fn put_each<'s>(
     let mut run = PutRun::new(alloc);
     let mut rest = ops;
     'operations: while let [op, after @ ..] = rest {
-        let put = put_one(alloc, cut, doc, stem, head, op, &mut run)?;
-        if !put {
+        let carried = carry_next(alloc, cut, doc, stem, head, op, &mut run)?;
+        if !carried {
             return Ok(None);
         }
         rest = after;
@@ -158,8 +198,22 @@ fn put_each<'s>(
     Ok(Some(run.end(text)?))
 }
 
-/// Carries out operations together that put values in the flow collections of one head, one after the
-/// other; nothing, where they don't.
+/// The document and the steps of the collection that an operation may change in a head, if it is one that
+/// is carried out with others.
+fn changed_collection(op: &Op) -> Option<(usize, &[Step])> {
+    match op {
+        Op::Replace(path, _) | Op::Remove(path) => match last_step(&path.steps) {
+            Some((above, _)) => Some((path.doc, above)),
+            None => None,
+        },
+        Op::Append(path, _, _) => Some((path.doc, path.steps.as_slice())),
+        Op::LineComment(_, _) | Op::HeadComment(_, _) => None,
+    }
+}
+
+/// Carries out operations together that put values in the flow collections of one head, or items and
+/// entries into these, one after the other, or take some out of them, one before the other; nothing, where
+/// they don't.
 pub fn carry_together(
     alloc: Global,
     cut: &CutText<'_, '_>,
@@ -173,15 +227,15 @@ pub fn carry_together(
     let [op, _, ..] = ops else {
         return Ok(None);
     };
-    let Op::Replace(first, _) = op else {
+    let Some((doc, steps)) = changed_collection(op) else {
         return Ok(None);
     };
-    let Some((above, _)) = last_step(&first.steps) else {
+    let Some(mut head) = cut.flow_head(alloc, doc, steps)? else {
         return Ok(None);
     };
-    let Some(mut head) = cut.flow_head(alloc, first.doc, above)? else {
-        return Ok(None);
-    };
-    let (stem, _) = above.split_at(above.len() - head.left.len());
-    put_each(alloc, cut, first.doc, stem, &mut head, ops)
+    let (stem, _) = steps.split_at(steps.len() - head.left.len());
+    match op {
+        Op::Remove(_) => remove_each(alloc, cut, doc, stem, &mut head, ops),
+        _ => put_each(alloc, cut, doc, stem, &mut head, ops),
+    }
 }

@@ -1,5 +1,5 @@
 -- A sole item or entry is removed by Replace of its collection with an empty one.
-use Rattle.std.proofs.Common.{◌≡◌, ℕ, List, Option, Some, None, option_map, refl, sym, ap, ◌∙◌}
+use Rattle.std.proofs.Common.{◌≡◌, ℕ, List, Option, Some, None, option_map, refl, ap, ◌∙◌}
 use Rattle.yq_core.{specs.Answers.◌>>=◌, specs.Paths.Step, specs.Tree.{Node, alias, scalar, list, map}}
 use Rattle.yq_row_table.specs.Rows.{Cut}
 use Rattle.yq_places.{specs.NodesAt.{NodeAt, node_in, node_summary}, specs.Standings.last_step}

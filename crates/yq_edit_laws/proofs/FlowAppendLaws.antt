@@ -1,26 +1,29 @@
 -- One item or entry more in a flow collection.
-use Rattle.std.proofs.Common.{◌≡◌, ℕ, suc, ◌+◌, ◌-◌, ◌≤◌, Bool, true, false, not, eqb, cond, List, [], ◌∷◌, ◌++◌, length, Option, Some}
+use Rattle.std.proofs.Common.{◌≡◌, ℕ, suc, ◌-◌, ◌<◌, ◌≤◌, Bool, true, false, not, eqb, cond, List, [], ◌∷◌, ◌++◌, length, Option, Some}
 use Rattle.std.{proofs.Common.{None, refl, sym, ap, ◌∙◌, subst, arith}, proofs.lemmas.Bool.{cond_both, false≢true}}
 use Rattle.std.{proofs.lemmas.Option.{none-some, same_Some}, specs.Prelude.is_some, specs.Str.IsCharBoundary}
 use Rattle.yq_text.{specs.Limit.text_limit, specs.Script.new_text}
 use Rattle.yq_core.{specs.Keys.{depth, keys_of}, specs.Paths.{Step, append_child, node_at}, specs.Tree.{children_of, key_label}}
-use Rattle.yq_core.{specs.Collections.{CollAt, CollPieces, IsCollAt, room_in}, specs.Nodes.{Key, FlowNode, Items, none, item, node_text}}
-use Rattle.yq_core.specs.NodesWritten.{flow_key, flow_of}
+use Rattle.yq_core.{specs.Collections.{CollAt, CollPieces, IsCollAt, room_in}, specs.Entries.EntryPieces}
+use Rattle.yq_core.{specs.Nodes.{Key, FlowNode, Items, none, item, node_text, without_anchor}, specs.NodesWritten.{flow_key, flow_of}}
 use Rattle.yq_flow_edits.{specs.FlowEdits.{FlowEdit, add_item, appending, behind_appended, is_none}, specs.Valued.{IsLabel, IsValueTree}}
 use Rattle.yq_flow_edits.{proofs.EditLaws.around_is, proofs.EditSpans.ends_bound, proofs.ValueEdits.{appended_ends, value_appended}}
 use Rattle.yq_flow_edits.proofs.ItemPlaces.{last_rest}
 use Rattle.yq_row_table.specs.Rows.{Cut, cut_text}
 use Rattle.yq_documents.specs.Documents.{Document, EachHasFitKeys, HasFitKey, HasFitKeys, document_parts}
 use Rattle.yq_documents.specs.Reading.{documents, read_at, root_of}
-use Rattle.yq_places.specs.FlowNodes.{flow_collection}
+use Rattle.yq_places.{specs.FlowNodes.flow_collection, specs.FlowViews.LeadsToHead}
 use Rattle.yq_edit_rules.{specs.FlowRows.FlowAt, specs.SoundRoots.{IsNewKey, IsNewValue, IsSoundRoot}, specs.TextPieces.IsPiece}
 use Rattle.yq_edit_rules.{proofs.FlowKeptLaws.flow_keys, proofs.PartLaws.document_known, proofs.SoundRootLaws.append_keeps}
 use Rattle.yq_edit_rules.{specs.EditLaws.{CarriedOut, FlowMoreIsPut, IsEdit}, specs.FlowParts.{flow_segments, takes_key}}
 use Rattle.yq_edit_rules.{specs.Operands.KeyIsUtf8, proofs.DoneLaws.nth_map, proofs.EditsFitLaws.{new_key, new_value, tree_unique}}
 use Rattle.yq_edit_rules.{proofs.FlowWritten.{flow_fits, key_fits}, proofs.ValueNodes.{comma_piece, flow_piece, key_piece}}
 use Rattle.yq_semantics.{specs.Fits.{Fits, Takes}, specs.Operations.append, specs.Rooms.room_of}
-use Rattle.yq_edit_laws.{proofs.FlowPieceLaws.{edit_pieces, nothing_piece}, proofs.FlowEditLaws.{before_is, flow_carried, segments_old}}
-use Rattle.yq_edit_laws.proofs.FlowWholeLaws.{StandsBefore, appended_stands}
+use Rattle.yq_edit_laws.proofs.FlowPieceLaws.{edit_pieces, nothing_piece}
+use Rattle.yq_edit_laws.proofs.FlowEditLaws.{FlowCarried, before_is, flow_carried, made_cut, made_reads, segments_old}
+use Rattle.yq_edit_laws.{specs.PartPuts.{EndsAfter, EndsAsIn, IsPartOf}, proofs.FlowWholeLaws.{StandsBefore, appended_stands}}
+use Rattle.yq_edit_laws.{proofs.LaterCuts.{end_after, part_after, slot}, proofs.LaterEnds.{end_after_more, part_after_more}}
+use Rattle.yq_edit_rules.proofs.FlowStayLaws as stay
 use Rattle.yq_core.specs.Tree as tree
 use Rattle.yq_documents.specs.Reading as reading
 use Rattle.yq_edit_laws.proofs.FlowStandings as standing
@@ -75,31 +78,57 @@ module _ (c : Cut) (doc : ℕ) (steps : List Step) (key : Option (List ℕ)) (v 
   bounds = let i = around_is x stands in let b = ends_bound w.close (cut_text c) there.before (behind_appended w) i.closes (appended_ends x i) there.text in (b, b)
 
   -- one that fits
-  append_carried : KeyIsUtf8 key → IsValueTree v → takes_key w.close key ≡ true → Fits (room_of (cut_text c)) (append doc steps key v) (documents c) → length (new_text (flow_segments (cut_text c) e)) ≤ text_limit →
-      CarriedOut (append doc steps key v) c (flow_segments (cut_text c) e)
-  append_carried u h takes fits size =
-      let known = document_known (cut_text c) c doc at.part (standing.old c doc steps w read found) in
-      let old : IsSoundRoot (root_of at.part) = record { unique = known.document.unique; nested = known.document.nested; bound = known.document.bound } in
-      let root : fits.0.root ≡ root_of at.part = ap (λ (d : Document). d.root) (same_Some _ _ (sym fits.1 ∙ nth_map doc at.part reading.part_document (document_parts c) at.there)) in
-      let node : node_at steps (root_of at.part) ≡ Some fits.2.2.0 = ap (node_at steps) (sym root) ∙ fits.2.2.1 in
-      let new : IsNewValue v (suc (length steps)) = new_value (suc (length steps)) v h (tree_unique v fits.2.1.0) fits.2.1.2 in
-      let room : depth v ≤ room_in x = omega (arith, standing.fewer c doc steps w read found, new.nested) in
-      let p = standing.piece c doc steps w read found in
-      let parts = edit_pieces (cut_text c) there.before e p there.text bounds.0 bounds.1 there.whole in
-      flow_carried (append doc steps key v) c steps w at e (append_child (key_label key) v) read (record {
-        edited = value_appended x (key_label key) v stands (label_is w.close key u takes) h room;
-        keys = flow_keys (cut_text c) c doc at.part steps at.line at.rest at.row w e.gap e.items (standing.old c doc steps w read found) at.at (add_fit (flow_key key) (flow_of v) w.gap w.items (key_fits key fits.2.0) (flow_fits v fits.2.1.1));
-        sound = append_keeps steps (root_of at.part) fits.2.2.0 v (key_label key) old node new (key_new key fits.2.2.0 fits.2.2.2);
-        root = refl;
-        pieces = (
-          subst IsPiece (sym (before_is (cut_text c) there.before (e.old ++ e.behind) there.text)) parts.0,
-          (
-            lead_piece w,
-            (key_piece (eqb w.close 125) (key_label key) (node_text (flow_of v) []) (label_is w.close key u takes) (flow_piece v h), (parts.1, tt)),
-          ),
-        );
-        stays = omega (arith, (around_is x stands).longer, last_rest w.close w.gap w.items w.rest);
-      }) size
+  module _ (u : KeyIsUtf8 key) (h : IsValueTree v) (takes : takes_key w.close key ≡ true) (fits : Fits (room_of (cut_text c)) (append doc steps key v) (documents c)) where
+    append_done : FlowCarried (append doc steps key v) c steps w at e (append_child (key_label key) v)
+    append_done =
+        let known = document_known (cut_text c) c doc at.part (standing.old c doc steps w read found) in
+        let old : IsSoundRoot (root_of at.part) = record { unique = known.document.unique; nested = known.document.nested; bound = known.document.bound } in
+        let root : fits.0.root ≡ root_of at.part = ap (λ (d : Document). d.root) (same_Some _ _ (sym fits.1 ∙ nth_map doc at.part reading.part_document (document_parts c) at.there)) in
+        let node : node_at steps (root_of at.part) ≡ Some fits.2.2.0 = ap (node_at steps) (sym root) ∙ fits.2.2.1 in
+        let new : IsNewValue v (suc (length steps)) = new_value (suc (length steps)) v h (tree_unique v fits.2.1.0) fits.2.1.2 in
+        let room : depth v ≤ room_in x = omega (arith, standing.fewer c doc steps w read found, new.nested) in
+        let p = standing.piece c doc steps w read found in
+        let parts = edit_pieces (cut_text c) there.before e p there.text bounds.0 bounds.1 there.whole in
+        record {
+          edited = value_appended x (key_label key) v stands (label_is w.close key u takes) h room;
+          keys = flow_keys (cut_text c) c doc at.part steps at.line at.rest at.row w e.gap e.items (standing.old c doc steps w read found) at.at (add_fit (flow_key key) (flow_of v) w.gap w.items (key_fits key fits.2.0) (flow_fits v fits.2.1.1));
+          sound = append_keeps steps (root_of at.part) fits.2.2.0 v (key_label key) old node new (key_new key fits.2.2.0 fits.2.2.2);
+          root = refl;
+          pieces = (
+            subst IsPiece (sym (before_is (cut_text c) there.before (e.old ++ e.behind) there.text)) parts.0,
+            (
+              lead_piece w,
+              (key_piece (eqb w.close 125) (key_label key) (node_text (flow_of v) []) (label_is w.close key u takes) (flow_piece v h), (parts.1, tt)),
+            ),
+          );
+          stays = omega (arith, (around_is x stands).longer, last_rest w.close w.gap w.items w.rest);
+        }
+
+    append_carried : length (new_text (flow_segments (cut_text c) e)) ≤ text_limit → CarriedOut (append doc steps key v) c (flow_segments (cut_text c) e)
+    append_carried size = flow_carried (append doc steps key v) c steps w at e (append_child (key_label key) v) read append_done size
+
+    -- the cut as which that reads
+    pub appended_reads : length (new_text (flow_segments (cut_text c) e)) ≤ text_limit → read_at (new_text (flow_segments (cut_text c) e)) ≡ Some (made_cut (append doc steps key v) c steps w at e)
+    appended_reads size = made_reads (append doc steps key v) c steps w at e (append_child (key_label key) v) read append_done size
+
+  -- After it the steps to the head lead there still, and the later parts of its collections and the ends of these are as they were.
+  module _ (stem left : List Step) (init : steps ≡ stem ++ left) (h : LeadsToHead c doc stem) where
+    abbrev pub next : Cut
+    next = made_cut (append doc steps key v) c steps w at e
+
+    abbrev own : EntryPieces
+    own = slot c doc steps w at e.gap e.items stem left init h
+
+    pub head_behind : LeadsToHead next doc stem
+    head_behind = stay.head_behind c doc steps w at e.gap e.items stem left init h
+
+    pub part_behind : (ss : List Step) (r : Step) (z : EntryPieces) → IsPartOf c doc (stem ++ ss) r z → length z.rest < length (behind_appended w) → length (node_text (without_anchor z.node) z.rest) ≤ length (behind_appended w) → IsPartOf next doc (stem ++ ss) r z
+    part_behind ss r z part less begins =
+        part_after c doc steps w at e.gap e.items stem left init h ss r z part (λ before. part_after_more (flow_key key) (flow_of v) e.gap w at.rest (ss ++ (r ∷ [])) own z at.at.along before less begins)
+
+    pub end_behind : (ss : List Step) (z : CollPieces) → flow_collection doc (stem ++ ss) c ≡ Some z → EndsAfter (length (behind_appended w)) z → EndsAsIn z next doc (stem ++ ss)
+    end_behind ss z found after =
+        end_after c doc steps w at e.gap e.items stem left init h ss z found (λ before. end_after_more (flow_key key) (flow_of v) e.gap w at.rest ss own z at.at.along before after)
 
 -- Append: one more item or entry, where the collection takes it.
 pub flow_more_put : FlowMoreIsPut

@@ -2,34 +2,36 @@
 use Rattle.std.proofs.Common.{◌≡◌, ℕ, ◌-◌, ◌<◌, ◌≤◌, Bool, true, false, List, [], ◌∷◌, ◌++◌, length, Option, Some, None, sym, ap, ◌∙◌}
 use Rattle.std.{proofs.Common.{subst, arith, ◌+◌, append-nil, length-append}, proofs.lemmas.Bool.cond_both, proofs.lemmas.Option.none-some}
 use Rattle.std.specs.Str.{IsCharBoundary}
-use Rattle.yq_core.{specs.Answers.◌>>=◌, specs.Keys.depth, specs.Paths.{Step, changed_at, change_child, is_here, further, within}}
-use Rattle.yq_core.{specs.Scalar.ScalarText, specs.Tree.{anchor_of, key_label}, specs.declared.style.Place.TheVariants.Flow}
-use Rattle.yq_core.specs.Collections.{CollAt, CollPieces, IsCollAt, item_in, collection_put, room_in}
-use Rattle.yq_core.specs.Entries.{EntryPieces, item_at}
+use Rattle.yq_core.{specs.Keys.depth, specs.Paths.{Step, changed_at, change_child, is_here, further, within}, specs.Scalar.ScalarText}
+use Rattle.yq_core.{specs.Tree.{anchor_of, key_label}, specs.declared.style.Place.TheVariants.Flow}
+use Rattle.yq_core.{specs.Collections.{CollAt, CollPieces, IsCollAt, item_in, room_in}, specs.Entries.EntryPieces}
 use Rattle.yq_core.{specs.Nodes.{Key, bare, keyed, Items, none, item, is_empty_node, node_text, without_anchor}, specs.Places.locate}
 use Rattle.yq_core.{specs.Scalars.scalar_style, specs.Trees.{key_content, with_anchor_name, scalar_node}, proofs.PathLaws.items_hold}
 use Rattle.yq_text.{specs.Limit.text_limit, specs.Script.new_text}
-use Rattle.yq_flow_edits.specs.FlowEdits.{FlowEdit, IsFlowEdited, put_content, put_item, put_value, replacing, space_for, spaced_key}
-use Rattle.yq_flow_edits.{specs.Valued.IsValueTree, proofs.EditLaws.around_is, proofs.EditSpans.{EditIsSpan, replace_spans}}
-use Rattle.yq_flow_edits.{proofs.PlacedEdits.replace_placed, proofs.ValueEdits.{change_last, scalar_replaced, value_replaced}}
-use Rattle.yq_flow_edits.{proofs.ValueFits.scalar_block, proofs.ItemPlaces.item_rest}
+use Rattle.yq_flow_edits.specs.FlowEdits.{FlowEdit, IsFlowEdited, behind_appended, put_content, put_item, put_value, replacing, space_for}
+use Rattle.yq_flow_edits.{specs.FlowEdits.spaced_key, specs.Valued.IsValueTree, proofs.EditLaws.around_is}
+use Rattle.yq_flow_edits.{proofs.EditSpans.{EditIsSpan, replace_spans}, proofs.PlacedEdits.replace_placed}
+use Rattle.yq_flow_edits.{proofs.ValueEdits.{change_last, scalar_replaced, value_replaced}, proofs.ValueFits.scalar_block}
+use Rattle.yq_flow_edits.proofs.ItemPlaces.{item_rest}
 use Rattle.yq_outline.specs.Outline.{anchored}
 use Rattle.yq_row_table.specs.Rows.{Cut, cut_text}
 use Rattle.yq_documents.{specs.Documents.{EachHasFitKeys, HasFitKey, HasFitKeys, lead_of}, specs.TreeEdits.replaced_node}
 use Rattle.yq_documents.specs.Reading.{documents, read_at, root_of}
-use Rattle.yq_places.{specs.FlowViews.LeadsToHead, proofs.FlowPieces.{named_is, none_anchored}, specs.Standings.{FlowPart, last_step}}
-use Rattle.yq_edit_rules.{specs.FlowRows.{FlowAt, behind_node}, specs.Rooms.is_block_root, specs.SoundRoots.IsSoundRoot}
-use Rattle.yq_edit_rules.{specs.TextPieces.IsPiece, proofs.FlowKeptLaws.flow_keys, proofs.PartLaws.document_known}
-use Rattle.yq_edit_rules.{proofs.SoundRootLaws.replace_keeps, specs.EditLaws.{CarriedOut, FlowValuesArePut, IsEdit}}
+use Rattle.yq_places.{specs.FlowNodes.flow_collection, specs.FlowViews.LeadsToHead, proofs.FlowPieces.{named_is, none_anchored}}
+use Rattle.yq_places.specs.Standings.{FlowPart, last_step}
+use Rattle.yq_edit_rules.{specs.FlowRows.FlowAt, specs.Rooms.is_block_root, specs.SoundRoots.IsSoundRoot, specs.TextPieces.IsPiece}
+use Rattle.yq_edit_rules.{proofs.FlowKeptLaws.flow_keys, proofs.PartLaws.document_known, proofs.SoundRootLaws.replace_keeps}
+use Rattle.yq_edit_rules.specs.EditLaws.{CarriedOut, FlowValuesArePut, IsEdit}
 use Rattle.yq_edit_rules.{specs.FlowParts.{content_written, flow_put, flow_segments, flow_value}, specs.Style.style_in}
 use Rattle.yq_edit_rules.{proofs.EditsFitLaws.{FitsReplace, fits_replace}, proofs.FlowWritten.flow_fits, proofs.KeptLaws.led_same}
 use Rattle.yq_edit_rules.{proofs.ValueTexts.style_line, proofs.StyleLaws.{style_inline, style_writes}}
 use Rattle.yq_edit_rules.proofs.ValueNodes.{flow_piece, scalar_is}
 use Rattle.yq_semantics.{specs.Changes.has_long_key, specs.Fits.Fits, specs.Operations.replace, specs.Rooms.room_of}
-use Rattle.yq_edit_laws.{specs.PartPuts.IsPartOf, proofs.FlowPieceLaws.{edit_pieces, nothing_piece, one_space}}
+use Rattle.yq_edit_laws.{specs.PartPuts.{EndsAsIn, IsPartOf}, proofs.FlowPieceLaws.{edit_pieces, nothing_piece, one_space}}
 use Rattle.yq_edit_laws.{proofs.FlowSoundLaws.last_is, proofs.FlowStandings.{EntryAt, entry_found, entry_placed}}
 use Rattle.yq_edit_laws.proofs.FlowEditLaws.{FlowCarried, before_is, flow_carried, made_cut, made_reads, segments_old}
-use Rattle.yq_edit_laws.{proofs.FlowWholeLaws.{StandsBefore, replaced_stands}, proofs.LaterParts.{later_part, parts_along}}
+use Rattle.yq_edit_laws.{proofs.FlowWholeLaws.{StandsBefore, replaced_stands}, proofs.LaterParts.later_part}
+use Rattle.yq_edit_laws.{proofs.LaterCuts.{end_after, part_after, slot}, proofs.LaterEnds.later_end}
 use Rattle.yq_core.specs.Tree as tree
 use Rattle.yq_core.specs.Nodes as inline
 use Rattle.yq_edit_rules.proofs.FlowStayLaws as stay
@@ -196,13 +198,17 @@ module _ (c : Cut) (doc : ℕ) (path : List Step) (v : tree.Node) (read : read_a
     pub head_behind : LeadsToHead next doc stem
     head_behind = stay.head_behind c doc a.init a.coll at a.coll.gap items stem left init h
 
+    abbrev own : EntryPieces
+    own = slot c doc a.init a.coll at a.coll.gap items stem left init h
+
     pub part_behind : (ss : List Step) (r : Step) (z : EntryPieces) → IsPartOf c doc (stem ++ ss) r z → length z.rest < length a.item.rest → length (node_text (without_anchor z.node) z.rest) ≤ length a.item.rest → IsPartOf next doc (stem ++ ss) r z
     part_behind ss r z part less begins =
-        let slot : EntryPieces = record { key = bare; node = at.row.node; rest = behind_node c doc at.part at.row } in
-        let own = λ (o : Option CollPieces). o >>= λ w. item_at w.close r w.items w.rest in
-        let before = sym (parts_along ss r slot) ∙ (sym (ap own (stay.collection_before c doc a.init a.coll at a.coll.gap items stem left init h ss)) ∙ part) in
-        ap own (stay.collection_behind c doc a.init a.coll at a.coll.gap items stem left init h ss)
-        ∙ (parts_along ss r (record slot { node = collection_put at.rest a.coll.gap items at.row.node }) ∙ later_part at.rest (ss ++ (r ∷ [])) a.step m slot a.coll a.item z at.at.along a.at before less begins)
+        part_after c doc a.init a.coll at a.coll.gap items stem left init h ss r z part (λ before. later_part at.rest (ss ++ (r ∷ [])) a.step m own a.coll a.item z at.at.along a.at before less begins)
+
+    -- and so are the ends of later collections
+    pub end_behind : (ss : List Step) (z : CollPieces) → flow_collection doc (stem ++ ss) c ≡ Some z → length (behind_appended z) ≤ length a.item.rest → EndsAsIn z next doc (stem ++ ss)
+    end_behind ss z found behind =
+        end_after c doc a.init a.coll at a.coll.gap items stem left init h ss z found (λ before. later_end a.step m a.coll a.item a.at at.rest ss own z at.at.along before behind)
 
 -- Replace: a value put in the place of a content of a flow collection.
 pub flow_values_put : FlowValuesArePut

@@ -15,9 +15,11 @@ use Rattle.yq_edit_rules.{specs.SoundRoots.IsSoundRoot, specs.TextPieces.IsPiece
 use Rattle.yq_edit_rules.{proofs.PartLaws.document_known, specs.EditLaws.{CarriedOut, FlowPartIsRemoved, IsEdit}}
 use Rattle.yq_edit_rules.{specs.FlowParts.flow_segments, proofs.DoneLaws.nth_map}
 use Rattle.yq_semantics.{specs.Fits.Fits, specs.Operations.remove, specs.Rooms.room_of}
-use Rattle.yq_places.{specs.FlowNodes.flow_collection, specs.Standings.last_step}
+use Rattle.yq_places.{specs.FlowNodes.flow_collection, specs.FlowViews.LeadsToHead, specs.Standings.last_step}
 use Rattle.yq_edit_laws.{proofs.FlowPieceLaws.{edit_pieces, lead_piece, nothing_piece}, proofs.FlowSoundLaws.{remove_root, remove_sound}}
-use Rattle.yq_edit_laws.proofs.FlowEditLaws.{edited_at, before_is, FlowTexts, flow_carried, flow_texts, segments_old}
+use Rattle.yq_edit_laws.proofs.FlowEditLaws.{FlowCarried, FlowTexts, before_is, edited_at, flow_carried, flow_texts, made_cut, made_reads}
+use Rattle.yq_edit_laws.{proofs.FlowEditLaws.segments_old, proofs.EarlierCollections.earlier, proofs.LaterCuts.slot}
+use Rattle.yq_edit_rules.proofs.FlowStayLaws as stay
 use Rattle.yq_documents.specs.Reading as reading
 use Rattle.yq_edit_laws.proofs.FlowStandings as standing
 
@@ -52,26 +54,47 @@ module _ (c : Cut) (doc : ℕ) (path init : List Step) (s : Step) (w : CollPiece
   pub bytes : RemovedText w.close w.rest w.gap w.items e
   bytes = removed_text w.close w.rest s w.gap w.items e gone
 
-  removed_carried : Fits (room_of (cut_text c)) (remove doc path) (documents c) → length (new_text (flow_segments (cut_text c) e)) ≤ text_limit → CarriedOut (remove doc path) c (flow_segments (cut_text c) e)
-  removed_carried fits size =
-      let old = standing.old c doc init w read found in
-      let known = document_known (cut_text c) c doc at.part old in
-      let root : fits.0.root ≡ root_of at.part = ap (λ (d : Document). d.root) (same_Some _ _ (sym fits.1 ∙ nth_map doc at.part reading.part_document (document_parts c) at.there)) in
-      let n = subst (λ r. (n : Rattle.yq_core.specs.Tree.Node) × (Rattle.yq_core.specs.Paths.node_at path r ≡ Some n) × (Rattle.yq_semantics.specs.Changes.is_used_in (Rattle.yq_core.specs.Anchors.names_of r) (Some n) ≡ Rattle.std.proofs.Common.false)) root fits.2.1 in
-      let sound : IsSoundRoot (root_of at.part) = record { unique = known.document.unique; nested = known.document.nested; bound = known.document.bound } in
-      let whole = removed_whole x s e stands gone row_text.before texts.before pairs (sym row_text.old ∙ texts.old) in
-      let parts = edit_pieces (cut_text c) texts.before e (standing.piece c doc init w read found) texts.old bounds.0 bounds.1 whole in
-      flow_carried (remove doc path) c init w at e (remove_child s) read (record {
-        edited = edited;
-        keys = flow_keys (cut_text c) c doc at.part init at.line at.rest at.row w e.gap e.items old at.at (left_keys s w e gone);
-        sound = remove_sound path init s (root_of at.part) n.0 sound last n.1 n.2;
-        root = remove_root path init s (root_of at.part) last;
-        pieces = (
-          subst IsPiece (sym (before_is (cut_text c) texts.before (e.old ++ e.behind) texts.old)) parts.0,
-          (lead_piece e.lead bytes.lead, (subst IsPiece (sym bytes.none_written) nothing_piece, (parts.1, tt))),
-        );
-        stays = omega (arith, (around_is x stands).longer, bytes.longer);
-      }) size
+  module _ (fits : Fits (room_of (cut_text c)) (remove doc path) (documents c)) where
+    removed_done : FlowCarried (remove doc path) c init w at e (remove_child s)
+    removed_done =
+        let old = standing.old c doc init w read found in
+        let known = document_known (cut_text c) c doc at.part old in
+        let root : fits.0.root ≡ root_of at.part = ap (λ (d : Document). d.root) (same_Some _ _ (sym fits.1 ∙ nth_map doc at.part reading.part_document (document_parts c) at.there)) in
+        let n = subst (λ r. (n : Rattle.yq_core.specs.Tree.Node) × (Rattle.yq_core.specs.Paths.node_at path r ≡ Some n) × (Rattle.yq_semantics.specs.Changes.is_used_in (Rattle.yq_core.specs.Anchors.names_of r) (Some n) ≡ Rattle.std.proofs.Common.false)) root fits.2.1 in
+        let sound : IsSoundRoot (root_of at.part) = record { unique = known.document.unique; nested = known.document.nested; bound = known.document.bound } in
+        let whole = removed_whole x s e stands gone row_text.before texts.before pairs (sym row_text.old ∙ texts.old) in
+        let parts = edit_pieces (cut_text c) texts.before e (standing.piece c doc init w read found) texts.old bounds.0 bounds.1 whole in
+        record {
+          edited = edited;
+          keys = flow_keys (cut_text c) c doc at.part init at.line at.rest at.row w e.gap e.items old at.at (left_keys s w e gone);
+          sound = remove_sound path init s (root_of at.part) n.0 sound last n.1 n.2;
+          root = remove_root path init s (root_of at.part) last;
+          pieces = (
+            subst IsPiece (sym (before_is (cut_text c) texts.before (e.old ++ e.behind) texts.old)) parts.0,
+            (lead_piece e.lead bytes.lead, (subst IsPiece (sym bytes.none_written) nothing_piece, (parts.1, tt))),
+          );
+          stays = omega (arith, (around_is x stands).longer, bytes.longer);
+        }
+
+    removed_carried : length (new_text (flow_segments (cut_text c) e)) ≤ text_limit → CarriedOut (remove doc path) c (flow_segments (cut_text c) e)
+    removed_carried size = flow_carried (remove doc path) c init w at e (remove_child s) read removed_done size
+
+    -- the cut as which that reads
+    pub removed_reads : length (new_text (flow_segments (cut_text c) e)) ≤ text_limit → read_at (new_text (flow_segments (cut_text c) e)) ≡ Some (made_cut (remove doc path) c init w at e)
+    removed_reads size = made_reads (remove doc path) c init w at e (remove_child s) read removed_done size
+
+  -- After it the steps to the head lead there still, and the earlier collections are there, before the text that is after them then.
+  module _ (stem left : List Step) (there : init ≡ stem ++ left) (h : LeadsToHead c doc stem) where
+    abbrev pub next : Cut
+    next = made_cut (remove doc path) c init w at e
+
+    pub head_behind : LeadsToHead next doc stem
+    head_behind = stay.head_behind c doc init w at e.gap e.items stem left there h
+
+    pub collection_before : (ss : List Step) (z : CollPieces) (mid : List ℕ) → flow_collection doc (stem ++ ss) c ≡ Some z → z.rest ≡ mid ++ (e.old ++ e.behind) → flow_collection doc (stem ++ ss) next ≡ Some (record z { rest = mid ++ ((e.lead ++ e.written) ++ e.behind) })
+    collection_before ss z mid found is =
+        stay.collection_behind c doc init w at e.gap e.items stem left there h ss
+        ∙ earlier s w e gone at.rest ss (slot c doc init w at e.gap e.items stem left there h) z mid at.at.along (sym (stay.collection_before c doc init w at e.gap e.items stem left there h ss) ∙ found) is
 
 -- Remove: an item or entry with the comma and the white space that go with it.
 pub flow_part_removed : FlowPartIsRemoved

@@ -1,6 +1,6 @@
 -- A part of a node that comes after one whose content were replaced by another stays as it is, in whichever collections the two are.
 use Rattle.std.proofs.Common.{◌≡◌, ℕ, ◌<◌, ◌≤◌, Bool, true, false, cond, List, [], ◌∷◌, ◌++◌, length, Option, Some, None, option_and_then}
-use Rattle.std.{proofs.Common.{refl, sym, ap, ◌∙◌, arith, length-append}, proofs.lemmas.Option.{none-some, same_Some}}
+use Rattle.std.{proofs.Common.{refl, sym, ap, ◌∙◌, subst, arith, length-append}, proofs.lemmas.Option.{none-some, same_Some}}
 use Rattle.yq_core.{specs.Answers.◌>>=◌, specs.Paths.{Step, is_here, further}}
 use Rattle.yq_core.specs.Collections.{CollPieces, change_item, coll_along, coll_in, collection_put, put_coll, within_items}
 use Rattle.yq_core.specs.Entries.{EntryPieces, entry_pieces_at, path_inside, item_at}
@@ -12,7 +12,8 @@ use Rattle.yq_edit_laws.proofs.FlowStandings.{coll_entry, node_entry}
 
 -- ---- where parts are
 
-node_in_items : (k : ℕ) (s : Step) (is : Items) (rest : List ℕ) (y : EntryPieces) → item_at k s is rest ≡ Some y → length (node_text y.node y.rest) ≤ length (flow_items_text k is rest)
+-- an item or entry is no longer than all
+pub node_in_items : (k : ℕ) (s : Step) (is : Items) (rest : List ℕ) (y : EntryPieces) → item_at k s is rest ≡ Some y → length (node_text y.node y.rest) ≤ length (flow_items_text k is rest)
 unfolding flow_items_text
 node_in_items k s none rest y e = absurd (none-some _ e)
 node_in_items k s (item key n sep is) rest y e = go (is_here s (key_label (key_content key))) (node_in_items k (further s) is rest y) e
@@ -25,7 +26,8 @@ node_in_items k s (item key n sep is) rest y e = go (is_here s (key_label (key_c
     go true again e = omega (arith, key_longer key (node_text n behind), ap (λ (z : EntryPieces). length (node_text z.node z.rest)) (same_Some _ _ e))
     go false again e = omega (arith, again e, sep_longer sep (flow_items_text k is rest), node_longer n behind, key_longer key (node_text n behind))
 
-content_within : (node : FlowNode) (rest : List ℕ) → length (node_text (without_anchor node) rest) ≤ length (node_text node rest)
+-- a content is no longer than its node
+pub content_within : (node : FlowNode) (rest : List ℕ) → length (node_text (without_anchor node) rest) ≤ length (node_text node rest)
 unfolding node_text
 content_within empty rest = omega arith
 content_within (alias n) rest = omega arith
@@ -33,17 +35,14 @@ content_within (scalar p) rest = omega arith
 content_within (coll k gap is) rest = omega arith
 content_within (anchored n gap node) rest = omega (arith, length-append n (gap ++ node_text node rest), length-append gap (node_text node rest))
 
-inside_within : (s : Step) (node : FlowNode) (rest : List ℕ) (y : EntryPieces) → path_inside s node rest ≡ Some y → (length (node_text y.node y.rest) < length (node_text (without_anchor node) rest)) × (length rest ≤ length y.rest)
+-- an item or entry is shorter than the content that holds it
+pub inside_within : (s : Step) (node : FlowNode) (rest : List ℕ) (y : EntryPieces) → path_inside s node rest ≡ Some y → (length (node_text y.node y.rest) < length (node_text (without_anchor node) rest)) × (length rest ≤ length y.rest)
 unfolding node_text
 inside_within s empty rest y e = absurd (none-some _ e)
 inside_within s (alias n) rest y e = absurd (none-some _ e)
 inside_within s (scalar p) rest y e = absurd (none-some _ e)
 inside_within s (coll k gap is) rest y e = (omega (arith, node_in_items k s is rest y e, length-append gap (flow_items_text k is rest)), item_rest k s is rest y e)
 inside_within s (anchored n gap node) rest y e = let within = inside_within s node rest y e in (omega (arith, within.0, content_within node rest), within.1)
-
-part_rest : (q : List Step) (x z : EntryPieces) → entry_pieces_at q x ≡ Some z → length x.rest ≤ length z.rest
-part_rest [] x z e = omega (arith, ap (λ (v : EntryPieces). length v.rest) (same_Some _ _ e))
-part_rest (s ∷ q) x z e = let u = then_some (path_inside s x.node x.rest) e in omega (arith, part_rest q u.0 z u.2, (inside_within s x.node x.rest u.0 u.1).1)
 
 part_within : (p : List Step) (s : Step) (x : EntryPieces) (w : CollPieces) (y : EntryPieces) → coll_along p x.node x.rest ≡ Some w → item_at w.close s w.items w.rest ≡ Some y → length (node_text y.node y.rest) < length (node_text (without_anchor x.node) x.rest)
 part_within [] s x w y e at = (inside_within s x.node x.rest y (coll_entry s x.node x.rest w e ∙ at)).0
@@ -86,7 +85,7 @@ later_item k s r m (item key n sep is) rest y z here there less =
         let later : Items = put_item (further s) m is in
         ap (λ (b : Bool). cond b (Some (record { key = key; node = n; rest = sep_text sep (flow_items_text k later rest) })) (item_at k (further r) later rest)) is_r ∙ again here there
 
-node_put : (s r : Step) (m node : FlowNode) (rest : List ℕ) (w : CollPieces) (y z : EntryPieces) → coll_in node rest ≡ Some w → item_at w.close s w.items w.rest ≡ Some y → path_inside r node rest ≡ Some z → length z.rest < length y.rest →
+pub node_put : (s r : Step) (m node : FlowNode) (rest : List ℕ) (w : CollPieces) (y z : EntryPieces) → coll_in node rest ≡ Some w → item_at w.close s w.items w.rest ≡ Some y → path_inside r node rest ≡ Some z → length z.rest < length y.rest →
     path_inside r (put_coll w.gap (put_item s m w.items) node) rest ≡ Some z
 node_put s r m empty rest w y z e here there less = absurd (none-some _ e)
 node_put s r m (alias n) rest w y z e here there less = absurd (none-some _ e)
@@ -99,55 +98,93 @@ node_put s r m (anchored n gap node) rest w y z e here there less = node_put s r
 -- ---- in nested ones
 
 -- an item or entry that has another node
-abbrev with_node : FlowNode → EntryPieces → EntryPieces
+abbrev pub with_node : FlowNode → EntryPieces → EntryPieces
 with_node m x = record x { node = m }
 
-item_changed : (k : ℕ) (s r : Step) (f : FlowNode → FlowNode) (q : List Step) (is : Items) (rest : List ℕ) (y z : EntryPieces) → item_at k s is rest ≡ Some y → option_and_then (entry_pieces_at q) (item_at k r is rest) ≡ Some z →
-    length z.rest < length (node_text y.node y.rest) → (entry_pieces_at q y ≡ Some z → entry_pieces_at q (with_node (f y.node) y) ≡ Some z) → option_and_then (entry_pieces_at q) (item_at k r (change_item s f is) rest) ≡ Some z
-item_changed k s r f q none rest y z here there less own_stays = absurd (none-some _ here)
-item_changed k s r f q (item key n sep is) rest y z here there less own_stays =
-    go (is_here s (key_label (key_content key))) (is_here r (key_label (key_content key))) refl here there (λ here there. item_changed k (further s) (further r) f q is rest y z here there less own_stays)
+-- something holds of an item or entry, if there is one
+abbrev pub HoldsOf : (EntryPieces → Type 0) → Option EntryPieces → Type 0
+HoldsOf Q o = (u : EntryPieces) × (o ≡ Some u) × Q u
+
+-- something holds of the item or entry to which steps lead from one
+abbrev pub Leads : List Step → (EntryPieces → Type 0) → EntryPieces → Type 0
+Leads [] Q x = Q x
+Leads (r ∷ q) Q x = HoldsOf (Leads q Q) (path_inside r x.node x.rest)
+
+item_changed : (k : ℕ) (s r : Step) (f : FlowNode → FlowNode) (Q : EntryPieces → Type 0) (is : Items) (rest : List ℕ) (y : EntryPieces) → item_at k s is rest ≡ Some y → HoldsOf Q (item_at k r is rest) →
+    ((u : EntryPieces) → Q u → length u.rest < length (node_text y.node y.rest)) → (Q y → Q (with_node (f y.node) y)) → HoldsOf Q (item_at k r (change_item s f is) rest)
+item_changed k s r f Q none rest y here there less own_stays = absurd (none-some _ here)
+item_changed k s r f Q (item key n sep is) rest y here there less own_stays =
+    go (is_here s (key_label (key_content key))) (is_here r (key_label (key_content key))) refl here there.1 (λ here at. item_changed k (further s) (further r) f Q is rest y here (there.0, at, there.2) less own_stays)
   where
     own : FlowNode → EntryPieces
     own m = record { key = key; node = m; rest = sep_text sep (flow_items_text k is rest) }
 
-    on : Option EntryPieces → Option EntryPieces
-    on o = option_and_then (entry_pieces_at q) o
-
-    go : (a b : Bool) → is_here r (key_label (key_content key)) ≡ b → cond a (Some (own n)) (item_at k (further s) is rest) ≡ Some y → on (cond b (Some (own n)) (item_at k (further r) is rest)) ≡ Some z →
-        (item_at k (further s) is rest ≡ Some y → on (item_at k (further r) is rest) ≡ Some z → on (item_at k (further r) (change_item (further s) f is) rest) ≡ Some z) →
-        on (item_at k r (cond a (item key (f n) sep is) (item key n sep (change_item (further s) f is))) rest) ≡ Some z
-    go true true is_r here there again =
-        let same : own n ≡ y = same_Some _ _ here in
-        ap (λ (b : Bool). on (cond b (Some (own (f n))) (item_at k (further r) is rest))) is_r
-        ∙ (ap (λ (x : EntryPieces). entry_pieces_at q (with_node (f x.node) x)) same ∙ own_stays (sym (ap (entry_pieces_at q) same) ∙ there))
-    go true false is_r here there again = ap (λ (b : Bool). on (cond b (Some (own (f n))) (item_at k (further r) is rest))) is_r ∙ there
-    go false true is_r here there again =
-        let behind : length (sep_text sep (flow_items_text k is rest)) ≤ length z.rest = part_rest q (own n) z there in
-        absurd (omega (arith, less, behind, node_in_items k (further s) is rest y here, sep_longer sep (flow_items_text k is rest)))
-    go false false is_r here there again =
+    go : (a b : Bool) → is_here r (key_label (key_content key)) ≡ b → cond a (Some (own n)) (item_at k (further s) is rest) ≡ Some y → cond b (Some (own n)) (item_at k (further r) is rest) ≡ Some there.0 →
+        (item_at k (further s) is rest ≡ Some y → item_at k (further r) is rest ≡ Some there.0 → HoldsOf Q (item_at k (further r) (change_item (further s) f is) rest)) →
+        HoldsOf Q (item_at k r (cond a (item key (f n) sep is) (item key n sep (change_item (further s) f is))) rest)
+    go true true is_r here at again =
+        let one : own n ≡ y = same_Some _ _ here in
+        let two : own n ≡ there.0 = same_Some _ _ at in (
+          own (f n),
+          ap (λ (b : Bool). cond b (Some (own (f n))) (item_at k (further r) is rest)) is_r,
+          subst (λ (x : EntryPieces). Q (with_node (f x.node) x)) (sym one) (own_stays (subst Q (sym two ∙ one) there.2)),
+        )
+    go true false is_r here at again = (there.0, ap (λ (b : Bool). cond b (Some (own (f n))) (item_at k (further r) is rest)) is_r ∙ at, there.2)
+    go false true is_r here at again =
+        absurd (omega (arith, less there.0 there.2, ap (λ (x : EntryPieces). length x.rest) (same_Some _ _ at), node_in_items k (further s) is rest y here, sep_longer sep (flow_items_text k is rest)))
+    go false false is_r here at again =
         let others : Items = change_item (further s) f is in
-        ap (λ (b : Bool). on (cond b (Some (record { key = key; node = n; rest = sep_text sep (flow_items_text k others rest) })) (item_at k (further r) others rest))) is_r ∙ again here there
+        let w = again here at in
+        (w.0, ap (λ (b : Bool). cond b (Some (record { key = key; node = n; rest = sep_text sep (flow_items_text k others rest) })) (item_at k (further r) others rest)) is_r ∙ w.1, w.2)
 
-node_changed : (s r : Step) (f : FlowNode → FlowNode) (q : List Step) (node : FlowNode) (rest : List ℕ) (y z : EntryPieces) → path_inside s node rest ≡ Some y → option_and_then (entry_pieces_at q) (path_inside r node rest) ≡ Some z →
-    length z.rest < length (node_text y.node y.rest) → (entry_pieces_at q y ≡ Some z → entry_pieces_at q (with_node (f y.node) y) ≡ Some z) → option_and_then (entry_pieces_at q) (path_inside r (within_items (change_item s f) node) rest) ≡ Some z
-node_changed s r f q empty rest y z here there less own_stays = absurd (none-some _ here)
-node_changed s r f q (alias n) rest y z here there less own_stays = absurd (none-some _ here)
-node_changed s r f q (scalar p) rest y z here there less own_stays = absurd (none-some _ here)
-node_changed s r f q (coll k gap is) rest y z here there less own_stays = item_changed k s r f q is rest y z here there less own_stays
-node_changed s r f q (anchored n gap node) rest y z here there less own_stays = node_changed s r f q node rest y z here there less own_stays
+node_changed : (s r : Step) (f : FlowNode → FlowNode) (Q : EntryPieces → Type 0) (node : FlowNode) (rest : List ℕ) (y : EntryPieces) → path_inside s node rest ≡ Some y → HoldsOf Q (path_inside r node rest) →
+    ((u : EntryPieces) → Q u → length u.rest < length (node_text y.node y.rest)) → (Q y → Q (with_node (f y.node) y)) → HoldsOf Q (path_inside r (within_items (change_item s f) node) rest)
+node_changed s r f Q empty rest y here there less own_stays = absurd (none-some _ here)
+node_changed s r f Q (alias n) rest y here there less own_stays = absurd (none-some _ here)
+node_changed s r f Q (scalar p) rest y here there less own_stays = absurd (none-some _ here)
+node_changed s r f Q (coll k gap is) rest y here there less own_stays = item_changed k s r f Q is rest y here there less own_stays
+node_changed s r f Q (anchored n gap node) rest y here there less own_stays = node_changed s r f Q node rest y here there less own_stays
+
+-- The items of a collection are others, and a number of bytes at the end of the text stay: what holds of items or entries that end there holds after it, if it
+-- does where that collection is inside them, and where they are inside it.
+module _ (Q : EntryPieces → Type 0) (w : CollPieces) (gap : List ℕ) (is : Items) (stay : ℕ) (ends : (u : EntryPieces) → Q u → length u.rest < stay)
+    (within : (p : List Step) (u : EntryPieces) → coll_along p u.node u.rest ≡ Some w → stay ≤ length (node_text u.node u.rest))
+    (own : (p : List Step) (u : EntryPieces) → coll_along p u.node u.rest ≡ Some w → Q u → Q (with_node (collection_put p gap is u.node) u))
+    (inside : (r : Step) (u v : EntryPieces) → coll_in u.node u.rest ≡ Some w → path_inside r u.node u.rest ≡ Some v → length v.rest < stay → path_inside r (put_coll gap is u.node) u.rest ≡ Some v) where
+  leads_end : (q : List Step) (u : EntryPieces) → Leads q Q u → length u.rest < stay
+  leads_end [] u h = ends u h
+  leads_end (r ∷ q) u h = omega (arith, leads_end q h.0 h.2, (inside_within r u.node u.rest h.0 h.1).1)
+
+  pub later : (p q : List Step) (x : EntryPieces) → coll_along p x.node x.rest ≡ Some w → Leads q Q x → Leads q Q (with_node (collection_put p gap is x.node) x)
+  later p [] x e h = own p x e h
+  later [] (r ∷ q) x e h = (h.0, inside r x h.0 e h.1 (leads_end q h.0 h.2), h.2)
+  later (t ∷ p) (r ∷ q) x e h =
+      let u = then_some (path_inside t x.node x.rest) e in
+      node_changed t r (collection_put p gap is) (Leads q Q) x.node x.rest u.0 u.1 h (λ v at. omega (arith, leads_end q v at, within p u.0 u.2)) (λ at. later p q u.0 u.2 at)
+
+-- ---- parts
+
+-- steps lead to an item or entry
+pub part_leads : (q : List Step) (x z : EntryPieces) → entry_pieces_at q x ≡ Some z → Leads q (λ u. u ≡ z) x
+part_leads [] x z e = same_Some _ _ e
+part_leads (r ∷ q) x z e = let u = then_some (path_inside r x.node x.rest) e in (u.0, u.1, part_leads q u.0 z u.2)
+
+pub leads_part : (q : List Step) (x z : EntryPieces) → Leads q (λ u. u ≡ z) x → entry_pieces_at q x ≡ Some z
+leads_part [] x z h = ap Some h
+leads_part (r ∷ q) x z h = ap (option_and_then (entry_pieces_at q)) h.1 ∙ leads_part q h.0 z h.2
+
+-- what comes after an item or entry is shorter than each content that holds it
+pub part_stays : (p : List Step) (s : Step) (w : CollPieces) (y u : EntryPieces) → item_at w.close s w.items w.rest ≡ Some y → coll_along p u.node u.rest ≡ Some w → length y.rest < length (node_text (without_anchor u.node) u.rest)
+part_stays p s w y u here e = omega (arith, node_longer y.node y.rest, part_within p s u w y e here)
 
 pub later_part : (p q : List Step) (s : Step) (m : FlowNode) (x : EntryPieces) (w : CollPieces) (y z : EntryPieces) → coll_along p x.node x.rest ≡ Some w → item_at w.close s w.items w.rest ≡ Some y → entry_pieces_at q x ≡ Some z →
     length z.rest < length y.rest → length (node_text (without_anchor z.node) z.rest) ≤ length y.rest → entry_pieces_at q (record x { node = collection_put p w.gap (put_item s m w.items) x.node }) ≡ Some z
-later_part p [] s m x w y z e here there less begins =
-    absurd (omega (arith, begins, node_longer y.node y.rest, part_within p s x w y e here, ap (λ (v : EntryPieces). length (node_text (without_anchor v.node) v.rest)) (same_Some _ _ there)))
-later_part [] (r ∷ q) s m x w y z e here there less begins =
-    let v = then_some (path_inside r x.node x.rest) there in
-    ap (option_and_then (entry_pieces_at q)) (node_put s r m x.node x.rest w y v.0 e here v.1 (omega (arith, less, part_rest q v.0 z v.2))) ∙ v.2
-later_part (t ∷ p) (r ∷ q) s m x w y z e here there less begins =
-    let u = then_some (path_inside t x.node x.rest) e in
-    node_changed t r (collection_put p w.gap (put_item s m w.items)) q x.node x.rest u.0 z u.1 there (omega (arith, less, node_longer y.node y.rest, part_within p s u.0 w y u.2 here, content_within u.0.node u.0.rest))
-    (λ at. later_part p q s m u.0 w y z u.2 here at less begins)
+later_part p q s m x w y z e here there less begins =
+    leads_part q _ z (later (λ u. u ≡ z) w w.gap (put_item s m w.items) (length y.rest)
+    (λ u is. omega (arith, less, ap (λ (v : EntryPieces). length v.rest) is))
+    (λ p u at. omega (arith, part_stays p s w y u here at, content_within u.node u.rest))
+    (λ p u at is. absurd (omega (arith, begins, part_stays p s w y u here at, ap (λ (v : EntryPieces). length (node_text (without_anchor v.node) v.rest)) is)))
+    (λ r u v at inside less. node_put s r m u.node u.rest w y v at here inside less) p q x e (part_leads q x z there))
 
 -- the parts of a collection are those to which one step more leads
 pub parts_along : (p : List Step) (s : Step) (x : EntryPieces) → (coll_along p x.node x.rest >>= λ w. item_at w.close s w.items w.rest) ≡ entry_pieces_at (p ++ (s ∷ [])) x

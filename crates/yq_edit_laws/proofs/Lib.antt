@@ -6,11 +6,14 @@ pub mod FlowPieceLaws
 pub mod FlowStandings
 pub mod FlowWholeLaws
 pub mod LaterParts
+pub mod LaterEnds
+pub mod LaterCuts
 pub mod FlowPutLaws
 pub mod FlowAppendLaws
 pub mod FlowRemoveLaws
 pub mod SoleLaws
 pub mod FlowLonger
+pub mod EarlierCollections
 pub mod FlowHeads
 pub mod FlowAnswers
 pub mod PutAnswers
@@ -85,6 +88,7 @@ pub mod RemovingFirstLaws
 pub mod AppendInside
 pub mod MorePuts
 pub mod MoreLaws
+pub mod HeadStandings
 pub mod GapLaws
 pub mod TouchLaws
 pub mod FinalBreaks

@@ -2,7 +2,7 @@
 use Rattle.std.proofs.Common.{inl, inr, ◌⊎◌, ◌≡◌, ℕ, zero, suc, ◌<◌, ◌≤◌, Bool, true, false, cond, eqb, not, List, [], ◌∷◌, ◌++◌, length}
 use Rattle.std.proofs.Common.{drop, replicate, Option, Some, refl, sym, ap, ◌∙◌, subst, arith, append_assoc, append-nil}
 use Rattle.std.{proofs.lemmas.Bool.{cases_lt, cond-false, eqb-true, eqb-false}, proofs.lemmas.Option.{none-some, same_Some}}
-use Rattle.yq_core.{specs.Paths.Step, specs.Text.is_empty, specs.Tree.Node}
+use Rattle.yq_core.{specs.BlockWritten.break_text, specs.Paths.Step, specs.Text.is_empty, specs.Tree.Node, proofs.Bools.bind_some}
 use Rattle.yq_row_table.{specs.Exchange.row_front, specs.Grammar.{AreDashes, AreRows, IsRow, Limit, unlimited}}
 use Rattle.yq_row_table.specs.Rows.{Content, Nothing, Inline, Block, Cut, Row, behind_dashes, behind_indent, cut_text, dashes_text}
 use Rattle.yq_row_table.{specs.Rows.{part_text, print_row, rows_text}, specs.View.{content_cut, slices}, proofs.NothingLaws.some_behind}
@@ -13,19 +13,27 @@ use Rattle.yq_places.{specs.CollectionEnds.{CollectionEnd, is_broken}, specs.Com
 use Rattle.yq_places.{specs.RowPieces.{past_dash, upto_dash}, specs.PlacedRows.{PlacedPart, placed_document}, specs.PrintedLines.last_break}
 use Rattle.yq_places.specs.Standings.{BlockRoot, Compact, Held, RowsOfEntry, alone, beside, compact, root, under, before_entry}
 use Rattle.yq_places.specs.Standings.{behind_entry, behind_mark, below, block_root, compact_in, dash_text, entry_standing, held, is_alone}
-use Rattle.yq_places.{specs.Standings.{lone, rows_of_entry, root_standing}, proofs.CommentEndLaws.row_text_parts}
+use Rattle.yq_places.{specs.Standings.{Standing, lone, rows_of_entry, root_standing, standing_at}, proofs.CommentEndLaws.row_text_parts}
 use Rattle.yq_places.{proofs.DashLaws.{line_within, row_cut}, proofs.PrintedTexts.{less_is, map_some}}
 use Rattle.yq_edit_rules.{specs.CollectionPlaces.IsCollectionEnd, specs.DocumentRows.{IsDocumentPart, behind_document}}
 use Rattle.yq_edit_rules.{specs.PlacedParts.StandsAt, specs.StandingLaws.StandsThere, proofs.EndedRowLaws.row_there}
 use Rattle.yq_edit_rules.{proofs.PartLaws.{document_known, part_rows}, proofs.PlacedPartLaws.document_stands_at}
-use Rattle.yq_edit_rules.{proofs.StandingRows.rows_stand, specs.EditLaws.{IsEdit, MoreIsPut}}
-use Rattle.yq_edit_rules.{specs.EntryEdits.{behind_held, behind_lines, more_lines, block_more}, specs.Layouts.layout_of}
-use Rattle.yq_edit_rules.{proofs.AppendPlaces.IsAppendPlace, proofs.CommentRowLaws.{entry_is_row, entry_row, rows_front}}
-use Rattle.yq_edit_rules.proofs.HeldLaws.{held_spelled}
+use Rattle.yq_edit_rules.{proofs.StandingRows.rows_stand, specs.EditLaws.{IsEdit, MoreIsPut}, specs.ClosedTexts.lines_put_behind}
+use Rattle.yq_edit_rules.specs.EntryEdits.{entry_lines, more_at, behind_held, behind_lines, more_lines, block_more}
+use Rattle.yq_edit_rules.{specs.Layouts.layout_of, proofs.AppendPlaces.IsAppendPlace}
+use Rattle.yq_edit_rules.{proofs.CommentRowLaws.{entry_is_row, entry_row, rows_front}, proofs.HeldLaws.held_spelled}
 use Rattle.yq_edit_laws.proofs.CollectionRows.{EndIn, behind_front, text_broken}
 use Rattle.yq_edit_laws.proofs.CollectionStands.{are, begins_behind, begins_under, end_at, ends_there, headless_dash, headless_mark}
 use Rattle.yq_edit_laws.{proofs.CollectionStands.root_ends, proofs.FinalBreaks.{entry_some, mark_some}}
 use Rattle.yq_edit_laws.proofs.MorePuts.{IsPutAt, edit_at, held_put_at, lines_put_at}
+
+-- Segments put one more item or entry at the end of a block collection.
+abbrev IsMore : ℕ → List Step → Option (List ℕ) → Node → Cut → List Segment → Type 0
+IsMore n steps key v c us = ((x : CollectionEnd) × IsAppendPlace n steps c x) × IsEdit (append n steps key v) c us
+
+more_edit_at : (n : ℕ) (steps : List Step) (key : Option (List ℕ)) (v : Node) (c : Cut) (x : CollectionEnd) (us : List Segment) → read_at (cut_text c) ≡ Some c → IsAppendPlace n steps c x →
+    IsPutAt x (lines_put_behind x.broken (break_text (layout_of n c).br) (entry_lines (layout_of n c) x.column key v)) us → IsMore n steps key v c us
+more_edit_at n steps key v c x us read place put = ((x, place), edit_at n steps key v c x us read place put)
 
 module _ (n : ℕ) (s : Step) (ss : List Step) (key : Option (List ℕ)) (v : Node) (c : Cut) (e : RowsOfEntry) (read : read_at (cut_text c) ≡ Some c) (is_there : rows_of_entry n (s ∷ ss) c ≡ Some e) where
   there : StandsThere n s ss c e
@@ -44,7 +52,7 @@ module _ (n : ℕ) (s : Step) (ss : List Step) (key : Option (List ℕ)) (v : No
 
   -- the lines under a key or dash
   under_edit : (r : Row) (rs : List Row) → e.line ≡ length e.row.dashes → is_empty (slices e.row).head ≡ true → e.under ≡ r ∷ rs → is_alone r ≡ false →
-      IsEdit (append n (s ∷ ss) key v) c (behind_held (held e) (more_lines (layout_of n c) key v r.column (held e).last))
+      IsMore n (s ∷ ss) key v c (behind_held (held e) (more_lines (layout_of n c) key v r.column (held e).last))
   under_edit r rs last none is single =
       let below_text : List ℕ = (slices e.row).raw ++ rows_text e.under [] in
       let first : IsRow _ r _ = (row_there unlimited (e.front ++ (e.row ∷ [])) r (rs ++ e.back) there.part.end (behind_document n c)
@@ -62,10 +70,10 @@ module _ (n : ℕ) (s : Step) (ss : List Step) (key : Option (List ℕ)) (v : No
       let h : Held = held e in
       let spelled : h.before ++ (h.space ++ (h.head ++ (h.white ++ (h.comment ++ (h.break ++ (h.lines ++ h.last)))))) ≡ before_entry e ++ print_row e.row (rows_text e.under []) =
       ap (λ t. h.before ++ (h.space ++ (h.head ++ (h.white ++ (h.comment ++ (h.break ++ (h.lines ++ t))))))) (sym (append-nil h.last)) ∙ sym (held_spelled bare) in
-      edit_at n (s ∷ ss) key v c (end_at n s ss c e there r.column (not (is_empty h.last))) _ read (place r.column (not (is_empty h.last)) end) (held_put_at h r.column _ _ _ spelled)
+      more_edit_at n (s ∷ ss) key v c (end_at n s ss c e there r.column (not (is_empty h.last))) _ read (place r.column (not (is_empty h.last)) end) (held_put_at h r.column _ _ _ spelled)
 
   -- a compact collection
-  compact_edit : e.line < length e.row.dashes → IsEdit (append n (s ∷ ss) key v) c (behind_lines (compact_in e).before (compact_in e).old (compact_in e).last (more_lines (layout_of n c) key v (compact_in e).column (compact_in e).last) (compact_in e).behind)
+  compact_edit : e.line < length e.row.dashes → IsMore n (s ∷ ss) key v c (behind_lines (compact_in e).before (compact_in e).old (compact_in e).last (more_lines (layout_of n c) key v (compact_in e).column (compact_in e).last) (compact_in e).behind)
   compact_edit less =
       let w : Compact = compact_in e in
       let t : List ℕ = dash_text e in
@@ -79,7 +87,7 @@ module _ (n : ℕ) (s : Step) (ss : List Step) (key : Option (List ℕ)) (v : No
       let end = ends_there n s ss c e there w.column (not (is_empty w.last)) (headless_dash n s ss c e there less) (begins_behind n s ss c e there less) broken in
       let spelled : w.before ++ (w.old ++ w.last) ≡ before_entry e ++ print_row e.row (rows_text e.under []) =
       ap (λ z. w.before ++ z) (less_is t) ∙ (append_assoc (before_entry e) (row_front (upto_dash e.line e.row)) t ∙ ap (λ z. before_entry e ++ z) (sym cut_is)) in
-      edit_at n (s ∷ ss) key v c (end_at n s ss c e there w.column (not (is_empty w.last))) _ read (place w.column (not (is_empty w.last)) end) (lines_put_at w.before w.old w.last w.behind w.column _ _ _ spelled)
+      more_edit_at n (s ∷ ss) key v c (end_at n s ss c e there w.column (not (is_empty w.last))) _ read (place w.column (not (is_empty w.last)) end) (lines_put_at w.before w.old w.last w.behind w.column _ _ _ spelled)
     where
       dashed : (ns ms : List ℕ) (limit : Limit) (rest : List ℕ) → IsRow limit e.row rest → (1 ≤ length ns) → AreDashes ns e.row.mark → is_empty (dashes_text ms (behind_dashes e.row (rows_text e.under []))) ≡ false
       dashed [] ms limit rest h k d = absurd (omega (arith, k))
@@ -108,43 +116,43 @@ module _ (n : ℕ) (s : Step) (ss : List Step) (key : Option (List ℕ)) (v : No
       go (inl h) = h
       go (inr h) = absurd (other (omega (arith, h, most)))
 
-  entry_edit : (us : List Segment) → block_more (layout_of n c) key v (entry_standing e) ≡ Some us → IsEdit (append n (s ∷ ss) key v) c us
+  entry_edit : (us : List Segment) → block_more (layout_of n c) key v (entry_standing e) ≡ Some us → IsMore n (s ∷ ss) key v c us
   entry_edit us is = go (eqb e.line (length e.row.dashes)) refl is
     where
-      under_by : (rs : List Row) → e.under ≡ rs → e.line ≡ length e.row.dashes → is_empty (slices e.row).head ≡ true → block_more (layout_of n c) key v (below e rs) ≡ Some us → IsEdit (append n (s ∷ ss) key v) c us
+      under_by : (rs : List Row) → e.under ≡ rs → e.line ≡ length e.row.dashes → is_empty (slices e.row).head ≡ true → block_more (layout_of n c) key v (below e rs) ≡ Some us → IsMore n (s ∷ ss) key v c us
       under_by [] at last none h = absurd (none-some _ h)
       under_by (r ∷ rs) at last none h = by (is_alone r) refl h
         where
-          by : (b : Bool) → is_alone r ≡ b → block_more (layout_of n c) key v (cond b (alone (lone (before_entry e ++ print_row e.row []) r (rows_text rs (behind_entry e)))) (under (held e) r.column)) ≡ Some us → IsEdit (append n (s ∷ ss) key v) c us
+          by : (b : Bool) → is_alone r ≡ b → block_more (layout_of n c) key v (cond b (alone (lone (before_entry e ++ print_row e.row []) r (rows_text rs (behind_entry e)))) (under (held e) r.column)) ≡ Some us → IsMore n (s ∷ ss) key v c us
           by true a h = absurd (none-some _ h)
-          by false a h = subst (IsEdit (append n (s ∷ ss) key v) c) (same_Some _ _ h) (under_edit r rs last none at a)
+          by false a h = subst (IsMore n (s ∷ ss) key v c) (same_Some _ _ h) (under_edit r rs last none at a)
 
-      mark_by : (x : Content) → e.row.content ≡ x → e.line ≡ length e.row.dashes → block_more (layout_of n c) key v (behind_mark e x) ≡ Some us → IsEdit (append n (s ∷ ss) key v) c us
+      mark_by : (x : Content) → e.row.content ≡ x → e.line ≡ length e.row.dashes → block_more (layout_of n c) key v (behind_mark e x) ≡ Some us → IsMore n (s ∷ ss) key v c us
       mark_by (Nothing tail) at last h = under_by e.under refl last (ap (λ (y : Content). is_empty (content_cut y).3) at) h
       mark_by (Inline space node tail) at last h = by (is_empty (slices e.row).head) refl h
         where
-          by : (b : Bool) → is_empty (slices e.row).head ≡ b → block_more (layout_of n c) key v (cond b (below e e.under) (beside (held e))) ≡ Some us → IsEdit (append n (s ∷ ss) key v) c us
+          by : (b : Bool) → is_empty (slices e.row).head ≡ b → block_more (layout_of n c) key v (cond b (below e e.under) (beside (held e))) ≡ Some us → IsMore n (s ∷ ss) key v c us
           by true a h = under_by e.under refl last a h
           by false a h = absurd (none-some _ h)
       mark_by (Block space anchor b) at last h = absurd (none-some _ h)
 
-      go : (b : Bool) → eqb e.line (length e.row.dashes) ≡ b → block_more (layout_of n c) key v (cond b (behind_mark e e.row.content) (compact (compact_in e))) ≡ Some us → IsEdit (append n (s ∷ ss) key v) c us
+      go : (b : Bool) → eqb e.line (length e.row.dashes) ≡ b → block_more (layout_of n c) key v (cond b (behind_mark e e.row.content) (compact (compact_in e))) ≡ Some us → IsMore n (s ∷ ss) key v c us
       go true b h = mark_by e.row.content refl (eqb-true e.line (length e.row.dashes) b) h
       go false b h =
-          subst (IsEdit (append n (s ∷ ss) key v) c) (same_Some _ _ h) (compact_edit (within (eqb-false e.line (length e.row.dashes) b)))
+          subst (IsMore n (s ∷ ss) key v c) (same_Some _ _ h) (compact_edit (within (eqb-false e.line (length e.row.dashes) b)))
 
 -- a root
-root_edit : (n : ℕ) (key : Option (List ℕ)) (v : Node) (c : Cut) (d : PlacedPart) (us : List Segment) → read_at (cut_text c) ≡ Some c → placed_document n c ≡ Some d → block_more (layout_of n c) key v (root_standing d d.part.rows) ≡ Some us → IsEdit (append n [] key v) c us
+root_edit : (n : ℕ) (key : Option (List ℕ)) (v : Node) (c : Cut) (d : PlacedPart) (us : List Segment) → read_at (cut_text c) ≡ Some c → placed_document n c ≡ Some d → block_more (layout_of n c) key v (root_standing d d.part.rows) ≡ Some us → IsMore n [] key v c us
 root_edit n key v c d us read at is = go d.part.rows refl is
   where
     stands : StandsAt c n d
     stands = document_stands_at c n d at
 
-    go : (rs : List Row) → d.part.rows ≡ rs → block_more (layout_of n c) key v (root_standing d rs) ≡ Some us → IsEdit (append n [] key v) c us
+    go : (rs : List Row) → d.part.rows ≡ rs → block_more (layout_of n c) key v (root_standing d rs) ≡ Some us → IsMore n [] key v c us
     go [] are_rows h = absurd (none-some _ h)
     go (r ∷ rs) are_rows h = by (is_alone r) refl h
       where
-        edit : is_alone r ≡ false → IsEdit (append n [] key v) c (behind_lines (block_root d r rs).before (block_root d r rs).old (block_root d r rs).last (more_lines (layout_of n c) key v r.column (block_root d r rs).last) (block_root d r rs).behind)
+        edit : is_alone r ≡ false → IsMore n [] key v c (behind_lines (block_root d r rs).before (block_root d r rs).old (block_root d r rs).last (more_lines (layout_of n c) key v r.column (block_root d r rs).last) (block_root d r rs).behind)
         edit a =
             let w : BlockRoot = block_root d r rs in
             let t : List ℕ = behind_indent r (rows_text rs []) in
@@ -161,18 +169,25 @@ root_edit n key v c d us read at is = go d.part.rows refl is
             root_ends n c d.part d.before r rs (not (is_empty w.last)) stands.there are_rows a (λ q. stands.put q ∙ ap (λ u. d.before ++ part_text q u) (sym stands.behind)) broken in
             let spelled : w.before ++ (w.old ++ w.last) ≡ x.before =
             ap (λ z. w.before ++ z) (less_is t) ∙ (append_assoc d.before (r.gap ++ replicate r.column 32) t ∙ (ap (λ z. d.before ++ z) (sym text) ∙ ap (λ us. d.before ++ rows_text us []) (sym are_rows))) in
-            edit_at n [] key v c x _ read (record { part = d.part; there = stands.there; end = end })
+            more_edit_at n [] key v c x _ read (record { part = d.part; there = stands.there; end = end })
             (subst (λ (z : List ℕ). IsPutAt (record { column = r.column; before = x.before; broken = x.broken; behind = d.part.end ++ z }) (more_lines (layout_of n c) key v r.column w.last) (behind_lines w.before w.old w.last (more_lines (layout_of n c) key v r.column w.last) w.behind)) (sym stands.behind)
             (lines_put_at w.before w.old w.last w.behind r.column _ _ _ spelled))
 
-        by : (b : Bool) → is_alone r ≡ b → block_more (layout_of n c) key v (cond b (alone (lone d.before r (rows_text rs (d.part.end ++ d.behind)))) (root (block_root d r rs))) ≡ Some us → IsEdit (append n [] key v) c us
+        by : (b : Bool) → is_alone r ≡ b → block_more (layout_of n c) key v (cond b (alone (lone d.before r (rows_text rs (d.part.end ++ d.behind)))) (root (block_root d r rs))) ≡ Some us → IsMore n [] key v c us
         by true a h = absurd (none-some _ h)
-        by false a h = subst (IsEdit (append n [] key v) c) (same_Some _ _ h) (edit a)
+        by false a h = subst (IsMore n [] key v c) (same_Some _ _ h) (edit a)
 
-pub more_is_put : MoreIsPut
-more_is_put n [] key v c t us read at is =
+more_there : (n : ℕ) (steps : List Step) (key : Option (List ℕ)) (v : Node) (c : Cut) (t : Standing) (us : List Segment) → read_at (cut_text c) ≡ Some c → standing_at n steps c ≡ Some t → block_more (layout_of n c) key v t ≡ Some us → IsMore n steps key v c us
+more_there n [] key v c t us read at is =
     let d = map_some (placed_document n c) at in
     root_edit n key v c d.0 us read d.1 (ap (block_more (layout_of n c) key v) d.2 ∙ is)
-more_is_put n (s ∷ ss) key v c t us read at is =
+more_there n (s ∷ ss) key v c t us read at is =
     let e = map_some (rows_of_entry n (s ∷ ss) c) at in
     entry_edit n s ss key v c e.0 read e.1 us (ap (block_more (layout_of n c) key v) e.2 ∙ is)
+
+pub more_is_put : MoreIsPut
+more_is_put n steps key v c t us read at is = (more_there n steps key v c t us read at is).1
+
+-- it is put at the end of a block collection
+pub more_place : (n : ℕ) (steps : List Step) (key : Option (List ℕ)) (v : Node) (c : Cut) (us : List Segment) → read_at (cut_text c) ≡ Some c → more_at n steps c key v ≡ Some us → (x : CollectionEnd) × IsAppendPlace n steps c x
+more_place n steps key v c us read is = let t = bind_some (standing_at n steps c) is in (more_there n steps key v c t.0 us read t.1 t.2).0

@@ -2,7 +2,7 @@
 use Rattle.std.proofs.Common.{◌≡◌, ℕ, suc, ◌<◌, ◌≤◌, Bool, true, false, List, [], ◌∷◌, ◌++◌, length, Option, Some, refl, sym, ap, ◌∙◌}
 use Rattle.std.{proofs.Common.{subst, arith, append-nil, rules}, proofs.lemmas.Bool.{false≢true, ltb-true}}
 use Rattle.yq_core.{specs.Paths.{Step, changed_at}, specs.Tree.{Node, anchor_of}, specs.Alike.Alike}
-use Rattle.yq_outline.{specs.LineAnchors.HaveOneAnchorEach, specs.Comments.{head_comment, line_comment}}
+use Rattle.yq_outline.{specs.LineAnchors.HaveOneAnchorEach, specs.Comments.line_comment}
 use Rattle.yq_outline.specs.Outline.{Line, level, Outline, flatten, IsEven, IsOpen, anchored, head_or, label, value}
 use Rattle.yq_outline.{specs.Places.content_under, specs.Lines.{content_anchor, head_of, tail_of, lines_of_rows}}
 use Rattle.yq_row_table.{specs.Exchange.{allows_first, asked_behind}, specs.Gap.IsGap, specs.Grammar.{Limit, allows, AreRows, no_rows}}

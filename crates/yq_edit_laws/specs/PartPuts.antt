@@ -1,16 +1,19 @@
--- Values put in the place of contents in a flow collection, whose row's head was read once (YAML 1.2.2, 7.4; own).
-use Rattle.std.specs.Prelude.{◌≡◌, ℕ, List, [], ◌∷◌, ◌++◌, length, Option, Some, None, option_map, Bool, true, false, if◌then◌else◌, String}
-use Rattle.std.{specs.Prelude.string_bytes, specs.declared.alloc.Global.Global}
-use Rattle.yq_core.{specs.Answers.◌>>=◌, specs.Paths.Step, specs.Tree.Node, specs.Entries.{EntryPieces, item_at}}
-use Rattle.yq_flow_edits.{specs.FlowEdits.{FlowEdit, replacing}, specs.FlowPlaces.{edit_view, place_edit}}
-use Rattle.yq_flow_edits.specs.declared.flow_place.EditPlace.{EditPlace}
+-- Values put in the place of contents in a flow collection, and items and entries put into one, where its row's head was read once (YAML 1.2.2, 7.4; own).
+use Rattle.std.specs.Prelude.{◌≡◌, ℕ, ◌+◌, ◌-◌, ◌<◌, ◌≤◌, List, [], ◌∷◌, ◌++◌, length, Option, Some, None, option_map, Bool, true, false}
+use Rattle.std.{specs.Prelude.{if◌then◌else◌, String, string_bytes}, specs.declared.alloc.Global.Global}
+use Rattle.yq_core.{specs.Answers.◌>>=◌, specs.Paths.Step, specs.Tree.Node, specs.Collections.CollPieces}
+use Rattle.yq_core.{specs.Entries.{EntryPieces, item_at}, specs.NodesWritten.{flow_key, flow_of}}
+use Rattle.yq_flow_edits.specs.FlowEdits.{FlowEdit, appending, behind_appended, is_none, replacing}
+use Rattle.yq_flow_edits.{specs.FlowPlaces.{edit_view, place_edit}, specs.Removals.removing, specs.declared.flow_place.EditPlace.EditPlace}
 use Rattle.yq_row_table.specs.Rows.{Cut, cut_text}
 use Rattle.yq_documents.specs.Reading.{cut_of}
 use Rattle.yq_places.{specs.FlowNodes.flow_collection, specs.FlowViews.FlowAgrees, specs.NodesAt.node_in}
 use Rattle.yq_places.{specs.Standings.{FlowPart, flow_standing, last_step}, specs.declared.places.flow_node.FlowHead.FlowHead}
 use Rattle.yq_text.specs.Script.{Segment, keep}
-use Rattle.yq_edit_rules.{specs.FlowParts.{content_written, flow_put, flow_value}, specs.Replacing.keeps_scalar}
-use Rattle.yq_edit_laws.{specs.EditPlaces.{LiesIn, moved_on}, specs.declared.put.PartPut.PartPut}
+use Rattle.yq_edit_rules.{specs.FlowParts.{content_written, flow_more, flow_put, flow_value, takes_key}, specs.Edits.part_removed}
+use Rattle.yq_edit_rules.specs.Replacing.{keeps_scalar}
+use Rattle.yq_edit_laws.{specs.EditPlaces.{LiesIn, moved_on}, specs.declared.append.MorePut.MorePut, specs.declared.put.PartPut.PartPut}
+use Rattle.yq_edit_laws.specs.declared.remove.PartGone.{PartGone}
 
 -- a value put in the place of the content of a part, unless that is kept
 abbrev pub part_put : List ℕ → (kept : Bool) → Node → FlowPart → List Segment
@@ -24,17 +27,25 @@ part_replaced n steps v c = option_map (part_put (cut_text c) (keeps_scalar (nod
 abbrev pub put_edit : Node → FlowPart → FlowEdit
 put_edit v x = replacing x.step x.part (flow_value (content_written x.part.node) v) x.collection
 
--- the head of a row is that in which the code looks for the collection in which a path ends
+-- the head of a row is that in which the code looks for the collection to which steps lead
+abbrev pub IsHeadOf : ℕ → List Step → List ℕ → FlowHead → Type 0
+IsHeadOf n steps t x = FlowAgrees t (flow_collection n steps (cut_of t)) (Some x)
+
+-- the same of the collection in which a path ends
 abbrev pub IsHeadOfPath : ℕ → Option (List Step × Step) → List ℕ → FlowHead → Type 0
 IsHeadOfPath n None t x = Unit {0}
-IsHeadOfPath n (Some y) t x = FlowAgrees t (flow_collection n y.0 (cut_of t)) (Some x)
+IsHeadOfPath n (Some y) t x = IsHeadOf n y.0 t x
 
--- A place after the bytes in front of a head is that of the edit that puts a value at a part.
-pub record IsPlaceOf (t : List ℕ) (v : Node) (z : FlowPart) (x : FlowHead) (place : EditPlace) : Type 0 where
+-- A place after the bytes in front of a head is that of an edit.
+pub record IsEditPlace (t : List ℕ) (e : FlowEdit) (x : FlowHead) (place : EditPlace) : Type 0 where
   pub lies : LiesIn t (moved_on x.before (edit_view place))
-  pub place_is : moved_on x.before (edit_view place) ≡ place_edit (length t) (put_edit v z)
+  pub place_is : moved_on x.before (edit_view place) ≡ place_edit (length t) e
   pub before : List ℕ
-  pub text : t ≡ before ++ ((put_edit v z).old ++ (put_edit v z).behind)
+  pub text : t ≡ before ++ (e.old ++ e.behind)
+
+-- a place is that of the edit that puts a value at a part
+abbrev pub IsPlaceOf : List ℕ → Node → FlowPart → FlowHead → EditPlace → Type 0
+IsPlaceOf t v z x place = IsEditPlace t (put_edit v z) x place
 
 -- what is written of a value at a part: nothing, if it is the scalar there
 abbrev pub IsWrittenPart : Option Node → Node → FlowPart → Option (String Global) → Type 0
@@ -50,3 +61,39 @@ ArePuts n steps v c x (Some p) =
 -- a part is in document n of a cut, in the collection to which steps lead, at one more step (7.4; own)
 abbrev pub IsPartOf : Cut → ℕ → List Step → Step → EntryPieces → Type 0
 IsPartOf c n steps s y = (flow_collection n steps c >>= λ w. item_at w.close s w.items w.rest) ≡ Some y
+
+-- ---- one more item or entry
+
+-- the edit by which a collection gets an item, or an entry of a key
+abbrev pub more_edit : Option (List ℕ) → Node → CollPieces → FlowEdit
+more_edit key v w = appending (flow_key key) (flow_of v) w
+
+-- what it comes to that an item or entry is put into the collection to which steps lead in document n; nothing, where there is none, or one that doesn't take it
+abbrev pub AreMore : ℕ → List Step → Option (List ℕ) → Node → Cut → FlowHead → Option MorePut → Type 0
+AreMore n steps key v c x None = (flow_collection n steps c >>= flow_more (cut_text c) key v) ≡ None
+AreMore n steps key v c x (Some p) =
+    (w : CollPieces) × (flow_collection n steps c ≡ Some w) × (takes_key w.close key ≡ true) × IsEditPlace (cut_text c) (more_edit key v w) x p.place × (string_bytes p.written ≡ (more_edit key v w).written)
+
+-- ---- one less
+
+-- what it comes to that the item or entry to which steps lead in document n is taken out; nothing, where there is none, or it is a sole one
+abbrev pub AreRemovals : ℕ → List Step → Cut → FlowHead → Option PartGone → Type 0
+AreRemovals n steps c x None = part_removed n c (last_step steps) ≡ None
+AreRemovals n steps c x (Some p) =
+    (y : List Step × Step) × (last_step steps ≡ Some y) × (w : CollPieces) × (flow_collection n y.0 c ≡ Some w) × (e : FlowEdit) × (removing y.1 w ≡ Some e) ×
+    IsEditPlace (cut_text c) e x p.place × (x.before + p.end ≡ length (cut_text c) - length w.rest)
+
+-- A collection ends as another one does: with the same bracket, and the same text after its last item or entry, or after its opening bracket if there is
+-- none, and it has some if that one has (7.4; own).
+pub record EndsAs (w z : CollPieces) : Type 0 where
+  pub close : z.close ≡ w.close
+  pub none : is_none z.items ≡ is_none w.items
+  pub behind : behind_appended z ≡ behind_appended w
+
+-- the collection to which steps lead in document n of a cut ends as this one (own)
+abbrev pub EndsAsIn : CollPieces → Cut → ℕ → List Step → Type 0
+EndsAsIn w c n steps = (z : CollPieces) × (flow_collection n steps c ≡ Some z) × EndsAs w z
+
+-- one more item or entry of a collection comes in the last n bytes of a text; if it has none, with more bytes before it there (own)
+abbrev pub EndsAfter : ℕ → CollPieces → Type 0
+EndsAfter n w = (length (behind_appended w) ≤ n) × (is_none w.items ≡ true → length (behind_appended w) < n)

@@ -1,17 +1,19 @@
 //! Items and entries put into flow collections.
-ghost use Rattle.std.specs.Prelude.{◌≡◌, IfOk, string_bytes};
+ghost use Rattle.std.specs.Prelude.{◌≡◌, IfOk, Some, string_bytes};
 ghost use Rattle.yq_core.{specs.Nodes.key_text, specs.Values.value_node, specs.View.inline_view, specs.NodesWritten.{flow_key, flow_text}};
 ghost use Rattle.yq_outline.specs.Bodies.{borrowed};
 ghost use Rattle.yq_documents.{specs.Located.steps_of, specs.Reading.cut_of};
 ghost use Rattle.yq_edit_rules.specs.Answers.{GivesSegments};
 ghost use Rattle.yq_edit_laws.specs.EditPlaces as spec;
+ghost use Rattle.yq_edit_laws.specs.PartPuts as puts;
 
 use crate::edit::{collection_in, edit_at};
 use std::alloc::{AllocError, Global};
 use yq_core::{Form, Inline, Value};
 use yq_documents::Path;
-use yq_flow_edits::{append_place, write_entry, write_inline};
+use yq_flow_edits::{EditPlace, append_place, write_entry, write_inline};
 use yq_lookup::CutText;
+use yq_places::FlowHead;
 use yq_text::Segments;
 
 /// Whether a node takes an entry of a key, or an item.
@@ -36,6 +38,47 @@ fn entry_text(alloc: Global, key: Option<&str>, value: &Value) -> Result<String,
     }
 }
 
+/// What it comes to that an item or entry is put into a flow collection.
+#[derive(Drop)]
+pub struct MorePut {
+    /// The place, in the text that begins with the node in the head.
+    pub place: EditPlace,
+    /// What is written there, after what leads to it.
+    pub written: String,
+}
+
+/// What it comes to that an item or entry is put after the last one of a flow collection, or right after
+/// its bracket, where the collection is in the head of a row that was read; `None` where none is there,
+/// or one that takes no key, or no item.
+///
+/// # Errors
+/// [`AllocError`] where memory is refused.
+pub fn more_at_end(
+    alloc: Global,
+    cut: &CutText<'_, '_>,
+    head: &FlowHead<'_, '_>,
+    path: &Path,
+    key: Option<&str>,
+    value: &Value,
+) -> Result<Option<MorePut>, AllocError>
+    requires { puts.IsHeadOf path.now.doc (steps_of path.now) cut.now head.now }
+    ensures { IfOk result (puts.AreMore path.now.doc (steps_of path.now) (borrowed key.entry)
+        (value_node value.now) (cut_of cut.now) head.now) }
+{
+    let _text = cut.text();
+    let Some(node) = collection_in(head) else {
+        return Ok(None);
+    };
+    if !takes(node, key) {
+        return Ok(None);
+    }
+    let Some(place) = append_place(node) else {
+        return Ok(None);
+    };
+    let written = entry_text(alloc, key, value)?;
+    Ok(Some(MorePut { place, written }))
+}
+
 /// An item or entry put after the last one of a flow collection, or right after its bracket;
 /// `None` where the path leads to no flow collection, or to one that takes no key, or no item.
 ///
@@ -55,16 +98,10 @@ pub fn append_in_flow<'d>(
     let Some(head) = found else {
         return Ok(None);
     };
-    let Some(node) = collection_in(&head) else {
-        return Ok(None);
-    };
     let text = cut.text();
-    if !takes(node, key) {
-        return Ok(None);
-    }
-    let Some(place) = append_place(node) else {
+    let put = more_at_end(alloc, cut, &head, path, key, value)?;
+    let Some(MorePut { place, written }) = put else {
         return Ok(None);
     };
-    let new = entry_text(alloc, key, value)?;
-    edit_at(alloc, text, head.before, place, new)
+    edit_at(alloc, text, head.before, place, written)
 }

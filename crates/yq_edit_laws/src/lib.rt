@@ -16,11 +16,11 @@ mod sole;
 pub mod values;
 mod ways;
 
-pub use append::append_in_flow;
+pub use append::{MorePut, append_in_flow, more_at_end};
 pub use edit::{last_step, unchanged};
 pub use edit_error::EditError;
 pub use operands::{operand_holds, operands_hold};
 pub use put::{PartPut, put_at_part, put_in_flow};
-pub use remove::remove_in_flow;
+pub use remove::{PartGone, gone_at_part, remove_in_flow};
 pub use sole::{EmptyPut, emptying};
 pub use ways::on_the_way;

@@ -1,16 +1,33 @@
 //! The gap between two tokens, and that after an opening bracket, read.
-ghost use Rattle.std.specs.Prelude.{◌≢◌, ◌≤◌, IfErr, IfOk, length};
+ghost use Rattle.std.specs.Prelude.{◌≡◌, ◌≢◌, ◌≤◌, IfErr, IfOk, IfSome, Some, length};
 ghost use Rattle.yq_core.{specs.Answers.ReadsAs, specs.declared.fault.FaultKind.TheVariants.NotUtf8};
 ghost use Rattle.yq_inline.specs.Forms.{after_bracket};
 ghost use Rattle.yq_core.specs.Reading as reading;
 
 use yq_core::fault_place::fault;
-use yq_core::text::is_marker;
-use yq_core::{FaultKind, ReadFault, gap_len};
+use yq_core::text::{is_marker, is_space};
+use yq_core::{FaultKind, ReadFault, first_is, gap_len, strip};
+
+/// The gap in front, and what follows it, where that gap is nothing or one space.
+#[inline(always)]
+#[tactic(auto, using(crate::proofs::GapSteps::no_gap, crate::proofs::GapSteps::one_space))]
+fn short_gap(text: &str) -> Option<(&str, &str)>
+    ensures read { IfSome result (λ x. reading.read_gap text.now ≡ Some (x.0.now, x.1.now)) }
+    ensures shorter { IfSome result (λ x. length x.1.now ≤ length text.now) }
+{
+    if !is_space(text.as_bytes()) {
+        return Some(("", text));
+    }
+    let rest = strip(b' ', text)?;
+    if is_space(rest.as_bytes()) || first_is(b'#', rest.as_bytes()) {
+        return None;
+    }
+    Some((" ", rest))
+}
 
 /// The gap in front, and what follows it.
 #[tactic(auto, unfolding(yq_core::specs::Reading::read_gap))]
-pub fn read_gap<'t>(whole: &str, text: &'t str) -> Result<(&'t str, &'t str), ReadFault>
+fn long_gap<'t>(whole: &str, text: &'t str) -> Result<(&'t str, &'t str), ReadFault>
     ensures read { ReadsAs (λ x. (x.0.now, x.1.now)) result (reading.read_gap text.now) }
     ensures shorter { IfOk result (λ x. length x.1.now ≤ length text.now) }
     ensures fault { IfErr result (λ f. f.kind ≢ NotUtf8) }
@@ -21,6 +38,19 @@ pub fn read_gap<'t>(whole: &str, text: &'t str) -> Result<(&'t str, &'t str), Re
         return Err(fault(FaultKind::BadFlow, whole, rest));
     }
     Ok((gap, rest))
+}
+
+/// The gap in front, and what follows it.
+#[inline(always)]
+pub fn read_gap<'t>(whole: &str, text: &'t str) -> Result<(&'t str, &'t str), ReadFault>
+    ensures read { ReadsAs (λ x. (x.0.now, x.1.now)) result (reading.read_gap text.now) }
+    ensures shorter { IfOk result (λ x. length x.1.now ≤ length text.now) }
+    ensures fault { IfErr result (λ f. f.kind ≢ NotUtf8) }
+{
+    match short_gap(text) {
+        Some(found) => Ok(found),
+        None => long_gap(whole, text),
+    }
 }
 
 /// What follows an opening bracket and the gap after it, where so many collections may be nested still.

@@ -43,6 +43,7 @@ pub fn read_name<'t>(whole: &str, text: &'t str) -> Result<(&'t str, &'t str), R
 }
 
 /// Whether a scalar may begin in front.
+#[inline(always)]
 pub fn begins_scalar(flow: bool, text: &[u8]) -> bool
     ensures { result ≡ scalars.begins_scalar flow text.now }
 {
@@ -50,6 +51,7 @@ pub fn begins_scalar(flow: bool, text: &[u8]) -> bool
 }
 
 /// Whether an alias, a scalar or a collection may begin in front.
+#[inline(always)]
 pub fn begins_content(flow: bool, text: &[u8]) -> bool
     ensures { result ≡ nodes.begins_content flow text.now }
 {
@@ -84,6 +86,7 @@ fn no_key(text: &[u8]) -> FaultKind
 }
 
 /// The quoted scalar in front, and what follows it; without a number of spaces it has one line.
+#[inline(always)]
 fn read_quoted<'t>(
     spaces: Option<usize>,
     whole: &str,
@@ -102,6 +105,7 @@ fn read_quoted<'t>(
 
 /// The scalar in front, and what follows it. A further line of it begins with so many spaces at least;
 /// without a number it has one line.
+#[inline(always)]
 #[tactic(auto, unfolding(yq_core::specs::Reading::read_scalar, yq_core::specs::Plain::plain_at), using(yq_core::proofs::Bounds::plain_unquoted))]
 pub fn read_scalar<'t>(
     flow: bool,
@@ -195,6 +199,7 @@ fn read_colon<'t>(piece: &str, whole: &str, open: &str, text: &'t str) -> Result
 
 /// What follows an item and the comma after it, if there is one; after the collection's bracket was
 /// `open`.
+#[inline(always)]
 #[tactic(auto, unfolding(yq_core::specs::Reading::sep_at, yq_core::specs::Reading::sep_behind))]
 pub fn read_sep<'t>(close: u8, whole: &str, open: &str, text: &'t str) -> Result<&'t str, ReadFault>
     ensures read { ReadsAs (λ x. x.now) result (reading.past_sep close text.now) }

@@ -14,6 +14,7 @@ use yq_core::fault_place::fault;
 use yq_core::{FaultKind, Form, Inline, Piece, ReadError, strip};
 
 /// A node without an anchor between two rests of the whole text.
+#[inline(always)]
 fn placed_between<'t>(whole: &str, text: &str, rest: &str, form: Form<'t>) -> Inline<'t>
     requires { (length text.now ≤ length whole.now) × (length rest.now ≤ length whole.now) }
     ensures { inline_view result ≡ spec.placed_between (length whole.now) text.now rest.now
@@ -131,6 +132,7 @@ fn read_content<'t>(
 }
 
 /// What the node in front is, which has no anchor, and what follows it.
+#[inline(always)]
 #[cycle(nodes)]
 fn read_form<'t>(
     alloc: Global,

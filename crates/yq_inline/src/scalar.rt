@@ -36,6 +36,7 @@ fn content_of(alloc: Global, piece: &str) -> Result<String, AllocError>
 }
 
 /// The scalar that it means.
+#[inline(always)]
 #[tactic(auto, unfolding(yq_core::specs::Scalars::scalar_of))]
 fn scalar_of(alloc: Global, piece: &str) -> Result<Scalar, AllocError>
     requires { scalars.is_quoted piece.now ≡ true → IsQuotedText piece.now }
@@ -50,6 +51,7 @@ fn scalar_of(alloc: Global, piece: &str) -> Result<Scalar, AllocError>
 }
 
 /// The scalar in front, with its piece, and what follows it.
+#[inline(always)]
 pub(crate) fn read_text<'t>(
     alloc: Global,
     flow: bool,

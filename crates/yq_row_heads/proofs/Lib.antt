@@ -1,1 +1,2 @@
+pub mod ShortKeys
 pub mod HeadCases

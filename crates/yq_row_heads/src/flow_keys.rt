@@ -1,13 +1,26 @@
 //! The keys in flow collections, as they are written.
-ghost use Rattle.std.specs.Prelude.{◌≡◌, ◌≢◌, is_none, IfSome};
+ghost use Rattle.std.{specs.Prelude.{◌≡◌, ◌≢◌, is_none, length, nat_le, IfSome}, specs.Str.chars};
 ghost use Rattle.yq_core.{specs.Spans.{HasSpans, IsSpan, PartsHaveSpans}, specs.View.{entries_end, items_end, inline_view as node_view}};
 ghost use Rattle.yq_core.specs.declared.fault.FaultKind.TheVariants.{NotUtf8};
+ghost use Rattle.yq_row_table.specs.Grammar.{key_limit};
 ghost use Rattle.yq_documents.specs.KeyReading as spec;
 
 use yq_core::characters::char_count;
 use yq_core::fault_place::fault_at;
 use yq_core::{FaultKind, Form, Inline, Piece, ReadFault};
 use yq_row_table::KEY_LIMIT;
+
+/// Whether a key is as short as it has to be. Characters are counted where there are more bytes than
+/// that.
+#[tactic(auto, using(crate::proofs::ShortKeys::short_by_bytes))]
+fn is_short(key: &str) -> bool
+    ensures { result ≡ nat_le (length (chars key.now)) key_limit }
+{
+    if key.len() <= KEY_LIMIT {
+        return true;
+    }
+    char_count(key) <= KEY_LIMIT
+}
 
 /// What is at fault in the key at a place of a text: it is to be no plain `<<`, and not too long.
 fn key_fault(whole: &str, piece: &Piece) -> Option<ReadFault>
@@ -19,7 +32,7 @@ fn key_fault(whole: &str, piece: &Piece) -> Option<ReadFault>
     if key == "<<" {
         return Some(fault_at(FaultKind::MergeKey, whole.as_bytes(), piece.start));
     }
-    if char_count(key) > KEY_LIMIT {
+    if !is_short(key) {
         return Some(fault_at(FaultKind::BadKey, whole.as_bytes(), piece.start));
     }
     None

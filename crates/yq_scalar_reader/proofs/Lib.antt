@@ -1,3 +1,4 @@
+mod ContentRuns
 pub mod DistinctKeys
 pub mod IntegerLaws
 pub mod LoopLaws

@@ -1,12 +1,14 @@
 //! What plain and quoted scalars mean (YAML 1.2.2, sections 5.7, 6.5 and 7.3).
-ghost use Rattle.std.specs.Prelude.{◌≡◌, ◌++◌, ◌<◌, ◌≤◌, ℕ, List, length, OnOk, IfOk, string_bytes};
+ghost use Rattle.std.{specs.List.prefix_len, specs.Prelude.{◌≡◌, ◌==◌, ◌++◌, ◌<◌, ◌≤◌, ℕ, List, length, OnOk, IfOk, string_bytes}};
 ghost use Rattle.yq_scalar_reader.specs.Folded.{folded_text};
 ghost use Rattle.yq_core.{specs.PlainContent.IsPlainLines, specs.Quoted.{QuotedLines, IsQuoted, IsQuotedText, quoted_lines_content}};
+ghost use Rattle.yq_core.{specs.Runs.run_goes_on, specs.declared.runs.Run.TheVariants.Quoted};
 ghost use Rattle.yq_core.specs.ContentReading as spec;
 
 use crate::folded::{Folded, fold_gap, fold_item, inside, split_space};
 use crate::pushing::push_breaks;
 use std::alloc::{AllocError, Global};
+use yq_core::{Run, run_len};
 
 /// Adds what bytes mean.
 fn push_folded(out: &mut String, folded: Folded<'_>) -> Result<(), AllocError>
@@ -50,10 +52,21 @@ fn content_room(quote: u8, len: usize) -> usize
     }
 }
 
+/// Whether each byte of what is in these quotes, or in none, means itself: none is its quote, a
+/// backslash or an LF.
+fn means_itself(quote: u8, text: &[u8]) -> bool
+    ensures { result ≡ (prefix_len (run_goes_on (Quoted quote)) text.now == length text.now) }
+{
+    run_len(Run::Quoted(quote), text) == text.len()
+}
+
 /// The content of what is in these quotes, or in none.
 fn fold(alloc: Global, quote: u8, text: &str) -> Result<String, AllocError>
     ensures { IfOk result (λ s. string_bytes s ≡ spec.quoted_text quote text.now) }
 {
+    if means_itself(quote, text.as_bytes()) {
+        return Ok(String::from_str(alloc, text)?);
+    }
     let mut out = String::with_capacity(alloc, content_room(quote, text.len()))?;
     let mut joined = false;
     let mut rest = text;

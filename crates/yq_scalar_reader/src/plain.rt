@@ -118,6 +118,7 @@ pub fn begins_plain(flow: bool, text: &[u8]) -> bool
 }
 
 /// How far a plain scalar in front goes on, in bytes.
+#[inline(always)]
 pub fn plain_len(flow: bool, spaces: Option<usize>, text: &[u8]) -> usize
     ensures { result ≡ upto (spec.ends_plain flow spaces) text.now }
 {
@@ -149,6 +150,7 @@ pub fn plain_len(flow: bool, spaces: Option<usize>, text: &[u8]) -> usize
 /// The text cut where a plain scalar in front has to end. `flow` tells that it is in a flow
 /// collection, and `spaces` with how many spaces a further line of it begins at least; with `None`
 /// it has one line.
+#[inline(always)]
 pub fn split_plain(flow: bool, spaces: Option<usize>, text: &str) -> (&str, &str)
     ensures { (result.0.now, result.1.now) ≡ cut (spec.ends_plain flow spaces) text.now }
 {

@@ -138,6 +138,7 @@ fn behind(quote: u8, first: u8, rest: &[u8]) -> Option<usize>
 }
 
 /// How far it is to the quote that closes, in bytes.
+#[inline(always)]
 #[tactic(auto, unfolding(yq_core::specs::QuotedReading::quoted_len))]
 fn quoted_len(quote: u8, text: &[u8]) -> Option<usize>
     ensures value { result ≡ spec.quoted_len quote 0 text.now }
@@ -162,6 +163,7 @@ fn quoted_len(quote: u8, text: &[u8]) -> Option<usize>
 }
 
 /// How long the quoted scalar in front is, with its quotes, in bytes.
+#[inline(always)]
 fn scalar_len(text: &[u8]) -> Option<usize>
     ensures value { result ≡ spec.scalar_len text.now }
     ensures within { IfSome result (λ n. n ≤ length text.now) }
@@ -173,6 +175,7 @@ fn scalar_len(text: &[u8]) -> Option<usize>
 }
 
 /// The text cut after the quoted scalar in front: the scalar with its quotes, and what follows it.
+#[inline(always)]
 fn cut_quoted(text: &str) -> Option<(&str, &str)>
     ensures { option_map (λ x. (x.0.now, x.1.now)) result ≡ spec.quoted_at text.now }
 {
@@ -182,6 +185,7 @@ fn cut_quoted(text: &str) -> Option<(&str, &str)>
 
 /// The quoted scalar in front of the text, with its quotes, and what follows it; the fault is
 /// [`FaultKind::BadScalar`], where no scalar is in front or it isn't closed.
+#[inline(always)]
 pub fn split_quoted(text: &str) -> Result<(&str, &str), FaultKind>
     ensures exact { ReadsAs (λ x. (x.0.now, x.1.now)) result (spec.quoted_at text.now) }
     ensures found { IfOk result (λ x. IsQuotedText x.0.now) }

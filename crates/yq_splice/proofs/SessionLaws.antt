@@ -25,7 +25,7 @@ documents_sound : (t : List ℕ) (c : Cut) → read_at t ≡ Some c → all_docu
 unfolding read_at
 documents_sound t c is = (text_takes t c (guard_then (is_utf8 t) is).1).1
 
-has_cut : (t : List ℕ) (c : Cut) (s : RowsView) → read_at t ≡ Some c → s ≡ rows_view c → HasCut t s
+pub has_cut : (t : List ℕ) (c : Cut) (s : RowsView) → read_at t ≡ Some c → s ≡ rows_view c → HasCut t s
 has_cut t c s is shows =
     let same : c ≡ cut_of t = sym (cut_same t c is) in
     record { cut = subst (IsCut t) same (cut_read t c is); rows = shows ∙ ap rows_view same; sound = ap all_documents (sym same) ∙ documents_sound t c is }

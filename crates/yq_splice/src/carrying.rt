@@ -2,6 +2,7 @@
 ghost use Rattle.std.specs.Prelude.{◌≡◌, ◌++◌, Some, IfErr, IfOk, IfSome, string_bytes};
 ghost use Rattle.yq_semantics.specs.Operations.{operation_of, operations_of};
 ghost use Rattle.yq_documents.specs.Reading.{cut_of, read_at};
+ghost use Rattle.yq_row_table.specs.View.{rows_view};
 ghost use Rattle.yq_edit_laws.{specs.Answers.{Edits, EditFails}, specs.Edit.{edit_after, gives}};
 ghost use Rattle.yq_edit_laws.{specs.Theorems.{IsApplied, IsFitting, OpRefused}, specs.Valid.AreServed};
 ghost use Rattle.yq_splice.specs.Session.{HasPlaces};
@@ -14,7 +15,7 @@ use yq_documents::Documents;
 use yq_edit_laws::{EditError, operand_holds};
 use yq_lookup::CutText;
 use yq_operation::carry_one;
-use yq_row_table::Places;
+use yq_row_table::{Places, Rows};
 use yq_semantics::Op;
 use yq_text::{Edited, Splice};
 use yq_tree::read;
@@ -24,7 +25,8 @@ fn carry(alloc: Global, text: &str, op: &Op) -> Result<Edited, EditError>
     ensures { Edits result (spec.carried (operation_of op.now) text.now) }
 {
     let documents = read(alloc, text.as_bytes())?;
-    carry_one(alloc, &CutText::of(&documents), op)
+    let rows = documents.into_rows();
+    carry_one(alloc, &CutText::new(text, &rows), op)
 }
 
 /// Carries out an operation on a text that has a reading and whose documents
@@ -121,17 +123,17 @@ fn carry_at_once<'d>(
 fn carry_each(
     alloc: Global,
     text: &str,
-    documents: Documents<'_>,
+    rows: Rows<'_>,
     splices: Vec<Splice>,
     ops: &[Op],
 ) -> Result<Edited, EditError>
-    requires same { documents ≡ text.now }
-    requires read { read_at text.now ≡ Some (cut_of documents) }
+    requires rows { rows ≡ rows_view (cut_of text.now) }
+    requires read { read_at text.now ≡ Some (cut_of text.now) }
     requires serves { AreServed (operations_of ops.now) text.now }
     ensures { Edits result (edit_after splices.items (spec.carry_all (operations_of ops.now)
         text.now)) }
 {
-    let places = documents.into_rows().into_places();
+    let places = rows.into_places();
     let kept = String::from_str(alloc, text)?;
     carry_all(alloc, kept, places, splices, ops)
 }
@@ -151,9 +153,12 @@ pub fn carry_plan(
     ensures { Edits result (edit_after splices.items (spec.carry_all (operations_of ops.now)
         text.now)) }
 {
-    let at_once = carry_at_once(alloc, &CutText::of(&documents), ops)?;
+    let whole = documents.text();
+    // What is decoded is freed before an operation reads the head that it changes.
+    let rows = documents.into_rows();
+    let at_once = carry_at_once(alloc, &CutText::new(whole, &rows), ops)?;
     if let Some(edited) = at_once {
         return Ok(edited_behind(splices, edited)?);
     }
-    carry_each(alloc, text, documents, splices, ops)
+    carry_each(alloc, text, rows, splices, ops)
 }

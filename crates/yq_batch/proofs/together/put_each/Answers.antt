@@ -22,26 +22,26 @@ operations-init c =
       runs = begins t c.args.doc steps c.new-run.result c.text-text.ensures.read c.requires.head.leads c.new-run.ensures.text c.new-run.ensures.done;
     }
 
-pub put_one-requires-clause-fits : goal.put_one-requires-clause-fits
-put_one-requires-clause-fits c = first_fits c.operations.rest.now c.op-item.result (now_text (cut_of c.args.cut.now) c.operations.run) c.in-len1-up.len_at_least c.op-item.is c.operations.invariant.serves
+pub carry_next-requires-clause-fits : goal.carry_next-requires-clause-fits
+carry_next-requires-clause-fits c = first_fits c.operations.rest.now c.op-item.result (now_text (cut_of c.args.cut.now) c.operations.run) c.in-len1-up.len_at_least c.op-item.is c.operations.invariant.serves
 
-pub returns-in_err-put-clause-err : goal.returns-in_err-put-clause-err
-returns-in_err-put-clause-err c =
+pub returns-in_err-carried-clause-err : goal.returns-in_err-carried-clause-err
+returns-in_err-carried-clause-err c =
     let p = err_from_is_err_and c.from_residual.result c.from_residual.ensures.1 in
     let t : List ℕ = now_text (cut_of c.args.cut.now) c.operations.run in
-    let fails : EditFails c.in_err-put.field-0.0 (edit_after c.operations.run.splices.items (carry_all (operations_of c.operations.rest.now) t)) =
-    first_fails c.operations.rest.now c.op-item.result t c.operations.run.splices.items c.in_err-put.field-0.0 c.in-len1-up.len_at_least c.op-item.is c.in_err-put.ensures.err in
-    rw (p.1, p.2) (subst (EditFails c.in_err-put.field-0.0) c.operations.invariant.whole fails)
+    let fails : EditFails c.in_err-carried.field-0.0 (edit_after c.operations.run.splices.items (carry_all (operations_of c.operations.rest.now) t)) =
+    first_fails c.operations.rest.now c.op-item.result t c.operations.run.splices.items c.in_err-carried.field-0.0 c.in-len1-up.len_at_least c.op-item.is c.in_err-carried.ensures.err in
+    rw (p.1, p.2) (subst (EditFails c.in_err-carried.field-0.0) c.operations.invariant.whole fails)
 
 pub operations-preserved : goal.operations-preserved
 operations-preserved c =
     let t : List ℕ = now_text (cut_of c.args.cut.now) c.operations.run in
-    let m : List ℕ = now_text (cut_of c.args.cut.now) c.put_one.new.run in
-    let on = c.in_ok-put.ensures.ok c.if-not-put.false in
+    let m : List ℕ = now_text (cut_of c.args.cut.now) c.carry_next.new.run in
+    let on = c.in_ok-carried.ensures.ok c.if-not-carried.false in
     record {
-      head = c.put_one.ensures.head;
+      head = c.carry_next.ensures.head;
       whole =
-          others_come c.operations.rest.now c.op-item.result t m c.operations.run.splices.items on.new_bytes c.put_one.new.run.splices.items c.in-len1-up.len_at_least c.op-item.is on.comes on.splices
+          others_come c.operations.rest.now c.op-item.result t m c.operations.run.splices.items on.new_bytes c.carry_next.new.run.splices.items c.in-len1-up.len_at_least c.op-item.is on.comes on.splices
           ∙ c.operations.invariant.whole;
       serves = others_served c.operations.rest.now c.op-item.result t m on.new_bytes c.in-len1-up.len_at_least c.op-item.is c.operations.invariant.serves on.applied;
       runs = on.run;

@@ -1,5 +1,4 @@
-use Rattle.std.{proofs.Common.{◌≡◌, ℕ, ◌+◌, [], ◌∷◌, take, drop, Some, sym, ap, ◌∙◌}, proofs.lemmas.List.take-take}
-use Rattle.std.specs.String.{string_bytes}
+use Rattle.std.{proofs.Common.{ℕ, ◌+◌, [], ◌∷◌, take, drop, Some, sym, ap, ◌∙◌}, proofs.lemmas.List.take-take, specs.String.string_bytes}
 use Rattle.yq_text.{specs.Halves.whole, specs.Script.{keep, put}, specs.Segments.segments_of}
 use Rattle.yq_edit_laws.proofs.edit.edit_at.Goals as goal
 

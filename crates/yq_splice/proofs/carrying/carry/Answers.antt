@@ -1,8 +1,13 @@
-use Rattle.std.{proofs.Common.ap, proofs.lemmas.Result.err_from_is_err_and}
+use Rattle.std.{proofs.Common.{ap, sym, ◌∙◌}, proofs.lemmas.Result.err_from_is_err_and}
 use Rattle.yq_semantics.specs.Operations.{operation_of}
 use Rattle.yq_edit_laws.{specs.Edit.by_reading, proofs.TextFaults.edit_not_read}
+use Rattle.yq_documents.specs.Reading.{cut_of, read_at}
+use Rattle.yq_splice.proofs.SessionLaws.{has_cut}
 use Rattle.yq_edit_laws.specs.Carried as spec
 use Rattle.yq_splice.proofs.carrying.carry.Goals as goal
+
+pub new-requires : goal.new-requires
+new-requires c = has_cut c.args.text.now (cut_of c.in_ok-documents.documents) _ (ap read_at (sym c.as_bytes.ensures.value) ∙ c.in_ok-documents.ensures.exact) c.into_rows-rows.ensures
 
 pub returns-in_err-documents : goal.returns-in_err-documents
 returns-in_err-documents c =

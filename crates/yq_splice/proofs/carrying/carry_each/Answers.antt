@@ -10,9 +10,9 @@ carry_all-requires-clause-serves c = subst (AreServed (operations_of c.args.ops.
 
 pub carry_all-requires-clause-places : goal.carry_all-requires-clause-places
 carry_all-requires-clause-places c = record {
-  cut = cut_of c.args.documents;
+  cut = cut_of c.args.text.now;
   read = ap read_at c.in_ok-kept.ensures.ok ∙ c.requires.read;
-  placed = subst (IsPlaced c.into_places-places.result) c.into_rows.ensures c.into_places-places.ensures;
+  placed = subst (IsPlaced c.into_places-places.result) c.requires.rows c.into_places-places.ensures;
 }
 
 pub returns : goal.returns

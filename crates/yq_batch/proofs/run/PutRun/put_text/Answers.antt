@@ -1,5 +1,4 @@
-use Rattle.std.proofs.Common.{ℕ, ◌≤◌, List, ◌++◌, length, length-append, drop, append_assoc, refl, ap, ◌∙◌, arith}
-use Rattle.std.specs.String.{string_bytes}
+use Rattle.std.{proofs.Common.{ℕ, List, ◌++◌, length, length-append, drop, append_assoc, refl, ap, ◌∙◌, arith}, specs.String.string_bytes}
 use Rattle.yq_text.{specs.Halves.whole, specs.Script.splice_at}
 use Rattle.yq_batch.specs.Runs.{run_front}
 use Rattle.yq_batch.proofs.run.PutRun.put_text.Goals as goal

@@ -1,0 +1,78 @@
+//! Items and entries that an update puts into the flow collections of one head.
+ghost use Rattle.std.specs.Prelude.{◌≡◌, true, map, IfErr, IfOk, IfSome};
+ghost use Rattle.yq_core.specs.Entries.{tree_step};
+ghost use Rattle.yq_documents.specs.Reading.{cut_of};
+ghost use Rattle.yq_places.specs.FlowViews.{ReportsHead};
+ghost use Rattle.yq_semantics.specs.Operations.{operation_of};
+ghost use Rattle.yq_edit_laws.{specs.Answers.EditFails, specs.Carried.carried, specs.Theorems.IsFitting};
+ghost use Rattle.yq_batch.specs.Runs as spec;
+
+use crate::run::PutRun;
+use crate::together::steps_on;
+use std::alloc::{AllocError, Global};
+use yq_core::Step;
+use yq_edit_laws::{EditError, MorePut, more_at_end, operand_holds};
+use yq_lookup::CutText;
+use yq_places::FlowHead;
+use yq_semantics::Op;
+
+/// What it comes to that an operation puts an item or entry into a collection of a head; nothing, where it does something else.
+fn more_put<'s>(
+    alloc: Global,
+    cut: &CutText<'_, '_>,
+    doc: usize,
+    stem: &[Step],
+    head: &mut FlowHead<'s, '_>,
+    op: &'s Op,
+) -> Result<Option<MorePut>, AllocError>
+    requires { ReportsHead cut.now (cut_of cut.now) doc (map tree_step stem.now) head.old }
+    ensures head { ReportsHead cut.now (cut_of cut.now) doc (map tree_step stem.now) head.new }
+    ensures put { IfOk result (λ o. IfSome o (λ p. spec.AddsAt (operation_of op.now) cut.now doc
+        (map tree_step stem.now) head.new p)) }
+{
+    operand_holds(op);
+    let Op::Append(path, key, value) = op else {
+        return Ok(None);
+    };
+    if path.doc != doc {
+        return Ok(None);
+    }
+    let Some(left) = steps_on(&path.steps, stem) else {
+        return Ok(None);
+    };
+    head.left = left;
+    more_at_end(alloc, cut, head, path, key.as_deref(), value)
+}
+
+/// Carries out an operation on the text of a run, if it puts an item or entry into a collection of a head,
+/// after those that were put.
+pub(crate) fn add_one<'s>(
+    alloc: Global,
+    cut: &CutText<'_, '_>,
+    doc: usize,
+    stem: &[Step],
+    head: &mut FlowHead<'s, '_>,
+    op: &'s Op,
+    run: &mut PutRun,
+) -> Result<bool, EditError>
+    requires head { ReportsHead cut.now (cut_of cut.now) doc (map tree_step stem.now) head.old }
+    requires run { spec.Runs (cut_of cut.now) doc (map tree_step stem.now) run.old }
+    requires fits { IsFitting (operation_of op.now) (spec.now_text (cut_of cut.now) run.old) }
+    ensures head { ReportsHead cut.now (cut_of cut.now) doc (map tree_step stem.now) head.new }
+    ensures ok { IfOk result (λ b. b ≡ true → spec.RunsOn (operation_of op.now) (cut_of cut.now) doc
+        (map tree_step stem.now) run.old run.new) }
+    ensures err { IfErr result (λ e. EditFails e (carried (operation_of op.now)
+        (spec.now_text (cut_of cut.now) run.old))) }
+{
+    let text = cut.text();
+    let Some(MorePut { place, written }) = more_put(alloc, cut, doc, stem, head, op)? else {
+        return Ok(false);
+    };
+    let start = head.before + place.start;
+    let end = head.before + place.end;
+    if !run.comes_before(start, place.lead) {
+        return Ok(false);
+    }
+    run.put(alloc, text, start, end, place.lead, &written)?;
+    Ok(true)
+}

@@ -1,0 +1,60 @@
+-- Where a flow collection is at a path, no block collection is there, which gets rows more.
+use Rattle.std.proofs.Common.{◌≡◌, ℕ, cond, List, [], ◌∷◌, Option, Some, None, option_map, refl, sym, ap, ◌∙◌, subst}
+use Rattle.std.{proofs.lemmas.Option.{none-some, same_Some}, specs.Prelude.option_and_then}
+use Rattle.yq_core.{specs.Answers.◌>>=◌, specs.Paths.Step, specs.Tree.Node, specs.Collections.CollPieces}
+use Rattle.yq_text.specs.Script.{Segment}
+use Rattle.yq_outline.specs.Outline.{LineMark, Bare, Key, Dash, Outline, end, row}
+use Rattle.yq_outline.{specs.Places.{here, FoundLine, find, in_head, place_inside}, specs.Positions.has_no_mark}
+use Rattle.yq_row_table.specs.Rows.{Cut, Part, cut_text}
+use Rattle.yq_documents.specs.Reading.{part_outline, read_at}
+use Rattle.yq_places.specs.FlowNodes.{bare_line, find_head, flow_collection, head_line}
+use Rattle.yq_edit_rules.{specs.EntryEdits.more_at, specs.FlowRows.FlowAt}
+use Rattle.yq_edit_rules.specs.Siblings.{HasEntries, IsCollectionAt, IsEntry, NodeLines, lines_below}
+use Rattle.yq_edit_laws.proofs.MoreLaws.{more_place}
+use Rattle.yq_edit_laws.proofs.FlowStandings as standing
+
+abbrev Reached : Type 0
+Reached = FoundLine × List Step
+
+-- the first line of a block collection isn't a node itself
+none_bare : (o : Outline) → HasEntries o → bare_line o ≡ None
+none_bare end h = refl
+none_bare (row l u v) h = go l.mark h
+  where
+    own : FoundLine
+    own = record { place = here; line = l; under = u; after = v }
+
+    go : (m : LineMark) → IsEntry m → cond (has_no_mark m) (Some own) None ≡ None
+    go Bare h = absurd h
+    go (Key k) h = refl
+    go Dash h = refl
+
+-- no head is that of a block collection
+none_headed : (steps : List Step) (o : Outline) (h : NodeLines) → IsCollectionAt steps o h → find_head steps o ≡ None
+none_headed [] o h at = ap (option_map (λ (f : FoundLine). (f, []))) (none_bare o (subst HasEntries (sym (ap (λ (z : NodeLines). z.lines) (same_Some _ _ at.place_is))) at.block))
+none_headed (s ∷ ss) o h at = go (find s ss o) at.place_is
+  where
+    below : (f : FoundLine) (left : List Step) (head : Option Node) → lines_below head left f ≡ Some h → f.line.head ≡ head → head_line f left ≡ None
+    below f left (Some n) e is = absurd (none-some _ e)
+    below f (t ∷ ts) None e is = absurd (none-some _ e)
+    below f [] None e is =
+        ap (λ (k : Option Node). in_head k (Some (f, [])) (option_map {U = Reached} (λ (b : FoundLine). (place_inside f b, [])) (bare_line f.under))) is
+        ∙ ap (option_map {U = Reached} (λ (b : FoundLine). (place_inside f b, []))) (none_bare f.under (subst HasEntries (sym (ap (λ (z : NodeLines). z.lines) (same_Some _ _ e))) at.block))
+
+    go : (r : Option Reached) → option_and_then (λ (x : Reached). lines_below x.0.line.head x.1 x.0) r ≡ Some h → (r >>= λ x. head_line x.0 x.1) ≡ None
+    go None e = refl
+    go (Some x) e = below x.0 x.1 x.0.line.head e refl
+
+-- so no rows more are put there
+pub no_rows_more : (c : Cut) (n : ℕ) (steps : List Step) (w : CollPieces) (key : Option (List ℕ)) (v : Node) → read_at (cut_text c) ≡ Some c → flow_collection n steps c ≡ Some w → more_at n steps c key v ≡ None
+no_rows_more c n steps w key v read found = go (more_at n steps c key v) refl
+  where
+    at : FlowAt c n steps w
+    at = standing.at c n steps w read found
+
+    go : (o : Option (List Segment)) → more_at n steps c key v ≡ o → more_at n steps c key v ≡ None
+    go None is = is
+    go (Some us) is =
+        let x = more_place n steps key v c us read is in
+        let same : x.1.part ≡ at.part = same_Some _ _ (sym x.1.there ∙ at.there) in
+        absurd (none-some _ (sym (none_headed steps (part_outline x.1.part) x.1.end.h x.1.end.collection) ∙ (ap (λ (p : Part). find_head steps (part_outline p)) same ∙ at.at.found)))

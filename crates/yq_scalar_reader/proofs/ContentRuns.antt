@@ -1,0 +1,65 @@
+-- A text over all of which a run of bytes in quotes goes means itself.
+use Rattle.std.proofs.Common.{◌≡◌, ℕ, suc, ◌+◌, Bool, true, false, ◌&&◌, ◌||◌, cond, not, eqb, eqb-true, List, [], ◌∷◌, ◌++◌, length, refl}
+use Rattle.std.{proofs.Common.{sym, ap, ◌∙◌, ⊎_elim, append_assoc, append-nil, arith}, proofs.lemmas.Bool.{cases_Bool, or_parts}}
+use Rattle.std.specs.List.{prefix_len}
+use Rattle.yq_core.{specs.ContentReading.{within, content_on, quoted_item, item_len, item_before}, specs.Runs.{is_stop, run_goes_on}}
+use Rattle.yq_core.{specs.declared.runs.Run.TheVariants.Quoted, specs.Text.{is_white, is_feed, is_return, front}}
+
+abbrev GoesOver : ℕ → List ℕ → Type 0
+GoesOver q t = prefix_len (run_goes_on (Quoted q)) t ≡ length t
+
+-- over its first byte, and over those after it
+parts : (q b : ℕ) (bs : List ℕ) → GoesOver q (b ∷ bs) → (is_stop (Quoted q) b ≡ false) × GoesOver q bs
+parts q b bs h = go (is_stop (Quoted q) b) refl h where
+  go : (c : Bool) → is_stop (Quoted q) b ≡ c → cond (not c) (1 + prefix_len (run_goes_on (Quoted q)) bs) 0 ≡ suc (length bs) → (is_stop (Quoted q) b ≡ false) × GoesOver q bs
+  go true e k = absurd (omega (arith, k))
+  go false e k = (e, omega (arith, k))
+
+-- a byte over which it goes is no quote, no backslash and no LF
+other : (q b : ℕ) → is_stop (Quoted q) b ≡ false → (eqb b q ≡ false) × (eqb b 92 ≡ false) × (is_feed b ≡ false)
+other q b h =
+    let x = or_parts (eqb b q || eqb b 92) (is_feed b) h in
+    let y = or_parts (eqb b q) (eqb b 92) x.0 in
+    (y.0, y.1, x.1)
+
+no_feed : (q : ℕ) (bs : List ℕ) → GoesOver q bs → front is_feed bs ≡ false
+no_feed q [] h = refl
+no_feed q (b ∷ bs) h = (other q b (parts q b bs h).0).2
+
+both : (a c : Bool) → c ≡ false → (a && c) ≡ false
+both true c h = h
+both false c h = refl
+
+-- no break is in front
+unbroken : (q b : ℕ) (bs : List ℕ) → GoesOver q bs → (is_return b && front is_feed bs) ≡ false
+unbroken q b bs h = both (is_return b) (front is_feed bs) (no_feed q bs h)
+
+-- no two single quotes are in front
+unpaired : (q b : ℕ) → eqb b q ≡ false → (eqb q 39 && eqb b 39) ≡ false
+unpaired q b h = go (eqb q 39) refl where
+  go : (c : Bool) → eqb q 39 ≡ c → (c && eqb b 39) ≡ false
+  go true e = ap (eqb b) (sym (eqb-true q 39 e)) ∙ h
+  go false e = refl
+
+item_itself : (q b : ℕ) (bs : List ℕ) → eqb b 92 ≡ false → quoted_item q b bs ≡ b ∷ []
+item_itself q b bs h = rw (both (eqb q 34) (eqb b 92) h) refl
+
+item_alone : (q b : ℕ) (bs : List ℕ) → eqb b q ≡ false → eqb b 92 ≡ false → item_len q b bs ≡ 0
+item_alone q b bs k h = rw (both (eqb q 34) (eqb b 92) h) (rw (unpaired q b k) refl)
+
+item_within : (q b : ℕ) (bs : List ℕ) → eqb b 92 ≡ false → item_before q b bs ≡ within
+item_within q b bs h = rw (both (eqb q 34) (eqb b 92) h) refl
+
+goes_on : (q : ℕ) (white t : List ℕ) → GoesOver q t → content_on q 0 within white t ≡ white ++ t
+unfolding content_on
+goes_on q white [] h = sym (append-nil white)
+goes_on q white (b ∷ bs) h =
+    let g = parts q b bs h in
+    let o = other q b g.0 in
+    ⊎_elim {0, 0, 0}
+    (λ (e : is_white b ≡ true). rw e (goes_on q (white ++ b ∷ []) bs g.1 ∙ append_assoc white (b ∷ []) bs))
+    (λ (e : is_white b ≡ false). rw (e, o.2, unbroken q b bs g.1, item_itself q b bs o.1, item_alone q b bs o.0 o.1, item_within q b bs o.1) (ap (λ l. white ++ (b ∷ l)) (goes_on q [] bs g.1)))
+    (cases_Bool (is_white b))
+
+pub means_itself : (q : ℕ) (t : List ℕ) → prefix_len (run_goes_on (Quoted q)) t ≡ length t → content_on q 0 within [] t ≡ t
+means_itself q t h = goes_on q [] t h
