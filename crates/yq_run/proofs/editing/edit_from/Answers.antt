@@ -1,4 +1,5 @@
-use Rattle.std.{proofs.Common.{◌≡◌, ℕ, List, Err, string_bytes, refl, sym, ap, ◌∙◌, subst}, proofs.lemmas.Result.err_from_is_err_and}
+use Rattle.std.{proofs.Common.{◌≡◌, ℕ, List, Err, string_bytes, refl, sym, ap, ◌∙◌, subst, Some}, proofs.lemmas.Result.err_from_is_err_and}
+use Rattle.std.specs.FinMap.{get}
 use Rattle.yq_history.{proofs.CallLaws.{fails, makes_none}, proofs.EffectLaws.on_ok, proofs.MoveLaws.on_ok_map}
 use Rattle.yq_history.specs.Output.{IsOutput, bytes}
 use Rattle.yq_semantics.specs.View.{program_of}
@@ -27,8 +28,8 @@ returns g c =
           (holds_comes p c.args.text.items u c.as_bytes-new.result.now _
           (subst (λ (t : List ℕ). IsTextEdited p t u) c.as_slice.ensures.value a.ensures.edited) (sym new));
       printed = λ keeps apart there.
-          on_ok_map _ (e.text keeps apart there)
-          (λ is. change_comes diffs c.args.file.now c.args.text.items c.as_bytes-new.result.now a.edited.splices.items (program_edits p c.args.text.items) _ (string_bytes a.change) gives is change);
+          on_ok_map c.commit.result (e.text keeps apart there)
+          (λ (is : get (g.D.Store.content c.commit.new.store) c.args.file.now ≡ Some c.as_bytes-new.result.now). change_comes diffs c.args.file.now c.args.text.items c.as_bytes-new.result.now a.edited.splices.items (program_edits p c.args.text.items) (get (g.D.Store.content c.commit.new.store) c.args.file.now) (string_bytes a.change) gives is change);
       silent = λ off. subst (λ b. IsOutput c.args.file.now (change_output b c.args.text.items (program_edits p c.args.text.items)) (string_bytes a.change)) off change;
       shows = on_ok c.commit.result
           (record {

@@ -1,9 +1,9 @@
 use Rattle.std.{proofs.Common.{◌≡◌, Bool, true, false, Option, OnOk, refl, sym, ap, ◌∙◌, subst, true≢false}, proofs.lemmas.Bool.false≢true}
 use Rattle.std.{proofs.lemmas.Option.none-some, specs.FinMap.get, specs.String.string_bytes}
 use Rattle.yq_journal.specs.History.{History}
-use Rattle.yq_history.{specs.Effects.{from_names, listing_effect, move_effect, printed_by, squash_effect}, specs.Listing.listing_output}
-use Rattle.yq_history.{specs.Pair.GoodIn, specs.Report.{Report, report_by, text}}
-use Rattle.yq_history.{specs.Steps.{listing_cause, move_cause, move_next, squash_cause, squash_next}, proofs.EffectLaws.on_ok}
+use Rattle.yq_history.{specs.Effects.{from_names, listing_effect, move_effect, printed_by, squash_effect}, specs.Pair.GoodIn}
+use Rattle.yq_history.{specs.Report.{Report, report_by}, specs.Steps.{listing_cause, move_cause, move_next, squash_cause, squash_next}}
+use Rattle.yq_history.proofs.EffectLaws.{on_ok}
 use Rattle.yq_args.specs.declared.command.Command.TheVariants.{Eval}
 use Rattle.yq_commands.{specs.CommandEffects.{expression_fault, fault_of}, specs.Editing.program_in}
 use Rattle.yq_commands.{specs.Prints.{prints, reads_journal, prints_change}, specs.Expecting.expects_change}
@@ -181,4 +181,4 @@ returns-in-Eval-default-default-default-true-default g c =
     }
 
 pub update-requires : goal.update-requires
-update-requires g c = ap (λ (s : Report). s.printed) c.requires.empty
+update-requires g c = record { empty = ap (λ (s : Report). s.printed) c.requires.empty }

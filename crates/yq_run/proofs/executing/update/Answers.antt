@@ -1,15 +1,16 @@
 use Rattle.std.{proofs.Common.{◌≡◌, ℕ, List, false, Ok, Err, IfErr, sym, ap, ◌∙◌, subst}, proofs.lemmas.Result.err_from_is_err_and}
-use Rattle.std.specs.FinMap.{get}
+use Rattle.std.{specs.FinMap.get, specs.String.string_bytes}
 use Rattle.yq_journal.specs.State.{State}
 use Rattle.yq_semantics.specs.View.{program_of}
 use Rattle.yq_commands.{specs.Editing.program_edits, specs.CommandEffects.{edit_effect, update_effect, output_by}}
 use Rattle.yq_commands.{specs.Expecting.{report_edit, works_as_expected}, proofs.EditEffects.{not_parsed, parsed_works}}
 use Rattle.yq_commands.proofs.FileEditLaws.{file_comes, parsed_free, unparsed_fault, both_come, change_output_by}
 use Rattle.yq_commands.specs.CommandSteps.{update_cause, update_next}
-use Rattle.yq_commands.proofs.ExpectingLaws.{effect_expected, history_expected, matched_as, history_showing}
+use Rattle.yq_commands.proofs.ExpectingLaws.{effect_expected, matched_as, history_showing}
 use Rattle.yq_commands.{proofs.OutcomeLaws.{arrives_as, opened}, proofs.CommandCalls.{none_yet, parsed_calls}}
-use Rattle.yq_history.{proofs.CallLaws.{fails, unopened_calls, opened_calls}, proofs.EffectLaws.{not_opened, from_opened}}
-use Rattle.yq_history.{specs.Faults.{failures_after, is_outer_fault}, specs.Output.{IsOutput, Shows}, proofs.MoveLaws.on_ok_map}
+use Rattle.yq_history.{specs.Report.report_by, proofs.CallLaws.{fails, unopened_calls, opened_calls}}
+use Rattle.yq_history.{proofs.EffectLaws.{not_opened, from_opened}, specs.Faults.{failures_after, is_outer_fault}}
+use Rattle.yq_history.{specs.Output.{IsOutput, Shows}, proofs.MoveLaws.on_ok_map}
 use Rattle.yq_run.proofs.executing.update.Goals as goal
 
 pub returns : goal.returns
@@ -36,7 +37,7 @@ returns g c =
       silent = e.silent;
       output = λ keeps h good.
           on_ok_map c.edit_from.result e.shows
-          (subst (λ due. Shows c.args.file.now due _)
+          (subst (λ due. Shows c.args.file.now due (report_by c.edit_from.new.report))
           (history_showing c.args.options (program_of c.in_ok-program.program) _ c.args.file.now c.args.journal.now c.in_ok-text.text.items (c.in_ok-text.ensures.text keeps) h good
           ∙ ap (λ q. report_edit c.args.options q h) (sym c.in_ok-program.ensures.ok)));
       listed = λ keeps apart.
@@ -46,7 +47,7 @@ returns g c =
           let diffs = c.args.options.diff in
           on_ok_map c.edit_from.result
           (change_output_by diffs c.args.file.now c.args.file.now c.args.journal.now c.args.expr.now c.in_ok-text.text.items (program_edits (program_of c.in_ok-program.program) c.in_ok-text.text.items) c.in_ok-text.state _ _ c.edit_from.result _ (e.effect keeps apart) (on_ok_map c.edit_from.result e.shows (λ s. s.output)))
-          (subst (λ x. IsOutput c.args.file.now x _)
+          (subst (λ x. IsOutput c.args.file.now x (string_bytes c.edit_from.new.report.text))
           (ap (λ o. output_by diffs o (does c.in_ok-text.text.items c.in_ok-text.state)) (sym held)
           ∙ ap (output_by diffs (get (g.D.Store.content c.args.store.now) c.args.file.now)) (sym effect)
           ∙ ap (λ q. output_by diffs (get (g.D.Store.content c.args.store.now) c.args.file.now) (update_effect c.args.expr.now q (get (g.D.Store.content c.args.store.now) c.args.file.now) (get (g.D.Store.content c.args.store.now) c.args.journal.now))) (sym c.in_ok-program.ensures.ok)));
