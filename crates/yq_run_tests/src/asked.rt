@@ -46,6 +46,7 @@ fn command(alloc: Global, asked: Request) -> Result<Command, AllocError> {
             exit_status: !in_place,
             no_doc: false,
             expect_change: false,
+            diff: false,
         },
     })
 }
