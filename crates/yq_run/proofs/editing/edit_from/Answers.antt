@@ -1,7 +1,6 @@
-use Rattle.std.{proofs.Common.{◌≡◌, ℕ, List, Err, string_bytes, refl, sym, ap, ◌∙◌, subst, Some}, proofs.lemmas.Result.err_from_is_err_and}
+use Rattle.std.{proofs.Common.{◌≡◌, ℕ, List, Err, string_bytes, sym, ap, ◌∙◌, subst, Some}, proofs.lemmas.Result.err_from_is_err_and}
 use Rattle.std.specs.FinMap.{get}
-use Rattle.yq_history.{proofs.CallLaws.{fails, makes_none}, proofs.EffectLaws.on_ok, proofs.MoveLaws.on_ok_map}
-use Rattle.yq_history.specs.Output.{IsOutput, bytes}
+use Rattle.yq_history.{proofs.CallLaws.{fails, makes_none}, proofs.EffectLaws.on_ok, proofs.MoveLaws.on_ok_map, specs.Output.IsOutput}
 use Rattle.yq_semantics.specs.View.{program_of}
 use Rattle.yq_commands.{specs.Editing.{edited, program_edits}, specs.FileEdits.IsTextEdited, proofs.EditEffects.edit_fails}
 use Rattle.yq_commands.{specs.Expecting.{change_output, changes_as_expected, edits_as_expected}, proofs.ExpectingLaws.free_edit}

@@ -1,14 +1,12 @@
-use Rattle.std.{proofs.Common.{◌≡◌, Bool, true, false, Option, OnOk, refl, sym, ap, ◌∙◌, subst, true≢false}, proofs.lemmas.Bool.false≢true}
+use Rattle.std.{proofs.Common.{◌≡◌, Bool, true, false, refl, sym, ap, ◌∙◌, subst, true≢false}, proofs.lemmas.Bool.false≢true}
 use Rattle.std.{proofs.lemmas.Option.none-some, specs.FinMap.get, specs.String.string_bytes}
-use Rattle.yq_journal.specs.History.{History}
-use Rattle.yq_history.{specs.Effects.{from_names, listing_effect, move_effect, printed_by, squash_effect}, specs.Pair.GoodIn}
-use Rattle.yq_history.{specs.Report.{Report, report_by}, specs.Steps.{listing_cause, move_cause, move_next, squash_cause, squash_next}}
-use Rattle.yq_history.proofs.EffectLaws.{on_ok}
+use Rattle.yq_history.{specs.Effects.{listing_effect, move_effect, squash_effect}, specs.Report.{Report, report_by}}
+use Rattle.yq_history.{specs.Steps.{listing_cause, move_cause, move_next, squash_cause, squash_next}, proofs.EffectLaws.on_ok}
 use Rattle.yq_args.specs.declared.command.Command.TheVariants.{Eval}
 use Rattle.yq_commands.{specs.CommandEffects.{expression_fault, fault_of}, specs.Editing.program_in}
 use Rattle.yq_commands.{specs.Prints.{prints, reads_journal, prints_change}, specs.Expecting.expects_change}
 use Rattle.yq_commands.proofs.ExpectingLaws.{none_expected}
-use Rattle.yq_commands.proofs.ExecuteLaws.{ArrivesOn, EditsOn, ExpectsOn, ListsOn, OthersOn, ShowsOn, WorksOn, by_names, evaluate_arrives}
+use Rattle.yq_commands.proofs.ExecuteLaws.{ArrivesOn, EditsOn, ExpectsOn, ListsOn, OthersOn, ShowsOn, WorksOn, evaluate_arrives}
 use Rattle.yq_commands.proofs.ExecuteLaws.{evaluate_edits, evaluate_shows, pair_arrives, pair_others, pair_works, update_arrives}
 use Rattle.yq_commands.proofs.ExecuteLaws.{update_edits, update_expects, update_shows, update_works, empty_shows, listing_lists}
 use Rattle.yq_commands.{proofs.ExecuteLaws.{listing_shows, update_lists}, specs.Calls.CallsOf}

@@ -5,8 +5,7 @@ use Rattle.yq_semantics.specs.View.{program_of}
 use Rattle.yq_commands.{specs.Editing.program_edits, specs.CommandEffects.{edit_effect, update_effect, output_by}}
 use Rattle.yq_commands.{specs.Expecting.{report_edit, works_as_expected}, proofs.EditEffects.{not_parsed, parsed_works}}
 use Rattle.yq_commands.proofs.FileEditLaws.{file_comes, parsed_free, unparsed_fault, both_come, change_output_by}
-use Rattle.yq_commands.specs.CommandSteps.{update_cause, update_next}
-use Rattle.yq_commands.proofs.ExpectingLaws.{effect_expected, matched_as, history_showing}
+use Rattle.yq_commands.{specs.CommandSteps.{update_cause, update_next}, proofs.ExpectingLaws.{effect_expected, matched_as, history_showing}}
 use Rattle.yq_commands.{proofs.OutcomeLaws.{arrives_as, opened}, proofs.CommandCalls.{none_yet, parsed_calls}}
 use Rattle.yq_history.{specs.Report.report_by, proofs.CallLaws.{fails, unopened_calls, opened_calls}}
 use Rattle.yq_history.{proofs.EffectLaws.{not_opened, from_opened}, specs.Faults.{failures_after, is_outer_fault}}
