@@ -1,13 +1,17 @@
 //! Standard output, and how many lines it took.
 ghost use Rattle.std.specs.Prelude.{[], false};
 
+use crate::colours::coloured;
 use memchr::memchr_iter;
+use std::alloc::Global;
 use yq_run::{Out, PutError, StandardOut};
 
 /// Standard output, and how many lines it took.
 #[derive(Drop)]
 pub struct CountedOut<'a> {
     out: StandardOut<&'a HostRuntime>,
+    alloc: Global,
+    has_colours: bool,
     lines: u64,
     failures: u64,
 }
@@ -17,9 +21,16 @@ impl<'a> CountedOut<'a> {
     pub fn new(rt: &'a HostRuntime) -> Self {
         CountedOut {
             out: StandardOut::new(rt),
+            alloc: rt.alloc(),
+            has_colours: false,
             lines: 0,
             failures: 0,
         }
+    }
+
+    /// Has the lines of diffs in colours, or not.
+    pub fn colour(&mut self, has_colours: bool) {
+        self.has_colours = has_colours;
     }
 
     /// Whether it took nothing because its reader has closed the pipe.
@@ -30,6 +41,25 @@ impl<'a> CountedOut<'a> {
     /// How many lines it took.
     pub fn lines(&self) -> u64 {
         self.lines
+    }
+}
+
+/// Puts bytes to standard output, in colours where these are asked for and there is memory for them.
+fn put_coloured(
+    out: &mut StandardOut<&HostRuntime>,
+    alloc: Global,
+    has_colours: bool,
+    bytes: &[u8],
+) -> Result<(), PutError> {
+    if !has_colours {
+        return out.put(bytes);
+    }
+    let Ok(text) = std::str::from_utf8(bytes) else {
+        return out.put(bytes);
+    };
+    match coloured(alloc, text) {
+        Ok(lines) => out.put(lines.as_bytes()),
+        Err(_) => out.put(bytes),
     }
 }
 
@@ -46,7 +76,7 @@ impl<'a> Out for CountedOut<'a> {
     ghost failures = { λ w. w.failures };
 
     fn put(&mut self, bytes: &[u8]) -> Result<(), PutError> {
-        match self.out.put(bytes) {
+        match put_coloured(&mut self.out, self.alloc, self.has_colours, bytes) {
             Ok(()) => {
                 self.lines = self.lines.saturating_add(line_feeds(bytes));
                 Ok(())

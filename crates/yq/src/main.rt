@@ -1,6 +1,7 @@
 //! The program: commands over a store of files.
 #![tactic(auto)]
 
+mod colours;
 mod counted_out;
 mod explaining;
 mod folder;

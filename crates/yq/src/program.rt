@@ -1,5 +1,6 @@
 //! The program's words, carried out over real files and standard output.
 
+use crate::colours::has_colours;
 use crate::counted_out::CountedOut;
 use crate::explaining::put_code;
 use crate::folder::WithFolder;
@@ -21,6 +22,7 @@ fn answer_to(rt: &HostRuntime, out: &mut CountedOut<'_>) -> Result<(Answer, Opti
         put_help(rt, out)?;
         return Ok((Answer::Done, None));
     }
+    out.colour(has_colours(rt, &command));
     let on_terminal = rt.stderr().is_terminal();
     let (file, purpose) = purpose_of(&command);
     let files = DiskStore::new(rt, file, purpose).reporting(on_terminal);
