@@ -166,6 +166,17 @@ def random_diffs(folder, count, seed):
         shows(folder, text.encode(), " | ".join(Update(source, roots).text for _ in range(source.randrange(1, 4))))
 
 
+def check_a_diff_goes_to_patch_in_each_shell(folder):
+    if shutil.which("patch") is None:
+        raise Skip("needs patch")
+    for shell in filter(shutil.which, ("dash", "bash")):
+        folder.write("f", b"a: 1 # c\n")
+        script = '"$0" -d ".a = 2" f | patch -p0 -s && "$0" -i --diff ".a = 3" f | patch -p0 -s -R -o old f'
+        done = subprocess.run([shell, "-c", script, folder.yq], cwd=folder.path, capture_output=True, timeout=SECONDS)
+        equal((done.returncode, done.stdout + done.stderr), (0, b""), shell)
+        equal((folder.read("f"), folder.read("old")), (b"a: 3 # c\n", b"a: 2 # c\n"), shell)
+
+
 def on_terminal(folder, env, *words):
     """What a command prints where standard output is a terminal."""
     ours, theirs = pty.openpty()
