@@ -5,7 +5,6 @@ usage: diffs.py PATH_OF_YQ COUNT [SEED]     the diffs of random edits of so many
 
 import json
 import os
-import pty
 import random
 import re
 import shutil
@@ -177,25 +176,6 @@ def check_a_diff_goes_to_patch_in_each_shell(folder):
         equal((folder.read("f"), folder.read("old")), (b"a: 3 # c\n", b"a: 2 # c\n"), shell)
 
 
-def on_terminal(folder, env, *words):
-    """What a command prints where standard output is a terminal."""
-    ours, theirs = pty.openpty()
-    with subprocess.Popen([folder.yq, *words], cwd=folder.path, stdin=subprocess.DEVNULL, stdout=theirs, env=env) as run:
-        os.close(theirs)
-        seen = b""
-        while True:
-            try:
-                more = os.read(ours, 4096)
-            except OSError:
-                break
-            if not more:
-                break
-            seen += more
-        run.wait(timeout=SECONDS)
-    os.close(ours)
-    return run.returncode, seen.replace(b"\r\n", b"\n")
-
-
 def check_a_diff_has_colours_on_a_terminal_alone(folder):
     """Its lines, each in the colour of what it is; none with NO_COLOR, of what is no diff, or into a pipe."""
     folder.write("f", b"- 1\n- 2\n")
@@ -204,10 +184,10 @@ def check_a_diff_has_colours_on_a_terminal_alone(folder):
     shown = b"\x1b[1m--- f\x1b[0m\n\x1b[1m+++ f\x1b[0m\n\x1b[36m@@ -1,2 +1,2 @@\x1b[0m\n\x1b[31m-- 1\x1b[0m\n\x1b[32m+- 5\x1b[0m\n - 3\n"
     bare = {name: value for name, value in os.environ.items() if name != "NO_COLOR"}
     for env, wanted in ((bare, shown), ({**bare, "NO_COLOR": ""}, shown), ({**bare, "NO_COLOR": "1"}, plain)):
-        equal(on_terminal(folder, env, "--diff", ".[0] = 5", "f"), (0, wanted), env.get("NO_COLOR"))
+        equal(folder.on_terminal("stdout", "--diff", ".[0] = 5", "f", env=env), (0, wanted, b""), env.get("NO_COLOR"))
     equal(folder.accepts("--diff", ".[0] = 5", "f"), plain)
-    equal(on_terminal(folder, bare, ".", "f"), (0, b"- 1\n- 3\n"))
-    status, seen = on_terminal(folder, bare, "history", "--diff", "f")
+    equal(folder.on_terminal("stdout", ".", "f", env=bare), (0, b"- 1\n- 3\n", b""))
+    status, seen, _err = folder.on_terminal("stdout", "history", "--diff", "f", env=bare)
     equal((status, seen.split(b"\n")[0], seen.count(b"\x1b[32m+- 3\x1b[0m\n")), (0, b'1 done ".[1] = 3"', 1))
     folder.accepts("history", "f")
 

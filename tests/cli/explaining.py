@@ -2,7 +2,6 @@
 
 import json
 import os
-import pty
 import re
 import subprocess
 
@@ -21,25 +20,6 @@ def explained(words):
     """The words with the option, which comes after a command's name."""
     after = 1 if words[0] in COMMANDS else 0
     return [*words[:after], "--explain", *words[after:]]
-
-
-def on_terminal(folder, words):
-    """What the command prints to standard error where that is a terminal, and to standard output."""
-    ours, theirs = pty.openpty()
-    with subprocess.Popen([folder.yq, *words], cwd=folder.path, stdin=subprocess.DEVNULL, stdout=subprocess.PIPE, stderr=theirs) as run:
-        os.close(theirs)
-        seen = b""
-        while True:
-            try:
-                more = os.read(ours, 4096)
-            except OSError:
-                break
-            if not more:
-                break
-            seen += more
-        out, _ = run.communicate(timeout=SECONDS)
-    os.close(ours)
-    return run.returncode, out, seen.replace(b"\r\n", b"\n")
 
 
 def is_explained(row, words, err):
@@ -68,7 +48,7 @@ def check_each_mistake_is_explained_on_a_terminal_and_with_the_option(folder):
             status, out, err = folder.run(*explained(words))
             equal((status, out), (1, prints), words)
             is_explained(row, words, err)
-            equal(on_terminal(folder, words), (1, prints, err), words)
+            equal(folder.on_terminal("stderr", *words), (1, err, prints), words)
         else:
             is_explained(row, words, plain)
     equal(folder.files(), before)

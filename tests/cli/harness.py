@@ -1,6 +1,7 @@
 """A folder of its own for each check, and the program run in it."""
 
 import os
+import pty
 import random
 import shutil
 import stat
@@ -16,6 +17,19 @@ SECONDS = 120
 
 class Skip(Exception):
     """The machine lacks what a check needs."""
+
+
+def all_of(terminal):
+    """All that comes to a terminal until nobody writes there any more, which its system reports as an error."""
+    seen = b""
+    while True:
+        try:
+            more = os.read(terminal, 4096)
+        except OSError:
+            return seen
+        if not more:
+            return seen
+        seen += more
 
 
 class Folder:
@@ -56,6 +70,17 @@ class Folder:
             line = as_nobody() + line
         done = subprocess.run(line, cwd=self.path, stdin=subprocess.DEVNULL, capture_output=True, timeout=SECONDS)
         return done.returncode, done.stdout, done.stderr
+
+    def on_terminal(self, stream, *words, env=None):
+        """The status, what a terminal gets in the place of "stdout" or "stderr", and what the other of the two gets."""
+        ours, theirs = pty.openpty()
+        streams = {"stdout": subprocess.PIPE, "stderr": subprocess.PIPE, stream: theirs}
+        with subprocess.Popen([self.yq, *words], cwd=self.path, stdin=subprocess.DEVNULL, env=env, **streams) as run:
+            os.close(theirs)
+            seen = all_of(ours)
+            out, err = run.communicate(timeout=SECONDS)
+        os.close(ours)
+        return run.returncode, seen.replace(b"\r\n", b"\n"), err if stream == "stdout" else out
 
     def accepts(self, *words, nobody=False, before=()):
         """The command ends with status 0 and writes nothing to standard error."""
