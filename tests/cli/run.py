@@ -55,4 +55,5 @@ CHECKS = [
     random_edits, forms, mutations, journals, concurrency, external_writes, same_tick, fault_injection, memory,
 ]
 
-sys.exit(run_all(CHECKS, [run_tables, run_pages], sys.argv))
+if __name__ == "__main__":
+    sys.exit(run_all(CHECKS, [run_tables, run_pages], sys.argv))
