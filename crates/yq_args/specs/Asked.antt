@@ -1,18 +1,28 @@
 -- What the words of a command line ask for, by what clap finds in them (own).
 use Rattle.std.specs.Prelude.{◌≡◌, ◌≢◌, ◌⊎◌, ◌&&◌, ◌||◌, ◌^◌, ℕ, Bool, true, false, not, List, [], ◌∷◌, ◌++◌, length, codes, nat_lt}
-use Rattle.std.{specs.Prelude.{if◌then◌else◌, Option, Some, None, is_some, option_and_then, option_map}, specs.List.list_any}
-use Rattle.std.{specs.Option.option_map_or, specs.Str.{bytes_eq, all_ascii_digits}, specs.Str.Parse.digits_value, specs.String.string_bytes}
+use Rattle.std.specs.Prelude.{if◌then◌else◌, Option, Some, None, is_some, option_and_then, option_map, MatchResult, Result, String}
+use Rattle.std.{specs.List.list_any, specs.declared.alloc.Global.Global, specs.Option.option_map_or, specs.Str.{bytes_eq, all_ascii_digits}}
+use Rattle.std.{specs.Str.Parse.digits_value, specs.String.string_bytes}
 use Rattle.clap.specs.Words.{IsAmong, Row, Text, fault_of, first_of, one_of, subcommand_of, takes}
-use Rattle.clap.specs.declared.error.kind.ErrorKind.TheVariants.{DisplayHelp}
+use Rattle.clap.{specs.declared.error.kind.ErrorKind.ErrorKind, specs.declared.error.kind.ErrorKind.TheVariants.DisplayHelp}
 use Rattle.yq_args.{specs.declared.command.Command.Command, specs.declared.eval_options.EvalOptions.EvalOptions}
 use Rattle.yq_args.specs.declared.command.Command.TheVariants.{Eval, Undo, Redo, History, Squash, Help}
 use Rattle.yq_args.specs.declared.words_error.WordsError.{WordsError}
 use Rattle.yq_args.{specs.declared.words_error.WordsError.TheVariants.{OutOfMemory, Usage}, specs.CommandWords.with_command, specs.Line.yq}
 use Rattle.yq_args.specs.Setting.{asked_expression}
+use Rattle.clap.specs.declared.error.kind.ErrorKind.TheVariants as kinds
 
 -- the words as clap reads them, after the program's name
 abbrev pub full_words : List Text → List Text
 full_words words = codes "yq" ∷ with_command words
+
+-- what clap finds in the words: a command's word, and what comes after it
+abbrev pub found_in : List Text → Option (Text × List Row)
+found_in words = subcommand_of yq (full_words words)
+
+-- clap takes the words
+abbrev pub is_taken : List Text → Bool
+is_taken words = takes yq (full_words words)
 
 -- a word that asks for help
 abbrev pub is_help_word : Text → Bool
@@ -22,13 +32,25 @@ is_help_word word = bytes_eq word (codes "-h") || bytes_eq word (codes "--help")
 abbrev pub asks_help : List Text → Bool
 asks_help words = list_any is_help_word words
 
+-- clap's reading of these words, with the program's name, may end at a call for help
+abbrev pub MayEndAtHelp : List Text → Type 0
+MayEndAtHelp full = IsAmong DisplayHelp (fault_of yq full)
+
+-- it can end at a call for help alone
+abbrev pub EndsAtHelp : List Text → Type 0
+EndsAtHelp full = fault_of yq full ≡ DisplayHelp ∷ []
+
 -- a word asks for help, and clap's reading of the words may end at a call for help
 abbrev pub MayCallHelp : List Text → Type 0
-MayCallHelp words = (asks_help words ≡ true) × IsAmong DisplayHelp (fault_of yq (full_words words))
+MayCallHelp words = (asks_help words ≡ true) × MayEndAtHelp (full_words words)
 
 -- a word asks for help, and clap's reading of the words can end at a call for help alone
 abbrev pub CallsHelp : List Text → Type 0
-CallsHelp words = (asks_help words ≡ true) × (fault_of yq (full_words words) ≡ DisplayHelp ∷ [])
+CallsHelp words = (asks_help words ≡ true) × EndsAtHelp (full_words words)
+
+-- the answer is help, or this error for want of memory
+abbrev pub IsHelpOr : {E : Type 0} → E → Result Command E → Type 0
+IsHelpOr memory r = MatchResult r (λ c. c ≡ Help) (λ e. e ≡ memory)
 
 -- the journal's name: the one that is given, else the file's followed by `.undo.json`
 abbrev pub journal_name : Option Text → Text → Text
@@ -51,6 +73,10 @@ pub record HasNames (rows : List Row) (file journal : Text) : Type 0 where
   pub journal_is : journal ≡ journal_name (first_of (codes "journal") rows) file
   pub not_dash : file ≢ codes "-"
   pub differ : journal ≢ file
+
+-- these two texts are the names of the file and of the journal
+abbrev pub AreNames : List Row → String Global × String Global → Type 0
+AreNames rows names = HasNames rows (string_bytes names.0) (string_bytes names.1)
 
 -- the options of `eval` are on where their switches are
 pub record HasOptions (rows : List Row) (options : EvalOptions) : Type 0 where
@@ -107,9 +133,24 @@ abbrev pub is_usage : WordsError → Bool
 is_usage (Usage cause) = true
 is_usage OutOfMemory = false
 
+-- memory ran out, or the words are no command, and this is so
+abbrev pub RefusedWhere : Type 0 → WordsError → Type 0
+RefusedWhere so fault = (fault ≡ OutOfMemory) ⊎ ((is_usage fault ≡ true) × so)
+
+-- memory ran out, or a name is missing or isn't allowed
+abbrev pub AreNamesMissed : List Row → WordsError → Type 0
+AreNamesMissed rows fault = RefusedWhere (names_fit (first_of (codes "file") rows) (first_of (codes "journal") rows) ≡ false) fault
+
 -- memory ran out, or a text that the command needs is missing or isn't allowed
 abbrev pub IsMissed : Text → List Row → WordsError → Type 0
-IsMissed name rows fault = (fault ≡ OutOfMemory) ⊎ ((is_usage fault ≡ true) × (passes name rows ≡ false))
+IsMissed name rows fault = RefusedWhere (passes name rows ≡ false) fault
+
+-- what answers clap's fault, where a word asks for help or none does: want of memory answers that alone, and words that are no command any other,
+-- but not a call for help where one asks for it
+abbrev pub AnswersKind : ErrorKind → Bool → WordsError → Type 0
+AnswersKind kind asked fault =
+    ((fault ≡ OutOfMemory) × (kind ≡ kinds.OutOfMemory))
+    ⊎ ((is_usage fault ≡ true) × (kind ≢ kinds.OutOfMemory) × (kind ≡ DisplayHelp → asked ≡ false))
 
 -- clap finds a command, whose texts are there and may be
 abbrev pub finds : Option (Text × List Row) → Bool
@@ -118,8 +159,7 @@ finds (Some found) = passes found.0 found.1
 
 -- memory ran out, or clap doesn't take the words, or finds no such command in them
 abbrev pub IsNotTaken : List Text → WordsError → Type 0
-IsNotTaken full fault =
-    (fault ≡ OutOfMemory) ⊎ ((is_usage fault ≡ true) × (takes yq full ≡ true → finds (subcommand_of yq full) ≡ false))
+IsNotTaken full fault = RefusedWhere (takes yq full ≡ true → finds (subcommand_of yq full) ≡ false) fault
 
 -- the words name a journal
 abbrev pub names_journal : Option (Text × List Row) → Bool
@@ -134,5 +174,4 @@ checks rows =
 
 -- memory ran out, or clap doesn't take the words, or they fail the program's own checks
 abbrev pub WordsRefused : List Text → WordsError → Type 0
-WordsRefused full fault = (fault ≡ OutOfMemory) ⊎ ((is_usage fault ≡ true)
-    × (takes yq full ≡ true → option_map_or (λ found. checks found.1) (subcommand_of yq full) true ≡ false))
+WordsRefused full fault = RefusedWhere (takes yq full ≡ true → option_map_or (λ found. checks found.1) (subcommand_of yq full) true ≡ false) fault

@@ -1,5 +1,8 @@
 -- The journal of a file in a folder of journals, under a name that is made of the file's path (own).
-use Rattle.std.{specs.Prelude.{ℕ, ◌==◌, Bool, not, if◌then◌else◌, List, [], ◌∷◌, ◌++◌, codes}, specs.List.{flat_map, list_all}}
+use Rattle.std.specs.Prelude.{◌≡◌, ◌⊎◌, ◌<◌, ℕ, ◌==◌, Bool, not, if◌then◌else◌, List, [], ◌∷◌, ◌++◌, codes, length}
+use Rattle.std.specs.List.{flat_map, list_all}
+use Rattle.yq_args.{specs.declared.words_error.WordsError.WordsError, specs.declared.cause.UsageCause.TheVariants.LongJournalName}
+use Rattle.yq_args.specs.declared.words_error.WordsError.TheVariants.{OutOfMemory, Usage}
 
 -- a byte of a path as it is in a name: `/` and `%` by `%` and two hexadecimal digits, as in RFC 3986, section 2.1
 abbrev pub escaped_byte : ℕ → List ℕ
@@ -24,3 +27,11 @@ journal_in_folder folder path = folder ++ (47 ∷ name_of_path path)
 -- bytes that are one name: no slash is among them
 abbrev pub is_one_name : List ℕ → Bool
 is_one_name name = list_all (λ b. not (b == 47)) name
+
+-- no other path gives the journal this name
+abbrev pub NamesOnePath : List ℕ → List ℕ → Type 0
+NamesOnePath folder path = (other : List ℕ) → journal_in_folder folder other ≡ journal_in_folder folder path → other ≡ path
+
+-- memory ran out, or the name is too long
+abbrev pub IsTooLong : List ℕ → WordsError → Type 0
+IsTooLong path e = (e ≡ OutOfMemory) ⊎ ((e ≡ Usage LongJournalName) × (most_of_name < length (name_of_path path)))

@@ -1,5 +1,7 @@
 -- A command with another journal (own).
-use Rattle.std.{specs.Prelude.{ℕ, Bool, false, List, String, string_bytes}, specs.Str.bytes_eq, specs.declared.alloc.Global.Global}
+use Rattle.std.{specs.Prelude.{◌≡◌, ℕ, Bool, true, false, List, String, string_bytes}, specs.Str.bytes_eq}
+use Rattle.std.specs.declared.alloc.Global.{Global}
+use Rattle.yq_args.{specs.declared.cause.UsageCause.UsageCause, specs.declared.cause.UsageCause.TheVariants.JournalIsFile}
 use Rattle.yq_args.specs.declared.command.Command.{Command}
 use Rattle.yq_args.specs.declared.command.Command.TheVariants.{Eval, Undo, Redo, History, Squash, Help}
 
@@ -20,3 +22,7 @@ names_file (Redo file journal) name = bytes_eq name (string_bytes file)
 names_file (History file journal diffs) name = bytes_eq name (string_bytes file)
 names_file (Squash n file journal) name = bytes_eq name (string_bytes file)
 names_file Help name = false
+
+-- the cause is that the journal has the name of the command's file, which it has
+abbrev pub IsItsFile : Command → String Global → UsageCause → Type 0
+IsItsFile c journal cause = (cause ≡ JournalIsFile) × (names_file c (string_bytes journal) ≡ true)

@@ -1,6 +1,5 @@
 //! What the words of a command ask for.
-ghost use Rattle.std.specs.Prelude.{◌≡◌, ◌≢◌, ◌⊎◌, ◌++◌, Bool, Option, List, ℕ, Ok, IfOk, IfErr, codes, false, true, is_some, map, Some};
-ghost use Rattle.std.{specs.Prelude.{None, option_map}, specs.String.string_bytes};
+ghost use Rattle.std.{specs.Prelude.{◌≡◌, ◌≢◌, Option, Ok, IfOk, IfErr, codes, is_some, Some, None, option_map}, specs.String.string_bytes};
 ghost use Rattle.clap.specs.Words.{first_of, one_of, rows_of, found_of};
 ghost use Rattle.yq_args.specs.declared.command.Command.TheVariants.{Help};
 ghost use Rattle.yq_args.specs.Asked as spec;
@@ -56,12 +55,8 @@ pub fn has_journal(matches: &ArgMatches) -> bool
 
 /// The names of the file and of its journal.
 fn names_of(alloc: Global, matches: &ArgMatches) -> Result<(String, String), WordsError>
-    ensures ok { IfOk result (λ names. spec.HasNames (rows_of (found_of matches.now))
-        (string_bytes names.0) (string_bytes names.1)) }
-    ensures err { IfErr result (λ e. (e ≡ WordsError.OutOfMemory) ⊎
-        ((spec.is_usage e ≡ true) ×
-        (spec.names_fit (first_of (codes "file") (rows_of (found_of matches.now)))
-        (first_of (codes "journal") (rows_of (found_of matches.now))) ≡ false))) }
+    ensures ok { IfOk result (spec.AreNames (rows_of (found_of matches.now))) }
+    ensures err { IfErr result (spec.AreNamesMissed (rows_of (found_of matches.now))) }
 {
     let Some(file) = text_of(matches, "file") else {
         return Err(WordsError::Usage(UsageCause::Words));

@@ -1,5 +1,5 @@
 //! Commands.
-ghost use Rattle.std.specs.Prelude.{◌≡◌, IfOk, IfErr, string_bytes, true, false};
+ghost use Rattle.std.specs.Prelude.{◌≡◌, IfOk, IfErr, string_bytes, false};
 ghost use Rattle.yq_args.specs.OtherJournal as spec;
 
 use crate::{EvalOptions, UsageCause};
@@ -61,8 +61,7 @@ impl Command {
     pub fn with_journal(self, journal: String) -> Result<Command, UsageCause>
         ensures ok { IfOk result (λ c. c ≡ spec.with_journal self journal) }
         ensures apart { IfOk result (λ c. spec.names_file self (string_bytes journal) ≡ false) }
-        ensures err { IfErr result (λ e. (e ≡ UsageCause.JournalIsFile) ×
-            (spec.names_file self (string_bytes journal) ≡ true)) }
+        ensures err { IfErr result (spec.IsItsFile self journal) }
     {
         if self.names_file(&journal) {
             return Err(UsageCause::JournalIsFile);

@@ -1,6 +1,5 @@
 //! The names of journals in a folder of their own.
-ghost use Rattle.std.specs.Prelude.{◌≡◌, ◌++◌, ◌<◌, ◌≤◌, ◌⊎◌, ℕ, List, IfOk, IfErr, OnOk, encode_utf8, length, true};
-ghost use Rattle.std.specs.String.{string_bytes};
+ghost use Rattle.std.{specs.Prelude.{◌≡◌, ◌++◌, ◌≤◌, IfOk, IfErr, OnOk, encode_utf8, length, true}, specs.String.string_bytes};
 ghost use Rattle.yq_args.specs.JournalNames as spec;
 
 use crate::UsageCause;
@@ -42,11 +41,8 @@ pub fn journal_in_folder(alloc: Global, folder: &str, path: &str) -> Result<Stri
     ensures ok { IfOk result (λ s. string_bytes s ≡ spec.journal_in_folder folder.now path.now) }
     ensures fits { IfOk result (λ s. length (spec.name_of_path path.now) ≤ spec.most_of_name) }
     ensures one_name { spec.is_one_name (spec.name_of_path path.now) ≡ true }
-    ensures reversible { (other : List ℕ) → spec.journal_in_folder folder.now other ≡
-        spec.journal_in_folder folder.now path.now → other ≡ path.now }
-    ensures err { IfErr result (λ e. (e ≡ WordsError.OutOfMemory) ⊎
-        ((e ≡ WordsError.Usage UsageCause.LongJournalName) ×
-        (spec.most_of_name < length (spec.name_of_path path.now)))) }
+    ensures reversible { spec.NamesOnePath folder.now path.now }
+    ensures err { IfErr result (spec.IsTooLong path.now) }
 {
     let name = escaped_path(alloc, path)?;
     if name.len() > MOST {

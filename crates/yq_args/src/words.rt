@@ -1,7 +1,8 @@
 //! The words of the command line.
-ghost use Rattle.std.specs.Prelude.{◌≡◌, ◌≢◌, ◌⊎◌, ◌∷◌, IfOk, IfErr, MatchResult, [], map, true, false, Ok};
-ghost use Rattle.clap.specs.Words.{IsAmong, fault_of, subcommand_of, takes};
-ghost use Rattle.yq_args.{specs.declared.command.Command.TheVariants.Help, specs.declared.words_error.WordsError.WordsError, specs.Line.yq};
+ghost use Rattle.std.specs.Prelude.{◌≡◌, ◌≢◌, IfOk, IfErr, map, true, Ok};
+ghost use Rattle.clap.specs.Words.{subcommand_of, takes};
+ghost use Rattle.yq_args.{specs.declared.command.Command.TheVariants.Help, specs.declared.words_error.WordsError.TheVariants.OutOfMemory};
+ghost use Rattle.yq_args.specs.Line.{yq};
 ghost use Rattle.yq_args.specs.Asked as spec;
 
 use crate::asked::has_journal;
@@ -46,9 +47,7 @@ fn asks_help(words: &[&str]) -> bool
 /// What is answered where `clap` finds nothing: help, if a word asks for it.
 fn without_matches(kind: ErrorKind, asked: bool) -> Result<Command, WordsError>
     ensures ok { IfOk result (λ c. (c ≡ Help) × (kind ≡ ErrorKind.DisplayHelp) × (asked ≡ true)) }
-    ensures err { IfErr result (λ e. ((e ≡ WordsError.OutOfMemory) × (kind ≡ ErrorKind.OutOfMemory))
-        ⊎ ((spec.is_usage e ≡ true) × (kind ≢ ErrorKind.OutOfMemory) ×
-        ((kind ≡ ErrorKind.DisplayHelp) → asked ≡ false))) }
+    ensures err { IfErr result (spec.AnswersKind kind asked) }
 {
     match kind {
         ErrorKind::DisplayHelp if asked => Ok(Command::Help),
@@ -62,11 +61,10 @@ fn command_by(alloc: Global, full: &[&str], asked: bool) -> Result<Command, Word
     ensures asked { IfOk result (spec.IsAsked (subcommand_of yq (map (λ w. w.now) full.now))) }
     ensures taken { IfOk result (λ c. c ≢ Help → takes yq (map (λ w. w.now) full.now) ≡ true) }
     ensures help { takes yq (map (λ w. w.now) full.now) ≡ true → result ≢ Ok Help }
-    ensures only { result ≡ Ok Help → (asked ≡ true) × IsAmong ErrorKind.DisplayHelp
-        (fault_of yq (map (λ w. w.now) full.now)) }
-    ensures called { asked ≡ true → fault_of yq (map (λ w. w.now) full.now) ≡
-        ErrorKind.DisplayHelp ∷ [] →
-        MatchResult result (λ c. c ≡ Help) (λ e. e ≡ WordsError.OutOfMemory) }
+    ensures only { result ≡ Ok Help → (asked ≡ true) ×
+        spec.MayEndAtHelp (map (λ w. w.now) full.now) }
+    ensures called { asked ≡ true → spec.EndsAtHelp (map (λ w. w.now) full.now) →
+        spec.IsHelpOr OutOfMemory result }
     ensures err { IfErr result (spec.IsNotTaken (map (λ w. w.now) full.now)) }
 {
     match matched(alloc, full) {
@@ -80,8 +78,8 @@ fn command_by(alloc: Global, full: &[&str], asked: bool) -> Result<Command, Word
 
 /// Whether words that `clap` takes name a journal.
 pub fn names_journal(alloc: Global, words: &[&str]) -> Result<bool, WordsError>
-    ensures { IfOk result (λ named. named ≡ spec.names_journal (subcommand_of yq
-        (spec.full_words (map (λ w. w.now) words.now)))) }
+    ensures { IfOk result (λ b. b ≡
+        spec.names_journal (spec.found_in (map (λ w. w.now) words.now))) }
 {
     let full = full_words(alloc, words)?;
     match matched(alloc, &full) {
@@ -99,19 +97,16 @@ pub fn names_journal(alloc: Global, words: &[&str]) -> Result<bool, WordsError>
 /// A first word that names no command is read as if `eval` came before it. A call for help
 /// (`-h`, `--help`) is `Help`. The words are refused with `Usage` where `clap` refuses them, where FILE is `-`, where
 /// the journal has FILE's name, and where N isn't a number of 64 bits.
-#[tactic(auto, using(crate::proofs::WordsFound::refused_by_checks))]
 pub fn read_words(alloc: Global, words: &[&str]) -> Result<Command, WordsError>
-    ensures asked { IfOk result (spec.IsAsked (subcommand_of yq
-        (spec.full_words (map (λ w. w.now) words.now)))) }
+    ensures asked { IfOk result (spec.IsAsked (spec.found_in (map (λ w. w.now) words.now))) }
     // Words that clap doesn't take are no command, unless they ask for help.
-    ensures taken { IfOk result (λ c. c ≢ Help → takes yq (spec.full_words
-        (map (λ w. w.now) words.now)) ≡ true) }
-    ensures help { takes yq (spec.full_words (map (λ w. w.now) words.now)) ≡ true →
-        result ≢ Ok Help }
+    ensures taken { IfOk result (λ c. c ≢ Help →
+        spec.is_taken (map (λ w. w.now) words.now) ≡ true) }
+    ensures help { spec.is_taken (map (λ w. w.now) words.now) ≡ true → result ≢ Ok Help }
     // Help is answered where `-h` or `--help` is a word and clap reads a call for help, and not else.
     ensures only { result ≡ Ok Help → spec.MayCallHelp (map (λ w. w.now) words.now) }
     ensures called { spec.CallsHelp (map (λ w. w.now) words.now) →
-        MatchResult result (λ c. c ≡ Help) (λ e. e ≡ WordsError.OutOfMemory) }
+        spec.IsHelpOr OutOfMemory result }
     ensures err { IfErr result (spec.WordsRefused (spec.full_words (map (λ w. w.now) words.now))) }
 {
     let full = full_words(alloc, words)?;

@@ -18,7 +18,7 @@ use Rattle.yq_journal.specs.declared.moves.Move.TheVariants as move
 use Rattle.yq_history.specs.declared.fault.Fault.TheVariants as fault
 
 -- a fault that is reported where it isn't want of memory
-inside_memory : {P : Type 0} (e : Fault) → is_outer_fault e ≡ false → (e ≢ fault.OutOfMemory → P) → P
+pub inside_memory : {P : Type 0} (e : Fault) → is_outer_fault e ≡ false → (e ≢ fault.OutOfMemory → P) → P
 inside_memory e out why = why (λ memory. let bad : false ≡ true = sym out ∙ ap is_outer_fault memory in cc)
 
 module _ (f j : List ℕ) (c : FileMap) (expr : List ℕ) (s : State) (t : List ℕ) where

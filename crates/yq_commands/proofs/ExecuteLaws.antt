@@ -4,37 +4,12 @@ use Rattle.yq_journal.{specs.State.State, specs.History.History}
 use Rattle.yq_history.{specs.declared.fault.Fault.Fault, specs.Causes.Cause}
 use Rattle.yq_history.{specs.Effects.{Effect, Works, from_names, listing_effect, printed_by}, specs.Pair.{Arrives, GoodIn, OthersStay}}
 use Rattle.yq_history.{specs.Report.{Report, nothing}, specs.Output.{IsOutput, Shows, listing_output, showing, showing_nothing}}
-use Rattle.yq_args.{specs.declared.command.Command.Command, specs.declared.eval_options.EvalOptions.EvalOptions}
+use Rattle.yq_args.specs.declared.eval_options.EvalOptions.{EvalOptions}
 use Rattle.yq_store.specs.FileMap.{FileMap}
-use Rattle.yq_commands.specs.CommandEffects.{IsListing, OfEffect, update_effect, output_by}
-use Rattle.yq_commands.specs.CommandNames.{Differs, IsNotNamed, IsOn, file_of}
-use Rattle.yq_commands.{specs.CommandSteps.{cause_of, next_of, update_cause, update_next}, specs.Editing.program_in}
-use Rattle.yq_commands.specs.Evaluation.{cause_in, evaluated, report_in}
-use Rattle.yq_commands.specs.FileEdits.{HasEdited, IsFileEdited, PrintsChange, PrintsUpdate}
-use Rattle.yq_commands.{specs.Expecting.{ReportsExpected, report_edit, works_as_expected}, specs.Prints.report_of}
-
--- ---- what is promised of a command, clause by clause
-
-abbrev pub ArrivesOn : {T : Type 0} → FileMap → FileMap → Result T Fault → Command → Type 0
-ArrivesOn c d r x = (file journal : List ℕ) → file ≢ journal → IsOn file journal x → (h : Option History) → GoodIn c file journal h → Arrives d file journal (cause_of x h) h (next_of x h) r
-
-abbrev pub WorksOn : {T : Type 0} → FileMap → FileMap → Result T Fault → Command → Type 0
-WorksOn c d r x = (file journal : List ℕ) → file ≢ journal → IsOn file journal x → OfEffect x (get c file) (get c journal) (λ e. Works e file journal c d r)
-
-abbrev pub ShowsOn : {T : Type 0} → FileMap → Result T Fault → Report → Command → Type 0
-ShowsOn c r s x = (file journal : List ℕ) → IsOn file journal x → (h : Option History) → GoodIn c file journal h → OnOk r (Shows (file_of x) (report_of x h) s)
-
-abbrev pub ListsOn : {T : Type 0} → FileMap → Result T Fault → List ℕ → Command → Type 0
-ListsOn c r o x = (file journal : List ℕ) → IsOn file journal x → OnOk r (IsListing x (get c file) (get c journal) o)
-
-abbrev pub EditsOn : {T : Type 0} → FileMap → FileMap → Result T Fault → List ℕ → Command → Type 0
-EditsOn c d r o x = OnOk r (HasEdited x c d o)
-
-abbrev pub ExpectsOn : {T : Type 0} → FileMap → Result T Fault → Bool → Command → Type 0
-ExpectsOn c r m x = (file journal : List ℕ) → IsOn file journal x → ReportsExpected r m x c file journal
-
-abbrev pub OthersOn : FileMap → FileMap → Command → Type 0
-OthersOn c d x = (q : List ℕ) → IsNotNamed q x → get d q ≡ get c q
+use Rattle.yq_commands.{specs.CommandEffects.{update_effect, output_by}, specs.CommandNames.Differs}
+use Rattle.yq_commands.{specs.CommandSteps.{update_cause, update_next}, specs.Editing.program_in}
+use Rattle.yq_commands.{specs.Evaluation.{cause_in, evaluated, report_in}, specs.FileEdits.{IsFileEdited, PrintsChange, PrintsUpdate}}
+use Rattle.yq_commands.specs.Expecting.{report_edit, works_as_expected}
 
 -- nothing is shown
 pub empty_shows : (file : List ℕ) (s : Report) → s ≡ nothing → Shows file showing_nothing s

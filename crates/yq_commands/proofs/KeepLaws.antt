@@ -12,19 +12,18 @@ use Rattle.yq_commands.specs.declared.answer.Answer.{Answer}
 use Rattle.yq_commands.specs.Editing.{EditOutcome, unreadable, refused, edited, program_edits, program_in}
 use Rattle.yq_commands.specs.CommandEffects.{edit_effect, edit_writes, update_effect, OfEffect, IsListing, IsUnparsed, expression_fault}
 use Rattle.yq_commands.{specs.CommandEffects.output_by, specs.FileEdits.HasEdited, specs.Edits.edit_record}
-use Rattle.yq_commands.specs.CommandNames.{IsOn, IsNotNamed, file_of}
+use Rattle.yq_commands.{specs.CommandDone.{CarriesOut, IsSilent}, specs.CommandNames.{IsOn, file_of}}
 use Rattle.yq_commands.specs.Lists.{answer_by, IsUnrelated, AllOnOrApart, Reply, IsAnswer, Goes, RunsAll, ReportsEffect, HasEffect, RunsTo}
 use Rattle.yq_commands.specs.Lists.{Keeps, ReportsUnparsed, is_accepted, leaves_names}
-use Rattle.yq_commands.specs.Expecting.{ReportsExpected, expects_change, works_as_expected}
-use Rattle.yq_commands.{specs.Prints.{prints, prints_change, report_of}, specs.CommandSteps.{cause_of, next_of}}
+use Rattle.yq_commands.{specs.Expecting.{expects_change, works_as_expected}, specs.Prints.{prints, prints_change}}
 use Rattle.yq_commands.{proofs.ReplyLaws.{reply, reply-answer, reply-printed}, proofs.ListLaws.{arrived, not_true}}
 use Rattle.yq_args.specs.declared.command.Command.{Command}
 use Rattle.yq_args.specs.declared.command.Command.TheVariants.{Eval, Undo, Redo, History as Lists, Squash, Help}
 use Rattle.yq_history.{specs.declared.fault.Fault.Fault, specs.Causes.named}
 use Rattle.yq_history.specs.Effects.{Effect, refuses, writes_nothing, writes_both, from_settled, from_journal, from_pair, leads_to, goes_to}
 use Rattle.yq_history.specs.Effects.{move_effect, joins_to, squash_effect, listing_effect, printed_by, Works}
-use Rattle.yq_history.{specs.Faults.{is_outer_fault, is_output}, specs.Output.{IsOutput, Shows, bytes}, specs.Pair.{GoodIn, Arrives}}
-use Rattle.yq_history.{specs.Report.Report, proofs.EffectLaws.on_ok, proofs.PairLaws.same_pair}
+use Rattle.yq_history.{specs.Faults.{is_outer_fault, is_output}, specs.Output.{IsOutput, bytes}, specs.Pair.GoodIn, specs.Report.Report}
+use Rattle.yq_history.{proofs.EffectLaws.on_ok, proofs.PairLaws.same_pair}
 use Rattle.yq_store.specs.FileMap.{FileMap}
 use Rattle.yq_journal.specs.declared.moves.Move.TheVariants as move
 use Rattle.yq_history.specs.declared.fault.Fault.TheVariants as fault
@@ -150,17 +149,9 @@ of_effect Help file journal P R Q more p q = tt
 -- what is known of a command that was carried out or refused, by its contract, and of its answer
 pub record IsDone {T : Type 0} (c e : FileMap) (cmd : Command) (r : Result T Fault) (a : Answer) (s : Report) : Type 0 where
   pub answered : IsAnswer r a s
-  pub arrives : (f j : List ℕ) → f ≢ j → IsOn f j cmd → (h : Option History) → GoodIn c f j h → Arrives e f j (cause_of cmd h) h (next_of cmd h) r
-  pub output : (f j : List ℕ) → IsOn f j cmd → (h : Option History) → GoodIn c f j h → OnOk r (Shows (file_of cmd) (report_of cmd h) s)
-  pub effect : (f j : List ℕ) → f ≢ j → IsOn f j cmd → OfEffect cmd (get c f) (get c j) (λ x. Works x f j c e r)
-  pub listed : (f j : List ℕ) → IsOn f j cmd → OnOk r (IsListing cmd (get c f) (get c j) s.printed)
-  pub silent : prints cmd ≡ false → prints_change cmd ≡ false → s.printed ≡ []
-  pub expected : (f j : List ℕ) → IsOn f j cmd → ReportsExpected r s.is_match cmd c f j
-  pub still : prints cmd ≡ true → e ≡ c
-  pub kept : IfErr r (λ x. is_outer_fault x ≡ false → e ≡ c)
-  pub others : (q : List ℕ) → IsNotNamed q cmd → get e q ≡ get c q
+  pub done : CarriesOut cmd c e r s
+  pub silent : IsSilent cmd s
   pub no_output : IfErr r (λ x. is_output x ≡ false)
-  pub edited : OnOk r (HasEdited cmd c e s.printed)
   pub unparsed : (f : Fault) → expression_fault cmd ≡ Some f → IsUnparsed f r
 
 -- a command on a file names it
@@ -213,33 +204,33 @@ module _ {T : Type 0} (c e : FileMap) (cmd : Command) (r : Result T Fault) (a : 
   -- a command goes on, on the pair or apart from it
   goes_on : (f j : List ℕ) → f ≢ j → IsOn f j cmd ⊎ IsUnrelated f j cmd → (h : Option History) → GoodIn c f j h → (m : Option History) × Goes f j cmd h (reply a s.printed) m × GoodIn e f j m
   goes_on f j apart (inl on) h good =
-      let p = arrived e f j cmd h r a s k.answered (k.output f j on h good) k.no_output (k.arrives f j apart on h good) in
+      let p = arrived e f j cmd h r a s k.answered (k.done.output f j on h good) k.no_output (k.done.arrives f j apart on h good) in
       (p.0, inl (on, p.1), p.2)
   goes_on f j apart (inr (inl strange)) h good =
-      (h, inr (inl strange, refl), subst (λ x. Good x (get e j) h) (sym (k.others f strange.0)) (subst (λ y. Good (get c f) y h) (sym (k.others j strange.1)) good))
-  goes_on f j apart (inr (inr printing)) h good = (h, inr (inr printing, refl), same_pair c e f j h (k.still printing.1) good)
+      (h, inr (inl strange, refl), subst (λ x. Good x (get e j) h) (sym (k.done.others f strange.0)) (subst (λ y. Good (get c f) y h) (sym (k.done.others j strange.1)) good))
+  goes_on f j apart (inr (inr printing)) h good = (h, inr (inr printing, refl), same_pair c e f j h (k.done.still printing.1) good)
 
   has_effect : HasEffect cmd (reply a s.printed) c e
   has_effect = λ f j apart on.
       let shown = λ (x : Effect). OnOk r (IsOutput f (output_by (prints_change cmd) (get c f) x) s.printed) in
       let matched = λ (x : Effect). OnOk r (s.is_match ≡ works_as_expected (expects_change cmd) x) in
       of_effect cmd (get c f) (get c j) (λ x. Works x f j c e r) (λ x. shown x × matched x) (λ x. ReportsOf cmd x f j c e a s.printed)
-      (λ x works has. reports_each cmd x f j c e r a s k.answered k.no_output works has.0 has.1) (k.effect f j apart on)
+      (λ x works has. reports_each cmd x f j c e r a s k.answered k.no_output works has.0 has.1) (k.done.effect f j apart on)
       (of_effect cmd (get c f) (get c j) shown matched (λ x. shown x × matched x) (λ x p q. (p, q))
       (subst (λ y. OfEffect cmd (get c f) (get c j) (λ x. OnOk r (IsOutput y (output_by (prints_change cmd) (get c f) x) s.printed))) (on_file cmd f j on)
-      (shows_effect cmd (get c f) (get c j) r s (two_names cmd f j apart on) k.silent (k.listed f j on))) (k.expected f j on))
+      (shows_effect cmd (get c f) (get c j) r s (two_names cmd f j apart on) k.silent (k.done.listed f j on))) (k.done.expected f j on))
 
   -- what a command leaves
   pub left_by : RunsTo cmd (reply a s.printed) c e
   left_by = record {
     all = λ holds. elim (prints cmd) as (λ b. prints cmd ≡ b → e ≡ c) [
-      | true ↦ λ p. k.still p
-      | false ↦ λ p. kept_by c e cmd r a s k.answered (k.silent p) p (sym (ap (leaves_names cmd) (reply-answer a s.printed)) ∙ holds) k.kept
+      | true ↦ λ p. k.done.still p
+      | false ↦ λ p. kept_by c e cmd r a s k.answered (k.silent p) p (sym (ap (leaves_names cmd) (reply-answer a s.printed)) ∙ holds) k.done.kept
     ] refl;
-    others = k.others;
+    others = k.done.others;
     effect = has_effect;
     steps = λ f j apart fits h good. goes_on f j apart fits h good;
-    edited = edited_by c e cmd r a s k.answered k.edited;
+    edited = edited_by c e cmd r a s k.answered k.done.edited;
     unparsed = λ f is. unparsed_by f r a s k.answered (k.unparsed f is);
   }
 

@@ -12,3 +12,4 @@ pub mod KeepLaws
 pub mod ListLaws
 pub mod ReplyLaws
 pub mod CommandCalls
+pub mod DoneLaws

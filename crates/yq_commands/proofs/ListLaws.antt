@@ -9,8 +9,9 @@ use Rattle.yq_journal.{specs.History.{History, text_at, after_edit, after_squash
 use Rattle.yq_commands.{specs.declared.answer.Answer.Answer, specs.declared.answer.Answer.TheVariants.{Done, NoMatch, Refused}}
 use Rattle.yq_commands.specs.Editing.{EditOutcome, unreadable, refused, edited, program_edits, program_in}
 use Rattle.yq_commands.specs.Lists.{answer_by, Reply, answers_in, IsAnswer, CommandRefused, IsCarriedOut, RunsCommand, Goes, RunsAll}
-use Rattle.yq_commands.specs.Lists.{IsReply, GoesExactly, RunExactly, reports_failure, reports_output, count_passing, failures_in}
-use Rattle.yq_commands.{specs.Lists.{output_failures_in, is_memory, has_memory}, specs.Prints.report_of, specs.CommandNames.file_of}
+use Rattle.yq_commands.specs.Lists.{IsReply, StepsExactly, GoesExactly, RunExactly, reports_failure, reports_output, count_passing}
+use Rattle.yq_commands.{specs.Lists.{failures_in, output_failures_in, is_memory, has_memory}, specs.Prints.report_of}
+use Rattle.yq_commands.specs.CommandNames.{file_of}
 use Rattle.yq_commands.{specs.CommandSteps.{cause_of, next_of, edit_cause, edit_next, update_cause, update_next}, proofs.ReplyLaws.reply}
 use Rattle.yq_args.specs.declared.command.Command.{Command}
 use Rattle.yq_args.specs.declared.command.Command.TheVariants.{Eval, Undo, Redo, History as Lists, Squash, Help}
@@ -124,7 +125,7 @@ inside_step c h k e out no_output s =
     subst (λ b. MatchBool b ((k ≡ h) ⊎ (k ≡ next_of c h)) (IsFor (cause_of c h) e × (k ≡ h))) out
     (subst (λ b. MatchBool b ((cause_of c h ≡ None) × (k ≡ next_of c h)) (MatchBool (is_outer_fault e) ((k ≡ h) ⊎ (k ≡ next_of c h)) (IsFor (cause_of c h) e × (k ≡ h)))) no_output s)
 
-exact_step : (c : Command) (h k : Option History) (r : Reply) (a : Answer) → r.answer ≡ a → RunsCommand c h a r.printed k → is_inside a ≡ true → IsReply (file_of c) (cause_of c h) (report_of c h) r × (k ≡ next_of c h)
+exact_step : (c : Command) (h k : Option History) (r : Reply) (a : Answer) → r.answer ≡ a → RunsCommand c h a r.printed k → is_inside a ≡ true → StepsExactly c h r k
 exact_step c h k r Done is s i = (subst (λ o. IsReply (file_of c) o (report_of c h) r) (sym s.0) (is ∙ ap answer_by s.1, s.2), s.3)
 exact_step c h k r NoMatch is s i = (subst (λ o. IsReply (file_of c) o (report_of c h) r) (sym s.0) (is ∙ ap answer_by s.1, s.2), s.3)
 exact_step c h k r (Refused e) is s i =
@@ -135,7 +136,7 @@ exact_step c h k r (Refused e) is s i =
     (q.0, p.1 ∙ sym (stays c h q.1.0 q.1.1))
 
 exact_goes : (f j : List ℕ) (c : Command) (h k : Option History) (r : Reply) → Goes f j c h r k → is_inside r.answer ≡ true → GoesExactly f j c h r k
-exact_goes f j c h k r (inl s) i = let p = exact_step c h k r r.answer refl s.1 i in inl (s.0, p.0, p.1)
+exact_goes f j c h k r (inl s) i = inl (s.0, exact_step c h k r r.answer refl s.1 i)
 exact_goes f j c h k r (inr s) i = inr s
 
 pub exact_run : (f j : List ℕ) (cs : List Command) (rs : List Reply) (h k : Option History) → RunsAll f j h cs rs k → list_all is_inside (answers_in rs) ≡ true → RunExactly f j h cs rs k

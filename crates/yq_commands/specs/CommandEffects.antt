@@ -1,6 +1,6 @@
 -- What a command does to a file and its journal, by their bytes as they are, good for a history or not (own).
-use Rattle.std.specs.Prelude.{◌≡◌, ◌≢◌, ℕ, List, [], length, nat_le, Bool, if◌then◌else◌, Option, Some, None, Result, Ok, Err, MatchResult}
-use Rattle.std.{specs.Prelude.true, specs.Str.bytes_eq, specs.String.string_bytes}
+use Rattle.std.specs.Prelude.{◌≡◌, ◌≢◌, ℕ, List, [], nat_le, Bool, if◌then◌else◌, Option, Some, None, Result, Ok, Err, MatchResult, true}
+use Rattle.std.{specs.Str.bytes_eq, specs.String.string_bytes}
 use Rattle.yq_semantics.specs.Program.{Program}
 use Rattle.yq_journal.{specs.Record.Record, specs.Refusals.most_records, specs.State.{State, journal_after, with_move}}
 use Rattle.yq_args.specs.declared.command.Command.{Command}
@@ -8,7 +8,7 @@ use Rattle.yq_args.specs.declared.command.Command.TheVariants.{Eval, Undo, Redo,
 use Rattle.yq_history.{specs.declared.fault.Fault.Fault, specs.declared.fault.Fault.TheVariants.{JournalFull, OutOfMemory}}
 use Rattle.yq_history.specs.Effects.{Effect, refuses, writes_nothing, writes_both, from_pair, move_effect, squash_effect, listing_effect}
 use Rattle.yq_history.{specs.Effects.printed_by, specs.Causes.{named, no_reading}, specs.Output.{IsOutput, Output, bytes, diff}}
-use Rattle.yq_commands.{specs.Editing.{EditOutcome, unreadable, refused, edited, program_in, program_edits}, specs.Edits.edit_record}
+use Rattle.yq_commands.{specs.Editing.{EditOutcome, unreadable, refused, edited, program_in, program_edits}, specs.Edits.record_between}
 use Rattle.yq_journal.specs.declared.moves.Move.TheVariants as move
 
 -- what the edit of a record does from one text to another
@@ -22,7 +22,7 @@ edit_effect expr (refused f) t s = refuses (named f)
 edit_effect expr (edited u changes) t s =
     if bytes_eq u t then writes_nothing (bytes [])
     else if nat_le most_records s.at then refuses (named JournalFull)
-    else edit_writes (edit_record expr changes (length t) (length u)) t u s
+    else edit_writes (record_between expr changes t u) t u s
 
 -- the same, by its expression
 abbrev pub update_effect : List ℕ → Result Program Fault → Option (List ℕ) → Option (List ℕ) → Effect

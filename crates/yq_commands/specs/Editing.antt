@@ -1,10 +1,10 @@
 -- What an expression makes of a text.
-use Rattle.std.specs.Prelude.{◌≡◌, ℕ, List, Result, Ok, Err}
+use Rattle.std.specs.Prelude.{◌≡◌, ◌≢◌, ℕ, List, Some, Result, Ok, Err, IfErr, length, string_bytes}
 use Rattle.yq_semantics.specs.Program.{Program}
 use Rattle.yq_expr_parser.specs.Parse.{outcome}
-use Rattle.yq_text.specs.Splice.{Splice}
+use Rattle.yq_text.{specs.Splice.{Splice, all_done, lengths_done}, specs.declared.edited.Edited.Edited}
 use Rattle.yq_edit_laws.{specs.Carried.edit_of, specs.Edit.Edit}
-use Rattle.yq_history.{specs.declared.fault.Fault.Fault, specs.Causes.IsUnreadable}
+use Rattle.yq_history.{specs.declared.fault.Fault.Fault, specs.declared.fault.Fault.TheVariants.OutOfMemory, specs.Causes.IsUnreadable}
 use Rattle.yq_commands.specs.CommandFaults.{of_parse, of_refusal}
 use Rattle.yq_expr_parser.specs.Outcome as expr
 use Rattle.yq_edit_laws.specs.Edit as edit
@@ -15,11 +15,27 @@ pub data EditOutcome : Type 0 where
   refused : Fault → EditOutcome
   edited : List ℕ → List Splice → EditOutcome
 
+-- the same, of a text that was edited (own)
+abbrev pub outcome_of : Edited → EditOutcome
+outcome_of e = edited (string_bytes e.text) e.splices.items
+
+-- the splices of an edited text lead to it from this one (own)
+abbrev pub SplicesLead : List ℕ → Edited → Type 0
+SplicesLead t e = all_done e.splices.items t ≡ Some (string_bytes e.text)
+
+-- their lengths lead to its length (own)
+abbrev pub LengthsLead : List ℕ → Edited → Type 0
+LengthsLead t e = lengths_done e.splices.items (length t) ≡ Some (length (string_bytes e.text))
+
 -- the fault tells why nothing is given (own)
 abbrev pub Refuses : EditOutcome → Fault → Type 0
 Refuses (unreadable text) e = IsUnreadable text e
 Refuses (refused f) e = e ≡ f
 Refuses (edited text changes) e = ⊥
+
+-- an edit is refused for that, or for want of memory (own)
+abbrev pub RefusedBy : EditOutcome → {T : Type 0} → Result T Fault → Type 0
+RefusedBy outcome r = IfErr r (λ e. e ≢ OutOfMemory → Refuses outcome e)
 
 -- what comes of an expression, as a program or a fault (own)
 abbrev pub result_of : expr.Outcome → Result Program Fault
@@ -39,3 +55,7 @@ edit_outcome old (edit.gives text changes) = edited text changes
 -- what a program makes of a text (own)
 unfoldable pub program_edits : Program → List ℕ → EditOutcome
 program_edits program text = edit_outcome text (edit_of program text)
+
+-- something holds of each program that makes one text of another by these splices (own)
+abbrev pub EachProgram : List ℕ → List ℕ → List Splice → (Program → Type 0) → Type 0
+EachProgram old new splices holds = (p : Program) → program_edits p old ≡ edited new splices → holds p

@@ -1,15 +1,16 @@
 -- What an expression that isn't carried out in place shows of a file (own).
-use Rattle.std.specs.Prelude.{ℕ, List, Option, Some, None, option_map, Result, Ok, Err, if◌then◌else◌}
+use Rattle.std.specs.Prelude.{◌≢◌, ℕ, List, Option, Some, None, option_map, Result, Ok, Err, IfErr, IfOk, if◌then◌else◌}
 use Rattle.yq_core.specs.Tree.{Node}
 use Rattle.yq_documents.{specs.Documents.Document, specs.Reading.{documents, read_at}}
 use Rattle.yq_semantics.{specs.Copies.matches, specs.Judgement.{Judgement, gives, refuses}, specs.Program.{Program, Stage, read, updates}}
 use Rattle.yq_journal.specs.History.{History, text_at}
 use Rattle.yq_args.specs.declared.eval_options.EvalOptions.{EvalOptions}
-use Rattle.yq_history.{specs.declared.fault.Fault.Fault, specs.declared.fault.Fault.TheVariants.NotThere}
-use Rattle.yq_history.{specs.Causes.{Cause, named, no_reading}, specs.Output.{Output, Showing, Shows, bytes, diff, showing_nothing}}
-use Rattle.yq_history.specs.Report.{Report}
+use Rattle.yq_history.{specs.declared.fault.Fault.Fault, specs.declared.fault.Fault.TheVariants.{NotThere, OutOfMemory}}
+use Rattle.yq_history.{specs.Causes.{Cause, IsFor, named, no_reading}, specs.Output.{Output, Showing, Shows, bytes, diff, showing_nothing}}
+use Rattle.yq_history.specs.Report.{Report, report_by}
 use Rattle.yq_commands.{specs.Editing.{EditOutcome, unreadable, refused, edited, program_edits}, specs.CommandFaults.of_refusal}
 use Rattle.yq_commands.{specs.Expecting.changes_as_expected, specs.Reads.report_matches}
+use Rattle.yq_history.specs.declared.report.Report as declared
 
 -- what is printed of an edit that isn't carried out in place: the new text, or with `--diff` what changed
 abbrev pub edit_output : EvalOptions → List ℕ → List ℕ → Output
@@ -60,3 +61,11 @@ report_in (Err x) = showing_nothing
 abbrev pub IsShowing : List ℕ → Result Showing Cause → Report → Type 0
 IsShowing file (Ok due) s = Shows file due s
 IsShowing file (Err x) s = ⊥
+
+-- what is given is to be shown of a file
+abbrev pub GivesShowing : List ℕ → Result Showing Cause → Result declared.Report Fault → Type 0
+GivesShowing file due r = IfOk r (λ s. IsShowing file due (report_by s))
+
+-- nothing is given for that cause, or for want of memory
+abbrev pub FailsFor : Result Showing Cause → {T : Type 0} → Result T Fault → Type 0
+FailsFor due r = IfErr r (λ e. e ≢ OutOfMemory → IsFor (cause_in due) e)

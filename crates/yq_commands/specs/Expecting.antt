@@ -6,7 +6,7 @@ use Rattle.yq_journal.specs.History.{History, text_at}
 use Rattle.yq_args.{specs.declared.command.Command.Command, specs.declared.command.Command.TheVariants.Eval}
 use Rattle.yq_args.specs.declared.eval_options.EvalOptions.{EvalOptions}
 use Rattle.yq_history.{specs.declared.fault.Fault.Fault, specs.Effects.{Effect, writes_nothing}}
-use Rattle.yq_history.specs.Output.{Output, Showing, bytes, diff, showing_nothing}
+use Rattle.yq_history.specs.Output.{IsOutput, Output, Showing, bytes, diff, showing_nothing}
 use Rattle.yq_store.specs.FileMap.{FileMap}
 use Rattle.yq_commands.{specs.CommandEffects.OfEffect, specs.Editing.{EditOutcome, edited, program_edits}}
 
@@ -23,6 +23,10 @@ edits_as_expected options old _ = true
 abbrev pub change_output : Bool → List ℕ → EditOutcome → Output
 change_output true old (edited new changes) = diff old new
 change_output _ old outcome = bytes []
+
+-- these bytes are that output of a file
+abbrev pub IsChangeOutput : List ℕ → Bool → List ℕ → EditOutcome → List ℕ → Type 0
+IsChangeOutput file diffs old outcome printed = IsOutput file (change_output diffs old outcome) printed
 
 -- what an edit in place shows of a text
 abbrev pub showing_change : EvalOptions → List ℕ → EditOutcome → Showing

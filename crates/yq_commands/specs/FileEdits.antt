@@ -1,9 +1,10 @@
 -- What an accepted edit makes of the text that a file holds (own).
-use Rattle.std.{specs.Prelude.{◌≡◌, ◌≢◌, ℕ, Bool, List, [], true, false, Option, Some, Ok}, specs.FinMap.get, specs.String.string_bytes}
+use Rattle.std.{specs.Prelude.{◌≡◌, ◌≢◌, ℕ, Bool, List, [], true, false, Option, Some, Ok, Result, IfOk}, specs.FinMap.get}
+use Rattle.std.specs.String.{string_bytes}
 use Rattle.yq_semantics.specs.Program.{Program, Update, updates}
-use Rattle.yq_text.specs.Splice.{Splice}
+use Rattle.yq_text.{specs.Splice.Splice, specs.declared.edited.Edited.Edited}
 use Rattle.yq_edit_laws.{specs.Carried.edit_of, specs.Edit.gives, specs.Theorems.IsEdited}
-use Rattle.yq_history.specs.Unified.{IsPrintedDiff}
+use Rattle.yq_history.{specs.Unified.IsPrintedDiff, specs.declared.fault.Fault.Fault, specs.declared.report.Report.Report}
 use Rattle.yq_store.specs.FileMap.{FileMap}
 use Rattle.yq_args.{specs.declared.command.Command.Command, specs.declared.command.Command.TheVariants.Eval}
 use Rattle.yq_commands.specs.Editing.{program_in}
@@ -14,10 +15,22 @@ pub record IsTextEdited (p : Program) (t new : List ℕ) : Type 0 where
   pub exact : edit_of p t ≡ gives new splices
   pub edited : IsEdited p t new splices
 
+-- an edited text is one that a program makes of a text
+abbrev pub IsEditedBy : Program → List ℕ → Edited → Type 0
+IsEditedBy p t e = IsTextEdited p t (string_bytes e.text)
+
 -- what was printed of a text is the one that a program makes of it, or with `--diff` a diff of the two
 abbrev pub PrintsEdit : Bool → List ℕ → Program → List ℕ → List ℕ → Type 0
 PrintsEdit false file p t printed = IsTextEdited p t printed
 PrintsEdit true file p t printed = (new : List ℕ) × IsTextEdited p t new × IsPrintedDiff file t new printed
+
+-- the text is printed so that a report has
+abbrev pub GivesEdit : Bool → List ℕ → Program → List ℕ → Result Report Fault → Type 0
+GivesEdit diffs file p t r = IfOk r (λ s. PrintsEdit diffs file p t (string_bytes s.text))
+
+-- what was printed is so of the text that a file holds
+abbrev pub PrintsHeldEdit : Bool → List ℕ → Program → Option (List ℕ) → List ℕ → Type 0
+PrintsHeldEdit diffs file p held printed = (text : List ℕ) × (held ≡ Some text) × PrintsEdit diffs file p text printed
 
 -- the text is there that a program makes of another one
 abbrev pub HoldsEdited : Program → List ℕ → Option (List ℕ) → Type 0

@@ -12,3 +12,5 @@ pub mod Lists
 pub mod Prints
 pub mod Reads
 pub mod Calls
+pub mod CommandDone
+pub mod ListRuns

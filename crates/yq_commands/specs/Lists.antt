@@ -1,6 +1,6 @@
 -- Lists of commands as runs of a history (own).
-use Rattle.std.specs.Prelude.{◌≡◌, ◌≢◌, ◌⊎◌, ◌||◌, ◌&&◌, ◌+◌, ℕ, Bool, true, false, not, List, [], ◌∷◌, map, flat_map, All, if◌then◌else◌}
-use Rattle.std.{specs.Prelude.{MatchBool, MatchResult, Option, Some, None, Result, Ok, Err}, specs.FinMap.get}
+use Rattle.std.specs.Prelude.{◌≡◌, ◌≢◌, ◌⊎◌, ◌||◌, ◌&&◌, ◌+◌, ℕ, Bool, true, false, not, List, [], ◌∷◌, ◌++◌, map, flat_map, All}
+use Rattle.std.{specs.Prelude.{if◌then◌else◌, IsTrue, MatchBool, MatchResult, Option, Some, None, Result, Ok, Err}, specs.FinMap.get}
 use Rattle.yq_journal.specs.History.{History}
 use Rattle.yq_commands.{specs.declared.answer.Answer.Answer, specs.declared.answer.Answer.TheVariants.{Done, NoMatch, Refused}}
 use Rattle.yq_commands.{specs.CommandNames.{IsOn, IsNotNamed, file_of}, specs.CommandEffects.{OfEffect, expression_fault, output_by}}
@@ -10,7 +10,7 @@ use Rattle.yq_args.specs.declared.command.Command.{Command}
 use Rattle.yq_history.{specs.declared.fault.Fault.Fault, specs.declared.fault.Fault.TheVariants.{OutFailed, OutOfMemory}}
 use Rattle.yq_history.{specs.Causes.{Cause, IsFor}, specs.Effects.{Effect, Works}, specs.Output.{IsOutput, Showing}}
 use Rattle.yq_history.{specs.Faults.{is_failure, is_outer_fault, is_output}, specs.Pair.GoodIn, specs.Report.Report}
-use Rattle.yq_store.specs.FileMap.{FileMap}
+use Rattle.yq_store.{specs.Count.count_plus_one, specs.FileMap.FileMap}
 
 -- the command shares no name with the file and the journal; or it isn't on them, and prints and writes no name
 abbrev pub IsUnrelated : List ℕ → List ℕ → Command → Type 0
@@ -78,9 +78,13 @@ abbrev pub IsReply : List ℕ → Option Cause → Showing → Reply → Type 0
 IsReply file None due r = (r.answer ≡ answer_by due.is_match) × IsOutput file due.output r.printed
 IsReply file (Some x) due r = ((e : Fault) × (r.answer ≡ Refused e) × IsFor (Some x) e) × (r.printed ≡ [])
 
--- a command on the pair has the reply that its cause calls for, and steps its history; one apart leaves it
+-- a command steps a history exactly: it has the reply that its cause calls for, and the history goes on as the command says
+abbrev pub StepsExactly : Command → Option History → Reply → Option History → Type 0
+StepsExactly c h r k = IsReply (file_of c) (cause_of c h) (report_of c h) r × (k ≡ next_of c h)
+
+-- a command on the pair steps its history so, and one apart from it leaves it
 abbrev pub GoesExactly : List ℕ → List ℕ → Command → Option History → Reply → Option History → Type 0
-GoesExactly file journal c h r k = (IsOn file journal c × IsReply (file_of c) (cause_of c h) (report_of c h) r × (k ≡ next_of c h)) ⊎ (IsUnrelated file journal c × (k ≡ h))
+GoesExactly file journal c h r k = (IsOn file journal c × StepsExactly c h r k) ⊎ (IsUnrelated file journal c × (k ≡ h))
 
 -- one command after another
 abbrev pub RunExactly : List ℕ → List ℕ → Option History → List Command → List Reply → Option History → Type 0
@@ -96,17 +100,23 @@ abbrev pub is_inner_refusal : Answer → Bool
 is_inner_refusal (Refused e) = not (is_outer_fault e)
 is_inner_refusal _ = false
 
+-- an effect came about
+abbrev pub CameAbout : Effect → List ℕ → List ℕ → FileMap → FileMap → Type 0
+CameAbout x file journal old new = Works x file journal old new {T = Unit {0}} (Ok tt)
+
+-- it is as expected or not, came about, and printed its bytes
+abbrev pub PrintsEffect : Command → Effect → List ℕ → List ℕ → FileMap → FileMap → Bool → List ℕ → Type 0
+PrintsEffect c x file journal old new is_expected o =
+    (works_as_expected (expects_change c) x ≡ is_expected) × CameAbout x file journal old new
+    × IsOutput file (output_by (prints_change c) (get old file) x) o
+
 -- what a command's answer and the bytes that it printed tell of an effect: it came about and printed its bytes, and the answer says whether it is as
 -- expected; or it was refused and printed nothing; where the output failed, it came about
 abbrev pub ReportsEffect : Command → Effect → List ℕ → List ℕ → FileMap → FileMap → Answer → List ℕ → Type 0
-ReportsEffect c x file journal old new Done o =
-    (works_as_expected (expects_change c) x ≡ true) × Works x file journal old new {T = Unit {0}} (Ok tt)
-    × IsOutput file (output_by (prints_change c) (get old file) x) o
-ReportsEffect c x file journal old new NoMatch o =
-    (works_as_expected (expects_change c) x ≡ false) × Works x file journal old new {T = Unit {0}} (Ok tt)
-    × IsOutput file (output_by (prints_change c) (get old file) x) o
+ReportsEffect c x file journal old new Done o = PrintsEffect c x file journal old new true o
+ReportsEffect c x file journal old new NoMatch o = PrintsEffect c x file journal old new false o
 ReportsEffect c x file journal old new (Refused e) o =
-    MatchBool (is_output e) (Works x file journal old new {T = Unit {0}} (Ok tt)) (Works x file journal old new {T = Unit {0}} (Err e)) × (o ≡ [])
+    MatchBool (is_output e) (CameAbout x file journal old new) (Works x file journal old new {T = Unit {0}} (Err e)) × (o ≡ [])
 
 -- the reply, and what the file and the journal then hold, are those of the command's effect on what they held, be they good for a history or not
 abbrev pub HasEffect : Command → Reply → FileMap → FileMap → Type 0
@@ -135,14 +145,19 @@ abbrev pub leaves_names : Command → Answer → Bool
 leaves_names c (Refused e) = prints c || (is_inner_refusal (Refused e) && not (prints_change c && is_output e))
 leaves_names c a = prints c
 
--- A command that prints, or is refused so, leaves every name; any other leaves the names that it doesn't name; it has its effect, and steps histories.
--- What was accepted of an expression with updates has edited the file's text; an expression that is no program is refused before all else.
+-- What a command did, by its reply and by what the store's names held before it (old) and hold after it (new).
 pub record RunsTo (c : Command) (r : Reply) (old new : FileMap) : Type 0 where
+  -- one that is refused so, or only prints, changes nothing
   pub all : leaves_names c r.answer ≡ true → new ≡ old
+  -- none changes what the names hold that it doesn't name
   pub others : (q : List ℕ) → IsNotNamed q c → get new q ≡ get old q
+  -- it has its effect on the bytes of its file and its journal, or is refused for its cause
   pub effect : HasEffect c r old new
+  -- the file held the text at the cursor of its history, and holds the one at the cursor of the next
   pub steps : StepsHistory c r old new
+  -- an edit that was accepted gave the defined text
   pub edited : is_accepted r.answer ≡ true → HasEdited c old new r.printed
+  -- an expression that is no program is refused before all else
   pub unparsed : (f : Fault) → expression_fault c ≡ Some f → ReportsUnparsed f r.answer
 
 -- one command after another
@@ -186,3 +201,15 @@ output_failures_in as' = count_passing reports_output as'
 abbrev pub has_memory : Answer → Bool
 has_memory (Refused e) = not (is_memory e)
 has_memory _ = true
+
+-- ---- what an output takes of a command, by what that came to
+
+-- one that can be observed takes the bytes of a command that was carried out, if the answer doesn't tell that it failed, and none of a refused one
+abbrev pub PutsReport : {W : Type 0} → Bool → (W → List ℕ) → W → W → {T : Type 0} → Result T Fault → Answer → Report → Type 0
+PutsReport observable taken old new r a s =
+    IsTrue observable → MatchResult r (λ _. reports_output a ≡ false → taken new ≡ taken old ++ s.printed) (λ _. taken new ≡ taken old)
+
+-- a failure is counted, where the answer to a command that was carried out tells it
+abbrev pub CountsOutput : {W : Type 0} → (W → ℕ) → W → W → {T : Type 0} → Result T Fault → Answer → Type 0
+CountsOutput failures old new r a =
+    MatchResult r (λ _. failures new ≡ (if reports_output a then count_plus_one (failures old) else failures old)) (λ _. failures new ≡ failures old)

@@ -1,5 +1,7 @@
 -- Faults of words as faults of a command (own).
-use Rattle.yq_args.specs.declared.words_error.WordsError.{WordsError}
+use Rattle.std.specs.Prelude.{◌≡◌, List}
+use Rattle.clap.specs.Words.{Text}
+use Rattle.yq_args.{specs.declared.words_error.WordsError.WordsError, specs.Asked.{WordsRefused, full_words}}
 use Rattle.yq_history.{specs.declared.fault.Fault.Fault, specs.declared.fault.Fault.TheVariants.{Usage, OutOfMemory}}
 use Rattle.yq_args.specs.declared.words_error.WordsError.TheVariants as words
 
@@ -7,3 +9,7 @@ use Rattle.yq_args.specs.declared.words_error.WordsError.TheVariants as words
 abbrev pub of_words : WordsError → Fault
 of_words (words.Usage cause) = Usage cause
 of_words words.OutOfMemory = OutOfMemory
+
+-- the fault tells why these words are no command
+abbrev pub RefusesWords : List Text → Fault → Type 0
+RefusesWords words fault = (e : WordsError) × (fault ≡ of_words e) × WordsRefused (full_words words) e

@@ -1,13 +1,10 @@
 //! An edited text, kept in its file beside the journal.
-ghost use Rattle.std.specs.Prelude.{◌≡◌, ◌≢◌, Some, Ok, IfOk, OnOk, IfErr, IsTrue, IsNone, false, length};
-ghost use Rattle.yq_journal.specs.History.{History};
+ghost use Rattle.std.specs.Prelude.{◌≡◌, ◌≢◌, Some, IfOk, OnOk, IfErr, IsTrue, IsNone, false, length};
 ghost use Rattle.yq_text.specs.Splice.{Splice, all_done, lengths_done};
-ghost use Rattle.yq_commands.{specs.Editing.{edited, program_edits}, specs.Edits.edit_record, specs.CommandEffects.edit_effect};
-ghost use Rattle.yq_commands.specs.CommandSteps.{update_cause, update_next};
-ghost use Rattle.yq_history.{specs.Calls.Makes, specs.Effects.Works, specs.Faults.{is_outer_fault, is_output, failures_after}};
-ghost use Rattle.yq_history.specs.Pair.{Arrives, OthersStay, PairAtRest};
+ghost use Rattle.yq_commands.{specs.CommandDone.{EditsFrom, LeavesRefused, program_effect}, specs.Editing.EachProgram};
+ghost use Rattle.yq_commands.specs.Edits.{record_between};
+ghost use Rattle.yq_history.{specs.Calls.Makes, specs.Faults.{is_output, failures_after}, specs.Pair.OthersStay};
 ghost use Rattle.std.specs.FinMap as map;
-ghost use Rattle.yq_semantics.specs.Program as spec;
 
 use std::alloc::{AllocError, Global};
 use yq_history::{Fault, carry_out};
@@ -24,8 +21,7 @@ fn record_of(
     new: &[u8],
 ) -> Result<Record, AllocError>
     requires lengths { lengths_done splices.items (length old.now) ≡ Some (length new.now) }
-    ensures { IfOk result (λ r. r ≡ edit_record expr.now splices.items (length old.now)
-        (length new.now)) }
+    ensures { IfOk result (λ r. r ≡ record_between expr.now splices.items old.now new.now) }
 {
     let expr = String::from_str(alloc, expr)?;
     Ok(Record::new(expr, splices, old.len() as u64, new.len() as u64))
@@ -46,27 +42,21 @@ pub fn commit<D: Store>(
     requires at_rest { IsNone state.old.pending }
     requires lengths { lengths_done splices.items (length old.items) ≡ Some (length new.now) }
     requires leads { all_done splices.items old.items ≡ Some new.now }
-    ensures arrives { IsTrue D.keeps → file.now ≢ journal.now → (h : History) → (p : spec.Program) →
-        PairAtRest (D.content store.old) file.now journal.now state.old old.items h →
-        program_edits p old.items ≡ edited new.now splices.items →
-        Arrives (D.content store.new) file.now journal.now (update_cause (Ok p) (Some h)) (Some h)
-        (update_next expr.now (Ok p) (Some h)) result }
+    ensures done { IsTrue D.keeps → file.now ≢ journal.now →
+        EachProgram old.items new.now splices.items (λ p. EditsFrom p expr.now file.now journal.now
+        state.old old.items (D.content store.old) (D.content store.new) result) }
     ensures text { IsTrue D.keeps → file.now ≢ journal.now →
         map.get (D.content store.old) file.now ≡ Some old.items →
         OnOk result (map.get (D.content store.new) file.now ≡ Some new.now) }
-    ensures effect { IsTrue D.keeps → file.now ≢ journal.now → (p : spec.Program) →
-        program_edits p old.items ≡ edited new.now splices.items →
-        Works (edit_effect expr.now (program_edits p old.items) old.items state.old)
-        file.now journal.now (D.content store.old) (D.content store.new) result }
-    ensures kept { IsTrue D.keeps → IfErr result (λ e. is_outer_fault e ≡ false →
-        D.content store.new ≡ D.content store.old) }
+    ensures kept { IsTrue D.keeps →
+        LeavesRefused (D.content store.old) (D.content store.new) result }
     ensures others { IsTrue D.keeps → OthersStay (D.content store.old)
         (D.content store.new) file.now journal.now }
     ensures no_output { IfErr result (λ e. is_output e ≡ false) }
     ensures count { D.failures store.new ≡ failures_after result (D.failures store.old) }
-    ensures calls { (p : spec.Program) → program_edits p old.items ≡ edited new.now splices.items →
-        Makes D.leads result file.now journal.now old.items (edit_effect expr.now
-        (program_edits p old.items) old.items state.old) store.old store.new }
+    ensures calls { EachProgram old.items new.now splices.items (λ p. Makes D.leads result
+        file.now journal.now old.items (program_effect expr.now p old.items state.old) store.old
+        store.new) }
 {
     if new == old.as_slice() {
         return Ok(());

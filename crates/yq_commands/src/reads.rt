@@ -1,12 +1,10 @@
 //! Reads: matches, as they are printed.
-ghost use Rattle.std.{specs.Prelude.{◌≡◌, ◌≢◌, ◌++◌, Ok, IfOk, IfErr, OnOk, None, true, false}, specs.List.list_all};
-ghost use Rattle.std.specs.String.{string_bytes};
+ghost use Rattle.std.{specs.Prelude.{◌≡◌, ◌++◌, Ok, IfOk, IfErr, OnOk, None, true, false}, specs.List.list_all, specs.String.string_bytes};
 ghost use Rattle.yq_core.specs.Values.{value_node};
 ghost use Rattle.yq_eval.specs.MatchView.{matches_of};
-ghost use Rattle.yq_edit_rules.specs.Print.{print_text};
 ghost use Rattle.yq_semantics.{specs.Program.is_read, specs.View.program_of};
-ghost use Rattle.yq_history.{specs.Causes.IsFor, specs.Faults.{is_failure, is_output}, specs.Output.showing_by};
-ghost use Rattle.yq_commands.specs.Evaluation.{cause_in, shows};
+ghost use Rattle.yq_history.{specs.Faults.{is_failure, is_output}, specs.Output.showing_by};
+ghost use Rattle.yq_commands.specs.Evaluation.{FailsFor, shows};
 ghost use Rattle.yq_commands.specs.Reads as spec;
 
 use crate::faults::match_fault;
@@ -44,9 +42,8 @@ fn push_match(
     last: Option<usize>,
     found: &Match,
 ) -> Result<(), AllocError>
-    ensures { OnOk result (string_bytes printed.new ≡ (string_bytes printed.old ++
-        spec.separator_before no_doc last found.now.doc) ++
-        print_text (value_node found.now.value)) }
+    ensures { OnOk result (string_bytes printed.new ≡
+        spec.with_match (string_bytes printed.old) no_doc last found.now.doc found.now.value) }
 {
     push_marker(printed, no_doc, last, found.doc)?;
     let text = print(alloc, &found.value)?;
@@ -55,7 +52,7 @@ fn push_match(
 
 /// Matches as they are printed.
 fn printed_matches(alloc: Global, no_doc: bool, matches: &[Match]) -> Result<String, AllocError>
-    ensures { IfOk result (λ s. string_bytes s ≡ spec.matches_behind no_doc None
+    ensures { IfOk result (λ s. string_bytes s ≡ spec.printed_matches no_doc
         (matches_of matches.now)) }
 {
     let mut printed = String::new(alloc);
@@ -120,8 +117,7 @@ pub fn show_read(
     requires { is_read (program_of program.now) ≡ true }
     ensures ok { IfOk result (λ s. shows options (program_of program.now) text.now ≡
         Ok (showing_by s)) }
-    ensures err { IfErr result (λ e. e ≢ Fault.OutOfMemory →
-        IsFor (cause_in (shows options (program_of program.now) text.now)) e) }
+    ensures err { FailsFor (shows options (program_of program.now) text.now) result }
     ensures inside { IfErr result (λ e. is_failure e ≡ false) }
     ensures no_output { IfErr result (λ e. is_output e ≡ false) }
 {

@@ -1,8 +1,8 @@
 //! The command that the program's words ask for.
-ghost use Rattle.std.specs.Prelude.{◌≡◌, ◌≢◌, IfOk, IfErr, MatchResult, map, true, Ok};
-ghost use Rattle.clap.specs.Words.{subcommand_of, takes};
-ghost use Rattle.yq_commands.specs.WordFaults.{of_words};
-ghost use Rattle.yq_args.{specs.declared.command.Command.TheVariants.Help, specs.declared.words_error.WordsError.WordsError, specs.Line.yq};
+ghost use Rattle.std.specs.Prelude.{◌≡◌, ◌≢◌, IfOk, IfErr, map, true, Ok};
+ghost use Rattle.yq_commands.specs.WordFaults.{RefusesWords, of_words};
+ghost use Rattle.yq_args.specs.declared.command.Command.TheVariants.{Help};
+ghost use Rattle.yq_history.specs.declared.fault.Fault.TheVariants.{OutOfMemory};
 ghost use Rattle.yq_args.specs.Asked as spec;
 
 use std::alloc::Global;
@@ -25,19 +25,16 @@ pub fn words_fault(error: WordsError) -> Fault
 /// (`-h`, `--help`) is `Help`. The words are refused with `Usage` where `clap` refuses them, where FILE is `-`, where
 /// the journal has FILE's name, and where N isn't a number of 64 bits.
 pub fn command_of(alloc: Global, words: &[&str]) -> Result<Command, Fault>
-    ensures asked { IfOk result (spec.IsAsked (subcommand_of yq
-        (spec.full_words (map (λ w. w.now) words.now)))) }
+    ensures asked { IfOk result (spec.IsAsked (spec.found_in (map (λ w. w.now) words.now))) }
     // Words that clap doesn't take are no command, unless they ask for help.
-    ensures taken { IfOk result (λ c. c ≢ Help → takes yq (spec.full_words
-        (map (λ w. w.now) words.now)) ≡ true) }
-    ensures help { takes yq (spec.full_words (map (λ w. w.now) words.now)) ≡ true →
-        result ≢ Ok Help }
+    ensures taken { IfOk result (λ c. c ≢ Help →
+        spec.is_taken (map (λ w. w.now) words.now) ≡ true) }
+    ensures help { spec.is_taken (map (λ w. w.now) words.now) ≡ true → result ≢ Ok Help }
     // Help is answered where `-h` or `--help` is a word and clap reads a call for help, and not else.
     ensures only { result ≡ Ok Help → spec.MayCallHelp (map (λ w. w.now) words.now) }
     ensures called { spec.CallsHelp (map (λ w. w.now) words.now) →
-        MatchResult result (λ c. c ≡ Help) (λ e. e ≡ Fault.OutOfMemory) }
-    ensures err { IfErr result (λ fault. (e : WordsError) × (fault ≡ of_words e) ×
-        spec.WordsRefused (spec.full_words (map (λ w. w.now) words.now)) e) }
+        spec.IsHelpOr OutOfMemory result }
+    ensures err { IfErr result (RefusesWords (map (λ w. w.now) words.now)) }
 {
     match read_words(alloc, words) {
         Ok(command) => Ok(command),

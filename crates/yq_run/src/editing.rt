@@ -1,16 +1,11 @@
 //! Edits of texts, and of files beside their journals.
-ghost use Rattle.std.specs.Prelude.{◌≡◌, ◌≢◌, Some, Ok, IfOk, OnOk, IfErr, IsTrue, IsNone, [], true, false, length};
-ghost use Rattle.std.specs.String.{string_bytes};
+ghost use Rattle.std.{specs.Prelude.{◌≡◌, IfOk, OnOk, IfErr, IsTrue, IsNone, [], false}, specs.String.string_bytes};
 ghost use Rattle.yq_semantics.specs.View.{program_of};
-ghost use Rattle.yq_journal.specs.History.{History};
-ghost use Rattle.yq_text.specs.Splice.{all_done, lengths_done};
-ghost use Rattle.yq_commands.{specs.CommandEffects.edit_effect, specs.CommandSteps.{update_cause, update_next}};
-ghost use Rattle.yq_commands.specs.Expecting.{changes_as_expected, edits_as_expected, change_output, showing_change};
-ghost use Rattle.yq_commands.{specs.Editing.{Refuses, edited, program_edits}, specs.FileEdits.{HoldsEdited, IsTextEdited, PrintsChange}};
-ghost use Rattle.yq_history.{specs.Calls.Makes, specs.Effects.Works, specs.Faults.{is_failure, is_outer_fault, is_output, failures_after}};
-ghost use Rattle.yq_history.{specs.Output.{IsOutput, Shows}, specs.Report.report_by, specs.Pair.{Arrives, OthersStay, PairAtRest}};
-ghost use Rattle.yq_commands.specs.Editing as outcome;
-ghost use Rattle.std.specs.FinMap as map;
+ghost use Rattle.yq_commands.specs.CommandDone.{EditsOpened, MatchesStill, program_effect, showing_edit};
+ghost use Rattle.yq_commands.specs.Editing.{LengthsLead, RefusedBy, SplicesLead, outcome_of, program_edits};
+ghost use Rattle.yq_commands.{specs.Expecting.{IsChangeOutput, changes_as_expected}, specs.FileEdits.IsEditedBy};
+ghost use Rattle.yq_history.{specs.Calls.Makes, specs.Faults.{is_failure, is_output, failures_after}, specs.Output.Shows};
+ghost use Rattle.yq_history.specs.Report.{report_by};
 
 use std::alloc::{AllocError, Global};
 use yq_args::EvalOptions;
@@ -29,9 +24,8 @@ fn change_of(
     edited: &Edited,
     diff: bool,
 ) -> Result<String, AllocError>
-    ensures { IfOk result (λ s. IsOutput file.now (change_output diff text.now
-        (outcome.edited (string_bytes edited.now.text) edited.now.splices.items))
-        (string_bytes s)) }
+    ensures { IfOk result (λ s.
+        IsChangeOutput file.now diff text.now (outcome_of edited.now) (string_bytes s)) }
 {
     if diff {
         unified_diff(alloc, file, text, &edited.text, &edited.splices)
@@ -49,18 +43,14 @@ pub fn edit_text(
     text: &[u8],
     diff: bool,
 ) -> Result<(Edited, String), Fault>
-    ensures ok { IfOk result (λ e. program_edits (program_of program.now) text.now ≡
-        outcome.edited (string_bytes e.0.text) e.0.splices.items) }
-    ensures splices { IfOk result (λ e. all_done e.0.splices.items text.now ≡
-        Some (string_bytes e.0.text)) }
-    ensures lengths { IfOk result (λ e. lengths_done e.0.splices.items (length text.now) ≡
-        Some (length (string_bytes e.0.text))) }
-    ensures edited { IfOk result (λ e. IsTextEdited (program_of program.now) text.now
-        (string_bytes e.0.text)) }
-    ensures change { IfOk result (λ e. IsOutput file.now (change_output diff text.now
-        (program_edits (program_of program.now) text.now)) (string_bytes e.1)) }
-    ensures err { IfErr result (λ e. e ≢ Fault.OutOfMemory →
-        Refuses (program_edits (program_of program.now) text.now) e) }
+    ensures ok { IfOk result (λ e.
+        program_edits (program_of program.now) text.now ≡ outcome_of e.0) }
+    ensures splices { IfOk result (λ e. SplicesLead text.now e.0) }
+    ensures lengths { IfOk result (λ e. LengthsLead text.now e.0) }
+    ensures edited { IfOk result (λ e. IsEditedBy (program_of program.now) text.now e.0) }
+    ensures change { IfOk result (λ e. IsChangeOutput file.now diff text.now
+        (program_edits (program_of program.now) text.now) (string_bytes e.1)) }
+    ensures err { RefusedBy (program_edits (program_of program.now) text.now) result }
     ensures inside { IfErr result (λ e. is_failure e ≡ false) }
     ensures no_output { IfErr result (λ e. is_output e ≡ false) }
 {
@@ -96,36 +86,18 @@ pub fn edit_from<D: Store>(
 ) -> Result<(), Fault>
     requires at_rest { IsNone state.old.pending }
     requires empty { string_bytes report.old.text ≡ [] }
-    ensures arrives { IsTrue D.keeps → file.now ≢ journal.now → (h : History) →
-        PairAtRest (D.content store.old) file.now journal.now state.old text.items h →
-        Arrives (D.content store.new) file.now journal.now
-        (update_cause (Ok (program_of program.now)) (Some h)) (Some h)
-        (update_next expr.now (Ok (program_of program.now)) (Some h)) result }
-    ensures effect { IsTrue D.keeps → file.now ≢ journal.now →
-        Works (edit_effect expr.now (program_edits (program_of program.now) text.items) text.items
-        state.old) file.now journal.now (D.content store.old) (D.content store.new) result }
-    ensures edited { IsTrue D.keeps → file.now ≢ journal.now →
-        map.get (D.content store.old) file.now ≡ Some text.items →
-        OnOk result (HoldsEdited (program_of program.now) text.items
-        (map.get (D.content store.new) file.now)) }
-    ensures printed { IsTrue D.keeps → file.now ≢ journal.now →
-        map.get (D.content store.old) file.now ≡ Some text.items →
-        OnOk result (PrintsChange options.diff file.now (Some text.items)
-        (map.get (D.content store.new) file.now) (string_bytes report.new.text)) }
+    ensures done { IsTrue D.keeps → EditsOpened (program_of program.now) expr.now options.diff
+        file.now journal.now state.old text.items (D.content store.old) (D.content store.new) result
+        (report_by report.new) }
     ensures silent { options.diff ≡ false → string_bytes report.new.text ≡ [] }
-    ensures shows { OnOk result (Shows file.now (showing_change options text.items
-        (program_edits (program_of program.now) text.items)) (report_by report.new)) }
-    ensures unasked { options.expect_change ≡ false → report.old.is_match ≡ true →
-        report.new.is_match ≡ true }
-    ensures kept { IsTrue D.keeps → IfErr result (λ e. is_outer_fault e ≡ false →
-        D.content store.new ≡ D.content store.old) }
-    ensures others { IsTrue D.keeps → OthersStay (D.content store.old)
-        (D.content store.new) file.now journal.now }
+    ensures shows { OnOk result (Shows file.now
+        (showing_edit options (program_of program.now) text.items) (report_by report.new)) }
+    ensures unasked { MatchesStill options (report_by report.old) (report_by report.new) }
     ensures no_output { IfErr result (λ e. is_output e ≡ false) }
     ensures count { D.failures store.new ≡ failures_after result (D.failures store.old) }
-    ensures calls { Makes D.leads result file.now journal.now text.items (edit_effect expr.now
-        (program_edits (program_of program.now) text.items) text.items state.old) store.old
-        store.new }
+    ensures calls { Makes D.leads result file.now journal.now text.items
+        (program_effect expr.now (program_of program.now) text.items state.old)
+        store.old store.new }
 {
     let (edited, change) = edit_text(alloc, file, program, text.as_slice(), options.diff)?;
     let Edited {

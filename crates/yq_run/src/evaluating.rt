@@ -1,13 +1,10 @@
 //! Expressions that aren't carried out in place: what they show of a file.
-ghost use Rattle.std.specs.Prelude.{◌≡◌, ◌≢◌, Ok, ℕ, Bool, List, Option, Some, IfErr, IfOk, OnOk, IsTrue, true, false};
-ghost use Rattle.std.specs.String.{string_bytes};
+ghost use Rattle.std.{specs.Prelude.{◌≡◌, Some, IfErr, OnOk, IsTrue, false}, specs.String.string_bytes};
 ghost use Rattle.yq_semantics.{specs.Program.is_read, specs.View.program_of};
-ghost use Rattle.yq_journal.specs.History.{History};
-ghost use Rattle.yq_history.{specs.Causes.IsFor, specs.Faults.{is_failure, is_output, failures_after}, specs.Pair.{Arrives, GoodIn}};
-ghost use Rattle.yq_history.{specs.Calls.ReadsFile, specs.Report.report_by, specs.Output.Shows};
-ghost use Rattle.yq_commands.{specs.Calls.CallsOfEvaluation, specs.CommandEffects.{IsUnparsed, fault_of}, specs.Editing.program_in};
-ghost use Rattle.yq_commands.specs.Evaluation.{cause_in, evaluated, of_file, report_in, shows, IsShowing};
-ghost use Rattle.yq_commands.specs.FileEdits.{IsTextEdited, PrintsEdited, PrintsEdit, PrintsUpdate};
+ghost use Rattle.yq_history.{specs.Calls.ReadsFile, specs.Faults.{is_failure, is_output, failures_after}, specs.Report.report_by};
+ghost use Rattle.yq_commands.{specs.Calls.CallsOfEvaluation, specs.CommandDone.Evaluates, specs.Editing.program_in};
+ghost use Rattle.yq_commands.{specs.CommandEffects.{IsUnparsed, fault_of}, specs.FileEdits.{GivesEdit, PrintsHeldEdit, PrintsUpdate}};
+ghost use Rattle.yq_commands.specs.Evaluation.{FailsFor, GivesShowing, evaluated, of_file, shows};
 ghost use Rattle.std.specs.FinMap as map;
 
 use crate::editing::{edit_text, is_as_expected};
@@ -27,12 +24,9 @@ fn show_edit(
     options: EvalOptions,
 ) -> Result<Report, Fault>
     requires { is_read (program_of program.now) ≡ false }
-    ensures edited { IfOk result (λ s. PrintsEdit options.diff file.now (program_of program.now)
-        text.now (string_bytes s.text)) }
-    ensures ok { IfOk result (λ s. IsShowing file.now
-        (shows options (program_of program.now) text.now) (report_by s)) }
-    ensures err { IfErr result (λ e. e ≢ Fault.OutOfMemory →
-        IsFor (cause_in (shows options (program_of program.now) text.now)) e) }
+    ensures edited { GivesEdit options.diff file.now (program_of program.now) text.now result }
+    ensures ok { GivesShowing file.now (shows options (program_of program.now) text.now) result }
+    ensures err { FailsFor (shows options (program_of program.now) text.now) result }
     ensures inside { IfErr result (λ e. is_failure e ≡ false) }
     ensures no_output { IfErr result (λ e. is_output e ≡ false) }
 {
@@ -59,12 +53,9 @@ fn show(
     options: EvalOptions,
 ) -> Result<Report, Fault>
     ensures edited { is_read (program_of program.now) ≡ false →
-        IfOk result (λ s. PrintsEdit options.diff file.now (program_of program.now) text.now
-        (string_bytes s.text)) }
-    ensures ok { IfOk result (λ s. IsShowing file.now
-        (shows options (program_of program.now) text.now) (report_by s)) }
-    ensures err { IfErr result (λ e. e ≢ Fault.OutOfMemory →
-        IsFor (cause_in (shows options (program_of program.now) text.now)) e) }
+        GivesEdit options.diff file.now (program_of program.now) text.now result }
+    ensures ok { GivesShowing file.now (shows options (program_of program.now) text.now) result }
+    ensures err { FailsFor (shows options (program_of program.now) text.now) result }
     ensures inside { IfErr result (λ e. is_failure e ≡ false) }
     ensures no_output { IfErr result (λ e. is_output e ≡ false) }
 {
@@ -84,19 +75,11 @@ fn evaluate_program<D: Store>(
     options: EvalOptions,
     report: &mut Report,
 ) -> Result<(), Fault>
-    ensures arrives { IsTrue D.keeps → (journal : List ℕ) → (h : Option History) →
-        GoodIn (D.content store.old) file.now journal h →
-        Arrives (D.content store.new) file.now journal
-        (cause_in (of_file (shows options (program_of program.now)) h)) h h result }
-    ensures output { IsTrue D.keeps → (journal : List ℕ) → (h : Option History) →
-        GoodIn (D.content store.old) file.now journal h →
-        OnOk result (Shows file.now (report_in (of_file
-        (shows options (program_of program.now)) h)) (report_by report.new)) }
+    ensures done { IsTrue D.keeps → Evaluates (of_file (shows options (program_of program.now)))
+        file.now (D.content store.old) (D.content store.new) result (report_by report.new) }
     ensures edited { IsTrue D.keeps → is_read (program_of program.now) ≡ false →
-        OnOk result ((text : List ℕ) × (map.get (D.content store.old) file.now ≡ Some text) ×
-        PrintsEdit options.diff file.now (program_of program.now) text
-        (string_bytes report.new.text)) }
-    ensures same { IsTrue D.keeps → D.content store.new ≡ D.content store.old }
+        OnOk result (PrintsHeldEdit options.diff file.now (program_of program.now)
+        (map.get (D.content store.old) file.now) (string_bytes report.new.text)) }
     ensures no_output { IfErr result (λ e. is_output e ≡ false) }
     ensures count { D.failures store.new ≡ failures_after result (D.failures store.old) }
     ensures calls { ReadsFile D.leads result file.now (λ text s t. t ≡ s) store.old store.new }
@@ -116,19 +99,12 @@ pub fn evaluate<D: Store>(
     options: EvalOptions,
     report: &mut Report,
 ) -> Result<(), Fault>
-    ensures arrives { IsTrue D.keeps → (journal : List ℕ) → (h : Option History) →
-        GoodIn (D.content store.old) file.now journal h →
-        Arrives (D.content store.new) file.now journal
-        (cause_in (evaluated options (program_in expr.now) h)) h h result }
-    ensures output { IsTrue D.keeps → (journal : List ℕ) → (h : Option History) →
-        GoodIn (D.content store.old) file.now journal h →
-        OnOk result (Shows file.now (report_in (evaluated options (program_in expr.now) h))
-        (report_by report.new)) }
+    ensures done { IsTrue D.keeps → Evaluates (evaluated options (program_in expr.now))
+        file.now (D.content store.old) (D.content store.new) result (report_by report.new) }
     ensures edited { IsTrue D.keeps →
         OnOk result (PrintsUpdate options.diff expr.now file.now
         (map.get (D.content store.old) file.now) (string_bytes report.new.text)) }
     ensures unparsed { (f : Fault) → fault_of (program_in expr.now) ≡ Some f → IsUnparsed f result }
-    ensures same { IsTrue D.keeps → D.content store.new ≡ D.content store.old }
     ensures no_output { IfErr result (λ e. is_output e ≡ false) }
     ensures count { D.failures store.new ≡ failures_after result (D.failures store.old) }
     ensures calls { CallsOfEvaluation D.leads result expr.now file.now store.old store.new }

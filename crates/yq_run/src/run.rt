@@ -1,12 +1,8 @@
 //! Lists of commands, carried out over a store.
-ghost use Rattle.std.specs.Prelude.{◌≡◌, ◌≢◌, ◌+◌, ◌-◌, ◌^◌, ◌<◌, ℕ, List, ◌++◌, Option, IfOk, OnErr, IsTrue, All, true, min, length};
-ghost use Rattle.std.specs.List.{list_all};
-ghost use Rattle.yq_journal.specs.History.{History};
-ghost use Rattle.yq_commands.specs.CommandNames.{IsNotNamed};
-ghost use Rattle.yq_commands.specs.Lists.{AllOnOrApart, Keeps, RunsAll, RunExactly, Reply, answers_in, printed_in, has_memory, failures_in};
-ghost use Rattle.yq_commands.{specs.Lists.output_failures_in, specs.Calls.CallsOfAll};
-ghost use Rattle.yq_history.specs.Pair.{GoodIn};
-ghost use Rattle.std.specs.FinMap as map;
+ghost use Rattle.std.specs.Prelude.{◌≡◌, IfOk, OnErr, IsTrue, length};
+ghost use Rattle.yq_commands.{specs.Lists.{RunsAll, failures_in, output_failures_in}, specs.Calls.CallsOfAll};
+ghost use Rattle.yq_commands.specs.ListRuns.{AnswersExactly, AnswersTo, CountsAnswers, NoneFailed, HasTaken, HasTakenUnlessFailed};
+ghost use Rattle.yq_commands.specs.ListRuns.{UnnamedStay};
 
 use crate::executing::execute;
 use std::alloc::{AllocError, Global};
@@ -23,36 +19,20 @@ pub fn run_list<D: Store, W: Out>(
     out: &mut W,
     commands: &[Command],
 ) -> Result<Vec<Answer>, AllocError>
-    ensures run { IsTrue D.keeps → IfOk result (λ answers. (replies : List Reply) ×
-        (answers_in replies ≡ answers.items) ×
-        (IsTrue W.observable → W.failures out.new ≡ W.failures out.old →
-        W.failures out.new < 2 ^ 64 - 1 →
-        W.taken out.new ≡ W.taken out.old ++ printed_in replies) ×
-        Keeps (D.content store.old) commands.now replies (D.content store.new) ×
-        ((file journal : List ℕ) → file ≢ journal → AllOnOrApart file journal commands.now →
-        (h : Option History) → GoodIn (D.content store.old) file journal h →
-        (k : Option History) × RunsAll file journal h commands.now replies k ×
-        GoodIn (D.content store.new) file journal k)) }
-    ensures exact { IsTrue D.keeps → D.failures store.new ≡ D.failures store.old →
-        D.failures store.new < 2 ^ 64 - 1 → W.failures out.new ≡ W.failures out.old →
-        W.failures out.new < 2 ^ 64 - 1 →
-        IfOk result (λ answers. list_all has_memory answers.items ≡ true →
-        (replies : List Reply) × (answers_in replies ≡ answers.items) ×
-        (IsTrue W.observable → W.taken out.new ≡ W.taken out.old ++ printed_in replies) ×
-        ((file journal : List ℕ) → file ≢ journal → AllOnOrApart file journal commands.now →
-        (h : Option History) → GoodIn (D.content store.old) file journal h →
-        (k : Option History) × RunExactly file journal h commands.now replies k ×
-        GoodIn (D.content store.new) file journal k)) }
-    ensures others { IsTrue D.keeps → (q : List ℕ) → All (IsNotNamed q) commands.now →
-        map.get (D.content store.new) q ≡ map.get (D.content store.old) q }
-    ensures count { D.failures store.old < 2 ^ 64 →
-        IfOk result (λ answers. D.failures store.new ≡
-        min (D.failures store.old + failures_in answers.items) (2 ^ 64 - 1)) }
-    ensures out_count { W.failures out.old < 2 ^ 64 →
-        IfOk result (λ answers. W.failures out.new ≡
-        min (W.failures out.old + output_failures_in answers.items) (2 ^ 64 - 1)) }
-    ensures calls { IfOk result (λ answers.
-        CallsOfAll D.leads commands.now answers.items store.old store.new) }
+    // The file always holds the text at the cursor of its history, to which the answers lead. An
+    // accepted edit gave the defined text, and a refused command changed nothing.
+    ensures run { IsTrue D.keeps → IfOk result (AnswersTo RunsAll commands.now
+        D.content store.old store.new
+        (HasTakenUnlessFailed W.failures W.observable W.taken out.old out.new)) }
+    // Where no call failed and memory was there, a command is refused exactly for its cause.
+    ensures exact { IsTrue D.keeps → NoneFailed D.failures store.old store.new →
+        NoneFailed W.failures out.old out.new → IfOk result (AnswersExactly commands.now
+        D.content store.old store.new (HasTaken W.observable W.taken out.old out.new)) }
+    ensures others { IsTrue D.keeps → UnnamedStay commands.now D.content store.old store.new }
+    ensures count { CountsAnswers failures_in D.failures store.old store.new result }
+    ensures out_count { CountsAnswers output_failures_in W.failures out.old out.new result }
+    ensures calls { IfOk result (λ v.
+        CallsOfAll D.leads commands.now v.items store.old store.new) }
     ensures one_each { IfOk result (λ answers. length answers.items ≡ length commands.now) }
     ensures err { OnErr result ((store.new ≡ store.old) × (out.new ≡ out.old)) }
 {

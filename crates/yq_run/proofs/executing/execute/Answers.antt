@@ -6,10 +6,10 @@ use Rattle.yq_args.specs.declared.command.Command.TheVariants.{Eval}
 use Rattle.yq_commands.{specs.CommandEffects.{expression_fault, fault_of}, specs.Editing.program_in}
 use Rattle.yq_commands.{specs.Prints.{prints, reads_journal, prints_change}, specs.Expecting.expects_change}
 use Rattle.yq_commands.proofs.ExpectingLaws.{none_expected}
-use Rattle.yq_commands.proofs.ExecuteLaws.{ArrivesOn, EditsOn, ExpectsOn, ListsOn, OthersOn, ShowsOn, WorksOn, evaluate_arrives}
-use Rattle.yq_commands.proofs.ExecuteLaws.{evaluate_edits, evaluate_shows, pair_arrives, pair_others, pair_works, update_arrives}
-use Rattle.yq_commands.proofs.ExecuteLaws.{update_edits, update_expects, update_shows, update_works, empty_shows, listing_lists}
-use Rattle.yq_commands.{proofs.ExecuteLaws.{listing_shows, update_lists}, specs.Calls.CallsOf}
+use Rattle.yq_commands.specs.CommandDone.{ArrivesOn, EditsOn, ExpectsOn, ListsOn, OthersOn, ShowsOn, WorksOn}
+use Rattle.yq_commands.proofs.ExecuteLaws.{evaluate_arrives, evaluate_edits, evaluate_shows, pair_arrives, pair_others, pair_works}
+use Rattle.yq_commands.proofs.ExecuteLaws.{update_arrives, update_edits, update_expects, update_shows, update_works, empty_shows}
+use Rattle.yq_commands.{proofs.ExecuteLaws.{listing_lists, listing_shows, update_lists}, specs.Calls.CallsOf}
 use Rattle.yq_commands.proofs.CommandCalls.{evaluation_calls, pair_calls, update_calls}
 use Rattle.yq_commands.proofs.OutcomeLaws.{each_error, memory_counted, memory_no_output}
 use Rattle.yq_journal.specs.declared.moves.Move.TheVariants as move
@@ -20,18 +20,20 @@ returns-in-Undo g c =
     let e = c.move_file.ensures in
     let is = c.in-Undo.is in
     record {
-      arrives = λ keeps. subst (ArrivesOn _ _ c.move_file.result) (sym is) (pair_arrives _ _ _ _ c.as_str-in-Undo.ensures.value c.as_str-in-Undo-2.ensures.value _ _ c.move_file.result (move_cause move.Undo) (move_next move.Undo) (e.arrives keeps));
-      effect = λ keeps. subst (WorksOn _ _ c.move_file.result) (sym is) (pair_works _ _ _ _ c.as_str-in-Undo.ensures.value c.as_str-in-Undo-2.ensures.value _ _ c.move_file.result (move_effect move.Undo) (e.effect keeps));
-      output = λ keeps. subst (ShowsOn _ c.move_file.result _) (sym is) (λ file journal on h good. on_ok c.move_file.result (empty_shows _ _ c.requires.empty));
-      listed = λ keeps. subst (ListsOn _ c.move_file.result _) (sym is) (λ file journal on. on_ok c.move_file.result tt);
-      edited = λ keeps. subst (EditsOn _ _ c.move_file.result _) (sym is) (on_ok c.move_file.result tt);
+      done = λ keeps. record {
+        arrives = subst (ArrivesOn _ _ c.move_file.result) (sym is) (pair_arrives _ _ _ _ c.as_str-in-Undo.ensures.value c.as_str-in-Undo-2.ensures.value _ _ c.move_file.result (move_cause move.Undo) (move_next move.Undo) (e.arrives keeps));
+        effect = subst (WorksOn _ _ c.move_file.result) (sym is) (pair_works _ _ _ _ c.as_str-in-Undo.ensures.value c.as_str-in-Undo-2.ensures.value _ _ c.move_file.result (move_effect move.Undo) (e.effect keeps));
+        output = subst (ShowsOn _ c.move_file.result _) (sym is) (λ file journal on h good. on_ok c.move_file.result (empty_shows _ _ c.requires.empty));
+        listed = subst (ListsOn _ c.move_file.result _) (sym is) (λ file journal on. on_ok c.move_file.result tt);
+        edited = subst (EditsOn _ _ c.move_file.result _) (sym is) (on_ok c.move_file.result tt);
+        expected = subst (ExpectsOn _ c.move_file.result _) (sym is) (λ file journal on. on_ok c.move_file.result (ap (λ (s : Report). s.is_match) c.requires.empty ∙ none_expected _));
+        still = λ shown. absurd (false≢true (sym (ap prints is) ∙ shown));
+        kept = e.kept keeps;
+        others = subst (OthersOn _ _) (sym is) (pair_others _ _ _ _ c.as_str-in-Undo.ensures.value c.as_str-in-Undo-2.ensures.value _ _ (e.others keeps));
+      };
       unparsed = λ f fault. absurd (none-some f (sym (ap expression_fault is) ∙ fault));
       silent = λ hidden still. ap (λ (s : Report). s.printed) c.requires.empty;
-      expected = λ keeps. subst (ExpectsOn _ c.move_file.result _) (sym is) (λ file journal on. on_ok c.move_file.result (ap (λ (s : Report). s.is_match) c.requires.empty ∙ none_expected _));
       matched = λ reads free. ap (λ (s : Report). s.is_match) c.requires.empty;
-      still = λ keeps shown. absurd (false≢true (sym (ap prints is) ∙ shown));
-      kept = e.kept;
-      others = λ keeps. subst (OthersOn _ _) (sym is) (pair_others _ _ _ _ c.as_str-in-Undo.ensures.value c.as_str-in-Undo-2.ensures.value _ _ (e.others keeps));
       no_output = e.no_output;
       count = e.count;
       calls = subst (λ x. CallsOf g.D.Store.leads c.move_file.result x c.args.store.now c.move_file.new.store) (sym is) (pair_calls g.D.Store.leads _ _ _ _ _ c.as_str-in-Undo.ensures.value c.as_str-in-Undo-2.ensures.value (move_effect move.Undo) _ _ e.calls);
@@ -42,18 +44,20 @@ returns-in-Redo g c =
     let e = c.move_file-in-Redo.ensures in
     let is = c.in-Redo.is in
     record {
-      arrives = λ keeps. subst (ArrivesOn _ _ c.move_file-in-Redo.result) (sym is) (pair_arrives _ _ _ _ c.as_str-in-Redo.ensures.value c.as_str-in-Redo-2.ensures.value _ _ c.move_file-in-Redo.result (move_cause move.Redo) (move_next move.Redo) (e.arrives keeps));
-      effect = λ keeps. subst (WorksOn _ _ c.move_file-in-Redo.result) (sym is) (pair_works _ _ _ _ c.as_str-in-Redo.ensures.value c.as_str-in-Redo-2.ensures.value _ _ c.move_file-in-Redo.result (move_effect move.Redo) (e.effect keeps));
-      output = λ keeps. subst (ShowsOn _ c.move_file-in-Redo.result _) (sym is) (λ file journal on h good. on_ok c.move_file-in-Redo.result (empty_shows _ _ c.requires.empty));
-      listed = λ keeps. subst (ListsOn _ c.move_file-in-Redo.result _) (sym is) (λ file journal on. on_ok c.move_file-in-Redo.result tt);
-      edited = λ keeps. subst (EditsOn _ _ c.move_file-in-Redo.result _) (sym is) (on_ok c.move_file-in-Redo.result tt);
+      done = λ keeps. record {
+        arrives = subst (ArrivesOn _ _ c.move_file-in-Redo.result) (sym is) (pair_arrives _ _ _ _ c.as_str-in-Redo.ensures.value c.as_str-in-Redo-2.ensures.value _ _ c.move_file-in-Redo.result (move_cause move.Redo) (move_next move.Redo) (e.arrives keeps));
+        effect = subst (WorksOn _ _ c.move_file-in-Redo.result) (sym is) (pair_works _ _ _ _ c.as_str-in-Redo.ensures.value c.as_str-in-Redo-2.ensures.value _ _ c.move_file-in-Redo.result (move_effect move.Redo) (e.effect keeps));
+        output = subst (ShowsOn _ c.move_file-in-Redo.result _) (sym is) (λ file journal on h good. on_ok c.move_file-in-Redo.result (empty_shows _ _ c.requires.empty));
+        listed = subst (ListsOn _ c.move_file-in-Redo.result _) (sym is) (λ file journal on. on_ok c.move_file-in-Redo.result tt);
+        edited = subst (EditsOn _ _ c.move_file-in-Redo.result _) (sym is) (on_ok c.move_file-in-Redo.result tt);
+        expected = subst (ExpectsOn _ c.move_file-in-Redo.result _) (sym is) (λ file journal on. on_ok c.move_file-in-Redo.result (ap (λ (s : Report). s.is_match) c.requires.empty ∙ none_expected _));
+        still = λ shown. absurd (false≢true (sym (ap prints is) ∙ shown));
+        kept = e.kept keeps;
+        others = subst (OthersOn _ _) (sym is) (pair_others _ _ _ _ c.as_str-in-Redo.ensures.value c.as_str-in-Redo-2.ensures.value _ _ (e.others keeps));
+      };
       unparsed = λ f fault. absurd (none-some f (sym (ap expression_fault is) ∙ fault));
       silent = λ hidden still. ap (λ (s : Report). s.printed) c.requires.empty;
-      expected = λ keeps. subst (ExpectsOn _ c.move_file-in-Redo.result _) (sym is) (λ file journal on. on_ok c.move_file-in-Redo.result (ap (λ (s : Report). s.is_match) c.requires.empty ∙ none_expected _));
       matched = λ reads free. ap (λ (s : Report). s.is_match) c.requires.empty;
-      still = λ keeps shown. absurd (false≢true (sym (ap prints is) ∙ shown));
-      kept = e.kept;
-      others = λ keeps. subst (OthersOn _ _) (sym is) (pair_others _ _ _ _ c.as_str-in-Redo.ensures.value c.as_str-in-Redo-2.ensures.value _ _ (e.others keeps));
       no_output = e.no_output;
       count = e.count;
       calls = subst (λ x. CallsOf g.D.Store.leads c.move_file-in-Redo.result x c.args.store.now c.move_file-in-Redo.new.store) (sym is) (pair_calls g.D.Store.leads _ _ _ _ _ c.as_str-in-Redo.ensures.value c.as_str-in-Redo-2.ensures.value (move_effect move.Redo) _ _ e.calls);
@@ -64,18 +68,20 @@ returns-in-Squash g c =
     let e = c.squash.ensures in
     let is = c.in-Squash.is in
     record {
-      arrives = λ keeps. subst (ArrivesOn _ _ c.squash.result) (sym is) (pair_arrives _ _ _ _ c.as_str-in-Squash.ensures.value c.as_str-in-Squash-2.ensures.value _ _ c.squash.result (squash_cause c.in-Squash.n) (squash_next c.in-Squash.n) (e.arrives keeps));
-      effect = λ keeps. subst (WorksOn _ _ c.squash.result) (sym is) (pair_works _ _ _ _ c.as_str-in-Squash.ensures.value c.as_str-in-Squash-2.ensures.value _ _ c.squash.result (squash_effect c.in-Squash.n) (e.effect keeps));
-      output = λ keeps. subst (ShowsOn _ c.squash.result _) (sym is) (λ file journal on h good. on_ok c.squash.result (empty_shows _ _ c.requires.empty));
-      listed = λ keeps. subst (ListsOn _ c.squash.result _) (sym is) (λ file journal on. on_ok c.squash.result tt);
-      edited = λ keeps. subst (EditsOn _ _ c.squash.result _) (sym is) (on_ok c.squash.result tt);
+      done = λ keeps. record {
+        arrives = subst (ArrivesOn _ _ c.squash.result) (sym is) (pair_arrives _ _ _ _ c.as_str-in-Squash.ensures.value c.as_str-in-Squash-2.ensures.value _ _ c.squash.result (squash_cause c.in-Squash.n) (squash_next c.in-Squash.n) (e.arrives keeps));
+        effect = subst (WorksOn _ _ c.squash.result) (sym is) (pair_works _ _ _ _ c.as_str-in-Squash.ensures.value c.as_str-in-Squash-2.ensures.value _ _ c.squash.result (squash_effect c.in-Squash.n) (e.effect keeps));
+        output = subst (ShowsOn _ c.squash.result _) (sym is) (λ file journal on h good. on_ok c.squash.result (empty_shows _ _ c.requires.empty));
+        listed = subst (ListsOn _ c.squash.result _) (sym is) (λ file journal on. on_ok c.squash.result tt);
+        edited = subst (EditsOn _ _ c.squash.result _) (sym is) (on_ok c.squash.result tt);
+        expected = subst (ExpectsOn _ c.squash.result _) (sym is) (λ file journal on. on_ok c.squash.result (ap (λ (s : Report). s.is_match) c.requires.empty ∙ none_expected _));
+        still = λ shown. absurd (false≢true (sym (ap prints is) ∙ shown));
+        kept = e.kept keeps;
+        others = subst (OthersOn _ _) (sym is) (pair_others _ _ _ _ c.as_str-in-Squash.ensures.value c.as_str-in-Squash-2.ensures.value _ _ (λ q apart beside. e.others keeps q beside));
+      };
       unparsed = λ f fault. absurd (none-some f (sym (ap expression_fault is) ∙ fault));
       silent = λ hidden still. ap (λ (s : Report). s.printed) c.requires.empty;
-      expected = λ keeps. subst (ExpectsOn _ c.squash.result _) (sym is) (λ file journal on. on_ok c.squash.result (ap (λ (s : Report). s.is_match) c.requires.empty ∙ none_expected _));
       matched = λ reads free. ap (λ (s : Report). s.is_match) c.requires.empty;
-      still = λ keeps shown. absurd (false≢true (sym (ap prints is) ∙ shown));
-      kept = e.kept;
-      others = λ keeps. subst (OthersOn _ _) (sym is) (pair_others _ _ _ _ c.as_str-in-Squash.ensures.value c.as_str-in-Squash-2.ensures.value _ _ (λ q apart beside. e.others keeps q beside));
       no_output = e.no_output;
       count = e.count;
       calls = subst (λ x. CallsOf g.D.Store.leads c.squash.result x c.args.store.now c.squash.new.store) (sym is) (pair_calls g.D.Store.leads _ _ _ _ _ c.as_str-in-Squash.ensures.value c.as_str-in-Squash-2.ensures.value (squash_effect c.in-Squash.n) _ _ e.calls);
@@ -87,20 +93,22 @@ returns-in-History g c =
     let is = c.in-History.is in
     let report = c.listing.new.report in
     record {
-      arrives = λ keeps. subst (ArrivesOn _ _ c.listing.result) (sym is) (pair_arrives _ _ _ _ c.as_str-in-History.ensures.value c.as_str-in-History-2.ensures.value _ _ c.listing.result listing_cause (λ h. h) (λ apart. e.arrives keeps));
-      effect = λ keeps. subst (WorksOn _ _ c.listing.result) (sym is) (pair_works _ _ _ _ c.as_str-in-History.ensures.value c.as_str-in-History-2.ensures.value _ _ c.listing.result (listing_effect c.in-History.diffs) (λ apart. e.effect keeps));
-      output = λ keeps. subst (ShowsOn _ c.listing.result _) (sym is)
-          (listing_shows _ _ _ _ c.as_str-in-History.ensures.value c.as_str-in-History-2.ensures.value _ c.listing.result (report_by report) c.in-History.diffs (e.output keeps));
-      listed = λ keeps. subst (ListsOn _ c.listing.result _) (sym is)
-          (listing_lists _ _ _ _ c.as_str-in-History.ensures.value c.as_str-in-History-2.ensures.value _ c.listing.result (string_bytes report.text) c.in-History.diffs (e.lines keeps));
-      edited = λ keeps. subst (EditsOn _ _ c.listing.result _) (sym is) (on_ok c.listing.result tt);
+      done = λ keeps. record {
+        arrives = subst (ArrivesOn _ _ c.listing.result) (sym is) (pair_arrives _ _ _ _ c.as_str-in-History.ensures.value c.as_str-in-History-2.ensures.value _ _ c.listing.result listing_cause (λ h. h) (λ apart. e.arrives keeps));
+        effect = subst (WorksOn _ _ c.listing.result) (sym is) (pair_works _ _ _ _ c.as_str-in-History.ensures.value c.as_str-in-History-2.ensures.value _ _ c.listing.result (listing_effect c.in-History.diffs) (λ apart. e.effect keeps));
+        output = subst (ShowsOn _ c.listing.result _) (sym is)
+            (listing_shows _ _ _ _ c.as_str-in-History.ensures.value c.as_str-in-History-2.ensures.value _ c.listing.result (report_by report) c.in-History.diffs (e.output keeps));
+        listed = subst (ListsOn _ c.listing.result _) (sym is)
+            (listing_lists _ _ _ _ c.as_str-in-History.ensures.value c.as_str-in-History-2.ensures.value _ c.listing.result (string_bytes report.text) c.in-History.diffs (e.lines keeps));
+        edited = subst (EditsOn _ _ c.listing.result _) (sym is) (on_ok c.listing.result tt);
+        expected = subst (ExpectsOn _ c.listing.result _) (sym is) (λ file journal on. on_ok c.listing.result (e.matched ∙ none_expected _));
+        still = λ shown. e.same keeps;
+        kept = each_error _ c.listing.result (λ x inside. e.same keeps);
+        others = λ q apart. ap (λ m. get m q) (e.same keeps);
+      };
       unparsed = λ f fault. absurd (none-some f (sym (ap expression_fault is) ∙ fault));
       silent = λ hidden still. absurd (true≢false (sym (ap prints is) ∙ hidden));
-      expected = λ keeps. subst (ExpectsOn _ c.listing.result _) (sym is) (λ file journal on. on_ok c.listing.result (e.matched ∙ none_expected _));
       matched = λ reads free. e.matched;
-      still = λ keeps shown. e.same keeps;
-      kept = λ keeps. each_error _ c.listing.result (λ x inside. e.same keeps);
-      others = λ keeps q apart. ap (λ m. get m q) (e.same keeps);
       no_output = e.no_output;
       count = e.count;
       calls = subst (λ x. CallsOf g.D.Store.leads c.listing.result x c.args.store.now c.listing.new.store) (sym is) (pair_calls g.D.Store.leads _ _ _ _ _ c.as_str-in-History.ensures.value c.as_str-in-History-2.ensures.value (listing_effect c.in-History.diffs) _ _ e.calls);
@@ -110,18 +118,20 @@ pub returns-in-Help : goal.returns-in-Help
 returns-in-Help g c =
     let is = c.in-Help.is in
     record {
-      arrives = λ keeps. subst (ArrivesOn _ _ c.help.result) (sym is) (λ file journal apart on. absurd on);
-      effect = λ keeps. subst (WorksOn _ _ c.help.result) (sym is) (λ file journal apart on. absurd on);
-      output = λ keeps. subst (ShowsOn _ c.help.result _) (sym is) (λ file journal on. absurd on);
-      listed = λ keeps. subst (ListsOn _ c.help.result _) (sym is) (λ file journal on. absurd on);
-      edited = λ keeps. subst (EditsOn _ _ c.help.result _) (sym is) (on_ok c.help.result tt);
+      done = λ keeps. record {
+        arrives = subst (ArrivesOn _ _ c.help.result) (sym is) (λ file journal apart on. absurd on);
+        effect = subst (WorksOn _ _ c.help.result) (sym is) (λ file journal apart on. absurd on);
+        output = subst (ShowsOn _ c.help.result _) (sym is) (λ file journal on. absurd on);
+        listed = subst (ListsOn _ c.help.result _) (sym is) (λ file journal on. absurd on);
+        edited = subst (EditsOn _ _ c.help.result _) (sym is) (on_ok c.help.result tt);
+        expected = subst (ExpectsOn _ c.help.result _) (sym is) (λ file journal on. absurd on);
+        still = λ shown. refl;
+        kept = each_error _ c.help.result (λ x inside. refl);
+        others = λ q apart. refl;
+      };
       unparsed = λ f fault. absurd (none-some f (sym (ap expression_fault is) ∙ fault));
       silent = λ hidden still. absurd (true≢false (sym (ap prints is) ∙ hidden));
-      expected = λ keeps. subst (ExpectsOn _ c.help.result _) (sym is) (λ file journal on. absurd on);
       matched = λ reads free. absurd (false≢true (sym (ap reads_journal is) ∙ reads));
-      still = λ keeps shown. refl;
-      kept = λ keeps. each_error _ c.help.result (λ x inside. refl);
-      others = λ keeps q apart. refl;
       no_output = memory_no_output c.help.result c.help.ensures.memory;
       count = memory_counted c.help.result _ c.help.ensures.memory;
       calls = subst (λ x. CallsOf g.D.Store.leads c.help.result x c.args.store.now c.args.store.now) (sym is) refl;
@@ -134,18 +144,20 @@ returns-in-Eval g c =
     let on : a.in_place ≡ false = cc (a.in_place-is, a.in_place-test) in
     let is = a.is ∙ ap (λ (b : Bool). Eval a.expr a.file a.journal b a.options) on in
     record {
-      arrives = λ keeps. subst (ArrivesOn _ _ c.evaluate.result) (sym is) (λ file journal apart. evaluate_arrives _ _ c.as_str-in-Eval.ensures.value _ _ c.as_str-in-Eval-2.ensures.value a.options _ _ c.evaluate.result (e.arrives keeps) file journal);
-      effect = λ keeps. subst (WorksOn _ _ c.evaluate.result) (sym is) (λ file journal apart on. tt);
-      output = λ keeps. subst (ShowsOn _ c.evaluate.result _) (sym is) (evaluate_shows _ _ c.as_str-in-Eval.ensures.value _ _ c.as_str-in-Eval-2.ensures.value a.options _ c.evaluate.result _ (e.output keeps));
-      listed = λ keeps. subst (ListsOn _ c.evaluate.result _) (sym is) (λ file journal on. on_ok c.evaluate.result tt);
-      edited = λ keeps. subst (EditsOn _ _ c.evaluate.result _) (sym is) (evaluate_edits _ _ c.as_str-in-Eval.ensures.value _ _ c.as_str-in-Eval-2.ensures.value a.options _ c.evaluate.result a.options.diff _ (e.edited keeps));
+      done = λ keeps. record {
+        arrives = subst (ArrivesOn _ _ c.evaluate.result) (sym is) (λ file journal apart. evaluate_arrives _ _ c.as_str-in-Eval.ensures.value _ _ c.as_str-in-Eval-2.ensures.value a.options _ _ c.evaluate.result (e.done keeps).arrives file journal);
+        effect = subst (WorksOn _ _ c.evaluate.result) (sym is) (λ file journal apart on. tt);
+        output = subst (ShowsOn _ c.evaluate.result _) (sym is) (evaluate_shows _ _ c.as_str-in-Eval.ensures.value _ _ c.as_str-in-Eval-2.ensures.value a.options _ c.evaluate.result _ (e.done keeps).output);
+        listed = subst (ListsOn _ c.evaluate.result _) (sym is) (λ file journal on. on_ok c.evaluate.result tt);
+        edited = subst (EditsOn _ _ c.evaluate.result _) (sym is) (evaluate_edits _ _ c.as_str-in-Eval.ensures.value _ _ c.as_str-in-Eval-2.ensures.value a.options _ c.evaluate.result a.options.diff _ (e.edited keeps));
+        expected = subst (ExpectsOn _ c.evaluate.result _) (sym is) (λ file journal on. tt);
+        still = λ shown. (e.done keeps).same;
+        kept = each_error _ c.evaluate.result (λ x inside. (e.done keeps).same);
+        others = λ q apart. ap (λ m. get m q) (e.done keeps).same;
+      };
       unparsed = λ f fault. e.unparsed f (ap (λ y. fault_of (program_in y)) c.as_str-in-Eval-2.ensures.value ∙ sym (ap expression_fault is) ∙ fault);
       silent = λ hidden still. absurd (true≢false (sym (ap prints is) ∙ hidden));
-      expected = λ keeps. subst (ExpectsOn _ c.evaluate.result _) (sym is) (λ file journal on. tt);
       matched = λ reads free. absurd (false≢true (sym (ap reads_journal is) ∙ reads));
-      still = λ keeps shown. e.same keeps;
-      kept = λ keeps. each_error _ c.evaluate.result (λ x inside. e.same keeps);
-      others = λ keeps q apart. ap (λ m. get m q) (e.same keeps);
       no_output = e.no_output;
       count = e.count;
       calls = subst (λ x. CallsOf g.D.Store.leads c.evaluate.result x c.args.store.now c.evaluate.new.store) (sym is) (evaluation_calls g.D.Store.leads _ _ _ _ _ c.as_str-in-Eval.ensures.value c.as_str-in-Eval-2.ensures.value _ _ e.calls);
@@ -158,21 +170,23 @@ returns-in-Eval-default-default-default-true-default g c =
     let on : a.in_place ≡ true = cc (a.in_place-is, a.in_place-test) in
     let is = a.is ∙ ap (λ (b : Bool). Eval a.expr a.file a.journal b a.options) on in
     record {
-      arrives = λ keeps. subst (ArrivesOn _ _ c.update.result) (sym is) (update_arrives _ _ _ _ c.as_str.ensures.value c.as_str-in-Eval-default-default-default-true-default.ensures.value _ _ c.update.result _ _ c.as_str-in-Eval-default-default-default-true-default-2.ensures.value (e.arrives keeps));
-      effect = λ keeps. subst (WorksOn _ _ c.update.result) (sym is) (update_works _ _ _ _ c.as_str.ensures.value c.as_str-in-Eval-default-default-default-true-default.ensures.value _ _ c.update.result _ _ c.as_str-in-Eval-default-default-default-true-default-2.ensures.value (e.effect keeps));
-      output = λ keeps. subst (ShowsOn _ c.update.result _) (sym is)
-          (update_shows _ _ _ _ c.as_str.ensures.value c.as_str-in-Eval-default-default-default-true-default.ensures.value _ c.update.result (report_by c.update.new.report) a.options _ _ c.as_str-in-Eval-default-default-default-true-default-2.ensures.value (e.output keeps));
-      listed = λ keeps. subst (ListsOn _ c.update.result _) (sym is)
-          (update_lists _ _ _ _ c.as_str.ensures.value c.as_str-in-Eval-default-default-default-true-default.ensures.value _ c.update.result _ a.options.diff _ _ c.as_str-in-Eval-default-default-default-true-default-2.ensures.value (e.listed keeps));
-      edited = λ keeps. subst (EditsOn _ _ c.update.result _) (sym is) (update_edits _ _ _ _ c.as_str.ensures.value c.as_str-in-Eval-default-default-default-true-default.ensures.value _ _ c.update.result a.options.diff _ _ _ c.as_str-in-Eval-default-default-default-true-default-2.ensures.value (e.edited keeps));
+      done = λ keeps. record {
+        arrives = subst (ArrivesOn _ _ c.update.result) (sym is) (update_arrives _ _ _ _ c.as_str.ensures.value c.as_str-in-Eval-default-default-default-true-default.ensures.value _ _ c.update.result _ _ c.as_str-in-Eval-default-default-default-true-default-2.ensures.value (e.done keeps).arrives);
+        effect = subst (WorksOn _ _ c.update.result) (sym is) (update_works _ _ _ _ c.as_str.ensures.value c.as_str-in-Eval-default-default-default-true-default.ensures.value _ _ c.update.result _ _ c.as_str-in-Eval-default-default-default-true-default-2.ensures.value (e.done keeps).effect);
+        output = subst (ShowsOn _ c.update.result _) (sym is)
+            (update_shows _ _ _ _ c.as_str.ensures.value c.as_str-in-Eval-default-default-default-true-default.ensures.value _ c.update.result (report_by c.update.new.report) a.options _ _ c.as_str-in-Eval-default-default-default-true-default-2.ensures.value (e.done keeps).output);
+        listed = subst (ListsOn _ c.update.result _) (sym is)
+            (update_lists _ _ _ _ c.as_str.ensures.value c.as_str-in-Eval-default-default-default-true-default.ensures.value _ c.update.result _ a.options.diff _ _ c.as_str-in-Eval-default-default-default-true-default-2.ensures.value (e.done keeps).listed);
+        edited = subst (EditsOn _ _ c.update.result _) (sym is) (update_edits _ _ _ _ c.as_str.ensures.value c.as_str-in-Eval-default-default-default-true-default.ensures.value _ _ c.update.result a.options.diff _ _ _ c.as_str-in-Eval-default-default-default-true-default-2.ensures.value (e.done keeps).edited);
+        expected = subst (ExpectsOn _ c.update.result _) (sym is)
+            (update_expects _ _ _ _ c.as_str.ensures.value c.as_str-in-Eval-default-default-default-true-default.ensures.value _ c.update.result _ a.options.expect_change _ _ c.as_str-in-Eval-default-default-default-true-default-2.ensures.value (e.done keeps).expected);
+        still = λ shown. absurd (false≢true (sym (ap prints is) ∙ shown));
+        kept = (e.done keeps).kept;
+        others = subst (OthersOn _ _) (sym is) (pair_others _ _ _ _ c.as_str.ensures.value c.as_str-in-Eval-default-default-default-true-default.ensures.value _ _ (e.done keeps).others);
+      };
       unparsed = λ f fault. e.unparsed f (ap (λ y. fault_of (program_in y)) c.as_str-in-Eval-default-default-default-true-default-2.ensures.value ∙ sym (ap expression_fault is) ∙ fault);
       silent = λ hidden still. e.silent (sym (ap prints_change is) ∙ still);
-      expected = λ keeps. subst (ExpectsOn _ c.update.result _) (sym is)
-          (update_expects _ _ _ _ c.as_str.ensures.value c.as_str-in-Eval-default-default-default-true-default.ensures.value _ c.update.result _ a.options.expect_change _ _ c.as_str-in-Eval-default-default-default-true-default-2.ensures.value (e.expected keeps));
       matched = λ reads free. e.unasked (sym (ap expects_change is) ∙ free) (ap (λ (s : Report). s.is_match) c.requires.empty);
-      still = λ keeps shown. absurd (false≢true (sym (ap prints is) ∙ shown));
-      kept = e.kept;
-      others = λ keeps. subst (OthersOn _ _) (sym is) (pair_others _ _ _ _ c.as_str.ensures.value c.as_str-in-Eval-default-default-default-true-default.ensures.value _ _ (e.others keeps));
       no_output = e.no_output;
       count = e.count;
       calls = subst (λ x. CallsOf g.D.Store.leads c.update.result x c.args.store.now c.update.new.store) (sym is) (update_calls g.D.Store.leads _ _ _ _ _ c.as_str.ensures.value c.as_str-in-Eval-default-default-default-true-default.ensures.value _ _ c.as_str-in-Eval-default-default-default-true-default-2.ensures.value _ _ e.calls);

@@ -14,7 +14,7 @@ pub commands-init : goal.commands-init
 commands-init g c = record {
   count = search rules;
   room = search rules;
-  run = λ keeps. ([], search rules, (λ observable same below. sym (append-nil (g.W.Out.taken c.args.out.now))), search rules);
+  run = λ keeps. ([], search rules, (λ none observable. sym (append-nil (g.W.Out.taken c.args.out.now))), search rules);
   others = search rules;
   calls = search rules;
   sum = λ small. no_answers reports_failure c.in_ok-answers.answers.items (g.D.Store.failures c.args.store.now) (search rules) small;
@@ -47,28 +47,20 @@ commands-preserved g c =
           let now = before.run keeps in (
             now.0 ++ reply answer report.printed ∷ [],
             answers_more now.0 c.commands.answers.items answer report.printed now.1 ∙ sym pushed,
-            (λ observable same below. taken_more done answer report now.0 (g.W.Out.taken c.args.out.now) (g.W.Out.taken c.commands.out) _ (output_failures_in c.commands.answers.items) (failures c.args.out.now) (failures c.commands.out) _ answered
-                before.out_sum put same below (now.2 observable) (c.answer_of-answer.ensures.taken observable)),
+            (λ none observable. taken_more done answer report now.0 (g.W.Out.taken c.args.out.now) (g.W.Out.taken c.commands.out) _ (output_failures_in c.commands.answers.items) (failures c.args.out.now) (failures c.commands.out) _ answered
+                before.out_sum put none.stays none.below (λ stays below. now.2 (record { stays = stays; below = below }) observable) (c.answer_of-answer.ensures.taken observable)),
             subst (λ cs. Keeps (content c.args.store.now) cs (now.0 ++ reply answer report.printed ∷ []) (content c.execute-done.new.store)) (sym more)
                 (keeps_more (content c.args.store.now) (content c.commands.store) (content c.execute-done.new.store) _ now.0 cmd (reply answer report.printed) now.3
                 (left_by (content c.commands.store) (content c.execute-done.new.store) cmd done answer report (record {
                   answered = answered;
-                  arrives = λ file journal apart on. ran.arrives keeps file journal apart on;
-                  output = λ file journal on. ran.output keeps file journal on;
-                  effect = λ file journal apart on. ran.effect keeps file journal apart on;
-                  listed = λ file journal on. ran.listed keeps file journal on;
+                  done = ran.done keeps;
                   silent = ran.silent;
-                  expected = λ file journal on. ran.expected keeps file journal on;
-                  still = ran.still keeps;
-                  kept = ran.kept keeps;
-                  others = ran.others keeps;
                   no_output = ran.no_output;
-                  edited = ran.edited keeps;
                   unparsed = ran.unparsed;
                 }))),
           );
       others = λ keeps q not_named.
-          c.execute-done.ensures.others keeps q (subst (IsNotNamed q) (sym c.command-item.is) (not_named c.commands.command-index cmd within)) ∙ before.others keeps q not_named;
+          (ran.done keeps).others q (subst (IsNotNamed q) (sym c.command-item.is) (not_named c.commands.command-index cmd within)) ∙ before.others keeps q not_named;
       calls = subst (λ rs. CallsOfAll g.D.Store.leads (take (c.commands.command-index + 1) c.args.commands.now) rs c.args.store.now c.execute-done.new.store) (sym pushed)
           (subst (λ cs. CallsOfAll g.D.Store.leads cs (c.commands.answers.items ++ answer ∷ []) c.args.store.now c.execute-done.new.store) (sym more)
           (calls_more g.D.Store.leads (take c.commands.command-index c.args.commands.now) c.commands.answers.items cmd done answer report c.args.store.now c.commands.store c.execute-done.new.store before.calls answered ran.calls));
@@ -83,7 +75,15 @@ returns-clause-run g c = λ keeps.
     let now = c.commands.invariant.run keeps in
     let all : take c.commands.command-index c.args.commands.now ≡ c.args.commands.now = grind (arith, common_steps) in
     let kept = subst (λ cs. Keeps (g.D.Store.content c.args.store.now) cs now.0 (g.D.Store.content c.commands.store)) all now.3 in
-    (now.0, now.1, now.2, kept, (λ file journal apart fit h good. run_of file journal apart c.args.commands.now now.0 _ _ h kept fit good))
+    record {
+      replies = now.0;
+      answered = now.1;
+      printed = now.2;
+      kept = kept;
+      histories = λ file journal h start.
+          let run = run_of file journal start.two_names c.args.commands.now now.0 _ _ h kept start.on_or_apart start.good in
+          record { after = run.0; leads = run.1; good = run.2 };
+    }
 
 pub returns-clause-calls : goal.returns-clause-calls
 returns-clause-calls g c =
@@ -91,19 +91,21 @@ returns-clause-calls g c =
     subst (λ cs. CallsOfAll g.D.Store.leads cs c.commands.answers.items c.args.store.now c.commands.store) all c.commands.invariant.calls
 
 pub returns-clause-exact : goal.returns-clause-exact
-returns-clause-exact g c = λ keeps same below no_output under memory.
-    let sum = c.commands.invariant.sum (omega (arith, same, below)) in
-    let out_sum = c.commands.invariant.out_sum (omega (arith, no_output, under)) in
-    let none : failures_in c.commands.answers.items ≡ 0 = omega (arith, sum, same, below) in
-    let none_out : output_failures_in c.commands.answers.items ≡ 0 = omega (arith, out_sum, no_output, under) in
+returns-clause-exact g c = λ keeps none none_out memory.
+    let sum = c.commands.invariant.sum (omega (arith, none.stays, none.below)) in
+    let out_sum = c.commands.invariant.out_sum (omega (arith, none_out.stays, none_out.below)) in
+    let no_failure : failures_in c.commands.answers.items ≡ 0 = omega (arith, sum, none.stays, none.below) in
+    let no_output : output_failures_in c.commands.answers.items ≡ 0 = omega (arith, out_sum, none_out.stays, none_out.below) in
     let now = c.commands.invariant.run keeps in
-    let inside = subst (λ rs. list_all is_inside rs ≡ true) (sym now.1) (all_inside c.commands.answers.items none none_out memory) in
+    let inside = subst (λ rs. list_all is_inside rs ≡ true) (sym now.1) (all_inside c.commands.answers.items no_failure no_output memory) in
     let all : take c.commands.command-index c.args.commands.now ≡ c.args.commands.now = grind (arith, common_steps) in
-    let kept = subst (λ cs. Keeps (g.D.Store.content c.args.store.now) cs now.0 (g.D.Store.content c.commands.store)) all now.3 in (
-      now.0,
-      now.1,
-      (λ observable. now.2 observable no_output under),
-      (λ file journal apart fit h good.
-          let done = run_of file journal apart c.args.commands.now now.0 _ _ h kept fit good in
-          (done.0, exact_run file journal c.args.commands.now now.0 h done.0 done.1 inside, done.2)),
-    )
+    let kept = subst (λ cs. Keeps (g.D.Store.content c.args.store.now) cs now.0 (g.D.Store.content c.commands.store)) all now.3 in
+    record {
+      replies = now.0;
+      answered = now.1;
+      printed = now.2 none_out;
+      kept = kept;
+      histories = λ file journal h start.
+          let run = run_of file journal start.two_names c.args.commands.now now.0 _ _ h kept start.on_or_apart start.good in
+          record { after = run.0; leads = exact_run file journal c.args.commands.now now.0 h run.0 run.1 inside; good = run.2 };
+    }

@@ -1,6 +1,6 @@
-use Rattle.std.proofs.Common.{◌≡◌, ◌+◌, ◌-◌, ◌^◌, ◌<◌, ◌≤◌, ℕ, List, ◌++◌, IsTrue, take, length, min, vec_len, vec_capacity, All}
+use Rattle.std.proofs.Common.{◌≡◌, ◌+◌, ◌-◌, ◌^◌, ◌<◌, ◌≤◌, ℕ, List, IsTrue, take, length, min, vec_len, vec_capacity, All}
 use Rattle.std.specs.FinMap.{get}
-use Rattle.yq_commands.{specs.Calls.CallsOfAll, specs.CommandNames.IsNotNamed}
+use Rattle.yq_commands.{specs.Calls.CallsOfAll, specs.CommandNames.IsNotNamed, specs.ListRuns.HasTakenUnlessFailed}
 use Rattle.yq_commands.specs.Lists.{Keeps, Reply, answers_in, printed_in, failures_in, output_failures_in}
 use Rattle.yq_run.proofs.run.run_list.Given as goal
 
@@ -11,7 +11,7 @@ invariant-commands g l =
       count : vec_len l.answers ≡ l.command-index;
       room : length l.commands ≤ vec_capacity l.answers;
       run : IsTrue g.D.Store.keeps → (replies : List Reply) × (answers_in replies ≡ l.answers.items)
-          × (IsTrue g.W.Out.observable → g.W.Out.failures l.out ≡ g.W.Out.failures l.fn.out → g.W.Out.failures l.out < 2 ^ 64 - 1 → g.W.Out.taken l.out ≡ g.W.Out.taken l.fn.out ++ printed_in replies)
+          × HasTakenUnlessFailed g.W.Out.failures g.W.Out.observable g.W.Out.taken l.fn.out l.out (printed_in replies)
           × Keeps (content l.fn.store) (take l.command-index l.commands) replies (content l.store);
       others : IsTrue g.D.Store.keeps → (q : List ℕ) → All (IsNotNamed q) l.commands → get (content l.store) q ≡ get (content l.fn.store) q;
       calls : CallsOfAll g.D.Store.leads (take l.command-index l.commands) l.answers.items l.fn.store l.store;

@@ -1,0 +1,139 @@
+-- What a command does over a store that keeps what it was given, by what the store's names held before it (old) and hold after it (new) (own).
+use Rattle.std.{specs.Prelude.{◌≡◌, ◌≢◌, ℕ, Bool, true, false, List, [], Option, Some, Result, Ok, OnOk, IfErr}, specs.FinMap.get}
+use Rattle.yq_journal.{specs.History.History, specs.State.State}
+use Rattle.yq_semantics.specs.Program.{Program}
+use Rattle.yq_args.{specs.declared.command.Command.Command, specs.declared.eval_options.EvalOptions.EvalOptions}
+use Rattle.yq_store.specs.FileMap.{FileMap}
+use Rattle.yq_history.{specs.declared.fault.Fault.Fault, specs.Causes.Cause, specs.Effects.{Effect, Works}, specs.Faults.is_outer_fault}
+use Rattle.yq_history.{specs.Output.{IsOutput, Showing, Shows}, specs.Pair.{Arrives, GoodIn, OthersStay, PairAtRest}, specs.Report.Report}
+use Rattle.yq_commands.specs.CommandEffects.{IsListing, OfEffect, edit_effect, output_by, update_effect}
+use Rattle.yq_commands.{specs.CommandNames.{IsNotNamed, IsOn, file_of}, specs.CommandSteps.{cause_of, next_of, update_cause, update_next}}
+use Rattle.yq_commands.{specs.Editing.{program_edits, program_in}, specs.Evaluation.{cause_in, report_in}}
+use Rattle.yq_commands.specs.Expecting.{ReportsExpected, expects_change, report_edit, showing_change, works_as_expected}
+use Rattle.yq_commands.specs.FileEdits.{HasEdited, HoldsEdited, IsFileEdited, PrintsChange}
+use Rattle.yq_commands.specs.Prints.{prints, prints_change, reads_journal, report_of}
+
+-- ---- what calls on a file and its journal share
+
+-- from each history for which the two are good, a call arrives at the next one, or is refused for its cause
+abbrev pub ArrivesBy : (Option History → Option Cause) → (Option History → Option History) → List ℕ → List ℕ → FileMap → FileMap → {T : Type 0} → Result T Fault → Type 0
+ArrivesBy cause next file journal old new r = (h : Option History) → GoodIn old file journal h → Arrives new file journal (cause h) h (next h) r
+
+-- a call that is carried out shows what is due by such a history
+abbrev pub ShowsBy : (Option History → Showing) → List ℕ → List ℕ → FileMap → {T : Type 0} → Result T Fault → Report → Type 0
+ShowsBy due file journal old r s = (h : Option History) → GoodIn old file journal h → OnOk r (Shows file (due h) s)
+
+-- a refusal in which no call of the store failed and no memory was refused leaves what all names hold
+abbrev pub LeavesRefused : FileMap → FileMap → {T : Type 0} → Result T Fault → Type 0
+LeavesRefused old new r = IfErr r (λ e. is_outer_fault e ≡ false → new ≡ old)
+
+-- ---- a command
+
+-- a command arrives so on the file and the journal that it works on
+abbrev pub ArrivesOn : {T : Type 0} → FileMap → FileMap → Result T Fault → Command → Type 0
+ArrivesOn old new r c =
+    (file journal : List ℕ) → file ≢ journal → IsOn file journal c → ArrivesBy (cause_of c) (next_of c) file journal old new r
+
+-- its effect on what the two hold comes about, be they good for a history or not
+abbrev pub WorksOn : {T : Type 0} → FileMap → FileMap → Result T Fault → Command → Type 0
+WorksOn old new r c =
+    (file journal : List ℕ) → file ≢ journal → IsOn file journal c →
+    OfEffect c (get old file) (get old journal) (λ x. Works x file journal old new r)
+
+-- it shows what is due by a history for which they are good
+abbrev pub ShowsOn : {T : Type 0} → FileMap → Result T Fault → Report → Command → Type 0
+ShowsOn old r s c = (file journal : List ℕ) → IsOn file journal c →
+    (h : Option History) → GoodIn old file journal h → OnOk r (Shows (file_of c) (report_of c h) s)
+
+-- it prints what `history`, or an edit in place with `--diff`, prints by what they hold
+abbrev pub ListsOn : {T : Type 0} → FileMap → Result T Fault → List ℕ → Command → Type 0
+ListsOn old r printed c = (file journal : List ℕ) → IsOn file journal c → OnOk r (IsListing c (get old file) (get old journal) printed)
+
+-- accepted, it has edited the text of its file, or printed the edited text
+abbrev pub EditsOn : {T : Type 0} → FileMap → FileMap → Result T Fault → List ℕ → Command → Type 0
+EditsOn old new r printed c = OnOk r (HasEdited c old new printed)
+
+-- it says that nothing matched exactly where it is to change a byte and changes none
+abbrev pub ExpectsOn : {T : Type 0} → FileMap → Result T Fault → Bool → Command → Type 0
+ExpectsOn old r is_match c = (file journal : List ℕ) → IsOn file journal c → ReportsExpected r is_match c old file journal
+
+-- it leaves what names hold that it doesn't name
+abbrev pub OthersOn : FileMap → FileMap → Command → Type 0
+OthersOn old new c = (q : List ℕ) → IsNotNamed q c → get new q ≡ get old q
+
+-- a command that prints nothing, nor what it changes, shows no bytes
+abbrev pub IsSilent : Command → Report → Type 0
+IsSilent c s = prints c ≡ false → prints_change c ≡ false → s.printed ≡ []
+
+-- a command that reads a journal says that something matched, where it isn't to change a byte
+abbrev pub MatchesUnasked : Command → Report → Type 0
+MatchesUnasked c s = reads_journal c ≡ true → expects_change c ≡ false → s.is_match ≡ true
+
+-- What a command does, and what it shows where it is carried out.
+pub record CarriesOut (c : Command) (old new : FileMap) {T : Type 0} (r : Result T Fault) (s : Report) : Type 0 where
+  pub arrives : ArrivesOn old new r c
+  pub effect : WorksOn old new r c
+  pub output : ShowsOn old r s c
+  pub listed : ListsOn old r s.printed c
+  pub edited : EditsOn old new r s.printed c
+  pub expected : ExpectsOn old r s.is_match c
+  pub still : prints c ≡ true → new ≡ old
+  pub kept : LeavesRefused old new r
+  pub others : OthersOn old new c
+
+-- ---- an edit in place
+
+-- what it does to a file and its journal by what both hold
+abbrev pub update_on : List ℕ → FileMap → List ℕ → List ℕ → Effect
+update_on expr held file journal = update_effect expr (program_in expr) (get held file) (get held journal)
+
+-- What an edit in place does, and what it shows where it is carried out.
+pub record EditsInPlace (expr : List ℕ) (options : EvalOptions) (file journal : List ℕ) (old new : FileMap) {T : Type 0} (r : Result T Fault) (s : Report) : Type 0 where
+  pub arrives : file ≢ journal → ArrivesBy (update_cause (program_in expr)) (update_next expr (program_in expr)) file journal old new r
+  pub effect : file ≢ journal → Works (update_on expr old file journal) file journal old new r
+  pub edited : file ≢ journal →
+      OnOk r (IsFileEdited expr (get old file) (get new file) × PrintsChange options.diff file (get old file) (get new file) s.printed)
+  pub output : ShowsBy (report_edit options (program_in expr)) file journal old r s
+  pub listed : file ≢ journal → OnOk r (IsOutput file (output_by options.diff (get old file) (update_on expr old file journal)) s.printed)
+  pub expected : OnOk r (s.is_match ≡ works_as_expected options.expect_change (update_on expr old file journal))
+  pub kept : LeavesRefused old new r
+  pub others : OthersStay old new file journal
+
+-- what an edit of a text by a program does
+abbrev pub program_effect : List ℕ → Program → List ℕ → State → Effect
+program_effect expr p text s = edit_effect expr (program_edits p text) text s
+
+-- what it shows
+abbrev pub showing_edit : EvalOptions → Program → List ℕ → Showing
+showing_edit options p text = showing_change options text (program_edits p text)
+
+-- What an edit of a text by a program does, from a journal that is settled next to that text.
+pub record EditsFrom (p : Program) (expr file journal : List ℕ) (s : State) (text : List ℕ) (old new : FileMap) {T : Type 0} (r : Result T Fault) : Type 0 where
+  pub arrives : (h : History) → PairAtRest old file journal s text h →
+      Arrives new file journal (update_cause (Ok p) (Some h)) (Some h) (update_next expr (Ok p) (Some h)) r
+  pub effect : Works (program_effect expr p text s) file journal old new r
+
+-- What it leaves in the file and prints, where it is carried out on the text that the file held.
+pub record LeavesEdited (p : Program) (file text : List ℕ) (diffs : Bool) (new : FileMap) (s : Report) : Type 0 where
+  pub edited : HoldsEdited p text (get new file)
+  pub printed : PrintsChange diffs file (Some text) (get new file) s.printed
+
+-- What an edit of a file and its journal does, from what was read of both, and what it shows where it is carried out.
+pub record EditsOpened (p : Program) (expr : List ℕ) (diffs : Bool) (file journal : List ℕ) (s : State) (text : List ℕ) (old new : FileMap)
+    {T : Type 0} (r : Result T Fault) (report : Report) : Type 0 where
+  pub edit : file ≢ journal → EditsFrom p expr file journal s text old new r
+  pub held : file ≢ journal → get old file ≡ Some text → OnOk r (LeavesEdited p file text diffs new report)
+  pub kept : LeavesRefused old new r
+  pub others : OthersStay old new file journal
+
+-- what matched before still does after an edit that isn't asked to change a byte
+abbrev pub MatchesStill : EvalOptions → Report → Report → Type 0
+MatchesStill options old new = options.expect_change ≡ false → old.is_match ≡ true → new.is_match ≡ true
+
+-- ---- an expression that isn't carried out in place
+
+-- What it does and shows of a file, by what is due of that by its history. Every name holds what it held.
+pub record Evaluates (due : Option History → Result Showing Cause) (file : List ℕ) (old new : FileMap) {T : Type 0} (r : Result T Fault) (s : Report) : Type 0 where
+  pub arrives : (journal : List ℕ) → ArrivesBy (λ h. cause_in (due h)) (λ h. h) file journal old new r
+  pub output : (journal : List ℕ) → ShowsBy (λ h. report_in (due h)) file journal old r s
+  pub same : new ≡ old
