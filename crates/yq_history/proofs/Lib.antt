@@ -12,3 +12,4 @@ pub mod DiffPrintLaws
 pub mod LineCuts
 pub mod UnifiedLaws
 pub mod ListedLaws
+pub mod VisibleLaws

@@ -1,19 +1,13 @@
 -- What is printed of a journal is what is printed of its history.
 use Rattle.std.proofs.Common.{◌≡◌, ℕ, Bool, true, false, suc, ◌+◌, List, [], ◌∷◌, ◌++◌, map, nat_lt, slice_get, take, Option, Some, None}
-use Rattle.std.{proofs.Common.{Result, Ok, Err, IfOk, String, Vec, sym, ap, ap₂, ◌∙◌, refl, arith, append_assoc}, specs.Prelude.decimal}
-use Rattle.std.{specs.String.string_bytes, specs.declared.alloc.Global.Global, proofs.lemmas.List.append-nil}
+use Rattle.std.{proofs.Common.{Ok, Vec, sym, ap, ap₂, ◌∙◌, refl, arith, append_assoc}, specs.declared.alloc.Global.Global}
+use Rattle.std.proofs.lemmas.List.{append-nil}
 use Prim.Native.Nat.{zero}
 use Rattle.yq_journal.{specs.Good.{Leads, AtRest}, specs.History.{History, Revision}, specs.Record.Record, specs.State.State}
 use Rattle.yq_store.specs.FileMap.{FileMap}
 use Rattle.yq_history.{specs.Pair.Opens, specs.Listing.{edit_line, listing_after, history_lines}}
 use Rattle.yq_history.{specs.Output.{listing_output, record_output}, proofs.ListedLaws.history_texts}
 use Rattle.yq_history.specs.Output as output
-
--- a line by other names of its texts
-pub line_is : {E : Type 0} (r : Result (String Global) E) (n : ℕ) (state expr word text : List ℕ) →
-    state ≡ word → expr ≡ text → IfOk r (λ s. string_bytes s ≡ ((decimal n ++ state) ++ expr) ++ 10 ∷ []) → IfOk r (λ s. string_bytes s ≡ decimal n ++ word ++ text ++ 10 ∷ [])
-line_is (Ok s) n state expr word text p q is = is ∙ ap₂ (λ x y. ((decimal n ++ x) ++ y) ++ 10 ∷ []) p q
-line_is (Err e) n state expr word text p q is = tt
 
 -- the lines after n, of one record more
 lines_more_at : (n done m : ℕ) (rs : List Record) (i : ℕ) (r : Record) → m ≡ n + i → slice_get rs i ≡ Some r →

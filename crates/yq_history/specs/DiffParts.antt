@@ -1,5 +1,5 @@
 -- Two texts as parts of whole lines, and the hunks that these make (own).
-use Rattle.std.specs.Prelude.{◌≡◌, ℕ, ◌+◌, List, [], ◌∷◌, ◌++◌, length, map, flat_map}
+use Rattle.std.specs.Prelude.{◌≡◌, ℕ, ◌+◌, List, [], ◌∷◌, ◌++◌, length, map, flat_map, OnOk, Result}
 use Rattle.yq_core.specs.Text.{text_lines}
 use Rattle.yq_history.{specs.Hunks.{LineChange, unchanged, deleted, added, old_side, new_side, Hunk}, specs.declared.diff.part.Part.Part}
 use Rattle.yq_history.specs.declared.diff.part.Part.TheVariants as part
@@ -25,6 +25,18 @@ old_parts ps = flat_map old_part ps
 -- the lines of parts that are in the new text
 abbrev pub new_parts : List Part → List (List ℕ)
 new_parts ps = flat_map new_part ps
+
+-- a success adds these lines of the old text to parts
+abbrev pub AddsOldLines : {T E : Type 0} → Result T E → List Part → List Part → List (List ℕ) → Type 0
+AddsOldLines r before after lines = OnOk r (old_parts after ≡ old_parts before ++ lines)
+
+-- a success adds these lines of the new text to parts
+abbrev pub AddsNewLines : {T E : Type 0} → Result T E → List Part → List Part → List (List ℕ) → Type 0
+AddsNewLines r before after lines = OnOk r (new_parts after ≡ new_parts before ++ lines)
+
+-- the lines of a text are those of three texts, one after another
+abbrev pub CutsInto : List ℕ → List ℕ → List ℕ → List ℕ → Type 0
+CutsInto text kept changed rest = text_lines text ≡ text_lines kept ++ (text_lines changed ++ text_lines rest)
 
 -- Parts are those of two texts, in order.
 pub record ArePartsOf (ps : List Part) (old new : List ℕ) : Type 0 where

@@ -21,6 +21,10 @@ open_of h = record { old_before = h.old_before; new_before = h.new_before; old_a
 abbrev pub opened : ℕ → ℕ → Open
 opened m n = record { old_before = m; new_before = n; old_at = m; new_at = n; body = [] }
 
+-- the line above the lines of a hunk
+abbrev pub ranges_line : Open → List ℕ
+ranges_line o = print_ranges o.old_before (o.old_at - o.old_before) o.new_before (o.new_at - o.new_before)
+
 -- bytes after the line above them, if there are any
 abbrev pub with_ranges : ℕ → ℕ → ℕ → ℕ → List ℕ → List ℕ
 with_ranges m k n l [] = []

@@ -1,3 +1,4 @@
+pub mod Adding
 pub mod Causes
 pub mod DiffParts
 pub mod DiffPrinting
@@ -6,6 +7,7 @@ pub mod Faults
 pub mod Hunks
 pub mod ListedDiffs
 pub mod ListedView
+pub mod Leaves
 pub mod Listing
 pub mod Output
 pub mod Pair

@@ -49,6 +49,11 @@ texts_on (r ∷ rs) o = option_and_then (done r) o ∷ texts_on rs (option_and_t
 abbrev pub texts_around : State → List ℕ → List (Option (List ℕ))
 texts_around s t = texts_back (take s.at s.records) t ++ texts_on (drop s.at s.records) (Some t)
 
+-- the lines of the done edits of a journal next to this text, each with what comes after it
+abbrev pub AreDoneLines : List ℕ → State → List ℕ → List ℕ → Type 0
+AreDoneLines file s t printed =
+    AreDiffLines file 0 s.at (map (λ (r : Record). r.expr) (take s.at s.records)) (texts_back (take s.at s.records) t) printed
+
 -- the texts of a history
 abbrev pub texts_of : History → List (Option (List ℕ))
 texts_of h = Some h.first ∷ map (λ (e : Revision). Some e.text) h.later

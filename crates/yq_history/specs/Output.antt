@@ -1,5 +1,6 @@
 -- What a command prints, as a description and as bytes (own).
-use Rattle.std.specs.Prelude.{◌≡◌, ℕ, Bool, true, false, List, [], map, string_bytes, Option, Some, None}
+use Rattle.std.specs.Prelude.{◌≡◌, ℕ, Bool, true, false, List, [], map, string_bytes, String, Option, Some, None}
+use Rattle.std.specs.declared.alloc.Global.{Global}
 use Rattle.yq_journal.{specs.History.{History, Revision}, specs.Record.Record, specs.State.State}
 use Rattle.yq_history.{specs.ListedDiffs.{AreDiffLines, texts_around, texts_of}, specs.Listing.{record_lines, history_lines}}
 use Rattle.yq_history.{specs.Report.Report, specs.Unified.IsPrintedDiff}
@@ -17,6 +18,10 @@ abbrev pub IsOutput : List ℕ → Output → List ℕ → Type 0
 IsOutput file (bytes b) printed = printed ≡ b
 IsOutput file (diff old new) printed = IsPrintedDiff file old new printed
 IsOutput file (listed done exprs texts) printed = AreDiffLines file 0 done exprs texts printed
+
+-- a text that was printed for a file is such an output
+abbrev pub IsOutputText : List ℕ → Output → String Global → Type 0
+IsOutputText file o s = IsOutput file o (string_bytes s)
 
 -- what a command that is carried out is to print, and whether what it was asked for is there
 pub record Showing : Type 0 where

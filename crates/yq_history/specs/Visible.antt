@@ -1,6 +1,6 @@
 -- What is printed of a text so that no terminal acts on it (own).
-use Rattle.std.{specs.Prelude.{ℕ, ◌/◌, ◌%◌, ◌==◌, ◌&&◌, ◌||◌, Bool, nat_le, if◌then◌else◌, List, [], ◌∷◌, encode_utf8}, specs.List.flat_map}
-use Rattle.std.{specs.Char.digit_char, specs.Str.chars}
+use Rattle.std.specs.Prelude.{ℕ, ◌/◌, ◌%◌, ◌==◌, ◌&&◌, ◌||◌, Bool, nat_le, if◌then◌else◌, List, [], ◌∷◌, ◌++◌, encode_utf8}
+use Rattle.std.{specs.List.flat_map, specs.Char.digit_char, specs.Str.chars}
 
 -- DEL and the controls from U+0080 to U+009F, the separators of lines and paragraphs, and what sets the direction of a text (UAX 9, section 2)
 abbrev pub is_hidden : ℕ → Bool
@@ -16,6 +16,10 @@ escaped_char c =
 -- a character as it is printed in a JSON string
 abbrev pub visible_char : ℕ → List ℕ
 visible_char c = if is_hidden c then escaped_char c else encode_utf8 c
+
+-- a text between quotes
+abbrev pub in_quotes : List ℕ → List ℕ
+in_quotes t = 34 ∷ (t ++ 34 ∷ [])
 
 -- a JSON string as it is printed
 abbrev pub visible : List ℕ → List ℕ

@@ -11,10 +11,10 @@ pub enum Direction {
 }
 
 impl Direction {
-    ghost use Rattle.std.specs.Prelude.{◌≡◌, Some, None, IfOk, IfErr, OnOk, OnErr};
+    ghost use Rattle.std.specs.Prelude.{◌≡◌, IfOk, IfErr, OnOk, OnErr};
     ghost use Rattle.yq_journal.specs.Refusals.{ErrorIs, move_fault};
-    ghost use Rattle.yq_journal.specs.State.{journal_after, moved_text};
-    ghost use Rattle.yq_history.specs.Directions.{walk_move};
+    ghost use Rattle.yq_journal.specs.State.{journal_after};
+    ghost use Rattle.yq_history.specs.Directions.{MovesTo, walk_move};
 
     /// The journal's move.
     pub fn step(self) -> Move
@@ -28,8 +28,7 @@ impl Direction {
 
     /// Makes the move at once, and gives the text that it leads to.
     pub fn make(self, journal: &mut Journal, text: &[u8]) -> Result<Vec<u8>, JournalError>
-        ensures ok { IfOk result (λ v. moved_text journal.old.records journal.old.at
-            (walk_move self) text.now ≡ Some v.items) }
+        ensures ok { IfOk result (λ v. MovesTo journal.old (walk_move self) text.now v.items) }
         ensures moved { OnOk result (journal.new ≡ journal_after journal.old (walk_move self)) }
         ensures fault { IfErr result (λ e. ErrorIs e
             (move_fault journal.old (walk_move self) text.now)) }

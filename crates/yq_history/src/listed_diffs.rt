@@ -1,10 +1,9 @@
 //! The lines of a history, each with what its edit changed. Of the texts that the edits lead through, two are
 //! in memory at a time.
-ghost use Rattle.std.specs.Prelude.{◌≡◌, ◌≤◌, Some, IfOk, OnOk, IfErr, [], ◌++◌, drop, length, option_and_then, take};
-ghost use Rattle.std.specs.String.{string_bytes};
+ghost use Rattle.yq_history.specs.ListedView.{IsChangeText, LeadsBack, LeadsOn, backwards, bytes_of_some};
+ghost use Rattle.yq_history.{specs.ListedDiffs.{AreDoneLines, IsDiffOrNote}, specs.Output.{IsOutputText, record_output}};
+ghost use Rattle.std.{specs.Prelude.{◌≡◌, true, ◌≤◌, Some, IfOk, [], ◌++◌, drop, length, take}, specs.String.string_bytes};
 ghost use Rattle.yq_journal.specs.Record.{done, undone};
-ghost use Rattle.yq_history.specs.ListedDiffs.{AreDiffLines, IsAfterLine, IsDiffOrNote, texts_around, texts_back};
-ghost use Rattle.yq_history.specs.ListedView.{backwards, bytes_of_some, exprs_of};
 ghost use Rattle.yq_history.specs.Listing as spec;
 
 use crate::diff::unified::unified_diff;
@@ -80,10 +79,8 @@ fn change_back(
     record: &Record,
     new: Option<Vec<u8>>,
 ) -> Result<(String, Option<Vec<u8>>), AllocError>
-    ensures old { IfOk result (λ x. bytes_of_some x.1 ≡ option_and_then (undone record.now)
-        (bytes_of_some new)) }
-    ensures change { IfOk result (λ x. IsAfterLine file.now (bytes_of_some x.1) (bytes_of_some new)
-        (string_bytes x.0)) }
+    ensures old { IfOk result (λ x. LeadsBack record.now new x.1) }
+    ensures change { IfOk result (λ x. IsChangeText file.now x.1 new x.0) }
 {
     let Some(new) = new else {
         return Ok((String::new(alloc), None));
@@ -101,10 +98,8 @@ fn change_on(
     record: &Record,
     old: Option<Vec<u8>>,
 ) -> Result<(String, Option<Vec<u8>>), AllocError>
-    ensures new { IfOk result (λ x. bytes_of_some x.1 ≡ option_and_then (done record.now)
-        (bytes_of_some old)) }
-    ensures change { IfOk result (λ x. IsAfterLine file.now (bytes_of_some old) (bytes_of_some x.1)
-        (string_bytes x.0)) }
+    ensures new { IfOk result (λ x. LeadsOn record.now old x.1) }
+    ensures change { IfOk result (λ x. IsChangeText file.now old x.1 x.0) }
 {
     let Some(old) = old else {
         return Ok((String::new(alloc), None));
@@ -150,9 +145,7 @@ fn done_lines(
     state: &Journal,
     text: &[u8],
 ) -> Result<Vec<String>, AllocError>
-    ensures { IfOk result (λ v. AreDiffLines file.now 0 state.now.at
-        (exprs_of (take state.now.at state.now.records))
-        (texts_back (take state.now.at state.now.records) text.now) (backwards v.items)) }
+    ensures { IfOk result (λ v. AreDoneLines file.now state.now text.now (backwards v.items)) }
 {
     let mut lines = Vec::with_capacity(alloc, state.at())?;
     let mut near = Some(Vec::from_slice(alloc, text)?);
@@ -188,8 +181,7 @@ pub(crate) fn lines_with_diffs(
     state: &Journal,
     text: Vec<u8>,
 ) -> Result<String, AllocError>
-    ensures { IfOk result (λ s. AreDiffLines file.now 0 state.now.at (exprs_of state.now.records)
-        (texts_around state.now text.items) (string_bytes s)) }
+    ensures { IfOk result (IsOutputText file.now (record_output true text.items state.now)) }
 {
     let done = done_lines(alloc, file, state, &text)?;
     let mut lines = joined_back(alloc, done)?;

@@ -1,10 +1,9 @@
 //! Moves of a file and its journal.
-ghost use Rattle.std.specs.Prelude.{◌≡◌, ◌≢◌, ◌⊎◌, Some, None, Err, false, IsTrue, IsNone, IfErr, OnOk, OnErr, option_map};
-ghost use Rattle.yq_journal.{specs.Good.after_move, specs.History.History, specs.Refusals.no_way, specs.State.{journal_after, moved_text}};
-ghost use Rattle.yq_journal.specs.declared.fault.JournalFault.{JournalFault};
-ghost use Rattle.yq_history.{specs.Calls.Makes, specs.Effects.{IsMoveCutShort, move_effect}};
-ghost use Rattle.yq_history.specs.Faults.{is_outer_fault, is_output, failures_after, of_fault};
-ghost use Rattle.yq_history.specs.Pair.{IsJournal, OthersStay, PairAtRest, PairStands};
+ghost use Rattle.yq_history.specs.Leaves.{GoodAfterMove, GoodAroundMove, HoldsBytes, KeepsOthers, RefusalWritesNothing, RefusedFor};
+ghost use Rattle.yq_history.{specs.Leaves.RefusedOnlyFor, specs.Directions.MovesTo, specs.Calls.Makes};
+ghost use Rattle.yq_history.{specs.Effects.{IsMoveCutShort, move_effect}, specs.Faults.{is_output, failures_after}, specs.Pair.IsJournal};
+ghost use Rattle.std.specs.Prelude.{◌≡◌, ◌≢◌, None, false, IsTrue, IsNone, IfErr, OnOk, OnErr};
+ghost use Rattle.yq_journal.{specs.Refusals.no_way, specs.State.journal_after};
 ghost use Rattle.std.specs.FinMap as map;
 
 use crate::{Fault, write_journal};
@@ -25,32 +24,29 @@ pub fn carry_out<D: Store>(
     new: &[u8],
 ) -> Result<(), Fault>
     requires at_rest { IsNone state.old.pending }
-    requires moves { moved_text state.old.records state.old.at step old.items ≡ Some new.now }
+    requires moves { MovesTo state.old step old.items new.now }
     requires changes { new.now ≢ old.items }
-    ensures ok { IsTrue D.keeps → file.now ≢ journal.now → (h : History) →
-        PairAtRest (D.content store.old) file.now journal.now state.old old.items h →
-        OnOk result (PairStands (D.content store.new) file.now journal.now (after_move h step new.now)) }
-    ensures err { IsTrue D.keeps → file.now ≢ journal.now → (h : History) →
-        PairAtRest (D.content store.old) file.now journal.now state.old old.items h →
-        OnErr result (PairStands (D.content store.new) file.now journal.now h ⊎ PairStands
-        (D.content store.new) file.now journal.now (after_move h step new.now)) }
+    ensures ok { IsTrue D.keeps → file.now ≢ journal.now →
+        GoodAfterMove D.content store.old store.new file.now journal.now state.old old.items step
+        new.now result }
+    ensures err { IsTrue D.keeps → file.now ≢ journal.now →
+        GoodAroundMove D.content store.old store.new file.now journal.now state.old old.items step
+        new.now result }
     ensures text { IsTrue D.keeps → file.now ≢ journal.now →
-        OnOk result (map.get (D.content store.new) file.now ≡ Some new.now) }
-    ensures moved { IsTrue D.keeps → OnOk result (IsJournal (map.get (D.content store.new) journal.now)
+        OnOk result (HoldsBytes (D.content store.new) file.now new.now) }
+    ensures moved { IsTrue D.keeps →
+        OnOk result (IsJournal (map.get (D.content store.new) journal.now)
         (journal_after state.old step)) }
     ensures cut { IsTrue D.keeps → file.now ≢ journal.now →
         OnErr result (IsMoveCutShort state.old step old.items new.now file.now journal.now
         (D.content store.old) (D.content store.new)) }
-    ensures fault { IfErr result (λ e. is_outer_fault e ≡ false →
-        option_map of_fault (no_way state.old.records state.old.at step) ≡ Some e) }
-    ensures refused { (f : JournalFault) → no_way state.old.records state.old.at step ≡ Some f →
-        result ≡ Err (of_fault f) }
-    ensures kept { IsTrue D.keeps → IfErr result (λ e. is_outer_fault e ≡ false →
-        D.content store.new ≡ D.content store.old) }
+    ensures fault { RefusedOnlyFor (no_way state.old.records state.old.at step) result }
+    ensures refused { RefusedFor (no_way state.old.records state.old.at step) result }
+    ensures kept { IsTrue D.keeps → RefusalWritesNothing D.content store.old store.new result }
     ensures barred { IsTrue D.keeps → no_way state.old.records state.old.at step ≢ None →
         D.content store.new ≡ D.content store.old }
-    ensures others { IsTrue D.keeps → OthersStay (D.content store.old)
-        (D.content store.new) file.now journal.now }
+    ensures others { IsTrue D.keeps → KeepsOthers D.content store.old store.new file.now
+        journal.now }
     ensures no_output { IfErr result (λ e. is_output e ≡ false) }
     ensures count { D.failures store.new ≡ failures_after result (D.failures store.old) }
     ensures calls { Makes D.leads result file.now journal.now old.items

@@ -1,9 +1,10 @@
 //! A file and its journal, read from a store and written to it.
-ghost use Rattle.std.specs.Prelude.{◌≡◌, ◌≢◌, ◌⊎◌, ℕ, List, Option, Some, None, false, IfOk, OnOk, IfErr, OnErr, IsTrue, IsNone};
-ghost use Rattle.yq_journal.{specs.Good.journal_beside, specs.History.History, specs.State.State};
-ghost use Rattle.yq_history.{specs.Effects.{Effect, from_names, refuses}, specs.Faults.{is_outer_fault, is_output, failures_after}};
+ghost use Rattle.yq_history.{specs.Leaves.{HoldsBytes, HasState, WritesOnly}, specs.Effects.{Effect, from_names, refuses}};
+ghost use Rattle.yq_history.specs.Faults.{is_outer_fault, is_output, failures_after};
 ghost use Rattle.yq_history.{specs.Calls.{IsOpened, PutsJournal, ReadsJournal, ReadsPair}, specs.Pair.{GoodIn, Opens, Writes}};
 ghost use Rattle.yq_history.specs.Causes.{named};
+ghost use Rattle.std.specs.Prelude.{◌≡◌, ◌⊎◌, ℕ, List, Option, Some, None, false, IfOk, OnOk, IfErr, OnErr, IsTrue, IsNone};
+ghost use Rattle.yq_journal.{specs.Good.journal_beside, specs.History.History, specs.State.State};
 ghost use Rattle.std.specs.FinMap as map;
 
 use crate::fault::Fault;
@@ -13,8 +14,7 @@ use yq_store::{FileReadError, Store};
 
 /// Reads a journal; one that isn't there is that of a file that was never edited.
 fn read_journal<D: Store>(alloc: Global, store: &mut D, journal: &str) -> Result<Journal, Fault>
-    ensures ok { IsTrue D.keeps → IfOk result (λ j. journal_beside
-        (map.get (D.content store.old) journal.now) ≡ Some j) }
+    ensures ok { IsTrue D.keeps → IfOk result (λ j. HasState (D.content store.old) journal.now j) }
     ensures err { IsTrue D.keeps → IfErr result (λ e. ((e ≡ Fault.BadJournal) ×
         (journal_beside (map.get (D.content store.old) journal.now) ≡ None)) ⊎ IsTrue
         (is_outer_fault e)) }
@@ -43,8 +43,7 @@ pub fn write_journal<D: Store>(
     ensures err { IsTrue D.keeps → OnErr result ((D.content store.new ≡ D.content store.old)
         ⊎ Writes (D.content store.old) (D.content store.new) journal.now state.now) }
     ensures outside { IfErr result (λ e. IsTrue (is_outer_fault e)) }
-    ensures others { IsTrue D.keeps → (q : List ℕ) → q ≢ journal.now →
-        map.get (D.content store.new) q ≡ map.get (D.content store.old) q }
+    ensures others { IsTrue D.keeps → WritesOnly D.content store.old store.new journal.now }
     ensures no_output { IfErr result (λ e. is_output e ≡ false) }
     ensures count { D.failures store.new ≡ failures_after result (D.failures store.old) }
     ensures calls { PutsJournal D.leads result journal.now state.now store.old store.new }
@@ -70,8 +69,8 @@ pub fn open_pair<D: Store>(
         (go : List ℕ → State → Effect) →
         from_names (D.content store.old) file.now journal.now go ≡ refuses (named e)) }
     ensures same { IsTrue D.keeps → D.content store.new ≡ D.content store.old }
-    ensures text { IsTrue D.keeps → IfOk result (λ p. map.get (D.content store.old) file.now ≡
-        Some p.0.items) }
+    ensures text { IsTrue D.keeps → IfOk result (λ p. HoldsBytes (D.content store.old) file.now
+        p.0.items) }
     ensures at_rest { IfOk result (λ p. IsNone p.1.pending) }
     ensures no_output { IfErr result (λ e. is_output e ≡ false) }
     ensures count { D.failures store.new ≡ failures_after result (D.failures store.old) }

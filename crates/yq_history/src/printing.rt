@@ -1,10 +1,10 @@
 //! The lines of a history.
-ghost use Rattle.std.specs.Prelude.{◌≡◌, ◌∷◌, ◌++◌, [], Option, IfErr, OnOk, IfOk, IsTrue, false, true, decimal};
-ghost use Rattle.std.specs.String.{string_bytes};
+ghost use Rattle.yq_history.{specs.Adding.AddsText, specs.Output.{IsOutputText, IsOutput, Shows, listing_output, record_output, showing}};
+ghost use Rattle.yq_history.{specs.Visible.{in_quotes, visible}, specs.Effects.{Works, from_names, listing_effect, printed_by}};
+ghost use Rattle.yq_history.{specs.Faults.{is_output, failures_after}, specs.Pair.{Arrives, GoodIn}, specs.Report.{nothing, report_by}};
+ghost use Rattle.yq_history.{specs.Calls.CallsOnPair, specs.Steps.listing_cause};
+ghost use Rattle.std.{specs.Prelude.{◌≡◌, Option, IfErr, OnOk, IfOk, IsTrue, false, true, decimal}, specs.String.string_bytes};
 ghost use Rattle.yq_journal.specs.History.{History};
-ghost use Rattle.yq_history.{specs.Effects.{Works, from_names, listing_effect, printed_by}, specs.Faults.{is_output, failures_after}};
-ghost use Rattle.yq_history.{specs.Pair.{Arrives, GoodIn}, specs.Report.{nothing, report_by}, specs.Calls.CallsOnPair};
-ghost use Rattle.yq_history.{specs.Steps.listing_cause, specs.Output.{IsOutput, Shows, listing_output, record_output, showing}};
 ghost use Rattle.json.specs.Print as json;
 ghost use Rattle.yq_history.specs.Listing as spec;
 
@@ -12,10 +12,14 @@ use crate::fault::Fault;
 use crate::listed_diffs::lines_with_diffs;
 use crate::pair::open_pair;
 use crate::report::Report;
-use crate::visible::visible;
+use crate::visible::{is_bare, visible};
+use itoa::Buffer;
 use std::alloc::{AllocError, Global};
 use yq_journal::{Journal, push_quoted};
 use yq_store::Store;
+
+/// For how many bytes of each line there is room at first.
+const LINE_ROOM: usize = 64;
 
 /// A text as a JSON string.
 fn quoted(alloc: Global, text: &str) -> Result<String, AllocError>
@@ -33,16 +37,49 @@ fn state_word(is_done: bool) -> &'static str
     if is_done { " done " } else { " undone " }
 }
 
-/// A number, two texts and a line feed.
-fn joined_line(alloc: Global, number: usize, state: &str, expr: &str) -> Result<String, AllocError>
-    ensures { IfOk result (λ s. string_bytes s ≡ ((decimal number ++ state.now) ++ expr.now) ++
-        10 ∷ []) }
+/// Adds a number.
+fn push_number(lines: &mut String, number: usize) -> Result<(), AllocError>
+    ensures { AddsText result lines.old lines.new (decimal number) }
 {
-    let mut line = number.to_string(alloc)?;
-    line.push_str(state)?;
-    line.push_str(expr)?;
-    line.push_str("\n")?;
-    Ok(line)
+    let mut buffer = Buffer::new();
+    lines.push_str(buffer.format(number))
+}
+
+/// Adds a text between quotes.
+fn push_in_quotes(lines: &mut String, text: &str) -> Result<(), AllocError>
+    ensures { AddsText result lines.old lines.new (in_quotes text.now) }
+{
+    lines.push_str("\"")?;
+    lines.push_str(text)?;
+    lines.push_str("\"")
+}
+
+/// Adds a text as a JSON string that hides nothing. One that is printed as it is is copied.
+fn push_string(lines: &mut String, alloc: Global, text: &str) -> Result<(), AllocError>
+    ensures { AddsText result lines.old lines.new (visible (json.quoted text.now)) }
+{
+    if is_bare(text.as_bytes()) {
+        return push_in_quotes(lines, text);
+    }
+    let quoted = quoted(alloc, text)?;
+    let printed = visible(alloc, &quoted)?;
+    lines.push_str(&printed)
+}
+
+/// Adds the line of an edit. Its number counts from 1.
+fn push_edit_line(
+    lines: &mut String,
+    alloc: Global,
+    number: usize,
+    is_done: bool,
+    expr: &str,
+) -> Result<(), AllocError>
+    ensures { AddsText result lines.old lines.new (spec.edit_line number is_done expr.now) }
+{
+    push_number(lines, number)?;
+    lines.push_str(state_word(is_done))?;
+    push_string(lines, alloc, expr)?;
+    lines.push_str("\n")
 }
 
 /// The line of an edit. Its number counts from 1.
@@ -54,20 +91,24 @@ pub(crate) fn edit_line(
 ) -> Result<String, AllocError>
     ensures { IfOk result (λ s. string_bytes s ≡ spec.edit_line number is_done expr.now) }
 {
-    let state = state_word(is_done);
-    let quoted = quoted(alloc, expr)?;
-    let expr = visible(alloc, &quoted)?;
-    joined_line(alloc, number, state, &expr)
+    let mut line = String::new(alloc);
+    push_edit_line(&mut line, alloc, number, is_done, expr)?;
+    Ok(line)
 }
 
-/// A line for each record, oldest first.
+/// A line for each record, oldest first, in one text that has room for some bytes of each.
 fn lines_of(alloc: Global, state: &Journal) -> Result<String, AllocError>
     ensures { IfOk result (λ s. string_bytes s ≡ spec.record_lines state.now) }
 {
-    let mut lines = String::new(alloc);
+    let mut lines = String::with_capacity(alloc, state.len().saturating_mul(LINE_ROOM))?;
     'records: for i in 0..state.len() {
-        let line = edit_line(alloc, i + 1, i < state.at(), &state.record(i).expr)?;
-        lines.push_str(&line)?;
+        push_edit_line(
+            &mut lines,
+            alloc,
+            i + 1,
+            i < state.at(),
+            &state.record(i).expr,
+        )?;
     }
     Ok(lines)
 }
@@ -80,8 +121,7 @@ fn output_of(
     text: Vec<u8>,
     diffs: bool,
 ) -> Result<String, AllocError>
-    ensures { IfOk result (λ s. IsOutput file.now (record_output diffs text.items state.now)
-        (string_bytes s)) }
+    ensures { IfOk result (IsOutputText file.now (record_output diffs text.items state.now)) }
 {
     if diffs {
         lines_with_diffs(alloc, file, state, text)

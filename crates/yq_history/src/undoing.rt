@@ -1,11 +1,10 @@
 //! Undo and redo of a file and its journal.
-ghost use Rattle.std.specs.Prelude.{◌≡◌, ◌≢◌, ◌⊎◌, ℕ, List, Option, Some, None, false, IsTrue, IsNone, IfErr, OnOk, OnErr};
-ghost use Rattle.yq_journal.{specs.Good.after_move, specs.History.History, specs.Refusals.way_fault};
-ghost use Rattle.yq_journal.specs.State.{journal_after, moved_text};
-ghost use Rattle.yq_history.{specs.Effects.{Works, from_names, move_effect}, specs.Faults.{is_outer_fault, is_output, failures_after}};
-ghost use Rattle.yq_history.specs.Pair.{Arrives, GoodIn, IsJournal, OthersStay, PairAtRest, PairStands};
+ghost use Rattle.yq_history.specs.Leaves.{ArrivesFrom, ArrivesFromRest, GoodAfterMove, GoodAroundMove, KeepsOthers, RefusalWritesNothing};
+ghost use Rattle.yq_history.{specs.Leaves.{WorksFromRest, WorksOnPair, WritesOnly}, specs.Directions.{MovesTo, walk_move}};
+ghost use Rattle.yq_history.{specs.Effects.move_effect, specs.Faults.{is_outer_fault, is_output, failures_after}, specs.Pair.IsJournal};
 ghost use Rattle.yq_history.{specs.Calls.{CallsOnPair, Makes, PutsJournal}, specs.Steps.{move_cause, move_next}};
-ghost use Rattle.yq_history.specs.Directions.{walk_move};
+ghost use Rattle.std.specs.Prelude.{◌≡◌, ◌≢◌, ◌⊎◌, ℕ, List, None, false, IsTrue, IsNone, IfErr, OnOk, OnErr};
+ghost use Rattle.yq_journal.{specs.Refusals.way_fault, specs.State.journal_after};
 ghost use Rattle.std.specs.FinMap as map;
 
 use crate::{Direction, Fault, carry_out, open_pair, write_journal};
@@ -24,24 +23,21 @@ fn move_only<D: Store>(
 ) -> Result<(), Fault>
     requires at_rest { IsNone state.old.pending }
     requires way { way_fault state.old.records state.old.at (walk_move dir) text.now ≡ None }
-    requires equal { moved_text state.old.records state.old.at (walk_move dir) text.now ≡
-        Some text.now }
-    ensures ok { IsTrue D.keeps → (file : List ℕ) → file ≢ journal.now → (h : History) →
-        PairAtRest (D.content store.old) file journal.now state.old text.now h →
-        OnOk result (PairStands (D.content store.new) file journal.now
-        (after_move h (walk_move dir) text.now)) }
-    ensures err { IsTrue D.keeps → (file : List ℕ) → file ≢ journal.now → (h : History) →
-        PairAtRest (D.content store.old) file journal.now state.old text.now h →
-        OnErr result (PairStands (D.content store.new) file journal.now h ⊎ PairStands (D.content store.new)
-        file journal.now (after_move h (walk_move dir) text.now)) }
-    ensures moved { IsTrue D.keeps → OnOk result (IsJournal (map.get (D.content store.new) journal.now)
+    requires equal { MovesTo state.old (walk_move dir) text.now text.now }
+    ensures ok { IsTrue D.keeps → (file : List ℕ) → file ≢ journal.now →
+        GoodAfterMove D.content store.old store.new file journal.now state.old text.now
+        (walk_move dir) text.now result }
+    ensures err { IsTrue D.keeps → (file : List ℕ) → file ≢ journal.now →
+        GoodAroundMove D.content store.old store.new file journal.now state.old text.now
+        (walk_move dir) text.now result }
+    ensures moved { IsTrue D.keeps →
+        OnOk result (IsJournal (map.get (D.content store.new) journal.now)
         (journal_after state.old (walk_move dir))) }
     ensures cut { IsTrue D.keeps → OnErr result ((D.content store.new ≡ D.content store.old)
         ⊎ IsJournal (map.get (D.content store.new) journal.now)
         (journal_after state.old (walk_move dir))) }
     ensures outside { IfErr result (λ e. IsTrue (is_outer_fault e)) }
-    ensures others { IsTrue D.keeps → (q : List ℕ) → q ≢ journal.now →
-        map.get (D.content store.new) q ≡ map.get (D.content store.old) q }
+    ensures others { IsTrue D.keeps → WritesOnly D.content store.old store.new journal.now }
     ensures no_output { IfErr result (λ e. is_output e ≡ false) }
     ensures count { D.failures store.new ≡ failures_after result (D.failures store.old) }
     ensures calls { PutsJournal D.leads result journal.now (journal_after state.old (walk_move dir))
@@ -62,18 +58,15 @@ fn move_from<D: Store>(
     text: Vec<u8>,
 ) -> Result<(), Fault>
     requires at_rest { IsNone state.old.pending }
-    ensures arrives { IsTrue D.keeps → file.now ≢ journal.now → (h : History) →
-        PairAtRest (D.content store.old) file.now journal.now state.old text.items h →
-        Arrives (D.content store.new) file.now journal.now (move_cause (walk_move dir) (Some h))
-        (Some h) (move_next (walk_move dir) (Some h)) result }
+    ensures arrives { IsTrue D.keeps → file.now ≢ journal.now →
+        ArrivesFromRest D.content store.old store.new file.now journal.now state.old text.items
+        (move_cause (walk_move dir)) (move_next (walk_move dir)) result }
     ensures effect { IsTrue D.keeps → file.now ≢ journal.now →
-        map.get (D.content store.old) file.now ≡ Some text.items →
-        Works (move_effect (walk_move dir) text.items state.old) file.now journal.now
-        (D.content store.old) (D.content store.new) result }
-    ensures kept { IsTrue D.keeps → IfErr result (λ e. is_outer_fault e ≡ false →
-        D.content store.new ≡ D.content store.old) }
-    ensures others { IsTrue D.keeps → OthersStay (D.content store.old)
-        (D.content store.new) file.now journal.now }
+        WorksFromRest D.content store.old store.new file.now journal.now state.old text.items
+        (move_effect (walk_move dir)) result }
+    ensures kept { IsTrue D.keeps → RefusalWritesNothing D.content store.old store.new result }
+    ensures others { IsTrue D.keeps → KeepsOthers D.content store.old store.new file.now
+        journal.now }
     ensures no_output { IfErr result (λ e. is_output e ≡ false) }
     ensures count { D.failures store.new ≡ failures_after result (D.failures store.old) }
     ensures calls { Makes D.leads result file.now journal.now text.items
@@ -96,17 +89,15 @@ pub fn move_file<D: Store>(
     journal: &str,
     dir: Direction,
 ) -> Result<(), Fault>
-    ensures arrives { IsTrue D.keeps → file.now ≢ journal.now → (h : Option History) →
-        GoodIn (D.content store.old) file.now journal.now h →
-        Arrives (D.content store.new) file.now journal.now (move_cause (walk_move dir) h) h
-        (move_next (walk_move dir) h) result }
+    ensures arrives { IsTrue D.keeps → file.now ≢ journal.now →
+        ArrivesFrom D.content store.old store.new file.now journal.now (move_cause (walk_move dir))
+        (move_next (walk_move dir)) result }
     ensures effect { IsTrue D.keeps → file.now ≢ journal.now →
-        Works (from_names (D.content store.old) file.now journal.now (move_effect (walk_move dir)))
-        file.now journal.now (D.content store.old) (D.content store.new) result }
-    ensures kept { IsTrue D.keeps → IfErr result (λ e. is_outer_fault e ≡ false →
-        D.content store.new ≡ D.content store.old) }
-    ensures others { IsTrue D.keeps → OthersStay (D.content store.old)
-        (D.content store.new) file.now journal.now }
+        WorksOnPair D.content store.old store.new file.now journal.now (move_effect (walk_move dir))
+        result }
+    ensures kept { IsTrue D.keeps → RefusalWritesNothing D.content store.old store.new result }
+    ensures others { IsTrue D.keeps → KeepsOthers D.content store.old store.new file.now
+        journal.now }
     ensures no_output { IfErr result (λ e. is_output e ≡ false) }
     ensures count { D.failures store.new ≡ failures_after result (D.failures store.old) }
     ensures calls { CallsOnPair D.leads result file.now journal.now (move_effect (walk_move dir))

@@ -1,8 +1,21 @@
 //! Texts as they are printed, so that no terminal acts on them.
-ghost use Rattle.std.{specs.Prelude.{◌≡◌, ◌++◌, ◌%◌, IfOk, OnOk}, specs.Char.digit_char, specs.String.string_bytes};
+ghost use Rattle.yq_history.specs.Adding.{AddsText};
+ghost use Rattle.std.{specs.Prelude.{◌≡◌, ◌%◌, IfOk}, specs.Bool.OnTrue, specs.Char.digit_char, specs.String.string_bytes};
+ghost use Rattle.json.specs.Print.{quoted};
 ghost use Rattle.yq_history.specs.Visible as spec;
 
 use std::alloc::{AllocError, Global};
+use yq_journal::is_bare_below;
+
+/// The first byte of ASCII from which on none is printed as it is for sure: DEL.
+const DEL: u8 = 0x7f;
+
+/// Whether a text is printed as it is between quotes.
+pub fn is_bare(text: &[u8]) -> bool
+    ensures { OnTrue result (spec.visible (quoted text.now) ≡ spec.in_quotes text.now) }
+{
+    is_bare_below(DEL, text)
+}
 
 /// Whether a character is a control that JSON leaves as it is, separates lines, or turns the direction of
 /// the text after it.
@@ -26,7 +39,7 @@ fn last_digit(code: u32) -> char
 
 /// Adds a character below 2^16 as it is escaped in a JSON string.
 fn push_escaped(text: &mut String, c: char) -> Result<(), AllocError>
-    ensures { OnOk result (string_bytes text.new ≡ string_bytes text.old ++ spec.escaped_char c) }
+    ensures { AddsText result text.old text.new (spec.escaped_char c) }
 {
     let code = u32::from(c);
     text.push_str("\\u")?;
@@ -38,7 +51,7 @@ fn push_escaped(text: &mut String, c: char) -> Result<(), AllocError>
 
 /// Adds a character as it is printed in a JSON string.
 fn push_visible(text: &mut String, c: char) -> Result<(), AllocError>
-    ensures { OnOk result (string_bytes text.new ≡ string_bytes text.old ++ spec.visible_char c) }
+    ensures { AddsText result text.old text.new (spec.visible_char c) }
 {
     if is_hidden(c) {
         push_escaped(text, c)

@@ -68,13 +68,3 @@ base64_escapes m h = escape_kept (encode_of standard m) (kept_append (encode_sym
 pub escape_more : (xs : List ℕ) (i : ℕ) → i < length xs → escape (take (i + 1) xs) ≡ escape (take i xs) ++ escape_byte (get_or xs i 0)
 escape_more xs i within =
     ap escape (take_more xs i 0 within) ∙ flat_map-append escape_byte (take i xs) (get_or xs i 0 ∷ []) ∙ ap (λ l. escape (take i xs) ++ l) (append-nil (escape_byte (get_or xs i 0)))
-
--- one more byte that isn't escaped
-pub bare_more : (xs : List ℕ) (i : ℕ) → i < length xs → ((nat_lt (get_or xs i 0) 32 || (get_or xs i 0 == 34)) || (get_or xs i 0 == 92)) ≡ false
-    → escape (take i xs) ≡ take i xs → escape (take (i + 1) xs) ≡ take (i + 1) xs
-bare_more xs i within none so_far =
-    let x : ℕ = get_or xs i 0 in
-    let signs = or_parts (nat_lt x 32 || (x == 34)) (x == 92) none in
-    let low = or_parts (nat_lt x 32) (x == 34) signs.0 in
-    escape_more xs i within ∙ ap₂ (λ (a b : List ℕ). a ++ b) so_far (escape_byte_plain x (eqb-false x 34 low.1) (eqb-false x 92 signs.1) (ltb-false x 32 low.0))
-    ∙ sym (take_more xs i 0 within)

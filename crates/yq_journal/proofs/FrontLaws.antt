@@ -1,8 +1,9 @@
 -- The pieces that a text has in front, one after the other, are the compact JSON of a splice, a record or a journal.
 use Rattle.std.proofs.Common.{◌≡◌, ◌<◌, ◌≤◌, ◌^◌, ◌-◌, ◌+◌, ℕ, List, [], ◌∷◌, ◌++◌, Bool, true, false, Option, Some, None, Ok, codes}
 use Rattle.std.proofs.Common.{decimal, length, take, refl, sym, ap, ap₂, ◌∙◌, subst, append_assoc, append-nil, true≢false, arith, Vec}
-use Rattle.std.{proofs.Common.Global, proofs.Math.Seq.take-append_seam, proofs.lemmas.List.length-append, specs.Str.IsUtf8}
-use Rattle.std.{specs.Prelude.{MatchOption, IfSome, drop, is_some}, proofs.lemmas.Bool.eqb-true}
+use Rattle.std.{proofs.Common.{Global, get_or, drop}, proofs.Math.Seq.take-append_seam, specs.Str.IsUtf8}
+use Rattle.std.proofs.lemmas.List.{length-append, length-drop, take-append-drop, take-take, take_all, take_more}
+use Rattle.std.{specs.Prelude.{MatchOption, IfSome, is_some}, proofs.lemmas.Bool.eqb-true}
 use Rattle.base64.{specs.Engines.standard, specs.GeneralPurpose.{decode_of, encode_of}}
 use Rattle.json.specs.Print.{escape, quoted}
 use Rattle.serde_json.{specs.Data.Data, specs.Written.{comma_if, compact_text, items_text}}
@@ -18,6 +19,21 @@ use Rattle.yq_journal.{proofs.ReadBackLaws.{kept_none, text_read}, proofs.Number
 pub if_there : {A : Type 0} (P : Type 0) (Q : A → Type 0) (r : Option A) → MatchOption r P Q → IfSome r Q
 if_there P Q None m = tt
 if_there P Q (Some x) m = m
+
+-- two texts that begin alike, and have the same byte next
+pub alike_more : (t bytes : List ℕ) (i : ℕ) → i < length t → i < length bytes → take i t ≡ take i bytes → get_or t i 0 ≡ get_or bytes i 0
+    → take (i + 1) t ≡ take (i + 1) bytes
+alike_more t bytes i first second alike next =
+    take_more t i 0 first ∙ ap₂ (λ (front : List ℕ) (b : ℕ). front ++ b ∷ []) alike next ∙ sym (take_more bytes i 0 second)
+
+-- a text that begins with all of some bytes
+pub alike_end : (t bytes : List ℕ) (i : ℕ) → length bytes ≤ i → take i t ≡ take i bytes
+    → t ≡ bytes ++ take (length t - length bytes) (drop (length bytes) t)
+alike_end t bytes i all alike =
+    let n = length bytes in
+    let front : take n t ≡ bytes = sym (take-take n i t all) ∙ ap (take n) (alike ∙ take_all i bytes all) ∙ take_all n bytes (omega arith) in
+    let rest : take (length t - n) (drop n t) ≡ drop n t = take_all (length t - n) (drop n t) (omega (arith, length-drop n t)) in
+    sym (take-append-drop n t) ∙ ap₂ (λ (a b : List ℕ). a ++ b) front (sym rest)
 
 -- what comes next in the rest of a text
 pub and_then : (t front next rest last : List ℕ) → t ≡ front ++ rest → rest ≡ next ++ last → t ≡ (front ++ next) ++ last

@@ -6,6 +6,7 @@ pub mod JoinLaws
 pub mod JsonLaws
 pub mod LineFeed
 pub mod BareLaws
+pub mod LaneLaws
 pub mod ReadBackLaws
 pub mod AddedLaws
 pub mod FrontLaws

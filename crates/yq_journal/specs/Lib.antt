@@ -1,4 +1,5 @@
 pub use Rattle.yq_text.specs.Splice
+pub mod Bare
 pub mod ByteGapBuffer
 pub mod Record
 pub mod Refusals

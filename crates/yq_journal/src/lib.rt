@@ -1,6 +1,7 @@
 //! The journal of a text: records of its edits, done and undone, with a cursor and an open move.
 #![tactic(auto)]
 
+mod bare;
 mod fault;
 mod gap;
 mod journal;
@@ -16,6 +17,7 @@ mod stands;
 mod ways;
 mod write;
 
+pub use bare::is_bare_below;
 pub use fault::{JournalError, JournalFault};
 pub use journal::Journal;
 pub use laws::{

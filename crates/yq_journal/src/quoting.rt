@@ -1,26 +1,15 @@
 //! Strings of JSON, in the form in which they are written.
-ghost use Rattle.std.{specs.Prelude.{◌≡◌, ◌==◌, ◌<◌, ◌||◌, ◌++◌, nat_lt, IfOk, IsTrue, OnOk}, specs.Char.digit_char};
-ghost use Rattle.std.specs.String.{string_bytes};
+ghost use Rattle.std.{specs.Prelude.{◌≡◌, ◌<◌, ◌++◌, IfOk, IsTrue, OnOk}, specs.Char.digit_char, specs.String.string_bytes};
 ghost use Rattle.json.specs.Print.{escape, escape_byte, escape_letter, quoted};
 
+use crate::bare::is_bare_below;
 use std::alloc::{AllocError, Global};
 
-/// Whether JSON escapes a byte of a text.
-fn is_escaped(byte: u8) -> bool
-    ensures { result ≡ ((nat_lt byte 32 || (byte == 34)) || (byte == 92)) }
-{
-    byte < 32 || byte == b'"' || byte == b'\\'
-}
-
-/// Whether JSON escapes none of these bytes of a text. All are looked at, so many are at once.
+/// Whether JSON escapes none of these bytes, of which none is 255, as in any text in UTF-8.
 pub(crate) fn is_bare(bytes: &[u8]) -> bool
     ensures { IsTrue result → escape bytes.now ≡ bytes.now }
 {
-    let mut escapes = false;
-    'bytes: for i in 0..bytes.len() {
-        escapes |= is_escaped(bytes[i]);
-    }
-    !escapes
+    is_bare_below(u8::MAX, bytes)
 }
 
 /// The letter of a byte's short escape, or 0 where it has none.

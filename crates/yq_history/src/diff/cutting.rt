@@ -1,6 +1,6 @@
 //! The next step through two texts, if both have it.
-ghost use Rattle.std.specs.Prelude.{◌≡◌, ◌++◌, IfSome};
-ghost use Rattle.yq_core.specs.Text.{text_lines};
+ghost use Rattle.yq_history.specs.DiffParts.{CutsInto};
+ghost use Rattle.std.specs.Prelude.{IfSome};
 
 use crate::diff::lines::split_lines;
 use crate::diff::step::Step;
@@ -18,10 +18,8 @@ pub(crate) struct Cut<'a> {
 
 /// What a step cuts of two texts.
 pub(crate) fn next_cut<'a>(old: &'a str, new: &'a str, step: Step) -> Option<Cut<'a>>
-    ensures old { IfSome result (λ c. text_lines old.now ≡
-        text_lines c.kept.now ++ (text_lines c.gone.now ++ text_lines c.old.now)) }
-    ensures new { IfSome result (λ c. text_lines new.now ≡
-        text_lines c.kept.now ++ (text_lines c.come.now ++ text_lines c.new.now)) }
+    ensures old { IfSome result (λ c. CutsInto old.now c.kept.now c.gone.now c.old.now) }
+    ensures new { IfSome result (λ c. CutsInto new.now c.kept.now c.come.now c.new.now) }
 {
     let (kept, old) = split_lines(old, step.kept)?;
     let (new_kept, new) = split_lines(new, step.kept)?;

@@ -1,7 +1,7 @@
 //! Lines of a text: where it may be cut between two, how many there are, and how they are printed.
-ghost use Rattle.std.specs.Prelude.{◌≡◌, ◌∷◌, ◌++◌, ◌≤◌, [], IfOk, true, IfSome, OnOk, length, string_bytes};
+ghost use Rattle.yq_history.{specs.Adding.AddsText, specs.Hunks.EndsInFeed, specs.DiffPrinting.marked_lines, specs.Unified.marked_line};
+ghost use Rattle.std.specs.Prelude.{◌≡◌, ◌++◌, [], IfOk, true, IfSome, length};
 ghost use Rattle.yq_core.specs.Text.{text_lines};
-ghost use Rattle.yq_history.{specs.Hunks.EndsInFeed, specs.DiffPrinting.marked_lines, specs.Unified.marked_line};
 
 use std::alloc::AllocError;
 use yq_core::{is_line, split_line};
@@ -50,8 +50,7 @@ pub(crate) fn count_lines(text: &str) -> usize
 
 /// Adds a line after its mark.
 fn push_line(out: &mut String, mark: &str, line: &str) -> Result<(), AllocError>
-    ensures { OnOk result (string_bytes out.new ≡
-        string_bytes out.old ++ marked_line mark.now line.now) }
+    ensures { AddsText result out.old out.new (marked_line mark.now line.now) }
 {
     out.push_str(mark)?;
     out.push_str(line)?;
@@ -63,8 +62,7 @@ fn push_line(out: &mut String, mark: &str, line: &str) -> Result<(), AllocError>
 
 /// Adds the lines of a text, each after a mark, and answers how many there are.
 pub(crate) fn push_lines(out: &mut String, mark: &str, text: &str) -> Result<usize, AllocError>
-    ensures lines { OnOk result (string_bytes out.new ≡
-        string_bytes out.old ++ marked_lines mark.now (text_lines text.now)) }
+    ensures lines { AddsText result out.old out.new (marked_lines mark.now (text_lines text.now)) }
     ensures count { IfOk result (λ n. n ≡ length (text_lines text.now)) }
 {
     let mut count = 0;

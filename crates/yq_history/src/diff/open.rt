@@ -1,8 +1,8 @@
 //! Hunks, printed part by part.
-ghost use Rattle.std.specs.Prelude.{◌≡◌, ◌+◌, ◌-◌, ◌<◌, ◌≤◌, ◌^◌, ◌++◌, OnOk, IfOk, length, string_bytes};
-ghost use Rattle.yq_history.specs.DiffParts.{new_part, old_part, new_parts, old_parts};
-ghost use Rattle.yq_history.specs.DiffPrinting.{open_after, open_of, opened, print_closed, print_ended, print_parts};
-ghost use Rattle.yq_history.specs.Unified.{print_range, print_ranges};
+ghost use Rattle.yq_history.specs.Adding.{AddsText};
+ghost use Rattle.yq_history.specs.DiffPrinting.{ranges_line, open_after, open_of, opened, print_closed, print_ended, print_parts};
+ghost use Rattle.yq_history.{specs.DiffParts.{new_part, old_part, new_parts, old_parts}, specs.Unified.print_range};
+ghost use Rattle.std.specs.Prelude.{◌≡◌, ◌+◌, ◌-◌, ◌<◌, ◌≤◌, ◌^◌, OnOk, length};
 
 use crate::diff::lines::{count_lines, push_lines};
 use crate::diff::part::Part;
@@ -26,8 +26,7 @@ fn push_range(
     count: usize,
 ) -> Result<(), AllocError>
     requires { before + count < 2 ^ 64 }
-    ensures { OnOk result (string_bytes out.new ≡
-        string_bytes out.old ++ print_range before count) }
+    ensures { AddsText result out.old out.new (print_range before count) }
 {
     let first = if count == 0 { before } else { before + 1 };
     out.push_str(&first.to_string(alloc)?)?;
@@ -56,9 +55,7 @@ impl OpenHunk {
     fn push_ranges(&self, alloc: Global, out: &mut String) -> Result<(), AllocError>
         requires old { self.now.old_before ≤ self.now.old_at }
         requires new { self.now.new_before ≤ self.now.new_at }
-        ensures { OnOk result (string_bytes out.new ≡ string_bytes out.old ++
-            print_ranges self.now.old_before (self.now.old_at - self.now.old_before)
-            self.now.new_before (self.now.new_at - self.now.new_before)) }
+        ensures { AddsText result out.old out.new (ranges_line (open_of self.now)) }
     {
         let old_count = self.old_at.saturating_sub(self.old_before);
         let new_count = self.new_at.saturating_sub(self.new_before);
@@ -73,8 +70,7 @@ impl OpenHunk {
     fn push_closed(&self, alloc: Global, out: &mut String) -> Result<(), AllocError>
         requires old { self.now.old_before ≤ self.now.old_at }
         requires new { self.now.new_before ≤ self.now.new_at }
-        ensures { OnOk result (string_bytes out.new ≡ string_bytes out.old ++
-            print_closed (open_of self.now)) }
+        ensures { AddsText result out.old out.new (print_closed (open_of self.now)) }
     {
         if self.body.is_empty() {
             return Ok(());
@@ -89,8 +85,7 @@ impl OpenHunk {
         requires new { self.old.new_at + length (new_part part) < 2 ^ 64 }
         requires old_order { self.old.old_before ≤ self.old.old_at }
         requires new_order { self.old.new_before ≤ self.old.new_at }
-        ensures printed { OnOk result (string_bytes out.new ≡ string_bytes out.old ++
-            print_ended (open_of self.old) part.entry) }
+        ensures printed { AddsText result out.old out.new (print_ended (open_of self.old) part.entry) }
         ensures open { OnOk result (open_of self.new ≡ open_after (open_of self.old) part.entry) }
     {
         match part {
@@ -119,8 +114,7 @@ pub(crate) fn push_hunks(
 ) -> Result<(), AllocError>
     requires old { length (old_parts parts.now) < 2 ^ 64 }
     requires new { length (new_parts parts.now) < 2 ^ 64 }
-    ensures { OnOk result (string_bytes out.new ≡ string_bytes out.old ++
-        print_parts (opened 0 0) parts.now) }
+    ensures { AddsText result out.old out.new (print_parts (opened 0 0) parts.now) }
 {
     let mut hunk = OpenHunk::opened(alloc, 0, 0);
     'parts: for part in parts {

@@ -1,7 +1,7 @@
 //! Two texts as parts, by steps through both.
-ghost use Rattle.std.specs.Prelude.{◌≡◌, ◌++◌, List, OnOk, IfOk};
+ghost use Rattle.yq_history.specs.DiffParts.{AddsNewLines, AddsOldLines, ArePartsOf};
+ghost use Rattle.std.specs.Prelude.{◌≡◌, ◌++◌, IfOk};
 ghost use Rattle.yq_core.specs.Text.{text_lines};
-ghost use Rattle.yq_history.specs.DiffParts.{ArePartsOf, new_parts, old_parts};
 
 use crate::diff::context::{split_context, split_skipped};
 use crate::diff::cutting::{Cut, next_cut};
@@ -11,10 +11,8 @@ use std::alloc::{AllocError, Global};
 
 /// Adds a part of lines that are skipped, if there are any.
 fn push_skipped<'a>(parts: &mut Vec<Part<'a>>, text: &'a str) -> Result<(), AllocError>
-    ensures old { OnOk result (old_parts parts.new.items ≡
-        old_parts parts.old.items ++ text_lines text.now) }
-    ensures new { OnOk result (new_parts parts.new.items ≡
-        new_parts parts.old.items ++ text_lines text.now) }
+    ensures old { AddsOldLines result parts.old.items parts.new.items (text_lines text.now) }
+    ensures new { AddsNewLines result parts.old.items parts.new.items (text_lines text.now) }
 {
     if text.is_empty() {
         return Ok(());
@@ -36,10 +34,8 @@ fn split_behind<'a>(is_first: bool, text: &'a str) -> (&'a str, &'a str)
 /// Adds the lines that are in both texts before a change; the first of them are after another change, or
 /// the text begins with them.
 fn push_before<'a>(parts: &mut Vec<Part<'a>>, text: &'a str) -> Result<(), AllocError>
-    ensures old { OnOk result (old_parts parts.new.items ≡
-        old_parts parts.old.items ++ text_lines text.now) }
-    ensures new { OnOk result (new_parts parts.new.items ≡
-        new_parts parts.old.items ++ text_lines text.now) }
+    ensures old { AddsOldLines result parts.old.items parts.new.items (text_lines text.now) }
+    ensures new { AddsNewLines result parts.old.items parts.new.items (text_lines text.now) }
 {
     let (context, rest) = split_behind(parts.is_empty(), text);
     let (skipped, before) = split_skipped(rest);
@@ -51,10 +47,8 @@ fn push_before<'a>(parts: &mut Vec<Part<'a>>, text: &'a str) -> Result<(), Alloc
 
 /// Adds the lines that are in both texts after the last change.
 fn push_behind<'a>(parts: &mut Vec<Part<'a>>, text: &'a str) -> Result<(), AllocError>
-    ensures old { OnOk result (old_parts parts.new.items ≡
-        old_parts parts.old.items ++ text_lines text.now) }
-    ensures new { OnOk result (new_parts parts.new.items ≡
-        new_parts parts.old.items ++ text_lines text.now) }
+    ensures old { AddsOldLines result parts.old.items parts.new.items (text_lines text.now) }
+    ensures new { AddsNewLines result parts.old.items parts.new.items (text_lines text.now) }
 {
     let (context, skipped) = split_context(text);
     parts.push(Part::Unchanged(context))?;
@@ -67,10 +61,8 @@ fn push_change<'a>(
     gone: &'a str,
     come: &'a str,
 ) -> Result<(), AllocError>
-    ensures old { OnOk result (old_parts parts.new.items ≡
-        old_parts parts.old.items ++ text_lines gone.now) }
-    ensures new { OnOk result (new_parts parts.new.items ≡
-        new_parts parts.old.items ++ text_lines come.now) }
+    ensures old { AddsOldLines result parts.old.items parts.new.items (text_lines gone.now) }
+    ensures new { AddsNewLines result parts.old.items parts.new.items (text_lines come.now) }
 {
     parts.push(Part::Deleted(gone))?;
     parts.push(Part::Added(come))?;
@@ -79,10 +71,8 @@ fn push_change<'a>(
 
 /// Adds what follows the last step in either text.
 fn push_rest<'a>(parts: &mut Vec<Part<'a>>, old: &'a str, new: &'a str) -> Result<(), AllocError>
-    ensures old { OnOk result (old_parts parts.new.items ≡
-        old_parts parts.old.items ++ text_lines old.now) }
-    ensures new { OnOk result (new_parts parts.new.items ≡
-        new_parts parts.old.items ++ text_lines new.now) }
+    ensures old { AddsOldLines result parts.old.items parts.new.items (text_lines old.now) }
+    ensures new { AddsNewLines result parts.old.items parts.new.items (text_lines new.now) }
 {
     if old == new {
         push_behind(parts, old)

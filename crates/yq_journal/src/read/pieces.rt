@@ -9,12 +9,21 @@ use crate::quoting::{is_bare, quoted_text};
 use memchr::memchr;
 use std::alloc::{AllocError, Global};
 
-/// What comes after these bytes, with which a text begins.
-#[inline]
+/// What comes after these bytes, with which a text begins. Where the bytes are fixed, the loop goes into the
+/// code as that many comparisons.
+#[inline(always)]
 pub(super) fn after<'t>(text: &'t [u8], bytes: &[u8]) -> Option<&'t [u8]>
     ensures { IfSome result (λ rest. text.now ≡ bytes.now ++ rest.now) }
 {
-    text.strip_prefix(bytes)
+    if text.len() < bytes.len() {
+        return None;
+    }
+    'bytes: for i in 0..bytes.len() {
+        if text[i] != bytes[i] {
+            return None;
+        }
+    }
+    Some(&text[bytes.len()..])
 }
 
 /// The digit that a byte is in decimal.

@@ -1,6 +1,6 @@
 //! A journal from a text of the written form, by one pass and with no tree of values. What is scanned is the
 //! very text that is written of it, so the records keep theirs, and it is not written anew.
-ghost use Rattle.std.specs.Prelude.{◌≡◌, ◌-◌, ◌^◌, ◌<◌, ◌≤◌, ◌++◌, IfOk, IfSome, Some, codes, decimal, length, take, true};
+ghost use Rattle.std.specs.Prelude.{◌≡◌, ◌-◌, ◌^◌, ◌<◌, ◌++◌, IfOk, IfSome, Some, codes, decimal, length, take, true};
 ghost use Rattle.yq_journal.specs.Added.{IsInFront, changes_data, records_data};
 ghost use Rattle.serde_json.specs.Written.{comma_if};
 ghost use Rattle.yq_journal.specs.Json as spec;
@@ -11,6 +11,9 @@ use crate::{MAX_RECORDS, Record, leads};
 use std::alloc::{AllocError, Global};
 use std::str::from_utf8;
 use yq_text::Splice;
+
+/// No record is shorter than so many bytes, with the comma before it.
+const LEAST_RECORD: usize = 64;
 
 /// What comes after the comma before an item, where it isn't the first one of a list.
 fn after_comma(text: &[u8], later: bool) -> Option<&[u8]>
@@ -147,7 +150,7 @@ fn records<'t>(alloc: Global, text: &'t [u8]) -> Result<Option<(Vec<Record>, &'t
     let Some(begun) = after(text, b"[") else {
         return Ok(None);
     };
-    let mut found = Vec::new(alloc);
+    let mut found = Vec::with_capacity(alloc, begun.len() / LEAST_RECORD)?;
     let mut left = begun;
     let mut later = false;
     'records: for _ in 0..=MAX_RECORDS {

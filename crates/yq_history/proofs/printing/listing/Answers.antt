@@ -1,6 +1,6 @@
-use Rattle.std.{proofs.Common.{ℕ, Bool, List, Ok, Err, sym, ap, ap₂, ◌∙◌, refl}, proofs.lemmas.Result.err_from_is_err_and}
-use Rattle.yq_history.{specs.Effects.{listing_effect, printed_by}, specs.Listing.record_lines, specs.Faults.is_outer_fault}
-use Rattle.yq_history.{specs.Report.Report, proofs.PrintLaws.listed_output, proofs.EffectLaws.{not_opened, from_opened, listing_cut}}
+use Rattle.std.{proofs.Common.{Ok, Err, sym, ap, ◌∙◌, refl}, proofs.lemmas.Result.err_from_is_err_and}
+use Rattle.yq_history.{specs.Effects.{listing_effect, printed_by}, specs.Faults.is_outer_fault, specs.Report.Report}
+use Rattle.yq_history.{proofs.PrintLaws.listed_output, proofs.EffectLaws.{not_opened, from_opened, listing_cut}}
 use Rattle.yq_history.{proofs.CallLaws.{opened_calls, unopened_calls}, specs.Output.record_output, proofs.ListedLaws.output_as}
 use Rattle.yq_history.proofs.printing.listing.Goals as goal
 

@@ -1,8 +1,5 @@
-use Rattle.std.{proofs.Common.{sym, ◌∙◌, arith}, proofs.lemmas.Bool.or_parts}
-use Rattle.yq_journal.proofs.BareLaws.{bare_more}
+use Rattle.yq_journal.proofs.LaneLaws.{bare_where}
 use Rattle.yq_journal.proofs.quoting.is_bare.Goals as goal
 
-pub bytes-preserved : goal.bytes-preserved
-bytes-preserved c none =
-    let both = or_parts c.bytes.escapes c.is_escaped-escapes.result none in
-    bare_more c.args.bytes.now c.bytes.i (omega arith) (sym c.is_escaped-escapes.ensures ∙ both.1) (c.bytes.invariant both.0)
+pub returns : goal.returns
+returns c = bare_where 255 c.is_bare_below.result c.args.bytes.now c.is_bare_below.ensures

@@ -1,6 +1,9 @@
-use Rattle.std.{proofs.lemmas.Bool.Decides.Decides-eqb, proofs.lemmas.Slice.Eq.strip_prefix_is}
-use Rattle.yq_journal.proofs.FrontLaws.{if_there}
+use Rattle.std.proofs.Common.{◌∙◌, arith}
+use Rattle.yq_journal.proofs.FrontLaws.{alike_end, alike_more}
 use Rattle.yq_journal.proofs.read.pieces.after.Goals as goal
 
+pub bytes-preserved : goal.bytes-preserved
+bytes-preserved c = alike_more c.args.text.now c.args.bytes.now c.bytes.i (omega arith) (omega arith) c.bytes.invariant (omega arith)
+
 pub returns : goal.returns
-returns c = if_there _ _ c.strip_prefix.result (strip_prefix_is Decides-eqb c.args.text.now c.args.bytes.now c.strip_prefix.result c.strip_prefix.ensures.cases)
+returns c = alike_end c.args.text.now c.args.bytes.now c.bytes.i (omega arith) c.bytes.invariant
