@@ -1,19 +1,22 @@
 """A journal has a limit of bytes, which an edit doesn't pass, and a listing says how near it is to its limit of records."""
 
+import base64
 import json
 import os
 import pty
 import resource
 import subprocess
 
-from harness import SECONDS, equal
+from harness import SECONDS, each_user, equal
 
 MIB = 1 << 20
+LONGEST = 16 * MIB
 USUAL, FOR_TEXT = 64, 32
 ONE, TWO = b"n: 1\n", b"n: 2\n"
 EDIT = ["-i", ".n = 2", "f"]
 COMMANDS = (EDIT, ["undo", "f"], ["redo", "f"], ["squash", "1", "f"], ["history", "f"])
 HINT = b"yq: the journal is too large: YQ_JOURNAL_LIMIT=N allows N MiB (64 without it)\n"
+SPLICES, PROCESSOR = 35_000, 5
 TOO_LONG = b"yq: the journal's name is too long: --journal PATH gives another\n"
 S2, S3 = b"Error: S2 read failed\n", b"Error: S3 write failed\n"
 MEMORY = 300 * MIB
@@ -72,15 +75,66 @@ def check_an_edit_does_not_make_the_journal_too_large(folder):
         equal(folder.read("f"), wanted)
 
 
+def check_an_undo_makes_no_text_that_is_too_long(folder):
+    """It would be one that nothing edits or undoes; one of the largest size is made and undone again."""
+    for place, user, before in each_user(folder):
+        for more, refused in ((1, True), (0, False)):
+            long = b"n: 1 # ".ljust(LONGEST + more - 1, b"x") + b"\n"
+            splice = {"at": 0, "new": base64.b64encode(ONE).decode(), "old": base64.b64encode(long).decode()}
+            record = {"after_len": len(ONE), "before_len": len(long), "count": 1, "expr": ".", "splices": [splice]}
+            place.write("f", ONE)
+            place.write("f.undo.json", json.dumps({"at": 1, "pending": None, "records": [record], "version": 2}).encode())
+            for name in place.names():
+                os.chown(place.name(name), user, user)
+            old = place.files()
+            if refused:
+                place.refuses("S3 write failed", "undo", "f", before=before)
+                equal(place.files() == old, True)
+            else:
+                place.accepts("undo", "f", before=before)
+                equal(place.read("f") == long, True)
+                place.accepts("redo", "f", before=before)
+                equal(place.read("f"), ONE)
+
+
+def run_in_seconds(folder, *words):
+    """With so many seconds of the processor."""
+
+    def few_seconds():
+        resource.setrlimit(resource.RLIMIT_CPU, (PROCESSOR, PROCESSOR))
+
+    done = subprocess.run([folder.yq, *words], cwd=folder.path, capture_output=True, timeout=SECONDS, preexec_fn=few_seconds)
+    return done.returncode, done.stdout, done.stderr
+
+
+def check_splices_at_both_ends_by_turns(folder):
+    """A journal of 1.3 MB, whose record puts lines before and after a text of nearly 16 MB in turn, holds no run up."""
+    line, half = b"#\n", SPLICES // 2
+    old = b"n: 1\n# ".ljust(LONGEST - len(line) * SPLICES - 1, b"x") + b"\n"
+    text = line * half + old + line * half
+    splices = [
+        {"at": n % 2 * (len(old) + len(line) * n), "new": base64.b64encode(line).decode(), "old": ""} for n in range(SPLICES)
+    ]
+    record = {"after_len": len(text), "before_len": len(old), "count": 1, "expr": ".", "splices": splices}
+    journal = {"at": 1, "pending": None, "records": [record], "version": 2}
+    folder.write("f", text)
+    folder.write("f.undo.json", json.dumps(journal, separators=(",", ":")).encode())
+    for words, wanted in (("undo", old), ("redo", text), ("undo", old)):
+        equal(run_in_seconds(folder, words, "f"), (0, b"", b""), words)
+        equal(folder.read("f") == wanted, True, words)
+
+
 def check_a_journal_whose_name_is_too_long(folder):
     """It is reported, with what helps."""
-    for length in (246, 255):
-        name = "a" * length
-        folder.write(name, ONE)
-        for words in (["-i", ".n = 2"], ["undo"], ["redo"], ["squash", "1"], ["history"]):
-            equal(folder.run(*words, name), (1, b"", S2 + TOO_LONG), words)
-        equal((folder.read(name), folder.names()), (ONE, [name]))
-        os.remove(folder.name(name))
+    for place, user, before in each_user(folder):
+        for length in (246, 255):
+            name = "a" * length
+            place.write(name, ONE)
+            os.chown(place.name(name), user, user)
+            for words in (["-i", ".n = 2"], ["undo"], ["redo"], ["squash", "1"], ["history"]):
+                equal(place.run(*words, name, before=before), (1, b"", S2 + TOO_LONG), words)
+            equal((place.read(name), place.names()), (ONE, [name]))
+            os.remove(place.name(name))
 
 
 def with_records(folder, count):

@@ -95,15 +95,31 @@ fn check_first<R: Files<File = File> + Clock + Alloc<A = Global>>(
     Ok(old)
 }
 
+/// Puts the journal back as it was before the first write, since the file isn't written for this reason.
+fn give_up<R: Files<File = File> + RandomSource + Env + Alloc<A = Global>>(
+    rt: &R,
+    edited: &EditedFile,
+    reason: ErrorKind,
+) -> io::Result<()> {
+    if let Some(old) = &edited.old_journal {
+        put_back(rt, old, edited.trust, &edited.opened)?;
+    }
+    Err(io::Error::from(reason))
+}
+
 /// Replaces the file to which this name led, by one with the owner, the group and the mode of the open
-/// one. Where another file is at its path by now, or it was changed since it was read, nothing is
-/// written, and the journal is put back as it was before the first write. Keeps the lock.
+/// one. Where another file is at its path by now, or it was changed since it was read, or it would be too
+/// long for a text, nothing is written, and the journal is put back as it was before the first write.
+/// Keeps the lock.
 pub fn write_own<R: Files<File = File> + RandomSource + Clock + Env + Alloc<A = Global>>(
     rt: &R,
     edited: &mut EditedFile,
     name: &str,
     bytes: &[u8],
 ) -> io::Result<()> {
+    if bytes.len() as u64 >= MOST_OF_TEXT {
+        return give_up(rt, edited, ErrorKind::FileTooLarge);
+    }
     if !edited.opened.path.symlink_metadata(rt)?.is_file() {
         return Err(io::Error::from(ErrorKind::InvalidInput));
     }
@@ -118,12 +134,7 @@ pub fn write_own<R: Files<File = File> + RandomSource + Clock + Env + Alloc<A = 
             edited.opened.file = file;
             Ok(())
         }
-        None => {
-            if let Some(old) = &edited.old_journal {
-                put_back(rt, old, edited.trust, &edited.opened)?;
-            }
-            Err(io::Error::from(ErrorKind::ResourceBusy))
-        }
+        None => give_up(rt, edited, ErrorKind::ResourceBusy),
     }
 }
 
