@@ -66,7 +66,7 @@ fn at_each<'a, 't>(
         (places_of places.now)) }
 {
     let mut changes = Vec::new(alloc);
-    let mut cut = CutText::of(documents);
+    let mut cut = CutText::of_document(documents, doc);
     'places: for place in places {
         push_effect(alloc, &mut cut, doc, aliases, effect, place, &mut changes)?;
     }
@@ -91,7 +91,7 @@ fn at_children<'a, 't>(
 {
     let count = parent.node.count();
     let mut changes = Vec::with_capacity(alloc, count)?;
-    let mut cut = CutText::of(documents);
+    let mut cut = CutText::of_document(documents, doc);
     let mut children = parent.node.children();
     let mut before = 0;
     'children: while before < count {

@@ -4,6 +4,7 @@ use Rattle.std.specs.Prelude.{IfSome, Option}
 use Rattle.yq_row_table.{specs.Grammar.IsCut, specs.View.{RowsView, rows_of, rows_view, slices}}
 use Rattle.yq_documents.specs.Reading.{cut_of}
 use Rattle.yq_outline.{specs.declared.line_position.KnownItems.KnownItems, specs.Extents.IsRowsView, specs.RowWalk.AreKnown}
+use Rattle.yq_lookup.{specs.KnownDocuments.AreKnownDocuments, specs.declared.known_document.KnownDocuments.KnownDocuments}
 use Rattle.yq_places.{specs.declared.places.known_line.KnownLine.KnownLine, specs.RowWalk.IsKnownLine}
 
 pub rows_are_view : (t : List ℕ) (s : RowsView) → IsCut t (cut_of t) → s ≡ rows_view (cut_of t) → IsRowsView s
@@ -17,3 +18,13 @@ items_known t s k rows h = subst (λ (x : RowsView). AreKnown x.rows k) (sym row
 
 pub line_known : (t : List ℕ) (s : RowsView) (o : Option KnownLine) → s ≡ rows_view (cut_of t) → IfSome o (IsKnownLine (rows_view (cut_of t))) → IfSome o (IsKnownLine s)
 line_known t s o rows h = subst (λ (x : RowsView). IfSome o (IsKnownLine x)) (sym rows) h
+
+pub documents_known : (t : List ℕ) (s : RowsView) (k : KnownDocuments) → s ≡ rows_view (cut_of t) → AreKnownDocuments (rows_view (cut_of t)).bounds k → AreKnownDocuments s.bounds k
+documents_known t s k rows h = subst (λ (x : RowsView). AreKnownDocuments x.bounds k) (sym rows) h
+
+-- and what is known of rows that are those of the text
+pub items_agree : (t : List ℕ) (s : RowsView) (k : KnownItems) → s ≡ rows_view (cut_of t) → AreKnown s.rows k → AreKnown (rows_view (cut_of t)).rows k
+items_agree t s k rows h = subst (λ (x : RowsView). AreKnown x.rows k) rows h
+
+pub line_agrees : (t : List ℕ) (s : RowsView) (o : Option KnownLine) → s ≡ rows_view (cut_of t) → IfSome o (IsKnownLine s) → IfSome o (IsKnownLine (rows_view (cut_of t)))
+line_agrees t s o rows h = subst (λ (x : RowsView). IfSome o (IsKnownLine x)) rows h

@@ -1,1 +1,3 @@
 pub mod CutRows
+mod KnownDocumentLaws
+mod DocumentFronts

@@ -3,12 +3,14 @@ ghost use Rattle.std.{specs.Prelude.{◌≡◌, ℕ, IfSome, List, Some, true}, 
 ghost use Rattle.yq_text.specs.Halves.{whole};
 ghost use Rattle.yq_row_table.{specs.Grammar.IsCut, specs.View.rows_view};
 ghost use Rattle.yq_documents.specs.Reading.{all_documents, cut_of, read_at};
-ghost use Rattle.yq_outline.specs.RowWalk.{AreKnown};
-ghost use Rattle.yq_places.specs.RowWalk.{HasCut, IsKnownLine};
+ghost use Rattle.yq_outline.specs.RowWalk.{AreKnown, stretch_view};
+ghost use Rattle.yq_places.specs.RowWalk.{HasCut, IsKnownLine, document_row_range};
+ghost use Rattle.yq_lookup.specs.KnownDocuments.{AreKnownDocuments, IsKnownStretch};
 
+use crate::known_document::{KnownDocuments, KnownStretch, find_document};
 use std::marker::Model;
 use yq_documents::Documents;
-use yq_outline::KnownItems;
+use yq_outline::{KnownItems, Stretch};
 use yq_places::{KnownLine, is_text};
 use yq_row_table::Rows;
 use yq_text::Halves;
@@ -20,6 +22,8 @@ pub struct CutText<'d, 't> {
     pub(crate) rows: &'d Rows<'t>,
     pub(crate) known: KnownItems,
     pub(crate) line: Option<KnownLine<'d>>,
+    pub(crate) documents: KnownDocuments,
+    pub(crate) stretch: Option<KnownStretch>,
 }
 
 impl<'d, 't> Model for CutText<'d, 't> {
@@ -28,7 +32,8 @@ impl<'d, 't> Model for CutText<'d, 't> {
     ghost view = { λ c. whole c.text };
 
     ghost invariant = { λ c. HasCut (whole c.text) c.rows.now × AreKnown c.rows.now.rows c.known ×
-        IfSome c.line (IsKnownLine c.rows.now) };
+        IfSome c.line (IsKnownLine c.rows.now) × AreKnownDocuments c.rows.now.bounds c.documents ×
+        IfSome c.stretch (IsKnownStretch (cut_of (whole c.text))) };
 }
 
 impl<'d, 't> CutText<'d, 't> {
@@ -37,6 +42,24 @@ impl<'d, 't> CutText<'d, 't> {
         ensures { result ≡ documents.now }
     {
         CutText::new(documents.text(), documents.rows())
+    }
+
+    /// The same, where the rows of document `doc`, counted from 0, are known, if there is one.
+    pub fn of_document(documents: &'d Documents<'t>, doc: usize) -> CutText<'d, 't>
+        ensures { result ≡ documents.now }
+    {
+        if doc >= documents.count() {
+            return CutText::of(documents);
+        }
+        let (rows, stretch) = documents.document_rows(doc);
+        CutText {
+            text: Halves::of(documents.text()),
+            rows,
+            known: KnownItems::none(),
+            line: None,
+            documents: KnownDocuments::none(),
+            stretch: Some(KnownStretch { doc, rows: stretch }),
+        }
     }
 
     /// A text with its cut, as `Documents::into_rows` gives it.
@@ -59,27 +82,69 @@ impl<'d, 't> CutText<'d, 't> {
             rows,
             known,
             line: None,
+            documents: KnownDocuments::none(),
+            stretch: None,
         }
     }
 
-    /// The same, where the line of a path is known as well, if that is one.
-    pub(crate) fn with_line(
-        text: Halves<'t>,
-        rows: &'d Rows<'t>,
+    /// The same text, where these items are known, and the line of a path, if that is one.
+    pub(crate) fn with_items(
+        &self,
         known: KnownItems,
         line: Option<KnownLine<'d>>,
     ) -> CutText<'d, 't>
-        requires cut { HasCut (whole text) rows.now }
-        requires known { AreKnown rows.now.rows known }
-        requires line { IfSome line (IsKnownLine rows.now) }
-        ensures { result ≡ whole text.entry }
+        requires known { AreKnown (rows_view (cut_of self.now)).rows known }
+        requires line { IfSome line (IsKnownLine (rows_view (cut_of self.now))) }
+        ensures { result ≡ self.now }
     {
         CutText {
-            text,
-            rows,
+            text: self.text,
+            rows: self.rows,
             known,
             line,
+            documents: self.documents,
+            stretch: self.stretch,
         }
+    }
+
+    /// The same text, where these documents are known, as `documents_in_front` gives them: searches for
+    /// later ones go on from there.
+    pub fn with_documents(self, documents: KnownDocuments) -> CutText<'d, 't>
+        requires { AreKnownDocuments (rows_view (cut_of self)).bounds documents }
+        ensures { result ≡ self.entry }
+    {
+        CutText {
+            text: self.text,
+            rows: self.rows,
+            known: self.known,
+            line: self.line,
+            documents,
+            stretch: self.stretch,
+        }
+    }
+
+    /// The same text, where document `doc` is known, if there is one, and the last one before it.
+    pub(crate) fn at_document(&self, doc: usize) -> CutText<'d, 't>
+        ensures { result ≡ self.now }
+    {
+        CutText {
+            text: self.text,
+            rows: self.rows,
+            known: self.known,
+            line: self.line,
+            documents: self.documents_to(doc),
+            stretch: self.stretch,
+        }
+    }
+
+    /// The documents that are known once document `doc` was looked for, if its rows aren't known already.
+    fn documents_to(&self, doc: usize) -> KnownDocuments
+        ensures { AreKnownDocuments (rows_view (cut_of self.now)).bounds result }
+    {
+        if self.rows_known(doc).is_some() {
+            return self.documents;
+        }
+        find_document(self.rows, self.documents, doc)
     }
 
     /// The text.
@@ -121,5 +186,30 @@ impl<'d, 't> CutText<'d, 't> {
         ensures { AreKnown (rows_view (cut_of self.now)).rows result }
     {
         self.known
+    }
+
+    /// The document whose rows are known.
+    fn stretch_known(&self) -> Option<KnownStretch>
+        ensures { IfSome result (IsKnownStretch (cut_of self.now)) }
+    {
+        self.stretch
+    }
+
+    /// The rows of document `doc`, if they are those that are known.
+    pub(crate) fn rows_known(&self, doc: usize) -> Option<Stretch>
+        ensures { IfSome result (λ d. Some (stretch_view d) ≡
+            document_row_range doc (cut_of self.now)) }
+    {
+        match self.stretch_known() {
+            Some(known) if known.doc == doc => Some(known.rows),
+            _ => None,
+        }
+    }
+
+    /// The documents that are known.
+    pub(crate) fn documents(&self) -> KnownDocuments
+        ensures { AreKnownDocuments (rows_view (cut_of self.now)).bounds result }
+    {
+        self.documents
     }
 }

@@ -3,6 +3,7 @@ ghost use Rattle.std.specs.Prelude.{IfErr, IfOk};
 ghost use Rattle.yq_semantics.specs.Operations.{operation_of};
 ghost use Rattle.yq_documents.specs.Reading.{cut_of};
 ghost use Rattle.yq_text.specs.Changing.{IsChange};
+ghost use Rattle.yq_lookup.specs.KnownDocuments.{DocumentsStay};
 ghost use Rattle.yq_places.specs.RowWalk.{StayKnown};
 ghost use Rattle.yq_edit_laws.{specs.Answers.{Edits, EditFails}, specs.Valid.segments_by};
 ghost use Rattle.yq_edit_laws.specs.Carried as spec;
@@ -10,7 +11,7 @@ ghost use Rattle.yq_edit_laws.specs.Carried as spec;
 use crate::{change, op_segments};
 use std::alloc::Global;
 use yq_edit_laws::{EditError, on_the_way};
-use yq_lookup::CutText;
+use yq_lookup::{CutText, KnownDocuments};
 use yq_outline::KnownItems;
 use yq_semantics::Op;
 use yq_text::{ChangedMiddle, Edited, exchange};
@@ -20,17 +21,19 @@ pub fn change_one<'d>(
     alloc: Global,
     cut: &CutText<'d, '_>,
     op: &'d Op,
-) -> Result<(ChangedMiddle, KnownItems), EditError>
+) -> Result<(ChangedMiddle, KnownItems, KnownDocuments), EditError>
     ensures ok { IfOk result (λ x. IsChange (segments_by (operation_of op.now) (cut_of cut.now))
         x.0) }
     ensures known { IfOk result (λ x. StayKnown x.0.front (cut_of cut.now) x.1) }
+    ensures documents { IfOk result (λ x. DocumentsStay x.0.front (cut_of cut.now) x.2) }
     ensures err { IfErr result (λ e. EditFails e (spec.carry_one (operation_of op.now)
         (cut_of cut.now))) }
 {
     let cut = on_the_way(cut, op);
     let changed = change(alloc, &cut, op)?;
     let known = cut.known_in_front(changed.front);
-    Ok((changed, known))
+    let documents = cut.documents_in_front(changed.front);
+    Ok((changed, known, documents))
 }
 
 /// An operation carried out on a text with its cut.

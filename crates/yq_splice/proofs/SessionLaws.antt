@@ -11,12 +11,13 @@ use Rattle.yq_row_table.{specs.declared.places.Places.Places, proofs.PlacedLaws.
 use Rattle.yq_documents.{specs.Reading.{all_documents, documents, cut_of, read_at}, proofs.ReadLaws.{text_takes, read_takes}}
 use Rattle.yq_outline.{specs.RowWalk.AreKnown, specs.declared.line_position.KnownItems.KnownItems}
 use Rattle.yq_places.specs.RowWalk.{HasCut, StayKnown}
+use Rattle.yq_lookup.{specs.KnownDocuments.DocumentsStay, specs.declared.known_document.KnownDocuments.KnownDocuments}
 use Rattle.yq_semantics.specs.Operations.{Operation}
 use Rattle.yq_rows.specs.Following.{ArePlacesOf}
 use Rattle.yq_edit_laws.{proofs.CutLaws.{cut_read, cut_same}, specs.Carried.{carry_one, carried}}
 use Rattle.yq_edit_laws.{specs.Edit.{gives, by_reading, exchange_edit}, specs.Theorems.HasReading, specs.Valid.segments_by}
 use Rattle.yq_edit_laws.{proofs.TextFaults.{FailsToRead, text_unread}, proofs.UpdateLaws.no_reading}
-use Rattle.yq_splice.specs.Session.{HasPlaces, KnowsItems, NotOpened}
+use Rattle.yq_splice.specs.Session.{HasPlaces, KnowsDocuments, KnowsItems, NotOpened}
 use Rattle.yq_core.specs.declared.fault.ReadError.TheVariants as reading
 
 -- ---- a text with its cut
@@ -47,10 +48,13 @@ pub moved_same : (t : List ℕ) (n : ℕ) (s : TextGapView) → s.front ≡ take
 moved_same t n s front back = (λ i. front i ++ back i) ∙ take-append-drop n t
 
 -- those of a text that is as before
-pub places_stay : (t u : List ℕ) (p q : Places) (k : KnownItems) → u ≡ t → HasPlaces t p → KnowsItems t k → ArePlacesOf u q → HasPlaces u q × KnowsItems u k
-places_stay t u p q k same h knows placed =
-    let read : read_at u ≡ Some h.cut = ap read_at same ∙ h.read in
-    (record { cut = h.cut; read = read; placed = placed h.cut (cut_read u h.cut read) }, subst (λ (x : List ℕ). KnowsItems x k) (sym same) knows)
+pub places_stay : (t u : List ℕ) (p q : Places) (k : KnownItems) (d : KnownDocuments) → u ≡ t → HasPlaces t p → KnowsItems t k → KnowsDocuments t d → ArePlacesOf u q → HasPlaces u q × KnowsItems u k × KnowsDocuments u d
+places_stay t u p q k d same h knows begins placed =
+    let read : read_at u ≡ Some h.cut = ap read_at same ∙ h.read in (
+      record { cut = h.cut; read = read; placed = placed h.cut (cut_read u h.cut read) },
+      subst (λ (x : List ℕ). KnowsItems x k) (sym same) knows,
+      subst (λ (x : List ℕ). KnowsDocuments x d) (sym same) begins,
+    )
 
 module _ (t : List ℕ) (p : Places) (h : HasPlaces t p) where
   -- their split is in the text
@@ -112,6 +116,10 @@ touches_itself n c =
 -- items that stay known are so in the text itself
 pub known_here : (n : ℕ) (t : List ℕ) (k : KnownItems) → StayKnown n (cut_of t) k → KnowsItems t k
 known_here n t k stay = stay (cut_of t) 0 (touches_itself n (cut_of t))
+
+-- and so are documents
+pub documents_here : (n : ℕ) (t : List ℕ) (d : KnownDocuments) → DocumentsStay n (cut_of t) d → KnowsDocuments t d
+documents_here n t d stay = stay (cut_of t) 0 (touches_itself n (cut_of t))
 
 -- ---- an operation on it
 

@@ -5,6 +5,7 @@ use Rattle.yq_row_table.{specs.Kept.IsPlaced, specs.Meter.{count_after, line_cou
 use Rattle.yq_row_table.{specs.Items.items_of_cut, specs.View.rows_view, specs.declared.places.Places.Places}
 use Rattle.yq_documents.specs.Reading.{cut_of, read_at}
 use Rattle.yq_outline.{specs.RowWalk.AreKnown, specs.declared.line_position.KnownItems.KnownItems}
+use Rattle.yq_lookup.{specs.KnownDocuments.AreKnownDocuments, specs.declared.known_document.KnownDocuments.KnownDocuments}
 use Rattle.yq_semantics.specs.Operations.{Operation}
 use Rattle.yq_text.{specs.Script.{Segment, kept_front, kept_back, new_text}, specs.Splice.Splice}
 use Rattle.yq_rows.{specs.Following.read_text, specs.declared.kept.Kept.Kept}
@@ -27,6 +28,10 @@ pub record HasPlaces (t : List ℕ) (places : Places) : Type 0 where
 -- items that are kept are known among the rows of a text (own)
 abbrev pub KnowsItems : List ℕ → KnownItems → Type 0
 KnowsItems t known = AreKnown (rows_view (cut_of t)).rows known
+
+-- documents that are kept are known in a text (own)
+abbrev pub KnowsDocuments : List ℕ → KnownDocuments → Type 0
+KnowsDocuments t known = AreKnownDocuments (rows_view (cut_of t)).bounds known
 
 -- why no session of a text is opened: it has no reading, or memory ran out (own)
 abbrev pub NotOpened : ReadError → List ℕ → Type 0

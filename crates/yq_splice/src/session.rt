@@ -5,6 +5,7 @@ ghost use Rattle.yq_semantics.specs.Operations.{operation_of};
 ghost use Rattle.yq_row_table.specs.Meter.{count_after, line_count};
 ghost use Rattle.yq_core.specs.Answers.{Gives};
 ghost use Rattle.yq_text.{specs.Changing.IsChange, specs.Halves.whole};
+ghost use Rattle.yq_lookup.specs.KnownDocuments.{DocumentsStay};
 ghost use Rattle.yq_places.specs.RowWalk.{StayKnown};
 ghost use Rattle.yq_edit_laws.{specs.Answers.{Edits, EditFails}, specs.Carried.carried, specs.Edit.{edit_after, gives}};
 ghost use Rattle.yq_edit_laws.{specs.Theorems.{HasReading, IsApplied, IsFitting, OpRefused}, specs.Valid.segments_by};
@@ -16,7 +17,7 @@ use std::marker::Model;
 use std::mem;
 use yq_core::ReadError;
 use yq_edit_laws::{EditError, operand_holds};
-use yq_lookup::CutText;
+use yq_lookup::{CutText, KnownDocuments};
 use yq_operation::{carry_one, change_one};
 use yq_outline::KnownItems;
 use yq_row_table::Places;
@@ -35,19 +36,21 @@ pub struct Session {
     text: TextGapBuffer,
     places: Places,
     known: KnownItems,
+    documents: KnownDocuments,
     meter: Meter,
 }
 
 impl Model for Session {
     ghost use Rattle.yq_text.specs.TextGapBuffer.{buffer_text};
-    ghost use Rattle.yq_splice.specs.Session.{SessionState, HasPlaces, KnowsItems};
+    ghost use Rattle.yq_splice.specs.Session.{SessionState, HasPlaces, KnowsItems, KnowsDocuments};
 
     ghost Value = { SessionState };
 
     ghost view = { λ s. record { text = buffer_text s.text; scanned = s.meter } };
 
     ghost invariant = { λ s. HasPlaces (buffer_text s.text) s.places ×
-        KnowsItems (buffer_text s.text) s.known };
+        KnowsItems (buffer_text s.text) s.known ×
+        KnowsDocuments (buffer_text s.text) s.documents };
 }
 
 impl Session {
@@ -71,6 +74,7 @@ impl Session {
             text,
             places,
             known: KnownItems::none(),
+            documents: KnownDocuments::none(),
             meter,
         })
     }
@@ -85,24 +89,26 @@ impl Session {
             text: TextGapBuffer::of(text),
             places,
             known: KnownItems::none(),
+            documents: KnownDocuments::none(),
             meter: Meter::new(),
         }
     }
 
     /// What an operation changes in the text, and what is known of its way after it, from which the
     /// next one may go on.
-    fn change(&mut self, op: &Op) -> Result<(ChangedMiddle, KnownItems), EditError>
+    fn change(&mut self, op: &Op) -> Result<(ChangedMiddle, KnownItems, KnownDocuments), EditError>
         ensures same { self.new ≡ self.old }
         ensures ok { IfOk result (λ x. IsChange (segments_by (operation_of op.now)
             (cut_of self.old.text)) x.0) }
         ensures known { IfOk result (λ x. StayKnown x.0.front (cut_of self.old.text) x.1) }
+        ensures documents { IfOk result (λ x. DocumentsStay x.0.front (cut_of self.old.text) x.2) }
         ensures err { IfErr result (λ e. EditFails e (carried (operation_of op.now) self.old.text)) }
     {
         let places = mem::replace(&mut self.places, Places::new(self.alloc));
         self.text.move_split(places.split);
         let text = self.text.halves();
         let rows = places.rows(text);
-        let cut = CutText::resumed(text, &rows, self.known);
+        let cut = CutText::resumed(text, &rows, self.known).with_documents(self.documents);
         let changed = change_one(self.alloc, &cut, op);
         self.places = rows.into_places();
         changed
@@ -131,7 +137,7 @@ impl Session {
         ensures kept { OnErr result (self.new ≡ self.old) }
     {
         operand_holds(op);
-        let (changed, known) = self.change(op)?;
+        let (changed, known, documents) = self.change(op)?;
         let ChangedMiddle {
             front,
             back,
@@ -140,6 +146,7 @@ impl Session {
         } = changed;
         if splices.is_empty() {
             self.known = known;
+            self.documents = documents;
             return Ok(splices);
         }
         let kept = Kept { front, back };
@@ -153,6 +160,7 @@ impl Session {
             &mut meter,
         )?;
         self.known = known;
+        self.documents = documents;
         self.meter = meter;
         Ok(splices)
     }
@@ -190,12 +198,14 @@ impl Session {
             mut text,
             places,
             known,
+            documents,
             ..
         } = self;
         text.move_split(places.split);
         let halves = text.halves();
         let rows = places.rows(halves);
-        let edited = carry_one(alloc, &CutText::resumed(halves, &rows, known), op)?;
+        let cut = CutText::resumed(halves, &rows, known).with_documents(documents);
+        let edited = carry_one(alloc, &cut, op)?;
         Ok(edited_behind(splices, edited)?)
     }
 }

@@ -15,11 +15,21 @@ impl<'d, 't> CutText<'d, 't> {
         ensures row { IfSome result (row_agrees.IsHeldRow path.now.doc (steps_of path.now)
             (cut_of self.old)) }
     {
-        let text = self.whole();
+        *self = self.at_document(path.doc);
+        self.to_row_of(path)
+    }
+
+    /// The same, where the document is known already.
+    fn to_row_of(&mut self, path: &Path) -> Option<HeldRow<'t>>
+        ensures same { self.new ≡ self.old }
+        ensures row { IfSome result (row_agrees.IsHeldRow path.now.doc (steps_of path.now)
+            (cut_of self.old)) }
+    {
+        let _whole = self.whole();
         let rows = self.rows();
         let document = self.stretch(path.doc)?;
         let (known, at) = known_along(rows, document, self.known(), &path.steps);
-        *self = CutText::resumed(text, rows, known);
+        *self = self.with_items(known, None);
         row_of_last(rows, at?)
     }
 }

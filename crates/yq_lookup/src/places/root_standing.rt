@@ -7,7 +7,8 @@ ghost use Rattle.yq_places.specs.Standings as spec;
 ghost use Rattle.yq_places.specs.StandingViews as row_agrees;
 
 use crate::cut_text::CutText;
-use yq_documents::{document_part, rows_to};
+use crate::known_document::part_from;
+use yq_documents::rows_to;
 use yq_places::{NoRows, Standing, rows_standing};
 
 impl<'t> CutText<'_, 't> {
@@ -16,7 +17,7 @@ impl<'t> CutText<'_, 't> {
         ensures { result ≡ reading.rowless_at doc (cut_of self.now) }
     {
         let rows = self.rows();
-        let part = document_part(rows, doc)?;
+        let part = part_from(rows, self.documents(), doc)?;
         if rows_to(rows, part) != rows.part(part).rows {
             return None;
         }

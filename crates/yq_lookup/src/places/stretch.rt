@@ -6,7 +6,8 @@ ghost use Rattle.yq_places.specs.RowLineReading.{numbers, line_view};
 ghost use Rattle.yq_places.specs.RowWalk as spec;
 
 use crate::cut_text::CutText;
-use yq_documents::{Path, document_part, rows_to};
+use crate::known_document::part_from;
+use yq_documents::{Path, rows_to};
 use yq_outline::Stretch;
 use yq_places::{RowLine, row_line_along};
 
@@ -20,7 +21,10 @@ impl<'d, 't> CutText<'d, 't> {
     {
         let _whole = self.whole();
         let rows = self.rows();
-        let part = document_part(rows, doc)?;
+        if let Some(known) = self.rows_known(doc) {
+            return Some(known);
+        }
+        let part = part_from(rows, self.documents(), doc)?;
         Some(Stretch {
             first: rows_to(rows, part),
             end: rows.part(part).rows,

@@ -62,7 +62,7 @@ children-init c =
     let p : FoundPlace = place_at_path (path_of c.args.parent.now.path) (node_of c.args.parent.now.node) in
     let all = c.children-children.ensures in
     record {
-      same = c.of-cut.ensures;
+      same = c.of_document-cut.ensures;
       counted = let counted = ap count all ∙ sym c.count-count.ensures in omega (arith, counted);
       scalars = subst (λ cs. HaveScalars (map (child_place p) (stepped 0 cs))) (sym all) c.requires;
       within = λ root within. subst (λ cs. AreIn root (map (child_place p) (stepped 0 cs))) (sym all) within;

@@ -3,8 +3,9 @@ use Rattle.yq_text.{specs.TextGapBuffer.buffer_text, specs.Changing.IsChange}
 use Rattle.yq_documents.specs.Reading.{cut_of}
 use Rattle.yq_semantics.specs.Operations.{operation_of}
 use Rattle.yq_places.specs.RowWalk.{StayKnown}
+use Rattle.yq_lookup.specs.KnownDocuments.{DocumentsStay}
 use Rattle.yq_edit_laws.{specs.Answers.EditFails, specs.Carried.carried, specs.Edit.Edit, specs.Valid.segments_by}
-use Rattle.yq_splice.specs.Session.{SessionState, HasPlaces, KnowsItems}
+use Rattle.yq_splice.specs.Session.{SessionState, HasPlaces, KnowsDocuments, KnowsItems}
 use Rattle.yq_splice.proofs.SessionLaws.{carried_on, cut_borrowed, known_borrowed, moved_same, places_back, places_borrowed, split_is}
 use Rattle.yq_splice.proofs.SessionLaws.{split_borrowed, whole_borrowed}
 use Rattle.yq_splice.proofs.session.Session.change.Goals as goal
@@ -24,13 +25,13 @@ rows-rows-requires-clause-placed c =
     let h : HasPlaces (buffer_text c.self.inside.text) c.replace-places.result = subst (HasPlaces (buffer_text c.self.inside.text)) (sym c.replace-places.ensures.value) c.self.invariant.0 in
     places_borrowed (buffer_text c.self.inside.text) c.replace-places.result h c.halves-text.result (c.halves-text.ensures.front ∙ c.move_split.ensures.front, c.halves-text.ensures.back ∙ c.move_split.ensures.back)
 
-pub resumed-cut-requires-clause-cut : goal.resumed-cut-requires-clause-cut
-resumed-cut-requires-clause-cut c =
+pub resumed-requires-clause-cut : goal.resumed-requires-clause-cut
+resumed-requires-clause-cut c =
     let h : HasPlaces (buffer_text c.self.inside.text) c.replace-places.result = subst (HasPlaces (buffer_text c.self.inside.text)) (sym c.replace-places.ensures.value) c.self.invariant.0 in
     cut_borrowed (buffer_text c.self.inside.text) c.replace-places.result h c.halves-text.result (c.halves-text.ensures.front ∙ c.move_split.ensures.front, c.halves-text.ensures.back ∙ c.move_split.ensures.back) c.rows-rows.result c.rows-rows.ensures
 
-pub resumed-cut-requires-clause-known : goal.resumed-cut-requires-clause-known
-resumed-cut-requires-clause-known c =
+pub resumed-requires-clause-known : goal.resumed-requires-clause-known
+resumed-requires-clause-known c =
     let h : HasPlaces (buffer_text c.self.inside.text) c.replace-places.result = subst (HasPlaces (buffer_text c.self.inside.text)) (sym c.replace-places.ensures.value) c.self.invariant.0 in
     known_borrowed (buffer_text c.self.inside.text) c.replace-places.result h c.halves-text.result (c.halves-text.ensures.front ∙ c.move_split.ensures.front, c.halves-text.ensures.back ∙ c.move_split.ensures.back) c.rows-rows.result c.rows-rows.ensures c.self.inside.known c.self.invariant.1
 
@@ -38,29 +39,41 @@ pub invariant_of-self : goal.invariant_of-self
 invariant_of-self c =
     let h : HasPlaces (buffer_text c.self.inside.text) c.replace-places.result = subst (HasPlaces (buffer_text c.self.inside.text)) (sym c.replace-places.ensures.value) c.self.invariant.0 in
     let back = places_back (buffer_text c.self.inside.text) c.replace-places.result h c.halves-text.result (c.halves-text.ensures.front ∙ c.move_split.ensures.front, c.halves-text.ensures.back ∙ c.move_split.ensures.back) c.rows-rows.result c.rows-rows.ensures c.into_places.result c.into_places.ensures in
-    subst (λ (x : List ℕ). HasPlaces x c.into_places.result × KnowsItems x c.self.inside.known)
-    (sym (moved_same (buffer_text c.self.inside.text) c.replace-places.result.split c.move_split.new.self c.move_split.ensures.front c.move_split.ensures.back)) (back, c.self.invariant.1)
+    subst (λ (x : List ℕ). HasPlaces x c.into_places.result × KnowsItems x c.self.inside.known × KnowsDocuments x c.self.inside.documents)
+    (sym (moved_same (buffer_text c.self.inside.text) c.replace-places.result.split c.move_split.new.self c.move_split.ensures.front c.move_split.ensures.back)) (back, c.self.invariant.1, c.self.invariant.2)
 
 pub returns-clause-ok : goal.returns-clause-ok
 returns-clause-ok c =
     let h : HasPlaces (buffer_text c.self.inside.text) c.replace-places.result = subst (HasPlaces (buffer_text c.self.inside.text)) (sym c.replace-places.ensures.value) c.self.invariant.0 in
-    let same = c.resumed-cut.ensures ∙ (whole_borrowed (buffer_text c.self.inside.text) c.replace-places.result h c.halves-text.result (c.halves-text.ensures.front ∙ c.move_split.ensures.front, c.halves-text.ensures.back ∙ c.move_split.ensures.back) ∙ ap (λ (s : SessionState). s.text) c.self.view_is) in
+    let same = c.with_documents-cut.ensures ∙ c.resumed.ensures ∙ (whole_borrowed (buffer_text c.self.inside.text) c.replace-places.result h c.halves-text.result (c.halves-text.ensures.front ∙ c.move_split.ensures.front, c.halves-text.ensures.back ∙ c.move_split.ensures.back) ∙ ap (λ (s : SessionState). s.text) c.self.view_is) in
     subst (λ (t : List ℕ). IfOk c.change_one-changed.result (λ x. IsChange (segments_by (operation_of c.args.op.now) (cut_of t)) x.0)) same c.change_one-changed.ensures.ok
 
 pub returns-clause-known : goal.returns-clause-known
 returns-clause-known c =
     let h : HasPlaces (buffer_text c.self.inside.text) c.replace-places.result = subst (HasPlaces (buffer_text c.self.inside.text)) (sym c.replace-places.ensures.value) c.self.invariant.0 in
-    let same = c.resumed-cut.ensures ∙ (whole_borrowed (buffer_text c.self.inside.text) c.replace-places.result h c.halves-text.result (c.halves-text.ensures.front ∙ c.move_split.ensures.front, c.halves-text.ensures.back ∙ c.move_split.ensures.back) ∙ ap (λ (s : SessionState). s.text) c.self.view_is) in
+    let same = c.with_documents-cut.ensures ∙ c.resumed.ensures ∙ (whole_borrowed (buffer_text c.self.inside.text) c.replace-places.result h c.halves-text.result (c.halves-text.ensures.front ∙ c.move_split.ensures.front, c.halves-text.ensures.back ∙ c.move_split.ensures.back) ∙ ap (λ (s : SessionState). s.text) c.self.view_is) in
     subst (λ (t : List ℕ). IfOk c.change_one-changed.result (λ x. StayKnown x.0.front (cut_of t) x.1)) same c.change_one-changed.ensures.known
 
 pub returns-clause-err : goal.returns-clause-err
 returns-clause-err c =
     let h : HasPlaces (buffer_text c.self.inside.text) c.replace-places.result = subst (HasPlaces (buffer_text c.self.inside.text)) (sym c.replace-places.ensures.value) c.self.invariant.0 in
-    let whole = c.resumed-cut.ensures ∙ whole_borrowed (buffer_text c.self.inside.text) c.replace-places.result h c.halves-text.result (c.halves-text.ensures.front ∙ c.move_split.ensures.front, c.halves-text.ensures.back ∙ c.move_split.ensures.back) in
-    let same = carried_on (operation_of c.args.op.now) (buffer_text c.self.inside.text) c.resumed-cut.result c.replace-places.result h whole ∙ ap (λ (s : SessionState). carried (operation_of c.args.op.now) s.text) c.self.view_is in
+    let whole = c.with_documents-cut.ensures ∙ c.resumed.ensures ∙ whole_borrowed (buffer_text c.self.inside.text) c.replace-places.result h c.halves-text.result (c.halves-text.ensures.front ∙ c.move_split.ensures.front, c.halves-text.ensures.back ∙ c.move_split.ensures.back) in
+    let same = carried_on (operation_of c.args.op.now) (buffer_text c.self.inside.text) c.with_documents-cut.result c.replace-places.result h whole ∙ ap (λ (s : SessionState). carried (operation_of c.args.op.now) s.text) c.self.view_is in
     subst (λ (x : Edit). IfErr c.change_one-changed.result (λ e. EditFails e x)) same c.change_one-changed.ensures.err
 
 pub returns-clause-same : goal.returns-clause-same
 returns-clause-same c =
     let text = moved_same (buffer_text c.self.inside.text) c.replace-places.result.split c.move_split.new.self c.move_split.ensures.front c.move_split.ensures.back in
     (λ i. record { text = text i; scanned = c.self.inside.meter }) ∙ c.self.view_is
+
+pub with_documents-cut-requires : goal.with_documents-cut-requires
+with_documents-cut-requires c =
+    let h : HasPlaces (buffer_text c.self.inside.text) c.replace-places.result = subst (HasPlaces (buffer_text c.self.inside.text)) (sym c.replace-places.ensures.value) c.self.invariant.0 in
+    let whole = c.resumed.ensures ∙ whole_borrowed (buffer_text c.self.inside.text) c.replace-places.result h c.halves-text.result (c.halves-text.ensures.front ∙ c.move_split.ensures.front, c.halves-text.ensures.back ∙ c.move_split.ensures.back) in
+    subst (λ (x : List ℕ). KnowsDocuments x c.self.inside.documents) (sym whole) c.self.invariant.2
+
+pub returns-clause-documents : goal.returns-clause-documents
+returns-clause-documents c =
+    let h : HasPlaces (buffer_text c.self.inside.text) c.replace-places.result = subst (HasPlaces (buffer_text c.self.inside.text)) (sym c.replace-places.ensures.value) c.self.invariant.0 in
+    let same = c.with_documents-cut.ensures ∙ c.resumed.ensures ∙ (whole_borrowed (buffer_text c.self.inside.text) c.replace-places.result h c.halves-text.result (c.halves-text.ensures.front ∙ c.move_split.ensures.front, c.halves-text.ensures.back ∙ c.move_split.ensures.back) ∙ ap (λ (s : SessionState). s.text) c.self.view_is) in
+    subst (λ (t : List ℕ). IfOk c.change_one-changed.result (λ x. DocumentsStay x.0.front (cut_of t) x.2)) same c.change_one-changed.ensures.documents

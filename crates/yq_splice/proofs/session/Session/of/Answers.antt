@@ -5,5 +5,8 @@ use Rattle.yq_splice.proofs.session.Session.of.Goals as goal
 
 pub invariant_of-result : goal.invariant_of-result
 invariant_of-result c =
-    let text : buffer_text c.of.result ≡ string_bytes c.args.text = (λ i. c.of.ensures.front i ++ c.of.ensures.back i) ∙ append-nil (string_bytes c.args.text) in
-    (subst (λ (x : List ℕ). HasPlaces x c.args.places) (sym text) c.requires, (rw c.none.ensures.far tt, rw c.none.ensures.near tt))
+    let text : buffer_text c.of.result ≡ string_bytes c.args.text = (λ i. c.of.ensures.front i ++ c.of.ensures.back i) ∙ append-nil (string_bytes c.args.text) in (
+      subst (λ (x : List ℕ). HasPlaces x c.args.places) (sym text) c.requires,
+      (rw c.none.ensures.far tt, rw c.none.ensures.near tt),
+      (rw c.none-2.ensures.last tt, rw c.none-2.ensures.before tt),
+    )

@@ -25,6 +25,7 @@ invariant_of-result c =
         placed = subst (IsPlaced c.into_places-places.result) c.into_rows.ensures c.into_places-places.ensures;
       },
       (rw c.none.ensures.far tt, rw c.none.ensures.near tt),
+      (rw c.none-2.ensures.last tt, rw c.none-2.ensures.before tt),
     )
 
 pub returns-clause-exact : goal.returns-clause-exact

@@ -2,20 +2,18 @@ use Rattle.std.{proofs.Common.{map, subst}, proofs.lemmas.Option.IfSome_then, sp
 use Rattle.yq_core.specs.Entries.{tree_step}
 use Rattle.yq_documents.{specs.Located.steps_of, specs.Reading.cut_of}
 use Rattle.yq_places.{specs.RowWalk.IsLineAt, proofs.HeldRowLaws.{held_row_is, line_in}, proofs.WalkDocuments.found_document}
-use Rattle.yq_places.proofs.HeldLaws.{cut_agrees}
 use Rattle.yq_lookup.proofs.CutRows.{rows_are_view, items_known}
-use Rattle.yq_text.specs.Halves.{whole}
-use Rattle.yq_lookup.proofs.cut_text.CutText.to_held_row.Goals as goal
+use Rattle.yq_lookup.proofs.cut_text.CutText.to_row_of.Goals as goal
 
 pub known_along-at-requires-clause-document : goal.known_along-at-requires-clause-document
 known_along-at-requires-clause-document c =
-    (found_document c.args.self.now c.rows-rows.result.now (cut_of c.args.self.now) c.args.path.now.doc c.in_ok-document.document c.whole-text.ensures.cut c.rows-rows.ensures c.in_ok-document.ensures.place c.in_ok-document.ensures.sound).document
+    (found_document c.args.self.now c.rows-rows.result.now (cut_of c.args.self.now) c.args.path.now.doc c.in_ok-document.document c.whole-whole.ensures.cut c.rows-rows.ensures c.in_ok-document.ensures.place c.in_ok-document.ensures.sound).document
 
 pub row_of_last-requires-clause-within : goal.row_of_last-requires-clause-within
 row_of_last-requires-clause-within c =
     let at = subst (λ o. IfSome o (IsLineAt c.rows-rows.result.now c.in_ok-document.document (map tree_step c.deref.result.now))) c.in_ok-at.was c.known_along-at.ensures.line in
     (line_in c.rows-rows.result.now c.in_ok-document.document _ c.in_ok-at.field-0
-    (found_document c.args.self.now c.rows-rows.result.now (cut_of c.args.self.now) c.args.path.now.doc c.in_ok-document.document c.whole-text.ensures.cut c.rows-rows.ensures c.in_ok-document.ensures.place c.in_ok-document.ensures.sound).document.stand at).1.1
+    (found_document c.args.self.now c.rows-rows.result.now (cut_of c.args.self.now) c.args.path.now.doc c.in_ok-document.document c.whole-whole.ensures.cut c.rows-rows.ensures c.in_ok-document.ensures.place c.in_ok-document.ensures.sound).document.stand at).1.1
 
 pub returns-clause-row : goal.returns-clause-row
 returns-clause-row c =
@@ -24,18 +22,15 @@ returns-clause-row c =
     let d = c.in_ok-document.document in
     let at = subst (λ o. IfSome o (IsLineAt s d (map tree_step c.deref.result.now))) c.in_ok-at.was c.known_along-at.ensures.line in
     let there = subst (λ xs. IsLineAt s d (map tree_step xs) c.in_ok-at.field-0) c.deref.ensures.value at in
-    let y = line_in s d _ c.in_ok-at.field-0 (found_document t s (cut_of t) c.args.path.now.doc d c.whole-text.ensures.cut c.rows-rows.ensures c.in_ok-document.ensures.place c.in_ok-document.ensures.sound).document.stand there in
+    let y = line_in s d _ c.in_ok-at.field-0 (found_document t s (cut_of t) c.args.path.now.doc d c.whole-whole.ensures.cut c.rows-rows.ensures c.in_ok-document.ensures.place c.in_ok-document.ensures.sound).document.stand there in
     IfSome_then c.row_of_last.result c.row_of_last.ensures
-    (λ x says. held_row_is t s c.args.path.now.doc d (steps_of c.args.path.now) c.in_ok-at.field-0 x c.whole-text.ensures.cut c.rows-rows.ensures c.in_ok-document.ensures.place c.in_ok-document.ensures.sound there y.0 y.1.0 says)
+    (λ x says. held_row_is t s c.args.path.now.doc d (steps_of c.args.path.now) c.in_ok-at.field-0 x c.whole-whole.ensures.cut c.rows-rows.ensures c.in_ok-document.ensures.place c.in_ok-document.ensures.sound there y.0 y.1.0 says)
 
 pub known_along-at-requires-clause-rows_view : goal.known_along-at-requires-clause-rows_view
-known_along-at-requires-clause-rows_view c = rows_are_view c.args.self.now c.rows-rows.result.now c.whole-text.ensures.cut c.rows-rows.ensures
+known_along-at-requires-clause-rows_view c = rows_are_view c.args.self.now c.rows-rows.result.now c.whole-whole.ensures.cut c.rows-rows.ensures
 
 pub known_along-at-requires-clause-known : goal.known_along-at-requires-clause-known
 known_along-at-requires-clause-known c = items_known c.args.self.now c.rows-rows.result.now c.known.result c.rows-rows.ensures c.known.ensures
 
 pub row_of_last-requires-clause-rows_view : goal.row_of_last-requires-clause-rows_view
-row_of_last-requires-clause-rows_view c = rows_are_view c.args.self.now c.rows-rows.result.now c.whole-text.ensures.cut c.rows-rows.ensures
-
-pub resumed-requires-clause-cut : goal.resumed-requires-clause-cut
-resumed-requires-clause-cut c = cut_agrees (whole c.whole-text.result) c.args.self.now c.rows-rows.result.now c.whole-text.ensures.text c.whole-text.ensures.cut c.rows-rows.ensures c.whole-text.ensures.documents
+row_of_last-requires-clause-rows_view c = rows_are_view c.args.self.now c.rows-rows.result.now c.whole-whole.ensures.cut c.rows-rows.ensures

@@ -1,0 +1,36 @@
+-- Reading (own; a reader may skip it): documents whose parts are known, from which a search for later ones goes on.
+use Rattle.std.specs.Prelude.{◌≡◌, ℕ, ◌+◌, ◌||◌, Bool, not, IfSome, List, drop, Option, Some}
+use Rattle.yq_row_table.{specs.Rows.Cut, specs.Touched.TouchesOnly, specs.View.{Bound, rows_view}}
+use Rattle.yq_documents.specs.PartReading.{first_rows, number_in, some_begin}
+use Rattle.yq_lookup.specs.declared.known_document.KnownDocument.{KnownDocument}
+use Rattle.yq_lookup.{specs.declared.known_document.KnownDocuments.KnownDocuments, specs.declared.known_document.KnownStretch.KnownStretch}
+use Rattle.yq_outline.specs.RowWalk.{stretch_view}
+use Rattle.yq_places.specs.RowWalk.{document_row_range}
+
+-- the number of the part that is document n, by the ends of the parts (YAML 1.2.2, 9.1 and 9.2)
+abbrev pub part_by_number : ℕ → List Bound → Option ℕ
+part_by_number n bs = number_in (first_rows bs || not (some_begin bs)) n 0 bs
+
+-- A document is known by the number of its part.
+abbrev pub IsKnownDocument : List Bound → KnownDocument → Type 0
+IsKnownDocument bs k = part_by_number k.doc bs ≡ Some k.part
+
+-- Documents are known.
+abbrev pub AreKnownDocuments : List Bound → KnownDocuments → Type 0
+AreKnownDocuments bs ks = IfSome ks.last (IsKnownDocument bs) × IfSome ks.before (IsKnownDocument bs)
+
+-- From a part on, before which so many documents are, the others are numbered as from the first part on.
+abbrev pub NumbersGoOn : List Bound → (part before : ℕ) → Bool → Type 0
+NumbersGoOn bs part before is = (n : ℕ) → part_by_number (before + n) bs ≡ number_in is n part (drop part bs)
+
+-- A document stays known in each text in which the items of its cut stay that end in front of so many bytes.
+abbrev pub DocumentStays : ℕ → Cut → KnownDocument → Type 0
+DocumentStays front c k = (new : Cut) (back : ℕ) → TouchesOnly front back c new → IsKnownDocument (rows_view new).bounds k
+
+-- The same of several documents.
+abbrev pub DocumentsStay : ℕ → Cut → KnownDocuments → Type 0
+DocumentsStay front c ks = (new : Cut) (back : ℕ) → TouchesOnly front back c new → AreKnownDocuments (rows_view new).bounds ks
+
+-- A document is known by its rows.
+abbrev pub IsKnownStretch : Cut → KnownStretch → Type 0
+IsKnownStretch c k = Some (stretch_view k.rows) ≡ document_row_range k.doc c

@@ -1,0 +1,156 @@
+//! Documents whose parts are known, from which a search for later ones goes on.
+ghost use Rattle.std.specs.Prelude.{◌≡◌, ◌<◌, ◌≤◌, length, IfSome, None, option_map, true};
+ghost use Rattle.yq_row_table.{specs.Rows.Cut, specs.View.rows_view};
+ghost use Rattle.yq_lookup.specs.KnownDocuments.{AreKnownDocuments, DocumentStays, NumbersGoOn, IsKnownDocument, part_by_number};
+ghost use Rattle.yq_documents.specs.PartNumbers as numbers;
+
+use yq_documents::first_is_document;
+use yq_outline::Stretch;
+use yq_row_table::{Rows, begins_document};
+
+/// A document whose part is known.
+#[derive(Clone, Copy)]
+pub struct KnownDocument {
+    /// How many documents come before it.
+    pub doc: usize,
+    /// How many parts come before its own.
+    pub part: usize,
+}
+
+/// The document on the way of a path, and the last one before it.
+#[derive(Clone, Copy)]
+pub struct KnownDocuments {
+    pub last: Option<KnownDocument>,
+    pub before: Option<KnownDocument>,
+}
+
+/// A document whose rows are known.
+#[derive(Clone, Copy)]
+pub(crate) struct KnownStretch {
+    pub(crate) doc: usize,
+    pub(crate) rows: Stretch,
+}
+
+/// Where a search for a document begins.
+#[derive(Clone, Copy)]
+struct Start {
+    /// The number of the part.
+    part: usize,
+    /// How many documents come before it.
+    doc: usize,
+    /// Whether it is one.
+    is_document: bool,
+    /// A document before it that is known.
+    before: Option<KnownDocument>,
+}
+
+impl KnownDocuments {
+    /// No documents.
+    pub fn none() -> KnownDocuments
+        ensures last { result.last ≡ None }
+        ensures before { result.before ≡ None }
+    {
+        KnownDocuments {
+            last: None,
+            before: None,
+        }
+    }
+}
+
+/// Where a search for document `doc` begins: at a known document that isn't after it, else at the first part.
+fn start_of(rows: &Rows<'_>, known: KnownDocuments, doc: usize) -> Start
+    requires { AreKnownDocuments rows.now.bounds known }
+    ensures order { result.doc ≤ doc }
+    ensures goes_on { NumbersGoOn rows.now.bounds result.part result.doc result.is_document }
+    ensures before { IfSome result.before (IsKnownDocument rows.now.bounds) }
+{
+    if let Some(last) = known.last
+        && last.doc <= doc
+    {
+        return Start {
+            part: last.part,
+            doc: last.doc,
+            is_document: true,
+            before: known.before,
+        };
+    }
+    if let Some(before) = known.before
+        && before.doc <= doc
+    {
+        return Start {
+            part: before.part,
+            doc: before.doc,
+            is_document: true,
+            before: None,
+        };
+    }
+    Start {
+        part: 0,
+        doc: 0,
+        is_document: first_is_document(rows),
+        before: None,
+    }
+}
+
+/// Document `doc` with its part, if there is one, and the last one before it, as documents that are known. The
+/// search goes on from a known one that isn't after it.
+pub(crate) fn find_document(rows: &Rows<'_>, known: KnownDocuments, doc: usize) -> KnownDocuments
+    requires { AreKnownDocuments rows.now.bounds known }
+    ensures part { option_map (λ k. k.part) result.last ≡ part_by_number doc rows.now.bounds }
+    ensures within { IfSome result.last (λ k. k.part < length rows.now.bounds) }
+    ensures known { AreKnownDocuments rows.now.bounds result }
+{
+    let start = start_of(rows, known, doc);
+    let mut count = start.doc;
+    let mut is_document = start.is_document;
+    let mut before = start.before;
+    'parts: for part in start.part..rows.parts() {
+        let bound = rows.part(part);
+        if is_document {
+            let here = KnownDocument { doc: count, part };
+            if count == doc {
+                return KnownDocuments {
+                    last: Some(here),
+                    before,
+                };
+            }
+            before = Some(here);
+            count += 1;
+        }
+        is_document = begins_document(bound.marker.as_bytes());
+    }
+    KnownDocuments { last: None, before }
+}
+
+/// The number of the part that is document `doc`, both counted from 0. The search goes on from a known
+/// document that isn't after it.
+pub(crate) fn part_from(rows: &Rows<'_>, known: KnownDocuments, doc: usize) -> Option<usize>
+    requires { AreKnownDocuments rows.now.bounds known }
+    ensures value { (c : Cut) → rows.now ≡ rows_view c → result ≡ numbers.document_part doc c }
+    ensures within { IfSome result (λ k. k < length rows.now.bounds) }
+{
+    let found = find_document(rows, known, doc).last?;
+    Some(found.part)
+}
+
+/// A document that is known, if the line of the marker before it ends in front of so many bytes.
+pub(crate) fn document_in_front(
+    rows: &Rows<'_>,
+    known: Option<KnownDocument>,
+    front: usize,
+) -> Option<KnownDocument>
+    requires { IfSome known (IsKnownDocument rows.now.bounds) }
+    ensures { IfSome result (λ k. (c : Cut) → rows.now ≡ rows_view c → DocumentStays front c k) }
+{
+    let known = known?;
+    if known.part == 0 || known.part >= rows.parts() {
+        return None;
+    }
+    let end = known.part - 1;
+    let marker = rows.part(end).marker.len();
+    if marker < front.saturating_sub(rows.part_end(end)) {
+        Some(known)
+    } else {
+        None
+    }
+}
