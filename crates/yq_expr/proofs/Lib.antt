@@ -2,5 +2,8 @@ pub mod ChangeLaws
 pub mod AllChanges
 pub mod ChildPlaces
 pub mod SummandLaws
+pub mod PartLaws
 mod StepLists
 pub mod ManyKeysLaws
+pub mod StandInLaws
+pub mod VerdictLaws

@@ -1,6 +1,6 @@
 -- What an update does at each place, as the code has it.
-use Rattle.std.specs.Prelude.{ℕ, List, map}
-use Rattle.yq_core.specs.Values.{value_node}
+use Rattle.std.specs.Prelude.{ℕ, Bool, true, false, List, map}
+use Rattle.yq_core.{specs.Tree.Node, specs.Values.value_node}
 use Rattle.yq_semantics.{specs.Changes.{Room, Changed, put_with_path, add_at, remove_at, comment_at}, specs.Judgement.{Judgement, and_then}}
 use Rattle.yq_semantics.{specs.Places.FoundPlace, specs.RightValues.right_value, specs.View.term_of}
 use Rattle.yq_expr.specs.declared.effect.Action as effect
@@ -12,3 +12,8 @@ effect_at doc room (effect.TheVariants.Modify terms) p = and_then (put_with_path
 effect_at doc room (effect.TheVariants.Add v) p = add_at p (value_node v.now)
 effect_at doc room effect.TheVariants.Remove p = remove_at p
 effect_at doc room (effect.TheVariants.SetComment place text) p = comment_at room place text.now p
+
+-- what one value changes at a place, where it is added or put (own)
+abbrev pub value_at : Bool → Node → FoundPlace → Judgement (List Changed)
+value_at true v p = add_at p v
+value_at false v p = put_with_path p v

@@ -3,3 +3,4 @@ pub use Rattle.yq_core.specs.Tree
 pub mod EffectView
 pub mod Summand
 pub mod ManyKeys
+pub mod Parts

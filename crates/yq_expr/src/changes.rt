@@ -21,7 +21,7 @@ use yq_planner::{Aliases, PlacedChange, aliases_of, has_comment};
 use yq_semantics::{Assignment, ExprError, Operator, Refusal, Stage, Term, Update};
 
 /// What an update changes at places of document `doc`, which has that root.
-fn changes_at<'a, 't>(
+pub(crate) fn changes_at<'a, 't>(
     alloc: Global,
     documents: &Documents<'_>,
     doc: usize,
@@ -117,7 +117,7 @@ fn assign<'a, 't>(
 }
 
 /// The pipe of an update's left side.
-fn left(update: &Update) -> &[Stage]
+pub(crate) fn left(update: &Update) -> &[Stage]
     ensures { map stage_of result.now ≡ spec.left_pipe (update_of update.now) }
 {
     match update {

@@ -4,15 +4,21 @@
 mod at_places;
 mod changes;
 mod effect;
+mod judging;
 mod many_keys;
+mod parts;
 mod placed;
 mod planning;
 mod put;
 mod right_value;
 mod steps;
+mod weights;
 
+pub use judging::judge;
+pub use parts::{PlanPart, plan_part};
 pub use placed::push_change;
 pub use planning::plan;
+pub use weights::is_heavy;
 pub use yq_core::Value;
 pub use yq_eval::{Match, matches};
 pub use yq_expr_parser::{ParseError, one_program, parse_expr};

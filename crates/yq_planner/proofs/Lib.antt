@@ -3,3 +3,4 @@ pub mod SumLaws
 pub mod LimitLaws
 pub mod IndexLaws
 pub mod UsedLaws
+pub mod StandInLaws

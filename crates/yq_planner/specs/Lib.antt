@@ -4,3 +4,4 @@ pub mod EntryNumbers
 pub mod ChangeView
 pub mod Indexes
 pub mod TakenNames
+pub mod StandIns

@@ -11,4 +11,5 @@ pub(crate) mod entry_index;
 pub(crate) mod key_numbers;
 pub(crate) mod limits;
 pub(crate) mod operations;
+pub(crate) mod stand_in;
 pub(crate) mod sum;

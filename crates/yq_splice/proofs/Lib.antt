@@ -3,3 +3,4 @@ pub mod TouchedLineLaws
 pub mod FollowLaws
 pub mod SpliceLaws
 pub mod AnswerLaws
+pub mod PartLaws

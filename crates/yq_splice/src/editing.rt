@@ -1,13 +1,17 @@
 //! Editing: a program carried out on a text.
 ghost use Rattle.std.specs.Prelude.{◌≡◌, ◌++◌, ◌<◌, List, [], Some, IfErr, IfOk, string_bytes};
+ghost use Rattle.yq_documents.specs.Reading.{cut_of, read_at};
+ghost use Rattle.yq_expr.specs.Parts.{IsInOrder};
 ghost use Rattle.yq_semantics.{specs.Program.{LiteralsHold, Update, update_at, update_count, updates}, specs.View.program_of};
 ghost use Rattle.yq_edit_laws.{specs.Answers.Edits, specs.Theorems.{AreSplices, EditRefused, InOrder, IsEdited}};
 ghost use Rattle.yq_edit_laws.specs.Valid.{FailsAt, FailsEach, IsStep};
 ghost use Rattle.yq_edit_laws.specs.Carried as spec;
 
+use crate::in_parts::carry_parts;
 use crate::{EditError, carry_plan, operands_hold};
 use std::alloc::{AllocError, Global};
-use yq_expr::{Program, Refusal, plan};
+use yq_documents::Documents;
+use yq_expr::{Program, Refusal, is_heavy, judge, plan};
 use yq_text::{Edited, Splice};
 use yq_tree::read;
 
@@ -19,6 +23,32 @@ fn unchanged(alloc: Global, text: &str) -> Result<Edited, AllocError>
         text: String::from_str(alloc, text)?,
         splices: Vec::new(alloc),
     })
+}
+
+/// Update `nth` of a program carried out on a text that was read: judged first, and then carried out part by
+/// part.
+fn step_in_parts(
+    alloc: Global,
+    text: &str,
+    documents: &Documents<'_>,
+    splices: Vec<Splice>,
+    program: &Program,
+    nth: usize,
+) -> Result<Edited, EditError>
+    requires within { nth < update_count (program_of program.now) }
+    requires literals { LiteralsHold (program_of program.now) }
+    requires same { documents.now ≡ text.now }
+    requires read { read_at text.now ≡ Some (cut_of text.now) }
+    requires order { (u : Update) → update_at nth (program_of program.now) ≡ Some u → IsInOrder u }
+    ensures ok { (u : Update) → update_at nth (program_of program.now) ≡ Some u →
+        IfOk result (λ e. (cs : List Splice) ×
+        IsStep u text.now (string_bytes e.text) cs ×
+        (e.splices.items ≡ splices.items ++ cs)) }
+    ensures err { (u : Update) → update_at nth (program_of program.now) ≡ Some u →
+        IfErr result (λ e. FailsAt e u text.now) }
+{
+    judge(alloc, program, nth, documents)?;
+    carry_parts(alloc, text, documents, splices, program, nth)
 }
 
 /// Update `nth` of a program carried out on the text that those before gave: what the reading says of
@@ -40,6 +70,9 @@ fn step(
         IfErr result (λ e. FailsAt e u text.now) }
 {
     let documents = read(alloc, text.as_bytes())?;
+    if is_heavy(alloc, program, nth, &documents)? {
+        return step_in_parts(alloc, text, &documents, splices, program, nth);
+    }
     let ops = plan(alloc, program, nth, &documents)?;
     operands_hold(&ops);
     carry_plan(alloc, text, documents, splices, &ops)

@@ -4,6 +4,7 @@
 mod carrying;
 pub mod edit_laws;
 mod editing;
+mod in_parts;
 mod session;
 
 pub use carrying::{apply_op, carry_plan};

@@ -22,7 +22,7 @@ pub fn copied(alloc: Global, value: &Value) -> Result<Value, AllocError>
 fn copied_items(alloc: Global, items: &Vec<Value>) -> Result<Vec<Value>, AllocError>
     ensures { IfOk result (λ v. map value_node v.items ≡ map value_node items.now.items) }
 {
-    let mut copies = Vec::new(alloc);
+    let mut copies = Vec::with_capacity(alloc, items.len())?;
     'each: for item in items {
         copies.push(copied(alloc, item)?)?;
     }
@@ -37,7 +37,7 @@ fn copied_entries(
 ) -> Result<Vec<(String, Value)>, AllocError>
     ensures { IfOk result (λ v. map field_of v.items ≡ map field_of entries.now.items) }
 {
-    let mut copies = Vec::new(alloc);
+    let mut copies = Vec::with_capacity(alloc, entries.len())?;
     'each: for entry in entries {
         let value = copied(alloc, &entry.1)?;
         let key = String::from_str(alloc, entry.0.as_str())?;

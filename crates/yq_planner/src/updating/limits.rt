@@ -68,7 +68,7 @@ fn some_has_long_key(alloc: Global, entries: &Vec<(String, Value)>) -> Result<bo
 
 /// Whether more than so many collections are nested in a value.
 #[cycle(deeper)]
-fn is_deeper(value: &Value, limit: usize) -> bool
+pub(crate) fn is_deeper(value: &Value, limit: usize) -> bool
     ensures { result ≡ nat_lt limit (depth (value_node value.now)) }
 {
     match value {

@@ -92,7 +92,7 @@ fn ordered(removal: bool, changes: Vec<PlacedChange>) -> Vec<PlacedChange>
 }
 
 /// Puts the operations of changes in document `doc` after others.
-fn push_changes(
+pub fn push_changes(
     alloc: Global,
     doc: usize,
     changes: Vec<PlacedChange>,

@@ -1,4 +1,4 @@
-use Rattle.std.{proofs.Common.{◌≡◌, ℕ, List, Some, sym, ap, subst, ◌∙◌}, proofs.lemmas.Result.err_from_is_err_and, specs.Prelude.Vec}
+use Rattle.std.{proofs.Common.{◌≡◌, ℕ, List, Ok, Some, sym, ap, subst, ◌∙◌}, proofs.lemmas.Result.err_from_is_err_and, specs.Prelude.Vec}
 use Rattle.std.specs.declared.alloc.Global.{Global}
 use Rattle.yq_documents.specs.Reading.{cut_of, documents, read_at}
 use Rattle.yq_semantics.{specs.Operations.{Operation, operations_of}, specs.declared.op.Op.Op, specs.View.program_of}
@@ -6,6 +6,7 @@ use Rattle.yq_edit_laws.{specs.Answers.Edits, specs.Carried.carry_all, specs.Edi
 use Rattle.yq_edit_laws.proofs.MeaningLaws.{plan_serves}
 use Rattle.yq_edit_laws.proofs.UpdateLaws.{update_not_read, update_unplanned, update_planned, update_holds, update_there, update_ok}
 use Rattle.yq_edit_laws.proofs.UpdateLaws.{update_err}
+use Rattle.yq_splice.proofs.PartLaws.{weighing_fails}
 use Rattle.yq_splice.proofs.editing.step.Goals as goal
 
 pub returns-in_err-documents-clause-err : goal.returns-in_err-documents-clause-err
@@ -60,3 +61,20 @@ returns-clause-err c =
     let valid : HaveOperands ops = subst (λ (x : List Op). HaveOperands (operations_of x)) c.deref.ensures.value c.operands_hold.ensures in
     let new_bytes : Edits c.carry_plan.result (edit_after c.args.splices.items (carry_all ops t)) = subst (λ (x : List Op). Edits c.carry_plan.result (edit_after c.args.splices.items (carry_all (operations_of x) t))) c.deref-2.ensures.value c.carry_plan.ensures in
     λ u at. update_err u t (cut_of d) ops is (update_planned u t d ops text (c.in_ok-ops.ensures.exact u at)) (update_holds (program_of c.args.program.now) c.args.nth u c.requires.literals at) valid c.carry_plan.result c.args.splices.items new_bytes
+
+pub returns-in_err-is_heavy-clause-err : goal.returns-in_err-is_heavy-clause-err
+returns-in_err-is_heavy-clause-err c =
+    let p = err_from_is_err_and c.from_residual-in_err-is_heavy.result c.from_residual-in_err-is_heavy.ensures.1 in
+    rw (p.1, p.2)
+    (λ u at. weighing_fails c.in_err-is_heavy.field-0.0 u c.args.text.now c.in_err-is_heavy.ensures.err)
+
+pub step_in_parts-requires-clause-same : goal.step_in_parts-requires-clause-same
+step_in_parts-requires-clause-same c = c.in_ok-documents.ensures.text ∙ c.as_bytes.ensures.value
+
+pub step_in_parts-requires-clause-read : goal.step_in_parts-requires-clause-read
+step_in_parts-requires-clause-read c =
+    let text : c.in_ok-documents.documents ≡ c.args.text.now = c.in_ok-documents.ensures.text ∙ c.as_bytes.ensures.value in
+    ap read_at (sym c.as_bytes.ensures.value) ∙ (c.in_ok-documents.ensures.exact ∙ ap (λ (x : List ℕ). Some (cut_of x)) text)
+
+pub step_in_parts-requires-clause-order : goal.step_in_parts-requires-clause-order
+step_in_parts-requires-clause-order c = λ u at. c.in_ok-is_heavy.ensures.heavy (ap Ok c.if-branch.true) u at

@@ -1,0 +1,238 @@
+-- A value is refused at a place where another one is that is nested as deep: which changes are refused alike.
+use Rattle.std.proofs.Common.{◌≡◌, ℕ, suc, ◌+◌, ◌<◌, ◌≤◌, min, max, nat_lt, Bool, true, false, ◌||◌, List, [], ◌∷◌, ◌++◌, length}
+use Rattle.std.proofs.Common.{if◌then◌else◌, refl, sym, ap, ◌∙◌, arith, rules, Option, Some, None, is_some}
+use Rattle.std.{proofs.lemmas.Bool.Decides.nat_tests, specs.List.list_any}
+use Rattle.yq_core.{specs.Inline.depth_limit, specs.Keys.{depth, deepest}, specs.Paths.{Step, To, child_at, node_at}}
+use Rattle.yq_core.specs.Anchors.{names_in, names_of}
+use Rattle.yq_core.specs.Tree.{Label, Node, alias, scalar, list, Children, none, child, children_of, key_label}
+use Rattle.yq_planner.{specs.StandIns.{AreOneKind, texts, lists, maps, HaveNoAlias, IsStandIn, verdict}, proofs.UsedLaws.none_used}
+use Rattle.yq_semantics.specs.Changes.{Addition, appends, overwrites, Change, replaces, adds, Changed, added, addition, additions, add_at}
+use Rattle.yq_semantics.specs.Changes.{add_below, all_allowed, created, has_long_key, have_long_key, is_deep, is_overlong_key, is_too_deep}
+use Rattle.yq_semantics.specs.Changes.{is_too_long, is_used_inside, nested, overwrites_used, put_below, put_with_path, step_key, takes_used}
+use Rattle.yq_semantics.{specs.Changes.{value_in, writes_long_key}, specs.Judgement.{Judgement, and_then, gives, refuses}}
+use Rattle.yq_semantics.{specs.Places.FoundPlace, specs.Program.{PathStep, key, index, each, is_index}}
+use Rattle.yq_semantics.specs.declared.refusal.Refusal.TheVariants.{AnchorInUse, IndexOutOfRange, KeyTooLong, TooDeep}
+use Rattle.yq_core.specs.Tree as tree
+use Rattle.yq_core.specs.declared.kind.Kind.TheVariants as kinds
+
+-- ---- one change
+
+-- by what is found of it
+abbrev judged : Bool → Bool → Bool → Changed → Judgement (List Changed)
+judged l d u c =
+    and_then (λ first. and_then (λ others. gives (first ++ others)) (gives []))
+    (and_then (λ e. gives (e ∷ [])) (if l then refuses KeyTooLong else (if d then refuses TooDeep else (if u then refuses AnchorInUse else gives c))))
+
+judged_alike : (l d u : Bool) (c e : Changed) → verdict (judged l d u c) ≡ verdict (judged l d u e)
+judged_alike true d u c e = refl
+judged_alike false true u c e = refl
+judged_alike false false true c e = refl
+judged_alike false false false c e = refl
+
+allowed_alike : (root : Node) (x : List Step) (c e : Change) → is_too_long c ≡ is_too_long e → is_too_deep (length x) c ≡ is_too_deep (length x) e → takes_used root x c ≡ takes_used root x e →
+    verdict (all_allowed root ((x, c) ∷ [])) ≡ verdict (all_allowed root ((x, e) ∷ []))
+allowed_alike root x c e long deep used =
+    (λ i. verdict (judged (long i) (deep i) (used i) (x, c)))
+    ∙ judged_alike (is_too_long e) (is_too_deep (length x) e) (takes_used root x e) (x, c) (x, e)
+
+-- ---- values that are nested as deep
+
+-- No key of one is too long where none of the other is, and the one is too deep where the other is.
+record AreAlike (v w : Node) : Type 0 where
+  long : has_long_key v ≡ has_long_key w
+  deep : (n : ℕ) → nat_lt depth_limit (n + depth v) ≡ nat_lt depth_limit (n + depth w)
+
+lt_true : (a b : ℕ) → a < b → nat_lt a b ≡ true
+lt_true a b h = grind (arith, nat_tests)
+
+lt_false : (a b : ℕ) → b ≤ a → nat_lt a b ≡ false
+lt_false a b h = grind (arith, nat_tests)
+
+true_lt : (a b : ℕ) → nat_lt a b ≡ true → a < b
+true_lt a b h = grind (arith, nat_tests)
+
+false_lt : (a b : ℕ) → nat_lt a b ≡ false → b ≤ a
+false_lt a b h = grind (arith, nat_tests)
+
+capped : (n a b : ℕ) → b ≡ min (suc depth_limit) a → nat_lt depth_limit (n + a) ≡ nat_lt depth_limit (n + b)
+capped n a b is = go (nat_lt depth_limit (n + a)) refl
+  where
+    go : (x : Bool) → nat_lt depth_limit (n + a) ≡ x → x ≡ nat_lt depth_limit (n + b)
+    go true h = let more = true_lt depth_limit (n + a) h in sym (lt_true depth_limit (n + b) (omega (arith, is, more)))
+    go false h = let few = false_lt depth_limit (n + a) h in sym (lt_false depth_limit (n + b) (omega (arith, is, few)))
+
+alike : (v w : Node) → IsStandIn v w → AreAlike v w
+alike v w h = record { long = h.fit ∙ sym h.short; deep = λ n. capped n (depth v) (depth w) h.deep }
+
+nested_alike : (ms : List PathStep) (v w : Node) → AreAlike v w → AreAlike (nested ms v) (nested ms w)
+nested_alike [] v w h = h
+nested_alike (key k ∷ ms) v w h =
+    let below = nested_alike ms v w h in
+    record {
+      long = ap (λ b. is_overlong_key (Some k) || (b || false)) below.long;
+      deep = λ n. ap (nat_lt depth_limit) (more n (depth (nested ms v))) ∙ (below.deep (suc n) ∙ sym (ap (nat_lt depth_limit) (more n (depth (nested ms w)))));
+    }
+  where
+    more : (n d : ℕ) → n + suc (max d 0) ≡ suc n + d
+    more n d = omega arith
+nested_alike (index i ∷ ms) v w h = nested_alike ms v w h
+nested_alike (each ∷ ms) v w h = nested_alike ms v w h
+
+created_long : (n : Node) (m : PathStep) (ms : List PathStep) (v w : Node) → AreAlike v w → is_too_long (created n m ms v) ≡ is_too_long (created n m ms w)
+created_long (tree.map anchor cs) m ms v w h = ap (λ b. (is_overlong_key (step_key m) || b) || false) (nested_alike ms v w h).long
+created_long (alias name) m ms v w h = (nested_alike (m ∷ ms) v w h).long
+created_long (scalar anchor kind text) m ms v w h = (nested_alike (m ∷ ms) v w h).long
+created_long (list anchor cs) m ms v w h = (nested_alike (m ∷ ms) v w h).long
+
+created_deep : (outer : ℕ) (n : Node) (m : PathStep) (ms : List PathStep) (v w : Node) → AreAlike v w → is_too_deep outer (created n m ms v) ≡ is_too_deep outer (created n m ms w)
+created_deep outer (tree.map anchor cs) m ms v w h = ap (λ b. b || false) ((nested_alike ms v w h).deep (suc outer))
+created_deep outer (alias name) m ms v w h = (nested_alike (m ∷ ms) v w h).deep outer
+created_deep outer (scalar anchor kind text) m ms v w h = (nested_alike (m ∷ ms) v w h).deep outer
+created_deep outer (list anchor cs) m ms v w h = (nested_alike (m ∷ ms) v w h).deep outer
+
+created_used : (root : Node) (x : List Step) (n : Node) (m : PathStep) (ms : List PathStep) (v w : Node) → takes_used root x (created n m ms v) ≡ takes_used root x (created n m ms w)
+created_used root x (tree.map anchor cs) m ms v w = refl
+created_used root x (alias name) m ms v w = refl
+created_used root x (scalar anchor kind text) m ms v w = refl
+created_used root x (list anchor cs) m ms v w = refl
+
+-- ---- a value that is put
+
+below_alike : (root : Node) (x : List Step) (n : Node) (ms : List PathStep) (v w : Node) → AreAlike v w →
+    verdict (and_then (all_allowed root) (and_then (λ c. gives ((x, c) ∷ [])) (put_below n ms v)))
+    ≡ verdict (and_then (all_allowed root) (and_then (λ c. gives ((x, c) ∷ [])) (put_below n ms w)))
+below_alike root x n [] v w h = allowed_alike root x (replaces v) (replaces w) h.long (h.deep (length x)) refl
+below_alike root x n (m ∷ ms) v w h = go (list_any is_index (m ∷ ms))
+  where
+    go : (b : Bool) → verdict (and_then (all_allowed root) (and_then (λ c. gives ((x, c) ∷ [])) (if b then refuses IndexOutOfRange else gives (created n m ms v))))
+        ≡ verdict (and_then (all_allowed root) (and_then (λ c. gives ((x, c) ∷ [])) (if b then refuses IndexOutOfRange else gives (created n m ms w))))
+    go true = refl
+    go false = allowed_alike root x (created n m ms v) (created n m ms w) (created_long n m ms v w h) (created_deep (length x) n m ms v w h) (created_used root x n m ms v w)
+
+pub put_alike : (root : Node) (p : FoundPlace) (v w : Node) → IsStandIn v w →
+    verdict (and_then (all_allowed root) (put_with_path p v)) ≡ verdict (and_then (all_allowed root) (put_with_path p w))
+put_alike root p v w h = below_alike root p.path p.node p.missing v w (alike v w h)
+
+-- ---- a value that is added
+
+or_parts : (a b c : Bool) → (a || (b || c)) ≡ false → (a ≡ false) × ((b ≡ false) × (c ≡ false))
+or_parts false false c h = (refl, (refl, h))
+or_parts false true c h = (refl, (h, search (rules, h)))
+or_parts true b c h = (h, (search (rules, h), search (rules, h)))
+
+value_added : (cs : Children) (k : Option (List ℕ)) (v : Node) → value_in (addition cs k v) ≡ v
+value_added cs None v = refl
+value_added cs (Some k) v = go (is_some (child_at (To k) cs))
+  where
+    go : (b : Bool) → value_in (if b then overwrites k v else appends (Some k) v) ≡ v
+    go true = refl
+    go false = refl
+
+short_added : (cs : Children) (k : Option (List ℕ)) (v : Node) → is_overlong_key k ≡ false → has_long_key v ≡ false → writes_long_key (addition cs k v) ≡ false
+short_added cs None v short fit = fit
+short_added cs (Some k) v short fit = go (is_some (child_at (To k) cs))
+  where
+    go : (b : Bool) → writes_long_key (if b then overwrites k v else appends (Some k) v) ≡ false
+    go true = fit
+    go false = ap (λ b. b || has_long_key v) short ∙ fit
+
+-- none of several has too long a key
+all_short : (cs ds : Children) → have_long_key ds ≡ false → list_any writes_long_key (additions cs ds) ≡ false
+all_short cs none h = refl
+all_short cs (child label n ds) h =
+    let parts = or_parts (is_overlong_key label.key) (has_long_key n) (have_long_key ds) h in
+    ap (λ b. b || list_any writes_long_key (additions cs ds)) (short_added cs label.key n parts.0 parts.1.0) ∙ all_short cs ds parts.1.1
+
+lt_either : (l m a b : ℕ) → (nat_lt l (m + a) || nat_lt l (m + b)) ≡ nat_lt l (m + max a b)
+lt_either l m a b = go (nat_lt l (m + a)) (nat_lt l (m + b)) refl refl
+  where
+    go : (x y : Bool) → nat_lt l (m + a) ≡ x → nat_lt l (m + b) ≡ y → (x || y) ≡ nat_lt l (m + max a b)
+    go true y h k = let more = true_lt l (m + a) h in sym (lt_true l (m + max a b) (omega (arith, more)))
+    go false true h k = let more = true_lt l (m + b) k in sym (lt_true l (m + max a b) (omega (arith, more)))
+    go false false h k = let few = false_lt l (m + a) h in let less = false_lt l (m + b) k in sym (lt_false l (m + max a b) (omega (arith, few, less)))
+
+-- the deepest of several is too deep
+any_deep : (m : ℕ) (cs : Children) (label : Label) (n : Node) (ds : Children) → list_any (λ x. is_deep m (value_in x)) (additions cs (child label n ds)) ≡ nat_lt depth_limit (m + deepest (child label n ds))
+any_deep m cs label n none = ap (λ v. is_deep m v || false) (value_added cs label.key n) ∙ alone (nat_lt depth_limit (m + depth n)) ∙ ap (nat_lt depth_limit) (none_more m (depth n))
+  where
+    alone : (b : Bool) → (b || false) ≡ b
+    alone true = refl
+    alone false = refl
+
+    none_more : (a d : ℕ) → a + d ≡ a + max d 0
+    none_more a d = omega arith
+any_deep m cs label n (child next o ds) =
+    (λ i. is_deep m (value_added cs label.key n i) || any_deep m cs next o ds i)
+    ∙ lt_either depth_limit m (depth n) (deepest (child next o ds))
+
+module _ (root : Node) (x : List Step) (free : HaveNoAlias (names_of root)) where
+  unused : (o : Option Node) → is_used_inside (names_of root) o ≡ false
+  unused None = refl
+  unused (Some n) = none_used (names_of root) (names_in (children_of n)) free
+
+  none_overwritten : (bs : List Addition) → list_any (overwrites_used root x) bs ≡ false
+  none_overwritten [] = refl
+  none_overwritten (appends k v ∷ bs) = none_overwritten bs
+  none_overwritten (overwrites k v ∷ bs) = ap (λ b. b || list_any (overwrites_used root x) bs) (unused (node_at (x ++ To k ∷ []) root)) ∙ none_overwritten bs
+
+  adds_alike : (cs : Children) (l m : Label) (n o : Node) (ds es : Children) → have_long_key (child l n ds) ≡ false → have_long_key (child m o es) ≡ false →
+      suc (deepest (child m o es)) ≡ min (suc depth_limit) (suc (deepest (child l n ds))) →
+      verdict (all_allowed root ((x, adds (additions cs (child l n ds))) ∷ [])) ≡ verdict (all_allowed root ((x, adds (additions cs (child m o es))) ∷ []))
+  adds_alike cs l m n o ds es fit short deep =
+      allowed_alike root x (adds (additions cs (child l n ds))) (adds (additions cs (child m o es)))
+      (all_short cs (child l n ds) fit ∙ sym (all_short cs (child m o es) short))
+      (any_deep (suc (length x)) cs l n ds
+      ∙ (ap (nat_lt depth_limit) (one_more (length x) (deepest (child l n ds)))
+      ∙ (capped (length x) (suc (deepest (child l n ds))) (suc (deepest (child m o es))) deep
+      ∙ (ap (nat_lt depth_limit) (sym (one_more (length x) (deepest (child m o es)))) ∙ sym (any_deep (suc (length x)) cs m o es)))))
+      (none_overwritten (additions cs (child l n ds)) ∙ sym (none_overwritten (additions cs (child m o es))))
+    where
+      one_more : (a d : ℕ) → suc a + d ≡ a + suc d
+      one_more a d = omega arith
+
+  replaced : (v w : Node) → AreAlike v w → verdict (all_allowed root ((x, replaces v) ∷ [])) ≡ verdict (all_allowed root ((x, replaces w) ∷ []))
+  replaced v w same = allowed_alike root x (replaces v) (replaces w) same.long (same.deep (length x)) refl
+
+  one_item : (v w : Node) → AreAlike v w → verdict (all_allowed root ((x, adds (appends None v ∷ [])) ∷ [])) ≡ verdict (all_allowed root ((x, adds (appends None w ∷ [])) ∷ []))
+  one_item v w same =
+      allowed_alike root x (adds (appends None v ∷ [])) (adds (appends None w ∷ [])) (ap (λ b. b || false) same.long) (ap (λ b. b || false) (same.deep (suc (length x)))) refl
+
+  added_alike : (n : Node) {v w : Node} → AreOneKind v w → IsStandIn v w →
+      verdict (and_then (all_allowed root) (and_then (λ c. gives ((x, c) ∷ [])) (added n v)))
+      ≡ verdict (and_then (all_allowed root) (and_then (λ c. gives ((x, c) ∷ [])) (added n w)))
+  added_alike (alias name) k h = refl
+  added_alike (scalar anchor kinds.Null text) (texts {a} {b} {t} {u}) h = replaced (scalar a kinds.Text t) (scalar b kinds.Text u) (alike _ _ h)
+  added_alike (scalar anchor kinds.Null text) (lists {a} {b} {l} {m} {n} {o} {cs} {ds}) h = replaced (list a (child l n cs)) (list b (child m o ds)) (alike _ _ h)
+  added_alike (scalar anchor kinds.Null text) (maps {a} {b} {l} {m} {n} {o} {cs} {ds}) h = replaced (tree.map a (child l n cs)) (tree.map b (child m o ds)) (alike _ _ h)
+  added_alike (scalar anchor kinds.Text text) (texts {a} {b} {t} {u}) h =
+      allowed_alike root x (replaces (scalar None kinds.Text (text ++ t))) (replaces (scalar None kinds.Text (text ++ u))) refl refl refl
+  added_alike (scalar anchor kinds.Text text) lists h = refl
+  added_alike (scalar anchor kinds.Text text) maps h = refl
+  added_alike (scalar anchor kinds.Bool text) texts h = refl
+  added_alike (scalar anchor kinds.Bool text) lists h = refl
+  added_alike (scalar anchor kinds.Bool text) maps h = refl
+  added_alike (scalar anchor kinds.Int text) texts h = refl
+  added_alike (scalar anchor kinds.Int text) lists h = refl
+  added_alike (scalar anchor kinds.Int text) maps h = refl
+  added_alike (scalar anchor kinds.Float text) texts h = refl
+  added_alike (scalar anchor kinds.Float text) lists h = refl
+  added_alike (scalar anchor kinds.Float text) maps h = refl
+  added_alike (list anchor cs) (texts {a} {b} {t} {u}) h = one_item (scalar a kinds.Text t) (scalar b kinds.Text u) (alike _ _ h)
+  added_alike (list anchor cs) (lists {a} {b} {l} {m} {n} {o} {cs = xs} {ds = ys}) h = adds_alike none l m n o xs ys h.fit h.short h.deep
+  added_alike (list anchor cs) (maps {a} {b} {l} {m} {n} {o} {cs = xs} {ds = ys}) h = one_item (tree.map a (child l n xs)) (tree.map b (child m o ys)) (alike _ _ h)
+  added_alike (tree.map anchor cs) texts h = refl
+  added_alike (tree.map anchor cs) lists h = refl
+  added_alike (tree.map anchor cs) (maps {a} {b} {l} {m} {n} {o} {cs = xs} {ds = ys}) h = adds_alike cs l m n o xs ys h.fit h.short h.deep
+
+module _ (root : Node) (free : HaveNoAlias (names_of root)) (p : FoundPlace) where
+  add_further : (ms : List PathStep) {v w : Node} → AreOneKind v w → IsStandIn v w → verdict (and_then (all_allowed root) (add_below ms p v)) ≡ verdict (and_then (all_allowed root) (add_below ms p w))
+  add_further [] k h = added_alike root p.path free p.node k h
+  add_further (m ∷ ms) {v} {w} k h = put_alike root p v w h
+
+  add_there : {v w : Node} → AreOneKind v w → IsStandIn v w → verdict (and_then (all_allowed root) (add_at p v)) ≡ verdict (and_then (all_allowed root) (add_at p w))
+  add_there texts h = add_further p.missing texts h
+  add_there lists h = add_further p.missing lists h
+  add_there maps h = add_further p.missing maps h
+
+  pub add_alike : (v w : Node) → IsStandIn v w → verdict (and_then (all_allowed root) (add_at p v)) ≡ verdict (and_then (all_allowed root) (add_at p w))
+  add_alike v w h = add_there h.kind h

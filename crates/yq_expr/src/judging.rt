@@ -1,0 +1,265 @@
+//! Judging: whether an update is refused on documents, with no copy of its value for each place.
+ghost use Rattle.std.specs.Prelude.{◌≡◌, ◌<◌, IfOk, IfSome, List, Some, length, map, true, if◌then◌else◌};
+ghost use Rattle.yq_core.{specs.Anchors.{Name, names_of}, specs.Shapes.IsTree, specs.Tree.Node as TreeNode, specs.Values.value_node};
+ghost use Rattle.yq_nodes.specs.Nodes.{node_of};
+ghost use Rattle.yq_documents.specs.Reading.{documents_of};
+ghost use Rattle.yq_planner.{specs.Indexes.HasAliases, specs.StandIns.{HaveNoAlias, IsStandIn, verdict}};
+ghost use Rattle.yq_semantics.{specs.Judgement.Judges, specs.Meaning.roots_of, specs.Places.root_place, specs.Plans.plan};
+ghost use Rattle.yq_semantics.{specs.PlacesApart.AreIn, specs.RightValues.right_value as right_sum, specs.Rooms.room_of};
+ghost use Rattle.yq_semantics.{specs.Program.{update_at, update_count}, specs.View.{program_of, term_of, update_of}};
+ghost use Rattle.yq_expr.specs.EffectView.{value_at};
+ghost use Rattle.yq_eval.{specs.FoundView.found_places, specs.TreeScalars.{HasScalars, HaveScalars}};
+ghost use Rattle.yq_semantics.specs.Changes as spec;
+ghost use Rattle.yq_semantics.specs.Program as programs;
+
+use crate::at_places::at_found;
+use crate::changes::{changes_at, left};
+use crate::effect::Action;
+use crate::right_value::right_value;
+use bumpalo::Bump;
+use std::alloc::{AllocError, Global};
+use yq_core::Value;
+use yq_documents::Documents;
+use yq_eval::{FoundPlace, FoundPlaces, find_places};
+use yq_nodes::Node;
+use yq_planner::{Aliases, aliases_of, has_comment, stand_in};
+use yq_semantics::{Assignment, ExprError, Operator, Program, Refusal, Syntax, Term, Update};
+
+/// A small value that is refused where a value is added, if no alias is in the document.
+fn small_added(
+    alloc: Global,
+    aliases: &Aliases<'_>,
+    value: &Value,
+) -> Result<Option<Value>, AllocError>
+    ensures small { IfOk result (λ o. IfSome o (λ w. IsStandIn (value_node value.now)
+        (value_node w))) }
+    ensures free { IfOk result (λ o. IfSome o (λ _. (names : List Name) →
+        HasAliases names aliases.now → HaveNoAlias names)) }
+{
+    if aliases.is_empty() {
+        return stand_in(alloc, value);
+    }
+    Ok(None)
+}
+
+/// A small value that is refused where a value is added, or put.
+fn small_value(
+    alloc: Global,
+    aliases: &Aliases<'_>,
+    adds: bool,
+    value: &Value,
+) -> Result<Option<Value>, AllocError>
+    ensures small { IfOk result (λ o. IfSome o (λ w. IsStandIn (value_node value.now)
+        (value_node w))) }
+    ensures free { IfOk result (λ o. IfSome o (λ _. adds ≡ true → (names : List Name) →
+        HasAliases names aliases.now → HaveNoAlias names)) }
+{
+    if adds {
+        return small_added(alloc, aliases, value);
+    }
+    stand_in(alloc, value)
+}
+
+/// Judges one value that is added, or put, at each of places of document `doc`.
+fn judge_one<'a, 't>(
+    alloc: Global,
+    documents: &Documents<'_>,
+    doc: usize,
+    aliases: &Aliases<'_>,
+    adds: bool,
+    value: &Value,
+    places: &FoundPlaces<'a, 't>,
+) -> Result<(), ExprError>
+    requires { HaveScalars (found_places places.now) }
+    ensures { (root : TreeNode) → HasAliases (names_of root) aliases.now →
+        AreIn root (found_places places.now) → Judges (λ _. tt) result
+        (verdict (spec.at_each root (value_at adds (value_node value.now))
+        (found_places places.now))) }
+{
+    let effect = if adds {
+        Action::Add(value)
+    } else {
+        Action::Put(value)
+    };
+    let _changes = at_found(alloc, documents, doc, aliases, effect, places)?;
+    Ok(())
+}
+
+/// The same, by a small value if there is one.
+fn judge_value<'a, 't>(
+    alloc: Global,
+    documents: &Documents<'_>,
+    doc: usize,
+    aliases: &Aliases<'_>,
+    adds: bool,
+    value: &Value,
+    places: &FoundPlaces<'a, 't>,
+) -> Result<(), ExprError>
+    requires { HaveScalars (found_places places.now) }
+    ensures { (root : TreeNode) → HasAliases (names_of root) aliases.now →
+        AreIn root (found_places places.now) → Judges (λ _. tt) result
+        (verdict (spec.at_each root (value_at adds (value_node value.now))
+        (found_places places.now))) }
+{
+    let found = small_value(alloc, aliases, adds, value)?;
+    match found {
+        Some(small) => judge_one(alloc, documents, doc, aliases, adds, &small, places),
+        None => judge_one(alloc, documents, doc, aliases, adds, value, places),
+    }
+}
+
+/// Judges a right side that is added, or put, at each of places of document `doc`, which has that root.
+fn judge_right<'a, 't>(
+    alloc: Global,
+    documents: &Documents<'_>,
+    doc: usize,
+    root: &Node<'a, 't>,
+    aliases: &Aliases<'_>,
+    adds: bool,
+    right: &'a [Term],
+    places: &FoundPlaces<'a, 't>,
+) -> Result<(), ExprError>
+    requires root { HasScalars (node_of root.now) }
+    requires scalars { HaveScalars (found_places places.now) }
+    requires within { AreIn (node_of root.now) (found_places places.now) }
+    requires aliases { HasAliases (names_of (node_of root.now)) aliases.now }
+    requires some { 0 < length (found_places places.now) }
+    ensures { Judges (λ _. tt) result (verdict (spec.with_value (node_of root.now)
+        (right_sum doc (map term_of right.now) (root_place (node_of root.now)))
+        (if adds then spec.add_at else spec.put_with_path) (found_places places.now))) }
+{
+    let value = right_value(alloc, doc, right, &FoundPlace::of_root(root))?;
+    judge_value(alloc, documents, doc, aliases, adds, &value, places)
+}
+
+/// Judges an update at places of document `doc`, which has that root: its changes are made, and let go.
+fn judge_changes<'a, 't>(
+    alloc: Global,
+    documents: &Documents<'_>,
+    doc: usize,
+    root: Node<'a, 't>,
+    update: &'a Update,
+    places: &FoundPlaces<'a, 't>,
+) -> Result<(), ExprError>
+    requires root { HasScalars (node_of root) }
+    requires scalars { HaveScalars (found_places places.now) }
+    requires within { AreIn (node_of root) (found_places places.now) }
+    ensures { Judges (λ _. tt) result (verdict
+        (spec.changes_at doc (room_of documents.now doc) (node_of root.entry)
+        (update_of update.now) (found_places places.now))) }
+{
+    let _changes = changes_at(alloc, documents, doc, root, update, places)?;
+    Ok(())
+}
+
+/// The same, of an assignment by one value for all places.
+fn judge_assigned<'a, 't>(
+    alloc: Global,
+    documents: &Documents<'_>,
+    doc: usize,
+    root: Node<'a, 't>,
+    adds: bool,
+    assignment: &'a Assignment,
+    places: &FoundPlaces<'a, 't>,
+) -> Result<(), ExprError>
+    requires root { HasScalars (node_of root) }
+    requires scalars { HaveScalars (found_places places.now) }
+    requires within { AreIn (node_of root) (found_places places.now) }
+    requires operator { assignment.now.operator ≡ (if adds then Operator.Add else Operator.Set) }
+    ensures { Judges (λ _. tt) result (verdict
+        (spec.changes_at doc (room_of documents.now doc) (node_of root.entry)
+        (update_of (Update.Assign assignment.now)) (found_places places.now))) }
+{
+    if places.is_empty() {
+        return Ok(());
+    }
+    let aliases = aliases_of(alloc, &root)?;
+    let right: &[Term] = &assignment.right;
+    judge_right(alloc, documents, doc, &root, &aliases, adds, right, places)
+}
+
+/// The same, of any update.
+fn judge_at<'a, 't>(
+    alloc: Global,
+    documents: &Documents<'_>,
+    doc: usize,
+    root: Node<'a, 't>,
+    update: &'a Update,
+    places: &FoundPlaces<'a, 't>,
+) -> Result<(), ExprError>
+    requires root { HasScalars (node_of root) }
+    requires scalars { HaveScalars (found_places places.now) }
+    requires within { AreIn (node_of root) (found_places places.now) }
+    ensures { Judges (λ _. tt) result (verdict
+        (spec.changes_at doc (room_of documents.now doc) (node_of root.entry)
+        (update_of update.now) (found_places places.now))) }
+{
+    let Update::Assign(assignment) = update else {
+        return judge_changes(alloc, documents, doc, root, update, places);
+    };
+    match assignment.operator {
+        Operator::Set => judge_assigned(alloc, documents, doc, root, false, assignment, places),
+        Operator::Add => judge_assigned(alloc, documents, doc, root, true, assignment, places),
+        Operator::Modify => judge_changes(alloc, documents, doc, root, update, places),
+    }
+}
+
+/// Judges an update in document `doc`, which has that root.
+fn judge_in(
+    alloc: Global,
+    documents: &Documents<'_>,
+    doc: usize,
+    root: Node<'_, '_>,
+    update: &Update,
+) -> Result<(), ExprError>
+    requires scalars { HasScalars (node_of root) }
+    requires tree { IsTree (node_of root) }
+    ensures { Judges (λ _. tt) result (verdict
+        (spec.changes_in (update_of update.now) doc (room_of documents.now doc)
+        (node_of root.entry))) }
+{
+    let bump = Bump::new(alloc);
+    let places = find_places(alloc, &bump, doc, left(update), root)?;
+    judge_at(alloc, documents, doc, root, update, &places)
+}
+
+/// Judges an update in each document, up to the first refusal.
+fn judge_update(alloc: Global, update: &Update, documents: &Documents<'_>) -> Result<(), ExprError>
+    ensures { Judges (λ _. tt) result (verdict (spec.update_changes (update_of update.now)
+        (room_of documents.now) (roots_of (documents_of documents.now)))) }
+{
+    if !has_comment(update) {
+        return Err(ExprError::Refused(Refusal::BadCommentText));
+    }
+    documents.are_ready();
+    'documents: for doc in 0..documents.count() {
+        judge_in(alloc, documents, doc, Node::root(documents, doc), update)?;
+    }
+    Ok(())
+}
+
+/// Judges the plan of an update.
+fn judge_plan(alloc: Global, update: &Update, documents: &Documents<'_>) -> Result<(), ExprError>
+    ensures { Judges (λ _. tt) result (verdict (plan (update_of update.now)
+        (room_of documents.now) (documents_of documents.now))) }
+{
+    judge_update(alloc, update, documents)
+}
+
+/// Judges update `nth` of a program, counted from 0, on documents: it has a plan there, or is refused.
+pub fn judge(
+    alloc: Global,
+    program: &Program,
+    nth: usize,
+    documents: &Documents<'_>,
+) -> Result<(), ExprError>
+    requires { nth < update_count (program_of program.now) }
+    ensures { (u : programs.Update) → update_at nth (program_of program.now) ≡ Some u →
+        Judges (λ _. tt) result (verdict (plan u (room_of documents.now)
+        (documents_of documents.now))) }
+{
+    match program.syntax() {
+        Syntax::Read(_) => Ok(()),
+        Syntax::Updates(updates) => judge_plan(alloc, &updates[nth], documents),
+    }
+}

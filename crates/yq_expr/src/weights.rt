@@ -1,0 +1,218 @@
+//! How much memory the values of an update take, which are made for each of its places.
+ghost use Rattle.std.specs.Prelude.{◌≡◌, ◌<◌, IfErr, IfOk, IfSome, Some, length, true};
+ghost use Rattle.yq_documents.specs.Reading.{documents_of};
+ghost use Rattle.yq_nodes.specs.Nodes.{node_of};
+ghost use Rattle.yq_semantics.{specs.Program.{update_at, update_count}, specs.View.{program_of, update_of}};
+ghost use Rattle.yq_semantics.specs.declared.expr_error.ExprError.{ExprError};
+ghost use Rattle.yq_eval.specs.TreeScalars.{HasScalars};
+ghost use Rattle.yq_expr.specs.Parts.{IsInOrder};
+ghost use Rattle.yq_semantics.specs.Program as spec;
+
+use crate::changes::left;
+use crate::right_value::right_value;
+use bumpalo::Bump;
+use std::alloc::Global;
+use yq_core::Value;
+use yq_documents::Documents;
+use yq_eval::{FoundPlace, FoundPlaces, find_places};
+use yq_nodes::Node;
+use yq_semantics::{ExprError, Operator, Program, Syntax, Term, Update};
+
+/// How many bytes a scalar takes without its text, a key without its text, and a collection without what is
+/// in it.
+const SCALAR_WEIGHT: usize = 88;
+
+const KEY_WEIGHT: usize = 40;
+
+const COLLECTION_WEIGHT: usize = 64;
+
+/// How many bytes an item or entry takes that is added, without its value.
+const ADDITION_WEIGHT: usize = 384;
+
+/// How many bytes the values of an update may take at once, more or less.
+pub(crate) const VALUES_LIMIT: usize = 1 << 28;
+
+/// How many bytes a value takes, more or less.
+#[cycle(weight)]
+fn weight(value: &Value) -> usize {
+    match value {
+        Value::Scalar(scalar) => scalar.text().len().saturating_add(SCALAR_WEIGHT),
+        Value::List(items) => items_weight(items),
+        Value::Map(entries) => entries_weight(entries),
+    }
+}
+
+/// The same of items.
+#[cycle(weight)]
+fn items_weight(items: &Vec<Value>) -> usize {
+    let mut sum = COLLECTION_WEIGHT;
+    'each: for item in items {
+        sum = sum.saturating_add(weight(item));
+    }
+    sum
+}
+
+/// The same of entries.
+#[cycle(weight)]
+fn entries_weight(entries: &Vec<(String, Value)>) -> usize {
+    let mut sum = COLLECTION_WEIGHT;
+    'each: for entry in entries {
+        sum = sum.saturating_add(entry.0.len().saturating_add(KEY_WEIGHT));
+        sum = sum.saturating_add(weight(&entry.1));
+    }
+    sum
+}
+
+/// How many bytes operations take that add a value, without that value.
+fn additions_weight(value: &Value) -> usize {
+    let count = match value {
+        Value::Scalar(_) => 1,
+        Value::List(items) => items.len(),
+        Value::Map(entries) => entries.len(),
+    };
+    count.saturating_mul(ADDITION_WEIGHT)
+}
+
+/// The right side of an assignment by one value for all places of a document.
+fn shared(update: &Update) -> Option<&[Term]>
+    ensures { IfSome result (λ _. IsInOrder (update_of update.now)) }
+{
+    let Update::Assign(assignment) = update else {
+        return None;
+    };
+    match assignment.operator {
+        Operator::Set | Operator::Add => Some(&assignment.right),
+        Operator::Modify => None,
+    }
+}
+
+/// How many bytes the value of a right side takes at most in a text of that length, more or less.
+fn most_weight(right: &[Term], length: usize) -> usize {
+    let mut sum = ADDITION_WEIGHT;
+    'terms: for term in right {
+        let most = match term {
+            Term::Literal(value) => weight(value),
+            Term::Pipe(_) => length.saturating_mul(SCALAR_WEIGHT),
+        };
+        sum = sum.saturating_add(most);
+    }
+    sum
+}
+
+/// Whether the value of an assignment is added.
+fn adds(update: &Update) -> bool {
+    let Update::Assign(assignment) = update else {
+        return false;
+    };
+    assignment.operator == Operator::Add
+}
+
+/// How many bytes the value takes that an update has for each place of a document with that root.
+fn value_weight(
+    alloc: Global,
+    doc: usize,
+    update: &Update,
+    root: &Node<'_, '_>,
+) -> Result<usize, ExprError>
+    requires { HasScalars (node_of root.now) }
+{
+    let Some(right) = shared(update) else {
+        return Ok(0);
+    };
+    let value = right_value(alloc, doc, right, &FoundPlace::of_root(root))?;
+    if adds(update) {
+        return Ok(weight(&value).saturating_add(additions_weight(&value)));
+    }
+    Ok(weight(&value))
+}
+
+/// The same, where a refusal is left to the plan.
+pub(crate) fn weight_at(
+    alloc: Global,
+    doc: usize,
+    update: &Update,
+    root: &Node<'_, '_>,
+) -> Result<usize, ExprError>
+    requires { HasScalars (node_of root.now) }
+    ensures { IfErr result (λ e. e ≡ ExprError.Memory) }
+{
+    match value_weight(alloc, doc, update, root) {
+        Ok(weight) => Ok(weight),
+        Err(ExprError::Refused(_)) => Ok(0),
+        Err(ExprError::Memory) => Err(ExprError::Memory),
+    }
+}
+
+/// How many places there are.
+fn place_count(places: &FoundPlaces<'_, '_>) -> usize {
+    match places {
+        FoundPlaces::Listed(places) => places.len(),
+        FoundPlaces::Children(parent) => parent.node.count(),
+    }
+}
+
+/// How many bytes the values of an update take that are made for a document with that root, but for one of
+/// them; nothing, where it is refused.
+fn document_weight(
+    alloc: Global,
+    doc: usize,
+    update: &Update,
+    root: Node<'_, '_>,
+) -> Result<Option<usize>, ExprError>
+    requires { HasScalars (node_of root) }
+    ensures { IfErr result (λ e. e ≡ ExprError.Memory) }
+{
+    let bump = Bump::new(alloc);
+    let count = match find_places(alloc, &bump, doc, left(update), root) {
+        Ok(places) => place_count(&places),
+        Err(ExprError::Refused(_)) => return Ok(None),
+        Err(ExprError::Memory) => return Err(ExprError::Memory),
+    };
+    if count < 2 {
+        return Ok(Some(0));
+    }
+    let weight = weight_at(alloc, doc, update, &root)?;
+    Ok(Some(weight.saturating_mul(count - 1)))
+}
+
+/// Whether the values of an update, which are made for documents, take more than they may at once.
+fn are_heavy(alloc: Global, update: &Update, documents: &Documents<'_>) -> Result<bool, ExprError>
+    ensures { IfErr result (λ e. e ≡ ExprError.Memory) }
+{
+    let mut sum = 0usize;
+    'documents: for doc in 0..documents.count() {
+        match document_weight(alloc, doc, update, Node::root(documents, doc))? {
+            Some(weight) => sum = sum.saturating_add(weight),
+            None => break,
+        }
+    }
+    Ok(sum > VALUES_LIMIT)
+}
+
+/// Whether the values that update `nth` of a program, counted from 0, makes for documents would take so
+/// much memory that its plan is to be made in parts.
+pub fn is_heavy(
+    alloc: Global,
+    program: &Program,
+    nth: usize,
+    documents: &Documents<'_>,
+) -> Result<bool, ExprError>
+    requires { nth < spec.update_count (program_of program.now) }
+    // Such an update has its operations in the order of its places.
+    ensures heavy { result ≡ Ok true → (u : spec.Update) →
+        update_at nth (program_of program.now) ≡ Some u → IsInOrder u }
+    ensures err { IfErr result (λ e. e ≡ ExprError.Memory) }
+{
+    let Syntax::Updates(updates) = program.syntax() else {
+        return Ok(false);
+    };
+    let update = &updates[nth];
+    let Some(right) = shared(update) else {
+        return Ok(false);
+    };
+    let length = documents.text().len();
+    if most_weight(right, length).saturating_mul(length) <= VALUES_LIMIT {
+        return Ok(false);
+    }
+    are_heavy(alloc, update, documents)
+}
