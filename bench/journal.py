@@ -6,7 +6,8 @@ First so many edits (1,000 where no number is given) of a file of 1,000 lines, e
 a process that ends at once: the processor's time of all, and of the first and the last tenth.
 Then, on a file of 30 lines next to journals of 1, 1,000 and 4,000 records of 175 bytes: where valgrind is there, the instructions
 of an edit, an undo and a history, which don't vary; else the processor's time. Last, an edit of a file of 100,000 items after
-three updates of all of them, whose journal holds 300,000 splices: processor's time, and the peak of the resident memory.
+three updates of all of them, whose journal holds 300,000 splices: processor's time, and the peak of the resident memory. And an
+undo of records of 350 to 350,000 splices at both ends of a text of 16 MB by turns.
 """
 
 import base64
@@ -102,11 +103,26 @@ def many_splices(yq):
         print(f"an edit beside a journal of 300,000 splices, {size} bytes: {seconds:.3f} s, peak {peak / 1e6:.0f} MB")
 
 
+def ends_by_turns(yq):
+    """An undo of splices of no bytes, at the begin and at the end of a text of 16 MB by turns."""
+    text = b"n: 1\n# ".ljust(15_999_999, b"x") + b"\n"
+    for count in (350, 35_000, 350_000):
+        splices = [{"at": n % 2 * len(text), "new": "", "old": ""} for n in range(count)]
+        record = {"after_len": len(text), "before_len": len(text), "count": 1, "expr": ".", "splices": splices}
+        journal = json.dumps({"at": 1, "pending": None, "records": [record], "version": 2}, separators=(",", ":")).encode()
+        with tempfile.TemporaryDirectory(prefix="yq-bench-") as folder:
+            written(folder, "f", text)
+            written(folder, "f.undo.json", journal)
+            seconds, peak, _ = used_by([yq, "undo", "f"], folder)
+        print(f"an undo of {count:>7} splices at both ends of 16 MB, a journal of {len(journal):>8} bytes: {seconds:.3f} s, peak {peak / 1e6:.0f} MB")
+
+
 def main():
     yq = os.path.realpath(sys.argv[1])
     many(yq, int(sys.argv[2]) if len(sys.argv) > 2 else 1000)
     by_records(yq)
     many_splices(yq)
+    ends_by_turns(yq)
 
 
 if __name__ == "__main__":

@@ -16,6 +16,7 @@ ONE, TWO = b"n: 1\n", b"n: 2\n"
 EDIT = ["-i", ".n = 2", "f"]
 COMMANDS = (EDIT, ["undo", "f"], ["redo", "f"], ["squash", "1", "f"], ["history", "f"])
 HINT = b"yq: the journal is too large: YQ_JOURNAL_LIMIT=N allows N MiB (64 without it)\n"
+SPLICES, PROCESSOR = 35_000, 5
 TOO_LONG = b"yq: the journal's name is too long: --journal PATH gives another\n"
 S2, S3 = b"Error: S2 read failed\n", b"Error: S3 write failed\n"
 MEMORY = 300 * MIB
@@ -94,6 +95,33 @@ def check_an_undo_makes_no_text_that_is_too_long(folder):
                 equal(place.read("f") == long, True)
                 place.accepts("redo", "f", before=before)
                 equal(place.read("f"), ONE)
+
+
+def run_in_seconds(folder, *words):
+    """With so many seconds of the processor."""
+
+    def few_seconds():
+        resource.setrlimit(resource.RLIMIT_CPU, (PROCESSOR, PROCESSOR))
+
+    done = subprocess.run([folder.yq, *words], cwd=folder.path, capture_output=True, timeout=SECONDS, preexec_fn=few_seconds)
+    return done.returncode, done.stdout, done.stderr
+
+
+def check_splices_at_both_ends_by_turns(folder):
+    """A journal of 1.3 MB, whose record puts lines before and after a text of nearly 16 MB in turn, holds no run up."""
+    line, half = b"#\n", SPLICES // 2
+    old = b"n: 1\n# ".ljust(LONGEST - len(line) * SPLICES - 1, b"x") + b"\n"
+    text = line * half + old + line * half
+    splices = [
+        {"at": n % 2 * (len(old) + len(line) * n), "new": base64.b64encode(line).decode(), "old": ""} for n in range(SPLICES)
+    ]
+    record = {"after_len": len(text), "before_len": len(old), "count": 1, "expr": ".", "splices": splices}
+    journal = {"at": 1, "pending": None, "records": [record], "version": 2}
+    folder.write("f", text)
+    folder.write("f.undo.json", json.dumps(journal, separators=(",", ":")).encode())
+    for words, wanted in (("undo", old), ("redo", text), ("undo", old)):
+        equal(run_in_seconds(folder, words, "f"), (0, b"", b""), words)
+        equal(folder.read("f") == wanted, True, words)
 
 
 def check_a_journal_whose_name_is_too_long(folder):

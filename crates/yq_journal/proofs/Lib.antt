@@ -13,3 +13,4 @@ pub mod NumberLaws
 pub mod RunLaws
 pub mod SquashLaws
 pub mod StandLaws
+pub mod StepLaws

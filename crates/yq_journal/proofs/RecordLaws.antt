@@ -38,8 +38,7 @@ done_after_undone r b c e =
 take_last : (ss : List Splice) (n : ℕ) (s : Splice) → 0 < n → n ≤ length ss → s ≡ get_or ss (n - 1) s → take n ss ≡ take (n - 1) ss ++ s ∷ []
 take_last ss n s pos fits is = grind (arith, common_steps)
 
--- one splice taken back, from the last on
-pub undone_step : (ss : List Splice) (n : ℕ) (s : Splice) (b : List ℕ) → 0 < n → n ≤ length ss → s ≡ get_or ss (n - 1) s → all_done (flipped (take n ss)) b ≡ option_and_then (all_done (flipped (take (n - 1) ss))) (change_done (swapped s) b)
-undone_step ss n s b pos fits is =
-    ap (λ l. all_done (flipped l) b) (take_last ss n s pos fits is)
-    ∙ ap (λ l. all_done l b) (flipped-append (take (n - 1) ss) (s ∷ []))
+-- the splices taken back, from the last on
+pub flipped_step : (ss : List Splice) (n : ℕ) (s : Splice) → 0 < n → n ≤ length ss → s ≡ get_or ss (n - 1) s
+    → flipped (take n ss) ≡ swapped s ∷ flipped (take (n - 1) ss)
+flipped_step ss n s pos fits is = ap flipped (take_last ss n s pos fits is) ∙ flipped-append (take (n - 1) ss) (s ∷ [])

@@ -51,12 +51,12 @@ flipped_at (x ∷ ss) k s h is =
 -- ---- lengths
 
 -- what a splice does to a length
-record Lengths (s : Splice) (n m : ℕ) : Type 0 where
-  fits : s.at + length s.old ≤ n
-  small : m < 2 ^ 64
-  is : m ≡ n - length s.old + length s.new
+pub record Lengths (s : Splice) (n m : ℕ) : Type 0 where
+  pub fits : s.at + length s.old ≤ n
+  pub small : m < 2 ^ 64
+  pub is : m ≡ n - length s.old + length s.new
 
-parts_of_length : (s : Splice) (n m : ℕ) → length_done s n ≡ Some m → Lengths s n m
+pub parts_of_length : (s : Splice) (n m : ℕ) → length_done s n ≡ Some m → Lengths s n m
 unfolding length_done
 parts_of_length s n m h = search (rules, cond_some, and_parts, leb-true, ltb-true)
 
@@ -108,7 +108,7 @@ lengths_flip (s ∷ ss) n m e h = option_and_then_some (lengths_done ss) (length
     ∙ ap (option_and_then (λ d. Some d)) back)
 
 -- the lengths up to a place of splices whose lengths are all within
-lengths_up_to : (ss rest : List Splice) (text b : List ℕ) → lengths_done (ss ++ rest) (length text) ≢ None → all_done ss text ≡ Some b → (lengths_done ss (length text) ≡ Some (length b)) × (lengths_done rest (length b) ≢ None)
+pub lengths_up_to : (ss rest : List Splice) (text b : List ℕ) → lengths_done (ss ++ rest) (length text) ≢ None → all_done ss text ≡ Some b → (lengths_done ss (length text) ≡ Some (length b)) × (lengths_done rest (length b) ≢ None)
 lengths_up_to ss rest text b h e = search (rules, and_then_some, lengths_done-append, lengths_follow, none-some, same_Some)
 
 -- each splice lies within the text that it finds

@@ -1,132 +1,94 @@
-//! A gap buffer of bytes, where splices are done in turn.
-ghost use Rattle.std.specs.Prelude.{◌≡◌, ◌↔◌, ◌+◌, ◌<◌, ◌≤◌, [], ◌++◌, false, None, Some, IsTrue, IfOk, OnOk, length, drop, option_map};
-ghost use Rattle.std.specs.Prelude.{reverse, if◌then◌else◌};
-ghost use Rattle.yq_journal.{specs.ByteGapBuffer.{splice_of_parts, buffer_bytes}, specs.Turned.flipped_if};
-ghost use Rattle.yq_text.specs.Splice.{all_done, change_done, flipped};
+//! A gap buffer of bytes in pieces, where splices are done in turn.
+ghost use Rattle.std.specs.Prelude.{◌≡◌, ◌≢◌, ◌+◌, ◌≤◌, ◌++◌, None, Some, IsTrue, IfOk, OnOk, length, if◌then◌else◌, option_map};
+ghost use Rattle.yq_journal.{specs.ByteGapBuffer.{HasCursor, buffer_bytes, splice_of_parts}, specs.Turned.flipped_if};
+ghost use Rattle.yq_text.specs.Splice.{all_done, change_done, flipped, length_done, lengths_done};
 
+mod pieces;
+
+use crate::gap::pieces::{add_all, move_back, move_on, take_off};
 use std::alloc::{AllocError, Global};
 use std::marker::Model;
 use yq_text::Splice;
 
-/// A gap buffer of bytes, cut in two at a cursor: the front up to the cursor, the bytes that
-/// were moved back over it, last first, and the rest, which no splice has
-/// reached yet.
+/// How many splices are done on the pieces of one text, which are joined then. A splice leaves two
+/// pieces more at most, and may move each of them over the cursor.
+const SPLICES_OF_A_TEXT: usize = 1024;
+
+/// A gap buffer of the bytes of a text, cut in two at a cursor: the pieces before it, and those after
+/// it, the last one first. To move the cursor takes a step for each piece between its old place and
+/// its new one, however long these are.
 #[derive(Drop)]
 struct ByteGapBuffer<'t> {
-    front: Vec<u8>,
-    back: Vec<u8>,
-    rest: &'t [u8],
+    before: Vec<&'t [u8]>,
+    after: Vec<&'t [u8]>,
+    /// How many bytes are before the cursor.
+    at: usize,
 }
 
 impl<'t> Model for ByteGapBuffer<'t> {
-    ghost use Rattle.std.specs.Prelude.{◌++◌, reverse};
-    ghost use Rattle.yq_journal.specs.ByteGapBuffer.{ByteGapView};
+    ghost use Rattle.yq_journal.specs.ByteGapBuffer.{ByteGapView, forward_bytes, backward_bytes};
 
     ghost Value = { ByteGapView };
 
-    ghost view = { λ g. record { before = g.front.items; behind = reverse g.back.items ++ g.rest.now } };
-}
-
-/// Moves the last `count` bytes of one list to the end of the other, last first.
-fn shift(from: &mut Vec<u8>, to: &mut Vec<u8>, count: usize) -> Result<(), AllocError>
-    requires { count ≤ length from.old.items }
-    ensures count { OnOk result (length from.new.items + count ≡ length from.old.items) }
-    ensures turned { OnOk result (length to.new.items ≡ length to.old.items + count) }
-    ensures bytes { OnOk result (to.new.items ++ reverse from.new.items ≡
-        to.old.items ++ reverse from.old.items) }
-{
-    'bytes: for _ in 0..count {
-        if let Some(byte) = from.pop() {
-            to.push(byte)?;
-        }
-    }
-    Ok(())
-}
-
-/// Whether the bytes from an offset on are these.
-fn is_tail(bytes: &[u8], at: usize, tail: &[u8]) -> bool
-    requires { at ≤ length bytes.now }
-    ensures { IsTrue result ↔ (drop at bytes.now ≡ tail.now) }
-{
-    &bytes[at..] == tail
+    ghost view = { λ g. record {
+      before = forward_bytes g.before.items;
+      after = backward_bytes g.after.items;
+      at = g.at;
+    } };
 }
 
 impl<'t> ByteGapBuffer<'t> {
     fn new(alloc: Global, text: &'t [u8]) -> Result<ByteGapBuffer<'t>, AllocError>
-        ensures { IfOk result (λ g. (g.before ≡ []) × (g.behind ≡ text.entry.now)) }
+        ensures bytes { IfOk result (λ g. buffer_bytes g ≡ text.entry.now) }
+        ensures placed { IfOk result (λ g. HasCursor g) }
     {
+        let mut after = Vec::new(alloc);
+        after.push(text)?;
         Ok(ByteGapBuffer {
-            front: Vec::with_capacity(alloc, text.len())?,
-            back: Vec::new(alloc),
-            rest: text,
+            before: Vec::new(alloc),
+            after,
+            at: 0,
         })
     }
 
-    /// Moves the cursor on by so many bytes, where they are there.
-    fn forward(&mut self, count: usize) -> Result<bool, AllocError>
-        ensures moved { IfOk result (λ there. IsTrue there →
-            (buffer_bytes self.new ≡ buffer_bytes self.old) ×
-            (length self.new.before ≡ length self.old.before + count)) }
-        ensures short { IfOk result (λ there. there ≡ false → length self.old.behind < count) }
+    /// Moves the cursor to so many bytes from the text's start.
+    fn seek(&mut self, at: usize) -> Result<(), AllocError>
+        requires placed { HasCursor self.old }
+        requires within { at ≤ length (buffer_bytes self.old) }
+        ensures bytes { OnOk result (buffer_bytes self.new ≡ buffer_bytes self.old) }
+        ensures place { OnOk result (length self.new.before ≡ at) }
+        ensures placed { OnOk result (HasCursor self.new) }
     {
-        let turned = count.min(self.back.len());
-        shift(&mut self.back, &mut self.front, turned)?;
-        let left = count - turned;
-        if left > self.rest.len() {
-            return Ok(false);
-        }
-        self.front.extend_from_slice(&self.rest[..left])?;
-        self.rest = &self.rest[left..];
-        Ok(true)
-    }
-
-    /// Moves the cursor to so many bytes from the text's start, where they are there.
-    fn seek(&mut self, at: usize) -> Result<bool, AllocError>
-        ensures moved { IfOk result (λ there. IsTrue there →
-            (buffer_bytes self.new ≡ buffer_bytes self.old) ×
-            (length self.new.before ≡ at)) }
-        ensures short { IfOk result (λ there. there ≡ false → length (buffer_bytes self.old) < at) }
-    {
-        let here = self.front.len();
+        let here = self.at;
+        self.at = at;
         if here <= at {
-            return self.forward(at - here);
+            return move_on(&mut self.after, &mut self.before, at - here);
         }
-        shift(&mut self.front, &mut self.back, here - at)?;
-        Ok(true)
+        move_back(&mut self.before, &mut self.after, here - at)
     }
 
-    /// Moves the cursor to so many bytes after an offset, where they are there.
-    fn reach(&mut self, at: usize, count: usize) -> Result<bool, AllocError>
-        ensures moved { IfOk result (λ there. IsTrue there →
-            (buffer_bytes self.new ≡ buffer_bytes self.old) ×
-            (length self.new.before ≡ at + count)) }
-        ensures short { IfOk result (λ there. there ≡ false →
-            length (buffer_bytes self.old) < at + count) }
-    {
-        if !self.seek(at)? {
-            return Ok(false);
-        }
-        self.forward(count)
-    }
-
-    /// Puts the new bytes in the place of the old ones, where these apply at the offset.
-    fn exchange(&mut self, at: usize, old: &[u8], new: &[u8]) -> Result<bool, AllocError>
-        ensures { IfOk result (λ done. (if done then Some (buffer_bytes self.new) else None) ≡
+    /// Puts the new bytes in the place of the old ones, where these are at the offset.
+    fn exchange(&mut self, at: usize, old: &[u8], new: &'t [u8]) -> Result<bool, AllocError>
+        requires placed { HasCursor self.old }
+        requires lies { length_done (splice_of_parts at old.now new.now)
+            (length (buffer_bytes self.old)) ≢ None }
+        ensures done { IfOk result (λ done. (if done then Some (buffer_bytes self.new) else None) ≡
             change_done (splice_of_parts at old.now new.now) (buffer_bytes self.old)) }
+        ensures placed { IfOk result (λ done. IsTrue done → HasCursor self.new) }
     {
-        if !self.reach(at, old.len())? {
+        self.seek(at)?;
+        if !take_off(&mut self.after, old)? {
             return Ok(false);
         }
-        if !is_tail(&self.front, at, old) {
-            return Ok(false);
-        }
-        self.front.truncate(at);
-        self.front.extend_from_slice(new)?;
+        self.before.push(new)?;
+        self.at += new.len();
         Ok(true)
     }
 
     /// Does splices in order, where they apply.
-    fn do_all(&mut self, splices: &[Splice]) -> Result<bool, AllocError>
+    fn do_all(&mut self, splices: &'t [Splice]) -> Result<bool, AllocError>
+        requires placed { HasCursor self.old }
+        requires lie { lengths_done splices.now (length (buffer_bytes self.old)) ≢ None }
         ensures { IfOk result (λ done. (if done then Some (buffer_bytes self.new) else None) ≡
             all_done splices.now (buffer_bytes self.old)) }
     {
@@ -139,7 +101,9 @@ impl<'t> ByteGapBuffer<'t> {
     }
 
     /// Takes splices back, the last one first, where they apply.
-    fn undo_all(&mut self, splices: &[Splice]) -> Result<bool, AllocError>
+    fn undo_all(&mut self, splices: &'t [Splice]) -> Result<bool, AllocError>
+        requires placed { HasCursor self.old }
+        requires lie { lengths_done (flipped splices.now) (length (buffer_bytes self.old)) ≢ None }
         ensures { IfOk result (λ done. (if done then Some (buffer_bytes self.new) else None) ≡
             all_done (flipped splices.now) (buffer_bytes self.old)) }
     {
@@ -154,29 +118,31 @@ impl<'t> ByteGapBuffer<'t> {
         Ok(true)
     }
 
-    /// The whole text.
-    fn into_text(self) -> Result<Vec<u8>, AllocError>
+    /// The whole text, which is about so long.
+    fn into_text(self, alloc: Global, len: usize) -> Result<Vec<u8>, AllocError>
         ensures { IfOk result (λ text. text.items ≡ buffer_bytes self.entry) }
     {
         let ByteGapBuffer {
-            mut front,
-            mut back,
-            rest,
+            before,
+            mut after,
+            ..
         } = self;
-        let count = back.len();
-        shift(&mut back, &mut front, count)?;
-        front.extend_from_slice(rest)?;
-        Ok(front)
+        after.reverse();
+        let mut text = Vec::with_capacity(alloc, len)?;
+        add_all(&mut text, &before)?;
+        add_all(&mut text, &after)?;
+        Ok(text)
     }
 }
 
-/// The text with the splices done in order, or taken back, the last one first, where they apply.
-pub(crate) fn spliced(
+/// The text with few splices done in order, or taken back, the last one first, where they apply.
+fn few_spliced(
     alloc: Global,
     splices: &[Splice],
     back: bool,
     text: &[u8],
 ) -> Result<Option<Vec<u8>>, AllocError>
+    requires { lengths_done (flipped_if back splices.now) (length text.now) ≢ None }
     ensures { IfOk result (λ o. option_map (λ v. v.items) o ≡
         all_done (flipped_if back splices.now) text.now) }
 {
@@ -189,5 +155,46 @@ pub(crate) fn spliced(
     if !done? {
         return Ok(None);
     }
-    Ok(Some(gap.into_text()?))
+    Ok(Some(gap.into_text(alloc, text.len())?))
+}
+
+/// So many of the splices that come first, as they are done or taken back, and the others.
+fn parted(splices: &[Splice], back: bool, count: usize) -> (&[Splice], &[Splice])
+    requires { count ≤ length splices.now }
+    ensures parts { flipped_if back splices.entry.now ≡
+        flipped_if back result.0.now ++ flipped_if back result.1.now }
+    ensures shorter { length result.1.now + count ≡ length splices.entry.now }
+{
+    if back {
+        let (others, first) = splices.split_at(splices.len() - count);
+        (first, others)
+    } else {
+        splices.split_at(count)
+    }
+}
+
+/// The text with the splices done in order, or taken back, the last one first, where they apply.
+pub(crate) fn spliced(
+    alloc: Global,
+    splices: &[Splice],
+    back: bool,
+    text: &[u8],
+) -> Result<Option<Vec<u8>>, AllocError>
+    requires { lengths_done (flipped_if back splices.now) (length text.now) ≢ None }
+    ensures { IfOk result (λ o. option_map (λ v. v.items) o ≡
+        all_done (flipped_if back splices.now) text.now) }
+{
+    let (first, mut others) = parted(splices, back, splices.len().min(SPLICES_OF_A_TEXT));
+    let Some(mut reached) = few_spliced(alloc, first, back, text)? else {
+        return Ok(None);
+    };
+    'texts: while !others.is_empty() {
+        let (next, more) = parted(others, back, others.len().min(SPLICES_OF_A_TEXT));
+        match few_spliced(alloc, next, back, &reached)? {
+            Some(bytes) => reached = bytes,
+            None => return Ok(None),
+        }
+        others = more;
+    }
+    Ok(Some(reached))
 }

@@ -90,8 +90,9 @@ pub fn undo_record(alloc: Global, patch: &Record, text: &[u8]) -> Result<Vec<u8>
     if text.len() as u64 != patch.after_len {
         return Err(JournalError::Fault(JournalFault::DoesNotStand));
     }
+    let before_len = patch.before_len;
     match spliced(alloc, &patch.splices, true, text)? {
-        Some(patched) if patched.len() as u64 == patch.before_len => Ok(patched),
+        Some(patched) if patched.len() as u64 == before_len => Ok(patched),
         _ => Err(JournalError::Fault(JournalFault::DoesNotStand)),
     }
 }

@@ -1,10 +1,15 @@
-use Rattle.std.proofs.Common.{◌≡◌, ◌≤◌, take, length}
-use Rattle.yq_text.specs.Splice.{all_done, flipped}
-use Rattle.yq_journal.specs.ByteGapBuffer.{buffer_bytes}
+use Rattle.std.proofs.Common.{◌≡◌, ◌≢◌, ◌≤◌, None, take, length}
+use Rattle.yq_text.specs.Splice.{all_done, flipped, lengths_done}
+use Rattle.yq_journal.specs.ByteGapBuffer.{HasCursor, buffer_bytes}
 use Rattle.yq_journal.proofs.gap.ByteGapBuffer.undo_all.Given as goal
 
 abbrev pub invariant-splices : goal.invariant-splices
-invariant-splices l = (l.left ≤ length l.splices) × (all_done (flipped (take l.left l.splices)) (buffer_bytes l.self) ≡ all_done (flipped l.splices) (buffer_bytes l.fn.self))
+invariant-splices l = record {
+  within : l.left ≤ length l.splices;
+  placed : HasCursor l.self;
+  lie : lengths_done (flipped (take l.left l.splices)) (length (buffer_bytes l.self)) ≢ None;
+  done : all_done (flipped (take l.left l.splices)) (buffer_bytes l.self) ≡ all_done (flipped l.splices) (buffer_bytes l.fn.self);
+}
 
 abbrev pub decreases-splices : goal.decreases-splices
 decreases-splices l = l.left
