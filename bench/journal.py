@@ -104,7 +104,7 @@ def many_splices(yq):
 
 
 def ends_by_turns(yq):
-    """An undo of splices of no bytes, at the begin and at the end of a text of 16 MB by turns."""
+    """An undo of splices of no bytes, at the beginning and at the end of a text of 16 MB by turns."""
     text = b"n: 1\n# ".ljust(15_999_999, b"x") + b"\n"
     for count in (350, 35_000, 350_000):
         splices = [{"at": n % 2 * len(text), "new": "", "old": ""} for n in range(count)]
