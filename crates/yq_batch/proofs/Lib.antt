@@ -4,8 +4,8 @@ pub mod RunLaws
 pub mod MoreRuns
 pub mod RunAnswers
 pub mod MoreAnswers
-pub mod CutRunLaws
-pub mod CutAnswers
+pub mod RemovalRunLaws
+pub mod RemovalAnswers
 pub mod RowRunLaws
 pub mod RowRunAnswers
 pub mod RowPutLaws

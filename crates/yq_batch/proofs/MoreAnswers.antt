@@ -38,9 +38,9 @@ adds_at t m n stem left op path key v x is operand same steps (Ok (Some p)) h =
       valid = subst HasOperand own operand;
       collection = a.0;
       found = a.1;
-      takes = a.2;
-      placed = a.3;
-      written = a.4;
+      takes = a.2.0;
+      placed = a.2.1;
+      written = a.2.2;
     }
 adds_at t m n stem left op path key v x is operand same steps (Err e) h = tt
 

@@ -1,3 +1,3 @@
 pub mod Runs
 pub mod RowRuns
-pub mod CutRuns
+pub mod RemovalRuns

@@ -14,8 +14,8 @@ use Rattle.yq_batch.{specs.Runs.{now_text, text_with_run}, specs.declared.in_row
 
 -- ---- runs
 
--- The first bytes of a cut's text were replaced by others, by contents of rows in front of row n of document k: the text reads, and items and entries from there
--- on are as they did (own).
+-- The first bytes of a cut's text were replaced by others, by contents of rows in front of row n of document k: the text reads, and items and entries
+-- from there on are as they were (own).
 pub record IsRowRun (c : Cut) (k n : ℕ) (out : List ℕ) (done : ℕ) : Type 0 where
   pub within : done ≤ length (cut_text c)
   pub edge : IsCharBoundary (cut_text c) done

@@ -21,6 +21,10 @@ use Rattle.yq_edit_laws.specs.declared.edit_error.EditError.TheVariants as error
 abbrev pub text_with_run : List ℕ → (out : List ℕ) → (done : ℕ) → List ℕ
 text_with_run t out done = out ++ drop done t
 
+-- collections of the head to which steps lead end in another cut as they do in this one, if one more item would come in so many last bytes (own)
+abbrev pub EndsStay : (c cut : Cut) (n : ℕ) → List Step → ℕ → Type 0
+EndsStay c cut n stem kept = (left : List Step) (w : CollPieces) → flow_collection n (stem ++ left) c ≡ Some w → EndsAfter kept w → EndsAsIn w cut n (stem ++ left)
+
 -- The first bytes of a cut's text were replaced by others, by values put at parts of the head to which steps lead, and items and entries put into its
 -- collections: the text reads, the steps lead to a head in it, and the parts whose contents are in the bytes that stay are there as they were, in whichever
 -- collections, and so are the ends of collections (own).
@@ -32,7 +36,7 @@ pub record IsPutRun (c : Cut) (n : ℕ) (stem : List Step) (out : List ℕ) (don
   pub leads : LeadsToHead cut n stem
   pub stays : (left : List Step) (s : Step) (y : EntryPieces) → IsPartOf c n (stem ++ left) s y → length y.rest < length (cut_text c) - done →
       length (node_text (without_anchor y.node) y.rest) ≤ length (cut_text c) - done → IsPartOf cut n (stem ++ left) s y
-  pub ends : (left : List Step) (w : CollPieces) → flow_collection n (stem ++ left) c ≡ Some w → EndsAfter (length (cut_text c) - done) w → EndsAsIn w cut n (stem ++ left)
+  pub ends : EndsStay c cut n stem (length (cut_text c) - done)
 
 -- a path ends in the collection to which steps lead on in the head to which others lead (own)
 abbrev pub EndsAt : (stem left steps : List Step) → Type 0

@@ -16,7 +16,8 @@ use yq_lookup::CutText;
 use yq_places::FlowHead;
 use yq_semantics::Op;
 
-/// What it comes to that an operation puts an item or entry into a collection of a head; nothing, where it does something else.
+/// The edit of an operation that puts an item or entry into a collection of a head; nothing, where it does something
+/// else.
 fn more_put<'s>(
     alloc: Global,
     cut: &CutText<'_, '_>,

@@ -9,7 +9,7 @@ ghost use Rattle.yq_places.specs.FlowViews.{ReportsHead};
 ghost use Rattle.yq_semantics.specs.Operations.{operation_of, operations_of};
 ghost use Rattle.yq_edit_laws.{specs.Answers.EditFails, specs.Carried.{carry_all, carried}, specs.Edit.gives, specs.Theorems.IsFitting};
 ghost use Rattle.yq_edit_laws.specs.Valid.{AreServed};
-ghost use Rattle.yq_batch.specs.CutRuns as spec;
+ghost use Rattle.yq_batch.specs.RemovalRuns as spec;
 
 use crate::run::{between, bytes_of, push_splice};
 use crate::together::steps_in_head;
@@ -23,7 +23,7 @@ use yq_text::{Edited, Halves, Splice, TEXT_LIMIT, TextGapBuffer};
 
 /// What is left of a text from which items and entries were taken out, one before the other.
 #[derive(Drop)]
-pub(crate) struct CutRun {
+pub(crate) struct RemovalRun {
     /// The text as it then is.
     pub(crate) text: TextGapBuffer,
     /// How many bytes of it, from its beginning on, are those that were read.
@@ -32,7 +32,7 @@ pub(crate) struct CutRun {
 }
 
 /// A text from which nothing was taken out.
-fn untouched(alloc: Global, text: Halves<'_>) -> Result<CutRun, AllocError>
+fn untouched(alloc: Global, text: Halves<'_>) -> Result<RemovalRun, AllocError>
     ensures text { IfOk result (λ r. buffer_text r.text ≡ whole text.entry) }
     ensures keep { IfOk result (λ r. r.keep ≡ length (whole text.entry)) }
     ensures splices { IfOk result (λ r. r.splices.items ≡ []) }
@@ -41,7 +41,7 @@ fn untouched(alloc: Global, text: Halves<'_>) -> Result<CutRun, AllocError>
     let mut copy = String::with_capacity(alloc, keep)?;
     copy.push_str(text.front)?;
     copy.push_str(text.back)?;
-    Ok(CutRun {
+    Ok(RemovalRun {
         text: TextGapBuffer::of(copy),
         keep,
         splices: Vec::new(alloc),
@@ -51,7 +51,7 @@ fn untouched(alloc: Global, text: Halves<'_>) -> Result<CutRun, AllocError>
 /// What is between two places of the text of a run goes, and what leads to the text after it comes there.
 fn take_out(
     alloc: Global,
-    run: &mut CutRun,
+    run: &mut RemovalRun,
     start: usize,
     end: usize,
     lead: &str,
@@ -61,7 +61,7 @@ fn take_out(
     requires start { IsCharBoundary (buffer_text run.old.text) start }
     requires end { IsCharBoundary (buffer_text run.old.text) end }
     ensures ok { OnOk result (spec.HasTakenOut start end lead.now run.old run.new) }
-    ensures err { IfErr result (λ e. spec.CutFails e start end lead.now run.old) }
+    ensures err { IfErr result (λ e. spec.RemovalFails e start end lead.now run.old) }
 {
     let old = bytes_of(alloc, between(run.text.halves(), start, end))?;
     let new = String::from_str(alloc, lead)?;
@@ -84,14 +84,14 @@ fn remove_one<'s>(
     stem: &[Step],
     head: &mut FlowHead<'s, '_>,
     op: &'s Op,
-    run: &mut CutRun,
+    run: &mut RemovalRun,
 ) -> Result<bool, EditError>
     requires head { ReportsHead cut.now (cut_of cut.now) doc (map tree_step stem.now) head.old }
-    requires run { spec.CutsSo (cut_of cut.now) doc (map tree_step stem.now) run.old }
+    requires run { spec.RemovesSo (cut_of cut.now) doc (map tree_step stem.now) run.old }
     requires fits { IsFitting (operation_of op.now) (buffer_text run.old.text) }
     ensures head { ReportsHead cut.now (cut_of cut.now) doc (map tree_step stem.now) head.new }
-    ensures ok { IfOk result (λ b. b ≡ true → spec.CutsOn (operation_of op.now) (cut_of cut.now) doc
-        (map tree_step stem.now) run.old run.new) }
+    ensures ok { IfOk result (λ b. b ≡ true → spec.RemovesOn (operation_of op.now) (cut_of cut.now)
+        doc (map tree_step stem.now) run.old run.new) }
     ensures err { IfErr result (λ e. EditFails e (carried (operation_of op.now)
         (buffer_text run.old.text))) }
 {
@@ -140,7 +140,7 @@ pub(crate) fn remove_each<'s>(
         }
         rest = after;
     }
-    let CutRun { text, splices, .. } = run;
+    let RemovalRun { text, splices, .. } = run;
     Ok(Some(Edited {
         text: text.into_string(),
         splices,

@@ -80,8 +80,8 @@ pub(crate) fn steps_in_head<'s>(path: &'s Path, doc: usize, stem: &[Step]) -> Op
     Some(left)
 }
 
-/// What it comes to that an operation puts a value in a collection of a head; nothing, where it does
-/// something else.
+/// The edit of an operation that puts a value in a collection of a head; nothing, where it does something
+/// else.
 fn part_put<'s>(
     alloc: Global,
     cut: &CutText<'_, '_>,

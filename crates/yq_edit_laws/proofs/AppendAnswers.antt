@@ -75,7 +75,7 @@ pub more_written : (n : ℕ) (steps : List Step) (key : Option (List ℕ)) (v : 
     (flow_collection n steps c >>= flow_more (cut_text c) key v) ≡ Some (edit_segments whole (moved_on x.before (edit_view p.place)) (string_bytes p.written))
 more_written n steps key v c x p whole all h =
     let t : List ℕ = cut_text c in
-    let place = h.3 in
+    let place = h.2.1 in
     ap (λ (o : Option CollPieces). o >>= flow_more t key v) h.1
-    ∙ (ap (λ (b : Bool). cond b (Some (flow_segments t (more_edit key v h.0))) None) h.2
-    ∙ ap Some (sym (segments_at t place.before (more_edit key v h.0) place.text) ∙ (λ i. edit_segments (sym all i) (sym place.place_is i) (sym h.4 i))))
+    ∙ (ap (λ (b : Bool). cond b (Some (flow_segments t (more_edit key v h.0))) None) h.2.0
+    ∙ ap Some (sym (segments_at t place.before (more_edit key v h.0) place.text) ∙ (λ i. edit_segments (sym all i) (sym place.place_is i) (sym h.2.2 i))))

@@ -52,7 +52,7 @@ abbrev pub IsWrittenPart : Option Node → Node → FlowPart → Option (String 
 IsWrittenPart old v z None = keeps_scalar old v ≡ true
 IsWrittenPart old v z (Some s) = (keeps_scalar old v ≡ false) × (string_bytes s ≡ (put_edit v z).written)
 
--- what it comes to that a value is put at the part where steps lead in document n; nothing, where there is none
+-- the edits that put a value at the part where steps lead in document n; none, where there is no part
 abbrev pub ArePuts : ℕ → List Step → Node → Cut → FlowHead → Option PartPut → Type 0
 ArePuts n steps v c x None = flow_standing n c (last_step steps) ≡ None
 ArePuts n steps v c x (Some p) =
@@ -68,20 +68,27 @@ IsPartOf c n steps s y = (flow_collection n steps c >>= λ w. item_at w.close s 
 abbrev pub more_edit : Option (List ℕ) → Node → CollPieces → FlowEdit
 more_edit key v w = appending (flow_key key) (flow_of v) w
 
--- what it comes to that an item or entry is put into the collection to which steps lead in document n; nothing, where there is none, or one that doesn't take it
+-- the edits that put one more item or entry into a collection that takes it
+abbrev pub IsMore : List ℕ → CollPieces → Option (List ℕ) → Node → FlowHead → MorePut → Type 0
+IsMore t w key v x p = (takes_key w.close key ≡ true) × IsEditPlace t (more_edit key v w) x p.place × (string_bytes p.written ≡ (more_edit key v w).written)
+
+-- the edits that put one more into the collection to which steps lead in document n; none, where there is no collection, or one that doesn't take it
 abbrev pub AreMore : ℕ → List Step → Option (List ℕ) → Node → Cut → FlowHead → Option MorePut → Type 0
 AreMore n steps key v c x None = (flow_collection n steps c >>= flow_more (cut_text c) key v) ≡ None
 AreMore n steps key v c x (Some p) =
-    (w : CollPieces) × (flow_collection n steps c ≡ Some w) × (takes_key w.close key ≡ true) × IsEditPlace (cut_text c) (more_edit key v w) x p.place × (string_bytes p.written ≡ (more_edit key v w).written)
+    (w : CollPieces) × (flow_collection n steps c ≡ Some w) × IsMore (cut_text c) w key v x p
 
 -- ---- one less
 
--- what it comes to that the item or entry to which steps lead in document n is taken out; nothing, where there is none, or it is a sole one
+-- the edit that takes out the item or entry of a collection at a step, and the end of that collection
+abbrev pub IsRemovalAt : List ℕ → CollPieces → Step → FlowHead → PartGone → Type 0
+IsRemovalAt t w s x p = (e : FlowEdit) × (removing s w ≡ Some e) × IsEditPlace t e x p.place × (x.before + p.end ≡ length t - length w.rest)
+
+-- the edits that take out the item or entry to which steps lead in document n; none, where there is no such part, or it is a sole one
 abbrev pub AreRemovals : ℕ → List Step → Cut → FlowHead → Option PartGone → Type 0
 AreRemovals n steps c x None = part_removed n c (last_step steps) ≡ None
 AreRemovals n steps c x (Some p) =
-    (y : List Step × Step) × (last_step steps ≡ Some y) × (w : CollPieces) × (flow_collection n y.0 c ≡ Some w) × (e : FlowEdit) × (removing y.1 w ≡ Some e) ×
-    IsEditPlace (cut_text c) e x p.place × (x.before + p.end ≡ length (cut_text c) - length w.rest)
+    (y : List Step × Step) × (last_step steps ≡ Some y) × (w : CollPieces) × (flow_collection n y.0 c ≡ Some w) × IsRemovalAt (cut_text c) w y.1 x p
 
 -- A collection ends as another one does: with the same bracket, and the same text after its last item or entry, or after its opening bracket if there is
 -- none, and it has some if that one has (7.4; own).

@@ -38,7 +38,7 @@ fn entry_text(alloc: Global, key: Option<&str>, value: &Value) -> Result<String,
     }
 }
 
-/// What it comes to that an item or entry is put into a flow collection.
+/// The edit that puts an item or entry into a flow collection.
 #[derive(Drop)]
 pub struct MorePut {
     /// The place, in the text that begins with the node in the head.
@@ -47,9 +47,9 @@ pub struct MorePut {
     pub written: String,
 }
 
-/// What it comes to that an item or entry is put after the last one of a flow collection, or right after
-/// its bracket, where the collection is in the head of a row that was read; `None` where none is there,
-/// or one that takes no key, or no item.
+/// The edit that puts an item or entry after the last one of a flow collection, or right after its
+/// bracket, where the collection is in the head of a row that was read; `None` where none is there, or
+/// one that takes no key, or no item.
 ///
 /// # Errors
 /// [`AllocError`] where memory is refused.

@@ -17,7 +17,7 @@ use yq_lookup::CutText;
 use yq_places::FlowHead;
 use yq_text::Segments;
 
-/// What it comes to that a value is put in the place of a content.
+/// The edit that puts a value in the place of a content.
 #[derive(Drop)]
 pub struct PartPut {
     /// The place, in the text that begins with the node in the head.
@@ -51,9 +51,9 @@ fn is_same_node(node: &Inline<'_>, value: &Value) -> bool
     }
 }
 
-/// What it comes to that a value is put in the place of the content of an item or entry, after its
-/// anchor, where its collection is in the head of a row that was read; `None` where no collection is
-/// there, or the path leads to no part of it.
+/// The edit that puts a value in the place of the content of an item or entry, after its anchor, where
+/// its collection is in the head of a row that was read; `None` where no collection is there, or the
+/// path leads to no part of it.
 ///
 /// # Errors
 /// [`AllocError`] where memory is refused.

@@ -16,7 +16,7 @@ use yq_lookup::CutText;
 use yq_places::FlowHead;
 use yq_text::Segments;
 
-/// What it comes to that an item or entry is taken out of a flow collection.
+/// The edit that takes an item or entry out of a flow collection.
 #[derive(Drop)]
 pub struct PartGone {
     /// The place of what goes, in the text that begins with the node in the head.
@@ -32,9 +32,9 @@ fn end_of(node: &Inline<'_>) -> usize
     node.end
 }
 
-/// What it comes to that an item or entry is taken out of a flow collection, with the white space and
-/// comma that go with it, where the collection is in the head of a row that was read; `None` where the
-/// path leads to no part of one there, or to a sole one.
+/// The edit that takes an item or entry out of a flow collection, with the white space and comma that go
+/// with it, where the collection is in the head of a row that was read; `None` where the path leads to
+/// no part of one there, or to a sole one.
 pub fn gone_at_part(cut: &CutText<'_, '_>, head: &FlowHead<'_, '_>, path: &Path) -> Option<PartGone>
     requires { spec.IsHeadOfPath path.now.doc
         (standings.last_step (steps_of path.now)) cut.now head.now }

@@ -5,7 +5,7 @@ use Rattle.yq_semantics.specs.Operations.{operations_of}
 use Rattle.yq_edit_laws.{specs.Answers.EditFails, specs.Carried.carry_all, specs.Edit.{edit_after, gives}, specs.Valid.AreServed}
 use Rattle.yq_edit_laws.proofs.OperationsLaws.{first_fails, first_fits, none_come, others_come, others_served}
 use Rattle.yq_edit_laws.proofs.OrderLaws.{behind_none}
-use Rattle.yq_batch.proofs.CutAnswers.{cuts_begin}
+use Rattle.yq_batch.proofs.RemovalAnswers.{removals_begin}
 use Rattle.yq_batch.proofs.removals.remove_each.Goals as goal
 
 pub operations-init : goal.operations-init
@@ -16,7 +16,7 @@ operations-init c =
       head = c.requires.head;
       whole = (λ i. edit_after (c.in_ok-run.ensures.splices i) (carry_all (operations_of c.args.ops.now) (text i))) ∙ behind_none (carry_all (operations_of c.args.ops.now) t);
       serves = subst (AreServed (operations_of c.args.ops.now)) (sym text) c.requires.serves;
-      runs = cuts_begin t c.args.doc (map tree_step c.args.stem.now) c.in_ok-run.run' c.text.ensures.read c.requires.head.leads text (c.in_ok-run.ensures.keep ∙ ap length c.text.ensures.text);
+      runs = removals_begin t c.args.doc (map tree_step c.args.stem.now) c.in_ok-run.run' c.text.ensures.read c.requires.head.leads text (c.in_ok-run.ensures.keep ∙ ap length c.text.ensures.text);
     }
 
 pub remove_one-requires-clause-fits : goal.remove_one-requires-clause-fits

@@ -1,6 +1,6 @@
 use Rattle.std.{proofs.Common.{◌≡◌, ℕ, List, ◌++◌, length, drop, take, refl, sym, ap, ◌∙◌, subst, arith}, specs.Str.IsCharBoundary}
 use Rattle.yq_text.{specs.Halves.whole, specs.Script.splice_at, specs.TextGapBuffer.buffer_text}
-use Rattle.yq_batch.proofs.CutAnswers.{taken}
+use Rattle.yq_batch.proofs.RemovalAnswers.{taken}
 use Rattle.yq_batch.proofs.removals.take_out.Goals as goal
 
 pub between-requires-clause-from : goal.between-requires-clause-from

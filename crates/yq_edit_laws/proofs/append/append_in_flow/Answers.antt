@@ -23,7 +23,7 @@ pub edit_at-requires : goal.edit_at-requires
 edit_at-requires c =
     let h = subst (AreMore c.args.path.now.doc (steps_of c.args.path.now) (borrowed c.args.key) (value_node c.args.value.now) (cut_of c.args.cut.now) c.in-Some.head) c.in-Some-put.is c.in_ok-put.ensures in
     let all = whole_text c.args.cut.now (whole c.text-text.result) c.text-text.ensures.read c.text-text.ensures.text in
-    record { lies = subst (λ (t : List ℕ). LiesIn t (moved_on c.in-Some.head.before (edit_view c.in-Some-put.field-0.place))) (sym all) h.3.lies }
+    record { lies = subst (λ (t : List ℕ). LiesIn t (moved_on c.in-Some.head.before (edit_view c.in-Some-put.field-0.place))) (sym all) h.2.1.lies }
 
 pub returns : goal.returns
 returns c =

@@ -23,7 +23,9 @@ returns c =
     let f = coll_found c.args.cut.now c.args.path.now.doc (steps_of c.args.path.now) (Some c.args.head.now) c.args.head.now q c.text-text.ensures.read c.requires refl c.in-Some.ensures in (
       f.coll,
       f.found,
-      takes_there _ _ _ (borrowed c.args.key) (value_node c.args.value.now) c.args.head.now q f (sym c.takes.ensures ∙ c.if-not-takes.false),
-      more_placed _ _ _ (borrowed c.args.key) (value_node c.args.value.now) c.args.head.now q f c.in-Some-append_place.place c.in-Some-append_place.ensures,
-      c.in_ok-written.ensures,
+      (
+        takes_there _ _ _ (borrowed c.args.key) (value_node c.args.value.now) c.args.head.now q f (sym c.takes.ensures ∙ c.if-not-takes.false),
+        more_placed _ _ _ (borrowed c.args.key) (value_node c.args.value.now) c.args.head.now q f c.in-Some-append_place.place c.in-Some-append_place.ensures,
+        c.in_ok-written.ensures,
+      ),
     )

@@ -29,4 +29,4 @@ returns c =
     let q = inline_view c.in-Some-collection_in.node.now in
     let f = coll_found c.args.cut.now c.args.path.now.doc _ (Some c.args.head.now) c.args.head.now q c.text-text.ensures.read agrees refl c.in-Some-collection_in.ensures in
     let g = gone_found _ _ (steps_of c.args.path.now) _ (tree_step c.in-Some.last.now) c.args.head.now q last f c.in-Some-remove_place.place c.end_of.result c.in-Some-remove_place.ensures c.end_of.ensures in
-    (_, sym last, f.coll, f.found, g.0, g.1, g.2, g.3)
+    (_, sym last, f.coll, f.found, g)

@@ -13,14 +13,14 @@ use Rattle.yq_semantics.specs.Operations.{Operation, remove}
 use Rattle.yq_edit_laws.{specs.PartPuts.{AreRemovals, IsEditPlace}, specs.declared.remove.PartGone.PartGone, proofs.CutLaws.text_read}
 use Rattle.yq_edit_laws.{specs.Answers.EditFails, specs.Carried.carried, specs.Edit.{gives, refuses}, specs.Theorems.IsFitting}
 use Rattle.yq_edit_laws.{specs.declared.edit_error.EditError.EditError, proofs.ApplyLaws.applied_by, proofs.TextFaults.text_utf8}
-use Rattle.yq_batch.{specs.CutRuns.{CutFails, CutsOn, CutsSo, HasTakenOut, IsCutRun, text_without}, specs.Runs.EndsAt}
-use Rattle.yq_batch.specs.declared.removals.CutRun.{CutRun}
-use Rattle.yq_batch.proofs.CutRunLaws.{cut_goes_on, cut_large, cut_there, finish_there, new_tail, new_text_is, start_there}
+use Rattle.yq_batch.{specs.RemovalRuns.{RemovalFails, RemovesOn, RemovesSo, HasTakenOut, IsRemovalRun, text_without}, specs.Runs.EndsAt}
+use Rattle.yq_batch.specs.declared.removals.RemovalRun.{RemovalRun}
+use Rattle.yq_batch.proofs.RemovalRunLaws.{removal_goes_on, removal_large, removal_there, finish_there, new_tail, new_text_is, start_there}
 use Rattle.yq_edit_laws.specs.declared.edit_error.EditError.TheVariants as error
 
 -- a run of nothing
-pub cuts_begin : (t : List ℕ) (n : ℕ) (stem : List Step) (r : CutRun) → read_at t ≡ Some (cut_of t) → LeadsToHead (cut_of t) n stem → buffer_text r.text ≡ t → r.keep ≡ length t → CutsSo (cut_of t) n stem r
-cuts_begin t n stem r read leads text keep =
+pub removals_begin : (t : List ℕ) (n : ℕ) (stem : List Step) (r : RemovalRun) → read_at t ≡ Some (cut_of t) → LeadsToHead (cut_of t) n stem → buffer_text r.text ≡ t → r.keep ≡ length t → RemovesSo (cut_of t) n stem r
+removals_begin t n stem r read leads text keep =
     let same : cut_text (cut_of t) ≡ t = text_read t (cut_of t) read in
     let all : r.keep ≡ length (cut_text (cut_of t)) = keep ∙ ap length (sym same) in
     let whole : take r.keep (cut_text (cut_of t)) ≡ cut_text (cut_of t) = take_all r.keep (cut_text (cut_of t)) (omega (arith, all)) in
@@ -52,8 +52,8 @@ bound_after t start end order utf8 at =
     let same : drop (end - start) (drop start t) ≡ drop end t = drop-drop (end - start) start t ∙ ap (λ (k : ℕ). drop k t) whole in
     IsCharBoundary-from_drop (drop start t) (end - start) (omega (arith, size, at.0)) (subst IsUtf8 (sym same) (IsUtf8-drop t end utf8 at))
 
-module _ (t : List ℕ) (m n : ℕ) (stem left path : List Step) (op : Operation) (x : FlowHead) (p : PartGone) (before : CutRun) (read : read_at t ≡ Some (cut_of t)) (is : op ≡ remove m path) (same : m ≡ n)
-    (ends : EndsAt stem left path) (gone : AreRemovals m path (cut_of t) x (Some p)) (run : CutsSo (cut_of t) n stem before) (within : x.before + p.end ≤ before.keep) where
+module _ (t : List ℕ) (m n : ℕ) (stem left path : List Step) (op : Operation) (x : FlowHead) (p : PartGone) (before : RemovalRun) (read : read_at t ≡ Some (cut_of t)) (is : op ≡ remove m path) (same : m ≡ n)
+    (ends : EndsAt stem left path) (gone : AreRemovals m path (cut_of t) x (Some p)) (run : RemovesSo (cut_of t) n stem before) (within : x.before + p.end ≤ before.keep) where
   abbrev c : Cut
   c = cut_of t
 
@@ -85,16 +85,16 @@ module _ (t : List ℕ) (m n : ℕ) (stem left path : List Step) (op : Operation
   found = ap (λ (y : List Step × Step). flow_collection n y.0 c) (sym steps_are) ∙ there.3
 
   abbrev e : FlowEdit
-  e = there.4
+  e = there.4.0
 
   out : removing ends.0 w ≡ Some e
-  out = ap (λ (y : List Step × Step). removing y.1 w) (sym steps_are) ∙ there.5
+  out = ap (λ (y : List Step × Step). removing y.1 w) (sym steps_are) ∙ there.4.1
 
   abbrev at : IsEditPlace (cut_text c) e x p.place
-  at = there.6
+  at = there.4.2
 
   ended : length (cut_text c) - length w.rest ≤ before.keep
-  ended = omega (arith, within, there.7)
+  ended = omega (arith, within, there.4.3)
 
   pub order : start ≤ finish
   order = at.lies.order
@@ -117,15 +117,15 @@ module _ (t : List ℕ) (m n : ℕ) (stem left path : List Step) (op : Operation
     abbrev now : List ℕ
     now = take before.keep (cut_text c) ++ run.tail
 
-    pub cut_on : (after : CutRun) → HasTakenOut start finish lead before after → CutsOn op c n stem before after
-    cut_on after h =
+    pub removal_on : (after : RemovalRun) → HasTakenOut start finish lead before after → RemovesOn op c n stem before after
+    removal_on after h =
         let own_size : length (text_without now start finish lead) ≤ text_limit = subst (λ (l : List ℕ). length (text_without l start finish lead) ≤ text_limit) run.text h.size in
         let cs : List Splice = splice_at start (drop start (take finish now)) lead in
         let made : buffer_text after.text ≡ text_without now start finish lead = h.text ∙ ap (λ (l : List ℕ). text_without l start finish lead) run.text in
         let comes : carried own (buffer_text before.text) ≡ gives (buffer_text after.text) cs =
-        ap (carried own) run.text ∙ (cut_there c n stem left path ends.0 before.keep run.tail run.run ends.1 w found e out x p.place at ended own_size ∙ ap (λ (l : List ℕ). gives l cs) (sym made)) in
-        let on : IsCutRun c n stem start (new_tail c n stem left path ends.0 before.keep run.tail run.run ends.1 w found e out x p.place at ended) = cut_goes_on c n stem left path ends.0 before.keep run.tail run.run ends.1 w found e out x p.place at ended fits_now own_size in
-        subst (λ (o : Operation). CutsOn o c n stem before after) (sym own_is) (record {
+        ap (carried own) run.text ∙ (removal_there c n stem left path ends.0 before.keep run.tail run.run ends.1 w found e out x p.place at ended own_size ∙ ap (λ (l : List ℕ). gives l cs) (sym made)) in
+        let on : IsRemovalRun c n stem start (new_tail c n stem left path ends.0 before.keep run.tail run.run ends.1 w found e out x p.place at ended) = removal_goes_on c n stem left path ends.0 before.keep run.tail run.run ends.1 w found e out x p.place at ended fits_now own_size in
+        subst (λ (o : Operation). RemovesOn o c n stem before after) (sym own_is) (record {
           new_bytes = cs;
           comes = comes;
           applied = applied_by own (buffer_text before.text) tt (subst (λ (o : Operation). IsFitting o (buffer_text before.text)) own_is fitting) (buffer_text after.text) cs comes;
@@ -133,16 +133,16 @@ module _ (t : List ℕ) (m n : ℕ) (stem left path : List Step) (op : Operation
           run = record {
             tail = new_tail c n stem left path ends.0 before.keep run.tail run.run ends.1 w found e out x p.place at ended;
             text = made ∙ (new_text_is c n stem left path ends.0 before.keep run.tail run.run ends.1 w found e out x p.place at ended ∙ ap (λ (k : ℕ). take k (cut_text c) ++ new_tail c n stem left path ends.0 before.keep run.tail run.run ends.1 w found e out x p.place at ended) (sym h.keep));
-            run = subst (λ (k : ℕ). IsCutRun c n stem k (new_tail c n stem left path ends.0 before.keep run.tail run.run ends.1 w found e out x p.place at ended)) (sym h.keep) on;
+            run = subst (λ (k : ℕ). IsRemovalRun c n stem k (new_tail c n stem left path ends.0 before.keep run.tail run.run ends.1 w found e out x p.place at ended)) (sym h.keep) on;
           };
         })
 
   -- too large a text
-  pub cut_fails : (f : EditError) → CutFails f start finish lead before → EditFails f (carried op (buffer_text before.text))
-  cut_fails f fails = subst (λ (o : Operation). EditFails f (carried o (buffer_text before.text))) (sym own_is) (subst (λ (l : List ℕ). EditFails f (carried own l)) (sym run.text) (go f fails))
+  pub removal_fails : (f : EditError) → RemovalFails f start finish lead before → EditFails f (carried op (buffer_text before.text))
+  removal_fails f fails = subst (λ (o : Operation). EditFails f (carried o (buffer_text before.text))) (sym own_is) (subst (λ (l : List ℕ). EditFails f (carried own l)) (sym run.text) (go f fails))
     where
-      go : (f : EditError) → CutFails f start finish lead before → EditFails f (carried own (take before.keep (cut_text c) ++ run.tail))
+      go : (f : EditError) → RemovalFails f start finish lead before → EditFails f (carried own (take before.keep (cut_text c) ++ run.tail))
       go (error.Read fault) fails = absurd fails
       go (error.Refused why) fails =
-          cut_large c n stem left path ends.0 before.keep run.tail run.run ends.1 w found e out x p.place at ended (subst (λ (l : List ℕ). text_limit < length (text_without l start finish lead)) run.text fails.1) ∙ ap refuses (sym fails.0)
+          removal_large c n stem left path ends.0 before.keep run.tail run.run ends.1 w found e out x p.place at ended (subst (λ (l : List ℕ). text_limit < length (text_without l start finish lead)) run.text fails.1) ∙ ap refuses (sym fails.0)
       go error.Memory fails = tt

@@ -16,10 +16,10 @@ use Rattle.yq_edit_laws.{specs.PartPuts.IsEditPlace, proofs.CutLaws.text_read, p
 use Rattle.yq_edit_laws.proofs.FlowRemoveLaws.{bounds, bytes, collection_before, head_behind, next, removed_reads}
 use Rattle.yq_edit_laws.{specs.Carried.{carried, carry_one}, specs.Edit.{by_reading, edit_of_segments, gives, refuses}}
 use Rattle.yq_edit_laws.specs.Theorems.{IsFitting}
-use Rattle.yq_batch.{specs.CutRuns.{IsCutRun, text_without}, proofs.PutComes.{made_text, new_is, segments_come, segments_large}}
+use Rattle.yq_batch.{specs.RemovalRuns.{IsRemovalRun, text_without}, proofs.PutComes.{made_text, new_is, segments_come, segments_large}}
 use Rattle.yq_batch.proofs.RunEdits.{fits_now}
 
-module _ (c : Cut) (n : ℕ) (stem left path : List Step) (s : Step) (keep : ℕ) (tail : List ℕ) (run : IsCutRun c n stem keep tail) (last : last_step path ≡ Some (stem ++ left, s))
+module _ (c : Cut) (n : ℕ) (stem left path : List Step) (s : Step) (keep : ℕ) (tail : List ℕ) (run : IsRemovalRun c n stem keep tail) (last : last_step path ≡ Some (stem ++ left, s))
     (w : CollPieces) (found : flow_collection n (stem ++ left) c ≡ Some w) (e : FlowEdit) (gone : removing s w ≡ Some e) (x : FlowHead) (place : EditPlace) (at : IsEditPlace (cut_text c) e x place)
     (ends : length (cut_text c) - length w.rest ≤ keep) where
   abbrev t : List ℕ
@@ -141,14 +141,14 @@ module _ (c : Cut) (n : ℕ) (stem left path : List Step) (s : Step) (keep : ℕ
       ap (carried (remove n path)) (sym text)
       ∙ (ap (by_reading (carry_one (remove n path))) read ∙ ap (λ (o : Option (List Segment)). edit_of_segments (or_stay run.cut o)) edits)
 
-  pub cut_there : length (text_without now start finish place.lead.now) ≤ text_limit → carried (remove n path) now ≡ gives (text_without now start finish place.lead.now) (splice_at start (drop start (take finish now)) place.lead.now)
-  cut_there small =
+  pub removal_there : length (text_without now start finish place.lead.now) ≤ text_limit → carried (remove n path) now ≡ gives (text_without now start finish place.lead.now) (splice_at start (drop start (take finish now)) place.lead.now)
+  removal_there small =
       comes
       ∙ (segments_come (cut_text run.cut) at.before g split (omega (arith, small, ap length made_is))
       ∙ λ i. gives (made_is i) (splice_at (sym start_is i) (sym old_is i) (sym lead_is i)))
 
-  pub cut_large : text_limit < length (text_without now start finish place.lead.now) → carried (remove n path) now ≡ refuses TooLarge
-  cut_large large = comes ∙ segments_large (cut_text run.cut) at.before g split (omega (arith, large, ap length made_is))
+  pub removal_large : text_limit < length (text_without now start finish place.lead.now) → carried (remove n path) now ≡ refuses TooLarge
+  removal_large large = comes ∙ segments_large (cut_text run.cut) at.before g split (omega (arith, large, ap length made_is))
 
   -- where it goes, in the text as it is now
   bounds_now : IsCharBoundary (cut_text run.cut) (length (cut_text run.cut) - length (g.old ++ g.behind)) × IsCharBoundary (cut_text run.cut) (length (cut_text run.cut) - length g.behind)
@@ -172,8 +172,8 @@ module _ (c : Cut) (n : ℕ) (stem left path : List Step) (s : Step) (keep : ℕ
       own_front : take start t ≡ at.before
       own_front = (λ i. take (start_is i) (at.text i)) ∙ take-append_seam at.before (e.old ++ e.behind)
 
-  pub cut_goes_on : IsFitting (remove n path) now → length (text_without now start finish place.lead.now) ≤ text_limit → IsCutRun c n stem start new_tail
-  cut_goes_on fitting small =
+  pub removal_goes_on : IsFitting (remove n path) now → length (text_without now start finish place.lead.now) ≤ text_limit → IsRemovalRun c n stem start new_tail
+  removal_goes_on fitting small =
       let fit = fits_now (remove n path) now run.cut tt fitting run.read in
       let new_bytes : new_text (flow_segments (cut_text run.cut) g) ≡ text_without now start finish place.lead.now = new_is (cut_text run.cut) at.before g split ∙ made_is in
       let reads = removed_reads run.cut n path (stem ++ left) s z g read last found_now gone_now fit (omega (arith, small, ap length new_bytes)) in
