@@ -15,7 +15,7 @@ use Rattle.yq_journal.specs.declared.moves.Move.TheVariants as move
 abbrev pub edit_writes : Record → List ℕ → List ℕ → State → Effect
 edit_writes edit t u s = writes_both u (with_move s (move.Edit edit) t) (journal_after s (move.Edit edit))
 
--- what an edit does to them, by what it comes to: a record of one edit goes into the journal
+-- what an edit does to them, by what it gives: a record of one edit goes into the journal
 abbrev pub edit_effect : List ℕ → EditOutcome → List ℕ → State → Effect
 edit_effect expr (unreadable old) t s = refuses (no_reading old)
 edit_effect expr (refused f) t s = refuses (named f)

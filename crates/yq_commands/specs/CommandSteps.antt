@@ -18,7 +18,7 @@ room_cause h text =
     if bytes_eq text (text_at h) then None
     else if nat_le most_records h.at then Some (named JournalFull) else None
 
--- why an edit is refused, by what it comes to
+-- why an edit is refused, by what it gives
 abbrev pub edit_cause : History → EditOutcome → Option Cause
 edit_cause h (unreadable old) = Some (no_reading old)
 edit_cause h (refused f) = Some (named f)

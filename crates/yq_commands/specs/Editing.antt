@@ -9,7 +9,7 @@ use Rattle.yq_commands.specs.CommandFaults.{of_parse, of_refusal}
 use Rattle.yq_expr_parser.specs.Outcome as expr
 use Rattle.yq_edit_laws.specs.Edit as edit
 
--- what an edit comes to: this text has no reading, or the program is refused on it, or it gives a text by splices (own)
+-- what an edit gives: this text has no reading, or the program is refused on it, or it gives a text by splices (own)
 pub data EditOutcome : Type 0 where
   unreadable : List ℕ → EditOutcome
   refused : Fault → EditOutcome
@@ -46,7 +46,7 @@ result_of (expr.refused e) = Err (of_parse e)
 unfoldable pub program_in : List ℕ → Result Program Fault
 program_in expr = result_of (outcome expr)
 
--- what an edit of a text comes to (own)
+-- what an edit of a text gives (own)
 abbrev pub edit_outcome : List ℕ → Edit → EditOutcome
 edit_outcome old edit.unreadable = unreadable old
 edit_outcome old (edit.refuses why) = refused (of_refusal why)

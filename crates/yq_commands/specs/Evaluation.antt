@@ -22,7 +22,7 @@ show_edit options t (unreadable old) = Err (no_reading old)
 show_edit options t (refused f) = Err (named f)
 show_edit options t (edited u changes) = Ok (record { output = edit_output options t u; is_match = changes_as_expected options t u })
 
--- of a read its matches are shown, by what matching comes to
+-- of a read its matches are shown, by what matching gives
 abbrev pub show_found : EvalOptions → Judgement (List (ℕ × Node)) → Result Showing Cause
 show_found options (gives ms) = Ok (report_matches options ms)
 show_found options (refuses why) = Err (named (of_refusal why))

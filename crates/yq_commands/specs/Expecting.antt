@@ -14,7 +14,7 @@ use Rattle.yq_commands.{specs.CommandEffects.OfEffect, specs.Editing.{EditOutcom
 abbrev pub changes_as_expected : EvalOptions → List ℕ → List ℕ → Bool
 changes_as_expected options old new = not (options.expect_change && bytes_eq new old)
 
--- an edit of a text does, by what it comes to
+-- an edit of a text does, by what it gives
 abbrev pub edits_as_expected : EvalOptions → List ℕ → EditOutcome → Bool
 edits_as_expected options old (edited new changes) = changes_as_expected options old new
 edits_as_expected options old _ = true

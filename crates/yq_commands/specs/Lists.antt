@@ -20,7 +20,7 @@ IsUnrelated file journal c = (IsNotNamed file c × IsNotNamed journal c) ⊎ ((I
 abbrev pub AllOnOrApart : List ℕ → List ℕ → List Command → Type 0
 AllOnOrApart file journal cs = All (λ c. IsOn file journal c ⊎ IsUnrelated file journal c) cs
 
--- what a command comes to: its answer, and the bytes that it printed
+-- what a command gives: its answer, and the bytes that it printed
 pub record Reply : Type 0 where
   pub answer : Answer
   pub printed : List ℕ

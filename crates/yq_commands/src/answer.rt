@@ -2,7 +2,7 @@
 
 use yq_history::Fault;
 
-/// What a command comes to.
+/// The answer to a command.
 #[derive(Clone, Copy, Debug, PartialEq, Eq)]
 pub enum Answer {
     /// It was carried out.

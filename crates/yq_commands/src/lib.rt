@@ -1,4 +1,4 @@
-//! What commands come to: which command words ask for, what it does to a file and its journal, and what it
+//! What commands do: which command words ask for, what it does to a file and its journal, and what it
 //! shows and answers.
 #![tactic(auto)]
 

@@ -30,7 +30,7 @@ EditFails (error.Read fault) edit = (edit ≡ unreadable) × (fault.kind ≢ Not
 EditFails (error.Refused why) edit = edit ≡ refuses why
 EditFails error.Memory edit = Unit {0}
 
--- the answer is what the edit comes to (own)
+-- the answer is what the edit gives (own)
 abbrev pub Edits : Result Edited EditError → Edit → Type 0
 Edits (Ok e) edit = edit ≡ gives (string_bytes e.text) e.splices.items
 Edits (Err e) edit = EditFails e edit

@@ -1,11 +1,11 @@
--- What an edit of a text comes to.
+-- What an edit gives of a text.
 use Rattle.std.specs.Prelude.{ℕ, List, [], ◌∷◌, ◌++◌, Option, Some, None}
 use Rattle.yq_row_table.specs.Rows.{Cut}
 use Rattle.yq_semantics.{specs.declared.refusal.Refusal.Refusal, specs.declared.refusal.Refusal.TheVariants.TooLarge}
 use Rattle.yq_text.{specs.Splice.Splice, specs.Script.Segment, specs.Exchanging.{Exchange, exchange_of}}
 use Rattle.yq_text.specs.Exchanging as exchange
 
--- What an edit comes to: the text has no reading, it is refused, or it gives a new text by these changes (own).
+-- What an edit gives: the text has no reading, it is refused, or it gives a new text by these changes (own).
 pub data Edit : Type 0 where
   unreadable : Edit
   refuses : Refusal → Edit
@@ -33,11 +33,11 @@ abbrev pub by_reading : (Cut → Edit) → Option Cut → Edit
 by_reading f None = unreadable
 by_reading f (Some c) = f c
 
--- what an exchange comes to as an edit (own)
+-- what an exchange gives as an edit (own)
 abbrev pub exchange_edit : Exchange → Edit
 exchange_edit (exchange.gives t cs) = gives t cs
 exchange_edit exchange.too_large = refuses TooLarge
 
--- what segments of a text come to, unless the new text is too large (own)
+-- what segments of a text give, unless the new text is too large (own)
 abbrev pub edit_of_segments : List Segment → Edit
 edit_of_segments ss = exchange_edit (exchange_of ss)

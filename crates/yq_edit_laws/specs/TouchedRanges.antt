@@ -43,7 +43,7 @@ AreInLines kept [] = ⊤
 AreInLines kept (keep t ∷ ss) = AreInLines (kept ++ t) ss
 AreInLines kept (put o w ∷ ss) = (is_one_line kept ≡ true) × AreInLines [] ss
 
--- All that segments put, with what they keep between that, comes to lie in one item of a cut (own).
+-- All that segments put, with what they keep between that, is in one item of a cut (own).
 pub record LiesInOne (ss : List Segment) (new : Cut) : Type 0 where
   pub front : List Item
   pub own : Item
@@ -52,7 +52,7 @@ pub record LiesInOne (ss : List Segment) (new : Cut) : Type 0 where
   pub begins : length (items_text front []) ≤ length (kept_front ss)
   pub ends : length (items_text back []) ≤ length (kept_back ss)
 
--- what segments put is near: they keep no more than a part of one line between two that they exchange, or all comes to lie in one item (own)
+-- what segments put is near: they keep no more than a part of one line between two that they exchange, or all is in one item (own)
 abbrev pub IsLocalEdit : List Segment → Type 0
 IsLocalEdit ss = AreInLines [] (from_first ss) ⊎ ((new : Cut) → read_at (new_text ss) ≡ Some new → LiesInOne ss new)
 

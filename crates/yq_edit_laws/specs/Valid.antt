@@ -29,7 +29,7 @@ AreServed ops t = (docs : List Document) × Serves docs ops t
 abbrev pub segments_by : Operation → Cut → List Segment
 segments_by op c = or_stay c (op_edits op c)
 
--- An update is carried out, as it comes to and as it means (own).
+-- An update is carried out: what it gives and what it means (own).
 pub record IsStep (u : Update) (t new : List ℕ) (cs : List Splice) : Type 0 where
   pub exact : updated u t ≡ edit.gives new cs
   pub is : IsUpdated u t new cs
@@ -40,12 +40,12 @@ UpdateFails (error.Read fault) u t = ¬ HasReading t
 UpdateFails (error.Refused why) u t = UpdateRefused why u t
 UpdateFails error.Memory u t = ⊤
 
--- An error is what an update comes to on a text, and tells why (own).
+-- An error is what an update gives on a text, and says why (own).
 pub record FailsAt (e : EditError) (u : Update) (t : List ℕ) : Type 0 where
   pub fails : EditFails e (updated u t)
   pub why : UpdateFails e u t
 
--- An error is what updates in order come to, and tells why (own).
+-- An error is what updates in order give, and says why (own).
 pub record FailsEach (e : EditError) (us : List Update) (t : List ℕ) : Type 0 where
   pub fails : EditFails e (in_order updated us t)
   pub why : EditRefused e (updates us) t

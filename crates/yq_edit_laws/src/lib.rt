@@ -1,4 +1,4 @@
-//! What operations, updates and programs come to on a text, and why they are refused; operands of operations.
+//! What operations, updates and programs make of a text, and why they are refused; operands of operations.
 //! What nodes exchange: edits of flow collections, the empty collection that is put in the place of one whose
 //! sole item or entry is removed, and laws of values, comments, one more item or entry and one fewer outside.
 #![tactic(auto)]

@@ -122,7 +122,7 @@ impl Session {
     /// ([`Refusal::TooLarge`](yq_semantics::Refusal::TooLarge)), and for no other reason but memory.
     pub fn apply(&mut self, op: &Op) -> Result<Vec<Splice>, EditError>
         requires { IsFitting (operation_of op.now) self.old.text }
-        // What the operation comes to by itself.
+        // What the operation gives by itself.
         ensures ok { IfOk result (λ cs. carried (operation_of op.now) self.old.text ≡
             gives self.new.text cs.items) }
         ensures err { IfErr result (λ e. EditFails e (carried (operation_of op.now) self.old.text)) }
