@@ -13,11 +13,11 @@ HEAD = """\
 # The gate by crate
 
 What `make test` took of each crate, in processor seconds, and its proof also in seconds by the clock. `tools/gate.py` writes this page
-where it has proved something and `rt ci` passed. What a run took from an earlier one of the same files keeps its numbers and its day; a
-day is that of a crate's last proof, test or wrong body that was tried. Machines differ, and so do days on which others use one.
+where it has proved something and `rt ci` passed. What a run took from an earlier one keeps its numbers and its day.
 
 """
-ROW = re.compile(r"\| `(\w+)` \|" + r" ([\d,]*) \|" * 5 + r" ([\d-]*) \|")
+ROW = re.compile(r"\| `(\w+)` \|" + r" ([\d,]*) \|" * 4 + r" ([\d-]*) \|")
+BY_HAND = "\n| From nothing |"
 
 
 class Row:
@@ -40,9 +40,18 @@ def rows_of_page():
     if os.path.exists(PAGE):
         with open(PAGE, encoding="utf-8") as page:
             for found in filter(None, map(ROW.match, page)):
-                numbers = [int(it.replace(",", "") or 0) for it in found.groups()[1:6]]
-                rows[found[1]] = Row(zip(KINDS, [numbers[0], *numbers[2:4]]), numbers[1], found[7])
+                numbers = [int(it.replace(",", "") or 0) for it in found.groups()[1:5]]
+                rows[found[1]] = Row(zip(KINDS, [numbers[0], *numbers[2:4]]), numbers[1], found[6])
     return rows
+
+
+def by_hand():
+    """The end of the page, which is written by hand: what runs from nothing took."""
+    if not os.path.exists(PAGE):
+        return ""
+    with open(PAGE, encoding="utf-8") as page:
+        _, mark, rest = page.read().partition(BY_HAND)
+    return mark + rest
 
 
 def of_now(crate, row):
@@ -95,13 +104,14 @@ def cell(number):
 
 
 def write(rows, total):
-    """Writes the page of these rows, and of what `rt ci` took in all."""
-    lines = ["| Crate | Proof | By the clock | Tests | Wrong bodies | All | Day |", "|---|---|---|---|---|---|---|"]
+    """Writes the page of these rows, and of what `rt ci` took in all; what is written by hand stays."""
+    end = by_hand()
+    lines = ["| Crate | Proof | By the clock | Tests | Wrong bodies | Day |", "|---|---|---|---|---|---|"]
     for crate, row in rows.items():
         proof, tests, edits = (cell(row.seconds.get(kind, 0)) for kind in KINDS)
-        lines.append(f"| `{crate}` | {proof} | {cell(row.clock)} | {tests} | {edits} | {cell(row.all())} | {row.day} |")
+        lines.append(f"| `{crate}` | {proof} | {cell(row.clock)} | {tests} | {edits} | {row.day} |")
     proof, tests, edits = (cell(sum(row.seconds.get(kind, 0) for row in rows.values())) for kind in KINDS)
-    lines.append(f"| All | {proof} | | {tests} | {edits} | {cell(sum(row.all() for row in rows.values()))} | |")
+    lines.append(f"| All | {proof} | | {tests} | {edits} | |")
     with open(PAGE, "w", encoding="utf-8") as page:
         last = max((row.day for row in rows.values()), default="")
-        page.write(HEAD + "\n".join(lines) + f"\n\nThe last run, of {last}, {total}.\n\n{chain_line(rows, '`')}.\n")
+        page.write(HEAD + "\n".join(lines) + f"\n\nThe last run, of {last}, {total}.\n\n{chain_line(rows, '`')}.\n{end}")
