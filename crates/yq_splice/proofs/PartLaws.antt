@@ -153,7 +153,7 @@ others_await (x ∷ xs) ys m n ds h operands e =
 stops_more : {A : Type 0} (R : Leading A) (S : A → List ℕ → Type 0) (xs ys : List A) (t : List ℕ) → StopsInOrder R S xs t → StopsInOrder R S (xs ++ ys) t
 stops_more R S [] ys t h = absurd h
 stops_more R S (x ∷ xs) ys t (inl s) = inl s
-stops_more R S (x ∷ xs) ys t (inr h) = inr (h.0, h.1.0, h.1.1.0, stops_more R S xs ys h.0 h.1.1.1)
+stops_more R S (x ∷ xs) ys t (inr h) = inr (h.0, h.1, h.2, stops_more R S xs ys h.0 h.3)
 
 -- Some operations of an update's plan were carried out on a text, and the others are left (own).
 pub record IsUnderWay (u : Update) (t : List ℕ) (before : List Splice) (doc place : ℕ) (m : List ℕ) (cs : List Splice) : Type 0 where
@@ -202,7 +202,7 @@ module _ (u : Update) (t : List ℕ) (before : List Splice) (is : read_at t ≡ 
         let await : Awaits h.rest m = others_await h.made h.rest t m h.own (all_await (h.made ++ h.rest) h.planned) h.operands h.carried in
         first_served ops split.rest m (subst (λ (xs : List Operation). Awaits xs m) split.all await) operands
 
-    so_far : List Operation
+    abbrev so_far : List Operation
     so_far = h.made ++ ops
 
     whole : plan u (room_of t) (documents_of t) ≡ gives (so_far ++ split.rest)
