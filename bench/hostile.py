@@ -113,11 +113,9 @@ TEXTS = {
 }
 
 COPIES = "a copy of the whole text is made for each place before any is refused as too large"
-ONE_ROW = "each of many removals from one flow collection reads its row anew"
-KEYS = "each of many values put in one flow mapping is looked for from its first key on"
+KEYS = "each of many keys of one flow mapping that an update changes is looked for from the first one on"
 DOCUMENTS = "each of many documents that an update changes takes an operation of its own on the text"
 BLANKS = "each of many operations takes time by the blank lines behind it"
-UNDER_A = ["one flow list", "one flow mapping", "flow over lines", "flow mapping over lines", "empty lists in one row", "commas"]
 COPIED = [
     "keys", "items", "mappings in items", "lists in items", "lists of no items", "nulls", "bare dashes", "60 deep, in blocks",
     "60 deep, in flow", "anchors", "comments between", "comments in rows", "literals", "long keys", "keys that fall", "quoted keys",
@@ -129,10 +127,8 @@ OF_EACH = [".[] = 1", '.[] head_comment = "x\\ny"', ".[] = .", "del(.[])"]
 # What takes more, by its cause: other issues mend it.
 ABOVE = [
     (COPIES, COPIED, [".[] = ."]),
-    (ONE_ROW, UNDER_A, ["del(.a[])"]),
-    (ONE_ROW, ["a flow list as root", "a flow mapping as root", "JSON objects in rows"], ["del(.[])"]),
-    (KEYS, ["one flow mapping", "flow mapping over lines"], [".a += .a"]),
-    (KEYS, ["a flow mapping as root"], [".[] = 1"]),
+    (KEYS, ["one flow mapping", "flow mapping over lines"], [".a += .a", "del(.a[])"]),
+    (KEYS, ["a flow mapping as root"], [".[] = 1", "del(.[])"]),
     (DOCUMENTS, ["documents", "empty documents"], CHANGED),
     (DOCUMENTS, ["documents", "documents of lists"], OF_EACH),
     (BLANKS, ["blank literals"], [".[] = .", "del(.[])"]),
