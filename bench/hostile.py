@@ -113,21 +113,17 @@ TEXTS = {
 }
 
 DASHES = "rows of 60 dashes take 0.2 s a MB to read, and are read for each part of the update"
-ONE_ROW = "each of many removals from one flow collection reads its row anew"
-KEYS = "each of many values put in one flow mapping is looked for from its first key on"
+KEYS = "each of many keys of one flow mapping that an update changes is looked for from the first one on"
 DOCUMENTS = "each of many documents that an update changes takes an operation of its own on the text"
-BLANKS = "each of many operations takes time by the blank lines behind it"
-UNDER_A = ["one flow list", "one flow mapping", "flow over lines", "flow mapping over lines", "empty lists in one row", "commas"]
+BLANKS = "each of many operations takes time by the blank lines after it"
 CHANGED = [".a = 1", ".zz = 1", ".a += 1", ".a |= .", ".a += .a", "del(.a)", '.a line_comment = "x"', ".a += [1]"]
 OF_EACH = [".[] = 1", '.[] head_comment = "x\\ny"', ".[] = .", "del(.[])"]
 
 # What takes more, by its cause: other issues mend it.
 ABOVE = [
     (DASHES, ["60 deep, in flow"], [".[] = ."]),
-    (ONE_ROW, UNDER_A, ["del(.a[])"]),
-    (ONE_ROW, ["a flow list as root", "a flow mapping as root", "JSON objects in rows"], ["del(.[])"]),
-    (KEYS, ["one flow mapping", "flow mapping over lines"], [".a += .a"]),
-    (KEYS, ["a flow mapping as root"], [".[] = 1"]),
+    (KEYS, ["one flow mapping", "flow mapping over lines"], [".a += .a", "del(.a[])"]),
+    (KEYS, ["a flow mapping as root"], [".[] = 1", "del(.[])"]),
     (DOCUMENTS, ["documents", "empty documents"], CHANGED),
     (DOCUMENTS, ["documents", "documents of lists"], OF_EACH),
     (BLANKS, ["blank literals"], [".[] = .", "del(.[])"]),

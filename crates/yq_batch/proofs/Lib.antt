@@ -1,9 +1,14 @@
 pub mod PutComes
+pub mod LeftItemLaws
+pub mod LeftPlaceLaws
+pub mod LeftLoops
 pub mod RunEdits
 pub mod RunLaws
 pub mod MoreRuns
 pub mod RunAnswers
 pub mod MoreAnswers
+pub mod LeftRemovals
+pub mod CollectionLeft
 pub mod RemovalRunLaws
 pub mod RemovalAnswers
 pub mod RowRunLaws

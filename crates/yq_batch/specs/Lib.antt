@@ -1,3 +1,5 @@
 pub mod Runs
 pub mod RowRuns
 pub mod RemovalRuns
+pub mod LeftItems
+pub mod LeftPlaces

@@ -1,14 +1,22 @@
 -- Items and entries taken out, one before the other, of the flow collections of one head, which was read once (YAML 1.2.2, 7.4; own).
-use Rattle.std.specs.Prelude.{◌≡◌, ⊤, ℕ, ◌<◌, ◌≤◌, List, ◌++◌, drop, take, length, Some}
+use Rattle.std.specs.Prelude.{◌≡◌, ⊤, ◌⊎◌, ℕ, ◌+◌, ◌<◌, ◌≤◌, Bool, true, List, [], ◌++◌, drop, take, length, map, Option, Some, None}
 use Rattle.yq_text.{specs.Limit.text_limit, specs.Script.splice_at, specs.Splice.Splice, specs.TextGapBuffer.buffer_text}
-use Rattle.yq_core.{specs.Paths.Step, specs.Collections.CollPieces}
+use Rattle.yq_core.{specs.Paths.Step, specs.Collections.CollPieces, specs.Entries.{end_of, parts_of, tree_step}}
+use Rattle.yq_core.{specs.PlainText.begins_marker, specs.Nodes.{flow_items_text, key_text, node_text}, specs.Places.Placed}
 use Rattle.yq_row_table.specs.Rows.{Cut, cut_text}
 use Rattle.yq_documents.specs.Reading.{read_at}
-use Rattle.yq_places.{specs.FlowNodes.flow_collection, specs.FlowViews.LeadsToHead}
-use Rattle.yq_semantics.{specs.Operations.Operation, specs.declared.refusal.Refusal.TheVariants.TooLarge}
-use Rattle.yq_edit_laws.{specs.Carried.carried, specs.Edit.gives, specs.Theorems.IsApplied, specs.declared.edit_error.EditError.EditError}
-use Rattle.yq_batch.specs.declared.removals.RemovalRun.{RemovalRun}
+use Rattle.yq_places.{specs.FlowNodes.flow_collection, specs.FlowViews.{LeadsToHead, behind_anchor, collection_view}}
+use Rattle.yq_places.{specs.Standings.last_step, specs.declared.places.flow_node.FlowHead.FlowHead}
+use Rattle.yq_semantics.{specs.declared.op.Op.Op, specs.Operations.{Operation, operations_of}}
+use Rattle.yq_semantics.specs.declared.refusal.Refusal.TheVariants.{TooLarge}
+use Rattle.yq_edit_laws.{specs.Carried.{carried, carry_all}, specs.Edit.{edit_after, gives}, specs.Theorems.IsApplied}
+use Rattle.yq_edit_laws.{specs.Valid.AreServed, specs.declared.edit_error.EditError.EditError}
+use Rattle.yq_batch.specs.LeftItems.{Ending, LeadsToPart, closing, count_parts, others, left_items, upto_text}
+use Rattle.yq_batch.{specs.declared.removals.RemovalRun.RemovalRun, specs.LeftPlaces.IsLeftPlace, specs.declared.left.LeftPlace.LeftPlace}
+use Rattle.yq_batch.specs.declared.removals.LeftOf.{LeftOf}
 use Rattle.yq_edit_laws.specs.declared.edit_error.EditError.TheVariants as error
+
+-- ---- runs
 
 -- The last bytes of a cut's text were replaced by others, since items and entries were taken out of the collections of the head to which steps lead: the
 -- text reads, the steps lead to a head in it, and each collection that ends in the bytes that stay is there, before the others (own).
@@ -20,33 +28,95 @@ pub record IsRemovalRun (c : Cut) (n : ℕ) (stem : List Step) (keep : ℕ) (tai
   pub stays : (left : List Step) (w : CollPieces) (mid : List ℕ) → flow_collection n (stem ++ left) c ≡ Some w → w.rest ≡ mid ++ drop keep (cut_text c) →
       flow_collection n (stem ++ left) cut ≡ Some (record w { rest = mid ++ tail })
 
--- A run of the code is one (own).
-pub record RemovesSo (c : Cut) (n : ℕ) (stem : List Step) (r : RemovalRun) : Type 0 where
+-- others are left after the first items, and perhaps begin with a document marker, or none (own)
+abbrev pub AreAfter : Option Bool → Ending → Type 0
+AreAfter None (closing s) = ⊤
+AreAfter None (others key n s is) = ⊥
+AreAfter (Some marked) (closing s) = ⊥
+AreAfter (Some marked) (others key n s is) = begins_marker (key_text key (node_text n [])) ≡ true → marked ≡ true
+
+-- a collection with the first items of another one, an ending after them, and what follows it (own)
+abbrev pub left_coll : CollPieces → ℕ → Ending → List ℕ → CollPieces
+left_coll w count e rest = record { close = w.close; gap = w.gap; items = left_items count w.items e; rest = rest }
+
+-- So many of the first items of a collection are left in another cut, before an ending, in the place where they were, in bytes that stay (own).
+pub record AreFirstLeft (w : CollPieces) (c cut : Cut) (n : ℕ) (steps : List Step) (keep count : ℕ) (after : Option Bool) : Type 0 where
+  pub ending : Ending
+  pub ends : AreAfter after ending
+  pub rest : List ℕ
+  pub left : flow_collection n steps cut ≡ Some (left_coll w count ending rest)
+  pub opening : List ℕ
+  pub was : cut_text c ≡ opening ++ flow_items_text w.close w.items w.rest
+  pub is : cut_text cut ≡ opening ++ flow_items_text w.close (left_items count w.items ending) rest
+  pub kept : (i : ℕ) → i < count → length opening + length (upto_text i w.items) ≤ keep
+
+-- the same of the collection to which steps lead (own)
+abbrev pub IsLeftOf : (c cut : Cut) → ℕ → List Step → (keep count : ℕ) → Option Bool → Type 0
+IsLeftOf c cut n steps keep count after = (w : CollPieces) × (flow_collection n steps c ≡ Some w) × AreFirstLeft w c cut n steps keep count after
+
+-- what is known of the collection from which a run took the last one out, if it took any (own)
+abbrev pub IsKnownLeft : (c cut : Cut) → ℕ → List Step → ℕ → Option LeftOf → Type 0
+IsKnownLeft c cut n stem keep None = ⊤
+IsKnownLeft c cut n stem keep (Some k) = IsLeftOf c cut n (stem ++ map tree_step k.steps.now) keep k.count k.after
+
+-- A run of the code is one, of which this is known (own).
+pub record RemovesSo (c : Cut) (n : ℕ) (stem : List Step) (known : Option LeftOf) (r : RemovalRun) : Type 0 where
   pub tail : List ℕ
   pub text : buffer_text r.text ≡ take r.keep (cut_text c) ++ tail
   pub run : IsRemovalRun c n stem r.keep tail
+  pub known_is : IsKnownLeft c run.cut n stem r.keep known
 
--- the text in which others come in the place of what is between two places (own)
-abbrev pub text_without : List ℕ → (start end : ℕ) → List ℕ → List ℕ
-text_without t start end lead = take start t ++ (lead ++ drop end t)
+-- how many of the first items of a collection are left, and what comes after them: as is known of the last one, or all of one that ends before what was
+-- taken out (own)
+abbrev pub AreLeft : List Step → Option LeftOf → (end keep all count : ℕ) → Option Bool → Type 0
+AreLeft steps known end keep all count after =
+    ((k : LeftOf) × (known ≡ Some k) × (map tree_step k.steps.now ≡ steps) × (count ≡ k.count) × (after ≡ k.after))
+    ⊎ ((end ≤ keep) × (count ≡ all) × (after ≡ None))
 
--- A text has come in the place of what is between two places, and the whole is no larger than a text may be (own).
-pub record HasTakenOut (start end : ℕ) (lead : List ℕ) (before after : RemovalRun) : Type 0 where
-  pub text : buffer_text after.text ≡ text_without (buffer_text before.text) start end lead
+-- Where a path ends in a collection of a head, the item or entry of an index, what goes with it, and what is left of the collection (own).
+pub record GoneInHead (steps : List Step) (x : FlowHead) (known : Option LeftOf) (keep : ℕ) (place : LeftPlace) (index : ℕ) : Type 0 where
+  pub above : List Step
+  pub step : Step
+  pub last : Some (above, step) ≡ last_step steps
+  pub node : Placed
+  pub there : Some (behind_anchor node) ≡ collection_view x
+  pub count : ℕ
+  pub after : Option Bool
+  pub leads : LeadsToPart step index (parts_of node)
+  pub first : AreLeft (map tree_step x.left.now) known (x.before + end_of node) keep (count_parts (parts_of node)) count after
+  pub goes : IsLeftPlace x.text.now (parts_of node) index count after place
+
+-- ---- what is taken out
+
+-- the text without what is between two places (own)
+abbrev pub text_without : List ℕ → (start end : ℕ) → List ℕ
+text_without t start end = take start t ++ drop end t
+
+-- What is between two places is gone, and the whole is no larger than a text may be (own).
+pub record HasTakenOut (start end : ℕ) (before after : RemovalRun) : Type 0 where
+  pub text : buffer_text after.text ≡ text_without (buffer_text before.text) start end
   pub keep : after.keep ≡ start
-  pub splices : after.splices.items ≡ before.splices.items ++ splice_at start (drop start (take end (buffer_text before.text))) lead
-  pub size : length (text_without (buffer_text before.text) start end lead) ≤ text_limit
+  pub splices : after.splices.items ≡ before.splices.items ++ splice_at start (drop start (take end (buffer_text before.text))) []
+  pub size : length (text_without (buffer_text before.text) start end) ≤ text_limit
 
--- why it has not: the whole would be too large, or memory ran out (own)
-abbrev pub RemovalFails : EditError → (start end : ℕ) → List ℕ → RemovalRun → Type 0
-RemovalFails (error.Read fault) start end lead r = ⊥
-RemovalFails (error.Refused why) start end lead r = (why ≡ TooLarge) × (text_limit < length (text_without (buffer_text r.text) start end lead))
-RemovalFails error.Memory start end lead r = ⊤
+-- why it is not: the whole would be too large, or memory ran out (own)
+abbrev pub RemovalFails : EditError → (start end : ℕ) → RemovalRun → Type 0
+RemovalFails (error.Read fault) start end r = ⊥
+RemovalFails (error.Refused why) start end r = (why ≡ TooLarge) × (text_limit < length (text_without (buffer_text r.text) start end))
+RemovalFails error.Memory start end r = ⊤
 
 -- An operation is carried out on the text of a run, which goes on after it (own).
-pub record RemovesOn (op : Operation) (c : Cut) (n : ℕ) (stem : List Step) (before after : RemovalRun) : Type 0 where
+pub record RemovesOn (op : Operation) (c : Cut) (n : ℕ) (stem : List Step) (before : RemovalRun) (known : LeftOf) (after : RemovalRun) : Type 0 where
   pub new_bytes : List Splice
   pub comes : carried op (buffer_text before.text) ≡ gives (buffer_text after.text) new_bytes
   pub applied : IsApplied op (buffer_text before.text) (buffer_text after.text) new_bytes
   pub splices : after.splices.items ≡ before.splices.items ++ new_bytes
-  pub run : RemovesSo c n stem after
+  pub run : RemovesSo c n stem (Some known) after
+
+-- ---- operations carried out together
+
+-- Operations on a text were carried out together, all or all but the last one, which then gives what all give (own).
+pub record CarriesOn (ops : List Op) (t : List ℕ) (left : List Op) (u : List ℕ) (before : List Splice) : Type 0 where
+  pub few : length left ≤ 1
+  pub whole : edit_after before (carry_all (operations_of left) u) ≡ carry_all (operations_of ops) t
+  pub serves : AreServed (operations_of left) u

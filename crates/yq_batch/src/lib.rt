@@ -3,9 +3,10 @@
 
 mod adding;
 mod in_rows;
+mod left;
 mod removals;
 mod run;
 mod together;
 
 pub use in_rows::carry_in_rows;
-pub use together::carry_together;
+pub use together::{Together, carry_together};

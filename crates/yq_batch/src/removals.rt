@@ -1,23 +1,26 @@
 //! Items and entries that an update takes out of the flow collections of one head, one before the other: they
 //! are carried out together, and the head is read once.
-ghost use Rattle.std.specs.Prelude.{◌≡◌, ◌≤◌, [], true, length, map, IfErr, IfOk, IfSome, OnOk, string_bytes};
+ghost use Rattle.std.specs.Prelude.{◌≡◌, ◌+◌, ◌≤◌, [], length, map, IfErr, IfOk, IfSome, None, OnOk, string_bytes};
 ghost use Rattle.std.specs.Str.{IsCharBoundary, IsUtf8};
 ghost use Rattle.yq_text.{specs.Halves.whole, specs.TextGapBuffer.buffer_text};
-ghost use Rattle.yq_core.specs.Entries.{tree_step};
-ghost use Rattle.yq_documents.specs.Reading.{cut_of};
+ghost use Rattle.yq_core.{specs.Entries.{end_of, parts_of, tree_step}, specs.View.inline_view};
+ghost use Rattle.yq_documents.{specs.Located.steps_of, specs.Reading.cut_of};
 ghost use Rattle.yq_places.specs.FlowViews.{ReportsHead};
 ghost use Rattle.yq_semantics.specs.Operations.{operation_of, operations_of};
-ghost use Rattle.yq_edit_laws.{specs.Answers.EditFails, specs.Carried.{carry_all, carried}, specs.Edit.gives, specs.Theorems.IsFitting};
+ghost use Rattle.yq_edit_laws.{specs.Answers.EditFails, specs.Carried.{carry_all, carried}, specs.Theorems.IsFitting};
 ghost use Rattle.yq_edit_laws.specs.Valid.{AreServed};
+ghost use Rattle.yq_batch.specs.LeftItems.{count_parts};
 ghost use Rattle.yq_batch.specs.RemovalRuns as spec;
 
+use crate::left::{LeftPlace, count_of, end_of, index_of, left_place};
 use crate::run::{between, bytes_of, push_splice};
-use crate::together::steps_in_head;
+use crate::together::{Together, are_same_steps, steps_in_head};
 use std::alloc::{AllocError, Global};
-use yq_core::Step;
-use yq_edit_laws::{EditError, PartGone, gone_at_part};
+use yq_core::{Inline, Step};
+use yq_documents::Path;
+use yq_edit_laws::{EditError, last_step};
 use yq_lookup::CutText;
-use yq_places::FlowHead;
+use yq_places::{FlowHead, collection_along};
 use yq_semantics::{Op, Refusal};
 use yq_text::{Edited, Halves, Splice, TEXT_LIMIT, TextGapBuffer};
 
@@ -29,6 +32,17 @@ pub(crate) struct RemovalRun {
     /// How many bytes of it, from its beginning on, are those that were read.
     pub(crate) keep: usize,
     pub(crate) splices: Vec<Splice>,
+}
+
+/// What is left of the collection from which an item or entry was taken out.
+#[derive(Clone, Copy)]
+pub(crate) struct LeftOf<'s> {
+    /// The steps that lead to it in the head.
+    pub(crate) steps: &'s [Step],
+    /// How many of its first items or entries.
+    pub(crate) count: usize,
+    /// Whether others come after these, and perhaps begin with a document marker.
+    pub(crate) after: Option<bool>,
 }
 
 /// A text from which nothing was taken out.
@@ -48,35 +62,81 @@ fn untouched(alloc: Global, text: Halves<'_>) -> Result<RemovalRun, AllocError>
     })
 }
 
-/// What is between two places of the text of a run goes, and what leads to the text after it comes there.
-fn take_out(
-    alloc: Global,
-    run: &mut RemovalRun,
-    start: usize,
-    end: usize,
-    lead: &str,
-) -> Result<(), EditError>
+/// What is between two places of the text of a run goes.
+fn take_out(alloc: Global, run: &mut RemovalRun, start: usize, end: usize) -> Result<(), EditError>
     requires order { start ≤ end }
     requires utf8 { IsUtf8 (buffer_text run.old.text) }
     requires start { IsCharBoundary (buffer_text run.old.text) start }
     requires end { IsCharBoundary (buffer_text run.old.text) end }
-    ensures ok { OnOk result (spec.HasTakenOut start end lead.now run.old run.new) }
-    ensures err { IfErr result (λ e. spec.RemovalFails e start end lead.now run.old) }
+    ensures ok { OnOk result (spec.HasTakenOut start end run.old run.new) }
+    ensures err { IfErr result (λ e. spec.RemovalFails e start end run.old) }
 {
     let old = bytes_of(alloc, between(run.text.halves(), start, end))?;
-    let new = String::from_str(alloc, lead)?;
-    run.text.reserve(lead.len())?;
     run.text.move_split(start);
-    run.text.exchange(end - start, lead);
+    run.text.exchange(end - start, "");
     run.keep = start;
     if run.text.len() > TEXT_LIMIT {
         return Err(EditError::Refused(Refusal::TooLarge));
     }
-    Ok(push_splice(&mut run.splices, start, old, new.into_bytes())?)
+    Ok(push_splice(&mut run.splices, start, old, Vec::new(alloc))?)
+}
+
+/// How many of the first items or entries of a collection are left, and what comes after them: as is known
+/// of the last one, or all of one that ends before what was taken out.
+fn first_left<'s>(
+    steps: &[Step],
+    before: usize,
+    node: &Inline<'_>,
+    known: Option<LeftOf<'s>>,
+    keep: usize,
+) -> Option<(usize, Option<bool>)>
+    ensures { IfSome result (λ x. spec.AreLeft (map tree_step steps.now) known.entry
+        (before + end_of (inline_view node.now)) keep
+        (count_parts (parts_of (inline_view node.now))) x.0 x.1) }
+{
+    if let Some(left) = known {
+        if are_same_steps(left.steps, steps) {
+            return Some((left.count, left.after));
+        }
+    }
+    let end = end_of(node);
+    if before > keep || end > keep - before {
+        return None;
+    }
+    Some((count_of(node), None))
+}
+
+/// What goes with the item or entry in which a path ends, and its index, if what is left of its collection
+/// is known; nothing, where it is a sole one.
+fn gone_in_head<'s>(
+    head: &FlowHead<'s, '_>,
+    path: &Path,
+    known: Option<LeftOf<'s>>,
+    keep: usize,
+) -> Option<(LeftPlace, usize)>
+    ensures { IfSome result (λ x. spec.GoneInHead (steps_of path.now) head.now known.entry keep
+        x.0 x.1) }
+{
+    let Some((_, last)) = last_step(&path.steps) else {
+        return None;
+    };
+    let Some(node) = collection_along(&head.node, head.left) else {
+        return None;
+    };
+    let Some(index) = index_of(node, last) else {
+        return None;
+    };
+    let Some((count, after)) = first_left(head.left, head.before, node, known, keep) else {
+        return None;
+    };
+    let Some(place) = left_place(head.text.as_bytes(), node, index, count, after) else {
+        return None;
+    };
+    Some((place, index))
 }
 
 /// Carries out an operation on the text of a run, if it takes an item or entry out of a collection of a
-/// head that ends before those that were taken out.
+/// head, before those that were taken out.
 fn remove_one<'s>(
     alloc: Global,
     cut: &CutText<'_, '_>,
@@ -84,39 +144,60 @@ fn remove_one<'s>(
     stem: &[Step],
     head: &mut FlowHead<'s, '_>,
     op: &'s Op,
+    known: Option<LeftOf<'s>>,
     run: &mut RemovalRun,
-) -> Result<bool, EditError>
+) -> Result<Option<LeftOf<'s>>, EditError>
     requires head { ReportsHead cut.now (cut_of cut.now) doc (map tree_step stem.now) head.old }
-    requires run { spec.RemovesSo (cut_of cut.now) doc (map tree_step stem.now) run.old }
+    requires run { spec.RemovesSo (cut_of cut.now) doc (map tree_step stem.now) known run.old }
     requires fits { IsFitting (operation_of op.now) (buffer_text run.old.text) }
     ensures head { ReportsHead cut.now (cut_of cut.now) doc (map tree_step stem.now) head.new }
-    ensures ok { IfOk result (λ b. b ≡ true → spec.RemovesOn (operation_of op.now) (cut_of cut.now)
-        doc (map tree_step stem.now) run.old run.new) }
+    ensures ok { IfOk result (λ o. IfSome o (λ k. spec.RemovesOn (operation_of op.now)
+        (cut_of cut.now) doc (map tree_step stem.now) run.old k run.new)) }
+    ensures stays { IfOk result (λ o. o ≡ None → run.new ≡ run.old) }
     ensures err { IfErr result (λ e. EditFails e (carried (operation_of op.now)
         (buffer_text run.old.text))) }
 {
     let Op::Remove(path) = op else {
-        return Ok(false);
+        return Ok(None);
     };
-    let Some(left) = steps_in_head(path, doc, stem) else {
-        return Ok(false);
+    let Some(steps) = steps_in_head(path, doc, stem) else {
+        return Ok(None);
     };
-    head.left = left;
+    head.left = steps;
     let _text = cut.text();
-    let Some(gone) = gone_at_part(cut, head, path) else {
-        return Ok(false);
+    let Some((place, index)) = gone_in_head(head, path, known, run.keep) else {
+        return Ok(None);
     };
-    let PartGone { place, end } = gone;
-    if head.before + end > run.keep {
-        return Ok(false);
-    }
-    let start = head.before + place.start;
-    take_out(alloc, run, start, head.before + place.end, place.lead)?;
-    Ok(true)
+    let LeftPlace { start, end, after } = place;
+    take_out(alloc, run, head.before + start, head.before + end)?;
+    Ok(Some(LeftOf {
+        steps,
+        count: index,
+        after,
+    }))
 }
 
-/// Carries out operations that take items and entries out of the collections of a head; nothing, where one
-/// of them does something else, or one of these collections ends after one from which one was taken out.
+/// The text of a run with the operations that are left, if that is no more than one.
+fn ended<'s>(run: RemovalRun, left: &'s [Op]) -> Option<Together<'s>>
+    ensures { IfSome result (λ x. (string_bytes x.edited.text ≡ buffer_text run.text) ×
+        (x.edited.splices.items ≡ run.splices.items) × (x.left.now ≡ left.now) ×
+        (length left.now ≤ 1)) }
+{
+    if left.len() > 1 {
+        return None;
+    }
+    let RemovalRun { text, splices, .. } = run;
+    Some(Together {
+        edited: Edited {
+            text: text.into_string(),
+            splices,
+        },
+        left,
+    })
+}
+
+/// Carries out operations that take items and entries out of the collections of a head, all or all but the
+/// last one; nothing, where another one does something else, or isn't before one that was carried out.
 pub(crate) fn remove_each<'s>(
     alloc: Global,
     cut: &CutText<'_, '_>,
@@ -124,25 +205,23 @@ pub(crate) fn remove_each<'s>(
     stem: &[Step],
     head: &mut FlowHead<'s, '_>,
     ops: &'s [Op],
-) -> Result<Option<Edited>, EditError>
+) -> Result<Option<Together<'s>>, EditError>
     requires head { ReportsHead cut.now (cut_of cut.now) doc (map tree_step stem.now) head.old }
     requires serves { AreServed (operations_of ops.now) cut.now }
-    ensures ok { IfOk result (λ o. IfSome o (λ e. carry_all (operations_of ops.now) cut.now ≡
-        gives (string_bytes e.text) e.splices.items)) }
+    ensures ok { IfOk result (λ o. IfSome o (λ x. spec.CarriesOn ops.now cut.now x.left.now
+        (string_bytes x.edited.text) x.edited.splices.items)) }
     ensures err { IfErr result (λ e. EditFails e (carry_all (operations_of ops.now) cut.now)) }
 {
     let mut run = untouched(alloc, cut.text())?;
+    let mut known = None;
     let mut rest = ops;
     'operations: while let [op, after @ ..] = rest {
-        let removed = remove_one(alloc, cut, doc, stem, head, op, &mut run)?;
-        if !removed {
-            return Ok(None);
-        }
+        let found = remove_one(alloc, cut, doc, stem, head, op, known, &mut run)?;
+        let Some(left) = found else {
+            return Ok(ended(run, rest));
+        };
+        known = Some(left);
         rest = after;
     }
-    let RemovalRun { text, splices, .. } = run;
-    Ok(Some(Edited {
-        text: text.into_string(),
-        splices,
-    }))
+    Ok(ended(run, rest))
 }

@@ -7,6 +7,7 @@ ghost use Rattle.yq_places.specs.FlowViews.{ReportsHead};
 ghost use Rattle.yq_semantics.specs.Operations.{operation_of, operations_of};
 ghost use Rattle.yq_edit_laws.{specs.Answers.EditFails, specs.Carried.{carry_all, carried}, specs.Edit.gives, specs.Theorems.IsFitting};
 ghost use Rattle.yq_edit_laws.specs.Valid.{AreServed};
+ghost use Rattle.yq_batch.specs.RemovalRuns.{CarriesOn};
 ghost use Rattle.yq_batch.specs.Runs as spec;
 
 use crate::adding::add_one;
@@ -21,6 +22,14 @@ use yq_places::FlowHead;
 use yq_semantics::Op;
 use yq_text::Edited;
 
+/// What operations that were carried out together made of a text.
+#[derive(Drop)]
+pub struct Together<'o> {
+    pub edited: Edited,
+    /// The operation that isn't carried out, if the last one isn't.
+    pub left: &'o [Op],
+}
+
 /// Whether steps are the same.
 fn is_same_step(one: &Step, other: &Step) -> bool
     ensures { result ≡ true → tree_step one.now ≡ tree_step other.now }
@@ -33,7 +42,7 @@ fn is_same_step(one: &Step, other: &Step) -> bool
 }
 
 /// Whether paths are the same.
-fn are_same_steps(some: &[Step], others: &[Step]) -> bool
+pub(crate) fn are_same_steps(some: &[Step], others: &[Step]) -> bool
     ensures { result ≡ true → map tree_step some.now ≡ map tree_step others.now }
 {
     if some.len() != others.len() {
@@ -178,11 +187,11 @@ fn put_each<'s>(
     stem: &[Step],
     head: &mut FlowHead<'s, '_>,
     ops: &'s [Op],
-) -> Result<Option<Edited>, EditError>
+) -> Result<Option<Together<'s>>, EditError>
     requires head { ReportsHead cut.now (cut_of cut.now) doc (map tree_step stem.now) head.old }
     requires serves { AreServed (operations_of ops.now) cut.now }
-    ensures ok { IfOk result (λ o. IfSome o (λ e. carry_all (operations_of ops.now) cut.now ≡
-        gives (string_bytes e.text) e.splices.items)) }
+    ensures ok { IfOk result (λ o. IfSome o (λ x. CarriesOn ops.now cut.now x.left.now
+        (string_bytes x.edited.text) x.edited.splices.items)) }
     ensures err { IfErr result (λ e. EditFails e (carry_all (operations_of ops.now) cut.now)) }
 {
     let text = cut.text();
@@ -195,7 +204,8 @@ fn put_each<'s>(
         }
         rest = after;
     }
-    Ok(Some(run.end(text)?))
+    let edited = run.end(text)?;
+    Ok(Some(Together { edited, left: rest }))
 }
 
 /// The document and the steps of the collection that an operation may change in a head, if it is one that
@@ -212,16 +222,16 @@ fn changed_collection(op: &Op) -> Option<(usize, &[Step])> {
 }
 
 /// Carries out operations together that put values in the flow collections of one head, or items and
-/// entries into these, one after the other, or take some out of them, one before the other; nothing, where
-/// they don't.
-pub fn carry_together(
+/// entries into these, one after the other, or take some out of them, one before the other: all or all but
+/// the last one, as one that leaves a collection empty. Nothing, where they don't.
+pub fn carry_together<'o>(
     alloc: Global,
     cut: &CutText<'_, '_>,
-    ops: &[Op],
-) -> Result<Option<Edited>, EditError>
+    ops: &'o [Op],
+) -> Result<Option<Together<'o>>, EditError>
     requires { AreServed (operations_of ops.now) cut.now }
-    ensures ok { IfOk result (λ o. IfSome o (λ e. carry_all (operations_of ops.now) cut.now ≡
-        gives (string_bytes e.text) e.splices.items)) }
+    ensures ok { IfOk result (λ o. IfSome o (λ x. CarriesOn ops.now cut.now x.left.now
+        (string_bytes x.edited.text) x.edited.splices.items)) }
     ensures err { IfErr result (λ e. EditFails e (carry_all (operations_of ops.now) cut.now)) }
 {
     let [op, _, ..] = ops else {

@@ -1,5 +1,5 @@
 //! Carrying out: operations done on a text, one after the other.
-ghost use Rattle.std.specs.Prelude.{◌≡◌, ◌++◌, Some, IfErr, IfOk, IfSome, string_bytes};
+ghost use Rattle.std.specs.Prelude.{◌≡◌, ◌≤◌, ◌++◌, length, Some, IfErr, IfOk, IfSome, string_bytes};
 ghost use Rattle.yq_semantics.specs.Operations.{operation_of, operations_of};
 ghost use Rattle.yq_documents.specs.Reading.{cut_of, read_at};
 ghost use Rattle.yq_row_table.specs.View.{rows_view};
@@ -10,7 +10,7 @@ ghost use Rattle.yq_edit_laws.specs.Carried as spec;
 
 use crate::session::Session;
 use std::alloc::{AllocError, Global};
-use yq_batch::{carry_in_rows, carry_together};
+use yq_batch::{Together, carry_in_rows, carry_together};
 use yq_documents::Documents;
 use yq_edit_laws::{EditError, operand_holds};
 use yq_lookup::CutText;
@@ -94,7 +94,22 @@ pub(crate) fn edited_behind(splices: Vec<Splice>, edited: Edited) -> Result<Edit
     Ok(Edited { text, splices })
 }
 
-/// Operations carried out on a text with its cut, where no rows follow one of them: a sole one, values put in
+/// What operations that were carried out together give, with the one that is left.
+fn with_last(alloc: Global, together: Together<'_>) -> Result<Edited, EditError>
+    requires { length together.left.now ≤ 1 }
+    ensures { Edits result (edit_after together.entry.edited.splices.items (spec.carry_all
+        (operations_of together.entry.left.now) (string_bytes together.entry.edited.text))) }
+{
+    let Together { edited, left } = together;
+    let [op, ..] = left else {
+        return Ok(edited);
+    };
+    let Edited { text, splices } = edited;
+    let last = carry(alloc, text.as_str(), op)?;
+    Ok(edited_behind(splices, last)?)
+}
+
+/// Operations carried out on a text with its cut, where no rows follow one of them: a sole one, operations in
 /// one flow collection, or operations that each change one row; nothing, where they are others.
 fn carry_at_once<'d>(
     alloc: Global,
@@ -112,9 +127,10 @@ fn carry_at_once<'d>(
         let edited = carry_one(alloc, cut, op)?;
         return Ok(Some(edited));
     }
-    let together = carry_together(alloc, cut, ops)?;
-    if together.is_some() {
-        return Ok(together);
+    let found = carry_together(alloc, cut, ops)?;
+    if let Some(together) = found {
+        let carried = with_last(alloc, together)?;
+        return Ok(Some(carried));
     }
     carry_in_rows(alloc, cut, ops)
 }

@@ -1,11 +1,11 @@
-use Rattle.std.{proofs.Common.{◌≡◌, ◌∙◌, ℕ, List, length, map, sym, ap, subst, arith}, proofs.lemmas.Result.err_from_is_err_and}
+use Rattle.std.{proofs.Common.{◌≡◌, ◌∙◌, ℕ, List, Option, length, map, refl, sym, ap, subst}, specs.Prelude.IfSome}
 use Rattle.yq_text.specs.TextGapBuffer.{buffer_text}
 use Rattle.yq_core.specs.Entries.{tree_step}
-use Rattle.yq_semantics.specs.Operations.{operations_of}
-use Rattle.yq_edit_laws.{specs.Answers.EditFails, specs.Carried.carry_all, specs.Edit.{edit_after, gives}, specs.Valid.AreServed}
-use Rattle.yq_edit_laws.proofs.OperationsLaws.{first_fails, first_fits, none_come, others_come, others_served}
-use Rattle.yq_edit_laws.proofs.OrderLaws.{behind_none}
-use Rattle.yq_batch.proofs.RemovalAnswers.{removals_begin}
+use Rattle.yq_semantics.specs.Operations.{operation_of, operations_of}
+use Rattle.yq_edit_laws.{specs.Carried.carry_all, specs.Edit.edit_after, specs.Valid.AreServed}
+use Rattle.yq_edit_laws.{proofs.OperationsLaws.{first_fits, others_come, others_served}, proofs.OrderLaws.behind_none}
+use Rattle.yq_documents.specs.Reading.{cut_of}
+use Rattle.yq_batch.{specs.RemovalRuns.RemovesOn, specs.declared.removals.LeftOf.LeftOf, proofs.RemovalAnswers.{ended_on, removals_begin}}
 use Rattle.yq_batch.proofs.removals.remove_each.Goals as goal
 
 pub operations-init : goal.operations-init
@@ -22,19 +22,14 @@ operations-init c =
 pub remove_one-requires-clause-fits : goal.remove_one-requires-clause-fits
 remove_one-requires-clause-fits c = first_fits c.operations.rest.now c.op-item.result (buffer_text c.operations.run.text) c.in-len1-up.len_at_least c.op-item.is c.operations.invariant.serves
 
-pub returns-in_err-removed-clause-err : goal.returns-in_err-removed-clause-err
-returns-in_err-removed-clause-err c =
-    let p = err_from_is_err_and c.from_residual-in_err-removed.result c.from_residual-in_err-removed.ensures.1 in
-    let t : List ℕ = buffer_text c.operations.run.text in
-    let fails : EditFails c.in_err-removed.field-0.0 (edit_after c.operations.run.splices.items (carry_all (operations_of c.operations.rest.now) t)) =
-    first_fails c.operations.rest.now c.op-item.result t c.operations.run.splices.items c.in_err-removed.field-0.0 c.in-len1-up.len_at_least c.op-item.is c.in_err-removed.ensures.err in
-    rw (p.1, p.2) (subst (EditFails c.in_err-removed.field-0.0) c.operations.invariant.whole fails)
+pub returns-clause-ok : goal.returns-clause-ok
+returns-clause-ok c = ended_on c.args.ops.now c.operations.rest.now c.args.cut.now c.operations.run c.operations.run refl c.operations.invariant.whole c.operations.invariant.serves c.ended-2.result c.ended-2.ensures
 
 pub operations-preserved : goal.operations-preserved
 operations-preserved c =
     let t : List ℕ = buffer_text c.operations.run.text in
     let m : List ℕ = buffer_text c.remove_one.new.run.text in
-    let on = c.in_ok-removed.ensures.ok c.if-not-removed.false in
+    let on = subst (λ (o : Option LeftOf). IfSome o (λ k. RemovesOn (operation_of c.op-item.result) (cut_of c.args.cut.now) c.args.doc (map tree_step c.args.stem.now) c.operations.run k c.remove_one.new.run)) c.in-Some.is c.in_ok-found.ensures.ok in
     record {
       head = c.remove_one.ensures.head;
       whole =
@@ -43,8 +38,3 @@ operations-preserved c =
       serves = others_served c.operations.rest.now c.op-item.result t m on.new_bytes c.in-len1-up.len_at_least c.op-item.is c.operations.invariant.serves on.applied;
       runs = on.run;
     }
-
-pub returns-clause-ok : goal.returns-clause-ok
-returns-clause-ok c =
-    sym c.operations.invariant.whole
-    ∙ (none_come c.operations.rest.now (buffer_text c.operations.run.text) c.operations.run.splices.items (omega arith) ∙ ap (λ (l : List ℕ). gives l c.operations.run.splices.items) (sym c.into_string.ensures))

@@ -13,7 +13,7 @@ invariant-operations l = record {
   head : ReportsHead l.fn.cut (cut_of l.fn.cut) l.fn.doc (map tree_step l.fn.stem) l.head;
   whole : edit_after l.run.splices.items (carry_all (operations_of l.rest) (buffer_text l.run.text)) ≡ carry_all (operations_of l.fn.ops) l.fn.cut;
   serves : AreServed (operations_of l.rest) (buffer_text l.run.text);
-  runs : RemovesSo (cut_of l.fn.cut) l.fn.doc (map tree_step l.fn.stem) l.run;
+  runs : RemovesSo (cut_of l.fn.cut) l.fn.doc (map tree_step l.fn.stem) l.known l.run;
 }
 
 abbrev pub decreases-operations : goal.decreases-operations

@@ -12,16 +12,15 @@ between-requires-clause-to c = subst (λ (l : List ℕ). IsCharBoundary l c.args
 pub returns-clause-ok : goal.returns-clause-ok
 returns-clause-ok c =
     let t : List ℕ = buffer_text c.args.run.now.text in
-    let same : buffer_text c.reserve.new.self ≡ t = λ i. c.in_ok-reserve.ensures.front i ++ c.in_ok-reserve.ensures.back i in
     let text =
-    taken t c.move_split.new.self.front c.move_split.new.self.back c.exchange.new.self.front c.exchange.new.self.back c.args.lead.now c.args.start c.args.end c.requires.order
-    (c.move_split.ensures.front ∙ ap (take c.args.start) same) (c.move_split.ensures.back ∙ ap (drop c.args.start) same) c.exchange.ensures.front c.exchange.ensures.back in
+    taken t c.move_split.new.self.front c.move_split.new.self.back c.exchange.new.self.front c.exchange.new.self.back c.args.start c.args.end c.requires.order
+    c.move_split.ensures.front c.move_split.ensures.back c.exchange.ensures.front c.exchange.ensures.back in
     let whole_is : whole c.halves.result ≡ t = λ i. c.halves.ensures.front i ++ c.halves.ensures.back i in
     record {
       text = text;
       keep = refl;
       splices =
           c.in_ok-push_splice.ensures
-          ∙ λ i. c.args.run.now.splices.items ++ splice_at c.args.start ((c.in_ok-old.ensures ∙ (c.between.ensures ∙ ap (λ (l : List ℕ). drop c.args.start (take c.args.end l)) whole_is)) i) ((ap (λ v. v.items) c.into_bytes.ensures.value ∙ c.in_ok-new.ensures.ok) i);
+          ∙ λ i. c.args.run.now.splices.items ++ splice_at c.args.start ((c.in_ok-old.ensures ∙ (c.between.ensures ∙ ap (λ (l : List ℕ). drop c.args.start (take c.args.end l)) whole_is)) i) (c.new.ensures.items i);
       size = omega (arith, ap length text, c.len.ensures, c.if-len-gt-TEXT_LIMIT.false);
     }

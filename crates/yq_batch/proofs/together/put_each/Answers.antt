@@ -4,8 +4,8 @@ use Rattle.yq_row_table.specs.Rows.{cut_text}
 use Rattle.yq_core.specs.Entries.{tree_step}
 use Rattle.yq_documents.specs.Reading.{cut_of}
 use Rattle.yq_semantics.specs.Operations.{operations_of}
-use Rattle.yq_edit_laws.{proofs.FlowAnswers.whole_text, specs.Answers.EditFails, specs.Carried.carry_all, specs.Edit.{edit_after, gives}}
-use Rattle.yq_edit_laws.{specs.Valid.AreServed, proofs.OperationsLaws.{first_fails, first_fits, none_come, others_come, others_served}}
+use Rattle.yq_edit_laws.{proofs.FlowAnswers.whole_text, specs.Answers.EditFails, specs.Carried.carry_all, specs.Edit.edit_after}
+use Rattle.yq_edit_laws.{specs.Valid.AreServed, proofs.OperationsLaws.{first_fails, first_fits, others_come, others_served}}
 use Rattle.yq_edit_laws.proofs.OrderLaws.{behind_none}
 use Rattle.yq_batch.{specs.Runs.{now_text, text_with_run}, proofs.RunAnswers.{begins, begins_with, edge_in}}
 use Rattle.yq_batch.proofs.together.put_each.Goals as goal
@@ -55,6 +55,10 @@ pub returns-clause-ok : goal.returns-clause-ok
 returns-clause-ok c =
     let t : List ℕ = c.args.cut.now in
     let same : whole c.text-text.result ≡ cut_text (cut_of t) = whole_text t (whole c.text-text.result) c.text-text.ensures.read c.text-text.ensures.text in
-    sym c.operations.invariant.whole
-    ∙ (none_come c.operations.rest.now (now_text (cut_of t) c.operations.run) c.operations.run.splices.items (omega arith)
-    ∙ λ i. gives (sym (c.in_ok-end.ensures.text ∙ ap (λ (l : List ℕ). text_with_run l (string_bytes c.operations.run.text) c.operations.run.done) same) i) (sym c.in_ok-end.ensures.splices i))
+    let text : string_bytes c.in_ok-edited.edited.text ≡ now_text (cut_of t) c.operations.run =
+    c.in_ok-edited.ensures.text ∙ ap (λ (l : List ℕ). text_with_run l (string_bytes c.operations.run.text) c.operations.run.done) same in
+    record {
+      few = omega arith;
+      whole = (λ i. edit_after (c.in_ok-edited.ensures.splices i) (carry_all (operations_of c.operations.rest.now) (text i))) ∙ c.operations.invariant.whole;
+      serves = subst (AreServed (operations_of c.operations.rest.now)) (sym text) c.operations.invariant.serves;
+    }

@@ -1,0 +1,75 @@
+-- The collection of a head from which an item or entry was taken out, in the cut after that.
+use Rattle.std.proofs.Common.{◌≡◌, ℕ, Bool, true, false, cond, List, [], ◌∷◌, ◌++◌, Some, option_map, refl, sym, ap, ◌∙◌}
+use Rattle.std.{proofs.lemmas.Option.{none-some, same_Some}, specs.Prelude.option_and_then}
+use Rattle.yq_core.{specs.Paths.{Step, is_here, further}, specs.Collections.{CollPieces, change_item, coll_along, collection_put}}
+use Rattle.yq_core.specs.Entries.{EntryPieces, item_at}
+use Rattle.yq_core.specs.Nodes.{FlowNode, empty, alias, scalar, coll, anchored, Items, none, item, flow_items_text, sep_text}
+use Rattle.yq_core.{specs.Trees.key_content, specs.Tree.key_label, proofs.PathLaws.then_some}
+use Rattle.yq_flow_edits.{specs.FlowEdits.FlowEdit, specs.Removals.removing}
+use Rattle.yq_row_table.specs.Rows.{Cut, cut_text, Part}
+use Rattle.yq_documents.specs.Reading.{read_at}
+use Rattle.yq_outline.specs.Lines.{lines_of_rows}
+use Rattle.yq_places.{specs.FlowNodes.flow_collection, specs.FlowViews.LeadsToHead, specs.NodeReading.head_line_of}
+use Rattle.yq_places.{specs.Standings.last_step, proofs.FlowViewLaws.{head_found, numbered}}
+use Rattle.yq_edit_rules.specs.FlowRows.{FlowAt, behind_node}
+use Rattle.yq_edit_laws.{proofs.FlowRemoveLaws.next, proofs.FlowStandings.at}
+use Rattle.yq_edit_rules.proofs.FlowStayLaws as stay
+
+-- ---- in a node
+
+abbrev pub with_items : List ℕ → Items → CollPieces → CollPieces
+with_items g is w = record { close = w.close; gap = g; items = is; rest = w.rest }
+
+item_changed : (k : ℕ) (s : Step) (f : FlowNode → FlowNode) (is : Items) (rest : List ℕ) (y : EntryPieces) → item_at k s is rest ≡ Some y → item_at k s (change_item s f is) rest ≡ Some (record y { node = f y.node })
+unfolding flow_items_text
+item_changed k s f none rest y e = absurd (none-some _ e)
+item_changed k s f (item key n sep is) rest y e = go (is_here s (key_label (key_content key))) refl e (λ h. item_changed k (further s) f is rest y h)
+  where
+    own : FlowNode → EntryPieces
+    own m = record { key = key; node = m; rest = sep_text sep (flow_items_text k is rest) }
+
+    go : (b : Bool) → is_here s (key_label (key_content key)) ≡ b → cond b (Some (own n)) (item_at k (further s) is rest) ≡ Some y →
+        (item_at k (further s) is rest ≡ Some y → item_at k (further s) (change_item (further s) f is) rest ≡ Some (record y { node = f y.node })) →
+        item_at k s (cond b (item key (f n) sep is) (item key n sep (change_item (further s) f is))) rest ≡ Some (record y { node = f y.node })
+    go true here e again =
+        ap (λ (b : Bool). cond b (Some (own (f n))) (item_at k (further s) is rest)) here
+        ∙ ap (λ (z : EntryPieces). Some (record z { node = f z.node })) (same_Some _ _ e)
+    go false here e again =
+        ap (λ (b : Bool). cond b (Some (record { key = key; node = n; rest = sep_text sep (flow_items_text k (change_item (further s) f is) rest) })) (item_at k (further s) (change_item (further s) f is) rest)) here
+        ∙ again e
+
+put_along : (p : List Step) (node : FlowNode) (rest : List ℕ) (w : CollPieces) (g : List ℕ) (is : Items) → coll_along p node rest ≡ Some w → coll_along p (collection_put p g is node) rest ≡ Some (with_items g is w)
+put_along [] empty rest w g is e = absurd (none-some _ e)
+put_along [] (alias n) rest w g is e = absurd (none-some _ e)
+put_along [] (scalar b) rest w g is e = absurd (none-some _ e)
+put_along [] (coll k gap os) rest w g is e = ap (λ (v : CollPieces). Some (with_items g is v)) (same_Some _ _ e)
+put_along [] (anchored n gap node) rest w g is e = put_along [] node rest w g is e
+put_along (s ∷ p) empty rest w g is e = absurd (none-some _ e)
+put_along (s ∷ p) (alias n) rest w g is e = absurd (none-some _ e)
+put_along (s ∷ p) (scalar b) rest w g is e = absurd (none-some _ e)
+put_along (s ∷ p) (coll k gap os) rest w g is e =
+    let y = then_some (item_at k s os rest) e in
+    ap (option_and_then (λ (u : EntryPieces). coll_along p u.node u.rest)) (item_changed k s (collection_put p g is) os rest y.0 y.1) ∙ put_along p y.0.node y.0.rest w g is y.2
+put_along (s ∷ p) (anchored n gap node) rest w g is e = put_along (s ∷ p) node rest w g is e
+
+-- ---- in a cut
+
+module _ (c : Cut) (n : ℕ) (stem left path : List Step) (s : Step) (w : CollPieces) (e : FlowEdit) (read : read_at (cut_text c) ≡ Some c) (last : last_step path ≡ Some (stem ++ left, s))
+    (found : flow_collection n (stem ++ left) c ≡ Some w) (gone : removing s w ≡ Some e) (h : LeadsToHead c n stem) where
+  abbrev a : FlowAt c n (stem ++ left) w
+  a = at c n (stem ++ left) w read found
+
+  leads : (ss : List Step) → head_line_of (stem ++ ss) (lines_of_rows a.part.rows) ≡ Some (h.number, ss)
+  leads ss = ap (λ (p : Part). head_line_of (stem ++ ss) (lines_of_rows p.rows)) (same_Some _ _ (sym a.there ∙ h.there)) ∙ h.leads ss
+
+  rest_is : left ≡ a.rest
+  rest_is =
+      ap (λ (x : ℕ × List Step). x.1)
+      (same_Some _ _ (sym (leads left) ∙ (sym (head_found (lines_of_rows a.part.rows) (stem ++ left)) ∙ ap (option_map numbered) a.at.found)))
+
+  -- the collection after it
+  pub left_there : flow_collection n (stem ++ left) (next c n path (stem ++ left) s w e read last found gone stem left refl h) ≡ Some (with_items e.gap e.items w)
+  left_there =
+      stay.collection_behind c n (stem ++ left) w a e.gap e.items stem left refl h left
+      ∙ (ap (λ (ss : List Step). coll_along ss (collection_put a.rest e.gap e.items a.row.node) (behind_node c n a.part a.row)) rest_is
+      ∙ put_along a.rest a.row.node (behind_node c n a.part a.row) w e.gap e.items a.at.along)

@@ -1,0 +1,21 @@
+use Rattle.std.proofs.Common.{◌∙◌, List, ℕ, map, ap, subst}
+use Rattle.yq_core.{specs.Entries.{parts_of, tree_step}, specs.View.inline_view}
+use Rattle.yq_places.{specs.FlowViews.collection_along, specs.Standings.last_step}
+use Rattle.yq_batch.specs.LeftPlaces.{IsLeftPlace}
+use Rattle.yq_batch.proofs.removals.gone_in_head.Goals as goal
+
+pub returns : goal.returns
+returns c = record {
+  above = _;
+  step = tree_step c.in-Some.last.now;
+  last = c.in-Some.ensures ∙ ap (λ ss. last_step (map tree_step ss)) c.deref.ensures.value;
+  node = inline_view c.in-Some-collection_along.node.now;
+  there = c.in-Some-collection_along.ensures ∙ ap (λ v. collection_along (map tree_step c.args.head.now.left.now) (inline_view v)) c.deref-2.ensures;
+  count = c.in-Some-first_left.count;
+  after = c.in-Some-first_left.after;
+  leads = c.in-Some-index_of.ensures;
+  first = c.in-Some-first_left.ensures;
+  goes =
+      subst (λ (l : List ℕ). IsLeftPlace l (parts_of (inline_view c.in-Some-collection_along.node.now)) c.in-Some-index_of.index c.in-Some-first_left.count c.in-Some-first_left.after c.in-Some-left_place.place)
+      c.as_bytes.ensures.value c.in-Some-left_place.ensures;
+}
