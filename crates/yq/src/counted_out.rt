@@ -1,4 +1,4 @@
-//! Standard output, and how many lines it took.
+//! Standard output, and how many lines it took, where that is asked.
 ghost use Rattle.std.specs.Prelude.{[], false};
 
 use crate::colours::coloured;
@@ -6,12 +6,13 @@ use memchr::memchr_iter;
 use std::alloc::Global;
 use yq_run::{Out, PutError, StandardOut};
 
-/// Standard output, and how many lines it took.
+/// Standard output, and how many lines it took, where that is asked.
 #[derive(Drop)]
 pub struct CountedOut<'a> {
     out: StandardOut<&'a HostRuntime>,
     alloc: Global,
     has_colours: bool,
+    is_counting: bool,
     lines: u64,
     failures: u64,
 }
@@ -23,6 +24,7 @@ impl<'a> CountedOut<'a> {
             out: StandardOut::new(rt),
             alloc: rt.alloc(),
             has_colours: false,
+            is_counting: false,
             lines: 0,
             failures: 0,
         }
@@ -33,12 +35,17 @@ impl<'a> CountedOut<'a> {
         self.has_colours = has_colours;
     }
 
+    /// Has the lines counted that it takes from now on, or not.
+    pub fn count(&mut self, is_counting: bool) {
+        self.is_counting = is_counting;
+    }
+
     /// Whether it took nothing because its reader has closed the pipe.
     pub fn is_closed(&self) -> bool {
         self.out.is_closed()
     }
 
-    /// How many lines it took.
+    /// How many lines it took while it counted them.
     pub fn lines(&self) -> u64 {
         self.lines
     }
@@ -78,7 +85,9 @@ impl<'a> Out for CountedOut<'a> {
     fn put(&mut self, bytes: &[u8]) -> Result<(), PutError> {
         match put_coloured(&mut self.out, self.alloc, self.has_colours, bytes) {
             Ok(()) => {
-                self.lines = self.lines.saturating_add(line_feeds(bytes));
+                if self.is_counting {
+                    self.lines = self.lines.saturating_add(line_feeds(bytes));
+                }
                 Ok(())
             }
             Err(error) => {

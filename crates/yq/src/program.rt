@@ -24,6 +24,7 @@ fn answer_to(rt: &HostRuntime, out: &mut CountedOut<'_>) -> Result<(Answer, Opti
     }
     out.colour(has_colours(rt, &command));
     let on_terminal = rt.stderr().is_terminal();
+    out.count(on_terminal);
     let (file, purpose) = purpose_of(&command);
     let files = DiskStore::new(rt, file, purpose).reporting(on_terminal);
     let mut store = WithFolder::new(rt, files, file, folder);
