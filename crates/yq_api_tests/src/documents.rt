@@ -7,7 +7,8 @@ use yq_splice::{Session, edit, print};
 use yq_tree::{Documents, read};
 
 /// A call: an expression parsed, a text read, an update planned, what a read finds, the updates carried out,
-/// a session opened, and the value that was found printed and written in flow style.
+/// a session opened, the value that was found printed and written in flow style, and a worked update: parsed,
+/// read, planned, opened and carried out.
 #[derive(Clone, Copy)]
 pub enum OnDocuments {
     Parse(&'static str),
@@ -18,6 +19,7 @@ pub enum OnDocuments {
     Open,
     Print,
     Flow,
+    Edited(&'static str, &'static str),
 }
 
 pub const TEXT: &str = "a: [b, {c: \"d\"}]\nl:\n- &x {n: y}\n- {n: x, v: [1, {k: \"q\\t\"}]} # e\n";
@@ -50,6 +52,27 @@ fn written_len(alloc: Global, found: &[Match], is_printed: bool) -> Option<usize
     };
     match written {
         Ok(text) => Some(text.len()),
+        Err(_) => None,
+    }
+}
+
+/// How long the text is that the updates of an expression make of this one, which is read, planned on and
+/// opened before.
+fn edited_len(alloc: Global, text: &str, expr: &str) -> Option<usize> {
+    let Ok(program) = parse_expr(alloc, expr) else {
+        return None;
+    };
+    let Ok(documents) = read(alloc, text.as_bytes()) else {
+        return None;
+    };
+    if program.updates() == 0 || plan(alloc, &program, 0, &documents).is_err() {
+        return None;
+    }
+    if Session::open(alloc, text).is_err() {
+        return None;
+    }
+    match edit(alloc, text, &program) {
+        Ok(edited) => Some(edited.text.len()),
         Err(_) => None,
     }
 }
@@ -91,6 +114,7 @@ pub fn called(alloc: Global, inputs: Inputs<'_>, call: OnDocuments) -> Option<us
         },
         OnDocuments::Print => written_len(alloc, found, true),
         OnDocuments::Flow => written_len(alloc, found, false),
+        OnDocuments::Edited(text, expr) => edited_len(alloc, text, expr),
         _ => None,
     }
 }

@@ -22,7 +22,7 @@ enum Call {
 
 /// Calls in order, and a number that tells what each gives: of a content, a gap and lines for how many bytes
 /// memory was taken, which is more only if it was taken twice.
-static CALLS: [(Call, usize); 39] = [
+static CALLS: [(Call, usize); 51] = [
     (Call::Text(OnText::Content, "a\n b\n\n c"), 8),
     (Call::Text(OnText::Content, "'it''s'"), 5),
     (Call::Text(OnText::Content, "\"\\L\\P\\L\\P\""), 12),
@@ -79,6 +79,48 @@ static CALLS: [(Call, usize); 39] = [
     (Call::Journal(OnJournal::Squash(2), ""), 1),
     (Call::Journal(OnJournal::Write, ""), 1),
     (Call::Journal(OnJournal::Push, ""), 1),
+    (
+        Call::Documents(OnDocuments::Edited("name: web # main\nport: 8080\n", ".port = 9090")),
+        28,
+    ),
+    (
+        Call::Documents(OnDocuments::Edited("p: [\n  a, # one\n  b\n]\n", "del(.p[1])")),
+        11,
+    ),
+    (
+        Call::Documents(OnDocuments::Edited("run: |\n    echo a\n", ".run = \"echo b\\n\"")),
+        18,
+    ),
+    (
+        Call::Documents(OnDocuments::Edited(
+            "a: 1\nb: 2\n",
+            ".b head_comment = \"one\\ntwo\" | .a line_comment = \"x\"",
+        )),
+        26,
+    ),
+    (
+        Call::Documents(OnDocuments::Edited("list:\n  - 5 # c\n", ".list[0] = {\"k\": [1]}")),
+        31,
+    ),
+    (Call::Journal(OnJournal::ReadOne, ""), 1),
+    (
+        Call::Journal(OnJournal::Undo, "name: api # main\nport: 9090\n"),
+        0,
+    ),
+    (
+        Call::Journal(OnJournal::Redo, "name: api # main\nport: 8080\n"),
+        1,
+    ),
+    (
+        Call::Journal(OnJournal::StartUndo, "name: api # main\nport: 9090\n"),
+        1,
+    ),
+    (
+        Call::Journal(OnJournal::Settle, "name: api # main\nport: 8080\n"),
+        0,
+    ),
+    (Call::Journal(OnJournal::Write, ""), 0),
+    (Call::Journal(OnJournal::Push, ""), 0),
 ];
 
 /// With all memory held the call is refused; once enough is given back it gives what is wanted.

@@ -3,11 +3,12 @@
 use std::alloc::Global;
 use yq_journal::{Journal, JournalFault, Move, Record, redo_record, undo_record};
 
-/// A call on a journal: it is read, moved on a text, written; its first record is undone or redone on one;
+/// A call on a journal: one of two records or one of one record is read; it is moved on a text, written; its first record is undone or redone on one;
 /// or the first record of a new one is added.
 #[derive(Clone, Copy)]
 pub enum OnJournal {
     Read,
+    ReadOne,
     Undo,
     Redo,
     UndoRecord,
@@ -24,6 +25,22 @@ pub enum OnJournal {
 const TWO: &str =
     r#"{"at":2,"pending":null,"records":[{"after_len":5,"before_len":5,"count":1,"expr":".n = 2","splices":[{"at":3,"new":"Mg==","old":"MQ=="}]},{"after_len":5,"before_len":5,"count":1,"expr":".n = 3","splices":[{"at":3,"new":"Mw==","old":"Mg=="}]}],"version":2}
 "#;
+
+/// An edit of a port, done.
+const ONE: &str =
+    r#"{"at":1,"pending":null,"records":[{"after_len":28,"before_len":28,"count":1,"expr":".port = 9090","splices":[{"at":23,"new":"OTA5MA==","old":"ODA4MA=="}]}],"version":2}
+"#;
+
+/// Reads a journal in the place of one.
+fn is_read(alloc: Global, journal: &mut Journal, text: &str) -> bool {
+    match Journal::from_json(alloc, text.as_bytes()) {
+        Ok(read) => {
+            *journal = read;
+            true
+        }
+        Err(_) => false,
+    }
+}
 
 /// Opens a move that changes a text, of which the journal takes a copy, or of a redo the one that is given.
 fn is_started(
@@ -51,13 +68,8 @@ fn is_started(
 /// Whether the call is carried out: not where memory was wanting.
 fn is_called(alloc: Global, journal: &mut Journal, call: OnJournal, text: &[u8]) -> bool {
     match call {
-        OnJournal::Read => match Journal::from_json(alloc, TWO.as_bytes()) {
-            Ok(read) => {
-                *journal = read;
-                true
-            }
-            Err(_) => false,
-        },
+        OnJournal::Read => is_read(alloc, journal, TWO),
+        OnJournal::ReadOne => is_read(alloc, journal, ONE),
         OnJournal::Undo => journal.undo(text).is_ok(),
         OnJournal::Redo => journal.redo(text).is_ok(),
         OnJournal::UndoRecord if journal.len() > 0 => {

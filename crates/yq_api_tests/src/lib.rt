@@ -10,6 +10,8 @@ mod documents;
 mod growths;
 #[cfg(test)]
 mod journals;
+#[cfg(test)]
+mod longest;
 mod memory;
 #[cfg(test)]
 mod nodes;

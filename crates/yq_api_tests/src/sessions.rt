@@ -9,9 +9,40 @@ use yq_expr::{Op, Program, parse_expr, plan};
 use yq_splice::{EditError, Session, apply_op};
 use yq_tree::read;
 
-const TEXT: &str = "list:\n  - 5 # c\n";
-
-const EDITED: &str = "list:\n  - # c\n    k:\n      - 1\n";
+/// Texts, updates, what the first operation of each makes of its text, and how many lines a session counts
+/// of both at most.
+static EDITS: [(&str, &str, &str, u64); 5] = [
+    (
+        "name: web # main\nport: 8080\n",
+        ".port = 9090",
+        "name: web # main\nport: 9090\n",
+        3,
+    ),
+    (
+        "p: [\n  a, # one\n  b\n]\n",
+        "del(.p[1])",
+        "p: [\n  a\n]\n",
+        7,
+    ),
+    (
+        "run: |\n    echo a\n",
+        ".run = \"echo b\\n\"",
+        "run: |\n    echo b\n",
+        4,
+    ),
+    (
+        "a: 1\nb: 2\n",
+        ".b head_comment = \"one\\ntwo\"",
+        "a: 1\n# one\n# two\nb: 2\n",
+        6,
+    ),
+    (
+        "list:\n  - 5 # c\n",
+        ".list[0] = {\"k\": [1]}",
+        "list:\n  - # c\n    k:\n      - 1\n",
+        5,
+    ),
+];
 
 /// The operations of the first update of a program, as planned on a text, which the first of them fits.
 pub(crate) fn planned(alloc: Global, text: &str, program: &Program) -> Result<Vec<Op>, EditError>
@@ -53,9 +84,16 @@ fn is_refused_first(
     false
 }
 
-/// Whether an operation is refused first and then applied, by itself and to a session, of which it touches the
-/// lines that are counted.
-fn is_applied(alloc: Global, session: &mut Session, text: &str, op: &Op) -> bool
+/// Whether an operation is refused first and then applied, by itself and to a session, which comes to have a
+/// text, and counts so many lines at most.
+fn is_applied(
+    alloc: Global,
+    session: &mut Session,
+    text: &str,
+    op: &Op,
+    edited: &str,
+    most: u64,
+) -> bool
     requires by_itself { IsFitting (operation_of op.now) text.now }
     requires fits { IsFitting (operation_of op.now) session.old.text }
 {
@@ -65,11 +103,11 @@ fn is_applied(alloc: Global, session: &mut Session, text: &str, op: &Op) -> bool
         return false;
     }
     let halves = session.text();
-    session.scanned() == 5 && EDITED.strip_prefix(halves.front) == Some(halves.back)
+    session.scanned() <= most && edited.strip_prefix(halves.front) == Some(halves.back)
 }
 
 /// Whether that is so of the first operation that is planned for a program.
-fn is_carried_out(alloc: Global, text: &str, program: &Program) -> bool
+fn is_carried_out(alloc: Global, text: &str, program: &Program, edited: &str, most: u64) -> bool
     requires { 0 < update_count (program_of program.now) }
 {
     let Ok(ops) = planned(alloc, text, program) else {
@@ -79,20 +117,27 @@ fn is_carried_out(alloc: Global, text: &str, program: &Program) -> bool
         return false;
     };
     match Session::open(alloc, text) {
-        Ok(mut session) => is_applied(alloc, &mut session, text, op),
+        Ok(mut session) => is_applied(alloc, &mut session, text, op, edited, most),
         Err(_) => false,
     }
 }
 
 /// Whether that is so of an expression.
-fn is_edited(alloc: Global, expr: &str) -> bool {
+fn is_edited(alloc: Global, text: &str, expr: &str, edited: &str, most: u64) -> bool {
     match parse_expr(alloc, expr) {
-        Ok(program) if program.updates() > 0 => is_carried_out(alloc, TEXT, &program),
+        Ok(program) if program.updates() > 0 => {
+            is_carried_out(alloc, text, &program, edited, most)
+        }
         _ => false,
     }
 }
 
 #[test]
 fn each_growth_of_an_operation(rt: HostRuntime) {
-    assert!(rt; is_edited(rt.alloc(), ".list[0] = {\"k\": [1]}"));
+    'edits: for (text, expr, edited, most) in &EDITS {
+        assert!(rt;
+            is_edited(rt.alloc(), *text, *expr, *edited, *most),
+            "{expr}"
+        );
+    }
 }

@@ -4,6 +4,8 @@
 #[cfg(test)]
 mod asked;
 #[cfg(test)]
+mod failing_calls;
+#[cfg(test)]
 mod lists;
 #[cfg(test)]
 mod refused_memory;

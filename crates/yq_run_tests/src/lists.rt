@@ -12,7 +12,7 @@ use yq_store::{Left, MemoryStore};
 /// The commands. The calls of the store that each makes: the file and the journal are read by a call each, but
 /// for what is shown, which reads the file alone; an edit, an undo and a redo write the journal twice and the
 /// file once, where its bytes change; a squash of two writes the journal, and one of one nothing.
-static LIST: [Request; 16] = [
+pub static LIST: [Request; 16] = [
     Request::Show(".n"), // 1
     Request::Edit(".n = 1"), // 2
     Request::Edit(".n = 2"), // 5
