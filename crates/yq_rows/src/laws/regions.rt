@@ -1,8 +1,9 @@
 //! Laws of a cut as a list of rows and ends of parts, and of some of them between others.
 ghost use Rattle.std.specs.Prelude.{◌≡◌, ◌≤◌, ℕ, List, [], ◌++◌, Bool};
-ghost use Rattle.yq_row_table.{specs.Grammar.{AreParts, unlimited}, specs.ItemSplices.SplicedItems};
+ghost use Rattle.yq_row_table.specs.Grammar.{AreParts, unlimited};
 ghost use Rattle.yq_row_table.specs.Items.{Asked, AreRowItems, Item, asked_of, items_of_cut, items_text, view_of_items};
-ghost use Rattle.yq_row_table.{specs.Regions.{IsReadAlone, StandIn, ended}, specs.Rows.{Cut, Row, cut_text}, specs.View.rows_view};
+ghost use Rattle.yq_row_table.{specs.Regions.{IsReadAlone, StandIn, ended}, specs.Rows.{Cut, cut_text}, specs.View.rows_view};
+ghost use Rattle.yq_rows.specs.RowSplices.{ExchangesItems, RowSplice};
 
 /// The rows and ends of a cut are its text, and what the code lends of it; each is one after those
 /// in front of it.
@@ -28,6 +29,5 @@ pub fn region_alone()
 /// A splice of a cut, by its items: the rows that are replaced and the item after them are exchanged,
 /// and all others stay.
 pub fn items_spliced()
-    ensures { (k i j : ℕ) (new : List Row) (gap : List ℕ) (c : Cut) →
-        i ≤ j → SplicedItems k i j new gap c }
+    ensures { (x : RowSplice) → x.start ≤ x.stop → ExchangesItems x }
 {}

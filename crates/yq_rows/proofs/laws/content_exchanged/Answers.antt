@@ -1,0 +1,5 @@
+use Rattle.yq_row_table.proofs.splices.ContentPlaces.{content_exchanged}
+use Rattle.yq_rows.proofs.laws.content_exchanged.Goals as goal
+
+pub returns : goal.returns
+returns c x new h fits = content_exchanged h.text x.cut x.index x.row new h.is_cut h.here fits
