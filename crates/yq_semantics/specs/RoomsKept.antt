@@ -78,6 +78,11 @@ pub record LeavesRooms (op : Operation) (old new : ℕ → Room) (docs : List Do
   pub comments : SetsComment op → SameRoom (old (op_document op)) (new (op_document op))
   pub block : (d : Document) → slice_get docs (op_document op) ≡ Some d → KeepsBlock op d.root → (new (op_document op)).block ≡ (old (op_document op)).block
 
+-- Operations may be carried out on documents by old rooms, and the first of them leaves the new ones (own).
+pub record LeavesRoomFor (op : Operation) (ops : List Operation) (old new : ℕ → Room) (docs : List Document) : Type 0 where
+  pub leaves : LeavesRooms op old new (after_op old op docs)
+  pub follow : MayFollow old (op ∷ ops) docs
+
 -- ---- rooms that say the same
 
 -- two rooms are alike for an operation: they say the same of what it asks for (own)

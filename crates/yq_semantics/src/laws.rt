@@ -6,7 +6,7 @@ ghost use Rattle.yq_semantics.{specs.After.{op_document, after_op, all_after}, s
 ghost use Rattle.yq_semantics.{specs.Judgement.{gives, refuses}, specs.Meaning.{AreReady, meaning}, specs.Operations.Operation};
 ghost use Rattle.yq_semantics.{specs.Pipes.places, specs.Places.FoundPlace, specs.PlacesApart.{AreApart, AreIn}};
 ghost use Rattle.yq_semantics.{specs.Program.{Stage as PipeStage, Update as Change, UpdatesHold}, specs.Rooms.RoomsAreReady};
-ghost use Rattle.yq_semantics.{specs.RoomsKept.{AlikeFor, LeavesRooms, MayFollow}, specs.declared.refusal.Refusal.Refusal as Why};
+ghost use Rattle.yq_semantics.{specs.RoomsKept.{AlikeFor, MayFollow, LeavesRoomFor}, specs.declared.refusal.Refusal.Refusal as Why};
 ghost use Rattle.yq_semantics.specs.Plans as plans;
 
 /// The documents of a text that reads are ready for updates, with the room that the text has.
@@ -83,10 +83,9 @@ pub fn rooms_alike()
 /// room that it leaves, and make the same of documents.
 pub fn rest_follows()
     ensures follow { (op : Operation) (ops : List Operation) (old new : ℕ → Room)
-        (docs : List Document) → LeavesRooms op old new (after_op old op docs) →
-        MayFollow old (op ∷ ops) docs → MayFollow new ops (after_op old op docs) }
+        (docs : List Document) → LeavesRoomFor op ops old new docs →
+        MayFollow new ops (after_op old op docs) }
     ensures after { (op : Operation) (ops : List Operation) (old new : ℕ → Room)
-        (docs : List Document) → LeavesRooms op old new (after_op old op docs) →
-        MayFollow old (op ∷ ops) docs → all_after new ops (after_op old op docs) ≡
-        all_after old (op ∷ ops) docs }
+        (docs : List Document) → LeavesRoomFor op ops old new docs →
+        all_after new ops (after_op old op docs) ≡ all_after old (op ∷ ops) docs }
 {}
