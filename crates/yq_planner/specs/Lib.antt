@@ -5,3 +5,4 @@ pub mod ChangeView
 pub mod Indexes
 pub mod TakenNames
 pub mod StandIns
+pub mod ChangedNodes

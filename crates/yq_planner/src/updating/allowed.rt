@@ -1,10 +1,9 @@
 //! What refuses a change.
-ghost use Rattle.std.{specs.List.list_any, specs.Prelude.{◌≡◌, ◌∷◌, [], IfOk, List, Some, length, map}};
-ghost use Rattle.yq_core.{specs.Paths.{Step as TreeStep, node_at}, specs.Tree.{Children, Node as TreeNode, children_of}};
-ghost use Rattle.yq_core.specs.Anchors.{Name, names_of};
+ghost use Rattle.std.{specs.List.list_any, specs.Prelude.{◌≡◌, IfOk, List}};
+ghost use Rattle.yq_core.{specs.Paths.Step as TreeStep, specs.Tree.{Children, Node as TreeNode, children_of}, specs.Anchors.Name};
 ghost use Rattle.yq_nodes.specs.Nodes.{node_of};
 ghost use Rattle.yq_planner.{specs.ChangeView.{addition_of, change_of}, specs.Indexes.{HasAliases, IsIndex}};
-ghost use Rattle.yq_planner.specs.TakenNames.{takes_at, overwrites_at};
+ghost use Rattle.yq_planner.{specs.TakenNames.{takes_at, overwrites_at}, specs.ChangedNodes.LeadsToNode};
 ghost use Rattle.yq_semantics.specs.Judgement.{Judges};
 ghost use Rattle.yq_semantics.specs.Changes as spec;
 
@@ -82,8 +81,8 @@ pub fn allow(
     outer: usize,
     change: &Change,
 ) -> Result<(), ExprError>
-    ensures { (root : TreeNode) (x : List TreeStep) → HasAliases (names_of root) aliases.now →
-        node_at x root ≡ Some (node_of node.now) → length x ≡ outer →
+    ensures { (root : TreeNode) (x : List TreeStep) →
+        LeadsToNode root x aliases.now (node_of node.now) outer →
         Judges (λ _. (x, change_of change.now)) result
         (spec.allowed root (x, change_of change.now)) }
 {
