@@ -1,11 +1,12 @@
 -- Reading (own; a reader may skip it): where the node at a path is written among lines, as the code finds it.
 use Rattle.std.specs.Prelude.{ℕ, ◌+◌, List, [], ◌∷◌, slice_get, map, Option, Some, None, is_some, option_map, if◌then◌else◌}
-use denote.Bor.{Bor}
 use Rattle.yq_core.{specs.Entries.tree_step, specs.Answers.◌>>=◌, specs.Paths.{Step, node_at}}
 use Rattle.yq_outline.{specs.Ends.{part, reached}, specs.Outline.{Line, level, value}, specs.Positions.begins_with_node}
 use Rattle.yq_outline.{specs.RowWalk.{IsLine, IsPosition, line_number, lines_stop}, specs.declared.line_position.Stretch.Stretch}
+use Rattle.yq_outline.specs.declared.line_position.Position.{Position}
 use Rattle.yq_row_table.{specs.Rows.Row, specs.View.RowsView}
 use Rattle.yq_places.specs.NodesAt.{NodeAt, node_summary}
+use denote.Bor.{Bor}
 use Rattle.yq_core.specs.declared.path.Step as steps
 use Rattle.yq_core.specs.Tree as tree
 use Rattle.yq_places.specs.declared.places.node_place.NodePlace as declared
@@ -49,9 +50,13 @@ abbrev pub head_line_of : List Step → List Line → Option (ℕ × List Step)
 head_line_of steps ls = node_place steps ls >>= λ x. with_steps x.1 (place_line ls x.0)
 
 -- where a place of the code is, with lines by their numbers
+abbrev pub place_by : (Position → ℕ) → declared.NodePlace → NodePlace
+place_by n (declared.TheVariants.Head q) = at_head (n q)
+place_by n (declared.TheVariants.Lines q floor) = at_lines (n q) floor
+
+-- the same by the numbers of lines among those of a document's rows
 abbrev pub place_view : Stretch → List Row → declared.NodePlace → NodePlace
-place_view d rs (declared.TheVariants.Head q) = at_head (line_number d rs q)
-place_view d rs (declared.TheVariants.Lines q floor) = at_lines (line_number d rs q) floor
+place_view d rs p = place_by (line_number d rs) p
 
 -- the same with the steps that go on there
 abbrev pub node_place_view : Stretch → List Row → declared.NodePlace × Bor (List steps.Step) → NodePlace × List Step

@@ -1,8 +1,9 @@
 -- Reading (own; a reader may skip it): what is taken out with an item or entry, by the pieces of rows, as the code counts.
-use Rattle.std.specs.Prelude.{◌≡◌, ℕ, ◌+◌, false, List, [], ◌∷◌, ◌++◌, length, slice_get, Option, Some, None, option_map}
+use Rattle.std.specs.Prelude.{◌≡◌, ℕ, ◌+◌, false, List, [], ◌∷◌, ◌++◌, length, slice_get, Option, Some, None, option_map, drop, ◌≤◌, ◌-◌}
 use Rattle.yq_text.specs.Halves.{whole}
 use Rattle.yq_core.{specs.Answers.◌>>=◌, specs.Paths.Step}
-use Rattle.yq_row_table.{specs.Grammar.{IsCut, no_rows}, specs.Rows.Cut, specs.View.{Slices, Bound, bounds_at, RowsView, rows_view}}
+use Rattle.yq_row_table.{specs.Grammar.{IsCut, no_rows}, specs.Rows.{Cut, Row, Part}}
+use Rattle.yq_row_table.specs.View.{Slices, Bound, bounds_at, RowsView, rows_view, rows_of}
 use Rattle.yq_documents.{specs.Documents.document_parts, specs.Reading.cut_of, specs.LinesInRows.document_row}
 use Rattle.yq_places.{specs.PlacedRows.{PlacedPart, placed_document}, specs.RemovalPlaces.{OwnRows, own_rows, Seam, Removal}}
 use Rattle.yq_places.specs.declared.places.removal_place.Removal as declared
@@ -45,6 +46,17 @@ pub record HasOwn (t : List ℕ) (s : RowsView) (m : RowCounts) : Type 0 where
   pub part : PlacedPart
   pub rows : OwnRows
   pub is : IsOwn t s part rows m
+
+-- From one row of a text on are the rows of a part, and another row is one of them or comes after them.
+pub record HasPartFrom (s : RowsView) (first at : ℕ) : Type 0 where
+  pub text : List ℕ
+  pub cut : Cut
+  pub is_cut : IsCut text cut
+  pub rows_view_is : s ≡ rows_view cut
+  pub part : Part
+  pub more : List Row
+  pub rows : drop first (rows_of cut) ≡ part.rows ++ more
+  pub within : at - first ≤ length part.rows
 
 -- a seam as the code tells it
 abbrev pub seam_view : seams.Seam → Seam

@@ -2,7 +2,7 @@
 ghost use Rattle.std.specs.Prelude.{◌≡◌, map, option_map, false, IfOk, None};
 ghost use Rattle.yq_core.{specs.Entries.tree_step, specs.Paths.node_at, specs.Trees.placed_tree};
 ghost use Rattle.yq_outline.{specs.Ends.part, specs.Outline.value, specs.Positions.begins_with_node, specs.View.head_view};
-ghost use Rattle.yq_outline.{specs.Lines.lines_of_rows, specs.Extents.IsRowsView, specs.RowWalk.{HasRows, IsPosition, line_number}};
+ghost use Rattle.yq_outline.{specs.Extents.IsRowsView, specs.RowWalk.{HasRows, IsPosition, OfLines}};
 ghost use Rattle.yq_core.specs.View as inline;
 ghost use Rattle.yq_places.specs.NodeReading as reading;
 ghost use Rattle.yq_places.specs.NodesAt as spec;
@@ -99,10 +99,9 @@ fn lines_node<'t>(rows: &Rows<'_>, document: Stretch, under: Position, floor: us
     requires rows_view { IsRowsView rows.now }
     requires document { HasRows rows.now document }
     requires under { IsPosition rows.now document under }
-    ensures { (h : HasRows rows.now document) →
-        begins_with_node (part (lines_of_rows h.rows) (line_number document h.rows under) floor) ≡
-        false → spec.node_view result ≡ spec.node_summary
-        (value (part (lines_of_rows h.rows) (line_number document h.rows under) floor)) }
+    ensures { OfLines rows.now document (λ ls n.
+        begins_with_node (part ls (n under) floor) ≡ false →
+        spec.node_view result ≡ spec.node_summary (value (part ls (n under) floor))) }
 {
     if !is_deeper(rows, document, under, floor) {
         return NodeAt::Scalar(Kind::Null, ScalarContent::Slice("null"));
@@ -121,11 +120,10 @@ pub fn block_node<'t>(rows: &Rows<'_>, document: Stretch, place: NodePlace) -> O
     requires rows_view { IsRowsView rows.now }
     requires document { HasRows rows.now document }
     requires place { reading.IsPlace rows.now document place }
-    ensures { (h : HasRows rows.now document) →
-        reading.place_line (lines_of_rows h.rows)
-        (reading.place_view document h.rows place) ≡ None →
+    ensures { OfLines rows.now document (λ ls n.
+        reading.place_line ls (reading.place_by n place) ≡ None →
         option_map spec.node_view result ≡
-        reading.summary_of_lines (lines_of_rows h.rows) (reading.place_view document h.rows place) }
+        reading.summary_of_lines ls (reading.place_by n place)) }
 {
     match place {
         NodePlace::Head(_) => None,

@@ -2,7 +2,7 @@
 ghost use Rattle.std.specs.Prelude.{◌≡◌, map, option_map, slice_get, IfSome, Some};
 ghost use Rattle.yq_core.specs.Entries.{tree_step};
 ghost use Rattle.yq_outline.{specs.Outline.Line, specs.Lines.lines_of_rows, specs.Extents.IsRowsView};
-ghost use Rattle.yq_outline.specs.RowWalk.{AreKnown, HasDocument, HasRows, IsLine, line_number};
+ghost use Rattle.yq_outline.specs.RowWalk.{AreKnown, HasDocument, HasRows, IsLine, OfLines};
 ghost use Rattle.yq_places.specs.RowWalk.{IsKnownLine};
 ghost use Rattle.yq_places.specs.NodeReading as spec;
 
@@ -29,10 +29,9 @@ fn line_place(rows: &Rows<'_>, document: Stretch, at: Position, left: &[Step]) -
     requires document { HasRows rows.now document }
     requires at { IsLine rows.now document at }
     ensures within { spec.IsPlace rows.now document result }
-    ensures agrees { (h : HasRows rows.now document) (l : Line) →
-        slice_get (lines_of_rows h.rows) (line_number document h.rows at) ≡ Some l →
-        spec.place_view document h.rows result ≡
-        spec.line_place (line_number document h.rows at) (map tree_step left.now) l }
+    ensures agrees { OfLines rows.now document (λ ls n. (l : Line) →
+        slice_get ls (n at) ≡ Some l →
+        spec.place_by n result ≡ spec.line_place (n at) (map tree_step left.now) l) }
 {
     if !left.is_empty() {
         return NodePlace::Head(at);
@@ -79,9 +78,8 @@ pub fn place_line(rows: &Rows<'_>, document: Stretch, place: NodePlace) -> Optio
     requires document { HasRows rows.now document }
     requires place { spec.IsPlace rows.now document place }
     ensures within { IfSome result (IsLine rows.now document) }
-    ensures found { (h : HasRows rows.now document) →
-        option_map (line_number document h.rows) result ≡
-        spec.place_line (lines_of_rows h.rows) (spec.place_view document h.rows place) }
+    ensures found { OfLines rows.now document (λ ls n.
+        option_map n result ≡ spec.place_line ls (spec.place_by n place)) }
 {
     match place {
         NodePlace::Head(at) => Some(at),

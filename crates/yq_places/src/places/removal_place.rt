@@ -1,9 +1,8 @@
 //! What is taken out of a text with an item or entry of a block collection.
-ghost use Rattle.std.specs.Prelude.{◌≡◌, ◌<◌, ◌≤◌, ◌+◌, ◌-◌, ◌++◌, ℕ, List, Option, drop, take, length, map, option_map, IfSome, Some};
+ghost use Rattle.std.specs.Prelude.{◌≡◌, ◌<◌, ◌≤◌, ◌-◌, Option, take, length, map, option_map, IfSome};
 ghost use Rattle.yq_text.specs.Halves.{whole};
 ghost use Rattle.yq_core.{specs.Entries.tree_step, specs.Block.BlockText, specs.Text.{joined, text_lines}};
-ghost use Rattle.yq_row_table.{specs.Grammar.IsCut, specs.Removal.{block_numbers, hold_comment, last_block}};
-ghost use Rattle.yq_row_table.{specs.Rows.{Cut, Part, Row as RowOf}, specs.View.{rows_of, rows_view}};
+ghost use Rattle.yq_row_table.{specs.Removal.{block_numbers, hold_comment, last_block}, specs.View.rows_view};
 ghost use Rattle.yq_outline.{specs.Extents.IsRowsView, specs.RowWalk.{AreKnown, HasDocument}};
 ghost use Rattle.yq_places.{specs.PlacedRows.PlacedPart, specs.RowWalk.IsKnownLine};
 ghost use Rattle.yq_documents.specs.Pieces as pieces;
@@ -118,10 +117,9 @@ fn gap_before<'t>(rows: &Rows<'t>, i: usize) -> (&'t str, usize)
 fn block_before(rows: &Rows<'_>, first: usize, at: usize) -> Option<(bool, usize)>
     requires order { first ≤ at }
     requires within { at < length rows.now.rows }
-    ensures { (t : List ℕ) (c : Cut) → IsCut t c → rows.now ≡ rows_view c → (p : Part)
-        (more : List RowOf) → drop first (rows_of c) ≡ p.rows ++ more → at - first ≤ length p.rows →
+    ensures { (h : reading.HasPartFrom rows.now first at) →
         option_map (λ b. (b.0, b.1)) result ≡
-        option_map block_numbers (last_block (take (at - first) p.rows)) }
+        option_map block_numbers (last_block (take (at - first) h.part.rows)) }
 {
     if at == first {
         None

@@ -67,7 +67,9 @@ returns c = λ d x h.
     let size : ℕ = c.row_stop-stop.result - start in
     let gap : ℕ = length c.gap_before-column.result.0.now in
     let rest = ap (drop size) c.split_at.ensures.back in
-    let block = c.block_before-block.ensures (whole c.args.text) (cut_of (whole c.args.text)) h.cut h.rows_view_is d.part o.more o.rows o.front_size ∙ ap (λ rs. option_map block_numbers (last_block rs)) o.front_is in
+    let block = c.block_before-block.ensures
+    (record { text = whole c.args.text; cut = cut_of (whole c.args.text); is_cut = h.cut; rows_view_is = h.rows_view_is; part = d.part; more = o.more; rows = o.rows; within = o.front_size })
+    ∙ ap (λ rs. option_map block_numbers (last_block rs)) o.front_is in
     let before = c.split_at.ensures.front ∙ agrees.cuts.before_is in
     let gone = c.split_at-2.ensures.front ∙ (ap (take size) c.split_at.ensures.back ∙ agrees.cuts.gone_is) in
     let behind = c.split_at-3.ensures.back ∙ (ap (drop gap) (c.split_at-2.ensures.back ∙ rest) ∙ agrees.cuts.behind_is) in
