@@ -1,7 +1,7 @@
 -- Reading (own; a reader may skip it): documents whose parts are known, from which a search for later ones goes on.
 use Rattle.std.specs.Prelude.{◌≡◌, ℕ, ◌+◌, ◌||◌, Bool, not, IfSome, List, drop, Option, Some}
 use Rattle.yq_row_table.{specs.Rows.Cut, specs.Touched.TouchesOnly, specs.View.{Bound, rows_view}}
-use Rattle.yq_documents.specs.PartReading.{first_rows, number_in, some_begin}
+use Rattle.yq_documents.{specs.PartReading.{first_rows, number_in, some_begin}, specs.Reading.cut_of}
 use Rattle.yq_lookup.specs.declared.known_document.KnownDocument.{KnownDocument}
 use Rattle.yq_lookup.{specs.declared.known_document.KnownDocuments.KnownDocuments, specs.declared.known_document.KnownStretch.KnownStretch}
 use Rattle.yq_outline.specs.RowWalk.{stretch_view}
@@ -34,3 +34,7 @@ DocumentsStay front c ks = (new : Cut) (back : ℕ) → TouchesOnly front back c
 -- A document is known by its rows.
 abbrev pub IsKnownStretch : Cut → KnownStretch → Type 0
 IsKnownStretch c k = Some (stretch_view k.rows) ≡ document_row_range k.doc c
+
+-- Documents of a text are known by the numbers of their parts, and perhaps one of them by its rows.
+abbrev pub AreKnownInText : List ℕ → List Bound → KnownDocuments → Option KnownStretch → Type 0
+AreKnownInText t bs ks stretch = AreKnownDocuments bs ks × IfSome stretch (IsKnownStretch (cut_of t))

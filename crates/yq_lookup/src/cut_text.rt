@@ -5,7 +5,7 @@ ghost use Rattle.yq_row_table.{specs.Grammar.IsCut, specs.View.rows_view};
 ghost use Rattle.yq_documents.specs.Reading.{all_documents, cut_of, read_at};
 ghost use Rattle.yq_outline.specs.RowWalk.{AreKnown, stretch_view};
 ghost use Rattle.yq_places.specs.RowWalk.{HasCut, IsKnownLine, document_row_range};
-ghost use Rattle.yq_lookup.specs.KnownDocuments.{AreKnownDocuments, IsKnownStretch};
+ghost use Rattle.yq_lookup.specs.KnownDocuments.{AreKnownDocuments, IsKnownStretch, AreKnownInText};
 
 use crate::known_document::{KnownDocuments, KnownStretch, find_document};
 use std::marker::Model;
@@ -32,8 +32,8 @@ impl<'d, 't> Model for CutText<'d, 't> {
     ghost view = { λ c. whole c.text };
 
     ghost invariant = { λ c. HasCut (whole c.text) c.rows.now × AreKnown c.rows.now.rows c.known ×
-        IfSome c.line (IsKnownLine c.rows.now) × AreKnownDocuments c.rows.now.bounds c.documents ×
-        IfSome c.stretch (IsKnownStretch (cut_of (whole c.text))) };
+        IfSome c.line (IsKnownLine c.rows.now) ×
+        AreKnownInText (whole c.text) c.rows.now.bounds c.documents c.stretch };
 }
 
 impl<'d, 't> CutText<'d, 't> {
