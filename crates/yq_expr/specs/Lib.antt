@@ -4,3 +4,5 @@ pub mod EffectView
 pub mod Summand
 pub mod ManyKeys
 pub mod Parts
+pub mod JudgedChanges
+pub mod PlannedUpdates

@@ -1,13 +1,10 @@
 //! What is changed at each of places.
-ghost use Rattle.std.specs.Prelude.{◌≡◌, map};
-ghost use Rattle.yq_core.{specs.Tree.Node as TreeNode, specs.Anchors.names_of};
+ghost use Rattle.std.specs.Prelude.{◌≡◌};
 ghost use Rattle.yq_nodes.specs.Nodes.{node_of};
-ghost use Rattle.yq_planner.{specs.ChangeView.changed_of, specs.Indexes.HasAliases};
-ghost use Rattle.yq_expr.specs.EffectView.{effect_at};
-ghost use Rattle.yq_semantics.{specs.Judgement.{Judges, and_then}, specs.PlacesApart.{AreIn, IsIn}, specs.Rooms.room_of};
-ghost use Rattle.yq_eval.{specs.FoundView.{child_places, found_places}, specs.PlaceView.{path_of, place_of, places_of, put_behind}};
+ghost use Rattle.yq_expr.{specs.EffectView.effect_at, specs.JudgedChanges.{JudgesAllowed, JudgesEach}};
+ghost use Rattle.yq_semantics.specs.Rooms.{room_of};
+ghost use Rattle.yq_eval.{specs.FoundView.{child_places, found_places}, specs.PlaceView.{path_of, place_of, places_of}};
 ghost use Rattle.yq_eval.specs.TreeScalars.{HasScalars, HaveScalars};
-ghost use Rattle.yq_semantics.specs.Changes as spec;
 
 use crate::effect::{Action, change_at};
 use crate::many_keys::check_depth;
@@ -32,11 +29,9 @@ fn push_effect<'a, 't>(
 ) -> Result<(), ExprError>
     requires { HasScalars (place_of place.now).node }
     ensures same { cut.new ≡ cut.old }
-    ensures change { (root : TreeNode) → HasAliases (names_of root) aliases.now →
-        IsIn root (place_of place.now) →
-        Judges (λ _. map changed_of changes.new.items) result
-        (put_behind (map changed_of changes.old.items) (and_then (spec.all_allowed root)
-        (effect_at doc (room_of cut.old doc) effect.entry (place_of place.now)))) }
+    ensures change { JudgesAllowed aliases.now (place_of place.now)
+        (effect_at doc (room_of cut.old doc) effect.entry (place_of place.now))
+        changes.old.items changes.new.items result }
 {
     let path = Path {
         doc,
@@ -59,11 +54,8 @@ fn at_each<'a, 't>(
     places: &[FoundPlace<'a, 't>],
 ) -> Result<Vec<PlacedChange>, ExprError>
     requires { HaveScalars (places_of places.now) }
-    ensures { (root : TreeNode) → HasAliases (names_of root) aliases.now →
-        AreIn root (places_of places.now) →
-        Judges (λ v. map changed_of v.items) result
-        (spec.at_each root (effect_at doc (room_of documents.now doc) effect.entry)
-        (places_of places.now)) }
+    ensures { JudgesEach aliases.now (places_of places.now)
+        (effect_at doc (room_of documents.now doc) effect.entry) result }
 {
     let mut changes = Vec::new(alloc);
     let mut cut = CutText::of_document(documents, doc);
@@ -83,11 +75,9 @@ fn at_children<'a, 't>(
     parent: &'a FoundPlace<'a, 't>,
 ) -> Result<Vec<PlacedChange>, ExprError>
     requires { HaveScalars (child_places (path_of parent.now.path) (node_of parent.now.node)) }
-    ensures { (root : TreeNode) → HasAliases (names_of root) aliases.now →
-        AreIn root (child_places (path_of parent.now.path) (node_of parent.now.node)) →
-        Judges (λ v. map changed_of v.items) result
-        (spec.at_each root (effect_at doc (room_of documents.now doc) effect.entry)
-        (child_places (path_of parent.now.path) (node_of parent.now.node))) }
+    ensures { JudgesEach aliases.now
+        (child_places (path_of parent.now.path) (node_of parent.now.node))
+        (effect_at doc (room_of documents.now doc) effect.entry) result }
 {
     let count = parent.node.count();
     let mut changes = Vec::with_capacity(alloc, count)?;
@@ -115,11 +105,8 @@ pub(crate) fn at_found<'a, 't>(
     places: &FoundPlaces<'a, 't>,
 ) -> Result<Vec<PlacedChange>, ExprError>
     requires { HaveScalars (found_places places.now) }
-    ensures { (root : TreeNode) → HasAliases (names_of root) aliases.now →
-        AreIn root (found_places places.now) →
-        Judges (λ v. map changed_of v.items) result
-        (spec.at_each root (effect_at doc (room_of documents.now doc) effect.entry)
-        (found_places places.now)) }
+    ensures { JudgesEach aliases.now (found_places places.now)
+        (effect_at doc (room_of documents.now doc) effect.entry) result }
 {
     match places {
         FoundPlaces::Listed(places) => at_each(alloc, documents, doc, aliases, effect, places),

@@ -2,11 +2,10 @@
 ghost use Rattle.std.specs.Prelude.{◌≡◌, ◌<◌, length, map, if◌then◌else◌};
 ghost use Rattle.yq_core.{specs.Shapes.IsTree, specs.Anchors.names_of};
 ghost use Rattle.yq_nodes.specs.Nodes.{node_of};
-ghost use Rattle.yq_documents.specs.Reading.{documents_of};
-ghost use Rattle.yq_planner.{specs.ChangeView.{all_changed_of, changed_of}, specs.Indexes.HasAliases};
-ghost use Rattle.yq_semantics.{specs.Judgement.Judges, specs.Meaning.roots_of, specs.Places.root_place, specs.PlacesApart.AreIn};
-ghost use Rattle.yq_semantics.{specs.RightValues.right_value as right_sum, specs.Rooms.room_of, specs.View.{stage_of, term_of, update_of}};
+ghost use Rattle.yq_planner.{specs.ChangeView.all_changed_of, specs.Indexes.HasAliases};
+ghost use Rattle.yq_semantics.{specs.Judgement.Judges, specs.PlacesApart.AreIn, specs.View.{stage_of, update_of}};
 ghost use Rattle.yq_eval.{specs.FoundView.found_places, specs.TreeScalars.{HasScalars, HaveScalars}};
+ghost use Rattle.yq_expr.specs.JudgedChanges.{JudgesChanges, right_at_root, changes_inside, changes_of_all, changes_there};
 ghost use Rattle.yq_semantics.specs.Changes as spec;
 
 use crate::at_places::at_found;
@@ -32,9 +31,8 @@ pub(crate) fn changes_at<'a, 't>(
     requires root { HasScalars (node_of root) }
     requires scalars { HaveScalars (found_places places.now) }
     requires within { AreIn (node_of root) (found_places places.now) }
-    ensures { Judges (λ v. map changed_of v.items) result
-        (spec.changes_at doc (room_of documents.now doc) (node_of root.entry)
-        (update_of update.now) (found_places places.now)) }
+    ensures { JudgesChanges result
+        (changes_there doc documents.now root.entry update.now places.now) }
 {
     if places.is_empty() {
         return Ok(Vec::new(alloc));
@@ -69,8 +67,8 @@ fn value_each<'a, 't>(
     requires within { AreIn (node_of root.now) (found_places places.now) }
     requires aliases { HasAliases (names_of (node_of root.now)) aliases.now }
     requires some { 0 < length (found_places places.now) }
-    ensures { Judges (λ v. map changed_of v.items) result (spec.with_value (node_of root.now)
-        (right_sum doc (map term_of right.now) (root_place (node_of root.now)))
+    ensures { JudgesChanges result (spec.with_value (node_of root.now)
+        (right_at_root doc right.now (node_of root.now))
         (if adds then spec.add_at else spec.put_with_path) (found_places places.now)) }
 {
     let value = right_value(alloc, doc, right, &FoundPlace::of_root(root))?;
@@ -97,9 +95,8 @@ fn assign<'a, 't>(
     requires within { AreIn (node_of root.now) (found_places places.now) }
     requires aliases { HasAliases (names_of (node_of root.now)) aliases.now }
     requires some { 0 < length (found_places places.now) }
-    ensures { Judges (λ v. map changed_of v.items) result
-        (spec.changes_at doc (room_of documents.now doc) (node_of root.now)
-        (update_of (Update.Assign assignment.now)) (found_places places.now)) }
+    ensures { JudgesChanges result
+        (changes_there doc documents.now root.now (Update.Assign assignment.now) places.now) }
 {
     let right: &[Term] = &assignment.right;
     match assignment.operator {
@@ -137,9 +134,7 @@ fn changes_in(
 ) -> Result<Vec<PlacedChange>, ExprError>
     requires scalars { HasScalars (node_of root) }
     requires tree { IsTree (node_of root) }
-    ensures { Judges (λ v. map changed_of v.items) result
-        (spec.changes_in (update_of update.now) doc (room_of documents.now doc)
-        (node_of root.entry)) }
+    ensures { JudgesChanges result (changes_inside update.now doc documents.now root.entry) }
 {
     let bump = Bump::new(alloc);
     let places = find_places(alloc, &bump, doc, left(update), root)?;
@@ -153,8 +148,7 @@ pub(crate) fn changes(
     documents: &Documents<'_>,
 ) -> Result<Vec<Vec<PlacedChange>>, ExprError>
     ensures { Judges (λ v. all_changed_of v.items) result
-        (spec.update_changes (update_of update.now)
-        (room_of documents.now) (roots_of (documents_of documents.now))) }
+        (changes_of_all update.now documents.now) }
 {
     if !has_comment(update) {
         return Err(ExprError::Refused(Refusal::BadCommentText));

@@ -1,8 +1,7 @@
 //! What an update does at one place.
-ghost use Rattle.std.specs.Prelude.{◌≡◌, map};
-ghost use Rattle.yq_planner.specs.ChangeView.{placed};
-ghost use Rattle.yq_expr.specs.EffectView.{effect_at};
-ghost use Rattle.yq_semantics.{specs.Judgement.Judges, specs.Rooms.{comment_part, room_of}};
+ghost use Rattle.std.specs.Prelude.{◌≡◌};
+ghost use Rattle.yq_expr.{specs.EffectView.effect_at, specs.JudgedChanges.JudgesPut};
+ghost use Rattle.yq_semantics.specs.Rooms.{comment_part, room_of};
 ghost use Rattle.yq_documents.specs.Located.{steps_of};
 ghost use Rattle.yq_eval.{specs.PlaceView.{path_of, place_of}, specs.TreeScalars.HasScalars};
 ghost use Rattle.yq_core.specs.Values.{value_node};
@@ -39,7 +38,7 @@ fn add(
     place: &FoundPlace<'_, '_>,
     value: &Value,
 ) -> Result<Option<Change>, ExprError>
-    ensures { Judges (placed (place_of place.now)) result
+    ensures { JudgesPut place.now result
         (spec.add_at (place_of place.now) (value_node value.now)) }
 {
     if is_null(value) {
@@ -53,7 +52,7 @@ fn add(
 
 /// What is removed at a place: what is missing is not, and a root can't be.
 fn remove(place: &FoundPlace<'_, '_>) -> Result<Option<Change>, ExprError>
-    ensures { Judges (placed (place_of place.now)) result (spec.remove_at (place_of place.now)) }
+    ensures { JudgesPut place.now result (spec.remove_at (place_of place.now)) }
 {
     if let Missing::Further(..) = place.missing {
         return Ok(None);
@@ -95,7 +94,7 @@ fn set_comment(
 ) -> Result<Option<Change>, ExprError>
     requires { steps_of path.now ≡ path_of place.now.path }
     ensures same { cut.new ≡ cut.old }
-    ensures change { Judges (placed (place_of place.now)) result
+    ensures change { JudgesPut place.now result
         (spec.comment_at (room_of cut.old path.now.doc) comment text.now (place_of place.now)) }
 {
     if let Missing::Further(..) = place.missing {
@@ -119,7 +118,7 @@ pub(crate) fn change_at<'a, 't>(
     requires scalars { HasScalars (place_of place.now).node }
     requires path { steps_of path.now ≡ path_of place.now.path }
     ensures same { cut.new ≡ cut.old }
-    ensures change { Judges (placed (place_of place.now)) result
+    ensures change { JudgesPut place.now result
         (effect_at path.now.doc (room_of cut.old path.now.doc) effect.entry
         (place_of place.now)) }
 {

@@ -1,13 +1,12 @@
 //! Judging: whether an update is refused on documents, with no copy of its value for each place.
-ghost use Rattle.std.specs.Prelude.{◌≡◌, ◌<◌, IfOk, IfSome, List, Some, length, map, true, if◌then◌else◌};
-ghost use Rattle.yq_core.{specs.Anchors.{Name, names_of}, specs.Shapes.IsTree, specs.Tree.Node as TreeNode, specs.Values.value_node};
+ghost use Rattle.std.specs.Prelude.{◌≡◌, ◌<◌, IfOk, IfSome, List, length, true, if◌then◌else◌};
+ghost use Rattle.yq_core.{specs.Anchors.{Name, names_of}, specs.Shapes.IsTree, specs.Values.value_node};
 ghost use Rattle.yq_nodes.specs.Nodes.{node_of};
-ghost use Rattle.yq_documents.specs.Reading.{documents_of};
-ghost use Rattle.yq_planner.{specs.Indexes.HasAliases, specs.StandIns.{HaveNoAlias, IsStandIn, verdict}};
-ghost use Rattle.yq_semantics.{specs.Judgement.Judges, specs.Meaning.roots_of, specs.Places.root_place, specs.Plans.plan};
-ghost use Rattle.yq_semantics.{specs.PlacesApart.AreIn, specs.RightValues.right_value as right_sum, specs.Rooms.room_of};
-ghost use Rattle.yq_semantics.{specs.Program.{update_at, update_count}, specs.View.{program_of, term_of, update_of}};
-ghost use Rattle.yq_expr.specs.EffectView.{value_at};
+ghost use Rattle.yq_planner.{specs.Indexes.HasAliases, specs.StandIns.{HaveNoAlias, IsStandIn}};
+ghost use Rattle.yq_semantics.{specs.PlacesApart.AreIn, specs.Program.update_count, specs.View.{program_of, update_of}};
+ghost use Rattle.yq_expr.{specs.EffectView.value_at, specs.PlannedUpdates.{IsUpdateAt, plan_in}};
+ghost use Rattle.yq_expr.specs.JudgedChanges.{JudgesEachVerdict, JudgesVerdict, changes_inside, changes_of_all, changes_there};
+ghost use Rattle.yq_expr.specs.JudgedChanges.{right_at_root};
 ghost use Rattle.yq_eval.{specs.FoundView.found_places, specs.TreeScalars.{HasScalars, HaveScalars}};
 ghost use Rattle.yq_semantics.specs.Changes as spec;
 ghost use Rattle.yq_semantics.specs.Program as programs;
@@ -71,10 +70,8 @@ fn judge_one<'a, 't>(
     places: &FoundPlaces<'a, 't>,
 ) -> Result<(), ExprError>
     requires { HaveScalars (found_places places.now) }
-    ensures { (root : TreeNode) → HasAliases (names_of root) aliases.now →
-        AreIn root (found_places places.now) → Judges (λ _. tt) result
-        (verdict (spec.at_each root (value_at adds (value_node value.now))
-        (found_places places.now))) }
+    ensures { JudgesEachVerdict aliases.now (found_places places.now)
+        (value_at adds (value_node value.now)) result }
 {
     let effect = if adds {
         Action::Add(value)
@@ -96,10 +93,8 @@ fn judge_value<'a, 't>(
     places: &FoundPlaces<'a, 't>,
 ) -> Result<(), ExprError>
     requires { HaveScalars (found_places places.now) }
-    ensures { (root : TreeNode) → HasAliases (names_of root) aliases.now →
-        AreIn root (found_places places.now) → Judges (λ _. tt) result
-        (verdict (spec.at_each root (value_at adds (value_node value.now))
-        (found_places places.now))) }
+    ensures { JudgesEachVerdict aliases.now (found_places places.now)
+        (value_at adds (value_node value.now)) result }
 {
     let found = small_value(alloc, aliases, adds, value)?;
     match found {
@@ -124,9 +119,9 @@ fn judge_right<'a, 't>(
     requires within { AreIn (node_of root.now) (found_places places.now) }
     requires aliases { HasAliases (names_of (node_of root.now)) aliases.now }
     requires some { 0 < length (found_places places.now) }
-    ensures { Judges (λ _. tt) result (verdict (spec.with_value (node_of root.now)
-        (right_sum doc (map term_of right.now) (root_place (node_of root.now)))
-        (if adds then spec.add_at else spec.put_with_path) (found_places places.now))) }
+    ensures { JudgesVerdict result (spec.with_value (node_of root.now)
+        (right_at_root doc right.now (node_of root.now))
+        (if adds then spec.add_at else spec.put_with_path) (found_places places.now)) }
 {
     let value = right_value(alloc, doc, right, &FoundPlace::of_root(root))?;
     judge_value(alloc, documents, doc, aliases, adds, &value, places)
@@ -144,9 +139,8 @@ fn judge_changes<'a, 't>(
     requires root { HasScalars (node_of root) }
     requires scalars { HaveScalars (found_places places.now) }
     requires within { AreIn (node_of root) (found_places places.now) }
-    ensures { Judges (λ _. tt) result (verdict
-        (spec.changes_at doc (room_of documents.now doc) (node_of root.entry)
-        (update_of update.now) (found_places places.now))) }
+    ensures { JudgesVerdict result
+        (changes_there doc documents.now root.entry update.now places.now) }
 {
     let _changes = changes_at(alloc, documents, doc, root, update, places)?;
     Ok(())
@@ -166,9 +160,8 @@ fn judge_assigned<'a, 't>(
     requires scalars { HaveScalars (found_places places.now) }
     requires within { AreIn (node_of root) (found_places places.now) }
     requires operator { assignment.now.operator ≡ (if adds then Operator.Add else Operator.Set) }
-    ensures { Judges (λ _. tt) result (verdict
-        (spec.changes_at doc (room_of documents.now doc) (node_of root.entry)
-        (update_of (Update.Assign assignment.now)) (found_places places.now))) }
+    ensures { JudgesVerdict result
+        (changes_there doc documents.now root.entry (Update.Assign assignment.now) places.now) }
 {
     if places.is_empty() {
         return Ok(());
@@ -190,9 +183,8 @@ fn judge_at<'a, 't>(
     requires root { HasScalars (node_of root) }
     requires scalars { HaveScalars (found_places places.now) }
     requires within { AreIn (node_of root) (found_places places.now) }
-    ensures { Judges (λ _. tt) result (verdict
-        (spec.changes_at doc (room_of documents.now doc) (node_of root.entry)
-        (update_of update.now) (found_places places.now))) }
+    ensures { JudgesVerdict result
+        (changes_there doc documents.now root.entry update.now places.now) }
 {
     let Update::Assign(assignment) = update else {
         return judge_changes(alloc, documents, doc, root, update, places);
@@ -214,9 +206,7 @@ fn judge_in(
 ) -> Result<(), ExprError>
     requires scalars { HasScalars (node_of root) }
     requires tree { IsTree (node_of root) }
-    ensures { Judges (λ _. tt) result (verdict
-        (spec.changes_in (update_of update.now) doc (room_of documents.now doc)
-        (node_of root.entry))) }
+    ensures { JudgesVerdict result (changes_inside update.now doc documents.now root.entry) }
 {
     let bump = Bump::new(alloc);
     let places = find_places(alloc, &bump, doc, left(update), root)?;
@@ -225,8 +215,7 @@ fn judge_in(
 
 /// Judges an update in each document, up to the first refusal.
 fn judge_update(alloc: Global, update: &Update, documents: &Documents<'_>) -> Result<(), ExprError>
-    ensures { Judges (λ _. tt) result (verdict (spec.update_changes (update_of update.now)
-        (room_of documents.now) (roots_of (documents_of documents.now)))) }
+    ensures { JudgesVerdict result (changes_of_all update.now documents.now) }
 {
     if !has_comment(update) {
         return Err(ExprError::Refused(Refusal::BadCommentText));
@@ -240,8 +229,7 @@ fn judge_update(alloc: Global, update: &Update, documents: &Documents<'_>) -> Re
 
 /// Judges the plan of an update.
 fn judge_plan(alloc: Global, update: &Update, documents: &Documents<'_>) -> Result<(), ExprError>
-    ensures { Judges (λ _. tt) result (verdict (plan (update_of update.now)
-        (room_of documents.now) (documents_of documents.now))) }
+    ensures { JudgesVerdict result (plan_in (update_of update.now) documents.now) }
 {
     judge_update(alloc, update, documents)
 }
@@ -254,9 +242,8 @@ pub fn judge(
     documents: &Documents<'_>,
 ) -> Result<(), ExprError>
     requires { nth < update_count (program_of program.now) }
-    ensures { (u : programs.Update) → update_at nth (program_of program.now) ≡ Some u →
-        Judges (λ _. tt) result (verdict (plan u (room_of documents.now)
-        (documents_of documents.now))) }
+    ensures { (u : programs.Update) → IsUpdateAt nth program.now u →
+        JudgesVerdict result (plan_in u documents.now) }
 {
     match program.syntax() {
         Syntax::Read(_) => Ok(()),

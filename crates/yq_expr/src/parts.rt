@@ -1,12 +1,11 @@
 //! Plans made part by part, where the values of one update would take too much memory at once.
-ghost use Rattle.std.specs.Prelude.{◌≡◌, ◌<◌, ◌≤◌, ◌-◌, IfErr, IfOk, Some, drop, length, take};
+ghost use Rattle.std.specs.Prelude.{◌≡◌, ◌<◌, ◌≤◌, ◌-◌, IfErr, IfOk, drop, length, take};
 ghost use Rattle.yq_core.specs.Shapes.{IsTree};
 ghost use Rattle.yq_documents.specs.Reading.{documents_of};
 ghost use Rattle.yq_nodes.specs.Nodes.{node_of};
 ghost use Rattle.yq_eval.{specs.FoundView.found_places, specs.PlaceView.places_of, specs.TreeScalars.HasScalars};
-ghost use Rattle.yq_semantics.{specs.Judgement.MatchFails, specs.Operations.operations_of, specs.Rooms.room_of};
-ghost use Rattle.yq_semantics.specs.View.{program_of, update_of};
-ghost use Rattle.yq_expr.specs.Parts.{IsLater, IsPlanPart, LeavesOps, document_ops, rest_ops};
+ghost use Rattle.yq_semantics.{specs.Judgement.MatchFails, specs.Operations.operations_of, specs.View.{program_of, update_of}};
+ghost use Rattle.yq_expr.{specs.Parts.{IsLater, IsPlanPart}, specs.PlannedUpdates.{IsPartOfPlan, IsUpdateAt, ops_inside, rest_in}};
 ghost use Rattle.yq_semantics.specs.Program as spec;
 
 use crate::changes::{changes_at, left};
@@ -78,11 +77,11 @@ fn document_part(
 ) -> Result<(Option<usize>, usize), ExprError>
     requires scalars { HasScalars (node_of root) }
     requires tree { IsTree (node_of root) }
-    ensures part { IfOk result (λ x. IsPlanPart (document_ops (update_of update.now) doc
-        (room_of documents.now doc) (node_of root.entry)) place (operations_of ops.old.items)
-        (operations_of ops.new.items) x.0) }
-    ensures err { IfErr result (λ e. MatchFails e (document_ops (update_of update.now) doc
-        (room_of documents.now doc) (node_of root.entry) place)) }
+    ensures part { IfOk result (λ x.
+        IsPlanPart (ops_inside update.now doc documents.now root.entry) place
+        (operations_of ops.old.items) (operations_of ops.new.items) x.0) }
+    ensures err { IfErr result (λ e.
+        MatchFails e (ops_inside update.now doc documents.now root.entry place)) }
 {
     let bump = Bump::new(alloc);
     let places = find(alloc, &bump, doc, left(update), root)?;
@@ -109,11 +108,10 @@ fn part_of(
     place: usize,
 ) -> Result<PlanPart, ExprError>
     requires { doc < length (documents_of documents.now) }
-    ensures part { IfOk result (λ p. LeavesOps (update_of update.now) (room_of documents.now)
-        (documents_of documents.now) doc place (operations_of p.ops.items) p.doc p.place) }
+    ensures part { IfOk result (IsPartOfPlan (update_of update.now) documents.now doc place) }
     ensures later { IfOk result (λ p. IsLater doc place p.doc p.place) }
-    ensures err { IfErr result (λ e. MatchFails e (rest_ops (update_of update.now)
-        (room_of documents.now) (documents_of documents.now) doc place)) }
+    ensures err { IfErr result (λ e.
+        MatchFails e (rest_in (update_of update.now) documents.now doc place)) }
 {
     documents.are_ready();
     let mut ops = Vec::new(alloc);
@@ -160,13 +158,11 @@ pub fn plan_part(
     requires update { nth < spec.update_count (program_of program.now) }
     requires document { doc < length (documents_of documents.now) }
     // The operations are what is left of the plan there, but for what is left after them.
-    ensures part { (u : spec.Update) → spec.update_at nth (program_of program.now) ≡ Some u →
-        IfOk result (λ p. LeavesOps u (room_of documents.now) (documents_of documents.now) doc place
-        (operations_of p.ops.items) p.doc p.place) }
+    ensures part { (u : spec.Update) → IsUpdateAt nth program.now u →
+        IfOk result (IsPartOfPlan u documents.now doc place) }
     ensures later { IfOk result (λ p. IsLater doc place p.doc p.place) }
-    ensures err { (u : spec.Update) → spec.update_at nth (program_of program.now) ≡ Some u →
-        IfErr result (λ e. MatchFails e (rest_ops u (room_of documents.now)
-        (documents_of documents.now) doc place)) }
+    ensures err { (u : spec.Update) → IsUpdateAt nth program.now u →
+        IfErr result (λ e. MatchFails e (rest_in u documents.now doc place)) }
 {
     match program.syntax() {
         Syntax::Read(_) => Ok(PlanPart {

@@ -1,10 +1,10 @@
 //! Changes at places, which nothing refuses.
 ghost use Rattle.std.specs.Prelude.{◌≡◌, map};
-ghost use Rattle.yq_core.{specs.Anchors.names_of, specs.Tree.Node as TreeNode, specs.Entries.tree_step};
-ghost use Rattle.yq_semantics.{specs.Judgement.Judges, specs.PlacesApart.IsIn};
-ghost use Rattle.yq_eval.specs.PlaceView.{path_of, place_of, put_behind};
-ghost use Rattle.yq_planner.{specs.ChangeView.{changed_of, placed_change}, specs.Indexes.HasAliases};
-ghost use Rattle.yq_semantics.specs.Changes as spec;
+ghost use Rattle.yq_core.specs.Entries.{tree_step};
+ghost use Rattle.yq_eval.specs.PlaceView.{path_of, place_of};
+ghost use Rattle.yq_planner.specs.ChangeView.{placed_change};
+ghost use Rattle.yq_expr.specs.JudgedChanges.{JudgesAllowed};
+ghost use Rattle.yq_semantics.specs.Judgement.{gives};
 
 use std::alloc::Global;
 use yq_core::Step as TreeStep;
@@ -22,11 +22,9 @@ pub fn push_change(
     changes: &mut Vec<PlacedChange>,
 ) -> Result<(), ExprError>
     requires { map tree_step path.items ≡ path_of place.now.path }
-    ensures { (root : TreeNode) → HasAliases (names_of root) aliases.now →
-        IsIn root (place_of place.now) →
-        Judges (λ _. map changed_of changes.new.items) result
-        (put_behind (map changed_of changes.old.items)
-        (spec.all_allowed root (placed_change (place_of place.now) change))) }
+    ensures { JudgesAllowed aliases.now (place_of place.now)
+        (gives (placed_change (place_of place.now) change))
+        changes.old.items changes.new.items result }
 {
     allow(alloc, aliases, &place.node, path.len(), &change)?;
     changes.push(PlacedChange { path, change })?;

@@ -1,8 +1,7 @@
 //! Planning: the operations that carry out an update on documents.
-ghost use Rattle.std.specs.Prelude.{◌≡◌, ◌<◌, ◌∷◌, ◌⊎◌, [], IfOk, Some};
-ghost use Rattle.yq_documents.specs.Reading.{documents_of};
-ghost use Rattle.yq_semantics.{specs.After.all_after, specs.Fits.AllFit, specs.Judgement.{Judges, gives, refuses}, specs.Meaning.meaning};
-ghost use Rattle.yq_semantics.{specs.Operations.operations_of, specs.Rooms.room_of, specs.View.{program_of, update_of}};
+ghost use Rattle.std.specs.Prelude.{◌≡◌, ◌<◌, ◌⊎◌, IfOk};
+ghost use Rattle.yq_semantics.{specs.Judgement.{gives, refuses}, specs.View.{program_of, update_of}};
+ghost use Rattle.yq_expr.specs.PlannedUpdates.{AllFitIn, IsUpdateAt, JudgesPlan, documents_after, meaning_in};
 ghost use Rattle.yq_semantics.specs.Plans as plans;
 ghost use Rattle.yq_semantics.specs.Program as spec;
 
@@ -24,8 +23,7 @@ fn plan_update(
     update: &Update,
     documents: &Documents<'_>,
 ) -> Result<Vec<Op>, ExprError>
-    ensures { Judges (λ v. operations_of v.items) result (plans.plan (update_of update.now)
-        (room_of documents.now) (documents_of documents.now)) }
+    ensures { JudgesPlan result (update_of update.now) documents.now }
 {
     let changes = changes(alloc, update, documents)?;
     Ok(operations(alloc, is_removal(update), changes)?)
@@ -39,9 +37,8 @@ fn planned(
     documents: &Documents<'_>,
 ) -> Result<Vec<Op>, ExprError>
     requires { nth < spec.update_count (program_of program.now) }
-    ensures { (u : spec.Update) → spec.update_at nth (program_of program.now) ≡ Some u →
-        Judges (λ v. operations_of v.items) result (plans.plan u (room_of documents.now)
-        (documents_of documents.now)) }
+    ensures { (u : spec.Update) → IsUpdateAt nth program.now u →
+        JudgesPlan result u documents.now }
 {
     match program.syntax() {
         Syntax::Read(_) => Ok(Vec::new(alloc)),
@@ -59,27 +56,23 @@ pub fn plan(
 ) -> Result<Vec<Op>, ExprError>
     requires { nth < spec.update_count (program_of program.now) }
     // The operations, or why there are none.
-    ensures exact { (u : spec.Update) → spec.update_at nth (program_of program.now) ≡ Some u →
-        Judges (λ v. operations_of v.items) result (plans.plan u (room_of documents.now)
-        (documents_of documents.now)) }
+    ensures exact { (u : spec.Update) → IsUpdateAt nth program.now u →
+        JudgesPlan result u documents.now }
     // The operations, one after the other, make what the update means.
-    ensures meaning { (u : spec.Update) → spec.update_at nth (program_of program.now) ≡ Some u →
-        IfOk result (λ ops. meaning u (room_of documents.now) (documents_of documents.now) ≡
-        gives (all_after (room_of documents.now) (operations_of ops.items)
-        (documents_of documents.now))) }
+    ensures meaning { (u : spec.Update) → IsUpdateAt nth program.now u →
+        IfOk result (λ ops.
+        meaning_in u documents.now ≡ gives (documents_after ops.items documents.now)) }
     // Each fits at its turn.
-    ensures fits { (u : spec.Update) → spec.update_at nth (program_of program.now) ≡ Some u →
-        IfOk result (λ ops. AllFit (room_of documents.now) (operations_of ops.items)
-        (documents_of documents.now)) }
+    ensures fits { (u : spec.Update) → IsUpdateAt nth program.now u →
+        IfOk result (λ ops. AllFitIn ops.items documents.now) }
     // A refusal is that of what the update means.
     ensures refused { (u : spec.Update) (why : Refusal) →
-        spec.update_at nth (program_of program.now) ≡ Some u → result ≡
-        Err (ExprError.Refused why) →
-        meaning u (room_of documents.now) (documents_of documents.now) ≡ refuses why }
+        IsUpdateAt nth program.now u → result ≡ Err (ExprError.Refused why) →
+        meaning_in u documents.now ≡ refuses why }
     // What the update means is refused only with that refusal.
     ensures refuses { (u : spec.Update) (why : Refusal) →
-        spec.update_at nth (program_of program.now) ≡ Some u →
-        meaning u (room_of documents.now) (documents_of documents.now) ≡ refuses why →
+        IsUpdateAt nth program.now u →
+        meaning_in u documents.now ≡ refuses why →
         (result ≡ Err (ExprError.Refused why)) ⊎ (result ≡ Err ExprError.Memory) }
 {
     documents.are_ready();

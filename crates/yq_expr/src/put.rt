@@ -2,9 +2,10 @@
 ghost use Rattle.std.{specs.List.list_any, specs.Prelude.{◌≡◌, ◌∷◌, [], IfOk, map}};
 ghost use Rattle.yq_core.specs.Values.{value_node};
 ghost use Rattle.yq_nodes.specs.Nodes.{node_of};
-ghost use Rattle.yq_planner.specs.ChangeView.{change_of, placed};
+ghost use Rattle.yq_planner.specs.ChangeView.{change_of};
 ghost use Rattle.yq_semantics.{specs.Judgement.Judges, specs.Program.is_index, specs.View.program_step};
 ghost use Rattle.yq_eval.specs.PlaceView.{place_of};
+ghost use Rattle.yq_expr.specs.JudgedChanges.{JudgesPut};
 ghost use Rattle.yq_semantics.specs.Changes as spec;
 
 use crate::steps::missing_steps;
@@ -111,7 +112,7 @@ pub fn put(
     place: &FoundPlace<'_, '_>,
     value: Value,
 ) -> Result<Option<Change>, ExprError>
-    ensures { Judges (placed (place_of place.now)) result
+    ensures { JudgesPut place.now result
         (spec.put_with_path (place_of place.now) (value_node value)) }
 {
     if let Missing::Nothing = place.missing {
