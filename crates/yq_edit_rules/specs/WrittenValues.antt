@@ -33,9 +33,14 @@ column_under l m v = if m.keyed then m.column + indent_step l v else item_column
 abbrev pub lines_in : Layout → ℕ → Node → List ℕ
 lines_in l column v = replicate column 32 ++ block_value l column v
 
--- a collection with items or entries: on the line of a dash that takes it, else below (8.2)
+-- a collection with items or entries: on the line of a dash, if it is compact, else below (8.2)
+abbrev pub collection_by : (is_compact : Bool) → Layout → MarkPieces → Node → Written
+collection_by is_compact l m v =
+    if is_compact then compact_text (block_value l (item_column m.column) v) else lines (lines_in l (column_under l m v) v)
+
+-- the same: on the line of a dash that takes it, else below (8.2)
 abbrev pub collection_at : Layout → MarkPieces → Node → Written
-collection_at l m v = if takes_compact m then compact_text (block_value l (item_column m.column) v) else lines (lines_in l (column_under l m v) v)
+collection_at l m v = collection_by (takes_compact m) l m v
 
 -- how a value is written after a key or dash, in the place of a text there: such a collection so, another value on one line
 abbrev pub written_at : Layout → MarkPieces → List ℕ → Node → Written

@@ -1,9 +1,8 @@
 //! A value in the place of what a key or dash holds, or of a compact collection.
-ghost use Rattle.std.specs.Prelude.{◌≡◌, ℕ, List, [], false, IfOk, if◌then◌else◌, string_bytes};
+ghost use Rattle.std.specs.Prelude.{◌≡◌, ℕ, List, [], false, IfOk, string_bytes};
 ghost use Rattle.yq_core.{specs.Values.value_node, specs.BlockWritten.break_text};
 ghost use Rattle.yq_places.specs.StandingViews.{compact_view, held_view, held_mark_view};
-ghost use Rattle.yq_edit_rules.{specs.BlockReading.is_filled as filled, specs.BlockRows.item_column, specs.BlockText.block_value};
-ghost use Rattle.yq_edit_rules.specs.declared.layout.Layout.{Layout as LayoutOf};
+ghost use Rattle.yq_edit_rules.{specs.BlockReading.is_filled as filled, specs.declared.layout.Layout.Layout as LayoutOf};
 ghost use Rattle.yq_edit_rules.specs.ReplaceEdits as spec;
 ghost use Rattle.yq_edit_rules.specs.WrittenValues as written;
 
@@ -50,12 +49,8 @@ pub(crate) fn put_filled<'t>(
     value: &Value,
 ) -> Result<Segments<'t>, AllocError>
     ensures { IfOk result (λ ss. ss ≡
-        spec.held_put (break_text layout.now.br) (held_view held.now) (if compact
-        then written.compact_text (block_value layout.now (item_column held.now.mark.column)
-        (value_node value.now))
-        else written.lines (written.lines_in layout.now
-        (written.column_under layout.now (held_mark_view held.now.mark) (value_node value.now))
-        (value_node value.now)))) }
+        spec.held_put (break_text layout.now.br) (held_view held.now) (written.collection_by
+        compact layout.now (held_mark_view held.now.mark) (value_node value.now))) }
 {
     let (new, lines) = if compact {
         (
