@@ -47,3 +47,5 @@ pub mod Entries
 pub mod Collections
 pub mod Spans
 pub mod FaultPlace
+pub mod Strings
+pub mod OneReading

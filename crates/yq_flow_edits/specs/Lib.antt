@@ -9,6 +9,7 @@ pub mod FlowEdits
 pub mod Removals
 pub mod FlowPlaces
 pub mod FlowValues
+pub mod ItemsAt
 pub use Rattle.yq_core.specs.Keys
 pub use Rattle.yq_core.specs.Paths
 pub use Rattle.yq_core.specs.Tree

@@ -1,7 +1,7 @@
 //! Values, written in flow style.
-ghost use Rattle.std.{specs.Prelude.{◌≡◌, ◌++◌, IfOk, OnOk, false, map, string_bytes, true}, specs.Str.IsUtf8};
+ghost use Rattle.std.{specs.Prelude.{◌≡◌, IfOk, false, map, string_bytes, true}, specs.Str.IsUtf8};
 ghost use Rattle.yq_core.{specs.Scalar.IsScalar, specs.declared.style.Style.TheVariants.Plain};
-ghost use Rattle.yq_core.specs.Values.{entries_of, items_of, value_node};
+ghost use Rattle.yq_core.{specs.Values.{entries_of, items_of, value_node}, specs.Strings.{AddsText, GivesText}};
 ghost use Rattle.yq_flow_edits.{specs.FlowValues.SpellsEntry, specs.Valued.{AreValueTrees, IsValid, IsValueTree, Spells}};
 ghost use Rattle.yq_core.specs.Writable as writable;
 ghost use Rattle.yq_core.specs.NodesWritten as spec;
@@ -28,8 +28,7 @@ pub fn push_scalar(
     scalar: &Scalar,
     place: Place,
 ) -> Result<(), AllocError>
-    ensures text { OnOk result (string_bytes out.new ≡ string_bytes out.old ++
-        spec.scalar_text scalar.now place) }
+    ensures text { AddsText result out.old out.new (spec.scalar_text scalar.now place) }
     ensures valid { IfOk result (λ x. IsValid scalar.now) }
 {
     let text = scalar.text();
@@ -42,8 +41,7 @@ pub fn push_scalar(
 
 /// Adds a key with its `:` and a space.
 fn push_key(alloc: Global, out: &mut String, key: &str) -> Result<(), AllocError>
-    ensures text { OnOk result (string_bytes out.new ≡ string_bytes out.old ++
-        spec.key_front key.now) }
+    ensures text { AddsText result out.old out.new (spec.key_front key.now) }
     ensures valid { IfOk result (λ x. IsUtf8 key.now) }
 {
     let scalar = Scalar::string(String::from_str(alloc, key)?);
@@ -55,8 +53,7 @@ fn push_key(alloc: Global, out: &mut String, key: &str) -> Result<(), AllocError
 #[cycle(write)]
 #[tactic(auto, unfolding(yq_core::specs::NodesWritten::flow_of, yq_core::specs::Nodes::node_text))]
 fn push_value(alloc: Global, out: &mut String, value: &Value) -> Result<(), AllocError>
-    ensures text { OnOk result (string_bytes out.new ≡ string_bytes out.old ++
-        spec.flow_text (value_node value.now)) }
+    ensures text { AddsText result out.old out.new (spec.flow_text (value_node value.now)) }
     ensures valid { IfOk result (λ x. IsValueTree (value_node value.now)) }
 {
     match value {
@@ -77,8 +74,8 @@ fn push_value(alloc: Global, out: &mut String, value: &Value) -> Result<(), Allo
 /// Adds the items of a list.
 #[cycle(write)]
 fn push_items(alloc: Global, out: &mut String, items: &Vec<Value>) -> Result<(), AllocError>
-    ensures text { OnOk result (string_bytes out.new ≡ string_bytes out.old ++
-        spec.comma_separated true (map (λ v. spec.flow_text (value_node v)) items.now.items)) }
+    ensures text { AddsText result out.old out.new
+        (spec.comma_separated true (map (λ v. spec.flow_text (value_node v)) items.now.items)) }
     ensures valid { IfOk result (λ x. AreValueTrees false (items_of items.now.items)) }
 {
     let mut first = true;
@@ -100,9 +97,9 @@ fn push_entries(
     out: &mut String,
     entries: &Vec<(String, Value)>,
 ) -> Result<(), AllocError>
-    ensures text { OnOk result (string_bytes out.new ≡ string_bytes out.old ++
-        spec.comma_separated true (map (λ e. spec.entry_text (string_bytes e.0, value_node e.1))
-        entries.now.items)) }
+    ensures text { AddsText result out.old out.new
+        (spec.comma_separated true
+        (map (λ e. spec.entry_text (string_bytes e.0, value_node e.1)) entries.now.items)) }
     ensures valid { IfOk result (λ x. AreValueTrees true (entries_of entries.now.items)) }
 {
     let mut first = true;
@@ -123,7 +120,7 @@ fn push_entries(
 #[tactic(auto, using(crate::proofs::SpelledLaws::flow_spells))]
 pub fn write_inline(alloc: Global, value: &Value) -> Result<String, AllocError>
     // It is the text that the style defines.
-    ensures text { IfOk result (λ s. string_bytes s ≡ spec.flow_text (value_node value.now)) }
+    ensures text { GivesText result (spec.flow_text (value_node value.now)) }
     // It spells the value.
     ensures spells { IfOk result (λ s. Spells (value_node value.now) (string_bytes s)) }
 {
@@ -136,8 +133,7 @@ pub fn write_inline(alloc: Global, value: &Value) -> Result<String, AllocError>
 #[tactic(auto, using(crate::proofs::FlowSpelled::entry_spells))]
 pub fn write_entry(alloc: Global, key: &str, value: &Value) -> Result<String, AllocError>
     // It is the text that the style defines.
-    ensures text { IfOk result (λ s. string_bytes s ≡
-        spec.entry_text (key.now, value_node value.now)) }
+    ensures text { GivesText result (spec.entry_text (key.now, value_node value.now)) }
     // It spells the entry.
     ensures spells { IfOk result (λ s. SpellsEntry key.now (value_node value.now)
         (string_bytes s)) }

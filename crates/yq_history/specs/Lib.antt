@@ -1,4 +1,3 @@
-pub mod Adding
 pub mod Causes
 pub mod DiffParts
 pub mod DiffPrinting

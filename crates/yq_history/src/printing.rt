@@ -1,5 +1,6 @@
 //! The lines of a history.
-ghost use Rattle.yq_history.{specs.Adding.AddsText, specs.Output.{IsOutputText, IsOutput, Shows, listing_output, record_output, showing}};
+ghost use Rattle.yq_core.specs.Strings.{AddsText};
+ghost use Rattle.yq_history.specs.Output.{IsOutputText, IsOutput, Shows, listing_output, record_output, showing};
 ghost use Rattle.yq_history.{specs.Visible.{in_quotes, visible}, specs.Effects.{Works, from_names, listing_effect, printed_by}};
 ghost use Rattle.yq_history.{specs.Faults.{is_output, failures_after}, specs.Pair.{Arrives, GoodIn}, specs.Report.{nothing, report_by}};
 ghost use Rattle.yq_history.{specs.Calls.CallsOnPair, specs.Steps.listing_cause};

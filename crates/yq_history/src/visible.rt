@@ -1,5 +1,5 @@
 //! Texts as they are printed, so that no terminal acts on them.
-ghost use Rattle.yq_history.specs.Adding.{AddsText};
+ghost use Rattle.yq_core.specs.Strings.{AddsText};
 ghost use Rattle.std.{specs.Prelude.{◌≡◌, ◌%◌, IfOk}, specs.Bool.OnTrue, specs.Char.digit_char, specs.String.string_bytes};
 ghost use Rattle.json.specs.Print.{quoted};
 ghost use Rattle.yq_history.specs.Visible as spec;

@@ -9,3 +9,4 @@ pub use Rattle.yq_core.specs.Paths
 pub use Rattle.yq_core.specs.Tree
 pub use Rattle.yq_core.specs.Writable
 pub mod Forms
+pub mod NodesWithin

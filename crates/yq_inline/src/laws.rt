@@ -1,9 +1,10 @@
 //! Laws of inline nodes, each the contract of a function that does nothing.
-ghost use Rattle.std.specs.Prelude.{◌≡◌, ◌+◌, ◌∷◌, length, Bool, List, Option, Some, option_map, true, ℕ, ℤ};
+ghost use Rattle.std.specs.Prelude.{◌≡◌, ◌∷◌, length, Bool, List, Option, Some, option_map, ℕ, ℤ};
 ghost use Rattle.yq_core.{specs.Paths.Step, specs.declared.style.Place.Place, specs.Inline.{IsInline, IsInlineAt, inline_at}};
 ghost use Rattle.yq_core.specs.Nodes.{IsFlowNode, FlowNode, node_text};
 ghost use Rattle.yq_core.specs.Entries.{EntryPieces, StandsIn, placed_entry_at, entry_pieces_at, locate_entry, pieces_text};
-ghost use Rattle.yq_core.{specs.Places.{Placed, locate}, specs.Trees.{placed_tree, tree_of}};
+ghost use Rattle.yq_core.{specs.Places.{Placed, locate}, specs.Trees.{placed_tree, tree_of}, specs.OneReading.HasOneReading};
+ghost use Rattle.yq_inline.specs.NodesWithin.{IsNodeWithin};
 
 /// What is read as an inline node is one, what is one is read, and a text begins with one at most.
 pub fn one_inline()
@@ -11,9 +12,8 @@ pub fn one_inline()
         inline_at place n depth at text ≡ Some p → IsInlineAt place n depth at text p }
     ensures again { (place : Place) (n : ℤ) (depth at : ℕ) (text : List ℕ) (p : Placed) →
         IsInlineAt place n depth at text p → inline_at place n depth at text ≡ Some p }
-    ensures one { (place : Place) (n : ℤ) (depth : ℕ) (a b : FlowNode) (rest other : List ℕ) →
-        node_text a rest ≡ node_text b other → IsInline place n depth a rest →
-        IsInline place n depth b other → (a ≡ b) × (rest ≡ other) }
+    ensures one { (place : Place) (n : ℤ) (depth : ℕ) →
+        HasOneReading node_text (IsInline place n depth) }
 {}
 
 /// The tree of an inline node with its places is that of its pieces.
@@ -34,5 +34,5 @@ pub fn entry_places()
     ensures node { (flow : Bool) (spaces : Option ℕ) (d : ℕ) (s : Step) (ss : List Step)
         (x y : EntryPieces) → IsFlowNode flow spaces d x.node x.rest →
         entry_pieces_at (s ∷ ss) x ≡ Some y →
-        (e : ℕ) × (d ≡ length (s ∷ ss) + e) × IsFlowNode true (Some 0) e y.node y.rest }
+        IsNodeWithin d (length (s ∷ ss)) y }
 {}

@@ -1,0 +1,4 @@
+pub mod WrittenScalars
+pub mod RepairedGaps
+pub mod QuotedTexts
+pub mod WrittenLines

@@ -1,8 +1,7 @@
 //! What a block scalar means (YAML 1.2.2, sections 8.1.1.2, 8.1.2 and 8.1.3).
-ghost use Rattle.std.{specs.Prelude.{◌≡◌, ◌<◌, ◌≤◌, ◌==◌, ◌&&◌, not, ◌++◌, ℤ, length, OnOk, IfOk}, specs.Str.IsCharBoundary};
-ghost use Rattle.std.specs.String.{string_bytes};
+ghost use Rattle.std.specs.Prelude.{◌≡◌, ◌==◌, ◌&&◌, not, ◌++◌, ℤ, length};
 ghost use Rattle.yq_core.{specs.Block.{IsBlockPiece, IsBlockScalar}, specs.Text.{front, is_white, text_lines}};
-ghost use Rattle.yq_core.specs.declared.block_types.LineBefore.TheVariants.{Nothing};
+ghost use Rattle.yq_core.{specs.declared.block_types.LineBefore.TheVariants.Nothing, specs.Strings.{AddsText, GivesText}};
 ghost use Rattle.yq_core.specs.BlockContent as spec;
 ghost use Rattle.yq_core.specs.BlockReading as reading;
 
@@ -46,8 +45,7 @@ fn push_joint(
     white: bool,
     empty: usize,
 ) -> Result<(), AllocError>
-    ensures { OnOk result (string_bytes out.new ≡ string_bytes out.old ++
-        spec.joint before white empty) }
+    ensures { AddsText result out.old out.new (spec.joint before white empty) }
 {
     match before {
         LineBefore::Nothing => push_breaks(out, empty),
@@ -72,8 +70,7 @@ fn push_ending(
     before: LineBefore,
     empty: usize,
 ) -> Result<(), AllocError>
-    ensures { OnOk result (string_bytes out.new ≡ string_bytes out.old ++
-        spec.chomped_end chomping before empty) }
+    ensures { AddsText result out.old out.new (spec.chomped_end chomping before empty) }
 {
     match (chomping, before) {
         (Chomping::Strip, _) | (Chomping::Clip, LineBefore::Nothing) => Ok(()),
@@ -88,8 +85,7 @@ fn push_ending(
 
 /// Adds a line's text, and perhaps an LF.
 fn push_line(out: &mut String, text: &str, broken: bool) -> Result<(), AllocError>
-    ensures { OnOk result (string_bytes out.new ≡ string_bytes out.old ++
-        (text.now ++ spec.optional_break broken)) }
+    ensures { AddsText result out.old out.new (text.now ++ spec.optional_break broken) }
 {
     out.push_str(text)?;
     if broken { out.push_str("\n") } else { Ok(()) }
@@ -109,8 +105,7 @@ fn push_literal(
     indent: TextIndent,
     raw: &str,
 ) -> Result<(), AllocError>
-    ensures { OnOk result (string_bytes out.new ≡ string_bytes out.old ++
-        spec.literal strip indent (text_lines raw.now)) }
+    ensures { AddsText result out.old out.new (spec.literal strip indent (text_lines raw.now)) }
 {
     let mut rest = raw;
     'each: while !rest.is_empty() {
@@ -139,8 +134,8 @@ fn push_folded(
     indent: TextIndent,
     raw: &str,
 ) -> Result<(), AllocError>
-    ensures { OnOk result (string_bytes out.new ≡ string_bytes out.old ++
-        spec.folded chomping indent Nothing 0 (text_lines raw.now)) }
+    ensures { AddsText result out.old out.new
+        (spec.folded chomping indent Nothing 0 (text_lines raw.now)) }
 {
     let mut before = LineBefore::Nothing;
     let mut empty = 0usize;
@@ -176,8 +171,8 @@ fn content_of(
     indent: TextIndent,
     raw: &str,
 ) -> Result<String, AllocError>
-    ensures { IfOk result (λ s. string_bytes s ≡ spec.block_lines_content style chomping indent
-        (text_lines raw.now)) }
+    ensures { GivesText result
+        (spec.block_lines_content style chomping indent (text_lines raw.now)) }
 {
     let mut out = String::with_capacity(alloc, raw.len())?;
     let added = match style {
@@ -222,10 +217,9 @@ fn indent_of(digit: Option<u8>, columns: usize, raw: &[u8]) -> TextIndent
 /// break as an LF or folded, the breaks at the end as its header asks.
 pub(crate) fn block_content(alloc: Global, text: &str, piece: &Piece) -> Result<String, AllocError>
     requires { IsBlockScalar text.now piece.now }
-    ensures exact { IfOk result (λ s. string_bytes s ≡
-        reading.block_piece_content text.now piece.now) }
+    ensures exact { GivesText result (reading.block_piece_content text.now piece.now) }
     ensures found { (n : ℤ) (p : IsBlockPiece n piece.now.start text.now piece.now) →
-        IfOk result (λ s. string_bytes s ≡ spec.block_content p.block) }
+        GivesText result (spec.block_content p.block) }
 {
     let (digit, chomping, _) = split_indicators(text.as_bytes().split_at(piece.start + 1).1);
     let raw = &text[piece.raw_start..piece.end];

@@ -1,6 +1,7 @@
 //! A gap that ends up after a block scalar.
-ghost use Rattle.std.{specs.Prelude.{◌≡◌, ◌++◌, [], OnOk, IfOk, if◌then◌else◌}, specs.String.string_bytes};
-ghost use Rattle.yq_core.specs.Text.{joined, text_lines};
+ghost use Rattle.std.specs.Prelude.{◌≡◌, [], if◌then◌else◌};
+ghost use Rattle.yq_core.specs.Strings.{AddsText, GivesText};
+ghost use Rattle.yq_scalar.specs.RepairedGaps.{repaired_gap};
 ghost use Rattle.yq_core.specs.BlockRepair as spec;
 
 use std::alloc::{AllocError, Global};
@@ -34,8 +35,8 @@ fn repaired_blank(indent: usize, line: &str) -> &str
 
 /// Adds a blank line, unless the scalar keeps empty lines.
 fn push_blank(out: &mut String, keep: bool, indent: usize, line: &str) -> Result<(), AllocError>
-    ensures { OnOk result (string_bytes out.new ≡ string_bytes out.old ++
-        (if keep then [] else spec.repaired_blank indent line.now)) }
+    ensures { AddsText result out.old out.new
+        (if keep then [] else spec.repaired_blank indent line.now) }
 {
     if keep {
         return Ok(());
@@ -50,8 +51,7 @@ fn push_comment(
     column: usize,
     line: &str,
 ) -> Result<(), AllocError>
-    ensures { OnOk result (string_bytes out.new ≡ string_bytes out.old ++
-        spec.repaired_comment indent column line.now) }
+    ensures { AddsText result out.old out.new (spec.repaired_comment indent column line.now) }
 {
     if is_outside(indent, line.as_bytes()) {
         return out.push_str(line);
@@ -68,8 +68,7 @@ fn push_gap(
     column: usize,
     gap: &str,
 ) -> Result<(), AllocError>
-    ensures { OnOk result (string_bytes out.new ≡ string_bytes out.old ++
-        joined (spec.repair keep indent column (text_lines gap.now))) }
+    ensures { AddsText result out.old out.new (repaired_gap keep indent column gap.now) }
 {
     let mut rest = gap;
     'each: while !rest.is_empty() {
@@ -90,8 +89,8 @@ fn push_gap(
 ///
 /// Memory is taken once.
 pub fn repair(alloc: Global, scalar: &Piece, column: usize, gap: &str) -> Result<String, AllocError>
-    ensures exact { IfOk result (λ s. string_bytes s ≡ joined
-        (spec.repair scalar.now.keep scalar.now.indent column (text_lines gap.now))) }
+    ensures exact { GivesText result
+        (repaired_gap scalar.now.keep scalar.now.indent column gap.now) }
 {
     let mut out = String::with_capacity(alloc, gap.len().saturating_add(column))?;
     match push_gap(&mut out, scalar.keep, scalar.indent, column, gap) {

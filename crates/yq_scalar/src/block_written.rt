@@ -1,6 +1,7 @@
 //! A text written as a literal block scalar.
-ghost use Rattle.std.{specs.Prelude.{◌≡◌, ◌++◌, ◌-◌, ◌^◌, length, min, OnOk, IfOk}, specs.String.string_bytes};
-ghost use Rattle.yq_core.specs.Text.{joined, text_lines};
+ghost use Rattle.std.{specs.Prelude.{◌≡◌, ◌-◌, ◌^◌, length, min, IfOk}, specs.String.string_bytes};
+ghost use Rattle.yq_core.{specs.Text.text_lines, specs.Strings.AddsText};
+ghost use Rattle.yq_scalar.specs.WrittenLines.{indented_line, indented_lines};
 ghost use Rattle.yq_core.specs.BlockWritten as spec;
 
 use std::alloc::{AllocError, Global};
@@ -19,8 +20,7 @@ pub fn break_text(br: Break) -> &'static str
 
 /// How long a line of that text is as it is written, in bytes.
 fn written_line_len(indent: usize, br: Break, text: &str) -> usize
-    ensures { result ≡ min (length (spec.indented_text indent text.now ++ spec.break_text br))
-        (2 ^ 64 - 1) }
+    ensures { result ≡ min (length (indented_line indent br text.now)) (2 ^ 64 - 1) }
 {
     if text.is_empty() {
         break_text(br).len()
@@ -33,8 +33,7 @@ fn written_line_len(indent: usize, br: Break, text: &str) -> usize
 
 /// How long the lines of a text are as they are written, in bytes, or 2^64 - 1 where they are longer.
 fn written_len(indent: usize, br: Break, text: &str) -> usize
-    ensures { result ≡ min (length (joined (spec.raw_written indent (spec.break_text br)
-        (text_lines text.now)))) (2 ^ 64 - 1) }
+    ensures { result ≡ min (length (indented_lines indent br text.now)) (2 ^ 64 - 1) }
 {
     let mut len = 0usize;
     let mut rest = text;
@@ -48,8 +47,7 @@ fn written_len(indent: usize, br: Break, text: &str) -> usize
 
 /// Adds a line of that text.
 fn push_written(out: &mut String, indent: usize, br: Break, text: &str) -> Result<(), AllocError>
-    ensures { OnOk result (string_bytes out.new ≡ string_bytes out.old ++
-        (spec.indented_text indent text.now ++ spec.break_text br)) }
+    ensures { AddsText result out.old out.new (indented_line indent br text.now) }
 {
     if !text.is_empty() {
         push_spaces(out, indent)?;
@@ -60,8 +58,7 @@ fn push_written(out: &mut String, indent: usize, br: Break, text: &str) -> Resul
 
 /// Adds the lines of a text.
 fn push_lines(out: &mut String, indent: usize, br: Break, text: &str) -> Result<(), AllocError>
-    ensures { OnOk result (string_bytes out.new ≡ string_bytes out.old ++
-        joined (spec.raw_written indent (spec.break_text br) (text_lines text.now))) }
+    ensures { AddsText result out.old out.new (indented_lines indent br text.now) }
 {
     let mut rest = text;
     'each: while !rest.is_empty() {
@@ -97,8 +94,7 @@ pub fn write_block(
 ) -> Result<(&'static str, String), AllocError>
     ensures header { IfOk result (λ r. r.0.now ≡ spec.header_text
         (spec.chomping_of (text_lines text.now))) }
-    ensures raw { IfOk result (λ r. string_bytes r.1 ≡ joined
-        (spec.raw_written indent (spec.break_text br) (text_lines text.now))) }
+    ensures raw { IfOk result (λ r. string_bytes r.1 ≡ indented_lines indent br text.now) }
 {
     let mut raw = String::with_capacity(alloc, written_len(indent, br, text))?;
     match push_lines(&mut raw, indent, br, text) {

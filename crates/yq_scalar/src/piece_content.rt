@@ -1,8 +1,8 @@
 //! What the scalar of a piece means.
-ghost use Rattle.std.specs.Prelude.{◌≡◌, IfOk, string_bytes, ℕ, ℤ};
+ghost use Rattle.std.specs.Prelude.{◌≡◌, ℕ, ℤ};
 ghost use Rattle.yq_core.{specs.Block.IsBlockPiece, specs.Piece.IsPlainPiece, specs.PlainContent.IsPlainLines};
 ghost use Rattle.yq_core.{specs.Quoted.{QuotedLines, quoted_lines_content as content_of}, specs.QuotedPiece.IsQuotedPiece};
-ghost use Rattle.yq_core.specs.declared.style.Place.{Place};
+ghost use Rattle.yq_core.{specs.declared.style.Place.Place, specs.Strings.GivesText};
 ghost use Rattle.yq_core.specs.BlockContent as block;
 ghost use Rattle.yq_core.specs.ScalarPiece as spec;
 
@@ -17,22 +17,21 @@ use yq_scalar_reader::{plain_content, quoted_content};
 /// Memory is taken once.
 pub fn content(alloc: Global, text: &str, piece: &Piece) -> Result<String, AllocError>
     requires { spec.IsReadPiece text.now piece.now }
-    ensures exact { IfOk result (λ s. string_bytes s ≡ spec.piece_content text.now piece.now) }
+    ensures exact { GivesText result (spec.piece_content text.now piece.now) }
     ensures plain { (place : Place) (n : ℤ) (at : ℕ)
         (h : IsPlainPiece place n at text.now piece.now) (ls : QuotedLines) →
-        IsPlainLines ls h.scalar →
-        IfOk result (λ s. string_bytes s ≡ content_of ls) }
+        IsPlainLines ls h.scalar → GivesText result (content_of ls) }
     ensures quoted { (at : ℕ) (h : IsQuotedPiece at text.now piece.now) →
-        IfOk result (λ s. string_bytes s ≡ content_of h.ls) }
+        GivesText result (content_of h.ls) }
     ensures block { (n : ℤ) (h : IsBlockPiece n piece.now.start text.now piece.now) →
-        IfOk result (λ s. string_bytes s ≡ block.block_content h.block) }
+        GivesText result (block.block_content h.block) }
 {
     content_at(alloc, text, piece)
 }
 
 fn content_at(alloc: Global, text: &str, piece: &Piece) -> Result<String, AllocError>
     requires { spec.IsReadPiece text.now piece.now }
-    ensures { IfOk result (λ s. string_bytes s ≡ spec.piece_content text.now piece.now) }
+    ensures { GivesText result (spec.piece_content text.now piece.now) }
 {
     match piece.style {
         Style::Plain => plain_content(alloc, piece_text(text, piece)),

@@ -1,18 +1,16 @@
 //! Laws of quoted scalars and of folded lines, each the contract of a function that does nothing.
-ghost use Rattle.std.{specs.List.list_all, specs.Prelude.{◌≡◌, ◌==◌, ◌++◌, List, Some, false, true, ℕ}, specs.Str.{IsUtf8, chars}};
+ghost use Rattle.std.{specs.List.list_all, specs.Prelude.{◌≡◌, ◌==◌, ◌++◌, List, false, true, ℕ}, specs.Str.{IsUtf8, chars}};
 ghost use Rattle.yq_core.{specs.Characters.is_text, specs.ContentReading.{plain_content, quoted_content}, specs.PlainContent.IsPlainLines};
 ghost use Rattle.yq_core.{specs.Quoted.{IsQuoted, QuotedLines, quoted_lines_content}, specs.QuotedReading.quoted_at};
 ghost use Rattle.yq_core.{specs.Plain.holds_break, specs.Text.front, specs.Writable.is_single_char, specs.Written.{double, single}};
+ghost use Rattle.yq_core.specs.OneReading.{HasOneReading, ReadsAgain, ReadsOnly};
+ghost use Rattle.yq_scalar.specs.QuotedTexts.{IsQuotedBefore};
 
 /// What is read as a quoted scalar is one, what is one is read, and a text begins with one at most.
 pub fn one_quoted()
-    ensures takes { (t : List ℕ) (x : List ℕ × List ℕ) → quoted_at t ≡ Some x →
-        (t ≡ x.0 ++ x.1) × ((quote : ℕ) × ((ls : QuotedLines) × IsQuoted quote ls x.0 x.1)) }
-    ensures again { (quote : ℕ) (ls : QuotedLines) (p rest : List ℕ) → IsQuoted quote ls p rest →
-        quoted_at (p ++ rest) ≡ Some (p, rest) }
-    ensures one { (quote other_quote : ℕ) (ls other_ls : QuotedLines) (p rest q other : List ℕ) →
-        p ++ rest ≡ q ++ other → IsQuoted quote ls p rest → IsQuoted other_quote other_ls q other →
-        (p ≡ q) × (rest ≡ other) }
+    ensures takes { ReadsOnly quoted_at (λ p rest. p ++ rest) IsQuotedBefore }
+    ensures again { ReadsAgain quoted_at (λ p rest. p ++ rest) IsQuotedBefore }
+    ensures one { HasOneReading (λ p rest. p ++ rest) IsQuotedBefore }
 {}
 
 /// What is read as the content of a quoted scalar is what its lines mean.

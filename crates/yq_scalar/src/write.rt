@@ -1,8 +1,7 @@
 //! Scalars as they are written in quotes.
-ghost use Rattle.std.specs.List.{flat_map};
-ghost use Rattle.std.specs.Prelude.{◌≡◌, ◌==◌, ◌++◌, ◌<◌, ◌∷◌, [], OnOk, IfOk, encode_utf8, if◌then◌else◌, string_bytes, true};
-ghost use Rattle.std.specs.Str.{chars};
-ghost use Rattle.yq_core.specs.Writable.{can_write};
+ghost use Rattle.std.specs.Prelude.{◌≡◌, ◌<◌, ◌∷◌, [], true};
+ghost use Rattle.yq_core.{specs.Writable.can_write, specs.Strings.{AddsText, GivesText}};
+ghost use Rattle.yq_scalar.specs.QuotedTexts.{char_in_quotes, text_in_quotes};
 ghost use Rattle.yq_core.specs.Written as spec;
 
 use std::alloc::{AllocError, Global};
@@ -34,7 +33,7 @@ fn letter_of(c: char) -> Option<char>
 /// Adds a hexadecimal digit.
 fn push_digit(out: &mut String, digit: u32) -> Result<(), AllocError>
     requires { digit < 16 }
-    ensures { OnOk result (string_bytes out.new ≡ string_bytes out.old ++ spec.upper digit ∷ []) }
+    ensures { AddsText result out.old out.new (spec.upper digit ∷ []) }
 {
     let first = if digit < 10 { b'0' } else { b'7' };
     out.push(char::from(first + digit as u8))
@@ -42,7 +41,7 @@ fn push_digit(out: &mut String, digit: u32) -> Result<(), AllocError>
 
 /// Adds a character by its number.
 fn push_code(out: &mut String, code: u32) -> Result<(), AllocError>
-    ensures { OnOk result (string_bytes out.new ≡ string_bytes out.old ++ spec.code_escape code) }
+    ensures { AddsText result out.old out.new (spec.code_escape code) }
 {
     if code < 256 {
         out.push_str("\\x")?;
@@ -58,7 +57,7 @@ fn push_code(out: &mut String, code: u32) -> Result<(), AllocError>
 
 /// Adds a character in double quotes.
 fn push_double(out: &mut String, c: char) -> Result<(), AllocError>
-    ensures { OnOk result (string_bytes out.new ≡ string_bytes out.old ++ spec.in_double c) }
+    ensures { AddsText result out.old out.new (spec.in_double c) }
 {
     match letter_of(c) {
         Some(letter) => {
@@ -77,8 +76,7 @@ fn push_double(out: &mut String, c: char) -> Result<(), AllocError>
 
 /// Adds a character in these quotes, double or single ones.
 fn push_quoted(out: &mut String, quote: char, c: char) -> Result<(), AllocError>
-    ensures { OnOk result (string_bytes out.new ≡ string_bytes out.old ++
-        (if quote == 34 then spec.in_double c else spec.in_single c)) }
+    ensures { AddsText result out.old out.new (char_in_quotes quote c) }
 {
     if quote == '"' {
         push_double(out, c)
@@ -91,9 +89,7 @@ fn push_quoted(out: &mut String, quote: char, c: char) -> Result<(), AllocError>
 
 /// A string in these quotes, double or single ones.
 fn write_quoted(alloc: Global, text: &str, quote: char) -> Result<String, AllocError>
-    ensures { IfOk result (λ s. string_bytes s ≡ encode_utf8 quote ++ (flat_map
-        (λ c. if quote == 34 then spec.in_double c else spec.in_single c) (chars text.now) ++
-        encode_utf8 quote)) }
+    ensures { GivesText result (text_in_quotes quote text.now) }
 {
     let mut out = String::new(alloc);
     out.push(quote)?;
@@ -113,7 +109,7 @@ pub fn write_scalar(
 ) -> Result<String, AllocError>
     requires can { can_write scalar.now style place ≡ true }
     requires inline { spec.IsOneLine style }
-    ensures { IfOk result (λ s. string_bytes s ≡ spec.written_scalar style scalar.now.text) }
+    ensures { GivesText result (spec.written_scalar style scalar.now.text) }
 {
     match style {
         Style::Single => write_quoted(alloc, scalar.text(), '\''),

@@ -1,8 +1,8 @@
 //! What plain and quoted scalars mean (YAML 1.2.2, sections 5.7, 6.5 and 7.3).
-ghost use Rattle.std.{specs.List.prefix_len, specs.Prelude.{◌≡◌, ◌==◌, ◌++◌, ◌<◌, ◌≤◌, ℕ, List, length, OnOk, IfOk, string_bytes}};
+ghost use Rattle.std.{specs.List.prefix_len, specs.Prelude.{◌≡◌, ◌==◌, ◌++◌, ◌<◌, ◌≤◌, ℕ, List, length, IfOk, string_bytes}};
 ghost use Rattle.yq_scalar_reader.specs.Folded.{folded_text};
 ghost use Rattle.yq_core.{specs.PlainContent.IsPlainLines, specs.Quoted.{QuotedLines, IsQuoted, IsQuotedText, quoted_lines_content}};
-ghost use Rattle.yq_core.{specs.Runs.run_goes_on, specs.declared.runs.Run.TheVariants.Quoted};
+ghost use Rattle.yq_core.{specs.Runs.run_goes_on, specs.declared.runs.Run.TheVariants.Quoted, specs.Strings.{AddsText, GivesText}};
 ghost use Rattle.yq_core.specs.ContentReading as spec;
 
 use crate::folded::{Folded, fold_gap, fold_item, inside, split_space};
@@ -12,7 +12,7 @@ use yq_core::{Run, run_len};
 
 /// Adds what bytes mean.
 fn push_folded(out: &mut String, folded: Folded<'_>) -> Result<(), AllocError>
-    ensures { OnOk result (string_bytes out.new ≡ string_bytes out.old ++ folded_text folded.entry) }
+    ensures { AddsText result out.old out.new (folded_text folded.entry) }
 {
     match folded {
         Folded::Text(text) => out.push_str(text),
@@ -62,7 +62,7 @@ fn means_itself(quote: u8, text: &[u8]) -> bool
 
 /// The content of what is in these quotes, or in none.
 fn fold(alloc: Global, quote: u8, text: &str) -> Result<String, AllocError>
-    ensures { IfOk result (λ s. string_bytes s ≡ spec.quoted_text quote text.now) }
+    ensures { GivesText result (spec.quoted_text quote text.now) }
 {
     if means_itself(quote, text.as_bytes()) {
         return Ok(String::from_str(alloc, text)?);
@@ -80,9 +80,9 @@ fn fold(alloc: Global, quote: u8, text: &str) -> Result<String, AllocError>
 
 /// What a plain scalar of that text means: its lines, folded.
 pub fn plain_content(alloc: Global, text: &str) -> Result<String, AllocError>
-    ensures exact { IfOk result (λ s. string_bytes s ≡ spec.plain_content text.now) }
+    ensures exact { GivesText result (spec.plain_content text.now) }
     ensures found { (ls : QuotedLines) → IsPlainLines ls text.now →
-        IfOk result (λ s. string_bytes s ≡ quoted_lines_content ls) }
+        GivesText result (quoted_lines_content ls) }
 {
     fold(alloc, 0, text)
 }
@@ -90,10 +90,9 @@ pub fn plain_content(alloc: Global, text: &str) -> Result<String, AllocError>
 /// What a quoted scalar, given with its quotes, means: its escapes and lines, folded.
 pub fn quoted_content(alloc: Global, piece: &str) -> Result<String, AllocError>
     requires { IsQuotedText piece.now }
-    ensures exact { IfOk result (λ s. string_bytes s ≡ spec.quoted_content piece.now) }
+    ensures exact { GivesText result (spec.quoted_content piece.now) }
     ensures found { (quote : ℕ) (ls : QuotedLines) (rest : List ℕ) →
-        IsQuoted quote ls piece.now rest →
-        IfOk result (λ s. string_bytes s ≡ quoted_lines_content ls) }
+        IsQuoted quote ls piece.now rest → GivesText result (quoted_lines_content ls) }
 {
     let (quote, inner) = inside(piece);
     fold(alloc, quote, inner)

@@ -1,7 +1,7 @@
 //! Lines of a text: where it may be cut between two, how many there are, and how they are printed.
-ghost use Rattle.yq_history.{specs.Adding.AddsText, specs.Hunks.EndsInFeed, specs.DiffPrinting.marked_lines, specs.Unified.marked_line};
+ghost use Rattle.yq_core.{specs.Strings.AddsText, specs.Text.text_lines};
+ghost use Rattle.yq_history.{specs.Hunks.EndsInFeed, specs.DiffPrinting.marked_lines, specs.Unified.marked_line};
 ghost use Rattle.std.specs.Prelude.{◌≡◌, ◌++◌, [], IfOk, true, IfSome, length};
-ghost use Rattle.yq_core.specs.Text.{text_lines};
 
 use std::alloc::AllocError;
 use yq_core::{is_line, split_line};

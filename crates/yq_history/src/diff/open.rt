@@ -1,5 +1,5 @@
 //! Hunks, printed part by part.
-ghost use Rattle.yq_history.specs.Adding.{AddsText};
+ghost use Rattle.yq_core.specs.Strings.{AddsText};
 ghost use Rattle.yq_history.specs.DiffPrinting.{ranges_line, open_after, open_of, opened, print_closed, print_ended, print_parts};
 ghost use Rattle.yq_history.{specs.DiffParts.{new_part, old_part, new_parts, old_parts}, specs.Unified.print_range};
 ghost use Rattle.std.specs.Prelude.{◌≡◌, ◌+◌, ◌-◌, ◌<◌, ◌≤◌, ◌^◌, OnOk, length};

@@ -8,4 +8,4 @@ pub returns-clause-again : goal.returns-clause-again
 returns-clause-again c = plain_again
 
 pub returns-clause-one : goal.returns-clause-one
-returns-clause-one c = plain_one
+returns-clause-one c flow spaces p q rest other = plain_one flow spaces p rest q other
