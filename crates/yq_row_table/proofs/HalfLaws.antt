@@ -105,7 +105,7 @@ rows-append [] ys = refl
 rows-append (row_item r ∷ xs) ys = ap (λ l. slices r ∷ l) (rows-append xs ys)
 rows-append (end_item gap marker ∷ xs) ys = rows-append xs ys
 
-pub half_ends : (text : Halves) (p : Places) → (h : HavePlaces text p) → HalfEnds text p.ends.items (bounds_in_items 0 (h.before ++ h.behind))
+pub half_ends : (text : Halves) (p : Places) → (h : HavePlaces text p) → HalfEnds text p.ends (bounds_in_items 0 (h.before ++ h.behind))
 half_ends text p h =
     let texts = texts_parts h.before h.behind h.placed.texts in
     let back_text : IsUtf8 text.back.now = subst IsUtf8 (sym h.back_is) (items_texts h.behind [] texts.1 IsUtf8-nil) in
@@ -139,5 +139,5 @@ have_view text p h =
     let rows : rows_in text.front.now p.front.items ++ map (slices_behind back) (reverse p.behind.items) ≡ rows_in_items (h.before ++ h.behind) =
     ap (λ (l : List Slices). l ++ map (slices_behind back) (reverse p.behind.items)) (front_rows text p h).0
     ∙ (ap (λ (l : List Slices). rows_in_items h.before ++ l) (turned_rows back (reverse p.behind.items) ∙ (back_rows text p h).0) ∙ sym (rows-append h.before h.behind)) in
-    ap (λ (l : List Slices). record { rows = l; bounds = bounds_in_halves text p.ends.items }) rows
+    ap (λ (l : List Slices). record { rows = l; bounds = bounds_in_halves text p.ends }) rows
     ∙ ap (λ (l : List Bound). record { rows = rows_in_items (h.before ++ h.behind); bounds = l }) (half_ends text p h).0

@@ -1,9 +1,9 @@
 -- Rows and ends of parts by their index, where they are kept and in the halves of their text.
 use Rattle.std.proofs.Common.{◌≡◌, ℕ, zero, suc, ⊎_elim, ◌+◌, ◌-◌, ◌<◌, ◌≤◌, ◌^◌, List, [], ◌∷◌, ◌++◌, length, map, reverse, Some}
-use Rattle.std.proofs.Common.{slice_get, refl, sym, ap, ◌∙◌, subst, arith, drop, get_or, length-append}
+use Rattle.std.proofs.Common.{slice_get, refl, sym, ap, ◌∙◌, subst, arith, drop, length-append}
 use Rattle.std.{proofs.lemmas.Bool.{cases_lt, le-ltb, lt-ltb}, proofs.lemmas.List.{length-map, map-id}}
 use Rattle.std.proofs.lemmas.List.Elements.{All-cons, All-get_or, All-nil}
-use Rattle.std.{proofs.lemmas.Option.{get_or_from_slice_get, same_Some, slice_get-map, slice_get_read, slice_get_within}, specs.List.All}
+use Rattle.std.{proofs.lemmas.Option.{get_or_from_slice_get, same_Some, slice_get-map, slice_get_within}, specs.List.All}
 use Rattle.std.{specs.Option.option_map, specs.Str.IsCharBoundary}
 use Rattle.yq_text.{specs.Halves.whole, specs.declared.halves.Halves.Halves}
 use Rattle.yq_row_table.{specs.Ends.{EndStands, bound_at, bound_in_half}, specs.Items.{Item, row_item, end_item, items_text}}
@@ -107,12 +107,15 @@ pub row_back : (text : Halves) (p : Places) (i : ℕ) (o : declared.Offsets) →
 row_back text p i o kept more = at_back (slices_in text.front.now) (slices_behind text.back.now) p.front.items (reverse p.behind.items) i o kept more
 
 -- the end of a part at an index
-pub end_at_index : (text : Halves) (p : Places) (i : ℕ) (e : EndPlace) → HavePlaces text p → i < length (halves_view text p).bounds → e ≡ get_or p.ends.items i e → InHalf text e × (slice_get (halves_view text p).bounds i ≡ Some (bound_in_half text e))
-end_at_index text p i e h within is =
-    let less : i < length p.ends.items = omega (arith, within, length-map p.ends.items (bound_in_half text)) in (
-      subst (InHalf text) (sym is) (All-get_or (InHalf text) p.ends.items i e less (half_ends text p h).1),
-      slice_get-map (bound_in_half text) p.ends.items i ∙ ap (option_map (bound_in_half text)) (slice_get_read p.ends.items (length p.ends.items) i e refl less is),
-    )
+pub end_at_index : (text : Halves) (p : Places) (i : ℕ) (e : EndPlace) → HavePlaces text p → slice_get p.ends i ≡ Some e → InHalf text e × (slice_get (halves_view text p).bounds i ≡ Some (bound_in_half text e))
+end_at_index text p i e h at = (
+  subst (InHalf text) (get_or_from_slice_get p.ends i e e at) (All-get_or (InHalf text) p.ends i e (slice_get_within p.ends i e at) (half_ends text p h).1),
+  slice_get-map (bound_in_half text) p.ends i ∙ ap (option_map (bound_in_half text)) at,
+)
+
+-- such an end is among those that are kept
+pub end_within : (text : Halves) (p : Places) (i : ℕ) (v : RowsView) → halves_view text p ≡ v → i < length v.bounds → i < length p.ends
+end_within text p i v is less = omega (arith, less, ap (λ (w : RowsView). length w.bounds) is, length-map p.ends (bound_in_half text))
 
 pub end_cuts : (t : List ℕ) (e : EndPlace) → EndStands t e → IsCharBoundary t e.start × AreCuts (drop e.start t) (e.gap ∷ e.marker ∷ [])
 unfolding EndStands

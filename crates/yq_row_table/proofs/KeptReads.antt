@@ -21,12 +21,12 @@ pub kept_within : (text : Halves) (p : Places) (i : ℕ) (v : RowsView) → halv
 kept_within text p i v is less = subst (λ (n : ℕ). i < n) (sym (rows_kept text p v is)) less
 
 -- an element of one list before another, or after it
-first_at : {A : Type 0} (xs ys : List A) (i : ℕ) (a : A) → i < length xs → a ≡ get_or xs i a → slice_get (xs ++ ys) i ≡ Some a
+pub first_at : {A : Type 0} (xs ys : List A) (i : ℕ) (a : A) → i < length xs → a ≡ get_or xs i a → slice_get (xs ++ ys) i ≡ Some a
 first_at [] ys i a less is = absurd (omega (arith, less))
 first_at (x ∷ xs) ys zero a less is = ap Some (sym is)
 first_at (x ∷ xs) ys (suc i) a less is = first_at xs ys i a (omega (arith, less)) is
 
-second_at : {A : Type 0} (xs ys : List A) (i j : ℕ) (a : A) → i ≡ length xs + j → slice_get ys j ≡ Some a → slice_get (xs ++ ys) i ≡ Some a
+pub second_at : {A : Type 0} (xs ys : List A) (i j : ℕ) (a : A) → i ≡ length xs + j → slice_get ys j ≡ Some a → slice_get (xs ++ ys) i ≡ Some a
 second_at [] ys i j a e at = let same : j ≡ i = omega (arith, e) in subst (λ (k : ℕ). slice_get ys k ≡ Some a) same at
 second_at (x ∷ xs) ys zero j a e at = absurd (omega (arith, e))
 second_at (x ∷ xs) ys (suc i) j a e at = second_at xs ys i j a (omega (arith, e)) at

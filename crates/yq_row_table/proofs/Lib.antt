@@ -36,6 +36,7 @@ pub mod KeyLines
 pub mod ParentLaws
 pub mod PartSlicing
 pub mod RestSlicing
+pub mod PartEndsLaws
 pub mod Failing
 pub mod PlainEnds
 pub mod NothingLaws

@@ -167,21 +167,21 @@ split_boundary t c p cut h =
 
 -- Rows and ends of parts as they are kept where a text was read; all are in front of the split.
 pub record Scanned (t : List ℕ) (text : Halves) (p : Places) : Type 0 where
-  pub read : AreRead t p.front.items p.ends.items (record { rows = rows_in t p.front.items; bounds = bounds_in t p.ends.items })
+  pub read : AreRead t p.front.items p.ends (record { rows = rows_in t p.front.items; bounds = bounds_in t p.ends })
   pub front_is : text.front.now ≡ t
   pub back_is : text.back.now ≡ []
   pub none_behind : p.behind.items ≡ []
   pub split_is : p.split ≡ length t
   pub characters : IsUtf8 t
   pub rows_stand : Stand t p.front.items
-  pub ends_stand : EndsStand t p.ends.items
+  pub ends_stand : EndsStand t p.ends
   pub small : length t < 2 ^ 32
 
 pub scanned_places : (t : List ℕ) (text : Halves) (p : Places) → Scanned t text p → HavePlaces text p
 scanned_places t text p h =
     let items = h.read.items in
     let all : items ++ [] ≡ items = append-nil items in
-    let texts = texts_stand t p.front.items p.ends.items items h.characters h.rows_stand h.ends_stand (ap (λ (s : RowsView). s.rows) h.read.rows_view_is) (ap (λ (s : RowsView). s.bounds) h.read.rows_view_is) in
+    let texts = texts_stand t p.front.items p.ends items h.characters h.rows_stand h.ends_stand (ap (λ (s : RowsView). s.rows) h.read.rows_view_is) (ap (λ (s : RowsView). s.bounds) h.read.rows_view_is) in
     record {
       before = items;
       behind = [];
@@ -197,6 +197,6 @@ scanned_places t text p h =
       back_is = h.back_is;
     }
 
-pub scanned_view : (t : List ℕ) (text : Halves) (p : Places) → Scanned t text p → halves_view text p ≡ record { rows = rows_in t p.front.items; bounds = bounds_in t p.ends.items }
+pub scanned_view : (t : List ℕ) (text : Halves) (p : Places) → Scanned t text p → halves_view text p ≡ record { rows = rows_in t p.front.items; bounds = bounds_in t p.ends }
 unfolding scanned_places
 scanned_view t text p h = have_view text p (scanned_places t text p h) ∙ (ap view_of_items (append-nil h.read.items) ∙ sym h.read.rows_view_is)

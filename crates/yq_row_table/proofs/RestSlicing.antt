@@ -1,8 +1,7 @@
 -- The ends of parts directly before a row.
-use Rattle.std.proofs.Common.{◌≡◌, ℕ, zero, suc, ◌+◌, ◌-◌, ◌<◌, ◌≤◌, true, false, leb, ltb, List, [], ◌∷◌, ◌++◌, length, take, drop}
-use Rattle.std.proofs.Common.{slice_index_or, sym, refl, ap, ◌∙◌, arith, leb-true, leb-false, ltb-true, ltb-false, eq-eqb, ne_eqb}
-use Rattle.std.{specs.List.AllWithin, specs.List.Sorted.{IsNonDecreasingBy, IsPartitionPoint}}
-use Rattle.std.proofs.lemmas.List.{get_or-drop, length-map, length-drop, take-map, drop-map}
+use Rattle.std.proofs.Common.{◌≡◌, ⊎_elim, ℕ, zero, suc, ◌+◌, ◌-◌, ◌<◌, ◌≤◌, List, [], ◌∷◌, ◌++◌, length, take, drop, slice_index_or, sym}
+use Rattle.std.{proofs.Common.{refl, ap, ◌∙◌, subst, arith, eq-eqb, ne_eqb}, proofs.lemmas.Bool.cases_lt, specs.List.AllWithin}
+use Rattle.std.{specs.List.Sorted.IsNonDecreasingBy, proofs.lemmas.List.{get_or-drop, length-drop, take-map, drop-map}}
 use Rattle.yq_text.specs.declared.halves.Halves.{Halves}
 use Rattle.yq_row_table.{specs.Ends.{bound_in_half, bounds_in_halves}, specs.Items.{Item, row_item, end_item}, specs.Kept.ends_near}
 use Rattle.yq_row_table.{specs.Rows.print_row, specs.View.bounds_at}
@@ -23,45 +22,72 @@ ends_rise (end_item gap marker ∷ xs) n k (suc i) zero d le lt = absurd (omega 
 ends_rise (end_item gap marker ∷ xs) n k zero (suc j) d le lt = ends_above xs (n + length (gap ++ marker)) k j d (omega arith)
 ends_rise (end_item gap marker ∷ xs) n k (suc i) (suc j) d le lt = ends_rise xs (n + length (gap ++ marker)) k i j d (omega arith) (omega arith)
 
+starts_above : (xs : List Item) (n k j : ℕ) (d : ends.EndPlace) → j < length (ends_near n k xs) → n ≤ (slice_index_or (ends_near n k xs) j d).start
+starts_above [] n k j d lt = absurd (omega arith)
+starts_above (row_item r ∷ xs) n k j d lt = let above = starts_above xs (n + length (print_row r [])) (k + 1) j d lt in omega arith
+starts_above (end_item gap marker ∷ xs) n k zero d lt = omega arith
+starts_above (end_item gap marker ∷ xs) n k (suc j) d lt = let above = starts_above xs (n + length (gap ++ marker)) k j d (omega arith) in omega arith
+
+-- nor do their beginnings
+pub starts_rise : (xs : List Item) (n k : ℕ) → IsNonDecreasingBy (λ e. e.start) (ends_near n k xs)
+starts_rise [] n k i j d le lt = absurd (omega arith)
+starts_rise (row_item r ∷ xs) n k i j d le lt = starts_rise xs (n + length (print_row r [])) (k + 1) i j d le lt
+starts_rise (end_item gap marker ∷ xs) n k zero zero d le lt = omega arith
+starts_rise (end_item gap marker ∷ xs) n k (suc i) zero d le lt = absurd (omega arith)
+starts_rise (end_item gap marker ∷ xs) n k zero (suc j) d le lt = let above = starts_above xs (n + length (gap ++ marker)) k j d (omega arith) in omega arith
+starts_rise (end_item gap marker ∷ xs) n k (suc i) (suc j) d le lt = starts_rise xs (n + length (gap ++ marker)) k i j d (omega arith) (omega arith)
+
 -- the ends that come before row i are skipped, and those at row i are taken
-pub skipped : (t : Halves) (i n : ℕ) (bounds : List ends.EndPlace) → n ≤ length bounds → AllWithin (λ b. ltb b.rows i ≡ true) bounds 0 n → bounds_at i (bounds_in_halves t bounds) ≡ bounds_at i (bounds_in_halves t (drop n bounds))
+skipped : (t : Halves) (i n : ℕ) (bounds : List ends.EndPlace) → n ≤ length bounds → AllWithin (λ b. b.rows < i) bounds 0 n → bounds_at i (bounds_in_halves t bounds) ≡ bounds_at i (bounds_in_halves t (drop n bounds))
 skipped t i zero bounds le h = refl
 skipped t i (suc n) [] le h = absurd (omega arith)
 skipped t i (suc n) (b ∷ bounds) le h =
-    let less = ltb-true _ _ (h 0 b (omega arith) (omega arith)) in
+    let less : b.rows < i = h 0 b (omega arith) (omega arith) in
     rw (ne_eqb i b.rows (λ e. absurd (omega arith))) (skipped t i n bounds (omega arith) (λ k d low lt. h (suc k) d (omega arith) (omega arith)))
 
-none_left : (t : Halves) (i : ℕ) (bounds : List ends.EndPlace) → AllWithin (λ b. leb b.rows i ≡ false) bounds 0 (length bounds) → bounds_at i (bounds_in_halves t bounds) ≡ []
+none_left : (t : Halves) (i : ℕ) (bounds : List ends.EndPlace) → AllWithin (λ b. i < b.rows) bounds 0 (length bounds) → bounds_at i (bounds_in_halves t bounds) ≡ []
 none_left t i [] h = refl
 none_left t i (b ∷ bounds) h =
-    let more = leb-false _ _ (h 0 b (omega arith) (omega arith)) in
+    let more : i < b.rows = h 0 b (omega arith) (omega arith) in
     rw (ne_eqb i b.rows (λ e. absurd (omega arith))) (none_left t i bounds (λ k d low lt. h (suc k) d (omega arith) (omega arith)))
 
-taken : (t : Halves) (i n : ℕ) (bounds : List ends.EndPlace) → n ≤ length bounds → AllWithin (λ b. ltb b.rows i ≡ false) bounds 0 (length bounds) → AllWithin (λ b. leb b.rows i ≡ true) bounds 0 n → AllWithin (λ b. leb b.rows i ≡ false) bounds n (length bounds) →
+taken : (t : Halves) (i n : ℕ) (bounds : List ends.EndPlace) → n ≤ length bounds → AllWithin (λ b. i ≤ b.rows) bounds 0 (length bounds) → AllWithin (λ b. b.rows ≤ i) bounds 0 n → AllWithin (λ b. i < b.rows) bounds n (length bounds) →
     bounds_in_halves t (take n bounds) ≡ bounds_at i (bounds_in_halves t bounds)
 taken t i zero bounds le from here after = sym (none_left t i bounds after)
 taken t i (suc n) [] le from here after = absurd (omega arith)
 taken t i (suc n) (b ∷ bounds) le from here after =
-    let low = ltb-false _ _ (from 0 b (omega arith) (omega arith)) in
-    let high = leb-true _ _ (here 0 b (omega arith) (omega arith)) in
+    let low : i ≤ b.rows = from 0 b (omega arith) (omega arith) in
+    let high : b.rows ≤ i = here 0 b (omega arith) (omega arith) in
     rw (eq-eqb i b.rows (omega arith))
     (ap (λ l. bound_in_half t b ∷ l) (taken t i n bounds (omega arith) (λ k d w lt. from (suc k) d (omega arith) (omega arith)) (λ k d w lt. here (suc k) d (omega arith) (omega arith)) (λ k d w lt. after (suc k) d (omega arith) (omega arith))))
 
--- what binary search finds: where the ends at row i begin, and how many they are
-pub rest_sliced : (t : Halves) (i from count : ℕ) (bounds ahead : List ends.EndPlace) → ahead ≡ drop from bounds → from ≤ length bounds → count ≤ length ahead → IsPartitionPoint (λ b. ltb b.rows i ≡ true) (λ b. ltb b.rows i ≡ false) bounds from →
-    IsPartitionPoint (λ b. leb b.rows i ≡ true) (λ b. leb b.rows i ≡ false) ahead count → bounds_in_halves t (take count ahead) ≡ bounds_at i (bounds_in_halves t bounds)
-rest_sliced t i from count bounds ahead e le within first second =
-    let behind : AllWithin (λ b. ltb b.rows i ≡ false) ahead 0 (length ahead) =
-    rw e (λ k d low lt. ap (λ b. ltb b.rows i) (get_or-drop from bounds k d) ∙ first.1 (from + k) d (omega arith) (omega (arith, lt, length-drop from bounds))) in
-    taken t i count ahead within behind second.0 second.1
-    ∙ (ap (λ l. bounds_at i (bounds_in_halves t l)) e ∙ sym (skipped t i from bounds le first.0))
+-- What binary search finds of ends of which none has fewer rows in front of it than the one before it: those at row i.
+pub record AtRow (i from to : ℕ) (own : List ends.EndPlace) : Type 0 where
+  pub within : to ≤ length own
+  pub before : AllWithin (λ b. b.rows < i) own 0 from
+  pub reached : AllWithin (λ b. i ≤ b.rows) own from (length own)
+  pub here : AllWithin (λ b. b.rows ≤ i) own 0 to
+  pub passed : AllWithin (λ b. i < b.rows) own to (length own)
 
--- the same of the ends as they are borrowed, from one part on, up to another one
-pub rest_range : (t : Halves) (i from count : ℕ) (own ahead : List ends.EndPlace) → ahead ≡ drop from own → bounds_in_halves t (take count ahead) ≡ bounds_at i (bounds_in_halves t own) → take ((from + count) - from) (drop from (bounds_in_halves t own)) ≡ bounds_at i (bounds_in_halves t own)
-rest_range t i from count own ahead e sliced =
-    let size : (from + count) - from ≡ count = omega arith in
-    ap (λ (n : ℕ). take n (drop from (bounds_in_halves t own))) size
-    ∙ (ap (take count) (drop-map (bound_in_half t) from own) ∙ (take-map (bound_in_half t) count (drop from own) ∙ (ap (λ (l : List ends.EndPlace). bounds_in_halves t (take count l)) (sym e) ∙ sliced)))
+pub in_order : (i from to : ℕ) (own : List ends.EndPlace) → from ≤ length own → AtRow i from to own → from ≤ to
+in_order i from to own within h = ⊎_elim {0, 0, 0}
+    (λ (less : to < from).
+    let d : ends.EndPlace = record { rows = 0; start = 0; gap = 0; marker = 0 } in
+    absurd (omega (arith, h.before to d (omega arith) less, h.passed to d (omega arith) (omega (arith, less, within)))))
+    (λ (more : from ≤ to). more)
+    (cases_lt to from)
 
-pub range_within : (t : Halves) (from count : ℕ) (own ahead : List ends.EndPlace) → ahead ≡ drop from own → from ≤ length own → count ≤ length ahead → from + count ≤ length (bounds_in_halves t own)
-range_within t from count own ahead e le within = omega (arith, le, within, ap length e, length-drop from own, length-map own (bound_in_half t))
+pub rest_sliced : (t : Halves) (i from to : ℕ) (own : List ends.EndPlace) → from ≤ to → AtRow i from to own → take (to - from) (drop from (bounds_in_halves t own)) ≡ bounds_at i (bounds_in_halves t own)
+rest_sliced t i from to own order h =
+    let ahead = drop from own in
+    let count = to - from in
+    let long = length-drop from own in
+    let behind : AllWithin (λ b. i ≤ b.rows) ahead 0 (length ahead) =
+    λ k d low lt. subst (λ (b : ends.EndPlace). i ≤ b.rows) (sym (get_or-drop from own k d)) (h.reached (from + k) d (omega arith) (omega (arith, lt, long))) in
+    let here : AllWithin (λ b. b.rows ≤ i) ahead 0 count =
+    λ k d low lt. subst (λ (b : ends.EndPlace). b.rows ≤ i) (sym (get_or-drop from own k d)) (h.here (from + k) d (omega arith) (omega (arith, lt, order))) in
+    let passed : AllWithin (λ b. i < b.rows) ahead count (length ahead) =
+    λ k d low lt. subst (λ (b : ends.EndPlace). i < b.rows) (sym (get_or-drop from own k d)) (h.passed (from + k) d (omega (arith, low, order)) (omega (arith, lt, long))) in
+    ap (take count) (drop-map (bound_in_half t) from own)
+    ∙ (take-map (bound_in_half t) count ahead
+    ∙ (taken t i count ahead (omega (arith, long, h.within)) behind here passed ∙ sym (skipped t i from own (omega (arith, order, h.within)) h.before)))

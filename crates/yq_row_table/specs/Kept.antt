@@ -70,7 +70,7 @@ pub record ArePlaced (p : Places) (before behind : List Item) : Type 0 where
   pub split_is : p.split ≡ length (items_text before [])
   pub front_are : p.front.items ≡ near 0 before
   pub behind_are : reverse p.behind.items ≡ far behind
-  pub ends_are : p.ends.items ≡ ends_near 0 0 (before ++ behind)
+  pub ends_are : p.ends ≡ ends_near 0 0 (before ++ behind)
   pub texts : TextsIn (before ++ behind)
   pub small : length (items_text (before ++ behind) []) < 2 ^ 32
 
@@ -97,5 +97,5 @@ slices_behind back o = pieces_of (drop (length back - o.start) back) o
 abbrev pub halves_view : Halves → Places → RowsView
 halves_view text p = record {
   rows = rows_in text.front.now p.front.items ++ map (slices_behind text.back.now) (reverse p.behind.items);
-  bounds = bounds_in_halves text p.ends.items;
+  bounds = bounds_in_halves text p.ends;
 }

@@ -25,5 +25,6 @@ pub mod View
 pub mod Slicing
 pub mod Offsets
 pub mod Ends
+pub mod PartEnds
 pub mod Kept
 pub mod Touched

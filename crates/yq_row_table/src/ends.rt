@@ -1,6 +1,7 @@
 //! Where the parts of a text end in it.
 ghost use Rattle.std.specs.Prelude.{◌≡◌, ◌∷◌, ◌<◌, ◌+◌, ◌-◌, ◌^◌, ◌++◌, [], length};
 ghost use Rattle.yq_row_table.{specs.Kept.moved_end, specs.Offsets.{AreCuts, Ends}, specs.View.bound_view};
+ghost use Rattle.yq_row_table.specs.PartEnds.{both_shifts, measure_of, shift_between, shifted};
 ghost use Rattle.yq_row_table.specs.Ends as spec;
 
 /// The end of a part: the rows between two markers or the ends of the text.
@@ -24,6 +25,45 @@ pub struct EndPlace {
     pub start: u32,
     pub gap: u32,
     pub marker: u32,
+}
+
+/// What the ends of parts are in the order of.
+#[derive(Clone, Copy)]
+pub enum Measure {
+    Rows,
+    Bytes,
+}
+
+/// How many rows and bytes more come before the end of a part, each number counted from 0 on again after
+/// the largest one: so fewer may come too.
+#[derive(Clone, Copy)]
+pub struct Shift {
+    pub rows: usize,
+    pub bytes: u32,
+}
+
+impl Shift {
+    /// From after so many rows and bytes to after so many others.
+    pub fn between(rows: usize, bytes: usize, new_rows: usize, new_bytes: usize) -> Shift
+        requires from { bytes < 2 ^ 32 }
+        requires to { new_bytes < 2 ^ 32 }
+        ensures { result ≡ shift_between rows bytes new_rows new_bytes }
+    {
+        Shift {
+            rows: new_rows.wrapping_sub(rows),
+            bytes: (new_bytes as u32).wrapping_sub(bytes as u32),
+        }
+    }
+
+    /// This one, and another one after it.
+    pub(crate) fn then(self, other: Shift) -> Shift
+        ensures { result ≡ both_shifts self other }
+    {
+        Shift {
+            rows: self.rows.wrapping_add(other.rows),
+            bytes: self.bytes.wrapping_add(other.bytes),
+        }
+    }
 }
 
 impl EndPlace {
@@ -57,6 +97,27 @@ impl EndPlace {
             rows,
             start: start as u32,
             ..self
+        }
+    }
+
+    /// The same end where so many rows and bytes more come before it.
+    pub(crate) fn shifted(self, by: Shift) -> EndPlace
+        ensures { result ≡ shifted by self }
+    {
+        EndPlace {
+            rows: self.rows.wrapping_add(by.rows),
+            start: self.start.wrapping_add(by.bytes),
+            ..self
+        }
+    }
+
+    /// How many rows or bytes come before it.
+    pub(crate) fn measure(self, by: Measure) -> usize
+        ensures { result ≡ measure_of by self }
+    {
+        match by {
+            Measure::Rows => self.rows,
+            Measure::Bytes => self.start(),
         }
     }
 

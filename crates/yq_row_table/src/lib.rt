@@ -5,14 +5,16 @@ mod block;
 mod bounds;
 mod ends;
 mod offsets;
+mod part_ends;
 mod places;
 mod row;
 mod row_pieces;
 mod rows;
 
 pub use bounds::{KEY_LIMIT, before_column};
-pub use ends::{Bound, EndPlace, end_of};
+pub use ends::{Bound, EndPlace, Measure, Shift, end_of};
 pub use offsets::Offsets;
+pub use part_ends::PartEnds;
 pub use places::Places;
 pub use row::Row;
 pub use rows::{Rows, begins_document};

@@ -4,8 +4,8 @@ ghost use Rattle.yq_text.specs.Halves.{whole};
 ghost use Rattle.yq_row_table.{specs.Grammar.IsCut, specs.Items.view_of_items, specs.Kept.{IsPlaced, kept_rows, placed_rows}};
 ghost use Rattle.yq_row_table.{specs.Rows.Cut, specs.View.rows_view};
 
-use crate::ends::EndPlace;
 use crate::offsets::Offsets;
+use crate::part_ends::PartEnds;
 use crate::rows::Rows;
 use std::alloc::Global;
 use yq_text::Halves;
@@ -13,15 +13,15 @@ use yq_text::Halves;
 /// Where the rows of a text and the ends of its parts are, on both sides of a split of the text, which
 /// is between two of them. Rows in front of it are kept by how far from the text's beginning they are,
 /// those after it by how far from its end, the last one first: so that rows stay as they are where the
-/// text changes between the two.
+/// text changes between the two. The ends of parts have a split of their own.
 #[derive(Drop)]
 pub struct Places {
     /// The rows in front of the split, each by how far from the beginning of the text it begins.
     pub front: Vec<Offsets>,
     /// The rows after the split, the last one first, each by how far from the end of the text it begins.
     pub behind: Vec<Offsets>,
-    /// The ends of all parts, each by how far from the beginning of the text it begins.
-    pub ends: Vec<EndPlace>,
+    /// The ends of all parts, in order.
+    pub ends: PartEnds,
     /// How many bytes of the text are in front of the split.
     pub split: usize,
 }
@@ -34,7 +34,7 @@ impl Places {
         Places {
             front: Vec::new(alloc),
             behind: Vec::new(alloc),
-            ends: Vec::new(alloc),
+            ends: PartEnds::new(alloc),
             split: 0,
         }
     }

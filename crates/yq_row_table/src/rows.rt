@@ -8,7 +8,7 @@ ghost use Rattle.yq_row_table.specs.Grammar as grammar;
 ghost use Rattle.yq_row_table.specs.View as ends;
 
 use crate::block::block_numbers_of;
-use crate::ends::Bound;
+use crate::ends::{Bound, Measure};
 use crate::offsets::Offsets;
 use crate::places::Places;
 use crate::row::Row;
@@ -126,7 +126,7 @@ impl<'t> Rows<'t> {
         requires { i < length self.now.bounds }
         ensures { slice_get self.now.bounds i ≡ Some (bound_view result) }
     {
-        let end = &self.places.ends[i];
+        let end = self.places.ends.at(i);
         let start = end.start();
         let split = self.text.front.len();
         if start < split {
@@ -141,7 +141,7 @@ impl<'t> Rows<'t> {
         ensures { (b : ends.Bound) → slice_get self.now.bounds i ≡ Some b → result ≡
             part_end i b self.now }
     {
-        self.places.ends[i].stop()
+        self.places.ends.at(i).stop()
     }
 
     /// The ends of the parts directly before row `i`'s gap; for `i` = `len`, those at the end: those of
@@ -153,11 +153,12 @@ impl<'t> Rows<'t> {
         ensures bounds { take (result.1 - result.0) (drop result.0 self.now.bounds) ≡
             bounds_at i self.now.bounds }
     {
-        let ends = self.places.ends.as_slice();
-        let from = ends.partition_point(|e| e.rows < i);
-        let ahead = &ends[from..];
-        let count = ahead.partition_point(|e| e.rows <= i);
-        (from, from + count)
+        let ends = &self.places.ends;
+        let to = ends.count_to(Measure::Rows, i);
+        if i == 0 {
+            return (0, to);
+        }
+        (ends.count_to(Measure::Rows, i - 1), to)
     }
 }
 

@@ -54,8 +54,8 @@ pub record BackKept (p : Places) (front behind : List Item) (len back : ℕ) : T
   pub front_rows : near 0 front ≡ p.front.items ++ map (row_from_end len) before
   pub back_rows : map (row_from_end len) rows ≡ near (text_length front) behind
   pub far_rows : rows ≡ far behind
-  pub ends_are : p.ends.items ≡ ends_near 0 0 front ++ ends_near (text_length front) (length (near 0 front)) behind
-  pub count_is : ends_before ((len - back) + 1) p.ends.items ≡ length (ends_near 0 0 front)
+  pub ends_are : p.ends ≡ ends_near 0 0 front ++ ends_near (text_length front) (length (near 0 front)) behind
+  pub count_is : ends_before ((len - back) + 1) p.ends ≡ length (ends_near 0 0 front)
 
 pub back_kept : (p : Places) (xs : List Item) (at back : ℕ) → AreAt p xs → IsSplitAt at (text_length xs) p → at + back ≤ text_length xs → (h : BackFound 0 back xs) → BackKept p h.front h.behind (text_length xs) back
 back_kept p xs at back placed gap apart h =
@@ -76,7 +76,7 @@ back_kept p xs at back placed gap apart h =
     let turned_far : map (row_from_end len) (far h.behind) ≡ near (text_length h.front) h.behind = far_near h.behind (items_text h.front []) (items_text xs []) text in
     let mine : map (row_from_end len) two.second ≡ near (text_length h.front) h.behind = two.second_is ∙ ap (λ (n : ℕ). near n h.behind) bytes in
     let size : text_length h.behind ≤ len = omega (arith, ap text_length h.split, joined_long h.front h.behind) in
-    let ends : p.ends.items ≡ ends_near 0 0 h.front ++ ends_near m (0 + length (near 0 h.front)) h.behind = placed.ends_are ∙ (ap (ends_near 0 0) h.split ∙ ends_joined 0 0 h.front h.behind) in
+    let ends : p.ends ≡ ends_near 0 0 h.front ++ ends_near m (0 + length (near 0 h.front)) h.behind = placed.ends_are ∙ (ap (ends_near 0 0) h.split ∙ ends_joined 0 0 h.front h.behind) in
     let ends_low = begin_where (λ s. s + back ≤ 0 + len) (λ s. s < (len - back) + 1) (λ s l. omega (arith, l, apart)) 0 h.front h.begun in
     let ends_high = begin_where (λ s. 0 + len < s + back) (λ s. (len - back) + 1 ≤ s) (λ s l. omega (arith, l, apart)) m h.behind h.later in
     record {
@@ -103,10 +103,10 @@ first_row p front behind len back count o h many some own = go h.rows (h.split) 
       let same : o ≡ q = search (rules, length-reverse, get_or_at, all) in
       (map (row_from_end len) rows, sym is ∙ ap (λ (x : declared.Offsets). row_from_end len x ∷ map (row_from_end len) rows) (sym same))
 
-pub first_end : (p : Places) (front behind : List Item) (len back count : ℕ) (e : EndPlace) → BackKept p front behind len back → count ≡ length (ends_near 0 0 front) → count < length p.ends.items → e ≡ get_or p.ends.items count e →
+pub first_end : (p : Places) (front behind : List Item) (len back count : ℕ) (e : EndPlace) → BackKept p front behind len back → count ≡ length (ends_near 0 0 front) → count < length p.ends → e ≡ get_or p.ends count e →
     (rest : List EndPlace) × (ends_near (text_length front) (length (near 0 front)) behind ≡ e ∷ rest)
 first_end p front behind len back count e h is less own = go (ends_near (text_length front) (length (near 0 front)) behind) h.ends_are where
-  go : (es : List EndPlace) → p.ends.items ≡ ends_near 0 0 front ++ es → (rest : List EndPlace) × (es ≡ e ∷ rest)
+  go : (es : List EndPlace) → p.ends ≡ ends_near 0 0 front ++ es → (rest : List EndPlace) × (es ≡ e ∷ rest)
   go [] all = absurd (omega (arith, less, is, ap length all, ap length (append-nil (ends_near 0 0 front))))
   go (x ∷ es) all = (es, ap (λ y. y ∷ es) (sym (own ∙ (ap (λ (l : List EndPlace). get_or l count e) all ∙ get_or_at (ends_near 0 0 front) x es e count (sym is)))))
 
@@ -157,10 +157,10 @@ abbrev pub ByRows : Places → (len rows bytes : ℕ) → Type 0
 ByRows p len rows bytes = ((rows ≡ 0) × (bytes ≡ len)) ⊎ ((o : declared.Offsets) × (0 < rows) × (o ≡ get_or p.behind.items (rows - 1) o) × (bytes ≡ len - o.start))
 
 abbrev pub ByEnds : Places → (ends before bytes : ℕ) → Type 0
-ByEnds p ends before bytes = ((length p.ends.items ≤ ends) × (bytes ≡ before)) ⊎ ((e : EndPlace) × (ends < length p.ends.items) × (e ≡ get_or p.ends.items ends e) × (bytes ≡ min before e.start))
+ByEnds p ends before bytes = ((length p.ends ≤ ends) × (bytes ≡ before)) ⊎ ((e : EndPlace) × (ends < length p.ends) × (e ≡ get_or p.ends ends e) × (bytes ≡ min before e.start))
 
 pub behind_is : (p : Places) (xs : List Item) (at back rows ends before bytes : ℕ) → AreAt p xs → IsSplitAt at (text_length xs) p → at + back ≤ text_length xs → rows ≡ length (nearer back (reverse p.behind.items)) →
-    ends ≡ ends_before ((text_length xs - back) + 1) p.ends.items → ByRows p (text_length xs) rows before → ByEnds p ends before bytes → record { rows = length p.front.items + (length p.behind.items - rows); ends = ends; bytes = bytes } ≡ side_of (not_in_back back xs)
+    ends ≡ ends_before ((text_length xs - back) + 1) p.ends → ByRows p (text_length xs) rows before → ByEnds p ends before bytes → record { rows = length p.front.items + (length p.behind.items - rows); ends = ends; bytes = bytes } ≡ side_of (not_in_back back xs)
 behind_is p xs at back rows ends before bytes placed gap apart many count by_rows by_ends =
     let len : ℕ = text_length xs in
     let h = back_found xs 0 back in
@@ -170,9 +170,9 @@ behind_is p xs at back rows ends before bytes placed gap apart many count by_row
     let long : m + text_length h.behind ≡ len = omega (arith, ap text_length h.split, joined_long h.front h.behind) in
     let there : rows ≡ length (near m h.behind) = many ∙ (ap length k.rows_are ∙ (sym (length-map k.rows (row_from_end len)) ∙ ap length k.back_rows)) in
     let in_ends : ends ≡ length (ends_near 0 0 h.front) = count ∙ k.count_is in
-    let later : length p.ends.items - ends ≡ length (ends_near m j h.behind) = search (rules, length-append, m, k, j, in_ends, h) in
+    let later : length p.ends - ends ≡ length (ends_near m j h.behind) = search (rules, length-append, m, k, j, in_ends, h) in
     let in_front : length p.front.items + (length p.behind.items - rows) ≡ j = search (rules, length-append, length-map, length-reverse, len, k) in
-    let first : FirstBytes m len j h.behind rows (length p.ends.items - ends) bytes = record {
+    let first : FirstBytes m len j h.behind rows (length p.ends - ends) bytes = record {
       rows_are = there;
       ends_are = later;
       row_bytes = before;
@@ -181,11 +181,11 @@ behind_is p xs at back rows ends before bytes placed gap apart many count by_row
           (λ (n : (o : declared.Offsets) × (0 < rows) × (o ≡ get_or p.behind.items (rows - 1) o) × (before ≡ len - o.start)). let f = first_row p h.front h.behind len back rows n.0 k many n.1 n.2 in inr (n.0, f.0, f.1, n.3))
           by_rows;
       by_ends = ⊎_elim {0, 0, 0}
-          (λ (n : (length p.ends.items ≤ ends) × (bytes ≡ before)). inl (omega (arith, n.0), n.1))
-          (λ (n : (e : EndPlace) × (ends < length p.ends.items) × (e ≡ get_or p.ends.items ends e) × (bytes ≡ min before e.start)). let f = first_end p h.front h.behind len back ends n.0 k in_ends n.1 n.2 in inr (n.0, f.0, f.1, n.3))
+          (λ (n : (length p.ends ≤ ends) × (bytes ≡ before)). inl (omega (arith, n.0), n.1))
+          (λ (n : (e : EndPlace) × (ends < length p.ends) × (e ≡ get_or p.ends ends e) × (bytes ≡ min before e.start)). let f = first_end p h.front h.behind len back ends n.0 k in_ends n.1 n.2 in inr (n.0, f.0, f.1, n.3))
           by_ends;
     } in
-    sides_same (length p.front.items + (length p.behind.items - rows)) ends bytes (side_of h.front) in_front in_ends (first_bytes m len j h.behind rows (length p.ends.items - ends) bytes long first) ∙ ap side_of (sym h.is_front)
+    sides_same (length p.front.items + (length p.behind.items - rows)) ends bytes (side_of h.front) in_front in_ends (first_bytes m len j h.behind rows (length p.ends - ends) bytes long first) ∙ ap side_of (sym h.is_front)
 
 -- the rows that stay on either side
 pub back_taken : (p : Places) (xs : List Item) (at back : ℕ) → AreAt p xs → IsSplitAt at (text_length xs) p → at + back ≤ text_length xs → reverse (take (length (near 0 (in_back back xs))) p.behind.items) ≡ far (in_back back xs)

@@ -16,17 +16,17 @@ use Rattle.yq_rows.proofs.ItemPlaces.{BothSides, cut_long, placed_in, places_of,
 use Rattle.yq_row_table.specs.declared.offsets.Offsets as declared
 
 -- the item after some others is a row, where more rows than they have come before the next end of a part
-row_next : (p : Places) (f ys : List Item) (e : EndPlace) → AreAt p (f ++ ys) → slice_get p.ends.items (length (ends_near 0 0 f)) ≡ Some e → length (near 0 f) < e.rows → (r : Row) × (rest : List Item) × (ys ≡ row_item r ∷ rest)
+row_next : (p : Places) (f ys : List Item) (e : EndPlace) → AreAt p (f ++ ys) → slice_get p.ends (length (ends_near 0 0 f)) ≡ Some e → length (near 0 f) < e.rows → (r : Row) × (rest : List Item) × (ys ≡ row_item r ∷ rest)
 row_next p f ys e at own less = go ys (at.ends_are ∙ ends_joined 0 0 f ys)
   where
-    go : (l : List Item) → p.ends.items ≡ ends_near 0 0 f ++ ends_near (0 + text_length f) (0 + length (near 0 f)) l → (r : Row) × (rest : List Item) × (l ≡ row_item r ∷ rest)
-    go [] is = absurd (omega (arith, slice_get_within p.ends.items (length (ends_near 0 0 f)) e own, ap length is, length-append (ends_near 0 0 f) []))
+    go : (l : List Item) → p.ends ≡ ends_near 0 0 f ++ ends_near (0 + text_length f) (0 + length (near 0 f)) l → (r : Row) × (rest : List Item) × (l ≡ row_item r ∷ rest)
+    go [] is = absurd (omega (arith, slice_get_within p.ends (length (ends_near 0 0 f)) e own, ap length is, length-append (ends_near 0 0 f) []))
     go (row_item r ∷ rest) is = (r, rest, refl)
     go (end_item gap marker ∷ rest) is =
         let n : ℕ = 0 + text_length f in
         let k : ℕ = 0 + length (near 0 f) in
         let there = ap (λ (l : List EndPlace). get_or l (length (ends_near 0 0 f)) e) is ∙ get_or-append_seam (ends_near 0 0 f) (end_at n k gap marker) (ends_near (n + length (gap ++ marker)) k rest) e in
-        let same : e ≡ end_at n k gap marker = sym (get_or_from_slice_get p.ends.items (length (ends_near 0 0 f)) e e own) ∙ there in
+        let same : e ≡ end_at n k gap marker = sym (get_or_from_slice_get p.ends (length (ends_near 0 0 f)) e e own) ∙ there in
         absurd (omega (arith, less, ap (λ (x : EndPlace). x.rows) same))
 
 -- the first row after a split begins where it is
@@ -58,7 +58,7 @@ module _ (t : List ℕ) (kept : Kept) (p : Places) (x : Touched) (last : EndPlac
 
   -- the row in front, and the next one
   pub own : (r : Row) × (rest : List Item) × (k.touched ++ k.read.behind ≡ row_item r ∷ rest)
-  own = row_next p b (k.touched ++ k.read.behind) d.end k.placed (subst (λ (n : ℕ). slice_get p.ends.items n ≡ Some d.end) front_ends d.end_is) (omega (arith, front_rows, d.one_row, d.later))
+  own = row_next p b (k.touched ++ k.read.behind) d.end k.placed (subst (λ (n : ℕ). slice_get p.ends n ≡ Some d.end) front_ends d.end_is) (omega (arith, front_rows, d.one_row, d.later))
 
   abbrev one : List Item
   one = row_item own.0 ∷ []
@@ -82,7 +82,7 @@ module _ (t : List ℕ) (kept : Kept) (p : Places) (x : Touched) (last : EndPlac
   ends_f = omega (arith, ap length (ends_joined 0 0 b one), length-append (ends_near 0 0 b) (ends_near (0 + text_length b) (0 + length (near 0 b)) one), front_ends)
 
   next : (r : Row) × (more : List Item) × (rest ≡ row_item r ∷ more)
-  next = row_next p f rest d.end placed (subst (λ (n : ℕ). slice_get p.ends.items n ≡ Some d.end) (sym ends_f) d.end_is) (omega (arith, rows_f, d.later))
+  next = row_next p f rest d.end placed (subst (λ (n : ℕ). slice_get p.ends n ≡ Some d.end) (sym ends_f) d.end_is) (omega (arith, rows_f, d.later))
 
   -- the split
   abbrev back : List declared.Offsets
@@ -133,15 +133,15 @@ module _ (t : List ℕ) (kept : Kept) (p : Places) (x : Touched) (last : EndPlac
   ends_final : ends_near 0 0 (f ++ final) ≡ ends_near 0 0 f ++ end_at (0 + text_length f) (0 + length (near 0 f)) [] [] ∷ []
   ends_final = ends_joined 0 0 f final
 
-  ends_set : slice_set p.ends.items (length p.ends.items - 1) last ≡ ends_near 0 0 (f ++ final)
+  ends_set : slice_set p.ends (length p.ends - 1) last ≡ ends_near 0 0 (f ++ final)
   ends_set =
-      let n : ℕ = length p.ends.items - 1 in
-      let some : n < length p.ends.items = omega (arith, d.one_end) in
-      let gone : drop (suc n) p.ends.items ≡ [] = drop_all (suc n) p.ends.items (omega (arith, d.one_end)) in
-      let first : take n p.ends.items ≡ ends_near 0 0 f = ap (take n) (placed.ends_are ∙ ends_joined 0 0 f rest) ∙ take_at (ends_near 0 0 f) (ends_near (0 + text_length f) (0 + length (near 0 f)) rest) n (omega (arith, ends_f, d.one_end)) in
+      let n : ℕ = length p.ends - 1 in
+      let some : n < length p.ends = omega (arith, d.one_end) in
+      let gone : drop (suc n) p.ends ≡ [] = drop_all (suc n) p.ends (omega (arith, d.one_end)) in
+      let first : take n p.ends ≡ ends_near 0 0 f = ap (take n) (placed.ends_are ∙ ends_joined 0 0 f rest) ∙ take_at (ends_near 0 0 f) (ends_near (0 + text_length f) (0 + length (near 0 f)) rest) n (omega (arith, ends_f, d.one_end)) in
       search (rules, rows_f, begins, set_split, ends_final, first, n, some, gone)
 
-  final_placed : (q : Places) → q.front.items ≡ p.front.items → q.behind.items ≡ [] → q.ends.items ≡ slice_set p.ends.items (length p.ends.items - 1) last → q.split ≡ kept.front → ArePlaced q (f ++ final) []
+  final_placed : (q : Places) → q.front.items ≡ p.front.items → q.behind.items ≡ [] → q.ends ≡ slice_set p.ends (length p.ends - 1) last → q.split ≡ kept.front → ArePlaced q (f ++ final) []
   final_placed q rows behind ends split =
       let all : f ++ final ≡ (f ++ final) ++ [] = sym (append-nil (f ++ final)) in
       record {
@@ -153,7 +153,7 @@ module _ (t : List ℕ) (kept : Kept) (p : Places) (x : Touched) (last : EndPlac
         small = omega (arith, ap text_length (sym all), joined_long f final, joined_long f rest, placed.small);
       }
 
-  pub rows_dropped : (q : Places) → q.front.items ≡ p.front.items → q.behind.items ≡ [] → q.ends.items ≡ slice_set p.ends.items (length p.ends.items - 1) last → q.split ≡ kept.front → ArePlaced q (b ++ k.read.written) k.read.behind
+  pub rows_dropped : (q : Places) → q.front.items ≡ p.front.items → q.behind.items ≡ [] → q.ends ≡ slice_set p.ends (length p.ends - 1) last → q.split ≡ kept.front → ArePlaced q (b ++ k.read.written) k.read.behind
   rows_dropped q rows behind ends split = search (rules, nothing, final_placed, append_assoc, written)
 
   -- the text that stays
@@ -163,7 +163,7 @@ module _ (t : List ℕ) (kept : Kept) (p : Places) (x : Touched) (last : EndPlac
       sym (ap (λ l. take kept.front t ++ l) none ∙ append-nil (take kept.front t))
 
   pub dropped_places : (u : List ℕ) (q : Places) (new : Cut) → IsCut (exchanged kept t []) new → u ≡ take kept.front t →
-      q.front.items ≡ p.front.items → q.behind.items ≡ [] → q.ends.items ≡ slice_set p.ends.items (length p.ends.items - 1) last → q.split ≡ kept.front → ArePlacesOf u q
+      q.front.items ≡ p.front.items → q.behind.items ≡ [] → q.ends ≡ slice_set p.ends (length p.ends - 1) last → q.split ≡ kept.front → ArePlacesOf u q
   dropped_places u q new new_is text_is rows behind ends split =
       let both : BothSides q (items_of_cut new) = (b ++ k.read.written, k.read.behind, append_assoc b k.read.written k.read.behind ∙ k.items new new_is, rows_dropped q rows behind ends split) in
       subst (λ (l : List ℕ). ArePlacesOf l q) (sym (text_is ∙ kept_text)) (places_of (exchanged kept t []) q (placed_in (exchanged kept t []) q new new_is both))

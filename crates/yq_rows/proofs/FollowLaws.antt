@@ -28,7 +28,7 @@ three : (a b c : List Item) → items_text (a ++ (b ++ c)) [] ≡ items_text a [
 three a b c = text_split a (b ++ c) ∙ ap (λ l. items_text a [] ++ l) (text_split b c)
 
 module _ (t new : List ℕ) (kept : Kept) (p : Places) (x : Touched) (h : Follows t p kept new) (split : IsSplitAt kept.front (length t) p) (s : FrontStays t new kept p h x.front) (behind : IsSideBehind p (length t) kept.back x.old)
-    (marked_is : x.marked ≡ marked_end p.ends.items x.front x.old (length t - kept.back)) (more_is : x.more ≡ (ltb x.old.rows (length (kept_rows p)) || ltb x.old.ends (length p.ends.items))) where
+    (marked_is : x.marked ≡ marked_end p.ends x.front x.old (length t - kept.back)) (more_is : x.more ≡ (ltb x.old.rows (length (kept_rows p)) || ltb x.old.ends (length p.ends))) where
   abbrev xs : List Item
   xs = items_of_cut h.old_cut
 
@@ -125,13 +125,13 @@ module _ (t new : List ℕ) (kept : Kept) (p : Places) (x : Touched) (h : Follow
       rows : length (kept_rows p) ≡ length (near 0 (f ++ tch)) + length (near 0 z)
       rows = kept_count (text_length xs) p ∙ (ap length at_xs.rows_are ∙ (ap (λ (l : List Item). length (near 0 l)) group ∙ (ap length (near_joined 0 (f ++ tch) z) ∙ (length-append (near 0 (f ++ tch)) (near (0 + text_length (f ++ tch)) z) ∙ ap (λ (n : ℕ). length (near 0 (f ++ tch)) + n) (near_count (0 + text_length (f ++ tch)) 0 z)))))
 
-      ends : length p.ends.items ≡ length (ends_near 0 0 (f ++ tch)) + length (ends_near 0 0 z)
+      ends : length p.ends ≡ length (ends_near 0 0 (f ++ tch)) + length (ends_near 0 0 z)
       ends =
           let m : ℕ = 0 + text_length (f ++ tch) in
           let k : ℕ = 0 + length (near 0 (f ++ tch)) in
           ap length at_xs.ends_are ∙ (ap (λ (l : List Item). length (ends_near 0 0 l)) group ∙ (ap length (ends_joined 0 0 (f ++ tch) z) ∙ (length-append (ends_near 0 0 (f ++ tch)) (ends_near m k z) ∙ ap (λ (n : ℕ). length (ends_near 0 0 (f ++ tch)) + n) (ends_count m k 0 0 z))))
 
-      go : (l : List Item) → length (kept_rows p) ≡ x.old.rows + length (near 0 l) → length p.ends.items ≡ x.old.ends + length (ends_near 0 0 l) → (ltb x.old.rows (length (kept_rows p)) || ltb x.old.ends (length p.ends.items)) ≡ not (no_items l)
+      go : (l : List Item) → length (kept_rows p) ≡ x.old.rows + length (near 0 l) → length p.ends ≡ x.old.ends + length (ends_near 0 0 l) → (ltb x.old.rows (length (kept_rows p)) || ltb x.old.ends (length p.ends)) ≡ not (no_items l)
       go l h1 h2 = search (rules, le-ltb, ⊎_elim, lt-ltb, some_behind, cases_lt, or_right)
 
   -- the items that are read
@@ -147,7 +147,7 @@ module _ (t new : List ℕ) (kept : Kept) (p : Places) (x : Touched) (h : Follow
 
   -- the marker that is kept
   reports : KeepsMarker tch (kept.back - text_length z) x.marked
-  reports = subst (KeepsMarker tch (kept.back - text_length z)) (sym marked_is) (agrees f tch z p.ends.items x.front x.old (length t) kept.back (record {
+  reports = subst (KeepsMarker tch (kept.back - text_length z)) (sym marked_is) (agrees f tch z p.ends x.front x.old (length t) kept.back (record {
     rest = ends_near (0 + text_length (f ++ tch)) (0 + length (near 0 (f ++ tch))) z;
     ends = at_xs.ends_are ∙ (ap (ends_near 0 0) group ∙ ends_joined 0 0 (f ++ tch) z);
     front_is = s.side;

@@ -1,8 +1,7 @@
 -- What a change keeps in front: the end of a part too, where it begins after the line of its marker.
 use Rattle.std.proofs.Common.{◌≡◌, ⊎_elim, ◌&&◌, Bool, true, false, ℕ, ◌+◌, ◌-◌, ◌<◌, ◌≤◌, if◌then◌else◌, List, [], ◌∷◌, ◌++◌, length, take}
 use Rattle.std.proofs.Common.{drop, Option, slice_get, refl, sym, ap, ◌∙◌, subst, arith, append_assoc, append-nil, length-append}
-use Rattle.std.{proofs.Common.{length-drop, length-take, rules}, proofs.lemmas.Bool.and_parts}
-use Rattle.std.proofs.lemmas.List.{append_cancel_left, take_at}
+use Rattle.std.{proofs.Common.{length-drop, length-take}, proofs.lemmas.Bool.and_parts, proofs.lemmas.List.{append_cancel_left, take_at}}
 use Rattle.yq_core.specs.Text.{is_line}
 use Rattle.yq_row_table.{specs.Ends.end_at, specs.Grammar.IsMarkerLine}
 use Rattle.yq_row_table.specs.Items.{Item, end_item, items_of_cut, items_text, nothing_asked, asked_of, AreRowItems}
@@ -33,7 +32,7 @@ pub record FrontStays (t new : List ℕ) (kept : Kept) (p : Places) (h : Follows
   pub read_is : read_text kept h.old_cut h.new_cut h.touches ≡ text_read (kept.back - text_length (in_back kept.back (items_of_cut h.old_cut))) touched written
 
 module _ (t new : List ℕ) (kept : Kept) (p : Places) (h : Follows t p kept new) (split : IsSplitAt kept.front (length t) p) (begins : Bool) (begins_is : begins ≡ begins_line t kept.front)
-    (before : Side) (before_is : IsSideBefore p kept.front before) (x : Side) (past : x ≡ past_end (slice_get p.ends.items before.ends) before kept.front begins) where
+    (before : Side) (before_is : IsSideBefore p kept.front before) (x : Side) (past : x ≡ past_end (slice_get p.ends before.ends) before kept.front begins) where
   abbrev xs : List Item
   xs = items_of_cut h.old_cut
 
@@ -90,11 +89,11 @@ module _ (t new : List ℕ) (kept : Kept) (p : Places) (h : Follows t p kept new
   none : tch ≡ [] → n ≡ 0
   none e = omega (arith, fits, low, back_long kept.back xs, ap text_length e, ap text_length h.touches.old_are, joined_long f (tch ++ z), joined_long tch z)
 
-  next : slice_get p.ends.items before.ends ≡ slice_get (ends_near (text_length f) (length (near 0 f)) (tch ++ z)) 0
+  next : slice_get p.ends before.ends ≡ slice_get (ends_near (text_length f) (length (near 0 f)) (tch ++ z)) 0
   next =
       let bytes : 0 + text_length f ≡ text_length f = omega arith in
       let count : 0 + length (near 0 f) ≡ length (near 0 f) = omega arith in
-      let all : p.ends.items ≡ ends_near 0 0 f ++ ends_near (text_length f) (length (near 0 f)) (tch ++ z) =
+      let all : p.ends ≡ ends_near 0 0 f ++ ends_near (text_length f) (length (near 0 f)) (tch ++ z) =
       at_xs.ends_are ∙ (ap (ends_near 0 0) h.touches.old_are ∙ (ends_joined 0 0 f (tch ++ z) ∙ (λ i. ends_near 0 0 f ++ ends_near (bytes i) (count i) (tch ++ z)))) in
       (λ i. slice_get (all i) (side_is i).ends) ∙ slice_next (ends_near 0 0 f) (ends_near (text_length f) (length (near 0 f)) (tch ++ z))
 

@@ -1,10 +1,13 @@
 -- What is in front of the items that a change touches, by the places that are kept.
-use Rattle.std.proofs.Common.{◌≡◌, ◌⊎◌, inl, inr, ⊎_elim, le-ltb, ℕ, zero, suc, ◌+◌, ◌-◌, ◌<◌, ◌≤◌, List, [], ◌∷◌, ◌++◌, length, map}
-use Rattle.std.proofs.Common.{reverse, get_or, refl, sym, ap, ◌∙◌, subst, arith, append_assoc, append-nil, length-append, take, take_at}
-use Rattle.std.{proofs.Common.rules, proofs.lemmas.List.{get_or_append_left, get_or_at}, proofs.lemmas.Option.slice_get-get_or}
+use Rattle.std.proofs.Common.{◌≡◌, ◌⊎◌, inl, inr, ⊎_elim, le-ltb, lt-ltb, ℕ, zero, suc, ◌+◌, ◌-◌, ◌<◌, ◌≤◌, List, [], ◌∷◌, ◌++◌, length}
+use Rattle.std.proofs.Common.{map, reverse, get_or, refl, sym, ap, ◌∙◌, subst, arith, append_assoc, append-nil, length-append, take}
+use Rattle.std.{proofs.Common.{take_at, rules}, specs.List.Sorted.{IsNonDecreasingBy, IsPartitionPoint}}
+use Rattle.std.{proofs.lemmas.List.{get_or_append_left, get_or_at}, proofs.lemmas.Option.{get_or_from_slice_get, slice_get-get_or}}
+use Rattle.std.specs.Prelude.{Some, slice_get}
 use Rattle.yq_row_table.{specs.Ends.end_at, specs.Items.{Item, row_item, end_item}, specs.Kept.{near, ends_near, row_from_end}}
 use Rattle.yq_row_table.{specs.Offsets.offsets_of, specs.Rows.Row, specs.Touched.{in_front, item_text}, specs.View.slices}
 use Rattle.yq_row_table.{specs.declared.ends.EndPlace.EndPlace, specs.declared.places.Places.Places, proofs.KeptLaws.near_joined}
+use Rattle.yq_row_table.proofs.RestSlicing.{starts_rise}
 use Rattle.yq_rows.{specs.Sides.{AreAt, IsSplitAt, LastBefore, ends_before, side_of, text_length}, specs.declared.sides.Side.Side}
 use Rattle.yq_rows.proofs.BeginLaws.{FrontFound, begin_where, ends_begin, front_found, rows_begin}
 use Rattle.yq_rows.{proofs.CountLaws.{ends_joined, ends_rows}, proofs.SplitLaws.{ends_counted, first_turned, one_split}}
@@ -17,7 +20,7 @@ pub record FrontKept (front : List Item) (first : Item) (rows : List declared.Of
   pub ends_are : ends ≡ ends_near 0 0 (front ++ (first ∷ [])) ++ rest
   pub count_is : count ≡ length (ends_near 0 0 (front ++ (first ∷ [])))
 
-pub front_kept : (p : Places) (xs : List Item) (at : ℕ) → AreAt p xs → IsSplitAt at (text_length xs) p → (h : FrontFound 0 at xs) → FrontKept h.front h.first p.front.items p.ends.items (ends_before at p.ends.items)
+pub front_kept : (p : Places) (xs : List Item) (at : ℕ) → AreAt p xs → IsSplitAt at (text_length xs) p → (h : FrontFound 0 at xs) → FrontKept h.front h.first p.front.items p.ends (ends_before at p.ends)
 front_kept p xs at placed gap h =
     let f : List Item = h.front ++ (h.first ∷ []) in
     let m : ℕ = 0 + text_length f in
@@ -98,49 +101,64 @@ none_before : (rows : List declared.Offsets) → LastBefore 0 rows → length ro
 none_before [] h = refl
 none_before (o ∷ rows) h = absurd (omega (arith, h (get_or (o ∷ rows) (length (o ∷ rows) - 1) o) (slice_get-get_or (o ∷ rows) (length (o ∷ rows) - 1) o (omega arith))))
 
-no_ends_before : (es : List EndPlace) → ends_before 0 es ≡ 0
+pub no_ends_before : (es : List EndPlace) → ends_before 0 es ≡ 0
 no_ends_before [] = refl
 no_ends_before (e ∷ es) = rw (le-ltb e.start 0 (omega arith)) refl
+
+-- what binary search finds of ends of which none begins in front of the one before it
+pub ends_found : (at : ℕ) (es : List EndPlace) (n : ℕ) → 0 < at → n ≤ length es → IsPartitionPoint (λ e. e.start ≤ at - 1) (λ e. at - 1 < e.start) es n → n ≡ ends_before at es
+ends_found at [] zero some within h = refl
+ends_found at [] (suc n) some within h = absurd (omega (arith, within))
+ends_found at (e ∷ es) zero some within h = rw (le-ltb e.start at (omega (arith, some, h.1 0 e (omega arith) (omega arith)))) refl
+ends_found at (e ∷ es) (suc n) some within h =
+    rw (lt-ltb e.start at (omega (arith, some, h.0 0 e (omega arith) (omega arith))))
+    (ap suc (ends_found at es n some (omega (arith, within)) (λ k d low less. h.0 (suc k) d (omega arith) (omega (arith, less)), λ k d low less. h.1 (suc k) d (omega (arith, low)) (omega (arith, less)))))
+
+pub ends_counted_at : (p : Places) (xs : List Item) (n at : ℕ) → (IsNonDecreasingBy (λ e. e.start) p.ends → n ≡ ends_before at p.ends) → AreAt p xs → n ≡ ends_before at p.ends
+ends_counted_at p xs n at h placed = h (subst (IsNonDecreasingBy (λ (e : EndPlace). e.start)) (sym placed.ends_are) (starts_rise xs 0 0))
+
+pub own_end : (p : Places) (e : EndPlace) (i : ℕ) → slice_get p.ends i ≡ Some e → e ≡ get_or p.ends i e
+own_end p e i at = sym (get_or_from_slice_get p.ends i e e at)
 
 none_in_front : (xs : List Item) → in_front 0 xs ≡ []
 none_in_front [] = refl
 none_in_front (i ∷ xs) = rw (le-ltb (length (item_text i)) 0 (omega arith)) refl
 
 abbrev Kept : Places → List Item → ℕ → Type 0
-Kept p xs at = (front : List Item) × (first : Item) × (in_front at xs ≡ front) × FrontKept front first p.front.items p.ends.items (ends_before at p.ends.items)
+Kept p xs at = (front : List Item) × (first : Item) × (in_front at xs ≡ front) × FrontKept front first p.front.items p.ends (ends_before at p.ends)
 
 -- Either nothing begins in front of the offset, or there is a last item that does so.
 abbrev Nothing : Places → List Item → ℕ → Type 0
-Nothing p xs at = (length p.front.items ≡ 0) × (ends_before at p.ends.items ≡ 0) × (in_front at xs ≡ [])
+Nothing p xs at = (length p.front.items ≡ 0) × (ends_before at p.ends ≡ 0) × (in_front at xs ≡ [])
 
 found : (p : Places) (xs : List Item) (at : ℕ) → AreAt p xs → IsSplitAt at (text_length xs) p → at ≤ text_length xs → Nothing p xs at ⊎ Kept p xs at
-found p xs zero placed gap within = inl (none_before p.front.items gap.0, no_ends_before p.ends.items, none_in_front xs)
+found p xs zero placed gap within = inl (none_before p.front.items gap.0, no_ends_before p.ends, none_in_front xs)
 found p xs (suc at) placed gap within =
     let h = front_found xs 0 (suc at) (omega arith) within in
     inr (h.front, h.first, h.is, front_kept p xs (suc at) placed gap h)
 
-pub before_end : (p : Places) (xs : List Item) (at : ℕ) (e : EndPlace) (n count : ℕ) → AreAt p xs → IsSplitAt at (text_length xs) p → at ≤ text_length xs → n ≡ length p.front.items → count ≡ ends_before at p.ends.items → 0 < count →
-    e ≡ get_or p.ends.items (count - 1) e → n ≤ e.rows → record { rows = n; ends = count - 1; bytes = e.start } ≡ side_of (in_front at xs)
+pub before_end : (p : Places) (xs : List Item) (at : ℕ) (e : EndPlace) (n count : ℕ) → AreAt p xs → IsSplitAt at (text_length xs) p → at ≤ text_length xs → n ≡ length p.front.items → count ≡ ends_before at p.ends → 0 < count →
+    e ≡ get_or p.ends (count - 1) e → n ≤ e.rows → record { rows = n; ends = count - 1; bytes = e.start } ≡ side_of (in_front at xs)
 before_end p xs at e n count placed gap within long many some own high =
     ⊎_elim {0, 0, 0}
     (λ (no : Nothing p xs at). absurd (omega (arith, many, some, no.1)))
-    (λ (k : Kept p xs at). at_end k.0 k.1 p.front.items p.ends.items e n count (subst (FrontKept k.0 k.1 p.front.items p.ends.items) (sym many) k.3) long some own high ∙ ap side_of (sym k.2))
+    (λ (k : Kept p xs at). at_end k.0 k.1 p.front.items p.ends e n count (subst (FrontKept k.0 k.1 p.front.items p.ends) (sym many) k.3) long some own high ∙ ap side_of (sym k.2))
     (found p xs at placed gap within)
 
-pub before_row : (p : Places) (xs : List Item) (at : ℕ) (o : declared.Offsets) (n count : ℕ) → AreAt p xs → IsSplitAt at (text_length xs) p → at ≤ text_length xs → n ≡ length p.front.items → count ≡ ends_before at p.ends.items → 0 < n →
-    NoEndBehind n p.ends.items count → o ≡ get_or p.front.items (n - 1) o → record { rows = n - 1; ends = count; bytes = o.start } ≡ side_of (in_front at xs)
+pub before_row : (p : Places) (xs : List Item) (at : ℕ) (o : declared.Offsets) (n count : ℕ) → AreAt p xs → IsSplitAt at (text_length xs) p → at ≤ text_length xs → n ≡ length p.front.items → count ≡ ends_before at p.ends → 0 < n →
+    NoEndBehind n p.ends count → o ≡ get_or p.front.items (n - 1) o → record { rows = n - 1; ends = count; bytes = o.start } ≡ side_of (in_front at xs)
 before_row p xs at o n count placed gap within long many some none own =
     ⊎_elim {0, 0, 0}
     (λ (no : Nothing p xs at). absurd (omega (arith, long, some, no.0)))
-    (λ (k : Kept p xs at). at_row k.0 k.1 p.front.items p.ends.items o n count (subst (FrontKept k.0 k.1 p.front.items p.ends.items) (sym many) k.3) long none own ∙ ap side_of (sym k.2))
+    (λ (k : Kept p xs at). at_row k.0 k.1 p.front.items p.ends o n count (subst (FrontKept k.0 k.1 p.front.items p.ends) (sym many) k.3) long none own ∙ ap side_of (sym k.2))
     (found p xs at placed gap within)
 
-pub before_none : (p : Places) (xs : List Item) (at : ℕ) (n count : ℕ) → AreAt p xs → IsSplitAt at (text_length xs) p → at ≤ text_length xs → n ≡ length p.front.items → count ≡ ends_before at p.ends.items → n ≡ 0 →
-    NoEndBehind n p.ends.items count → record { rows = 0; ends = 0; bytes = 0 } ≡ side_of (in_front at xs)
+pub before_none : (p : Places) (xs : List Item) (at : ℕ) (n count : ℕ) → AreAt p xs → IsSplitAt at (text_length xs) p → at ≤ text_length xs → n ≡ length p.front.items → count ≡ ends_before at p.ends → n ≡ 0 →
+    NoEndBehind n p.ends count → record { rows = 0; ends = 0; bytes = 0 } ≡ side_of (in_front at xs)
 before_none p xs at n count placed gap within long many empty none =
     ⊎_elim {0, 0, 0}
     (λ (no : Nothing p xs at). ap side_of (sym no.2))
-    (λ (k : Kept p xs at). absurd (at_none k.0 k.1 p.front.items p.ends.items n count (subst (FrontKept k.0 k.1 p.front.items p.ends.items) (sym many) k.3) long empty none))
+    (λ (k : Kept p xs at). absurd (at_none k.0 k.1 p.front.items p.ends n count (subst (FrontKept k.0 k.1 p.front.items p.ends) (sym many) k.3) long empty none))
     (found p xs at placed gap within)
 
 -- the rows that stay in front

@@ -9,10 +9,10 @@ pub record DropsLast (p : Places) (len : ℕ) (x : Touched) (kept : Kept) (last 
   pub nothing_kept : kept.back ≡ 0
   pub more : x.more ≡ false
   pub marked : x.marked ≡ None
-  pub one_end : x.front.ends + 1 ≡ length p.ends.items
+  pub one_end : x.front.ends + 1 ≡ length p.ends
   pub one_row : x.front.rows + 1 ≡ length p.front.items
   pub end : EndPlace
-  pub end_is : slice_get p.ends.items x.front.ends ≡ Some end
+  pub end_is : slice_get p.ends x.front.ends ≡ Some end
   pub gap : end.gap ≡ 0
   pub marker : end.marker ≡ 0
   pub later : length p.front.items < end.rows

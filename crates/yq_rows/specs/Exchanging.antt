@@ -1,5 +1,5 @@
 -- What a change touches and what is written in its place, and rows and ends of parts that are replaced by others (own; a reader of the contracts may skip it).
-use Rattle.std.specs.Prelude.{◌≡◌, ℕ, ◌+◌, ◌-◌, ◌<◌, ◌^◌, List, ◌++◌, drop, length, map, reverse, take}
+use Rattle.std.specs.Prelude.{◌≡◌, ℕ, ◌+◌, ◌-◌, ◌<◌, ◌≤◌, ◌^◌, List, ◌++◌, drop, length, map, reverse, take}
 use Rattle.yq_row_table.{specs.Grammar.IsCut, specs.Items.{Item, items_of_cut}, specs.Kept.{near, far, moved_end, ArePlaced}}
 use Rattle.yq_row_table.{specs.Rows.Cut, specs.Touched.TouchesOnly, specs.declared.ends.EndPlace.EndPlace}
 use Rattle.yq_row_table.specs.declared.places.Places.{Places}
@@ -11,9 +11,12 @@ use Rattle.yq_rows.{specs.declared.session_reading.NewRows.NewRows, specs.declar
 abbrev pub moved_from : Side → Side → EndPlace → EndPlace
 moved_from from to e = moved_end ((e.rows - from.rows) + to.rows) ((e.start - from.bytes) + to.bytes) e
 
--- it has a place there (own)
-abbrev pub IsMovable : Side → Side → EndPlace → Type 0
-IsMovable from to e = ((e.rows - from.rows) + to.rows < 2 ^ 64) × ((e.start - from.bytes) + to.bytes < 2 ^ 32)
+-- it comes after the one place, and has a place after the other (own)
+pub record IsMovable (from to : Side) (e : EndPlace) : Type 0 where
+  pub rows : from.rows ≤ e.rows
+  pub bytes : from.bytes ≤ e.start
+  pub new_rows : (e.rows - from.rows) + to.rows < 2 ^ 64
+  pub new_bytes : (e.start - from.bytes) + to.bytes < 2 ^ 32
 
 -- Rows and ends of parts of items between others are replaced by those of items that were read (own).
 pub record GivesWay (p : Places) (x : Touched) (come : NewRows) : Type 0 where
@@ -48,7 +51,7 @@ pub record TextChange (t new : List ℕ) (kept : Kept) (p : Places) (x : Touched
 
 -- both keep rows and ends of parts at the same places (own)
 abbrev pub SamePlaces : Places → Places → Type 0
-SamePlaces old new = (new.front.items ≡ old.front.items) × (new.behind.items ≡ old.behind.items) × (new.ends.items ≡ old.ends.items) × (new.split ≡ old.split)
+SamePlaces old new = (new.front.items ≡ old.front.items) × (new.behind.items ≡ old.behind.items) × (new.ends ≡ old.ends) × (new.split ≡ old.split)
 
 -- the ends of parts in front of those that are replaced, those that were read, and those after, each where it then is (own)
 abbrev pub joined_ends : Side → Side → Side → List EndPlace → List EndPlace → List EndPlace

@@ -63,7 +63,7 @@ pub record IsRead (region : List ℕ) (x : Touched) : Type 0 where
 -- These are the places of the items whose text a region is (own).
 pub record ArePlacesRead (written : List Item) (come : NewRows) : Type 0 where
   pub rows : placed_rows come.read come.places ≡ near 0 written
-  pub ends : come.places.ends.items ≡ ends_near 0 0 written
+  pub ends : come.places.ends ≡ ends_near 0 0 written
   pub long : come.len ≡ length (items_text written [])
   pub short : come.read ≤ come.len
   pub texts : TextsIn written

@@ -23,7 +23,7 @@ first_byte n (o ∷ os) = n - o.start
 -- Rows and ends of parts are kept where those of these items are, one after the other, whose pieces are characters (own).
 pub record AreAt (p : Places) (xs : List Item) : Type 0 where
   pub rows_are : placed_rows (text_length xs) p ≡ near 0 xs
-  pub ends_are : p.ends.items ≡ ends_near 0 0 xs
+  pub ends_are : p.ends ≡ ends_near 0 0 xs
   pub texts : TextsIn xs
   pub small : text_length xs < 2 ^ 32
 

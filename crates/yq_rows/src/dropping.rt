@@ -27,7 +27,7 @@ fn touches_last(places: &Places, touched: Touched, kept: Kept) -> bool
     ensures back { IsTrue result → kept.back ≡ 0 }
     ensures more { IsTrue result → touched.more ≡ false }
     ensures marked { IsTrue result → touched.marked ≡ None }
-    ensures ends { IsTrue result → touched.front.ends + 1 ≡ length places.now.ends.items }
+    ensures ends { IsTrue result → touched.front.ends + 1 ≡ length places.now.ends }
     ensures rows { IsTrue result → touched.front.rows + 1 ≡ length places.now.front.items }
 {
     kept.back == 0
@@ -52,7 +52,7 @@ pub(crate) fn end_dropped(
     if !touches_last(places, touched, kept) {
         return None;
     }
-    let end = *places.ends.get(touched.front.ends)?;
+    let end = places.ends.get(touched.front.ends)?;
     let rows = places.front.len();
     if !is_bare(end, rows) || begin_of(places.behind.as_slice(), len) != kept.front {
         return None;
@@ -62,15 +62,14 @@ pub(crate) fn end_dropped(
 
 /// The rows after the split go, and the last end of a part is replaced by another one.
 pub(crate) fn drop_rows(places: &mut Places, end: EndPlace, at: usize)
-    requires { 1 ≤ length places.old.ends.items }
+    requires { 1 ≤ length places.old.ends }
     ensures front { places.new.front.items ≡ places.old.front.items }
     ensures behind { places.new.behind.items ≡ [] }
-    ensures ends { places.new.ends.items ≡
-        slice_set places.old.ends.items (length places.old.ends.items - 1) end }
+    ensures ends { places.new.ends ≡
+        slice_set places.old.ends (length places.old.ends - 1) end }
     ensures split { places.new.split ≡ at }
 {
-    let last = places.ends.len() - 1;
-    places.ends[last] = end;
+    places.ends.set_last(end);
     places.behind.truncate(0);
     places.split = at;
 }

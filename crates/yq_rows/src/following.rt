@@ -57,8 +57,9 @@ fn write(text: &mut TextGapBuffer, kept: Kept, new: &str)
 /// Writes what comes into a text in the place of the bytes that a change doesn't keep, and places of its
 /// rows come to be those of the new text. Of that no more is read than what comes in the place of the
 /// touched rows and ends of parts, without an end whose marker's line is the last that stays in front,
-/// and without the line of a marker that stays after them: the lines of that are counted. Other rows and bytes stay as they are, before and after: the time goes to the
-/// touched rows, the ends of parts, and the rows and bytes between this change and the one before.
+/// and without the line of a marker that stays after them: the lines of that are counted. Other rows, ends
+/// of parts and bytes stay as they are, before and after: the time goes to those that are touched, and to
+/// those between this change and the one before.
 ///
 /// # Errors
 /// Want of memory alone. Text and places are then those of the old text.
@@ -91,7 +92,7 @@ pub fn follow(
     let region = region(alloc, text.halves(), touched, kept, new)?;
     let come = read(alloc, region.as_str(), touched, meter)?;
     text.reserve(new.len())?;
-    exchange(alloc, places, touched, &come)?;
+    exchange(places, touched, &come)?;
     write(text, kept, new);
     Ok(())
 }

@@ -11,7 +11,7 @@ use crate::touched::Touched;
 use crate::{Meter, read_region};
 use std::alloc::{AllocError, Global};
 use yq_core::ReadError;
-use yq_row_table::{EndPlace, Places};
+use yq_row_table::{EndPlace, PartEnds, Places};
 use yq_text::Halves;
 
 /// Rows and ends of parts that come in the place of others.
@@ -91,14 +91,13 @@ fn read_part(region: &str, unread: Option<EndPlace>) -> &str
 
 /// The ends of parts that were read come to be those of a region: the last one is given the marker that
 /// wasn't read, or, where others come after the region, the empty one after it goes.
-fn settle(ends: &mut Vec<EndPlace>, unread: Option<EndPlace>, more: bool)
-    requires { 1 ≤ length ends.old.items }
-    ensures { ends.new.items ≡ spec.settled_ends ends.old.items unread more }
+fn settle(ends: &mut PartEnds, unread: Option<EndPlace>, more: bool)
+    requires { 1 ≤ length ends.old }
+    ensures { ends.new ≡ spec.settled_ends ends.old unread more }
 {
-    let last = ends.len() - 1;
     match unread {
-        Some(end) => ends[last] = ends[last].marked_as(end),
-        None if more => ends.truncate(last),
+        Some(end) => ends.set_last(ends.at(ends.len() - 1).marked_as(end)),
+        None if more => ends.drop_last(),
         None => {}
     }
 }

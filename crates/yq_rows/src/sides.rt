@@ -1,8 +1,8 @@
 //! What is in front of what a change touches, and in front of what comes after that.
-ghost use Rattle.std.specs.Prelude.{◌≡◌, ◌<◌, ◌≤◌, ◌^◌, length, reverse};
+ghost use Rattle.std.{specs.List.Sorted.IsNonDecreasingBy, specs.Prelude.{◌≡◌, ◌<◌, ◌≤◌, ◌^◌, length, reverse}};
 ghost use Rattle.yq_rows.specs.Sides as spec;
 
-use yq_row_table::{EndPlace, Offsets, Places};
+use yq_row_table::{Measure, Offsets, PartEnds, Places};
 
 /// How many rows, ends of parts and bytes are in front of a place in a text.
 #[derive(Clone, Copy)]
@@ -12,20 +12,16 @@ pub struct Side {
     pub bytes: usize,
 }
 
-/// How many ends of parts begin in front of an offset, up to the first one that doesn't.
-fn ends_before(ends: &[EndPlace], at: usize) -> usize
+/// How many ends of parts begin in front of an offset, where no end begins in front of the one before it.
+fn ends_before(ends: &PartEnds, at: usize) -> usize
     ensures within { result ≤ length ends.now }
-    ensures count { result ≡ spec.ends_before at ends.now }
+    ensures count { IsNonDecreasingBy (λ e. e.start) ends.now → result ≡
+        spec.ends_before at ends.now }
 {
-    let mut count = 0;
-    let mut rest = ends;
-    'ends: while let [end, after @ ..] = rest
-        && end.start() < at
-    {
-        count += 1;
-        rest = after;
+    if at == 0 {
+        return 0;
     }
-    count
+    ends.count_to(Measure::Bytes, at - 1)
 }
 
 /// How many rows, of those kept last first, are nearer to the end of the text than so many bytes.
@@ -48,9 +44,9 @@ pub fn side_before(places: &Places, at: usize) -> Side
     ensures { spec.IsSideBefore places.now at result }
 {
     let rows = places.front.len();
-    let ends = ends_before(places.ends.as_slice(), at);
+    let ends = ends_before(&places.ends, at);
     if ends > 0 {
-        let end = places.ends[ends - 1];
+        let end = places.ends.at(ends - 1);
         if end.rows >= rows {
             return Side {
                 rows,
@@ -81,13 +77,13 @@ pub fn side_behind(places: &Places, len: usize, back: usize) -> Side
     ensures { spec.IsSideBehind places.now len back result }
 {
     let rows = rows_nearer(places.behind.as_slice(), back);
-    let ends = ends_before(places.ends.as_slice(), len - back + 1);
+    let ends = ends_before(&places.ends, len - back + 1);
     let mut bytes = len;
     if rows > 0 {
         bytes = len.saturating_sub(places.behind[rows - 1].start());
     }
     if ends < places.ends.len() {
-        bytes = bytes.min(places.ends[ends].start());
+        bytes = bytes.min(places.ends.at(ends).start());
     }
     Side {
         rows: places.front.len() + (places.behind.len() - rows),

@@ -69,7 +69,7 @@ fn move_rows(places: &mut Places, len: usize, at: usize) -> Result<(), AllocErro
     ensures same { both_sides len places.new.front.items places.new.behind.items ≡
         both_sides len places.old.front.items places.old.behind.items }
     ensures later { All (λ o. o.start ≤ len) places.new.behind.items }
-    ensures ends { places.new.ends.items ≡ places.old.ends.items }
+    ensures ends { places.new.ends ≡ places.old.ends }
     ensures ok { OnOk result (IsSplitAt at len places.new) }
 {
     to_behind(&mut places.front, &mut places.behind, len, at)?;

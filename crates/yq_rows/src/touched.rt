@@ -6,7 +6,7 @@ ghost use Rattle.yq_rows.specs.Sides as spec;
 
 use crate::kept::Kept;
 use crate::{Side, side_before, side_behind};
-use yq_row_table::{EndPlace, Places};
+use yq_row_table::{EndPlace, PartEnds, Places};
 
 /// The rows and ends of parts that a change touches.
 #[derive(Clone, Copy)]
@@ -31,12 +31,12 @@ fn ends_at(end: EndPlace, rows: usize, at: usize) -> bool
 
 /// The place after the end of a part that comes next after what is in front, where its marker's
 /// line ends at an offset, at which a line begins; else what is in front.
-fn past_end(ends: &[EndPlace], front: Side, at: usize, begins: bool) -> Side
+fn past_end(ends: &PartEnds, front: Side, at: usize, begins: bool) -> Side
     ensures { result ≡ spec.past_end (slice_get ends.now front.ends) front at begins }
 {
     if let Some(end) = ends.get(front.ends)
         && begins
-        && ends_at(*end, front.rows, at)
+        && ends_at(end, front.rows, at)
     {
         return Side {
             rows: front.rows,
@@ -57,13 +57,13 @@ fn keeps_marker(end: EndPlace, rows: usize, at: usize) -> bool
 
 /// The last end of a part among those that a change touches, where no row comes after it there and the
 /// line of its marker begins at an offset or after it.
-fn marked_end(ends: &[EndPlace], front: Side, old: Side, at: usize) -> Option<EndPlace>
+fn marked_end(ends: &PartEnds, front: Side, old: Side, at: usize) -> Option<EndPlace>
     ensures { result ≡ spec.marked_end ends.now front old at }
 {
     if old.ends <= front.ends {
         return None;
     }
-    let end = *ends.get(old.ends - 1)?;
+    let end = ends.get(old.ends - 1)?;
     if keeps_marker(end, old.rows, at) {
         Some(end)
     } else {
@@ -74,7 +74,7 @@ fn marked_end(ends: &[EndPlace], front: Side, old: Side, at: usize) -> Option<En
 /// Whether rows or ends of parts come after others.
 fn has_more(places: &Places, old: Side) -> bool
     ensures { result ≡ (nat_lt old.rows (length (kept_rows places.now))
-        || nat_lt old.ends (length places.now.ends.items)) }
+        || nat_lt old.ends (length places.now.ends)) }
 {
     places.len() > old.rows || places.ends.len() > old.ends
 }
@@ -90,12 +90,12 @@ pub(crate) fn find_touched(places: &Places, len: usize, kept: Kept, begins: bool
         (h : Follows t places.now kept new) → TextChange t new kept places.now result }
 {
     let before = side_before(places, kept.front);
-    let front = past_end(places.ends.as_slice(), before, kept.front, begins);
+    let front = past_end(&places.ends, before, kept.front, begins);
     let old = side_behind(places, len, kept.back);
     Touched {
         front,
         old,
         more: has_more(places, old),
-        marked: marked_end(places.ends.as_slice(), front, old, len - kept.back),
+        marked: marked_end(&places.ends, front, old, len - kept.back),
     }
 }

@@ -1,6 +1,6 @@
 use Rattle.std.{proofs.Common.{◌+◌, ◌-◌, ◌<◌, ◌^◌, List, ◌++◌, map, take, refl, ap, sym, subst, ◌∙◌, arith}, specs.List.All}
 use Rattle.yq_row_table.specs.Kept.{raised, placed_rows}
-use Rattle.yq_rows.{specs.Exchanging.{IsMovable, joined_ends}, specs.Sides.origin, specs.declared.sides.Side.Side}
+use Rattle.yq_rows.{specs.Exchanging.IsMovable, specs.Sides.origin, specs.declared.sides.Side.Side}
 use Rattle.yq_rows.proofs.ExchangeLaws.{ends_behind, ends_movable, exchanged, numbers, rows_movable}
 use Rattle.yq_row_table.specs.declared.offsets.Offsets as declared
 use Rattle.yq_rows.proofs.exchanging.exchange.Goals as goal
@@ -31,20 +31,24 @@ returns-clause-ok c h =
     let n = numbers p x come h in
     let next : Side = record { rows = x.front.rows + c.len-rows.result; ends = 0; bytes = x.front.bytes + come.len } in
     let front_now = c.push_rows.ensures ∙ ap (λ (l : List declared.Offsets). l ++ map (raised x.front.bytes) (placed_rows come.read come.places)) (c.truncate.ensures.items ∙ ap (take x.front.rows) c.reserve.ensures.items) in
-    let ends_now = c.in_ok-exchange_ends.ensures.ok ∙ ap (joined_ends x.front x.old next p.ends.items) c.as_slice-found.ensures.value in
-    exchanged p _ x come next (c.len.result - x.old.rows) h (omega (arith, c.len.ensures, n.all_rows)) (ap (λ m. x.front.rows + m) c.len-rows.ensures) refl front_now c.truncate-2.ensures.items ends_now refl
+    exchanged p _ x come next (c.len.result - x.old.rows) h (omega (arith, c.len.ensures, n.all_rows)) (ap (λ m. x.front.rows + m) c.len-rows.ensures) refl front_now c.truncate-2.ensures.items c.in_ok-exchange_ends.ensures.ok refl
 
-pub exchange_ends-requires-clause-front : goal.exchange_ends-requires-clause-front
-exchange_ends-requires-clause-front c = let n = numbers c.args.places.now c.args.touched c.args.come.now c.requires in n.front_ends
+pub exchange_ends-requires-clause-order : goal.exchange_ends-requires-clause-order
+exchange_ends-requires-clause-order c = let n = numbers c.args.places.now c.args.touched c.args.come.now c.requires in n.order
 
-pub exchange_ends-requires-clause-old : goal.exchange_ends-requires-clause-old
-exchange_ends-requires-clause-old c = let n = numbers c.args.places.now c.args.touched c.args.come.now c.requires in n.old_ends
+pub exchange_ends-requires-clause-small : goal.exchange_ends-requires-clause-small
+exchange_ends-requires-clause-small c =
+    let n = numbers c.args.places.now c.args.touched c.args.come.now c.requires in
+    (omega (arith, n.bytes), n.old_bytes, omega (arith, n.bytes))
+
+pub exchange_ends-requires-clause-within : goal.exchange_ends-requires-clause-within
+exchange_ends-requires-clause-within c = let n = numbers c.args.places.now c.args.touched c.args.come.now c.requires in n.old_ends
 
 pub exchange_ends-requires-clause-found : goal.exchange_ends-requires-clause-found
 exchange_ends-requires-clause-found c =
     let h = c.requires in
     let n = numbers c.args.places.now c.args.touched c.args.come.now h in
-    subst (All (IsMovable origin c.args.touched.front)) (sym (c.as_slice-found.ensures.value ∙ h.are_read.ends))
+    subst (All (IsMovable origin c.args.touched.front)) (sym h.are_read.ends)
     (ends_movable origin c.args.touched.front h.written (omega (arith, c.in_ok-reserve.ensures.ok, c.reserve.ensures.len, c.len-rows.ensures, n.come_rows)) (omega (arith, h.are_read.long, n.bytes)))
 
 pub exchange_ends-requires-clause-behind : goal.exchange_ends-requires-clause-behind

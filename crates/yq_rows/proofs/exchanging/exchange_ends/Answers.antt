@@ -1,20 +1,17 @@
-use Rattle.std.proofs.Common.{◌≡◌, ◌+◌, ◌<◌, ap, arith, drop, get_or, length, length-drop, slice_set, subst, sym, ◌∙◌, rules}
-use Rattle.std.{proofs.lemmas.List.get_or-drop, proofs.lemmas.List.Elements.All-get_or}
-use Rattle.yq_rows.{specs.Exchanging.IsMovable, proofs.ExchangeLaws.moved_last}
+use Rattle.std.{proofs.Common.{◌≡◌, ◌++◌, ◌∙◌, arith, drop, take}, proofs.lemmas.Result.IfOk-weaker}
+use Rattle.yq_row_table.specs.PartEnds.{ends_exchanged}
+use Rattle.yq_rows.{specs.Exchanging.joined_ends, specs.Sides.origin, proofs.ExchangeLaws.ends_shifted}
 use Rattle.yq_rows.proofs.exchanging.exchange_ends.Goals as goal
 
-pub moved_end-requires : goal.moved_end-requires
-moved_end-requires c =
-    let es = c.args.ends.now.items in
-    let n = c.args.old.ends in
-    let e = c.index.result.now in
-    let less : 0 < length (drop n es) = omega (arith, c.if-old-len.true, c.len.ensures, c.args.ends.now.ok.0, length-drop n es) in
-    let own : get_or (drop n es) 0 e ≡ e = search (rules, get_or-drop, e, es, n) in
-    subst (IsMovable c.args.old c.args.new) own (All-get_or (IsMovable c.args.old c.args.new) (drop n es) 0 e less c.requires.behind)
-
-pub returns-then-old-len-clause-ok : goal.returns-then-old-len-clause-ok
-returns-then-old-len-clause-ok c =
-    let es = c.args.ends.now.items in
-    let last : c.args.old.ends + 1 ≡ length es = omega (arith, c.if-old-len.true, c.len.ensures, c.args.ends.now.ok.0) in
-    ap (slice_set es c.args.old.ends) c.moved_end.ensures
-    ∙ moved_last c.args.front c.args.old c.args.new es c.args.found.now c.index.result.now (sym c.is_empty.ensures ∙ c.if-is_empty.true) c.if-front-old.true last c.index.ensures
+pub returns-clause-ok : goal.returns-clause-ok
+returns-clause-ok c =
+    let front = c.args.front in
+    let old = c.args.old in
+    let new = c.args.new in
+    let es = c.args.ends.now in
+    let found = c.args.found.now in
+    let come = ends_shifted origin front found (omega arith) (omega arith) c.requires.found in
+    let later = ends_shifted old new (drop old.ends es) (omega arith) (omega (arith, c.requires.small)) c.requires.behind in
+    let all : ends_exchanged front.ends old.ends c.shift.result c.shift-2.result es found ≡ joined_ends front old new es found =
+    (λ i. ends_exchanged front.ends old.ends (c.shift.ensures i) (c.shift-2.ensures i) es found) ∙ (λ i. take front.ends es ++ (come i ++ later i)) in
+    IfOk-weaker c.exchange.result _ _ (λ _ h. h ∙ all) c.exchange.ensures.ok

@@ -2,9 +2,9 @@ use Rattle.std.proofs.Common.{◌≡◌, ℕ, ◌+◌, List, [], ◌++◌, true,
 use Rattle.std.proofs.lemmas.List.Elements.{All-push}
 use Rattle.yq_core.specs.Text.{is_empty}
 use Rattle.yq_row_table.{specs.Grammar.begins_document, specs.Offsets.{Ends, rows_in}, specs.Ends.{EndStands, EndsStand, bounds_in}}
-use Rattle.yq_row_table.{specs.declared.places.Places.Places, proofs.EndsNear.{ends_placed_end, ends_placed_step, kept_part}}
-use Rattle.yq_row_table.{proofs.Failing.fails_by, proofs.NearLaws.{near_read, parts_placed_end, parts_placed_step}}
-use Rattle.yq_row_table.proofs.OffsetLaws.{ends_next, rows_length}
+use Rattle.yq_row_table.{specs.declared.ends.EndPlace.EndPlace, specs.declared.places.Places.Places}
+use Rattle.yq_row_table.{proofs.EndsNear.{ends_placed_end, ends_placed_step, kept_part}, proofs.Failing.fails_by}
+use Rattle.yq_row_table.{proofs.NearLaws.{near_read, parts_placed_end, parts_placed_step}, proofs.OffsetLaws.{ends_next, rows_length}}
 use Rattle.yq_row_table.proofs.PartSlicing.{one_part, end_ends, empty_by, bounds_push, part_is_marker, part_smaller, parts_none}
 use Rattle.yq_row_table.{proofs.PartSlicing.{parts_unmarked, parts_end, parts_more}, proofs.PartsLaws.marker_takes}
 use Rattle.yq_row_table.proofs.PlacedLaws.{Scanned, scanned_places, scanned_view}
@@ -19,7 +19,7 @@ end_of-requires-clause-ends c =
     let part = one_part (rows_in c.args.text.now c.parts.rows.items) c.parts.is_open c.parts.rest.now (rows_in c.args.text.now c.in-Ok.part.0.items) c.in-Ok.part.1.now c.in-Ok.part.2.now c.in-Ok.ensures.found in
     end_ends c.args.text.now c.parts.rest.now c.in-Ok.part.1.now c.in-Ok.part.2.now c.parts.is_open part.part c.parts.invariant.ends part.read part.end_is
 
-scanned : (c : goal.After-of-text) → Scanned c.args.text.now c.of-text.result (record { front = c.in-Ok.part.0; behind = c.new-behind.result; ends = c.push.new.self; split = length c.args.text.now })
+scanned : (c : goal.After-of-text) → Scanned c.args.text.now c.of-text.result (record { front = c.in-Ok.part.0; behind = c.new-behind.result; ends = c.of-ends.result; split = length c.args.text.now })
 scanned c =
     let whole = c.args.text.now in
     let none : is_empty c.in-Ok.part.2.now ≡ true = empty_by c.in-Ok.part.2.now _ true c.is_empty.ensures c.if-is_empty.true in
@@ -30,7 +30,8 @@ scanned c =
     let kept = kept_part c.parts.is_open whole c.parts.rest.now c.in-Ok.part.2.now [] c.in-Ok.part.2.now c.in-Ok.part.1.now (length c.parts.rows.items) c.len-count.result part.part c.end_of.result c.parts.invariant.ends part.read part.end_is refl rows c.end_of.ensures.place in
     let read = parts_end _ (rows_in whole c.in-Ok.part.0.items) _ _ _ _ _ _ _ _ c.in-Ok.ensures.found none count pushed c.parts.invariant.so_far in
     let stand = subst (EndsStand whole) (sym c.in_ok-push.ensures.items) (All-push (EndStands whole) c.parts.ends.items c.end_of.result c.parts.invariant.ends_stand c.end_of.ensures.stands) in
-    record {
+    subst (λ (es : List EndPlace). Scanned whole c.of-text.result (record { front = c.in-Ok.part.0; behind = c.new-behind.result; ends = es; split = length whole })) (sym c.of-ends.ensures)
+    (record {
       read = near_read whole c.in-Ok.part.0.items _ _
           (parts_placed_end c.parts.rows.items c.in-Ok.part.0.items (length whole - length c.parts.rest.now) c.parts.is_open c.parts.rest.now c.in-Ok.part.2.now part.part _ part.read none c.in-Ok.ensures.placed c.parts.invariant.placed)
           (ends_placed_end c.parts.ends.items _ c.end_of.result whole c.parts.rest.now c.in-Ok.part.2.now (length c.parts.rows.items) c.parts.is_open part.part _ part.read none kept c.in_ok-push.ensures.items c.parts.invariant.ends_placed)
@@ -43,19 +44,20 @@ scanned c =
       rows_stand = c.in-Ok.ensures.kept;
       ends_stand = stand;
       small = c.requires;
-    }
+    })
 
 pub of-requires : goal.of-requires
-of-requires c = scanned_places c.args.text.now c.of-text.result (record { front = c.in-Ok.part.0; behind = c.new-behind.result; ends = c.push.new.self; split = length c.args.text.now }) (scanned c)
+of-requires c = scanned_places c.args.text.now c.of-text.result (record { front = c.in-Ok.part.0; behind = c.new-behind.result; ends = c.of-ends.result; split = length c.args.text.now }) (scanned c)
 
 pub returns-then-is_empty-clause-read : goal.returns-then-is_empty-clause-read
 returns-then-is_empty-clause-read c =
     let whole = c.args.text.now in
-    let p : Places = record { front = c.in-Ok.part.0; behind = c.new-behind.result; ends = c.push.new.self; split = length whole } in
+    let p : Places = record { front = c.in-Ok.part.0; behind = c.new-behind.result; ends = c.of-ends.result; split = length whole } in
     let none : is_empty c.in-Ok.part.2.now ≡ true = empty_by c.in-Ok.part.2.now _ true c.is_empty.ensures c.if-is_empty.true in
     let count : c.len-count.result ≡ length (rows_in whole c.in-Ok.part.0.items) = c.len-count.ensures ∙ (c.in-Ok.part.0.ok.0 ∙ rows_length whole c.in-Ok.part.0.items) in
     let pushed = bounds_push whole c.parts.ends.items _ c.end_of.result _ c.in_ok-push.ensures.items c.end_of.ensures.same in
     parts_end _ (rows_in whole c.in-Ok.part.0.items) _ _ _ _ _ _ _ _ c.in-Ok.ensures.found none count pushed c.parts.invariant.so_far
+    ∙ ap (λ (es : List EndPlace). Some (record { rows = rows_in whole c.in-Ok.part.0.items; bounds = bounds_in whole es })) (sym c.of-ends.ensures)
     ∙ ap Some (sym (c.of.ensures ∙ scanned_view whole c.of-text.result p (scanned (goal.at.returns-then-is_empty-clause-read c).After-of-text)))
 
 pub read_marker-requires : goal.read_marker-requires

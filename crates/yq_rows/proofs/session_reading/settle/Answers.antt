@@ -1,18 +1,12 @@
-use Rattle.std.proofs.Common.{◌≡◌, ◌∙◌, ◌-◌, sym, ap, take, length, Option, slice_set, refl, arith}
+use Rattle.std.{proofs.Common.{◌-◌, ◌∙◌, ℕ, sym, ap, get_or, length, Option, slice_set, refl}, proofs.lemmas.Option.get_or_from_slice_get}
 use Rattle.yq_row_table.specs.declared.ends.EndPlace.{EndPlace}
 use Rattle.yq_rows.{specs.Reading.settled_ends, proofs.ReadLaws.settled_set}
 use Rattle.yq_rows.proofs.session_reading.settle.Goals as goal
 
 pub returns-in-Some : goal.returns-in-Some
 returns-in-Some c =
-    ap (slice_set c.args.ends.now.items (c.len-last.result - 1)) c.marked_as.ensures
-    ∙ (settled_set c.args.ends.now.items c.in-Some.end c.index.result.now (c.len-last.result - 1) c.args.more (omega arith) c.requires c.index.ensures
-    ∙ ap (λ (u : Option EndPlace). settled_ends c.args.ends.now.items u c.args.more) (sym c.in-Some.is))
-
-pub returns-in-None : goal.returns-in-None
-returns-in-None c =
-    let same : c.len-last.result - 1 ≡ length c.args.ends.now.items - 1 = omega arith in
-    rw (c.in-None.is, c.if-more.true) (c.truncate.ensures.items ∙ ap (λ n. take n c.args.ends.now.items) same)
-
-pub returns-else-more : goal.returns-else-more
-returns-else-more c = rw (c.in-None.is, c.if-more.false) refl
+    let es = c.args.ends.now in
+    c.set_last.ensures
+    ∙ (ap (slice_set es (length es - 1)) c.marked_as.ensures
+    ∙ (settled_set es c.in-Some.end c.at.result (length es - 1) c.args.more refl c.requires (sym (get_or_from_slice_get es (c.len.result - 1) c.at.result c.at.result c.at.ensures) ∙ ap (λ (n : ℕ). get_or es (n - 1) c.at.result) c.len.ensures)
+    ∙ ap (λ (u : Option EndPlace). settled_ends es u c.args.more) (sym c.in-Some.is)))

@@ -1,25 +1,67 @@
-use Rattle.std.proofs.Common.{◌++◌, ◌≡◌, ◌+◌, ◌-◌, ◌≤◌, length, List, take, drop, leb, ltb, rules, ap, sym, subst, ◌∙◌}
-use Rattle.std.{specs.List.Sorted.IsNonDecreasingBy, proofs.lemmas.List.take_rest}
-use Rattle.std.proofs.lemmas.List.Sorted.{IsPartitionPoint-from_clause, IsPartitionedBy-leb, IsPartitionedBy-ltb, IsNonDecreasingBy-drop}
-use Rattle.yq_row_table.{specs.Ends.bounds_in_halves, specs.View.{Bound, bounds_at, RowsView}}
-use Rattle.yq_row_table.proofs.RestSlicing.{ends_rise, rest_sliced, rest_range, range_within}
+use Rattle.std.{proofs.Common.{◌≡◌, ◌-◌, ◌++◌, length, List, take, drop, ap, arith, sym, subst}, specs.List.Sorted.IsNonDecreasingBy}
+use Rattle.std.proofs.lemmas.List.{length-map}
+use Rattle.yq_row_table.{specs.Ends.bound_in_half, specs.View.{Bound, bounds_at, RowsView}}
+use Rattle.yq_row_table.proofs.RestSlicing.{AtRow, ends_rise, in_order, rest_sliced}
 use Rattle.yq_row_table.proofs.rows.Rows.rest.Goals as goal
+
+pub returns-then-i-eq0-clause-within : goal.returns-then-i-eq0-clause-within
+returns-then-i-eq0-clause-within c =
+    let bounds = ap (λ (s : RowsView). s.bounds) c.self.view_is in
+    omega (arith, c.count_to-to.ensures.within, ap length bounds, length-map c.self.inside.places.ends (bound_in_half c.self.inside.text))
 
 pub returns-clause-within : goal.returns-clause-within
 returns-clause-within c =
-    let bounds = ap (bounds_in_halves c.self.inside.text) c.as_slice-ends.ensures.value ∙ ap (λ (s : RowsView). s.bounds) c.self.view_is in
-    subst (λ (l : List Bound). c.partition_point-from.result + c.partition_point-count.result ≤ length l) bounds
-    (range_within c.self.inside.text c.partition_point-from.result c.partition_point-count.result c.as_slice-ends.result.now _ (take_rest c.as_slice-ends.result.now c.partition_point-from.result) c.partition_point-from.ensures.bound c.partition_point-count.ensures.bound)
+    let bounds = ap (λ (s : RowsView). s.bounds) c.self.view_is in
+    omega (arith, c.count_to-to.ensures.within, ap length bounds, length-map c.self.inside.places.ends (bound_in_half c.self.inside.text))
+
+pub returns-then-i-eq0-clause-bounds : goal.returns-then-i-eq0-clause-bounds
+returns-then-i-eq0-clause-bounds c =
+    let own = c.self.inside.places.ends in
+    let to = c.count_to-to.result in
+    let rise = subst (IsNonDecreasingBy (λ e. e.rows)) (sym c.self.invariant.placed.ends_are)
+    (ends_rise (c.self.invariant.before ++ c.self.invariant.behind) 0 0) in
+    let second = c.count_to-to.ensures.count rise in
+    let h : AtRow c.args.i 0 to own = record {
+      within = c.count_to-to.ensures.within;
+      before = λ k d low less. absurd (omega (arith, less));
+      reached = λ k d low less. omega arith;
+      here = second.0;
+      passed = second.1;
+    } in
+    subst (λ (l : List Bound). take (to - 0) (drop 0 l) ≡ bounds_at c.args.i l) (ap (λ (s : RowsView). s.bounds) c.self.view_is)
+    (rest_sliced c.self.inside.text c.args.i 0 to own (omega arith) h)
+
+pub returns-clause-order : goal.returns-clause-order
+returns-clause-order c =
+    let own = c.self.inside.places.ends in
+    let rise = subst (IsNonDecreasingBy (λ e. e.rows)) (sym c.self.invariant.placed.ends_are)
+    (ends_rise (c.self.invariant.before ++ c.self.invariant.behind) 0 0) in
+    let first = c.count_to.ensures.count rise in
+    let second = c.count_to-to.ensures.count rise in
+    let h : AtRow c.args.i c.count_to.result c.count_to-to.result own = record {
+      within = c.count_to-to.ensures.within;
+      before = λ k d low less. omega (arith, first.0 k d low less);
+      reached = λ k d low less. omega (arith, first.1 k d low less);
+      here = second.0;
+      passed = second.1;
+    } in
+    in_order c.args.i c.count_to.result c.count_to-to.result own c.count_to.ensures.within h
 
 pub returns-clause-bounds : goal.returns-clause-bounds
 returns-clause-bounds c =
-    let rise : IsNonDecreasingBy (λ b. b.rows) c.as_slice-ends.result.now = subst (IsNonDecreasingBy (λ e. e.rows)) (sym (c.as_slice-ends.ensures.value ∙ c.self.invariant.placed.ends_are)) (ends_rise (c.self.invariant.before ++ c.self.invariant.behind) 0 0) in
-    let all = take_rest c.as_slice-ends.result.now c.partition_point-from.result in
-    let later = subst (IsNonDecreasingBy (λ e. e.rows)) (sym all) (IsNonDecreasingBy-drop (λ b. b.rows) c.partition_point-from.result _ rise) in
-    let first = IsPartitionPoint-from_clause (λ b. ltb b.rows c.args.i) _ _ c.partition_point-from.ensures.partitioned (IsPartitionedBy-ltb (λ b. b.rows) _ c.args.i rise) (λ a r q k. search rules) in
-    let second = IsPartitionPoint-from_clause (λ b. leb b.rows c.args.i) _ _ c.partition_point-count.ensures.partitioned (IsPartitionedBy-leb (λ b. b.rows) _ c.args.i later) (λ a r q k. search rules) in
-    let whole = c.self.inside.text in
-    let sliced = rest_sliced whole c.args.i _ _ _ _ all c.partition_point-from.ensures.bound c.partition_point-count.ensures.bound first second in
-    let bounds = ap (bounds_in_halves whole) c.as_slice-ends.ensures.value ∙ ap (λ (s : RowsView). s.bounds) c.self.view_is in
-    subst (λ (l : List Bound). take ((c.partition_point-from.result + c.partition_point-count.result) - c.partition_point-from.result) (drop c.partition_point-from.result l) ≡ bounds_at c.args.i l) bounds
-    (rest_range whole c.args.i c.partition_point-from.result c.partition_point-count.result c.as_slice-ends.result.now _ all sliced)
+    let own = c.self.inside.places.ends in
+    let from = c.count_to.result in
+    let to = c.count_to-to.result in
+    let rise = subst (IsNonDecreasingBy (λ e. e.rows)) (sym c.self.invariant.placed.ends_are)
+    (ends_rise (c.self.invariant.before ++ c.self.invariant.behind) 0 0) in
+    let first = c.count_to.ensures.count rise in
+    let second = c.count_to-to.ensures.count rise in
+    let h : AtRow c.args.i from to own = record {
+      within = c.count_to-to.ensures.within;
+      before = λ k d low less. omega (arith, first.0 k d low less);
+      reached = λ k d low less. omega (arith, first.1 k d low less);
+      here = second.0;
+      passed = second.1;
+    } in
+    subst (λ (l : List Bound). take (to - from) (drop from l) ≡ bounds_at c.args.i l) (ap (λ (s : RowsView). s.bounds) c.self.view_is)
+    (rest_sliced c.self.inside.text c.args.i from to own (in_order c.args.i from to own c.count_to.ensures.within h) h)
