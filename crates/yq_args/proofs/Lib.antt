@@ -7,3 +7,4 @@ pub mod AskedLaws
 pub mod JournalNameLaws
 pub mod LineLaws
 pub mod WordsFound
+pub mod NamedLaws

@@ -5,3 +5,4 @@ pub mod Line
 pub mod Parts
 pub mod Setting
 pub mod CommandWords
+pub mod Named

@@ -14,7 +14,7 @@ use Rattle.yq_commands.specs.CommandEffects.{edit_effect, edit_writes, update_ef
 use Rattle.yq_commands.{specs.CommandEffects.output_by, specs.FileEdits.HasEdited, specs.Edits.edit_record}
 use Rattle.yq_commands.{specs.CommandDone.{CarriesOut, IsSilent}, specs.CommandNames.{IsOn, file_of}}
 use Rattle.yq_commands.specs.Lists.{answer_by, IsUnrelated, AllOnOrApart, Reply, IsAnswer, Goes, RunsAll, ReportsEffect, HasEffect, RunsTo}
-use Rattle.yq_commands.specs.Lists.{Keeps, ReportsUnparsed, is_accepted, leaves_names}
+use Rattle.yq_commands.{specs.Lists.{Keeps, ReportsUnparsed, is_accepted, leaves_names}, specs.Help.{AnswersHelp, Helps, IsHelpAnswer}}
 use Rattle.yq_commands.{specs.Expecting.{expects_change, works_as_expected}, specs.Prints.{prints, prints_change}}
 use Rattle.yq_commands.{proofs.ReplyLaws.{reply, reply-answer, reply-printed}, proofs.ListLaws.{arrived, not_true}}
 use Rattle.yq_args.specs.declared.command.Command.{Command}
@@ -153,6 +153,7 @@ pub record IsDone {T : Type 0} (c e : FileMap) (cmd : Command) (r : Result T Fau
   pub silent : IsSilent cmd s
   pub no_output : IfErr r (λ x. is_output x ≡ false)
   pub unparsed : (f : Fault) → expression_fault cmd ≡ Some f → IsUnparsed f r
+  pub helped : Helps cmd r s
 
 -- a command on a file names it
 on_file : (cmd : Command) (f j : List ℕ) → IsOn f j cmd → file_of cmd ≡ f
@@ -200,6 +201,18 @@ unparsed_by : {T : Type 0} (f : Fault) (r : Result T Fault) (a : Answer) (s : Re
 unparsed_by f (Ok v) a s is reports = absurd reports
 unparsed_by f (Err x) a s is reports = subst (ReportsUnparsed f) (sym (reply-answer a s.printed ∙ is)) reports
 
+-- the answer to one that asks for help
+helped_by : {T : Type 0} (cmd : Command) (r : Result T Fault) (a : Answer) (s : Report) → IsAnswer r a s → Helps cmd r s →
+    AnswersHelp cmd (reply a s.printed).answer (reply a s.printed).printed
+helped_by Help (Ok v) a s (inl is) shows = subst (λ y. IsHelpAnswer (reply y s.printed).answer (reply y s.printed).printed) (sym (is ∙ ap answer_by shows.1)) shows.0
+helped_by Help (Ok v) a s (inr is) shows = subst (λ y. IsHelpAnswer (reply y s.printed).answer (reply y s.printed).printed) (sym is.0) (inr refl, refl)
+helped_by Help (Err x) a s is shows = subst (λ y. IsHelpAnswer (reply y s.printed).answer (reply y s.printed).printed) (sym is) (inl shows, refl)
+helped_by (Eval expr f j in_place options) r a s is shows = tt
+helped_by (Undo f j) r a s is shows = tt
+helped_by (Redo f j) r a s is shows = tt
+helped_by (Lists f j diffs) r a s is shows = tt
+helped_by (Squash n f j) r a s is shows = tt
+
 module _ {T : Type 0} (c e : FileMap) (cmd : Command) (r : Result T Fault) (a : Answer) (s : Report) (k : IsDone c e cmd r a s) where
   -- a command goes on, on the pair or apart from it
   goes_on : (f j : List ℕ) → f ≢ j → IsOn f j cmd ⊎ IsUnrelated f j cmd → (h : Option History) → GoodIn c f j h → (m : Option History) × Goes f j cmd h (reply a s.printed) m × GoodIn e f j m
@@ -232,6 +245,7 @@ module _ {T : Type 0} (c e : FileMap) (cmd : Command) (r : Result T Fault) (a : 
     steps = λ f j apart fits h good. goes_on f j apart fits h good;
     edited = edited_by c e cmd r a s k.answered k.done.edited;
     unparsed = λ f is. unparsed_by f r a s k.answered (k.unparsed f is);
+    helped = helped_by cmd r a s k.answered k.helped;
   }
 
 -- ---- a list of commands

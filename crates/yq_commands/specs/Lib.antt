@@ -14,3 +14,4 @@ pub mod Reads
 pub mod Calls
 pub mod CommandDone
 pub mod ListRuns
+pub mod Help

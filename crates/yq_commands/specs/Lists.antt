@@ -4,7 +4,7 @@ use Rattle.std.{specs.Prelude.{if◌then◌else◌, IsTrue, MatchBool, MatchResu
 use Rattle.yq_journal.specs.History.{History}
 use Rattle.yq_commands.{specs.declared.answer.Answer.Answer, specs.declared.answer.Answer.TheVariants.{Done, NoMatch, Refused}}
 use Rattle.yq_commands.{specs.CommandNames.{IsOn, IsNotNamed, file_of}, specs.CommandEffects.{OfEffect, expression_fault, output_by}}
-use Rattle.yq_commands.{specs.FileEdits.HasEdited, specs.Expecting.{expects_change, works_as_expected}}
+use Rattle.yq_commands.{specs.FileEdits.HasEdited, specs.Expecting.{expects_change, works_as_expected}, specs.Help.AnswersHelp}
 use Rattle.yq_commands.{specs.Prints.{prints, prints_change, report_of}, specs.CommandSteps.{cause_of, next_of}}
 use Rattle.yq_args.specs.declared.command.Command.{Command}
 use Rattle.yq_history.{specs.declared.fault.Fault.Fault, specs.declared.fault.Fault.TheVariants.{OutFailed, OutOfMemory}}
@@ -159,6 +159,8 @@ pub record RunsTo (c : Command) (r : Reply) (old new : FileMap) : Type 0 where
   pub edited : is_accepted r.answer ≡ true → HasEdited c old new r.printed
   -- an expression that is no program is refused before all else
   pub unparsed : (f : Fault) → expression_fault c ≡ Some f → ReportsUnparsed f r.answer
+  -- help was printed, or memory ran out, or the output failed
+  pub helped : AnswersHelp c r.answer r.printed
 
 -- one command after another
 abbrev pub Keeps : FileMap → List Command → List Reply → FileMap → Type 0

@@ -1,4 +1,6 @@
 //! The words with which the program was called, as the system has them.
+ghost use Rattle.std.specs.Prelude.{◌≡◌, ◌⊎◌, IfErr, IsTrue, OnOk};
+ghost use Rattle.yq_commands.specs.Help.{TookHelp};
 
 use crate::Out;
 use crate::help::{USAGE, help_text};
@@ -75,7 +77,10 @@ pub fn report_usage(rt: &HostRuntime, cause: UsageCause) -> io::Result<()> {
 }
 
 /// Puts the help to an output, by the name by which the program was called.
-pub fn put_help<W: Out>(rt: &HostRuntime, out: &mut W) -> Result<(), Fault> {
+pub fn put_help<W: Out>(rt: &HostRuntime, out: &mut W) -> Result<(), Fault>
+    ensures taken { IsTrue W.observable → OnOk result (TookHelp (W.taken out.old) (W.taken out.new)) }
+    ensures err { IfErr result (λ e. (e ≡ Fault.OutOfMemory) ⊎ (e ≡ Fault.OutFailed)) }
+{
     let text = help_text(rt.alloc(), &own_name(rt)?)?;
     match out.put(text.as_bytes()) {
         Ok(()) => Ok(()),

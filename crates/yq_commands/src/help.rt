@@ -1,5 +1,6 @@
 //! Help.
-ghost use Rattle.std.specs.Prelude.{◌≡◌, IfErr};
+ghost use Rattle.std.specs.Prelude.{◌≡◌, IfErr, IfOk, string_bytes};
+ghost use Rattle.yq_commands.specs.Help.{ShowsHelp, help_of};
 ghost use Rattle.yq_history.specs.Report.{nothing, report_by};
 
 use std::alloc::{AllocError, Global};
@@ -62,7 +63,9 @@ Version:  0.1.0
 ";
 
 /// The help of a program of this name.
-pub fn help_text(alloc: Global, name: &str) -> Result<String, AllocError> {
+pub fn help_text(alloc: Global, name: &str) -> Result<String, AllocError>
+    ensures { IfOk result (λ s. string_bytes s ≡ help_of name.now) }
+{
     let mut text = String::new(alloc);
     push_named(&mut text, USAGE, name)?;
     push_named(&mut text, DETAILS, name)?;
@@ -73,6 +76,7 @@ pub fn help_text(alloc: Global, name: &str) -> Result<String, AllocError> {
 pub fn help(alloc: Global, report: &mut Report) -> Result<(), Fault>
     requires empty { report_by report.old ≡ nothing }
     ensures memory { IfErr result (λ e. e ≡ Fault.OutOfMemory) }
+    ensures text { ShowsHelp result (report_by report.new) }
 {
     report.text = help_text(alloc, "yq")?;
     Ok(())

@@ -2,7 +2,7 @@
 ghost use Rattle.std.{specs.Prelude.{◌≡◌, [], Some, IfErr, IsTrue, false}, specs.String.string_bytes};
 ghost use Rattle.yq_commands.specs.CommandDone.{CarriesOut, EditsInPlace, IsSilent, MatchesStill, MatchesUnasked};
 ghost use Rattle.yq_commands.{specs.CommandEffects.{IsUnparsed, expression_fault, fault_of}, specs.Editing.program_in};
-ghost use Rattle.yq_commands.specs.Calls.{CallsOf, CallsOfUpdate};
+ghost use Rattle.yq_commands.{specs.Calls.{CallsOf, CallsOfUpdate}, specs.Help.Helps};
 ghost use Rattle.yq_history.{specs.Faults.{is_output, failures_after}, specs.Report.{nothing, report_by}};
 
 use crate::editing::edit_from;
@@ -54,6 +54,7 @@ pub fn execute<D: Store>(
     ensures unparsed { (f : Fault) → expression_fault command.now ≡ Some f → IsUnparsed f result }
     ensures silent { IsSilent command.now (report_by report.new) }
     ensures matched { MatchesUnasked command.now (report_by report.new) }
+    ensures helped { Helps command.now result (report_by report.new) }
     ensures no_output { IfErr result (λ e. is_output e ≡ false) }
     ensures count { D.failures store.new ≡ failures_after result (D.failures store.old) }
     ensures calls { CallsOf D.leads result command.now store.old store.new }

@@ -1,5 +1,6 @@
 -- Owner, group and mode of the file that replaces another one, or of a journal (own).
-use Rattle.std.specs.Prelude.{ℕ, ◌*◌, ◌==◌, ◌||◌, List, [], ◌∷◌, Bool, bit_and, bit_or, if◌then◌else◌, Option, Some, None, Result, Ok, Err}
+use Rattle.std.specs.Prelude.{ℕ, ◌≡◌, ◌*◌, ◌==◌, ◌||◌, List, [], ◌∷◌, Bool, bit_and, bit_or, if◌then◌else◌, Option, Some, None, Result, Ok}
+use Rattle.std.{specs.Prelude.Err, specs.Fs.metadata_mode, specs.declared.fs.attrs.Metadata.Metadata}
 use Rattle.yq_store.{specs.Belief.is_trusted, specs.declared.disk.found.FoundFile.FoundFile, specs.declared.disk.ownership.Had.Had}
 use Rattle.yq_store.{specs.declared.disk.ownership.Had.TheVariants.{All, Group, Nothing}, specs.declared.disk.ownership.Rights.Rights}
 use Rattle.yq_store.{specs.declared.disk.trust.Trust.Trust, specs.declared.disk.belief.Disbelief.Disbelief}
@@ -42,6 +43,21 @@ rights_of_written (Some j) links t f beside =
     if j.is_file
     then (if is_trusted j links t then Ok (rights_of_old_journal j.writers f beside) else Err Untrusted)
     else Err Irregular
+
+-- this is what the system reports of a file where it found one
+abbrev pub IsFound : Option Metadata → Option FoundFile → Type 0
+IsFound None None = Unit {0}
+IsFound (Some m) (Some f) = f.writers.mode ≡ metadata_mode m
+IsFound _ _ = ⊥
+
+-- The rights are those of the journal that replaces what was found where links lead, or is new there, for the file and the folder as the system reports
+-- them.
+pub record AreOfWritten (found : Option Metadata) (links : List (ℕ × ℕ)) (t : Trust) (r : Rights) : Type 0 where
+  pub old : Option FoundFile
+  pub file : Writers
+  pub is_beside : Bool
+  pub reported : IsFound found old
+  pub defined : rights_of_written old links t file is_beside ≡ Ok r
 
 -- the mode of a new file that could have this of its owner and its group
 abbrev pub mode_where : Had → ℕ → ℕ

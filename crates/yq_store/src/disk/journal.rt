@@ -86,7 +86,10 @@ pub fn journal_rights<R: Files>(
     target: &Target,
     trust: Trust,
     file: &OpenedFile,
-) -> io::Result<Rights> {
+) -> io::Result<Rights>
+    ensures { IfOk result (λ r.
+        rights.AreOfWritten target.now.found target.now.makers.items trust r) }
+{
     let folder = fs::metadata(rt, folder_of(&target.path))?;
     let is_beside = leads_to(rt, folder_of(&file.path), &folder)?;
     let of_file = Writers::of(&file.file.metadata()?);

@@ -9,7 +9,7 @@ use Rattle.yq_commands.proofs.ExpectingLaws.{none_expected}
 use Rattle.yq_commands.specs.CommandDone.{ArrivesOn, EditsOn, ExpectsOn, ListsOn, OthersOn, ShowsOn, WorksOn}
 use Rattle.yq_commands.proofs.ExecuteLaws.{evaluate_arrives, evaluate_edits, evaluate_shows, pair_arrives, pair_others, pair_works}
 use Rattle.yq_commands.proofs.ExecuteLaws.{update_arrives, update_edits, update_expects, update_shows, update_works, empty_shows}
-use Rattle.yq_commands.{proofs.ExecuteLaws.{listing_lists, listing_shows, update_lists}, specs.Calls.CallsOf}
+use Rattle.yq_commands.{proofs.ExecuteLaws.{listing_lists, listing_shows, update_lists}, specs.Calls.CallsOf, specs.Help.Helps}
 use Rattle.yq_commands.proofs.CommandCalls.{evaluation_calls, pair_calls, update_calls}
 use Rattle.yq_commands.proofs.OutcomeLaws.{each_error, memory_counted, memory_no_output}
 use Rattle.yq_journal.specs.declared.moves.Move.TheVariants as move
@@ -34,6 +34,7 @@ returns-in-Undo g c =
       unparsed = λ f fault. absurd (none-some f (sym (ap expression_fault is) ∙ fault));
       silent = λ hidden still. ap (λ (s : Report). s.printed) c.requires.empty;
       matched = λ reads free. ap (λ (s : Report). s.is_match) c.requires.empty;
+      helped = subst (λ x. Helps x c.move_file.result (report_by c.args.report.now)) (sym is) tt;
       no_output = e.no_output;
       count = e.count;
       calls = subst (λ x. CallsOf g.D.Store.leads c.move_file.result x c.args.store.now c.move_file.new.store) (sym is) (pair_calls g.D.Store.leads _ _ _ _ _ c.as_str-in-Undo.ensures.value c.as_str-in-Undo-2.ensures.value (move_effect move.Undo) _ _ e.calls);
@@ -58,6 +59,7 @@ returns-in-Redo g c =
       unparsed = λ f fault. absurd (none-some f (sym (ap expression_fault is) ∙ fault));
       silent = λ hidden still. ap (λ (s : Report). s.printed) c.requires.empty;
       matched = λ reads free. ap (λ (s : Report). s.is_match) c.requires.empty;
+      helped = subst (λ x. Helps x c.move_file-in-Redo.result (report_by c.args.report.now)) (sym is) tt;
       no_output = e.no_output;
       count = e.count;
       calls = subst (λ x. CallsOf g.D.Store.leads c.move_file-in-Redo.result x c.args.store.now c.move_file-in-Redo.new.store) (sym is) (pair_calls g.D.Store.leads _ _ _ _ _ c.as_str-in-Redo.ensures.value c.as_str-in-Redo-2.ensures.value (move_effect move.Redo) _ _ e.calls);
@@ -82,6 +84,7 @@ returns-in-Squash g c =
       unparsed = λ f fault. absurd (none-some f (sym (ap expression_fault is) ∙ fault));
       silent = λ hidden still. ap (λ (s : Report). s.printed) c.requires.empty;
       matched = λ reads free. ap (λ (s : Report). s.is_match) c.requires.empty;
+      helped = subst (λ x. Helps x c.squash.result (report_by c.args.report.now)) (sym is) tt;
       no_output = e.no_output;
       count = e.count;
       calls = subst (λ x. CallsOf g.D.Store.leads c.squash.result x c.args.store.now c.squash.new.store) (sym is) (pair_calls g.D.Store.leads _ _ _ _ _ c.as_str-in-Squash.ensures.value c.as_str-in-Squash-2.ensures.value (squash_effect c.in-Squash.n) _ _ e.calls);
@@ -109,6 +112,7 @@ returns-in-History g c =
       unparsed = λ f fault. absurd (none-some f (sym (ap expression_fault is) ∙ fault));
       silent = λ hidden still. absurd (true≢false (sym (ap prints is) ∙ hidden));
       matched = λ reads free. e.matched;
+      helped = subst (λ x. Helps x c.listing.result (report_by report)) (sym is) tt;
       no_output = e.no_output;
       count = e.count;
       calls = subst (λ x. CallsOf g.D.Store.leads c.listing.result x c.args.store.now c.listing.new.store) (sym is) (pair_calls g.D.Store.leads _ _ _ _ _ c.as_str-in-History.ensures.value c.as_str-in-History-2.ensures.value (listing_effect c.in-History.diffs) _ _ e.calls);
@@ -132,6 +136,7 @@ returns-in-Help g c =
       unparsed = λ f fault. absurd (none-some f (sym (ap expression_fault is) ∙ fault));
       silent = λ hidden still. absurd (true≢false (sym (ap prints is) ∙ hidden));
       matched = λ reads free. absurd (false≢true (sym (ap reads_journal is) ∙ reads));
+      helped = subst (λ x. Helps x c.help.result (report_by c.help.new.report)) (sym is) c.help.ensures.text;
       no_output = memory_no_output c.help.result c.help.ensures.memory;
       count = memory_counted c.help.result _ c.help.ensures.memory;
       calls = subst (λ x. CallsOf g.D.Store.leads c.help.result x c.args.store.now c.args.store.now) (sym is) refl;
@@ -158,6 +163,7 @@ returns-in-Eval g c =
       unparsed = λ f fault. e.unparsed f (ap (λ y. fault_of (program_in y)) c.as_str-in-Eval-2.ensures.value ∙ sym (ap expression_fault is) ∙ fault);
       silent = λ hidden still. absurd (true≢false (sym (ap prints is) ∙ hidden));
       matched = λ reads free. absurd (false≢true (sym (ap reads_journal is) ∙ reads));
+      helped = subst (λ x. Helps x c.evaluate.result (report_by c.evaluate.new.report)) (sym is) tt;
       no_output = e.no_output;
       count = e.count;
       calls = subst (λ x. CallsOf g.D.Store.leads c.evaluate.result x c.args.store.now c.evaluate.new.store) (sym is) (evaluation_calls g.D.Store.leads _ _ _ _ _ c.as_str-in-Eval.ensures.value c.as_str-in-Eval-2.ensures.value _ _ e.calls);
@@ -187,6 +193,7 @@ returns-in-Eval-default-default-default-true-default g c =
       unparsed = λ f fault. e.unparsed f (ap (λ y. fault_of (program_in y)) c.as_str-in-Eval-default-default-default-true-default-2.ensures.value ∙ sym (ap expression_fault is) ∙ fault);
       silent = λ hidden still. e.silent (sym (ap prints_change is) ∙ still);
       matched = λ reads free. e.unasked (sym (ap expects_change is) ∙ free) (ap (λ (s : Report). s.is_match) c.requires.empty);
+      helped = subst (λ x. Helps x c.update.result (report_by c.update.new.report)) (sym is) tt;
       no_output = e.no_output;
       count = e.count;
       calls = subst (λ x. CallsOf g.D.Store.leads c.update.result x c.args.store.now c.update.new.store) (sym is) (update_calls g.D.Store.leads _ _ _ _ _ c.as_str.ensures.value c.as_str-in-Eval-default-default-default-true-default.ensures.value _ _ c.as_str-in-Eval-default-default-default-true-default-2.ensures.value _ _ e.calls);

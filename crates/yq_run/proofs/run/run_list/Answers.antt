@@ -57,6 +57,7 @@ commands-preserved g c =
                   silent = ran.silent;
                   no_output = ran.no_output;
                   unparsed = ran.unparsed;
+                  helped = ran.helped;
                 }))),
           );
       others = λ keeps q not_named.
