@@ -113,7 +113,6 @@ TEXTS = {
 }
 
 NESTED = "flow collections that are 60 deep take 0.2 s a MB to read, and are read for each part of the update"
-KEYS = "each of many keys of one flow mapping that an update changes is looked for from the first one on"
 DOCUMENTS = "each of many documents whose rows an update adds or takes out takes an operation of its own on the text"
 BLANKS = "each of many operations takes time by the blank lines after it"
 HELD = [".a = 1", ".zz = 1", ".a += 1", ".a += [1]", ".a |= ."]
@@ -122,8 +121,6 @@ OF_EACH = ['.[] head_comment = "x\\ny"', ".[] = .", "del(.[])"]
 # What takes more, by its cause: other issues mend it.
 ABOVE = [
     (NESTED, ["60 deep, in flow"], [".[] = ."]),
-    (KEYS, ["one flow mapping", "flow mapping over lines"], [".a += .a", "del(.a[])"]),
-    (KEYS, ["a flow mapping as root"], [".[] = 1", "del(.[])"]),
     (DOCUMENTS, ["documents"], [".zz = 1", "del(.a)"]),
     (DOCUMENTS, ["empty documents"], HELD),
     (DOCUMENTS, ["documents", "documents of lists"], OF_EACH),
