@@ -113,14 +113,11 @@ TEXTS = {
 }
 
 NESTED = "flow collections that are 60 deep take 0.2 s a MB to read, and are read for each part of the update"
-KEYS = "each of many keys of one flow mapping that an update changes is looked for from the first one on"
 BLANKS = "each of many operations takes time by the blank lines after it"
 
 # What takes more, by its cause: other issues mend it.
 ABOVE = [
     (NESTED, ["60 deep, in flow"], [".[] = ."]),
-    (KEYS, ["one flow mapping", "flow mapping over lines"], [".a += .a", "del(.a[])"]),
-    (KEYS, ["a flow mapping as root"], [".[] = 1", "del(.[])"]),
     (BLANKS, ["blank literals"], ["del(.[])"]),
 ]
 KNOWN = {(name, expression): cause for cause, names, expressions in ABOVE for name in names for expression in expressions}

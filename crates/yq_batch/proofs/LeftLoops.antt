@@ -1,13 +1,11 @@
 -- The items and entries of the code, by their index.
 use Rattle.std.proofs.Common.{◌≡◌, ℕ, zero, suc, ◌+◌, ◌<◌, ◌≤◌, Bool, true, false, ltb, List, [], ◌∷◌, length, drop, get_or, Option, Some}
-use Rattle.std.{proofs.Common.{None, refl, sym, ap, ◌∙◌, inl, inr, subst, arith, string_bytes}, specs.Str.bytes_eq}
-use Rattle.std.{proofs.lemmas.List.drop_more, proofs.lemmas.Bool.{false≢true, ltb-true, lt-ltb, cases_lt}}
-use Rattle.yq_core.{specs.declared.inline.Inline.Inline, specs.Paths.{Nth, To}, specs.Entries.{end_of, start_of, tree_step}}
-use Rattle.yq_core.{specs.View.{inline_view, items_end, entries_end}, proofs.PathLoops.Field, specs.PlainText.begins_marker}
-use Rattle.yq_core.specs.Places.{Parts}
-use Rattle.yq_batch.{specs.LeftItems.{GoesUpTo, LeadsToPart, count_parts, place_of_part}, specs.LeftPlaces.{GoesWith, IsLeftPlace}}
+use Rattle.std.proofs.Common.{None, refl, sym, ap, ◌∙◌, inl, inr, subst, arith}
+use Rattle.std.proofs.lemmas.Bool.{false≢true, ltb-true, lt-ltb, cases_lt}
+use Rattle.yq_core.{specs.declared.inline.Inline.Inline, specs.Entries.{end_of, start_of}, specs.View.{inline_view, items_end, entries_end}}
+use Rattle.yq_core.{proofs.PathLoops.Field, specs.PlainText.begins_marker, specs.Places.Parts}
+use Rattle.yq_batch.{specs.LeftItems.{GoesUpTo, count_parts, place_of_part}, specs.LeftPlaces.{GoesWith, IsLeftPlace}}
 use Rattle.yq_batch.specs.declared.left.LeftPlace.{LeftPlace}
-use Rattle.yq_core.specs.declared.path.Step as declared
 
 -- ---- items
 
@@ -37,14 +35,6 @@ pub items_counted : (is : List Inline) → length is ≡ count_parts (items_end 
 items_counted [] = refl
 items_counted (x ∷ is) = ap suc (items_counted is)
 
-item_leads : (is : List Inline) (i : ℕ) → i < length is → LeadsToPart (Nth i) i (items_end is)
-item_leads [] i lt = absurd (omega (arith, lt))
-item_leads (x ∷ is) zero lt = refl
-item_leads (x ∷ is) (suc i) lt = (refl, item_leads is i (omega (arith, lt)))
-
-pub index_leads : (is : List Inline) (i : ℕ) (s : declared.Step) → s ≡ declared.TheVariants.Index i → i < length is → LeadsToPart (tree_step s) i (items_end is)
-index_leads is i s same lt = subst (λ (x : declared.Step). LeadsToPart (tree_step x) i (items_end is)) (sym same) (item_leads is i lt)
-
 -- ---- entries
 
 one_entry : (es : List Field) (i : ℕ) (d : Field) → i < length es → place_of_part i (entries_end es) ≡ Some ((get_or es i d).1.start, end_of (inline_view (get_or es i d).2))
@@ -72,25 +62,6 @@ entry_missing es all i same ge = elim (cases_lt i (length es)) [
 pub entries_counted : (es : List Field) → length es ≡ count_parts (entries_end es)
 entries_counted [] = refl
 entries_counted (x ∷ es) = ap suc (entries_counted es)
-
--- a key that is none of so many entries is that of a later one
-abbrev pub Passed : List ℕ → List Field → ℕ → Type 0
-Passed key es i = (m : ℕ) → LeadsToPart (To key) m (entries_end (drop i es)) → LeadsToPart (To key) (i + m) (entries_end es)
-
-one_passed : (key : List ℕ) (e : Field) (es : List Field) (m : ℕ) → bytes_eq (string_bytes e.0) key ≡ false → LeadsToPart (To key) m (entries_end es) → LeadsToPart (To key) (suc m) (entries_end (e ∷ es))
-one_passed key e es m other h = (other, h)
-
-pub key_passed : (key : List ℕ) (es : List Field) (i : ℕ) (e : Field) (s : List ℕ) → i < length es → e ≡ get_or es i e → s ≡ string_bytes e.0 → bytes_eq s key ≡ false → Passed key es i → Passed key es (i + 1)
-key_passed key es i e s lt at text other so_far m h =
-    let shape : drop i es ≡ e ∷ drop (i + 1) es = drop_more es i e lt ∙ ap (λ (x : Field). x ∷ drop (i + 1) es) (sym at) in
-    let there = so_far (suc m) (subst (λ (l : List Field). LeadsToPart (To key) (suc m) (entries_end l)) (sym shape) (one_passed key e (drop (i + 1) es) m (ap (λ (l : List ℕ). bytes_eq l key) (sym text) ∙ other) h)) in
-    subst (λ (n : ℕ). LeadsToPart (To key) n (entries_end es)) (omega arith) there
-
-pub key_leads : (key : List ℕ) (es : List Field) (i : ℕ) (e : Field) (s : List ℕ) → i < length es → e ≡ get_or es i e → s ≡ string_bytes e.0 → bytes_eq s key ≡ true → Passed key es i → LeadsToPart (To key) i (entries_end es)
-key_leads key es i e s lt at text same so_far =
-    let shape : drop i es ≡ e ∷ drop (i + 1) es = drop_more es i e lt ∙ ap (λ (x : Field). x ∷ drop (i + 1) es) (sym at) in
-    let here : LeadsToPart (To key) 0 (entries_end (e ∷ drop (i + 1) es)) = ap (λ (l : List ℕ). bytes_eq l key) (sym text) ∙ same in
-    subst (λ (n : ℕ). LeadsToPart (To key) n (entries_end es)) (omega arith) (so_far 0 (subst (λ (l : List Field). LeadsToPart (To key) 0 (entries_end l)) (sym shape) here))
 
 -- ---- what goes
 

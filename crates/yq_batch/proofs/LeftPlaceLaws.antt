@@ -8,8 +8,9 @@ use Rattle.yq_core.{specs.Nodes.{is_close, AreFlowItems}, specs.Places.{Parts, l
 use Rattle.yq_core.{proofs.EditPlaces.{end_placed, entry_placed}, proofs.NodeAgain.item_front, proofs.TreeLaws.key_tree}
 use Rattle.yq_flow_edits.{specs.FlowPlaces.{behind_feed, marks_before}, specs.Removals.ends_marked, proofs.ItemSwaps.{item_cut, text_cut}}
 use Rattle.yq_flow_edits.proofs.Marks.{line_behind, marks_are}
+use Rattle.yq_edit_laws.specs.NearParts.{LeadsToPart}
 use Rattle.yq_batch.specs.LeftItems.{Ending, ending_items, sep_left, left_items, items_after, LeadsToIndex, gap_at, front_text}
-use Rattle.yq_batch.specs.LeftItems.{text_of_item, upto_text, count_items, NeedsNoComma, place_of_part, count_parts, LeadsToPart}
+use Rattle.yq_batch.specs.LeftItems.{text_of_item, upto_text, count_items, NeedsNoComma, place_of_part, count_parts}
 
 -- ---- places
 

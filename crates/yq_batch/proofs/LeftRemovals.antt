@@ -10,9 +10,9 @@ use Rattle.yq_core.{proofs.NodesWrittenLaws.items_append, proofs.NodeAgain.items
 use Rattle.yq_flow_edits.proofs.EditLaws.{Around, around_is}
 use Rattle.yq_row_table.specs.Rows.{Cut, cut_text}
 use Rattle.yq_places.{specs.FlowViews.{behind_anchor, placed_collection}, specs.declared.places.flow_node.FlowHead.FlowHead}
-use Rattle.yq_edit_laws.{proofs.FlowAnswers.CollFound, proofs.FlowHeads.whole_is, proofs.FlowLonger.with_more}
-use Rattle.yq_batch.specs.LeftItems.{Ending, closing, others, LeadsToIndex, LeadsToPart, TakesOut, front_text, gap_at, left_items}
-use Rattle.yq_batch.specs.LeftItems.{text_of_item, place_of_part, ending_items, items_after, upto_text}
+use Rattle.yq_edit_laws.{proofs.FlowAnswers.CollFound, proofs.FlowHeads.whole_is, proofs.FlowLonger.with_more, specs.NearParts.LeadsToPart}
+use Rattle.yq_batch.specs.LeftItems.{Ending, closing, others, LeadsToIndex, TakesOut, front_text, gap_at, left_items, text_of_item}
+use Rattle.yq_batch.specs.LeftItems.{place_of_part, ending_items, items_after, upto_text}
 use Rattle.yq_batch.{specs.LeftPlaces.{GoesWith, IsLeftPlace, MoreFollow, NoneFollow}, specs.RemovalRuns.AreAfter}
 use Rattle.yq_batch.{specs.declared.left.LeftPlace.LeftPlace, proofs.LeftItemLaws.{ends_before, more_follow, none_follow}}
 use Rattle.yq_batch.proofs.LeftPlaceLaws.{after_as_read, after_ending, leads_there, no_space}

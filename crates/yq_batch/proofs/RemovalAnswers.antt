@@ -16,8 +16,8 @@ use Rattle.yq_semantics.{specs.Operations.{Operation, operations_of, remove}, sp
 use Rattle.yq_edit_laws.{proofs.CutLaws.{text_read, text_small}, proofs.ApplyLaws.applied_by, proofs.TextFaults.text_utf8}
 use Rattle.yq_edit_laws.{proofs.FlowAnswers.{CollFound, coll_found}, proofs.FlowLonger.with_more, specs.Answers.EditFails}
 use Rattle.yq_edit_laws.{specs.Carried.{carried, carry_all}, specs.Edit.{edit_after, gives, refuses}, specs.Theorems.IsFitting}
-use Rattle.yq_edit_laws.{specs.Valid.AreServed, specs.declared.edit_error.EditError.EditError}
-use Rattle.yq_batch.specs.LeftItems.{LeadsToPart, closing, count_items, count_parts}
+use Rattle.yq_edit_laws.{specs.Valid.AreServed, specs.declared.edit_error.EditError.EditError, specs.NearParts.LeadsToPart}
+use Rattle.yq_batch.specs.LeftItems.{closing, count_items, count_parts}
 use Rattle.yq_batch.specs.RemovalRuns.{AreFirstLeft, AreLeft, HasTakenOut, IsKnownLeft, IsLeftOf, IsRemovalRun, RemovalFails, RemovesOn}
 use Rattle.yq_batch.{specs.RemovalRuns.{RemovesSo, CarriesOn, GoneInHead, left_coll, text_without}, specs.LeftPlaces.IsLeftPlace}
 use Rattle.yq_batch.{specs.declared.left.LeftPlace.LeftPlace, specs.Runs.EndsAt, specs.declared.together.Together.Together}

@@ -1,8 +1,8 @@
 -- What is left of a flow collection from which items or entries were taken out, from the last one back (YAML 1.2.2, 7.4; own).
 use Rattle.std.specs.Prelude.{◌≡◌, ℕ, zero, suc, Bool, true, false, ◌&&◌, List, [], ◌++◌, Option, Some, None}
-use Rattle.yq_core.{specs.Paths.{Step, is_here, further}, specs.PlainText.begins_marker, specs.Trees.{key_content, unplaced_key}}
-use Rattle.yq_core.{specs.Tree.key_label, specs.Nodes.{Key, FlowNode, Sep, Items, none, item, key_text, node_text, sep_text}}
-use Rattle.yq_core.{specs.Alike.fresh, specs.Places.{Parts, end, part}, specs.Entries.{end_of, entry_start}}
+use Rattle.yq_core.{specs.Paths.{Step, is_here, further}, specs.PlainText.begins_marker, specs.Trees.key_content, specs.Tree.key_label}
+use Rattle.yq_core.{specs.Nodes.{Key, FlowNode, Sep, Items, none, item, key_text, node_text, sep_text}, specs.Alike.fresh}
+use Rattle.yq_core.{specs.Places.{Parts, end, part}, specs.Entries.{end_of, entry_start}}
 use Rattle.yq_flow_edits.{specs.FlowEdits.FlowEdit, specs.FlowPlaces.behind_feed, specs.Removals.{ends_marked, gap_of, removing_from}}
 use Rattle.yq_core.specs.Nodes as nodes
 
@@ -102,12 +102,6 @@ place_of_part (suc i) (part key n parts) = place_of_part i parts
 abbrev pub count_parts : Parts → ℕ
 count_parts end = 0
 count_parts (part key n parts) = suc (count_parts parts)
-
--- a step leads to the part of an index, and to none before it (own)
-abbrev pub LeadsToPart : Step → ℕ → Parts → Type 0
-LeadsToPart s i end = ⊥
-LeadsToPart s zero (part key n parts) = is_here s (key_label (unplaced_key key)) ≡ true
-LeadsToPart s (suc i) (part key n parts) = (is_here s (key_label (unplaced_key key)) ≡ false) × LeadsToPart (further s) i parts
 
 -- what goes is from one place up to another one, before what perhaps begins with a marker, and no space has to come there (own)
 abbrev pub GoesUpTo : List ℕ → (from upto : ℕ) → Bool → (start finish : ℕ) → Option Bool → Type 0

@@ -10,8 +10,8 @@ use Rattle.yq_places.{specs.Standings.last_step, specs.declared.places.flow_node
 use Rattle.yq_semantics.{specs.declared.op.Op.Op, specs.Operations.{Operation, operations_of}}
 use Rattle.yq_semantics.specs.declared.refusal.Refusal.TheVariants.{TooLarge}
 use Rattle.yq_edit_laws.{specs.Carried.{carried, carry_all}, specs.Edit.{edit_after, gives}, specs.Theorems.IsApplied}
-use Rattle.yq_edit_laws.{specs.Valid.AreServed, specs.declared.edit_error.EditError.EditError}
-use Rattle.yq_batch.specs.LeftItems.{Ending, LeadsToPart, closing, count_parts, others, left_items, upto_text}
+use Rattle.yq_edit_laws.{specs.NearParts.LeadsToPart, specs.Valid.AreServed, specs.declared.edit_error.EditError.EditError}
+use Rattle.yq_batch.specs.LeftItems.{Ending, closing, count_parts, others, left_items, upto_text}
 use Rattle.yq_batch.{specs.declared.removals.RemovalRun.RemovalRun, specs.LeftPlaces.IsLeftPlace, specs.declared.left.LeftPlace.LeftPlace}
 use Rattle.yq_batch.specs.declared.removals.LeftOf.{LeftOf}
 use Rattle.yq_edit_laws.specs.declared.edit_error.EditError.TheVariants as error

@@ -1,13 +1,13 @@
 //! Which bytes go with an item or entry of a flow collection of which only the first ones are left.
 ghost use Rattle.std.specs.Prelude.{◌≡◌, IfSome};
-ghost use Rattle.yq_core.{specs.Entries.{parts_of, tree_step}, specs.Paths.To, specs.View.{entries_end, inline_view, items_end}};
+ghost use Rattle.yq_core.{specs.Entries.parts_of, specs.View.{entries_end, inline_view, items_end}};
 ghost use Rattle.yq_batch.specs.LeftPlaces.{IsLeftPlace};
 ghost use Rattle.yq_core.specs.Entries as entries;
 ghost use Rattle.yq_flow_edits.specs.FlowPlaces as places;
 ghost use Rattle.yq_batch.specs.LeftItems as spec;
 
 use yq_core::text::begins_marker;
-use yq_core::{Form, Inline, Piece, Step, first_is};
+use yq_core::{Form, Inline, Piece, first_is};
 use yq_flow_edits::behind;
 
 /// The place of what goes, and what is after it then.
@@ -85,55 +85,6 @@ pub(crate) fn count_of(node: &Inline<'_>) -> usize
         Form::List(items) => count_items(items),
         Form::Map(entries) => count_entries(entries),
         Form::Empty | Form::Alias(_) | Form::Scalar(..) => 0,
-    }
-}
-
-/// The index of the item to which a step leads.
-fn index_in(items: &Vec<Inline<'_>>, step: &Step) -> Option<usize>
-    ensures { IfSome result (λ i. spec.LeadsToPart (tree_step step.now) i
-        (items_end items.now.items)) }
-{
-    let Step::Index(index) = step else {
-        return None;
-    };
-    if *index >= items.len() {
-        return None;
-    }
-    Some(*index)
-}
-
-/// The index of the first entry of a key.
-fn index_of_key(entries: &Vec<(String, Piece, Inline<'_>)>, key: &str) -> Option<usize>
-    ensures { IfSome result (λ i. spec.LeadsToPart (To key.now) i (entries_end entries.now.items)) }
-{
-    'each: for i in 0..entries.len() {
-        if entries[i].0.as_str() == key {
-            return Some(i);
-        }
-    }
-    None
-}
-
-/// The index of the entry to which a step leads.
-fn index_among(entries: &Vec<(String, Piece, Inline<'_>)>, step: &Step) -> Option<usize>
-    ensures { IfSome result (λ i. spec.LeadsToPart (tree_step step.now) i
-        (entries_end entries.now.items)) }
-{
-    match step {
-        Step::Key(key) => index_of_key(entries, key.as_str()),
-        Step::Index(_) => None,
-    }
-}
-
-/// The index of the item or entry to which a step leads.
-pub(crate) fn index_of(node: &Inline<'_>, step: &Step) -> Option<usize>
-    ensures { IfSome result (λ i. spec.LeadsToPart (tree_step step.now) i
-        (parts_of (inline_view node.now))) }
-{
-    match &node.form {
-        Form::List(items) => index_in(items, step),
-        Form::Map(entries) => index_among(entries, step),
-        Form::Empty | Form::Alias(_) | Form::Scalar(..) => None,
     }
 }
 

@@ -8,17 +8,17 @@ ghost use Rattle.yq_documents.{specs.Located.steps_of, specs.Reading.cut_of};
 ghost use Rattle.yq_places.specs.FlowViews.{ReportsHead};
 ghost use Rattle.yq_semantics.specs.Operations.{operation_of, operations_of};
 ghost use Rattle.yq_edit_laws.{specs.Answers.EditFails, specs.Carried.{carry_all, carried}, specs.Theorems.IsFitting};
-ghost use Rattle.yq_edit_laws.specs.Valid.{AreServed};
+ghost use Rattle.yq_edit_laws.{specs.NearParts.HasUniqueCollection, specs.Valid.AreServed};
 ghost use Rattle.yq_batch.specs.LeftItems.{count_parts};
 ghost use Rattle.yq_batch.specs.RemovalRuns as spec;
 
-use crate::left::{LeftPlace, count_of, end_of, index_of, left_place};
+use crate::left::{LeftPlace, count_of, end_of, left_place};
 use crate::run::{between, bytes_of, push_splice};
 use crate::together::{Together, are_same_steps, steps_in_head};
 use std::alloc::{AllocError, Global};
 use yq_core::{Inline, Step};
 use yq_documents::Path;
-use yq_edit_laws::{EditError, last_step};
+use yq_edit_laws::{EditError, last_step, part_index};
 use yq_lookup::CutText;
 use yq_places::{FlowHead, collection_along};
 use yq_semantics::{Op, Refusal};
@@ -114,6 +114,7 @@ fn gone_in_head<'s>(
     known: Option<LeftOf<'s>>,
     keep: usize,
 ) -> Option<(LeftPlace, usize)>
+    requires { HasUniqueCollection head.now }
     ensures { IfSome result (λ x. spec.GoneInHead (steps_of path.now) head.now known.entry keep
         x.0 x.1) }
 {
@@ -123,10 +124,10 @@ fn gone_in_head<'s>(
     let Some(node) = collection_along(&head.node, head.left) else {
         return None;
     };
-    let Some(index) = index_of(node, last) else {
+    let Some((count, after)) = first_left(head.left, head.before, node, known, keep) else {
         return None;
     };
-    let Some((count, after)) = first_left(head.left, head.before, node, known, keep) else {
+    let Some(index) = part_index(node, last, count) else {
         return None;
     };
     let Some(place) = left_place(head.text.as_bytes(), node, index, count, after) else {

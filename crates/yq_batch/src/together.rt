@@ -98,6 +98,7 @@ fn part_put<'s>(
     stem: &[Step],
     head: &mut FlowHead<'s, '_>,
     op: &'s Op,
+    near: &mut usize,
 ) -> Result<Option<PartPut>, AllocError>
     requires { ReportsHead cut.now (cut_of cut.now) doc (map tree_step stem.now) head.old }
     ensures head { ReportsHead cut.now (cut_of cut.now) doc (map tree_step stem.now) head.new }
@@ -112,7 +113,7 @@ fn part_put<'s>(
         return Ok(None);
     };
     head.left = left;
-    put_at_part(alloc, cut, head, path, value)
+    put_at_part(alloc, cut, head, path, value, near)
 }
 
 /// Carries out an operation on the text of a run, if it puts a value in a collection of a head, after
@@ -125,6 +126,7 @@ fn put_one<'s>(
     head: &mut FlowHead<'s, '_>,
     op: &'s Op,
     run: &mut PutRun,
+    near: &mut usize,
 ) -> Result<bool, EditError>
     requires head { ReportsHead cut.now (cut_of cut.now) doc (map tree_step stem.now) head.old }
     requires run { spec.Runs (cut_of cut.now) doc (map tree_step stem.now) run.old }
@@ -136,7 +138,7 @@ fn put_one<'s>(
         (spec.now_text (cut_of cut.now) run.old))) }
 {
     let text = cut.text();
-    let Some(PartPut { place, written }) = part_put(alloc, cut, doc, stem, head, op)? else {
+    let Some(PartPut { place, written }) = part_put(alloc, cut, doc, stem, head, op, near)? else {
         return Ok(false);
     };
     let start = head.before + place.start;
@@ -161,6 +163,7 @@ fn carry_next<'s>(
     head: &mut FlowHead<'s, '_>,
     op: &'s Op,
     run: &mut PutRun,
+    near: &mut usize,
 ) -> Result<bool, EditError>
     requires head { ReportsHead cut.now (cut_of cut.now) doc (map tree_step stem.now) head.old }
     requires run { spec.Runs (cut_of cut.now) doc (map tree_step stem.now) run.old }
@@ -172,7 +175,7 @@ fn carry_next<'s>(
         (spec.now_text (cut_of cut.now) run.old))) }
 {
     match op {
-        Op::Replace(_, _) => put_one(alloc, cut, doc, stem, head, op, run),
+        Op::Replace(_, _) => put_one(alloc, cut, doc, stem, head, op, run, near),
         Op::Append(_, _, _) => add_one(alloc, cut, doc, stem, head, op, run),
         Op::Remove(_) | Op::LineComment(_, _) | Op::HeadComment(_, _) => Ok(false),
     }
@@ -196,9 +199,10 @@ fn put_each<'s>(
 {
     let text = cut.text();
     let mut run = PutRun::new(alloc);
+    let mut near = 0;
     let mut rest = ops;
     'operations: while let [op, after @ ..] = rest {
-        let carried = carry_next(alloc, cut, doc, stem, head, op, &mut run)?;
+        let carried = carry_next(alloc, cut, doc, stem, head, op, &mut run, &mut near)?;
         if !carried {
             return Ok(None);
         }

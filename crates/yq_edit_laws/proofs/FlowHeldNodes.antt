@@ -32,13 +32,13 @@ held_anchored a (tree.scalar b kind text) = refl
 held_anchored a (tree.list b cs) = refl
 held_anchored a (tree.map b cs) = refl
 
-held_named : (n : List ℕ) (v : tree.Node) → held (with_name n v) ≡ held v
+pub held_named : (n : List ℕ) (v : tree.Node) → held (with_name n v) ≡ held v
 held_named n (tree.alias m) = refl
 held_named n (tree.scalar a kind text) = refl
 held_named n (tree.list a cs) = refl
 held_named n (tree.map a cs) = refl
 
-held_coll : (k : ℕ) (cs : Children) → held (tree_collection k cs) ≡ Some (eqb k 125, cs)
+pub held_coll : (k : ℕ) (cs : Children) → held (tree_collection k cs) ≡ Some (eqb k 125, cs)
 held_coll k cs = elim (eqb k 125) as (λ b. held (cond b (tree.map None cs) (tree.list None cs)) ≡ Some (b, cs)) [ true ↦ refl | false ↦ refl ]
 
 abbrev kids : Option FlowContent → Children
@@ -110,3 +110,23 @@ coll_there (s ∷ ss) node rest x h =
         ((y : EntryPieces) → HeldAt ss (entry_tree y) x → CollThere ss y.node y.rest x) → CollThere (s ∷ ss) node rest x
     go None is e again = absurd (none-some _ e)
     go (Some y) is e again = let w = again y (h.0, e, h.2) in (w.0, ap (option_and_then (λ (z : EntryPieces). coll_along ss z.node z.rest)) is ∙ w.1, w.2)
+
+-- What a flow collection in the node holds, the tree's collection there holds.
+coll_inside : (node : FlowNode) (rest : List ℕ) (w : CollPieces) → coll_in node rest ≡ Some w → held (tree_of node) ≡ Some (coll_held w)
+unfolding tree_of
+coll_inside empty rest w e = absurd (none-some _ e)
+coll_inside (alias n) rest w e = absurd (none-some _ e)
+coll_inside (scalar p) rest w e = absurd (none-some _ e)
+coll_inside (coll k gap is) rest w e = held_coll k (items_tree is) ∙ ap (λ (v : CollPieces). Some (coll_held v)) (same_Some _ _ e)
+coll_inside (anchored n gap node) rest w e = held_named n (tree_of node) ∙ coll_inside node rest w e
+
+pub coll_holds : (ss : List Step) (node : FlowNode) (rest : List ℕ) (w : CollPieces) → coll_along ss node rest ≡ Some w → HeldAt ss (tree_of node) (coll_held w)
+coll_holds [] node rest w e = (tree_of node, refl, coll_inside node rest w e)
+coll_holds (s ∷ ss) node rest w e =
+    let child : option_map entry_tree (path_inside s node rest) ≡ child_at s (children_of (tree_of node)) = inside_child s node rest ∙ ap (child_at s) (sym (kids_held (tree_of node))) in
+    go (path_inside s node rest) (ap (option_and_then (node_at ss)) (sym child)) e (λ y found. coll_holds ss y.node y.rest w found)
+  where
+    go : (o : Option EntryPieces) → option_and_then (node_at ss) (child_at s (children_of (tree_of node))) ≡ option_and_then (node_at ss) (option_map entry_tree o) → option_and_then (λ (y : EntryPieces). coll_along ss y.node y.rest) o ≡ Some w →
+        ((y : EntryPieces) → coll_along ss y.node y.rest ≡ Some w → HeldAt ss (entry_tree y) (coll_held w)) → HeldAt (s ∷ ss) (tree_of node) (coll_held w)
+    go None is e again = absurd (none-some _ e)
+    go (Some y) is e again = let h = again y e in (h.0, is ∙ h.1, h.2)

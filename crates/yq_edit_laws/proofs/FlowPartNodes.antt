@@ -58,16 +58,16 @@ content_node (Inline space node tail) h ss s behind w head e =
 -- ---- in a document
 
 -- The line in whose head a flow collection at a path is.
-record LineAt (c : Cut) (n : ℕ) (steps : List Step) (w : CollPieces) : Type 0 where
-  part : Part
-  there : slice_get (document_parts c) n ≡ Some part
-  line : FoundLine × List Step
-  found : find_head steps (part_outline part) ≡ Some line
-  row_line_is : RowLine
-  printed_line : row_line (length (lines_before line.0.place)) part.rows ≡ Some row_line_is
-  flow : content_flow line.1 row_line_is.row.content (behind_row (document_row n c + row_line_is.before) c) ≡ Some w
+pub record LineAt (c : Cut) (n : ℕ) (steps : List Step) (w : CollPieces) : Type 0 where
+  pub part : Part
+  pub there : slice_get (document_parts c) n ≡ Some part
+  pub line : FoundLine × List Step
+  pub found : find_head steps (part_outline part) ≡ Some line
+  pub row_line_is : RowLine
+  pub printed_line : row_line (length (lines_before line.0.place)) part.rows ≡ Some row_line_is
+  pub flow : content_flow line.1 row_line_is.row.content (behind_row (document_row n c + row_line_is.before) c) ≡ Some w
 
-line_at : (c : Cut) (n : ℕ) (steps : List Step) (w : CollPieces) → Rattle.yq_places.specs.FlowNodes.flow_collection n steps c ≡ Some w → LineAt c n steps w
+pub line_at : (c : Cut) (n : ℕ) (steps : List Step) (w : CollPieces) → Rattle.yq_places.specs.FlowNodes.flow_collection n steps c ≡ Some w → LineAt c n steps w
 line_at c n steps w e =
     let d = bind_some (slice_get (document_parts c) n) e in
     let x = bind_some (find_head steps (part_outline d.0)) d.2 in

@@ -26,6 +26,8 @@ pub mod CollectionCases
 pub mod EntryLines
 pub mod StepsOn
 pub mod FlowPartNodes
+pub mod FlowKeys
+pub mod EntryIndexes
 pub mod StandingExists
 pub mod MoreExists
 pub mod MarkContentLaws

@@ -1,6 +1,7 @@
 pub mod EditPlaces
 pub mod Emptying
 pub mod PartPuts
+pub mod NearParts
 pub mod MarkedValues
 pub mod RootEdits
 pub mod TouchedRanges

@@ -8,6 +8,7 @@ ghost use Rattle.yq_places.specs.Standings as standings;
 ghost use Rattle.yq_edit_laws.specs.PartPuts as spec;
 
 use crate::edit::{bytes_at, collection_in, edit_at, last_step, unchanged};
+use crate::near::part_near;
 use std::alloc::{AllocError, Global};
 use yq_core::{Form, Inline, Kind, Place, Value};
 use yq_documents::Path;
@@ -53,7 +54,7 @@ fn is_same_node(node: &Inline<'_>, value: &Value) -> bool
 
 /// The edit that puts a value in the place of the content of an item or entry, after its anchor, where
 /// its collection is in the head of a row that was read; `None` where no collection is there, or the
-/// path leads to no part of it.
+/// path leads to no part of it. An entry is looked for near an index, which is the one after it then.
 ///
 /// # Errors
 /// [`AllocError`] where memory is refused.
@@ -63,6 +64,7 @@ pub fn put_at_part(
     head: &FlowHead<'_, '_>,
     path: &Path,
     value: &Value,
+    near: &mut usize,
 ) -> Result<Option<PartPut>, AllocError>
     requires { spec.IsHeadOfPath path.now.doc
         (standings.last_step (steps_of path.now)) cut.now head.now }
@@ -76,7 +78,7 @@ pub fn put_at_part(
     let Some(node) = collection_in(head) else {
         return Ok(None);
     };
-    let Some(entry) = node.part(last) else {
+    let Some(entry) = part_near(node, last, near) else {
         return Ok(None);
     };
     let place = replace_place(entry.node);
@@ -116,7 +118,8 @@ pub fn put_in_flow<'d>(
         return Ok(None);
     };
     let text = cut.text();
-    let put = put_at_part(alloc, cut, &head, path, value)?;
+    let mut near = 0;
+    let put = put_at_part(alloc, cut, &head, path, value, &mut near)?;
     let Some(PartPut { place, written }) = put else {
         return Ok(None);
     };

@@ -4,6 +4,9 @@ use Rattle.yq_places.{specs.FlowViews.collection_along, specs.Standings.last_ste
 use Rattle.yq_batch.specs.LeftPlaces.{IsLeftPlace}
 use Rattle.yq_batch.proofs.removals.gone_in_head.Goals as goal
 
+pub part_index-requires : goal.part_index-requires
+part_index-requires c = c.requires _ (c.in-Some-collection_along.ensures ∙ ap (λ v. collection_along (map tree_step c.args.head.now.left.now) (inline_view v)) c.deref-2.ensures)
+
 pub returns : goal.returns
 returns c = record {
   above = _;
@@ -13,9 +16,9 @@ returns c = record {
   there = c.in-Some-collection_along.ensures ∙ ap (λ v. collection_along (map tree_step c.args.head.now.left.now) (inline_view v)) c.deref-2.ensures;
   count = c.in-Some-first_left.count;
   after = c.in-Some-first_left.after;
-  leads = c.in-Some-index_of.ensures;
+  leads = c.in-Some-part_index.ensures;
   first = c.in-Some-first_left.ensures;
   goes =
-      subst (λ (l : List ℕ). IsLeftPlace l (parts_of (inline_view c.in-Some-collection_along.node.now)) c.in-Some-index_of.index c.in-Some-first_left.count c.in-Some-first_left.after c.in-Some-left_place.place)
+      subst (λ (l : List ℕ). IsLeftPlace l (parts_of (inline_view c.in-Some-collection_along.node.now)) c.in-Some-part_index.index c.in-Some-first_left.count c.in-Some-first_left.after c.in-Some-left_place.place)
       c.as_bytes.ensures.value c.in-Some-left_place.ensures;
 }

@@ -1,9 +1,16 @@
 use Rattle.std.{proofs.Common.{arith, map, refl, ap}, proofs.lemmas.Result.err_from_is_err_and}
 use Rattle.yq_core.specs.Entries.{tree_step}
 use Rattle.yq_documents.specs.Located.{steps_of}
+use Rattle.yq_places.specs.declared.places.flow_node.FlowHead.{FlowHead}
 use Rattle.yq_semantics.specs.Operations.{operation_of}
+use Rattle.yq_edit_laws.proofs.FlowKeys.{collection_unique}
 use Rattle.yq_batch.proofs.RemovalAnswers.{out_fails, out_finishes, out_on, out_order, out_small, out_starts, out_utf8}
 use Rattle.yq_batch.proofs.removals.remove_one.Goals as goal
+
+pub gone_in_head-requires : goal.gone_in_head-requires
+gone_in_head-requires c =
+    let x : FlowHead = record c.args.head.now { left = c.in-Some.steps } in
+    collection_unique c.args.cut.now c.args.doc _ x c.text-text.ensures.read (c.requires.head.reports x refl refl refl)
 
 pub overflow_add-head : goal.overflow_add-head
 overflow_add-head c =

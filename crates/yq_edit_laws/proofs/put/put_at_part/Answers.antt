@@ -4,7 +4,7 @@ use Rattle.yq_core.{specs.Entries.{entry_view, tree_step}, specs.Values.value_no
 use Rattle.yq_documents.{specs.Located.steps_of, specs.Reading.cut_of}
 use Rattle.yq_places.specs.Standings.{flow_part, flow_standing, last_step}
 use Rattle.yq_edit_rules.{specs.Replacing.keeps_scalar, specs.WrittenValues.value_text}
-use Rattle.yq_edit_laws.{specs.PartPuts.IsHeadOfPath, proofs.FlowAnswers.coll_found}
+use Rattle.yq_edit_laws.{specs.PartPuts.IsHeadOfPath, proofs.FlowAnswers.coll_found, proofs.FlowKeys.collection_unique}
 use Rattle.yq_edit_laws.proofs.PutAnswers.{content_missing, no_collection, node_there, place_found, standing_there, text_found}
 use Rattle.yq_edit_laws.proofs.put.put_at_part.Goals as goal
 
@@ -14,13 +14,19 @@ returns-in_default-collection_in c =
     let agrees = subst (λ o. IsHeadOfPath c.args.path.now.doc o c.args.cut.now c.args.head.now) (sym last) c.requires in
     ap (flow_standing c.args.path.now.doc (cut_of c.args.cut.now)) (sym last) ∙ ap (λ (o : Option CollPieces). o >>= flow_part (tree_step c.in-Some.last.now)) (no_collection c.args.cut.now _ c.args.head.now agrees c.in_default-collection_in.ensures)
 
-pub returns-in_default-part : goal.returns-in_default-part
-returns-in_default-part c =
+pub part_near-requires : goal.part_near-requires
+part_near-requires c =
+    let last = c.in-Some.ensures ∙ ap (λ ss. last_step (map tree_step ss)) c.deref.ensures.value in
+    let agrees = subst (λ o. IsHeadOfPath c.args.path.now.doc o c.args.cut.now c.args.head.now) (sym last) c.requires in
+    collection_unique c.args.cut.now c.args.path.now.doc _ c.args.head.now c.text-text.ensures.read agrees _ c.in-Some-collection_in.ensures
+
+pub returns-in_default-part_near : goal.returns-in_default-part_near
+returns-in_default-part_near c =
     let last = c.in-Some.ensures ∙ ap (λ ss. last_step (map tree_step ss)) c.deref.ensures.value in
     let agrees = subst (λ o. IsHeadOfPath c.args.path.now.doc o c.args.cut.now c.args.head.now) (sym last) c.requires in
     let q = inline_view c.in-Some-collection_in.node.now in
     let f = coll_found c.args.cut.now c.args.path.now.doc _ (Some c.args.head.now) c.args.head.now q c.text-text.ensures.read agrees refl c.in-Some-collection_in.ensures in
-    content_missing _ _ (steps_of c.args.path.now) _ (tree_step c.in-Some.last.now) c.args.head.now q last f _ c.in_default-part.ensures refl
+    content_missing _ _ (steps_of c.args.path.now) _ (tree_step c.in-Some.last.now) c.args.head.now q last f _ c.in_default-part_near.ensures refl
 
 pub returns-then-is_same_node : goal.returns-then-is_same_node
 returns-then-is_same_node c =
@@ -28,11 +34,11 @@ returns-then-is_same_node c =
     let agrees = subst (λ o. IsHeadOfPath c.args.path.now.doc o c.args.cut.now c.args.head.now) (sym last) c.requires in
     let q = inline_view c.in-Some-collection_in.node.now in
     let f = coll_found c.args.cut.now c.args.path.now.doc _ (Some c.args.head.now) c.args.head.now q c.text-text.ensures.read agrees refl c.in-Some-collection_in.ensures in
-    let p = entry_view c.in-Some-part.entry in (
+    let p = entry_view c.in-Some-part_near.entry in (
       _,
-      standing_there _ _ (steps_of c.args.path.now) _ (tree_step c.in-Some.last.now) c.args.head.now q last f _ c.in-Some-part.ensures p refl,
-      place_found _ _ (steps_of c.args.path.now) _ (tree_step c.in-Some.last.now) c.args.head.now q last f _ c.in-Some-part.ensures p refl (value_node c.args.value.now) c.replace_place-place.result c.replace_place-place.ensures,
-      ap (λ (n : Option Node). keeps_scalar n (value_node c.args.value.now)) (node_there _ _ (steps_of c.args.path.now) _ (tree_step c.in-Some.last.now) c.args.head.now q last f _ c.in-Some-part.ensures p refl) ∙ (sym c.is_same_node.ensures ∙ c.if-is_same_node.true),
+      standing_there _ _ (steps_of c.args.path.now) _ (tree_step c.in-Some.last.now) c.args.head.now q last f _ c.in-Some-part_near.ensures p refl,
+      place_found _ _ (steps_of c.args.path.now) _ (tree_step c.in-Some.last.now) c.args.head.now q last f _ c.in-Some-part_near.ensures p refl (value_node c.args.value.now) c.replace_place-place.result c.replace_place-place.ensures,
+      ap (λ (n : Option Node). keeps_scalar n (value_node c.args.value.now)) (node_there _ _ (steps_of c.args.path.now) _ (tree_step c.in-Some.last.now) c.args.head.now q last f _ c.in-Some-part_near.ensures p refl) ∙ (sym c.is_same_node.ensures ∙ c.if-is_same_node.true),
     )
 
 pub returns : goal.returns
@@ -41,13 +47,13 @@ returns c =
     let agrees = subst (λ o. IsHeadOfPath c.args.path.now.doc o c.args.cut.now c.args.head.now) (sym last) c.requires in
     let q = inline_view c.in-Some-collection_in.node.now in
     let f = coll_found c.args.cut.now c.args.path.now.doc _ (Some c.args.head.now) c.args.head.now q c.text-text.ensures.read agrees refl c.in-Some-collection_in.ensures in
-    let p = entry_view c.in-Some-part.entry in
+    let p = entry_view c.in-Some-part_near.entry in
     let written = c.in_ok-written.ensures ∙ ap (λ (l : List ℕ). value_text InFlow l (value_node c.args.value.now)) c.bytes_at.ensures in (
       _,
-      standing_there _ _ (steps_of c.args.path.now) _ (tree_step c.in-Some.last.now) c.args.head.now q last f _ c.in-Some-part.ensures p refl,
-      place_found _ _ (steps_of c.args.path.now) _ (tree_step c.in-Some.last.now) c.args.head.now q last f _ c.in-Some-part.ensures p refl (value_node c.args.value.now) c.replace_place-place.result c.replace_place-place.ensures,
+      standing_there _ _ (steps_of c.args.path.now) _ (tree_step c.in-Some.last.now) c.args.head.now q last f _ c.in-Some-part_near.ensures p refl,
+      place_found _ _ (steps_of c.args.path.now) _ (tree_step c.in-Some.last.now) c.args.head.now q last f _ c.in-Some-part_near.ensures p refl (value_node c.args.value.now) c.replace_place-place.result c.replace_place-place.ensures,
       (
-        ap (λ (n : Option Node). keeps_scalar n (value_node c.args.value.now)) (node_there _ _ (steps_of c.args.path.now) _ (tree_step c.in-Some.last.now) c.args.head.now q last f _ c.in-Some-part.ensures p refl) ∙ (sym c.is_same_node.ensures ∙ c.if-is_same_node.false),
-        written ∙ text_found _ _ (steps_of c.args.path.now) _ (tree_step c.in-Some.last.now) c.args.head.now q last f _ c.in-Some-part.ensures p refl (value_node c.args.value.now) c.replace_place-place.result c.replace_place-place.ensures,
+        ap (λ (n : Option Node). keeps_scalar n (value_node c.args.value.now)) (node_there _ _ (steps_of c.args.path.now) _ (tree_step c.in-Some.last.now) c.args.head.now q last f _ c.in-Some-part_near.ensures p refl) ∙ (sym c.is_same_node.ensures ∙ c.if-is_same_node.false),
+        written ∙ text_found _ _ (steps_of c.args.path.now) _ (tree_step c.in-Some.last.now) c.args.head.now q last f _ c.in-Some-part_near.ensures p refl (value_node c.args.value.now) c.replace_place-place.result c.replace_place-place.ensures,
       ),
     )
