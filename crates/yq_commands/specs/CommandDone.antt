@@ -4,8 +4,9 @@ use Rattle.yq_journal.{specs.History.History, specs.State.State}
 use Rattle.yq_semantics.specs.Program.{Program}
 use Rattle.yq_args.{specs.declared.command.Command.Command, specs.declared.eval_options.EvalOptions.EvalOptions}
 use Rattle.yq_store.specs.FileMap.{FileMap}
-use Rattle.yq_history.{specs.declared.fault.Fault.Fault, specs.Causes.Cause, specs.Effects.{Effect, Works}, specs.Faults.is_outer_fault}
-use Rattle.yq_history.{specs.Output.{IsOutput, Showing, Shows}, specs.Pair.{Arrives, GoodIn, OthersStay, PairAtRest}, specs.Report.Report}
+use Rattle.yq_history.{specs.declared.fault.Fault.Fault, specs.Causes.Cause, specs.Effects.{Effect, Works}}
+use Rattle.yq_history.{specs.Leaves.{ArrivesBy, LeavesRefused}, specs.Output.{IsOutput, Showing, Shows}}
+use Rattle.yq_history.{specs.Pair.{Arrives, GoodIn, OthersStay, PairAtRest}, specs.Report.Report}
 use Rattle.yq_commands.specs.CommandEffects.{IsListing, OfEffect, edit_effect, output_by, update_effect}
 use Rattle.yq_commands.{specs.CommandNames.{IsNotNamed, IsOn, file_of}, specs.CommandSteps.{cause_of, next_of, update_cause, update_next}}
 use Rattle.yq_commands.{specs.Editing.{program_edits, program_in}, specs.Evaluation.{cause_in, report_in}}
@@ -15,17 +16,9 @@ use Rattle.yq_commands.specs.Prints.{prints, prints_change, reads_journal, repor
 
 -- ---- what calls on a file and its journal share
 
--- from each history for which the two are good, a call arrives at the next one, or is refused for its cause
-abbrev pub ArrivesBy : (Option History → Option Cause) → (Option History → Option History) → List ℕ → List ℕ → FileMap → FileMap → {T : Type 0} → Result T Fault → Type 0
-ArrivesBy cause next file journal old new r = (h : Option History) → GoodIn old file journal h → Arrives new file journal (cause h) h (next h) r
-
 -- a call that is carried out shows what is due by such a history
 abbrev pub ShowsBy : (Option History → Showing) → List ℕ → List ℕ → FileMap → {T : Type 0} → Result T Fault → Report → Type 0
 ShowsBy due file journal old r s = (h : Option History) → GoodIn old file journal h → OnOk r (Shows file (due h) s)
-
--- a refusal in which no call of the store failed and no memory was refused leaves what all names hold
-abbrev pub LeavesRefused : FileMap → FileMap → {T : Type 0} → Result T Fault → Type 0
-LeavesRefused old new r = IfErr r (λ e. is_outer_fault e ≡ false → new ≡ old)
 
 -- ---- a command
 

@@ -1,9 +1,9 @@
 //! An edited text, kept in its file beside the journal.
 ghost use Rattle.std.specs.Prelude.{◌≡◌, ◌≢◌, Some, IfOk, OnOk, IfErr, IsTrue, IsNone, false, length};
 ghost use Rattle.yq_text.specs.Splice.{Splice, all_done, lengths_done};
-ghost use Rattle.yq_commands.{specs.CommandDone.{EditsFrom, LeavesRefused, program_effect}, specs.Editing.EachProgram};
-ghost use Rattle.yq_commands.specs.Edits.{record_between};
-ghost use Rattle.yq_history.{specs.Calls.Makes, specs.Faults.{is_output, failures_after}, specs.Pair.OthersStay};
+ghost use Rattle.yq_commands.{specs.CommandDone.{EditsFrom, program_effect}, specs.Editing.EachProgram, specs.Edits.record_between};
+ghost use Rattle.yq_history.{specs.Calls.Makes, specs.Faults.{is_output, failures_after}, specs.Leaves.LeavesRefused};
+ghost use Rattle.yq_history.specs.Pair.{OthersStay};
 ghost use Rattle.std.specs.FinMap as map;
 
 use std::alloc::{AllocError, Global};

@@ -22,6 +22,14 @@ HoldsBytes content name bytes = get content name ≡ Some bytes
 abbrev pub HasState : FileMap → List ℕ → State → Type 0
 HasState content name s = journal_beside (get content name) ≡ Some s
 
+-- a refusal in which no call of the store failed and no memory was refused leaves what all names hold
+abbrev pub LeavesRefused : FileMap → FileMap → {T : Type 0} → Result T Fault → Type 0
+LeavesRefused old new r = IfErr r (λ e. is_outer_fault e ≡ false → new ≡ old)
+
+-- from each history for which a file and its journal are good, a call arrives at the next one, or is refused for its cause
+abbrev pub ArrivesBy : (Option History → Option Cause) → (Option History → Option History) → List ℕ → List ℕ → FileMap → FileMap → {T : Type 0} → Result T Fault → Type 0
+ArrivesBy cause next file journal old new r = (h : Option History) → GoodIn old file journal h → Arrives new file journal (cause h) h (next h) r
+
 -- by the stores before and after a call, as files by their names
 module _ {S : Type 0} (content : S → FileMap) (old new : S) where
   -- every name but this one holds what it held
@@ -32,15 +40,7 @@ module _ {S : Type 0} (content : S → FileMap) (old new : S) where
   abbrev pub KeepsOthers : List ℕ → List ℕ → Type 0
   KeepsOthers file journal = OthersStay (content old) (content new) file journal
 
-  -- a refusal from inside wrote nothing
-  abbrev pub RefusalWritesNothing : {T : Type 0} → Result T Fault → Type 0
-  RefusalWritesNothing r = IfErr r (λ e. is_outer_fault e ≡ false → content new ≡ content old)
-
   module _ (file journal : List ℕ) where
-    -- from a pair that is good for a history it arrives at the next one, or is refused for the cause of that history
-    abbrev pub ArrivesFrom : (Option History → Option Cause) → (Option History → Option History) → {T : Type 0} → Result T Fault → Type 0
-    ArrivesFrom cause next r = (h : Option History) → GoodIn (content old) file journal h → Arrives (content new) file journal (cause h) h (next h) r
-
     -- the effect came about on what the store held by both names
     abbrev pub WorksOnPair : (List ℕ → State → Effect) → {T : Type 0} → Result T Fault → Type 0
     WorksOnPair go r = Works (from_names (content old) file journal go) file journal (content old) (content new) r

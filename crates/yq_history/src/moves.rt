@@ -1,5 +1,5 @@
 //! Moves of a file and its journal.
-ghost use Rattle.yq_history.specs.Leaves.{GoodAfterMove, GoodAroundMove, HoldsBytes, KeepsOthers, RefusalWritesNothing, RefusedFor};
+ghost use Rattle.yq_history.specs.Leaves.{GoodAfterMove, GoodAroundMove, HoldsBytes, KeepsOthers, LeavesRefused, RefusedFor};
 ghost use Rattle.yq_history.{specs.Leaves.RefusedOnlyFor, specs.Directions.MovesTo, specs.Calls.Makes};
 ghost use Rattle.yq_history.{specs.Effects.{IsMoveCutShort, move_effect}, specs.Faults.{is_output, failures_after}, specs.Pair.IsJournal};
 ghost use Rattle.std.specs.Prelude.{◌≡◌, ◌≢◌, None, false, IsTrue, IsNone, IfErr, OnOk, OnErr};
@@ -42,7 +42,8 @@ pub fn carry_out<D: Store>(
         (D.content store.old) (D.content store.new)) }
     ensures fault { RefusedOnlyFor (no_way state.old.records state.old.at step) result }
     ensures refused { RefusedFor (no_way state.old.records state.old.at step) result }
-    ensures kept { IsTrue D.keeps → RefusalWritesNothing D.content store.old store.new result }
+    ensures kept { IsTrue D.keeps →
+        LeavesRefused (D.content store.old) (D.content store.new) result }
     ensures barred { IsTrue D.keeps → no_way state.old.records state.old.at step ≢ None →
         D.content store.new ≡ D.content store.old }
     ensures others { IsTrue D.keeps → KeepsOthers D.content store.old store.new file.now

@@ -1,7 +1,7 @@
 //! Squashes: the last edits of a file joined into one in its journal.
-ghost use Rattle.yq_history.specs.Leaves.{ArrivesFrom, ArrivesFromRest, RefusalWritesNothing, RefusedFor, WorksFromRest, WorksOnPair};
-ghost use Rattle.yq_history.{specs.Leaves.WritesOnly, specs.Calls.{CallsOnPair, Makes}, specs.Effects.squash_effect};
-ghost use Rattle.yq_history.{specs.Faults.{is_output, failures_after}, specs.Steps.{squash_cause, squash_next}};
+ghost use Rattle.yq_history.specs.Leaves.{ArrivesBy, ArrivesFromRest, LeavesRefused, RefusedFor, WorksFromRest, WorksOnPair, WritesOnly};
+ghost use Rattle.yq_history.{specs.Calls.{CallsOnPair, Makes}, specs.Effects.squash_effect, specs.Faults.{is_output, failures_after}};
+ghost use Rattle.yq_history.specs.Steps.{squash_cause, squash_next};
 ghost use Rattle.std.specs.Prelude.{◌≡◌, ◌≢◌, ℕ, List, IfErr, IsTrue, IsNone, false};
 ghost use Rattle.yq_journal.specs.Refusals.{squash_fault};
 ghost use Rattle.std.specs.FinMap as map;
@@ -28,7 +28,8 @@ fn squash_from<D: Store>(
         WorksFromRest D.content store.old store.new file journal.now state.old t (squash_effect n)
         result }
     ensures refused { RefusedFor (squash_fault state.old n) result }
-    ensures kept { IsTrue D.keeps → RefusalWritesNothing D.content store.old store.new result }
+    ensures kept { IsTrue D.keeps →
+        LeavesRefused (D.content store.old) (D.content store.new) result }
     ensures one { IsTrue D.keeps → n ≡ 1 → D.content store.new ≡ D.content store.old }
     ensures others { IsTrue D.keeps → WritesOnly D.content store.old store.new journal.now }
     ensures no_output { IfErr result (λ e. is_output e ≡ false) }
@@ -52,11 +53,12 @@ pub fn squash<D: Store>(
     n: u64,
 ) -> Result<(), Fault>
     ensures arrives { IsTrue D.keeps → file.now ≢ journal.now →
-        ArrivesFrom D.content store.old store.new file.now journal.now (squash_cause n)
-        (squash_next n) result }
+        ArrivesBy (squash_cause n) (squash_next n) file.now journal.now
+        (D.content store.old) (D.content store.new) result }
     ensures effect { IsTrue D.keeps → file.now ≢ journal.now →
         WorksOnPair D.content store.old store.new file.now journal.now (squash_effect n) result }
-    ensures kept { IsTrue D.keeps → RefusalWritesNothing D.content store.old store.new result }
+    ensures kept { IsTrue D.keeps →
+        LeavesRefused (D.content store.old) (D.content store.new) result }
     ensures one { IsTrue D.keeps → n ≡ 1 → D.content store.new ≡ D.content store.old }
     ensures others { IsTrue D.keeps → WritesOnly D.content store.old store.new journal.now }
     ensures no_output { IfErr result (λ e. is_output e ≡ false) }

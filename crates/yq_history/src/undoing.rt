@@ -1,5 +1,5 @@
 //! Undo and redo of a file and its journal.
-ghost use Rattle.yq_history.specs.Leaves.{ArrivesFrom, ArrivesFromRest, GoodAfterMove, GoodAroundMove, KeepsOthers, RefusalWritesNothing};
+ghost use Rattle.yq_history.specs.Leaves.{ArrivesBy, ArrivesFromRest, GoodAfterMove, GoodAroundMove, KeepsOthers, LeavesRefused};
 ghost use Rattle.yq_history.{specs.Leaves.{WorksFromRest, WorksOnPair, WritesOnly}, specs.Directions.{MovesTo, walk_move}};
 ghost use Rattle.yq_history.{specs.Effects.move_effect, specs.Faults.{is_outer_fault, is_output, failures_after}, specs.Pair.IsJournal};
 ghost use Rattle.yq_history.{specs.Calls.{CallsOnPair, Makes, PutsJournal}, specs.Steps.{move_cause, move_next}};
@@ -64,7 +64,8 @@ fn move_from<D: Store>(
     ensures effect { IsTrue D.keeps → file.now ≢ journal.now →
         WorksFromRest D.content store.old store.new file.now journal.now state.old text.items
         (move_effect (walk_move dir)) result }
-    ensures kept { IsTrue D.keeps → RefusalWritesNothing D.content store.old store.new result }
+    ensures kept { IsTrue D.keeps →
+        LeavesRefused (D.content store.old) (D.content store.new) result }
     ensures others { IsTrue D.keeps → KeepsOthers D.content store.old store.new file.now
         journal.now }
     ensures no_output { IfErr result (λ e. is_output e ≡ false) }
@@ -90,12 +91,13 @@ pub fn move_file<D: Store>(
     dir: Direction,
 ) -> Result<(), Fault>
     ensures arrives { IsTrue D.keeps → file.now ≢ journal.now →
-        ArrivesFrom D.content store.old store.new file.now journal.now (move_cause (walk_move dir))
-        (move_next (walk_move dir)) result }
+        ArrivesBy (move_cause (walk_move dir)) (move_next (walk_move dir)) file.now journal.now
+        (D.content store.old) (D.content store.new) result }
     ensures effect { IsTrue D.keeps → file.now ≢ journal.now →
         WorksOnPair D.content store.old store.new file.now journal.now (move_effect (walk_move dir))
         result }
-    ensures kept { IsTrue D.keeps → RefusalWritesNothing D.content store.old store.new result }
+    ensures kept { IsTrue D.keeps →
+        LeavesRefused (D.content store.old) (D.content store.new) result }
     ensures others { IsTrue D.keeps → KeepsOthers D.content store.old store.new file.now
         journal.now }
     ensures no_output { IfErr result (λ e. is_output e ≡ false) }

@@ -7,16 +7,15 @@ use Rattle.yq_outline.proofs.ShapeLaws.{shaped_by_lines, shaped_is_tree}
 use Rattle.yq_semantics.{specs.After.{after_op, all_after, op_document}, specs.Changes.Room, specs.Fits.AllFit, specs.Meaning.AreReady}
 use Rattle.yq_semantics.{specs.Judgement.{Judgement, MatchFails, gives, refuses}, specs.Operations.Operation, specs.Plans.plan}
 use Rattle.yq_semantics.{specs.Program.{Update, UpdatesHold}, specs.Rooms.room_of}
-use Rattle.yq_semantics.specs.RoomsKept.{BlockLasts, KeepsBlockIn, LeavesRooms, MayFollow, NoneOn, RoomsLast, SetComments, SetNoComment}
+use Rattle.yq_semantics.specs.RoomsKept.{BlockLasts, KeepsBlockIn, LeavesRooms, MayFollow, NoneOn, SetComments, SetNoComment}
 use Rattle.yq_semantics.{specs.declared.expr_error.ExprError.ExprError, proofs.JudgementLaws.gives_same, proofs.RoomLaws.rooms_are_ready}
 use Rattle.yq_semantics.{proofs.updates.AlikeRooms.rest_follow, proofs.updates.RoomsLast.plan_follows}
-use Rattle.yq_semantics.specs.declared.refusal.Refusal.{Refusal}
 use Rattle.yq_eval.specs.PlaceView.{put_behind}
-use Rattle.yq_expr.{specs.Parts.{IsInOrder, LeavesOps, rest_ops}, proofs.PartLaws.{nothing_left, whole_plan}}
+use Rattle.yq_expr.{specs.Parts.{LeavesOps, rest_ops}, proofs.PartLaws.{nothing_left, whole_plan}}
 use Rattle.yq_text.specs.Splice.{Splice}
 use Rattle.yq_edit_laws.{specs.Answers.{EditFails, error_of_reading, of_planning}, specs.Carried.{carried, carry_all, carry_out, updated}}
 use Rattle.yq_edit_laws.specs.Edit.{Edit, by_reading, edit_after, edit_then, in_order, unreadable}
-use Rattle.yq_edit_laws.specs.Theorems.{IsApplied, IsFitting, IsLarge, IsUpdated, Leading, StopsInOrder}
+use Rattle.yq_edit_laws.specs.Theorems.{IsApplied, IsFitting, IsLarge, Leading, StopsInOrder}
 use Rattle.yq_edit_laws.{specs.Valid.{AreServed, FailsAt, HaveOperands, IsStep, UpdateFails}, specs.declared.edit_error.EditError.EditError}
 use Rattle.yq_edit_laws.{proofs.ApplyLaws.applied_by, proofs.CutLaws.cut_same, proofs.MeaningLaws.{UpdateComes, plan_comes}}
 use Rattle.yq_edit_laws.{proofs.ServeLaws.{OperationsCome, all_come}, proofs.TextFaults.{FailsToRead, text_unread, text_utf8}}

@@ -8,7 +8,7 @@ use Rattle.yq_core.{specs.declared.fault.ReadError.ReadError, proofs.Bools.guard
 use Rattle.yq_row_table.{specs.Grammar.IsCut, specs.Items.{Item, items_of_cut, items_text}, specs.Kept.IsPlaced, specs.Rows.Cut}
 use Rattle.yq_row_table.{specs.Touched.{TouchesOnly, in_back, in_front, item_text}, specs.View.{RowsView, rows_view}}
 use Rattle.yq_row_table.{specs.declared.places.Places.Places, proofs.PlacedLaws.split_boundary}
-use Rattle.yq_documents.{specs.Reading.{all_documents, documents, cut_of, read_at}, proofs.ReadLaws.{text_takes, read_takes}}
+use Rattle.yq_documents.{specs.Reading.{all_documents, documents, cut_of, read_at}, proofs.ReadLaws.{parts_read, text_takes, read_takes}}
 use Rattle.yq_outline.{specs.RowWalk.AreKnown, specs.declared.line_position.KnownItems.KnownItems}
 use Rattle.yq_places.specs.RowWalk.{HasCut, StayKnown}
 use Rattle.yq_lookup.{specs.KnownDocuments.DocumentsStay, specs.declared.known_document.KnownDocuments.KnownDocuments}
@@ -30,6 +30,12 @@ pub has_cut : (t : List ℕ) (c : Cut) (s : RowsView) → read_at t ≡ Some c �
 has_cut t c s is shows =
     let same : c ≡ cut_of t = sym (cut_same t c is) in
     record { cut = subst (IsCut t) same (cut_read t c is); rows = shows ∙ ap rows_view same; sound = ap all_documents (sym same) ∙ documents_sound t c is }
+
+-- ---- a text that has a reading
+
+-- it is read as its cut
+pub reading_cut : (t : List ℕ) → HasReading t → read_at t ≡ Some (cut_of t)
+reading_cut t h = let read = (parts_read t h.0 h.1).0 in read ∙ ap Some (sym (cut_same t h.1.parts read))
 
 -- ---- opened
 

@@ -4,18 +4,20 @@ ghost use Rattle.yq_semantics.specs.Operations.{operation_of, operations_of};
 ghost use Rattle.yq_documents.specs.Reading.{cut_of, read_at};
 ghost use Rattle.yq_row_table.specs.View.{rows_view};
 ghost use Rattle.yq_edit_laws.{specs.Answers.{Edits, EditFails}, specs.Edit.{edit_after, gives}};
-ghost use Rattle.yq_edit_laws.{specs.Theorems.{IsApplied, IsFitting, OpRefused}, specs.Valid.AreServed};
+ghost use Rattle.yq_edit_laws.{specs.Theorems.{HasReading, IsApplied, IsFitting, OpRefused}, specs.Valid.AreServed};
 ghost use Rattle.yq_splice.specs.Session.{HasPlaces};
 ghost use Rattle.yq_edit_laws.specs.Carried as spec;
 
 use crate::session::Session;
 use std::alloc::{AllocError, Global};
 use yq_batch::{Together, carry_in_rows, carry_together};
+use yq_core::ReadError;
 use yq_documents::Documents;
 use yq_edit_laws::{EditError, operand_holds};
 use yq_lookup::CutText;
 use yq_operation::carry_one;
 use yq_row_table::{Places, Rows};
+use yq_rows::scan;
 use yq_semantics::Op;
 use yq_text::{Edited, Splice};
 use yq_tree::read;
@@ -154,6 +156,28 @@ fn carry_each(
     carry_all(alloc, kept, places, splices, ops)
 }
 
+/// Operations carried out on a text with its rows; their splices come after others. For a sole one the text
+/// is not copied.
+fn carry_rows(
+    alloc: Global,
+    text: &str,
+    rows: Rows<'_>,
+    splices: Vec<Splice>,
+    ops: &[Op],
+) -> Result<Edited, EditError>
+    requires rows { rows ≡ rows_view (cut_of text.now) }
+    requires read { read_at text.now ≡ Some (cut_of text.now) }
+    requires serves { AreServed (operations_of ops.now) text.now }
+    ensures { Edits result (edit_after splices.items (spec.carry_all (operations_of ops.now)
+        text.now)) }
+{
+    let at_once = carry_at_once(alloc, &CutText::new(text, &rows), ops)?;
+    if let Some(edited) = at_once {
+        return Ok(edited_behind(splices, edited)?);
+    }
+    carry_each(alloc, text, rows, splices, ops)
+}
+
 /// The operations of a plan carried out on a text that was read; their splices come after others. For a
 /// sole one the text is not copied.
 pub fn carry_plan(
@@ -169,12 +193,35 @@ pub fn carry_plan(
     ensures { Edits result (edit_after splices.items (spec.carry_all (operations_of ops.now)
         text.now)) }
 {
-    let whole = documents.text();
     // What is decoded is freed before an operation reads the head that it changes.
     let rows = documents.into_rows();
-    let at_once = carry_at_once(alloc, &CutText::new(whole, &rows), ops)?;
-    if let Some(edited) = at_once {
-        return Ok(edited_behind(splices, edited)?);
+    carry_rows(alloc, text, rows, splices, ops)
+}
+
+/// The rows of a text that has a reading: it is cut again, and nothing else of it is checked.
+fn cut_again(alloc: Global, text: &str) -> Result<Rows<'_>, AllocError>
+    requires { HasReading text.now }
+    ensures { IfOk result (λ s. s ≡ rows_view (cut_of text.now)) }
+{
+    match scan(alloc, text) {
+        Ok(rows) => Ok(rows),
+        Err(ReadError::Memory) => Err(AllocError),
+        Err(ReadError::Fault(_)) => unreachable!(),
     }
-    carry_each(alloc, text, rows, splices, ops)
+}
+
+/// Operations that may follow the ones that gave a text, carried out on it: it has a reading, so that only
+/// its rows are made again. Their splices come after others.
+pub(crate) fn carry_on(
+    alloc: Global,
+    text: &str,
+    splices: Vec<Splice>,
+    ops: &[Op],
+) -> Result<Edited, EditError>
+    requires { AreServed (operations_of ops.now) text.now }
+    ensures { Edits result (edit_after splices.items (spec.carry_all (operations_of ops.now)
+        text.now)) }
+{
+    let rows = cut_again(alloc, text)?;
+    carry_rows(alloc, text, rows, splices, ops)
 }

@@ -7,16 +7,15 @@ ghost use Rattle.yq_edit_laws.{specs.Answers.Edits, specs.Carried.carry_all, spe
 ghost use Rattle.yq_edit_laws.specs.Valid.{AreServed, FailsAt, IsStep};
 ghost use Rattle.yq_splice.specs.Parts.{IsJudged};
 
-use crate::carrying::carry_plan;
+use crate::carrying::carry_on;
 use std::alloc::Global;
 use yq_documents::Documents;
 use yq_edit_laws::{EditError, operands_hold};
 use yq_expr::{Program, plan_part};
 use yq_semantics::Op;
 use yq_text::{Edited, Splice};
-use yq_tree::read;
 
-/// Operations carried out on the text of an edit, which is read for them; their splices come after its own.
+/// Operations carried out on the text of an edit; their splices come after its own.
 fn carry_part(alloc: Global, done: Edited, ops: &[Op]) -> Result<Edited, EditError>
     requires { AreServed (operations_of ops.now) (string_bytes done.text) }
     ensures { Edits result (edit_after done.splices.items (carry_all (operations_of ops.now)
@@ -26,9 +25,7 @@ fn carry_part(alloc: Global, done: Edited, ops: &[Op]) -> Result<Edited, EditErr
         return Ok(done);
     }
     let Edited { text, splices } = done;
-    let text = text.as_str();
-    let documents = read(alloc, text.as_bytes())?;
-    carry_plan(alloc, text, documents, splices, ops)
+    carry_on(alloc, text.as_str(), splices, ops)
 }
 
 /// Carries out update `nth` of a program that nothing refuses on the text of its documents, part by part:

@@ -1,8 +1,7 @@
-use Rattle.std.{proofs.Common.{◌≡◌, ◌≤◌, ℕ, List, Some, ap, ◌∙◌, length, sym, subst, arith}, proofs.lemmas.Result.err_from_is_err_and}
+use Rattle.std.{proofs.Common.{◌≤◌, List, ap, ◌∙◌, length, sym, subst, arith}, proofs.lemmas.Result.err_from_is_err_and}
 use Rattle.std.specs.String.{string_bytes}
 use Rattle.yq_documents.specs.Reading.{documents_of}
-use Rattle.yq_semantics.{specs.Operations.operations_of, specs.Program.{Update, UpdatesHold, update_at}, specs.View.program_of}
-use Rattle.yq_semantics.specs.declared.op.Op.{Op}
+use Rattle.yq_semantics.{specs.Operations.operations_of, specs.View.program_of, specs.declared.op.Op.Op}
 use Rattle.yq_edit_laws.{specs.Answers.EditFails, specs.Carried.carry_all, specs.Edit.edit_after, specs.Valid.{AreServed, HaveOperands}}
 use Rattle.yq_edit_laws.proofs.UpdateLaws.{update_holds, update_there}
 use Rattle.yq_splice.proofs.PartLaws.{all_carried, begun, memory_fails, part_done, part_fails, part_served, unplanned}
