@@ -112,12 +112,10 @@ TEXTS = {
     "CR LF": lambda s: lines(lambda n: f"k{n}: 1\r\n", s),
 }
 
-NESTED = "flow collections that are 60 deep take 0.2 s a MB to read, and are read for each part of the update"
 BLANKS = "each of many operations takes time by the blank lines after it"
 
 # What takes more, by its cause: other issues mend it.
 ABOVE = [
-    (NESTED, ["60 deep, in flow"], [".[] = ."]),
     (BLANKS, ["blank literals"], ["del(.[])"]),
 ]
 KNOWN = {(name, expression): cause for cause, names, expressions in ABOVE for name in names for expression in expressions}
