@@ -20,16 +20,21 @@ class Skip(Exception):
 
 
 def all_of(terminal):
-    """All that comes to a terminal until nobody writes there any more, which its system reports as an error."""
+    """All that comes to a terminal until nobody writes there any more, which its system reports as an error.
+
+    The report may come before the last bytes, where these and the end came between two looks of the system: so it is asked again.
+    """
     seen = b""
-    while True:
+    reports = 0
+    while reports < 2:
         try:
             more = os.read(terminal, 4096)
         except OSError:
-            return seen
-        if not more:
-            return seen
+            more = b""
         seen += more
+        if not more:
+            reports += 1
+    return seen
 
 
 class Folder:
