@@ -1,8 +1,8 @@
 """Runs expressions on texts that are made to be slow: each is to take at most 5 s of the processor and 512 MB.
 
-usage: hostile.py PATH_OF_YQ [TENTH]      with TENTH, every tenth of the 1,200 runs alone, from that one on (0 to 9)
+usage: hostile.py PATH_OF_YQ [TENTH]      with TENTH, every tenth of the 1,240 runs alone, from that one on (0 to 9)
 
-60 texts of 1 MB by 20 expressions. What is refused counts as what is done: here it matters what it takes. Runs that are known to take
+62 texts of 1 MB by 20 expressions. What is refused counts as what is done: here it matters what it takes. Runs that are known to take
 more are listed with their cause (KNOWN): they are run for 5 s at most, and told. The last line is `N within, N known, N above`.
 """
 
@@ -110,14 +110,12 @@ TEXTS = {
     "quoted keys": lambda s: lines(lambda n: f'"k{n}\\n": 1\n', s),
     "non-ASCII": lambda s: lines(lambda n: f"k{n}: \u4e2d\U0001f600\n", s),
     "CR LF": lambda s: lines(lambda n: f"k{n}: 1\r\n", s),
+    "entries between blank lines": lambda s: lines(lambda n: f"k{n}: {n}\n\n", s),
+    "items between comments": lambda s: lines(lambda n: f"# c\n\n- {n}\n", s),
 }
 
-BLANKS = "each of many operations takes time by the blank lines after it"
-
-# What takes more, by its cause: other issues mend it.
-ABOVE = [
-    (BLANKS, ["blank literals"], ["del(.[])"]),
-]
+# What takes more, by its cause: texts, and expressions on them.
+ABOVE = []
 KNOWN = {(name, expression): cause for cause, names, expressions in ABOVE for name in names for expression in expressions}
 
 

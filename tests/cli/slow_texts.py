@@ -15,12 +15,14 @@ SIZE = hostile.SIZE // 10
 SECONDS, MEGABYTES = 1, 64
 # Its values are made in parts of 256 MiB, however short the text is.
 IN_PARTS = ".[] = ."
+# Texts of which each removal leaves the lines between two entries.
+LEAVING_LINES = ["blank literals", "entries between blank lines", "items between comments"]
 
 
-def runs(folder, wanted):
+def runs(folder, wanted, size=SIZE):
     """These runs, begun by a small process: the most memory of a run counts that of the process which began it."""
     with ProcessPoolExecutor(1, multiprocessing.get_context("spawn")) as small:
-        return small.submit(hostile.hostile_runs, folder.yq, folder.path, wanted, SIZE).result()
+        return small.submit(hostile.hostile_runs, folder.yq, folder.path, wanted, size).result()
 
 
 def check_a_tenth_of_the_hostile_runs(folder):
@@ -31,3 +33,11 @@ def check_a_tenth_of_the_hostile_runs(folder):
         most = (hostile.SECONDS, hostile.MEGABYTES) if expression == IN_PARTS else (SECONDS, MEGABYTES)
         within = status in (0, 1), seconds <= most[0], megabytes <= most[1]
         equal(within, (True, True, True), (name, expression, status, seconds, megabytes))
+
+
+def check_removals_that_leave_lines_between_entries(folder):
+    """On four times the text they take at most eight times as long, where that is more than 0.4 s."""
+    wanted = [(name, "del(.[])") for name in LEAVING_LINES]
+    for small, large in zip(runs(folder, wanted), runs(folder, wanted, 4 * SIZE)):
+        within = small[2], large[2], large[3] <= 8 * max(small[3], 0.05), large[4] <= MEGABYTES
+        equal(within, (0, 0, True, True), (small, large))

@@ -15,3 +15,14 @@ pub mod RowRunLaws
 pub mod RowRunAnswers
 pub mod RowPutLaws
 pub mod RowCommentLaws
+pub mod UptoLaws
+pub mod OwnRowsStay
+pub mod EntryRemains
+pub mod OthersFollow
+pub mod GapStays
+pub mod RowsTaken
+pub mod RowsTakenOn
+pub mod RowsInFront
+pub mod RowRunGoesOn
+pub mod RowRunBegins
+pub mod RowRemovalAnswers

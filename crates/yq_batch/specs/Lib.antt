@@ -3,3 +3,4 @@ pub mod RowRuns
 pub mod RemovalRuns
 pub mod LeftItems
 pub mod LeftPlaces
+pub mod RowRemovals

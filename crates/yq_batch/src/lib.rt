@@ -5,8 +5,10 @@ mod adding;
 mod in_rows;
 mod left;
 mod removals;
+mod row_removals;
 mod run;
 mod together;
 
 pub use in_rows::carry_in_rows;
+pub use row_removals::carry_beside;
 pub use together::{Together, carry_together};

@@ -46,7 +46,7 @@ pub(crate) struct LeftOf<'s> {
 }
 
 /// A text from which nothing was taken out.
-fn untouched(alloc: Global, text: Halves<'_>) -> Result<RemovalRun, AllocError>
+pub(crate) fn untouched(alloc: Global, text: Halves<'_>) -> Result<RemovalRun, AllocError>
     ensures text { IfOk result (λ r. buffer_text r.text ≡ whole text.entry) }
     ensures keep { IfOk result (λ r. r.keep ≡ length (whole text.entry)) }
     ensures splices { IfOk result (λ r. r.splices.items ≡ []) }
@@ -63,7 +63,12 @@ fn untouched(alloc: Global, text: Halves<'_>) -> Result<RemovalRun, AllocError>
 }
 
 /// What is between two places of the text of a run goes.
-fn take_out(alloc: Global, run: &mut RemovalRun, start: usize, end: usize) -> Result<(), EditError>
+pub(crate) fn take_out(
+    alloc: Global,
+    run: &mut RemovalRun,
+    start: usize,
+    end: usize,
+) -> Result<(), EditError>
     requires order { start ≤ end }
     requires utf8 { IsUtf8 (buffer_text run.old.text) }
     requires start { IsCharBoundary (buffer_text run.old.text) start }

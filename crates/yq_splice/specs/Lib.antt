@@ -1,3 +1,4 @@
 pub mod Session
 pub mod TouchedLines
 pub mod Parts
+pub mod ByLines

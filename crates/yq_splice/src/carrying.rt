@@ -8,9 +8,10 @@ ghost use Rattle.yq_edit_laws.{specs.Theorems.{HasReading, IsApplied, IsFitting,
 ghost use Rattle.yq_splice.specs.Session.{HasPlaces};
 ghost use Rattle.yq_edit_laws.specs.Carried as spec;
 
+use crate::by_lines::carry_by_lines;
 use crate::session::Session;
 use std::alloc::{AllocError, Global};
-use yq_batch::{Together, carry_in_rows, carry_together};
+use yq_batch::{Together, carry_together};
 use yq_core::ReadError;
 use yq_documents::Documents;
 use yq_edit_laws::{EditError, operand_holds};
@@ -97,7 +98,7 @@ pub(crate) fn edited_behind(splices: Vec<Splice>, edited: Edited) -> Result<Edit
 }
 
 /// What operations that were carried out together give, with the one that is left.
-fn with_last(alloc: Global, together: Together<'_>) -> Result<Edited, EditError>
+pub(crate) fn with_last(alloc: Global, together: Together<'_>) -> Result<Edited, EditError>
     requires { length together.left.now ≤ 1 }
     ensures { Edits result (edit_after together.entry.edited.splices.items (spec.carry_all
         (operations_of together.entry.left.now) (string_bytes together.entry.edited.text))) }
@@ -111,8 +112,9 @@ fn with_last(alloc: Global, together: Together<'_>) -> Result<Edited, EditError>
     Ok(edited_behind(splices, last)?)
 }
 
-/// Operations carried out on a text with its cut, where no rows follow one of them: a sole one, operations in
-/// one flow collection, or operations that each change one row; nothing, where they are others.
+/// Operations carried out on a text with its cut, where no rows follow each of them: a sole one, operations in
+/// one flow collection, operations that take lines out of one block collection, or that each change one row;
+/// nothing, where they are others.
 fn carry_at_once<'d>(
     alloc: Global,
     cut: &CutText<'d, '_>,
@@ -134,7 +136,7 @@ fn carry_at_once<'d>(
         let carried = with_last(alloc, together)?;
         return Ok(Some(carried));
     }
-    carry_in_rows(alloc, cut, ops)
+    carry_by_lines(alloc, cut, ops)
 }
 
 /// Operations carried out one by one on a copy of a text that was read; their splices come after others.
@@ -199,7 +201,7 @@ pub fn carry_plan(
 }
 
 /// The rows of a text that has a reading: it is cut again, and nothing else of it is checked.
-fn cut_again(alloc: Global, text: &str) -> Result<Rows<'_>, AllocError>
+pub(crate) fn cut_again(alloc: Global, text: &str) -> Result<Rows<'_>, AllocError>
     requires { HasReading text.now }
     ensures { IfOk result (λ s. s ≡ rows_view (cut_of text.now)) }
 {

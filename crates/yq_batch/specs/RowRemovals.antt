@@ -1,0 +1,139 @@
+-- Items and entries taken out of one block collection with their lines, one before the other, on the rows as they were read (YAML 1.2.2, 8.2; own).
+use Rattle.std.specs.Prelude.{◌≡◌, ⊤, ◌⊎◌, not, if◌then◌else◌, ℕ, ◌+◌, ◌-◌, ◌<◌, ◌≤◌, Bool, true, false, List, [], ◌∷◌, ◌++◌, take, length}
+use Rattle.std.specs.Prelude.{Option, Some, None, IfSome, map, string_bytes}
+use Rattle.yq_text.{specs.Splice.Splice, specs.TextGapBuffer.buffer_text}
+use Rattle.yq_core.{specs.Entries.tree_step, specs.Paths.Step, specs.Lines.{spaces, behind_spaces, is_blank, is_tab}}
+use Rattle.yq_core.specs.Text.{ends_line, text_lines}
+use Rattle.yq_row_table.{specs.Rows.{Row, Cut, cut_text}, specs.Splices.first_gap}
+use Rattle.yq_documents.{specs.Located.steps_of, specs.Reading.{cut_of, read_at}, specs.declared.path.Path.Path}
+use Rattle.yq_places.specs.PlacedRows.{PlacedPart, placed_document}
+use Rattle.yq_places.{specs.RemovalPlaces.{OwnRows, own_rows, rows_out, Seam, has_others_at}, specs.Standings.last_step}
+use Rattle.yq_semantics.{specs.declared.op.Op.Op, specs.Operations.{Operation, operation_of, operations_of, remove}}
+use Rattle.yq_edit_laws.{specs.Answers.EditFails, specs.Carried.{carried, carry_all}, specs.Edit.{Edit, edit_after, gives}}
+use Rattle.yq_edit_laws.{specs.Theorems.IsApplied, specs.Valid.AreServed, specs.declared.edit_error.EditError.EditError}
+use Rattle.yq_batch.{specs.declared.removals.RemovalRun.RemovalRun, specs.declared.together.Together.Together}
+use Rattle.yq_core.specs.declared.path.Step as declared
+
+-- ---- gaps that stay after a block scalar
+
+-- only spaces come before the break of a blank line, and no tab before a `#` after spaces (own)
+abbrev pub is_spaced : List ℕ → Bool
+is_spaced l = if is_blank l then ends_line (behind_spaces l) else not (is_tab (behind_spaces l))
+
+-- lines of a gap are so, with fewer spaces in front than a number (own)
+abbrev pub AreLow : ℕ → List (List ℕ) → Type 0
+AreLow n [] = ⊤
+AreLow n (l ∷ ls) = (is_spaced l ≡ true) × (spaces l < n) × AreLow n ls
+
+-- a gap with lines that low stays as it is at a seam, if there is one: it has no lines, or the block scalar keeps no empty lines and is indented that deep
+-- (8.1.1; own)
+abbrev pub StaysAt : Option Seam → Option ℕ → Type 0
+StaysAt None least = ⊤
+StaysAt (Some s) None = ⊥
+StaysAt (Some s) (Some n) = (n ≡ 0) ⊎ ((s.keeps ≡ false) × (n ≤ s.indent))
+
+-- how low the lines of a gap are, and of those before it, if that is known (own)
+abbrev pub IsLeast : Option ℕ → List ℕ → Option ℕ → Type 0
+IsLeast least gap None = ⊤
+IsLeast least gap (Some n) = (m : ℕ) × (least ≡ Some m) × (m ≤ n) × AreLow n (text_lines gap)
+
+-- ---- runs
+
+-- lines that are low are so in another text, where it is known how low the lines are that were put there (own)
+abbrev pub StayLow : Option ℕ → (old new : List ℕ) → Type 0
+StayLow None old new = ⊤
+StayLow (Some least) old new = (n : ℕ) → least ≤ n → AreLow n (text_lines old) → AreLow n (text_lines new)
+
+-- The rows of an item or entry are in another cut, with the same text and rows before them, and a gap after them that is as low (own).
+pub record StandsBefore (d : PlacedPart) (x : OwnRows) (cut : Cut) (n : ℕ) (steps : List Step) (least : Option ℕ) : Type 0 where
+  pub now : PlacedPart
+  pub placed : placed_document n cut ≡ Some now
+  pub before : now.before ≡ d.before
+  pub back : List Row
+  pub own : own_rows steps now.part.rows ≡ Some (record x { back = back })
+  pub low : StayLow least (first_gap x.back d.part.end) (first_gap back now.part.end)
+
+-- The last bytes of a cut's text were replaced by others, since items and entries were taken out of the block collection to which steps lead: the text
+-- reads, and the items and entries in the bytes that stay are there, before the others (own).
+pub record IsRowRemovalRun (c : Cut) (n : ℕ) (above : List Step) (least : Option ℕ) (keep : ℕ) (tail : List ℕ) : Type 0 where
+  pub within : keep ≤ length (cut_text c)
+  pub cut : Cut
+  pub read : read_at (take keep (cut_text c) ++ tail) ≡ Some cut
+  pub stays : (s : Step) (d : PlacedPart) (x : OwnRows) → placed_document n c ≡ Some d → own_rows (above ++ (s ∷ [])) d.part.rows ≡ Some x →
+      length (rows_out d x).before + length (rows_out d x).gone ≤ keep → StandsBefore d x cut n (above ++ (s ∷ [])) least
+
+-- a run of the code is one (own)
+pub record RemovesRows (c : Cut) (n : ℕ) (above : List Step) (least : Option ℕ) (r : RemovalRun) : Type 0 where
+  pub tail : List ℕ
+  pub text : buffer_text r.text ≡ take r.keep (cut_text c) ++ tail
+  pub run : IsRowRemovalRun c n above least r.keep tail
+
+-- ---- operations
+
+-- steps lead on to an item or entry of the collection to which others lead (own)
+abbrev pub LeadsInto : (above steps : List Step) → Type 0
+LeadsInto above steps = (s : Step) × (last_step steps ≡ Some (above, s))
+
+-- an operation takes what is at a path out of the collection to which steps lead (own)
+abbrev pub TakesFrom : Op → ℕ → (above : List Step) → Path → Type 0
+TakesFrom op n above p = (operation_of op ≡ remove n (steps_of p)) × (p.doc ≡ n) × LeadsInto above (steps_of p)
+
+-- the steps of a path but the last one (own)
+abbrev pub above_of : List Step → List Step
+above_of steps = take (length steps - 1) steps
+
+-- there are others beside the item or entry to which steps lead, as a text is read (own)
+abbrev pub HasOthersNow : ℕ → List Step → List ℕ → Type 0
+HasOthersNow n steps t = (d : Cut) → read_at t ≡ Some d → has_others_at n steps d ≡ true
+
+-- An operation is carried out on the text of a run, which goes on after it (own).
+pub record RemovesRowsOn (op : Operation) (c : Cut) (n : ℕ) (above : List Step) (before : RemovalRun) (least : Option ℕ) (after : RemovalRun) : Type 0 where
+  pub new_bytes : List Splice
+  pub comes : carried op (buffer_text before.text) ≡ gives (buffer_text after.text) new_bytes
+  pub applied : IsApplied op (buffer_text before.text) (buffer_text after.text) new_bytes
+  pub splices : after.splices.items ≡ before.splices.items ++ new_bytes
+  pub run : RemovesRows c n above least after
+
+-- the operation that takes out what is at a path (own)
+abbrev pub removal_of : Path → Operation
+removal_of p = remove p.doc (steps_of p)
+
+-- a run takes items and entries out of the collection in which a path ends (own)
+abbrev pub RemovesBeside : Path → Cut → Option ℕ → RemovalRun → Type 0
+RemovesBeside p c least r = RemovesRows c p.doc (above_of (steps_of p)) least r
+
+-- where what is at the path was taken out, the run goes on (own)
+abbrev pub GoesOnWithout : Path → Cut → RemovalRun → (found : Option (Option ℕ)) → RemovalRun → Type 0
+GoesOnWithout p c before found after =
+    IfSome found (λ least. RemovesRowsOn (removal_of p) c p.doc (above_of (steps_of p)) before least after)
+
+-- The first of some operations is carried out on the text of a run, which goes on after it (own).
+pub record FirstRemoves (ops : List Op) (c : Cut) (n : ℕ) (above : List Step) (before : RemovalRun) (least : Option ℕ) (after : RemovalRun) : Type 0 where
+  pub op : Op
+  pub others : List Op
+  pub ops_are : ops ≡ op ∷ others
+  pub on : RemovesRowsOn (operation_of op) c n above before least after
+
+-- where the first of them was carried out, the run goes on (own)
+abbrev pub GoesOnAfterFirst : List Op → List ℕ → ℕ → List declared.Step → RemovalRun → (found : Option (Option ℕ)) → RemovalRun → Type 0
+GoesOnAfterFirst ops t n above before found after =
+    IfSome found (λ least. FirstRemoves ops (cut_of t) n (map tree_step above) before least after)
+
+-- an operation fails on the text of a run (own)
+abbrev pub FailsOn : EditError → Operation → RemovalRun → Type 0
+FailsOn e op r = EditFails e (carried op (buffer_text r.text))
+
+-- operations fail on the text of a run (own)
+abbrev pub AllFailOn : EditError → List Op → RemovalRun → Type 0
+AllFailOn e ops r = EditFails e (carry_all (operations_of ops) (buffer_text r.text))
+
+-- ---- operations carried out together
+
+-- what operations give of which the first ones were carried out together, with those that are left (own)
+abbrev pub all_of : Together → Edit
+all_of x = edit_after x.edited.splices.items (carry_all (operations_of x.left.now) (string_bytes x.edited.text))
+
+-- The first of some operations were carried out on a text together, and the others then give what all give (own).
+pub record CarriesFirst (ops : List Op) (t : List ℕ) (x : Together) : Type 0 where
+  pub whole : all_of x ≡ carry_all (operations_of ops) t
+  pub serves : AreServed (operations_of x.left.now) (string_bytes x.edited.text)

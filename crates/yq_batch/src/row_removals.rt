@@ -1,0 +1,233 @@
+//! Items and entries that an update takes out of one block collection with their lines, one before the other:
+//! they are carried out together, on the rows as they were read.
+ghost use Rattle.std.specs.Prelude.{◌≡◌, true, map, option_map, IfErr, IfOk, IfSome, None, string_bytes};
+ghost use Rattle.yq_core.specs.Entries.{tree_step};
+ghost use Rattle.yq_text.specs.TextGapBuffer.{buffer_text};
+ghost use Rattle.yq_documents.{specs.Located.steps_of, specs.Reading.cut_of};
+ghost use Rattle.yq_places.specs.RemovalReading.{seam_view};
+ghost use Rattle.yq_semantics.specs.Operations.{operations_of};
+ghost use Rattle.yq_edit_laws.{specs.Answers.EditFails, specs.Carried.carry_all, specs.Theorems.IsFitting, specs.Valid.AreServed};
+ghost use Rattle.yq_batch.specs.RowRemovals as spec;
+
+use crate::removals::{RemovalRun, take_out, untouched};
+use crate::together::{Together, are_same_steps};
+use std::alloc::Global;
+use yq_core::lines::split_line;
+use yq_core::{Step, behind_spaces, ends_line, first_is, is_blank, spaces_len};
+use yq_documents::Path;
+use yq_edit_laws::{EditError, last_step};
+use yq_lookup::CutText;
+use yq_places::{Seam, is_text};
+use yq_semantics::Op;
+use yq_text::Edited;
+
+/// The path of the item or entry that an operation takes out of the collection at some steps, if it does.
+fn taken_from<'o>(op: &'o Op, doc: usize, above: &[Step]) -> Option<&'o Path>
+    ensures { IfSome result (λ p. spec.TakesFrom op.now doc (map tree_step above.now) p.now) }
+{
+    let Op::Remove(path) = op else {
+        return None;
+    };
+    let Some((steps, _)) = last_step(&path.steps) else {
+        return None;
+    };
+    if path.doc != doc || !are_same_steps(steps, above) {
+        return None;
+    }
+    Some(path)
+}
+
+/// Whether only spaces are in front of the break of a blank line, and no tab after the spaces in front of a
+/// comment.
+fn is_spaced(line: &[u8]) -> bool
+    ensures { result ≡ spec.is_spaced line.now }
+{
+    let rest = behind_spaces(line);
+    if is_blank(line) {
+        ends_line(rest)
+    } else {
+        !first_is(b'\t', rest)
+    }
+}
+
+/// The least indentation of a block scalar after which lines stay as they are, as well as those after which
+/// they stay from this one on; nothing, where there is none.
+fn least_for(gap: &str, least: Option<usize>) -> Option<usize>
+    ensures { spec.IsLeast least gap.now result }
+{
+    let mut found = least?;
+    let mut rest = gap;
+    'lines: while !rest.is_empty() {
+        let (line, after) = split_line(rest);
+        if !is_spaced(line.as_bytes()) {
+            return None;
+        }
+        let spaces = spaces_len(line.as_bytes());
+        if found <= spaces {
+            found = spaces + 1;
+        }
+        rest = after;
+    }
+    Some(found)
+}
+
+/// Whether a gap stays as it is at a seam, if there is one, by the least indentation after which it does.
+fn stays_at(seam: Option<Seam>, least: Option<usize>) -> bool
+    ensures { result ≡ true → spec.StaysAt (option_map seam_view seam) least }
+{
+    let Some(seam) = seam else {
+        return true;
+    };
+    match least {
+        Some(0) => true,
+        Some(least) => !seam.keeps && least <= seam.indent,
+        None => false,
+    }
+}
+
+/// Carries out the removal of an item or entry on the text of a run, if its lines are before those that were
+/// taken out, and nothing else changes; and reports which indentation the gap after it then asks for.
+fn take_rows<'d>(
+    alloc: Global,
+    cut: &mut CutText<'d, '_>,
+    path: &'d Path,
+    least: Option<usize>,
+    run: &mut RemovalRun,
+) -> Result<Option<Option<usize>>, EditError>
+    requires run { spec.RemovesBeside path.now (cut_of cut.old) least run.old }
+    requires others { spec.HasOthersNow path.now.doc (steps_of path.now)
+        (buffer_text run.old.text) }
+    requires fits { IsFitting (spec.removal_of path.now) (buffer_text run.old.text) }
+    ensures same { cut.new ≡ cut.old }
+    ensures ok { IfOk result (λ o. spec.GoesOnWithout path.now (cut_of cut.old) run.old o run.new) }
+    ensures stays { IfOk result (λ o. o ≡ None → run.new ≡ run.old) }
+    ensures err { IfErr result (λ e. spec.FailsOn e (spec.removal_of path.now) run.old) }
+{
+    *cut = cut.to_line(path);
+    let _text = cut.text();
+    let Some(removal) = cut.removal(path) else {
+        return Ok(None);
+    };
+    let start = removal.before.len();
+    let end = start + removal.gone.len();
+    let next = least_for(removal.gap, least);
+    if end > run.keep || !stays_at(removal.seam, next) {
+        return Ok(None);
+    }
+    is_text(removal.before);
+    is_text(removal.gone);
+    take_out(alloc, run, start, end)?;
+    Ok(Some(next))
+}
+
+/// Carries out the first of some operations on the text of a run, if it and the next one take an item or entry
+/// out of a collection, and nothing but the lines of that goes.
+fn remove_beside<'d>(
+    alloc: Global,
+    cut: &mut CutText<'d, '_>,
+    doc: usize,
+    above: &[Step],
+    ops: &'d [Op],
+    least: Option<usize>,
+    run: &mut RemovalRun,
+) -> Result<Option<Option<usize>>, EditError>
+    requires run { spec.RemovesRows (cut_of cut.old) doc (map tree_step above.now) least run.old }
+    requires serves { AreServed (operations_of ops.now) (buffer_text run.old.text) }
+    ensures same { cut.new ≡ cut.old }
+    ensures ok { IfOk result (λ o. spec.GoesOnAfterFirst ops.now cut.old doc above.now run.old o
+        run.new) }
+    ensures stays { IfOk result (λ o. o ≡ None → run.new ≡ run.old) }
+    ensures err { IfErr result (λ e. spec.AllFailOn e ops.now run.old) }
+{
+    let [op, next, ..] = ops else {
+        return Ok(None);
+    };
+    let Some(path) = taken_from(op, doc, above) else {
+        return Ok(None);
+    };
+    let Some(_after) = taken_from(next, doc, above) else {
+        return Ok(None);
+    };
+    let found = take_rows(alloc, cut, path, least, run)?;
+    Ok(found)
+}
+
+/// The text of a run with the operations that are left.
+fn ended<'o>(run: RemovalRun, left: &'o [Op]) -> Together<'o>
+    ensures text { string_bytes result.edited.text ≡ buffer_text run.text }
+    ensures splices { result.edited.splices.items ≡ run.splices.items }
+    ensures left { result.left.now ≡ left.now }
+{
+    let RemovalRun { text, splices, .. } = run;
+    Together {
+        edited: Edited {
+            text: text.into_string(),
+            splices,
+        },
+        left,
+    }
+}
+
+/// Carries out operations that take items and entries out of a collection with their lines, one before the
+/// other, up to the first one that doesn't, or after which none of these follows.
+fn remove_rows<'d>(
+    alloc: Global,
+    cut: &CutText<'d, '_>,
+    doc: usize,
+    above: &[Step],
+    ops: &'d [Op],
+) -> Result<Together<'d>, EditError>
+    requires { AreServed (operations_of ops.now) cut.now }
+    ensures ok { IfOk result (λ x. spec.CarriesFirst ops.now cut.now x) }
+    ensures err { IfErr result (λ e. EditFails e (carry_all (operations_of ops.now) cut.now)) }
+{
+    let mut way = CutText::resumed(cut.whole(), cut.rows(), cut.known());
+    let mut run = untouched(alloc, cut.text())?;
+    let mut least = Some(0);
+    let mut rest = ops;
+    'operations: while let [_, after @ ..] = rest {
+        let Some(next) = remove_beside(alloc, &mut way, doc, above, rest, least, &mut run)? else {
+            return Ok(ended(run, rest));
+        };
+        least = next;
+        rest = after;
+    }
+    Ok(ended(run, rest))
+}
+
+/// The collection out of which the first two of some operations take an item or entry, if that has lines of
+/// its own.
+fn common_collection<'d>(cut: &CutText<'d, '_>, ops: &'d [Op]) -> Option<(usize, &'d [Step])> {
+    let [op, next, ..] = ops else {
+        return None;
+    };
+    let Op::Remove(path) = op else {
+        return None;
+    };
+    let (above, _) = last_step(&path.steps)?;
+    taken_from(next, path.doc, above)?;
+    cut.to_line(path).removal(path)?;
+    Some((path.doc, above))
+}
+
+/// Carries out operations together that take items and entries out of one block collection with their lines,
+/// one before the other: all up to the last one, or to one of which more changes. Nothing, where the first
+/// one doesn't.
+pub fn carry_beside<'d>(
+    alloc: Global,
+    cut: &CutText<'d, '_>,
+    ops: &'d [Op],
+) -> Result<Option<Together<'d>>, EditError>
+    requires { AreServed (operations_of ops.now) cut.now }
+    ensures ok { IfOk result (λ o. IfSome o (λ x. spec.CarriesFirst ops.now cut.now x)) }
+    ensures err { IfErr result (λ e. EditFails e (carry_all (operations_of ops.now) cut.now)) }
+{
+    let Some((doc, above)) = common_collection(cut, ops) else {
+        return Ok(None);
+    };
+    let together = remove_rows(alloc, cut, doc, above, ops)?;
+    if together.left.len() == ops.len() {
+        return Ok(None);
+    }
+    Ok(Some(together))
+}
