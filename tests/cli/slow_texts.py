@@ -17,10 +17,10 @@ SECONDS, MEGABYTES = 1, 64
 IN_PARTS = ".[] = ."
 
 
-def runs(folder, wanted):
+def runs(folder, wanted, size=SIZE):
     """These runs, begun by a small process: the most memory of a run counts that of the process which began it."""
     with ProcessPoolExecutor(1, multiprocessing.get_context("spawn")) as small:
-        return small.submit(hostile.hostile_runs, folder.yq, folder.path, wanted, SIZE).result()
+        return small.submit(hostile.hostile_runs, folder.yq, folder.path, wanted, size).result()
 
 
 def check_a_tenth_of_the_hostile_runs(folder):
@@ -31,3 +31,11 @@ def check_a_tenth_of_the_hostile_runs(folder):
         most = (hostile.SECONDS, hostile.MEGABYTES) if expression == IN_PARTS else (SECONDS, MEGABYTES)
         within = status in (0, 1), seconds <= most[0], megabytes <= most[1]
         equal(within, (True, True, True), (name, expression, status, seconds, megabytes))
+
+
+def check_several_items_put_into_empty_collections(folder):
+    """On ten times the text they take at most twenty times as long, where that is more than 0.4 s."""
+    wanted = [("empty lists in one row", ".a[] += [1, 2]")]
+    for small, large in zip(runs(folder, wanted, SIZE // 10), runs(folder, wanted)):
+        within = small[2], large[2], large[3] <= 20 * max(small[3], 0.02), large[4] <= MEGABYTES
+        equal(within, (0, 0, True, True), (small, large))
