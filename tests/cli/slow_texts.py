@@ -35,9 +35,16 @@ def check_a_tenth_of_the_hostile_runs(folder):
         equal(within, (True, True, True), (name, expression, status, seconds, megabytes))
 
 
-def check_removals_that_leave_lines_between_entries(folder):
+def grows_with_the_text(folder, wanted, size):
     """On four times the text they take at most eight times as long, where that is more than 0.4 s."""
-    wanted = [(name, "del(.[])") for name in LEAVING_LINES]
-    for small, large in zip(runs(folder, wanted), runs(folder, wanted, 4 * SIZE)):
+    for small, large in zip(runs(folder, wanted, size), runs(folder, wanted, 4 * size)):
         within = small[2], large[2], large[3] <= 8 * max(small[3], 0.05), large[4] <= MEGABYTES
         equal(within, (0, 0, True, True), (small, large))
+
+
+def check_removals_that_leave_lines_between_entries(folder):
+    grows_with_the_text(folder, [(name, "del(.[])") for name in LEAVING_LINES], SIZE)
+
+
+def check_several_items_put_into_empty_collections(folder):
+    grows_with_the_text(folder, [("empty lists in one row", ".a[] += [1, 2]")], SIZE // 4)

@@ -4,11 +4,13 @@ pub mod LeftPlaceLaws
 pub mod LeftLoops
 pub mod RunEdits
 pub mod RunLaws
+pub mod CollectionLeft
 pub mod MoreRuns
+pub mod FilledLaws
 pub mod RunAnswers
 pub mod MoreAnswers
+pub mod FilledAnswers
 pub mod LeftRemovals
-pub mod CollectionLeft
 pub mod RemovalRunLaws
 pub mod RemovalAnswers
 pub mod RowRunLaws

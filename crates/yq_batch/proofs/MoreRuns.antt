@@ -1,8 +1,9 @@
 -- One more item or entry put into a collection of a head, after what was put before.
-use Rattle.std.proofs.Common.{◌≡◌, ℕ, ◌+◌, ◌-◌, ◌≤◌, ◌<◌, Bool, true, cond, List, [], ◌∷◌, ◌++◌, length, Option, Some, None, refl, sym, ap}
-use Rattle.std.{proofs.Common.{◌∙◌, arith}, specs.Option.option_or}
+use Rattle.std.proofs.Common.{◌≡◌, ℕ, ◌+◌, ◌-◌, ◌≤◌, ◌<◌, Bool, true, cond, List, [], ◌∷◌, ◌++◌, drop, length, Option, Some, None, refl}
+use Rattle.std.{proofs.Common.{sym, ap, ◌∙◌, arith}, specs.Option.option_or}
+use Rattle.yq_core.{specs.NodesWritten.{flow_key, flow_of}, specs.Answers.◌>>=◌, specs.Paths.Step, specs.Tree.Node}
+use Rattle.yq_core.specs.Collections.{CollPieces}
 use Rattle.yq_text.{specs.Limit.text_limit, specs.Script.{Segment, new_text, script_text_before, keep, put}}
-use Rattle.yq_core.{specs.Answers.◌>>=◌, specs.Paths.Step, specs.Tree.Node, specs.Collections.CollPieces}
 use Rattle.yq_flow_edits.{specs.FlowEdits.{FlowEdit, is_none}, specs.FlowPlaces.PlacedEdit, specs.declared.flow_place.EditPlace.EditPlace}
 use Rattle.yq_row_table.specs.Rows.{Cut, cut_text}
 use Rattle.yq_documents.specs.Reading.{read_at}
@@ -14,7 +15,8 @@ use Rattle.yq_edit_laws.proofs.FlowAppendLaws.{appended_reads, end_behind, head_
 use Rattle.yq_edit_laws.{proofs.HeadStandings.no_rows_more, proofs.LaterEnds.ends_on, specs.Carried.{carried, carry_one}}
 use Rattle.yq_edit_laws.{specs.Edit.{by_reading, edit_of_segments, gives, refuses}, specs.Theorems.IsFitting}
 use Rattle.yq_batch.specs.Runs.{IsPutRun, text_with_run}
-use Rattle.yq_batch.proofs.RunEdits.{edit_large, edit_size, edit_there, fits_now, new_text_is, run_out, run_splices}
+use Rattle.yq_batch.proofs.RunEdits.{edit_large, edit_size, edit_there, fits_now, left_is, new_text_is, run_out, run_splices}
+use Rattle.yq_batch.{proofs.CollectionLeft.{behind_first, has_some, more_there, with_items}, specs.FilledRuns.IsFilledCollection}
 
 module _ (c : Cut) (n : ℕ) (stem left : List Step) (key : Option (List ℕ)) (v : Node) (out : List ℕ) (done : ℕ) (run : IsPutRun c n stem out done)
     (w : CollPieces) (found : flow_collection n (stem ++ left) c ≡ Some w) (takes : takes_key w.close key ≡ true) (x : FlowHead) (place : EditPlace) (at : IsEditPlace (cut_text c) (more_edit key v w) x place)
@@ -86,32 +88,43 @@ module _ (c : Cut) (n : ℕ) (stem left : List Step) (key : Option (List ℕ)) (
   abbrev new_out : List ℕ
   new_out = run_out t out done start (place.lead.now ++ written)
 
-  pub more_there : length (text_with_run t new_out finish) ≤ text_limit → carried (append n path key v) now ≡ gives (text_with_run t new_out finish) (run_splices t out done start finish (place.lead.now ++ written))
-  more_there = edit_there c n stem out done run e x place at behind written is (append n path key v) comes
+  pub more_put_there : length (text_with_run t new_out finish) ≤ text_limit → carried (append n path key v) now ≡ gives (text_with_run t new_out finish) (run_splices t out done start finish (place.lead.now ++ written))
+  more_put_there = edit_there c n stem out done run e x place at behind written is (append n path key v) comes
 
   pub more_large : text_limit < length (text_with_run t new_out finish) → carried (append n path key v) now ≡ refuses TooLarge
   more_large = edit_large c n stem out done run e x place at behind written is (append n path key v) comes
 
-  -- the run goes on after it
-  pub more_goes_on : HasOperand (append n path key v) → IsFitting (append n path key v) now → length (text_with_run t new_out finish) ≤ text_limit → IsPutRun c n stem new_out finish
+  -- the run goes on after it, and the collection has it, if it had nothing
+  pub more_goes_on : HasOperand (append n path key v) → IsFitting (append n path key v) now → length (text_with_run t new_out finish) ≤ text_limit →
+      (on : IsPutRun c n stem new_out finish) × (is_none w.items ≡ true → IsFilledCollection w on.cut n path (drop finish t))
   more_goes_on operand fitting small =
       let new_bytes : new_text (flow_segments (cut_text run.cut) e) ≡ text_with_run t new_out finish = new_text_is c n stem out done run e x place at behind written is in
       let own_bytes : new_text (flow_segments (cut_text run.cut) (more_edit key v z)) ≡ text_with_run t new_out finish = ap new_text same_segments ∙ new_bytes in
       let fit = fits_now (append n path key v) now run.cut operand fitting run.read in
       let reads = appended_reads run.cut n path key v z read there.1 operand.0 operand.1 takes_now fit (omega (arith, small, ap length own_bytes)) in
-      let same = ap length there.2.behind in
-      record {
-        within = omega (arith, finish_is);
-        edge = at.lies.end;
-        cut = next run.cut n path key v z read there.1 stem left refl run.leads;
-        read = ap read_at (sym own_bytes) ∙ reads;
-        leads = head_behind run.cut n path key v z read there.1 stem left refl run.leads;
-        stays = λ ss r y part less begins.
-            part_behind run.cut n path key v z read there.1 stem left refl run.leads ss r y
-            (run.stays ss r y part (omega (arith, less, behind, finish_is, start_is)) (omega (arith, begins, behind, finish_is, start_is))) (omega (arith, less, finish_is, size, same)) (omega (arith, begins, finish_is, size, same));
-        ends = λ ss u at_end after.
-            let d = run.ends ss u at_end (omega (arith, after.0, behind, finish_is, start_is), λ none. omega (arith, after.1 none, behind, finish_is, start_is)) in
-            let f = end_behind run.cut n path key v z read there.1 stem left refl run.leads ss d.0 d.1
-            (omega (arith, after.0, finish_is, size, same, ap length d.2.behind), λ none. omega (arith, after.1 (sym d.2.none ∙ none), finish_is, size, same, ap length d.2.behind)) in
-            (f.0, f.1, ends_on u d.0 f.0 d.2 f.2);
-      }
+      let same = ap length there.2.behind in (
+        record {
+          within = omega (arith, finish_is);
+          edge = at.lies.end;
+          cut = next run.cut n path key v z read there.1 stem left refl run.leads;
+          read = ap read_at (sym own_bytes) ∙ reads;
+          leads = head_behind run.cut n path key v z read there.1 stem left refl run.leads;
+          stays = λ ss r y part less begins.
+              part_behind run.cut n path key v z read there.1 stem left refl run.leads ss r y
+              (run.stays ss r y part (omega (arith, less, behind, finish_is, start_is)) (omega (arith, begins, behind, finish_is, start_is))) (omega (arith, less, finish_is, size, same)) (omega (arith, begins, finish_is, size, same));
+          ends = λ ss u at_end after.
+              let d = run.ends ss u at_end (omega (arith, after.0, behind, finish_is, start_is), λ none. omega (arith, after.1 none, behind, finish_is, start_is)) in
+              let f = end_behind run.cut n path key v z read there.1 stem left refl run.leads ss d.0 d.1
+              (omega (arith, after.0, finish_is, size, same, ap length d.2.behind), λ none. omega (arith, after.1 (sym d.2.none ∙ none), finish_is, size, same, ap length d.2.behind)) in
+              (f.0, f.1, ends_on u d.0 f.0 d.2 f.2);
+        },
+        λ none. record {
+          coll = with_items (more_edit key v z).gap (more_edit key v z).items z;
+          found = more_there run.cut n stem left z read there.1 run.leads key v;
+          close = there.2.close;
+          some = has_some (flow_key key) (flow_of v) z.gap z.items;
+          behind_is =
+              behind_first z.close (more_edit key v z).gap z.gap (flow_key key) (flow_of v) z.items z.rest (there.2.none ∙ none)
+              ∙ (there.2.behind ∙ sym (left_is c n stem out done run e x place at behind written is));
+        },
+      )

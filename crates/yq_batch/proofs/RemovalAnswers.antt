@@ -202,7 +202,7 @@ module _ (c : Cut) (n : ℕ) (stem left path : List Step) (s : Step) (last : las
       rest = h.rest;
       left =
           ap (flow_collection n (stem ++ left)) is
-          ∙ (left_there run.run.cut n stem left path s z g (ap read_at text ∙ run.run.read) last h.left place.out.removes run.run.leads
+          ∙ (left_there run.run.cut n stem left z (ap read_at text ∙ run.run.read) h.left run.run.leads path s g last place.out.removes
           ∙ λ i. Some (record { close = w.close; gap = place.out.gap i; items = place.out.items i; rest = h.rest }));
       opening = h.opening;
       was = h.was;

@@ -18,8 +18,8 @@ use Rattle.yq_edit_laws.{specs.Answers.EditFails, specs.Carried.carried, specs.E
 use Rattle.yq_edit_laws.{specs.declared.edit_error.EditError.EditError, proofs.ApplyLaws.applied_by, proofs.TextFaults.text_utf8}
 use Rattle.yq_edit_laws.proofs.LaterEnds.{ends_same}
 use Rattle.yq_batch.specs.Runs.{EndsAt, EndsInCollection, HasPut, IsPutRun, PutFails, PutsAt, Runs, RunsOn, now_text, run_front}
-use Rattle.yq_batch.{specs.Runs.text_with_run, specs.declared.run.PutRun.PutRun}
-use Rattle.yq_batch.proofs.RunLaws.{goes_on, kept_there, large_there, put_there}
+use Rattle.yq_batch.{specs.Runs.text_with_run, specs.FilledRuns.{FillsOn, IsKnownFilled}, specs.declared.adding.Filled.Filled}
+use Rattle.yq_batch.{specs.declared.run.PutRun.PutRun, proofs.RunLaws.{goes_on, kept_there, large_there, put_there}}
 use Rattle.yq_core.specs.declared.path.Step as declared
 use Rattle.yq_edit_laws.specs.declared.edit_error.EditError.TheVariants as error
 
@@ -94,6 +94,10 @@ module _ (t u : List ℕ) (read : read_at t ≡ Some (cut_of t)) (all : u ≡ t)
   pub lies_in : (op : Operation) (n : ℕ) (steps : List Step) (x : FlowHead) (p : PartPut) → PutsAt op t n steps x p → LiesIn u (moved_on x.before (edit_view p.place))
   lies_in op n steps x p h = subst (λ (l : List ℕ). LiesIn l (moved_on x.before (edit_view p.place))) (sym text_is) h.placed.lies
 
+-- a run, of which this is known
+abbrev FilledRun : Cut → ℕ → List Step → Option Filled → List ℕ → ℕ → Type 0
+FilledRun c n stem known out done = (on : IsPutRun c n stem out done) × IsKnownFilled c on.cut n stem done known
+
 -- an operation exchanges what is between two places of the text that was read
 module _ (t u : List ℕ) (n : ℕ) (stem : List Step) (op : Operation) (before : PutRun) (start finish : ℕ) (new : List ℕ) (all : u ≡ cut_text (cut_of t)) (operand : HasOperand op)
     (fitting : IsFitting op (now_text (cut_of t) before)) where
@@ -118,6 +122,20 @@ module _ (t u : List ℕ) (n : ℕ) (stem : List Step) (op : Operation) (before 
         applied = applied_by op (now_text (cut_of t) before) operand fitting (now_text (cut_of t) after) cs comes;
         splices = a.splices;
         run = subst (λ (d : ℕ). IsPutRun (cut_of t) n stem (string_bytes after.text) d) (sym a.done) (subst (λ (l : List ℕ). IsPutRun (cut_of t) n stem l finish) (sym a.text) (on a.size));
+      }
+
+  -- the same with what is known then of an empty collection that got an item or entry
+  pub fill_on : (known : Option Filled) → (length made ≤ text_limit → carried op (now_text (cut_of t) before) ≡ gives made cs) →
+      (length made ≤ text_limit → (on : IsPutRun (cut_of t) n stem out finish) × IsKnownFilled (cut_of t) on.cut n stem finish known) → (after : PutRun) → HasPut u start finish new before after →
+      FillsOn op (cut_of t) n stem before known after
+  fill_on known there on after has_put =
+      let a : HasPut (cut_text (cut_of t)) start finish new before after = subst (λ (l : List ℕ). HasPut l start finish new before after) all has_put in
+      let text : made ≡ now_text (cut_of t) after = λ i. text_with_run (cut_text (cut_of t)) (sym a.text i) (sym a.done i) in
+      let comes : carried op (now_text (cut_of t) before) ≡ gives (now_text (cut_of t) after) cs = there a.size ∙ ap (λ (l : List ℕ). gives l cs) text in
+      let r = subst (λ (d : ℕ). FilledRun (cut_of t) n stem known (string_bytes after.text) d) (sym a.done) (subst (λ (l : List ℕ). FilledRun (cut_of t) n stem known l finish) (sym a.text) (on a.size)) in
+      record {
+        on = record { new_bytes = cs; comes = comes; applied = applied_by op (now_text (cut_of t) before) operand fitting (now_text (cut_of t) after) cs comes; splices = a.splices; run = r.0 };
+        filled = r.1;
       }
 
   -- too large a text

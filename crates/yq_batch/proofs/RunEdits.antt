@@ -98,7 +98,7 @@ module _ (c : Cut) (n : ℕ) (stem : List Step) (out : List ℕ) (done : ℕ) (r
       let upto : take finish t ≡ at.before ++ e.old = (λ i. take (finish_size i) (whole_split i)) ∙ take-append_seam (at.before ++ e.old) e.behind in
       (λ i. drop (front_size i) (upto i)) ∙ drop-append_seam at.before e.old
 
-  left_is : drop finish t ≡ e.behind
+  pub left_is : drop finish t ≡ e.behind
   left_is = (λ i. drop (finish_size i) (whole_split i)) ∙ drop-append_seam (at.before ++ e.old) e.behind
 
   lead_is : place.lead.now ≡ e.lead

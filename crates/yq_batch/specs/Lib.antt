@@ -1,4 +1,5 @@
 pub mod Runs
+pub mod FilledRuns
 pub mod RowRuns
 pub mod RemovalRuns
 pub mod LeftItems

@@ -1,8 +1,8 @@
 -- Values put one after the other in the flow collections of one head, which was read once, and items and entries put into these (YAML 1.2.2, 7.4; own).
-use Rattle.std.specs.Prelude.{◌≡◌, ⊤, ℕ, ◌-◌, ◌<◌, ◌≤◌, true, List, ◌++◌, drop, take, length, Option, Some, string_bytes}
+use Rattle.std.specs.Prelude.{◌≡◌, ⊤, ℕ, ◌-◌, ◌<◌, ◌≤◌, true, List, ◌++◌, drop, take, length, map, Option, Some, string_bytes}
 use Rattle.std.specs.Str.{IsCharBoundary}
 use Rattle.yq_text.{specs.Limit.text_limit, specs.Script.splice_at, specs.Splice.Splice}
-use Rattle.yq_core.{specs.Paths.Step, specs.Tree.Node, specs.Collections.CollPieces, specs.Entries.EntryPieces}
+use Rattle.yq_core.{specs.Paths.Step, specs.Tree.Node, specs.Collections.CollPieces, specs.Entries.{EntryPieces, tree_step}}
 use Rattle.yq_core.specs.Nodes.{node_text, without_anchor}
 use Rattle.yq_flow_edits.specs.Valued.{IsValueTree}
 use Rattle.yq_row_table.specs.Rows.{Cut, cut_text}
@@ -72,6 +72,7 @@ pub record AddsAt (op : Operation) (t : List ℕ) (n : ℕ) (stem : List Step) (
   pub key : Option (List ℕ)
   pub value : Node
   pub operation : op ≡ append n (stem ++ left) key value
+  pub left_is : left ≡ map tree_step x.left.now
   pub valid : HasOperand (append n (stem ++ left) key value)
   pub collection : CollPieces
   pub found : flow_collection n (stem ++ left) (cut_of t) ≡ Some collection

@@ -8,9 +8,10 @@ ghost use Rattle.yq_semantics.specs.Operations.{operation_of, operations_of};
 ghost use Rattle.yq_edit_laws.{specs.Answers.EditFails, specs.Carried.{carry_all, carried}, specs.Edit.gives, specs.Theorems.IsFitting};
 ghost use Rattle.yq_edit_laws.specs.Valid.{AreServed};
 ghost use Rattle.yq_batch.specs.RemovalRuns.{CarriesOn};
+ghost use Rattle.yq_batch.specs.FilledRuns as filled;
 ghost use Rattle.yq_batch.specs.Runs as spec;
 
-use crate::adding::add_one;
+use crate::adding::{Filled, add_one};
 use crate::removals::remove_each;
 use crate::run::PutRun;
 use std::alloc::{AllocError, Global};
@@ -154,7 +155,7 @@ fn put_one<'s>(
 }
 
 /// Carries out an operation on the text of a run, if it changes a collection of a head, after those that
-/// were changed.
+/// were changed; and tells which empty collection got an item or entry then.
 fn carry_next<'s>(
     alloc: Global,
     cut: &CutText<'_, '_>,
@@ -162,22 +163,28 @@ fn carry_next<'s>(
     stem: &[Step],
     head: &mut FlowHead<'s, '_>,
     op: &'s Op,
+    known: Option<Filled<'s>>,
     run: &mut PutRun,
     near: &mut usize,
-) -> Result<bool, EditError>
+) -> Result<Option<Option<Filled<'s>>>, EditError>
     requires head { ReportsHead cut.now (cut_of cut.now) doc (map tree_step stem.now) head.old }
-    requires run { spec.Runs (cut_of cut.now) doc (map tree_step stem.now) run.old }
+    requires run { filled.FillsSo (cut_of cut.now) doc (map tree_step stem.now) known run.old }
     requires fits { IsFitting (operation_of op.now) (spec.now_text (cut_of cut.now) run.old) }
     ensures head { ReportsHead cut.now (cut_of cut.now) doc (map tree_step stem.now) head.new }
-    ensures ok { IfOk result (λ b. b ≡ true → spec.RunsOn (operation_of op.now) (cut_of cut.now) doc
-        (map tree_step stem.now) run.old run.new) }
+    ensures ok { IfOk result (λ o. IfSome o (λ k. filled.FillsOn (operation_of op.now)
+        (cut_of cut.now) doc (map tree_step stem.now) run.old k run.new)) }
     ensures err { IfErr result (λ e. EditFails e (carried (operation_of op.now)
         (spec.now_text (cut_of cut.now) run.old))) }
 {
     match op {
-        Op::Replace(_, _) => put_one(alloc, cut, doc, stem, head, op, run, near),
-        Op::Append(_, _, _) => add_one(alloc, cut, doc, stem, head, op, run),
-        Op::Remove(_) | Op::LineComment(_, _) | Op::HeadComment(_, _) => Ok(false),
+        Op::Replace(_, _) => {
+            if !put_one(alloc, cut, doc, stem, head, op, run, near)? {
+                return Ok(None);
+            }
+            Ok(Some(None))
+        }
+        Op::Append(_, _, _) => add_one(alloc, cut, doc, stem, head, op, known, run),
+        Op::Remove(_) | Op::LineComment(_, _) | Op::HeadComment(_, _) => Ok(None),
     }
 }
 
@@ -200,12 +207,14 @@ fn put_each<'s>(
     let text = cut.text();
     let mut run = PutRun::new(alloc);
     let mut near = 0;
+    let mut known = None;
     let mut rest = ops;
     'operations: while let [op, after @ ..] = rest {
-        let carried = carry_next(alloc, cut, doc, stem, head, op, &mut run, &mut near)?;
-        if !carried {
+        let carried = carry_next(alloc, cut, doc, stem, head, op, known, &mut run, &mut near)?;
+        let Some(filled) = carried else {
             return Ok(None);
-        }
+        };
+        known = filled;
         rest = after;
     }
     let edited = run.end(text)?;

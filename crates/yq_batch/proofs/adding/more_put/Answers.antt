@@ -13,4 +13,4 @@ more_at_end-requires c =
 pub returns-clause-put : goal.returns-clause-put
 returns-clause-put c =
     adds_at c.args.cut.now c.in-Append.path.doc c.args.doc (map tree_step c.args.stem.now) (map tree_step c.in-Some.left.now) (operation_of c.args.op.now) (steps_of c.in-Append.path) (borrowed c.as_deref.result) (value_node c.in-Append.value) _
-    (ap operation_of c.in-Append.is ∙ ap (λ (k : Option (List ℕ)). append c.in-Append.path.doc (steps_of c.in-Append.path) k (value_node c.in-Append.value)) (sym c.as_deref.ensures.value)) c.operand_holds.ensures c.if-path-doc.false (sym (ap (map tree_step) c.deref.ensures.value) ∙ c.in-Some.ensures) c.more_at_end.result c.more_at_end.ensures
+    (ap operation_of c.in-Append.is ∙ ap (λ (k : Option (List ℕ)). append c.in-Append.path.doc (steps_of c.in-Append.path) k (value_node c.in-Append.value)) (sym c.as_deref.ensures.value)) c.operand_holds.ensures c.if-path-doc.false (sym (ap (map tree_step) c.deref.ensures.value) ∙ c.in-Some.ensures) refl c.more_at_end.result c.more_at_end.ensures

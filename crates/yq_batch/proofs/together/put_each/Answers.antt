@@ -1,13 +1,15 @@
-use Rattle.std.{proofs.Common.{◌≡◌, ◌∙◌, ℕ, List, map, sym, ap, subst, string_bytes, arith}, proofs.lemmas.Result.err_from_is_err_and}
+use Rattle.std.proofs.Common.{◌≡◌, ◌∙◌, ℕ, List, Option, map, sym, ap, subst, string_bytes, arith}
+use Rattle.std.{proofs.lemmas.Result.err_from_is_err_and, specs.Prelude.IfSome}
 use Rattle.yq_text.specs.Halves.{whole}
 use Rattle.yq_row_table.specs.Rows.{cut_text}
 use Rattle.yq_core.specs.Entries.{tree_step}
 use Rattle.yq_documents.specs.Reading.{cut_of}
-use Rattle.yq_semantics.specs.Operations.{operations_of}
+use Rattle.yq_semantics.specs.Operations.{operation_of, operations_of}
 use Rattle.yq_edit_laws.{proofs.FlowAnswers.whole_text, specs.Answers.EditFails, specs.Carried.carry_all, specs.Edit.edit_after}
 use Rattle.yq_edit_laws.{specs.Valid.AreServed, proofs.OperationsLaws.{first_fails, first_fits, others_come, others_served}}
 use Rattle.yq_edit_laws.proofs.OrderLaws.{behind_none}
-use Rattle.yq_batch.{specs.Runs.{now_text, text_with_run}, proofs.RunAnswers.{begins, begins_with, edge_in}}
+use Rattle.yq_batch.{specs.FilledRuns.FillsOn, specs.declared.adding.Filled.Filled, specs.Runs.{now_text, text_with_run}}
+use Rattle.yq_batch.proofs.RunAnswers.{begins, begins_with, edge_in}
 use Rattle.yq_batch.proofs.together.put_each.Goals as goal
 
 pub operations-init : goal.operations-init
@@ -19,7 +21,7 @@ operations-init c =
       head = c.requires.head;
       whole = (λ i. edit_after (c.new-run.ensures.splices i) (carry_all (operations_of c.args.ops.now) (text i))) ∙ behind_none (carry_all (operations_of c.args.ops.now) t);
       serves = subst (AreServed (operations_of c.args.ops.now)) (sym text) c.requires.serves;
-      runs = begins t c.args.doc steps c.new-run.result c.text-text.ensures.read c.requires.head.leads c.new-run.ensures.text c.new-run.ensures.done;
+      runs = record { run = begins t c.args.doc steps c.new-run.result c.text-text.ensures.read c.requires.head.leads c.new-run.ensures.text c.new-run.ensures.done; filled = tt };
     }
 
 pub carry_next-requires-clause-fits : goal.carry_next-requires-clause-fits
@@ -37,19 +39,20 @@ pub operations-preserved : goal.operations-preserved
 operations-preserved c =
     let t : List ℕ = now_text (cut_of c.args.cut.now) c.operations.run in
     let m : List ℕ = now_text (cut_of c.args.cut.now) c.carry_next.new.run in
-    let on = c.in_ok-carried.ensures.ok c.if-not-carried.false in
+    let so = subst (λ (o : Option (Option Filled)). IfSome o (λ k. FillsOn (operation_of c.op-item.result) (cut_of c.args.cut.now) c.args.doc (map tree_step c.args.stem.now) c.operations.run k c.carry_next.new.run)) c.in-Some.is c.in_ok-carried.ensures.ok in
+    let on = so.on in
     record {
       head = c.carry_next.ensures.head;
       whole =
           others_come c.operations.rest.now c.op-item.result t m c.operations.run.splices.items on.new_bytes c.carry_next.new.run.splices.items c.in-len1-up.len_at_least c.op-item.is on.comes on.splices
           ∙ c.operations.invariant.whole;
       serves = others_served c.operations.rest.now c.op-item.result t m on.new_bytes c.in-len1-up.len_at_least c.op-item.is c.operations.invariant.serves on.applied;
-      runs = on.run;
+      runs = record { run = on.run; filled = so.filled };
     }
 
 pub end-requires : goal.end-requires
 end-requires c =
-    edge_in c.args.cut.now (whole c.text-text.result) c.text-text.ensures.read c.text-text.ensures.text c.args.doc (map tree_step c.args.stem.now) c.operations.run c.operations.invariant.runs
+    edge_in c.args.cut.now (whole c.text-text.result) c.text-text.ensures.read c.text-text.ensures.text c.args.doc (map tree_step c.args.stem.now) c.operations.run c.operations.invariant.runs.run
 
 pub returns-clause-ok : goal.returns-clause-ok
 returns-clause-ok c =

@@ -1,0 +1,41 @@
+-- Items and entries put into a flow collection of a head that was empty when that was read, after the first one (YAML 1.2.2, 7.4; own).
+use Rattle.std.specs.Prelude.{◌≡◌, ⊤, ℕ, false, List, [], ◌++◌, drop, map, Option, Some, None}
+use Rattle.yq_core.{specs.Collections.CollPieces, specs.Entries.tree_step, specs.Paths.Step}
+use Rattle.yq_flow_edits.specs.FlowEdits.{behind_appended, is_none}
+use Rattle.yq_row_table.specs.Rows.{Cut, cut_text}
+use Rattle.yq_places.specs.FlowNodes.{flow_collection}
+use Rattle.yq_semantics.specs.Operations.{Operation}
+use Rattle.yq_batch.{specs.Runs.{Runs, RunsOn}, specs.declared.adding.Filled.Filled, specs.declared.run.PutRun.PutRun}
+
+-- The collection to which steps lead in a cut has an item or entry, and the bracket of another one, and one more comes before these last bytes (own).
+pub record IsFilledCollection (w : CollPieces) (cut : Cut) (n : ℕ) (steps : List Step) (behind : List ℕ) : Type 0 where
+  pub coll : CollPieces
+  pub found : flow_collection n steps cut ≡ Some coll
+  pub close : coll.close ≡ w.close
+  pub some : is_none coll.items ≡ false
+  pub behind_is : behind_appended coll ≡ behind
+
+-- what is known of the empty collection into which a run put the last one, if it did: the next one comes where the run ends (own)
+abbrev pub IsKnownFilled : (c cut : Cut) → ℕ → List Step → ℕ → Option Filled → Type 0
+IsKnownFilled c cut n stem done None = ⊤
+IsKnownFilled c cut n stem done (Some k) =
+    (w : CollPieces) → flow_collection n (stem ++ map tree_step k.steps.now) c ≡ Some w →
+    IsFilledCollection w cut n (stem ++ map tree_step k.steps.now) (drop done (cut_text c))
+
+-- A run of the code is one, of which this is known (own).
+pub record FillsSo (c : Cut) (n : ℕ) (stem : List Step) (known : Option Filled) (r : PutRun) : Type 0 where
+  pub run : Runs c n stem r
+  pub filled : IsKnownFilled c run.cut n stem r.done known
+
+-- the steps lead to the collection that is known (own)
+abbrev pub IsSameFilled : Option Filled → List Step → Type 0
+IsSameFilled known steps = (k : Filled) × (known ≡ Some k) × (map tree_step k.steps.now ≡ steps)
+
+-- nothing leads to what is put into a collection, and its steps are these (own)
+abbrev pub FillsFirst : (lead : List ℕ) → List Step → Filled → Type 0
+FillsFirst lead steps k = (lead ≡ []) × (map tree_step k.steps.now ≡ steps)
+
+-- An operation is carried out on the text of a run, which goes on after it, and of which this is known then (own).
+pub record FillsOn (op : Operation) (c : Cut) (n : ℕ) (stem : List Step) (before : PutRun) (known : Option Filled) (after : PutRun) : Type 0 where
+  pub on : RunsOn op c n stem before after
+  pub filled : IsKnownFilled c on.run.cut n stem after.done known
