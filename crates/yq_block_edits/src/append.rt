@@ -1,19 +1,17 @@
 //! Append: one more item or entry at the end of a block collection.
-ghost use Rattle.std.specs.Prelude.{◌≡◌, ◌++◌, IfOk, OnOk, string_bytes};
-ghost use Rattle.yq_core.specs.Values.{value_node};
-ghost use Rattle.yq_outline.specs.Bodies.{borrowed};
-ghost use Rattle.yq_documents.{specs.Located.steps_of, specs.Reading.cut_of};
-ghost use Rattle.yq_text.specs.Halves.{whole};
+ghost use Rattle.std.specs.Prelude.{◌≡◌, IfOk, string_bytes};
 ghost use Rattle.yq_places.specs.StandingViews.{held_view};
 ghost use Rattle.yq_edit_rules.specs.Answers.{GivesSegments};
+ghost use Rattle.yq_block_edits.specs.SegmentsPut.{IsExchange, more_at_path, put_after};
+ghost use Rattle.yq_block_edits.specs.TextsPut.{layout_in, child_lines, more_text};
+ghost use Rattle.yq_core.specs.Strings.{AddsText, GivesText};
 ghost use Rattle.yq_edit_rules.specs.EntryEdits as spec;
-ghost use Rattle.yq_edit_rules.specs.Layouts as layouts;
 
 use crate::layout::layout_for;
 use std::alloc::{AllocError, Global};
 use yq_core::Value;
 use yq_documents::Path;
-use yq_edit_rules::{Layout, push_entry};
+use yq_edit_rules::{Child, Layout, push_entry};
 use yq_lookup::CutText;
 use yq_places::{Held, Standing};
 use yq_scalar::block_written::break_text;
@@ -26,15 +24,12 @@ fn push_lines(
     out: &mut String,
     layout: &Layout,
     column: usize,
-    key: Option<&str>,
-    value: &Value,
+    child: Child<'_>,
 ) -> Result<(), AllocError>
-    ensures { OnOk result (string_bytes out.new ≡
-        string_bytes out.old ++ spec.entry_lines layout.now column (borrowed key.entry)
-        (value_node value.now)) }
+    ensures { AddsText result out.old out.new (child_lines layout.now column child.entry) }
 {
     push_spaces(out, column)?;
-    push_entry(alloc, out, layout, column, key, value)
+    push_entry(alloc, out, layout, column, child)
 }
 
 /// The lines of an item or entry at a column, with a break: after them, or in front of them, where
@@ -42,19 +37,17 @@ fn push_lines(
 fn entry_text(
     alloc: Global,
     layout: &Layout,
-    key: Option<&str>,
-    value: &Value,
+    child: Child<'_>,
     column: usize,
     last: &str,
 ) -> Result<String, AllocError>
-    ensures { IfOk result (λ s. string_bytes s ≡
-        spec.more_lines layout.now (borrowed key.entry) (value_node value.now) column last.now) }
+    ensures { GivesText result (more_text layout.now child.entry column last.now) }
 {
     let mut out = String::new(alloc);
     if last.is_empty() {
         out.push_str(break_text(layout.br))?;
     }
-    push_lines(alloc, &mut out, layout, column, key, value)?;
+    push_lines(alloc, &mut out, layout, column, child)?;
     if !last.is_empty() {
         out.push_str(break_text(layout.br))?;
     }
@@ -66,17 +59,14 @@ fn more_lines(
     alloc: Global,
     cut: &CutText<'_, '_>,
     doc: usize,
-    key: Option<&str>,
-    value: &Value,
+    child: Child<'_>,
     column: usize,
     last: &str,
 ) -> Result<String, AllocError>
-    ensures { IfOk result (λ s. string_bytes s ≡ spec.more_lines
-        (layouts.layout_of doc (cut_of cut.now)) (borrowed key.entry)
-        (value_node value.now) column last.now) }
+    ensures { GivesText result (more_text (layout_in doc cut.now) child.entry column last.now) }
 {
-    let layout = layout_for(cut, doc, key.is_some(), value);
-    entry_text(alloc, &layout, key, value, column, last)
+    let layout = layout_for(cut, doc, child.key.is_some(), child.value);
+    entry_text(alloc, &layout, child, column, last)
 }
 
 /// Lines put after those under a key or dash.
@@ -107,9 +97,7 @@ fn behind_lines<'t>(
     new: String,
     behind: Halves<'t>,
 ) -> Result<Segments<'t>, AllocError>
-    ensures { IfOk result (λ ss. ss ≡
-        spec.behind_lines (whole before.entry) (whole old.entry) last.now (string_bytes new)
-        (whole behind.entry)) }
+    ensures { IsExchange result (put_after before.entry old.entry last.now new behind.entry) }
 {
     let segments = vec![in alloc;
         Segment::Keep(before),
@@ -133,21 +121,21 @@ pub fn more_at<'t>(
     key: Option<&str>,
     value: &Value,
 ) -> Result<Option<Segments<'t>>, AllocError>
-    ensures { GivesSegments result (spec.more_at path.now.doc (steps_of path.now) (cut_of cut.now)
-        (borrowed key.entry) (value_node value.now)) }
+    ensures { GivesSegments result (more_at_path path.now cut.now key.entry value.now) }
 {
     let doc = path.doc;
+    let child = Child { key, value };
     match cut.standing(path) {
         Some(Standing::Under(held, column)) => {
-            let new = more_lines(alloc, cut, doc, key, value, column, held.last)?;
+            let new = more_lines(alloc, cut, doc, child, column, held.last)?;
             behind_held(alloc, &held, new).map(Some)
         }
         Some(Standing::Compact(p)) => {
-            let new = more_lines(alloc, cut, doc, key, value, p.column, p.last)?;
+            let new = more_lines(alloc, cut, doc, child, p.column, p.last)?;
             behind_lines(alloc, p.before, p.old, p.last, new, p.behind).map(Some)
         }
         Some(Standing::Root(w)) => {
-            let new = more_lines(alloc, cut, doc, key, value, w.column, w.last)?;
+            let new = more_lines(alloc, cut, doc, child, w.column, w.last)?;
             behind_lines(alloc, w.before, w.old, w.last, new, w.behind).map(Some)
         }
         _ => Ok(None),

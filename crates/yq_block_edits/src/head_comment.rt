@@ -1,8 +1,8 @@
 //! HeadComment: comments on lines above a key or dash.
-ghost use Rattle.std.specs.Prelude.{◌≡◌, ◌++◌, IfOk, OnOk, string_bytes};
 ghost use Rattle.yq_semantics.specs.Meaning.{head_comment_lines};
-ghost use Rattle.yq_documents.{specs.Located.steps_of, specs.Reading.cut_of};
 ghost use Rattle.yq_edit_rules.specs.Answers.{GivesSegments};
+ghost use Rattle.yq_block_edits.specs.TextsPut.{at_path};
+ghost use Rattle.yq_core.specs.Strings.{AddsText, GivesText};
 ghost use Rattle.yq_edit_rules.specs.CommentEdits as spec;
 
 use std::alloc::{AllocError, Global};
@@ -14,8 +14,7 @@ use yq_text::{Halves, Segment, Segments};
 
 /// Adds a line of a head comment, with its break.
 fn push_line(out: &mut String, column: usize, br: &str, text: &str) -> Result<(), AllocError>
-    ensures { OnOk result (string_bytes out.new ≡
-        string_bytes out.old ++ spec.comment_line column br.now text.now) }
+    ensures { AddsText result out.old out.new (spec.comment_line column br.now text.now) }
 {
     push_spaces(out, column)?;
     out.push('#')?;
@@ -28,8 +27,7 @@ fn push_line(out: &mut String, column: usize, br: &str, text: &str) -> Result<()
 
 /// The lines of a head comment with a text: one for each line of that.
 fn head_lines(alloc: Global, column: usize, br: &str, text: &str) -> Result<String, AllocError>
-    ensures { IfOk result (λ s. string_bytes s ≡
-        spec.head_lines column br.now (head_comment_lines text.now)) }
+    ensures { GivesText result (spec.head_lines column br.now (head_comment_lines text.now)) }
 {
     let mut out = String::new(alloc);
     if text.is_empty() {
@@ -55,8 +53,7 @@ pub fn head_comment_at<'t>(
     path: &Path,
     text: &str,
 ) -> Result<Option<Segments<'t>>, AllocError>
-    ensures { GivesSegments result (spec.head_comment_at path.now.doc (steps_of path.now) (cut_of cut.now)
-        text.now) }
+    ensures { GivesSegments result (at_path spec.head_comment_at path.now cut.now text.now) }
 {
     let Some(above) = cut.lines_above(path) else {
         return Ok(None);

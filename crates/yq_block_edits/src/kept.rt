@@ -1,8 +1,9 @@
 //! Whether a value is the scalar that is at a path: such a Replace leaves the bytes alone.
-ghost use Rattle.std.specs.Prelude.{◌≡◌, IfOk, Some, is_some, true};
+ghost use Rattle.std.specs.Prelude.{◌≡◌, IfOk, is_some, true};
 ghost use Rattle.yq_core.specs.Scalar.{plain_of};
-ghost use Rattle.yq_places.{specs.NodesAt.{node_in, scalar_in}, specs.StandingViews.IsHeldRow};
+ghost use Rattle.yq_places.{specs.NodesAt.scalar_in, specs.StandingViews.IsHeldRow};
 ghost use Rattle.yq_documents.{specs.Located.steps_of, specs.Reading.cut_of};
+ghost use Rattle.yq_block_edits.specs.TextsPut.{is_same_value, keeps_value};
 ghost use Rattle.yq_core.specs.Values as values;
 ghost use Rattle.yq_edit_rules.specs.Replacing as spec;
 ghost use Rattle.yq_edit_rules.specs.Style as style;
@@ -24,8 +25,7 @@ fn holds_scalar(value: &Value) -> bool
 
 /// Whether a value is a scalar of that kind and that text.
 fn is_scalar(kind: Kind, text: &str, value: &Value) -> bool
-    ensures { result ≡ spec.are_same (Some (record { kind = kind; text = text.now }))
-        (scalar_in (values.value_node value.now)) }
+    ensures { result ≡ is_same_value (record { kind = kind; text = text.now }) value.now }
 {
     let Value::Scalar(scalar) = value else {
         return false;
@@ -43,9 +43,7 @@ pub fn is_kept(
     path: &Path,
     value: &Value,
 ) -> Result<bool, AllocError>
-    ensures { IfOk result (λ b. b ≡
-        spec.keeps_scalar (node_in path.now.doc (steps_of path.now) (cut_of text.now))
-        (values.value_node value.now)) }
+    ensures { IfOk result (λ b. b ≡ keeps_value path.now text.now value.now) }
 {
     if !holds_scalar(value) {
         return Ok(false);
@@ -79,8 +77,7 @@ fn spells(text: &str, scalar: &Scalar) -> bool
 
 /// Whether a value is the scalar that a plain text on one line means.
 fn is_plain(text: &str, value: &Value) -> bool
-    ensures { result ≡ spec.are_same (Some (plain_of text.now))
-        (scalar_in (values.value_node value.now)) }
+    ensures { result ≡ is_same_value (plain_of text.now) value.now }
 {
     let Value::Scalar(scalar) = value else {
         return false;
@@ -101,9 +98,7 @@ pub fn is_kept_in_row(
 ) -> Result<bool, AllocError>
     requires row { IsHeldRow path.now.doc (steps_of path.now) (cut_of text.now) at.now }
     requires inline { at.now.inline ≡ true }
-    ensures { IfOk result (λ b. b ≡
-        spec.keeps_scalar (node_in path.now.doc (steps_of path.now) (cut_of text.now))
-        (values.value_node value.now)) }
+    ensures { IfOk result (λ b. b ≡ keeps_value path.now text.now value.now) }
 {
     if !is_short_plain(at.head) {
         return is_kept(alloc, text, path, value);

@@ -1,9 +1,9 @@
 //! LineComment: a comment at the end of the line of a key or dash.
 ghost use Rattle.std.specs.Prelude.{◌≡◌, IfOk, string_bytes};
-ghost use Rattle.yq_documents.{specs.Located.steps_of, specs.Reading.cut_of};
 ghost use Rattle.yq_text.specs.Segments.{segment_of};
 ghost use Rattle.yq_places.specs.StandingViews.{held_view};
 ghost use Rattle.yq_edit_rules.specs.Answers.{GivesSegments};
+ghost use Rattle.yq_block_edits.specs.TextsPut.{at_path};
 ghost use Rattle.yq_edit_rules.specs.CommentEdits as spec;
 
 use std::alloc::{AllocError, Global};
@@ -72,8 +72,7 @@ pub fn line_comment_at<'t>(
     path: &Path,
     text: &str,
 ) -> Result<Option<Segments<'t>>, AllocError>
-    ensures { GivesSegments result (spec.line_comment_at path.now.doc (steps_of path.now) (cut_of cut.now)
-        text.now) }
+    ensures { GivesSegments result (at_path spec.line_comment_at path.now cut.now text.now) }
 {
     let Some(held) = cut.held(path) else {
         return Ok(None);

@@ -1,9 +1,9 @@
 //! A value in the place of a node that isn't after a key or dash.
-ghost use Rattle.std.specs.Prelude.{◌≡◌, IfOk, string_bytes};
+ghost use Rattle.std.specs.Prelude.{◌≡◌, IfOk};
 ghost use Rattle.yq_text.specs.Halves.{whole};
-ghost use Rattle.yq_core.{specs.Values.value_node, specs.BlockWritten.break_text};
-ghost use Rattle.yq_places.specs.StandingViews.{lone_view, no_rows_view, root_view};
-ghost use Rattle.yq_edit_rules.specs.BlockText.{block_value};
+ghost use Rattle.yq_core.{specs.Values.value_node, specs.Strings.GivesText};
+ghost use Rattle.yq_places.specs.StandingViews.{lone_view};
+ghost use Rattle.yq_block_edits.{specs.SegmentsPut.{IsExchange, value_root, value_no_rows}, specs.TextsPut.lines_put_after};
 ghost use Rattle.yq_edit_rules.specs.ClosedTexts as closed;
 ghost use Rattle.yq_edit_rules.specs.ReplaceEdits as spec;
 
@@ -46,8 +46,7 @@ pub fn root_put<'t>(
     root: &BlockRoot<'t>,
     value: &Value,
 ) -> Result<Segments<'t>, AllocError>
-    ensures { IfOk result (λ ss. ss ≡
-        spec.root_put layout.now (value_node value.now) (root_view root.now)) }
+    ensures { IsExchange result (value_root layout.now value.now root.now) }
 {
     let mut text = String::new(alloc);
     push_block(alloc, &mut text, layout, root.column, value)?;
@@ -90,9 +89,7 @@ fn lines_behind(
     before: Halves<'_>,
     value: &Value,
 ) -> Result<String, AllocError>
-    ensures { IfOk result (λ s. string_bytes s ≡
-        closed.lines_put_behind (closed.is_closed_text (whole before.entry))
-        (break_text layout.now.br) (block_value layout.now 0 (value_node value.now))) }
+    ensures { GivesText result (lines_put_after before.entry layout.now value.now) }
 {
     let mut text = String::new(alloc);
     if is_closed(before) {
@@ -115,8 +112,7 @@ pub fn no_rows_put<'t>(
     place: &NoRows<'t>,
     value: &Value,
 ) -> Result<Segments<'t>, AllocError>
-    ensures { IfOk result (λ ss. ss ≡
-        spec.no_rows_put layout.now (value_node value.now) (no_rows_view place.now)) }
+    ensures { IsExchange result (value_no_rows layout.now value.now place.now) }
 {
     let lines = lines_behind(alloc, layout, place.before, value)?;
     let segments = vec![in alloc;

@@ -1,9 +1,9 @@
 //! Remove: one of several items or entries of a block collection.
 ghost use Rattle.std.specs.Prelude.{◌≡◌, ◌++◌, IfOk, OnOk, option_map, replicate, string_bytes};
 ghost use Rattle.yq_core.specs.Text.{text_lines};
-ghost use Rattle.yq_documents.{specs.Located.steps_of, specs.Reading.cut_of};
 ghost use Rattle.yq_places.{specs.FirstViews.first_view, specs.RemovalReading.{removal_view, seam_view}};
 ghost use Rattle.yq_edit_rules.{specs.RemovingFirst.first_removed, specs.Answers.GivesSegments};
+ghost use Rattle.yq_block_edits.specs.TextsPut.{at_path};
 ghost use Rattle.yq_edit_rules.specs.EntryEdits as entries;
 ghost use Rattle.yq_edit_rules.specs.Removing as spec;
 
@@ -153,8 +153,7 @@ pub fn one_removed<'d>(
     cut: &CutText<'_, 'd>,
     path: &Path,
 ) -> Result<Option<Segments<'d>>, AllocError>
-    ensures { GivesSegments result (entries.one_removed path.now.doc (steps_of path.now)
-        (cut_of cut.now)) }
+    ensures { GivesSegments result (at_path entries.one_removed path.now cut.now) }
 {
     if let Some(removal) = cut.removal(path) {
         return take_out(alloc, &removal).map(Some);

@@ -1,11 +1,10 @@
 //! Replace, outside flow collections: a value in the place of what is there.
 ghost use Rattle.std.{specs.List.list_any, specs.Prelude.{◌≡◌, IfOk, not}};
-ghost use Rattle.yq_core.{specs.Values.value_node, specs.Tree.Node as NodeOf, specs.Text.is_feed};
-ghost use Rattle.yq_documents.{specs.Located.steps_of, specs.Reading.cut_of};
-ghost use Rattle.yq_places.{specs.NodesAt.node_in, specs.StandingViews.standing_view};
-ghost use Rattle.yq_edit_rules.{specs.declared.layout.Layout.Layout as LayoutOf, specs.Answers.GivesSegments};
+ghost use Rattle.yq_core.specs.Text.{is_feed};
+ghost use Rattle.yq_places.specs.StandingViews.{standing_view};
+ghost use Rattle.yq_edit_rules.specs.Answers.{GivesSegments};
+ghost use Rattle.yq_block_edits.{specs.SegmentsPut.{IsExchange, value_there, ArePutAlike, value_at_path}, specs.TextsPut.has_text_at};
 ghost use Rattle.yq_edit_rules.specs.Layouts as layouts;
-ghost use Rattle.yq_edit_rules.specs.ReplaceEdits as spec;
 
 mod block;
 mod held;
@@ -31,8 +30,7 @@ fn value_put<'t>(
     value: &Value,
     standing: &Standing<'t>,
 ) -> Result<Segments<'t>, AllocError>
-    ensures { IfOk result (λ ss. ss ≡
-        spec.value_put has_text layout.now (value_node value.now) (standing_view standing.now)) }
+    ensures { IsExchange result (value_there has_text layout.now value.now standing.now) }
 {
     match standing {
         Standing::Alone(lone) => lone_put(alloc, lone, value),
@@ -56,8 +54,7 @@ fn holds_text(text: &str) -> bool
 
 /// Whether the node at a path, if one is there, is a scalar that holds more than line breaks.
 fn has_text(alloc: Global, cut: &CutText<'_, '_>, path: &Path) -> Result<bool, AllocError>
-    ensures { IfOk result (λ b. b ≡
-        spec.has_text (node_in path.now.doc (steps_of path.now) (cut_of cut.now))) }
+    ensures { IfOk result (λ b. b ≡ has_text_at path.now cut.now) }
 {
     let found = cut.scalar_at(alloc, path)?;
     let Some((_, old)) = found else {
@@ -74,10 +71,7 @@ fn text_there(
     path: &Path,
     standing: &Standing<'_>,
 ) -> Result<bool, AllocError>
-    ensures { IfOk result (λ b. (l : LayoutOf) (v : NodeOf) →
-        spec.value_put b l v (standing_view standing.now) ≡
-        spec.value_put (spec.has_text (node_in path.now.doc (steps_of path.now) (cut_of cut.now)))
-        l v (standing_view standing.now)) }
+    ensures { IfOk result (λ b. ArePutAlike b (has_text_at path.now cut.now) standing.now) }
 {
     match standing {
         Standing::Block(_, _) => has_text(alloc, cut, path),
@@ -114,8 +108,7 @@ pub fn value_put_at<'t>(
     path: &Path,
     value: &Value,
 ) -> Result<Option<Segments<'t>>, AllocError>
-    ensures { GivesSegments result (spec.value_put_at path.now.doc (steps_of path.now)
-        (value_node value.now) (cut_of cut.now)) }
+    ensures { GivesSegments result (value_at_path path.now value.now cut.now) }
 {
     let Some(standing) = cut.standing(path) else {
         return Ok(None);

@@ -7,8 +7,7 @@ use Rattle.yq_outline.specs.Places.{Context, here, below, beside, lines_before, 
 use Rattle.yq_outline.{proofs.Allowing.{Allows, IsCollection}, proofs.Plug.headless_entry, proofs.NameLaws.{each_front, each_back}}
 use Rattle.yq_documents.specs.Documents.{HaveFitKeys}
 use Rattle.yq_places.proofs.FlowViewLaws.{before_under}
-use Rattle.yq_edit_rules.specs.Conditions.{last_anchor, BeginsEntry, AnchorsStay, LinesAmong}
-use Rattle.yq_edit_rules.specs.Siblings.{IsEntry, NodeLines, under_line}
+use Rattle.yq_edit_rules.{specs.Conditions.{last_anchor, BeginsEntry, AnchorsStay, LinesAmong}, specs.Siblings.{NodeLines, under_line}}
 use Rattle.yq_edit_rules.{proofs.NodeLineLaws.{after_under, Under, lines_found, under_even}, proofs.SiblingLaws.{next, entry_out}}
 use Rattle.yq_outline.proofs.Allowing as allowing
 

@@ -2,7 +2,7 @@
 use Rattle.std.proofs.Common.{◌≡◌, ℕ, suc, ◌+◌, ◌*◌, ◌<◌, ◌≤◌, List, [], ◌∷◌, ◌++◌, Option, Some, None, true, refl, sym, ap, ◌∙◌, subst}
 use Rattle.std.{proofs.Common.{arith, append_assoc, append-nil, length-append, rules}, proofs.lemmas.Bool.lt-ltb}
 use Rattle.std.proofs.lemmas.Option.{same_Some}
-use Rattle.yq_outline.{specs.Comments.head_comment, specs.Group.level_or, specs.Outline.{Bare, Line, level, Outline, end, flatten}}
+use Rattle.yq_outline.{specs.Comments.head_comment, specs.Group.level_or, specs.Outline.{Line, level, Outline, flatten}}
 use Rattle.yq_outline.{specs.Places.{lines_before, lines_after}, proofs.Decides.flatten-group}
 use Rattle.yq_outline.specs.Lines.{mark_line, lines_from, row_lines, lines_of_rows}
 use Rattle.yq_core.specs.Paths.{Step}

@@ -1,8 +1,7 @@
 -- Texts in which one document has another part.
 use Rattle.std.proofs.Common.{◌≡◌, ℕ, zero, suc, List, [], ◌∷◌, ◌++◌, map, Bool, true, false, not, ◌||◌, Some, refl, sym, ap, ◌∙◌, rules}
 use Rattle.std.{proofs.lemmas.Bool.{and_parts, and_from, cond-true}, proofs.lemmas.Option.same_Some, specs.List.{slice_get, list_all}}
-use Rattle.yq_outline.{specs.Comments.head_comment, specs.Lines.{lines_from, lines_of_rows}, specs.Outline.{Line, end}}
-use Rattle.yq_outline.proofs.ByRules.{rules_from}
+use Rattle.yq_outline.{specs.Comments.head_comment, specs.Lines.{lines_from, lines_of_rows}, specs.Outline.Line, proofs.ByRules.rules_from}
 use Rattle.yq_row_table.{specs.Grammar.begins_document, specs.Rows.{Row, Part, Cut, last, marked, cut_text}, specs.Splices.first_gap}
 use Rattle.yq_documents.specs.Documents.{Document, parts_from, has_begin, begins_bare, document_parts, lead_of}
 use Rattle.yq_documents.{specs.PartNumbers.number_from, specs.Reading.{root_of, part_document, is_document, all_documents, read_at}}

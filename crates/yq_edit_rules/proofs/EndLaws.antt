@@ -25,7 +25,6 @@ use Rattle.yq_edit_rules.{proofs.PlacedLaws.same_parts, specs.Ends.{TakesRowsLas
 use Rattle.yq_edit_rules.{specs.DocumentRows.{IsDocumentPart, behind_document}, proofs.AppendLaws.around, proofs.LineLaws.above_mark}
 use Rattle.yq_edit_rules.proofs.PartLaws.{part_numbered, rows_put, document_known, is_put, drop_front}
 use Rattle.yq_edit_rules.proofs.CommentPutLaws.{fit_retail, short_retail, last_lines}
-use Rattle.yq_outline.specs.Lines as lines
 
 -- the comment of a line's end
 abbrev pub after_hash : List ℕ → Option (List ℕ)

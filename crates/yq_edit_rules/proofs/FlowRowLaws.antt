@@ -1,6 +1,6 @@
 -- A flow collection whose items or entries are changed, by the row in which it is.
-use Rattle.std.proofs.Common.{◌≡◌, ℕ, ◌+◌, Bool, true, false, cond, eqb, List, [], ◌∷◌, ◌++◌, length, Option, Some, None, refl, sym, ap}
-use Rattle.std.{proofs.Common.{◌∙◌, subst, length-append, ℤ, rules}, proofs.lemmas.Bool.{and_parts, cond_both}}
+use Rattle.std.proofs.Common.{◌≡◌, ℕ, Bool, true, false, cond, eqb, List, [], ◌∷◌, ◌++◌, length, Option, Some, None, refl, sym, ap, ◌∙◌}
+use Rattle.std.{proofs.Common.{subst, length-append, ℤ, rules}, proofs.lemmas.Bool.{and_parts, cond_both}}
 use Rattle.std.proofs.lemmas.Option.{none-some, same_Some}
 use mathlib.Core.List.{head-eq_of_cons-eq}
 use Rattle.yq_core.{specs.Paths.{Step, changed_at, within}, specs.Alike.{Alike, stop, after}}

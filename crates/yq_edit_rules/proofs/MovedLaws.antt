@@ -1,7 +1,7 @@
 -- Rows whose first dashes are those of another.
 use Rattle.std.proofs.Common.{◌≡◌, ℕ, suc, ◌+◌, List, [], ◌∷◌, ◌++◌, None, refl, sym, ap, ◌∙◌, append_assoc, rules}
 use Rattle.yq_outline.{specs.Comments.{head_comment, line_comment}, specs.Lines.{dash_line, lines_from, row_lines, lines_of_rows}}
-use Rattle.yq_outline.specs.Outline.{Line, Dash}
+use Rattle.yq_outline.specs.Outline.{Line}
 use Rattle.yq_row_table.specs.Rows.{Content, Nothing, behind_columns}
 use Rattle.yq_places.proofs.UnderExchange.{lines_append}
 use Rattle.yq_edit_rules.specs.Moved.{dash_lines, moved_up, emptied_row, DashesFirst, FirstMoved, FirstEmptied}

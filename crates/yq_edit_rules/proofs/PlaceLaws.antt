@@ -2,7 +2,7 @@
 use Rattle.std.proofs.Common.{◌≡◌, ℤ, ℕ, suc, ◌+◌, true, false, not, ◌&&◌, eqb, List, [], ◌∷◌, ◌++◌, None, refl, sym, ap, ◌∙◌, subst, arith}
 use Rattle.std.{proofs.Common.{append_assoc, replicate, Some, rules}, proofs.lemmas.Bool.false≢true}
 use Rattle.yq_core.{specs.Text.{separates, upto}, specs.Alike.{Alike, byte}, proofs.Alikes.{alike_append, alike_marker}}
-use Rattle.yq_outline.{specs.Comments.{head_comment, line_comment}, specs.Lines.{dash_line, lines_from, row_lines, lines_of_rows}}
+use Rattle.yq_outline.{specs.Comments.line_comment, specs.Lines.{dash_line, lines_from, row_lines, lines_of_rows}}
 use Rattle.yq_row_table.{specs.Exchange.{asked_behind, with_content}, specs.Alone.holds_nothing}
 use Rattle.yq_row_table.specs.Grammar.{IsContent, IsMark, is_entry, is_more, is_plain_content, AreDashes, Limit, unlimited, limit_after}
 use Rattle.yq_row_table.specs.Grammar.{limit_behind, IsRow, AreRows}

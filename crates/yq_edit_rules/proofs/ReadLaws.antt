@@ -8,8 +8,7 @@ use Rattle.yq_flow_edits.specs.Valued.{IsValueTree}
 use Rattle.yq_row_table.specs.Grammar.{is_entry, is_plain_content, unlimited, AreRows, no_rows}
 use Rattle.yq_row_table.{specs.Rows.{Bare, Inline, Row, rows_text, last}, specs.Splices.first_gap, proofs.PlainEnds.end_line}
 use Rattle.yq_documents.specs.Documents.{IsRoot, HasShortRoot, is_long_plain, ReadsDocuments, document_parts, AreDocuments}
-use Rattle.yq_outline.{specs.Grammar.{IsNodeOutline, alone, mapping}, specs.Lines.lines_of_rows, specs.Outline.Line}
-use Rattle.yq_outline.specs.Comments.{head_comment}
+use Rattle.yq_outline.{specs.Grammar.{IsNodeOutline, alone}, specs.Lines.lines_of_rows, specs.Outline.Line, specs.Comments.head_comment}
 use Rattle.yq_edit_rules.{specs.BlockLaws.{ReadsAlone, IsHead}, specs.BlockRows.node_rows, specs.BlockText.{block_node, block_value}}
 use Rattle.yq_edit_rules.{specs.BlockValues.{HasNearKeys, IsCollection, IsFilled, MayBeRoot}, specs.declared.layout.Layout.Layout}
 use Rattle.yq_edit_rules.proofs.CharacterLaws.{IsUtf8Text, break_sound, value_sound, sound_join}

@@ -1,5 +1,5 @@
 -- One row in the place of another one, and line comments that are in a row's content.
-use Rattle.std.proofs.Common.{◌≡◌, ℕ, ◌+◌, List, [], ◌∷◌, ◌++◌, length, Some, false, refl, sym, ap, ◌∙◌, subst, length-append, rules}
+use Rattle.std.proofs.Common.{◌≡◌, ℕ, List, [], ◌∷◌, ◌++◌, length, Some, false, refl, sym, ap, ◌∙◌, subst, length-append, rules}
 use Rattle.yq_outline.{specs.Comments.{head_comment, line_comment}, specs.Laws.with_lines, specs.Outline.{Line, level, flatten, label}}
 use Rattle.yq_outline.specs.Lines.{mark_line, tail_of, lines_of_rows}
 use Rattle.yq_core.specs.Alike.{Alike}

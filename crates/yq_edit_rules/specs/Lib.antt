@@ -73,3 +73,4 @@ pub mod FlowParts
 pub mod Edits
 pub mod EditLaws
 pub mod RowChanges
+pub mod ValuesWritten

@@ -1,16 +1,19 @@
 //! An item or entry of a collection, written in block style.
-ghost use Rattle.std.specs.Prelude.{◌≡◌, ◌++◌, IfOk, OnOk, string_bytes};
-ghost use Rattle.yq_flow_edits.specs.Valued.{IsValueTree};
-ghost use Rattle.yq_core.specs.Values.{value_node};
-ghost use Rattle.yq_outline.specs.Bodies.{borrowed};
-ghost use Rattle.yq_edit_rules.{specs.Alone.singleton, specs.BlockText.block_value};
-ghost use Rattle.yq_edit_rules.specs.BlockReading as spec;
+ghost use Rattle.yq_edit_rules.specs.ValuesWritten.{entry_block, block_child, item_block};
+ghost use Rattle.yq_core.specs.Strings.{AddsText};
 
 use crate::layout::Layout;
 use crate::pieces::{deeper_column, push_front};
 use crate::write::{indent_step, is_filled, push_block};
 use std::alloc::{AllocError, Global};
 use yq_core::Value;
+
+/// An item, or an entry with its key, that is written.
+#[derive(Clone, Copy)]
+pub struct Child<'a> {
+    pub key: Option<&'a str>,
+    pub value: &'a Value,
+}
 
 /// Adds an item, from its dash on.
 fn push_item(
@@ -20,8 +23,7 @@ fn push_item(
     column: usize,
     value: &Value,
 ) -> Result<(), AllocError>
-    ensures { OnOk result (string_bytes out.new ≡ string_bytes out.old ++
-        spec.block_item layout.now column (value_node value.now)) }
+    ensures { AddsText result out.old out.new (item_block layout.now column value.now) }
 {
     let below = deeper_column(out, column, 2)?;
     out.push_str("- ")?;
@@ -37,8 +39,7 @@ fn push_pair(
     key: &str,
     value: &Value,
 ) -> Result<(), AllocError>
-    ensures { OnOk result (string_bytes out.new ≡ string_bytes out.old ++
-        spec.block_pair layout.now column (key.now, value_node value.now)) }
+    ensures { AddsText result out.old out.new (entry_block layout.now column key.now value.now) }
 {
     let below = deeper_column(out, column, indent_step(layout, value))?;
     push_front(alloc, out, layout, below, key, is_filled(value))?;
@@ -53,15 +54,12 @@ pub fn push_entry(
     out: &mut String,
     layout: &Layout,
     column: usize,
-    key: Option<&str>,
-    value: &Value,
+    child: Child<'_>,
 ) -> Result<(), AllocError>
-    ensures { OnOk result (string_bytes out.new ≡
-        string_bytes out.old ++ block_value layout.now column (singleton (borrowed key.entry)
-        (value_node value.now))) }
+    ensures { AddsText result out.old out.new (block_child layout.now column child.entry) }
 {
-    match key {
-        Some(key) => push_pair(alloc, out, layout, column, key, value),
-        None => push_item(alloc, out, layout, column, value),
+    match child.key {
+        Some(key) => push_pair(alloc, out, layout, column, key, child.value),
+        None => push_item(alloc, out, layout, column, child.value),
     }
 }

@@ -16,7 +16,7 @@ mod style;
 mod write;
 mod written_value;
 
-pub use entry::push_entry;
+pub use entry::{Child, push_entry};
 pub use laws::{block_placed, block_read, block_written};
 pub use layout::Layout;
 pub use printing::print;

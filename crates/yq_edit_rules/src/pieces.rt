@@ -1,5 +1,6 @@
 //! Pieces of lines in block style.
 ghost use Rattle.std.{specs.Prelude.{◌≡◌, ◌+◌, ◌++◌, IfOk, OnOk, string_bytes}, specs.Str.IsUtf8};
+ghost use Rattle.yq_core.specs.Strings.{AddsText};
 ghost use Rattle.yq_edit_rules.specs.BlockReading as spec;
 ghost use Rattle.yq_edit_rules.specs.BlockRows as rows;
 
@@ -29,8 +30,7 @@ pub(crate) fn deeper_column(
 
 /// Begins a line at a column.
 pub(crate) fn push_line(out: &mut String, layout: &Layout, column: usize) -> Result<(), AllocError>
-    ensures { OnOk result (string_bytes out.new ≡ string_bytes out.old ++
-        spec.break_and_indent layout.now column) }
+    ensures { AddsText result out.old out.new (spec.break_and_indent layout.now column) }
 {
     out.push_str(break_text(layout.br))?;
     push_spaces(out, column)
@@ -55,8 +55,7 @@ pub(crate) fn push_front(
     key: &str,
     filled: bool,
 ) -> Result<(), AllocError>
-    ensures text { OnOk result (string_bytes out.new ≡ string_bytes out.old ++
-        spec.block_front layout.now below key.now filled) }
+    ensures text { AddsText result out.old out.new (spec.block_front layout.now below key.now filled) }
     ensures valid { IfOk result (λ x. IsUtf8 key.now) }
 {
     push_key(alloc, out, key)?;

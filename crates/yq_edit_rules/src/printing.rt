@@ -1,8 +1,7 @@
 //! Values, as a read prints them.
-ghost use Rattle.std.specs.Prelude.{◌≡◌, ◌++◌, IfOk, OnOk, string_bytes};
-ghost use Rattle.yq_flow_edits.specs.Valued.{IsValueTree};
-ghost use Rattle.yq_core.specs.Values.{value_node};
-ghost use Rattle.yq_edit_rules.{specs.BlockLaws.ReadsAlone, specs.BlockValues.IsCollection};
+ghost use Rattle.std.specs.Prelude.{◌≡◌, IfOk, string_bytes};
+ghost use Rattle.yq_core.{specs.Values.value_node, specs.Strings.AddsText};
+ghost use Rattle.yq_edit_rules.{specs.BlockLaws.ReadsAlone, specs.ValuesWritten.IsTreeIfFilled};
 ghost use Rattle.yq_edit_rules.specs.Print as spec;
 
 use crate::layout::Layout;
@@ -23,10 +22,8 @@ fn print_layout() -> Layout
 
 /// Adds a scalar's content, or a collection in block style.
 fn push_printed(alloc: Global, out: &mut String, value: &Value) -> Result<(), AllocError>
-    ensures text { OnOk result (string_bytes out.new ≡ string_bytes out.old ++
-        spec.printed_value (value_node value.now)) }
-    ensures valid { IfOk result (λ x. IsCollection (value_node value.now) →
-        IsValueTree (value_node value.now)) }
+    ensures text { AddsText result out.old out.new (spec.printed_value (value_node value.now)) }
+    ensures valid { IfOk result (λ _. IsTreeIfFilled value.now) }
 {
     match value {
         Value::Scalar(scalar) => out.push_str(scalar.text()),

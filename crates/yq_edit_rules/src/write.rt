@@ -1,8 +1,8 @@
 //! Values, written in block style.
-ghost use Rattle.std.specs.Prelude.{◌≡◌, ◌++◌, IfOk, OnOk, false, map, string_bytes, true};
+ghost use Rattle.std.specs.Prelude.{◌≡◌, IfOk, false, true};
 ghost use Rattle.yq_flow_edits.specs.Valued.{AreValueTrees, IsValueTree};
-ghost use Rattle.yq_core.specs.Values.{entries_of, field_of, items_of, value_node};
-ghost use Rattle.yq_edit_rules.specs.BlockText.{block_value};
+ghost use Rattle.yq_core.{specs.Values.{entries_of, items_of, value_node}, specs.Strings.AddsText};
+ghost use Rattle.yq_edit_rules.specs.ValuesWritten.{block_items, block_fields, value_block};
 ghost use Rattle.yq_edit_rules.specs.BlockReading as spec;
 ghost use Rattle.yq_edit_rules.specs.BlockRows as rows;
 
@@ -51,8 +51,7 @@ pub fn push_block(
     value: &Value,
 ) -> Result<(), AllocError>
     // It is the text that the style defines.
-    ensures text { OnOk result (string_bytes out.new ≡ string_bytes out.old ++
-        block_value layout.now column (value_node value.now)) }
+    ensures text { AddsText result out.old out.new (value_block layout.now column value.now) }
     // It is of a value, of which the laws speak.
     ensures valid { IfOk result (λ x. IsValueTree (value_node value.now)) }
 {
@@ -72,9 +71,7 @@ fn push_items(
     column: usize,
     items: &Vec<Value>,
 ) -> Result<(), AllocError>
-    ensures text { OnOk result (string_bytes out.new ≡
-        string_bytes out.old ++ spec.block_list layout.now column
-        (map value_node items.now.items)) }
+    ensures text { AddsText result out.old out.new (block_items layout.now column items.now) }
     ensures valid { IfOk result (λ x. AreValueTrees false (items_of items.now.items)) }
 {
     if items.is_empty() {
@@ -103,8 +100,7 @@ fn push_entries(
     column: usize,
     entries: &Vec<(String, Value)>,
 ) -> Result<(), AllocError>
-    ensures text { OnOk result (string_bytes out.new ≡
-        string_bytes out.old ++ spec.block_map layout.now column (map field_of entries.now.items)) }
+    ensures text { AddsText result out.old out.new (block_fields layout.now column entries.now) }
     ensures valid { IfOk result (λ x. AreValueTrees true (entries_of entries.now.items)) }
 {
     if entries.is_empty() {

@@ -1,8 +1,8 @@
 //! How a value is written at a place.
-ghost use Rattle.std.specs.Prelude.{◌≡◌, ◌∷◌, ◌++◌, IfOk, OnOk, string_bytes};
-ghost use Rattle.yq_core.{specs.Values.value_node, specs.BlockWritten.break_text};
+ghost use Rattle.std.specs.Prelude.{◌≡◌, ◌∷◌, ◌++◌, IfOk, string_bytes};
+ghost use Rattle.yq_core.{specs.Values.value_node, specs.BlockWritten.break_text, specs.Strings.{AddsText, GivesText}};
 ghost use Rattle.yq_places.specs.StandingViews.{held_mark_view};
-ghost use Rattle.yq_edit_rules.{specs.BlockRows.item_column, specs.BlockText.block_value};
+ghost use Rattle.yq_edit_rules.specs.ValuesWritten.{value_column, lines_below_mark, compact_block};
 ghost use Rattle.yq_edit_rules.specs.WrittenValues as spec;
 
 use crate::pieces::deeper_column;
@@ -64,8 +64,7 @@ fn column_under(
     mark: EntryMark,
     value: &Value,
 ) -> Result<usize, AllocError>
-    ensures column { IfOk result (λ n. n ≡
-        spec.column_under layout.now (held_mark_view mark) (value_node value.now)) }
+    ensures column { IfOk result (λ n. n ≡ value_column layout.now mark value.now) }
     ensures text { string_bytes out.new ≡ string_bytes out.old }
 {
     let step = if mark.keyed {
@@ -83,8 +82,7 @@ pub fn compact_text(
     mark: EntryMark,
     value: &Value,
 ) -> Result<String, AllocError>
-    ensures { IfOk result (λ s. string_bytes s ≡
-        32 ∷ block_value layout.now (item_column mark.column) (value_node value.now)) }
+    ensures { GivesText result (compact_block layout.now mark value.now) }
 {
     let mut text = String::new(alloc);
     text.push_str(" ")?;
@@ -101,10 +99,7 @@ fn push_lines_under(
     mark: EntryMark,
     value: &Value,
 ) -> Result<(), AllocError>
-    ensures { OnOk result (string_bytes out.new ≡ string_bytes out.old ++
-        spec.lines_in layout.now
-        (spec.column_under layout.now (held_mark_view mark) (value_node value.now))
-        (value_node value.now)) }
+    ensures { AddsText result out.old out.new (lines_below_mark layout.now mark value.now) }
 {
     let column = column_under(out, layout, mark, value)?;
     push_spaces(out, column)?;
@@ -118,10 +113,7 @@ pub fn break_and_lines(
     mark: EntryMark,
     value: &Value,
 ) -> Result<String, AllocError>
-    ensures { IfOk result (λ s. string_bytes s ≡ break_text layout.now.br ++
-        spec.lines_in layout.now
-        (spec.column_under layout.now (held_mark_view mark) (value_node value.now))
-        (value_node value.now)) }
+    ensures { GivesText result (break_text layout.now.br ++ lines_below_mark layout.now mark value.now) }
 {
     let mut text = String::new(alloc);
     text.push_str(break_text(layout.br))?;
@@ -136,10 +128,7 @@ pub fn lines_and_break(
     mark: EntryMark,
     value: &Value,
 ) -> Result<String, AllocError>
-    ensures { IfOk result (λ s. string_bytes s ≡
-        spec.lines_in layout.now
-        (spec.column_under layout.now (held_mark_view mark) (value_node value.now))
-        (value_node value.now) ++ break_text layout.now.br) }
+    ensures { GivesText result (lines_below_mark layout.now mark value.now ++ break_text layout.now.br) }
 {
     let mut text = String::new(alloc);
     push_lines_under(alloc, &mut text, layout, mark, value)?;

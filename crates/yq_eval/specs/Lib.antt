@@ -4,3 +4,6 @@ pub mod TreeScalars
 pub mod PlaceView
 pub mod FoundView
 pub mod MatchView
+pub mod PlaceAnswers
+pub mod ConditionAnswers
+pub mod MatchAnswers

@@ -1,11 +1,11 @@
 //! Matches: copies of what a pipe finds in documents.
-ghost use Rattle.std.specs.Prelude.{◌≡◌, IfOk, List, map, true};
+ghost use Rattle.std.specs.Prelude.{◌≡◌, IfOk, map, true};
 ghost use Rattle.yq_nodes.specs.Nodes.{node_of};
 ghost use Rattle.yq_documents.specs.Reading.{documents_of};
-ghost use Rattle.yq_semantics.{specs.Conditions.value_of, specs.Judgement.Judges, specs.MatchTrees.AreMatches, specs.Places.for_each};
-ghost use Rattle.yq_semantics.{specs.Program.{Stage as PipeStage, is_read, read}, specs.View.{program_of, stage_of}};
-ghost use Rattle.yq_eval.{specs.MatchView.matches_of, specs.PlaceView.{place_of, places_of, put_behind}};
-ghost use Rattle.yq_eval.specs.TreeScalars.{HasScalars, HaveScalars};
+ghost use Rattle.yq_semantics.{specs.Conditions.value_of, specs.MatchTrees.AreMatches, specs.Program.is_read};
+ghost use Rattle.yq_semantics.specs.View.{program_of, stage_of};
+ghost use Rattle.yq_eval.{specs.MatchView.matches_of, specs.PlaceView.{place_of, places_of}, specs.TreeScalars.{HasScalars, HaveScalars}};
+ghost use Rattle.yq_eval.specs.MatchAnswers.{JudgesMatches, AddsMatches, JudgesRead, matches_at_each, matches_below};
 ghost use Rattle.yq_semantics.specs.Copies as spec;
 
 use crate::{FoundPlace, copy_at, find};
@@ -32,8 +32,7 @@ fn push_match(
     matches: &mut Vec<Match>,
 ) -> Result<(), ExprError>
     requires { HasScalars (value_of (place_of place.now)) }
-    ensures { Judges (λ _. matches_of matches.new.items) result
-        (put_behind (matches_of matches.old.items) (spec.match_at doc (place_of place.now))) }
+    ensures { AddsMatches result matches.old matches.new (spec.match_at doc (place_of place.now)) }
 {
     let value = copy_at(alloc, place)?;
     matches.push(Match { doc, value })?;
@@ -48,9 +47,7 @@ fn push_copies(
     matches: &mut Vec<Match>,
 ) -> Result<(), ExprError>
     requires { HaveScalars (places_of places.now) }
-    ensures { Judges (λ _. matches_of matches.new.items) result
-        (put_behind (matches_of matches.old.items)
-        (for_each (spec.match_at doc) (places_of places.now))) }
+    ensures { AddsMatches result matches.old matches.new (matches_at_each doc places.now) }
 {
     'places: for place in places {
         push_match(alloc, doc, place, matches)?;
@@ -68,9 +65,7 @@ fn push_document(
     matches: &mut Vec<Match>,
 ) -> Result<(), ExprError>
     requires { HasScalars (node_of root) }
-    ensures { Judges (λ _. matches_of matches.new.items) result
-        (put_behind (matches_of matches.old.items)
-        (spec.matches_in doc (map stage_of pipe.now) (node_of root.entry))) }
+    ensures { AddsMatches result matches.old matches.new (matches_below doc pipe.now root.entry) }
 {
     let bump = Bump::new(alloc);
     let places = find(alloc, &bump, doc, pipe, root)?;
@@ -83,8 +78,7 @@ fn pipe_matches(
     pipe: &[Stage],
     documents: &Documents<'_>,
 ) -> Result<Vec<Match>, ExprError>
-    ensures { Judges (λ v. matches_of v.items) result
-        (spec.matches (map stage_of pipe.now) (documents_of documents.now)) }
+    ensures { JudgesMatches result (spec.matches (map stage_of pipe.now) (documents_of documents.now)) }
 {
     let mut matches = Vec::new(alloc);
     'documents: for doc in 0..documents.count() {
@@ -101,8 +95,7 @@ pub fn matches(
 ) -> Result<Vec<Match>, ExprError>
     requires { is_read (program_of program.now) ≡ true }
     // The copies of what the pipe finds, or the first refusal.
-    ensures exact { (pipe : List PipeStage) → program_of program.now ≡ read pipe →
-        Judges (λ v. matches_of v.items) result (spec.matches pipe (documents_of documents.now)) }
+    ensures exact { JudgesRead result program.now documents.now }
     // Each copy is a tree, in which the keys of a mapping differ, with no more collections nested than may be.
     ensures trees { IfOk result (λ v. AreMatches (matches_of v.items)) }
 {

@@ -1,5 +1,5 @@
 -- What a call on a file and its journal leaves in a store, by what it answers (own).
-use Rattle.std.{specs.Prelude.{◌≡◌, ◌≢◌, ◌⊎◌, ℕ, List, Option, Some, false, IfErr, OnErr, OnOk, Result, Err, option_map}, specs.FinMap.get}
+use Rattle.std.{specs.Prelude.{◌≡◌, ◌⊎◌, ℕ, List, Option, Some, false, IfErr, OnErr, OnOk, Result, Err, option_map}, specs.FinMap.get}
 use Rattle.yq_journal.{specs.declared.fault.JournalFault.JournalFault, specs.declared.moves.Move.Move}
 use Rattle.yq_journal.{specs.Good.{after_move, journal_beside}, specs.History.History, specs.State.State}
 use Rattle.yq_history.{specs.declared.fault.Fault.Fault, specs.Causes.Cause, specs.Effects.{Effect, Works, from_names}}
@@ -32,10 +32,6 @@ ArrivesBy cause next file journal old new r = (h : Option History) → GoodIn ol
 
 -- by the stores before and after a call, as files by their names
 module _ {S : Type 0} (content : S → FileMap) (old new : S) where
-  -- every name but this one holds what it held
-  abbrev pub WritesOnly : List ℕ → Type 0
-  WritesOnly name = (q : List ℕ) → q ≢ name → get (content new) q ≡ get (content old) q
-
   -- every name but that of the file and that of its journal
   abbrev pub KeepsOthers : List ℕ → List ℕ → Type 0
   KeepsOthers file journal = OthersStay (content old) (content new) file journal

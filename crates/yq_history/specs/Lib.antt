@@ -16,3 +16,4 @@ pub mod Directions
 pub mod Visible
 pub mod Calls
 pub mod Unified
+pub mod PairAnswers

@@ -14,7 +14,8 @@ impl Direction {
     ghost use Rattle.std.specs.Prelude.{◌≡◌, IfOk, IfErr, OnOk, OnErr};
     ghost use Rattle.yq_journal.specs.Refusals.{ErrorIs, move_fault};
     ghost use Rattle.yq_journal.specs.State.{journal_after};
-    ghost use Rattle.yq_history.specs.Directions.{MovesTo, walk_move};
+    ghost use Rattle.yq_history.specs.Directions.{walk_move};
+    ghost use Rattle.yq_journal.specs.State.{MovesTo};
 
     /// The journal's move.
     pub fn step(self) -> Move

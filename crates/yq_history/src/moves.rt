@@ -1,10 +1,9 @@
 //! Moves of a file and its journal.
-ghost use Rattle.yq_history.specs.Leaves.{GoodAfterMove, GoodAroundMove, HoldsBytes, KeepsOthers, LeavesRefused, RefusedFor};
-ghost use Rattle.yq_history.{specs.Leaves.RefusedOnlyFor, specs.Directions.MovesTo, specs.Calls.Makes};
-ghost use Rattle.yq_history.{specs.Effects.{IsMoveCutShort, move_effect}, specs.Faults.{is_output, failures_after}, specs.Pair.IsJournal};
-ghost use Rattle.std.specs.Prelude.{◌≡◌, ◌≢◌, None, false, IsTrue, IsNone, IfErr, OnOk, OnErr};
-ghost use Rattle.yq_journal.{specs.Refusals.no_way, specs.State.journal_after};
-ghost use Rattle.std.specs.FinMap as map;
+ghost use Rattle.yq_history.specs.Leaves.{GoodAfterMove, GoodAroundMove, KeepsOthers, LeavesRefused, RefusedFor, RefusedOnlyFor};
+ghost use Rattle.yq_history.{specs.Calls.Makes, specs.Effects.{IsMoveCutShort, move_effect}, specs.Faults.{is_output, failures_after}};
+ghost use Rattle.yq_history.specs.PairAnswers.{HoldsText, HasMoved, StaysIfBarred};
+ghost use Rattle.std.specs.Prelude.{◌≡◌, ◌≢◌, false, IsTrue, IsNone, IfErr, OnErr};
+ghost use Rattle.yq_journal.{specs.Refusals.no_way, specs.State.MovesTo};
 
 use crate::{Fault, write_journal};
 use std::alloc::Global;
@@ -32,11 +31,8 @@ pub fn carry_out<D: Store>(
     ensures err { IsTrue D.keeps → file.now ≢ journal.now →
         GoodAroundMove D.content store.old store.new file.now journal.now state.old old.items step
         new.now result }
-    ensures text { IsTrue D.keeps → file.now ≢ journal.now →
-        OnOk result (HoldsBytes (D.content store.new) file.now new.now) }
-    ensures moved { IsTrue D.keeps →
-        OnOk result (IsJournal (map.get (D.content store.new) journal.now)
-        (journal_after state.old step)) }
+    ensures text { HoldsText D.keeps (D.content store.new) file.now journal.now new.now result }
+    ensures moved { IsTrue D.keeps → HasMoved (D.content store.new) journal.now state.old step result }
     ensures cut { IsTrue D.keeps → file.now ≢ journal.now →
         OnErr result (IsMoveCutShort state.old step old.items new.now file.now journal.now
         (D.content store.old) (D.content store.new)) }
@@ -44,8 +40,7 @@ pub fn carry_out<D: Store>(
     ensures refused { RefusedFor (no_way state.old.records state.old.at step) result }
     ensures kept { IsTrue D.keeps →
         LeavesRefused (D.content store.old) (D.content store.new) result }
-    ensures barred { IsTrue D.keeps → no_way state.old.records state.old.at step ≢ None →
-        D.content store.new ≡ D.content store.old }
+    ensures barred { StaysIfBarred D.keeps D.content store.old store.new state.old step }
     ensures others { IsTrue D.keeps → KeepsOthers D.content store.old store.new file.now
         journal.now }
     ensures no_output { IfErr result (λ e. is_output e ≡ false) }

@@ -1,11 +1,9 @@
 //! The lines of a history.
 ghost use Rattle.yq_core.specs.Strings.{AddsText};
-ghost use Rattle.yq_history.specs.Output.{IsOutputText, IsOutput, Shows, listing_output, record_output, showing};
-ghost use Rattle.yq_history.{specs.Visible.{in_quotes, visible}, specs.Effects.{Works, from_names, listing_effect, printed_by}};
-ghost use Rattle.yq_history.{specs.Faults.{is_output, failures_after}, specs.Pair.{Arrives, GoodIn}, specs.Report.{nothing, report_by}};
-ghost use Rattle.yq_history.{specs.Calls.CallsOnPair, specs.Steps.listing_cause};
-ghost use Rattle.std.{specs.Prelude.{◌≡◌, Option, IfErr, OnOk, IfOk, IsTrue, false, true, decimal}, specs.String.string_bytes};
-ghost use Rattle.yq_journal.specs.History.{History};
+ghost use Rattle.yq_history.{specs.Output.{IsOutputText, record_output}, specs.Visible.{in_quotes, visible}};
+ghost use Rattle.yq_history.{specs.Faults.{is_output, failures_after}, specs.Report.{nothing, report_by}};
+ghost use Rattle.yq_history.specs.PairAnswers.{ArrivesListed, Lists, CallsListing, ListsPair, Prints};
+ghost use Rattle.std.{specs.Prelude.{◌≡◌, IfErr, IfOk, IsTrue, false, true, decimal}, specs.String.string_bytes};
 ghost use Rattle.json.specs.Print as json;
 ghost use Rattle.yq_history.specs.Listing as spec;
 
@@ -141,24 +139,15 @@ pub fn listing<D: Store>(
     report: &mut Report,
 ) -> Result<(), Fault>
     requires empty { report_by report.old ≡ nothing }
-    ensures arrives { IsTrue D.keeps → (h : Option History) →
-        GoodIn (D.content store.old) file.now journal.now h →
-        Arrives (D.content store.new) file.now journal.now (listing_cause h) h h result }
-    ensures effect { IsTrue D.keeps → Works (from_names (D.content store.old) file.now journal.now
-        (listing_effect diffs)) file.now journal.now (D.content store.old)
-        (D.content store.new) result }
-    ensures lines { IsTrue D.keeps → OnOk result (IsOutput file.now
-        (printed_by (from_names (D.content store.old) file.now journal.now (listing_effect diffs)))
-        (string_bytes report.new.text)) }
-    ensures output { IsTrue D.keeps → (h : Option History) →
-        GoodIn (D.content store.old) file.now journal.now h →
-        OnOk result (Shows file.now (showing (listing_output diffs h)) (report_by report.new)) }
+    ensures arrives { ArrivesListed D.keeps D.content store.old store.new file.now journal.now result }
+    ensures effect { ListsPair D.keeps D.content store.old store.new file.now journal.now diffs result }
+    ensures lines { Lists D.keeps (D.content store.old) file.now journal.now diffs report.new result }
+    ensures output { Prints D.keeps (D.content store.old) file.now journal.now diffs report.new result }
     ensures matched { report.new.is_match ≡ true }
     ensures same { IsTrue D.keeps → D.content store.new ≡ D.content store.old }
     ensures no_output { IfErr result (λ e. is_output e ≡ false) }
     ensures count { D.failures store.new ≡ failures_after result (D.failures store.old) }
-    ensures calls { CallsOnPair D.leads result file.now journal.now (listing_effect diffs)
-        store.old store.new }
+    ensures calls { CallsListing D.leads result file.now journal.now diffs store.old store.new }
 {
     let (text, state) = open_pair(alloc, store, file, journal)?;
     report.text = output_of(alloc, file, &state, text, diffs)?;

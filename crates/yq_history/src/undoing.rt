@@ -1,11 +1,12 @@
 //! Undo and redo of a file and its journal.
-ghost use Rattle.yq_history.specs.Leaves.{ArrivesBy, ArrivesFromRest, GoodAfterMove, GoodAroundMove, KeepsOthers, LeavesRefused};
-ghost use Rattle.yq_history.{specs.Leaves.{WorksFromRest, WorksOnPair, WritesOnly}, specs.Directions.{MovesTo, walk_move}};
-ghost use Rattle.yq_history.{specs.Effects.move_effect, specs.Faults.{is_outer_fault, is_output, failures_after}, specs.Pair.IsJournal};
-ghost use Rattle.yq_history.{specs.Calls.{CallsOnPair, Makes, PutsJournal}, specs.Steps.{move_cause, move_next}};
-ghost use Rattle.std.specs.Prelude.{◌≡◌, ◌≢◌, ◌⊎◌, ℕ, List, None, false, IsTrue, IsNone, IfErr, OnOk, OnErr};
-ghost use Rattle.yq_journal.{specs.Refusals.way_fault, specs.State.journal_after};
-ghost use Rattle.std.specs.FinMap as map;
+ghost use Rattle.yq_store.specs.Changes.{WritesOnly};
+ghost use Rattle.yq_history.specs.Leaves.{ArrivesFromRest, GoodAfterMove, GoodAroundMove, KeepsOthers, LeavesRefused, WorksFromRest};
+ghost use Rattle.yq_history.{specs.Directions.walk_move, specs.Effects.move_effect};
+ghost use Rattle.yq_history.{specs.Faults.{is_outer_fault, is_output, failures_after}, specs.Calls.{Makes, PutsJournal}};
+ghost use Rattle.yq_history.specs.Steps.{move_cause, move_next};
+ghost use Rattle.yq_history.specs.PairAnswers.{MayHaveWalked, walked, WalksPair, WalkWorks, HasWalked, CallsWalk};
+ghost use Rattle.std.specs.Prelude.{◌≡◌, ◌≢◌, ℕ, List, None, false, IsTrue, IsNone, IfErr};
+ghost use Rattle.yq_journal.{specs.Refusals.way_fault, specs.State.MovesTo};
 
 use crate::{Direction, Fault, carry_out, open_pair, write_journal};
 use std::alloc::Global;
@@ -30,18 +31,13 @@ fn move_only<D: Store>(
     ensures err { IsTrue D.keeps → (file : List ℕ) → file ≢ journal.now →
         GoodAroundMove D.content store.old store.new file journal.now state.old text.now
         (walk_move dir) text.now result }
-    ensures moved { IsTrue D.keeps →
-        OnOk result (IsJournal (map.get (D.content store.new) journal.now)
-        (journal_after state.old (walk_move dir))) }
-    ensures cut { IsTrue D.keeps → OnErr result ((D.content store.new ≡ D.content store.old)
-        ⊎ IsJournal (map.get (D.content store.new) journal.now)
-        (journal_after state.old (walk_move dir))) }
+    ensures moved { IsTrue D.keeps → HasWalked (D.content store.new) journal.now state.old dir result }
+    ensures cut { MayHaveWalked D.keeps D.content store.old store.new journal.now state.old dir result }
     ensures outside { IfErr result (λ e. IsTrue (is_outer_fault e)) }
     ensures others { IsTrue D.keeps → WritesOnly D.content store.old store.new journal.now }
     ensures no_output { IfErr result (λ e. is_output e ≡ false) }
     ensures count { D.failures store.new ≡ failures_after result (D.failures store.old) }
-    ensures calls { PutsJournal D.leads result journal.now (journal_after state.old (walk_move dir))
-        store.old store.new }
+    ensures calls { PutsJournal D.leads result journal.now (walked state.old dir) store.old store.new }
 {
     dir.make(state, text)?;
     write_journal(alloc, store, journal, state)
@@ -90,20 +86,15 @@ pub fn move_file<D: Store>(
     journal: &str,
     dir: Direction,
 ) -> Result<(), Fault>
-    ensures arrives { IsTrue D.keeps → file.now ≢ journal.now →
-        ArrivesBy (move_cause (walk_move dir)) (move_next (walk_move dir)) file.now journal.now
-        (D.content store.old) (D.content store.new) result }
-    ensures effect { IsTrue D.keeps → file.now ≢ journal.now →
-        WorksOnPair D.content store.old store.new file.now journal.now (move_effect (walk_move dir))
-        result }
+    ensures arrives { WalksPair D.keeps D.content store.old store.new file.now journal.now dir result }
+    ensures effect { WalkWorks D.keeps D.content store.old store.new file.now journal.now dir result }
     ensures kept { IsTrue D.keeps →
         LeavesRefused (D.content store.old) (D.content store.new) result }
     ensures others { IsTrue D.keeps → KeepsOthers D.content store.old store.new file.now
         journal.now }
     ensures no_output { IfErr result (λ e. is_output e ≡ false) }
     ensures count { D.failures store.new ≡ failures_after result (D.failures store.old) }
-    ensures calls { CallsOnPair D.leads result file.now journal.now (move_effect (walk_move dir))
-        store.old store.new }
+    ensures calls { CallsWalk D.leads result file.now journal.now dir store.old store.new }
 {
     let (text, mut state) = open_pair(alloc, store, file, journal)?;
     move_from(alloc, store, file, journal, &mut state, dir, text)

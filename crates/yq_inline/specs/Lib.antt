@@ -10,3 +10,4 @@ pub use Rattle.yq_core.specs.Tree
 pub use Rattle.yq_core.specs.Writable
 pub mod Forms
 pub mod NodesWithin
+pub mod InlineAnswers

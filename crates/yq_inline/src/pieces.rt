@@ -1,6 +1,7 @@
 //! The pieces of inline nodes, read one after the other.
 ghost use Rattle.std.{specs.Prelude.{◌≡◌, ◌≢◌, ◌<◌, ◌≤◌, IfErr, IfOk, length, true}, specs.List.prefix_len};
 ghost use Rattle.yq_core.{specs.Answers.ReadsAs, specs.Quoted.IsQuotedText, specs.declared.fault.FaultKind.TheVariants.NotUtf8};
+ghost use Rattle.yq_inline.specs.InlineAnswers.{ReadsSlices};
 ghost use Rattle.yq_core.specs.Nodes as nodes;
 ghost use Rattle.yq_core.specs.PlacedReading as reading;
 ghost use Rattle.yq_core.specs.Reading as spec;
@@ -130,7 +131,7 @@ pub fn read_scalar<'t>(
 
 /// What is between an anchor and its node, and what follows it.
 fn read_apart<'t>(flow: bool, whole: &str, text: &'t str) -> Result<(&'t str, &'t str), ReadFault>
-    ensures read { ReadsAs (λ x. (x.0.now, x.1.now)) result (spec.apart_at flow text.now) }
+    ensures read { ReadsSlices result (spec.apart_at flow text.now) }
     ensures shorter { IfOk result (λ x. length x.1.now ≤ length text.now) }
     ensures fault { IfErr result (λ f. f.kind ≢ NotUtf8) }
 {
@@ -148,8 +149,7 @@ pub fn read_lead<'t>(
     whole: &str,
     text: &'t str,
 ) -> Result<(&'t str, &'t str), ReadFault>
-    ensures read { ReadsAs (λ x. (x.0.now, x.1.now)) result
-        (spec.lead_at flow (nodes.begins_content flow) text.now) }
+    ensures read { ReadsSlices result (spec.lead_at flow (nodes.begins_content flow) text.now) }
     ensures shorter { IfOk result (λ x. length x.1.now ≤ length text.now) }
     ensures fault { IfErr result (λ f. f.kind ≢ NotUtf8) }
 {
@@ -164,8 +164,7 @@ pub fn read_lead<'t>(
 /// The gap after a `:`, if a node begins after it.
 #[tactic(auto, unfolding(yq_core::specs::Reading::lead_at))]
 fn read_value_lead<'t>(whole: &str, text: &'t str) -> Result<(&'t str, &'t str), ReadFault>
-    ensures read { ReadsAs (λ x. (x.0.now, x.1.now)) result
-        (spec.lead_at true (nodes.begins_node true) text.now) }
+    ensures read { ReadsSlices result (spec.lead_at true (nodes.begins_node true) text.now) }
     ensures shorter { IfOk result (λ x. length x.1.now ≤ length text.now) }
     ensures fault { IfErr result (λ f. f.kind ≢ NotUtf8) }
 {

@@ -1,7 +1,8 @@
 //! The inline node at an offset of a text.
-ghost use Rattle.std.{specs.Prelude.{◌≡◌, ◌⊎◌, IfErr, IfOk, Some}, specs.Str.IsCharBoundary};
-ghost use Rattle.yq_core.{specs.Answers.{Gives, IsOfText}, specs.declared.style.Place.TheVariants.{Block, Flow}, specs.Places.Placed};
-ghost use Rattle.yq_core.{specs.Spans.{HasSpans, IsNested}, specs.View.inline_view};
+ghost use Rattle.std.{specs.Prelude.{◌≡◌, ◌⊎◌, IfErr, IfOk}, specs.Str.IsCharBoundary};
+ghost use Rattle.yq_core.{specs.Answers.{Gives, IsOfText}, specs.declared.style.Place.TheVariants.{Block, Flow}};
+ghost use Rattle.yq_core.{specs.Spans.{HasSpans, IsNested}, specs.View.inline_view, specs.Inline.IsInlineAt};
+ghost use Rattle.yq_inline.specs.InlineAnswers.{GivesEach};
 ghost use Rattle.yq_core.specs.Inline as spec;
 
 use crate::pieces::no_node;
@@ -59,11 +60,9 @@ pub fn read_inline<'t>(
     // The node is what reading from left to right gives.
     ensures exact { Gives inline_view result (spec.inline_at place indent depth at text.now) }
     // What is read is an inline node that begins there, with the places of its parts.
-    ensures found { IfOk result (λ node. spec.IsInlineAt place indent depth at text.now
-        (inline_view node)) }
+    ensures found { IfOk result (λ node. IsInlineAt place indent depth at text.now (inline_view node)) }
     // Where one begins it is given, unless memory runs out.
-    ensures only { (p : Placed) → spec.IsInlineAt place indent depth at text.now p →
-        Gives inline_view result (Some p) }
+    ensures only { GivesEach result (IsInlineAt place indent depth at text.now) }
     // Its places lie in order, each at a character of the text or at its end.
     ensures spans { IfOk result (λ node. HasSpans text.now (inline_view node)) }
     // Its parts lie inside it, one after the other, each key before its value.

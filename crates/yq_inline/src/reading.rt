@@ -1,7 +1,9 @@
 //! Inline nodes, read from left to right.
-ghost use Rattle.std.{specs.Prelude.{◌≡◌, ◌<◌, ◌≤◌, IfErr, IfOk, Some, length, true}, specs.String.string_bytes};
-ghost use Rattle.yq_core.{specs.Answers.{Gives, IsOfText}, specs.View.{entries_end, form_view, items_end, inline_view}};
+ghost use Rattle.std.specs.Prelude.{◌≡◌, ◌<◌, ◌≤◌, IfErr, IfOk, length};
+ghost use Rattle.yq_core.{specs.Answers.IsOfText, specs.View.inline_view};
+ghost use Rattle.yq_core.specs.PlacedReading.{placed_node, placed_content, placed_coll, placed_item, placed_items, placed_entry};
 ghost use Rattle.yq_inline.specs.Forms.{placed_form};
+ghost use Rattle.yq_inline.specs.InlineAnswers.{GivesNode, GivesCore, GivesNodes, GivesEntry, GivesEntries, IsBetween, GivesAnchored};
 ghost use Rattle.yq_core.specs.Places as spec;
 ghost use Rattle.yq_core.specs.PlacedReading as reading;
 
@@ -17,8 +19,7 @@ use yq_core::{FaultKind, Form, Inline, Piece, ReadError, strip};
 #[inline(always)]
 fn placed_between<'t>(whole: &str, text: &str, rest: &str, form: Form<'t>) -> Inline<'t>
     requires { (length text.now ≤ length whole.now) × (length rest.now ≤ length whole.now) }
-    ensures { inline_view result ≡ spec.placed_between (length whole.now) text.now rest.now
-        (form_view form.entry) }
+    ensures { IsBetween whole.now text.now rest.now form.entry result }
 {
     let start = whole.len() - text.len();
     Inline {
@@ -62,9 +63,7 @@ fn put_anchor<'t>(
 ) -> Result<(Inline<'t>, &'t str), ReadError>
     requires { length text.now ≤ length whole.now }
     ensures shorter { IfOk result (λ x. x.1.now ≡ rest.now) }
-    ensures read { Gives (λ x. (inline_view x.0, x.1.now)) result
-        (reading.then_anchored (length whole.now) text.now name.now gap.now
-        (inline_view node.entry, rest.now)) }
+    ensures read { GivesAnchored whole.now text.now name.now gap.now node.entry rest.now result }
     ensures fault { IfErr result IsOfText }
 {
     if !stands_behind(gap, &node) {
@@ -94,8 +93,7 @@ pub fn read_node<'t>(
 ) -> Result<(Inline<'t>, &'t str), ReadError>
     requires { length text.now ≤ length whole.now }
     ensures shorter { IfOk result (λ x. length x.1.now ≤ length text.now) }
-    ensures read { Gives (λ x. (inline_view x.0, x.1.now)) result
-        (reading.placed_node flow spaces (length whole.now) depth text.now) }
+    ensures read { GivesNode result (placed_node flow spaces (length whole.now) depth text.now) }
     ensures fault { IfErr result IsOfText }
 {
     let Some(behind) = strip(b'&', text) else {
@@ -121,8 +119,7 @@ fn read_content<'t>(
 ) -> Result<(Inline<'t>, &'t str), ReadError>
     requires { length text.now ≤ length whole.now }
     ensures shorter { IfOk result (λ x. length x.1.now ≤ length text.now) }
-    ensures read { Gives (λ x. (inline_view x.0, x.1.now)) result
-        (reading.placed_content flow spaces (length whole.now) depth text.now) }
+    ensures read { GivesNode result (placed_content flow spaces (length whole.now) depth text.now) }
     ensures fault { IfErr result IsOfText }
 {
     match read_form(alloc, flow, spaces, whole, depth, text) {
@@ -144,8 +141,7 @@ fn read_form<'t>(
 ) -> Result<(Form<'t>, &'t str), ReadError>
     requires { length text.now ≤ length whole.now }
     ensures shorter { IfOk result (λ x. length x.1.now ≤ length text.now) }
-    ensures read { Gives (λ x. (form_view x.0, x.1.now)) result
-        (placed_form flow spaces (length whole.now) depth text.now) }
+    ensures read { GivesCore result (placed_form flow spaces (length whole.now) depth text.now) }
     ensures fault { IfErr result IsOfText }
 {
     if let Some(behind) = strip(b'*', text) {
@@ -174,8 +170,7 @@ fn read_sequence<'t>(
 ) -> Result<(Form<'t>, &'t str), ReadError>
     requires { length text.now ≤ length whole.now }
     ensures shorter { IfOk result (λ x. length x.1.now ≤ length text.now) }
-    ensures read { Gives (λ x. (form_view x.0, x.1.now)) result
-        (reading.placed_coll (length whole.now) depth 93 text.now) }
+    ensures read { GivesCore result (placed_coll (length whole.now) depth 93 text.now) }
     ensures fault { IfErr result IsOfText }
 {
     let rest = read_open(whole, depth, text)?;
@@ -195,8 +190,7 @@ fn read_mapping<'t>(
 ) -> Result<(Form<'t>, &'t str), ReadError>
     requires { length text.now ≤ length whole.now }
     ensures shorter { IfOk result (λ x. length x.1.now ≤ length text.now) }
-    ensures read { Gives (λ x. (form_view x.0, x.1.now)) result
-        (reading.placed_coll (length whole.now) depth 125 text.now) }
+    ensures read { GivesCore result (placed_coll (length whole.now) depth 125 text.now) }
     ensures fault { IfErr result IsOfText }
 {
     let rest = read_open(whole, depth, text)?;
@@ -217,8 +211,7 @@ fn read_item<'t>(
 ) -> Result<(Inline<'t>, &'t str), ReadError>
     requires { length text.now ≤ length whole.now }
     ensures shorter { IfOk result (λ x. length x.1.now < length text.now) }
-    ensures read { Gives (λ x. (inline_view x.0, x.1.now)) result
-        (reading.placed_item (length whole.now) depth text.now) }
+    ensures read { GivesNode result (placed_item (length whole.now) depth text.now) }
     ensures fault { IfErr result IsOfText }
 {
     match read_node(alloc, true, Some(0), whole, depth, text) {
@@ -242,8 +235,7 @@ fn read_items<'t>(
 ) -> Result<(Vec<Inline<'t>>, &'t str), ReadError>
     requires { length text.now ≤ length whole.now }
     ensures shorter { IfOk result (λ x. length x.1.now ≤ length text.now) }
-    ensures read { Gives (λ x. (items_end x.0.items, x.1.now)) result
-        (reading.placed_items (length whole.now) depth 93 text.now) }
+    ensures read { GivesNodes result (placed_items (length whole.now) depth 93 text.now) }
     ensures fault { IfErr result IsOfText }
 {
     let mut items = Vec::new(alloc);
@@ -270,8 +262,7 @@ fn read_entry<'t>(
 ) -> Result<((String, Piece, Inline<'t>), &'t str), ReadError>
     requires { length text.now ≤ length whole.now }
     ensures shorter { IfOk result (λ x. length x.1.now < length text.now) }
-    ensures read { Gives (λ x. (((string_bytes x.0.0, x.0.1), inline_view x.0.2), x.1.now)) result
-        (reading.placed_entry (length whole.now) depth text.now) }
+    ensures read { GivesEntry result (placed_entry (length whole.now) depth text.now) }
     ensures fault { IfErr result IsOfText }
 {
     let (key, piece, rest) = read_entry_key(alloc, whole, open, text)?;
@@ -292,8 +283,7 @@ fn read_entries<'t>(
 ) -> Result<(Vec<(String, Piece, Inline<'t>)>, &'t str), ReadError>
     requires { length text.now ≤ length whole.now }
     ensures shorter { IfOk result (λ x. length x.1.now ≤ length text.now) }
-    ensures read { Gives (λ x. (entries_end x.0.items, x.1.now)) result
-        (reading.placed_items (length whole.now) depth 125 text.now) }
+    ensures read { GivesEntries result (placed_items (length whole.now) depth 125 text.now) }
     ensures fault { IfErr result IsOfText }
 {
     let mut entries = Vec::new(alloc);

@@ -1,7 +1,8 @@
 //! Scalars and keys with what they mean and their pieces.
 ghost use Rattle.std.specs.Prelude.{◌≡◌, ◌<◌, ◌≤◌, IfErr, IfOk, length, string_bytes, true};
-ghost use Rattle.yq_core.{specs.Answers.{Gives, IsOfText}, specs.Quoted.IsQuotedText, specs.Written.IsOneLine, specs.View.form_view};
-ghost use Rattle.yq_core.specs.PlacedReading as reading;
+ghost use Rattle.yq_core.{specs.Answers.IsOfText, specs.Quoted.IsQuotedText, specs.Written.IsOneLine};
+ghost use Rattle.yq_core.specs.PlacedReading.{placed_key, placed_text};
+ghost use Rattle.yq_inline.specs.InlineAnswers.{GivesCore, GivesKey};
 ghost use Rattle.yq_core.specs.Scalars as scalars;
 
 use crate::pieces::{read_key, read_scalar};
@@ -61,8 +62,7 @@ pub(crate) fn read_text<'t>(
 ) -> Result<(Form<'t>, &'t str), ReadError>
     requires { length text.now ≤ length whole.now }
     ensures shorter { IfOk result (λ x. length x.1.now ≤ length text.now) }
-    ensures read { Gives (λ x. (form_view x.0, x.1.now)) result
-        (reading.placed_text flow spaces (length whole.now) text.now) }
+    ensures read { GivesCore result (placed_text flow spaces (length whole.now) text.now) }
     ensures fault { IfErr result IsOfText }
 {
     let (piece, rest) = read_scalar(flow, spaces, whole, text)?;
@@ -85,8 +85,7 @@ pub(crate) fn read_entry_key<'t>(
 ) -> Result<(String, Piece, &'t str), ReadError>
     requires { length text.now ≤ length whole.now }
     ensures shorter { IfOk result (λ x. length x.2.now < length text.now) }
-    ensures read { Gives (λ x. ((string_bytes x.0, x.1), x.2.now)) result
-        (reading.placed_key (length whole.now) text.now) }
+    ensures read { GivesKey result (placed_key (length whole.now) text.now) }
     ensures fault { IfErr result IsOfText }
 {
     let (piece, rest) = read_key(whole, open, text)?;

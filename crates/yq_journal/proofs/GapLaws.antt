@@ -1,7 +1,7 @@
 -- Pieces before and after a cursor, as bytes go over it and are exchanged there.
 use Rattle.std.proofs.Common.{◌≡◌, ◌≢◌, ℕ, ◌+◌, ◌≤◌, ◌<◌, List, [], ◌∷◌, ◌++◌, length, take, drop, refl, sym, ap, ◌∙◌, arith, append_assoc}
-use Rattle.std.{proofs.Common.{append-nil, ◌-◌, length-drop, take_all, Bor, length-append, Some, None, rules}, specs.Prelude.{◌↔◌, reverse}}
-use Rattle.std.{proofs.lemmas.Grind.common_steps, proofs.Math.Seq.{drop-append_seam, take-append_seam}}
+use Rattle.std.{proofs.Common.{append-nil, ◌-◌, length-drop, take_all, Bor, length-append, Some, None}, specs.Prelude.{◌↔◌, reverse}}
+use Rattle.std.proofs.Math.Seq.{drop-append_seam, take-append_seam}
 use Rattle.std.proofs.lemmas.List.{length-take-le, reverse-append, take-append-drop, take-append-le}
 use Rattle.yq_text.{specs.Splice.{Splice, Exchanges, change_done}, proofs.SpliceLaws.{done-from_exchanges, exchanges-from_done}}
 use Rattle.yq_journal.specs.ByteGapBuffer.{forward_bytes, backward_bytes, splice_of_parts}

@@ -1,7 +1,7 @@
 -- Sixteen bytes of a text at once, and what a text without special bytes is in a string of JSON.
-use Rattle.std.proofs.Common.{◌≡◌, ◌==◌, ◌||◌, ◌<◌, ◌≤◌, ◌+◌, ◌%◌, ◌^◌, ℕ, suc, List, [], ◌∷◌, ◌++◌, Bool, true, false, cond, eqb, ltb, leb}
-use Rattle.std.proofs.Common.{nat_lt, true≢false, length, get_or, map, replicate, IsTrue, refl, sym, ap, ap₂, ◌∙◌, arith}
-use Rattle.std.{specs.Bool.OnTrue, proofs.lemmas.Bool.{eqb-true, eqb-false, ltb-false, or_parts}, proofs.lemmas.List.length-map}
+use Rattle.std.proofs.Common.{◌≡◌, ◌==◌, ◌||◌, ◌≤◌, ◌+◌, ◌%◌, ◌^◌, ℕ, suc, List, [], ◌∷◌, ◌++◌, Bool, true, false, cond, eqb, ltb, leb}
+use Rattle.std.{proofs.Common.{nat_lt, true≢false, length, map, replicate, IsTrue, refl, sym, ap, ap₂, ◌∙◌, arith}, specs.Bool.OnTrue}
+use Rattle.std.{proofs.lemmas.Bool.{eqb-true, eqb-false, ltb-false, or_parts}, proofs.lemmas.List.length-map}
 use Rattle.std.proofs.lemmas.Simd.{length-chunk, mask_l-mod, none_from_empty_mask, zip2_of_maps, zip2_splat, zip2_splat_left}
 use lib.Bits.{bit_or}
 use lib.Lanes.{chunk, mask_l, top, zip2}

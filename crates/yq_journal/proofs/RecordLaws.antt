@@ -1,9 +1,8 @@
 -- What a record does to a text is undone, and what was undone is done again.
 use Rattle.std.proofs.Common.{◌≡◌, ◌==◌, ℕ, ◌-◌, ◌≤◌, ◌<◌, List, [], ◌∷◌, ◌++◌, length, take, Option, Some, None, sym, ap, ◌∙◌, arith}
-use Rattle.std.{proofs.Common.{if◌then◌else◌, eq-eqb, get_or, rules}, specs.Prelude.option_and_then, proofs.lemmas.Bool.eqb-true}
-use Rattle.std.{proofs.lemmas.Grind.common_steps, proofs.lemmas.Option.cond_some}
-use Rattle.yq_text.specs.Splice.{Splice, swapped, change_done, all_done, flipped}
-use Rattle.yq_text.proofs.SpliceLaws.{taken_back, done_again, flipped-append}
+use Rattle.std.{proofs.Common.{if◌then◌else◌, eq-eqb, get_or, rules}, proofs.lemmas.Bool.eqb-true, proofs.lemmas.Grind.common_steps}
+use Rattle.std.proofs.lemmas.Option.{cond_some}
+use Rattle.yq_text.{specs.Splice.{Splice, swapped, all_done, flipped}, proofs.SpliceLaws.{taken_back, done_again, flipped-append}}
 use Rattle.yq_journal.specs.Record.{Record, if_length, done, undone}
 
 -- what a record that applies says of the two texts

@@ -4,7 +4,7 @@ use Rattle.yq_journal.specs.declared.fault.JournalFault.{JournalFault}
 use Rattle.yq_journal.specs.declared.fault.JournalFault.TheVariants.{NothingToUndo, NothingToRedo, JournalFull, BadCount}
 use Rattle.yq_journal.{specs.declared.moves.Move.Move, specs.declared.moves.Move.TheVariants.{Edit, Undo, Redo}}
 use Rattle.yq_journal.{specs.History.{History, Revision, text_at, after_edit, after_undo, after_redo}, specs.Record.{Record, done}}
-use Rattle.yq_journal.{specs.Json.journal_in, specs.Refusals.most_records, specs.State.{State, Pending, empty_state, moved_text}}
+use Rattle.yq_journal.{specs.Json.journal_in, specs.Refusals.most_records, specs.State.{State, Pending, empty_state, moved_text, MovesTo}}
 
 -- each record leads from a text to the next, and has its expression (own)
 abbrev pub Leads : List ℕ → List Record → List Revision → Type 0
@@ -84,3 +84,11 @@ pub record PairHolds (file journal : Option (List ℕ)) (h : History) : Type 0 w
 abbrev pub Good : Option (List ℕ) → Option (List ℕ) → Option History → Type 0
 Good file journal None = file ≡ None
 Good file journal (Some h) = PairHolds file journal h
+
+-- this holds of every journal at rest with a history beside a text (own)
+abbrev pub AllAtRest : (State → List ℕ → History → Type 0) → Type 0
+AllAtRest P = (s : State) (t : List ℕ) (h : History) → AtRest s t h → P s t h
+
+-- this holds of every journal at rest with a history beside a text, and a move that leads on from there to another text (own)
+abbrev pub AllMoves : (State → History → List ℕ → List ℕ → Move → Type 0) → Type 0
+AllMoves P = (s : State) (h : History) (t u : List ℕ) (step : Move) → AtRest s t h → MovesTo s step t u → P s h t u step

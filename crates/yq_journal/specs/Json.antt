@@ -11,6 +11,12 @@ unfoldable pub use Rattle.yq_journal.specs.RecordJson.{splice_of, record_of}
 
 -- ---- an open move
 
+-- the kind of a move (own)
+abbrev pub kind_text : Move → List ℕ
+kind_text (Edit r) = codes "edit"
+kind_text Undo = codes "undo"
+kind_text Redo = codes "redo"
+
 -- the move of a kind that has no record (own)
 abbrev pub bare_move : List ℕ → Option Move
 bare_move kind = if bytes_eq kind (codes "undo") then Some Undo else if bytes_eq kind (codes "redo") then Some Redo else None
@@ -21,6 +27,10 @@ move_of counted kind d =
     if bytes_eq kind (codes "edit") then option_map Edit (record_of counted d)
     else if is_some (as_null d) then bare_move kind
     else None
+
+-- the move that is meant where a move of this kind is written (own)
+abbrev pub move_again : Move → Data → Option Move
+move_again step = move_of true (kind_text step)
 
 -- an open move of these parts (own)
 abbrev pub open_from : Option Move → Option (List ℕ) → Option Pending
@@ -70,18 +80,16 @@ state_of counted d = state_from (number_at (codes "at") d) (option_and_then (pen
 unfoldable pub journal_of : Data → Option State
 journal_of d = if has_keys 4 d then option_and_then (λ counted. state_of counted d) (option_and_then has_count (number_at (codes "version") d)) else None
 
+-- the value that bytes are: UTF-8 of a JSON text (RFC 8259)
+abbrev pub json_value : List ℕ → Option Data
+json_value bs = if is_utf8 bs then read bs else None
+
 -- the journal that bytes are: UTF-8 of a JSON text whose value is one; of equal keys the last one counts, and at most 127 arrays and objects are nested
 -- (RFC 8259)
 abbrev pub journal_in : List ℕ → Option State
 journal_in bs = if is_utf8 bs then option_and_then journal_of (read bs) else None
 
 -- ---- what is written
-
--- the kind of a move (own)
-abbrev pub kind_text : Move → List ℕ
-kind_text (Edit r) = codes "edit"
-kind_text Undo = codes "undo"
-kind_text Redo = codes "redo"
 
 -- the record of a move, null where it has none (own)
 abbrev pub move_data : Move → Data

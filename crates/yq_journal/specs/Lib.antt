@@ -10,3 +10,4 @@ pub mod History
 pub mod Json
 pub mod RecordJson
 pub mod Added
+pub mod ListAnswers

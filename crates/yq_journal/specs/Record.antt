@@ -1,6 +1,6 @@
 -- What an edit did, as splices between two lengths, and what it is to do and to undo it.
 use Rattle.std.specs.Prelude.{◌≡◌, ◌==◌, ℕ, ◌+◌, ◌-◌, ◌^◌, ◌≤◌, ◌&&◌, Bool, true, false, List, [], ◌∷◌, ◌++◌, length, min, codes}
-use Rattle.std.specs.Prelude.{if◌then◌else◌, Option, Some, None}
+use Rattle.std.{specs.Prelude.{if◌then◌else◌, Option, Some, None, String, string_bytes, Vec}, specs.declared.alloc.Global.Global}
 use Rattle.yq_text.specs.Splice.{Splice, all_done, flipped, lengths_done}
 
 -- a record: an edit's expression, its splices, the lengths of the texts before and after it, and how many edits it means (own)
@@ -11,10 +11,24 @@ pub record Record : Type 0 where
   pub after_len : ℕ
   pub count : ℕ
 
+-- the record of an expression, splices, lengths and a count as the code has them (own)
+abbrev pub record_with : String Global → Vec Splice Global → ℕ → ℕ → ℕ → Record
+record_with expr splices before after count = record {
+  expr = string_bytes expr;
+  changes = splices.items;
+  before_len = before;
+  after_len = after;
+  count = count;
+}
+
 -- what holds of every record: it means an edit at least, and its splices lead from its one length to its other (own)
 pub record IsRecord (r : Record) : Type 0 where
   pub counted : 1 ≤ r.count
   pub lengths : lengths_done r.changes r.before_len ≡ Some r.after_len
+
+-- a record ends with the length with which the next one begins (own)
+abbrev pub Meets : Record → Record → Type 0
+Meets r next = r.after_len ≡ next.before_len
 
 -- whether it is the length that was reached (own)
 abbrev pub is_length : Option ℕ → ℕ → Bool

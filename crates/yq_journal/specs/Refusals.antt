@@ -1,6 +1,6 @@
 -- When a move or a squash is refused, and with which fault first.
-use Rattle.std.specs.Prelude.{◌≡◌, ◌≢◌, ◌==◌, ℕ, ◌≤◌, ◌&&◌, List, length, nat_le, if◌then◌else◌, Option, Some, None, is_some}
-use Rattle.std.specs.Option.{ForSome, option_or}
+use Rattle.std.specs.Prelude.{◌≡◌, ◌≢◌, ◌⊎◌, ◌==◌, ℕ, ◌≤◌, ◌&&◌, List, length, nat_le, if◌then◌else◌, Option, Some, None, is_some, IfErr}
+use Rattle.std.{specs.Prelude.{IsNone, Result}, specs.Option.{ForSome, option_or}}
 use Rattle.yq_journal.specs.declared.fault.JournalFault.{JournalFault}
 use Rattle.yq_journal.specs.declared.fault.JournalFault.TheVariants.{NothingToUndo, NothingToRedo, DoesNotStand, BadJournal, Unsettled}
 use Rattle.yq_journal.specs.declared.fault.JournalFault.TheVariants.{JournalFull, BadCount}
@@ -19,6 +19,14 @@ abbrev pub Reports : JournalError → Option JournalFault → Type 0
 Reports error.Memory fault = fault ≡ None
 Reports (error.Fault f) fault = fault ≡ Some f
 
+-- want of memory is reported only where this holds (own)
+abbrev pub MemoryOnlyIf : {T : Type 0} → Result T JournalError → Type 0 → Type 0
+MemoryOnlyIf r P = IfErr r (λ e. e ≡ error.Memory → P)
+
+-- an error is want of memory, or that a journal is beside another text, which is reported only where this holds (own)
+abbrev pub UnsettledOnlyIf : {T : Type 0} → Result T JournalError → Type 0 → Type 0
+UnsettledOnlyIf r P = IfErr r (λ e. (e ≡ error.Memory) ⊎ ((e ≡ error.Fault Unsettled) × P))
+
 -- how many records a journal may hold (own)
 abbrev pub most_records : ℕ
 most_records = 4096
@@ -28,6 +36,14 @@ abbrev pub no_way : List Record → ℕ → Move → Option JournalFault
 no_way records at (Edit r) = if nat_le most_records at then Some JournalFull else None
 no_way records at Undo = if at == 0 then Some NothingToUndo else None
 no_way records at Redo = if nat_le (length records) at then Some NothingToRedo else None
+
+-- a move has room, or a record to move over (own)
+abbrev pub HasWay : List Record → ℕ → Move → Type 0
+HasWay records at step = no_way records at step ≡ None
+
+-- no move is open, and this one has room, or a record to move over (own)
+abbrev pub MayBegin : State → Move → Type 0
+MayBegin s step = IsNone s.pending × HasWay s.records s.at step
 
 -- the fault of a move that leads nowhere (own)
 abbrev pub if_moves : Option (List ℕ) → Option JournalFault
@@ -39,13 +55,21 @@ abbrev pub if_journal : Option State → Option JournalFault
 if_journal None = Some BadJournal
 if_journal (Some s) = None
 
+-- the fault of a move over records that leads nowhere from a text (own)
+abbrev pub lead_fault : List Record → ℕ → Move → List ℕ → Option JournalFault
+lead_fault records at step t = if_moves (moved_text records at step t)
+
 -- the first fault of a move on a text, where no move is open (own)
 abbrev pub way_fault : List Record → ℕ → Move → List ℕ → Option JournalFault
-way_fault records at step t = option_or (no_way records at step) (if_moves (moved_text records at step t))
+way_fault records at step t = option_or (no_way records at step) (lead_fault records at step t)
+
+-- the same, of the records of a journal at its cursor (own)
+abbrev pub fault_at_rest : State → Move → List ℕ → Option JournalFault
+fault_at_rest s step t = way_fault s.records s.at step t
 
 -- the first fault of a move on a text (own)
 abbrev pub move_fault : State → Move → List ℕ → Option JournalFault
-move_fault s step t = if is_some s.pending then Some Unsettled else way_fault s.records s.at step t
+move_fault s step t = if is_some s.pending then Some Unsettled else fault_at_rest s step t
 
 -- the first fault of a record that is pushed (own)
 abbrev pub push_fault : State → Record → Option JournalFault

@@ -1,6 +1,7 @@
 -- What a journal holds, and its moves.
-use Rattle.std.specs.Prelude.{◌==◌, ℕ, ◌+◌, ◌-◌, Bool, false, List, [], ◌∷◌, ◌++◌, take, drop, if◌then◌else◌, Option, Some, None}
-use Rattle.std.{specs.Prelude.{option_and_then, slice_get}, specs.Str.bytes_eq}
+use Rattle.std.specs.Prelude.{◌≡◌, ◌==◌, ℕ, ◌+◌, ◌-◌, Bool, false, List, [], ◌∷◌, ◌++◌, take, drop, if◌then◌else◌, Option, Some, None}
+use Rattle.std.{specs.Prelude.{option_and_then, slice_get, IfOk, IfSome, Result, Vec}, specs.Str.bytes_eq}
+use Rattle.std.specs.declared.alloc.Global.{Global}
 use Rattle.yq_journal.{specs.declared.moves.Move.Move, specs.declared.moves.Move.TheVariants.{Edit, Undo, Redo}}
 use Rattle.yq_journal.specs.Record.{Record, done, undone, records_joined}
 
@@ -76,3 +77,31 @@ squashed s n = record {
 -- a journal of these parts (own)
 abbrev pub state : List Record → ℕ → Option Pending → State
 state records at pending = record { records = records; at = at; pending = pending }
+
+-- the records and the cursor of a journal with no open move (own)
+abbrev pub settled_state : Vec Record Global → ℕ → State
+settled_state records at = state records.items at None
+
+-- the journal that a move makes of such a one (own)
+abbrev pub moved_state : Vec Record Global → ℕ → Move → State
+moved_state records at step = journal_after (settled_state records at) step
+
+-- records and a cursor are the ones they were (own)
+abbrev pub AreKept : (old new : Vec Record Global) → (old_at new_at : ℕ) → Type 0
+AreKept old new old_at new_at = (new.items ≡ old.items) × (new_at ≡ old_at)
+
+-- a move of a journal leads from a text to another (own)
+abbrev pub MovesTo : State → Move → List ℕ → List ℕ → Type 0
+MovesTo s step t u = moved_text s.records s.at step t ≡ Some u
+
+-- an answer is the text to which a move of a journal leads, or an error (own)
+abbrev pub GivesMoved : {E : Type 0} → Result (Vec ℕ Global) E → State → Move → List ℕ → Type 0
+GivesMoved r s step t = IfOk r (λ v. MovesTo s step t v.items)
+
+-- a move over records from a cursor leads from a text to no such text (own)
+abbrev pub LeadsElsewhere : List Record → ℕ → Move → List ℕ → List ℕ → Type 0
+LeadsElsewhere records at step from t = is_reached (moved_text records at step from) t ≡ false
+
+-- the open move of a journal, if it has one, leads to a text (own)
+abbrev pub OpenLeads : State → List ℕ → Type 0
+OpenLeads s t = IfSome s.pending (λ p. MovesTo s p.step p.from t)

@@ -1,7 +1,8 @@
 //! A gap buffer of bytes in pieces, where splices are done in turn.
-ghost use Rattle.std.specs.Prelude.{◌≡◌, ◌≢◌, ◌+◌, ◌≤◌, ◌++◌, None, Some, IsTrue, IfOk, OnOk, length, if◌then◌else◌, option_map};
-ghost use Rattle.yq_journal.{specs.ByteGapBuffer.{HasCursor, buffer_bytes, splice_of_parts}, specs.Turned.flipped_if};
-ghost use Rattle.yq_text.specs.Splice.{all_done, change_done, flipped, length_done, lengths_done};
+ghost use Rattle.std.specs.Prelude.{◌≡◌, ◌≢◌, ◌+◌, ◌≤◌, None, IsTrue, IfOk, OnOk, length};
+ghost use Rattle.yq_journal.specs.ByteGapBuffer.{HasCursor, buffer_bytes, LieIn, exchanged_at, Reaches};
+ghost use Rattle.yq_journal.{specs.Turned.{flipped_if, ArePartedInto}, specs.ListAnswers.GivesItems};
+ghost use Rattle.yq_text.specs.Splice.{all_done, flipped, lengths_done};
 
 mod pieces;
 
@@ -70,10 +71,8 @@ impl<'t> ByteGapBuffer<'t> {
     /// Puts the new bytes in the place of the old ones, where these are at the offset.
     fn exchange(&mut self, at: usize, old: &[u8], new: &'t [u8]) -> Result<bool, AllocError>
         requires placed { HasCursor self.old }
-        requires lies { length_done (splice_of_parts at old.now new.now)
-            (length (buffer_bytes self.old)) ≢ None }
-        ensures done { IfOk result (λ done. (if done then Some (buffer_bytes self.new) else None) ≡
-            change_done (splice_of_parts at old.now new.now) (buffer_bytes self.old)) }
+        requires lies { LieIn at old.now new.now (buffer_bytes self.old) }
+        ensures done { Reaches result self.new (exchanged_at at old.now new.now (buffer_bytes self.old)) }
         ensures placed { IfOk result (λ done. IsTrue done → HasCursor self.new) }
     {
         self.seek(at)?;
@@ -89,8 +88,7 @@ impl<'t> ByteGapBuffer<'t> {
     fn do_all(&mut self, splices: &'t [Splice]) -> Result<bool, AllocError>
         requires placed { HasCursor self.old }
         requires lie { lengths_done splices.now (length (buffer_bytes self.old)) ≢ None }
-        ensures { IfOk result (λ done. (if done then Some (buffer_bytes self.new) else None) ≡
-            all_done splices.now (buffer_bytes self.old)) }
+        ensures { Reaches result self.new (all_done splices.now (buffer_bytes self.old)) }
     {
         'splices: for splice in splices {
             if !self.exchange(splice.at as usize, &splice.old, &splice.new)? {
@@ -104,8 +102,7 @@ impl<'t> ByteGapBuffer<'t> {
     fn undo_all(&mut self, splices: &'t [Splice]) -> Result<bool, AllocError>
         requires placed { HasCursor self.old }
         requires lie { lengths_done (flipped splices.now) (length (buffer_bytes self.old)) ≢ None }
-        ensures { IfOk result (λ done. (if done then Some (buffer_bytes self.new) else None) ≡
-            all_done (flipped splices.now) (buffer_bytes self.old)) }
+        ensures { Reaches result self.new (all_done (flipped splices.now) (buffer_bytes self.old)) }
     {
         let mut left = splices.len();
         'splices: while left > 0 {
@@ -143,8 +140,7 @@ fn few_spliced(
     text: &[u8],
 ) -> Result<Option<Vec<u8>>, AllocError>
     requires { lengths_done (flipped_if back splices.now) (length text.now) ≢ None }
-    ensures { IfOk result (λ o. option_map (λ v. v.items) o ≡
-        all_done (flipped_if back splices.now) text.now) }
+    ensures { GivesItems result (all_done (flipped_if back splices.now) text.now) }
 {
     let mut gap = ByteGapBuffer::new(alloc, text)?;
     let done = if back {
@@ -161,8 +157,7 @@ fn few_spliced(
 /// So many of the splices that come first, as they are done or taken back, and the others.
 fn parted(splices: &[Splice], back: bool, count: usize) -> (&[Splice], &[Splice])
     requires { count ≤ length splices.now }
-    ensures parts { flipped_if back splices.entry.now ≡
-        flipped_if back result.0.now ++ flipped_if back result.1.now }
+    ensures parts { ArePartedInto back splices.entry.now result.0.now result.1.now }
     ensures shorter { length result.1.now + count ≡ length splices.entry.now }
 {
     if back {
@@ -181,8 +176,7 @@ pub(crate) fn spliced(
     text: &[u8],
 ) -> Result<Option<Vec<u8>>, AllocError>
     requires { lengths_done (flipped_if back splices.now) (length text.now) ≢ None }
-    ensures { IfOk result (λ o. option_map (λ v. v.items) o ≡
-        all_done (flipped_if back splices.now) text.now) }
+    ensures { GivesItems result (all_done (flipped_if back splices.now) text.now) }
 {
     let (first, mut others) = parted(splices, back, splices.len().min(SPLICES_OF_A_TEXT));
     let Some(mut reached) = few_spliced(alloc, first, back, text)? else {

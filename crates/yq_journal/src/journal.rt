@@ -1,7 +1,7 @@
 //! The journal: records, a cursor, and perhaps an open move.
-ghost use Rattle.std.specs.Prelude.{◌≡◌, ◌<◌, None, Some, IfOk, IfErr, OnOk, OnErr, IsNone, length, slice_get};
-ghost use Rattle.yq_journal.specs.Refusals.{ErrorIs, Reports, move_fault, no_way, push_fault, squash_fault, way_fault};
-ghost use Rattle.yq_journal.specs.State.{empty_state, journal_after, moved_text, squashed};
+ghost use Rattle.std.specs.Prelude.{◌≡◌, ◌<◌, None, Some, IfErr, OnOk, OnErr, length, slice_get};
+ghost use Rattle.yq_journal.specs.Refusals.{ErrorIs, Reports, move_fault, push_fault, squash_fault, MemoryOnlyIf, HasWay, MayBegin};
+ghost use Rattle.yq_journal.{specs.Refusals.fault_at_rest, specs.State.{empty_state, journal_after, squashed, GivesMoved}};
 
 use crate::squash::{join_last, replace_run};
 use crate::ways::target;
@@ -106,12 +106,10 @@ impl Journal {
     /// `NothingToUndo`, as `DoesNotStand`.
     pub fn undo(&mut self, text: &[u8]) -> Result<Vec<u8>, JournalError>
         ensures free { OnOk result (move_fault self.old Move.Undo text.now ≡ None) }
-        ensures ok { IfOk result (λ v. moved_text self.old.records self.old.at Move.Undo text.now ≡
-            Some v.items) }
+        ensures ok { GivesMoved result self.old Move.Undo text.now }
         ensures moved { OnOk result (self.new ≡ journal_after self.old Move.Undo) }
         ensures fault { IfErr result (λ e. ErrorIs e (move_fault self.old Move.Undo text.now)) }
-        ensures memory { IfErr result (λ e. e ≡ JournalError.Memory →
-            IsNone self.old.pending × (no_way self.old.records self.old.at Move.Undo ≡ None)) }
+        ensures memory { MemoryOnlyIf result (MayBegin self.old Move.Undo) }
         ensures err { OnErr result (self.new ≡ self.old) }
     {
         if self.open.is_some() {
@@ -127,12 +125,10 @@ impl Journal {
     /// `NothingToRedo`, as `DoesNotStand`.
     pub fn redo(&mut self, text: &[u8]) -> Result<Vec<u8>, JournalError>
         ensures free { OnOk result (move_fault self.old Move.Redo text.now ≡ None) }
-        ensures ok { IfOk result (λ v. moved_text self.old.records self.old.at Move.Redo text.now ≡
-            Some v.items) }
+        ensures ok { GivesMoved result self.old Move.Redo text.now }
         ensures moved { OnOk result (self.new ≡ journal_after self.old Move.Redo) }
         ensures fault { IfErr result (λ e. ErrorIs e (move_fault self.old Move.Redo text.now)) }
-        ensures memory { IfErr result (λ e. e ≡ JournalError.Memory →
-            IsNone self.old.pending × (no_way self.old.records self.old.at Move.Redo ≡ None)) }
+        ensures memory { MemoryOnlyIf result (MayBegin self.old Move.Redo) }
         ensures err { OnErr result (self.new ≡ self.old) }
     {
         if self.open.is_some() {
@@ -147,13 +143,10 @@ impl Journal {
     /// last: as `JournalFull`, as `NothingToUndo` or `NothingToRedo`, as
     /// `DoesNotStand`.
     pub fn target(&self, alloc: Global, step: &Move, text: &[u8]) -> Result<Vec<u8>, JournalError>
-        ensures ok { IfOk result (λ v. moved_text self.now.records self.now.at step.now text.now ≡
-            Some v.items) }
-        ensures free { OnOk result (way_fault self.now.records self.now.at step.now text.now ≡ None) }
-        ensures err { IfErr result (λ e. ErrorIs e (way_fault self.now.records self.now.at step.now
-            text.now)) }
-        ensures memory { IfErr result (λ e. e ≡ JournalError.Memory →
-            no_way self.now.records self.now.at step.now ≡ None) }
+        ensures ok { GivesMoved result self.now step.now text.now }
+        ensures free { OnOk result (fault_at_rest self.now step.now text.now ≡ None) }
+        ensures err { IfErr result (λ e. ErrorIs e (fault_at_rest self.now step.now text.now)) }
+        ensures memory { MemoryOnlyIf result (HasWay self.now.records self.now.at step.now) }
     {
         target(alloc, &self.records, self.at, step, text)
     }

@@ -1,27 +1,23 @@
 //! Laws: what a journal's moves are for a history of whole texts.
-ghost use Rattle.std.specs.Prelude.{◌≡◌, ◌≢◌, ◌≤◌, ℕ, List, None, Some, length};
-ghost use Rattle.yq_journal.specs.Good.{AtRest, Describes, Rests, after_move, squash_refusal, step_fault};
-ghost use Rattle.yq_journal.{specs.History.{History, after_squash}, specs.Record.{Record, done}, specs.Refusals.{squash_fault, way_fault}};
-ghost use Rattle.yq_journal.specs.State.{State, journal_after, moved_text, with_move, settled_beside, squashed};
-ghost use Rattle.yq_journal.{specs.declared.moves.Move.Move, specs.declared.moves.Move.TheVariants.{Edit, Redo, Undo}};
+ghost use Rattle.std.specs.Prelude.{◌≡◌, ◌≢◌, ◌≤◌, List, None, Some, length, ℕ};
+ghost use Rattle.yq_journal.specs.Good.{AtRest, Describes, Rests, after_move, squash_refusal, step_fault, AllAtRest, AllMoves};
+ghost use Rattle.yq_journal.{specs.History.{History, after_squash}, specs.Record.{Record, done}};
+ghost use Rattle.yq_journal.specs.Refusals.{squash_fault, way_fault, fault_at_rest};
+ghost use Rattle.yq_journal.specs.State.{State, journal_after, with_move, settled_beside, squashed};
+ghost use Rattle.yq_journal.specs.declared.moves.Move.TheVariants.{Edit, Redo, Undo};
 
 /// A move that applies makes of a journal and its history the ones after it,
 /// also where it leaves the text equal.
 pub fn moves_go_on()
-    ensures { (s : State) (h : History) (t u : List ℕ) (step : Move) → AtRest s t h →
-        moved_text s.records s.at step t ≡ Some u →
-        AtRest (journal_after s step) u (after_move h step u) }
+    ensures { AllMoves (λ s h t u m. AtRest (journal_after s m) u (after_move h m u)) }
 {}
 
 /// With a move open that changes the text, the journal describes the history
 /// before it beside the old text, and the one after it beside the new text.
 #[tactic(auto, using(crate::proofs::GoodLaws::open_before, crate::proofs::GoodLaws::open_after))]
 pub fn open_moves_describe()
-    ensures before { (s : State) (h : History) (t u : List ℕ) (step : Move) → AtRest s t h →
-        moved_text s.records s.at step t ≡ Some u → u ≢ t → Describes (with_move s step t) t h }
-    ensures after { (s : State) (h : History) (t u : List ℕ) (step : Move) → AtRest s t h →
-        moved_text s.records s.at step t ≡ Some u → u ≢ t →
-        Describes (with_move s step t) u (after_move h step u) }
+    ensures before { AllMoves (λ s h t u m. u ≢ t → Describes (with_move s m t) t h) }
+    ensures after { AllMoves (λ s h t u m. u ≢ t → Describes (with_move s m t) u (after_move h m u)) }
 {}
 
 /// A journal that describes a history is settled beside its text, never
@@ -36,10 +32,8 @@ pub fn settling_rests()
 /// it: an undo or a redo always applies where there is one.
 #[tactic(auto, using(crate::proofs::GoodLaws::undo_fault, crate::proofs::GoodLaws::redo_fault, crate::proofs::GoodLaws::edit_fault))]
 pub fn faults_are_of_history()
-    ensures undo { (s : State) (t : List ℕ) (h : History) → AtRest s t h →
-        way_fault s.records s.at Undo t ≡ step_fault h Undo }
-    ensures redo { (s : State) (t : List ℕ) (h : History) → AtRest s t h →
-        way_fault s.records s.at Redo t ≡ step_fault h Redo }
+    ensures undo { AllAtRest (λ s t h. fault_at_rest s Undo t ≡ step_fault h Undo) }
+    ensures redo { AllAtRest (λ s t h. fault_at_rest s Redo t ≡ step_fault h Redo) }
     ensures edit { (s : State) (t u : List ℕ) (h : History) (r : Record) → AtRest s t h →
         done r t ≡ Some u → way_fault s.records s.at (Edit r) t ≡ step_fault h (Edit r) }
     ensures squash { (s : State) (t : List ℕ) (h : History) (n : ℕ) → s.pending ≡ None →

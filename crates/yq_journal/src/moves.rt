@@ -1,6 +1,7 @@
 //! Moves over the records of a journal.
-ghost use Rattle.std.specs.Prelude.{◌≡◌, ◌⊎◌, ◌≤◌, None, Some, OnOk, IfOk, IfErr, false, length};
-ghost use Rattle.yq_journal.{specs.Refusals.{ErrorIs, if_moves, no_way}, specs.State.{is_reached, journal_after, moved_text, state}};
+ghost use Rattle.std.specs.Prelude.{◌≡◌, ◌≤◌, None, Some, OnOk, IfOk, IfErr, length};
+ghost use Rattle.yq_journal.specs.Refusals.{ErrorIs, no_way, UnsettledOnlyIf, lead_fault};
+ghost use Rattle.yq_journal.specs.State.{moved_text, settled_state, AreKept, LeadsElsewhere, moved_state};
 
 use crate::fault::{JournalError, JournalFault};
 use crate::record::{Record, redo_record, undo_record};
@@ -29,8 +30,7 @@ pub fn lead(
     text: &[u8],
 ) -> Result<Vec<u8>, JournalError>
     ensures ok { IfOk result (λ v. moved_text records.now at step.now text.now ≡ Some v.items) }
-    ensures err { IfErr result (λ e. ErrorIs e (if_moves (moved_text records.now at step.now
-        text.now))) }
+    ensures err { IfErr result (λ e. ErrorIs e (lead_fault records.now at step.now text.now)) }
 {
     let fault = JournalError::Fault(JournalFault::DoesNotStand);
     match step {
@@ -61,9 +61,7 @@ pub fn leads_to(
     text: &[u8],
 ) -> Result<(), JournalError>
     ensures ok { OnOk result (moved_text records.now at step.now from.now ≡ Some text.now) }
-    ensures err { IfErr result (λ e. (e ≡ JournalError.Memory) ⊎
-        ((e ≡ JournalError.Fault JournalFault.Unsettled) ×
-        (is_reached (moved_text records.now at step.now from.now) text.now ≡ false))) }
+    ensures err { UnsettledOnlyIf result (LeadsElsewhere records.now at step.now from.now text.now) }
 {
     match lead(alloc, records, at, step, from) {
         Ok(patched) if patched.as_slice() == text => Ok(()),
@@ -76,10 +74,8 @@ pub fn leads_to(
 pub fn make(records: &mut Vec<Record>, at: &mut usize, step: Move) -> Result<(), Move>
     requires within { at.old ≤ length records.old.items }
     requires room { no_way records.old.items at.old step ≡ None }
-    ensures ok { OnOk result (state records.new.items at.new None ≡
-        journal_after (state records.old.items at.old None) step) }
-    ensures err { IfErr result (λ back. (back ≡ step) × (records.new.items ≡ records.old.items) ×
-        (at.new ≡ at.old)) }
+    ensures ok { OnOk result (settled_state records.new at.new ≡ moved_state records.old at.old step) }
+    ensures err { IfErr result (λ back. (back ≡ step) × AreKept records.old records.new at.old at.new) }
     ensures within { at.new ≤ length records.new.items }
     ensures limit { length records.old.items ≤ MAX_RECORDS →
         length records.new.items ≤ MAX_RECORDS }

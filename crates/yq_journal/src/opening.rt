@@ -1,6 +1,7 @@
 //! The open move of a journal: opened on a text, and settled beside it or the text to which it leads.
-ghost use Rattle.std.specs.Prelude.{◌≡◌, ◌≢◌, ◌⊎◌, None, Some, IfErr, IfSome, OnOk, OnErr, IsNone, IsOk};
-ghost use Rattle.yq_journal.{specs.Refusals.{ErrorIs, move_fault, no_way}, specs.State.{moved_text, with_move, settled_beside}};
+ghost use Rattle.std.specs.Prelude.{◌≡◌, ◌≢◌, None, Some, IfErr, OnOk, OnErr, IsNone, IsOk};
+ghost use Rattle.yq_journal.specs.Refusals.{ErrorIs, move_fault, MemoryOnlyIf, UnsettledOnlyIf, MayBegin};
+ghost use Rattle.yq_journal.specs.State.{moved_text, with_move, settled_beside, OpenLeads};
 
 use crate::journal::{Journal, Open};
 use crate::ways::check_way;
@@ -11,8 +12,7 @@ impl Journal {
     fn check_start(&self, step: &Move, text: &[u8]) -> Result<(), JournalError>
         ensures free { OnOk result (move_fault self.now step.now text.now ≡ None) }
         ensures fault { IfErr result (λ e. ErrorIs e (move_fault self.now step.now text.now)) }
-        ensures memory { IfErr result (λ e. e ≡ JournalError.Memory →
-            IsNone self.now.pending × (no_way self.now.records self.now.at step.now ≡ None)) }
+        ensures memory { MemoryOnlyIf result (MayBegin self.now step.now) }
     {
         if self.open.is_some() {
             return Err(JournalError::Fault(JournalFault::Unsettled));
@@ -29,8 +29,7 @@ impl Journal {
         ensures free { OnOk result (move_fault self.old step text.now ≡ None) }
         ensures ok { OnOk result (self.new ≡ with_move self.old step text.now) }
         ensures fault { IfErr result (λ e. ErrorIs e.1 (move_fault self.old step text.now)) }
-        ensures memory { IfErr result (λ e. e.1 ≡ JournalError.Memory →
-            IsNone self.old.pending × (no_way self.old.records self.old.at step ≡ None)) }
+        ensures memory { IfErr result (λ e. e.1 ≡ JournalError.Memory → MayBegin self.old step) }
         ensures err { IfErr result (λ e. (e.0 ≡ step) × (self.new ≡ self.old)) }
     {
         if let Err(error) = self.check_start(&step, text) {
@@ -52,8 +51,7 @@ impl Journal {
         ensures free { OnOk result (move_fault self.old step text.items ≡ None) }
         ensures ok { OnOk result (self.new ≡ with_move self.old step text.items) }
         ensures fault { IfErr result (λ e. ErrorIs e (move_fault self.old step text.items)) }
-        ensures memory { IfErr result (λ e. e ≡ JournalError.Memory →
-            IsNone self.old.pending × (no_way self.old.records self.old.at step ≡ None)) }
+        ensures memory { MemoryOnlyIf result (MayBegin self.old step) }
         ensures err { OnErr result (self.new ≡ self.old) }
     {
         self.check_start(&step, &text)?;
@@ -68,9 +66,7 @@ impl Journal {
     pub fn settle(&mut self, text: &[u8]) -> Result<(), JournalError>
         ensures ok { OnOk result (settled_beside self.old text.now ≡ Some self.new) }
         ensures at_rest { IsNone self.old.pending → IsOk result }
-        ensures fault { IfErr result (λ e. (e ≡ JournalError.Memory) ⊎
-            ((e ≡ JournalError.Fault JournalFault.Unsettled) ×
-            (settled_beside self.old text.now ≡ None))) }
+        ensures fault { UnsettledOnlyIf result (settled_beside self.old text.now ≡ None) }
         ensures err { OnErr result (self.new ≡ self.old) }
     {
         let Some(held) = &self.open else {
@@ -94,8 +90,7 @@ impl Journal {
     /// Finishes an open move of which it is known that it leads to this text, as [`Journal::settle`]
     /// does beside it, which makes that text once more and compares it.
     pub fn finish(&mut self, _text: &[u8]) -> Result<(), JournalError>
-        requires { IfSome self.old.pending (λ p. moved_text self.old.records self.old.at p.step
-            p.from ≡ Some _text.now) }
+        requires { OpenLeads self.old _text.now }
         ensures ok { OnOk result (settled_beside self.old _text.now ≡ Some self.new) }
         ensures fault { IfErr result (λ e. e ≡ JournalError.Memory) }
         ensures err { OnErr result (self.new ≡ self.old) }

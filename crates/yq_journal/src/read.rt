@@ -1,7 +1,7 @@
 //! A journal from its text.
-ghost use Rattle.std.{specs.Prelude.{◌≡◌, None, Some, IfOk, IfErr, option_map, if◌then◌else◌}, specs.Str.is_utf8};
-ghost use Rattle.serde_json.{specs.Read.read, specs.View.view};
-ghost use Rattle.yq_journal.{specs.Refusals.{ErrorIs, if_journal}, specs.State.state};
+ghost use Rattle.std.specs.Prelude.{◌≡◌, Some, IfOk, IfErr, option_map};
+ghost use Rattle.serde_json.specs.View.{view};
+ghost use Rattle.yq_journal.{specs.Refusals.{ErrorIs, if_journal}, specs.State.state, specs.Json.json_value};
 ghost use Rattle.yq_journal.specs.Json as spec;
 
 pub(crate) mod edits;
@@ -85,8 +85,7 @@ fn journal(alloc: Global, value: &Value) -> Result<Option<Journal>, AllocError>
 
 /// The value that a JSON text in UTF-8 is.
 fn value_of(alloc: Global, bytes: &[u8]) -> Result<Option<Value>, AllocError>
-    ensures { IfOk result (λ o. option_map view o ≡ (if is_utf8 bytes.now then read bytes.now else
-        None)) }
+    ensures { IfOk result (λ o. option_map view o ≡ json_value bytes.now) }
 {
     match Value::from_slice(alloc, bytes) {
         Ok(value) => Ok(Some(value)),

@@ -1,7 +1,7 @@
 //! A record of an edit, and what it does to a text.
-ghost use Rattle.std.{specs.Prelude.{◌≡◌, ◌↔◌, ℕ, List, Some, IfOk, IfErr}, specs.String.string_bytes};
+ghost use Rattle.std.{specs.Prelude.{◌≡◌, ◌↔◌, List, Some, IfOk, IfErr, ℕ}, specs.String.string_bytes};
 ghost use Rattle.yq_text.specs.Splice.{lengths_done};
-ghost use Rattle.yq_journal.{specs.Record.{Record, done, undone}, specs.Refusals.{ErrorIs, if_moves}};
+ghost use Rattle.yq_journal.{specs.Record.{Record, done, undone, record_with}, specs.Refusals.{ErrorIs, if_moves}, specs.Added.HoldsParts};
 
 use crate::fault::{JournalError, JournalFault};
 use crate::gap::spliced;
@@ -25,20 +25,13 @@ pub struct Record {
 
 impl Model for Record {
     ghost use Rattle.std.specs.String.{string_bytes};
-    ghost use Rattle.yq_journal.{specs.Added.HoldsRecord, specs.Record.Record};
+    ghost use Rattle.yq_journal.{specs.Added.HoldsParts, specs.Record.Record};
 
     ghost Value = { Record };
 
     ghost view = { λ r. record { expr = string_bytes r.expr; changes = r.splices.items; before_len = r.before_len; after_len = r.after_len; count = r.count } };
 
-    ghost invariant = { λ r. HoldsRecord (record {
-      expr = string_bytes r.expr;
-      changes =
-          r.splices.items;
-      before_len = r.before_len;
-      after_len = r.after_len;
-      count = r.count;
-    }) r.written };
+    ghost invariant = { λ r. HoldsParts r.expr r.splices r.before_len r.after_len r.count r.written };
 }
 
 impl Record {
@@ -46,14 +39,7 @@ impl Record {
     /// length reached so far and the lengths end at `after_len`.
     pub fn new(expr: String, splices: Vec<Splice>, before_len: u64, after_len: u64) -> Record
         requires { lengths_done splices.items before_len ≡ Some after_len }
-        ensures { result ≡ record {
-          expr = string_bytes expr;
-          changes = splices.items;
-          before_len =
-              before_len;
-          after_len = after_len;
-          count = 1;
-        } }
+        ensures { result ≡ record_with expr splices before_len after_len 1 }
     {
         Record {
             expr,

@@ -1,6 +1,6 @@
 //! Several records joined into one.
 ghost use Rattle.std.specs.Prelude.{◌≡◌, true, ◌<◌, ◌≤◌, ◌∷◌, ◌++◌, [], IfErr, IfOk, None, OnOk, drop, length, take};
-ghost use Rattle.yq_journal.{specs.Record.{IsRecord, join, records_joined, meet}, specs.Refusals.{Reports, count_fault}};
+ghost use Rattle.yq_journal.{specs.Record.{IsRecord, join, records_joined, meet, Meets}, specs.Refusals.{Reports, count_fault}};
 ghost use Rattle.yq_journal.specs.State.{joined_of, last_done};
 
 use crate::{JournalError, JournalFault, Record};
@@ -68,8 +68,7 @@ impl RecordParts {
     /// Joins the next record to them.
     fn join(&mut self, alloc: Global, next: &Record) -> Result<(), AllocError>
         ensures joined { OnOk result (self.new ≡ join self.old next.now) }
-        ensures valid { OnOk result (IsRecord self.old → self.old.after_len ≡ next.now.before_len →
-            IsRecord self.new) }
+        ensures valid { OnOk result (IsRecord self.old → Meets self.old next.now → IsRecord self.new) }
     {
         self.expr.push_str(" | ")?;
         self.expr.push_str(&next.expr)?;

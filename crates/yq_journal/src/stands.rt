@@ -1,8 +1,8 @@
 //! Whether splices can be done on a text, found without memory.
-ghost use Rattle.std.specs.Prelude.{◌≡◌, ◌≢◌, ◌⊎◌, ◌+◌, ◌-◌, ◌^◌, ◌<◌, ◌≤◌, ◌↔◌, ℕ, IfSome, IsTrue, List, None, Some, drop, length};
-ghost use Rattle.std.specs.Prelude.{is_some, slice_get, take};
-ghost use Rattle.yq_text.specs.Splice.{Splice, all_done, flipped, lengths_done};
-ghost use Rattle.yq_journal.{specs.ByteGapBuffer.splice_of_parts, specs.Record.{done, undone}, specs.Turned.flipped_if};
+ghost use Rattle.std.specs.Prelude.{◌≡◌, ◌≢◌, ◌+◌, ◌-◌, ◌<◌, ◌≤◌, ◌↔◌, IfSome, IsTrue, List, None, Some, length, is_some, slice_get, ℕ};
+ghost use Rattle.yq_text.specs.Splice.{all_done, flipped, lengths_done};
+ghost use Rattle.yq_journal.specs.Record.{done, undone};
+ghost use Rattle.yq_journal.specs.Turned.{flipped_if, IsNth, IsMovedFrom, FirstMake, HoldsAt, IfFirstMake, FitAt};
 
 use crate::Record;
 use yq_text::Splice;
@@ -11,8 +11,7 @@ use yq_text::Splice;
 /// it puts there.
 fn nth<'a>(splices: &'a [Splice], back: bool, k: usize) -> (usize, &'a [u8], &'a [u8])
     requires { k < length splices.now }
-    ensures { slice_get (flipped_if back splices.entry.now) k ≡
-        Some (splice_of_parts result.0 result.1.now result.2.now) }
+    ensures { IsNth back splices.entry.now k result.0 result.1.now result.2.now }
 {
     if back {
         let splice = &splices[splices.len() - 1 - k];
@@ -26,8 +25,7 @@ fn nth<'a>(splices: &'a [Splice], back: bool, k: usize) -> (usize, &'a [u8], &'a
 /// Where a byte came from over a splice: `None` where the splice put it there.
 fn origin(i: usize, start: usize, old_len: usize, new_len: usize) -> Option<usize>
     requires { start + new_len ≤ i → i - new_len + old_len ≤ usize.MAX }
-    ensures outside { IfSome result (λ j. ((i < start) × (j ≡ i)) ⊎
-        ((start + new_len ≤ i) × (j ≡ i - new_len + old_len))) }
+    ensures outside { IfSome result (λ j. IsMovedFrom i start old_len new_len j) }
     ensures inside { result ≡ None → (start ≤ i) × (i < start + new_len) }
 {
     if i < start {
@@ -50,10 +48,8 @@ fn byte_at(bytes: &[u8], i: usize) -> Option<u8>
 fn byte_after(splices: &[Splice], back: bool, count: usize, text: &[u8], at: usize) -> Option<u8>
     requires within { count ≤ length splices.now }
     requires lengths { lengths_done (flipped_if back splices.now) (length text.now) ≢ None }
-    requires done { (b : List ℕ) × (all_done (take count (flipped_if back splices.now)) text.now ≡
-        Some b) × (at < length b) }
-    ensures { (b : List ℕ) → all_done (take count (flipped_if back splices.now)) text.now ≡ Some b →
-        result ≡ slice_get b at }
+    requires done { (b : List ℕ) × FirstMake back splices.now count text.now b × (at < length b) }
+    ensures { IfFirstMake back splices.now count text.now (λ b. result ≡ slice_get b at) }
 {
     let mut left = count;
     let mut i = at;
@@ -79,10 +75,8 @@ fn is_there(
 ) -> bool
     requires within { count ≤ length splices.now }
     requires lengths { lengths_done (flipped_if back splices.now) (length text.now) ≢ None }
-    requires done { (b : List ℕ) × (all_done (take count (flipped_if back splices.now)) text.now ≡
-        Some b) × (at + length old.now ≤ length b) × (length b < 2 ^ 64) }
-    ensures { (b : List ℕ) → all_done (take count (flipped_if back splices.now)) text.now ≡ Some b →
-        (IsTrue result ↔ (take (length old.now) (drop at b) ≡ old.now)) }
+    requires done { (b : List ℕ) × FirstMake back splices.now count text.now b × FitAt at old.now b }
+    ensures { IfFirstMake back splices.now count text.now (λ b. IsTrue result ↔ HoldsAt at old.now b) }
 {
     'bytes: for j in 0..old.len() {
         if byte_after(splices, back, count, text, at + j) != Some(old[j]) {

@@ -1,6 +1,6 @@
 //! Whether a move over the records of a journal can be made, and the text to which it leads.
 ghost use Rattle.std.specs.Prelude.{◌≡◌, None, Some, OnOk, IfOk, IfErr};
-ghost use Rattle.yq_journal.{specs.Refusals.{ErrorIs, if_moves, no_way, way_fault}, specs.State.moved_text};
+ghost use Rattle.yq_journal.{specs.Refusals.{ErrorIs, no_way, way_fault, MemoryOnlyIf, HasWay, lead_fault}, specs.State.moved_text};
 
 use crate::stands::stands_before;
 use crate::{JournalError, JournalFault, MAX_RECORDS, Move, Record, lead};
@@ -32,8 +32,7 @@ pub(crate) fn target(
     ensures ok { IfOk result (λ v. moved_text records.now at step.now text.now ≡ Some v.items) }
     ensures free { OnOk result (way_fault records.now at step.now text.now ≡ None) }
     ensures err { IfErr result (λ e. ErrorIs e (way_fault records.now at step.now text.now)) }
-    ensures memory { IfErr result (λ e. e ≡ JournalError.Memory →
-        no_way records.now at step.now ≡ None) }
+    ensures memory { MemoryOnlyIf result (HasWay records.now at step.now) }
 {
     if let Some(fault) = obstacle(records, at, step) {
         return Err(JournalError::Fault(fault));
@@ -57,9 +56,8 @@ fn check_lead(
     step: &Move,
     text: &[u8],
 ) -> Result<(), JournalError>
-    ensures free { OnOk result (if_moves (moved_text records.now at step.now text.now) ≡ None) }
-    ensures err { IfErr result (λ e. ErrorIs e (if_moves (moved_text records.now at step.now
-        text.now))) }
+    ensures free { OnOk result (lead_fault records.now at step.now text.now ≡ None) }
+    ensures err { IfErr result (λ e. ErrorIs e (lead_fault records.now at step.now text.now)) }
 {
     match step {
         Move::Edit(patch) if is_small(patch) => {
@@ -86,8 +84,7 @@ pub(crate) fn check_way(
 ) -> Result<(), JournalError>
     ensures free { OnOk result (way_fault records.now at step.now text.now ≡ None) }
     ensures err { IfErr result (λ e. ErrorIs e (way_fault records.now at step.now text.now)) }
-    ensures memory { IfErr result (λ e. e ≡ JournalError.Memory →
-        no_way records.now at step.now ≡ None) }
+    ensures memory { MemoryOnlyIf result (HasWay records.now at step.now) }
 {
     if let Some(fault) = obstacle(records, at, step) {
         return Err(JournalError::Fault(fault));

@@ -1,6 +1,6 @@
 //! The text of a journal, written straight into one string.
-ghost use Rattle.std.{specs.Prelude.{◌≡◌, Some, IfOk, OnOk, true}, specs.String.string_bytes};
-ghost use Rattle.yq_journal.specs.Added.{Adds};
+ghost use Rattle.std.specs.Prelude.{◌≡◌, Some, IfOk, true};
+ghost use Rattle.yq_journal.{specs.Added.AddsJson, specs.Json.{move_again, pending_data, pending_of}};
 ghost use Rattle.yq_journal.specs.Json as spec;
 
 mod pieces;
@@ -25,8 +25,7 @@ fn kind(step: &Move) -> &'static str
 
 /// Adds the record of a move, null where it has none.
 fn push_move(text: &mut String, alloc: Global, step: &Move) -> Result<(), AllocError>
-    ensures { OnOk result (Adds spec.move_data (spec.move_of true (spec.kind_text step.now))
-        step.now (string_bytes text.old) (string_bytes text.new)) }
+    ensures { AddsJson result text.old text.new spec.move_data (move_again step.now) step.now }
 {
     match step {
         Move::Edit(patch) => {
@@ -46,8 +45,7 @@ fn push_move(text: &mut String, alloc: Global, step: &Move) -> Result<(), AllocE
 
 /// Adds an open move. Its base64 is written where it is, and not copied.
 fn push_open(text: &mut String, alloc: Global, open: &Open) -> Result<(), AllocError>
-    ensures { OnOk result (Adds spec.pending_data (spec.pending_of true) (Some open.now)
-        (string_bytes text.old) (string_bytes text.new)) }
+    ensures { AddsJson result text.old text.new pending_data (pending_of true) (Some open.now) }
 {
     text.push_str("{\"from\":\"")?;
     push_base64(text, &open.from)?;
@@ -61,8 +59,8 @@ fn push_open(text: &mut String, alloc: Global, open: &Open) -> Result<(), AllocE
 
 /// Adds an open move, null where there is none.
 fn push_pending(text: &mut String, alloc: Global, pending: &Option<Open>) -> Result<(), AllocError>
-    ensures { OnOk result (Adds spec.pending_data (spec.pending_of true) pending.now
-        (string_bytes text.old) (string_bytes text.new)) }
+    ensures { AddsJson result text.old text.new spec.pending_data
+        (spec.pending_of true) pending.now }
 {
     match pending {
         Some(open) => push_open(text, alloc, open),
@@ -90,8 +88,7 @@ fn room_of(pending: &Option<Open>, records: usize) -> usize {
 impl Journal {
     /// Adds the journal.
     fn push_to(&self, text: &mut String, alloc: Global) -> Result<(), AllocError>
-        ensures { OnOk result (Adds spec.journal_data spec.journal_of self.now
-            (string_bytes text.old) (string_bytes text.new)) }
+        ensures { AddsJson result text.old text.new spec.journal_data spec.journal_of self.now }
     {
         push_number(text, "{\"at\":", self.at as u64)?;
         text.push_str(",\"pending\":")?;

@@ -2,8 +2,7 @@
 ghost use Rattle.std.specs.Prelude.{◌≡◌, ◌≤◌, ◌<◌, ◌+◌, ◌-◌, ◌^◌, IfSome, IsTrue, None, [], drop, false, length, slice_set, take};
 ghost use Rattle.std.specs.Str.{IsCharBoundary};
 ghost use Rattle.yq_text.specs.TextGapBuffer.{buffer_text};
-ghost use Rattle.yq_row_table.specs.Meter.{count_after, line_count};
-ghost use Rattle.yq_rows.specs.Dropping.{DropsLast};
+ghost use Rattle.yq_rows.{specs.Dropping.DropsLast, specs.RowAnswers.CountsLines};
 
 use crate::kept::Kept;
 use crate::split::begin_of;
@@ -79,8 +78,7 @@ pub(crate) fn drop_text(text: &mut TextGapBuffer, from: usize, at: usize, meter:
     requires begin { IsCharBoundary (take at (buffer_text text.old)) from }
     requires end { IsCharBoundary (buffer_text text.old) at }
     ensures text { buffer_text text.new ≡ take at (buffer_text text.old) }
-    ensures counted { meter.new ≡
-        count_after (line_count (drop from (take at (buffer_text text.old)))) meter.old }
+    ensures counted { CountsLines meter.old meter.new (drop from (take at (buffer_text text.old))) }
 {
     text.move_split(at);
     let halves = text.halves();

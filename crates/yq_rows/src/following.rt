@@ -1,7 +1,7 @@
 //! A text and the places of its rows that follow a change.
-ghost use Rattle.std.{specs.Prelude.{◌≡◌, ◌≤◌, ◌+◌, ◌-◌, OnOk, length, is_ok, if◌then◌else◌, slice_index}, specs.Str.IsCharBoundary};
+ghost use Rattle.std.{specs.Prelude.{◌≡◌, ◌≤◌, ◌+◌, ◌-◌, OnOk, length, slice_index}, specs.Str.IsCharBoundary};
 ghost use Rattle.yq_text.{specs.Halves.whole, specs.TextGapBuffer.buffer_text};
-ghost use Rattle.yq_rows.specs.Following.{ArePlacesOf, CountsWritten, Follows, exchanged};
+ghost use Rattle.yq_rows.{specs.Following.{ArePlacesOf, Follows, exchanged}, specs.RowAnswers.{CountsExchanged, exchanged_by}};
 ghost use Rattle.yq_row_table.specs.Meter as lines;
 
 use crate::Meter;
@@ -72,12 +72,9 @@ pub fn follow(
     meter: &mut Meter,
 ) -> Result<(), AllocError>
     requires { Follows (buffer_text text.old) places.old kept new.now }
-    ensures text { buffer_text text.new ≡
-        (if is_ok result then exchanged kept (buffer_text text.old) new.now
-        else buffer_text text.old) }
+    ensures text { buffer_text text.new ≡ exchanged_by result kept (buffer_text text.old) new.now }
     ensures placed { ArePlacesOf (buffer_text text.new) places.new }
-    ensures counted { OnOk result (CountsWritten (buffer_text text.old)
-        (buffer_text text.new) kept meter.old meter.new) }
+    ensures counted { OnOk result (CountsExchanged text.old text.new kept meter.old meter.new) }
 {
     move_split(text, places, kept.front)?;
     let begins = begins_line(text, kept.front);

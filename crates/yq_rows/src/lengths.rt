@@ -1,6 +1,6 @@
 //! The lengths of rows as they are read.
-ghost use Rattle.std.{specs.Prelude.{◌≡◌, ◌<◌, ◌-◌, ◌^◌, length}, specs.Str.IsUtf8};
-ghost use Rattle.yq_rows.specs.ReadPieces.{IsSliced, read_slices};
+ghost use Rattle.std.{specs.Prelude.{◌≡◌, ◌<◌, ◌^◌, length}, specs.Str.IsUtf8};
+ghost use Rattle.yq_rows.{specs.ReadPieces.{IsSliced, read_slices}, specs.RowAnswers.{offsets_read, offsets_found}};
 ghost use Rattle.yq_row_table.specs.Offsets as spec;
 
 use crate::content::Filling;
@@ -29,8 +29,7 @@ fn measure(
     requires start { start < 2 ^ 32 }
     requires small { spec.row_length (read_slices gap.now column begin.now content.now) < 2 ^ 32 }
     requires parent { spec.ParentAgrees (read_slices gap.now column begin.now content.now) }
-    ensures lengths { result ≡ spec.offsets_of start (read_slices gap.now column begin.now
-        content.now) }
+    ensures lengths { result ≡ offsets_read start gap.now column begin.now content.now }
     ensures texts { spec.AreTexts (read_slices gap.now column begin.now content.now) }
 {
     let (key, colon) = key_of(begin.mark);
@@ -66,8 +65,7 @@ pub(crate) fn offsets_of(
     ensures stands { spec.IsCutIn whole.now result }
     ensures same { spec.slices_in whole.now result ≡
         read_slices gap.now column begin.now content.now }
-    ensures place { result ≡ spec.offsets_of (length whole.now - length text.now)
-        (read_slices gap.now column begin.now content.now) }
+    ensures place { result ≡ offsets_found whole.now text.now gap.now column begin.now content.now }
 {
     measure(whole.len() - text.len(), gap, column, begin, content)
 }

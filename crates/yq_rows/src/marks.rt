@@ -1,9 +1,9 @@
 //! Dashes and keys.
-ghost use Rattle.std.{specs.List.prefix_len, specs.Option.option_map};
-ghost use Rattle.std.{specs.Prelude.{◌≡◌, ◌≤◌, ◌==◌, ◌&&◌, ◌+◌, length, nat_le, not, None, if◌then◌else◌}, specs.Str.chars};
+ghost use Rattle.std.{specs.List.prefix_len, specs.Option.option_map, specs.Prelude.{◌≡◌, ◌≤◌, ◌==◌, ◌&&◌, ◌+◌, length, nat_le, not}};
+ghost use Rattle.std.specs.Str.{chars};
 ghost use Rattle.yq_core.specs.Text.{is_empty};
 ghost use Rattle.yq_row_table.{specs.Grammar.key_limit, specs.Slicing.begun};
-ghost use Rattle.yq_rows.specs.ReadPieces.{begin_view, mark_view};
+ghost use Rattle.yq_rows.{specs.ReadPieces.{begin_view, mark_view}, specs.RowAnswers.{key_after, FindsSlices}};
 ghost use Rattle.yq_row_table.specs.Grammar as grammar;
 ghost use Rattle.yq_row_table.specs.Reading as spec;
 ghost use Rattle.yq_row_table.specs.Rows as rows;
@@ -166,8 +166,7 @@ fn holds_colon(text: &[u8]) -> bool
 /// scalar is read where the line has no `:`.
 #[tactic(auto, using(yq_row_table::proofs::KeyLines::no_key_line))]
 fn key_behind<'t>(spaces: &str, next: &'t str) -> Option<(&'t str, &'t str, &'t str)>
-    ensures { option_map (λ x. (x.0.now, x.1.now, x.2.now)) result
-        ≡ (if is_empty spaces.now then None else spec.read_row_key next.now) }
+    ensures { FindsSlices result (key_after spaces.now next.now) }
 {
     if spaces.is_empty() || !holds_colon(next.as_bytes()) {
         None

@@ -2,7 +2,8 @@
 ghost use Rattle.std.specs.Prelude.{◌≡◌, ◌≢◌, ◌<◌, ◌≤◌, IfErr, IfOk, false, length};
 ghost use Rattle.yq_core.{specs.Answers.ReadsAs, specs.declared.fault.FaultKind.TheVariants.NotUtf8};
 ghost use Rattle.yq_core.specs.Scalars.{scalar_style as style_at};
-ghost use Rattle.yq_rows.specs.Measured.{measured, measured_view, past_node};
+ghost use Rattle.yq_core.specs.PlacedReading.{placed_node, placed_content, placed_coll, placed_items};
+ghost use Rattle.yq_rows.{specs.Measured.measured_view, specs.RowAnswers.{MeasuresNode, PassesNode}};
 ghost use Rattle.yq_rows.specs.Measured as spec;
 ghost use Rattle.yq_core.specs.PlacedReading as reading;
 
@@ -87,8 +88,7 @@ pub fn measure_node<'t>(
     text: &'t str,
 ) -> Result<Measured<'t>, ReadFault>
     ensures shorter { IfOk result (λ m. length m.rest.now ≤ length text.now) }
-    ensures read { ReadsAs measured_view result
-        (measured (reading.placed_node flow spaces 0 depth text.now)) }
+    ensures read { MeasuresNode result (reading.placed_node flow spaces 0 depth text.now) }
     ensures fault { IfErr result (λ f. f.kind ≢ NotUtf8) }
 {
     let Some(behind) = strip(b'&', text) else {
@@ -118,8 +118,7 @@ fn measure_content<'t>(
     text: &'t str,
 ) -> Result<Measured<'t>, ReadFault>
     ensures shorter { IfOk result (λ m. length m.rest.now ≤ length text.now) }
-    ensures read { ReadsAs measured_view result
-        (measured (reading.placed_content flow spaces 0 depth text.now)) }
+    ensures read { MeasuresNode result (reading.placed_content flow spaces 0 depth text.now) }
     ensures fault { IfErr result (λ f. f.kind ≢ NotUtf8) }
 {
     if let Some(behind) = strip(b'*', text) {
@@ -151,8 +150,7 @@ fn measure_collection<'t>(
     text: &'t str,
 ) -> Result<&'t str, ReadFault>
     ensures shorter { IfOk result (λ r. length r.now ≤ length text.now) }
-    ensures read { ReadsAs (λ r. r.now) result
-        (past_node (reading.placed_coll 0 depth (spec.closing_byte keyed) text.now)) }
+    ensures read { PassesNode result (reading.placed_coll 0 depth (spec.closing_byte keyed) text.now) }
     ensures fault { IfErr result (λ f. f.kind ≢ NotUtf8) }
 {
     let (_, rest) = read_gap(whole, text)?;
@@ -201,8 +199,7 @@ fn measure_parts<'t>(
     text: &'t str,
 ) -> Result<&'t str, ReadFault>
     ensures shorter { IfOk result (λ r. length r.now ≤ length text.now) }
-    ensures read { ReadsAs (λ r. r.now) result
-        (past_node (reading.placed_items 0 depth (spec.closing_byte keyed) text.now)) }
+    ensures read { PassesNode result (reading.placed_items 0 depth (spec.closing_byte keyed) text.now) }
     ensures fault { IfErr result (λ f. f.kind ≢ NotUtf8) }
 {
     let closing = if keyed { b'}' } else { b']' };

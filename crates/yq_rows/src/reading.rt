@@ -1,12 +1,11 @@
 //! Rows, read one after the other.
-ghost use Rattle.std.specs.Prelude.{◌≡◌, ◌≢◌, ◌<◌, ◌≤◌, ◌+◌, ◌++◌, ◌-◌, ◌^◌, ◌==◌, ◌&&◌, ◌||◌, ℕ, List, not, length, true, IfErr, IfOk};
-ghost use Rattle.yq_core.{specs.Answers.{Gives, IsOfText, ReadsAs}, specs.declared.fault.FaultKind.TheVariants.NotUtf8};
-ghost use Rattle.yq_row_table.{specs.Grammar.{unlimited, ends_part}, specs.Kept.rows_placed};
-ghost use Rattle.yq_row_table.specs.Slicing.{marked_sliced, row_sliced, row_of, rows_sliced};
-ghost use Rattle.yq_row_table.specs.Offsets.{Ends, Stand, IsCutIn, offsets_of, rows_in, slices_in};
-ghost use Rattle.yq_rows.specs.ReadPieces.{begin_view, filling_view, limit_view};
+ghost use Rattle.std.specs.Prelude.{◌≡◌, ◌≢◌, ◌<◌, ◌≤◌, ◌+◌, ◌++◌, ◌^◌, ◌||◌, length, true, IfErr, IfOk};
+ghost use Rattle.yq_core.{specs.Answers.{IsOfText, ReadsAs}, specs.declared.fault.FaultKind.TheVariants.NotUtf8};
+ghost use Rattle.yq_row_table.{specs.Grammar.{unlimited, ends_part}, specs.Slicing.row_sliced};
+ghost use Rattle.yq_row_table.specs.Offsets.{Ends, Stand, IsCutIn, slices_in};
+ghost use Rattle.yq_rows.specs.ReadPieces.{limit_view};
+ghost use Rattle.yq_rows.specs.RowAnswers.{ReadsMarked, may_be_at, GivesRow, GivesRows, PlacesRows, offsets_from};
 ghost use Rattle.yq_core.specs.Text;
-ghost use Rattle.yq_row_table.specs.Grammar as grammar;
 ghost use Rattle.yq_row_table.specs.Reading as spec;
 
 use crate::content::{Filling, find_tail, read_content};
@@ -29,9 +28,7 @@ fn read_marked<'t>(
     begin: &Begin<'t>,
 ) -> Result<Filling<'t>, ReadError>
     requires columns { column + begin.now.columns < 2 ^ 32 }
-    ensures read { (gap : List ℕ) →
-        Gives (λ f. row_of gap column (begin_view begin.now) (filling_view f)) result
-        (marked_sliced gap column (begin_view begin.now)) }
+    ensures read { ReadsMarked column begin.now result }
     ensures fault { IfErr result IsOfText }
 {
     let parent = parent_of(begin.mark, column + begin.columns);
@@ -45,8 +42,7 @@ fn read_marked<'t>(
 
 /// Whether a row may be at a column before this text.
 fn may_stand(limit: Limit, column: usize, text: &[u8]) -> bool
-    ensures { result ≡ (grammar.allows (limit_view limit) column && not
-        (column == 0 && Text.is_marker text.now)) }
+    ensures { result ≡ may_be_at limit column text.now }
 {
     limit.allows(column) && !(column == 0 && is_marker(text))
 }
@@ -66,11 +62,9 @@ fn read_row<'t>(
     requires cut { at.now ≡ gap.now ++ text.now }
     requires short { length text.now ≤ length whole.now }
     requires small { length whole.now < 2 ^ 32 }
-    ensures read { Gives (λ x. (slices_in whole.now x.0, limit_view x.1, x.2.now)) result
-        (row_sliced (limit_view limit) gap.now text.now) }
+    ensures read { GivesRow whole.now result (row_sliced (limit_view limit) gap.now text.now) }
     ensures stands { IfOk result (λ x. IsCutIn whole.now x.0) }
-    ensures place { IfOk result (λ x. x.0 ≡
-        offsets_of (length whole.now - length at.now) (slices_in whole.now x.0)) }
+    ensures place { IfOk result (λ x. x.0 ≡ offsets_from whole.now at.now (slices_in whole.now x.0)) }
     ensures fault { IfErr result IsOfText }
 {
     let (indent, rest) = split_spaces(text);
@@ -106,11 +100,8 @@ fn read_rows<'t>(
     requires ends { Ends text.now whole.now }
     requires stand { Stand whole.now rows.items }
     requires small { length whole.now < 2 ^ 32 }
-    ensures found { Gives (λ x. (rows_in whole.now x.0.items, x.1.now, x.2.now)) result
-        (rows_sliced (rows_in whole.now rows.items) (spec.all_rows unlimited text.now)) }
-    ensures placed { Gives (λ x. x.0.items) result
-        (rows_placed rows.items (length whole.now - length text.now)
-        (spec.all_rows unlimited text.now)) }
+    ensures found { GivesRows whole.now rows result (spec.all_rows unlimited text.now) }
+    ensures placed { PlacesRows whole.now text.now rows result (spec.all_rows unlimited text.now) }
     ensures kept { IfOk result (λ x. Stand whole.now x.0.items) }
     ensures behind { IfOk result (λ x. Ends x.2.now whole.now) }
     ensures fault { IfErr result IsOfText }
@@ -163,11 +154,8 @@ pub(crate) fn read_part<'t>(
     requires ends { Ends text.now whole.now }
     requires stand { Stand whole.now rows.items }
     requires small { length whole.now < 2 ^ 32 }
-    ensures found { Gives (λ x. (rows_in whole.now x.0.items, x.1.now, x.2.now)) result
-        (rows_sliced (rows_in whole.now rows.items) (spec.read_cut_part is_open text.now)) }
-    ensures placed { Gives (λ x. x.0.items) result
-        (rows_placed rows.items (length whole.now - length text.now)
-        (spec.read_cut_part is_open text.now)) }
+    ensures found { GivesRows whole.now rows result (spec.read_cut_part is_open text.now) }
+    ensures placed { PlacesRows whole.now text.now rows result (spec.read_cut_part is_open text.now) }
     ensures kept { IfOk result (λ x. Stand whole.now x.0.items) }
     ensures behind { IfOk result (λ x. Ends x.2.now whole.now) }
     ensures fault { IfErr result IsOfText }

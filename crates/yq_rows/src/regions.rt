@@ -1,8 +1,8 @@
 //! Regions of a text: rows and ends of parts between others, read alone.
-ghost use Rattle.std.specs.Prelude.{◌≡◌, ◌<◌, ◌^◌, List, [], Some, length, true};
+ghost use Rattle.std.specs.Prelude.{◌≡◌, ◌<◌, ◌^◌, length, true};
 ghost use Rattle.yq_core.specs.Answers.{Gives};
-ghost use Rattle.yq_row_table.{specs.Items.{Item, items_text, view_of_items}, specs.Regions.{IsReadAlone, region_items}};
 ghost use Rattle.yq_row_table.{specs.Slicing.read_view, specs.Meter.{count_after, line_count}, specs.Reading.all_parts};
+ghost use Rattle.yq_rows.specs.RowAnswers.{GivesRegion};
 
 use crate::meter::{Meter, count_lines};
 use crate::scanning::cut;
@@ -21,8 +21,7 @@ pub fn read_region<'t>(
     // They are what reading from left to right gives.
     ensures exact { Gives (λ s. s) result (read_view (all_parts true text.now)) }
     // The text of items that are read alone gives these.
-    ensures alone { (xs back : List Item) → IsReadAlone xs back → text.now ≡ items_text xs [] →
-        Gives (λ s. s) result (Some (view_of_items (region_items xs back))) }
+    ensures alone { GivesRegion text.now result }
     ensures counted { meter.new ≡ count_after (line_count text.now) meter.old }
 {
     count_lines(text, meter);

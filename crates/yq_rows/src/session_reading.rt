@@ -1,9 +1,8 @@
 //! What is read where rows and ends of parts are exchanged.
-ghost use Rattle.std.specs.Prelude.{◌≡◌, ◌-◌, ◌≤◌, ◌<◌, ◌^◌, IfOk, IfSome, OnOk, length, take, drop, string_bytes};
-ghost use Rattle.std.specs.Str.{IsCharBoundary};
+ghost use Rattle.std.{specs.Prelude.{◌≡◌, ◌-◌, ◌≤◌, ◌<◌, ◌^◌, IfOk, IfSome, length, take, drop}, specs.Str.IsCharBoundary};
 ghost use Rattle.yq_text.specs.Halves.{whole};
-ghost use Rattle.yq_row_table.specs.Meter.{count_after, line_count};
-ghost use Rattle.yq_rows.specs.Reading.{Comes};
+ghost use Rattle.yq_rows.{specs.Reading.Comes, specs.RowAnswers.CountsRead};
+ghost use Rattle.yq_core.specs.Strings.{GivesText};
 ghost use Rattle.yq_rows.specs.Reading as spec;
 
 use crate::kept::Kept;
@@ -43,8 +42,7 @@ pub(crate) fn region(
 ) -> Result<String, AllocError>
     requires edges { spec.AreEdges (whole text) touched kept }
     requires small { length (spec.region_text (whole text) touched kept new.now) < 2 ^ 32 }
-    ensures { IfOk result (λ s. string_bytes s ≡
-        spec.region_text (whole text.entry) touched kept new.now) }
+    ensures { GivesText result (spec.region_text (whole text.entry) touched kept new.now) }
 {
     let front = between(text, touched.front.bytes, kept.front);
     let back = between(
@@ -115,8 +113,7 @@ pub(crate) fn read(
 ) -> Result<NewRows, AllocError>
     requires { spec.IsRead region.now touched }
     ensures come { IfOk result (λ x. Comes region.now touched x) }
-    ensures counted { OnOk result (meter.new ≡
-        count_after (line_count (spec.read_part region.now touched.marked)) meter.old) }
+    ensures counted { CountsRead result meter.old meter.new (spec.read_part region.now touched.marked) }
 {
     let unread = unread(region, touched.marked);
     let text = read_part(region, unread);

@@ -1,7 +1,8 @@
 //! The split of the kept rows of a text, moved to a place in it.
 ghost use Rattle.std.{specs.Prelude.{◌≡◌, ◌<◌, ◌≤◌, ◌^◌, OnOk, length, reverse}, specs.List.All};
 ghost use Rattle.yq_text.specs.TextGapBuffer.{buffer_text};
-ghost use Rattle.yq_rows.{specs.Following.IsPlacedIn, specs.Sides.{IsSplitAt, LastBefore, FirstFrom, both_sides, first_byte}};
+ghost use Rattle.yq_rows.{specs.Following.IsPlacedIn, specs.Sides.{IsSplitAt, LastBefore, FirstFrom, first_byte}};
+ghost use Rattle.yq_rows.specs.RowAnswers.{split_rows, rows_kept};
 
 use std::alloc::AllocError;
 use yq_row_table::{Offsets, Places};
@@ -17,8 +18,7 @@ fn to_behind(
     requires small { len < 2 ^ 32 }
     requires within { All (λ o. o.start ≤ len) front.old.items }
     requires later { All (λ o. o.start ≤ len) behind.old.items }
-    ensures same { both_sides len front.new.items behind.new.items ≡
-        both_sides len front.old.items behind.old.items }
+    ensures same { split_rows len front.new behind.new ≡ split_rows len front.old behind.old }
     ensures later { All (λ o. o.start ≤ len) behind.new.items }
     ensures ok { OnOk result (LastBefore at front.new.items) }
 {
@@ -43,8 +43,7 @@ fn to_front(
     requires small { len < 2 ^ 32 }
     requires later { All (λ o. o.start ≤ len) behind.old.items }
     requires last { LastBefore at front.old.items }
-    ensures same { both_sides len front.new.items behind.new.items ≡
-        both_sides len front.old.items behind.old.items }
+    ensures same { split_rows len front.new behind.new ≡ split_rows len front.old behind.old }
     ensures later { All (λ o. o.start ≤ len) behind.new.items }
     ensures last { LastBefore at front.new.items }
     ensures ok { OnOk result (FirstFrom at len behind.new.items) }
@@ -66,8 +65,7 @@ fn move_rows(places: &mut Places, len: usize, at: usize) -> Result<(), AllocErro
     requires small { len < 2 ^ 32 }
     requires within { All (λ o. o.start ≤ len) places.old.front.items }
     requires later { All (λ o. o.start ≤ len) places.old.behind.items }
-    ensures same { both_sides len places.new.front.items places.new.behind.items ≡
-        both_sides len places.old.front.items places.old.behind.items }
+    ensures same { rows_kept len places.new ≡ rows_kept len places.old }
     ensures later { All (λ o. o.start ≤ len) places.new.behind.items }
     ensures ends { places.new.ends ≡ places.old.ends }
     ensures ok { OnOk result (IsSplitAt at len places.new) }

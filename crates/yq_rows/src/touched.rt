@@ -1,7 +1,6 @@
 //! The rows and ends of parts that a change touches.
-ghost use Rattle.std.specs.Prelude.{◌≡◌, ◌<◌, ◌≤◌, ◌^◌, ◌||◌, List, ℕ, length, nat_lt, slice_get};
-ghost use Rattle.yq_row_table.{specs.Kept.kept_rows, specs.Meter.begins_line};
-ghost use Rattle.yq_rows.{specs.Exchanging.TextChange, specs.Following.Follows};
+ghost use Rattle.std.specs.Prelude.{◌≡◌, ◌<◌, ◌≤◌, ◌^◌, slice_get};
+ghost use Rattle.yq_rows.specs.RowAnswers.{has_more_than, IsTouchedIn};
 ghost use Rattle.yq_rows.specs.Sides as spec;
 
 use crate::kept::Kept;
@@ -73,8 +72,7 @@ fn marked_end(ends: &PartEnds, front: Side, old: Side, at: usize) -> Option<EndP
 
 /// Whether rows or ends of parts come after others.
 fn has_more(places: &Places, old: Side) -> bool
-    ensures { result ≡ (nat_lt old.rows (length (kept_rows places.now))
-        || nat_lt old.ends (length places.now.ends)) }
+    ensures { result ≡ has_more_than old places.now }
 {
     places.len() > old.rows || places.ends.len() > old.ends
 }
@@ -86,8 +84,7 @@ pub(crate) fn find_touched(places: &Places, len: usize, kept: Kept, begins: bool
     requires small { len < 2 ^ 32 }
     requires within { kept.back ≤ len }
     requires split { spec.IsSplitAt kept.front len places.now }
-    ensures { (t new : List ℕ) → len ≡ length t → begins ≡ begins_line t kept.front →
-        (h : Follows t places.now kept new) → TextChange t new kept places.now result }
+    ensures { IsTouchedIn len begins kept places.now result }
 {
     let before = side_before(places, kept.front);
     let front = past_end(&places.ends, before, kept.front, begins);

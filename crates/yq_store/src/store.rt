@@ -1,7 +1,7 @@
 //! Stores of named files.
-ghost use Rattle.std.specs.Prelude.{◌≡◌, ◌≢◌, ℕ, List, ◌⊎◌, Bool, IsTrue, IfOk, OnOk, OnErr, IsErrOf, None, Some};
+ghost use Rattle.std.specs.Prelude.{◌≡◌, ℕ, Bool, IsTrue, OnOk, OnErr};
 ghost use Rattle.yq_store.{specs.FileMap.FileMap, specs.Count.{after_read, after_write}, specs.Calls.{Call, reads, writes, bytes_read}};
-ghost use Rattle.std.specs.FinMap as map;
+ghost use Rattle.yq_store.specs.Changes.{ReadsHeld, AbsentIfNotThere, HasPut, MayWrite, StaysWithoutMemory, WritesOnly};
 
 use std::alloc::Global;
 
@@ -37,24 +37,18 @@ pub trait Store {
 
     /// The bytes of a file.
     fn read(&mut self, alloc: Global, name: &str) -> Result<Vec<u8>, FileReadError>
-        ensures found { IsTrue keeps → IfOk result (λ bytes. map.get (content self.old) name.now ≡
-            Some bytes.items) }
-        ensures absent { IsTrue keeps → IsErrOf result FileReadError.NotThere →
-            map.get (content self.old) name.now ≡ None }
+        ensures found { IsTrue keeps → ReadsHeld (content self.old) name.now result }
+        ensures absent { IsTrue keeps → AbsentIfNotThere (content self.old) name.now result }
         ensures same { IsTrue keeps → content self.new ≡ content self.old }
         ensures count { failures self.new ≡ after_read result (failures self.old) }
         ensures call { leads self.old (reads name.now (bytes_read result)) self.new };
 
     /// Gives a name new bytes. A write that fails leaves the old bytes or the whole new ones.
     fn replace(&mut self, name: &str, bytes: &[u8]) -> Result<(), FileWriteError>
-        ensures written { IsTrue keeps → OnOk result (content self.new ≡
-            map.insert (content self.old) name.now bytes.now) }
-        ensures err { IsTrue keeps → OnErr result ((content self.new ≡ content self.old) ⊎
-            (content self.new ≡ map.insert (content self.old) name.now bytes.now)) }
-        ensures memory { IsTrue keeps → IsErrOf result FileWriteError.OutOfMemory →
-            content self.new ≡ content self.old }
-        ensures others { IsTrue keeps → (q : List ℕ) → q ≢ name.now →
-            map.get (content self.new) q ≡ map.get (content self.old) q }
+        ensures written { IsTrue keeps → OnOk result (HasPut content self.old self.new name.now bytes.now) }
+        ensures err { IsTrue keeps → OnErr result (MayWrite content self.old self.new name.now bytes.now) }
+        ensures memory { IsTrue keeps → StaysWithoutMemory content self.old self.new result }
+        ensures others { IsTrue keeps → WritesOnly content self.old self.new name.now }
         ensures count { failures self.new ≡ after_write result (failures self.old) }
         ensures call { leads self.old (writes name.now bytes.now result) self.new };
 }

@@ -1,8 +1,8 @@
 //! A value in the place of a block scalar.
-ghost use Rattle.std.specs.Prelude.{◌≡◌, [], IfOk, true};
-ghost use Rattle.yq_core.{specs.Values.value_node, specs.BlockWritten.break_text, specs.Writable.is_string};
-ghost use Rattle.yq_places.{specs.NodesAt.scalar_in, specs.StandingViews.{held_view, held_mark_view}};
-ghost use Rattle.yq_edit_rules.specs.WrittenValues.{column_under, lines, lines_in, written_at};
+ghost use Rattle.std.specs.Prelude.{◌≡◌, true};
+ghost use Rattle.yq_core.specs.Writable.{is_string};
+ghost use Rattle.yq_places.specs.StandingViews.{held_view};
+ghost use Rattle.yq_block_edits.specs.SegmentsPut.{IsExchange, literal_held, string_held, value_held, lines_held, block_held};
 ghost use Rattle.yq_edit_rules.specs.ReplaceEdits as spec;
 
 use crate::replace::held::{put_filled, put_inline};
@@ -34,8 +34,7 @@ fn literal_put<'t>(
     indent: usize,
     text: &str,
 ) -> Result<Segments<'t>, AllocError>
-    ensures { IfOk result (λ ss. ss ≡
-        spec.literal_put (break_text layout.now.br) (held_view held.now) indent text.now) }
+    ensures { IsExchange result (literal_held layout.now held.now indent text.now) }
 {
     let (header, raw) = write_block(alloc, text, indent, layout.br)?;
     let (line_break, last) = line_breaks(held);
@@ -60,10 +59,7 @@ fn lines_put<'t>(
     held: &Held<'t>,
     value: &Value,
 ) -> Result<Segments<'t>, AllocError>
-    ensures { IfOk result (λ ss. ss ≡
-        spec.block_put (break_text layout.now.br) (held_view held.now) (lines (lines_in
-        layout.now (column_under layout.now (held_mark_view held.now.mark) (value_node value.now))
-        (value_node value.now)))) }
+    ensures { IsExchange result (lines_held layout.now held.now value.now) }
 {
     let raw = lines_and_break(alloc, layout, held.mark, value)?;
     let (line_break, last) = line_breaks(held);
@@ -91,8 +87,7 @@ fn string_put<'t>(
     scalar: &Scalar,
 ) -> Result<Segments<'t>, AllocError>
     requires { is_string scalar.now.kind ≡ true }
-    ensures { IfOk result (λ ss. ss ≡
-        spec.string_put (break_text layout.now.br) (held_view held.now) indent scalar.now) }
+    ensures { IsExchange result (string_held layout.now held.now indent scalar.now) }
 {
     if can_write(scalar, Style::Literal, Place::Block) {
         return literal_put(alloc, layout, held, indent, scalar.text());
@@ -109,9 +104,7 @@ fn block_put<'t>(
     held: &Held<'t>,
     value: &Value,
 ) -> Result<Segments<'t>, AllocError>
-    ensures { IfOk result (λ ss. ss ≡
-        spec.block_put (break_text layout.now.br) (held_view held.now) (written_at
-        layout.now (held_mark_view held.now.mark) [] (value_node value.now))) }
+    ensures { IsExchange result (block_held layout.now held.now value.now) }
 {
     if !is_filled(value) {
         let text = value_text(alloc, Place::Block, b"", value)?;
@@ -133,10 +126,7 @@ pub(crate) fn block_scalar_put<'t>(
     indent: usize,
     value: &Value,
 ) -> Result<Segments<'t>, AllocError>
-    ensures { IfOk result (λ ss. ss ≡
-        spec.block_scalar_put has_text (break_text layout.now.br) (held_view held.now) indent
-        (written_at layout.now (held_mark_view held.now.mark) [] (value_node value.now))
-        (scalar_in (value_node value.now))) }
+    ensures { IsExchange result (value_held has_text layout.now held.now indent value.now) }
 {
     if let Value::Scalar(scalar) = value {
         if has_text && scalar.kind() == Kind::Text {

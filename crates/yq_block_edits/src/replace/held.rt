@@ -1,10 +1,10 @@
 //! A value in the place of what a key or dash holds, or of a compact collection.
-ghost use Rattle.std.specs.Prelude.{◌≡◌, ℕ, List, [], false, IfOk, string_bytes};
-ghost use Rattle.yq_core.{specs.Values.value_node, specs.BlockWritten.break_text};
-ghost use Rattle.yq_places.specs.StandingViews.{compact_view, held_view, held_mark_view};
+ghost use Rattle.std.specs.Prelude.{◌≡◌, ℕ, List, false, IfOk, string_bytes};
+ghost use Rattle.yq_core.specs.Values.{value_node};
+ghost use Rattle.yq_places.specs.StandingViews.{compact_view};
 ghost use Rattle.yq_edit_rules.{specs.BlockReading.is_filled as filled, specs.declared.layout.Layout.Layout as LayoutOf};
+ghost use Rattle.yq_block_edits.specs.SegmentsPut.{IsExchange, text_held, value_compact, value_over, value_below, filled_held};
 ghost use Rattle.yq_edit_rules.specs.ReplaceEdits as spec;
-ghost use Rattle.yq_edit_rules.specs.WrittenValues as written;
 
 use crate::apart;
 use std::alloc::{AllocError, Global};
@@ -21,8 +21,7 @@ pub(crate) fn put_inline<'t>(
     held: &Held<'t>,
     text: String,
 ) -> Result<Segments<'t>, AllocError>
-    ensures { (br : List ℕ) → IfOk result (λ ss. ss ≡
-        spec.held_put br (held_view held.now) (written.inline (string_bytes text))) }
+    ensures { (br : List ℕ) → IsExchange result (text_held br held.now text) }
 {
     let new = apart(alloc, held.head, text)?;
     let segments = vec![in alloc;
@@ -48,9 +47,7 @@ pub(crate) fn put_filled<'t>(
     compact: bool,
     value: &Value,
 ) -> Result<Segments<'t>, AllocError>
-    ensures { IfOk result (λ ss. ss ≡
-        spec.held_put (break_text layout.now.br) (held_view held.now) (written.collection_by
-        compact layout.now (held_mark_view held.now.mark) (value_node value.now))) }
+    ensures { IsExchange result (filled_held compact layout.now held.now value.now) }
 {
     let (new, lines) = if compact {
         (
@@ -88,9 +85,7 @@ pub(crate) fn text_put<'t>(
     value: &Value,
 ) -> Result<Segments<'t>, AllocError>
     requires { filled (value_node value.now) ≡ false }
-    ensures { (l : LayoutOf) → IfOk result (λ ss. ss ≡
-        spec.held_put (break_text l.br) (held_view held.now) (written.written_at
-        l (held_mark_view held.now.mark) held.now.head.now (value_node value.now))) }
+    ensures { (l : LayoutOf) → IsExchange result (value_over l held.now value.now) }
 {
     let text = value_text(alloc, Place::Block, held.head.as_bytes(), value)?;
     put_inline(alloc, held, text)
@@ -103,9 +98,7 @@ pub(crate) fn beside_put<'t>(
     held: &Held<'t>,
     value: &Value,
 ) -> Result<Segments<'t>, AllocError>
-    ensures { IfOk result (λ ss. ss ≡
-        spec.held_put (break_text layout.now.br) (held_view held.now) (written.written_at
-        layout.now (held_mark_view held.now.mark) held.now.head.now (value_node value.now))) }
+    ensures { IsExchange result (value_over layout.now held.now value.now) }
 {
     if !is_filled(value) {
         return text_put(alloc, held, value);
@@ -120,9 +113,7 @@ pub(crate) fn under_put<'t>(
     held: &Held<'t>,
     value: &Value,
 ) -> Result<Segments<'t>, AllocError>
-    ensures { IfOk result (λ ss. ss ≡
-        spec.held_put (break_text layout.now.br) (held_view held.now) (written.written_under
-        layout.now (held_mark_view held.now.mark) (value_node value.now))) }
+    ensures { IsExchange result (value_below layout.now held.now value.now) }
 {
     if is_filled(value) {
         return put_filled(alloc, layout, held, false, value);
@@ -156,9 +147,7 @@ pub(crate) fn compact_put<'t>(
     compact: &Compact<'t>,
     value: &Value,
 ) -> Result<Segments<'t>, AllocError>
-    ensures { IfOk result (λ ss. ss ≡
-        spec.compact_put (break_text layout.now.br) (compact_view compact.now) (written.written_at
-        layout.now (held_mark_view compact.now.mark) [] (value_node value.now))) }
+    ensures { IsExchange result (value_compact layout.now compact.now value.now) }
 {
     let text = if !is_filled(value) {
         let text = value_text(alloc, Place::Block, b"", value)?;

@@ -1,9 +1,9 @@
 //! What `select` asks of a place.
-ghost use Rattle.std.specs.Prelude.{◌≡◌, map};
+ghost use Rattle.std.specs.Prelude.{◌≡◌};
 ghost use Rattle.yq_nodes.specs.Nodes.{node_of};
-ghost use Rattle.yq_semantics.{specs.Judgement.Judges, specs.Program.value_at, specs.View.{condition_of, operand_of, program_step}};
-ghost use Rattle.yq_eval.specs.PlaceView.{place_of, places_of};
-ghost use Rattle.yq_core.specs.SchemaReading as numbers;
+ghost use Rattle.yq_semantics.specs.Judgement.{Judges};
+ghost use Rattle.yq_eval.{specs.PlaceView.{place_of, places_of}, specs.PlaceAnswers.JudgesWhether};
+ghost use Rattle.yq_eval.specs.ConditionAnswers.{are_same_ints, is_that_scalar, first_is_that, equals_scalar, value_equals, holds_at};
 ghost use Rattle.yq_semantics.specs.Conditions as spec;
 
 use crate::matching::place::FoundPlace;
@@ -18,8 +18,7 @@ use yq_semantics::{Condition, ExprError, Operand, PathStep, Refusal};
 /// Whether two ints are the same: by their numbers, where both have one in 64
 /// bits, and else by their texts.
 fn same_int(one: &str, other: &str) -> bool
-    ensures { result ≡ spec.same_int (numbers.int_value one.now)
-        (numbers.int_value other.now) one.now other.now }
+    ensures { result ≡ are_same_ints one.now other.now }
 {
     match (int_value(one), int_value(other)) {
         (Some(m), Some(n)) => m == n,
@@ -52,8 +51,7 @@ fn same_scalar(kind: Kind, text: &str, scalar: &Scalar) -> bool
 
 /// Whether a node is that scalar.
 fn node_is(node: &Node<'_, '_>, scalar: &Scalar) -> Result<bool, ExprError>
-    ensures { Judges (λ b. b) result (spec.is_scalar scalar.now.kind scalar.now.text
-        (node_of node.now)) }
+    ensures { JudgesWhether result (is_that_scalar scalar.now (node_of node.now)) }
 {
     match node.kind() {
         NodeKind::Alias => Err(ExprError::Refused(Refusal::ThroughAlias)),
@@ -64,8 +62,7 @@ fn node_is(node: &Node<'_, '_>, scalar: &Scalar) -> Result<bool, ExprError>
 
 /// Whether the value at a place is that scalar: null where a step is missing.
 fn place_is(place: &FoundPlace<'_, '_>, scalar: &Scalar) -> Result<bool, ExprError>
-    ensures { Judges (λ b. b) result (spec.is_scalar scalar.now.kind scalar.now.text
-        (spec.value_of (place_of place.now))) }
+    ensures { JudgesWhether result (is_that_scalar scalar.now (spec.value_of (place_of place.now))) }
 {
     match place.found() {
         Some(node) => node_is(node, scalar),
@@ -75,8 +72,7 @@ fn place_is(place: &FoundPlace<'_, '_>, scalar: &Scalar) -> Result<bool, ExprErr
 
 /// Whether the value at the first of places is that scalar.
 fn first_is(places: &[FoundPlace<'_, '_>], scalar: &Scalar) -> Result<bool, ExprError>
-    ensures { Judges (λ b. b) result (spec.first_equals scalar.now.kind scalar.now.text
-        (places_of places.now)) }
+    ensures { JudgesWhether result (first_is_that scalar.now (places_of places.now)) }
 {
     match places {
         [] => Ok(false),
@@ -92,8 +88,7 @@ fn value_is<'a, 't>(
     scalar: &Scalar,
     place: &FoundPlace<'a, 't>,
 ) -> Result<bool, ExprError>
-    ensures { Judges (λ b. b) result (spec.operand_is 0 (value_at (map program_step steps.now))
-        scalar.now.kind scalar.now.text (place_of place.now)) }
+    ensures { JudgesWhether result (value_equals steps.now scalar.now (place_of place.now)) }
 {
     let places = traverse(alloc, bump, steps, place.alone(alloc)?)?;
     first_is(&places, scalar)
@@ -108,8 +103,7 @@ fn operand_is<'a, 't>(
     scalar: &Scalar,
     place: &FoundPlace<'a, 't>,
 ) -> Result<bool, ExprError>
-    ensures { Judges (λ b. b) result (spec.operand_is doc (operand_of operand.now) scalar.now.kind
-        scalar.now.text (place_of place.now)) }
+    ensures { JudgesWhether result (equals_scalar doc operand.now scalar.now (place_of place.now)) }
 {
     match operand {
         Operand::Path(steps) => value_is(alloc, bump, steps, scalar, place),
@@ -149,8 +143,7 @@ pub(crate) fn holds<'a, 't>(
     condition: &'a Condition,
     place: FoundPlace<'a, 't>,
 ) -> Result<bool, ExprError>
-    ensures { Judges (λ b. b) result (spec.condition_holds doc (condition_of condition.now)
-        (place_of place.entry)) }
+    ensures { JudgesWhether result (holds_at doc condition.now (place_of place.entry)) }
 {
     match condition {
         Condition::Compare(comparison) => {

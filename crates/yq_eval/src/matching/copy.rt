@@ -1,9 +1,10 @@
 //! Copies of nodes, as values.
-ghost use Rattle.std.specs.Prelude.{◌≡◌, map, IfOk, string_bytes};
-ghost use Rattle.yq_core.{specs.Values.{field_of, value_node}, specs.Scalar.IsScalar, specs.Tree.children_of};
+ghost use Rattle.std.specs.Prelude.{◌≡◌, IfOk, string_bytes};
+ghost use Rattle.yq_core.{specs.Values.value_node, specs.Scalar.IsScalar, specs.Tree.children_of};
 ghost use Rattle.yq_nodes.specs.Nodes.{label_of, node_of};
 ghost use Rattle.yq_semantics.{specs.Judgement.Judges, specs.Conditions.value_of};
 ghost use Rattle.yq_eval.{specs.PlaceView.place_of, specs.TreeScalars.{EachHasScalars, HasScalars}};
+ghost use Rattle.yq_eval.specs.MatchAnswers.{JudgesValues, JudgesFields};
 ghost use Rattle.yq_semantics.specs.Copies as spec;
 
 use crate::matching::place::FoundPlace;
@@ -53,8 +54,7 @@ pub(crate) fn copy(alloc: Global, node: &Node<'_, '_>) -> Result<Value, ExprErro
 #[cycle(copy)]
 fn item_copies(alloc: Global, node: &Node<'_, '_>) -> Result<Vec<Value>, ExprError>
     requires { EachHasScalars (children_of (node_of node.now)) }
-    ensures { Judges (λ v. map value_node v.items) result
-        (spec.item_copies (children_of (node_of node.now))) }
+    ensures { JudgesValues result (spec.item_copies (children_of (node_of node.now))) }
 {
     let mut copies = Vec::new(alloc);
     let mut items = node.children();
@@ -68,8 +68,7 @@ fn item_copies(alloc: Global, node: &Node<'_, '_>) -> Result<Vec<Value>, ExprErr
 #[cycle(copy)]
 fn entry_copies(alloc: Global, node: &Node<'_, '_>) -> Result<Vec<(String, Value)>, ExprError>
     requires { EachHasScalars (children_of (node_of node.now)) }
-    ensures { Judges (λ v. map field_of v.items) result
-        (spec.entry_copies (children_of (node_of node.now))) }
+    ensures { JudgesFields result (spec.entry_copies (children_of (node_of node.now))) }
 {
     let mut copies = Vec::new(alloc);
     let mut entries = node.children();

@@ -1,9 +1,8 @@
 //! What a pipe finds: places in a list, or the items or values of one node, which are not listed.
-ghost use Rattle.std.specs.Prelude.{◌≡◌, ◌++◌, ◌∷◌, ◌==◌, [], IfSome, length, map};
-ghost use Rattle.yq_nodes.specs.Nodes.{node_of};
-ghost use Rattle.yq_semantics.{specs.Judgement.{Judges, gives}, specs.Program.{each, path}, specs.View.{stage_of, program_step}};
-ghost use Rattle.yq_eval.{specs.FoundView.{child_places, found_places}, specs.PlaceView.{path_of, places_of}};
-ghost use Rattle.yq_semantics.specs.Pipes as spec;
+ghost use Rattle.std.specs.Prelude.{◌≡◌, ◌==◌, IfSome, length};
+ghost use Rattle.yq_semantics.{specs.Judgement.Judges, specs.Program.each, specs.View.program_step};
+ghost use Rattle.yq_eval.{specs.FoundView.found_places, specs.PlaceView.places_of};
+ghost use Rattle.yq_eval.specs.PlaceAnswers.{pipe_places, EndsInEach, HaveChildrenOf};
 ghost use Rattle.yq_semantics.specs.Places as steps;
 
 use crate::matching::pipe::find;
@@ -37,8 +36,7 @@ impl FoundPlaces<'_, '_> {
 
 /// The steps before the last one of a pipe that is a path, if that one leads to all items or values.
 fn before_each(pipe: &[Stage]) -> Option<(&[PathStep], &PathStep)>
-    ensures { IfSome result (λ x. (program_step x.1.now ≡ each) × (map stage_of pipe.now ≡
-        path (map program_step x.0.now ++ each ∷ []) ∷ [])) }
+    ensures { IfSome result (λ x. EndsInEach pipe.now x.0.now x.1.now) }
 {
     let [Stage::Path(steps)] = pipe else {
         return None;
@@ -54,8 +52,7 @@ fn before_each(pipe: &[Stage]) -> Option<(&[PathStep], &PathStep)>
 
 /// The one place that there is, if its node has items or values.
 fn parent<'p, 'a, 't>(places: &'p [FoundPlace<'a, 't>]) -> Option<&'p FoundPlace<'a, 't>>
-    ensures { IfSome result (λ p. steps.for_each (steps.step_on each) (places_of places.now) ≡
-        gives (child_places (path_of p.now.path) (node_of p.now.node))) }
+    ensures { IfSome result (λ p. HaveChildrenOf places.now p.now) }
 {
     let [place] = places else {
         return None;
@@ -95,8 +92,7 @@ pub fn find_places<'a, 't>(
     pipe: &'a [Stage],
     root: Node<'a, 't>,
 ) -> Result<FoundPlaces<'a, 't>, ExprError>
-    ensures { Judges found_places result (spec.places doc (map stage_of pipe.now)
-        (node_of root.entry)) }
+    ensures { Judges found_places result (pipe_places doc pipe.now root.entry) }
 {
     let Some((front, last)) = before_each(pipe) else {
         return find(alloc, bump, doc, pipe, root).map(FoundPlaces::Listed);

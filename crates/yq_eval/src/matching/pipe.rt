@@ -1,8 +1,8 @@
 //! Where a pipe leads: each stage acts on all places before the next one does.
-ghost use Rattle.std.specs.Prelude.{◌≡◌, map};
-ghost use Rattle.yq_nodes.specs.Nodes.{node_of};
-ghost use Rattle.yq_semantics.{specs.Judgement.Judges, specs.Places.for_each, specs.View.{condition_of, stage_of}};
-ghost use Rattle.yq_eval.specs.PlaceView.{place_of, places_of, put_behind};
+ghost use Rattle.std.specs.Prelude.{map};
+ghost use Rattle.yq_semantics.{specs.Places.for_each, specs.View.stage_of};
+ghost use Rattle.yq_eval.specs.PlaceView.{place_of, places_of};
+ghost use Rattle.yq_eval.specs.PlaceAnswers.{JudgesPlaces, AddsPlaces, places_in, pipe_places, kept_if};
 ghost use Rattle.yq_semantics.specs.Pipes as spec;
 
 use crate::matching::condition::holds;
@@ -21,9 +21,7 @@ fn push_kept<'a, 't>(
     place: &FoundPlace<'a, 't>,
     places: &mut Vec<FoundPlace<'a, 't>>,
 ) -> Result<(), ExprError>
-    ensures { Judges (λ _. places_of places.new.items) result
-        (put_behind (places_of places.old.items)
-        (spec.select_on doc (condition_of condition.now) (place_of place.now))) }
+    ensures { AddsPlaces result places.old places.new (kept_if doc condition.now (place_of place.now)) }
 {
     let bump = Bump::new(alloc);
     if holds(alloc, &bump, doc, condition, *place)? {
@@ -39,8 +37,7 @@ fn select_each<'a, 't>(
     condition: &'a Condition,
     places: &[FoundPlace<'a, 't>],
 ) -> Result<Vec<FoundPlace<'a, 't>>, ExprError>
-    ensures { Judges (λ v. places_of v.items) result
-        (for_each (spec.select_on doc (condition_of condition.now)) (places_of places.now)) }
+    ensures { JudgesPlaces result (for_each (kept_if doc condition.now) (places_of places.now)) }
 {
     let mut kept = Vec::new(alloc);
     'places: for place in places {
@@ -57,8 +54,7 @@ fn stage_on<'a, 't>(
     stage: &'a Stage,
     places: Vec<FoundPlace<'a, 't>>,
 ) -> Result<Vec<FoundPlace<'a, 't>>, ExprError>
-    ensures { Judges (λ v. places_of v.items) result
-        (spec.stage_on doc (stage_of stage.now) (places_of places.entry.items)) }
+    ensures { JudgesPlaces result (spec.stage_on doc (stage_of stage.now) (places_in places.entry)) }
 {
     match stage {
         Stage::Path(steps) => traverse(alloc, bump, steps, places),
@@ -74,8 +70,7 @@ pub fn pipe_on<'a, 't>(
     pipe: &'a [Stage],
     start: Vec<FoundPlace<'a, 't>>,
 ) -> Result<Vec<FoundPlace<'a, 't>>, ExprError>
-    ensures { Judges (λ v. places_of v.items) result
-        (spec.pipe_on doc (map stage_of pipe.now) (places_of start.entry.items)) }
+    ensures { JudgesPlaces result (spec.pipe_on doc (map stage_of pipe.now) (places_in start.entry)) }
 {
     let mut places = start;
     'stages: for stage in pipe {
@@ -92,8 +87,7 @@ pub fn find<'a, 't>(
     pipe: &'a [Stage],
     root: Node<'a, 't>,
 ) -> Result<Vec<FoundPlace<'a, 't>>, ExprError>
-    ensures { Judges (λ v. places_of v.items) result
-        (spec.places doc (map stage_of pipe.now) (node_of root.entry)) }
+    ensures { JudgesPlaces result (pipe_places doc pipe.now root.entry) }
 {
     let start = FoundPlace::of_root(&root).alone(alloc)?;
     pipe_on(alloc, bump, doc, pipe, start)

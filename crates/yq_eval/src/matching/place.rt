@@ -2,7 +2,8 @@
 //! place takes one link, however deep it lies.
 ghost use Rattle.std.specs.Prelude.{◌≡◌, ◌++◌, ◌∷◌, [], IfOk};
 ghost use Rattle.yq_nodes.specs.Nodes.{label_of, node_of};
-ghost use Rattle.yq_eval.specs.PlaceView.{missing_of, node_step_of, path_of, node_or_null, place_of, places_of};
+ghost use Rattle.yq_eval.specs.PlaceView.{missing_of, node_step_of, node_or_null, place_of, places_of};
+ghost use Rattle.yq_eval.specs.PlaceAnswers.{IsChildPlace, IsFurther, child_after};
 ghost use Rattle.yq_semantics.specs.View.{program_step};
 ghost use Rattle.yq_semantics.specs.Conditions as conditions;
 ghost use Rattle.yq_semantics.specs.Places as spec;
@@ -82,8 +83,7 @@ impl<'a, 't> FoundPlace<'a, 't> {
         step: NodeStep<'a>,
         node: &Node<'a, 't>,
     ) -> FoundPlace<'a, 't>
-        ensures { (p : spec.FoundPlace) → p.path ≡ path_of path.now → place_of result ≡
-            spec.child_place p (node_step_of step.entry, node_of node.now) }
+        ensures { IsChildPlace path.now result (node_step_of step.entry, node_of node.now) }
     {
         FoundPlace {
             path: NodePath::Below(path, step),
@@ -98,19 +98,14 @@ impl<'a, 't> FoundPlace<'a, 't> {
         before: usize,
         child: &Node<'a, 't>,
     ) -> FoundPlace<'a, 't>
-        ensures { (p : spec.FoundPlace) → p.path ≡ path_of path.now → place_of result ≡
-            spec.child_place p (
-              spec.step_by before (label_of child.now).key,
-              node_of child.now,
-            ) }
+        ensures { IsChildPlace path.now result (child_after before child.now) }
     {
         FoundPlace::below(path, step_to(child, before), child)
     }
 
     /// The place from which one more step is missing than these, which are missing from here.
     pub(crate) fn further(&self, front: &'a Missing<'a>, step: &'a PathStep) -> FoundPlace<'a, 't>
-        ensures { missing_of front.now ≡ missing_of self.now.missing → place_of result ≡
-            spec.further_place (program_step step.now) (place_of self.now) }
+        ensures { IsFurther front.now self.now step.now result }
     {
         FoundPlace {
             path: self.path,

@@ -1,10 +1,10 @@
 //! Where steps lead from places: each acts on all of them before the next one
 //! does.
-ghost use Rattle.std.specs.Prelude.{◌≡◌, ◌++◌, map, OnOk};
-ghost use Rattle.yq_core.specs.Tree.{children_of};
-ghost use Rattle.yq_nodes.specs.Nodes.{node_of};
-ghost use Rattle.yq_semantics.{specs.Judgement.Judges, specs.Program.each, specs.View.program_step};
-ghost use Rattle.yq_eval.specs.PlaceView.{found_of, place_of, places_of, put_behind};
+ghost use Rattle.std.specs.Prelude.{map};
+ghost use Rattle.yq_semantics.{specs.Program.each, specs.View.program_step};
+ghost use Rattle.yq_eval.specs.PlaceView.{place_of, places_of};
+ghost use Rattle.yq_eval.specs.PlaceAnswers.{JudgesPlaces, AddsPlaces, PutsPlaces, places_in, step_along, missed_at, places_found};
+ghost use Rattle.yq_eval.specs.PlaceAnswers.{places_below};
 ghost use Rattle.yq_semantics.specs.Places as spec;
 
 use crate::matching::place::{FoundPlace, Missing, NodePath, NodeStep};
@@ -23,8 +23,7 @@ fn push_missing<'a, 't>(
     place: &FoundPlace<'a, 't>,
     places: &mut Vec<FoundPlace<'a, 't>>,
 ) -> Result<(), AllocError>
-    ensures { OnOk result (places_of places.new.items ≡ places_of places.old.items ++
-        spec.miss (program_step step.now) (place_of place.now)) }
+    ensures { PutsPlaces result places.old places.new (missed_at step.now place.now) }
 {
     match step {
         PathStep::Key(_) | PathStep::Index(_) => {
@@ -45,9 +44,7 @@ fn push_found<'a, 't>(
     found: &Option<(NodeStep<'a>, Node<'a, 't>)>,
     places: &mut Vec<FoundPlace<'a, 't>>,
 ) -> Result<(), AllocError>
-    ensures { OnOk result (places_of places.new.items ≡
-        places_of places.old.items ++ spec.found_place (program_step step.now) (place_of place.now)
-        (found_of found.now)) }
+    ensures { PutsPlaces result places.old places.new (places_found step.now place.now found.now) }
 {
     match found {
         None => push_missing(bump, step, place, places),
@@ -65,9 +62,7 @@ fn push_children<'a, 't>(
     place: &FoundPlace<'a, 't>,
     places: &mut Vec<FoundPlace<'a, 't>>,
 ) -> Result<(), AllocError>
-    ensures { OnOk result (places_of places.new.items ≡
-        places_of places.old.items ++ map (spec.child_place (place_of place.now))
-        (spec.stepped 0 (children_of (node_of place.now.node)))) }
+    ensures { PutsPlaces result places.old places.new (places_below place.now) }
 {
     let path: &'a NodePath<'a> = bump.try_alloc(place.path)?;
     let count = place.node.count();
@@ -89,8 +84,7 @@ fn push_all<'a, 't>(
     place: &FoundPlace<'a, 't>,
     places: &mut Vec<FoundPlace<'a, 't>>,
 ) -> Result<(), ExprError>
-    ensures { Judges (λ _. places_of places.new.items) result
-        (put_behind (places_of places.old.items) (spec.step_there each (place_of place.now))) }
+    ensures { AddsPlaces result places.old places.new (spec.step_there each (place_of place.now)) }
 {
     match place.node.kind() {
         NodeKind::Alias => Err(ExprError::Refused(Refusal::ThroughAlias)),
@@ -108,9 +102,7 @@ fn push_step<'a, 't>(
     place: &FoundPlace<'a, 't>,
     places: &mut Vec<FoundPlace<'a, 't>>,
 ) -> Result<(), ExprError>
-    ensures { Judges (λ _. places_of places.new.items) result
-        (put_behind (places_of places.old.items)
-        (spec.step_on (program_step step.now) (place_of place.now))) }
+    ensures { AddsPlaces result places.old places.new (step_along step.now (place_of place.now)) }
 {
     if let Missing::Further(..) = place.missing {
         return Ok(push_missing(bump, step, place, places)?);
@@ -130,8 +122,7 @@ pub(crate) fn step_each<'a, 't>(
     step: &'a PathStep,
     places: &[FoundPlace<'a, 't>],
 ) -> Result<Vec<FoundPlace<'a, 't>>, ExprError>
-    ensures { Judges (λ v. places_of v.items) result
-        (spec.for_each (spec.step_on (program_step step.now)) (places_of places.now)) }
+    ensures { JudgesPlaces result (spec.for_each (step_along step.now) (places_of places.now)) }
 {
     let mut next = Vec::new(alloc);
     'places: for place in places {
@@ -147,8 +138,7 @@ pub(crate) fn traverse<'a, 't>(
     steps: &'a [PathStep],
     start: Vec<FoundPlace<'a, 't>>,
 ) -> Result<Vec<FoundPlace<'a, 't>>, ExprError>
-    ensures { Judges (λ v. places_of v.items) result
-        (spec.traverse (map program_step steps.now) (places_of start.entry.items)) }
+    ensures { JudgesPlaces result (spec.traverse (map program_step steps.now) (places_in start.entry)) }
 {
     let mut places = start;
     'steps: for step in steps {

@@ -1,6 +1,6 @@
 //! Pieces of bytes before and after a cursor.
-ghost use Rattle.std.specs.Prelude.{◌≡◌, ◌≢◌, ◌↔◌, ◌+◌, ◌≤◌, List, ℕ, ◌++◌, false, IsTrue, IfOk, OnOk, length};
-ghost use Rattle.yq_journal.specs.ByteGapBuffer.{forward_bytes, backward_bytes};
+ghost use Rattle.std.specs.Prelude.{◌≡◌, ◌↔◌, ◌+◌, ◌≤◌, ◌++◌, IsTrue, OnOk, length};
+ghost use Rattle.yq_journal.specs.ByteGapBuffer.{forward_bytes, backward_bytes, cut_bytes, pieces_length, TakesOff, NeedsOthers};
 
 use std::alloc::AllocError;
 
@@ -11,10 +11,8 @@ pub(crate) fn move_on<'t>(
     count: usize,
 ) -> Result<(), AllocError>
     requires { count ≤ length (backward_bytes after.old.items) }
-    ensures bytes { OnOk result (forward_bytes before.new.items ++ backward_bytes after.new.items ≡
-        forward_bytes before.old.items ++ backward_bytes after.old.items) }
-    ensures count { OnOk result (length (forward_bytes before.new.items) ≡
-        length (forward_bytes before.old.items) + count) }
+    ensures bytes { OnOk result (cut_bytes before.new after.new ≡ cut_bytes before.old after.old) }
+    ensures count { OnOk result (pieces_length before.new ≡ pieces_length before.old + count) }
 {
     let mut left = count;
     'pieces: while left > 0 {
@@ -39,10 +37,8 @@ pub(crate) fn move_back<'t>(
     count: usize,
 ) -> Result<(), AllocError>
     requires { count ≤ length (forward_bytes before.old.items) }
-    ensures bytes { OnOk result (forward_bytes before.new.items ++ backward_bytes after.new.items ≡
-        forward_bytes before.old.items ++ backward_bytes after.old.items) }
-    ensures count { OnOk result (length (forward_bytes before.new.items) + count ≡
-        length (forward_bytes before.old.items)) }
+    ensures bytes { OnOk result (cut_bytes before.new after.new ≡ cut_bytes before.old after.old) }
+    ensures count { OnOk result (pieces_length before.new + count ≡ pieces_length before.old) }
 {
     let mut left = count;
     'pieces: while left > 0 {
@@ -70,10 +66,8 @@ fn is_same(bytes: &[u8], others: &[u8]) -> bool
 
 /// Takes bytes away that come first after a cursor, where these are there.
 pub(crate) fn take_off<'t>(after: &mut Vec<&'t [u8]>, bytes: &[u8]) -> Result<bool, AllocError>
-    ensures there { IfOk result (λ found. IsTrue found →
-        backward_bytes after.old.items ≡ bytes.now ++ backward_bytes after.new.items) }
-    ensures other { IfOk result (λ found. found ≡ false → (c : List ℕ) →
-        backward_bytes after.old.items ≢ bytes.now ++ c) }
+    ensures there { TakesOff result after.old after.new bytes.now }
+    ensures other { NeedsOthers result after.old bytes.now }
 {
     let mut left = bytes;
     'pieces: while !left.is_empty() {

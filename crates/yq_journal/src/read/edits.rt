@@ -1,6 +1,7 @@
 //! Records of edits from their values.
-ghost use Rattle.std.specs.Prelude.{◌≡◌, IfOk, option_map, option_and_then};
+ghost use Rattle.std.specs.Prelude.{◌≡◌, IfOk, option_and_then};
 ghost use Rattle.serde_json.{specs.Find.get, specs.View.view};
+ghost use Rattle.yq_journal.specs.ListAnswers.{GivesItems};
 ghost use Rattle.yq_journal.specs.Json as spec;
 
 use super::fields::{bytes, has_keys, number, text};
@@ -31,7 +32,7 @@ fn splice(alloc: Global, value: &Value) -> Result<Option<Splice>, AllocError>
 
 /// A list of splices.
 fn splices(alloc: Global, value: &Value) -> Result<Option<Vec<Splice>>, AllocError>
-    ensures { IfOk result (λ o. option_map (λ v. v.items) o ≡ spec.splices_of (view value.now)) }
+    ensures { GivesItems result (spec.splices_of (view value.now)) }
 {
     let Some(values) = value.as_array() else {
         return Ok(None);
@@ -59,8 +60,7 @@ fn count(value: &Value, counted: bool) -> Option<u64>
 
 /// The splices under a key.
 fn splices_at(alloc: Global, value: &Value, key: &str) -> Result<Option<Vec<Splice>>, AllocError>
-    ensures { IfOk result (λ o. option_map (λ v. v.items) o ≡
-        option_and_then spec.splices_of (get key.now (view value.now))) }
+    ensures { GivesItems result (option_and_then spec.splices_of (get key.now (view value.now))) }
 {
     match value.get(key) {
         Some(value) => splices(alloc, value),
@@ -116,8 +116,7 @@ pub(super) fn records(
     value: &Value,
     counted: bool,
 ) -> Result<Option<Vec<Record>>, AllocError>
-    ensures { IfOk result (λ o. option_map (λ v. v.items) o ≡
-        spec.records_of counted (view value.now)) }
+    ensures { GivesItems result (spec.records_of counted (view value.now)) }
 {
     let Some(values) = value.as_array() else {
         return Ok(None);

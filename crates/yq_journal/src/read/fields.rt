@@ -1,8 +1,8 @@
 //! What is under the keys of an object.
-ghost use Rattle.std.{specs.Prelude.{◌≡◌, IfOk, IfSome, Ok, option_map}, specs.Result.result_ok};
-ghost use Rattle.base64.{specs.Engines.standard, specs.GeneralPurpose.{decode_of, encode_of}};
-ghost use Rattle.json.specs.Print.{escape};
+ghost use Rattle.std.{specs.Prelude.{◌≡◌, option_map}, specs.Result.result_ok};
+ghost use Rattle.base64.{specs.Engines.standard, specs.GeneralPurpose.decode_of};
 ghost use Rattle.serde_json.specs.View.{view};
+ghost use Rattle.yq_journal.{specs.ListAnswers.{GivesItems, IfFound}, specs.Added.{base64_text, AreDecodedAgain}};
 ghost use Rattle.yq_journal.specs.Json as spec;
 
 use base64::DecodeAllocError;
@@ -26,12 +26,9 @@ pub(super) fn text<'a>(value: &'a Value, key: &str) -> Option<&'a str>
 
 /// Bytes from padded standard base64.
 pub(super) fn decoded(alloc: Global, text: &[u8]) -> Result<Option<Vec<u8>>, AllocError>
-    ensures value { IfOk result (λ o. option_map (λ v. v.items) o ≡
-        result_ok (decode_of standard text.now)) }
-    ensures exact { IfOk result (λ o. IfSome o (λ v.
-        text.now ≡ escape (encode_of standard v.items))) }
-    ensures reads_back { IfOk result (λ o. IfSome o (λ v.
-        decode_of standard (encode_of standard v.items) ≡ Ok v.items)) }
+    ensures value { GivesItems result (result_ok (decode_of standard text.now)) }
+    ensures exact { IfFound result (λ v. text.now ≡ base64_text v.items) }
+    ensures reads_back { IfFound result (λ v. AreDecodedAgain v.items) }
 {
     match STANDARD.decode(alloc, text) {
         Ok(bytes) => Ok(Some(bytes)),
@@ -42,8 +39,7 @@ pub(super) fn decoded(alloc: Global, text: &[u8]) -> Result<Option<Vec<u8>>, All
 
 /// The bytes under a key, from padded standard base64.
 pub(super) fn bytes(alloc: Global, value: &Value, key: &str) -> Result<Option<Vec<u8>>, AllocError>
-    ensures { IfOk result (λ o. option_map (λ v. v.items) o ≡
-        spec.bytes_at key.now (view value.now)) }
+    ensures { GivesItems result (spec.bytes_at key.now (view value.now)) }
 {
     let Some(text) = text(value, key) else {
         return Ok(None);

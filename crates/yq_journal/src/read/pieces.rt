@@ -1,8 +1,8 @@
 //! The pieces of a text of the written form, each with what comes after it: fixed bytes, numbers, bytes in
 //! base64 and strings.
-ghost use Rattle.std.{specs.Prelude.{◌≡◌, ◌≤◌, ◌<◌, ◌+◌, ◌^◌, ◌∷◌, ◌++◌, IfOk, IfSome, Ok, decimal, length}, specs.String.string_bytes};
-ghost use Rattle.base64.{specs.Engines.standard, specs.GeneralPurpose.{decode_of, encode_of}};
-ghost use Rattle.json.specs.Print.{escape, quoted};
+ghost use Rattle.std.{specs.Prelude.{◌≡◌, ◌≤◌, ◌<◌, ◌+◌, ◌^◌, ◌∷◌, ◌++◌, IfOk, IfSome, decimal, length}, specs.String.string_bytes};
+ghost use Rattle.json.specs.Print.{quoted};
+ghost use Rattle.yq_journal.{specs.ListAnswers.IfFound, specs.Added.{base64_text, AreDecodedAgain}};
 
 use super::fields::decoded;
 use crate::quoting::{is_bare, quoted_text};
@@ -75,10 +75,8 @@ pub(super) fn bytes<'t>(
     alloc: Global,
     text: &'t [u8],
 ) -> Result<Option<(Vec<u8>, &'t [u8])>, AllocError>
-    ensures text { IfOk result (λ o. IfSome o (λ p. text.now ≡
-        escape (encode_of standard p.0.items) ++ p.1.now)) }
-    ensures reads_back { IfOk result (λ o. IfSome o (λ p.
-        decode_of standard (encode_of standard p.0.items) ≡ Ok p.0.items)) }
+    ensures text { IfFound result (λ p. text.now ≡ base64_text p.0.items ++ p.1.now) }
+    ensures reads_back { IfFound result (λ p. AreDecodedAgain p.0.items) }
 {
     let end = quote_at(text);
     match decoded(alloc, &text[..end])? {

@@ -1,7 +1,7 @@
 //! A journal from a text of the written form, by one pass and with no tree of values. What is scanned is the
 //! very text that is written of it, so the records keep theirs, and it is not written anew.
-ghost use Rattle.std.specs.Prelude.{◌≡◌, ◌-◌, ◌^◌, ◌<◌, ◌++◌, IfOk, IfSome, Some, codes, decimal, length, take, true};
-ghost use Rattle.yq_journal.specs.Added.{IsInFront, changes_data, records_data};
+ghost use Rattle.std.specs.Prelude.{◌≡◌, ◌-◌, ◌^◌, ◌<◌, ◌++◌, IfOk, IfSome, Some, length, take, true};
+ghost use Rattle.yq_journal.specs.Added.{changes_data, records_data, FindsJson, splice_front, record_front, journal_front};
 ghost use Rattle.serde_json.specs.Written.{comma_if};
 ghost use Rattle.yq_journal.specs.Json as spec;
 
@@ -25,8 +25,7 @@ fn after_comma(text: &[u8], later: bool) -> Option<&[u8]>
 /// The offset of a splice, and what comes after it and the next key.
 #[tactic(auto, using(crate::proofs::FrontLaws::and_then))]
 fn offset(text: &[u8]) -> Option<(u64, &[u8])>
-    ensures text { IfSome result (λ p. text.now ≡ ((codes "{\"at\":" ++ decimal p.0) ++
-        codes ",\"new\":\"") ++ p.1.now) }
+    ensures text { IfSome result (λ p. text.now ≡ splice_front p.0 ++ p.1.now) }
     ensures fits { IfSome result (λ p. p.0 < 2 ^ 64) }
 {
     let (at, rest) = number(after(text, b"{\"at\":")?)?;
@@ -35,8 +34,7 @@ fn offset(text: &[u8]) -> Option<(u64, &[u8])>
 
 /// A splice, and what comes after it.
 fn splice<'t>(alloc: Global, text: &'t [u8]) -> Result<Option<(Splice, &'t [u8])>, AllocError>
-    ensures { IfOk result (λ o. IfSome o (λ p. IsInFront spec.change_data spec.splice_of p.0
-        text.now p.1.now)) }
+    ensures { FindsJson result (λ s. s) spec.change_data spec.splice_of text.now }
 {
     let Some((at, rest)) = offset(text) else {
         return Ok(None);
@@ -58,8 +56,7 @@ fn splice<'t>(alloc: Global, text: &'t [u8]) -> Result<Option<(Splice, &'t [u8])
 
 /// A list of splices, and what comes after it.
 fn splices<'t>(alloc: Global, text: &'t [u8]) -> Result<Option<(Vec<Splice>, &'t [u8])>, AllocError>
-    ensures { IfOk result (λ o. IfSome o (λ p. IsInFront changes_data spec.splices_of p.0.items
-        text.now p.1.now)) }
+    ensures { FindsJson result (λ v. v.items) changes_data spec.splices_of text.now }
 {
     let Some(begun) = after(text, b"[") else {
         return Ok(None);
@@ -93,9 +90,7 @@ fn front(alloc: Global, text: &[u8], rest: &[u8]) -> Result<Vec<u8>, AllocError>
 
 /// The lengths and the count of a record, and what comes after them and the next key.
 fn numbers(text: &[u8]) -> Option<(u64, u64, u64, &[u8])>
-    ensures text { IfSome result (λ p. text.now ≡ ((((((codes "{\"after_len\":" ++ decimal p.0) ++
-        codes ",\"before_len\":") ++ decimal p.1) ++ codes ",\"count\":") ++ decimal p.2) ++
-        codes ",\"expr\":") ++ p.3.now) }
+    ensures text { IfSome result (λ p. text.now ≡ record_front p.0 p.1 p.2 ++ p.3.now) }
     ensures fits { IfSome result (λ p. (p.0 < 2 ^ 64) × (p.1 < 2 ^ 64) × (p.2 < 2 ^ 64)) }
 {
     let (after_len, rest) = number(after(text, b"{\"after_len\":")?)?;
@@ -106,8 +101,7 @@ fn numbers(text: &[u8]) -> Option<(u64, u64, u64, &[u8])>
 
 /// A record that keeps its text, and what comes after it.
 fn record<'t>(alloc: Global, text: &'t [u8]) -> Result<Option<(Record, &'t [u8])>, AllocError>
-    ensures { IfOk result (λ o. IfSome o (λ p. IsInFront spec.record_data (spec.record_of true) p.0
-        text.now p.1.now)) }
+    ensures { FindsJson result (λ r. r) spec.record_data (spec.record_of true) text.now }
 {
     let Some((after_len, before_len, count, rest)) = numbers(text) else {
         return Ok(None);
@@ -144,8 +138,7 @@ fn record<'t>(alloc: Global, text: &'t [u8]) -> Result<Option<(Record, &'t [u8])
 
 /// A list of records, no more than a journal may hold, and what comes after it.
 fn records<'t>(alloc: Global, text: &'t [u8]) -> Result<Option<(Vec<Record>, &'t [u8])>, AllocError>
-    ensures { IfOk result (λ o. IfSome o (λ p. IsInFront records_data (spec.records_of true) p.0.items
-        text.now p.1.now)) }
+    ensures { FindsJson result (λ v. v.items) records_data (spec.records_of true) text.now }
 {
     let Some(begun) = after(text, b"[") else {
         return Ok(None);
@@ -172,8 +165,7 @@ fn records<'t>(alloc: Global, text: &'t [u8]) -> Result<Option<(Vec<Record>, &'t
 
 /// The cursor of a journal with no open move, and what comes after it and the key of the records.
 fn cursor(text: &[u8]) -> Option<(u64, &[u8])>
-    ensures text { IfSome result (λ p. text.now ≡ ((codes "{\"at\":" ++ decimal p.0) ++
-        codes ",\"pending\":null,\"records\":") ++ p.1.now) }
+    ensures text { IfSome result (λ p. text.now ≡ journal_front p.0 ++ p.1.now) }
     ensures fits { IfSome result (λ p. p.0 < 2 ^ 64) }
 {
     let (at, rest) = number(after(text, b"{\"at\":")?)?;

@@ -1,8 +1,7 @@
 //! The pieces of a journal's text: numbers, bytes in base64, and commas.
-ghost use Rattle.std.{specs.Prelude.{◌≡◌, ◌<◌, ◌^◌, ◌++◌, Ok, OnOk, decimal}, specs.String.string_bytes};
-ghost use Rattle.base64.{specs.Engines.standard, specs.GeneralPurpose.{decode_of, encode_of}};
-ghost use Rattle.json.specs.Print.{escape};
+ghost use Rattle.std.{specs.Prelude.{◌≡◌, ◌<◌, ◌^◌, ◌++◌, OnOk}, specs.String.string_bytes};
 ghost use Rattle.serde_json.specs.Written.{comma_if};
+ghost use Rattle.yq_journal.specs.Added.{AreDecodedAgain, AddsNumber, AddsBase64};
 
 use base64::engine::general_purpose::STANDARD;
 use itoa::Buffer;
@@ -10,8 +9,7 @@ use std::alloc::AllocError;
 
 /// Adds a key, with what comes before it, and a number.
 pub(super) fn push_number(text: &mut String, key: &str, number: u64) -> Result<(), AllocError>
-    ensures added { OnOk result (string_bytes text.new ≡
-        (string_bytes text.old ++ key.now) ++ decimal number) }
+    ensures added { AddsNumber result text.old text.new key.now number }
     ensures fits { OnOk result (number < 2 ^ 64) }
 {
     let mut buffer = Buffer::new();
@@ -33,10 +31,8 @@ pub(super) fn push_comma(text: &mut String, later: bool) -> Result<(), AllocErro
 
 /// Adds bytes in base64, of which JSON escapes no character.
 pub(super) fn push_base64(text: &mut String, bytes: &[u8]) -> Result<(), AllocError>
-    ensures added { OnOk result (string_bytes text.new ≡
-        string_bytes text.old ++ escape (encode_of standard bytes.now)) }
-    ensures reads_back { OnOk result (decode_of standard (encode_of standard bytes.now) ≡
-        Ok bytes.now) }
+    ensures added { AddsBase64 result text.old text.new bytes.now }
+    ensures reads_back { OnOk result (AreDecodedAgain bytes.now) }
 {
     STANDARD.encode_string(bytes, text)
 }

@@ -1,6 +1,6 @@
 //! The text of records and of their splices.
-ghost use Rattle.std.{specs.Prelude.{[], IfSome, OnOk, true}, specs.String.string_bytes};
-ghost use Rattle.yq_journal.specs.Added.{Adds, changes_data, records_data};
+ghost use Rattle.std.specs.Prelude.{[], IfSome, true};
+ghost use Rattle.yq_journal.specs.Added.{Adds, changes_data, records_data, AddsJson};
 ghost use Rattle.yq_journal.specs.Json as spec;
 
 use super::pieces::{push_base64, push_comma, push_number};
@@ -12,8 +12,7 @@ use yq_text::Splice;
 
 /// Adds a splice.
 fn push_splice(text: &mut String, splice: &Splice) -> Result<(), AllocError>
-    ensures { OnOk result (Adds spec.change_data spec.splice_of splice.now
-        (string_bytes text.old) (string_bytes text.new)) }
+    ensures { AddsJson result text.old text.new spec.change_data spec.splice_of splice.now }
 {
     push_number(text, "{\"at\":", splice.at)?;
     text.push_str(",\"new\":\"")?;
@@ -26,8 +25,7 @@ fn push_splice(text: &mut String, splice: &Splice) -> Result<(), AllocError>
 
 /// Adds splices.
 fn push_splices(text: &mut String, splices: &[Splice]) -> Result<(), AllocError>
-    ensures { OnOk result (Adds changes_data spec.splices_of splices.now
-        (string_bytes text.old) (string_bytes text.new)) }
+    ensures { AddsJson result text.old text.new changes_data spec.splices_of splices.now }
 {
     text.push_str("[")?;
     let mut later = false;
@@ -42,8 +40,7 @@ fn push_splices(text: &mut String, splices: &[Splice]) -> Result<(), AllocError>
 
 /// Adds a record, piece by piece.
 fn push_pieces(text: &mut String, alloc: Global, patch: &Record) -> Result<(), AllocError>
-    ensures { OnOk result (Adds spec.record_data (spec.record_of true) patch.now
-        (string_bytes text.old) (string_bytes text.new)) }
+    ensures { AddsJson result text.old text.new spec.record_data (spec.record_of true) patch.now }
 {
     push_number(text, "{\"after_len\":", patch.after_len)?;
     push_number(text, ",\"before_len\":", patch.before_len)?;
@@ -72,8 +69,7 @@ pub(super) fn push_record(
     alloc: Global,
     patch: &Record,
 ) -> Result<(), AllocError>
-    ensures { OnOk result (Adds spec.record_data (spec.record_of true) patch.now
-        (string_bytes text.old) (string_bytes text.new)) }
+    ensures { AddsJson result text.old text.new spec.record_data (spec.record_of true) patch.now }
 {
     match kept_text(patch) {
         Some(kept) => Ok(text.push_str(kept)?),
@@ -87,8 +83,7 @@ pub(super) fn push_records(
     alloc: Global,
     records: &[Record],
 ) -> Result<(), AllocError>
-    ensures { OnOk result (Adds records_data (spec.records_of true) records.now
-        (string_bytes text.old) (string_bytes text.new)) }
+    ensures { AddsJson result text.old text.new records_data (spec.records_of true) records.now }
 {
     text.push_str("[")?;
     let mut later = false;

@@ -1,20 +1,18 @@
 //! Laws of what is put after a text that has no final break.
-ghost use Rattle.std.specs.Prelude.{ℕ, List, [], ◌++◌};
-ghost use Rattle.yq_row_table.{specs.Appending.{PartFits, with_last_part}, specs.Grammar.{AreRows, IsCut, Limit}, specs.Rows.{Cut, Part}};
+ghost use Rattle.std.specs.Prelude.{ℕ, List};
+ghost use Rattle.yq_row_table.{specs.Appending.{PartFits, with_last_part}, specs.Grammar.{IsCut, Limit}, specs.Rows.{Cut, Part}};
 ghost use Rattle.yq_row_table.specs.Splices.{CutsItsText};
-ghost use Rattle.yq_rows.specs.RowsBetween.{AppendedRows, MayAppendIn, MayAppendTo, cut_appended, closed_rows};
+ghost use Rattle.yq_rows.{specs.RowsBetween.{AppendedRows, MayAppendIn, MayAppendTo}, specs.RowLaws.{AreAppended, IsClosedCut}};
 
 /// Rows after the last one of a text without a final break: that one gets a break, and the rows
 /// come after it.
 pub fn rows_appended()
-    ensures { (limit : Limit) (x : AppendedRows) → MayAppendTo limit x →
-        AreRows limit (x.front ++ closed_rows x) x.end [] }
+    ensures { (limit : Limit) (x : AppendedRows) → MayAppendTo limit x → AreAppended limit x }
 {}
 
 /// The same in a cut.
 pub fn end_appended()
-    ensures { (k : ℕ) (c : Cut) (x : AppendedRows) → MayAppendIn k c x →
-        CutsItsText (cut_appended k c x) }
+    ensures { (k : ℕ) (c : Cut) (x : AppendedRows) → MayAppendIn k c x → IsClosedCut k c x }
 {}
 
 /// A part after the last marker of a text, which has no break: the marker gets one.

@@ -1,10 +1,11 @@
 //! Laws of seams: what a row asks of the text after it, and rows that take the place of others.
 ghost use Rattle.std.specs.Prelude.{◌≡◌, ℕ, Bool, List, [], ◌∷◌, ◌++◌, false, true};
 ghost use Rattle.yq_core.{specs.BlockRepair.repair, specs.Characters.pairs_returns, specs.Text.{is_empty, joined, text_lines}};
-ghost use Rattle.yq_row_table.{specs.Gap.IsGap, specs.Grammar.{IsRow, AreRows, Limit, limit_after}};
+ghost use Rattle.yq_row_table.{specs.Gap.IsGap, specs.Grammar.{IsRow, AreRows, Limit}};
 ghost use Rattle.yq_row_table.specs.Joined.{CompactFits, DashFits, Joins, compact_row, dashed_row, joined_row};
 ghost use Rattle.yq_row_table.specs.Rows.{Content, Row, mark_column, parent_indent, print_row, rows_text};
 ghost use Rattle.yq_row_table.specs.Seams.{MayFollowRows, TailFits, TakesPlace, retail};
+ghost use Rattle.yq_rows.specs.RowLaws.{AskAlike};
 
 /// A row before one text is a row before another one that may come after it: rows that begin where
 /// the row allows, and what its tail or block scalar asks.
@@ -34,8 +35,7 @@ pub fn row_retailed()
 pub fn row_joined()
     ensures row { (limit other : Limit) (r q : Row) (t u : List ℕ) → IsRow limit r t →
         IsRow other q u → Joins r q → TakesPlace limit r t (joined_row r q) u }
-    ensures limit { (r q : Row) → q.column ≡ mark_column r → limit_after (joined_row r q) ≡
-        limit_after q }
+    ensures limit { (r q : Row) → q.column ≡ mark_column r → AskAlike (joined_row r q) q }
 {}
 
 /// A row up to one of its dashes, with another content after that; and a row after whose dash

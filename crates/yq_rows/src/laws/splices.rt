@@ -1,21 +1,19 @@
 //! Laws of splices: a cut, of which other rows are in the place of some.
-ghost use Rattle.std.specs.Prelude.{◌≡◌, ◌≤◌, ℕ, List, ◌++◌, Some, false, slice_get, true};
-ghost use Rattle.yq_row_table.{specs.Counted.RowPlace, specs.Removal.{RepairFits, without_rows}};
-ghost use Rattle.yq_row_table.{specs.Rows.{Cut, Row, cut_text, rows_text}, specs.Seams.{are_seamed, ends_in_block, ends_in_line, retail}};
-ghost use Rattle.yq_row_table.{specs.Splices.CutsItsText, specs.View.rows_of};
-ghost use Rattle.yq_rows.specs.RowSplices.{IsCutOfText, MayInsert, MayRemove, MayReplaceRows, MaySplice, RowSplice, after_splice};
-ghost use Rattle.yq_rows.specs.RowSplices.{before_splice, cut_inserted, old_gap, old_rows, cut_removed, cut_spliced};
-ghost use Rattle.yq_rows.specs.RowsBetween.{IsRowBetween, RowBetween, StandsForRow, TailFitsRow, TakesRowPlace, cut_with_row};
+ghost use Rattle.std.specs.Prelude.{◌≡◌, ◌≤◌, ℕ, List, Some, false, slice_get, true};
+ghost use Rattle.yq_row_table.{specs.Counted.RowPlace, specs.Removal.{RepairFits, without_rows}, specs.Rows.{Cut, Row}};
+ghost use Rattle.yq_row_table.{specs.Seams.{are_seamed, ends_in_block, ends_in_line}, specs.Splices.CutsItsText, specs.View.rows_of};
+ghost use Rattle.yq_rows.specs.RowSplices.{IsCutOfText, MayInsert, MayRemove, MayReplaceRows, MaySplice, RowSplice, cut_inserted};
+ghost use Rattle.yq_rows.specs.RowSplices.{cut_removed, cut_spliced};
+ghost use Rattle.yq_rows.specs.RowsBetween.{IsRowBetween, RowBetween, StandsForRow, TailFitsRow, TakesRowPlace};
+ghost use Rattle.yq_rows.specs.RowLaws.{HasOldRows, HasNewRows, RowIsTaken, TailIsTaken};
 
 /// A cut, of which other rows are in the place of some, is a cut where they fit and the new text
 /// may be. Its text is that before those rows, the new rows with the gap after them, and the
 /// rest.
 pub fn rows_spliced()
     ensures cut { (x : RowSplice) → IsCutOfText x.cut → MaySplice x → CutsItsText (cut_spliced x) }
-    ensures old { (x : RowSplice) → x.start ≤ x.stop → cut_text x.cut ≡
-        before_splice x ++ rows_text (old_rows x) (old_gap x ++ after_splice x) }
-    ensures new { (x : RowSplice) → cut_text (cut_spliced x) ≡
-        before_splice x ++ rows_text x.new (x.gap ++ after_splice x) }
+    ensures old { (x : RowSplice) → x.start ≤ x.stop → HasOldRows x }
+    ensures new { (x : RowSplice) → HasNewRows x }
 {}
 
 /// Rows exchanged for others whose text begins like theirs: nothing is asked of the rows in front.
@@ -25,21 +23,18 @@ pub fn rows_replaced()
 
 /// One row exchanged for another one that takes its place, after which the next row may be.
 pub fn row_replaced()
-    ensures { (x : RowBetween) (new : Row) →
-        IsRowBetween x → TakesRowPlace new x → CutsItsText (cut_with_row new x) }
+    ensures { (x : RowBetween) (new : Row) → IsRowBetween x → TakesRowPlace new x → RowIsTaken new x }
 {}
 
 /// One row exchanged for another one after the same gap and at the same column: the rows in front
 /// ask no more of it.
 pub fn row_exchanged()
-    ensures { (x : RowBetween) (new : Row) →
-        IsRowBetween x → StandsForRow new x → CutsItsText (cut_with_row new x) }
+    ensures { (x : RowBetween) (new : Row) → IsRowBetween x → StandsForRow new x → RowIsTaken new x }
 {}
 
 /// A cut, of which a row has another tail that fits, is a cut where the new text may be.
 pub fn tail_replaced()
-    ensures { (x : RowBetween) (new : List ℕ) →
-        IsRowBetween x → TailFitsRow new x → CutsItsText (cut_with_row (retail new x.row) x) }
+    ensures { (x : RowBetween) (new : List ℕ) → IsRowBetween x → TailFitsRow new x → TailIsTaken new x }
 {}
 
 /// Rows put in after a row: what that row asks of the text after it, and where the next row

@@ -12,7 +12,8 @@ some_borrowed (Some k) = refl
 pub returns : goal.returns
 returns c =
     let k = layout_of c.args.doc (cut_of c.args.cut.now) in
-    let v = value_node c.args.value.now in
-    let like = subst (λ (b : Bool). LooksLike b v c.layout_for-layout.result k) (c.is_some.ensures ∙ some_borrowed c.args.key) c.layout_for-layout.ensures in
-    let same = more_like (borrowed c.args.key) v c.layout_for-layout.result k c.args.column c.args.last.now like in
+    let v = value_node c.args.child.value.now in
+    let some = c.is_some.ensures ∙ some_borrowed c.args.child.key in
+    let like = subst (λ (b : Bool). LooksLike b v c.layout_for-layout.result k) some c.layout_for-layout.ensures in
+    let same = more_like (borrowed c.args.child.key) v c.layout_for-layout.result k c.args.column c.args.last.now like in
     subst (λ (t : List ℕ). IfOk c.entry_text.result (λ s. string_bytes s ≡ t)) same c.entry_text.ensures

@@ -9,8 +9,10 @@ is_there-requires-clause-done c =
     let b = some_of (all_done (take c.splices.k (flipped_if c.args.back c.args.splices.now)) c.args.text.now) c.splices.invariant in (
       b.0,
       b.1,
-      lies_within (flipped_if c.args.back c.args.splices.now) c.splices.k _ c.args.text.now b.0 c.requires b.1 c.nth-at.ensures,
-      stays_small (flipped_if c.args.back c.args.splices.now) c.splices.k c.args.text.now b.0 c.requires b.1 (omega arith),
+      (
+        lies_within (flipped_if c.args.back c.args.splices.now) c.splices.k _ c.args.text.now b.0 c.requires b.1 c.nth-at.ensures,
+        stays_small (flipped_if c.args.back c.args.splices.now) c.splices.k c.args.text.now b.0 c.requires b.1 (omega arith),
+      ),
     )
 
 pub returns-then-not-is_there : goal.returns-then-not-is_there

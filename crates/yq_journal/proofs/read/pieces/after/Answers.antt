@@ -1,4 +1,4 @@
-use Rattle.std.proofs.Common.{◌∙◌, arith}
+use Rattle.std.proofs.Common.{arith}
 use Rattle.yq_journal.proofs.FrontLaws.{alike_end, alike_more}
 use Rattle.yq_journal.proofs.read.pieces.after.Goals as goal
 

@@ -1,0 +1,2 @@
+pub mod SegmentsPut
+pub mod TextsPut

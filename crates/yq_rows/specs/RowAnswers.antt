@@ -1,0 +1,113 @@
+-- What calls that read and keep rows answer (own; a reader of the contracts may skip it).
+use Rattle.std.specs.Borrow.{Bor}
+use Rattle.std.specs.Prelude.{◌≡◌, ◌-◌, ◌==◌, ◌&&◌, ◌||◌, ℕ, Bool, List, Option, Some, None, OnOk, Result, Vec, [], is_ok, length, nat_lt}
+use Rattle.std.{specs.Prelude.{not, option_map, if◌then◌else◌}, specs.declared.alloc.Global.Global}
+use Rattle.yq_core.{specs.Answers.{Gives, ReadsAs}, specs.Places.Placed, specs.Text.{is_empty, is_marker}}
+use Rattle.yq_core.specs.declared.fault.ReadError.{ReadError}
+use Rattle.yq_row_table.{specs.Grammar.allows, specs.Items.{Item, items_text, view_of_items}, specs.Kept.{kept_rows, rows_placed}}
+use Rattle.yq_row_table.{specs.Meter.{begins_line, count_after, line_count}, specs.Offsets.{offsets_of, rows_in, slices_in}}
+use Rattle.yq_row_table.{specs.Reading.read_row_key, specs.Regions.{IsReadAlone, region_items}, specs.Rows.Part}
+use Rattle.yq_row_table.{specs.Slicing.{SlicedRow, marked_sliced, row_of, rows_sliced}, specs.View.{RowsView, Slices}}
+use Rattle.yq_row_table.{specs.declared.offsets.Offsets.Offsets, specs.declared.places.Places.Places}
+use Rattle.yq_text.specs.TextGapBuffer.{TextGapView, buffer_text}
+use Rattle.yq_rows.{specs.Exchanging.TextChange, specs.Following.{CountsWritten, Follows, exchanged}}
+use Rattle.yq_rows.specs.Measured.{measured, measured_view, past_node}
+use Rattle.yq_rows.{specs.ReadPieces.{begin_view, filling_view, limit_view, read_slices}, specs.Sides.both_sides}
+use Rattle.yq_rows.{specs.declared.content.Filling.Filling, specs.declared.kept.Kept.Kept, specs.declared.marks.Begin.Begin}
+use Rattle.yq_rows.{specs.declared.measuring.Measured.Measured, specs.declared.sides.Side.Side, specs.declared.touched.Touched.Touched}
+use Rattle.yq_rows.specs.declared.limit.Limit as asked
+
+-- ---- nodes
+
+-- the answer is what is known of the node that reading gives, and what comes after it
+abbrev pub MeasuresNode : {E : Type 0} → Result Measured E → Option (Placed × List ℕ) → Type 0
+MeasuresNode r read = ReadsAs measured_view r (measured read)
+
+-- the answer is what comes after the node that reading gives
+abbrev pub PassesNode : {A E : Type 0} → Result (Bor (List ℕ)) E → Option (A × List ℕ) → Type 0
+PassesNode r read = ReadsAs (λ r. r.now) r (past_node read)
+
+-- ---- rows
+
+-- the answer is what is read after the marks of a row, whatever the gap above it is
+abbrev pub ReadsMarked : ℕ → Begin → Result Filling ReadError → Type 0
+ReadsMarked column b r = (gap : List ℕ) → Gives (λ f. row_of gap column (begin_view b) (filling_view f)) r (marked_sliced gap column (begin_view b))
+
+-- whether a row may be at a column before this text
+abbrev pub may_be_at : asked.Limit → ℕ → List ℕ → Bool
+may_be_at limit column text = allows (limit_view limit) column && not (column == 0 && is_marker text)
+
+-- the answer is the row that reading gives, what it asks of the next one, and what comes after it
+abbrev pub GivesRow : List ℕ → Result (Offsets × asked.Limit × Bor (List ℕ)) ReadError → Option SlicedRow → Type 0
+GivesRow whole r read = Gives (λ x. (slices_in whole x.0, limit_view x.1, x.2.now)) r read
+
+-- where a row is that begins where this end of the whole text does, and how long its pieces are
+abbrev pub offsets_from : (whole text : List ℕ) → Slices → Offsets
+offsets_from whole text s = offsets_of (length whole - length text) s
+
+-- the same of pieces as the code read them
+abbrev pub offsets_found : (whole text gap : List ℕ) → ℕ → Begin → Filling → Offsets
+offsets_found whole text gap column b f = offsets_from whole text (read_slices gap column b f)
+
+-- the same of a row that begins at an offset
+abbrev pub offsets_read : ℕ → List ℕ → ℕ → Begin → Filling → Offsets
+offsets_read start gap column b f = offsets_of start (read_slices gap column b f)
+
+-- where rows are that were read, the gap after them, and what comes after that
+abbrev pub RowsRead : Type 0
+RowsRead = Vec Offsets Global × Bor (List ℕ) × Bor (List ℕ)
+
+-- the answer is rows and those that reading gives, the gap after them, and what comes after that
+abbrev pub GivesRows : List ℕ → Vec Offsets Global → Result RowsRead ReadError → Option (Part × List ℕ) → Type 0
+GivesRows whole rows r read = Gives (λ x. (rows_in whole x.0.items, x.1.now, x.2.now)) r (rows_sliced (rows_in whole rows.items) read)
+
+-- these are where the rows are in the whole text
+abbrev pub PlacesRows : (whole text : List ℕ) → Vec Offsets Global → Result RowsRead ReadError → Option (Part × List ℕ) → Type 0
+PlacesRows whole text rows r read = Gives (λ x. x.0.items) r (rows_placed rows.items (length whole - length text) read)
+
+-- the key after a dash and these spaces, with what comes after it up to its `:`, and what follows; a key needs spaces
+abbrev pub key_after : (spaces next : List ℕ) → Option (List ℕ × List ℕ × List ℕ)
+key_after spaces next = if is_empty spaces then None else read_row_key next
+
+-- three slices that are found are these
+abbrev pub FindsSlices : Option (Bor (List ℕ) × Bor (List ℕ) × Bor (List ℕ)) → Option (List ℕ × List ℕ × List ℕ) → Type 0
+FindsSlices found slices = option_map (λ x. (x.0.now, x.1.now, x.2.now)) found ≡ slices
+
+-- where a text is that of items which are read alone, the answer is these
+abbrev pub GivesRegion : List ℕ → Result RowsView ReadError → Type 0
+GivesRegion t r = (xs back : List Item) → IsReadAlone xs back → t ≡ items_text xs [] → Gives (λ s. s) r (Some (view_of_items (region_items xs back)))
+
+-- ---- a text that changes
+
+-- a count rose by the lines of a text
+abbrev pub CountsLines : (before after : ℕ) → List ℕ → Type 0
+CountsLines before after t = after ≡ count_after (line_count t) before
+
+-- the same after a success
+abbrev pub CountsRead : {T E : Type 0} → Result T E → (before after : ℕ) → List ℕ → Type 0
+CountsRead r before after t = OnOk r (CountsLines before after t)
+
+-- the rows in front of a split and those after it, by their places in a text of so many bytes
+abbrev pub split_rows : ℕ → (front behind : Vec Offsets Global) → List Offsets
+split_rows n front behind = both_sides n front.items behind.items
+
+-- the same of all rows that are kept
+abbrev pub rows_kept : ℕ → Places → List Offsets
+rows_kept n p = split_rows n p.front p.behind
+
+-- whether rows or ends of parts come after so many
+abbrev pub has_more_than : Side → Places → Bool
+has_more_than old p = nat_lt old.rows (length (kept_rows p)) || nat_lt old.ends (length p.ends)
+
+-- what is touched is what a change of the text exchanges, whatever the new text is
+abbrev pub IsTouchedIn : ℕ → Bool → Kept → Places → Touched → Type 0
+IsTouchedIn len begins kept p x =
+    (t new : List ℕ) → len ≡ length t → begins ≡ begins_line t kept.front → (h : Follows t p kept new) → TextChange t new kept p x
+
+-- a text after a change, if it was carried out
+abbrev pub exchanged_by : {T E : Type 0} → Result T E → Kept → List ℕ → List ℕ → List ℕ
+exchanged_by r kept t new = if is_ok r then exchanged kept t new else t
+
+-- a count rose by the lines that are read where a change of a text exchanges rows
+abbrev pub CountsExchanged : (old new : TextGapView) → Kept → (before after : ℕ) → Type 0
+CountsExchanged old new kept before after = CountsWritten (buffer_text old) (buffer_text new) kept before after
