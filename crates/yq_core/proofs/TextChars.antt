@@ -3,7 +3,7 @@ use Rattle.std.proofs.Common.{◌≡◌, ◌&&◌, ◌||◌, ℕ, zero, suc, ◌
 use Rattle.std.proofs.Common.{one-add, not, eqb-true, length, drop, get_or, Some, None, refl, sym, ap, ap₂, ◌∙◌, inl, inr, arith, rules}
 use Rattle.std.proofs.lemmas.Bool.{lt-ltb, le-ltb, lt-leb, le-leb, leb-true, leb-false, eq-eqb, ne_eqb, not-true, cases_lt, cases_Bool}
 use Rattle.std.{proofs.lemmas.Bool.{and_parts, and_from, false_from_ne_true}, proofs.Math.Bool.or-true}
-use Rattle.std.{proofs.lemmas.Str.{scalars-chars, encodes-chars}, specs.List.{list_all, prefix_len}, specs.Str.{chars, IsUtf8}}
+use Rattle.std.{proofs.lemmas.Str.{scalars-chars, encodes-chars}, specs.List.{list_all, list_any, prefix_len}, specs.Str.{chars, IsUtf8}}
 use lib.Utf8.{scalar, scalars, encode, encodes}
 use Rattle.memchr.specs.Find.{IsFirstByte, is_byte}
 use Rattle.yq_core.{specs.Runs.run_goes_on, specs.declared.runs.Run.TheVariants.Text, proofs.Across.{rest_of, rest_is}}
@@ -226,3 +226,19 @@ pairs_alone t u i h e n = pairs_some t u i h e ∙ ap (λ (b : Bool). b && pairs
 -- a CR with one
 pub pairs_on : (t u : List ℕ) (i : ℕ) → IsFirstByte (is_byte 13) t (Some i) → u ≡ drop (i + 1) t → front is_feed u ≡ true → pairs_returns u ≡ pairs_returns t
 pairs_on t u i h e n = sym (pairs_some t u i h e ∙ ap (λ (b : Bool). b && pairs_returns u) n)
+
+-- a search for a byte tells whether it is there
+any_at : (a i : ℕ) (t : List ℕ) → i < length t → eqb (get_or t i 0) a ≡ true → list_any (λ x. eqb x a) t ≡ true
+any_at a i [] l e = absurd (omega (arith, l))
+any_at a zero (b ∷ bs) l e = rw e refl
+any_at a (suc i) (b ∷ bs) l e = rw (any_at a i bs (omega (arith, l)) e, or-true) refl
+
+none_at : (a : ℕ) (t : List ℕ) → ((k : ℕ) → k < length t → eqb (get_or t k 0) a ≡ false) → list_any (λ x. eqb x a) t ≡ false
+none_at a [] h = refl
+none_at a (b ∷ bs) h = rw (h 0 (omega arith)) (none_at a bs (λ k l. h (suc k) (omega arith)))
+
+pub any_some : (a : ℕ) (t : List ℕ) (i : ℕ) → IsFirstByte (is_byte a) t (Some i) → list_any (λ x. eqb x a) t ≡ true
+any_some a t i h = search (rules, any_at)
+
+pub any_none : (a : ℕ) (t : List ℕ) → IsFirstByte (is_byte a) t None → list_any (λ x. eqb x a) t ≡ false
+any_none a t h = none_at a t (λ k l. false_from_ne_true _ (h k (omega arith) l))

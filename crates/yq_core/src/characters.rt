@@ -1,5 +1,5 @@
 //! The characters of a text.
-ghost use Rattle.std.{specs.List.list_all, specs.Prelude.{◌≡◌, ◌≤◌, length, true}, specs.Str.chars};
+ghost use Rattle.std.{specs.List.{list_all, list_any}, specs.Prelude.{◌≡◌, ◌==◌, ◌≤◌, length, true}, specs.Str.chars};
 ghost use Rattle.yq_core.specs.Text.{front, is_feed, unless};
 ghost use Rattle.yq_core.specs.Characters as spec;
 
@@ -101,6 +101,19 @@ pub fn pairs_returns(text: &[u8]) -> bool
         rest = after;
     }
     true
+}
+
+/// Whether a byte is in a text.
+pub fn holds_byte(b: u8, text: &[u8]) -> bool
+    ensures { result ≡ list_any (λ x. x == b) text.now }
+{
+    if text.len() < 64 {
+        return text.iter().any(|x| *x == b);
+    }
+    match memchr(b, text) {
+        Some(_) => true,
+        None => false,
+    }
 }
 
 /// Whether the characters are those of a text.

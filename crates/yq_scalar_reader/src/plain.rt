@@ -5,6 +5,7 @@ ghost use Rattle.yq_core.specs.Plain as spec;
 ghost use Rattle.yq_core.specs.PlainReading as reading;
 ghost use Rattle.yq_scalar_reader.specs.Words as words;
 
+use yq_core::characters::holds_byte;
 use yq_core::text::{is_break, is_marker, is_space, separates, whites_len};
 use yq_core::{Run, is_white, run_len, spaces_len};
 
@@ -180,5 +181,5 @@ pub fn split_plain(flow: bool, spaces: Option<usize>, text: &str) -> (&str, &str
 pub fn holds_break(text: &str) -> bool
     ensures { result ≡ spec.holds_break text.now }
 {
-    text.as_bytes().iter().any(|b| *b == b'\n')
+    holds_byte(b'\n', text.as_bytes())
 }
