@@ -1,12 +1,11 @@
 -- Runs of bytes: what lanes tell.
-use Rattle.std.proofs.Common.{◌≡◌, ℕ, ◌+◌, ◌%◌, ◌^◌, ◌<◌, ◌≤◌, Bool, true, false, cond, ◌||◌, ◌&&◌, not, eqb, suc, List, [], ◌∷◌, map}
-use Rattle.std.proofs.Common.{length, drop, Fits, w8, refl, ap, ap₂, ◌∙◌, arith, one-add}
-use Rattle.std.{proofs.lemmas.Bool.{agree_below, agree_below_at, eq-eqb, ne_eqb}, proofs.Math.Dec.{eqb-suc-suc, eqb-zero-suc}}
+use Rattle.std.proofs.Common.{◌≡◌, ℕ, ◌+◌, ◌%◌, ◌^◌, ◌<◌, ◌≤◌, Bool, true, false, cond, ◌||◌, not, eqb, List, [], ◌∷◌, map, length, drop}
+use Rattle.std.{proofs.Common.{Fits, w8, refl, ap, ap₂, ◌∙◌, arith}, proofs.lemmas.Bool.{agree_below, agree_below_at, eq-eqb, ne_eqb}}
 use Rattle.std.{proofs.lemmas.List.length-map, proofs.lemmas.List.Folds.prefix_len-append, proofs.lemmas.List.Sums.prefix_len-le-length}
-use Rattle.std.{proofs.lemmas.Simd.{chunk-drop, length-chunk, mask_l-mod}, specs.List.{prefix_len, list_all}}
+use Rattle.std.{proofs.lemmas.Simd.{chunk-drop, length-chunk, mask_l-mod}, specs.List.prefix_len}
 use lib.Bits.{bit_or}
 use lib.Lanes.{chunk, mask_l, top, Each1}
-use Rattle.yq_core.{specs.Characters.is_text_byte, specs.Runs.run_goes_on, specs.declared.runs.Run.TheVariants.{Spaces, Text}}
+use Rattle.yq_core.{specs.Runs.run_goes_on, specs.declared.runs.Run.TheVariants.Spaces}
 
 -- the bits of lanes that were computed byte by byte
 pub lanes_mask : (f : ℕ → ℕ) (p : ℕ → Bool) (v z : List ℕ) → length v ≡ 16 → z ≡ map f v → map (top 7) (map f v) ≡ map p v → mask_l (map (top 7) z) % 2 ^ 64 ≡ mask_l (map p v)
@@ -57,12 +56,3 @@ not_not false = refl
 pub spaces_run : (t : List ℕ) → prefix_len (run_goes_on Spaces) t ≡ prefix_len (λ b. eqb b 32) t
 spaces_run [] = refl
 spaces_run (b ∷ bs) = ap₂ (λ c n. cond c (1 + n) 0) (not_not (eqb b 32)) (spaces_run bs)
-
--- a run of bytes of a text goes over all of them
-run_turn : (c : Bool) (n m : ℕ) → eqb (cond (not (not c)) (1 + n) 0) (suc m) ≡ (c && eqb n m)
-run_turn true n m = rw (one-add, eqb-suc-suc) refl
-run_turn false n m = eqb-zero-suc m
-
-pub text_run : (t : List ℕ) → eqb (prefix_len (run_goes_on Text) t) (length t) ≡ list_all is_text_byte t
-text_run [] = refl
-text_run (b ∷ bs) = run_turn (is_text_byte b) _ _ ∙ ap (λ r. is_text_byte b && r) (text_run bs)

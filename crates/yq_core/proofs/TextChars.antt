@@ -1,49 +1,206 @@
 -- What bytes tell of characters, and what a search for the next CR tells.
-use Rattle.std.proofs.Common.{◌≡◌, ◌&&◌, ℕ, zero, suc, ◌+◌, ◌<◌, ◌≤◌, ◌/◌, Bool, true, false, eqb, List, [], ◌∷◌, length, drop, get_or}
-use Rattle.std.proofs.Common.{Some, None, refl, sym, ap, ◌∙◌, inl, inr, arith, rules}
-use Rattle.std.proofs.lemmas.Bool.{lt-ltb, le-ltb, eqb-false, not-true, cases_lt, and_parts, and_from, false_from_ne_true}
-use Rattle.std.{proofs.lemmas.List.Folds.list_all-append, proofs.lemmas.Str.{scalars-chars, encodes-chars}, specs.List.list_all}
-use Rattle.std.specs.Str.{chars, IsUtf8}
+use Rattle.std.proofs.Common.{◌≡◌, ◌&&◌, ◌||◌, ℕ, zero, suc, ◌+◌, ◌*◌, ◌%◌, ◌<◌, ◌≤◌, ◌/◌, Bool, true, false, eqb, leb, List, [], ◌∷◌, ◌++◌}
+use Rattle.std.proofs.Common.{one-add, not, eqb-true, length, drop, get_or, Some, None, refl, sym, ap, ap₂, ◌∙◌, inl, inr, arith, rules}
+use Rattle.std.proofs.lemmas.Bool.{lt-ltb, le-ltb, lt-leb, le-leb, leb-true, leb-false, eq-eqb, ne_eqb, not-true, cases_lt, cases_Bool}
+use Rattle.std.{proofs.lemmas.Bool.{and_parts, and_from, false_from_ne_true}, proofs.Math.Bool.or-true}
+use Rattle.std.{proofs.lemmas.Str.{scalars-chars, encodes-chars}, specs.List.{list_all, list_any, prefix_len}, specs.Str.{chars, IsUtf8}}
 use lib.Utf8.{scalar, scalars, encode, encodes}
 use Rattle.memchr.specs.Find.{IsFirstByte, is_byte}
-use Rattle.yq_core.{specs.Text.{is_feed, front}, specs.Characters.{is_text_byte, is_text_char, pairs_returns}}
+use Rattle.yq_core.{specs.Runs.run_goes_on, specs.declared.runs.Run.TheVariants.Text, proofs.Across.{rest_of, rest_is}}
+use Rattle.yq_core.specs.Text.{is_feed, front, unless}
+use Rattle.yq_core.specs.Characters.{are_in_text, begins_text_char, is_text_byte, is_text_char, pairs_returns}
 
--- a byte that is in characters of a text alone is no C1 control and begins none of U+F000 to U+FFFF
-lead_ascii : (c : ℕ) → c < 128 → is_text_byte c ≡ true → is_text_char c ≡ true
-lead_ascii c l h = grind arith
+-- a byte after the first one of a character
+text_further : (b : ℕ) → 128 ≤ b → b < 192 → is_text_byte b ≡ true
+text_further b l m = grind arith
 
-lead_two : (c : ℕ) → 128 ≤ c → c < 2048 → is_text_byte (192 + c / 64) ≡ true → is_text_char c ≡ true
-lead_two c l m h = search (rules, eqb-false, not-true)
+further : (b : ℕ) (t : List ℕ) → 128 ≤ b → b < 192 → are_in_text (b ∷ t) ≡ are_in_text t
+unfolding are_in_text
+further b t l m = rw (text_further b l m) refl
 
-lead_three : (c : ℕ) → scalar c ≡ true → 2048 ≤ c → c < 65536 → is_text_byte (224 + c / 4096) ≡ true → is_text_char c ≡ true
-lead_three c s l m h = search (rules, eqb-false, not-true)
+-- what the first byte of a character tells, with those after it
+whole : (y : Bool) → (y || false || false) ≡ ((y || false || false || false || false) && true)
+whole true = refl
+whole false = refl
 
-lead_four : (c : ℕ) → scalar c ≡ true → 65536 ≤ c → is_text_char c ≡ true
-lead_four c s l = grind arith
+lead_one : (c : ℕ) (t : List ℕ) → c < 128 → (is_text_byte c || begins_text_char (c ∷ t)) ≡ is_text_char c
+lead_one c t l = rw (
+  ne_eqb c 194 (λ e. omega (arith, e, l)),
+  ne_eqb c 239 (λ e. omega (arith, e, l)),
+  ne_eqb c 133 (λ e. omega (arith, e, l)),
+  ne_eqb c 65279 (λ e. omega (arith, e, l)),
+  lt-leb 128 c l,
+  lt-leb 160 c (omega (arith, l)),
+  lt-leb 57344 c (omega (arith, l)),
+  lt-leb 65536 c (omega (arith, l)),
+) (whole _)
 
-char_text : (c : ℕ) → scalar c ≡ true → list_all is_text_byte (encode c) ≡ true → is_text_char c ≡ true
+lead_latin : (c l x : ℕ) (t : List ℕ) → l ≡ 194 → x ≡ c → 128 ≤ c → c < 192 → (is_text_byte l || begins_text_char (l ∷ x ∷ t)) ≡ is_text_char c
+lead_latin c l x t e f a b = rw (e, f) (grind arith)
+
+lead_true : (l : ℕ) (t : List ℕ) (b : Bool) → is_text_byte l ≡ true → b ≡ true → (is_text_byte l || begins_text_char (l ∷ t)) ≡ b
+lead_true l t b h e = rw (h, e) refl
+
+two_true : (l : ℕ) → 195 ≤ l → l < 224 → is_text_byte l ≡ true
+two_true l a b = grind arith
+
+char_two : (c : ℕ) → 192 ≤ c → c < 2048 → is_text_char c ≡ true
+char_two c a b = grind arith
+
+three_true : (l : ℕ) → 224 ≤ l → l < 239 → is_text_byte l ≡ true
+three_true l a b = grind arith
+
+char_three : (c : ℕ) → scalar c ≡ true → 2048 ≤ c → c < 61440 → is_text_char c ≡ true
+char_three c s a b = grind arith
+
+same_bool : (a b : Bool) → (a ≡ true → b ≡ true) → (b ≡ true → a ≡ true) → a ≡ b
+same_bool true b f g = sym (f refl)
+same_bool false true f g = g refl
+same_bool false false f g = refl
+
+swap : (m l : Bool) → (not m && not (not l)) ≡ ((l || false) && not m)
+swap true true = refl
+swap true false = refl
+swap false true = refl
+swap false false = refl
+
+-- the byte order mark, and the last two, by their bytes
+mark_is : (c x y : ℕ) → c + 8320 ≡ 61440 + 64 * x + y → x < 192 → 128 ≤ y → y < 192 → (eqb x 187 && eqb y 191) ≡ eqb c 65279
+mark_is c x y e a b d = same_bool (eqb x 187 && eqb y 191) (eqb c 65279)
+    (λ h. let p = and_parts (eqb x 187) (eqb y 191) h in eq-eqb c 65279 (omega (arith, e, eqb-true x 187 p.0, eqb-true y 191 p.1)))
+    (λ h. and_from (eqb x 187) (eqb y 191) (eq-eqb x 187 (omega (arith, e, a, b, d, eqb-true c 65279 h)))
+    (eq-eqb y 191 (omega (arith, e, a, b, d, eqb-true c 65279 h))))
+
+last_is : (c x y : ℕ) → c + 8320 ≡ 61440 + 64 * x + y → x < 192 → 128 ≤ y → y < 192 → (eqb x 191 && leb 190 y) ≡ not (leb c 65533)
+last_is c x y e a b d = same_bool (eqb x 191 && leb 190 y) (not (leb c 65533))
+    (λ h. let p = and_parts (eqb x 191) (leb 190 y) h in ap not (lt-leb c 65533 (omega (arith, e, eqb-true x 191 p.0, leb-true 190 y p.1))))
+    (λ h. let big : 65533 < c = leb-false c 65533 (not-true (leb c 65533) h) in
+    and_from (eqb x 191) (leb 190 y) (eq-eqb x 191 (omega (arith, e, a, b, d, big))) (le-leb 190 y (omega (arith, e, a, b, d, big))))
+
+char_last : (c : ℕ) → 61440 ≤ c → c < 65536 → is_text_char c ≡ ((leb c 65533 || false) && not (eqb c 65279))
+char_last c a b = rw (
+  ne_eqb c 9 (λ e. omega (arith, e, a)),
+  ne_eqb c 10 (λ e. omega (arith, e, a)),
+  ne_eqb c 13 (λ e. omega (arith, e, a)),
+  le-leb 32 c (omega (arith, a)),
+  lt-leb c 126 (omega (arith, a)),
+  ne_eqb c 133 (λ e. omega (arith, e, a)),
+  le-leb 160 c (omega (arith, a)),
+  lt-leb c 55295 (omega (arith, a)),
+  le-leb 57344 c (omega (arith, a)),
+  lt-leb 65536 c b,
+) refl
+
+lead_last : (c l x y : ℕ) (t : List ℕ) → l ≡ 239 → 61440 ≤ c → c < 65536 → c + 8320 ≡ 61440 + 64 * x + y → x < 192 → 128 ≤ y → y < 192 →
+    (is_text_byte l || begins_text_char (l ∷ x ∷ y ∷ t)) ≡ is_text_char c
+lead_last c l x y t is low high e a b d =
+    ap (λ (m : ℕ). is_text_byte m || begins_text_char (m ∷ x ∷ y ∷ t)) is
+    ∙ (ap₂ (λ (p q : Bool). not p && not q) (mark_is c x y e a b d) (last_is c x y e a b d)
+    ∙ (swap (eqb c 65279) (leb c 65533) ∙ sym (char_last c low high)))
+
+four_true : (l : ℕ) → 240 ≤ l → is_text_byte l ≡ true
+four_true l a = grind arith
+
+char_four : (c : ℕ) → scalar c ≡ true → 65536 ≤ c → is_text_char c ≡ true
+char_four c s a = grind arith
+
+one_byte : (c : ℕ) → c < 128 → encode c ≡ c ∷ []
 unfolding encode
-char_text c s h = elim (cases_lt c 128) [
-  | inl a ↦ lead_ascii c a (and_parts (is_text_byte c) _ (rw (lt-ltb c 128 a) at h)).0
+one_byte c a = rw (lt-ltb c 128 a) refl
+
+two_bytes : (c : ℕ) → 128 ≤ c → c < 2048 → encode c ≡ (192 + c / 64) ∷ (128 + c % 64) ∷ []
+unfolding encode
+two_bytes c a b = rw (le-ltb c 128 a, lt-ltb c 2048 b) refl
+
+three_bytes : (c : ℕ) → 2048 ≤ c → c < 65536 → encode c ≡ (224 + c / 4096) ∷ (128 + c / 64 % 64) ∷ (128 + c % 64) ∷ []
+unfolding encode
+three_bytes c a b = rw (le-ltb c 128 (omega arith), le-ltb c 2048 a, lt-ltb c 65536 b) refl
+
+four_bytes : (c : ℕ) → 65536 ≤ c → encode c ≡ (240 + c / 262144) ∷ (128 + c / 4096 % 64) ∷ (128 + c / 64 % 64) ∷ (128 + c % 64) ∷ []
+unfolding encode
+four_bytes c a = rw (le-ltb c 128 (omega arith), le-ltb c 2048 (omega arith), le-ltb c 65536 a) refl
+
+lead_two : (c : ℕ) (t : List ℕ) → 128 ≤ c → c < 2048 → (is_text_byte (192 + c / 64) || begins_text_char ((192 + c / 64) ∷ (128 + c % 64) ∷ t)) ≡ is_text_char c
+lead_two c t a b = elim (cases_lt c 192) [
+  | inl d ↦ lead_latin c (192 + c / 64) (128 + c % 64) t (omega arith) (omega arith) a d
+  | inr d ↦ lead_true (192 + c / 64) ((128 + c % 64) ∷ t) (is_text_char c) (two_true (192 + c / 64) (omega arith) (omega arith)) (char_two c d b)
+]
+
+lead_three : (c : ℕ) (t : List ℕ) → scalar c ≡ true → 2048 ≤ c → c < 65536 →
+    (is_text_byte (224 + c / 4096) || begins_text_char ((224 + c / 4096) ∷ (128 + c / 64 % 64) ∷ (128 + c % 64) ∷ t)) ≡ is_text_char c
+lead_three c t s a b = elim (cases_lt c 61440) [
+  | inl d ↦ lead_true (224 + c / 4096) ((128 + c / 64 % 64) ∷ (128 + c % 64) ∷ t) (is_text_char c)
+      (three_true (224 + c / 4096) (omega arith) (omega arith)) (char_three c s a d)
+  | inr d ↦ lead_last c (224 + c / 4096) (128 + c / 64 % 64) (128 + c % 64) t (omega arith) d b (omega arith) (omega arith) (omega arith) (omega arith)
+]
+
+lead_four : (c : ℕ) (t : List ℕ) → scalar c ≡ true → 65536 ≤ c → (is_text_byte (240 + c / 262144) || begins_text_char ((240 + c / 262144) ∷ t)) ≡ is_text_char c
+lead_four c t s a = lead_true (240 + c / 262144) t (is_text_char c) (four_true (240 + c / 262144) (omega arith)) (char_four c s a)
+
+next_in : (b : ℕ) (t : List ℕ) → are_in_text ((128 + b % 64) ∷ t) ≡ are_in_text t
+next_in b t = further (128 + b % 64) t (omega arith) (omega arith)
+
+-- a first byte, and those after it
+lead_in : (b : ℕ) (t rest : List ℕ) (fits : Bool) → (is_text_byte b || begins_text_char (b ∷ t)) ≡ fits →
+    are_in_text t ≡ are_in_text rest → are_in_text (b ∷ t) ≡ (fits && are_in_text rest)
+unfolding are_in_text
+lead_in b t rest fits e f = ap₂ (λ (x y : Bool). x && y) e f
+
+char_in : (c : ℕ) (t : List ℕ) → scalar c ≡ true → are_in_text (encode c ++ t) ≡ (is_text_char c && are_in_text t)
+char_in c t s = elim (cases_lt c 128) [
+  | inl a ↦ ap (λ (e : List ℕ). are_in_text (e ++ t)) (one_byte c a) ∙ lead_in c t t _ (lead_one c t a) refl
   | inr a ↦ elim (cases_lt c 2048) [
-    | inl b ↦ lead_two c a b (and_parts (is_text_byte (192 + c / 64)) _ (rw (le-ltb c 128 a, lt-ltb c 2048 b) at h)).0
+    | inl b ↦ ap (λ (e : List ℕ). are_in_text (e ++ t)) (two_bytes c a b) ∙ lead_in _ _ t _ (lead_two c t a b) (next_in c t)
     | inr b ↦ elim (cases_lt c 65536) [
-      | inl d ↦ lead_three c s b d (and_parts (is_text_byte (224 + c / 4096)) _ (rw (le-ltb c 128 a, le-ltb c 2048 b, lt-ltb c 65536 d) at h)).0
-      | inr d ↦ lead_four c s d
+      | inl d ↦ ap (λ (e : List ℕ). are_in_text (e ++ t)) (three_bytes c b d) ∙ lead_in _ _ t _ (lead_three c t s b d) (next_in (c / 64) _ ∙ next_in c t)
+      | inr d ↦ ap (λ (e : List ℕ). are_in_text (e ++ t)) (four_bytes c d)
+          ∙ lead_in _ _ t _ (lead_four c ((128 + c / 4096 % 64) ∷ (128 + c / 64 % 64) ∷ (128 + c % 64) ∷ t) s d) (next_in (c / 4096) _ ∙ (next_in (c / 64) _ ∙ next_in c t))
     ]
   ]
 ]
 
-chars_text : (cs : List ℕ) → scalars cs ≡ true → list_all is_text_byte (encodes cs) ≡ true → list_all is_text_char cs ≡ true
-chars_text [] s h = refl
-chars_text (c ∷ cs) s h =
+chars_in : (cs : List ℕ) → scalars cs ≡ true → are_in_text (encodes cs) ≡ list_all is_text_char cs
+unfolding are_in_text
+chars_in [] s = refl
+chars_in (c ∷ cs) s =
     let p = and_parts (scalar c) (scalars cs) s in
-    let q = and_parts _ _ (sym (list_all-append is_text_byte (encode c) (encodes cs)) ∙ h) in
-    and_from _ _ (char_text c p.0 q.0) (chars_text cs p.1 q.1)
+    char_in c (encodes cs) p.0 ∙ ap (λ (x : Bool). is_text_char c && x) (chars_in cs p.1)
 
--- such bytes alone are characters of a text
-pub text_bytes : (t : List ℕ) → IsUtf8 t → list_all is_text_byte t ≡ true → list_all is_text_char (chars t) ≡ true
-text_bytes t u h = chars_text (chars t) (scalars-chars t u) (ap (list_all is_text_byte) (encodes-chars t u) ∙ h)
+-- bytes tell whether all characters are those of a text
+pub text_bytes : (t : List ℕ) → IsUtf8 t → are_in_text t ≡ list_all is_text_char (chars t)
+text_bytes t u = ap are_in_text (sym (encodes-chars t u)) ∙ chars_in (chars t) (scalars-chars t u)
+
+-- a run of bytes that are in characters of a text alone, and where it stops
+pub run_in : (t : List ℕ) → are_in_text (drop (prefix_len (run_goes_on Text) t) t) ≡ are_in_text t
+unfolding are_in_text
+run_in [] = refl
+run_in (b ∷ bs) = elim (cases_Bool (is_text_byte b)) [
+  | inl h ↦ rw (h, one-add) (run_in bs)
+  | inr h ↦ (let n : prefix_len (run_goes_on Text) (b ∷ bs) ≡ 0 = rw h refl in ap (λ (k : ℕ). are_in_text (drop k (b ∷ bs))) n)
+]
+
+pub run_stops : (t : List ℕ) → unless is_text_byte (drop (prefix_len (run_goes_on Text) t) t) ≡ true
+run_stops [] = refl
+run_stops (b ∷ bs) = elim (cases_Bool (is_text_byte b)) [
+  | inl h ↦ rw (h, one-add) (run_stops bs)
+  | inr h ↦ (let n : prefix_len (run_goes_on Text) (b ∷ bs) ≡ 0 = rw h refl in ap (λ (k : ℕ). unless is_text_byte (drop k (b ∷ bs))) n ∙ ap not h)
+]
+
+-- a byte at which a run stops
+pub stop_fails : (t : List ℕ) → 1 ≤ length t → unless is_text_byte t ≡ true → begins_text_char t ≡ false → are_in_text t ≡ false
+unfolding are_in_text
+stop_fails [] l u h = absurd (omega (arith, l))
+stop_fails (b ∷ bs) l u h = rw (not-true (is_text_byte b) u, h) refl
+
+pub stop_fits : (t : List ℕ) → 1 ≤ length t → begins_text_char t ≡ true → are_in_text (rest_of t) ≡ are_in_text t
+unfolding are_in_text
+stop_fits [] l h = absurd (omega (arith, l))
+stop_fits (b ∷ bs) l h = rw (rest_is, h, or-true) refl
+
+pub none_left : (t : List ℕ) → length t < 1 → are_in_text t ≡ true
+unfolding are_in_text
+none_left [] l = refl
+none_left (b ∷ bs) l = absurd (omega arith)
 
 no_return : (t : List ℕ) → ((k : ℕ) → k < length t → eqb (get_or t k 0) 13 ≡ false) → pairs_returns t ≡ true
 unfolding pairs_returns
@@ -69,3 +226,19 @@ pairs_alone t u i h e n = pairs_some t u i h e ∙ ap (λ (b : Bool). b && pairs
 -- a CR with one
 pub pairs_on : (t u : List ℕ) (i : ℕ) → IsFirstByte (is_byte 13) t (Some i) → u ≡ drop (i + 1) t → front is_feed u ≡ true → pairs_returns u ≡ pairs_returns t
 pairs_on t u i h e n = sym (pairs_some t u i h e ∙ ap (λ (b : Bool). b && pairs_returns u) n)
+
+-- a search for a byte tells whether it is there
+any_at : (a i : ℕ) (t : List ℕ) → i < length t → eqb (get_or t i 0) a ≡ true → list_any (λ x. eqb x a) t ≡ true
+any_at a i [] l e = absurd (omega (arith, l))
+any_at a zero (b ∷ bs) l e = rw e refl
+any_at a (suc i) (b ∷ bs) l e = rw (any_at a i bs (omega (arith, l)) e, or-true) refl
+
+none_at : (a : ℕ) (t : List ℕ) → ((k : ℕ) → k < length t → eqb (get_or t k 0) a ≡ false) → list_any (λ x. eqb x a) t ≡ false
+none_at a [] h = refl
+none_at a (b ∷ bs) h = rw (h 0 (omega arith)) (none_at a bs (λ k l. h (suc k) (omega arith)))
+
+pub any_some : (a : ℕ) (t : List ℕ) (i : ℕ) → IsFirstByte (is_byte a) t (Some i) → list_any (λ x. eqb x a) t ≡ true
+any_some a t i h = search (rules, any_at)
+
+pub any_none : (a : ℕ) (t : List ℕ) → IsFirstByte (is_byte a) t None → list_any (λ x. eqb x a) t ≡ false
+any_none a t h = none_at a t (λ k l. false_from_ne_true _ (h k (omega arith) l))

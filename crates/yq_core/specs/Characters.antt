@@ -1,5 +1,5 @@
 -- The characters that a text is made of.
-use Rattle.std.{specs.Prelude.{ℕ, Bool, true, ◌||◌, ◌&&◌, not, ◌==◌, nat_le, List, [], ◌∷◌, if◌then◌else◌}, specs.List.list_all}
+use Rattle.std.{specs.Prelude.{ℕ, Bool, true, false, ◌||◌, ◌&&◌, not, ◌==◌, nat_le, List, [], ◌∷◌, if◌then◌else◌}, specs.List.list_all}
 use Rattle.std.specs.Str.{chars}
 use Rattle.yq_core.specs.Text.{is_feed, is_return, front}
 
@@ -22,6 +22,31 @@ is_text_char c = is_printable c && not (is_byte_order_mark c)
 abbrev pub is_text_byte : ℕ → Bool
 is_text_byte b =
     b == 9 || is_feed b || is_return b || (nat_le 32 b && nat_le b 126) || (nat_le 128 b && not (b == 194) && not (b == 239))
+
+-- the byte after 194 that ends U+0085, or one of U+00A0 to U+00BF (own)
+abbrev pub ends_latin_char : List ℕ → Bool
+ends_latin_char bs = front (λ b. b == 133 || nat_le 160 b) bs
+
+-- the bytes after 239 that end U+FEFF, the byte order mark (own)
+abbrev pub ends_byte_order_mark : List ℕ → Bool
+ends_byte_order_mark [] = false
+ends_byte_order_mark (b ∷ bs) = b == 187 && front (λ c. c == 191) bs
+
+-- the bytes after 239 that end U+FFFE or U+FFFF (own)
+abbrev pub ends_noncharacter : List ℕ → Bool
+ends_noncharacter [] = false
+ends_noncharacter (b ∷ bs) = b == 191 && front (λ c. nat_le 190 c) bs
+
+-- a character of a text begins with 194 or 239, with which others begin too (own)
+abbrev pub begins_text_char : List ℕ → Bool
+begins_text_char [] = false
+begins_text_char (b ∷ bs) =
+    if b == 194 then ends_latin_char bs else (if b == 239 then (not (ends_byte_order_mark bs) && not (ends_noncharacter bs)) else false)
+
+-- each byte of UTF-8 is in a character of a text (own)
+unfoldable pub are_in_text : List ℕ → Bool
+are_in_text [] = true
+are_in_text (b ∷ bs) = (is_text_byte b || begins_text_char (b ∷ bs)) && are_in_text bs
 
 -- an LF follows each CR (own)
 unfoldable pub pairs_returns : List ℕ → Bool

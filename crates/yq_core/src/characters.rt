@@ -1,6 +1,6 @@
 //! The characters of a text.
-ghost use Rattle.std.{specs.List.list_all, specs.Prelude.{◌≡◌, length}, specs.Str.chars};
-ghost use Rattle.yq_core.specs.Text.{front, is_feed};
+ghost use Rattle.std.{specs.List.{list_all, list_any}, specs.Prelude.{◌≡◌, ◌==◌, ◌≤◌, length, true}, specs.Str.chars};
+ghost use Rattle.yq_core.specs.Text.{front, is_feed, unless};
 ghost use Rattle.yq_core.specs.Characters as spec;
 
 use crate::runs::{Run, run_len};
@@ -16,18 +16,68 @@ pub fn is_text_char(c: char) -> bool
     ) && c != '\u{feff}'
 }
 
+/// Whether the byte after 194 ends U+0085, or one of U+00A0 to U+00BF.
+fn ends_latin_char(rest: &[u8]) -> bool
+    ensures { result ≡ spec.ends_latin_char rest.now }
+{
+    matches!(rest, [133 | 160..=255, ..])
+}
+
+/// Whether the bytes after 239 end U+FEFF, the byte order mark.
+fn ends_byte_order_mark(rest: &[u8]) -> bool
+    ensures { result ≡ spec.ends_byte_order_mark rest.now }
+{
+    matches!(rest, [187, 191, ..])
+}
+
+/// Whether the bytes after 239 end U+FFFE or U+FFFF.
+fn ends_noncharacter(rest: &[u8]) -> bool
+    ensures { result ≡ spec.ends_noncharacter rest.now }
+{
+    matches!(rest, [191, 190..=255, ..])
+}
+
+/// Whether a character that a text may hold begins with a byte that begins others too.
+fn begins_text_char(text: &[u8]) -> bool
+    ensures { result ≡ spec.begins_text_char text.now }
+{
+    match text {
+        [] => false,
+        [194, rest @ ..] => ends_latin_char(rest),
+        [239, rest @ ..] => !ends_byte_order_mark(rest) && !ends_noncharacter(rest),
+        [_, ..] => false,
+    }
+}
+
+/// What follows the bytes that are in characters of a text alone.
+fn past_text_bytes(text: &[u8]) -> &[u8]
+    ensures same { spec.are_in_text result.now ≡ spec.are_in_text text.now }
+    ensures stops { unless spec.is_text_byte result.now ≡ true }
+    ensures within { length result.now ≤ length text.now }
+{
+    text.split_at(run_len(Run::Text, text)).1
+}
+
+/// Whether each byte of UTF-8 is in a character that a text may hold.
+fn has_text_bytes(text: &[u8]) -> bool
+    ensures { result ≡ spec.are_in_text text.now }
+{
+    let mut rest = past_text_bytes(text);
+    'stops: while let [_, after @ ..] = rest {
+        if !begins_text_char(rest) {
+            return false;
+        }
+        rest = past_text_bytes(after);
+    }
+    true
+}
+
 /// Whether a text may hold each character.
+#[tactic(auto, using(crate::proofs::TextChars::text_bytes))]
 pub fn has_text_chars(text: &str) -> bool
     ensures { result ≡ list_all spec.is_text_char (chars text.now) }
 {
-    text.chars().all(|c| is_text_char(c))
-}
-
-/// Whether each byte is in characters alone that a text may hold.
-fn has_text_bytes(text: &[u8]) -> bool
-    ensures { result ≡ list_all spec.is_text_byte text.now }
-{
-    run_len(Run::Text, text) == text.len()
+    has_text_bytes(text.as_bytes())
 }
 
 /// Whether an LF is in front.
@@ -53,12 +103,24 @@ pub fn pairs_returns(text: &[u8]) -> bool
     true
 }
 
+/// Whether a byte is in a text.
+pub fn holds_byte(b: u8, text: &[u8]) -> bool
+    ensures { result ≡ list_any (λ x. x == b) text.now }
+{
+    if text.len() < 64 {
+        return text.iter().any(|x| *x == b);
+    }
+    match memchr(b, text) {
+        Some(_) => true,
+        None => false,
+    }
+}
+
 /// Whether the characters are those of a text.
-#[tactic(auto, using(crate::proofs::TextChars::text_bytes))]
 pub fn is_text(text: &str) -> bool
     ensures { result ≡ spec.is_text text.now }
 {
-    (has_text_bytes(text.as_bytes()) || has_text_chars(text)) && pairs_returns(text.as_bytes())
+    has_text_chars(text) && pairs_returns(text.as_bytes())
 }
 
 /// How many characters a text has.

@@ -1,9 +1,11 @@
 -- A text over all of which a run of bytes in quotes goes means itself.
-use Rattle.std.proofs.Common.{◌≡◌, ℕ, suc, ◌+◌, Bool, true, false, ◌&&◌, ◌||◌, cond, not, eqb, eqb-true, List, [], ◌∷◌, ◌++◌, length, refl}
-use Rattle.std.{proofs.Common.{sym, ap, ◌∙◌, ⊎_elim, append_assoc, append-nil, arith}, proofs.lemmas.Bool.{cases_Bool, or_parts}}
-use Rattle.std.specs.List.{prefix_len}
-use Rattle.yq_core.{specs.ContentReading.{within, content_on, quoted_item, item_len, item_before}, specs.Runs.{is_stop, run_goes_on}}
-use Rattle.yq_core.{specs.declared.runs.Run.TheVariants.Quoted, specs.Text.{is_white, is_feed, is_return, front}}
+use Rattle.std.proofs.Common.{◌≡◌, ℕ, zero, suc, ◌+◌, ◌≤◌, take, drop, Bool, true, false, ◌&&◌, ◌||◌, cond, not, eqb, eqb-true, List, []}
+use Rattle.std.proofs.Common.{◌∷◌, ◌++◌, length, refl, sym, ap, ◌∙◌, ⊎_elim, append_assoc, append-nil, arith}
+use Rattle.std.{proofs.lemmas.Bool.{cases_Bool, or_parts}, specs.List.prefix_len, specs.Prelude.slice_index}
+use Rattle.yq_core.specs.ContentReading.{within, breaks, content_on, quoted_item, item_len, item_before, space_text}
+use Rattle.yq_core.{specs.Runs.{is_stop, run_goes_on}, specs.declared.runs.Run.TheVariants.Quoted}
+use Rattle.yq_core.specs.Text.{is_white, is_feed, is_return, front}
+use Rattle.yq_scalar_reader.specs.Folded.{is_blank_before}
 
 abbrev GoesOver : ℕ → List ℕ → Type 0
 GoesOver q t = prefix_len (run_goes_on (Quoted q)) t ≡ length t
@@ -63,3 +65,56 @@ goes_on q white (b ∷ bs) h =
 
 pub means_itself : (q : ℕ) (t : List ℕ) → prefix_len (run_goes_on (Quoted q)) t ≡ length t → content_on q 0 within [] t ≡ t
 means_itself q t h = goes_on q [] t h
+
+-- over bytes of such a run, the first of which is no stop
+first_of : (q b m : ℕ) (bs : List ℕ) → suc m ≤ prefix_len (run_goes_on (Quoted q)) (b ∷ bs) →
+    (is_stop (Quoted q) b ≡ false) × (m ≤ prefix_len (run_goes_on (Quoted q)) bs)
+first_of q b m bs h = go (is_stop (Quoted q) b) refl h where
+  go : (c : Bool) → is_stop (Quoted q) b ≡ c → suc m ≤ cond (not c) (1 + prefix_len (run_goes_on (Quoted q)) bs) 0 →
+      (is_stop (Quoted q) b ≡ false) × (m ≤ prefix_len (run_goes_on (Quoted q)) bs)
+  go true e k = absurd (omega (arith, k))
+  go false e k = (e, omega (arith, k))
+
+no_feed_in : (q m : ℕ) (bs : List ℕ) → suc m ≤ prefix_len (run_goes_on (Quoted q)) bs → front is_feed bs ≡ false
+no_feed_in q m [] h = absurd (omega (arith, h))
+no_feed_in q m (b ∷ bs) h = (other q b (first_of q b m bs h).0).2
+
+-- up to a byte that is neither white space nor a CR, its bytes mean themselves
+up_to : (q m : ℕ) (white t : List ℕ) → suc m ≤ prefix_len (run_goes_on (Quoted q)) t → (is_white (slice_index t m) || is_return (slice_index t m)) ≡ false →
+    content_on q 0 within white t ≡ white ++ (take (suc m) t ++ content_on q 0 within [] (drop (suc m) t))
+unfolding content_on
+up_to q m white [] h e = absurd (omega (arith, h))
+up_to q zero white (b ∷ bs) h e =
+    let o = other q b (first_of q b 0 bs h).0 in
+    let n = or_parts (is_white b) (is_return b) e in
+    rw (n.0, o.2, n.1, item_itself q b bs o.1, item_alone q b bs o.0 o.1, item_within q b bs o.1) refl
+up_to q (suc m) white (b ∷ bs) h e =
+    let g = first_of q b (suc m) bs h in
+    let o = other q b g.0 in
+    ⊎_elim {0, 0, 0}
+    (λ (w : is_white b ≡ true). rw w (up_to q m (white ++ b ∷ []) bs g.1 e
+    ∙ append_assoc white (b ∷ []) (take (suc m) bs ++ content_on q 0 within [] (drop (suc m) bs))))
+    (λ (w : is_white b ≡ false). rw (
+      w,
+      o.2,
+      both (is_return b) (front is_feed bs) (no_feed_in q m bs g.1),
+      item_itself q b bs o.1,
+      item_alone q b bs o.0 o.1,
+      item_within q b bs o.1,
+    ) (ap (λ l. white ++ (b ∷ l)) (up_to q m [] bs g.1 e)))
+    (cases_Bool (is_white b))
+
+words : (q n : ℕ) (t : List ℕ) → (n ≡ 0 → ⊥) → n ≤ prefix_len (run_goes_on (Quoted q)) t → is_blank_before n t ≡ false →
+    content_on q 0 within [] t ≡ take n t ++ content_on q 0 within [] (drop n t)
+words q zero t some h e = absurd (some refl)
+words q (suc m) t some h e = up_to q m [] t h e
+
+pub words_in_front : (q n len : ℕ) (t run rest : List ℕ) → (n ≡ 0 → ⊥) → n ≤ len → len ≡ prefix_len (run_goes_on (Quoted q)) t →
+    is_blank_before n t ≡ false → run ≡ take n t → rest ≡ drop n t → content_on q 0 within [] t ≡ run ++ content_on q 0 within [] rest
+words_in_front q n len t run rest some h k e f g = rw (f, g) (words q n t some (omega (arith, h, k)) e)
+
+-- no white space means nothing
+pub nothing_added : (joined : Bool) (out space : List ℕ) → joined ≡ false → eqb (length space) 0 ≡ true → out ≡ out ++ space_text joined space
+unfolding breaks
+nothing_added joined out [] j e = rw j (sym (append-nil out))
+nothing_added joined out (b ∷ bs) j e = absurd (omega (arith, eqb-true (length (b ∷ bs)) 0 e))

@@ -3,3 +3,4 @@ pub mod DistinctKeys
 pub mod IntegerLaws
 pub mod LoopLaws
 pub mod SameContentLaws
+mod WordLaws

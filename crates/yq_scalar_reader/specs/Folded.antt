@@ -1,8 +1,9 @@
 -- What bytes of a plain or quoted scalar mean, one part after the other (own).
-use Rattle.std.{specs.Prelude.{◌≡◌, ◌≢◌, ℕ, List, ◌++◌, Bool, false, replicate, encode_utf8, Option, MatchOption}, specs.Str.bytes_eq}
+use Rattle.std.specs.Prelude.{◌≡◌, ◌≢◌, ℕ, zero, suc, List, ◌++◌, Bool, false, ◌||◌, slice_index, replicate, encode_utf8, Option}
+use Rattle.std.{specs.Prelude.MatchOption, specs.Str.bytes_eq}
 use denote.Bor.{Bor}
 use Rattle.yq_scalar_reader.specs.declared.folded.Folded.{Folded}
-use Rattle.yq_core.{specs.ContentReading.content_behind, specs.Text.feed}
+use Rattle.yq_core.{specs.ContentReading.content_behind, specs.Text.{feed, is_white, is_return}}
 use Rattle.yq_scalar_reader.specs.declared.folded.Folded.TheVariants as folded
 
 -- the text that bytes of a scalar mean (own)
@@ -24,3 +25,8 @@ abbrev pub StripsItem : ℕ → Bool → List ℕ → List ℕ → Option (Bor (
 StripsItem quote joined text content r =
     MatchOption r (stands_for quote joined text content ≡ false)
     (λ x. stands_for quote joined text content ≡ stands_for quote x.2 x.1.now x.0.now)
+
+-- white space or a CR comes before a place, where one is (own)
+abbrev pub is_blank_before : ℕ → List ℕ → Bool
+is_blank_before zero t = false
+is_blank_before (suc k) t = is_white (slice_index t k) || is_return (slice_index t k)

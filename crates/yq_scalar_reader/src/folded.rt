@@ -1,10 +1,12 @@
 //! What white space, breaks, escapes and other bytes of plain and quoted scalars mean (YAML 1.2.2, sections 5.7, 6.5 and 7.3).
-ghost use Rattle.std.specs.Prelude.{◌≡◌, ◌++◌, ◌<◌, ◌≤◌, [], length, true, false};
+ghost use Rattle.std.specs.Prelude.{◌≡◌, ◌++◌, ◌<◌, ◌≤◌, [], length, true, false, IfSome};
 ghost use Rattle.yq_scalar_reader.specs.Folded.{folded_text};
 ghost use Rattle.yq_core.{specs.Plain.no_gap, specs.Text.{upto, cut, is_space}, specs.Quoted.IsQuotedText};
 ghost use Rattle.yq_core.specs.ContentReading as spec;
+ghost use Rattle.yq_scalar_reader.specs.Folded as folded_spec;
 
 use crate::quoted::escape;
+use yq_core::Run;
 use yq_core::text::{is_break, is_space};
 
 /// What bytes of a plain or quoted scalar mean.
@@ -119,10 +121,57 @@ fn run_len(quote: u8, text: &[u8]) -> usize
     n
 }
 
-fn split_run(quote: u8, text: &str) -> (&str, &str)
-    ensures { (result.0.now, result.1.now) ≡ cut (spec.ends_run quote) text.now }
+/// Whether white space or a CR comes before a place.
+fn is_blank_before(n: usize, text: &[u8]) -> bool
+    requires { n ≤ length text.now }
+    ensures value { result ≡ folded_spec.is_blank_before n text.now }
+    ensures place { result ≡ true → 0 < n }
 {
-    text.split_at(run_len(quote, text.as_bytes()))
+    n > 0 && matches!(text[n - 1], b' ' | b'\t' | b'\r')
+}
+
+/// How many of so many bytes come before the white space at their end.
+fn trimmed_len(text: &[u8], len: usize) -> usize
+    requires { len ≤ length text.now }
+    ensures within { result ≤ len }
+    ensures last { folded_spec.is_blank_before result text.now ≡ false }
+{
+    let mut n = len;
+    'each: while is_blank_before(n, text) {
+        n -= 1;
+    }
+    n
+}
+
+/// What is in front up to a quote, a backslash or a break, without the white space at its end.
+fn split_words(quote: u8, text: &str) -> Option<(&str, &str)>
+    ensures value { IfSome result (λ x. spec.content_on quote 0 spec.within [] text.now
+        ≡ x.0.now ++ spec.content_on quote 0 spec.within [] x.1.now) }
+    ensures shorter { IfSome result (λ x. length x.1.now < length text.now) }
+{
+    let bytes = text.as_bytes();
+    let run = yq_core::run_len(Run::Quoted(quote), bytes);
+    let len = trimmed_len(bytes, run);
+    if len == 0 {
+        return None;
+    }
+    match text.split_at_checked(len) {
+        Some((words, rest)) => Some((words, rest)),
+        None => None,
+    }
+}
+
+/// Bytes in front that mean themselves, and what follows them.
+fn split_run(quote: u8, text: &str) -> (&str, &str)
+    ensures value { spec.content_on quote 0 spec.within [] text.now
+        ≡ result.0.now ++ spec.content_on quote 0 spec.within [] result.1.now }
+    ensures within { length result.1.now ≤ length text.now }
+    ensures shorter { 0 < length text.now → spec.ends_run quote text.now ≡ false → length result.1.now < length text.now }
+{
+    match split_words(quote, text) {
+        Some(parts) => parts,
+        None => text.split_at(run_len(quote, text.as_bytes())),
+    }
 }
 
 /// How long the break in front is, in bytes.

@@ -21,6 +21,16 @@ fn push_folded(out: &mut String, folded: Folded<'_>) -> Result<(), AllocError>
     }
 }
 
+/// Adds what white space and breaks mean, after an escaped break or not.
+fn push_gap(out: &mut String, joined: bool, space: &str) -> Result<(), AllocError>
+    ensures { AddsText result out.old out.new (spec.space_text joined space.now) }
+{
+    if !joined && space.is_empty() {
+        return Ok(());
+    }
+    push_folded(out, fold_gap(joined, space))
+}
+
 /// Adds what white space, breaks and the item after them mean, and gives what follows, and
 /// whether that is a joined line.
 fn push_next<'a>(
@@ -34,7 +44,7 @@ fn push_next<'a>(
     ensures shorter { IfOk result (λ x. 0 < length text.now → length x.0.now < length text.now) }
 {
     let (space, next) = split_space(text);
-    push_folded(out, fold_gap(joined, space))?;
+    push_gap(out, joined, space)?;
     let item = fold_item(quote, next);
     push_folded(out, item.folded)?;
     Ok((item.rest, item.joined))

@@ -3,7 +3,9 @@ ghost use Rattle.std.{specs.List.prefix_len, specs.Prelude.{◌≡◌, ◌==◌,
 ghost use Rattle.yq_core.specs.Text.{cut, upto};
 ghost use Rattle.yq_core.specs.Plain as spec;
 ghost use Rattle.yq_core.specs.PlainReading as reading;
+ghost use Rattle.yq_scalar_reader.specs.Words as words;
 
+use yq_core::characters::holds_byte;
 use yq_core::text::{is_break, is_marker, is_space, separates, whites_len};
 use yq_core::{Run, is_white, run_len, spaces_len};
 
@@ -97,6 +99,24 @@ fn across(flow: bool, spaces: Option<usize>, text: &[u8]) -> Option<usize>
     None
 }
 
+/// Whether one space is in front, and after it a letter, a digit or no ASCII.
+fn begins_word(text: &[u8]) -> bool
+    ensures { result ≡ words.begins_word text.now }
+{
+    matches!(text, [b' ', b'a'..=b'z' | b'A'..=b'Z' | b'0'..=b'9' | 128..=255, ..])
+}
+
+/// How far it is over white space and breaks to where the scalar goes on: most often one space.
+#[inline(always)]
+fn across_words(flow: bool, spaces: Option<usize>, text: &[u8]) -> Option<usize>
+    ensures { result ≡ reading.across flow spaces true text.now }
+{
+    if begins_word(text) {
+        return Some(1);
+    }
+    across(flow, spaces, text)
+}
+
 /// Whether a plain scalar may begin in front.
 #[inline(always)]
 pub fn begins_plain(flow: bool, text: &[u8]) -> bool
@@ -132,7 +152,7 @@ pub fn plain_len(flow: bool, spaces: Option<usize>, text: &[u8]) -> usize
             return n;
         };
         if is_space(next) {
-            if let Some(k) = across(flow, spaces, next) {
+            if let Some(k) = across_words(flow, spaces, next) {
                 n += k;
                 rest = next.split_at(k).1;
             } else {
@@ -161,5 +181,5 @@ pub fn split_plain(flow: bool, spaces: Option<usize>, text: &str) -> (&str, &str
 pub fn holds_break(text: &str) -> bool
     ensures { result ≡ spec.holds_break text.now }
 {
-    text.as_bytes().iter().any(|b| *b == b'\n')
+    holds_byte(b'\n', text.as_bytes())
 }

@@ -8,6 +8,7 @@ ghost use Rattle.yq_places.specs.Answers.{IsNotUtf8};
 ghost use Rattle.yq_documents.{specs.Documents.{Document, ReadsDocuments}, specs.Ready.TextIsReady};
 ghost use Rattle.yq_documents.specs.Reading as spec;
 
+use simdutf8::compat::from_utf8;
 use std::alloc::Global;
 use yq_compose::read_rows;
 use yq_core::fault_place::fault_at;
@@ -23,7 +24,7 @@ pub fn text_of(bytes: &[u8]) -> Result<&str, ReadFault>
         (λ f. (is_utf8 bytes.now ≡ false) × (f.kind ≡ NotUtf8)) }
     ensures place { IfErr result (IsFaultAt bytes.now (utf8_valid_len bytes.now)) }
 {
-    match std::str::from_utf8(bytes) {
+    match from_utf8(bytes) {
         Ok(text) => Ok(text),
         Err(error) => {
             let at = error.valid_up_to();

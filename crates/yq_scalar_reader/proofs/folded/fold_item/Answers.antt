@@ -1,6 +1,5 @@
-use Rattle.std.proofs.Common.{◌≡◌, false, ◌++◌, ◌∷◌, ℕ, List, [], sym, ap, ap₂, ◌∙◌}
-use Rattle.yq_core.specs.ContentReading.{content_on, within, is_pair, is_slash, ends_run}
-use Rattle.yq_core.proofs.ItemLaws.{boundary_pair, content_pair, content_run, cut_within, cut_shorter, runs_on}
+use Rattle.std.proofs.Common.{◌≡◌, false, ◌∷◌, ℕ, List, [], sym, ap, ◌∙◌}
+use Rattle.yq_core.{specs.ContentReading.{content_on, within, is_pair, is_slash}, proofs.ItemLaws.{boundary_pair, content_pair, runs_on}}
 use Rattle.yq_scalar_reader.proofs.folded.fold_item.Goals as goal
 
 pub split_at-requires : goal.split_at-requires
@@ -11,15 +10,10 @@ returns-then-is_pair-clause-value c =
     content_pair c.args.quote c.args.text.now (ap (is_pair c.args.quote) (sym c.as_bytes-2.ensures.value) ∙ (sym c.is_pair.ensures ∙ c.if-is_pair.true)) ∙ ap (λ l. 39 ∷ content_on c.args.quote 0 within [] l) (sym c.split_at.ensures.back)
 
 pub returns-clause-value : goal.returns-clause-value
-returns-clause-value c =
-    let t : List ℕ = c.args.text.now in
-    let q = c.args.quote in
-    content_run q t
-    ∙ ap₂ ◌++◌ (sym (ap (λ (y : List ℕ × List ℕ). y.0) c.split_run.ensures)) (ap (content_on q 0 within []) (sym (ap (λ (y : List ℕ × List ℕ). y.1) c.split_run.ensures)))
+returns-clause-value c = c.split_run.ensures.value
 
 pub returns-clause-within : goal.returns-clause-within
-returns-clause-within c =
-    cut_within (ends_run c.args.quote) c.args.text.now _ (ap (λ (y : List ℕ × List ℕ). y.1) c.split_run.ensures)
+returns-clause-within c = c.split_run.ensures.within
 
 pub returns-clause-shorter : goal.returns-clause-shorter
 returns-clause-shorter c = λ some.
@@ -27,4 +21,4 @@ returns-clause-shorter c = λ some.
     let q = c.args.quote in
     let slash : is_slash q t ≡ false = ap (is_slash q) (sym c.as_bytes.ensures.value) ∙ (sym c.is_slash.ensures ∙ c.if-is_slash.false) in
     let pair : is_pair q t ≡ false = ap (is_pair q) (sym c.as_bytes-2.ensures.value) ∙ (sym c.is_pair.ensures ∙ c.if-is_pair.false) in
-    cut_shorter (ends_run q) t _ (ap (λ (y : List ℕ × List ℕ). y.1) c.split_run.ensures) some (runs_on q t some c.requires pair slash)
+    c.split_run.ensures.shorter some (runs_on q t some c.requires pair slash)

@@ -5,22 +5,22 @@ use Rattle.yq_core.{proofs.PlainRuns.run_behind, proofs.Upto.upto_le_length}
 use Rattle.yq_scalar_reader.proofs.plain.plain_len.Goals as goal
 
 pub overflow_add-n-in-Some : goal.overflow_add-n-in-Some
-overflow_add-n-in-Some c = omega (arith, across_bounds c.args.flow c.args.spaces true c.split_at.result.1.now c.in-Some.k (sym c.across.ensures ∙ c.in-Some.is), c.run_len-run.ensures.within, c.split_at.ensures.back_len, c.each.invariant.within)
+overflow_add-n-in-Some c = omega (arith, across_bounds c.args.flow c.args.spaces true c.split_at.result.1.now c.in-Some.k (sym c.across_words.ensures ∙ c.in-Some.is), c.run_len-run.ensures.within, c.split_at.ensures.back_len, c.each.invariant.within)
 
 pub split_at-requires-in-Some : goal.split_at-requires-in-Some
-split_at-requires-in-Some c = across_bounds c.args.flow c.args.spaces true c.split_at.result.1.now c.in-Some.k (sym c.across.ensures ∙ c.in-Some.is)
+split_at-requires-in-Some c = across_bounds c.args.flow c.args.spaces true c.split_at.result.1.now c.in-Some.k (sym c.across_words.ensures ∙ c.in-Some.is)
 
 pub each-smaller-in-Some : goal.each-smaller-in-Some
 each-smaller-in-Some c =
-    let pos = across_some c.args.flow c.args.spaces c.split_at.result.1.now c.in-Some.k (sym c.is_space.ensures ∙ c.if-is_space.true) (sym c.across.ensures ∙ c.in-Some.is) in
+    let pos = across_some c.args.flow c.args.spaces c.split_at.result.1.now c.in-Some.k (sym c.is_space.ensures ∙ c.if-is_space.true) (sym c.across_words.ensures ∙ c.in-Some.is) in
     omega (arith, pos, c.split_at.ensures.back_len, c.split_at-in-Some.ensures.back_len, c.in-len1-up.len_at_least)
 
 pub each-preserved-in-Some : goal.each-preserved-in-Some
 each-preserved-in-Some c =
     let s : List ℕ = c.split_at.result.1.now in
     let k = c.in-Some.k in
-    let le = across_bounds c.args.flow c.args.spaces true s k (sym c.across.ensures ∙ c.in-Some.is) in
-    let on = across_upto c.args.flow c.args.spaces s k (sym c.across.ensures ∙ c.in-Some.is) in
+    let le = across_bounds c.args.flow c.args.spaces true s k (sym c.across_words.ensures ∙ c.in-Some.is) in
+    let on = across_upto c.args.flow c.args.spaces s k (sym c.across_words.ensures ∙ c.in-Some.is) in
     let run = run_behind c.args.flow c.args.spaces c.each.rest.now s c.each.n c.run_len-run.result _ c.run_len-run.ensures.value c.split_at.ensures.back c.each.invariant.so_far in
     let back : c.split_at-in-Some.result.1.now ≡ drop k s = c.split_at-in-Some.ensures.back in
     record {
@@ -28,10 +28,10 @@ each-preserved-in-Some c =
       so_far = rw back (omega (arith, on, run));
     }
 
-pub returns-in_default-across : goal.returns-in_default-across
-returns-in_default-across c =
+pub returns-in_default-across_words : goal.returns-in_default-across_words
+returns-in_default-across_words c =
     let run = run_behind c.args.flow c.args.spaces c.each.rest.now c.split_at.result.1.now c.each.n c.run_len-run.result _ c.run_len-run.ensures.value c.split_at.ensures.back c.each.invariant.so_far in
-    omega (arith, run, plain_stop c.args.flow c.args.spaces c.split_at.result.1.now (sym c.is_space.ensures ∙ c.if-is_space.true) (sym c.across.ensures ∙ c.in_default-across.is))
+    omega (arith, run, plain_stop c.args.flow c.args.spaces c.split_at.result.1.now (sym c.is_space.ensures ∙ c.if-is_space.true) (sym c.across_words.ensures ∙ c.in_default-across_words.is))
 
 pub returns-then-ends_text : goal.returns-then-ends_text
 returns-then-ends_text c =
