@@ -5,8 +5,8 @@ use Rattle.yq_row_table.{specs.Grammar.{AreRows, Limit, limit_after}, specs.Rows
 use Rattle.yq_row_table.{specs.Seams.retail, specs.Splices.CutsItsText}
 use Rattle.yq_rows.specs.RowSplices.{RowSplice, after_splice, before_splice, cut_spliced, old_gap, old_rows}
 use Rattle.yq_rows.specs.RowsBetween.{AppendedRows, RowBetween, closed_rows, cut_appended, cut_with_row}
-use Rattle.yq_rows.specs.RowsInCuts.{NodeInRow, RowInCut, after_node, before_node, before_row_content, cut_with_content}
-use Rattle.yq_rows.specs.RowsInCuts.{text_after, text_with}
+use Rattle.yq_rows.specs.RowsInCuts.{NodeInRow, RowInCut, after_node, before_node, before_row_content, cut_with_content, text_after}
+use Rattle.yq_rows.specs.RowsInCuts.{text_with}
 
 -- the text of a cut is that before the row's content, this content, and that after the row
 abbrev pub IsTextAround : Content → RowInCut → Cut → Type 0
