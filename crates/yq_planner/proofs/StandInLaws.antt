@@ -2,9 +2,9 @@
 use Rattle.std.proofs.Common.{◌≡◌, ℕ, ◌-◌, ◌<◌, ◌≤◌, min, nat_lt, true, false, ◌||◌, List, [], ◌∷◌, length, map, Option, Some, None, IfSome}
 use Rattle.std.{proofs.Common.{IfOk, Result, Ok, Err, eqb, rules, refl, sym, ap, ◌∙◌, subst, arith}, proofs.lemmas.Bool.Decides.nat_tests}
 use Rattle.std.{specs.Prelude.Vec, specs.declared.alloc.AllocError.AllocError, specs.declared.alloc.Global.Global}
-use Rattle.yq_core.{specs.Inline.depth_limit, specs.Keys.{deepest, depth}, specs.Values.{entries, entry, items, value_node}}
-use Rattle.yq_core.{specs.Scalar.ScalarText, specs.declared.value.Value.{Value, Scalar as ScalarValue, List as ListValue, the_lemmas}}
-use Rattle.yq_core.{specs.declared.kind.Kind.Kind, specs.Tree.{Node, scalar, list, none, child, plain_label}}
+use Rattle.yq_core.{specs.Keys.depth, specs.Values.{entries, entry, items, value_node}, specs.Scalar.ScalarText}
+use Rattle.yq_core.{specs.declared.value.Value.{Value, Scalar as ScalarValue, List as ListValue, the_lemmas}, specs.declared.kind.Kind.Kind}
+use Rattle.yq_core.specs.Tree.{Node, scalar, list, none, child, plain_label}
 use Rattle.yq_planner.specs.StandIns.{IsStandIn, lists, maps, texts}
 use Rattle.yq_semantics.specs.Changes.{has_long_key, is_long_key}
 use Rattle.yq_core.specs.Tree as tree

@@ -6,3 +6,4 @@ pub mod Indexes
 pub mod TakenNames
 pub mod StandIns
 pub mod ChangedNodes
+pub mod ChangeAnswers

@@ -1,8 +1,10 @@
 //! A value that is added to a node.
-ghost use Rattle.std.specs.Prelude.{◌≡◌, IfOk, None, Some, map, false};
-ghost use Rattle.yq_core.{specs.Values.{entries_of, value_node, items_of}, specs.Tree.{Children, children_of, none, scalar}};
+ghost use Rattle.std.specs.Prelude.{◌≡◌, None, false};
+ghost use Rattle.yq_core.{specs.Values.{value_node, items_of}, specs.Tree.{none, scalar}};
 ghost use Rattle.yq_nodes.specs.Nodes.{node_of};
-ghost use Rattle.yq_planner.{specs.ChangeView.{addition_of, change_of}, specs.Indexes.IsIndex};
+ghost use Rattle.yq_planner.specs.ChangeView.{change_of};
+ghost use Rattle.yq_planner.specs.ChangeAnswers.{OfEntries, GivesAdditions, GivesAddition, entry_addition, entry_additions};
+ghost use Rattle.yq_planner.specs.ChangeAnswers.{node_with_entries};
 ghost use Rattle.yq_semantics.specs.Judgement.{Judges};
 ghost use Rattle.yq_semantics.specs.Changes as spec;
 ghost use Rattle.yq_semantics.specs.RightValues as values;
@@ -31,8 +33,7 @@ fn to_scalar(alloc: Global, kind: Kind, text: &str, value: &Value) -> Result<Cha
 
 /// The items of a list.
 fn items(alloc: Global, values: &Vec<Value>) -> Result<Vec<Addition>, AllocError>
-    ensures { IfOk result (λ v. map addition_of v.items ≡
-        spec.additions none (items_of values.now.items)) }
+    ensures { GivesAdditions result (spec.additions none (items_of values.now.items)) }
 {
     let mut additions = Vec::new(alloc);
     'values: for value in values {
@@ -43,8 +44,7 @@ fn items(alloc: Global, values: &Vec<Value>) -> Result<Vec<Addition>, AllocError
 
 /// The items that a list gets from a value.
 fn to_list(alloc: Global, value: &Value) -> Result<Vec<Addition>, AllocError>
-    ensures { IfOk result (λ v. map addition_of v.items ≡
-        spec.additions none (values.as_items (value_node value.now))) }
+    ensures { GivesAdditions result (spec.additions none (values.as_items (value_node value.now))) }
 {
     if let Value::List(values) = value {
         return items(alloc, values);
@@ -61,8 +61,7 @@ fn entry(
     key: &str,
     value: &Value,
 ) -> Result<Addition, AllocError>
-    ensures { (cs : Children) → IsIndex cs index.now →
-        IfOk result (λ x. addition_of x ≡ spec.addition cs (Some key.now) (value_node value.now)) }
+    ensures { OfEntries index.now (λ cs. GivesAddition result (entry_addition cs key.now value.now)) }
 {
     let owned = String::from_str(alloc, key)?;
     let value = copied(alloc, value)?;
@@ -78,9 +77,7 @@ fn entries(
     index: &EntryIndex<'_, '_>,
     others: &Vec<(String, Value)>,
 ) -> Result<Vec<Addition>, AllocError>
-    ensures { (cs : Children) → IsIndex cs index.now →
-        IfOk result (λ v. map addition_of v.items ≡
-        spec.additions cs (entries_of others.now.items)) }
+    ensures { OfEntries index.now (λ cs. GivesAdditions result (entry_additions cs others.now)) }
 {
     let mut additions = Vec::new(alloc);
     'each: for other in others {
@@ -91,8 +88,7 @@ fn entries(
 
 /// The entries of a value for a mapping.
 fn to_map(alloc: Global, node: &Node<'_, '_>, value: &Value) -> Result<Change, ExprError>
-    ensures { Judges change_of result (spec.added_entries (children_of (node_of node.now))
-        (value_node value.now)) }
+    ensures { Judges change_of result (node_with_entries node.now value.now) }
 {
     let Value::Map(others) = value else {
         return Err(ExprError::Refused(Refusal::KindMismatch));

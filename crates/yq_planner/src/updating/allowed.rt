@@ -1,11 +1,5 @@
 //! What refuses a change.
-ghost use Rattle.std.{specs.List.list_any, specs.Prelude.{◌≡◌, IfOk, List}};
-ghost use Rattle.yq_core.{specs.Paths.Step as TreeStep, specs.Tree.{Children, Node as TreeNode, children_of}, specs.Anchors.Name};
-ghost use Rattle.yq_nodes.specs.Nodes.{node_of};
-ghost use Rattle.yq_planner.{specs.ChangeView.{addition_of, change_of}, specs.Indexes.{HasAliases, IsIndex}};
-ghost use Rattle.yq_planner.{specs.TakenNames.{takes_at, overwrites_at}, specs.ChangedNodes.LeadsToNode};
-ghost use Rattle.yq_semantics.specs.Judgement.{Judges};
-ghost use Rattle.yq_semantics.specs.Changes as spec;
+ghost use Rattle.yq_planner.specs.ChangeAnswers.{JudgesChangeOf, IsWhetherOverwritten, GivesWhetherOverwritten, GivesWhetherTaken};
 
 use crate::updating::anchors::{Aliases, is_used_in, is_used_inside};
 use crate::updating::change::{Addition, Change};
@@ -18,8 +12,7 @@ use yq_semantics::{ExprError, Refusal};
 /// Whether what is overwritten by an addition to a mapping holds an anchor that
 /// an alias names.
 fn overwrites_used(aliases: &Aliases<'_>, index: &EntryIndex<'_, '_>, addition: &Addition) -> bool
-    ensures { (names : List Name) (cs : Children) → HasAliases names aliases.now →
-        IsIndex cs index.now → result ≡ overwrites_at names cs (addition_of addition.now) }
+    ensures { IsWhetherOverwritten aliases.now index.now addition.now result }
 {
     let Addition::Overwrites(key, _) = addition else {
         return false;
@@ -37,9 +30,7 @@ fn some_overwrites_used(
     node: &Node<'_, '_>,
     additions: &[Addition],
 ) -> Result<bool, AllocError>
-    ensures { (names : List Name) → HasAliases names aliases.now →
-        IfOk result (λ b. b ≡ list_any (λ x. overwrites_at names (children_of (node_of node.now))
-        (addition_of x)) additions.now) }
+    ensures { GivesWhetherOverwritten aliases.now node.now additions.now result }
 {
     let index = index_of(alloc, node)?;
     'each: for addition in additions {
@@ -57,8 +48,7 @@ fn takes_used(
     node: &Node<'_, '_>,
     change: &Change,
 ) -> Result<bool, AllocError>
-    ensures { (names : List Name) → HasAliases names aliases.now →
-        IfOk result (λ b. b ≡ takes_at names (node_of node.now) (change_of change.now)) }
+    ensures { GivesWhetherTaken aliases.now node.now change.now result }
 {
     if aliases.is_empty() {
         return Ok(false);
@@ -81,10 +71,7 @@ pub fn allow(
     outer: usize,
     change: &Change,
 ) -> Result<(), ExprError>
-    ensures { (root : TreeNode) (x : List TreeStep) →
-        LeadsToNode root x aliases.now (node_of node.now) outer →
-        Judges (λ _. (x, change_of change.now)) result
-        (spec.allowed root (x, change_of change.now)) }
+    ensures { JudgesChangeOf aliases.now node.now outer change.now result }
 {
     if is_too_long(alloc, change)? {
         return Err(ExprError::Refused(Refusal::KeyTooLong));

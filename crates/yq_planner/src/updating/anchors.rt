@@ -1,9 +1,9 @@
 //! Anchors that aliases of a document name.
-ghost use Rattle.std.{specs.List.list_any, specs.Prelude.{◌≡◌, ◌||◌, IfOk, List, OnOk, is_some, ℕ}};
-ghost use Rattle.yq_core.{specs.Tree.{children_of, anchor_of}, specs.Anchors.{Name, names_in, names_of}};
+ghost use Rattle.std.specs.Prelude.{◌≡◌, IfOk};
+ghost use Rattle.yq_core.{specs.Tree.children_of, specs.Anchors.{names_in, names_of}};
 ghost use Rattle.yq_nodes.specs.Nodes.{node_of};
-ghost use Rattle.yq_planner.{specs.Indexes.{HasAliases, get_text}, specs.TakenNames.is_used_anchor};
-ghost use Rattle.yq_semantics.specs.Changes as spec;
+ghost use Rattle.yq_planner.specs.Indexes.{HasAliases};
+ghost use Rattle.yq_planner.specs.ChangeAnswers.{OfAliases, AddsAliases, is_used_node, holds_used_anchor, holds_used_below};
 
 use std::alloc::{AllocError, Global};
 use std::collections::BTreeMap;
@@ -15,9 +15,7 @@ pub type Aliases<'d> = BTreeMap<&'d str, ()>;
 /// Puts the names of the aliases in a node among others.
 #[cycle(aliases)]
 fn put_aliases<'d>(node: &Node<'d, '_>, aliases: &mut Aliases<'d>) -> Result<(), AllocError>
-    ensures { OnOk result ((k : List ℕ) → is_some (get_text k aliases.new) ≡
-        (is_some (get_text k aliases.old) || list_any (spec.refers_to k)
-        (names_of (node_of node.now)))) }
+    ensures { AddsAliases result aliases.old aliases.new (names_of (node_of node.now)) }
 {
     match node.kind() {
         NodeKind::Alias => {
@@ -32,9 +30,7 @@ fn put_aliases<'d>(node: &Node<'d, '_>, aliases: &mut Aliases<'d>) -> Result<(),
 /// Puts the names of the aliases in a node's items or values among others.
 #[cycle(aliases)]
 fn put_aliases_below<'d>(node: &Node<'d, '_>, aliases: &mut Aliases<'d>) -> Result<(), AllocError>
-    ensures { OnOk result ((k : List ℕ) → is_some (get_text k aliases.new) ≡
-        (is_some (get_text k aliases.old) || list_any (spec.refers_to k)
-        (names_in (children_of (node_of node.now))))) }
+    ensures { AddsAliases result aliases.old aliases.new (names_in (children_of (node_of node.now))) }
 {
     let mut children = node.children();
     'each: while let Some(child) = children.next() {
@@ -57,8 +53,7 @@ pub fn aliases_of<'d>(alloc: Global, node: &Node<'d, '_>) -> Result<Aliases<'d>,
 
 /// Whether a node's own anchor is named by an alias.
 fn is_named(aliases: &Aliases<'_>, node: &Node<'_, '_>) -> bool
-    ensures { (names : List Name) → HasAliases names aliases.now →
-        result ≡ is_used_anchor names (anchor_of (node_of node.now)) }
+    ensures { OfAliases aliases.now (λ names. result ≡ is_used_node names node.now) }
 {
     match node.anchor() {
         Some(name) => aliases.contains_key(name),
@@ -69,8 +64,7 @@ fn is_named(aliases: &Aliases<'_>, node: &Node<'_, '_>) -> bool
 /// Whether some anchor in a node is named by an alias.
 #[cycle(used)]
 pub(crate) fn is_used_in(aliases: &Aliases<'_>, node: &Node<'_, '_>) -> bool
-    ensures { (names : List Name) → HasAliases names aliases.now →
-        result ≡ list_any (spec.is_used names) (names_of (node_of node.now)) }
+    ensures { OfAliases aliases.now (λ names. result ≡ holds_used_anchor names node.now) }
 {
     is_named(aliases, node) || is_used_inside(aliases, node)
 }
@@ -78,8 +72,7 @@ pub(crate) fn is_used_in(aliases: &Aliases<'_>, node: &Node<'_, '_>) -> bool
 /// The same, its own excepted.
 #[cycle(used)]
 pub(crate) fn is_used_inside(aliases: &Aliases<'_>, node: &Node<'_, '_>) -> bool
-    ensures { (names : List Name) → HasAliases names aliases.now → result ≡
-        list_any (spec.is_used names) (names_in (children_of (node_of node.now))) }
+    ensures { OfAliases aliases.now (λ names. result ≡ holds_used_below names node.now) }
 {
     let mut children = node.children();
     'each: while let Some(child) = children.next() {

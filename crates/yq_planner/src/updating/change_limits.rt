@@ -1,7 +1,7 @@
 //! Changes that can't be written: with too long a key, or nested too deep.
-ghost use Rattle.std.{specs.List.list_any, specs.Prelude.{◌≡◌, ◌||◌, IfOk, Some, suc}};
-ghost use Rattle.yq_core.specs.Values.{value_node};
+ghost use Rattle.std.specs.Prelude.{◌≡◌, IfOk, suc};
 ghost use Rattle.yq_planner.specs.ChangeView.{addition_of, change_of};
+ghost use Rattle.yq_planner.specs.ChangeAnswers.{is_overlong_entry, any_writes_long_key, any_is_too_deep};
 ghost use Rattle.yq_semantics.specs.Changes as spec;
 
 use crate::updating::change::{Addition, Change};
@@ -11,8 +11,7 @@ use yq_core::Value;
 
 /// Whether a key or one in a value is too long.
 fn is_long_entry(alloc: Global, key: &str, value: &Value) -> Result<bool, AllocError>
-    ensures { IfOk result (λ b. b ≡ (spec.is_overlong_key (Some key.now) || spec.has_long_key
-        (value_node value.now))) }
+    ensures { IfOk result (λ b. b ≡ is_overlong_entry key.now value.now) }
 {
     if is_long_key(alloc, key)? {
         return Ok(true);
@@ -33,8 +32,7 @@ fn writes_long_key(alloc: Global, addition: &Addition) -> Result<bool, AllocErro
 
 /// The same of some addition.
 fn some_writes_long_key(alloc: Global, additions: &[Addition]) -> Result<bool, AllocError>
-    ensures { IfOk result (λ b. b ≡ list_any (λ a. spec.writes_long_key (addition_of a))
-        additions.now) }
+    ensures { IfOk result (λ b. b ≡ any_writes_long_key additions.now) }
 {
     'each: for addition in additions {
         if writes_long_key(alloc, addition)? {
@@ -69,8 +67,7 @@ fn adds_too_deep(outer: usize, addition: &Addition) -> bool
 
 /// The same of some addition.
 fn some_adds_too_deep(outer: usize, additions: &[Addition]) -> bool
-    ensures { result ≡ list_any (λ a. spec.is_deep (suc outer) (spec.value_in (addition_of a)))
-        additions.now }
+    ensures { result ≡ any_is_too_deep outer additions.now }
 {
     'each: for addition in additions {
         if adds_too_deep(outer, addition) {

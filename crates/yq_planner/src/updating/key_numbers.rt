@@ -1,7 +1,7 @@
 //! The numbers of entries, by their keys.
-ghost use Rattle.std.{specs.BTreeMap.get_by_text, specs.Prelude.{◌≡◌, IfOk, List, OnOk, map, ℕ}};
+ghost use Rattle.std.{specs.BTreeMap.get_by_text, specs.Prelude.{◌≡◌, IfOk, map}};
 ghost use Rattle.yq_core.specs.Values.{field_of};
-ghost use Rattle.yq_planner.specs.EntryNumbers.{AreNumbered, number_kept};
+ghost use Rattle.yq_planner.{specs.EntryNumbers.AreNumbered, specs.ChangeAnswers.KeepsNumber};
 
 use std::alloc::{AllocError, Global};
 use std::collections::BTreeMap;
@@ -17,8 +17,7 @@ pub(crate) fn keep_number(
     key: &str,
     number: usize,
 ) -> Result<(), AllocError>
-    ensures { OnOk result ((k : List ℕ) → get_by_text numbers.new k ≡
-        number_kept k (get_by_text numbers.old k) key.now number) }
+    ensures { KeepsNumber result numbers.old numbers.new key.now number }
 {
     if !numbers.contains_key(key) {
         let owned = String::from_str(alloc, key)?;

@@ -1,8 +1,9 @@
 //! Operations that carry out changes: each is of one node.
-ghost use Rattle.std.specs.Prelude.{◌≡◌, ◌++◌, IfOk, OnOk, map, string_bytes};
+ghost use Rattle.std.specs.Prelude.{◌≡◌, IfOk, map, string_bytes};
 ghost use Rattle.yq_documents.specs.Located.{steps_of};
-ghost use Rattle.yq_planner.specs.ChangeView.{addition_of, all_changed_of, changed_of};
-ghost use Rattle.yq_semantics.specs.Operations.{operation_of, operations_of};
+ghost use Rattle.yq_planner.specs.ChangeView.{all_changed_of, changed_of};
+ghost use Rattle.yq_planner.specs.ChangeAnswers.{addition_op, addition_ops, PutsOps, GivesOps};
+ghost use Rattle.yq_semantics.specs.Operations.{operation_of};
 ghost use Rattle.yq_semantics.specs.Plans as spec;
 
 use crate::updating::change::{Addition, Change, PlacedChange};
@@ -13,8 +14,7 @@ use yq_semantics::{CommentPlace, Op, copied_steps};
 
 /// The operation of an addition at a path.
 fn add_op(alloc: Global, path: &Path, addition: Addition) -> Result<Op, AllocError>
-    ensures { IfOk result (λ op. operation_of op ≡ spec.add_op path.now.doc (steps_of path.now)
-        (addition_of addition)) }
+    ensures { IfOk result (λ op. operation_of op ≡ addition_op path.now addition) }
 {
     let doc = path.doc;
     let mut steps = copied_steps(alloc, &path.steps)?;
@@ -34,9 +34,7 @@ fn push_adds(
     additions: Vec<Addition>,
     ops: &mut Vec<Op>,
 ) -> Result<(), AllocError>
-    ensures { OnOk result (operations_of ops.new.items ≡
-        operations_of ops.old.items ++ map (spec.add_op path.now.doc (steps_of path.now))
-        (map addition_of additions.items)) }
+    ensures { PutsOps result ops.old ops.new (addition_ops path.now additions.items) }
 {
     'each: for addition in additions {
         ops.push(add_op(alloc, path, addition)?)?;
@@ -62,8 +60,7 @@ fn push_change(
     changed: PlacedChange,
     ops: &mut Vec<Op>,
 ) -> Result<(), AllocError>
-    ensures { OnOk result (operations_of ops.new.items ≡
-        operations_of ops.old.items ++ spec.change_ops doc (changed_of changed)) }
+    ensures { PutsOps result ops.old ops.new (spec.change_ops doc (changed_of changed)) }
 {
     let path = Path {
         doc,
@@ -98,8 +95,7 @@ pub fn push_changes(
     changes: Vec<PlacedChange>,
     ops: &mut Vec<Op>,
 ) -> Result<(), AllocError>
-    ensures { OnOk result (operations_of ops.new.items ≡
-        operations_of ops.old.items ++ spec.ops_of doc (map changed_of changes.items)) }
+    ensures { PutsOps result ops.old ops.new (spec.ops_of doc (map changed_of changes.items)) }
 {
     'each: for changed in changes {
         push_change(alloc, doc, changed, ops)?;
@@ -113,8 +109,7 @@ pub fn operations(
     removal: bool,
     changes: Vec<Vec<PlacedChange>>,
 ) -> Result<Vec<Op>, AllocError>
-    ensures { IfOk result (λ v. operations_of v.items ≡ spec.all_ops removal 0
-        (all_changed_of changes.items)) }
+    ensures { GivesOps result (spec.all_ops removal 0 (all_changed_of changes.items)) }
 {
     let mut ops = Vec::new(alloc);
     let mut doc = 0;

@@ -1,9 +1,7 @@
 //! Small values that are refused where large ones are.
-ghost use Rattle.std.specs.Prelude.{◌≡◌, [], false, IfOk, IfSome, min, None, suc};
-ghost use Rattle.yq_core.{specs.Inline.depth_limit, specs.Keys.depth, specs.Values.{entry, value_node}};
-ghost use Rattle.yq_core.specs.Tree.{child, list, none, plain_label};
-ghost use Rattle.yq_planner.specs.StandIns.{IsStandIn};
-ghost use Rattle.yq_core.specs.Tree as tree;
+ghost use Rattle.std.specs.Prelude.{◌≡◌, [], false, IfOk, IfSome, min, None, suc, map};
+ghost use Rattle.yq_core.{specs.Inline.depth_limit, specs.Keys.depth, specs.Values.value_node, specs.Tree.{child, list, none, plain_label}};
+ghost use Rattle.yq_planner.{specs.StandIns.IsStandIn, specs.ChangeAnswers.{keyless_map, StandsForScalar}};
 ghost use Rattle.yq_semantics.specs.Changes as spec;
 
 use crate::updating::limits::{holds_long_key, is_deeper, is_long_key};
@@ -36,8 +34,7 @@ fn in_list(alloc: Global, item: Value) -> Result<Value, AllocError>
 
 /// A mapping of one entry, whose key is the empty text, which isn't too long.
 fn in_map(alloc: Global, value: Value) -> Result<Option<Value>, AllocError>
-    ensures map { IfOk result (λ o. IfSome o (λ v. value_node v ≡
-        tree.map None (child (entry []) (value_node value) none))) }
+    ensures map { IfOk result (λ o. IfSome o (λ v. value_node v ≡ keyless_map value)) }
     ensures short { IfOk result (λ o. IfSome o (λ _. spec.is_long_key [] ≡ false)) }
 {
     let key = String::new(alloc);
@@ -65,8 +62,7 @@ fn nested_lists(alloc: Global, count: usize) -> Result<Value, AllocError>
 
 /// An empty text for any other one.
 fn for_scalar(alloc: Global, scalar: &Scalar) -> Option<Value>
-    ensures { IfSome result (λ w. IsStandIn (tree.scalar None scalar.now.kind scalar.now.text)
-        (value_node w)) }
+    ensures { IfSome result (λ w. StandsForScalar scalar.now w) }
 {
     if scalar.kind() != Kind::Text {
         return None;

@@ -1,8 +1,8 @@
 //! Sums of values (yq manual, `+`).
-ghost use Rattle.std.{specs.Fmt.signed_decimal, specs.Prelude.{◌≡◌, ◌++◌, IfOk, None, OnOk, Some, map, option_map, string_bytes}};
-ghost use Rattle.yq_core.{specs.Values.{entries_of, field_of, items_of, value_node}, specs.Tree.scalar};
-ghost use Rattle.yq_core.{specs.declared.kind.Kind.TheVariants.{Int, Text}, specs.Paths.append_children};
-ghost use Rattle.yq_planner.specs.EntryNumbers.{AreNumbered};
+ghost use Rattle.std.{specs.Fmt.signed_decimal, specs.Prelude.{◌≡◌, ◌++◌, IfOk, None, OnOk, map}};
+ghost use Rattle.yq_core.{specs.Values.{field_of, items_of, value_node}, specs.Tree.scalar};
+ghost use Rattle.yq_core.specs.declared.kind.Kind.TheVariants.{Int, Text};
+ghost use Rattle.yq_planner.{specs.EntryNumbers.AreNumbered, specs.ChangeAnswers.{PutsItems, sum_of_texts, PutsEntry, PutsEntries}};
 ghost use Rattle.yq_semantics.specs.Judgement.{Judges};
 ghost use Rattle.yq_core.specs.SchemaReading as numbers;
 ghost use Rattle.yq_semantics.specs.RightValues as spec;
@@ -23,8 +23,7 @@ fn int(alloc: Global, number: i64) -> Result<Value, AllocError>
 
 /// The sum of two ints.
 fn int_sum(alloc: Global, one: &str, other: &str) -> Result<Value, ExprError>
-    ensures { Judges value_node result (spec.int_sum (numbers.int_value one.now)
-        (numbers.int_value other.now)) }
+    ensures { Judges value_node result (sum_of_texts one.now other.now) }
 {
     let (Some(m), Some(n)) = (int_value(one), int_value(other)) else {
         return Err(ExprError::Refused(Refusal::IntegerRange));
@@ -72,8 +71,7 @@ pub fn is_null(value: &Value) -> bool
 /// Puts what a list gets from a value after its items: the items of a list,
 /// or the value as one item.
 fn push_items(items: &mut Vec<Value>, value: Value) -> Result<(), AllocError>
-    ensures { OnOk result (items_of items.new.items ≡ append_children (items_of items.old.items)
-        (spec.as_items (value_node value))) }
+    ensures { PutsItems result items.old items.new (spec.as_items (value_node value)) }
 {
     match value {
         Value::List(others) => push_all(items, others),
@@ -84,8 +82,7 @@ fn push_items(items: &mut Vec<Value>, value: Value) -> Result<(), AllocError>
 
 /// Puts items after others.
 fn push_all(items: &mut Vec<Value>, others: Vec<Value>) -> Result<(), AllocError>
-    ensures { OnOk result (items_of items.new.items ≡ append_children (items_of items.old.items)
-        (items_of others.items)) }
+    ensures { PutsItems result items.old items.new (items_of others.items) }
 {
     'each: for other in others {
         items.push(other)?;
@@ -103,9 +100,7 @@ fn put_entry(
     value: Value,
 ) -> Result<(), AllocError>
     requires { AreNumbered (map field_of entries.old.items) numbers.old }
-    ensures entries { OnOk result (entries_of entries.new.items ≡
-        spec.with_entry (Some (string_bytes key)) (value_node value)
-        (entries_of entries.old.items)) }
+    ensures entries { PutsEntry result entries.old entries.new key value }
     ensures numbers { OnOk result (AreNumbered (map field_of entries.new.items) numbers.new) }
 {
     match number_of(numbers, key.as_str()) {
@@ -127,8 +122,7 @@ fn put_entries(
     entries: &mut Vec<(String, Value)>,
     others: Vec<(String, Value)>,
 ) -> Result<(), AllocError>
-    ensures { OnOk result (entries_of entries.new.items ≡
-        spec.with_entries (entries_of entries.old.items) (entries_of others.items)) }
+    ensures { PutsEntries result entries.old entries.new others }
 {
     let mut numbers = numbers_of(alloc, entries)?;
     'each: for (key, value) in others {
