@@ -8,7 +8,7 @@ use Rattle.yq_outline.specs.Bodies.{borrowed}
 use Rattle.yq_places.specs.NodesAt.{scalar_in}
 use Rattle.yq_places.specs.StandingViews.{compact_view, held_mark_view, held_view, no_rows_view, root_view, standing_view}
 use Rattle.yq_text.{specs.Halves.whole, specs.Script.Segment, specs.declared.halves.Halves.Halves}
-use Rattle.yq_edit_rules.{specs.declared.layout.Layout.Layout, specs.ValuesWritten.lines_below_mark}
+use Rattle.yq_edit_rules.{specs.declared.layout.Layout.Layout, specs.ValuesWritten.lines_at_mark}
 use Rattle.yq_edit_rules.specs.WrittenValues.{collection_by, inline, lines, written_at, written_under}
 use Rattle.yq_edit_rules.specs.ReplaceEdits.{block_put, block_scalar_put, compact_put, held_put, literal_put, no_rows_put, root_put}
 use Rattle.yq_edit_rules.{specs.ReplaceEdits.{string_put, value_put, value_put_at}, specs.EntryEdits.{behind_lines, more_at}}
@@ -40,7 +40,7 @@ filled_held is_compact l h v = held_put (break_text l.br) (held_view h) (collect
 
 -- a collection on lines in the place of those of a block scalar
 abbrev pub lines_held : Layout → held.Held → Value → List Segment
-lines_held l h v = block_put (break_text l.br) (held_view h) (lines (lines_below_mark l h.mark v))
+lines_held l h v = block_put (break_text l.br) (held_view h) (lines (lines_at_mark l h.mark v))
 
 -- a value in the place of a block scalar
 abbrev pub block_held : Layout → held.Held → Value → List Segment

@@ -15,3 +15,4 @@ pub mod Calls
 pub mod CommandDone
 pub mod ListRuns
 pub mod Help
+pub mod ProgramAnswers

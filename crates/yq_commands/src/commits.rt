@@ -1,9 +1,8 @@
 //! An edited text, kept in its file beside the journal.
 ghost use Rattle.std.specs.Prelude.{◌≡◌, ◌≢◌, Some, IfOk, OnOk, IfErr, IsTrue, IsNone, false, length};
-ghost use Rattle.yq_text.specs.Splice.{Splice, all_done, lengths_done};
+ghost use Rattle.yq_text.specs.Splice.{all_done, lengths_done};
 ghost use Rattle.yq_commands.{specs.CommandDone.{EditsFrom, program_effect}, specs.Editing.EachProgram, specs.Edits.record_between};
-ghost use Rattle.yq_history.{specs.Calls.Makes, specs.Faults.{is_output, failures_after}, specs.Leaves.LeavesRefused};
-ghost use Rattle.yq_history.specs.Pair.{OthersStay};
+ghost use Rattle.yq_history.{specs.Calls.Makes, specs.Faults.{is_output, failures_after}, specs.Leaves.{LeavesRefused, KeepsOthers}};
 ghost use Rattle.std.specs.FinMap as map;
 
 use std::alloc::{AllocError, Global};
@@ -50,8 +49,7 @@ pub fn commit<D: Store>(
         OnOk result (map.get (D.content store.new) file.now ≡ Some new.now) }
     ensures kept { IsTrue D.keeps →
         LeavesRefused (D.content store.old) (D.content store.new) result }
-    ensures others { IsTrue D.keeps → OthersStay (D.content store.old)
-        (D.content store.new) file.now journal.now }
+    ensures others { IsTrue D.keeps → KeepsOthers D.content store.old store.new file.now journal.now }
     ensures no_output { IfErr result (λ e. is_output e ≡ false) }
     ensures count { D.failures store.new ≡ failures_after result (D.failures store.old) }
     ensures calls { EachProgram old.items new.now splices.items (λ p. Makes D.leads result

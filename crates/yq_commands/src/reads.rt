@@ -1,10 +1,10 @@
 //! Reads: matches, as they are printed.
-ghost use Rattle.std.{specs.Prelude.{◌≡◌, ◌++◌, Ok, IfOk, IfErr, OnOk, None, true, false}, specs.List.list_all, specs.String.string_bytes};
-ghost use Rattle.yq_core.specs.Values.{value_node};
+ghost use Rattle.std.{specs.Prelude.{◌≡◌, IfOk, IfErr, true, false}, specs.List.list_all, specs.String.string_bytes};
+ghost use Rattle.yq_core.{specs.Values.value_node, specs.Strings.AddsText};
 ghost use Rattle.yq_eval.specs.MatchView.{matches_of};
 ghost use Rattle.yq_semantics.{specs.Program.is_read, specs.View.program_of};
 ghost use Rattle.yq_history.{specs.Faults.{is_failure, is_output}, specs.Output.showing_by};
-ghost use Rattle.yq_commands.specs.Evaluation.{FailsFor, shows};
+ghost use Rattle.yq_commands.{specs.Evaluation.{FailsFor, shows}, specs.ProgramAnswers.{PrintsMatch, ShowsProgram}};
 ghost use Rattle.yq_commands.specs.Reads as spec;
 
 use crate::faults::match_fault;
@@ -25,8 +25,7 @@ fn push_marker(
     last: Option<usize>,
     doc: usize,
 ) -> Result<(), AllocError>
-    ensures { OnOk result (string_bytes printed.new ≡ string_bytes printed.old ++
-        spec.separator_before no_doc last doc) }
+    ensures { AddsText result printed.old printed.new (spec.separator_before no_doc last doc) }
 {
     match last {
         Some(last) if !no_doc && last != doc => printed.push_str("---\n"),
@@ -42,8 +41,7 @@ fn push_match(
     last: Option<usize>,
     found: &Match,
 ) -> Result<(), AllocError>
-    ensures { OnOk result (string_bytes printed.new ≡
-        spec.with_match (string_bytes printed.old) no_doc last found.now.doc found.now.value) }
+    ensures { PrintsMatch result printed.old printed.new no_doc last found.now }
 {
     push_marker(printed, no_doc, last, found.doc)?;
     let text = print(alloc, &found.value)?;
@@ -115,8 +113,7 @@ pub fn show_read(
     options: EvalOptions,
 ) -> Result<Report, Fault>
     requires { is_read (program_of program.now) ≡ true }
-    ensures ok { IfOk result (λ s. shows options (program_of program.now) text.now ≡
-        Ok (showing_by s)) }
+    ensures ok { ShowsProgram options program.now text.now result }
     ensures err { FailsFor (shows options (program_of program.now) text.now) result }
     ensures inside { IfErr result (λ e. is_failure e ≡ false) }
     ensures no_output { IfErr result (λ e. is_output e ≡ false) }

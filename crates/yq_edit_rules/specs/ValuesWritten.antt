@@ -37,8 +37,8 @@ abbrev pub value_column : Layout → EntryMark → Value → ℕ
 value_column l m v = column_under l (held_mark_view m) (value_node v)
 
 -- a value on lines below a key or dash, up to its last break
-abbrev pub lines_below_mark : Layout → EntryMark → Value → List ℕ
-lines_below_mark l m v = lines_in l (column_under l (held_mark_view m) (value_node v)) (value_node v)
+abbrev pub lines_at_mark : Layout → EntryMark → Value → List ℕ
+lines_at_mark l m v = lines_in l (column_under l (held_mark_view m) (value_node v)) (value_node v)
 
 -- a value on the line of a dash, after a space
 abbrev pub compact_block : Layout → EntryMark → Value → List ℕ

@@ -2,7 +2,7 @@
 ghost use Rattle.std.specs.Prelude.{◌≡◌, ◌∷◌, ◌++◌, IfOk, string_bytes};
 ghost use Rattle.yq_core.{specs.Values.value_node, specs.BlockWritten.break_text, specs.Strings.{AddsText, GivesText}};
 ghost use Rattle.yq_places.specs.StandingViews.{held_mark_view};
-ghost use Rattle.yq_edit_rules.specs.ValuesWritten.{value_column, lines_below_mark, compact_block};
+ghost use Rattle.yq_edit_rules.specs.ValuesWritten.{value_column, lines_at_mark, compact_block};
 ghost use Rattle.yq_edit_rules.specs.WrittenValues as spec;
 
 use crate::pieces::deeper_column;
@@ -99,7 +99,7 @@ fn push_lines_under(
     mark: EntryMark,
     value: &Value,
 ) -> Result<(), AllocError>
-    ensures { AddsText result out.old out.new (lines_below_mark layout.now mark value.now) }
+    ensures { AddsText result out.old out.new (lines_at_mark layout.now mark value.now) }
 {
     let column = column_under(out, layout, mark, value)?;
     push_spaces(out, column)?;
@@ -113,7 +113,7 @@ pub fn break_and_lines(
     mark: EntryMark,
     value: &Value,
 ) -> Result<String, AllocError>
-    ensures { GivesText result (break_text layout.now.br ++ lines_below_mark layout.now mark value.now) }
+    ensures { GivesText result (break_text layout.now.br ++ lines_at_mark layout.now mark value.now) }
 {
     let mut text = String::new(alloc);
     text.push_str(break_text(layout.br))?;
@@ -128,7 +128,7 @@ pub fn lines_and_break(
     mark: EntryMark,
     value: &Value,
 ) -> Result<String, AllocError>
-    ensures { GivesText result (lines_below_mark layout.now mark value.now ++ break_text layout.now.br) }
+    ensures { GivesText result (lines_at_mark layout.now mark value.now ++ break_text layout.now.br) }
 {
     let mut text = String::new(alloc);
     push_lines_under(alloc, &mut text, layout, mark, value)?;

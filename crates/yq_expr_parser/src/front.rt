@@ -1,8 +1,7 @@
 //! What is in front of a text, token by token.
-ghost use Rattle.std.specs.Prelude.{◌≡◌, ◌<◌, ℕ, List, length, is_some, option_map, string_bytes, IfSome, IfOk};
-ghost use Rattle.yq_expr_parser.specs.ReadAnswers.{GivesForm, Succeeds, ReadsForm, Shortens, IsShorter, with_tokens};
-ghost use Rattle.yq_expr_parser.specs.TokenView.{token_view};
-ghost use Rattle.yq_semantics.specs.Tokens.{Token};
+ghost use Rattle.std.specs.Prelude.{◌≡◌, ◌<◌, length, is_some, option_map, string_bytes, IfSome, IfOk};
+ghost use Rattle.yq_expr_parser.specs.ReadAnswers.{GivesForm, ReadsForm, Shortens, IsShorter, with_tokens};
+ghost use Rattle.yq_expr_parser.specs.FormAnswers.{tokens_after, taken_from, closed_form, TakesKey};
 ghost use Rattle.yq_expr_parser.specs.Lexing as spec;
 
 use crate::error::{ParseError, ParseFault};
@@ -20,8 +19,7 @@ pub(crate) fn is_end(text: &str) -> bool
 /// What follows the mark or word, if it is in front.
 #[tactic(auto, using(crate::proofs::Lexing::tokens_next))]
 pub(crate) fn after<'t>(text: &'t str, symbol: &str) -> Option<&'t str>
-    ensures value { option_map (λ r. spec.tokens r.now) result ≡
-        spec.after symbol.now (spec.tokens text.now) }
+    ensures value { option_map (λ r. spec.tokens r.now) result ≡ tokens_after symbol.now text.now }
     ensures shorter { IfSome result (λ r. length r.now < length text.now) }
 {
     match split_token(text) {
@@ -38,8 +36,7 @@ pub(crate) fn after<'t>(text: &'t str, symbol: &str) -> Option<&'t str>
 
 /// What follows the mark or word, which has to be in front.
 pub(crate) fn expect<'t>(text: &'t str, symbol: &'static str) -> Result<&'t str, ParseFault>
-    ensures value { GivesForm (λ r. spec.tokens r.now) result
-        (spec.after symbol.now (spec.tokens text.now)) }
+    ensures value { GivesForm (λ r. spec.tokens r.now) result (tokens_after symbol.now text.now) }
     ensures shorter { IfOk result (λ r. length r.now < length text.now) }
 {
     after(text, symbol).ok_or(ParseFault {
@@ -55,8 +52,7 @@ pub(crate) fn closed<'t, T: Drop>(
     text: &'t str,
     mark: &'static str,
 ) -> Result<(T, &'t str), ParseFault>
-    ensures value { ReadsForm (λ x. x) result
-        (option_map (λ r. (form, r)) (spec.after mark.now (spec.tokens text.now))) }
+    ensures value { ReadsForm (λ x. x) result (closed_form form mark.now text.now) }
     ensures shorter { Shortens text.now result }
 {
     let rest = expect(text, mark)?;
@@ -66,8 +62,7 @@ pub(crate) fn closed<'t, T: Drop>(
 /// The number in front, as it is written, and what follows it.
 #[tactic(auto, using(crate::proofs::Lexing::tokens_next))]
 pub(crate) fn number(text: &str) -> Option<(&str, &str)>
-    ensures value { option_map (with_tokens (λ s. s.now)) result ≡
-        spec.taken spec.as_number (spec.tokens text.now) }
+    ensures value { option_map (with_tokens (λ s. s.now)) result ≡ taken_from spec.as_number text.now }
     ensures shorter { IsShorter text.now result }
 {
     match split_token(text) {
@@ -110,8 +105,7 @@ pub(crate) fn string<'t>(
 /// The key of the named step in front and what follows it, if one is there.
 #[tactic(auto, using(crate::proofs::Lexing::tokens_next))]
 pub(crate) fn key(alloc: Global, text: &str) -> Result<Option<(String, &str)>, ParseFault>
-    ensures value { Succeeds (option_map (with_tokens string_bytes)) result
-        (spec.taken spec.as_step (spec.tokens text.now)) }
+    ensures value { TakesKey result text.now }
     ensures shorter { IfOk result (λ o. IsShorter text.now o) }
 {
     match split_token(text) {

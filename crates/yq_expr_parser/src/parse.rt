@@ -1,8 +1,8 @@
 //! Texts are parsed into programs.
-ghost use Rattle.std.specs.Prelude.{◌≡◌, false, map, IfOk, IfErr};
-ghost use Rattle.yq_expr_parser.{specs.ReadAnswers.GivesForm, specs.Lexing.tokens};
-ghost use Rattle.yq_expr_parser.specs.Outcome.{Answers, Derives, ExprRefused, has_pattern, parsed};
-ghost use Rattle.yq_semantics.{specs.Grammar.literal_depth, specs.Program.Program as Outline, specs.View.{stage_of, update_of, program_of}};
+ghost use Rattle.std.specs.Prelude.{IfOk, IfErr};
+ghost use Rattle.yq_expr_parser.{specs.ReadAnswers.GivesForm, specs.Lexing.tokens, specs.Outcome.{Answers, ExprRefused}};
+ghost use Rattle.yq_expr_parser.specs.FormAnswers.{GivesAll, IsProgramOf, AnswersEach};
+ghost use Rattle.yq_semantics.{specs.Grammar.literal_depth, specs.View.{stage_of, program_of}};
 ghost use Rattle.yq_expr_parser.specs.Parse as spec;
 
 mod literal;
@@ -23,10 +23,8 @@ use yq_semantics::{Program, Stage, Syntax, Update};
 /// pattern.
 pub fn parse_expr(alloc: Global, text: &str) -> Result<Program, ParseFault>
     ensures exact { Answers program_of result (spec.outcome text.now) }
-    ensures found { IfOk result (λ p. Derives text.now (program_of p) ×
-        (has_pattern (program_of p) ≡ false)) }
-    ensures only { (p : Outline) → Derives text.now p → has_pattern p ≡ false →
-        Answers program_of result (parsed p) }
+    ensures found { IfOk result (λ p. IsProgramOf text.now (program_of p)) }
+    ensures only { AnswersEach program_of result text.now }
     ensures refused { IfErr result (λ e. ExprRefused e.error text.now) }
 {
     parse(alloc, text)
@@ -66,8 +64,7 @@ fn syntax(alloc: Global, text: &str) -> Result<Syntax, ParseFault>
 
 /// A pipe, and no more.
 fn read(alloc: Global, text: &str) -> Result<Vec<Stage>, ParseFault>
-    ensures { GivesForm (λ v. map stage_of v.items) result
-        (spec.whole_form spec.pipe_at (tokens text.now)) }
+    ensures { GivesAll stage_of result (spec.whole_form spec.pipe_at (tokens text.now)) }
 {
     let (stages, rest) = pipe::pipe(alloc, text)?;
     if is_end(rest) {

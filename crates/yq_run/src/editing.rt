@@ -1,11 +1,11 @@
 //! Edits of texts, and of files beside their journals.
-ghost use Rattle.std.{specs.Prelude.{◌≡◌, IfOk, OnOk, IfErr, IsTrue, IsNone, [], false}, specs.String.string_bytes};
+ghost use Rattle.std.{specs.Prelude.{◌≡◌, IfOk, IfErr, IsTrue, IsNone, [], false}, specs.String.string_bytes};
 ghost use Rattle.yq_semantics.specs.View.{program_of};
-ghost use Rattle.yq_commands.specs.CommandDone.{EditsOpened, MatchesStill, program_effect, showing_edit};
+ghost use Rattle.yq_commands.specs.CommandDone.{EditsOpened, MatchesStill, program_effect};
 ghost use Rattle.yq_commands.specs.Editing.{LengthsLead, RefusedBy, SplicesLead, outcome_of, program_edits};
-ghost use Rattle.yq_commands.{specs.Expecting.{IsChangeOutput, changes_as_expected}, specs.FileEdits.IsEditedBy};
-ghost use Rattle.yq_history.{specs.Calls.Makes, specs.Faults.{is_failure, is_output, failures_after}, specs.Output.Shows};
-ghost use Rattle.yq_history.specs.Report.{report_by};
+ghost use Rattle.yq_commands.{specs.Expecting.changes_as_expected, specs.FileEdits.IsEditedBy};
+ghost use Rattle.yq_commands.specs.ProgramAnswers.{GivesChange, GivesProgramChange, ShowsEdit};
+ghost use Rattle.yq_history.{specs.Calls.Makes, specs.Faults.{is_failure, is_output, failures_after}, specs.Report.report_by};
 
 use std::alloc::{AllocError, Global};
 use yq_args::EvalOptions;
@@ -24,8 +24,7 @@ fn change_of(
     edited: &Edited,
     diff: bool,
 ) -> Result<String, AllocError>
-    ensures { IfOk result (λ s.
-        IsChangeOutput file.now diff text.now (outcome_of edited.now) (string_bytes s)) }
+    ensures { GivesChange file.now diff text.now (outcome_of edited.now) result }
 {
     if diff {
         unified_diff(alloc, file, text, &edited.text, &edited.splices)
@@ -48,8 +47,7 @@ pub fn edit_text(
     ensures splices { IfOk result (λ e. SplicesLead text.now e.0) }
     ensures lengths { IfOk result (λ e. LengthsLead text.now e.0) }
     ensures edited { IfOk result (λ e. IsEditedBy (program_of program.now) text.now e.0) }
-    ensures change { IfOk result (λ e. IsChangeOutput file.now diff text.now
-        (program_edits (program_of program.now) text.now) (string_bytes e.1)) }
+    ensures change { GivesProgramChange file.now diff text.now program.now result }
     ensures err { RefusedBy (program_edits (program_of program.now) text.now) result }
     ensures inside { IfErr result (λ e. is_failure e ≡ false) }
     ensures no_output { IfErr result (λ e. is_output e ≡ false) }
@@ -90,8 +88,7 @@ pub fn edit_from<D: Store>(
         file.now journal.now state.old text.items (D.content store.old) (D.content store.new) result
         (report_by report.new) }
     ensures silent { options.diff ≡ false → string_bytes report.new.text ≡ [] }
-    ensures shows { OnOk result (Shows file.now
-        (showing_edit options (program_of program.now) text.items) (report_by report.new)) }
+    ensures shows { ShowsEdit file.now options program.now text.items report.new result }
     ensures unasked { MatchesStill options (report_by report.old) (report_by report.new) }
     ensures no_output { IfErr result (λ e. is_output e ≡ false) }
     ensures count { D.failures store.new ≡ failures_after result (D.failures store.old) }

@@ -4,7 +4,7 @@ ghost use Rattle.yq_semantics.{specs.Program.is_read, specs.View.program_of};
 ghost use Rattle.yq_history.{specs.Calls.ReadsFile, specs.Faults.{is_failure, is_output, failures_after}, specs.Report.report_by};
 ghost use Rattle.yq_commands.{specs.Calls.CallsOfEvaluation, specs.CommandDone.Evaluates, specs.Editing.program_in};
 ghost use Rattle.yq_commands.{specs.CommandEffects.{IsUnparsed, fault_of}, specs.FileEdits.{GivesEdit, PrintsHeldEdit, PrintsUpdate}};
-ghost use Rattle.yq_commands.specs.Evaluation.{FailsFor, GivesShowing, evaluated, of_file, shows};
+ghost use Rattle.yq_commands.{specs.Evaluation.{FailsFor, GivesShowing, evaluated, of_file, shows}, specs.ProgramAnswers.GivesUpdate};
 ghost use Rattle.std.specs.FinMap as map;
 
 use crate::editing::{edit_text, is_as_expected};
@@ -52,8 +52,7 @@ fn show(
     text: &[u8],
     options: EvalOptions,
 ) -> Result<Report, Fault>
-    ensures edited { is_read (program_of program.now) ≡ false →
-        GivesEdit options.diff file.now (program_of program.now) text.now result }
+    ensures edited { GivesUpdate options.diff file.now program.now text.now result }
     ensures ok { GivesShowing file.now (shows options (program_of program.now) text.now) result }
     ensures err { FailsFor (shows options (program_of program.now) text.now) result }
     ensures inside { IfErr result (λ e. is_failure e ≡ false) }

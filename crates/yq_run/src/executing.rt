@@ -1,8 +1,8 @@
 //! One command, carried out over a store.
 ghost use Rattle.std.{specs.Prelude.{◌≡◌, [], Some, IfErr, IsTrue, false}, specs.String.string_bytes};
-ghost use Rattle.yq_commands.specs.CommandDone.{CarriesOut, EditsInPlace, IsSilent, MatchesStill, MatchesUnasked};
+ghost use Rattle.yq_commands.specs.CommandDone.{EditsInPlace, IsSilent, MatchesStill, MatchesUnasked};
 ghost use Rattle.yq_commands.{specs.CommandEffects.{IsUnparsed, expression_fault, fault_of}, specs.Editing.program_in};
-ghost use Rattle.yq_commands.{specs.Calls.{CallsOf, CallsOfUpdate}, specs.Help.Helps};
+ghost use Rattle.yq_commands.{specs.Calls.{CallsOf, CallsOfUpdate}, specs.Help.Helps, specs.ProgramAnswers.Executes};
 ghost use Rattle.yq_history.{specs.Faults.{is_output, failures_after}, specs.Report.{nothing, report_by}};
 
 use crate::editing::edit_from;
@@ -49,8 +49,7 @@ pub fn execute<D: Store>(
     report: &mut Report,
 ) -> Result<(), Fault>
     requires empty { report_by report.old ≡ nothing }
-    ensures done { IsTrue D.keeps → CarriesOut command.now (D.content store.old)
-        (D.content store.new) result (report_by report.new) }
+    ensures done { Executes D.keeps D.content store.old store.new command.now result report.new }
     ensures unparsed { (f : Fault) → expression_fault command.now ≡ Some f → IsUnparsed f result }
     ensures silent { IsSilent command.now (report_by report.new) }
     ensures matched { MatchesUnasked command.now (report_by report.new) }

@@ -1,6 +1,7 @@
 //! Scalars and literals.
-ghost use Rattle.std.specs.Prelude.{◌≡◌, ◌<◌, codes, length, map, option_map, string_bytes, IfOk};
+ghost use Rattle.std.specs.Prelude.{◌≡◌, map, option_map, IfOk};
 ghost use Rattle.yq_expr_parser.{specs.ReadAnswers.{ReadsForm, Shortens, IsShorter, with_tokens}, specs.Lexing.tokens};
+ghost use Rattle.yq_expr_parser.specs.FormAnswers.{ReadsOf, ReadsAll, literal_items, literal_fields, field_keys};
 ghost use Rattle.yq_core.{specs.Values.{value_node, field_of}, specs.Keys.are_distinct};
 ghost use Rattle.yq_expr_parser.specs.Parse as spec;
 
@@ -47,8 +48,7 @@ pub(super) fn scalar(alloc: Global, text: &str) -> Result<(Scalar, &str), ParseF
 }
 
 fn keys<'v>(alloc: Global, fields: &'v Vec<(String, Value)>) -> Result<Vec<&'v str>, AllocError>
-    ensures { IfOk result (λ v. map (λ k. k.now) v.items ≡
-        map (λ e. string_bytes e.0) fields.now.items) }
+    ensures { IfOk result (λ v. map (λ k. k.now) v.items ≡ field_keys fields.now) }
 {
     let mut keys = Vec::new(alloc);
     for field in fields {
@@ -104,8 +104,7 @@ pub(super) fn literal(alloc: Global, text: &str, depth: usize) -> Result<(Value,
 /// The items of a list, from after its opening bracket.
 #[cycle(literal)]
 fn list(alloc: Global, text: &str, depth: usize) -> Result<(Vec<Value>, &str), ParseFault>
-    ensures value { ReadsForm (λ v. map value_node v.items) result (spec.listed_at (codes "]")
-        (spec.literal_at depth) (tokens text.now)) }
+    ensures value { ReadsAll value_node result (literal_items depth) text.now }
     ensures shorter { Shortens text.now result }
 {
     let mut found = Vec::new(alloc);
@@ -130,7 +129,7 @@ fn mapping(
     text: &str,
     depth: usize,
 ) -> Result<(Vec<(String, Value)>, &str), ParseFault>
-    ensures value { ReadsForm (λ v. map field_of v.items) result (spec.listed_at (codes "}") (spec.field_at (spec.literal_at depth)) (tokens text.now)) }
+    ensures value { ReadsAll field_of result (literal_fields depth) text.now }
     ensures shorter { Shortens text.now result }
 {
     let mut found = Vec::new(alloc);
@@ -151,7 +150,7 @@ fn mapping(
 /// A string, `:` and a literal.
 #[cycle(literal)]
 fn field(alloc: Global, text: &str, depth: usize) -> Result<((String, Value), &str), ParseFault>
-    ensures value { ReadsForm field_of result (spec.field_at (spec.literal_at depth) (tokens text.now)) }
+    ensures value { ReadsOf field_of result (spec.field_at (spec.literal_at depth)) text.now }
     ensures shorter { Shortens text.now result }
 {
     let (key, rest) = string(alloc, text, "key")?;

@@ -1,7 +1,7 @@
 //! Paths.
-ghost use Rattle.std.specs.Prelude.{◌≡◌, ◌<◌, ◌≤◌, vec_len, length, codes, map, option_map, string_bytes, IfOk};
-ghost use Rattle.yq_expr_parser.specs.ReadAnswers.{GivesForm, ReadsForm, ReadsMaybe, Shortens, IsShorter, with_tokens};
-ghost use Rattle.yq_expr_parser.specs.Lexing.{tokens};
+ghost use Rattle.std.specs.Prelude.{◌<◌, ◌≤◌, vec_len, length, map, IfOk};
+ghost use Rattle.yq_expr_parser.{specs.ReadAnswers.{ReadsForm, ReadsMaybe, Shortens, IsShorter}, specs.Lexing.tokens};
+ghost use Rattle.yq_expr_parser.specs.FormAnswers.{ReadsAll};
 ghost use Rattle.yq_semantics.specs.View.{program_step};
 ghost use Rattle.yq_expr_parser.specs.Parse as spec;
 
@@ -61,8 +61,7 @@ fn next_step(alloc: Global, text: &str) -> Result<Option<(PathStep, &str)>, Pars
 
 /// The steps in front, all of them.
 fn steps(alloc: Global, text: &str) -> Result<(Vec<PathStep>, &str), ParseFault>
-    ensures value { ReadsForm (λ v. map program_step v.items) result
-        (spec.many spec.step_at (tokens text.now)) }
+    ensures value { ReadsAll program_step result (spec.many spec.step_at) text.now }
     ensures within { IfOk result (λ x. length x.1.now ≤ length text.now) }
     ensures shorter { IfOk result (λ x. 0 < vec_len x.0 → length x.1.now < length text.now) }
 {

@@ -1,7 +1,8 @@
 //! Updates.
-ghost use Rattle.std.specs.Prelude.{◌≡◌, ◌<◌, codes, length, map, option_map, string_bytes, IfOk};
+ghost use Rattle.std.specs.Prelude.{◌≡◌, option_map};
 ghost use Rattle.yq_expr_parser.{specs.ReadAnswers.{ReadsForm, Shortens, IsShorter, with_tokens}, specs.Lexing.tokens};
-ghost use Rattle.yq_semantics.{specs.Grammar.literal_depth, specs.View.{stage_of, term_of, update_of}};
+ghost use Rattle.yq_expr_parser.specs.FormAnswers.{ReadsOf, ReadsAll, all_updates, action_on};
+ghost use Rattle.yq_semantics.{specs.Grammar.literal_depth, specs.View.{term_of, update_of}};
 ghost use Rattle.yq_expr_parser.specs.Parse as spec;
 
 use super::literal::literal;
@@ -43,8 +44,7 @@ fn term(alloc: Global, text: &str) -> Result<(Term, &str), ParseFault>
 /// A sum: its terms.
 #[tactic(auto, unfolding(crate::specs::Parse::right_at))]
 fn right(alloc: Global, text: &str) -> Result<(Vec<Term>, &str), ParseFault>
-    ensures value { ReadsForm (λ v. map term_of v.items) result
-        (spec.right_at literal_depth (tokens text.now)) }
+    ensures value { ReadsAll term_of result (spec.right_at literal_depth) text.now }
     ensures shorter { Shortens text.now result }
 {
     let mut found = Vec::new(alloc);
@@ -87,8 +87,7 @@ fn place(text: &str) -> Result<(CommentPlace, &str), ParseFault>
 /// What is done with what `left` finds.
 #[tactic(auto, unfolding(crate::specs::Parse::action_at))]
 fn action(alloc: Global, left: Vec<Stage>, text: &str) -> Result<(Update, &str), ParseFault>
-    ensures value { ReadsForm update_of result (spec.action_at literal_depth (map stage_of left.items)
-        (tokens text.now)) }
+    ensures value { ReadsOf update_of result (action_on left) text.now }
     ensures shorter { Shortens text.now result }
 {
     if let Some((operator, rest)) = operator(text) {
@@ -123,8 +122,7 @@ fn update(alloc: Global, text: &str) -> Result<(Update, &str), ParseFault>
 
 /// Updates, one after the other.
 pub(super) fn updates(alloc: Global, text: &str) -> Result<(Vec<Update>, &str), ParseFault>
-    ensures value { ReadsForm (λ v. map update_of v.items) result
-        (spec.parted_at (codes "|") (spec.parse_update literal_depth) (tokens text.now)) }
+    ensures value { ReadsAll update_of result all_updates text.now }
     ensures shorter { Shortens text.now result }
 {
     let mut found = Vec::new(alloc);

@@ -1,8 +1,8 @@
 //! The content of strings.
 ghost use Rattle.std.specs.List.{prefix_len};
-ghost use Rattle.std.specs.Prelude.{◌≡◌, ◌-◌, ◌<◌, ◌≤◌, ℕ, List, [], ◌∷◌, length, drop, option_map, slice_index, string_bytes, IfSome};
-ghost use Rattle.std.specs.Prelude.{IfOk};
+ghost use Rattle.std.specs.Prelude.{◌≡◌, ◌-◌, ◌<◌, ◌≤◌, [], ◌∷◌, length, drop, option_map, slice_index, string_bytes, IfSome, IfOk};
 ghost use Rattle.yq_core.specs.Text.{unless, cut};
+ghost use Rattle.yq_expr_parser.specs.FormAnswers.{FindsBoth};
 ghost use Rattle.yq_expr_parser.specs.Lexing as spec;
 ghost use Rattle.yq_semantics.specs.Tokens as grammar;
 
@@ -79,8 +79,7 @@ fn escape(b: u8) -> Option<&'static str>
 
 /// The character that an escape in front means, and what follows it.
 fn split_escape(text: &str) -> Option<(&'static str, &str)>
-    ensures value { option_map {U = List ℕ × List ℕ} (λ x. (x.0.now, x.1.now)) result ≡
-        spec.escape_front text.now }
+    ensures value { FindsBoth result (spec.escape_front text.now) }
     ensures shorter { IfSome result (λ x. length x.1.now < length text.now) }
 {
     match text.as_bytes() {
