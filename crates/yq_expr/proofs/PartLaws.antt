@@ -1,7 +1,7 @@
 -- A plan that is made part by part.
 use Rattle.std.proofs.Common.{◌≡◌, ℕ, zero, suc, ◌+◌, ◌<◌, ◌≤◌, ◌-◌, false, if◌then◌else◌, List, [], ◌∷◌, ◌++◌, length, map, take, drop}
 use Rattle.std.proofs.Common.{Option, Some, None, refl, sym, ap, ◌∙◌, append_assoc, append-nil, add-one, arith, subst}
-use Rattle.std.proofs.lemmas.List.{drop-drop, drop-map, drop_all, take-append-drop, take-map}
+use Rattle.std.proofs.lemmas.List.{drop-drop, drop-map, drop_all, length-drop, take-append-drop, take-map, take_rest}
 use Rattle.yq_core.specs.Tree.{Node}
 use Rattle.yq_documents.specs.Documents.{Document}
 use Rattle.yq_semantics.specs.Changes.{Room, Changed, add_at, all_allowed, at_each, changes_at, changes_from, changes_in, comment_at}
@@ -50,6 +50,10 @@ some_have m n ps h = take_have m (drop n ps) (drop_have n ps h)
 -- some places of those in a root are in it, too
 pub some_in : (root : Node) (m n : ℕ) (ps : List FoundPlace) → AreIn root ps → AreIn root (take m (drop n ps))
 some_in root m n ps h = take_in root m (drop n ps) (drop_in root n ps h)
+
+-- after some of several there are others
+pub some_left : {X : Type 0} (n : ℕ) (xs : List X) → n < length xs → 0 < length (take (length xs - n) (drop n xs))
+some_left n xs h = let is = ap length (take_rest xs n) ∙ length-drop n xs in omega (arith, h, is)
 
 -- some places that the code has stand for some of those for which it has them
 pub some_are : (m n : ℕ) (xs ys : List declared.FoundPlace) → ys ≡ xs → places_of (take m (drop n ys)) ≡ take m (drop n (places_of xs))

@@ -12,6 +12,7 @@ use Rattle.yq_semantics.specs.Changes.{is_too_long, is_used_inside, nested, over
 use Rattle.yq_semantics.{specs.Changes.{value_in, writes_long_key}, specs.Judgement.{Judgement, and_then, gives, refuses}}
 use Rattle.yq_semantics.{specs.Places.FoundPlace, specs.Program.{PathStep, key, index, each, is_index}}
 use Rattle.yq_semantics.specs.declared.refusal.Refusal.TheVariants.{AnchorInUse, IndexOutOfRange, KeyTooLong, TooDeep}
+use Rattle.yq_expr.specs.EffectView.{is_mapping}
 use Rattle.yq_core.specs.Tree as tree
 use Rattle.yq_core.specs.declared.kind.Kind.TheVariants as kinds
 
@@ -165,27 +166,37 @@ any_deep m cs label n (child next o ds) =
     (λ i. is_deep m (value_added cs label.key n i) || any_deep m cs next o ds i)
     ∙ lt_either depth_limit m (depth n) (deepest (child next o ds))
 
-module _ (root : Node) (x : List Step) (free : HaveNoAlias (names_of root)) where
-  unused : (o : Option Node) → is_used_inside (names_of root) o ≡ false
-  unused None = refl
-  unused (Some n) = none_used (names_of root) (names_in (children_of n)) free
+module _ (root : Node) (x : List Step) where
+  unused : HaveNoAlias (names_of root) → (o : Option Node) → is_used_inside (names_of root) o ≡ false
+  unused free None = refl
+  unused free (Some n) = none_used (names_of root) (names_in (children_of n)) free
 
-  none_overwritten : (bs : List Addition) → list_any (overwrites_used root x) bs ≡ false
-  none_overwritten [] = refl
-  none_overwritten (appends k v ∷ bs) = none_overwritten bs
-  none_overwritten (overwrites k v ∷ bs) = ap (λ b. b || list_any (overwrites_used root x) bs) (unused (node_at (x ++ To k ∷ []) root)) ∙ none_overwritten bs
+  none_overwritten : HaveNoAlias (names_of root) → (bs : List Addition) → list_any (overwrites_used root x) bs ≡ false
+  none_overwritten free [] = refl
+  none_overwritten free (appends k v ∷ bs) = none_overwritten free bs
+  none_overwritten free (overwrites k v ∷ bs) = ap (λ b. b || list_any (overwrites_used root x) bs) (unused free (node_at (x ++ To k ∷ []) root)) ∙ none_overwritten free bs
 
-  adds_alike : (cs : Children) (l m : Label) (n o : Node) (ds es : Children) → have_long_key (child l n ds) ≡ false → have_long_key (child m o es) ≡ false →
+  -- an item overwrites nothing
+  item_appended : (k : Option (List ℕ)) (v : Node) → overwrites_used root x (addition none k v) ≡ false
+  item_appended None v = refl
+  item_appended (Some k) v = refl
+
+  none_appended : (ds : Children) → list_any (overwrites_used root x) (additions none ds) ≡ false
+  none_appended none = refl
+  none_appended (child label v ds) = ap (λ b. b || list_any (overwrites_used root x) (additions none ds)) (item_appended label.key v) ∙ none_appended ds
+
+  adds_alike : (cs : Children) (l m : Label) (n o : Node) (ds es : Children) → ((bs : Children) → list_any (overwrites_used root x) (additions cs bs) ≡ false) →
+      have_long_key (child l n ds) ≡ false → have_long_key (child m o es) ≡ false →
       suc (deepest (child m o es)) ≡ min (suc depth_limit) (suc (deepest (child l n ds))) →
       verdict (all_allowed root ((x, adds (additions cs (child l n ds))) ∷ [])) ≡ verdict (all_allowed root ((x, adds (additions cs (child m o es))) ∷ []))
-  adds_alike cs l m n o ds es fit short deep =
+  adds_alike cs l m n o ds es unused fit short deep =
       allowed_alike root x (adds (additions cs (child l n ds))) (adds (additions cs (child m o es)))
       (all_short cs (child l n ds) fit ∙ sym (all_short cs (child m o es) short))
       (any_deep (suc (length x)) cs l n ds
       ∙ (ap (nat_lt depth_limit) (one_more (length x) (deepest (child l n ds)))
       ∙ (capped (length x) (suc (deepest (child l n ds))) (suc (deepest (child m o es))) deep
       ∙ (ap (nat_lt depth_limit) (sym (one_more (length x) (deepest (child m o es)))) ∙ sym (any_deep (suc (length x)) cs m o es)))))
-      (none_overwritten (additions cs (child l n ds)) ∙ sym (none_overwritten (additions cs (child m o es))))
+      (unused (child l n ds) ∙ sym (unused (child m o es)))
     where
       one_more : (a d : ℕ) → suc a + d ≡ a + suc d
       one_more a d = omega arith
@@ -197,42 +208,42 @@ module _ (root : Node) (x : List Step) (free : HaveNoAlias (names_of root)) wher
   one_item v w same =
       allowed_alike root x (adds (appends None v ∷ [])) (adds (appends None w ∷ [])) (ap (λ b. b || false) same.long) (ap (λ b. b || false) (same.deep (suc (length x)))) refl
 
-  added_alike : (n : Node) {v w : Node} → AreOneKind v w → IsStandIn v w →
+  added_alike : (n : Node) {v w : Node} → (is_mapping v ≡ true → HaveNoAlias (names_of root)) → AreOneKind v w → IsStandIn v w →
       verdict (and_then (all_allowed root) (and_then (λ c. gives ((x, c) ∷ [])) (added n v)))
       ≡ verdict (and_then (all_allowed root) (and_then (λ c. gives ((x, c) ∷ [])) (added n w)))
-  added_alike (alias name) k h = refl
-  added_alike (scalar anchor kinds.Null text) (texts {a} {b} {t} {u}) h = replaced (scalar a kinds.Text t) (scalar b kinds.Text u) (alike _ _ h)
-  added_alike (scalar anchor kinds.Null text) (lists {a} {b} {l} {m} {n} {o} {cs} {ds}) h = replaced (list a (child l n cs)) (list b (child m o ds)) (alike _ _ h)
-  added_alike (scalar anchor kinds.Null text) (maps {a} {b} {l} {m} {n} {o} {cs} {ds}) h = replaced (tree.map a (child l n cs)) (tree.map b (child m o ds)) (alike _ _ h)
-  added_alike (scalar anchor kinds.Text text) (texts {a} {b} {t} {u}) h =
+  added_alike (alias name) free k h = refl
+  added_alike (scalar anchor kinds.Null text) free (texts {a} {b} {t} {u}) h = replaced (scalar a kinds.Text t) (scalar b kinds.Text u) (alike _ _ h)
+  added_alike (scalar anchor kinds.Null text) free (lists {a} {b} {l} {m} {n} {o} {cs} {ds}) h = replaced (list a (child l n cs)) (list b (child m o ds)) (alike _ _ h)
+  added_alike (scalar anchor kinds.Null text) free (maps {a} {b} {l} {m} {n} {o} {cs} {ds}) h = replaced (tree.map a (child l n cs)) (tree.map b (child m o ds)) (alike _ _ h)
+  added_alike (scalar anchor kinds.Text text) free (texts {a} {b} {t} {u}) h =
       allowed_alike root x (replaces (scalar None kinds.Text (text ++ t))) (replaces (scalar None kinds.Text (text ++ u))) refl refl refl
-  added_alike (scalar anchor kinds.Text text) lists h = refl
-  added_alike (scalar anchor kinds.Text text) maps h = refl
-  added_alike (scalar anchor kinds.Bool text) texts h = refl
-  added_alike (scalar anchor kinds.Bool text) lists h = refl
-  added_alike (scalar anchor kinds.Bool text) maps h = refl
-  added_alike (scalar anchor kinds.Int text) texts h = refl
-  added_alike (scalar anchor kinds.Int text) lists h = refl
-  added_alike (scalar anchor kinds.Int text) maps h = refl
-  added_alike (scalar anchor kinds.Float text) texts h = refl
-  added_alike (scalar anchor kinds.Float text) lists h = refl
-  added_alike (scalar anchor kinds.Float text) maps h = refl
-  added_alike (list anchor cs) (texts {a} {b} {t} {u}) h = one_item (scalar a kinds.Text t) (scalar b kinds.Text u) (alike _ _ h)
-  added_alike (list anchor cs) (lists {a} {b} {l} {m} {n} {o} {cs = xs} {ds = ys}) h = adds_alike none l m n o xs ys h.fit h.short h.deep
-  added_alike (list anchor cs) (maps {a} {b} {l} {m} {n} {o} {cs = xs} {ds = ys}) h = one_item (tree.map a (child l n xs)) (tree.map b (child m o ys)) (alike _ _ h)
-  added_alike (tree.map anchor cs) texts h = refl
-  added_alike (tree.map anchor cs) lists h = refl
-  added_alike (tree.map anchor cs) (maps {a} {b} {l} {m} {n} {o} {cs = xs} {ds = ys}) h = adds_alike cs l m n o xs ys h.fit h.short h.deep
+  added_alike (scalar anchor kinds.Text text) free lists h = refl
+  added_alike (scalar anchor kinds.Text text) free maps h = refl
+  added_alike (scalar anchor kinds.Bool text) free texts h = refl
+  added_alike (scalar anchor kinds.Bool text) free lists h = refl
+  added_alike (scalar anchor kinds.Bool text) free maps h = refl
+  added_alike (scalar anchor kinds.Int text) free texts h = refl
+  added_alike (scalar anchor kinds.Int text) free lists h = refl
+  added_alike (scalar anchor kinds.Int text) free maps h = refl
+  added_alike (scalar anchor kinds.Float text) free texts h = refl
+  added_alike (scalar anchor kinds.Float text) free lists h = refl
+  added_alike (scalar anchor kinds.Float text) free maps h = refl
+  added_alike (list anchor cs) free (texts {a} {b} {t} {u}) h = one_item (scalar a kinds.Text t) (scalar b kinds.Text u) (alike _ _ h)
+  added_alike (list anchor cs) free (lists {a} {b} {l} {m} {n} {o} {cs = xs} {ds = ys}) h = adds_alike none l m n o xs ys none_appended h.fit h.short h.deep
+  added_alike (list anchor cs) free (maps {a} {b} {l} {m} {n} {o} {cs = xs} {ds = ys}) h = one_item (tree.map a (child l n xs)) (tree.map b (child m o ys)) (alike _ _ h)
+  added_alike (tree.map anchor cs) free texts h = refl
+  added_alike (tree.map anchor cs) free lists h = refl
+  added_alike (tree.map anchor cs) free (maps {a} {b} {l} {m} {n} {o} {cs = xs} {ds = ys}) h = adds_alike cs l m n o xs ys (λ bs. none_overwritten (free refl) (additions cs bs)) h.fit h.short h.deep
 
-module _ (root : Node) (free : HaveNoAlias (names_of root)) (p : FoundPlace) where
-  add_further : (ms : List PathStep) {v w : Node} → AreOneKind v w → IsStandIn v w → verdict (and_then (all_allowed root) (add_below ms p v)) ≡ verdict (and_then (all_allowed root) (add_below ms p w))
-  add_further [] k h = added_alike root p.path free p.node k h
-  add_further (m ∷ ms) {v} {w} k h = put_alike root p v w h
+module _ (root : Node) (p : FoundPlace) where
+  add_further : (ms : List PathStep) {v w : Node} → (is_mapping v ≡ true → HaveNoAlias (names_of root)) → AreOneKind v w → IsStandIn v w → verdict (and_then (all_allowed root) (add_below ms p v)) ≡ verdict (and_then (all_allowed root) (add_below ms p w))
+  add_further [] free k h = added_alike root p.path p.node free k h
+  add_further (m ∷ ms) {v} {w} free k h = put_alike root p v w h
 
-  add_there : {v w : Node} → AreOneKind v w → IsStandIn v w → verdict (and_then (all_allowed root) (add_at p v)) ≡ verdict (and_then (all_allowed root) (add_at p w))
-  add_there texts h = add_further p.missing texts h
-  add_there lists h = add_further p.missing lists h
-  add_there maps h = add_further p.missing maps h
+  add_there : {v w : Node} → (is_mapping v ≡ true → HaveNoAlias (names_of root)) → AreOneKind v w → IsStandIn v w → verdict (and_then (all_allowed root) (add_at p v)) ≡ verdict (and_then (all_allowed root) (add_at p w))
+  add_there free texts h = add_further p.missing free texts h
+  add_there free lists h = add_further p.missing free lists h
+  add_there free maps h = add_further p.missing free maps h
 
-  pub add_alike : (v w : Node) → IsStandIn v w → verdict (and_then (all_allowed root) (add_at p v)) ≡ verdict (and_then (all_allowed root) (add_at p w))
-  add_alike v w h = add_there h.kind h
+  pub add_alike : (v w : Node) → (is_mapping v ≡ true → HaveNoAlias (names_of root)) → IsStandIn v w → verdict (and_then (all_allowed root) (add_at p v)) ≡ verdict (and_then (all_allowed root) (add_at p w))
+  add_alike v w free h = add_there free h.kind h

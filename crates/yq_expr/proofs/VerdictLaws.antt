@@ -4,6 +4,7 @@ use Rattle.std.proofs.Common.{◌∷◌, ◌++◌, length, drop, if◌then◌els
 use Rattle.std.proofs.lemmas.List.{drop_all}
 use Rattle.yq_core.{specs.Anchors.names_of, specs.Tree.Node}
 use Rattle.yq_documents.specs.Documents.{Document}
+use Rattle.yq_eval.{specs.PlaceView.put_behind, proofs.EachLaws.fails_then}
 use Rattle.yq_planner.specs.StandIns.{HaveNoAlias, IsStandIn, verdict}
 use Rattle.yq_semantics.specs.Changes.{Room, add_at, all_allowed, at_each, changes_at, changes_from, changes_in, put_with_path}
 use Rattle.yq_semantics.specs.Changes.{update_changes, with_value}
@@ -11,7 +12,7 @@ use Rattle.yq_semantics.{specs.Judgement.{Judgement, MatchFails, Judges, and_the
 use Rattle.yq_semantics.{specs.Places.{FoundPlace, for_each, root_place}, specs.Plans.{all_ops, is_removal, plan}}
 use Rattle.yq_semantics.{specs.RightValues.right_value, specs.Program.{Stage, Term, Update, assign}}
 use Rattle.yq_semantics.{specs.declared.program.Operator.Operator, specs.declared.expr_error.ExprError.ExprError}
-use Rattle.yq_expr.{specs.EffectView.value_at, proofs.AllChanges.value_there, proofs.StandInLaws.{add_alike, put_alike}}
+use Rattle.yq_expr.{specs.EffectView.{is_mapping, value_at}, proofs.AllChanges.value_there, proofs.StandInLaws.{add_alike, put_alike}}
 use Rattle.yq_semantics.specs.declared.expr_error.ExprError.TheVariants as error
 use Rattle.yq_semantics.specs.declared.program.Operator.TheVariants as operator
 
@@ -32,6 +33,14 @@ fails_back error.Memory j h = tt
 pub given : {A : Type 0} (j : Judgement A) → verdict j ≡ gives tt → (x : A) × (j ≡ gives x)
 given (gives x) h = (x, refl)
 given (refuses why) h = absurd (cc)
+
+-- something comes, after what is there
+pub behind_given : {B : Type 0} (before : List B) (j : Judgement (List B)) → verdict j ≡ gives tt → (after : List B) × (put_behind before j ≡ gives after)
+behind_given before j h = let x = given j h in (before ++ x.0, ap (put_behind before) x.1)
+
+-- an error is also one after what is there
+pub behind_fails : {B : Type 0} (before : List B) (j : Judgement (List B)) (e : ExprError) → MatchFails e (verdict j) → MatchFails e (put_behind before j)
+behind_fails before j e h = fails_then (λ xs. gives (before ++ xs)) j e (fails_back e j h)
 
 -- the same of what is made of it
 pub verdict_of : {A B : Type 0} (f : A → B) (j : Judgement A) → verdict (and_then (λ x. gives (f x)) j) ≡ verdict j
@@ -56,9 +65,9 @@ each_alike f h same (x ∷ xs) =
     ∙ ((λ i. both_verdict (same x i) (each_alike f h same xs i)) ∙ sym (verdict_both (λ first others. first ++ others) (h x) (for_each h xs)))
 
 -- a value that is added, or put, at each of places is refused where its stand-in is
-pub places_alike : (root v w : Node) (adds : Bool) (ps : List FoundPlace) → (adds ≡ true → HaveNoAlias (names_of root)) → IsStandIn v w →
+pub places_alike : (root v w : Node) (adds : Bool) (ps : List FoundPlace) → (adds ≡ true → is_mapping v ≡ true → HaveNoAlias (names_of root)) → IsStandIn v w →
     verdict (at_each root (value_at adds v) ps) ≡ verdict (at_each root (value_at adds w) ps)
-places_alike root v w true ps free h = each_alike (λ p. and_then (all_allowed root) (add_at p v)) (λ p. and_then (all_allowed root) (add_at p w)) (λ p. add_alike root (free refl) p v w h) ps
+places_alike root v w true ps free h = each_alike (λ p. and_then (all_allowed root) (add_at p v)) (λ p. and_then (all_allowed root) (add_at p w)) (λ p. add_alike root p v w (free refl) h) ps
 places_alike root v w false ps free h = each_alike (λ p. and_then (all_allowed root) (put_with_path p v)) (λ p. and_then (all_allowed root) (put_with_path p w)) (λ p. put_alike root p v w h) ps
 
 -- a value that was evaluated is added, or put, at each place

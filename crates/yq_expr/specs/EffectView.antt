@@ -1,8 +1,9 @@
 -- What an update does at each place, as the code has it.
 use Rattle.std.specs.Prelude.{ℕ, Bool, true, false, List, map}
-use Rattle.yq_core.{specs.Tree.Node, specs.Values.value_node}
+use Rattle.yq_core.{specs.Tree.{Node, alias, scalar, list}, specs.Values.value_node}
 use Rattle.yq_semantics.{specs.Changes.{Room, Changed, put_with_path, add_at, remove_at, comment_at}, specs.Judgement.{Judgement, and_then}}
 use Rattle.yq_semantics.{specs.Places.FoundPlace, specs.RightValues.right_value, specs.View.term_of}
+use Rattle.yq_core.specs.Tree as tree
 use Rattle.yq_expr.specs.declared.effect.Action as effect
 
 -- what is changed at a place of the document of that number, which has such room (own)
@@ -17,3 +18,10 @@ effect_at doc room (effect.TheVariants.SetComment place text) p = comment_at roo
 abbrev pub value_at : Bool → Node → FoundPlace → Judgement (List Changed)
 value_at true v p = add_at p v
 value_at false v p = put_with_path p v
+
+-- whether a value is a mapping, of which an addition may overwrite entries (own)
+abbrev pub is_mapping : Node → Bool
+is_mapping (alias name) = false
+is_mapping (scalar anchor kind text) = false
+is_mapping (list anchor cs) = false
+is_mapping (tree.map anchor cs) = true

@@ -18,7 +18,7 @@ use yq_planner::{Aliases, PlacedChange};
 use yq_semantics::ExprError;
 
 /// Puts what is changed at a place after other changes.
-fn push_effect<'a, 't>(
+pub(crate) fn push_effect<'a, 't>(
     alloc: Global,
     cut: &mut CutText<'_, '_>,
     doc: usize,

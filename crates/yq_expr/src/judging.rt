@@ -1,19 +1,19 @@
 //! Judging: whether an update is refused on documents, with no copy of its value for each place.
 ghost use Rattle.std.specs.Prelude.{◌≡◌, ◌<◌, IfOk, IfSome, List, length, true, if◌then◌else◌};
-ghost use Rattle.yq_core.{specs.Anchors.{Name, names_of}, specs.Shapes.IsTree, specs.Values.value_node};
+ghost use Rattle.yq_core.{specs.Anchors.names_of, specs.Shapes.IsTree, specs.Values.value_node};
 ghost use Rattle.yq_nodes.specs.Nodes.{node_of};
-ghost use Rattle.yq_planner.{specs.Indexes.HasAliases, specs.StandIns.{HaveNoAlias, IsStandIn}};
+ghost use Rattle.yq_planner.{specs.Indexes.HasAliases, specs.StandIns.IsStandIn};
 ghost use Rattle.yq_semantics.{specs.PlacesApart.AreIn, specs.Program.update_count, specs.View.{program_of, update_of}};
-ghost use Rattle.yq_expr.{specs.EffectView.value_at, specs.PlannedUpdates.{IsUpdateAt, plan_in}};
-ghost use Rattle.yq_expr.specs.JudgedChanges.{JudgesEachVerdict, JudgesVerdict, changes_inside, changes_of_all, changes_there};
-ghost use Rattle.yq_expr.specs.JudgedChanges.{right_at_root};
+ghost use Rattle.yq_expr.{specs.EffectView.{is_mapping, value_at}, specs.PlannedUpdates.{IsUpdateAt, plan_in}};
+ghost use Rattle.yq_expr.specs.JudgedChanges.{HasNone, JudgesEachVerdict, JudgesThere, JudgesVerdict, MayStandIn, changes_inside};
+ghost use Rattle.yq_expr.specs.JudgedChanges.{changes_of_all, right_at_root};
 ghost use Rattle.yq_eval.{specs.FoundView.found_places, specs.TreeScalars.{HasScalars, HaveScalars}};
 ghost use Rattle.yq_semantics.specs.Changes as spec;
 ghost use Rattle.yq_semantics.specs.Program as programs;
 
-use crate::at_places::at_found;
 use crate::changes::{changes_at, left};
 use crate::effect::Action;
+use crate::judged_places::judge_found;
 use crate::right_value::right_value;
 use bumpalo::Bump;
 use std::alloc::{AllocError, Global};
@@ -24,7 +24,34 @@ use yq_nodes::Node;
 use yq_planner::{Aliases, aliases_of, has_comment, stand_in};
 use yq_semantics::{Assignment, ExprError, Operator, Program, Refusal, Syntax, Term, Update};
 
-/// A small value that is refused where a value is added, if no alias is in the document.
+/// Whether a value is a mapping.
+fn is_mapping(value: &Value) -> bool
+    ensures { result ≡ is_mapping (value_node value.now) }
+{
+    match value {
+        Value::Map(_) => true,
+        Value::Scalar(_) | Value::List(_) => false,
+    }
+}
+
+/// A small value that is refused where a value is, if no alias is in the document.
+fn small_entries(
+    alloc: Global,
+    aliases: &Aliases<'_>,
+    value: &Value,
+) -> Result<Option<Value>, AllocError>
+    ensures small { IfOk result (λ o. IfSome o (λ w. IsStandIn (value_node value.now)
+        (value_node w))) }
+    ensures free { IfOk result (λ o. IfSome o (λ _. HasNone aliases.now)) }
+{
+    if aliases.is_empty() {
+        return stand_in(alloc, value);
+    }
+    Ok(None)
+}
+
+/// A small value that is refused where a value is added. Only entries may overwrite others, of which an alias may
+/// name an anchor.
 fn small_added(
     alloc: Global,
     aliases: &Aliases<'_>,
@@ -32,13 +59,13 @@ fn small_added(
 ) -> Result<Option<Value>, AllocError>
     ensures small { IfOk result (λ o. IfSome o (λ w. IsStandIn (value_node value.now)
         (value_node w))) }
-    ensures free { IfOk result (λ o. IfSome o (λ _. (names : List Name) →
-        HasAliases names aliases.now → HaveNoAlias names)) }
+    ensures free { IfOk result (λ o. IfSome o (λ _.
+        MayStandIn (value_node value.now) aliases.now)) }
 {
-    if aliases.is_empty() {
-        return stand_in(alloc, value);
+    if is_mapping(value) {
+        return small_entries(alloc, aliases, value);
     }
-    Ok(None)
+    stand_in(alloc, value)
 }
 
 /// A small value that is refused where a value is added, or put.
@@ -50,8 +77,8 @@ fn small_value(
 ) -> Result<Option<Value>, AllocError>
     ensures small { IfOk result (λ o. IfSome o (λ w. IsStandIn (value_node value.now)
         (value_node w))) }
-    ensures free { IfOk result (λ o. IfSome o (λ _. adds ≡ true → (names : List Name) →
-        HasAliases names aliases.now → HaveNoAlias names)) }
+    ensures free { IfOk result (λ o. IfSome o (λ _. adds ≡ true →
+        MayStandIn (value_node value.now) aliases.now)) }
 {
     if adds {
         return small_added(alloc, aliases, value);
@@ -78,8 +105,7 @@ fn judge_one<'a, 't>(
     } else {
         Action::Put(value)
     };
-    let _changes = at_found(alloc, documents, doc, aliases, effect, places)?;
-    Ok(())
+    judge_found(alloc, documents, doc, aliases, effect, places)
 }
 
 /// The same, by a small value if there is one.
@@ -139,8 +165,7 @@ fn judge_changes<'a, 't>(
     requires root { HasScalars (node_of root) }
     requires scalars { HaveScalars (found_places places.now) }
     requires within { AreIn (node_of root) (found_places places.now) }
-    ensures { JudgesVerdict result
-        (changes_there doc documents.now root.entry update.now places.now) }
+    ensures { JudgesThere doc documents.now root.entry update.now places.now result }
 {
     let _changes = changes_at(alloc, documents, doc, root, update, places)?;
     Ok(())
@@ -160,8 +185,8 @@ fn judge_assigned<'a, 't>(
     requires scalars { HaveScalars (found_places places.now) }
     requires within { AreIn (node_of root) (found_places places.now) }
     requires operator { assignment.now.operator ≡ (if adds then Operator.Add else Operator.Set) }
-    ensures { JudgesVerdict result
-        (changes_there doc documents.now root.entry (Update.Assign assignment.now) places.now) }
+    ensures { JudgesThere doc documents.now root.entry (Update.Assign assignment.now) places.now
+        result }
 {
     if places.is_empty() {
         return Ok(());
@@ -169,6 +194,36 @@ fn judge_assigned<'a, 't>(
     let aliases = aliases_of(alloc, &root)?;
     let right: &[Term] = &assignment.right;
     judge_right(alloc, documents, doc, &root, &aliases, adds, right, places)
+}
+
+/// The same, of an assignment whose value is found from each place.
+fn judge_modified<'a, 't>(
+    alloc: Global,
+    documents: &Documents<'_>,
+    doc: usize,
+    root: Node<'a, 't>,
+    assignment: &'a Assignment,
+    places: &FoundPlaces<'a, 't>,
+) -> Result<(), ExprError>
+    requires scalars { HaveScalars (found_places places.now) }
+    requires within { AreIn (node_of root) (found_places places.now) }
+    requires operator { assignment.now.operator ≡ Operator.Modify }
+    ensures { JudgesThere doc documents.now root.entry (Update.Assign assignment.now) places.now
+        result }
+{
+    if places.is_empty() {
+        return Ok(());
+    }
+    let aliases = aliases_of(alloc, &root)?;
+    let right: &[Term] = &assignment.right;
+    judge_found(
+        alloc,
+        documents,
+        doc,
+        &aliases,
+        Action::Modify(right),
+        places,
+    )
 }
 
 /// The same, of any update.
@@ -183,8 +238,7 @@ fn judge_at<'a, 't>(
     requires root { HasScalars (node_of root) }
     requires scalars { HaveScalars (found_places places.now) }
     requires within { AreIn (node_of root) (found_places places.now) }
-    ensures { JudgesVerdict result
-        (changes_there doc documents.now root.entry update.now places.now) }
+    ensures { JudgesThere doc documents.now root.entry update.now places.now result }
 {
     let Update::Assign(assignment) = update else {
         return judge_changes(alloc, documents, doc, root, update, places);
@@ -192,7 +246,7 @@ fn judge_at<'a, 't>(
     match assignment.operator {
         Operator::Set => judge_assigned(alloc, documents, doc, root, false, assignment, places),
         Operator::Add => judge_assigned(alloc, documents, doc, root, true, assignment, places),
-        Operator::Modify => judge_changes(alloc, documents, doc, root, update, places),
+        Operator::Modify => judge_modified(alloc, documents, doc, root, assignment, places),
     }
 }
 

@@ -4,8 +4,10 @@
 mod at_places;
 mod changes;
 mod effect;
+mod judged_places;
 mod judging;
 mod many_keys;
+mod modified;
 mod parts;
 mod placed;
 mod planning;

@@ -3,13 +3,15 @@ ghost use Rattle.std.specs.Prelude.{◌≡◌, ◌<◌, ◌≤◌, ◌-◌, IfEr
 ghost use Rattle.yq_core.specs.Shapes.{IsTree};
 ghost use Rattle.yq_documents.specs.Reading.{documents_of};
 ghost use Rattle.yq_nodes.specs.Nodes.{node_of};
-ghost use Rattle.yq_eval.{specs.FoundView.found_places, specs.PlaceView.places_of, specs.TreeScalars.HasScalars};
-ghost use Rattle.yq_semantics.{specs.Judgement.MatchFails, specs.Operations.operations_of, specs.View.{program_of, update_of}};
+ghost use Rattle.yq_eval.{specs.FoundView.found_places, specs.PlaceView.places_of, specs.TreeScalars.{HasScalars, HaveScalars}};
+ghost use Rattle.yq_semantics.{specs.declared.expr_error.ExprError.ExprError, specs.Judgement.MatchFails, specs.Operations.operations_of};
+ghost use Rattle.yq_semantics.specs.View.{program_of, update_of};
 ghost use Rattle.yq_expr.{specs.Parts.{IsLater, IsPlanPart}, specs.PlannedUpdates.{IsPartOfPlan, IsUpdateAt, ops_inside, rest_in}};
 ghost use Rattle.yq_semantics.specs.Program as spec;
 
 use crate::changes::{changes_at, left};
-use crate::weights::{VALUES_LIMIT, weight_at};
+use crate::modified::count_within;
+use crate::weights::{VALUES_LIMIT, modified, weight_at};
 use bumpalo::Bump;
 use std::alloc::{AllocError, Global};
 use yq_documents::Documents;
@@ -28,23 +30,42 @@ pub struct PlanPart {
     pub place: usize,
 }
 
-/// Where a part ends that begins at a place of so many, where there is room for values of so many bytes.
-fn part_end(count: usize, place: usize, room: usize, weight: usize) -> usize
-    ensures more { place < count → place < result }
+/// How many of so many places a part has, where there is room for values of so many bytes, each of which takes
+/// some.
+fn few_of(count: usize, room: usize, weight: usize) -> usize
+    ensures some { 0 < count → 0 < result }
     ensures within { result ≤ count }
 {
-    if count <= place {
-        return count;
-    }
     let few = if weight == 0 { count } else { room / weight };
     if few < 1 {
-        return place + 1;
-    }
-    if few < count - place {
-        place + few
+        count.min(1)
     } else {
-        count
+        count.min(few)
     }
+}
+
+/// How many of some places of document `doc`, which has that root, a part has, where there is room for values of
+/// so many bytes; and how many bytes of room are left then.
+fn part_count<'a, 't>(
+    alloc: Global,
+    update: &'a Update,
+    doc: usize,
+    root: &Node<'a, 't>,
+    places: &[FoundPlace<'a, 't>],
+    room: usize,
+) -> Result<(usize, usize), ExprError>
+    requires root { HasScalars (node_of root.now) }
+    requires scalars { HaveScalars (places_of places.now) }
+    ensures some { IfOk result (λ x. 0 < length places.now → 0 < x.0) }
+    ensures within { IfOk result (λ x. x.0 ≤ length places.now) }
+    ensures err { IfErr result (λ e. e ≡ ExprError.Memory) }
+{
+    if let Some(right) = modified(update) {
+        return count_within(alloc, doc, right, places, room);
+    }
+    let weight = weight_at(alloc, doc, update, root)?;
+    let few = few_of(places.len(), room, weight);
+    Ok((few, room.saturating_sub(few.saturating_mul(weight))))
 }
 
 /// Some of places, from one on and before another one.
@@ -89,12 +110,11 @@ fn document_part(
     if count <= place {
         return Ok((None, room));
     }
-    let weight = weight_at(alloc, doc, update, &root)?;
-    let end = part_end(count, place, room, weight);
+    let (few, room) = part_count(alloc, update, doc, &root, &places[place..], room)?;
+    let end = place + few;
     let some = some_places(alloc, &places, place, end)?;
     let changes = changes_at(alloc, documents, doc, root, update, &some)?;
     push_changes(alloc, doc, changes, ops)?;
-    let room = room.saturating_sub((end - place).saturating_mul(weight));
     let next = if end < count { Some(end) } else { None };
     Ok((next, room))
 }

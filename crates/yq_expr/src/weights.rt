@@ -9,6 +9,7 @@ ghost use Rattle.yq_expr.specs.Parts.{IsInOrder};
 ghost use Rattle.yq_semantics.specs.Program as spec;
 
 use crate::changes::left;
+use crate::modified::are_many;
 use crate::right_value::right_value;
 use bumpalo::Bump;
 use std::alloc::Global;
@@ -16,7 +17,7 @@ use yq_core::Value;
 use yq_documents::Documents;
 use yq_eval::{FoundPlace, FoundPlaces, find_places};
 use yq_nodes::Node;
-use yq_semantics::{ExprError, Operator, Program, Syntax, Term, Update};
+use yq_semantics::{Assignment, ExprError, Operator, Program, Syntax, Term, Update};
 
 /// How many bytes a scalar takes without its text, a key without its text, and a collection without what is
 /// in it.
@@ -34,7 +35,7 @@ pub(crate) const VALUES_LIMIT: usize = 1 << 28;
 
 /// How many bytes a value takes, more or less.
 #[cycle(weight)]
-fn weight(value: &Value) -> usize {
+pub(crate) fn weight(value: &Value) -> usize {
     match value {
         Value::Scalar(scalar) => scalar.text().len().saturating_add(SCALAR_WEIGHT),
         Value::List(items) => items_weight(items),
@@ -73,26 +74,60 @@ fn additions_weight(value: &Value) -> usize {
     count.saturating_mul(ADDITION_WEIGHT)
 }
 
-/// The right side of an assignment by one value for all places of a document.
-fn shared(update: &Update) -> Option<&[Term]>
+/// An update that is an assignment.
+fn assignment(update: &Update) -> Option<&Assignment>
     ensures { IfSome result (λ _. IsInOrder (update_of update.now)) }
 {
-    let Update::Assign(assignment) = update else {
-        return None;
-    };
+    match update {
+        Update::Assign(assignment) => Some(assignment),
+        Update::Delete(_) | Update::Comment(_) => None,
+    }
+}
+
+/// The right side of an assignment by one value for all places of a document.
+fn shared(update: &Update) -> Option<&[Term]> {
+    let assignment = assignment(update)?;
     match assignment.operator {
         Operator::Set | Operator::Add => Some(&assignment.right),
         Operator::Modify => None,
     }
 }
 
-/// How many bytes the value of a right side takes at most in a text of that length, more or less.
+/// The right side of an assignment whose value is another one at each place.
+pub(crate) fn modified(update: &Update) -> Option<&[Term]> {
+    let assignment = assignment(update)?;
+    match assignment.operator {
+        Operator::Modify => Some(&assignment.right),
+        Operator::Set | Operator::Add => None,
+    }
+}
+
+/// How many bytes the value of a term takes at most in a text of that length, more or less.
+fn most_of_term(term: &Term, length: usize) -> usize {
+    match term {
+        Term::Literal(value) => weight(value),
+        Term::Pipe(_) => length.saturating_mul(SCALAR_WEIGHT),
+    }
+}
+
+/// How many bytes the values of a right side take at most in a text of that length, more or less, that are one
+/// for each place.
 fn most_weight(right: &[Term], length: usize) -> usize {
     let mut sum = ADDITION_WEIGHT;
     'terms: for term in right {
+        sum = sum.saturating_add(most_of_term(term, length));
+    }
+    sum.saturating_mul(length)
+}
+
+/// The same of values that are found from each place: no two places hold one node, so that what a term finds
+/// from all of them is no more than the text.
+fn most_modified(right: &[Term], length: usize) -> usize {
+    let mut sum = 0usize;
+    'terms: for term in right {
         let most = match term {
-            Term::Literal(value) => weight(value),
-            Term::Pipe(_) => length.saturating_mul(SCALAR_WEIGHT),
+            Term::Literal(value) => weight(value).saturating_mul(length),
+            Term::Pipe(_) => most_of_term(term, length),
         };
         sum = sum.saturating_add(most);
     }
@@ -151,8 +186,8 @@ fn place_count(places: &FoundPlaces<'_, '_>) -> usize {
     }
 }
 
-/// How many bytes the values of an update take that are made for a document with that root, but for one of
-/// them; nothing, where it is refused.
+/// How many bytes the values of an update take that are made for a document with that root, of the first one
+/// but for one of them; nothing, where it is refused.
 fn document_weight(
     alloc: Global,
     doc: usize,
@@ -168,11 +203,16 @@ fn document_weight(
         Err(ExprError::Refused(_)) => return Ok(None),
         Err(ExprError::Memory) => return Err(ExprError::Memory),
     };
-    if count < 2 {
+    let others = if doc == 0 {
+        count.saturating_sub(1)
+    } else {
+        count
+    };
+    if others == 0 {
         return Ok(Some(0));
     }
     let weight = weight_at(alloc, doc, update, &root)?;
-    Ok(Some(weight.saturating_mul(count - 1)))
+    Ok(Some(weight.saturating_mul(others)))
 }
 
 /// Whether the values of an update, which are made for documents, take more than they may at once.
@@ -207,12 +247,23 @@ pub fn is_heavy(
         return Ok(false);
     };
     let update = &updates[nth];
-    let Some(right) = shared(update) else {
+    let Some(assignment) = assignment(update) else {
         return Ok(false);
     };
+    let right: &[Term] = &assignment.right;
     let length = documents.text().len();
-    if most_weight(right, length).saturating_mul(length) <= VALUES_LIMIT {
-        return Ok(false);
+    match assignment.operator {
+        Operator::Modify => {
+            if most_modified(right, length) <= VALUES_LIMIT {
+                return Ok(false);
+            }
+            are_many(alloc, left(update), right, documents, VALUES_LIMIT)
+        }
+        Operator::Set | Operator::Add => {
+            if most_weight(right, length) <= VALUES_LIMIT {
+                return Ok(false);
+            }
+            are_heavy(alloc, update, documents)
+        }
     }
-    are_heavy(alloc, update, documents)
 }

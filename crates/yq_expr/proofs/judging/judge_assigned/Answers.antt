@@ -1,4 +1,4 @@
-use Rattle.std.proofs.Common.{◌≡◌, if◌then◌else◌, List, [], map, sym, ap, ◌∙◌, subst}
+use Rattle.std.proofs.Common.{map, ap, subst}
 use Rattle.yq_nodes.specs.Nodes.{node_of}
 use Rattle.yq_planner.specs.StandIns.{verdict}
 use Rattle.yq_semantics.{specs.Judgement.Judges, specs.Rooms.room_of, specs.View.{stage_of, term_of}}

@@ -2,7 +2,7 @@ use Rattle.std.proofs.Common.{◌≡◌, ◌⊎◌, ◌<◌, ◌≤◌, ◌-◌,
 use Rattle.yq_documents.specs.Reading.{documents_of}
 use Rattle.yq_semantics.{specs.Operations.operations_of, specs.Rooms.room_of, specs.View.update_of}
 use Rattle.yq_eval.specs.PlaceView.{put_behind}
-use Rattle.yq_expr.specs.Parts.{IsLater, rest_ops}
+use Rattle.yq_expr.specs.Parts.{rest_ops}
 use Rattle.yq_expr.proofs.parts.part_of.Given as goal
 
 abbrev pub invariant-documents : goal.invariant-documents

@@ -1,0 +1,104 @@
+//! Judging what is changed at each of places: one change after the other, each let go before the next one
+//! is made.
+ghost use Rattle.std.specs.Prelude.{◌≡◌};
+ghost use Rattle.yq_nodes.specs.Nodes.{node_of};
+ghost use Rattle.yq_expr.specs.JudgedChanges.{JudgesEffect, JudgesEffects};
+ghost use Rattle.yq_eval.{specs.FoundView.{child_places, found_places}, specs.PlaceView.{path_of, place_of, places_of}};
+ghost use Rattle.yq_eval.specs.TreeScalars.{HasScalars, HaveScalars};
+
+use crate::at_places::push_effect;
+use crate::effect::Action;
+use std::alloc::Global;
+use yq_documents::Documents;
+use yq_eval::{FoundPlace, FoundPlaces};
+use yq_lookup::CutText;
+use yq_planner::Aliases;
+use yq_semantics::ExprError;
+
+/// Judges what is changed at a place.
+fn judge_place<'a, 't>(
+    alloc: Global,
+    cut: &mut CutText<'_, '_>,
+    doc: usize,
+    aliases: &Aliases<'_>,
+    effect: Action<'a, '_>,
+    place: &FoundPlace<'a, 't>,
+) -> Result<(), ExprError>
+    requires { HasScalars (place_of place.now).node }
+    ensures same { cut.new ≡ cut.old }
+    ensures verdict { JudgesEffect aliases.now doc cut.old effect.entry (place_of place.now)
+        result }
+{
+    let mut changes = Vec::new(alloc);
+    push_effect(alloc, cut, doc, aliases, effect, place, &mut changes)?;
+    Ok(())
+}
+
+/// Judges what is changed at each of places.
+fn judge_each<'a, 't>(
+    alloc: Global,
+    documents: &Documents<'_>,
+    doc: usize,
+    aliases: &Aliases<'_>,
+    effect: Action<'a, '_>,
+    places: &[FoundPlace<'a, 't>],
+) -> Result<(), ExprError>
+    requires { HaveScalars (places_of places.now) }
+    ensures { JudgesEffects aliases.now doc documents.now effect.entry (places_of places.now)
+        result }
+{
+    let mut cut = CutText::of_document(documents, doc);
+    'places: for place in places {
+        judge_place(alloc, &mut cut, doc, aliases, effect, place)?;
+    }
+    Ok(())
+}
+
+/// Judges what is changed at the places of all items or values of the node at a place.
+fn judge_children<'a, 't>(
+    alloc: Global,
+    documents: &Documents<'_>,
+    doc: usize,
+    aliases: &Aliases<'_>,
+    effect: Action<'a, '_>,
+    parent: &'a FoundPlace<'a, 't>,
+) -> Result<(), ExprError>
+    requires { HaveScalars (child_places (path_of parent.now.path) (node_of parent.now.node)) }
+    ensures { JudgesEffects aliases.now doc documents.now effect.entry
+        (child_places (path_of parent.now.path) (node_of parent.now.node)) result }
+{
+    let count = parent.node.count();
+    let mut cut = CutText::of_document(documents, doc);
+    let mut children = parent.node.children();
+    let mut before = 0;
+    'children: while before < count {
+        let Some(child) = children.next() else {
+            return Ok(());
+        };
+        let place = FoundPlace::nth_below(&parent.path, before, &child);
+        judge_place(alloc, &mut cut, doc, aliases, effect, &place)?;
+        before += 1;
+    }
+    Ok(())
+}
+
+/// Judges what is changed at each of the places that a pipe found.
+pub(crate) fn judge_found<'a, 't>(
+    alloc: Global,
+    documents: &Documents<'_>,
+    doc: usize,
+    aliases: &Aliases<'_>,
+    effect: Action<'a, '_>,
+    places: &FoundPlaces<'a, 't>,
+) -> Result<(), ExprError>
+    requires { HaveScalars (found_places places.now) }
+    ensures { JudgesEffects aliases.now doc documents.now effect.entry
+        (found_places places.now) result }
+{
+    match places {
+        FoundPlaces::Listed(places) => judge_each(alloc, documents, doc, aliases, effect, places),
+        FoundPlaces::Children(parent) => {
+            judge_children(alloc, documents, doc, aliases, effect, parent)
+        }
+    }
+}
