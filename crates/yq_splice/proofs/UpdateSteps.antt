@@ -81,7 +81,7 @@ led_fails p n t m cs e within led fails us is =
 
 -- memory that ran out
 pub led_no_more : (p : Program) (t : List ℕ) → HaveFailed p t error.Memory
-led_no_more p t us is = record { fails = tt; why = tt }
+led_no_more p t us _ = record { fails = tt; why = tt }
 
 -- what is so whatever is answered
 pub any_so : {X : Type 0} (P : Type 0) (r : Result (Option X) AllocError) → P → IfAny r (λ _. P)

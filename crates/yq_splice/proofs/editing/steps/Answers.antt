@@ -1,6 +1,6 @@
-use Rattle.std.proofs.Common.{◌≡◌, ◌+◌, ◌<◌, ◌≤◌, List, ℕ, Some, sym, ap, ◌∙◌, subst, arith, IfSome}
+use Rattle.std.proofs.Common.{◌≡◌, List, ℕ, sym, ap, ◌∙◌, subst, IfSome}
 use Rattle.std.{proofs.lemmas.Result.err_from_is_err_and, specs.String.string_bytes}
-use Rattle.yq_documents.specs.Reading.{cut_of, documents_of, read_at}
+use Rattle.yq_documents.specs.Reading.{documents_of, read_at}
 use Rattle.yq_semantics.specs.View.{program_of}
 use Rattle.yq_expr.specs.FixedPaths.{IsSole, PlansAlone}
 use Rattle.yq_edit_laws.proofs.UpdateLaws.{update_not_read}

@@ -1,4 +1,4 @@
-use Rattle.std.{proofs.Common.{◌≡◌, ◌≤◌, ◌-◌, List, take}, specs.String.string_bytes}
+use Rattle.std.{proofs.Common.{◌≡◌, ◌≤◌, ◌-◌}, specs.String.string_bytes}
 use Rattle.yq_semantics.{specs.Program.update_count, specs.View.program_of}
 use Rattle.yq_splice.specs.Updates.{HaveLed}
 use Rattle.yq_splice.proofs.editing.update_each.Given as goal

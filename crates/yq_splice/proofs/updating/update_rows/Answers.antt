@@ -1,10 +1,10 @@
-use Rattle.std.{proofs.Common.{List, ℕ, Some, sym, ap, ◌∙◌, subst}, proofs.lemmas.Result.err_from_is_err_and}
+use Rattle.std.{proofs.Common.{List, ℕ, sym, ap, ◌∙◌, subst}}
 use Rattle.yq_documents.specs.Reading.{cut_of, documents_of, read_at}
 use Rattle.yq_row_table.specs.Kept.{IsPlaced}
 use Rattle.yq_semantics.specs.View.{program_of}
 use Rattle.yq_expr.specs.FixedPaths.{IsSole, PlansAlone}
 use Rattle.yq_edit_laws.specs.Theorems.{HasReading}
-use Rattle.yq_splice.{specs.Updates.{FailAfter, LeadOn}, proofs.SessionLaws.has_reading, proofs.UpdateSteps.led_no_more}
+use Rattle.yq_splice.{specs.Updates.{FailAfter, LeadOn}, proofs.SessionLaws.has_reading}
 use Rattle.yq_splice.proofs.updating.update_rows.Goals as goal
 
 pub of-session-requires : goal.of-session-requires

@@ -4,13 +4,13 @@ use Rattle.yq_semantics.{specs.Operations.operation_of, specs.Program.update_cou
 use Rattle.yq_expr.specs.FixedPaths.{IsSole, PlansAlone}
 use Rattle.yq_edit_laws.{specs.Theorems.HasReading, proofs.UpdateLaws.{update_holds, update_there}}
 use Rattle.yq_splice.{specs.Session.SessionState, specs.Updates.HaveLed}
-use Rattle.yq_splice.proofs.UpdateSteps.{led_fails, led_more, led_no_more, one_done, one_fails, one_fits, sole_on}
+use Rattle.yq_splice.proofs.UpdateSteps.{led_fails, led_more, one_done, one_fails, one_fits, sole_on}
 use Rattle.yq_splice.proofs.updating.update_session.Goals as goal
 
 pub updates-init : goal.updates-init
 updates-init c = record {
   from = omega arith;
-  count = c.updates-_count.ensures;
+  count = c.updates-count.ensures;
   within = c.requires.within;
   plans = c.requires.plans;
   reads = c.requires.read;
@@ -55,3 +55,10 @@ updates-preserved c =
           (led_more (program_of c.args.program.now) c.updates.done t c.updates.session.text c.apply.new.self.text c.updates.splices.items c.append.new.self.items c.updates.invariant.within (c.updates.invariant.leads t led)
           (λ v at. (c.in_ok-added.added.items, one_done v c.updates.session.text (operation_of c.updates.op) c.updates.invariant.reads (c.updates.invariant.plans v at) (update_holds (program_of c.args.program.now) c.updates.done v c.requires.literals at) c.operand_holds.ensures c.apply.new.self.text c.in_ok-added.added.items c.in_ok-added.ensures.ok, c.in_ok-append.ensures.items)));
     }
+
+pub returns-clause-ok : goal.returns-clause-ok
+returns-clause-ok c =
+    let same : c.plan.new.self.text ≡ c.apply.new.self.text = ap (λ (s : SessionState). s.text) c.in_ok-next.ensures.same in
+    λ t led. subst (λ (x : List ℕ). HaveLed (program_of c.args.program.now) t (c.updates.done + 1) x c.append.new.self.items) (sym (c.close-text.ensures ∙ same))
+    (led_more (program_of c.args.program.now) c.updates.done t c.updates.session.text c.apply.new.self.text c.updates.splices.items c.append.new.self.items c.updates.invariant.within (c.updates.invariant.leads t led)
+    (λ u at. (c.in_ok-added.added.items, one_done u c.updates.session.text (operation_of c.updates.op) c.updates.invariant.reads (c.updates.invariant.plans u at) (update_holds (program_of c.args.program.now) c.updates.done u c.requires.literals at) c.operand_holds.ensures c.apply.new.self.text c.in_ok-added.added.items c.in_ok-added.ensures.ok, c.in_ok-append.ensures.items)))

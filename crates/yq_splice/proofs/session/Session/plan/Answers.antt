@@ -1,8 +1,6 @@
-use Rattle.std.proofs.Common.{◌≡◌, IfOk, List, ℕ, sym, ap, ◌∙◌, subst}
+use Rattle.std.proofs.Common.{List, ℕ, sym, ap, ◌∙◌, subst}
 use Rattle.yq_text.specs.TextGapBuffer.{buffer_text}
-use Rattle.yq_documents.specs.Reading.{cut_of, documents_of}
-use Rattle.yq_row_table.specs.View.{rows_view}
-use Rattle.yq_outline.specs.RowWalk.{AreKnown}
+use Rattle.yq_documents.specs.Reading.{documents_of}
 use Rattle.yq_expr.specs.FixedPaths.{IfAny, IsSole, PlansAlone}
 use Rattle.yq_splice.specs.Session.{SessionState, HasPlaces, KnowsDocuments, KnowsItems}
 use Rattle.yq_splice.proofs.SessionLaws.{cut_borrowed, known_borrowed, moved_same, places_back, places_borrowed, split_is, split_borrowed}
