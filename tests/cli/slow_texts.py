@@ -1,4 +1,5 @@
-"""A tenth of the hostile runs of bench/hostile.py, on texts of a tenth: none ends by a signal or takes long."""
+"""A tenth of the hostile runs of bench/hostile.py, on texts of a tenth: none ends by a signal or takes long. And a program of
+many updates."""
 
 import multiprocessing
 import os
@@ -10,6 +11,8 @@ from harness import ROOT, equal
 sys.path.insert(0, os.path.join(ROOT, "bench"))
 
 import hostile
+from measured import used_by
+from services import services
 
 SIZE = hostile.SIZE // 10
 SECONDS, MEGABYTES = 1, 64
@@ -17,6 +20,7 @@ SECONDS, MEGABYTES = 1, 64
 IN_PARTS = ".[] = ."
 # Texts of which each removal leaves the lines between two entries.
 LEAVING_LINES = ["blank literals", "entries between blank lines", "items between comments"]
+UPDATES, SERVICES = 200, 200_000
 
 
 def runs(folder, wanted, size=SIZE):
@@ -48,3 +52,13 @@ def check_removals_that_leave_lines_between_entries(folder):
 
 def check_several_items_put_into_empty_collections(folder):
     grows_with_the_text(folder, [("empty lists in one row", ".a[] += [1, 2]")], SIZE // 4)
+
+
+def check_a_program_does_not_read_its_text_for_each_update(folder):
+    """So many updates of a place in the middle take less than a fifth of so many reads."""
+    text, steps = services(SERVICES)
+    folder.write("f", text)
+    path = "".join(f"[{step}]" if isinstance(step, int) else f'.["{step}"]' for step in steps)
+    program = " | ".join(f"{path} = {n}" for n in range(UPDATES))
+    read, spent = (min(used_by([folder.yq, it, "f"], folder.path)[0] for _ in range(3)) for it in (path, program))
+    equal(spent < read * UPDATES / 5, True, (read, spent))

@@ -7,3 +7,4 @@ mod StepLists
 pub mod ManyKeysLaws
 pub mod StandInLaws
 pub mod VerdictLaws
+pub mod FixedLaws

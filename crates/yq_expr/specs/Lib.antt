@@ -6,3 +6,4 @@ pub mod ManyKeys
 pub mod Parts
 pub mod JudgedChanges
 pub mod PlannedUpdates
+pub mod FixedPaths

@@ -75,7 +75,7 @@ fn part(place: CommentPlace) -> Part
 
 /// Whether the text has room for a comment of what is at a place of document `doc`. What is on the way
 /// there is known then, so that the next place of the text is near.
-fn has_room(cut: &mut CutText<'_, '_>, path: &Path, comment: CommentPlace) -> bool
+pub(crate) fn has_room(cut: &mut CutText<'_, '_>, path: &Path, comment: CommentPlace) -> bool
     ensures same { cut.new ≡ cut.old }
     ensures room { result ≡ (room_of cut.old path.now.doc).has comment (steps_of path.now) }
 {

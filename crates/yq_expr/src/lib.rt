@@ -4,6 +4,7 @@
 mod at_places;
 mod changes;
 mod effect;
+mod fixed;
 mod judged_places;
 mod judging;
 mod many_keys;
@@ -16,6 +17,7 @@ mod right_value;
 mod steps;
 mod weights;
 
+pub use fixed::{is_sole, plan_by_rows};
 pub use judging::judge;
 pub use parts::{PlanPart, plan_part};
 pub use placed::push_change;

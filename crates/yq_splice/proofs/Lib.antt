@@ -4,3 +4,4 @@ pub mod FollowLaws
 pub mod SpliceLaws
 pub mod AnswerLaws
 pub mod PartLaws
+pub mod UpdateSteps

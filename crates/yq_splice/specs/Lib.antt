@@ -2,3 +2,4 @@ pub mod Session
 pub mod TouchedLines
 pub mod Parts
 pub mod ByLines
+pub mod Updates

@@ -1,17 +1,21 @@
 //! Editing: a program carried out on a text.
-ghost use Rattle.std.specs.Prelude.{◌≡◌, ◌++◌, ◌<◌, List, [], Some, IfErr, IfOk, string_bytes};
-ghost use Rattle.yq_documents.specs.Reading.{cut_of, read_at};
-ghost use Rattle.yq_expr.specs.Parts.{IsInOrder};
+ghost use Rattle.std.specs.Prelude.{◌≡◌, ◌++◌, ◌<◌, ◌≤◌, ℕ, List, [], Some, IfErr, IfOk, IfSome, string_bytes};
+ghost use Rattle.yq_documents.specs.Reading.{cut_of, documents_of, read_at};
+ghost use Rattle.yq_expr.{specs.FixedPaths.{IfAny, IsSole, PlansAlone}, specs.Parts.IsInOrder};
 ghost use Rattle.yq_semantics.{specs.Program.{LiteralsHold, Update, update_at, update_count, updates}, specs.View.program_of};
 ghost use Rattle.yq_edit_laws.{specs.Answers.Edits, specs.Theorems.{AreSplices, EditRefused, InOrder, IsEdited}};
 ghost use Rattle.yq_edit_laws.specs.Valid.{FailsAt, FailsEach, IsStep};
+ghost use Rattle.yq_splice.specs.Updates.{FailAfter, LeadOn};
 ghost use Rattle.yq_edit_laws.specs.Carried as spec;
 
 use crate::in_parts::carry_parts;
+use crate::updating::update_rows;
 use crate::{EditError, carry_plan, operands_hold};
 use std::alloc::{AllocError, Global};
 use yq_documents::Documents;
-use yq_expr::{Program, Refusal, is_heavy, judge, plan};
+use yq_expr::{Program, Refusal, is_heavy, is_sole, judge, plan, plan_by_rows};
+use yq_lookup::CutText;
+use yq_semantics::Op;
 use yq_text::{Edited, Splice};
 use yq_tree::read;
 
@@ -51,17 +55,20 @@ fn step_in_parts(
     carry_parts(alloc, text, documents, splices, program, nth)
 }
 
-/// Update `nth` of a program carried out on the text that those before gave: what the reading says of
-/// rows, by which it is planned, is kept for its operations.
+/// Update `nth` of a program carried out on a text that was read: what the reading says of rows, by which it
+/// is planned, is kept for its operations.
 fn step(
     alloc: Global,
     text: &str,
+    documents: Documents<'_>,
     splices: Vec<Splice>,
     program: &Program,
     nth: usize,
 ) -> Result<Edited, EditError>
     requires within { nth < update_count (program_of program.now) }
     requires literals { LiteralsHold (program_of program.now) }
+    requires same { documents ≡ text.now }
+    requires read { read_at text.now ≡ Some (cut_of documents) }
     ensures ok { (u : Update) → update_at nth (program_of program.now) ≡ Some u →
         IfOk result (λ e. (cs : List Splice) ×
         IsStep u text.now (string_bytes e.text) cs ×
@@ -69,13 +76,58 @@ fn step(
     ensures err { (u : Update) → update_at nth (program_of program.now) ≡ Some u →
         IfErr result (λ e. FailsAt e u text.now) }
 {
-    let documents = read(alloc, text.as_bytes())?;
     if is_heavy(alloc, program, nth, &documents)? {
         return step_in_parts(alloc, text, &documents, splices, program, nth);
     }
     let ops = plan(alloc, program, nth, &documents)?;
     operands_hold(&ops);
     carry_plan(alloc, text, documents, splices, &ops)
+}
+
+/// The operation of update `nth` of a program on documents, if it isn't the last one and rows plan it.
+fn planned_by_rows(
+    alloc: Global,
+    documents: &Documents<'_>,
+    program: &Program,
+    nth: usize,
+) -> Result<Option<Op>, AllocError>
+    requires { nth < update_count (program_of program.now) }
+    ensures sole { IfAny result (λ _. IsSole (documents_of documents.now)) }
+    ensures plans { IfAny result (PlansAlone nth program.now documents.now) }
+{
+    if program.updates() - nth <= 1 {
+        return Ok(None);
+    }
+    if !is_sole(documents) {
+        return Ok(None);
+    }
+    let mut cut = CutText::of_document(documents, 0);
+    plan_by_rows(alloc, &mut cut, program, nth)
+}
+
+/// Update `nth` of a program carried out on the text that those before gave; and those after it on the rows
+/// that are kept, as far as these plan them. With the new text comes how many updates are done.
+fn steps(
+    alloc: Global,
+    text: &str,
+    splices: Vec<Splice>,
+    program: &Program,
+    nth: usize,
+) -> Result<(Edited, usize), EditError>
+    requires within { nth < update_count (program_of program.now) }
+    requires literals { LiteralsHold (program_of program.now) }
+    ensures ok { LeadOn (program_of program.now) nth text.now splices.items result }
+    ensures more { IfOk result (λ x. (nth < x.1) × (x.1 ≤ update_count (program_of program.now))) }
+    ensures err { FailAfter (program_of program.now) nth text.now splices.items result }
+{
+    let documents = read(alloc, text.as_bytes())?;
+    let planned = planned_by_rows(alloc, &documents, program, nth)?;
+    if let Some(first) = planned {
+        return update_rows(alloc, text, documents, splices, program, nth, first);
+    }
+    let _count = program.updates();
+    let edited = step(alloc, text, documents, splices, program, nth)?;
+    Ok((edited, nth + 1))
 }
 
 /// The updates of a program carried out on a text, one after the other.
@@ -87,15 +139,15 @@ fn update_each(alloc: Global, text: &str, program: &Program) -> Result<Edited, E
     ensures err { IfErr result (λ e. (us : List Update) → program_of program.now ≡ updates us →
         FailsEach e us text.now) }
 {
-    let mut done = step(alloc, text, Vec::new(alloc), program, 0)?;
+    let (mut edited, mut done) = steps(alloc, text, Vec::new(alloc), program, 0)?;
     let count = program.updates();
-    let mut nth = 1;
-    'updates: while nth < count {
-        let Edited { text, splices } = done;
-        done = step(alloc, text.as_str(), splices, program, nth)?;
-        nth += 1;
+    'updates: while done < count {
+        let Edited { text, splices } = edited;
+        let (next, so_many) = steps(alloc, text.as_str(), splices, program, done)?;
+        edited = next;
+        done = so_many;
     }
-    Ok(done)
+    Ok(edited)
 }
 
 /// A program without updates on a text: none is carried out.
@@ -132,7 +184,7 @@ fn edit_text(alloc: Global, text: &str, program: &Program) -> Result<Edited, Edi
 /// The errors, in their order: the text has no reading; the program is a read
 /// ([`Refusal::NotAnUpdate`]); an update is refused, as its plan on the text
 /// that the one before gave; a new text would be larger than 16,777,216 bytes
-/// ([`Refusal::TooLarge`]). The text is read once for each update; of an update's operations
+/// ([`Refusal::TooLarge`]). The text is read again for an update that rows do not plan; of an update's operations
 /// each but the last one reads the rows that it wrote.
 pub fn edit(alloc: Global, text: &str, program: &Program) -> Result<Edited, EditError>
     // The new text, or why there is none.

@@ -7,6 +7,7 @@ pub mod edit_laws;
 mod editing;
 mod in_parts;
 mod session;
+mod updating;
 
 pub use carrying::{apply_op, carry_plan};
 pub use editing::edit;

@@ -1,7 +1,7 @@
 //! Sessions: operations applied to one text, whose rows are kept.
-ghost use Rattle.std.specs.Prelude.{◌≡◌, IfErr, IfOk, OnErr, string_bytes};
-ghost use Rattle.yq_documents.specs.Reading.{cut_of, read_at};
-ghost use Rattle.yq_semantics.specs.Operations.{operation_of};
+ghost use Rattle.std.specs.Prelude.{◌≡◌, ◌<◌, IfErr, IfOk, IfSome, OnErr, string_bytes};
+ghost use Rattle.yq_documents.specs.Reading.{cut_of, documents_of, read_at};
+ghost use Rattle.yq_semantics.{specs.Operations.operation_of, specs.Program.update_count, specs.View.program_of};
 ghost use Rattle.yq_row_table.specs.Meter.{count_after, line_count};
 ghost use Rattle.yq_core.specs.Answers.{Gives};
 ghost use Rattle.yq_text.{specs.Changing.IsChange, specs.Halves.whole};
@@ -9,14 +9,16 @@ ghost use Rattle.yq_lookup.specs.KnownDocuments.{DocumentsStay};
 ghost use Rattle.yq_places.specs.RowWalk.{StayKnown};
 ghost use Rattle.yq_edit_laws.{specs.Answers.{Edits, EditFails}, specs.Carried.carried, specs.Edit.{edit_after, gives}};
 ghost use Rattle.yq_edit_laws.{specs.Theorems.{HasReading, IsApplied, IsFitting, OpRefused}, specs.Valid.segments_by};
+ghost use Rattle.yq_expr.specs.FixedPaths.{IfAny, IsSole, PlansAlone};
 ghost use Rattle.yq_splice.specs.Session.{HasPlaces, NotOpened, Scans};
 
 use crate::carrying::edited_behind;
-use std::alloc::Global;
+use std::alloc::{AllocError, Global};
 use std::marker::Model;
 use std::mem;
 use yq_core::ReadError;
 use yq_edit_laws::{EditError, operand_holds};
+use yq_expr::{Program, plan_by_rows};
 use yq_lookup::{CutText, KnownDocuments};
 use yq_operation::{carry_one, change_one};
 use yq_outline::KnownItems;
@@ -112,6 +114,26 @@ impl Session {
         let changed = change_one(self.alloc, &cut, op);
         self.places = rows.into_places();
         changed
+    }
+
+    /// The operation that carries out update `nth` of a program on the text, if rows plan it (see
+    /// `yq_expr::plan_by_rows`). What is on the way there is known then.
+    pub(crate) fn plan(&mut self, program: &Program, nth: usize) -> Result<Option<Op>, AllocError>
+        requires { IsSole (documents_of self.old.text) }
+        ensures same { self.new ≡ self.old }
+        ensures within { IfAny result (λ _. nth < update_count (program_of program.now)) }
+        ensures plans { IfAny result (PlansAlone nth program.now self.old.text) }
+    {
+        let places = mem::replace(&mut self.places, Places::new(self.alloc));
+        self.text.move_split(places.split);
+        let text = self.text.halves();
+        let rows = places.rows(text);
+        let mut cut = CutText::resumed(text, &rows, self.known).with_documents(self.documents);
+        let planned = plan_by_rows(self.alloc, &mut cut, program, nth);
+        let known = cut.known();
+        self.places = rows.into_places();
+        self.known = known;
+        planned
     }
 
     /// Applies an operation that fits the documents of the text. Each byte that it doesn't name stays as

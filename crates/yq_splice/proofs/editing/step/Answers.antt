@@ -4,36 +4,26 @@ use Rattle.yq_documents.specs.Reading.{cut_of, documents, read_at}
 use Rattle.yq_semantics.{specs.Operations.{Operation, operations_of}, specs.declared.op.Op.Op, specs.View.program_of}
 use Rattle.yq_edit_laws.{specs.Answers.Edits, specs.Carried.carry_all, specs.Edit.edit_after, specs.Valid.{AreServed, HaveOperands}}
 use Rattle.yq_edit_laws.proofs.MeaningLaws.{plan_serves}
-use Rattle.yq_edit_laws.proofs.UpdateLaws.{update_not_read, update_unplanned, update_planned, update_holds, update_there, update_ok}
+use Rattle.yq_edit_laws.proofs.UpdateLaws.{update_unplanned, update_planned, update_holds, update_there, update_ok}
 use Rattle.yq_edit_laws.proofs.UpdateLaws.{update_err}
 use Rattle.yq_splice.proofs.PartLaws.{weighing_fails}
 use Rattle.yq_splice.proofs.editing.step.Goals as goal
 
-pub returns-in_err-documents-clause-err : goal.returns-in_err-documents-clause-err
-returns-in_err-documents-clause-err c =
-    let p = err_from_is_err_and c.from_residual.result c.from_residual.ensures.1 in
-    rw (p.1, p.2)
-    (λ u at. update_not_read u c.as_bytes.result.now c.args.text.now c.in_err-documents.field-0.0 c.as_bytes.ensures.value c.utf8.text
-    (record { none = c.in_err-documents.ensures.exact; utf8 = c.in_err-documents.ensures.not_utf8 }))
-
 pub returns-in_err-ops-clause-err : goal.returns-in_err-ops-clause-err
 returns-in_err-ops-clause-err c =
     let p = err_from_is_err_and c.from_residual-in_err-ops.result c.from_residual-in_err-ops.ensures.1 in
-    let text = c.in_ok-documents.ensures.text ∙ c.as_bytes.ensures.value in
-    let is : read_at c.args.text.now ≡ Some (cut_of c.in_ok-documents.documents) = ap read_at (sym c.as_bytes.ensures.value) ∙ c.in_ok-documents.ensures.exact in
+    let text = c.requires.same in
+    let is : read_at c.args.text.now ≡ Some (cut_of c.args.documents) = c.requires.read in
     rw (p.1, p.2)
-    (λ u at. update_unplanned (λ (v : Vec Op Global). operations_of v.items) u c.args.text.now c.in_ok-documents.documents _ is text (c.in_err-ops.ensures.exact u at))
-
-pub carry_plan-requires-clause-read : goal.carry_plan-requires-clause-read
-carry_plan-requires-clause-read c = ap read_at (sym c.as_bytes.ensures.value) ∙ c.in_ok-documents.ensures.exact
+    (λ u at. update_unplanned (λ (v : Vec Op Global). operations_of v.items) u c.args.text.now c.args.documents _ is text (c.in_err-ops.ensures.exact u at))
 
 pub carry_plan-requires-clause-serves : goal.carry_plan-requires-clause-serves
 carry_plan-requires-clause-serves c =
     let t : List ℕ = c.args.text.now in
-    let d : List ℕ = c.in_ok-documents.documents in
+    let d : List ℕ = c.args.documents in
     let ops : List Operation = operations_of c.in_ok-ops.ops.items in
-    let text : d ≡ t = c.in_ok-documents.ensures.text ∙ c.as_bytes.ensures.value in
-    let is : read_at t ≡ Some (cut_of d) = ap read_at (sym c.as_bytes.ensures.value) ∙ c.in_ok-documents.ensures.exact in
+    let text : d ≡ t = c.requires.same in
+    let is : read_at t ≡ Some (cut_of d) = c.requires.read in
     let valid : HaveOperands ops = subst (λ (x : List Op). HaveOperands (operations_of x)) c.deref.ensures.value c.operands_hold.ensures in
     let u = update_there (program_of c.args.program.now) c.args.nth c.requires.within in
     let served : AreServed ops t =
@@ -43,10 +33,10 @@ carry_plan-requires-clause-serves c =
 pub returns-clause-ok : goal.returns-clause-ok
 returns-clause-ok c =
     let t : List ℕ = c.args.text.now in
-    let d : List ℕ = c.in_ok-documents.documents in
+    let d : List ℕ = c.args.documents in
     let ops : List Operation = operations_of c.in_ok-ops.ops.items in
-    let text : d ≡ t = c.in_ok-documents.ensures.text ∙ c.as_bytes.ensures.value in
-    let is : read_at t ≡ Some (cut_of d) = ap read_at (sym c.as_bytes.ensures.value) ∙ c.in_ok-documents.ensures.exact in
+    let text : d ≡ t = c.requires.same in
+    let is : read_at t ≡ Some (cut_of d) = c.requires.read in
     let valid : HaveOperands ops = subst (λ (x : List Op). HaveOperands (operations_of x)) c.deref.ensures.value c.operands_hold.ensures in
     let new_bytes : Edits c.carry_plan.result (edit_after c.args.splices.items (carry_all ops t)) = subst (λ (x : List Op). Edits c.carry_plan.result (edit_after c.args.splices.items (carry_all (operations_of x) t))) c.deref-2.ensures.value c.carry_plan.ensures in
     λ u at. update_ok u t (cut_of d) ops is (update_planned u t d ops text (c.in_ok-ops.ensures.exact u at)) (update_holds (program_of c.args.program.now) c.args.nth u c.requires.literals at) valid c.carry_plan.result c.args.splices.items new_bytes
@@ -54,27 +44,27 @@ returns-clause-ok c =
 pub returns-clause-err : goal.returns-clause-err
 returns-clause-err c =
     let t : List ℕ = c.args.text.now in
-    let d : List ℕ = c.in_ok-documents.documents in
+    let d : List ℕ = c.args.documents in
     let ops : List Operation = operations_of c.in_ok-ops.ops.items in
-    let text : d ≡ t = c.in_ok-documents.ensures.text ∙ c.as_bytes.ensures.value in
-    let is : read_at t ≡ Some (cut_of d) = ap read_at (sym c.as_bytes.ensures.value) ∙ c.in_ok-documents.ensures.exact in
+    let text : d ≡ t = c.requires.same in
+    let is : read_at t ≡ Some (cut_of d) = c.requires.read in
     let valid : HaveOperands ops = subst (λ (x : List Op). HaveOperands (operations_of x)) c.deref.ensures.value c.operands_hold.ensures in
     let new_bytes : Edits c.carry_plan.result (edit_after c.args.splices.items (carry_all ops t)) = subst (λ (x : List Op). Edits c.carry_plan.result (edit_after c.args.splices.items (carry_all (operations_of x) t))) c.deref-2.ensures.value c.carry_plan.ensures in
     λ u at. update_err u t (cut_of d) ops is (update_planned u t d ops text (c.in_ok-ops.ensures.exact u at)) (update_holds (program_of c.args.program.now) c.args.nth u c.requires.literals at) valid c.carry_plan.result c.args.splices.items new_bytes
 
 pub returns-in_err-is_heavy-clause-err : goal.returns-in_err-is_heavy-clause-err
 returns-in_err-is_heavy-clause-err c =
-    let p = err_from_is_err_and c.from_residual-in_err-is_heavy.result c.from_residual-in_err-is_heavy.ensures.1 in
+    let p = err_from_is_err_and c.from_residual.result c.from_residual.ensures.1 in
     rw (p.1, p.2)
     (λ u at. weighing_fails c.in_err-is_heavy.field-0.0 u c.args.text.now c.in_err-is_heavy.ensures.err)
 
 pub step_in_parts-requires-clause-same : goal.step_in_parts-requires-clause-same
-step_in_parts-requires-clause-same c = c.in_ok-documents.ensures.text ∙ c.as_bytes.ensures.value
+step_in_parts-requires-clause-same c = c.requires.same
 
 pub step_in_parts-requires-clause-read : goal.step_in_parts-requires-clause-read
 step_in_parts-requires-clause-read c =
-    let text : c.in_ok-documents.documents ≡ c.args.text.now = c.in_ok-documents.ensures.text ∙ c.as_bytes.ensures.value in
-    ap read_at (sym c.as_bytes.ensures.value) ∙ (c.in_ok-documents.ensures.exact ∙ ap (λ (x : List ℕ). Some (cut_of x)) text)
+    let text : c.args.documents ≡ c.args.text.now = c.requires.same in
+    c.requires.read ∙ ap (λ (x : List ℕ). Some (cut_of x)) text
 
 pub step_in_parts-requires-clause-order : goal.step_in_parts-requires-clause-order
 step_in_parts-requires-clause-order c = λ u at. c.in_ok-is_heavy.ensures.heavy (ap Ok c.if-branch.true) u at

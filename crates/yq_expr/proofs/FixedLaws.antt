@@ -1,0 +1,292 @@
+-- What an update of one node at a fixed path plans, and that no update brings an alias.
+use Rattle.std.proofs.Common.{not, ◌==◌, ◌≡◌, ℕ, zero, suc, cond, nat_lt, ◌+◌, ◌≤◌, pos, negsuc, Bool, true, false, List, [], ◌∷◌, ◌++◌}
+use Rattle.std.proofs.Common.{length, map, slice_get, Option, Some, None, if◌then◌else◌, is_some, option_and_then, option_map, refl, sym}
+use Rattle.std.{proofs.Common.{ap, subst, ◌∙◌, arith, append-nil, append_assoc}, proofs.lemmas.Bool.false≢true}
+use Rattle.std.{proofs.lemmas.Bool.Decides.nat_tests, proofs.lemmas.Option.{none-some, same_Some}, proofs.lemmas.Simd.map-map}
+use Rattle.std.{specs.List.list_any, specs.Borrow.Bor, specs.Prelude.IfSome}
+use Rattle.yq_core.{specs.Scalar.ScalarText, specs.Entries.tree_step, specs.Anchors.{Name, names_in, names_of}, specs.Answers.◌>>=◌}
+use Rattle.yq_core.{specs.Keys.depth, specs.Shapes.{AreEntries, AreItems, IsTree}}
+use Rattle.yq_core.specs.Paths.{Step, To, Nth, child_at, is_item, key_is, node_at}
+use Rattle.yq_core.specs.Tree.{Node, alias, scalar, list, Children, none, child, children_of}
+use Rattle.yq_semantics.{specs.View.{stage_of, term_of, program_step}, specs.declared.program.CommentPlace.CommentPlace}
+use Rattle.yq_semantics.specs.Judgement.{Judgement, and_then, gives, refuses}
+use Rattle.yq_semantics.specs.Changes.{Change, replaces, removes, sets_comment, Changed, Room, allowed, all_allowed, at_each, changes_at}
+use Rattle.yq_semantics.specs.Changes.{changes_in, left_pipe, can_be_comment, has_comment, is_too_deep, is_too_long, is_used, is_used_in}
+use Rattle.yq_semantics.specs.Changes.{is_used_inside, put_with_path, refers_to, remove_at, comment_at, takes_used, update_changes}
+use Rattle.yq_semantics.{specs.Fits.IsBelow, specs.Matching.{key_step, step_child}}
+use Rattle.yq_semantics.{specs.Meaning.{AreReady, all_changed, changed_at_once, meaning, placed_edit}, specs.NodeEdits.{at_once, done_by}}
+use Rattle.yq_semantics.{specs.Operations.Operation, specs.Pipes.{places, stage_on}, specs.Plans.{all_ops, comment_op, is_removal, plan}}
+use Rattle.yq_semantics.specs.Places.{FoundPlace, child_place, chained, for_each, found_place, root_place, step_on, step_there, traverse}
+use Rattle.yq_semantics.specs.Program.{PathStep, key, index, each, Stage, path, Term, literal, Update, UpdatesHold, assign, delete, comment}
+use Rattle.yq_semantics.{specs.RightValues.right_value, specs.Rooms.room_of}
+use Rattle.yq_semantics.specs.declared.refusal.Refusal.TheVariants.{AnchorInUse, BadCommentText, KeyTooLong, NoPlaceForComment, TooDeep}
+use Rattle.yq_semantics.{proofs.ChildPlaces.{absent, child_tree, children_tree}, proofs.JudgementLaws.{gives_same, then_gives}}
+use Rattle.yq_semantics.{proofs.RoomLaws.rooms_are_ready, proofs.updates.Aliases.{AllWriteNone, WritesNone, all_bring, at_once_no_more}}
+use Rattle.yq_semantics.{proofs.updates.Each.{Each, each_weaker}, proofs.updates.FitChanges.update_fit}
+use Rattle.yq_semantics.{proofs.updates.FitsInOrder.MayChange, proofs.updates.Mentions.in_less}
+use Rattle.yq_documents.{specs.Documents.Document, specs.Reading.{documents, documents_of, cut_of, read_at}, proofs.ReadLaws.read_takes}
+use Rattle.yq_documents.proofs.ReadyLaws.{read_ready}
+use Rattle.yq_outline.{proofs.ShapeLaws.{shaped_by_lines, shaped_is_tree}, specs.Names.is_reference}
+use Rattle.yq_places.specs.NodesAt.{NodeAt, node_in, node_summary}
+use Rattle.yq_planner.proofs.UsedLaws.{none_refer, none_used}
+use Rattle.yq_expr.specs.FixedPaths.{AreFixed, CommentsOne, IsFixed, IsFixedOp, FindsNode, IsSole, LeadsToOne, PlansOnly, fixed_step}
+use Rattle.yq_core.specs.declared.path.Step as core_step
+use Rattle.yq_core.specs.Tree as trees
+use Rattle.yq_semantics.specs.declared.program.PathStep as declared_step
+use Rattle.yq_semantics.specs.declared.program.Stage as declared_stage
+use Rattle.yq_semantics.specs.declared.program.Term as declared_term
+use Rattle.yq_semantics.specs.Operations as operations
+use Rattle.yq_semantics.specs.declared.program.CommentPlace.TheVariants as comments
+use Rattle.yq_semantics.specs.declared.program.Operator.TheVariants as operator
+
+-- ---- where fixed steps lead
+
+-- a place that is there
+abbrev there : List Step → Node → FoundPlace
+there y m = record { path = y; node = m; missing = [] }
+
+-- an item has no key, and an entry has one
+no_key : (k : List ℕ) (cs : Children) → AreItems cs → child_at (To k) cs ≡ None
+no_key k none h = refl
+no_key k (child label n cs) h = ap (λ (o : Option (List ℕ)). cond (key_is k o) (Some n) (child_at (To k) cs)) h.0 ∙ no_key k cs h.1
+
+no_item : (i : ℕ) (cs : Children) → AreEntries cs → child_at (Nth i) cs ≡ None
+no_item i none h = refl
+no_item zero (child label n cs) h = ap (λ (o : Option (List ℕ)). cond (is_item o) (Some n) (child_at (Nth 0) cs)) h.0.1 ∙ no_item 0 cs h.1
+no_item (suc i) (child label n cs) h = no_item i cs h.1
+
+key_there : (j : List ℕ) (y : List Step) (m k : Node) → IsTree m → child_at (To j) (children_of m) ≡ Some k → step_there (key j) (there y m) ≡ gives (there (y ++ To j ∷ []) k ∷ [])
+key_there j y (alias name) k tree at = absurd (none-some _ at)
+key_there j y (scalar anchor kind text) k tree at = absurd (none-some _ at)
+key_there j y (list anchor cs) k tree at = absurd (none-some _ (sym (no_key j cs tree.0) ∙ at))
+key_there j y (trees.map anchor cs) k tree at = ap (λ (o : Option Node). gives (found_place (key j) (there y (trees.map anchor cs)) (option_map (λ n. (To j, n)) o))) at
+
+item_there : (i : ℕ) (y : List Step) (m k : Node) → IsTree m → child_at (Nth i) (children_of m) ≡ Some k → step_there (index (pos i)) (there y m) ≡ gives (there (y ++ Nth i ∷ []) k ∷ [])
+item_there i y (alias name) k tree at = absurd (none-some _ at)
+item_there i y (scalar anchor kind text) k tree at = absurd (none-some _ at)
+item_there i y (list anchor cs) k tree at = ap (λ (o : Option Node). gives (found_place (index (pos i)) (there y (list anchor cs)) (option_map (λ n. (Nth i, n)) o))) at
+item_there i y (trees.map anchor cs) k tree at = absurd (none-some _ (sym (no_item i cs tree.0) ∙ at))
+
+fixed_there : (s : PathStep) (x : Step) (y : List Step) (m k : Node) → fixed_step s ≡ Some x → IsTree m → child_at x (children_of m) ≡ Some k → step_there s (there y m) ≡ gives (there (y ++ x ∷ []) k ∷ [])
+fixed_there (key j) x y m k is tree at =
+    let same : To j ≡ x = same_Some _ _ is in
+    subst (λ (z : Step). step_there (key j) (there y m) ≡ gives (there (y ++ z ∷ []) k ∷ [])) same (key_there j y m k tree (subst (λ (z : Step). child_at z (children_of m) ≡ Some k) (sym same) at))
+fixed_there (index (pos i)) x y m k is tree at =
+    let same : Nth i ≡ x = same_Some _ _ is in
+    subst (λ (z : Step). step_there (index (pos i)) (there y m) ≡ gives (there (y ++ z ∷ []) k ∷ [])) same (item_there i y m k tree (subst (λ (z : Step). child_at z (children_of m) ≡ Some k) (sym same) at))
+fixed_there (index (negsuc i)) x y m k is tree at = absurd (none-some _ is)
+fixed_there each x y m k is tree at = absurd (none-some _ is)
+
+-- the child on a path to a node
+on_way : (x : Step) (xs : List Step) (m n : Node) → node_at (x ∷ xs) m ≡ Some n → (k : Node) × (child_at x (children_of m) ≡ Some k) × (node_at xs k ≡ Some n)
+on_way x xs m n at = go (child_at x (children_of m)) refl at
+  where
+    go : (o : Option Node) → child_at x (children_of m) ≡ o → option_and_then (node_at xs) o ≡ Some n → (k : Node) × (child_at x (children_of m) ≡ Some k) × (node_at xs k ≡ Some n)
+    go None is h = absurd (none-some _ h)
+    go (Some k) is h = (k, is, h)
+
+walked : (ss : List PathStep) (xs y : List Step) (m n : Node) → IsTree m → map fixed_step ss ≡ map (λ s. Some s) xs → node_at xs m ≡ Some n → traverse ss (there y m ∷ []) ≡ gives (there (y ++ xs) n ∷ [])
+walked [] [] y m n tree same at = (λ i. gives (there (sym (append-nil y) i) (same_Some _ _ at i) ∷ []))
+walked [] (x ∷ xs) y m n tree same at = absurd (cc)
+walked (s ∷ ss) [] y m n tree same at = absurd (cc)
+walked (s ∷ ss) (x ∷ xs) y m n tree same at =
+    let first : fixed_step s ≡ Some x = cc in
+    let others : map fixed_step ss ≡ map (λ z. Some z) xs = cc in
+    let w = on_way x xs m n at in
+    let below : IsTree w.0 = child_tree x (children_of m) w.0 (children_tree m tree) w.1 in
+    ap (λ (j : Judgement (List FoundPlace)). and_then (chained (λ z. for_each (step_on z)) ss) (and_then (λ a. and_then (λ b. gives (a ++ b)) (gives [])) j)) (fixed_there s x y m w.0 first tree w.1)
+    ∙ (walked ss xs (y ++ x ∷ []) w.0 n below others w.2
+    ∙ ap (λ (z : List Step). gives (there z n ∷ [])) (append_assoc y (x ∷ []) xs))
+
+-- where a pipe leads that is one fixed path
+pub place_found : (pipe : List Stage) (xs : List Step) (root n : Node) → IsTree root → IsFixed pipe xs → node_at xs root ≡ Some n → places 0 pipe root ≡ gives (there xs n ∷ [])
+place_found pipe xs root n tree h at =
+    ap (λ (p : List Stage). places 0 p root) h.is ∙ ap (and_then (chained (stage_on 0) [])) (walked h.own xs [] root n tree h.fixed at)
+
+-- ---- one change
+
+-- a change that nothing refuses
+allowed_so : (root : Node) (c : Changed) → is_too_long c.1 ≡ false → is_too_deep (length c.0) c.1 ≡ false → takes_used root c.0 c.1 ≡ false → allowed root c ≡ gives c
+allowed_so root c short near free =
+    ap (λ (b : Bool). if b then refuses KeyTooLong else (if is_too_deep (length c.0) c.1 then refuses TooDeep else (if takes_used root c.0 c.1 then refuses AnchorInUse else gives c))) short
+    ∙ (ap (λ (b : Bool). if b then refuses TooDeep else (if takes_used root c.0 c.1 then refuses AnchorInUse else gives c)) near
+    ∙ ap (λ (b : Bool). if b then refuses AnchorInUse else gives c) free)
+
+-- the one change at a place
+at_one : (root : Node) (f : FoundPlace → Judgement (List Changed)) (p : FoundPlace) (c : Changed) → f p ≡ gives (c ∷ []) → allowed root c ≡ gives c → at_each root f (p ∷ []) ≡ gives (c ∷ [])
+at_one root f p c is free =
+    ap (λ (j : Judgement (List Changed)). and_then (λ a. and_then (λ b. gives (a ++ b)) (gives [])) (and_then (all_allowed root) j)) is
+    ∙ ap (λ (j : Judgement Changed). and_then (λ a. and_then (λ b. gives (a ++ b)) (gives [])) (and_then (λ a. and_then (λ b. gives (a ++ b)) (gives [])) (and_then (λ d. gives (d ∷ [])) j))) free
+
+-- the plan of one change in one document
+plan_one : (u : Update) (rooms : ℕ → Room) (d : Document) (c : Changed) → has_comment u ≡ true → changes_in u 0 (rooms 0) d.root ≡ gives (c ∷ []) → plan u rooms (d ∷ []) ≡ gives (all_ops (is_removal u) 0 ((c ∷ []) ∷ []))
+plan_one u rooms d c can is =
+    ap (λ (t : Bool). and_then (λ css. gives (all_ops (is_removal u) 0 css)) (if t then and_then (λ a. and_then (λ b. gives (a ∷ b)) (gives [])) (changes_in u 0 (rooms 0) d.root) else refuses BadCommentText)) can
+    ∙ ap (λ (j : Judgement (List Changed)). and_then (λ css. gives (all_ops (is_removal u) 0 css)) (and_then (λ a. and_then (λ b. gives (a ∷ b)) (gives [])) j)) is
+
+-- ---- what an update of one node plans
+
+-- so many steps are no more than may be nested
+near_enough : (n : ℕ) → n ≤ 64 → nat_lt 64 (n + 0) ≡ false
+near_enough n h = grind (arith, nat_tests, h)
+
+module _ (rooms : ℕ → Room) (d : Document) (tree : IsTree d.root) (free : (n : Node) → is_used_in (names_of d.root) (Some n) ≡ false) where
+  -- the node to which a path leads in the one document
+  in_document : (xs : List Step) → LeadsToOne (d ∷ []) 0 xs → (n : Node) × (node_at xs d.root ≡ Some n)
+  in_document xs h = (h.node, subst (λ (e : Document). node_at xs e.root ≡ Some h.node) (sym (same_Some _ _ h.there)) h.at)
+
+  put_planned : (left : List Stage) (xs : List Step) (n v : Node) → IsFixed left xs → node_at xs d.root ≡ Some n → is_too_long (replaces v) ≡ false → is_too_deep (length xs) (replaces v) ≡ false →
+      plan (assign left operator.Set (literal v ∷ [])) rooms (d ∷ []) ≡ gives (operations.replace 0 xs v ∷ [])
+  put_planned left xs n v fixed at short near =
+      let u : Update = assign left operator.Set (literal v ∷ []) in
+      let taken : takes_used d.root xs (replaces v) ≡ false = ap (λ (o : Option Node). is_used_inside (names_of d.root) o) at ∙ free (list None (children_of n)) in
+      let one : changes_in u 0 (rooms 0) d.root ≡ gives ((xs, replaces v) ∷ []) =
+      ap (and_then (changes_at 0 (rooms 0) d.root u)) (place_found left xs d.root n tree fixed at)
+      ∙ at_one d.root (λ q. put_with_path q v) (there xs n) (xs, replaces v) refl (allowed_so d.root (xs, replaces v) short near taken) in
+      plan_one u rooms d (xs, replaces v) refl one
+
+  removal_planned : (left : List Stage) (xs : List Step) (n : Node) → IsBelow xs → IsFixed left xs → node_at xs d.root ≡ Some n → plan (delete left) rooms (d ∷ []) ≡ gives (operations.remove 0 xs ∷ [])
+  removal_planned left [] n below fixed at = absurd below
+  removal_planned left (x ∷ xs) n below fixed at =
+      let taken : takes_used d.root (x ∷ xs) removes ≡ false = ap (λ (o : Option Node). is_used_in (names_of d.root) o) at ∙ free n in
+      let one : changes_in (delete left) 0 (rooms 0) d.root ≡ gives ((x ∷ xs, removes) ∷ []) =
+      ap (and_then (changes_at 0 (rooms 0) d.root (delete left))) (place_found left (x ∷ xs) d.root n tree fixed at)
+      ∙ at_one d.root remove_at (there (x ∷ xs) n) (x ∷ xs, removes) refl (allowed_so d.root (x ∷ xs, removes) refl refl taken) in
+      plan_one (delete left) rooms d (x ∷ xs, removes) refl one
+
+  comment_planned : (left : List Stage) (xs : List Step) (n : Node) (place : CommentPlace) (text : List ℕ) → can_be_comment place text ≡ true → IsFixed left xs →
+      node_at xs d.root ≡ Some n → (rooms 0).has place xs ≡ true → plan (comment left place text) rooms (d ∷ []) ≡ gives (comment_op 0 xs place text ∷ [])
+  comment_planned left xs n place text can fixed at room =
+      let u : Update = comment left place text in
+      let here : comment_at (rooms 0) place text (there xs n) ≡ gives ((xs, sets_comment place text) ∷ []) =
+      ap (λ (b : Bool). if b then gives ((xs, sets_comment place text) ∷ []) else refuses NoPlaceForComment) room in
+      let one : changes_in u 0 (rooms 0) d.root ≡ gives ((xs, sets_comment place text) ∷ []) =
+      ap (and_then (changes_at 0 (rooms 0) d.root u)) (place_found left xs d.root n tree fixed at)
+      ∙ at_one d.root (comment_at (rooms 0) place text) (there xs n) (xs, sets_comment place text) here (allowed_so d.root (xs, sets_comment place text) refl refl refl) in
+      plan_one u rooms d (xs, sets_comment place text) can one
+
+  -- an update of one node at a fixed path that is there plans its operation
+  pub fixed_plans : (u : Update) (op : Operation) → IsFixedOp u op → FindsNode rooms (d ∷ []) op → plan u rooms (d ∷ []) ≡ gives (op ∷ [])
+  fixed_plans u (operations.replace doc xs v) h r =
+      let at = in_document xs (subst (λ (k : ℕ). LeadsToOne (d ∷ []) k xs) h.first r) in
+      let near : is_too_deep (length xs) (replaces (scalar None h.kind h.text)) ≡ false = near_enough (length xs) h.near in
+      ap (λ (w : Update). plan w rooms (d ∷ [])) (h.is ∙ ap (λ (w : Node). assign h.left operator.Set (literal w ∷ [])) h.scalar)
+      ∙ (put_planned h.left xs at.0 (scalar None h.kind h.text) h.fixed at.1 refl near
+      ∙ (λ i. gives (operations.replace (sym h.first i) xs (sym h.scalar i) ∷ [])))
+  fixed_plans u (operations.append doc xs k v) h r = absurd h
+  fixed_plans u (operations.remove doc xs) h r =
+      let at = in_document xs (subst (λ (k : ℕ). LeadsToOne (d ∷ []) k xs) h.first r) in
+      ap (λ (w : Update). plan w rooms (d ∷ [])) h.is ∙ (removal_planned h.left xs at.0 h.below h.fixed at.1 ∙ (λ i. gives (operations.remove (sym h.first i) xs ∷ [])))
+  fixed_plans u (operations.line_comment doc xs text) h r =
+      let at = in_document xs (subst (λ (k : ℕ). LeadsToOne (d ∷ []) k xs) h.first r.0) in
+      let room = subst (λ (k : ℕ). (rooms k).has comments.Line xs ≡ true) h.first r.1 in
+      ap (λ (w : Update). plan w rooms (d ∷ [])) h.is ∙ (comment_planned h.left xs at.0 comments.Line text h.can h.fixed at.1 room ∙ (λ i. gives (operations.line_comment (sym h.first i) xs text ∷ [])))
+  fixed_plans u (operations.head_comment doc xs text) h r =
+      let at = in_document xs (subst (λ (k : ℕ). LeadsToOne (d ∷ []) k xs) h.first r.0) in
+      let room = subst (λ (k : ℕ). (rooms k).has comments.Head xs ≡ true) h.first r.1 in
+      ap (λ (w : Update). plan w rooms (d ∷ [])) h.is ∙ (comment_planned h.left xs at.0 comments.Head text h.can h.fixed at.1 room ∙ (λ i. gives (operations.head_comment (sym h.first i) xs text ∷ [])))
+
+-- ---- on a text
+
+-- the documents of a text that reads are ready
+pub text_ready : (t : List ℕ) → read_at t ≡ Some (cut_of t) → AreReady (room_of t) 0 (documents_of t)
+text_ready t is = rooms_are_ready t (read_ready shaped_by_lines shaped_is_tree t (documents_of t) (read_takes t (cut_of t) is))
+
+pub fixed_only : (t : List ℕ) (u : Update) (op : Operation) → read_at t ≡ Some (cut_of t) → IsSole (documents_of t) → IsFixedOp u op → FindsNode (room_of t) (documents_of t) op → PlansOnly u t op
+fixed_only t u op is sole h r =
+    let ready : AreReady (room_of t) 0 (sole.document ∷ []) = subst (AreReady (room_of t) 0) sole.is (text_ready t is) in
+    ap (λ (ds : List Document). plan u (room_of t) ds) sole.is
+    ∙ fixed_plans (room_of t) sole.document ready.0.0 sole.free u op h (subst (λ (ds : List Document). FindsNode (room_of t) ds op) sole.is r)
+
+-- a node of a document that is there
+pub one_there : (t : List ℕ) (doc : ℕ) (xs : List Step) → is_some (node_in doc xs (cut_of t)) ≡ true → LeadsToOne (documents_of t) doc xs
+one_there t doc xs h = go (slice_get (documents_of t) doc) refl h
+  where
+    at_it : (d : Document) → slice_get (documents_of t) doc ≡ Some d → (o : Option Node) → node_at xs d.root ≡ o → is_some o ≡ true → LeadsToOne (documents_of t) doc xs
+    at_it d is None at h = absurd (false≢true h)
+    at_it d is (Some n) at h = record { document = d; there = is; node = n; at = at }
+
+    go : (o : Option Document) → slice_get (documents_of t) doc ≡ o → is_some (o >>= λ d. node_at xs d.root) ≡ true → LeadsToOne (documents_of t) doc xs
+    go None is h = absurd (false≢true h)
+    go (Some d) is h = at_it d is (node_at xs d.root) refl h
+
+-- documents of which one is read, without aliases
+pub sole_of : (docs : List Document) (d : Document) → docs ≡ d ∷ [] → list_any is_reference (names_of d.root) ≡ false → IsSole docs
+sole_of docs d is unreferred = record { document = d; is = is; free = λ n. none_used (names_of d.root) (names_of n) (λ k. none_refer (names_of d.root) k unreferred) }
+
+-- ---- after an update
+
+-- what was chosen
+chosen_so : {A : Type 0} (b : Bool) (j : Judgement A) (x : A) → (if b then j else refuses BadCommentText) ≡ gives x → (b ≡ true) × (j ≡ gives x)
+chosen_so true j x h = (refl, h)
+chosen_so false j x h = absurd (cc)
+
+-- an update brings no alias into the one document
+pub sole_stays : (u : Update) (rooms : ℕ → Room) (docs after : List Document) → AreReady rooms 0 docs → UpdatesHold (u ∷ []) → meaning u rooms docs ≡ gives after → IsSole docs → IsSole after
+sole_stays u rooms docs after ready holds meant sole =
+    let d : Document = sole.document in
+    let one : meaning u rooms (d ∷ []) ≡ gives after = ap (λ (ds : List Document). meaning u rooms ds) (sym sole.is) ∙ meant in
+    let tree : IsTree d.root = (subst (AreReady rooms 0) sole.is ready).0.0 in
+    let x = then_gives (λ (css : List (List Changed)). gives (all_changed rooms 0 css (d ∷ []))) (update_changes u rooms (d.root ∷ [])) after one in
+    let chosen = chosen_so (has_comment u) (and_then (λ a. and_then (λ b. gives (a ∷ b)) (gives [])) (changes_in u 0 (rooms 0) d.root)) x.0 x.1 in
+    let y = then_gives (λ a. and_then (λ b. gives (a ∷ b)) (gives [])) (changes_in u 0 (rooms 0) d.root) x.0 chosen.1 in
+    let cs : List Changed = y.0 in
+    let is : after ≡ changed_at_once (rooms 0).block cs d ∷ [] = sym (gives_same x.2) ∙ ap (λ (css : List (List Changed)). all_changed rooms 0 css (d ∷ [])) (sym (gives_same y.2)) in
+    let fit = update_fit u 0 (rooms 0) d.root cs tree holds chosen.0 y.1 in
+    let brings : AllWriteNone cs = each_weaker (λ (c : Changed). MayChange (rooms 0) d.root c × WritesNone c.1) (λ (c : Changed). WritesNone c.1) (λ c both. both.1) cs fit in
+    record {
+      document = changed_at_once (rooms 0).block cs d;
+      is = is;
+      free = λ n. in_less (changed_at_once (rooms 0).block cs d).root d.root (at_once_no_more (done_by (map (placed_edit (rooms 0).block d.lead) cs)) (all_bring (rooms 0).block d.lead cs brings) d.root) (Some n) (sole.free n);
+    }
+
+-- ---- what calls answer
+
+-- one document of a text, without aliases
+pub sole_by : (docs : List Document) → length docs ≡ 1 → ((d : Document) → slice_get docs 0 ≡ Some d → list_any is_reference (names_of d.root) ≡ false) → IsSole docs
+sole_by [] one all = absurd (omega (arith, one))
+sole_by (d ∷ []) one all = sole_of (d ∷ []) d refl (all d refl)
+sole_by (d ∷ (e ∷ ds)) one all = absurd (omega (arith, one))
+
+-- what isn't so
+pub not_so : (b : Bool) → not b ≡ true → b ≡ false
+not_so true h = absurd (false≢true h)
+not_so false h = refl
+
+-- of two things of which the same is known, one is there where the other is
+both_there : {A B C : Type 0} (f : A → C) (g : B → C) (a : Option A) (b : Option B) → option_map f a ≡ option_map g b → is_some a ≡ true → is_some b ≡ true
+both_there f g None b e h = absurd (false≢true h)
+both_there f g (Some x) None e h = absurd (none-some _ (sym e))
+both_there f g (Some x) (Some y) e h = refl
+
+-- a node of which something is known in a text
+pub leads_so : {A : Type 0} (f : A → NodeAt) (o : Option A) (t u : List ℕ) (doc : ℕ) (xs ys : List Step) → u ≡ t → ys ≡ xs → option_map f o ≡ option_map node_summary (node_in doc ys (cut_of u)) → is_some o ≡ true →
+    LeadsToOne (documents_of t) doc xs
+leads_so f o t u doc xs ys text steps e h =
+    one_there t doc xs (subst (λ (x : List ℕ). is_some (node_in doc xs (cut_of x)) ≡ true) text
+    (subst (λ (z : List Step). is_some (node_in doc z (cut_of u)) ≡ true) steps (both_there f node_summary o (node_in doc ys (cut_of u)) e h)))
+
+-- the steps of a pipe that is one path
+pub fixed_by : (own : List declared_step.PathStep) (steps : List core_step.Step) → AreFixed own steps → map fixed_step (map program_step own) ≡ map (λ s. Some s) (map tree_step steps)
+fixed_by own steps h = map-map fixed_step program_step own ∙ (h ∙ sym (map-map (λ s. Some s) tree_step steps))
+
+-- steps of which there are some
+pub some_below : (xs : List core_step.Step) (b : Bool) → b ≡ (length xs == 0) → b ≡ false → IsBelow (map tree_step xs)
+some_below [] b is none_there = absurd (false≢true (sym none_there ∙ is))
+some_below (x ∷ xs) b is none_there = tt
+
+-- an update that sets a comment at a fixed path
+pub comments_one : (u : Update) (left own : List Stage) (doc : ℕ) (steps : List Step) (place given : CommentPlace) (text written : List ℕ) → u ≡ comment own given text → given ≡ place → written ≡ text → doc ≡ 0 →
+    IsFixed left steps → left ≡ own → has_comment u ≡ true → CommentsOne u doc steps place written
+comments_one u left own doc steps place given text written is put same first fixed_left mine can =
+    let all : u ≡ comment own place written = is ∙ (λ i. comment own (put i) (sym same i)) in
+    record { left = own; is = all; first = first; fixed = subst (λ (l : List Stage). IsFixed l steps) mine fixed_left; can = sym (ap has_comment all) ∙ can }
+
+-- what is so of the steps, or of the scalar, that are there
+pub alone_by : (pipe : List declared_stage.Stage) (o : Option (Bor (List declared_step.PathStep))) (x : Bor (List declared_step.PathStep)) → o ≡ Some x →
+    IfSome o (λ y. map stage_of pipe ≡ path (map program_step y.now) ∷ []) → map stage_of pipe ≡ path (map program_step x.now) ∷ []
+alone_by pipe o x is h = subst (λ z. IfSome z (λ y. map stage_of pipe ≡ path (map program_step y.now) ∷ [])) is h
+
+pub term_by : (right : List declared_term.Term) (o : Option (Bor ScalarText)) (x : Bor ScalarText) → o ≡ Some x →
+    IfSome o (λ y. map term_of right ≡ literal (scalar None y.now.kind y.now.text) ∷ []) → map term_of right ≡ literal (scalar None x.now.kind x.now.text) ∷ []
+term_by right o x is h = subst (λ z. IfSome z (λ y. map term_of right ≡ literal (scalar None y.now.kind y.now.text) ∷ [])) is h
