@@ -4,8 +4,7 @@ use Rattle.yq_documents.specs.Reading.{cut_of, documents, read_at}
 use Rattle.yq_semantics.{specs.Operations.{Operation, operations_of}, specs.declared.op.Op.Op, specs.View.program_of}
 use Rattle.yq_edit_laws.{specs.Answers.Edits, specs.Carried.carry_all, specs.Edit.edit_after, specs.Valid.{AreServed, HaveOperands}}
 use Rattle.yq_edit_laws.proofs.MeaningLaws.{plan_serves}
-use Rattle.yq_edit_laws.proofs.UpdateLaws.{update_unplanned, update_planned, update_holds, update_there, update_ok}
-use Rattle.yq_edit_laws.proofs.UpdateLaws.{update_err}
+use Rattle.yq_edit_laws.proofs.UpdateLaws.{update_unplanned, update_planned, update_holds, update_there, update_ok, update_err}
 use Rattle.yq_splice.proofs.PartLaws.{weighing_fails}
 use Rattle.yq_splice.proofs.editing.step.Goals as goal
 

@@ -1,5 +1,5 @@
-use Rattle.std.proofs.Common.{◌≡◌, List, ℕ, sym, ap, ◌∙◌, subst, IfSome}
-use Rattle.std.{proofs.lemmas.Result.err_from_is_err_and, specs.String.string_bytes}
+use Rattle.std.{proofs.Common.{◌≡◌, List, ℕ, sym, ap, ◌∙◌, subst, IfSome}, proofs.lemmas.Result.err_from_is_err_and}
+use Rattle.std.specs.String.{string_bytes}
 use Rattle.yq_documents.specs.Reading.{documents_of, read_at}
 use Rattle.yq_semantics.specs.View.{program_of}
 use Rattle.yq_expr.specs.FixedPaths.{IsSole, PlansAlone}

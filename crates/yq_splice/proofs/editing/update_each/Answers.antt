@@ -1,5 +1,4 @@
-use Rattle.std.{proofs.Common.{◌≡◌, ℕ, List, refl, sym, subst, arith}, specs.String.string_bytes}
-use Rattle.std.proofs.lemmas.Result.{err_from_is_err_and}
+use Rattle.std.{proofs.Common.{◌≡◌, ℕ, List, refl, sym, subst, arith}, specs.String.string_bytes, proofs.lemmas.Result.err_from_is_err_and}
 use Rattle.yq_semantics.{specs.Program.update_count, specs.View.program_of}
 use Rattle.yq_splice.{specs.Updates.HaveLed, proofs.AnswerLaws.all_done_so}
 use Rattle.yq_splice.proofs.editing.update_each.Goals as goal

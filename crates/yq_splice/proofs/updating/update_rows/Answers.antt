@@ -1,4 +1,4 @@
-use Rattle.std.{proofs.Common.{List, ℕ, sym, ap, ◌∙◌, subst}}
+use Rattle.std.proofs.Common.{List, ℕ, sym, ap, ◌∙◌, subst}
 use Rattle.yq_documents.specs.Reading.{cut_of, documents_of, read_at}
 use Rattle.yq_row_table.specs.Kept.{IsPlaced}
 use Rattle.yq_semantics.specs.View.{program_of}
