@@ -21,6 +21,9 @@ IN_PARTS = ".[] = ."
 # Texts of which each removal leaves the lines between two entries.
 LEAVING_LINES = ["blank literals", "entries between blank lines", "items between comments"]
 UPDATES, SERVICES = 200, 200_000
+# Of each of three levels, and of the sequence below them.
+MANY = 16_000
+PLACES = ".z.z.z[]"
 
 
 def runs(folder, wanted, size=SIZE):
@@ -62,3 +65,13 @@ def check_a_program_does_not_read_its_text_for_each_update(folder):
     program = " | ".join(f"{path} = {n}" for n in range(UPDATES))
     read, spent = (min(used_by([folder.yq, it, "f"], folder.path)[0] for _ in range(3)) for it in (path, program))
     equal(spent < read * UPDATES / 5, True, (read, spent))
+
+
+def check_paths_through_long_collections(folder):
+    """The way to each place goes on from that to the one before it, in all collections that it passes."""
+    levels = ["".join("  " * level + f"p{n}: 1\n" for n in range(MANY)) + "  " * level + "z:\n" for level in range(3)]
+    folder.write("f", ("".join(levels) + "".join(f"      - {n}\n" for n in range(MANY))).encode())
+    updates = [PLACES + then for then in (" = 77", " += 1", " = [1, 2]", ' line_comment = "x"', ' head_comment = "x"')]
+    for update in (*updates, f"del({PLACES})"):
+        status, seconds, _megabytes = hostile.used(folder.yq, folder.name("f"), update, 2 * SECONDS)
+        equal((status, seconds <= SECONDS), (0, True), (update, seconds))

@@ -17,7 +17,7 @@ use std::alloc::{AllocError, Global};
 use yq_block_edits::{comment_written, is_kept_in_row};
 use yq_core::{Place, Value};
 use yq_documents::Path;
-use yq_edit_laws::{EditError, on_the_way, operand_holds};
+use yq_edit_laws::{EditError, operand_holds};
 use yq_edit_rules::{is_filled, value_text};
 use yq_lookup::CutText;
 use yq_places::HeldRow;
@@ -138,11 +138,11 @@ fn row_put(alloc: Global, cut: &mut CutText<'_, '_>, op: &Op) -> Result<Option<R
 {
     operand_holds(op);
     match op {
-        Op::Replace(path, value) => match cut.to_held_row(path) {
+        Op::Replace(path, value) => match cut.to_held_row(alloc, path) {
             Some(at) => value_in_row(alloc, cut, path, &at, value),
             None => Ok(None),
         },
-        Op::LineComment(path, text) => match cut.to_held_row(path) {
+        Op::LineComment(path, text) => match cut.to_held_row(alloc, path) {
             Some(at) => comment_in_row(alloc, cut, path, &at, text),
             None => Ok(None),
         },
@@ -226,7 +226,7 @@ pub fn carry_in_rows<'d>(
         return Ok(None);
     }
     let text = cut.text();
-    let mut way = on_the_way(cut, first);
+    let mut way = cut.again();
     let mut run = PutRun::with_room(alloc, text.len(), ops.len())?;
     let mut last = None;
     let mut rest = ops;

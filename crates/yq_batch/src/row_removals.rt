@@ -103,7 +103,7 @@ fn take_rows<'d>(
     ensures stays { IfOk result (λ o. o ≡ None → run.new ≡ run.old) }
     ensures err { IfErr result (λ e. spec.FailsOn e (spec.removal_of path.now) run.old) }
 {
-    *cut = cut.to_line(path);
+    cut.go_to_line(alloc, path);
     let _text = cut.text();
     let Some(removal) = cut.removal(path) else {
         return Ok(None);
@@ -181,7 +181,7 @@ fn remove_rows<'d>(
     ensures ok { IfOk result (λ x. spec.CarriesFirst ops.now cut.now x) }
     ensures err { IfErr result (λ e. EditFails e (carry_all (operations_of ops.now) cut.now)) }
 {
-    let mut way = CutText::resumed(cut.whole(), cut.rows(), cut.known());
+    let mut way = cut.again();
     let mut run = untouched(alloc, cut.text())?;
     let mut least = Some(0);
     let mut rest = ops;
@@ -197,7 +197,11 @@ fn remove_rows<'d>(
 
 /// The collection out of which the first two of some operations take an item or entry, if that has lines of
 /// its own.
-fn common_collection<'d>(cut: &CutText<'d, '_>, ops: &'d [Op]) -> Option<(usize, &'d [Step])> {
+fn common_collection<'d>(
+    alloc: Global,
+    cut: &CutText<'d, '_>,
+    ops: &'d [Op],
+) -> Option<(usize, &'d [Step])> {
     let [op, next, ..] = ops else {
         return None;
     };
@@ -206,7 +210,9 @@ fn common_collection<'d>(cut: &CutText<'d, '_>, ops: &'d [Op]) -> Option<(usize,
     };
     let (above, _) = last_step(&path.steps)?;
     taken_from(next, path.doc, above)?;
-    cut.to_line(path).removal(path)?;
+    let mut way = cut.again();
+    way.go_to_line(alloc, path);
+    way.removal(path)?;
     Some((path.doc, above))
 }
 
@@ -222,7 +228,7 @@ pub fn carry_beside<'d>(
     ensures ok { IfOk result (λ o. IfSome o (λ x. spec.CarriesFirst ops.now cut.now x)) }
     ensures err { IfErr result (λ e. EditFails e (carry_all (operations_of ops.now) cut.now)) }
 {
-    let Some((doc, above)) = common_collection(cut, ops) else {
+    let Some((doc, above)) = common_collection(alloc, cut, ops) else {
         return Ok(None);
     };
     let together = remove_rows(alloc, cut, doc, above, ops)?;

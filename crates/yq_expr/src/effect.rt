@@ -75,11 +75,16 @@ fn part(place: CommentPlace) -> Part
 
 /// Whether the text has room for a comment of what is at a place of document `doc`. What is on the way
 /// there is known then, so that the next place of the text is near.
-pub(crate) fn has_room(cut: &mut CutText<'_, '_>, path: &Path, comment: CommentPlace) -> bool
+pub(crate) fn has_room(
+    alloc: Global,
+    cut: &mut CutText<'_, '_>,
+    path: &Path,
+    comment: CommentPlace,
+) -> bool
     ensures same { cut.new ≡ cut.old }
     ensures room { result ≡ (room_of cut.old path.now.doc).has comment (steps_of path.now) }
 {
-    *cut = cut.along(path);
+    cut.go_along(alloc, path);
     cut.has_room(path, part(comment))
 }
 
@@ -100,7 +105,7 @@ fn set_comment(
     if let Missing::Further(..) = place.missing {
         return Err(ExprError::Refused(Refusal::NoPlaceForComment));
     }
-    if !has_room(cut, path, comment) {
+    if !has_room(alloc, cut, path, comment) {
         return Err(ExprError::Refused(Refusal::NoPlaceForComment));
     }
     let text = String::from_str(alloc, text)?;

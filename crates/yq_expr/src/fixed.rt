@@ -170,7 +170,7 @@ fn leads(alloc: Global, cut: &mut CutText<'_, '_>, path: &Path) -> Result<bool, 
     ensures same { cut.new ≡ cut.old }
     ensures is { IfOk result (λ b. b ≡ true → LeadsIn cut.old path.now) }
 {
-    *cut = cut.along(path);
+    cut.go_along(alloc, path);
     let node = cut.node_at(alloc, path.doc, &path.steps)?;
     Ok(node.is_some())
 }
@@ -188,7 +188,7 @@ fn leads_with_room(
     if !leads(alloc, cut, path)? {
         return Ok(false);
     }
-    Ok(has_room(cut, path, place))
+    Ok(has_room(alloc, cut, path, place))
 }
 
 /// Whether the node that an operation changes is there, with room for the comment that it sets.

@@ -8,9 +8,11 @@ ghost use Rattle.yq_places.specs.RowWalk.{HasCut, IsKnownLine, document_row_rang
 ghost use Rattle.yq_lookup.specs.KnownDocuments.{AreKnownDocuments, IsKnownStretch, AreKnownInText};
 
 use crate::known_document::{KnownDocuments, KnownStretch, find_document};
+use std::alloc::Global;
 use std::marker::Model;
+use std::mem;
 use yq_documents::Documents;
-use yq_outline::{KnownItems, Stretch};
+use yq_outline::{KnownItem, Stretch};
 use yq_places::{KnownLine, is_text};
 use yq_row_table::Rows;
 use yq_text::Halves;
@@ -20,7 +22,7 @@ use yq_text::Halves;
 pub struct CutText<'d, 't> {
     pub(crate) text: Halves<'t>,
     pub(crate) rows: &'d Rows<'t>,
-    pub(crate) known: KnownItems,
+    pub(crate) known: Option<Vec<KnownItem>>,
     pub(crate) line: Option<KnownLine<'d>>,
     pub(crate) documents: KnownDocuments,
     pub(crate) stretch: Option<KnownStretch>,
@@ -31,8 +33,8 @@ impl<'d, 't> Model for CutText<'d, 't> {
 
     ghost view = { λ c. whole c.text };
 
-    ghost invariant = { λ c. HasCut (whole c.text) c.rows.now × AreKnown c.rows.now.rows c.known ×
-        IfSome c.line (IsKnownLine c.rows.now) ×
+    ghost invariant = { λ c. HasCut (whole c.text) c.rows.now ×
+        IfSome c.known (λ v. AreKnown c.rows.now.rows v.items) × IfSome c.line (IsKnownLine c.rows.now) ×
         AreKnownInText (whole c.text) c.rows.now.bounds c.documents c.stretch };
 }
 
@@ -55,7 +57,7 @@ impl<'d, 't> CutText<'d, 't> {
         CutText {
             text: Halves::of(documents.text()),
             rows,
-            known: KnownItems::none(),
+            known: None,
             line: None,
             documents: KnownDocuments::none(),
             stretch: Some(KnownStretch { doc, rows: stretch }),
@@ -67,44 +69,66 @@ impl<'d, 't> CutText<'d, 't> {
         requires { HasCut text.now rows.now }
         ensures { result ≡ text.now }
     {
-        CutText::resumed(Halves::of(text), rows, KnownItems::none())
-    }
-
-    /// The same of a text in two halves, where items are known, as `known_in_front` gives them, from which
-    /// walks may go on.
-    pub fn resumed(text: Halves<'t>, rows: &'d Rows<'t>, known: KnownItems) -> CutText<'d, 't>
-        requires cut { HasCut (whole text) rows.now }
-        requires known { AreKnown rows.now.rows known }
-        ensures { result ≡ whole text.entry }
-    {
         CutText {
-            text,
+            text: Halves::of(text),
             rows,
-            known,
+            known: None,
             line: None,
             documents: KnownDocuments::none(),
             stretch: None,
         }
     }
 
-    /// The same text, where these items are known, and the line of a path, if that is one.
-    pub(crate) fn with_items(
-        &self,
-        known: KnownItems,
-        line: Option<KnownLine<'d>>,
-    ) -> CutText<'d, 't>
-        requires known { AreKnown (rows_view (cut_of self.now)).rows known }
-        requires line { IfSome line (IsKnownLine (rows_view (cut_of self.now))) }
+    /// The same of a text in two halves, where items are known, as `known_in_front` gives them, from which
+    /// walks may go on.
+    pub fn resumed(text: Halves<'t>, rows: &'d Rows<'t>, known: Vec<KnownItem>) -> CutText<'d, 't>
+        requires cut { HasCut (whole text) rows.now }
+        requires known { AreKnown rows.now.rows known.items }
+        ensures { result ≡ whole text.entry }
+    {
+        CutText {
+            text,
+            rows,
+            known: Some(known),
+            line: None,
+            documents: KnownDocuments::none(),
+            stretch: None,
+        }
+    }
+
+    /// The same text, where no items and no line are known.
+    pub fn again(&self) -> CutText<'d, 't>
         ensures { result ≡ self.now }
     {
         CutText {
             text: self.text,
             rows: self.rows,
-            known,
-            line,
+            known: None,
+            line: None,
             documents: self.documents,
             stretch: self.stretch,
         }
+    }
+
+    /// Takes the items that are known.
+    pub(crate) fn take_items(&mut self, alloc: Global) -> Vec<KnownItem>
+        ensures same { self.new ≡ self.old }
+        ensures known { AreKnown (rows_view (cut_of self.old)).rows result.items }
+    {
+        match mem::replace(&mut self.known, None) {
+            Some(known) => known,
+            None => Vec::new(alloc),
+        }
+    }
+
+    /// From now on these items are known, and the line of a path, if that is one.
+    pub(crate) fn put_items(&mut self, known: Vec<KnownItem>, line: Option<KnownLine<'d>>)
+        requires known { AreKnown (rows_view (cut_of self.old)).rows known.items }
+        requires line { IfSome line (IsKnownLine (rows_view (cut_of self.old))) }
+        ensures { self.new ≡ self.old }
+    {
+        self.known = Some(known);
+        self.line = line;
     }
 
     /// The same text, where these documents are known, as `documents_in_front` gives them: searches for
@@ -113,28 +137,30 @@ impl<'d, 't> CutText<'d, 't> {
         requires { AreKnownDocuments (rows_view (cut_of self)).bounds documents }
         ensures { result ≡ self.entry }
     {
+        let CutText {
+            text,
+            rows,
+            known,
+            line,
+            stretch,
+            ..
+        } = self;
         CutText {
-            text: self.text,
-            rows: self.rows,
-            known: self.known,
-            line: self.line,
+            text,
+            rows,
+            known,
+            line,
             documents,
-            stretch: self.stretch,
+            stretch,
         }
     }
 
-    /// The same text, where document `doc` is known, if there is one, and the last one before it.
-    pub(crate) fn at_document(&self, doc: usize) -> CutText<'d, 't>
-        ensures { result ≡ self.now }
+    /// From now on document `doc` is known, if there is one, and the last one before it.
+    pub(crate) fn to_document(&mut self, doc: usize)
+        ensures { self.new ≡ self.old }
     {
-        CutText {
-            text: self.text,
-            rows: self.rows,
-            known: self.known,
-            line: self.line,
-            documents: self.documents_to(doc),
-            stretch: self.stretch,
-        }
+        let documents = self.documents_to(doc);
+        self.documents = documents;
     }
 
     /// The documents that are known once document `doc` was looked for, if its rows aren't known already.
@@ -182,10 +208,13 @@ impl<'d, 't> CutText<'d, 't> {
     }
 
     /// The items that are known.
-    pub fn known(&self) -> KnownItems
-        ensures { AreKnown (rows_view (cut_of self.now)).rows result }
+    pub fn known(&self) -> &[KnownItem]
+        ensures { AreKnown (rows_view (cut_of self.now)).rows result.now }
     {
-        self.known
+        match &self.known {
+            Some(known) => known.as_slice(),
+            None => &[],
+        }
     }
 
     /// The document whose rows are known.

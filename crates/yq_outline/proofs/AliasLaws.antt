@@ -1,6 +1,6 @@
 -- Aliases of a node are in heads of its lines.
-use Rattle.std.proofs.Common.{◌≡◌, ℕ, zero, suc, ◌+◌, ltb, Bool, true, false, ◌||◌, cond, List, [], ◌∷◌, ◌++◌, drop, Option, refl, sym, ap}
-use Rattle.std.{proofs.Common.{◌∙◌, rules}, specs.List.list_any, proofs.lemmas.Bool.{false≢true, or_parts}}
+use Rattle.std.proofs.Common.{◌≡◌, ℕ, zero, suc, ltb, Bool, true, false, ◌||◌, cond, List, [], ◌∷◌, ◌++◌, drop, Option, refl, sym, ap, ◌∙◌}
+use Rattle.std.{proofs.Common.rules, specs.List.list_any, proofs.lemmas.Bool.{false≢true, or_parts}}
 use Rattle.std.proofs.lemmas.List.Folds.{list_any-append}
 use Rattle.yq_core.{specs.Tree.{Node, Children}, specs.Anchors.{Name, Anchors, Refers, anchor_names, names_of, names_in}}
 use Rattle.yq_outline.{specs.Ends.part, specs.Group.deeper_lines, specs.LinesReading.are_bound}

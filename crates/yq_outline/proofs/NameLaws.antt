@@ -1,6 +1,6 @@
 -- The anchors and aliases of a node, as those of its lines.
-use Rattle.std.proofs.Common.{◌≡◌, ℕ, ◌+◌, List, [], ◌∷◌, ◌++◌, Option, Some, None, true, refl, sym, ap, ◌∙◌, append_assoc, append-nil}
-use Rattle.std.{proofs.Common.{rules, ◌<◌, false, arith}, proofs.lemmas.Bool.{lt-ltb, cond-true, and_parts}, proofs.Math.Bool.and-false}
+use Rattle.std.proofs.Common.{◌≡◌, ℕ, List, [], ◌∷◌, ◌++◌, Option, Some, None, true, refl, sym, ap, ◌∙◌, append_assoc, append-nil, rules}
+use Rattle.std.{proofs.Common.{◌<◌, false, arith}, proofs.lemmas.Bool.{lt-ltb, cond-true, and_parts}, proofs.Math.Bool.and-false}
 use Rattle.yq_core.{specs.Tree.{Label, Node, Children, child}, specs.Anchors.{Name, anchor_names, names_of, names_in, IsNoAlias}}
 use Rattle.yq_core.specs.Inline.{depth_limit}
 use Rattle.yq_outline.{specs.LineAnchors.{MayTake, IsFree, HaveOneAnchorEach}, specs.Group.{group, level_or, is_fine, deeper_lines}}

@@ -1,6 +1,6 @@
 -- How deep the lines of rows are, by the pieces of rows.
 use Rattle.std.proofs.Common.{◌≡◌, ◌⊎◌, ℕ, zero, suc, ◌+◌, ◌%◌, ◌<◌, ◌≤◌, ltb, true, false, cond, List, [], ◌∷◌, length, take, replicate}
-use Rattle.std.proofs.Common.{Some, None, refl, arith, length-append, rules, ◌-◌, inl, inr, ◌++◌, ap, ◌&&◌}
+use Rattle.std.proofs.Common.{Some, None, refl, arith, length-append, rules, inl, inr, ◌++◌, ap, ◌&&◌}
 use Rattle.std.proofs.lemmas.Bool.{cases_lt, lt-ltb, le-ltb, cond-true, cond-false, ne_eqb}
 use Rattle.std.{proofs.lemmas.List.{length-replicate, take_all}, specs.List.slice_get, specs.Prelude.is_none}
 use Rattle.yq_core.{specs.Scalars.is_quoted, specs.Paths.is_item, specs.Plain.holds_break, specs.Quoted.IsQuotedText, specs.Text.is_empty}

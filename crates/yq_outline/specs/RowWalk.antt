@@ -1,5 +1,5 @@
 -- Reading (own; a reader may skip it): where steps lead in a document, row by row, by the pieces of rows, as the code goes.
-use Rattle.std.specs.Prelude.{◌≡◌, ℕ, suc, true, ◌+◌, ◌-◌, ◌*◌, ◌==◌, ◌<◌, ◌≤◌, nat_lt, IfSome, List, [], ◌∷◌, length, map, take, drop}
+use Rattle.std.specs.Prelude.{◌≡◌, ℕ, suc, true, ◌+◌, ◌-◌, ◌*◌, ◌==◌, ◌<◌, ◌≤◌, nat_lt, List, [], ◌∷◌, length, map, take, drop, All}
 use Rattle.std.specs.Prelude.{slice_get, Option, Some, option_and_then, option_map, if◌then◌else◌}
 use denote.Bor.{Bor}
 use Rattle.yq_core.{specs.Entries.tree_step, specs.Inline.depth_limit, specs.Keys.{are_distinct, keys_of}, specs.Paths.{Step, Nth, key_is}}
@@ -7,8 +7,8 @@ use Rattle.yq_core.specs.Text.{is_empty}
 use Rattle.yq_outline.{specs.Ends.{deeper_count, part}, specs.Group.group, specs.Outline.{Line, Outline, children, key_of}}
 use Rattle.yq_outline.{specs.Places.find_row, specs.Sound.is_sound_outline, specs.Positions.{reach_from, line_here, position}}
 use Rattle.yq_outline.{specs.Lines.lines_of_rows, specs.Extents.{dash_at, lines_before_mark}}
-use Rattle.yq_outline.{specs.declared.line_position.KnownItem.KnownItem, specs.declared.line_position.KnownItems.KnownItems}
-use Rattle.yq_outline.{specs.declared.line_position.Position.Position, specs.declared.line_position.Stretch.Stretch}
+use Rattle.yq_outline.{specs.declared.line_position.KnownItem.KnownItem, specs.declared.line_position.Position.Position}
+use Rattle.yq_outline.specs.declared.line_position.Stretch.{Stretch}
 use Rattle.yq_row_table.{specs.Grammar.{Limit, AreRows}, specs.Rows.Row, specs.View.{Slices, slices, RowsView}}
 use Rattle.yq_core.specs.declared.path.Step as declared
 use Rattle.yq_outline.specs.declared.line_position.Next as nexts
@@ -58,8 +58,8 @@ abbrev pub IsKnown : List Slices → KnownItem → Type 0
 IsKnown ss k = ArePassed (take k.row ss) k
 
 -- Items are known.
-abbrev pub AreKnown : List Slices → KnownItems → Type 0
-AreKnown ss ks = IfSome ks.far (IsKnown ss) × IfSome ks.near (IsKnown ss)
+abbrev pub AreKnown : List Slices → List KnownItem → Type 0
+AreKnown ss ks = All (IsKnown ss) ks
 
 -- An item is known that begins before a row, among the lines from one on that are deeper than a level (own).
 pub record IsKnownIn (ss : List Slices) (under : Position) (floor end : ℕ) (k : KnownItem) : Type 0 where

@@ -9,5 +9,5 @@ mod quotes;
 
 pub use laws::{exchanged, heads_joined, lines_shaped, one_node, rules};
 pub use line::{Head, ScalarContent};
-pub use line_position::{KnownItem, KnownItems, Next, Position, Stretch};
+pub use line_position::{KnownItem, Next, Position, Stretch};
 pub use quotes::between_quotes;

@@ -1,6 +1,4 @@
 //! Where lines of a document are among its rows.
-ghost use Rattle.std.specs.Prelude.{◌≡◌, ◌<◌, ◌-◌, None};
-ghost use Rattle.yq_outline.specs.Outline.{level};
 
 /// The rows of a document: those of a text from one up to another one.
 #[derive(Clone, Copy)]
@@ -31,26 +29,6 @@ pub struct KnownItem {
     pub index: usize,
     /// How many rows of the text come before the item's.
     pub row: usize,
-}
-
-/// Items from which walks over a text may go on: the two on the way of a path that passed most rows.
-#[derive(Clone, Copy)]
-pub struct KnownItems {
-    pub far: Option<KnownItem>,
-    pub near: Option<KnownItem>,
-}
-
-impl KnownItems {
-    /// No items.
-    pub fn none() -> KnownItems
-        ensures far { result.far ≡ None }
-        ensures near { result.near ≡ None }
-    {
-        KnownItems {
-            far: None,
-            near: None,
-        }
-    }
 }
 
 /// Where a step leads.

@@ -1,10 +1,10 @@
 -- Items stay known in a text that keeps what is in front.
-use Rattle.std.proofs.Common.{◌≡◌, ℕ, zero, suc, ◌+◌, ◌-◌, ◌<◌, ◌≤◌, ltb, cond, Bool, List, [], ◌∷◌, ◌++◌, length, take, Option, Some, None}
+use Rattle.std.proofs.Common.{◌≡◌, ℕ, zero, suc, ◌+◌, ◌-◌, ◌<◌, ◌≤◌, ltb, cond, Bool, true, false, List, [], ◌∷◌, ◌++◌, length, take, Some}
 use Rattle.std.{proofs.Common.{refl, ap, ◌∙◌, subst, arith, ltb-false, rules}, proofs.lemmas.List.take-append-le}
-use Rattle.std.{proofs.lemmas.Option.same_Some, specs.List.{slice_get, sum_by}, specs.Prelude.IfSome}
+use Rattle.std.{proofs.lemmas.List.Elements.All-push, proofs.lemmas.Option.same_Some, specs.List.{All, slice_get, sum_by}}
 use Rattle.yq_row_table.specs.Items.{Item, row_item, end_item, items_of_cut, rows_in_items, bounds_in_items, view_of_items}
 use Rattle.yq_row_table.{specs.Kept.near, specs.Rows.Cut, specs.Offsets.row_length, specs.RowStarts.{passed_length, row_start}}
-use Rattle.yq_row_table.{specs.Touched.{TouchesOnly, item_text, in_front}, specs.View.{Slices, slices, RowsView, rows_view}}
+use Rattle.yq_row_table.{specs.Touched.{item_text, in_front}, specs.View.{Slices, slices, RowsView, rows_view}}
 use Rattle.yq_row_table.{proofs.ItemLaws.items_view_is, proofs.NearLaws.near_at}
 use Rattle.yq_outline.{specs.RowWalk.IsKnown, specs.declared.line_position.KnownItem.KnownItem, proofs.KnownLaws.one_there}
 use Rattle.yq_places.specs.RowWalk.{StaysKnown}
@@ -65,7 +65,7 @@ pub view_stays : (s : RowsView) (k : KnownItem) (front : ℕ) → IsKnown s.rows
 view_stays s k front known within before c is =
     stays_known c k front (subst (λ (x : RowsView). IsKnown x.rows k) is known) (subst (λ (x : RowsView). k.row < length x.rows) is within) (subst (λ (x : RowsView). row_start k.row x < front) is before)
 
--- an item, if there is one, stays known in a text that keeps what is in front
-pub one_stays : (front back : ℕ) (s : RowsView) (c new : Cut) (k : Option KnownItem) → s ≡ rows_view c → IfSome k (λ x. (a : Cut) → s ≡ rows_view a → StaysKnown front a x) → TouchesOnly front back c new → IfSome k (IsKnown (rows_view new).rows)
-one_stays front back s c new None is h touched = h
-one_stays front back s c new (Some k) is h touched = h c is new back touched
+-- items, with one more if there is memory for it
+pub all_put : {A : Type 0} (P : A → Type 0) (xs : List A) (x : A) (b : Bool) → All P xs → P x → All P (cond b (xs ++ (x ∷ [])) xs)
+all_put P xs x true h g = All-push P xs x h g
+all_put P xs x false h g = h

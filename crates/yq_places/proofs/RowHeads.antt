@@ -1,5 +1,5 @@
 -- The head of a row of a text with its cut, read again.
-use Rattle.std.proofs.Common.{◌≡◌, ℕ, zero, suc, ◌+◌, ◌-◌, ◌<◌, ◌&&◌, Bool, true, List, [], ◌∷◌, ◌++◌, length, take, drop, Some, option_map}
+use Rattle.std.proofs.Common.{◌≡◌, ℕ, zero, suc, ◌-◌, ◌<◌, ◌&&◌, Bool, true, List, [], ◌∷◌, ◌++◌, length, take, drop, Some, option_map}
 use Rattle.std.{proofs.Common.{refl, sym, ap, ◌∙◌, subst, append_assoc, append-nil}, proofs.Math.Seq.drop-append_seam}
 use Rattle.std.{proofs.lemmas.Bool.{and_parts, or_right}, proofs.lemmas.List.{length-take-le, take-append-drop}}
 use Rattle.std.{proofs.lemmas.Option.{slice_get_within, slice_get-map, same_Some}, specs.List.slice_get, specs.Str.{IsUtf8, IsCharBoundary}}

@@ -1,11 +1,11 @@
 -- Reading (own; a reader may skip it): the rows of documents among those of a cut, and items that stay known in other cuts.
-use Rattle.std.specs.Prelude.{◌≡◌, ℕ, true, ◌+◌, List, [], ◌++◌, length, map, drop, slice_get, Option, Some, option_map}
+use Rattle.std.specs.Prelude.{◌≡◌, ℕ, true, ◌+◌, List, [], ◌++◌, length, map, drop, slice_get, Option, Some, option_map, All}
 use Rattle.yq_row_table.{specs.Grammar.IsCut, specs.Rows.{Row, Cut}, specs.Touched.TouchesOnly, specs.View.{rows_of, RowsView, rows_view}}
 use Rattle.yq_documents.{specs.Documents.document_parts, specs.Reading.{all_documents, cut_of}, specs.LinesInRows.document_row}
 use Rattle.yq_core.{specs.Entries.tree_step, specs.Paths.Step}
-use Rattle.yq_outline.{specs.Ends.reached, specs.Lines.lines_of_rows, specs.RowWalk.{IsKnown, AreKnown, HasDocument, IsLine, line_number}}
-use Rattle.yq_outline.{specs.declared.line_position.KnownItem.KnownItem, specs.declared.line_position.KnownItems.KnownItems}
-use Rattle.yq_outline.{specs.declared.line_position.Position.Position, specs.declared.line_position.Stretch.Stretch}
+use Rattle.yq_outline.{specs.Ends.reached, specs.Lines.lines_of_rows, specs.RowWalk.{IsKnown, HasDocument, IsLine, line_number}}
+use Rattle.yq_outline.{specs.declared.line_position.KnownItem.KnownItem, specs.declared.line_position.Position.Position}
+use Rattle.yq_outline.specs.declared.line_position.Stretch.{Stretch}
 use Rattle.yq_places.specs.declared.places.known_line.KnownLine.{KnownLine}
 
 -- An item stays known in each text in which the items of its cut stay that end in front of so many bytes.
@@ -13,8 +13,8 @@ abbrev pub StaysKnown : ℕ → Cut → KnownItem → Type 0
 StaysKnown front c k = (new : Cut) (back : ℕ) → TouchesOnly front back c new → IsKnown (rows_view new).rows k
 
 -- The same of several items.
-abbrev pub StayKnown : ℕ → Cut → KnownItems → Type 0
-StayKnown front c ks = (new : Cut) (back : ℕ) → TouchesOnly front back c new → AreKnown (rows_view new).rows ks
+abbrev pub StayKnown : ℕ → Cut → List KnownItem → Type 0
+StayKnown front c ks = All (StaysKnown front c) ks
 
 -- The line of a document to which all of these steps lead.
 pub record IsLineAt (s : RowsView) (d : Stretch) (steps : List Step) (q : Position) : Type 0 where

@@ -13,7 +13,7 @@ pub use places::flow_node::{FlowHead, collection_along};
 pub use places::halves::{is_text, split_break};
 pub use places::held::{EntryMark, Held, held_in};
 pub use places::held_row::{HeldRow, row_of_last};
-pub use places::known_at::{if_in_front, known_along, line_known, with_item};
+pub use places::known_at::{keep_in_front, known_along, line_known, put_item};
 pub use places::known_end::known_end;
 pub use places::known_line::KnownLine;
 pub use places::lines_above::{LinesAbove, above};

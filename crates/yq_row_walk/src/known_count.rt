@@ -4,7 +4,7 @@ ghost use Rattle.yq_outline.{specs.Extents.IsRowsView, specs.RowWalk.{AreKnown, 
 
 use crate::known_item::known_among;
 use crate::position::level_at;
-use yq_outline::{KnownItem, KnownItems, Position, Stretch};
+use yq_outline::{KnownItem, Position, Stretch};
 use yq_row_table::Rows;
 
 /// The first item among the lines from one on that are deeper than a level, as one that is known.
@@ -97,14 +97,14 @@ fn known_back(rows: &Rows<'_>, known: KnownItem, row: usize) -> Option<KnownItem
 pub fn known_to(
     rows: &Rows<'_>,
     document: Stretch,
-    known: KnownItems,
+    known: &[KnownItem],
     under: Position,
     floor: usize,
     row: usize,
 ) -> Option<KnownItem>
     requires rows_view { IsRowsView rows.now }
     requires document { HasDocument rows.now document }
-    requires known { AreKnown rows.now.rows known }
+    requires known { AreKnown rows.now.rows known.now }
     requires order { under.row < row }
     requires within { row < length rows.now.rows }
     ensures known { IfSome result (IsKnown rows.now.rows) }

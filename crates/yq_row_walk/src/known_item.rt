@@ -3,7 +3,7 @@ ghost use Rattle.std.specs.Prelude.{◌≡◌, ◌<◌, ◌≤◌, ◌+◌, leng
 ghost use Rattle.yq_outline.{specs.Extents.IsRowsView, specs.RowWalk.{AreKnown, GoesOn, HasDocument, IsKnownIn, IsKnown, IsPosition}};
 
 use crate::position::level_at;
-use yq_outline::{KnownItem, KnownItems, Position, Stretch};
+use yq_outline::{KnownItem, Position, Stretch};
 use yq_row_table::Rows;
 
 /// Whether an item is known among the lines from one on that are deeper than a level.
@@ -15,44 +15,27 @@ fn is_among(known: KnownItem, under: Position, floor: usize) -> bool
     known.under.row == under.row && known.under.line == under.line && known.floor == floor
 }
 
-/// An item that is known, if it is one of the lines of a document from one on that are deeper than a
-/// level.
-#[inline(always)]
-fn if_among(
-    rows: &Rows<'_>,
-    document: Stretch,
-    under: Position,
-    floor: usize,
-    known: Option<KnownItem>,
-) -> Option<KnownItem>
-    requires known { IfSome known (IsKnown rows.now.rows) }
-    ensures { IfSome result (IsKnownIn rows.now.rows under floor document.end) }
-{
-    let _rows = rows;
-    let known = known?;
-    if !is_among(known, under, floor) || known.row >= document.end {
-        return None;
-    }
-    Some(known)
-}
-
 /// The item that is known among the lines of a document from one on that are deeper than a level.
 #[inline(always)]
 pub fn known_among(
     rows: &Rows<'_>,
     document: Stretch,
-    known: KnownItems,
+    known: &[KnownItem],
     under: Position,
     floor: usize,
 ) -> Option<KnownItem>
-    requires known { AreKnown rows.now.rows known }
+    requires known { AreKnown rows.now.rows known.now }
     ensures { IfSome result (IsKnownIn rows.now.rows under floor document.end) }
 {
-    let far = if_among(rows, document, under, floor, known.far);
-    if far.is_some() {
-        return far;
+    let _rows = rows;
+    let mut rest = known;
+    'items: while let [item, others @ ..] = rest {
+        if is_among(*item, under, floor) && item.row < document.end {
+            return Some(*item);
+        }
+        rest = others;
     }
-    if_among(rows, document, under, floor, known.near)
+    None
 }
 
 /// The item of an index that isn't after a known one's, unless it begins the collection.
@@ -96,14 +79,14 @@ pub fn item_before(rows: &Rows<'_>, known: KnownItem) -> Option<KnownItem>
 fn known_for(
     rows: &Rows<'_>,
     document: Stretch,
-    known: KnownItems,
+    known: &[KnownItem],
     under: Position,
     floor: usize,
     index: usize,
 ) -> Option<KnownItem>
     requires rows_view { IsRowsView rows.now }
     requires document { HasDocument rows.now document }
-    requires known { AreKnown rows.now.rows known }
+    requires known { AreKnown rows.now.rows known.now }
     ensures known { IfSome result (IsKnownIn rows.now.rows under floor document.end) }
     ensures index { IfSome result (λ k. k.index ≤ index) }
 {
@@ -123,14 +106,14 @@ fn known_for(
 pub fn walk_begin(
     rows: &Rows<'_>,
     document: Stretch,
-    known: KnownItems,
+    known: &[KnownItem],
     under: Position,
     floor: usize,
     index: usize,
 ) -> (Position, usize)
     requires rows_view { IsRowsView rows.now }
     requires document { HasDocument rows.now document }
-    requires known { AreKnown rows.now.rows known }
+    requires known { AreKnown rows.now.rows known.now }
     requires under { IsPosition rows.now document under }
     ensures position { IsPosition rows.now document result.0 }
     ensures found { GoesOn rows.now document floor under index result.0 result.1 }

@@ -8,7 +8,7 @@ use crate::known_count::counted;
 use crate::known_item::{item_before, known_among};
 use crate::position::level_at;
 use crate::position_marks::is_key;
-use yq_outline::{KnownItem, KnownItems, Position, Stretch};
+use yq_outline::{KnownItem, Position, Stretch};
 use yq_row_table::Rows;
 
 /// The item after one that is known, before the row where a document ends.
@@ -71,14 +71,14 @@ fn keyed(
 pub fn key_near(
     rows: &Rows<'_>,
     document: Stretch,
-    known: KnownItems,
+    known: &[KnownItem],
     under: Position,
     floor: usize,
     key: &str,
 ) -> Option<Position>
     requires rows_view { IsRowsView rows.now }
     requires document { HasDocument rows.now document }
-    requires known { AreKnown rows.now.rows known }
+    requires known { AreKnown rows.now.rows known.now }
     requires under { IsPosition rows.now document under }
     requires keys { HaveKeys rows.now document under floor }
     ensures within { IfSome result (IsLine rows.now document) }

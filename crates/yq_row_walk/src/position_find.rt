@@ -9,7 +9,7 @@ use crate::known_key::key_near;
 use crate::position::{behind, is_deeper};
 use crate::position_marks::{is_item_at, is_key};
 use yq_core::Step;
-use yq_outline::{KnownItems, Position, Stretch};
+use yq_outline::{KnownItem, Position, Stretch};
 use yq_row_table::Rows;
 
 /// The line of a key's entry among the lines of a document from one on that are deeper than a level.
@@ -40,14 +40,14 @@ pub fn find_key(
 fn find_entry(
     rows: &Rows<'_>,
     document: Stretch,
-    known: KnownItems,
+    known: &[KnownItem],
     under: Position,
     floor: usize,
     key: &str,
 ) -> Option<Position>
     requires rows_view { IsRowsView rows.now }
     requires document { HasDocument rows.now document }
-    requires known { AreKnown rows.now.rows known }
+    requires known { AreKnown rows.now.rows known.now }
     requires under { IsPosition rows.now document under }
     requires keys { HaveKeys rows.now document under floor }
     ensures within { IfSome result (IsLine rows.now document) }
@@ -66,14 +66,14 @@ fn find_entry(
 pub fn find_item(
     rows: &Rows<'_>,
     document: Stretch,
-    known: KnownItems,
+    known: &[KnownItem],
     under: Position,
     floor: usize,
     index: usize,
 ) -> Option<Position>
     requires rows_view { IsRowsView rows.now }
     requires document { HasDocument rows.now document }
-    requires known { AreKnown rows.now.rows known }
+    requires known { AreKnown rows.now.rows known.now }
     requires under { IsPosition rows.now document under }
     ensures within { IfSome result (IsLine rows.now document) }
     ensures found { Finds rows.now document under floor (steps.Nth index) result }
@@ -96,14 +96,14 @@ pub fn find_item(
 pub fn find_step(
     rows: &Rows<'_>,
     document: Stretch,
-    known: KnownItems,
+    known: &[KnownItem],
     under: Position,
     floor: usize,
     step: &Step,
 ) -> Option<Position>
     requires rows_view { IsRowsView rows.now }
     requires document { HasDocument rows.now document }
-    requires known { AreKnown rows.now.rows known }
+    requires known { AreKnown rows.now.rows known.now }
     requires under { IsPosition rows.now document under }
     requires keys { HaveKeys rows.now document under floor }
     ensures within { IfSome result (IsLine rows.now document) }

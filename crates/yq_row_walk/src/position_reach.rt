@@ -10,7 +10,7 @@ use crate::position::{is_deeper, level_at, next};
 use crate::position_find::find_step;
 use crate::position_marks::{has_head, is_bare};
 use yq_core::Step;
-use yq_outline::{KnownItems, Next, Position, Stretch};
+use yq_outline::{KnownItem, Next, Position, Stretch};
 use yq_row_table::Rows;
 
 /// Whether the first of the lines from one on that are deeper than a level is a node itself.
@@ -35,14 +35,14 @@ pub fn begins_with_node(rows: &Rows<'_>, document: Stretch, under: Position, flo
 fn next_in(
     rows: &Rows<'_>,
     document: Stretch,
-    known: KnownItems,
+    known: &[KnownItem],
     under: Position,
     floor: usize,
     step: &Step,
 ) -> Option<Next>
     requires rows_view { IsRowsView rows.now }
     requires document { HasDocument rows.now document }
-    requires known { AreKnown rows.now.rows known }
+    requires known { AreKnown rows.now.rows known.now }
     requires under { IsPosition rows.now document under }
     requires keys { HaveKeys rows.now document under floor }
     ensures within { IfSome result (λ x. IsLine rows.now document (spec.next_position x)) }
@@ -62,13 +62,13 @@ fn next_in(
 fn next_from(
     rows: &Rows<'_>,
     document: Stretch,
-    known: KnownItems,
+    known: &[KnownItem],
     at: Position,
     step: &Step,
 ) -> Option<Next>
     requires rows_view { IsRowsView rows.now }
     requires document { HasDocument rows.now document }
-    requires known { AreKnown rows.now.rows known }
+    requires known { AreKnown rows.now.rows known.now }
     requires at { IsLine rows.now document at }
     ensures within { IfSome result (λ x. IsLine rows.now document (spec.next_position x)) }
     ensures found { LeadsTo rows.now document (λ ls n ss. positions.reach_from ls (Some (n at))
@@ -86,13 +86,13 @@ fn next_from(
 pub fn next_at(
     rows: &Rows<'_>,
     document: Stretch,
-    known: KnownItems,
+    known: &[KnownItem],
     from: Option<Position>,
     step: &Step,
 ) -> Option<Next>
     requires rows_view { IsRowsView rows.now }
     requires document { HasDocument rows.now document }
-    requires known { AreKnown rows.now.rows known }
+    requires known { AreKnown rows.now.rows known.now }
     requires from { IfSome from (IsLine rows.now document) }
     ensures within { IfSome result (λ x. IsLine rows.now document (spec.next_position x)) }
     ensures found { LeadsTo rows.now document (λ ls n ss. positions.reach_from ls (option_map n from)
@@ -115,12 +115,12 @@ pub fn next_at(
 pub fn reach<'s>(
     rows: &Rows<'_>,
     document: Stretch,
-    known: KnownItems,
+    known: &[KnownItem],
     steps: &'s [Step],
 ) -> Option<(Position, &'s [Step])>
     requires rows_view { IsRowsView rows.now }
     requires document { HasDocument rows.now document }
-    requires known { AreKnown rows.now.rows known }
+    requires known { AreKnown rows.now.rows known.now }
     ensures within { IfSome result (λ x. IsLine rows.now document x.0) }
     ensures found { (h : HasDocument rows.now document) →
         option_map (spec.reached_view document h.stand.rows) result ≡
@@ -144,12 +144,12 @@ pub fn reach<'s>(
 pub fn line_at(
     rows: &Rows<'_>,
     document: Stretch,
-    known: KnownItems,
+    known: &[KnownItem],
     steps: &[Step],
 ) -> Option<Position>
     requires rows_view { IsRowsView rows.now }
     requires document { HasDocument rows.now document }
-    requires known { AreKnown rows.now.rows known }
+    requires known { AreKnown rows.now.rows known.now }
     ensures within { IfSome result (IsLine rows.now document) }
     ensures found { (h : HasDocument rows.now document) →
         option_map (line_number document h.stand.rows) result ≡

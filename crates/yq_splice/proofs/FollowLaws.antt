@@ -11,7 +11,7 @@ use Rattle.yq_text.proofs.KeptSegments.{IsBetween, between}
 use Rattle.yq_row_table.{specs.Grammar.IsCut, specs.Meter.{count_after, line_count}, specs.Rows.{Cut, cut_text}, specs.Touched.TouchesOnly}
 use Rattle.yq_row_table.{specs.View.rows_view, specs.declared.places.Places.Places, proofs.MeterLaws.counted_within}
 use Rattle.yq_documents.{specs.Documents.{Document, ReadsDocuments}, specs.Reading.{documents, cut_of, read_at}, proofs.ReadLaws.parts_read}
-use Rattle.yq_outline.{specs.RowWalk.AreKnown, specs.declared.line_position.KnownItems.KnownItems}
+use Rattle.yq_outline.{specs.RowWalk.AreKnown, specs.declared.line_position.KnownItem.KnownItem}
 use Rattle.yq_places.specs.RowWalk.{StayKnown}
 use Rattle.yq_lookup.{specs.KnownDocuments.{AreKnownDocuments, DocumentsStay}, specs.declared.known_document.KnownDocuments.KnownDocuments}
 use Rattle.yq_semantics.{specs.Fits.Fits, specs.Operations.Operation, specs.Rooms.room_of}
@@ -181,18 +181,18 @@ module _ (op : Operation) (t : List ℕ) (operand : HasOperand op) (fitting : Is
       read_after : read_at new ≡ Some new_cut
       read_after = ap read_at (sym text_after) ∙ new_bytes_read
 
-      known_by : (k : KnownItems) → StayKnown kept.front (cut_of t) k → KnowsItems new k
-      known_by k stay =
-          subst (λ (d : Cut). AreKnown (rows_view d).rows k) (sym (cut_same new new_cut read_after))
-          (stay new_cut kept.back (subst (λ (d : Cut). TouchesOnly kept.front kept.back d new_cut) (sym (cut_same t c h.read)) agrees))
+      known_by : (ks : List KnownItem) → StayKnown kept.front (cut_of t) ks → KnowsItems new ks
+      known_by ks stay =
+          subst (λ (d : Cut). AreKnown (rows_view d).rows ks) (sym (cut_same new new_cut read_after))
+          (λ i k less. stay i k less new_cut kept.back (subst (λ (d : Cut). TouchesOnly kept.front kept.back d new_cut) (sym (cut_same t c h.read)) agrees))
 
       documents_by : (d : KnownDocuments) → DocumentsStay kept.front (cut_of t) d → KnowsDocuments new d
       documents_by d stay =
           subst (λ (x : Cut). AreKnownDocuments (rows_view x).bounds d) (sym (cut_same new new_cut read_after))
           (stay new_cut kept.back (subst (λ (x : Cut). TouchesOnly kept.front kept.back x new_cut) (sym (cut_same t c h.read)) agrees))
 
-      pub kept_after : (q : Places) (k : KnownItems) (d : KnownDocuments) → ArePlacesOf new q → StayKnown kept.front (cut_of t) k → DocumentsStay kept.front (cut_of t) d → HasPlaces new q × KnowsItems new k × KnowsDocuments new d
-      kept_after q k d placed stay still = (record { cut = new_cut; read = read_after; placed = placed new_cut is_cut }, known_by k stay, documents_by d still)
+      pub kept_after : (q : Places) (ks : List KnownItem) (d : KnownDocuments) → ArePlacesOf new q → StayKnown kept.front (cut_of t) ks → DocumentsStay kept.front (cut_of t) d → HasPlaces new q × KnowsItems new ks × KnowsDocuments new d
+      kept_after q ks d placed stay still = (record { cut = new_cut; read = read_after; placed = placed new_cut is_cut }, known_by ks stay, documents_by d still)
 
       pub scans : (count before after : ℕ) → count ≡ before → CountsWritten t new kept count after → Scans op t new x.splices.items before after
       scans count before after is counts =

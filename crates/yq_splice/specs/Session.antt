@@ -4,7 +4,7 @@ use Rattle.yq_core.{specs.declared.fault.FaultKind.TheVariants.NotUtf8, specs.de
 use Rattle.yq_row_table.{specs.Kept.IsPlaced, specs.Meter.{count_after, line_count}, specs.Rows.Cut, specs.Touched.TouchesOnly}
 use Rattle.yq_row_table.{specs.Items.items_of_cut, specs.View.rows_view, specs.declared.places.Places.Places}
 use Rattle.yq_documents.specs.Reading.{cut_of, read_at}
-use Rattle.yq_outline.{specs.RowWalk.AreKnown, specs.declared.line_position.KnownItems.KnownItems}
+use Rattle.yq_outline.{specs.RowWalk.AreKnown, specs.declared.line_position.KnownItem.KnownItem}
 use Rattle.yq_lookup.{specs.KnownDocuments.AreKnownDocuments, specs.declared.known_document.KnownDocuments.KnownDocuments}
 use Rattle.yq_semantics.specs.Operations.{Operation}
 use Rattle.yq_text.{specs.Script.{Segment, kept_front, kept_back, new_text}, specs.Splice.Splice}
@@ -26,7 +26,7 @@ pub record HasPlaces (t : List ℕ) (places : Places) : Type 0 where
   pub placed : IsPlaced places (rows_view cut)
 
 -- items that are kept are known among the rows of a text (own)
-abbrev pub KnowsItems : List ℕ → KnownItems → Type 0
+abbrev pub KnowsItems : List ℕ → List KnownItem → Type 0
 KnowsItems t known = AreKnown (rows_view (cut_of t)).rows known
 
 -- documents that are kept are known in a text (own)

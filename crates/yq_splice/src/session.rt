@@ -20,8 +20,8 @@ use yq_core::ReadError;
 use yq_edit_laws::{EditError, operand_holds};
 use yq_expr::{Program, plan_by_rows};
 use yq_lookup::{CutText, KnownDocuments};
-use yq_operation::{carry_one, change_one};
-use yq_outline::KnownItems;
+use yq_operation::{carry_along, change_one};
+use yq_outline::KnownItem;
 use yq_row_table::Places;
 use yq_rows::{Kept, Meter, count_lines, follow};
 use yq_semantics::Op;
@@ -31,13 +31,13 @@ use yq_tree::read;
 /// A text that reads, kept with where its rows are, both on two sides of where it was changed last: so that
 /// operations are applied to it one after the other, each passes what is between its place and the last
 /// one's, and of the rows only those that it touches are read again. The way to the next one's place goes on
-/// from an item on the way of the last one.
+/// from the items on the way of the last one.
 #[derive(Drop)]
 pub struct Session {
     alloc: Global,
     text: TextGapBuffer,
     places: Places,
-    known: KnownItems,
+    known: Vec<KnownItem>,
     documents: KnownDocuments,
     meter: Meter,
 }
@@ -51,7 +51,7 @@ impl Model for Session {
     ghost view = { λ s. record { text = buffer_text s.text; scanned = s.meter } };
 
     ghost invariant = { λ s. HasPlaces (buffer_text s.text) s.places ×
-        KnowsItems (buffer_text s.text) s.known ×
+        KnowsItems (buffer_text s.text) s.known.items ×
         KnowsDocuments (buffer_text s.text) s.documents };
 }
 
@@ -75,7 +75,7 @@ impl Session {
             alloc,
             text,
             places,
-            known: KnownItems::none(),
+            known: Vec::new(alloc),
             documents: KnownDocuments::none(),
             meter,
         })
@@ -90,7 +90,7 @@ impl Session {
             alloc,
             text: TextGapBuffer::of(text),
             places,
-            known: KnownItems::none(),
+            known: Vec::new(alloc),
             documents: KnownDocuments::none(),
             meter: Meter::new(),
         }
@@ -98,20 +98,24 @@ impl Session {
 
     /// What an operation changes in the text, and what is known of its way after it, from which the
     /// next one may go on.
-    fn change(&mut self, op: &Op) -> Result<(ChangedMiddle, KnownItems, KnownDocuments), EditError>
+    fn change(
+        &mut self,
+        op: &Op,
+    ) -> Result<(ChangedMiddle, Vec<KnownItem>, KnownDocuments), EditError>
         ensures same { self.new ≡ self.old }
         ensures ok { IfOk result (λ x. IsChange (segments_by (operation_of op.now)
             (cut_of self.old.text)) x.0) }
-        ensures known { IfOk result (λ x. StayKnown x.0.front (cut_of self.old.text) x.1) }
+        ensures known { IfOk result (λ x. StayKnown x.0.front (cut_of self.old.text) x.1.items) }
         ensures documents { IfOk result (λ x. DocumentsStay x.0.front (cut_of self.old.text) x.2) }
         ensures err { IfErr result (λ e. EditFails e (carried (operation_of op.now) self.old.text)) }
     {
         let places = mem::replace(&mut self.places, Places::new(self.alloc));
+        let known = mem::replace(&mut self.known, Vec::new(self.alloc));
         self.text.move_split(places.split);
         let text = self.text.halves();
         let rows = places.rows(text);
-        let cut = CutText::resumed(text, &rows, self.known).with_documents(self.documents);
-        let changed = change_one(self.alloc, &cut, op);
+        let mut cut = CutText::resumed(text, &rows, known).with_documents(self.documents);
+        let changed = change_one(self.alloc, &mut cut, op);
         self.places = rows.into_places();
         changed
     }
@@ -125,12 +129,13 @@ impl Session {
         ensures plans { IfAny result (PlansAlone nth program.now self.old.text) }
     {
         let places = mem::replace(&mut self.places, Places::new(self.alloc));
+        let known = mem::replace(&mut self.known, Vec::new(self.alloc));
         self.text.move_split(places.split);
         let text = self.text.halves();
         let rows = places.rows(text);
-        let mut cut = CutText::resumed(text, &rows, self.known).with_documents(self.documents);
+        let mut cut = CutText::resumed(text, &rows, known).with_documents(self.documents);
         let planned = plan_by_rows(self.alloc, &mut cut, program, nth);
-        let known = cut.known();
+        let known = cut.known_in_front(self.alloc, usize::MAX);
         self.places = rows.into_places();
         self.known = known;
         planned
@@ -226,8 +231,8 @@ impl Session {
         text.move_split(places.split);
         let halves = text.halves();
         let rows = places.rows(halves);
-        let cut = CutText::resumed(halves, &rows, known).with_documents(documents);
-        let edited = carry_one(alloc, &cut, op)?;
+        let mut cut = CutText::resumed(halves, &rows, known).with_documents(documents);
+        let edited = carry_along(alloc, &mut cut, op)?;
         Ok(edited_behind(splices, edited)?)
     }
 }

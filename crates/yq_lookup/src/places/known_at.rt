@@ -1,100 +1,118 @@
-//! The item on the way of a path from which a later walk may go on.
-ghost use Rattle.std.specs.Prelude.{◌≡◌};
+//! The items on the way of a path from which later walks may go on.
+ghost use Rattle.std.specs.Prelude.{◌≡◌, IfSome};
+ghost use Rattle.yq_row_table.specs.View.{rows_view};
 ghost use Rattle.yq_documents.specs.Reading.{cut_of};
-ghost use Rattle.yq_places.specs.RowWalk.{StayKnown};
+ghost use Rattle.yq_outline.specs.RowWalk.{AreKnown};
+ghost use Rattle.yq_places.specs.RowWalk.{IsKnownLine, StayKnown};
 ghost use Rattle.yq_lookup.specs.KnownDocuments.{DocumentsStay};
 
 use crate::cut_text::CutText;
 use crate::known_document::{KnownDocuments, document_in_front};
+use std::alloc::Global;
 use yq_documents::Path;
-use yq_outline::KnownItems;
-use yq_places::{if_in_front, known_along, known_end, line_known, with_item};
+use yq_outline::KnownItem;
+use yq_places::{KnownLine, keep_in_front, known_along, known_end, line_known, put_item};
 
 impl<'d, 't> CutText<'d, 't> {
-    /// The same text, where the document of a path is known, and of the items and entries on its way those
-    /// that passed most rows: walks along the path go on from there.
+    /// Puts the items on the way of a path in the place of the items that are known.
     #[inline(always)]
-    pub fn along(&self, path: &Path) -> CutText<'d, 't>
-        ensures { result ≡ self.now }
-    {
-        self.at_document(path.doc).along_rows(path)
-    }
-
-    /// The same, where the document is known already.
-    #[inline(always)]
-    fn along_rows(&self, path: &Path) -> CutText<'d, 't>
-        ensures { result ≡ self.now }
+    fn items_along(&self, known: &mut Vec<KnownItem>, path: &Path)
+        requires { AreKnown (rows_view (cut_of self.now)).rows known.old.items }
+        ensures { AreKnown (rows_view (cut_of self.now)).rows known.new.items }
     {
         let _whole = self.whole();
         let rows = self.rows();
         let Some(document) = self.stretch(path.doc) else {
-            return self.with_items(KnownItems::none(), None);
+            return;
         };
-        let (known, _) = known_along(rows, document, self.known(), &path.steps);
-        self.with_items(known, None)
+        let _ = known_along(rows, document, known, &path.steps);
     }
 
-    /// The same, where the line to which the path leads is known as well, if none of its steps goes on in
-    /// the head of one.
+    /// The same, and gives the line to which the path leads, if none of its steps goes on in the head of one.
     #[inline(always)]
-    pub fn to_line(&self, path: &'d Path) -> CutText<'d, 't>
-        ensures { result ≡ self.now }
-    {
-        self.at_document(path.doc).to_line_of(path)
-    }
-
-    /// The same, where the document is known already.
-    #[inline(always)]
-    fn to_line_of(&self, path: &'d Path) -> CutText<'d, 't>
-        ensures { result ≡ self.now }
+    fn line_along(&self, known: &mut Vec<KnownItem>, path: &'d Path) -> Option<KnownLine<'d>>
+        requires { AreKnown (rows_view (cut_of self.now)).rows known.old.items }
+        ensures known { AreKnown (rows_view (cut_of self.now)).rows known.new.items }
+        ensures line { IfSome result (IsKnownLine (rows_view (cut_of self.now))) }
     {
         let _whole = self.whole();
         let rows = self.rows();
-        let Some(document) = self.stretch(path.doc) else {
-            return self.with_items(KnownItems::none(), None);
-        };
-        let (known, at) = known_along(rows, document, self.known(), &path.steps);
+        let document = self.stretch(path.doc)?;
+        let (_, at) = known_along(rows, document, known, &path.steps);
+        line_known(rows, document, &path.steps, at)
+    }
+
+    /// The same, and puts the last row of the collection at the path after the items. It is looked for from an
+    /// item of that on that is known.
+    fn end_along(&self, known: &mut Vec<KnownItem>, path: &'d Path) -> Option<KnownLine<'d>>
+        requires { AreKnown (rows_view (cut_of self.now)).rows known.old.items }
+        ensures known { AreKnown (rows_view (cut_of self.now)).rows known.new.items }
+        ensures line { IfSome result (IsKnownLine (rows_view (cut_of self.now))) }
+    {
+        let _whole = self.whole();
+        let rows = self.rows();
+        let document = self.stretch(path.doc)?;
+        let (count, at) = known_along(rows, document, known, &path.steps);
         let line = line_known(rows, document, &path.steps, at);
-        self.with_items(known, line)
-    }
-
-    /// The same, where the end of the collection at the path is known as well. It is looked for from an item
-    /// of that on that is known.
-    pub fn to_end(&self, path: &'d Path) -> CutText<'d, 't>
-        ensures { result ≡ self.now }
-    {
-        self.at_document(path.doc).to_end_of(path)
-    }
-
-    /// The same, where the document is known already.
-    #[inline(always)]
-    fn to_end_of(&self, path: &'d Path) -> CutText<'d, 't>
-        ensures { result ≡ self.now }
-    {
-        let _whole = self.whole();
-        let rows = self.rows();
-        let Some(document) = self.stretch(path.doc) else {
-            return self.with_items(KnownItems::none(), None);
-        };
-        let (known, at) = known_along(rows, document, self.known(), &path.steps);
-        let line = line_known(rows, document, &path.steps, at);
-        let end = known_end(rows, document, self.known(), line, &path.steps);
-        self.with_items(with_item(rows, known, end), line)
-    }
-
-    /// The items that are known, or those before them, as far as walks may go on from there in each text
-    /// that keeps so many bytes in front.
-    #[inline(always)]
-    pub fn known_in_front(&self, front: usize) -> KnownItems
-        ensures { StayKnown front (cut_of self.now) result }
-    {
-        let _whole = self.whole();
-        let rows = self.rows();
-        let known = self.known();
-        KnownItems {
-            far: if_in_front(rows, known.far, front),
-            near: if_in_front(rows, known.near, front),
+        if let Some(end) = known_end(rows, document, known.as_slice(), line, &path.steps) {
+            let _ = put_item(rows, known, count, end);
         }
+        line
+    }
+
+    /// From now on the document of a path is known, and of each collection on its way the item or entry:
+    /// walks along the path go on from there.
+    #[inline(always)]
+    pub fn go_along(&mut self, alloc: Global, path: &Path)
+        ensures { self.new ≡ self.old }
+    {
+        self.to_document(path.doc);
+        let mut known = self.take_items(alloc);
+        self.items_along(&mut known, path);
+        self.put_items(known, None);
+    }
+
+    /// The same, and the line to which the path leads is known as well.
+    #[inline(always)]
+    pub fn go_to_line(&mut self, alloc: Global, path: &'d Path)
+        ensures { self.new ≡ self.old }
+    {
+        self.to_document(path.doc);
+        let mut known = self.take_items(alloc);
+        let line = self.line_along(&mut known, path);
+        self.put_items(known, line);
+    }
+
+    /// The same, and the end of the collection at the path is known as well.
+    pub fn go_to_end(&mut self, alloc: Global, path: &'d Path)
+        ensures { self.new ≡ self.old }
+    {
+        self.to_document(path.doc);
+        let mut known = self.take_items(alloc);
+        let line = self.end_along(&mut known, path);
+        self.put_items(known, line);
+    }
+
+    /// Takes the items that are known, as far as walks may go on from there in each text that keeps so many
+    /// bytes in front, and of the next one the item before it.
+    #[inline(always)]
+    pub fn known_in_front(&mut self, alloc: Global, front: usize) -> Vec<KnownItem>
+        ensures same { self.new ≡ self.old }
+        ensures known { StayKnown front (cut_of self.old) result.items }
+    {
+        let mut known = self.take_items(alloc);
+        self.items_in_front(&mut known, front);
+        known
+    }
+
+    /// Leaves of items that are known those that stay known in each text that keeps so many bytes in front.
+    #[inline(always)]
+    fn items_in_front(&self, known: &mut Vec<KnownItem>, front: usize)
+        requires { AreKnown (rows_view (cut_of self.now)).rows known.old.items }
+        ensures { StayKnown front (cut_of self.now) known.new.items }
+    {
+        let _whole = self.whole();
+        keep_in_front(self.rows(), known, front);
     }
 
     /// The documents that are known, as far as searches may go on from there in each text that keeps so many

@@ -9,7 +9,6 @@ use crate::nodes::flow::{entry_at, item_at};
 use crate::nodes::node::Node;
 use crate::nodes::under::Under;
 use yq_core::Step;
-use yq_outline::KnownItems;
 use yq_row_walk::{find_item, find_key};
 
 /// The entry of a key among those of lines.
@@ -28,8 +27,7 @@ fn line_item<'d, 't>(under: Under<'d, 't>, index: usize) -> Option<Node<'d, 't>>
         labelled_at (Nth index) (children (body_outline under.entry)) }
 {
     let (rows, document) = under.text.document_rows(under.document);
-    let known = KnownItems::none();
-    let at = find_item(rows, document, known, under.first, under.floor, index)?;
+    let at = find_item(rows, document, &[], under.first, under.floor, index)?;
     Some(Node::of_line(under.text, under.document, at))
 }
 

@@ -13,7 +13,7 @@ use crate::places::node_place::{NodePlace, node_place};
 use crate::places::row_place::head_extent;
 use yq_core::Step;
 use yq_documents::Span;
-use yq_outline::{KnownItems, Position, Stretch};
+use yq_outline::{KnownItem, Position, Stretch};
 use yq_row_table::Rows;
 use yq_row_walk::{is_bare, is_deeper};
 
@@ -21,13 +21,13 @@ use yq_row_walk::{is_bare, is_deeper};
 fn lines_content(
     rows: &Rows<'_>,
     document: Stretch,
-    known: KnownItems,
+    known: &[KnownItem],
     from: Position,
     floor: usize,
 ) -> Option<Span>
     requires rows_view { IsRowsView rows.now }
     requires document { HasDocument rows.now document }
-    requires known { AreKnown rows.now.rows known }
+    requires known { AreKnown rows.now.rows known.now }
     requires from { IsPosition rows.now document from }
     ensures { InEach rows.now document (λ first c rs n. option_map span result ≡
         spec.lines_content first c rs (n from) (lines_stop (n from) floor (lines_of_rows rs))) }
@@ -46,12 +46,12 @@ fn lines_content(
 pub fn content_of(
     rows: &Rows<'_>,
     document: Stretch,
-    known: KnownItems,
+    known: &[KnownItem],
     steps: &[Step],
 ) -> Option<Span>
     requires rows_view { IsRowsView rows.now }
     requires document { HasDocument rows.now document }
-    requires known { AreKnown rows.now.rows known }
+    requires known { AreKnown rows.now.rows known.now }
     ensures { InEach rows.now document (λ first c rs n. option_map span result ≡
         spec.line_content_of first c rs (map tree_step steps.now)) }
 {

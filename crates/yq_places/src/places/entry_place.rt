@@ -9,7 +9,7 @@ ghost use Rattle.yq_places.specs.EntryReading as spec;
 use crate::places::row_place::{line_start, row_end};
 use yq_core::Step;
 use yq_documents::Span;
-use yq_outline::{KnownItems, Position, Stretch};
+use yq_outline::{KnownItem, Position, Stretch};
 use yq_row_table::Rows;
 use yq_row_walk::{behind, line_at};
 
@@ -32,12 +32,12 @@ pub fn lines_place(rows: &Rows<'_>, document: Stretch, from: Position, to: Posit
 pub fn entry_of(
     rows: &Rows<'_>,
     document: Stretch,
-    known: KnownItems,
+    known: &[KnownItem],
     steps: &[Step],
 ) -> Option<Span>
     requires rows_view { IsRowsView rows.now }
     requires document { HasDocument rows.now document }
-    requires known { AreKnown rows.now.rows known }
+    requires known { AreKnown rows.now.rows known.now }
     ensures { InEach rows.now document (λ first c rs n. option_map span result ≡
         spec.line_entry_of first c rs (map tree_step steps.now)) }
 {

@@ -1,52 +1,40 @@
-//! The item on the way of a path from which a later walk may go on.
-ghost use Rattle.std.specs.Prelude.{◌≡◌, map, IfSome};
+//! The items on the way of a path from which later walks may go on.
+ghost use Rattle.std.specs.Prelude.{◌≡◌, ◌≤◌, length, map, take, IfSome, IsTrue};
 ghost use Rattle.yq_core.specs.Entries.{tree_step};
 ghost use Rattle.yq_row_table.{specs.Rows.Cut, specs.View.rows_view};
 ghost use Rattle.yq_outline.{specs.Extents.IsRowsView, specs.RowWalk.{AreKnown, HasDocument, IsKnown, IsLine}};
-ghost use Rattle.yq_places.specs.RowWalk.{IsKnownLine, IsLineAt, StaysKnown};
+ghost use Rattle.yq_places.specs.RowWalk.{IsKnownLine, IsLineAt, StaysKnown, StayKnown};
 
 use crate::places::known_line::KnownLine;
 use yq_core::Step;
-use yq_outline::{KnownItem, KnownItems, Next, Position, Stretch};
+use yq_outline::{KnownItem, Next, Position, Stretch};
 use yq_row_table::Rows;
 use yq_row_walk::{item_before, known_to, level_at, next, next_at};
 
-/// How many rows a walk passes that goes on from an item.
+/// Whether an item that is known is there already after so many others.
 #[inline(always)]
-fn rows_passed(item: KnownItem) -> usize {
-    item.row.saturating_sub(item.under.row)
+fn is_there(known: &[KnownItem], count: usize, item: KnownItem) -> bool {
+    match known.get(count) {
+        Some(there) => there.row == item.row && there.floor == item.floor,
+        None => false,
+    }
 }
 
-/// Of items that are known and one more, the two that passed most rows.
+/// Puts an item that is known after so many others, in the place of all that come after these, unless it
+/// is there already; and gives how many come before the next one then. It isn't kept where memory runs out.
 #[inline(always)]
-pub fn with_item(rows: &Rows<'_>, known: KnownItems, more: Option<KnownItem>) -> KnownItems
-    requires known { AreKnown rows.now.rows known }
-    requires more { IfSome more (IsKnown rows.now.rows) }
-    ensures { AreKnown rows.now.rows result }
+pub fn put_item(rows: &Rows<'_>, known: &mut Vec<KnownItem>, count: usize, item: KnownItem) -> usize
+    requires known { AreKnown rows.now.rows known.old.items }
+    requires item { IsKnown rows.now.rows item }
+    ensures { AreKnown rows.now.rows known.new.items }
 {
     let _rows = rows;
-    let Some(item) = more else {
-        return known;
-    };
-    let Some(far) = known.far else {
-        return KnownItems {
-            far: more,
-            near: known.near,
-        };
-    };
-    if rows_passed(far) < rows_passed(item) {
-        return KnownItems {
-            far: more,
-            near: known.far,
-        };
+    if is_there(known.as_slice(), count, item) {
+        return count.saturating_add(1);
     }
-    match known.near {
-        Some(near) if rows_passed(item) <= rows_passed(near) => known,
-        _ => KnownItems {
-            far: known.far,
-            near: more,
-        },
-    }
+    known.truncate(count);
+    let _ = known.push(item);
+    known.len()
 }
 
 /// The item or entry of a line under another one, or of the root, as one that is known, unless it
@@ -55,13 +43,13 @@ pub fn with_item(rows: &Rows<'_>, known: KnownItems, more: Option<KnownItem>) ->
 fn known_by(
     rows: &Rows<'_>,
     document: Stretch,
-    known: KnownItems,
+    known: &[KnownItem],
     from: Option<Position>,
     at: Position,
 ) -> Option<KnownItem>
     requires rows_view { IsRowsView rows.now }
     requires document { HasDocument rows.now document }
-    requires known { AreKnown rows.now.rows known }
+    requires known { AreKnown rows.now.rows known.now }
     requires from { IfSome from (IsLine rows.now document) }
     requires at { IsLine rows.now document at }
     ensures known { IfSome result (IsKnown rows.now.rows) }
@@ -82,33 +70,36 @@ fn known_by(
     known_to(rows, document, known, under, floor, at.row)
 }
 
-/// The items on the way of steps that passed most rows, as items that are known, and the line to which
-/// the steps lead, if none goes on in the head of one.
+/// Puts the items on the way of steps, one for each collection, in the place of the items that are known, as
+/// far as these are others. How many they are, and the line to which the steps lead, if none goes on in the
+/// head of one.
 #[inline(always)]
 pub fn known_along(
     rows: &Rows<'_>,
     document: Stretch,
-    known: KnownItems,
+    known: &mut Vec<KnownItem>,
     steps: &[Step],
-) -> (KnownItems, Option<Position>)
+) -> (usize, Option<Position>)
     requires rows_view { IsRowsView rows.now }
     requires document { HasDocument rows.now document }
-    requires known { AreKnown rows.now.rows known }
-    ensures known { AreKnown rows.now.rows result.0 }
+    requires known { AreKnown rows.now.rows known.old.items }
+    ensures known { AreKnown rows.now.rows known.new.items }
     ensures line { IfSome result.1 (IsLineAt rows.now document (map tree_step steps.now)) }
 {
     let mut from = None;
-    let mut found = KnownItems::none();
+    let mut count = 0;
     let mut left = steps;
     'steps: while let [step, others @ ..] = left {
-        let Some(Next::Line(at)) = next_at(rows, document, known, from, step) else {
-            return (found, None);
+        let Some(Next::Line(at)) = next_at(rows, document, known.as_slice(), from, step) else {
+            return (count, None);
         };
-        found = with_item(rows, found, known_by(rows, document, known, from, at));
+        if let Some(item) = known_by(rows, document, known.as_slice(), from, at) {
+            count = put_item(rows, known, count, item);
+        }
         from = Some(at);
         left = others;
     }
-    (found, from)
+    (count, from)
 }
 
 /// The line to which steps lead, as one that is known.
@@ -131,24 +122,66 @@ pub fn line_known<'s>(
     })
 }
 
-/// A known item, or the one before it, if there is one and its row begins in front of so many bytes.
+/// Whether the row of an item that is known begins in front of so many bytes.
 #[inline(always)]
-pub fn if_in_front(rows: &Rows<'_>, known: Option<KnownItem>, front: usize) -> Option<KnownItem>
-    requires known { IfSome known (IsKnown rows.now.rows) }
+fn is_in_front(rows: &Rows<'_>, known: KnownItem, front: usize) -> bool
+    requires known { IsKnown rows.now.rows known }
+    requires rows_view { IsRowsView rows.now }
+    ensures { IsTrue result → (c : Cut) → rows.now ≡ rows_view c → StaysKnown front c known }
+{
+    known.row < rows.len() && rows.start(known.row) < front
+}
+
+/// The item before one that is known, if there is one and its row begins in front of so many bytes.
+fn before_in_front(rows: &Rows<'_>, known: KnownItem, front: usize) -> Option<KnownItem>
+    requires known { IsKnown rows.now.rows known }
     requires rows_view { IsRowsView rows.now }
     ensures { IfSome result (λ k. (c : Cut) → rows.now ≡ rows_view c → StaysKnown front c k) }
 {
-    let known = known?;
     if known.row >= rows.len() {
         return None;
     }
-    if rows.start(known.row) < front {
-        return Some(known);
-    }
     let before = item_before(rows, known)?;
-    if rows.start(before.row) < front {
+    if is_in_front(rows, before, front) {
         Some(before)
     } else {
         None
+    }
+}
+
+/// How many of the first items that are known have rows that begin in front of so many bytes.
+#[inline(always)]
+fn count_in_front(rows: &Rows<'_>, known: &[KnownItem], front: usize) -> usize
+    requires known { AreKnown rows.now.rows known.now }
+    requires rows_view { IsRowsView rows.now }
+    ensures within { result ≤ length known.now }
+    ensures stay { (c : Cut) → rows.now ≡ rows_view c → StayKnown front c (take result known.now) }
+{
+    let mut count = 0;
+    'items: while count < known.len() {
+        if !is_in_front(rows, known[count], front) {
+            return count;
+        }
+        count += 1;
+    }
+    count
+}
+
+/// Leaves of the items that are known the first ones whose rows begin in front of so many bytes, and in the
+/// place of the next one the item before it, if that does.
+#[inline(always)]
+pub fn keep_in_front(rows: &Rows<'_>, known: &mut Vec<KnownItem>, front: usize)
+    requires known { AreKnown rows.now.rows known.old.items }
+    requires rows_view { IsRowsView rows.now }
+    ensures { (c : Cut) → rows.now ≡ rows_view c → StayKnown front c known.new.items }
+{
+    let count = count_in_front(rows, known.as_slice(), front);
+    if count == known.len() {
+        return;
+    }
+    let before = before_in_front(rows, known[count], front);
+    known.truncate(count);
+    if let Some(item) = before {
+        let _ = known.push(item);
     }
 }

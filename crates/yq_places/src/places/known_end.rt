@@ -8,7 +8,7 @@ ghost use Rattle.yq_outline.specs.RowWalk as spec;
 use crate::places::known_line::KnownLine;
 use crate::places::node_place::{NodePlace, node_place};
 use yq_core::Step;
-use yq_outline::{KnownItem, KnownItems, Position, Stretch};
+use yq_outline::{KnownItem, Position, Stretch};
 use yq_row_table::Rows;
 use yq_row_walk::{counted, first_known, known_among, level_at, rows_under};
 
@@ -18,13 +18,13 @@ use yq_row_walk::{counted, first_known, known_among, level_at, rows_under};
 fn search_row(
     rows: &Rows<'_>,
     document: Stretch,
-    known: KnownItems,
+    known: &[KnownItem],
     at: Position,
     first: Position,
     floor: usize,
 ) -> usize
     requires document { HasDocument rows.now document }
-    requires known { AreKnown rows.now.rows known }
+    requires known { AreKnown rows.now.rows known.now }
     requires at { IsLine rows.now document at }
     requires first { (first.row ≡ at.row) ⊎ ((first.row ≡ at.row + 1) × (first.line ≡ 0)) }
     ensures later { at.row < result }
@@ -42,13 +42,13 @@ fn search_row(
 pub fn behind_all(
     rows: &Rows<'_>,
     document: Stretch,
-    known: KnownItems,
+    known: &[KnownItem],
     from: Position,
     floor: usize,
 ) -> Position
     requires rows_view { IsRowsView rows.now }
     requires document { HasDocument rows.now document }
-    requires known { AreKnown rows.now.rows known }
+    requires known { AreKnown rows.now.rows known.now }
     requires from { IsLine rows.now document from }
     requires deeper { OfLine rows.now document from (λ l. floor < level l) }
     ensures number { OfLines rows.now document (λ ls n. n result ≡ lines_stop (n from) floor ls) }
@@ -89,14 +89,14 @@ fn line_behind(document: Stretch, at: Position, last: usize) -> Position
 pub fn row_behind(
     rows: &Rows<'_>,
     document: Stretch,
-    known: KnownItems,
+    known: &[KnownItem],
     at: Position,
     last: usize,
     floor: usize,
 ) -> usize
     requires rows_view { IsRowsView rows.now }
     requires document { HasDocument rows.now document }
-    requires known { AreKnown rows.now.rows known }
+    requires known { AreKnown rows.now.rows known.now }
     requires at { IsLine rows.now document at }
     ensures { result ≡ spec.rows_end rows.now document floor (at.row + 1) }
 {
@@ -137,13 +137,13 @@ fn known_last(rows: &Rows<'_>, known: KnownItem, end: usize) -> KnownItem
 pub fn known_end(
     rows: &Rows<'_>,
     document: Stretch,
-    known: KnownItems,
+    known: &[KnownItem],
     line: Option<KnownLine<'_>>,
     steps: &[Step],
 ) -> Option<KnownItem>
     requires rows_view { IsRowsView rows.now }
     requires document { HasDocument rows.now document }
-    requires known { AreKnown rows.now.rows known }
+    requires known { AreKnown rows.now.rows known.now }
     requires line { IfSome line (IsKnownLine rows.now) }
     ensures { IfSome result (IsKnown rows.now.rows) }
 {

@@ -6,7 +6,7 @@ ghost use Rattle.yq_outline.specs.RowWalk.{AreKnown, HasDocument, IsLine, line_n
 ghost use Rattle.yq_places.specs.RowWalk.{IsKnownLine, IsLineAt};
 
 use yq_core::Step;
-use yq_outline::{KnownItems, Position, Stretch};
+use yq_outline::{KnownItem, Position, Stretch};
 use yq_row_table::Rows;
 use yq_row_walk::{line_at, reach};
 
@@ -84,13 +84,13 @@ fn if_along(
 pub fn reach_by<'s>(
     rows: &Rows<'_>,
     document: Stretch,
-    known: KnownItems,
+    known: &[KnownItem],
     line: Option<KnownLine<'_>>,
     steps: &'s [Step],
 ) -> Option<(Position, &'s [Step])>
     requires rows_view { IsRowsView rows.now }
     requires document { HasDocument rows.now document }
-    requires known { AreKnown rows.now.rows known }
+    requires known { AreKnown rows.now.rows known.now }
     requires line { IfSome line (IsKnownLine rows.now) }
     ensures within { IfSome result (λ x. IsLine rows.now document x.0) }
     ensures found { (h : HasDocument rows.now document) →
@@ -108,13 +108,13 @@ pub fn reach_by<'s>(
 pub fn line_by(
     rows: &Rows<'_>,
     document: Stretch,
-    known: KnownItems,
+    known: &[KnownItem],
     line: Option<KnownLine<'_>>,
     steps: &[Step],
 ) -> Option<Position>
     requires rows_view { IsRowsView rows.now }
     requires document { HasDocument rows.now document }
-    requires known { AreKnown rows.now.rows known }
+    requires known { AreKnown rows.now.rows known.now }
     requires line { IfSome line (IsKnownLine rows.now) }
     ensures within { IfSome result (IsLine rows.now document) }
     ensures found { (h : HasDocument rows.now document) →

@@ -8,7 +8,7 @@ ghost use Rattle.yq_places.specs.NodeReading as spec;
 
 use crate::places::known_line::{KnownLine, reach_by};
 use yq_core::Step;
-use yq_outline::{KnownItems, Position, Stretch};
+use yq_outline::{KnownItem, Position, Stretch};
 use yq_row_table::Rows;
 use yq_row_walk::{begins_with_node, has_head, level_at, next};
 
@@ -47,13 +47,13 @@ fn line_place(rows: &Rows<'_>, document: Stretch, at: Position, left: &[Step]) -
 pub fn node_place<'s>(
     rows: &Rows<'_>,
     document: Stretch,
-    known: KnownItems,
+    known: &[KnownItem],
     line: Option<KnownLine<'_>>,
     steps: &'s [Step],
 ) -> Option<(NodePlace, &'s [Step])>
     requires rows_view { IsRowsView rows.now }
     requires document { HasDocument rows.now document }
-    requires known { AreKnown rows.now.rows known }
+    requires known { AreKnown rows.now.rows known.now }
     requires line { IfSome line (IsKnownLine rows.now) }
     ensures within { IfSome result (λ x. spec.IsPlace rows.now document x.0) }
     ensures found { (h : HasDocument rows.now document) →

@@ -16,7 +16,7 @@ use yq_core::Step;
 use yq_core::lines::split_line;
 use yq_core::text::is_blank;
 use yq_documents::last_run;
-use yq_outline::{KnownItems, Stretch};
+use yq_outline::{KnownItem, Stretch};
 use yq_row_table::Rows;
 use yq_row_walk::{behind, row_start};
 use yq_text::Halves;
@@ -76,13 +76,13 @@ fn holds_comment(gap: &str) -> bool
 pub fn own_rows(
     rows: &Rows<'_>,
     document: Stretch,
-    known: KnownItems,
+    known: &[KnownItem],
     line: Option<KnownLine<'_>>,
     steps: &[Step],
 ) -> Option<(usize, usize, usize)>
     requires rows_view { IsRowsView rows.now }
     requires document { HasDocument rows.now document }
-    requires known { AreKnown rows.now.rows known }
+    requires known { AreKnown rows.now.rows known.now }
     requires line { IfSome line (IsKnownLine rows.now) }
     ensures { (h : HasDocument rows.now document) →
         option_map (λ m. (m.0, m.1, m.2)) result ≡

@@ -9,7 +9,7 @@ ghost use Rattle.yq_places.specs.StandingReading as reading;
 use crate::places::known_end::row_behind;
 use crate::places::known_line::{KnownLine, line_by};
 use yq_core::Step;
-use yq_outline::{KnownItems, Stretch};
+use yq_outline::{KnownItem, Stretch};
 use yq_row_table::Rows;
 use yq_row_walk::{level_at, lines_before_mark};
 
@@ -31,13 +31,13 @@ pub struct RowsOfEntry {
 pub fn entry_along(
     rows: &Rows<'_>,
     document: Stretch,
-    known: KnownItems,
+    known: &[KnownItem],
     line: Option<KnownLine<'_>>,
     steps: &[Step],
 ) -> Option<RowsOfEntry>
     requires rows_view { IsRowsView rows.now }
     requires document { HasDocument rows.now document }
-    requires known { AreKnown rows.now.rows known }
+    requires known { AreKnown rows.now.rows known.now }
     requires line { IfSome line (IsKnownLine rows.now) }
     ensures { (h : HasDocument rows.now document) →
         option_map reading.as_numbers result ≡

@@ -6,7 +6,7 @@ ghost use Rattle.yq_outline.{specs.Extents.IsRowsView, specs.RowWalk.{AreKnown, 
 ghost use Rattle.yq_places.specs.RowLineReading.{numbers, line_view};
 
 use yq_core::Step;
-use yq_outline::{KnownItems, Stretch};
+use yq_outline::{KnownItem, Stretch};
 use yq_row_table::Rows;
 use yq_row_walk::{line_at, lines_before_mark};
 
@@ -25,12 +25,12 @@ pub struct RowLine {
 pub fn row_line_along(
     rows: &Rows<'_>,
     document: Stretch,
-    known: KnownItems,
+    known: &[KnownItem],
     steps: &[Step],
 ) -> Option<RowLine>
     requires rows_view { IsRowsView rows.now }
     requires document { HasDocument rows.now document }
-    requires known { AreKnown rows.now.rows known }
+    requires known { AreKnown rows.now.rows known.now }
     ensures { (h : HasDocument rows.now document) → option_map line_view result ≡
         option_map (numbers document.first) (row_line_of (map tree_step steps.now) h.stand.rows) }
 {

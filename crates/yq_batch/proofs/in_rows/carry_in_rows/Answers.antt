@@ -20,7 +20,7 @@ operations-init c =
     let new = c.in_ok-run.ensures in
     let text : now_text (cut_of t) c.in_ok-run.run' ≡ t = begins_with t c.in_ok-run.run' c.text-text.ensures.read new.text new.done in
     record {
-      same = c.on_the_way-way.ensures;
+      same = c.again-way.ensures;
       whole = (λ i. edit_after (new.splices i) (carry_all (operations_of c.args.ops.now) (text i))) ∙ behind_none (carry_all (operations_of c.args.ops.now) t);
       serves = subst (AreServed (operations_of c.args.ops.now)) (sym text) c.requires;
       runs = rows_begin t c.in_ok-run.run' c.text-text.ensures.read new.text new.done;

@@ -3,22 +3,17 @@ use Rattle.yq_text.specs.TextGapBuffer.{buffer_text}
 use Rattle.yq_core.specs.Entries.{tree_step}
 use Rattle.yq_semantics.{specs.Operations.operations_of, specs.declared.op.Op.Op}
 use Rattle.yq_documents.specs.Reading.{cut_of}
-use Rattle.yq_places.specs.RowWalk.{HasCut}
 use Rattle.yq_edit_laws.{specs.Carried.carry_all, specs.Edit.edit_after, specs.Valid.AreServed, proofs.OrderLaws.behind_none}
 use Rattle.yq_edit_laws.proofs.OperationsLaws.{others_come, others_served}
 use Rattle.yq_batch.{specs.RowRemovals.{FirstRemoves, RemovesRows}, proofs.RowRunBegins.row_run_begins}
 use Rattle.yq_batch.proofs.row_removals.remove_rows.Goals as goal
-
-pub resumed-way-requires-clause-cut : goal.resumed-way-requires-clause-cut
-resumed-way-requires-clause-cut c =
-    subst (λ (t : List ℕ). HasCut t c.rows.result.now) (sym c.whole.ensures.text) (record { cut = c.whole.ensures.cut; rows = c.rows.ensures; sound = c.whole.ensures.documents })
 
 pub operations-init : goal.operations-init
 operations-init c =
     let t : List ℕ = c.args.cut.now in
     let text : buffer_text c.in_ok-run.run'.text ≡ t = c.in_ok-run.ensures.text ∙ c.text.ensures.text in
     record {
-      same = c.resumed-way.ensures ∙ c.whole.ensures.text;
+      same = c.again-way.ensures;
       whole = (λ i. edit_after (c.in_ok-run.ensures.splices i) (carry_all (operations_of c.args.ops.now) (text i))) ∙ behind_none (carry_all (operations_of c.args.ops.now) t);
       serves = subst (AreServed (operations_of c.args.ops.now)) (sym text) c.requires;
       runs = row_run_begins t c.args.doc (map tree_step c.args.above.now) c.in_ok-run.run' c.text.ensures.read text (c.in_ok-run.ensures.keep ∙ ap length c.text.ensures.text);

@@ -6,34 +6,34 @@ use Rattle.yq_batch.proofs.row_removals.take_rows.Goals as goal
 
 pub len-requires : goal.len-requires
 len-requires c =
-    let small = out_small c.to_line.result c.args.path.now.doc (steps_of c.args.path.now) (removal_view c.in-Some.removal) c.text-text.ensures.read (sym c.in-Some.ensures) in
+    let small = out_small c.go_to_line.new.self c.args.path.now.doc (steps_of c.args.path.now) (removal_view c.in-Some.removal) c.text-text.ensures.read (sym c.in-Some.ensures) in
     omega (arith, small)
 
 pub overflow_add-end : goal.overflow_add-end
 overflow_add-end c =
-    let small = out_small c.to_line.result c.args.path.now.doc (steps_of c.args.path.now) (removal_view c.in-Some.removal) c.text-text.ensures.read (sym c.in-Some.ensures) in
+    let small = out_small c.go_to_line.new.self c.args.path.now.doc (steps_of c.args.path.now) (removal_view c.in-Some.removal) c.text-text.ensures.read (sym c.in-Some.ensures) in
     omega (arith, small, c.len-start.ensures, c.len.ensures)
 
 pub take_out-requires-clause-utf8 : goal.take_out-requires-clause-utf8
 take_out-requires-clause-utf8 c =
-    (found_rows c.args.cut.now c.to_line.result c.args.path.now.doc (steps_of c.args.path.now) (removal_view c.in-Some.removal) c.args.least c.least_for-next.result c.args.run.now c.len-start.result c.len.result
-    c.to_line.ensures c.text-text.ensures.read c.in-Some.ensures c.requires.run c.requires.others c.requires.fits c.len-start.ensures c.len.ensures c.if-end-run.false (c.if-not-stays_at.ensures refl) c.least_for-next.ensures
+    (found_rows c.args.cut.now c.go_to_line.new.self c.args.path.now.doc (steps_of c.args.path.now) (removal_view c.in-Some.removal) c.args.least c.least_for-next.result c.args.run.now c.len-start.result c.len.result
+    c.go_to_line.ensures c.text-text.ensures.read c.in-Some.ensures c.requires.run c.requires.others c.requires.fits c.len-start.ensures c.len.ensures c.if-end-run.false (c.if-not-stays_at.ensures refl) c.least_for-next.ensures
     c.is_text.ensures c.is_text-2.ensures).utf8
 
 pub take_out-requires-clause-start : goal.take_out-requires-clause-start
 take_out-requires-clause-start c =
-    (found_rows c.args.cut.now c.to_line.result c.args.path.now.doc (steps_of c.args.path.now) (removal_view c.in-Some.removal) c.args.least c.least_for-next.result c.args.run.now c.len-start.result c.len.result
-    c.to_line.ensures c.text-text.ensures.read c.in-Some.ensures c.requires.run c.requires.others c.requires.fits c.len-start.ensures c.len.ensures c.if-end-run.false (c.if-not-stays_at.ensures refl) c.least_for-next.ensures
+    (found_rows c.args.cut.now c.go_to_line.new.self c.args.path.now.doc (steps_of c.args.path.now) (removal_view c.in-Some.removal) c.args.least c.least_for-next.result c.args.run.now c.len-start.result c.len.result
+    c.go_to_line.ensures c.text-text.ensures.read c.in-Some.ensures c.requires.run c.requires.others c.requires.fits c.len-start.ensures c.len.ensures c.if-end-run.false (c.if-not-stays_at.ensures refl) c.least_for-next.ensures
     c.is_text.ensures c.is_text-2.ensures).starts
 
 pub take_out-requires-clause-end : goal.take_out-requires-clause-end
 take_out-requires-clause-end c =
-    (found_rows c.args.cut.now c.to_line.result c.args.path.now.doc (steps_of c.args.path.now) (removal_view c.in-Some.removal) c.args.least c.least_for-next.result c.args.run.now c.len-start.result c.len.result
-    c.to_line.ensures c.text-text.ensures.read c.in-Some.ensures c.requires.run c.requires.others c.requires.fits c.len-start.ensures c.len.ensures c.if-end-run.false (c.if-not-stays_at.ensures refl) c.least_for-next.ensures
+    (found_rows c.args.cut.now c.go_to_line.new.self c.args.path.now.doc (steps_of c.args.path.now) (removal_view c.in-Some.removal) c.args.least c.least_for-next.result c.args.run.now c.len-start.result c.len.result
+    c.go_to_line.ensures c.text-text.ensures.read c.in-Some.ensures c.requires.run c.requires.others c.requires.fits c.len-start.ensures c.len.ensures c.if-end-run.false (c.if-not-stays_at.ensures refl) c.least_for-next.ensures
     c.is_text.ensures c.is_text-2.ensures).finishes
 
 pub returns-clause-ok : goal.returns-clause-ok
 returns-clause-ok c =
-    (found_rows c.args.cut.now c.to_line.result c.args.path.now.doc (steps_of c.args.path.now) (removal_view c.in-Some.removal) c.args.least c.least_for-next.result c.args.run.now c.len-start.result c.len.result
-    c.to_line.ensures c.text-text.ensures.read c.in-Some.ensures c.requires.run c.requires.others c.requires.fits c.len-start.ensures c.len.ensures c.if-end-run.false (c.if-not-stays_at.ensures refl) c.least_for-next.ensures
+    (found_rows c.args.cut.now c.go_to_line.new.self c.args.path.now.doc (steps_of c.args.path.now) (removal_view c.in-Some.removal) c.args.least c.least_for-next.result c.args.run.now c.len-start.result c.len.result
+    c.go_to_line.ensures c.text-text.ensures.read c.in-Some.ensures c.requires.run c.requires.others c.requires.fits c.len-start.ensures c.len.ensures c.if-end-run.false (c.if-not-stays_at.ensures refl) c.least_for-next.ensures
     c.is_text.ensures c.is_text-2.ensures).on c.take_out.new.run c.in_ok-take_out.ensures.ok

@@ -7,5 +7,5 @@ use Rattle.yq_expr.proofs.fixed.leads.Goals as goal
 
 pub returns-clause-is : goal.returns-clause-is
 returns-clause-is c = λ yes.
-    leads_so node_view c.in_ok-node.node c.args.cut.now c.along.result c.args.path.now.doc (steps_of c.args.path.now) (map tree_step c.deref.result.now) c.along.ensures (ap (map tree_step) c.deref.ensures.value) c.in_ok-node.ensures
+    leads_so node_view c.in_ok-node.node c.args.cut.now c.go_along.new.self c.args.path.now.doc (steps_of c.args.path.now) (map tree_step c.deref.result.now) c.go_along.ensures (ap (map tree_step) c.deref.ensures.value) c.in_ok-node.ensures
     (sym c.is_some.ensures ∙ yes)

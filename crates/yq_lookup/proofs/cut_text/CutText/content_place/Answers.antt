@@ -22,4 +22,4 @@ pub content_of-requires-clause-rows_view : goal.content_of-requires-clause-rows_
 content_of-requires-clause-rows_view c = rows_are_view c.args.self.now c.rows.result.now c.whole-whole.ensures.cut c.rows.ensures
 
 pub content_of-requires-clause-known : goal.content_of-requires-clause-known
-content_of-requires-clause-known c = items_known c.args.self.now c.rows.result.now c.known.result c.rows.ensures c.known.ensures
+content_of-requires-clause-known c = items_known c.args.self.now c.rows.result.now c.known.result.now c.rows.ensures c.known.ensures

@@ -23,7 +23,7 @@ pub entry_along-requires-clause-rows_view : goal.entry_along-requires-clause-row
 entry_along-requires-clause-rows_view c = rows_are_view c.args.self.now c.rows.result.now c.whole-whole.ensures.cut c.rows.ensures
 
 pub entry_along-requires-clause-known : goal.entry_along-requires-clause-known
-entry_along-requires-clause-known c = items_known c.args.self.now c.rows.result.now c.known.result c.rows.ensures c.known.ensures
+entry_along-requires-clause-known c = items_known c.args.self.now c.rows.result.now c.known.result.now c.rows.ensures c.known.ensures
 
 pub entry_along-requires-clause-line : goal.entry_along-requires-clause-line
 entry_along-requires-clause-line c = line_known c.args.self.now c.rows.result.now c.line.result c.rows.ensures c.line.ensures

@@ -22,4 +22,4 @@ pub entry_of-requires-clause-rows_view : goal.entry_of-requires-clause-rows_view
 entry_of-requires-clause-rows_view c = rows_are_view c.args.self.now c.rows.result.now c.whole-whole.ensures.cut c.rows.ensures
 
 pub entry_of-requires-clause-known : goal.entry_of-requires-clause-known
-entry_of-requires-clause-known c = items_known c.args.self.now c.rows.result.now c.known.result c.rows.ensures c.known.ensures
+entry_of-requires-clause-known c = items_known c.args.self.now c.rows.result.now c.known.result.now c.rows.ensures c.known.ensures

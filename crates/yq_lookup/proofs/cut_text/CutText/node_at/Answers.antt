@@ -65,7 +65,7 @@ pub node_place-requires-clause-rows_view : goal.node_place-requires-clause-rows_
 node_place-requires-clause-rows_view c = rows_are_view c.args.self.now c.rows-rows.result.now c.whole-whole.ensures.cut c.rows-rows.ensures
 
 pub node_place-requires-clause-known : goal.node_place-requires-clause-known
-node_place-requires-clause-known c = items_known c.args.self.now c.rows-rows.result.now c.known.result c.rows-rows.ensures c.known.ensures
+node_place-requires-clause-known c = items_known c.args.self.now c.rows-rows.result.now c.known.result.now c.rows-rows.ensures c.known.ensures
 
 pub node_place-requires-clause-line : goal.node_place-requires-clause-line
 node_place-requires-clause-line c = line_known c.args.self.now c.rows-rows.result.now c.line.result c.rows-rows.ensures c.line.ensures

@@ -24,7 +24,7 @@ pub own_rows-requires-clause-rows_view : goal.own_rows-requires-clause-rows_view
 own_rows-requires-clause-rows_view c = rows_are_view c.args.self.now c.rows.result.now c.whole-whole.ensures.cut c.rows.ensures
 
 pub own_rows-requires-clause-known : goal.own_rows-requires-clause-known
-own_rows-requires-clause-known c = items_known c.args.self.now c.rows.result.now c.known.result c.rows.ensures c.known.ensures
+own_rows-requires-clause-known c = items_known c.args.self.now c.rows.result.now c.known.result.now c.rows.ensures c.known.ensures
 
 pub own_rows-requires-clause-line : goal.own_rows-requires-clause-line
 own_rows-requires-clause-line c = line_known c.args.self.now c.rows.result.now c.line.result c.rows.ensures c.line.ensures

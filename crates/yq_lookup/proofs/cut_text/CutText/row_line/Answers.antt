@@ -18,4 +18,4 @@ pub row_line_along-requires-clause-rows_view : goal.row_line_along-requires-clau
 row_line_along-requires-clause-rows_view c = rows_are_view c.args.self.now c.rows.result.now c.whole-whole.ensures.cut c.rows.ensures
 
 pub row_line_along-requires-clause-known : goal.row_line_along-requires-clause-known
-row_line_along-requires-clause-known c = items_known c.args.self.now c.rows.result.now c.known.result c.rows.ensures c.known.ensures
+row_line_along-requires-clause-known c = items_known c.args.self.now c.rows.result.now c.known.result.now c.rows.ensures c.known.ensures

@@ -7,10 +7,10 @@ use Rattle.yq_places.proofs.places.known_at.known_along.Given as goal
 abbrev pub decreases-steps : goal.decreases-steps
 decreases-steps l = length l.left
 
--- the line that was found is one from which the steps that are left lead where all do, and the items that passed most rows are known
+-- the line that was found is one from which the steps that are left lead where all do, and the items are known
 abbrev pub invariant-steps : goal.invariant-steps
 invariant-steps l = record {
   from : IfSome l.from (IsLine l.rows l.document);
   leads : (h : HasDocument l.rows l.document) → reach_from (lines_of_rows h.stand.rows) (option_map (line_number l.document h.stand.rows) l.from) (map tree_step l.left) ≡ reached (map tree_step l.steps) (lines_of_rows h.stand.rows);
-  known : AreKnown l.rows.rows l.found;
+  known : AreKnown l.rows.rows l.known.items;
 }

@@ -1,4 +1,5 @@
-use Rattle.std.proofs.Common.{IfOk, IfErr, List, ℕ, sym, ap, ◌∙◌, subst}
+use Rattle.std.{proofs.Common.{IfOk, IfErr, List, ℕ, Vec, sym, ap, ◌∙◌, subst}, specs.declared.alloc.Global.Global}
+use Rattle.yq_outline.specs.declared.line_position.KnownItem.{KnownItem}
 use Rattle.yq_text.{specs.TextGapBuffer.buffer_text, specs.Changing.IsChange}
 use Rattle.yq_documents.specs.Reading.{cut_of}
 use Rattle.yq_semantics.specs.Operations.{operation_of}
@@ -7,7 +8,7 @@ use Rattle.yq_lookup.specs.KnownDocuments.{DocumentsStay}
 use Rattle.yq_edit_laws.{specs.Answers.EditFails, specs.Carried.carried, specs.Edit.Edit, specs.Valid.segments_by}
 use Rattle.yq_splice.specs.Session.{SessionState, HasPlaces, KnowsDocuments, KnowsItems}
 use Rattle.yq_splice.proofs.SessionLaws.{carried_on, cut_borrowed, known_borrowed, moved_same, places_back, places_borrowed, split_is}
-use Rattle.yq_splice.proofs.SessionLaws.{split_borrowed, whole_borrowed}
+use Rattle.yq_splice.proofs.SessionLaws.{none_known, split_borrowed, whole_borrowed}
 use Rattle.yq_splice.proofs.session.Session.change.Goals as goal
 
 pub move_split-requires : goal.move_split-requires
@@ -33,14 +34,15 @@ resumed-requires-clause-cut c =
 pub resumed-requires-clause-known : goal.resumed-requires-clause-known
 resumed-requires-clause-known c =
     let h : HasPlaces (buffer_text c.self.inside.text) c.replace-places.result = subst (HasPlaces (buffer_text c.self.inside.text)) (sym c.replace-places.ensures.value) c.self.invariant.0 in
-    known_borrowed (buffer_text c.self.inside.text) c.replace-places.result h c.halves-text.result (c.halves-text.ensures.front ∙ c.move_split.ensures.front, c.halves-text.ensures.back ∙ c.move_split.ensures.back) c.rows-rows.result c.rows-rows.ensures c.self.inside.known c.self.invariant.1
+    known_borrowed (buffer_text c.self.inside.text) c.replace-places.result h c.halves-text.result (c.halves-text.ensures.front ∙ c.move_split.ensures.front, c.halves-text.ensures.back ∙ c.move_split.ensures.back) c.rows-rows.result c.rows-rows.ensures c.replace-known.result.items (subst (λ (v : Vec KnownItem Global). KnowsItems (buffer_text c.self.inside.text) v.items) (sym c.replace-known.ensures.value) c.self.invariant.1)
 
 pub invariant_of-self : goal.invariant_of-self
 invariant_of-self c =
     let h : HasPlaces (buffer_text c.self.inside.text) c.replace-places.result = subst (HasPlaces (buffer_text c.self.inside.text)) (sym c.replace-places.ensures.value) c.self.invariant.0 in
     let back = places_back (buffer_text c.self.inside.text) c.replace-places.result h c.halves-text.result (c.halves-text.ensures.front ∙ c.move_split.ensures.front, c.halves-text.ensures.back ∙ c.move_split.ensures.back) c.rows-rows.result c.rows-rows.ensures c.into_places.result c.into_places.ensures in
-    subst (λ (x : List ℕ). HasPlaces x c.into_places.result × KnowsItems x c.self.inside.known × KnowsDocuments x c.self.inside.documents)
-    (sym (moved_same (buffer_text c.self.inside.text) c.replace-places.result.split c.move_split.new.self c.move_split.ensures.front c.move_split.ensures.back)) (back, c.self.invariant.1, c.self.invariant.2)
+    let none = none_known (buffer_text c.self.inside.text) c.replace-known.new.dest.items (ap (λ (v : Vec KnownItem Global). v.items) c.replace-known.ensures.after ∙ c.new-2.ensures.items) in
+    subst (λ (x : List ℕ). HasPlaces x c.into_places.result × KnowsItems x c.replace-known.new.dest.items × KnowsDocuments x c.self.inside.documents)
+    (sym (moved_same (buffer_text c.self.inside.text) c.replace-places.result.split c.move_split.new.self c.move_split.ensures.front c.move_split.ensures.back)) (back, none, c.self.invariant.2)
 
 pub returns-clause-ok : goal.returns-clause-ok
 returns-clause-ok c =
@@ -52,7 +54,7 @@ pub returns-clause-known : goal.returns-clause-known
 returns-clause-known c =
     let h : HasPlaces (buffer_text c.self.inside.text) c.replace-places.result = subst (HasPlaces (buffer_text c.self.inside.text)) (sym c.replace-places.ensures.value) c.self.invariant.0 in
     let same = c.with_documents-cut.ensures ∙ c.resumed.ensures ∙ (whole_borrowed (buffer_text c.self.inside.text) c.replace-places.result h c.halves-text.result (c.halves-text.ensures.front ∙ c.move_split.ensures.front, c.halves-text.ensures.back ∙ c.move_split.ensures.back) ∙ ap (λ (s : SessionState). s.text) c.self.view_is) in
-    subst (λ (t : List ℕ). IfOk c.change_one-changed.result (λ x. StayKnown x.0.front (cut_of t) x.1)) same c.change_one-changed.ensures.known
+    subst (λ (t : List ℕ). IfOk c.change_one-changed.result (λ x. StayKnown x.0.front (cut_of t) x.1.items)) same c.change_one-changed.ensures.known
 
 pub returns-clause-err : goal.returns-clause-err
 returns-clause-err c =

@@ -20,7 +20,7 @@ pub resumed-requires-clause-cut : goal.resumed-requires-clause-cut
 resumed-requires-clause-cut c = cut_borrowed (buffer_text c.self.inside.text) c.self.inside.places c.self.invariant.0 c.halves-halves.result (c.halves-halves.ensures.front ∙ c.move_split.ensures.front, c.halves-halves.ensures.back ∙ c.move_split.ensures.back) c.rows-rows.result c.rows-rows.ensures
 
 pub resumed-requires-clause-known : goal.resumed-requires-clause-known
-resumed-requires-clause-known c = known_borrowed (buffer_text c.self.inside.text) c.self.inside.places c.self.invariant.0 c.halves-halves.result (c.halves-halves.ensures.front ∙ c.move_split.ensures.front, c.halves-halves.ensures.back ∙ c.move_split.ensures.back) c.rows-rows.result c.rows-rows.ensures c.self.inside.known c.self.invariant.1
+resumed-requires-clause-known c = known_borrowed (buffer_text c.self.inside.text) c.self.inside.places c.self.invariant.0 c.halves-halves.result (c.halves-halves.ensures.front ∙ c.move_split.ensures.front, c.halves-halves.ensures.back ∙ c.move_split.ensures.back) c.rows-rows.result c.rows-rows.ensures c.self.inside.known.items c.self.invariant.1
 
 pub returns-in_err-edited : goal.returns-in_err-edited
 returns-in_err-edited c =

@@ -1,6 +1,6 @@
 use Rattle.std.{proofs.Common.{rules, ap, sym, ◌∙◌, ◌≡◌, ℕ, List, Some, ◌++◌, append-nil, subst}, proofs.lemmas.Result.err_from_is_err_and}
 use Rattle.yq_documents.specs.Reading.{cut_of, read_at}
-use Rattle.yq_splice.proofs.SessionLaws.{has_reading, not_opened}
+use Rattle.yq_splice.proofs.SessionLaws.{has_reading, none_known, not_opened}
 use Rattle.yq_text.specs.TextGapBuffer.{buffer_text}
 use Rattle.yq_row_table.{specs.Kept.IsPlaced, specs.Meter.{count_after, line_count}}
 use Rattle.yq_splice.proofs.session.Session.open.Goals as goal
@@ -24,8 +24,8 @@ invariant_of-result c =
         read = ap read_at (text ∙ sym c.as_bytes.ensures.value) ∙ c.in_ok-documents.ensures.exact;
         placed = subst (IsPlaced c.into_places-places.result) c.into_rows.ensures c.into_places-places.ensures;
       },
-      (rw c.none.ensures.far tt, rw c.none.ensures.near tt),
-      (rw c.none-2.ensures.last tt, rw c.none-2.ensures.before tt),
+      none_known (buffer_text c.of-text.result) c.new.result.items c.new.ensures.items,
+      (rw c.none.ensures.last tt, rw c.none.ensures.before tt),
     )
 
 pub returns-clause-exact : goal.returns-clause-exact

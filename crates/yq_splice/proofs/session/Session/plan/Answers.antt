@@ -1,10 +1,12 @@
-use Rattle.std.proofs.Common.{List, ℕ, sym, ap, ◌∙◌, subst}
+use Rattle.std.{proofs.Common.{◌≡◌, IfOk, List, ℕ, Vec, sym, ap, ◌∙◌, subst}, specs.declared.alloc.Global.Global}
 use Rattle.yq_text.specs.TextGapBuffer.{buffer_text}
-use Rattle.yq_documents.specs.Reading.{documents_of}
+use Rattle.yq_documents.specs.Reading.{cut_of, documents_of}
+use Rattle.yq_row_table.specs.View.{rows_view}
+use Rattle.yq_outline.{specs.RowWalk.AreKnown, specs.declared.line_position.KnownItem.KnownItem}
 use Rattle.yq_expr.specs.FixedPaths.{IfAny, IsSole, PlansAlone}
 use Rattle.yq_splice.specs.Session.{SessionState, HasPlaces, KnowsDocuments, KnowsItems}
-use Rattle.yq_splice.proofs.SessionLaws.{cut_borrowed, known_borrowed, moved_same, places_back, places_borrowed, split_is, split_borrowed}
-use Rattle.yq_splice.proofs.SessionLaws.{whole_borrowed}
+use Rattle.yq_splice.proofs.SessionLaws.{cut_borrowed, known_borrowed, known_here, moved_same, places_back, places_borrowed, split_is}
+use Rattle.yq_splice.proofs.SessionLaws.{split_borrowed, whole_borrowed}
 use Rattle.yq_splice.proofs.session.Session.plan.Goals as goal
 
 pub move_split-requires : goal.move_split-requires
@@ -30,7 +32,7 @@ resumed-requires-clause-cut c =
 pub resumed-requires-clause-known : goal.resumed-requires-clause-known
 resumed-requires-clause-known c =
     let h : HasPlaces (buffer_text c.self.inside.text) c.replace-places.result = subst (HasPlaces (buffer_text c.self.inside.text)) (sym c.replace-places.ensures.value) c.self.invariant.0 in
-    known_borrowed (buffer_text c.self.inside.text) c.replace-places.result h c.halves-text.result (c.halves-text.ensures.front ∙ c.move_split.ensures.front, c.halves-text.ensures.back ∙ c.move_split.ensures.back) c.rows-rows.result c.rows-rows.ensures c.self.inside.known c.self.invariant.1
+    known_borrowed (buffer_text c.self.inside.text) c.replace-places.result h c.halves-text.result (c.halves-text.ensures.front ∙ c.move_split.ensures.front, c.halves-text.ensures.back ∙ c.move_split.ensures.back) c.rows-rows.result c.rows-rows.ensures c.replace-known.result.items (subst (λ (v : Vec KnownItem Global). KnowsItems (buffer_text c.self.inside.text) v.items) (sym c.replace-known.ensures.value) c.self.invariant.1)
 
 pub with_documents-cut-requires : goal.with_documents-cut-requires
 with_documents-cut-requires c =
@@ -55,8 +57,8 @@ invariant_of-self c =
     let h : HasPlaces (buffer_text c.self.inside.text) c.replace-places.result = subst (HasPlaces (buffer_text c.self.inside.text)) (sym c.replace-places.ensures.value) c.self.invariant.0 in
     let back = places_back (buffer_text c.self.inside.text) c.replace-places.result h c.halves-text.result (c.halves-text.ensures.front ∙ c.move_split.ensures.front, c.halves-text.ensures.back ∙ c.move_split.ensures.back) c.rows-rows.result c.rows-rows.ensures c.into_places.result c.into_places.ensures in
     let whole = c.plan_by_rows-planned.ensures.same ∙ (c.with_documents-cut.ensures ∙ c.resumed.ensures ∙ whole_borrowed (buffer_text c.self.inside.text) c.replace-places.result h c.halves-text.result (c.halves-text.ensures.front ∙ c.move_split.ensures.front, c.halves-text.ensures.back ∙ c.move_split.ensures.back)) in
-    let known : KnowsItems (buffer_text c.self.inside.text) c.known-known.result = subst (λ (x : List ℕ). KnowsItems x c.known-known.result) whole c.known-known.ensures in
-    subst (λ (x : List ℕ). HasPlaces x c.into_places.result × KnowsItems x c.known-known.result × KnowsDocuments x c.self.inside.documents)
+    let known : KnowsItems (buffer_text c.self.inside.text) c.known_in_front-known.result.items = subst (λ (x : List ℕ). KnowsItems x c.known_in_front-known.result.items) whole (known_here _ _ c.known_in_front-known.result.items c.known_in_front-known.ensures.known) in
+    subst (λ (x : List ℕ). HasPlaces x c.into_places.result × KnowsItems x c.known_in_front-known.result.items × KnowsDocuments x c.self.inside.documents)
     (sym (moved_same (buffer_text c.self.inside.text) c.replace-places.result.split c.move_split.new.self c.move_split.ensures.front c.move_split.ensures.back)) (back, known, c.self.invariant.2)
 
 pub returns-clause-same : goal.returns-clause-same

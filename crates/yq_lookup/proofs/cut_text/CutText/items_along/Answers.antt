@@ -1,7 +1,7 @@
 use Rattle.yq_documents.specs.Reading.{cut_of}
 use Rattle.yq_places.proofs.WalkDocuments.{found_document}
-use Rattle.yq_lookup.proofs.CutRows.{rows_are_view, items_known}
-use Rattle.yq_lookup.proofs.cut_text.CutText.along_rows.Goals as goal
+use Rattle.yq_lookup.proofs.CutRows.{rows_are_view, items_agree, items_known}
+use Rattle.yq_lookup.proofs.cut_text.CutText.items_along.Goals as goal
 
 pub known_along-requires-clause-document : goal.known_along-requires-clause-document
 known_along-requires-clause-document c =
@@ -11,4 +11,7 @@ pub known_along-requires-clause-rows_view : goal.known_along-requires-clause-row
 known_along-requires-clause-rows_view c = rows_are_view c.args.self.now c.rows-rows.result.now c.whole-whole.ensures.cut c.rows-rows.ensures
 
 pub known_along-requires-clause-known : goal.known_along-requires-clause-known
-known_along-requires-clause-known c = items_known c.args.self.now c.rows-rows.result.now c.known.result c.rows-rows.ensures c.known.ensures
+known_along-requires-clause-known c = items_known c.args.self.now c.rows-rows.result.now c.args.known.now.items c.rows-rows.ensures c.requires
+
+pub returns : goal.returns
+returns c = items_agree c.args.self.now c.rows-rows.result.now c.known_along.new.known.items c.rows-rows.ensures c.known_along.ensures.known

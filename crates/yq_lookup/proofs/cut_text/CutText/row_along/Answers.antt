@@ -2,8 +2,8 @@ use Rattle.std.{proofs.Common.{map, subst}, proofs.lemmas.Option.IfSome_then, sp
 use Rattle.yq_core.specs.Entries.{tree_step}
 use Rattle.yq_documents.{specs.Located.steps_of, specs.Reading.cut_of}
 use Rattle.yq_places.{specs.RowWalk.IsLineAt, proofs.HeldRowLaws.{held_row_is, line_in}, proofs.WalkDocuments.found_document}
-use Rattle.yq_lookup.proofs.CutRows.{rows_are_view, items_known}
-use Rattle.yq_lookup.proofs.cut_text.CutText.to_row_of.Goals as goal
+use Rattle.yq_lookup.proofs.CutRows.{rows_are_view, items_agree, items_known}
+use Rattle.yq_lookup.proofs.cut_text.CutText.row_along.Goals as goal
 
 pub known_along-at-requires-clause-document : goal.known_along-at-requires-clause-document
 known_along-at-requires-clause-document c =
@@ -30,7 +30,10 @@ pub known_along-at-requires-clause-rows_view : goal.known_along-at-requires-clau
 known_along-at-requires-clause-rows_view c = rows_are_view c.args.self.now c.rows-rows.result.now c.whole-whole.ensures.cut c.rows-rows.ensures
 
 pub known_along-at-requires-clause-known : goal.known_along-at-requires-clause-known
-known_along-at-requires-clause-known c = items_known c.args.self.now c.rows-rows.result.now c.known.result c.rows-rows.ensures c.known.ensures
+known_along-at-requires-clause-known c = items_known c.args.self.now c.rows-rows.result.now c.args.known.now.items c.rows-rows.ensures c.requires
 
 pub row_of_last-requires-clause-rows_view : goal.row_of_last-requires-clause-rows_view
 row_of_last-requires-clause-rows_view c = rows_are_view c.args.self.now c.rows-rows.result.now c.whole-whole.ensures.cut c.rows-rows.ensures
+
+pub returns-clause-known : goal.returns-clause-known
+returns-clause-known c = items_agree c.args.self.now c.rows-rows.result.now c.known_along-at.new.known.items c.rows-rows.ensures c.known_along-at.ensures.known
