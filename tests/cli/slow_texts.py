@@ -24,6 +24,8 @@ UPDATES, SERVICES = 200, 200_000
 # Of each of three levels, and of the sequence below them.
 MANY = 16_000
 PLACES = ".z.z.z[]"
+# It is put as deep as the first collection under a key is.
+NESTED = ' = {"z": {"y": [1]}}'
 
 
 def runs(folder, wanted, size=SIZE):
@@ -67,11 +69,28 @@ def check_a_program_does_not_read_its_text_for_each_update(folder):
     equal(spent < read * UPDATES / 5, True, (read, spent))
 
 
+def each_within_a_second(folder, updates):
+    for update in updates:
+        status, seconds, _megabytes = hostile.used(folder.yq, folder.name("f"), update, 2 * SECONDS)
+        equal((status, seconds <= SECONDS), (0, True), (update, seconds))
+
+
 def check_paths_through_long_collections(folder):
     """The way to each place goes on from that to the one before it, in all collections that it passes."""
     levels = ["".join("  " * level + f"p{n}: 1\n" for n in range(MANY)) + "  " * level + "z:\n" for level in range(3)]
     folder.write("f", ("".join(levels) + "".join(f"      - {n}\n" for n in range(MANY))).encode())
-    updates = [PLACES + then for then in (" = 77", " += 1", " = [1, 2]", ' line_comment = "x"', ' head_comment = "x"')]
-    for update in (*updates, f"del({PLACES})"):
-        status, seconds, _megabytes = hostile.used(folder.yq, folder.name("f"), update, 2 * SECONDS)
-        equal((status, seconds <= SECONDS), (0, True), (update, seconds))
+    puts = [" = 77", " += 1", " = [1, 2]", NESTED, ' line_comment = "x"', ' head_comment = "x"']
+    each_within_a_second(folder, [*(PLACES + put for put in puts), f"del({PLACES})"])
+
+
+def check_collections_put_on_lines_of_their_own(folder):
+    """Each stays on its line: how deep collections are isn't asked."""
+    folder.write("f", b"-\n  5\n" * MANY)
+    each_within_a_second(folder, [f".[]{NESTED}"])
+
+
+def check_removals_from_several_collections(folder):
+    """They go together in each of two documents, and in each of two mappings."""
+    items = "".join(f"  # about {n}\n  - {n}\n\n" for n in range(MANY))
+    folder.write("f", (f"a:\n{items}b:\n{items}---\na:\n{items}").encode())
+    each_within_a_second(folder, ["del(.[][])"])

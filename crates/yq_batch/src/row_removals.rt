@@ -122,12 +122,12 @@ fn take_rows<'d>(
 
 /// Carries out the first of some operations on the text of a run, if it and the next one take an item or entry
 /// out of a collection, and nothing but the lines of that goes.
-fn remove_beside<'d>(
+fn remove_beside<'d, 'o: 'd>(
     alloc: Global,
     cut: &mut CutText<'d, '_>,
     doc: usize,
     above: &[Step],
-    ops: &'d [Op],
+    ops: &'o [Op],
     least: Option<usize>,
     run: &mut RemovalRun,
 ) -> Result<Option<Option<usize>>, EditError>
@@ -170,13 +170,13 @@ fn ended<'o>(run: RemovalRun, left: &'o [Op]) -> Together<'o>
 
 /// Carries out operations that take items and entries out of a collection with their lines, one before the
 /// other, up to the first one that doesn't, or after which none of these follows.
-fn remove_rows<'d>(
+fn remove_rows<'d, 'o: 'd>(
     alloc: Global,
     cut: &CutText<'d, '_>,
     doc: usize,
     above: &[Step],
-    ops: &'d [Op],
-) -> Result<Together<'d>, EditError>
+    ops: &'o [Op],
+) -> Result<Together<'o>, EditError>
     requires { AreServed (operations_of ops.now) cut.now }
     ensures ok { IfOk result (λ x. spec.CarriesFirst ops.now cut.now x) }
     ensures err { IfErr result (λ e. EditFails e (carry_all (operations_of ops.now) cut.now)) }
@@ -197,11 +197,11 @@ fn remove_rows<'d>(
 
 /// The collection out of which the first two of some operations take an item or entry, if that has lines of
 /// its own.
-fn common_collection<'d>(
+fn common_collection<'d, 'o: 'd>(
     alloc: Global,
     cut: &CutText<'d, '_>,
-    ops: &'d [Op],
-) -> Option<(usize, &'d [Step])> {
+    ops: &'o [Op],
+) -> Option<(usize, &'o [Step])> {
     let [op, next, ..] = ops else {
         return None;
     };
@@ -219,11 +219,11 @@ fn common_collection<'d>(
 /// Carries out operations together that take items and entries out of one block collection with their lines,
 /// one before the other: all up to the last one, or to one of which more changes. Nothing, where the first
 /// one doesn't.
-pub fn carry_beside<'d>(
+pub fn carry_beside<'d, 'o: 'd>(
     alloc: Global,
     cut: &CutText<'d, '_>,
-    ops: &'d [Op],
-) -> Result<Option<Together<'d>>, EditError>
+    ops: &'o [Op],
+) -> Result<Option<Together<'o>>, EditError>
     requires { AreServed (operations_of ops.now) cut.now }
     ensures ok { IfOk result (λ o. IfSome o (λ x. spec.CarriesFirst ops.now cut.now x)) }
     ensures err { IfErr result (λ e. EditFails e (carry_all (operations_of ops.now) cut.now)) }

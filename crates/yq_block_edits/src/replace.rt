@@ -118,6 +118,9 @@ pub fn value_put_at<'t>(
     {
         return Ok(Some(text_put(alloc, held, value)?));
     }
+    if let Standing::Alone(lone) = &standing {
+        return Ok(Some(lone_put(alloc, lone, value)?));
+    }
     let layout = layout_for(cut, path.doc, is_keyed(&standing), value);
     let text = text_there(alloc, cut, path, &standing)?;
     Ok(Some(value_put(alloc, text, &layout, value, &standing)?))

@@ -5,8 +5,10 @@ ghost use Rattle.yq_row_table.{specs.Grammar.IsCut, specs.View.rows_view};
 ghost use Rattle.yq_documents.specs.Reading.{all_documents, cut_of, read_at};
 ghost use Rattle.yq_outline.specs.RowWalk.{AreKnown, stretch_view};
 ghost use Rattle.yq_places.specs.RowWalk.{HasCut, IsKnownLine, document_row_range};
+ghost use Rattle.yq_lookup.specs.Knowledge.{AreKnownInRows, AreSearches, IsKnowledge};
 ghost use Rattle.yq_lookup.specs.KnownDocuments.{AreKnownDocuments, IsKnownStretch, AreKnownInText};
 
+use crate::knowledge::{Knowledge, StepSearches};
 use crate::known_document::{KnownDocuments, KnownStretch, find_document};
 use std::alloc::Global;
 use std::marker::Model;
@@ -26,6 +28,7 @@ pub struct CutText<'d, 't> {
     pub(crate) line: Option<KnownLine<'d>>,
     pub(crate) documents: KnownDocuments,
     pub(crate) stretch: Option<KnownStretch>,
+    pub(crate) steps: StepSearches,
 }
 
 impl<'d, 't> Model for CutText<'d, 't> {
@@ -34,7 +37,7 @@ impl<'d, 't> Model for CutText<'d, 't> {
     ghost view = { λ c. whole c.text };
 
     ghost invariant = { λ c. HasCut (whole c.text) c.rows.now ×
-        IfSome c.known (λ v. AreKnown c.rows.now.rows v.items) × IfSome c.line (IsKnownLine c.rows.now) ×
+        AreKnownInRows c.rows.now c.known c.line c.steps ×
         AreKnownInText (whole c.text) c.rows.now.bounds c.documents c.stretch };
 }
 
@@ -61,6 +64,7 @@ impl<'d, 't> CutText<'d, 't> {
             line: None,
             documents: KnownDocuments::none(),
             stretch: Some(KnownStretch { doc, rows: stretch }),
+            steps: StepSearches::none(),
         }
     }
 
@@ -76,23 +80,30 @@ impl<'d, 't> CutText<'d, 't> {
             line: None,
             documents: KnownDocuments::none(),
             stretch: None,
+            steps: StepSearches::none(),
         }
     }
 
-    /// The same of a text in two halves, where items are known, as `known_in_front` gives them, from which
-    /// walks may go on.
-    pub fn resumed(text: Halves<'t>, rows: &'d Rows<'t>, known: Vec<KnownItem>) -> CutText<'d, 't>
+    /// The same of a text in two halves of which something is known, as `known_in_front` gives it: walks and
+    /// searches may go on from there.
+    pub fn resumed(text: Halves<'t>, rows: &'d Rows<'t>, known: Knowledge) -> CutText<'d, 't>
         requires cut { HasCut (whole text) rows.now }
-        requires known { AreKnown rows.now.rows known.items }
+        requires known { IsKnowledge rows.now known }
         ensures { result ≡ whole text.entry }
     {
+        let Knowledge {
+            items,
+            documents,
+            steps,
+        } = known;
         CutText {
             text,
             rows,
-            known: Some(known),
+            known: Some(items),
             line: None,
-            documents: KnownDocuments::none(),
+            documents,
             stretch: None,
+            steps,
         }
     }
 
@@ -107,6 +118,7 @@ impl<'d, 't> CutText<'d, 't> {
             line: None,
             documents: self.documents,
             stretch: self.stretch,
+            steps: self.steps,
         }
     }
 
@@ -129,30 +141,6 @@ impl<'d, 't> CutText<'d, 't> {
     {
         self.known = Some(known);
         self.line = line;
-    }
-
-    /// The same text, where these documents are known, as `documents_in_front` gives them: searches for
-    /// later ones go on from there.
-    pub fn with_documents(self, documents: KnownDocuments) -> CutText<'d, 't>
-        requires { AreKnownDocuments (rows_view (cut_of self)).bounds documents }
-        ensures { result ≡ self.entry }
-    {
-        let CutText {
-            text,
-            rows,
-            known,
-            line,
-            stretch,
-            ..
-        } = self;
-        CutText {
-            text,
-            rows,
-            known,
-            line,
-            documents,
-            stretch,
-        }
     }
 
     /// From now on document `doc` is known, if there is one, and the last one before it.
@@ -240,5 +228,20 @@ impl<'d, 't> CutText<'d, 't> {
         ensures { AreKnownDocuments (rows_view (cut_of self.now)).bounds result }
     {
         self.documents
+    }
+
+    /// How far steps were searched.
+    pub(crate) fn steps(&self) -> StepSearches
+        ensures { AreSearches (rows_view (cut_of self.now)).rows result }
+    {
+        self.steps
+    }
+
+    /// From now on steps were searched so far.
+    pub(crate) fn put_steps(&mut self, steps: StepSearches)
+        requires { AreSearches (rows_view (cut_of self.old)).rows steps }
+        ensures { self.new ≡ self.old }
+    {
+        self.steps = steps;
     }
 }

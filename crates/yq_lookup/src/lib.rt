@@ -2,11 +2,13 @@
 #![tactic(auto)]
 
 mod cut_text;
+mod knowledge;
 mod known_document;
 mod laws;
 mod places;
 
 pub use cut_text::CutText;
+pub use knowledge::{Knowledge, StepSearches};
 pub use known_document::{KnownDocument, KnownDocuments};
 pub use laws::path_laws::comments_stand;
 pub use laws::piece_laws::{contents_spell, entries_spell, pieces_exist, pieces_hold};

@@ -1,46 +1,60 @@
 //! One operation carried out on a text with its cut.
-ghost use Rattle.std.specs.Prelude.{IfErr, IfOk};
+ghost use Rattle.std.specs.Prelude.{◌≡◌, IfErr, IfOk};
 ghost use Rattle.yq_semantics.specs.Operations.{operation_of};
 ghost use Rattle.yq_documents.specs.Reading.{cut_of};
 ghost use Rattle.yq_text.specs.Changing.{IsChange};
-ghost use Rattle.yq_lookup.specs.KnownDocuments.{DocumentsStay};
-ghost use Rattle.yq_places.specs.RowWalk.{StayKnown};
+ghost use Rattle.yq_lookup.specs.Knowledge.{KnowledgeStays};
 ghost use Rattle.yq_edit_laws.{specs.Answers.{Edits, EditFails}, specs.Valid.segments_by};
 ghost use Rattle.yq_edit_laws.specs.Carried as spec;
 
 use crate::{change, op_segments};
 use std::alloc::Global;
 use yq_edit_laws::{EditError, on_the_way};
-use yq_lookup::{CutText, KnownDocuments};
-use yq_outline::KnownItem;
+use yq_edit_rules::is_filled;
+use yq_lookup::{CutText, Knowledge};
 use yq_semantics::Op;
 use yq_text::{ChangedMiddle, Edited, exchange};
 
-/// What an operation changes in a text with its cut, and what is known after it of its way.
-pub fn change_one<'d>(
+/// From now on it is known what is on the way of an operation, and how far steps were searched, if its value
+/// may ask for them.
+fn go_on<'d, 'o: 'd>(alloc: Global, cut: &mut CutText<'d, '_>, op: &'o Op)
+    ensures { cut.new ≡ cut.old }
+{
+    let way = op;
+    on_the_way(alloc, cut, way);
+    match op {
+        Op::Replace(path, value) | Op::Append(path, _, value) => {
+            if is_filled(value) {
+                cut.search_steps(path.doc);
+            }
+        }
+        Op::Remove(_) | Op::LineComment(_, _) | Op::HeadComment(_, _) => {}
+    }
+}
+
+/// What an operation changes in a text with its cut, and what is known after it: of its way, and of steps.
+pub fn change_one<'d, 'o: 'd>(
     alloc: Global,
     cut: &mut CutText<'d, '_>,
-    op: &'d Op,
-) -> Result<(ChangedMiddle, Vec<KnownItem>, KnownDocuments), EditError>
+    op: &'o Op,
+) -> Result<(ChangedMiddle, Knowledge), EditError>
     ensures ok { IfOk result (λ x. IsChange (segments_by (operation_of op.now) (cut_of cut.old))
         x.0) }
-    ensures known { IfOk result (λ x. StayKnown x.0.front (cut_of cut.old) x.1.items) }
-    ensures documents { IfOk result (λ x. DocumentsStay x.0.front (cut_of cut.old) x.2) }
+    ensures known { IfOk result (λ x. KnowledgeStays x.0.front (cut_of cut.old) x.1) }
     ensures err { IfErr result (λ e. EditFails e (spec.carry_one (operation_of op.now)
         (cut_of cut.old))) }
 {
-    on_the_way(alloc, cut, op);
+    go_on(alloc, cut, op);
     let changed = change(alloc, cut, op)?;
-    let documents = cut.documents_in_front(changed.front);
     let known = cut.known_in_front(alloc, changed.front);
-    Ok((changed, known, documents))
+    Ok((changed, known))
 }
 
 /// An operation carried out on a text with its cut, where the way to it goes on from what is known.
-pub fn carry_along<'d>(
+pub fn carry_along<'d, 'o: 'd>(
     alloc: Global,
     cut: &mut CutText<'d, '_>,
-    op: &'d Op,
+    op: &'o Op,
 ) -> Result<Edited, EditError>
     ensures { Edits result (spec.carry_one (operation_of op.now) (cut_of cut.old)) }
 {
@@ -50,7 +64,11 @@ pub fn carry_along<'d>(
 }
 
 /// An operation carried out on a text with its cut.
-pub fn carry_one<'d>(alloc: Global, cut: &CutText<'d, '_>, op: &'d Op) -> Result<Edited, EditError>
+pub fn carry_one<'d, 'o: 'd>(
+    alloc: Global,
+    cut: &CutText<'d, '_>,
+    op: &'o Op,
+) -> Result<Edited, EditError>
     ensures { Edits result (spec.carry_one (operation_of op.now) (cut_of cut.now)) }
 {
     let mut way = cut.again();

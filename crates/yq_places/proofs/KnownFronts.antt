@@ -1,12 +1,12 @@
 -- Items stay known in a text that keeps what is in front.
 use Rattle.std.proofs.Common.{◌≡◌, ℕ, zero, suc, ◌+◌, ◌-◌, ◌<◌, ◌≤◌, ltb, cond, Bool, true, false, List, [], ◌∷◌, ◌++◌, length, take, Some}
-use Rattle.std.{proofs.Common.{refl, ap, ◌∙◌, subst, arith, ltb-false, rules}, proofs.lemmas.List.take-append-le}
+use Rattle.std.{proofs.Common.{refl, sym, ap, ◌∙◌, subst, arith, ltb-false, rules}, proofs.lemmas.List.take-append-le}
 use Rattle.std.{proofs.lemmas.List.Elements.All-push, proofs.lemmas.Option.same_Some, specs.List.{All, slice_get, sum_by}}
 use Rattle.yq_row_table.specs.Items.{Item, row_item, end_item, items_of_cut, rows_in_items, bounds_in_items, view_of_items}
 use Rattle.yq_row_table.{specs.Kept.near, specs.Rows.Cut, specs.Offsets.row_length, specs.RowStarts.{passed_length, row_start}}
-use Rattle.yq_row_table.{specs.Touched.{item_text, in_front}, specs.View.{Slices, slices, RowsView, rows_view}}
+use Rattle.yq_row_table.{specs.Touched.{TouchesOnly, item_text, in_front}, specs.View.{Slices, slices, RowsView, rows_view}}
 use Rattle.yq_row_table.{proofs.ItemLaws.items_view_is, proofs.NearLaws.near_at}
-use Rattle.yq_outline.{specs.RowWalk.IsKnown, specs.declared.line_position.KnownItem.KnownItem, proofs.KnownLaws.one_there}
+use Rattle.yq_outline.{specs.RowWalk.{ArePassed, IsKnown}, specs.declared.line_position.KnownItem.KnownItem, proofs.KnownLaws.one_there}
 use Rattle.yq_places.specs.RowWalk.{StaysKnown}
 use Rattle.yq_row_table.specs.declared.offsets.Offsets as declared
 
@@ -51,15 +51,19 @@ none_before i = omega arith
 begins_at : (xs : List Item) (i : ℕ) → 0 + (sum_by row_length (take i (rows_in_items xs)) + sum_by (passed_length (0 + i)) (bounds_in_items 0 xs)) ≡ row_start i (view_of_items xs)
 begins_at xs i = omega (arith, ap (λ (j : ℕ). sum_by (passed_length j) (bounds_in_items 0 xs)) (none_before i))
 
+-- the rows before one that begins in front of an offset stay
+pub rows_stay : (c : Cut) (i front : ℕ) → i < length (rows_view c).rows → row_start i (rows_view c) < front → (new : Cut) (back : ℕ) → TouchesOnly front back c new →
+    take i (rows_view new).rows ≡ take i (rows_view c).rows
+rows_stay c i front within before new back touched =
+    let r = one_there (rows_view c).rows i within in
+    let there : slice_get (rows_in_items (items_of_cut c)) i ≡ Some r.0 = ap (λ (x : RowsView). slice_get x.rows i) (items_view_is c) ∙ r.1 in
+    let n = near_at (items_of_cut c) 0 0 i r.0 there in
+    let start : 0 + (sum_by row_length (take i (rows_in_items (items_of_cut c))) + sum_by (passed_length (0 + i)) (bounds_in_items 0 (items_of_cut c))) ≡ row_start i (rows_view c) = begins_at (items_of_cut c) i ∙ ap (row_start i) (items_view_is c) in
+    let first : i ≤ length (rows_in_items (in_front front (items_of_cut c))) = rows_in_front (items_of_cut c) 0 front i _ n (omega (arith, before, start)) in
+    first_rows new (in_front front (items_of_cut c)) _ i touched.new_are first ∙ sym (first_rows c (in_front front (items_of_cut c)) _ i touched.old_are first)
+
 pub stays_known : (c : Cut) (k : KnownItem) (front : ℕ) → IsKnown (rows_view c).rows k → k.row < length (rows_view c).rows → row_start k.row (rows_view c) < front → StaysKnown front c k
-stays_known c k front known within before new back touched =
-    let r = one_there (rows_view c).rows k.row within in
-    let there : slice_get (rows_in_items (items_of_cut c)) k.row ≡ Some r.0 = ap (λ (x : RowsView). slice_get x.rows k.row) (items_view_is c) ∙ r.1 in
-    let n = near_at (items_of_cut c) 0 0 k.row r.0 there in
-    let start : 0 + (sum_by row_length (take k.row (rows_in_items (items_of_cut c))) + sum_by (passed_length (0 + k.row)) (bounds_in_items 0 (items_of_cut c))) ≡ row_start k.row (rows_view c) = begins_at (items_of_cut c) k.row ∙ ap (row_start k.row) (items_view_is c) in
-    let first : k.row ≤ length (rows_in_items (in_front front (items_of_cut c))) = rows_in_front (items_of_cut c) 0 front k.row _ n (omega (arith, before, start)) in
-    let old = first_rows c (in_front front (items_of_cut c)) _ k.row touched.old_are first in
-    search (rules, first_rows, first, old)
+stays_known c k front known within before new back touched = subst (λ (ss : List Slices). ArePassed ss k) (sym (rows_stay c k.row front within before new back touched)) known
 
 pub view_stays : (s : RowsView) (k : KnownItem) (front : ℕ) → IsKnown s.rows k → k.row < length s.rows → row_start k.row s < front → (c : Cut) → s ≡ rows_view c → StaysKnown front c k
 view_stays s k front known within before c is =

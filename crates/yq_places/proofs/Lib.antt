@@ -14,6 +14,7 @@ pub mod CommentPieceLaws
 pub mod CommentSpans
 pub mod CommentHolds
 pub mod SeamLaws
+pub mod SearchLaws
 pub mod FinishLaws
 pub mod HeadSpanLaws
 pub mod FlowSpanLaws

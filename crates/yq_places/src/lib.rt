@@ -25,6 +25,6 @@ pub use places::root_standing::rows_standing;
 pub use places::row_head::RowHead;
 pub use places::rows_of_entry::{RowsOfEntry, entry_along};
 pub use places::standing::{BlockRoot, Compact, Lone, NoRows, Standing};
-pub use places::steps::first_step;
+pub use places::steps::{StepSearch, first_step, search_step, searched_in_front};
 pub use places::stretch::{RowLine, row_line_along};
 pub use places::written::cut_at;

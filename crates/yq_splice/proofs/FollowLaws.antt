@@ -11,9 +11,7 @@ use Rattle.yq_text.proofs.KeptSegments.{IsBetween, between}
 use Rattle.yq_row_table.{specs.Grammar.IsCut, specs.Meter.{count_after, line_count}, specs.Rows.{Cut, cut_text}, specs.Touched.TouchesOnly}
 use Rattle.yq_row_table.{specs.View.rows_view, specs.declared.places.Places.Places, proofs.MeterLaws.counted_within}
 use Rattle.yq_documents.{specs.Documents.{Document, ReadsDocuments}, specs.Reading.{documents, cut_of, read_at}, proofs.ReadLaws.parts_read}
-use Rattle.yq_outline.{specs.RowWalk.AreKnown, specs.declared.line_position.KnownItem.KnownItem}
-use Rattle.yq_places.specs.RowWalk.{StayKnown}
-use Rattle.yq_lookup.{specs.KnownDocuments.{AreKnownDocuments, DocumentsStay}, specs.declared.known_document.KnownDocuments.KnownDocuments}
+use Rattle.yq_lookup.{specs.Knowledge.{IsKnowledge, KnowledgeStays}, specs.declared.knowledge.Knowledge.Knowledge}
 use Rattle.yq_semantics.{specs.Fits.Fits, specs.Operations.Operation, specs.Rooms.room_of}
 use Rattle.yq_rows.{specs.Following.{ArePlacesOf, CountsWritten, Follows, exchanged, read_text}, specs.declared.kept.Kept.Kept}
 use Rattle.yq_edit_rules.{specs.Edits.{op_edits, or_stay}, specs.Local.IsLocalTo, specs.Operands.HasOperand}
@@ -21,8 +19,7 @@ use Rattle.yq_edit_laws.{specs.TouchedRanges.IsLocalEdit, proofs.NearLaws.edits_
 use Rattle.yq_edit_laws.{proofs.TouchedLaws.near_touched, proofs.CutLaws.{cut_read, cut_same, text_read}, specs.Carried.carried}
 use Rattle.yq_edit_laws.{specs.Edit.gives, specs.Theorems.{IsFitting, IsApplied}, specs.Valid.segments_by}
 use Rattle.yq_edit_laws.{proofs.ApplyLaws.{fits, applied_by}, proofs.EditsHold.edit_is, proofs.TextFaults.text_utf8}
-use Rattle.yq_splice.{specs.Session.{HasPlaces, KnowsDocuments, KnowsItems, Scans}, proofs.SessionLaws.carried_by}
-use Rattle.yq_splice.proofs.TouchedLineLaws.{read_within}
+use Rattle.yq_splice.{specs.Session.{HasPlaces, Knows, Scans}, proofs.SessionLaws.carried_by, proofs.TouchedLineLaws.read_within}
 
 -- ---- whether there are splices, by their number
 
@@ -181,18 +178,13 @@ module _ (op : Operation) (t : List ℕ) (operand : HasOperand op) (fitting : Is
       read_after : read_at new ≡ Some new_cut
       read_after = ap read_at (sym text_after) ∙ new_bytes_read
 
-      known_by : (ks : List KnownItem) → StayKnown kept.front (cut_of t) ks → KnowsItems new ks
-      known_by ks stay =
-          subst (λ (d : Cut). AreKnown (rows_view d).rows ks) (sym (cut_same new new_cut read_after))
-          (λ i k less. stay i k less new_cut kept.back (subst (λ (d : Cut). TouchesOnly kept.front kept.back d new_cut) (sym (cut_same t c h.read)) agrees))
+      known_by : (k : Knowledge) → KnowledgeStays kept.front (cut_of t) k → Knows new k
+      known_by k stay =
+          subst (λ (d : Cut). IsKnowledge (rows_view d) k) (sym (cut_same new new_cut read_after))
+          (stay new_cut kept.back (subst (λ (d : Cut). TouchesOnly kept.front kept.back d new_cut) (sym (cut_same t c h.read)) agrees))
 
-      documents_by : (d : KnownDocuments) → DocumentsStay kept.front (cut_of t) d → KnowsDocuments new d
-      documents_by d stay =
-          subst (λ (x : Cut). AreKnownDocuments (rows_view x).bounds d) (sym (cut_same new new_cut read_after))
-          (stay new_cut kept.back (subst (λ (x : Cut). TouchesOnly kept.front kept.back x new_cut) (sym (cut_same t c h.read)) agrees))
-
-      pub kept_after : (q : Places) (ks : List KnownItem) (d : KnownDocuments) → ArePlacesOf new q → StayKnown kept.front (cut_of t) ks → DocumentsStay kept.front (cut_of t) d → HasPlaces new q × KnowsItems new ks × KnowsDocuments new d
-      kept_after q ks d placed stay still = (record { cut = new_cut; read = read_after; placed = placed new_cut is_cut }, known_by ks stay, documents_by d still)
+      pub kept_after : (q : Places) (k : Knowledge) → ArePlacesOf new q → KnowledgeStays kept.front (cut_of t) k → HasPlaces new q × Knows new k
+      kept_after q k placed stay = (record { cut = new_cut; read = read_after; placed = placed new_cut is_cut }, known_by k stay)
 
       pub scans : (count before after : ℕ) → count ≡ before → CountsWritten t new kept count after → Scans op t new x.splices.items before after
       scans count before after is counts =

@@ -1,7 +1,7 @@
 -- A text with its cut, which a session keeps, and what is borrowed of it.
 use Rattle.std.proofs.Common.{◌≡◌, ℕ, ◌-◌, Bool, true, false, cond, ltb, List, [], ◌∷◌, ◌++◌, length, take, drop, Some, refl, sym, ap, ◌∙◌}
 use Rattle.std.{proofs.Common.{subst, arith, append-nil}, proofs.lemmas.Bool.le-ltb, proofs.lemmas.List.{length-take-le, take-append-drop}}
-use Rattle.std.{proofs.lemmas.List.Elements.All-nil, specs.Str.{IsCharBoundary, IsUtf8, is_utf8}}
+use Rattle.std.specs.Str.{IsCharBoundary, IsUtf8, is_utf8}
 use Rattle.yq_text.{specs.Halves.whole, specs.TextGapBuffer.{TextGapView, buffer_text}, specs.declared.halves.Halves.Halves}
 use Rattle.yq_text.{specs.Changing.IsChange, specs.Script.new_text, specs.declared.changed.ChangedMiddle.ChangedMiddle}
 use Rattle.yq_core.{specs.declared.fault.ReadError.ReadError, proofs.Bools.guard_then}
@@ -9,15 +9,14 @@ use Rattle.yq_row_table.{specs.Grammar.IsCut, specs.Items.{Item, items_of_cut, i
 use Rattle.yq_row_table.{specs.Touched.{TouchesOnly, in_back, in_front, item_text}, specs.View.{RowsView, rows_view}}
 use Rattle.yq_row_table.{specs.declared.places.Places.Places, proofs.PlacedLaws.split_boundary}
 use Rattle.yq_documents.{specs.Reading.{all_documents, documents, cut_of, read_at}, proofs.ReadLaws.{parts_read, text_takes, read_takes}}
-use Rattle.yq_outline.{specs.RowWalk.{AreKnown, IsKnown}, specs.declared.line_position.KnownItem.KnownItem}
-use Rattle.yq_places.specs.RowWalk.{HasCut, StayKnown}
-use Rattle.yq_lookup.{specs.KnownDocuments.DocumentsStay, specs.declared.known_document.KnownDocuments.KnownDocuments}
+use Rattle.yq_places.specs.RowWalk.{HasCut}
+use Rattle.yq_lookup.{specs.Knowledge.{IsKnowledge, KnowledgeStays}, specs.declared.knowledge.Knowledge.Knowledge}
 use Rattle.yq_semantics.specs.Operations.{Operation}
 use Rattle.yq_rows.specs.Following.{ArePlacesOf}
 use Rattle.yq_edit_laws.{proofs.CutLaws.{cut_read, cut_same}, specs.Carried.{carry_one, carried}}
 use Rattle.yq_edit_laws.{specs.Edit.{gives, by_reading, exchange_edit}, specs.Theorems.HasReading, specs.Valid.segments_by}
 use Rattle.yq_edit_laws.{proofs.TextFaults.{FailsToRead, text_unread}, proofs.UpdateLaws.no_reading}
-use Rattle.yq_splice.specs.Session.{HasPlaces, KnowsDocuments, KnowsItems, NotOpened}
+use Rattle.yq_splice.specs.Session.{HasPlaces, Knows, NotOpened}
 use Rattle.yq_core.specs.declared.fault.ReadError.TheVariants as reading
 
 -- ---- a text with its cut
@@ -54,13 +53,10 @@ pub moved_same : (t : List ℕ) (n : ℕ) (s : TextGapView) → s.front ≡ take
 moved_same t n s front back = (λ i. front i ++ back i) ∙ take-append-drop n t
 
 -- those of a text that is as before
-pub places_stay : (t u : List ℕ) (p q : Places) (ks : List KnownItem) (d : KnownDocuments) → u ≡ t → HasPlaces t p → KnowsItems t ks → KnowsDocuments t d → ArePlacesOf u q → HasPlaces u q × KnowsItems u ks × KnowsDocuments u d
-places_stay t u p q ks d same h knows begins placed =
-    let read : read_at u ≡ Some h.cut = ap read_at same ∙ h.read in (
-      record { cut = h.cut; read = read; placed = placed h.cut (cut_read u h.cut read) },
-      subst (λ (x : List ℕ). KnowsItems x ks) (sym same) knows,
-      subst (λ (x : List ℕ). KnowsDocuments x d) (sym same) begins,
-    )
+pub places_stay : (t u : List ℕ) (p q : Places) (k : Knowledge) → u ≡ t → HasPlaces t p → Knows t k → ArePlacesOf u q → HasPlaces u q × Knows u k
+places_stay t u p q k same h known placed =
+    let read : read_at u ≡ Some h.cut = ap read_at same ∙ h.read in
+    (record { cut = h.cut; read = read; placed = placed h.cut (cut_read u h.cut read) }, subst (λ (x : List ℕ). Knows x k) (sym same) known)
 
 module _ (t : List ℕ) (p : Places) (h : HasPlaces t p) where
   -- their split is in the text
@@ -88,15 +84,15 @@ module _ (t : List ℕ) (p : Places) (h : HasPlaces t p) where
       pub cut_borrowed : HasCut (whole text) r
       cut_borrowed = subst (λ (x : List ℕ). HasCut x r) (sym whole_borrowed) (has_cut t h.cut r h.read own)
 
-      -- items that are known
-      pub known_borrowed : (ks : List KnownItem) → KnowsItems t ks → AreKnown r.rows ks
-      known_borrowed ks is = subst (λ (x : RowsView). AreKnown x.rows ks) (sym (own ∙ ap rows_view (sym (cut_same t h.cut h.read)))) is
+      -- what is known of it
+      pub known_borrowed : (k : Knowledge) → Knows t k → IsKnowledge r k
+      known_borrowed k is = subst (λ (x : RowsView). IsKnowledge x k) (sym (own ∙ ap rows_view (sym (cut_same t h.cut h.read)))) is
 
       -- and given back
       pub places_back : (q : Places) → IsPlaced q r → HasPlaces t q
       places_back q placed = record { cut = h.cut; read = h.read; placed = subst (IsPlaced q) own placed }
 
--- ---- items that are known
+-- ---- what is known
 
 -- the items in front of an offset are the first ones
 front_part : (n : ℕ) (xs : List Item) → (ys : List Item) × (xs ≡ in_front n xs ++ ys)
@@ -119,17 +115,9 @@ touches_itself n c =
     rest.1 ∙ ap (λ (l : List Item). in_front n xs ++ l) (sym (append-nil rest.0) ∙ ap (λ (l : List Item). rest.0 ++ l) (sym (none_behind xs))) in
     record { touched = rest.0; written = rest.0; old_are = all; new_are = all; front_same = refl; back_same = refl }
 
--- no items are known at first
-pub none_known : (t : List ℕ) (ks : List KnownItem) → ks ≡ [] → KnowsItems t ks
-none_known t ks none = subst (KnowsItems t) (sym none) (All-nil (IsKnown (rows_view (cut_of t)).rows))
-
--- items that stay known are so in the text itself
-pub known_here : (n : ℕ) (t : List ℕ) (ks : List KnownItem) → StayKnown n (cut_of t) ks → KnowsItems t ks
-known_here n t ks stay = λ i k less. stay i k less (cut_of t) 0 (touches_itself n (cut_of t))
-
--- and so are documents
-pub documents_here : (n : ℕ) (t : List ℕ) (d : KnownDocuments) → DocumentsStay n (cut_of t) d → KnowsDocuments t d
-documents_here n t d stay = stay (cut_of t) 0 (touches_itself n (cut_of t))
+-- what stays known is so in the text itself
+pub known_here : (n : ℕ) (t : List ℕ) (k : Knowledge) → KnowledgeStays n (cut_of t) k → Knows t k
+known_here n t k stay = stay (cut_of t) 0 (touches_itself n (cut_of t))
 
 -- ---- an operation on it
 

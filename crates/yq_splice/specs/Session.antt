@@ -4,13 +4,14 @@ use Rattle.yq_core.{specs.declared.fault.FaultKind.TheVariants.NotUtf8, specs.de
 use Rattle.yq_row_table.{specs.Kept.IsPlaced, specs.Meter.{count_after, line_count}, specs.Rows.Cut, specs.Touched.TouchesOnly}
 use Rattle.yq_row_table.{specs.Items.items_of_cut, specs.View.rows_view, specs.declared.places.Places.Places}
 use Rattle.yq_documents.specs.Reading.{cut_of, read_at}
-use Rattle.yq_outline.{specs.RowWalk.AreKnown, specs.declared.line_position.KnownItem.KnownItem}
-use Rattle.yq_lookup.{specs.KnownDocuments.AreKnownDocuments, specs.declared.known_document.KnownDocuments.KnownDocuments}
+use Rattle.yq_lookup.{specs.Knowledge.IsKnowledge, specs.declared.knowledge.Knowledge.Knowledge}
 use Rattle.yq_semantics.specs.Operations.{Operation}
-use Rattle.yq_text.{specs.Script.{Segment, kept_front, kept_back, new_text}, specs.Splice.Splice}
+use Rattle.yq_text.{specs.Changing.IsChange, specs.Script.{Segment, kept_front, kept_back, new_text}, specs.Splice.Splice}
+use Rattle.yq_text.specs.declared.changed.ChangedMiddle.{ChangedMiddle}
 use Rattle.yq_rows.{specs.Following.read_text, specs.declared.kept.Kept.Kept}
 use Rattle.yq_edit_rules.specs.Edits.{op_edits}
-use Rattle.yq_edit_laws.{specs.TouchedRanges.{PutAreTouched, put_ranges}, specs.Theorems.HasReading}
+use Rattle.yq_edit_laws.{specs.Carried.carry_one, specs.Edit.Edit, specs.TouchedRanges.{PutAreTouched, put_ranges}}
+use Rattle.yq_edit_laws.{specs.Theorems.HasReading, specs.Valid.segments_by}
 use Rattle.yq_splice.specs.TouchedLines.{touched_lines}
 use Rattle.yq_core.specs.declared.fault.ReadError.TheVariants as reading
 
@@ -25,13 +26,17 @@ pub record HasPlaces (t : List ℕ) (places : Places) : Type 0 where
   pub read : read_at t ≡ Some cut
   pub placed : IsPlaced places (rows_view cut)
 
--- items that are kept are known among the rows of a text (own)
-abbrev pub KnowsItems : List ℕ → List KnownItem → Type 0
-KnowsItems t known = AreKnown (rows_view (cut_of t)).rows known
+-- what is kept is known of a text (own)
+abbrev pub Knows : List ℕ → Knowledge → Type 0
+Knows t known = IsKnowledge (rows_view (cut_of t)) known
 
--- documents that are kept are known in a text (own)
-abbrev pub KnowsDocuments : List ℕ → KnownDocuments → Type 0
-KnowsDocuments t known = AreKnownDocuments (rows_view (cut_of t)).bounds known
+-- what an operation changes in a text (own)
+abbrev pub IsChangeBy : Operation → List ℕ → ChangedMiddle → Type 0
+IsChangeBy op t x = IsChange (segments_by op (cut_of t)) x
+
+-- what an operation gives on a text by its cut (own)
+abbrev pub carried_by_cut : Operation → List ℕ → Edit
+carried_by_cut op t = carry_one op (cut_of t)
 
 -- why no session of a text is opened: it has no reading, or memory ran out (own)
 abbrev pub NotOpened : ReadError → List ℕ → Type 0

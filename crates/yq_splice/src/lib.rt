@@ -1,6 +1,7 @@
 //! Programs and operations carried out on a text, as splices, and sessions that keep a text with its rows.
 #![tactic(auto)]
 
+mod borrowed;
 mod by_lines;
 mod carrying;
 pub mod edit_laws;

@@ -4,24 +4,22 @@ ghost use Rattle.yq_documents.specs.Reading.{cut_of, documents_of, read_at};
 ghost use Rattle.yq_semantics.{specs.Operations.operation_of, specs.Program.update_count, specs.View.program_of};
 ghost use Rattle.yq_row_table.specs.Meter.{count_after, line_count};
 ghost use Rattle.yq_core.specs.Answers.{Gives};
-ghost use Rattle.yq_text.{specs.Changing.IsChange, specs.Halves.whole};
-ghost use Rattle.yq_lookup.specs.KnownDocuments.{DocumentsStay};
-ghost use Rattle.yq_places.specs.RowWalk.{StayKnown};
+ghost use Rattle.yq_text.specs.Halves.{whole};
+ghost use Rattle.yq_lookup.specs.Knowledge.{KnowledgeStays};
 ghost use Rattle.yq_edit_laws.{specs.Answers.{Edits, EditFails}, specs.Carried.carried, specs.Edit.{edit_after, gives}};
-ghost use Rattle.yq_edit_laws.{specs.Theorems.{HasReading, IsApplied, IsFitting, OpRefused}, specs.Valid.segments_by};
+ghost use Rattle.yq_edit_laws.specs.Theorems.{HasReading, IsApplied, IsFitting, OpRefused};
 ghost use Rattle.yq_expr.specs.FixedPaths.{IfAny, IsSole, PlansAlone};
-ghost use Rattle.yq_splice.specs.Session.{HasPlaces, NotOpened, Scans};
+ghost use Rattle.yq_splice.specs.Session.{HasPlaces, IsChangeBy, NotOpened, Scans};
 
+use crate::borrowed::{carry_in, change_in, plan_in};
 use crate::carrying::edited_behind;
 use std::alloc::{AllocError, Global};
 use std::marker::Model;
 use std::mem;
 use yq_core::ReadError;
 use yq_edit_laws::{EditError, operand_holds};
-use yq_expr::{Program, plan_by_rows};
-use yq_lookup::{CutText, KnownDocuments};
-use yq_operation::{carry_along, change_one};
-use yq_outline::KnownItem;
+use yq_expr::Program;
+use yq_lookup::Knowledge;
 use yq_row_table::Places;
 use yq_rows::{Kept, Meter, count_lines, follow};
 use yq_semantics::Op;
@@ -31,28 +29,26 @@ use yq_tree::read;
 /// A text that reads, kept with where its rows are, both on two sides of where it was changed last: so that
 /// operations are applied to it one after the other, each passes what is between its place and the last
 /// one's, and of the rows only those that it touches are read again. The way to the next one's place goes on
-/// from the items on the way of the last one.
+/// from what is known of the way of the last one.
 #[derive(Drop)]
 pub struct Session {
     alloc: Global,
     text: TextGapBuffer,
     places: Places,
-    known: Vec<KnownItem>,
-    documents: KnownDocuments,
+    known: Knowledge,
     meter: Meter,
 }
 
 impl Model for Session {
     ghost use Rattle.yq_text.specs.TextGapBuffer.{buffer_text};
-    ghost use Rattle.yq_splice.specs.Session.{SessionState, HasPlaces, KnowsItems, KnowsDocuments};
+    ghost use Rattle.yq_splice.specs.Session.{SessionState, HasPlaces, Knows};
 
     ghost Value = { SessionState };
 
     ghost view = { λ s. record { text = buffer_text s.text; scanned = s.meter } };
 
     ghost invariant = { λ s. HasPlaces (buffer_text s.text) s.places ×
-        KnowsItems (buffer_text s.text) s.known.items ×
-        KnowsDocuments (buffer_text s.text) s.documents };
+        Knows (buffer_text s.text) s.known };
 }
 
 impl Session {
@@ -75,8 +71,7 @@ impl Session {
             alloc,
             text,
             places,
-            known: Vec::new(alloc),
-            documents: KnownDocuments::none(),
+            known: Knowledge::none(alloc),
             meter,
         })
     }
@@ -90,32 +85,24 @@ impl Session {
             alloc,
             text: TextGapBuffer::of(text),
             places,
-            known: Vec::new(alloc),
-            documents: KnownDocuments::none(),
+            known: Knowledge::none(alloc),
             meter: Meter::new(),
         }
     }
 
-    /// What an operation changes in the text, and what is known of its way after it, from which the
-    /// next one may go on.
-    fn change(
-        &mut self,
-        op: &Op,
-    ) -> Result<(ChangedMiddle, Vec<KnownItem>, KnownDocuments), EditError>
+    /// What an operation changes in the text, and what is known after it, from which the next one may go on.
+    fn change(&mut self, op: &Op) -> Result<(ChangedMiddle, Knowledge), EditError>
         ensures same { self.new ≡ self.old }
-        ensures ok { IfOk result (λ x. IsChange (segments_by (operation_of op.now)
-            (cut_of self.old.text)) x.0) }
-        ensures known { IfOk result (λ x. StayKnown x.0.front (cut_of self.old.text) x.1.items) }
-        ensures documents { IfOk result (λ x. DocumentsStay x.0.front (cut_of self.old.text) x.2) }
+        ensures ok { IfOk result (λ x. IsChangeBy (operation_of op.now) self.old.text x.0) }
+        ensures known { IfOk result (λ x. KnowledgeStays x.0.front (cut_of self.old.text) x.1) }
         ensures err { IfErr result (λ e. EditFails e (carried (operation_of op.now) self.old.text)) }
     {
         let places = mem::replace(&mut self.places, Places::new(self.alloc));
-        let known = mem::replace(&mut self.known, Vec::new(self.alloc));
+        let known = mem::replace(&mut self.known, Knowledge::none(self.alloc));
         self.text.move_split(places.split);
         let text = self.text.halves();
         let rows = places.rows(text);
-        let mut cut = CutText::resumed(text, &rows, known).with_documents(self.documents);
-        let changed = change_one(self.alloc, &mut cut, op);
+        let changed = change_in(self.alloc, text, &rows, known, op);
         self.places = rows.into_places();
         changed
     }
@@ -129,13 +116,11 @@ impl Session {
         ensures plans { IfAny result (PlansAlone nth program.now self.old.text) }
     {
         let places = mem::replace(&mut self.places, Places::new(self.alloc));
-        let known = mem::replace(&mut self.known, Vec::new(self.alloc));
+        let known = mem::replace(&mut self.known, Knowledge::none(self.alloc));
         self.text.move_split(places.split);
         let text = self.text.halves();
         let rows = places.rows(text);
-        let mut cut = CutText::resumed(text, &rows, known).with_documents(self.documents);
-        let planned = plan_by_rows(self.alloc, &mut cut, program, nth);
-        let known = cut.known_in_front(self.alloc, usize::MAX);
+        let (planned, known) = plan_in(self.alloc, text, &rows, known, program, nth);
         self.places = rows.into_places();
         self.known = known;
         planned
@@ -164,7 +149,7 @@ impl Session {
         ensures kept { OnErr result (self.new ≡ self.old) }
     {
         operand_holds(op);
-        let (changed, known, documents) = self.change(op)?;
+        let (changed, known) = self.change(op)?;
         let ChangedMiddle {
             front,
             back,
@@ -173,7 +158,6 @@ impl Session {
         } = changed;
         if splices.is_empty() {
             self.known = known;
-            self.documents = documents;
             return Ok(splices);
         }
         let kept = Kept { front, back };
@@ -187,7 +171,6 @@ impl Session {
             &mut meter,
         )?;
         self.known = known;
-        self.documents = documents;
         self.meter = meter;
         Ok(splices)
     }
@@ -225,14 +208,12 @@ impl Session {
             mut text,
             places,
             known,
-            documents,
             ..
         } = self;
         text.move_split(places.split);
         let halves = text.halves();
         let rows = places.rows(halves);
-        let mut cut = CutText::resumed(halves, &rows, known).with_documents(documents);
-        let edited = carry_along(alloc, &mut cut, op)?;
+        let edited = carry_in(alloc, halves, &rows, known, op)?;
         Ok(edited_behind(splices, edited)?)
     }
 }

@@ -4,9 +4,10 @@ ghost use Rattle.yq_row_table.specs.View.{rows_view};
 ghost use Rattle.yq_documents.specs.Reading.{cut_of};
 ghost use Rattle.yq_outline.specs.RowWalk.{AreKnown};
 ghost use Rattle.yq_places.specs.RowWalk.{IsKnownLine, StayKnown};
-ghost use Rattle.yq_lookup.specs.KnownDocuments.{DocumentsStay};
+ghost use Rattle.yq_lookup.{specs.Knowledge.{KnowledgeStays, SearchesStay}, specs.KnownDocuments.DocumentsStay};
 
 use crate::cut_text::CutText;
+use crate::knowledge::{Knowledge, StepSearches, searches_in_front};
 use crate::known_document::{KnownDocuments, document_in_front};
 use std::alloc::Global;
 use yq_documents::Path;
@@ -93,16 +94,22 @@ impl<'d, 't> CutText<'d, 't> {
         self.put_items(known, line);
     }
 
-    /// Takes the items that are known, as far as walks may go on from there in each text that keeps so many
-    /// bytes in front, and of the next one the item before it.
+    /// Takes what is known, as far as walks and searches may go on from there in each text that keeps so many
+    /// bytes in front; of the next item that of the one before it.
     #[inline(always)]
-    pub fn known_in_front(&mut self, alloc: Global, front: usize) -> Vec<KnownItem>
+    pub fn known_in_front(&mut self, alloc: Global, front: usize) -> Knowledge
         ensures same { self.new ≡ self.old }
-        ensures known { StayKnown front (cut_of self.old) result.items }
+        ensures known { KnowledgeStays front (cut_of self.old) result }
     {
-        let mut known = self.take_items(alloc);
-        self.items_in_front(&mut known, front);
-        known
+        let documents = self.documents_in_front(front);
+        let steps = self.steps_in_front(front);
+        let mut items = self.take_items(alloc);
+        self.items_in_front(&mut items, front);
+        Knowledge {
+            items,
+            documents,
+            steps,
+        }
     }
 
     /// Leaves of items that are known those that stay known in each text that keeps so many bytes in front.
@@ -118,7 +125,7 @@ impl<'d, 't> CutText<'d, 't> {
     /// The documents that are known, as far as searches may go on from there in each text that keeps so many
     /// bytes in front.
     #[inline(always)]
-    pub fn documents_in_front(&self, front: usize) -> KnownDocuments
+    fn documents_in_front(&self, front: usize) -> KnownDocuments
         ensures { DocumentsStay front (cut_of self.now) result }
     {
         let rows = self.rows();
@@ -127,5 +134,13 @@ impl<'d, 't> CutText<'d, 't> {
             last: document_in_front(rows, known.last, front),
             before: document_in_front(rows, known.before, front),
         }
+    }
+
+    /// How far steps were searched in each text that keeps so many bytes in front.
+    fn steps_in_front(&self, front: usize) -> StepSearches
+        ensures { SearchesStay front (cut_of self.now) result }
+    {
+        let _whole = self.whole();
+        searches_in_front(self.rows(), self.steps(), front)
     }
 }

@@ -1,10 +1,15 @@
 //! By how many columns the collections of a document are deeper than their keys.
 ghost use Rattle.std.specs.Prelude.{◌≡◌, if◌then◌else◌};
 ghost use Rattle.yq_documents.specs.Reading.{cut_of};
-ghost use Rattle.yq_places.specs.Steps.{document_steps};
+ghost use Rattle.yq_outline.specs.RowWalk.{HasRows};
+ghost use Rattle.yq_row_table.specs.View.{rows_view};
+ghost use Rattle.yq_places.{specs.StepReading.IsSearched, specs.Steps.document_steps};
+ghost use Rattle.yq_lookup.specs.Knowledge.{AreSearches};
 
 use crate::cut_text::CutText;
-use yq_places::first_step;
+use crate::knowledge::StepSearches;
+use yq_outline::Stretch;
+use yq_places::{StepSearch, first_step, search_step};
 
 impl CutText<'_, '_> {
     /// By how many columns the sequences, or mappings, of document `doc`, counted from 0, are deeper than
@@ -18,6 +23,39 @@ impl CutText<'_, '_> {
         let Some(document) = self.stretch(doc) else {
             return 2;
         };
-        first_step(rows, document, dashes)
+        first_step(rows, document, self.steps().of(dashes), dashes)
+    }
+
+    /// Goes on searching the rows of a document for a step, up to the last row that is known.
+    fn searched(&self, document: Stretch, dashes: bool) -> StepSearch
+        requires { HasRows (rows_view (cut_of self.now)) document }
+        ensures { IsSearched dashes (rows_view (cut_of self.now)).rows result }
+    {
+        let _whole = self.whole();
+        let upto = self.known().last().map_or(0, |item| item.row);
+        search_step(self.rows(), document, self.steps().of(dashes), dashes, upto)
+    }
+
+    /// How far steps are searched once those of document `doc` were, up to the last row that is known.
+    fn steps_to(&self, doc: usize) -> StepSearches
+        ensures { AreSearches (rows_view (cut_of self.now)).rows result }
+    {
+        let _whole = self.whole();
+        let Some(document) = self.stretch(doc) else {
+            return self.steps();
+        };
+        StepSearches {
+            sequences: Some(self.searched(document, true)),
+            mappings: Some(self.searched(document, false)),
+        }
+    }
+
+    /// From now on steps of document `doc`, counted from 0, were searched up to the last row that is known on
+    /// the way of a path: each search goes on from there.
+    pub fn search_steps(&mut self, doc: usize)
+        ensures { self.new ≡ self.old }
+    {
+        let steps = self.steps_to(doc);
+        self.put_steps(steps);
     }
 }

@@ -4,4 +4,10 @@ use Rattle.yq_places.specs.RowWalk.{StayKnown}
 use Rattle.yq_lookup.proofs.cut_text.CutText.known_in_front.Goals as goal
 
 pub returns-clause-known : goal.returns-clause-known
-returns-clause-known c = subst (λ (x : List ℕ). StayKnown c.args.front (cut_of x) c.items_in_front.new.known.items) c.take_items-known.ensures.same c.items_in_front.ensures
+returns-clause-known c =
+    let items = subst (λ (x : List ℕ). StayKnown c.args.front (cut_of x) c.items_in_front.new.known.items) c.take_items-items.ensures.same c.items_in_front.ensures in
+    λ new back touched. record {
+      items = λ i k less. items i k less new back touched;
+      documents = c.documents_in_front-documents.ensures new back touched;
+      steps = c.steps_in_front-steps.ensures new back touched;
+    }

@@ -1,20 +1,21 @@
-use Rattle.std.proofs.Common.{◌≡◌, ◌-◌, drop, sym, ap, ◌∙◌, arith}
-use Rattle.yq_outline.specs.Lines.{lines_of_rows}
-use Rattle.yq_places.proofs.StepLaws.{step_behind, steps_agrees, step_here, step_on}
+use Rattle.std.proofs.Common.{◌<◌, length, arith}
+use Rattle.yq_places.proofs.SearchLaws.{found_deeper, none_found, one_found}
 use Rattle.yq_places.proofs.places.steps.first_step.Goals as goal
 
-pub rows-init : goal.rows-init
-rows-init c = λ h.
-    let none : c.args.document.first - c.args.document.first ≡ 0 = omega arith in
-    ap (λ k. step_behind c.args.dashes 0 (lines_of_rows (drop k h.rows))) none ∙ steps_agrees c.args.dashes (lines_of_rows h.rows)
+pub returns-then-found-document : goal.returns-then-found-document
+returns-then-found-document c = λ h.
+    let found = c.search_step-found in
+    none_found c.args.rows.now c.args.document h c.args.dashes found.result found.ensures.first (omega (arith, found.ensures.within, c.if-found-document.true)) found.ensures.searched
 
-pub returns-then-begins_under : goal.returns-then-begins_under
-returns-then-begins_under c = λ h.
-    step_here c.args.rows.now c.args.document h c.args.dashes c.rows.at c.rows.above c.level_at-first.result (omega arith) c.rows-test.true c.level_at-first.ensures (sym c.begins_under.ensures ∙ c.if-begins_under.true)
-    ∙ c.rows.invariant h
+pub overflow_sub-result : goal.overflow_sub-result
+overflow_sub-result c =
+    let found = c.search_step-found in
+    let within : found.result.row < c.args.document.end = omega (arith, c.if-found-document.false) in
+    let there : found.result.row < length c.args.rows.now.rows = omega (arith, within, c.requires.document.within) in
+    found_deeper c.args.dashes c.args.rows.now.rows found.result c.level_at-level.result there (found.ensures.stops within within) c.level_at-level.ensures
 
-pub rows-preserved : goal.rows-preserved
-rows-preserved c = λ h.
-    step_on c.args.rows.now c.args.document h c.args.dashes c.rows.at c.rows.above c.level_at-first.result (omega arith) c.rows-test.true c.level_at-first.ensures
-    c.lines_before_mark-last.result c.level_at-above.result (sym c.begins_under.ensures ∙ c.if-begins_under.false) c.lines_before_mark-last.ensures c.level_at-above.ensures
-    ∙ c.rows.invariant h
+pub returns : goal.returns
+returns c = λ h.
+    let found = c.search_step-found in
+    let within : found.result.row < c.args.document.end = omega (arith, c.if-found-document.false) in
+    one_found c.args.rows.now c.args.document h c.args.dashes found.result c.level_at-level.result found.ensures.first found.ensures.order within found.ensures.searched (found.ensures.stops within within) c.level_at-level.ensures

@@ -3,9 +3,9 @@ use Rattle.yq_text.specs.TextGapBuffer.{buffer_text}
 use Rattle.yq_semantics.specs.Operations.{operation_of}
 use Rattle.yq_rows.specs.Following.{CountsWritten, Follows, exchanged}
 use Rattle.yq_edit_laws.{specs.Edit.gives, specs.Theorems.IsApplied, proofs.ApplyLaws.refused_by}
-use Rattle.yq_splice.specs.Session.{SessionState, HasPlaces, KnowsDocuments, KnowsItems}
+use Rattle.yq_splice.specs.Session.{SessionState, HasPlaces, Knows}
 use Rattle.yq_splice.proofs.FollowLaws.{applied_none, applied_some, carried_none, carried_some, follows, kept_after, no_splices, scans}
-use Rattle.yq_splice.{proofs.FollowLaws.some_splices, proofs.SessionLaws.{documents_here, known_here, places_stay}}
+use Rattle.yq_splice.{proofs.FollowLaws.some_splices, proofs.SessionLaws.{known_here, places_stay}}
 use Rattle.yq_splice.proofs.session.Session.apply.Goals as goal
 
 pub returns-in_err-changed-clause-refused : goal.returns-in_err-changed-clause-refused
@@ -17,11 +17,7 @@ returns-in_err-changed-clause-refused c =
 pub invariant_of-self : goal.invariant_of-self
 invariant_of-self c =
     let text : buffer_text c.self.inside.text ≡ c.args.self.now.text = ap (λ (s : SessionState). s.text) (c.self.view_is ∙ c.in_ok-changed.ensures.same) in
-    let front = c.in_ok-changed.changed.front in (
-      c.self.invariant.0,
-      subst (λ (x : List ℕ). KnowsItems x c.in_ok-changed.known.items) (sym text) (known_here front c.args.self.now.text c.in_ok-changed.known.items c.in_ok-changed.ensures.known),
-      subst (λ (x : List ℕ). KnowsDocuments x c.in_ok-changed.documents) (sym text) (documents_here front c.args.self.now.text c.in_ok-changed.documents c.in_ok-changed.ensures.documents),
-    )
+    (c.self.invariant.0, subst (λ (x : List ℕ). Knows x c.in_ok-changed.known) (sym text) (known_here c.in_ok-changed.changed.front c.args.self.now.text c.in_ok-changed.known c.in_ok-changed.ensures.known))
 
 pub returns-then-is_empty-clause-ok : goal.returns-then-is_empty-clause-ok
 returns-then-is_empty-clause-ok c =
@@ -56,7 +52,7 @@ follow-requires c =
 
 pub invariant_of-self-in_err-follow : goal.invariant_of-self-in_err-follow
 invariant_of-self-in_err-follow c =
-    places_stay (buffer_text c.self.inside.text) (buffer_text c.follow.new.text) c.self.inside.places c.follow.new.places c.self.inside.known.items c.self.inside.documents c.in_err-follow.ensures.text c.self.invariant.0 c.self.invariant.1 c.self.invariant.2 c.in_err-follow.ensures.placed
+    places_stay (buffer_text c.self.inside.text) (buffer_text c.follow.new.text) c.self.inside.places c.follow.new.places c.self.inside.known c.in_err-follow.ensures.text c.self.invariant.0 c.self.invariant.1 c.in_err-follow.ensures.placed
 
 pub invariant_of-self-2 : goal.invariant_of-self-2
 invariant_of-self-2 c =
@@ -65,7 +61,7 @@ invariant_of-self-2 c =
     let some = some_splices c.in_ok-changed.changed.splices (sym c.is_empty.ensures ∙ c.if-is_empty.false) in
     let becomes = c.in_ok-follow.ensures.text ∙ (λ i. exchanged (record { front = c.in_ok-changed.changed.front; back = c.in_ok-changed.changed.back }) (text i) (c.deref.ensures i)) in
     kept_after (operation_of c.args.op.now) c.args.self.now.text c.operand_holds.ensures c.requires c.self.inside.places h c.in_ok-changed.changed c.in_ok-changed.ensures.ok some
-    (buffer_text c.follow.new.text) becomes c.follow.new.places c.in_ok-changed.known.items c.in_ok-changed.documents c.in_ok-follow.ensures.placed c.in_ok-changed.ensures.known c.in_ok-changed.ensures.documents
+    (buffer_text c.follow.new.text) becomes c.follow.new.places c.in_ok-changed.known c.in_ok-follow.ensures.placed c.in_ok-changed.ensures.known
 
 pub returns-clause-ok : goal.returns-clause-ok
 returns-clause-ok c =

@@ -1,8 +1,8 @@
-use Rattle.std.{proofs.Common.{ℕ, List, string_bytes, sym, ap, ◌∙◌, subst}, proofs.lemmas.Result.err_from_is_err_and}
-use Rattle.yq_text.specs.TextGapBuffer.{buffer_text}
+use Rattle.std.{proofs.Common.{string_bytes, sym, ap, ◌∙◌, subst}, proofs.lemmas.Result.err_from_is_err_and}
+use Rattle.yq_text.{specs.Halves.whole, specs.TextGapBuffer.buffer_text}
 use Rattle.yq_semantics.specs.Operations.{operation_of}
 use Rattle.yq_edit_laws.{specs.Answers.EditFails, specs.Carried.carried, specs.Edit.{edit_after, gives}, proofs.OrderLaws.fails_behind}
-use Rattle.yq_splice.specs.Session.{SessionState, KnowsDocuments}
+use Rattle.yq_splice.specs.Session.{SessionState}
 use Rattle.yq_splice.proofs.SessionLaws.{carried_on, cut_borrowed, known_borrowed, places_borrowed, split_is, split_borrowed}
 use Rattle.yq_splice.proofs.SessionLaws.{whole_borrowed}
 use Rattle.yq_splice.proofs.session.Session.close_by.Goals as goal
@@ -16,28 +16,23 @@ rows-rows-requires-clause-split c = split_borrowed (buffer_text c.self.inside.te
 pub rows-rows-requires-clause-placed : goal.rows-rows-requires-clause-placed
 rows-rows-requires-clause-placed c = places_borrowed (buffer_text c.self.inside.text) c.self.inside.places c.self.invariant.0 c.halves-halves.result (c.halves-halves.ensures.front ∙ c.move_split.ensures.front, c.halves-halves.ensures.back ∙ c.move_split.ensures.back)
 
-pub resumed-requires-clause-cut : goal.resumed-requires-clause-cut
-resumed-requires-clause-cut c = cut_borrowed (buffer_text c.self.inside.text) c.self.inside.places c.self.invariant.0 c.halves-halves.result (c.halves-halves.ensures.front ∙ c.move_split.ensures.front, c.halves-halves.ensures.back ∙ c.move_split.ensures.back) c.rows-rows.result c.rows-rows.ensures
+pub carry_in-requires-clause-cut : goal.carry_in-requires-clause-cut
+carry_in-requires-clause-cut c = cut_borrowed (buffer_text c.self.inside.text) c.self.inside.places c.self.invariant.0 c.halves-halves.result (c.halves-halves.ensures.front ∙ c.move_split.ensures.front, c.halves-halves.ensures.back ∙ c.move_split.ensures.back) c.rows-rows.result c.rows-rows.ensures
 
-pub resumed-requires-clause-known : goal.resumed-requires-clause-known
-resumed-requires-clause-known c = known_borrowed (buffer_text c.self.inside.text) c.self.inside.places c.self.invariant.0 c.halves-halves.result (c.halves-halves.ensures.front ∙ c.move_split.ensures.front, c.halves-halves.ensures.back ∙ c.move_split.ensures.back) c.rows-rows.result c.rows-rows.ensures c.self.inside.known.items c.self.invariant.1
+pub carry_in-requires-clause-known : goal.carry_in-requires-clause-known
+carry_in-requires-clause-known c = known_borrowed (buffer_text c.self.inside.text) c.self.inside.places c.self.invariant.0 c.halves-halves.result (c.halves-halves.ensures.front ∙ c.move_split.ensures.front, c.halves-halves.ensures.back ∙ c.move_split.ensures.back) c.rows-rows.result c.rows-rows.ensures c.self.inside.known c.self.invariant.1
 
 pub returns-in_err-edited : goal.returns-in_err-edited
 returns-in_err-edited c =
-    let whole = c.with_documents-cut.ensures ∙ c.resumed.ensures ∙ whole_borrowed (buffer_text c.self.inside.text) c.self.inside.places c.self.invariant.0 c.halves-halves.result (c.halves-halves.ensures.front ∙ c.move_split.ensures.front, c.halves-halves.ensures.back ∙ c.move_split.ensures.back) in
-    let same = carried_on (operation_of c.args.op.now) (buffer_text c.self.inside.text) c.with_documents-cut.result c.self.inside.places c.self.invariant.0 whole ∙ ap (λ (s : SessionState). carried (operation_of c.args.op.now) s.text) c.self.view_is in
+    let all = whole_borrowed (buffer_text c.self.inside.text) c.self.inside.places c.self.invariant.0 c.halves-halves.result (c.halves-halves.ensures.front ∙ c.move_split.ensures.front, c.halves-halves.ensures.back ∙ c.move_split.ensures.back) in
+    let same = carried_on (operation_of c.args.op.now) (buffer_text c.self.inside.text) (whole c.halves-halves.result) c.self.inside.places c.self.invariant.0 all ∙ ap (λ (s : SessionState). carried (operation_of c.args.op.now) s.text) c.self.view_is in
     let p = err_from_is_err_and c.from_residual.result c.from_residual.ensures.1 in
     rw (p.1, p.2)
     (fails_behind c.in_err-edited.field-0.0 c.args.splices.items (carried (operation_of c.args.op.now) c.args.self.text) (subst (EditFails c.in_err-edited.field-0.0) same c.in_err-edited.ensures))
 
 pub returns : goal.returns
 returns c =
-    let whole = c.with_documents-cut.ensures ∙ c.resumed.ensures ∙ whole_borrowed (buffer_text c.self.inside.text) c.self.inside.places c.self.invariant.0 c.halves-halves.result (c.halves-halves.ensures.front ∙ c.move_split.ensures.front, c.halves-halves.ensures.back ∙ c.move_split.ensures.back) in
-    let same = carried_on (operation_of c.args.op.now) (buffer_text c.self.inside.text) c.with_documents-cut.result c.self.inside.places c.self.invariant.0 whole ∙ ap (λ (s : SessionState). carried (operation_of c.args.op.now) s.text) c.self.view_is in
+    let all = whole_borrowed (buffer_text c.self.inside.text) c.self.inside.places c.self.invariant.0 c.halves-halves.result (c.halves-halves.ensures.front ∙ c.move_split.ensures.front, c.halves-halves.ensures.back ∙ c.move_split.ensures.back) in
+    let same = carried_on (operation_of c.args.op.now) (buffer_text c.self.inside.text) (whole c.halves-halves.result) c.self.inside.places c.self.invariant.0 all ∙ ap (λ (s : SessionState). carried (operation_of c.args.op.now) s.text) c.self.view_is in
     ap (edit_after c.args.splices.items) (sym same ∙ c.in_ok-edited.ensures)
     ∙ λ i. gives (string_bytes (sym c.in_ok-edited_behind.ensures.0 i)) (sym c.in_ok-edited_behind.ensures.1 i)
-
-pub with_documents-cut-requires : goal.with_documents-cut-requires
-with_documents-cut-requires c =
-    let whole = c.resumed.ensures ∙ whole_borrowed (buffer_text c.self.inside.text) c.self.inside.places c.self.invariant.0 c.halves-halves.result (c.halves-halves.ensures.front ∙ c.move_split.ensures.front, c.halves-halves.ensures.back ∙ c.move_split.ensures.back) in
-    subst (λ (x : List ℕ). KnowsDocuments x c.self.inside.documents) (sym whole) c.self.invariant.2

@@ -1,8 +1,8 @@
 use Rattle.std.{proofs.Common.{rules, ap, sym, ◌∙◌, ◌≡◌, ℕ, List, Some, ◌++◌, append-nil, subst}, proofs.lemmas.Result.err_from_is_err_and}
 use Rattle.yq_documents.specs.Reading.{cut_of, read_at}
-use Rattle.yq_splice.proofs.SessionLaws.{has_reading, none_known, not_opened}
+use Rattle.yq_splice.proofs.SessionLaws.{has_reading, not_opened}
 use Rattle.yq_text.specs.TextGapBuffer.{buffer_text}
-use Rattle.yq_row_table.{specs.Kept.IsPlaced, specs.Meter.{count_after, line_count}}
+use Rattle.yq_row_table.{specs.Kept.IsPlaced, specs.Meter.{count_after, line_count}, specs.View.rows_view}
 use Rattle.yq_splice.proofs.session.Session.open.Goals as goal
 
 pub returns-in_err-documents-clause-refused : goal.returns-in_err-documents-clause-refused
@@ -24,8 +24,7 @@ invariant_of-result c =
         read = ap read_at (text ∙ sym c.as_bytes.ensures.value) ∙ c.in_ok-documents.ensures.exact;
         placed = subst (IsPlaced c.into_places-places.result) c.into_rows.ensures c.into_places-places.ensures;
       },
-      none_known (buffer_text c.of-text.result) c.new.result.items c.new.ensures.items,
-      (rw c.none.ensures.last tt, rw c.none.ensures.before tt),
+      c.none.ensures (rows_view (cut_of (buffer_text c.of-text.result))),
     )
 
 pub returns-clause-exact : goal.returns-clause-exact

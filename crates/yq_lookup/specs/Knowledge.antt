@@ -1,0 +1,29 @@
+-- Reading (own; a reader may skip it): what is known of a text, from which walks and searches go on.
+use Rattle.std.{specs.Prelude.{ℕ, true, false, IfSome, List, Option, Vec}, specs.declared.alloc.Global.Global}
+use Rattle.yq_row_table.{specs.Rows.Cut, specs.Touched.TouchesOnly, specs.View.{RowsView, Slices, rows_view}}
+use Rattle.yq_outline.{specs.RowWalk.AreKnown, specs.declared.line_position.KnownItem.KnownItem}
+use Rattle.yq_places.{specs.RowWalk.IsKnownLine, specs.StepReading.IsSearched, specs.declared.places.known_line.KnownLine.KnownLine}
+use Rattle.yq_lookup.{specs.KnownDocuments.AreKnownDocuments, specs.declared.knowledge.Knowledge.Knowledge}
+use Rattle.yq_lookup.specs.declared.knowledge.StepSearches.{StepSearches}
+
+-- Rows were searched so far for sequences and for mappings under keys.
+abbrev pub AreSearches : List Slices → StepSearches → Type 0
+AreSearches ss k = IfSome k.sequences (IsSearched true ss) × IfSome k.mappings (IsSearched false ss)
+
+-- Rows were searched as far in each text in which the items of their cut stay that end in front of so many bytes.
+abbrev pub SearchesStay : ℕ → Cut → StepSearches → Type 0
+SearchesStay front c k = (new : Cut) (back : ℕ) → TouchesOnly front back c new → AreSearches (rows_view new).rows k
+
+-- Items, a line and searches are known among rows.
+abbrev pub AreKnownInRows : RowsView → Option (Vec KnownItem Global) → Option KnownLine → StepSearches → Type 0
+AreKnownInRows s items line steps = IfSome items (λ v. AreKnown s.rows v.items) × IfSome line (IsKnownLine s) × AreSearches s.rows steps
+
+-- This is known of the rows of a text and of the ends of its parts.
+pub record IsKnowledge (s : RowsView) (k : Knowledge) : Type 0 where
+  pub items : AreKnown s.rows k.items.items
+  pub documents : AreKnownDocuments s.bounds k.documents
+  pub steps : AreSearches s.rows k.steps
+
+-- It stays known in each text in which the items of a cut stay that end in front of so many bytes.
+abbrev pub KnowledgeStays : ℕ → Cut → Knowledge → Type 0
+KnowledgeStays front c k = (new : Cut) (back : ℕ) → TouchesOnly front back c new → IsKnowledge (rows_view new) k
