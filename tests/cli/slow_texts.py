@@ -75,3 +75,11 @@ def check_paths_through_long_collections(folder):
     for update in (*updates, f"del({PLACES})"):
         status, seconds, _megabytes = hostile.used(folder.yq, folder.name("f"), update, 2 * SECONDS)
         equal((status, seconds <= SECONDS), (0, True), (update, seconds))
+
+
+def check_paths_through_a_long_flow_mapping(folder):
+    """Each entry is looked for next to the one before it."""
+    folder.write("f", ("{" + ", ".join(f'"p{n}": {{"v": 1, "w": [2]}}' for n in range(2 * MANY)) + "}\n").encode())
+    for update in ('.[].v = "x"', ".[].x = 1", ".[].w += [3]"):
+        status, seconds, _megabytes = hostile.used(folder.yq, folder.name("f"), update, 2 * SECONDS)
+        equal((status, seconds <= SECONDS), (0, True), (update, seconds))
