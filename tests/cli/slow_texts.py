@@ -94,3 +94,9 @@ def check_removals_from_several_collections(folder):
     items = "".join(f"  # about {n}\n  - {n}\n\n" for n in range(MANY))
     folder.write("f", (f"a:\n{items}b:\n{items}---\na:\n{items}").encode())
     each_within_a_second(folder, ["del(.[][])"])
+
+
+def check_paths_through_a_long_flow_mapping(folder):
+    """Each entry is looked for next to the one before it."""
+    folder.write("f", ("{" + ", ".join(f'"p{n}": {{"v": 1, "w": [2]}}' for n in range(2 * MANY)) + "}\n").encode())
+    each_within_a_second(folder, ['.[].v = "x"', ".[].x = 1", ".[].w += [3]"])

@@ -1,13 +1,13 @@
 -- Runs of values that are put in the collections of one head, as the code makes them.
 use Rattle.std.proofs.Common.{◌≡◌, ℕ, ◌+◌, ◌-◌, ◌≤◌, ◌<◌, false, List, [], ◌++◌, length, length-append, map, take, drop, Option, Some, None}
-use Rattle.std.proofs.Common.{Result, Ok, Err, IfOk, sym, ap, ◌∙◌, subst, append-nil, arith, string_bytes}
+use Rattle.std.proofs.Common.{Result, Ok, Err, IfOk, sym, ap, ◌∙◌, subst, append-nil, arith, string_bytes, refl}
 use Rattle.std.{proofs.Math.Seq.take-append_seam, proofs.lemmas.List.{length-map, take-map}, proofs.lemmas.Str.IsCharBoundary-start}
 use Rattle.std.{specs.Prelude.{IfSome, String}, specs.Str.IsCharBoundary, specs.declared.alloc.Global.Global}
-use Rattle.yq_core.{specs.Paths.Step, specs.Tree.Node, specs.Entries.tree_step}
+use Rattle.yq_core.{specs.Paths.Step, specs.Tree.Node, specs.Entries.tree_step, specs.Places.Placed, specs.View.inline_view}
 use Rattle.yq_flow_edits.specs.FlowPlaces.{edit_view}
 use Rattle.yq_row_table.specs.Rows.{Cut, cut_text}
 use Rattle.yq_documents.specs.Reading.{cut_of, read_at}
-use Rattle.yq_places.{specs.FlowViews.{LeadsToHead, ReportsHead}, specs.NodesAt.node_in, specs.Standings.last_step}
+use Rattle.yq_places.{specs.FlowViews.{LeadsToHead, ReportsHead, collection_along}, specs.NodesAt.node_in, specs.Standings.last_step}
 use Rattle.yq_places.specs.declared.places.flow_node.FlowHead.{FlowHead}
 use Rattle.yq_semantics.{specs.Operations.{Operation, replace}, specs.declared.refusal.Refusal.TheVariants.TooLarge}
 use Rattle.yq_text.{specs.Limit.text_limit, specs.Script.splice_at, specs.Splice.Splice}
@@ -16,7 +16,8 @@ use Rattle.yq_edit_laws.{specs.EditPlaces.{LiesIn, moved_on}, specs.PartPuts.{Is
 use Rattle.yq_edit_laws.{specs.declared.put.PartPut.PartPut, proofs.CutLaws.text_read, proofs.FlowAnswers.whole_text}
 use Rattle.yq_edit_laws.{specs.Answers.EditFails, specs.Carried.carried, specs.Edit.{gives, refuses}, specs.Theorems.IsFitting}
 use Rattle.yq_edit_laws.{specs.declared.edit_error.EditError.EditError, proofs.ApplyLaws.applied_by, proofs.TextFaults.text_utf8}
-use Rattle.yq_edit_laws.proofs.LaterEnds.{ends_same}
+use Rattle.yq_edit_laws.{proofs.LaterEnds.ends_same, specs.NearParts.IsUniqueNode, proofs.FlowKeys.collection_unique}
+use Rattle.yq_edit_laws.proofs.NearCollections.{own_along}
 use Rattle.yq_batch.specs.Runs.{EndsAt, EndsInCollection, HasPut, IsPutRun, PutFails, PutsAt, Runs, RunsOn, now_text, run_front}
 use Rattle.yq_batch.{specs.Runs.text_with_run, specs.FilledRuns.{FillsOn, IsKnownFilled}, specs.declared.adding.Filled.Filled}
 use Rattle.yq_batch.{specs.declared.run.PutRun.PutRun, proofs.RunLaws.{goes_on, kept_there, large_there, put_there}}
@@ -62,6 +63,12 @@ stem_is above left stem n same size =
 pub head_there : (t : List ℕ) (m n : ℕ) (stem path : List Step) (x y : FlowHead) → ReportsHead t (cut_of t) n stem x → (m ≡ n) × EndsAt stem (map tree_step y.left.now) path → y.node ≡ x.node → y.text ≡ x.text → y.before ≡ x.before → IsHeadOfPath m (last_step path) t y
 head_there t m n stem path x y head ends node text before =
     subst (λ (k : ℕ). IsHeadOfPath k (last_step path) t y) (sym ends.0) (subst (λ (o : Option (List Step × Step)). IsHeadOfPath n o t y) (sym ends.1.1) (head.reports y node text before))
+
+-- the node of the head has no key twice, if it is a collection
+pub unique_head : (t : List ℕ) (n : ℕ) (stem : List Step) (x y : FlowHead) → read_at t ≡ Some (cut_of t) → ReportsHead t (cut_of t) n stem x → y.node ≡ x.node → IsUniqueNode (inline_view y.node.value)
+unique_head t n stem x y read head node is =
+    let root : FlowHead = record x { left = record x.left { now = [] } } in
+    collection_unique t n (stem ++ []) root read (head.reports root refl refl refl) (inline_view y.node.value) (own_along [] (inline_view y.node.value) (None, inline_view y.node.value) refl is ∙ ap (λ (q : Placed). collection_along [] q) (ap (λ b. inline_view b.value) node))
 
 -- a value is put at a part in that collection
 pub puts_at : {E : Type 0} (t : List ℕ) (m n : ℕ) (stem : List Step) (op : Operation) (path : List Step) (v : Node) (x : FlowHead) →

@@ -9,10 +9,10 @@ ghost use Rattle.yq_batch.specs.FilledRuns as filled;
 ghost use Rattle.yq_batch.specs.Runs as spec;
 
 use crate::run::PutRun;
-use crate::together::{are_same_steps, steps_on};
+use crate::together::{Near, are_same_steps, steps_on};
 use std::alloc::{AllocError, Global};
 use yq_core::Step;
-use yq_edit_laws::{EditError, MorePut, more_at_end, operand_holds};
+use yq_edit_laws::{EditError, MorePut, collection_near, more_in_found, operand_holds};
 use yq_lookup::CutText;
 use yq_places::FlowHead;
 use yq_semantics::Op;
@@ -26,6 +26,7 @@ fn more_put<'s>(
     stem: &[Step],
     head: &mut FlowHead<'s, '_>,
     op: &'s Op,
+    near: &mut Near,
 ) -> Result<Option<MorePut>, AllocError>
     requires { ReportsHead cut.now (cut_of cut.now) doc (map tree_step stem.now) head.old }
     ensures head { ReportsHead cut.now (cut_of cut.now) doc (map tree_step stem.now) head.new }
@@ -43,7 +44,9 @@ fn more_put<'s>(
         return Ok(None);
     };
     head.left = left;
-    more_at_end(alloc, cut, head, path, key.as_deref(), value)
+    let _text = cut.text();
+    let found = collection_near(&head.node, left, near.above.as_mut_slice());
+    more_in_found(alloc, cut, head, found, path, key.as_deref(), value)
 }
 
 /// A flow collection of a head that was empty, into which a run put the last item or entry.
@@ -85,6 +88,7 @@ pub(crate) fn add_one<'s>(
     op: &'s Op,
     known: Option<Filled<'s>>,
     run: &mut PutRun,
+    near: &mut Near,
 ) -> Result<Option<Option<Filled<'s>>>, EditError>
     requires head { ReportsHead cut.now (cut_of cut.now) doc (map tree_step stem.now) head.old }
     requires run { filled.FillsSo (cut_of cut.now) doc (map tree_step stem.now) known run.old }
@@ -96,7 +100,7 @@ pub(crate) fn add_one<'s>(
         (spec.now_text (cut_of cut.now) run.old))) }
 {
     let text = cut.text();
-    let Some(MorePut { place, written }) = more_put(alloc, cut, doc, stem, head, op)? else {
+    let Some(MorePut { place, written }) = more_put(alloc, cut, doc, stem, head, op, near)? else {
         return Ok(None);
     };
     let steps = head.left;

@@ -17,7 +17,7 @@ use crate::run::PutRun;
 use std::alloc::{AllocError, Global};
 use yq_core::Step;
 use yq_documents::Path;
-use yq_edit_laws::{EditError, PartPut, last_step, operand_holds, put_at_part};
+use yq_edit_laws::{EditError, PartPut, collection_near, last_step, operand_holds, put_in_found};
 use yq_lookup::CutText;
 use yq_places::FlowHead;
 use yq_semantics::Op;
@@ -29,6 +29,21 @@ pub struct Together<'o> {
     pub edited: Edited,
     /// The operation that isn't carried out, if the last one isn't.
     pub left: &'o [Op],
+}
+
+/// Where entries are looked for, near the ones that were found last.
+#[derive(Drop)]
+pub(crate) struct Near {
+    /// At each depth of the way to a collection.
+    pub(crate) above: Vec<usize>,
+    /// In the collection.
+    pub(crate) last: usize,
+}
+
+/// Nothing was found yet: at each depth the first entry is looked at first.
+fn nothing_near(alloc: Global) -> Result<Near, AllocError> {
+    let above = vec![in alloc; 0, 0, 0, 0, 0, 0, 0, 0]?;
+    Ok(Near { above, last: 0 })
 }
 
 /// Whether steps are the same.
@@ -99,7 +114,7 @@ fn part_put<'s>(
     stem: &[Step],
     head: &mut FlowHead<'s, '_>,
     op: &'s Op,
-    near: &mut usize,
+    near: &mut Near,
 ) -> Result<Option<PartPut>, AllocError>
     requires { ReportsHead cut.now (cut_of cut.now) doc (map tree_step stem.now) head.old }
     ensures head { ReportsHead cut.now (cut_of cut.now) doc (map tree_step stem.now) head.new }
@@ -114,7 +129,9 @@ fn part_put<'s>(
         return Ok(None);
     };
     head.left = left;
-    put_at_part(alloc, cut, head, path, value, near)
+    let _text = cut.text();
+    let found = collection_near(&head.node, left, near.above.as_mut_slice());
+    put_in_found(alloc, cut, head, found, path, value, &mut near.last)
 }
 
 /// Carries out an operation on the text of a run, if it puts a value in a collection of a head, after
@@ -127,7 +144,7 @@ fn put_one<'s>(
     head: &mut FlowHead<'s, '_>,
     op: &'s Op,
     run: &mut PutRun,
-    near: &mut usize,
+    near: &mut Near,
 ) -> Result<bool, EditError>
     requires head { ReportsHead cut.now (cut_of cut.now) doc (map tree_step stem.now) head.old }
     requires run { spec.Runs (cut_of cut.now) doc (map tree_step stem.now) run.old }
@@ -165,7 +182,7 @@ fn carry_next<'s>(
     op: &'s Op,
     known: Option<Filled<'s>>,
     run: &mut PutRun,
-    near: &mut usize,
+    near: &mut Near,
 ) -> Result<Option<Option<Filled<'s>>>, EditError>
     requires head { ReportsHead cut.now (cut_of cut.now) doc (map tree_step stem.now) head.old }
     requires run { filled.FillsSo (cut_of cut.now) doc (map tree_step stem.now) known run.old }
@@ -183,7 +200,7 @@ fn carry_next<'s>(
             }
             Ok(Some(None))
         }
-        Op::Append(_, _, _) => add_one(alloc, cut, doc, stem, head, op, known, run),
+        Op::Append(_, _, _) => add_one(alloc, cut, doc, stem, head, op, known, run, near),
         Op::Remove(_) | Op::LineComment(_, _) | Op::HeadComment(_, _) => Ok(None),
     }
 }
@@ -206,7 +223,7 @@ fn put_each<'s>(
 {
     let text = cut.text();
     let mut run = PutRun::new(alloc);
-    let mut near = 0;
+    let mut near = nothing_near(alloc)?;
     let mut known = None;
     let mut rest = ops;
     'operations: while let [op, after @ ..] = rest {

@@ -28,6 +28,7 @@ pub mod StepsOn
 pub mod FlowPartNodes
 pub mod FlowKeys
 pub mod EntryIndexes
+pub mod NearCollections
 pub mod StandingExists
 pub mod MoreExists
 pub mod MarkContentLaws

@@ -2,11 +2,12 @@
 use Rattle.std.specs.Prelude.{◌≡◌, ℕ, ◌+◌, ◌-◌, ◌<◌, ◌≤◌, List, [], ◌∷◌, ◌++◌, length, Option, Some, None, option_map, Bool, true, false}
 use Rattle.std.{specs.Prelude.{if◌then◌else◌, String, string_bytes}, specs.declared.alloc.Global.Global}
 use Rattle.yq_core.{specs.Answers.◌>>=◌, specs.Paths.Step, specs.Tree.Node, specs.Collections.CollPieces}
-use Rattle.yq_core.{specs.Entries.{EntryPieces, item_at}, specs.NodesWritten.{flow_key, flow_of}}
+use Rattle.yq_core.{specs.Entries.{EntryPieces, item_at}, specs.NodesWritten.{flow_key, flow_of}, specs.Values.value_node}
+use Rattle.yq_core.specs.declared.value.Value.{Value}
 use Rattle.yq_flow_edits.specs.FlowEdits.{FlowEdit, appending, behind_appended, is_none, replacing}
 use Rattle.yq_flow_edits.{specs.FlowPlaces.{edit_view, place_edit}, specs.Removals.removing, specs.declared.flow_place.EditPlace.EditPlace}
 use Rattle.yq_row_table.specs.Rows.{Cut, cut_text}
-use Rattle.yq_documents.specs.Reading.{cut_of}
+use Rattle.yq_documents.{specs.Located.steps_of, specs.Reading.cut_of, specs.declared.path.Path.Path}
 use Rattle.yq_places.{specs.FlowNodes.flow_collection, specs.FlowViews.FlowAgrees, specs.NodesAt.node_in}
 use Rattle.yq_places.{specs.Standings.{FlowPart, flow_standing, last_step}, specs.declared.places.flow_node.FlowHead.FlowHead}
 use Rattle.yq_text.specs.Script.{Segment, keep}
@@ -58,6 +59,10 @@ ArePuts n steps v c x None = flow_standing n c (last_step steps) ≡ None
 ArePuts n steps v c x (Some p) =
     (z : FlowPart) × (flow_standing n c (last_step steps) ≡ Some z) × IsPlaceOf (cut_text c) v z x p.place × IsWrittenPart (node_in n steps c) v z p.written
 
+-- the same where a path leads, of a value of the code
+abbrev pub PutsOf : Path → Value → List ℕ → FlowHead → Option PartPut → Type 0
+PutsOf p v t x o = ArePuts p.doc (steps_of p) (value_node v) (cut_of t) x o
+
 -- a part is in document n of a cut, in the collection to which steps lead, at one more step (7.4; own)
 abbrev pub IsPartOf : Cut → ℕ → List Step → Step → EntryPieces → Type 0
 IsPartOf c n steps s y = (flow_collection n steps c >>= λ w. item_at w.close s w.items w.rest) ≡ Some y
@@ -77,6 +82,10 @@ abbrev pub AreMore : ℕ → List Step → Option (List ℕ) → Node → Cut �
 AreMore n steps key v c x None = (flow_collection n steps c >>= flow_more (cut_text c) key v) ≡ None
 AreMore n steps key v c x (Some p) =
     (w : CollPieces) × (flow_collection n steps c ≡ Some w) × IsMore (cut_text c) w key v x p
+
+-- the same where a path leads, of a value of the code
+abbrev pub MoreOf : Path → Option (List ℕ) → Value → List ℕ → FlowHead → Option MorePut → Type 0
+MoreOf p key v t x o = AreMore p.doc (steps_of p) key (value_node v) (cut_of t) x o
 
 -- ---- one less
 

@@ -1,8 +1,9 @@
 //! Items and entries to which steps lead, looked for near the last one. The keys of a mapping differ, so the
 //! entry of a key is the same wherever the search begins.
-ghost use Rattle.std.specs.Prelude.{◌≡◌, IfSome, Some, option_map, true};
+ghost use Rattle.std.specs.Prelude.{◌≡◌, IfSome, Some, map, option_map, true};
 ghost use Rattle.yq_core.{specs.Entries.{entry_view, flow_part_at, parts_of, tree_step}, specs.Keys.HasUniqueKeys, specs.Paths.To};
 ghost use Rattle.yq_core.{specs.Trees.placed_tree, specs.View.{entries_end, inline_view, items_end}};
+ghost use Rattle.yq_places.specs.FlowViews.{behind_anchor, collection_along};
 ghost use Rattle.yq_edit_laws.specs.NearParts as spec;
 
 use yq_core::{Entry, Form, Inline, Piece, Step};
@@ -108,8 +109,7 @@ pub(crate) fn part_near<'n, 't>(
     near: &mut usize,
 ) -> Option<Entry<'n, 't>>
     requires { HasUniqueKeys (placed_tree (inline_view node.now)) }
-    ensures { option_map entry_view result ≡
-        flow_part_at (tree_step step.now) (parts_of (inline_view node.now)) }
+    ensures { spec.IsPartAt result step.now node.now }
 {
     let Form::Map(entries) = &node.form else {
         return node.part(step);
@@ -118,4 +118,57 @@ pub(crate) fn part_near<'n, 't>(
         Some(entry) => Some(entry),
         None => node.part(step),
     }
+}
+
+/// Whether a node is a flow collection.
+fn is_collection(node: &Inline<'_>) -> bool
+    ensures { result ≡ spec.is_collection (inline_view node.now) }
+{
+    match &node.form {
+        Form::List(_) | Form::Map(_) => true,
+        Form::Empty | Form::Alias(_) | Form::Scalar(..) => false,
+    }
+}
+
+/// The item or entry of a collection to which a step leads, looked for near the index of a depth, if there is one.
+fn part_at_depth<'n, 't>(
+    node: &'n Inline<'t>,
+    step: &Step,
+    near: &mut [usize],
+    depth: usize,
+) -> Option<Entry<'n, 't>>
+    requires { spec.IsUniqueNode (inline_view node.now) }
+    ensures { spec.IsPartAt result step.now node.now }
+{
+    if depth >= near.len() || !is_collection(node) {
+        return node.part(step);
+    }
+    let mut index = near[depth];
+    let part = part_near(node, step, &mut index);
+    near[depth] = index;
+    part
+}
+
+/// The flow collection to which steps lead in a node. At each depth for which there is an index, an entry is
+/// looked for near that, which is the one after it then.
+pub fn collection_near<'n, 't>(
+    node: &'n Inline<'t>,
+    steps: &[Step],
+    near: &mut [usize],
+) -> Option<&'n Inline<'t>>
+    requires { spec.IsUniqueNode (inline_view node.now) }
+    ensures { spec.IsCollectionFrom result steps.now node.now }
+{
+    let mut found = Entry { key: None, node };
+    let mut rest = steps;
+    let mut depth = 0usize;
+    'steps: while let [step, after @ ..] = rest {
+        found = part_at_depth(found.node, step, near, depth)?;
+        rest = after;
+        depth = depth.saturating_add(1);
+    }
+    if !is_collection(found.node) {
+        return None;
+    }
+    Some(found.node)
 }

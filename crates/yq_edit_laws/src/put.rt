@@ -1,10 +1,11 @@
 //! Values put in flow collections.
-ghost use Rattle.std.specs.Prelude.{◌≡◌, IfOk, Some};
+ghost use Rattle.std.specs.Prelude.{◌≡◌, IfOk, Some, option_map};
 ghost use Rattle.yq_core.{specs.Trees.placed_tree, specs.Values.value_node, specs.View.inline_view};
 ghost use Rattle.yq_documents.{specs.Located.steps_of, specs.Reading.cut_of};
-ghost use Rattle.yq_places.specs.NodesAt.{scalar_in};
+ghost use Rattle.yq_places.{specs.FlowViews.{behind_anchor, collection_view}, specs.NodesAt.scalar_in};
 ghost use Rattle.yq_edit_rules.{specs.Answers.GivesSegments, specs.Replacing.{are_same, keeps_scalar}};
 ghost use Rattle.yq_places.specs.Standings as standings;
+ghost use Rattle.yq_edit_laws.specs.NearParts as parts;
 ghost use Rattle.yq_edit_laws.specs.PartPuts as spec;
 
 use crate::edit::{bytes_at, collection_in, edit_at, last_step, unchanged};
@@ -53,29 +54,31 @@ fn is_same_node(node: &Inline<'_>, value: &Value) -> bool
 }
 
 /// The edit that puts a value in the place of the content of an item or entry, after its anchor, where
-/// its collection is in the head of a row that was read; `None` where no collection is there, or the
-/// path leads to no part of it. An entry is looked for near an index, which is the one after it then.
+/// its collection is in the head of a row that was read, and was found there; `None` where no collection
+/// is there, or the path leads to no part of it. An entry is looked for near an index, which is the one
+/// after it then.
 ///
 /// # Errors
 /// [`AllocError`] where memory is refused.
-pub fn put_at_part(
+pub fn put_in_found(
     alloc: Global,
     cut: &CutText<'_, '_>,
     head: &FlowHead<'_, '_>,
+    found: Option<&Inline<'_>>,
     path: &Path,
     value: &Value,
     near: &mut usize,
 ) -> Result<Option<PartPut>, AllocError>
-    requires { spec.IsHeadOfPath path.now.doc
+    requires head { spec.IsHeadOfPath path.now.doc
         (standings.last_step (steps_of path.now)) cut.now head.now }
-    ensures { IfOk result (spec.ArePuts path.now.doc (steps_of path.now) (value_node value.now)
-        (cut_of cut.now) head.now) }
+    requires found { parts.IsCollectionIn found head.now }
+    ensures { IfOk result (spec.PutsOf path.now value.now cut.now head.now) }
 {
     let Some((_, last)) = last_step(&path.steps) else {
         return Ok(None);
     };
     let _text = cut.text();
-    let Some(node) = collection_in(head) else {
+    let Some(node) = found else {
         return Ok(None);
     };
     let Some(entry) = part_near(node, last, near) else {
@@ -93,6 +96,25 @@ pub fn put_at_part(
         place,
         written: Some(written),
     }))
+}
+
+/// The same where the collection is looked for in the head.
+///
+/// # Errors
+/// [`AllocError`] where memory is refused.
+pub fn put_at_part(
+    alloc: Global,
+    cut: &CutText<'_, '_>,
+    head: &FlowHead<'_, '_>,
+    path: &Path,
+    value: &Value,
+    near: &mut usize,
+) -> Result<Option<PartPut>, AllocError>
+    requires { spec.IsHeadOfPath path.now.doc
+        (standings.last_step (steps_of path.now)) cut.now head.now }
+    ensures { IfOk result (spec.PutsOf path.now value.now cut.now head.now) }
+{
+    put_in_found(alloc, cut, head, collection_in(head), path, value, near)
 }
 
 /// A value put in the place of the content of an item or entry of a flow collection, after its

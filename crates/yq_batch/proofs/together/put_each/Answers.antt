@@ -29,7 +29,7 @@ carry_next-requires-clause-fits c = first_fits c.operations.rest.now c.op-item.r
 
 pub returns-in_err-carried-clause-err : goal.returns-in_err-carried-clause-err
 returns-in_err-carried-clause-err c =
-    let p = err_from_is_err_and c.from_residual.result c.from_residual.ensures.1 in
+    let p = err_from_is_err_and c.from_residual-in_err-carried.result c.from_residual-in_err-carried.ensures.1 in
     let t : List ℕ = now_text (cut_of c.args.cut.now) c.operations.run in
     let fails : EditFails c.in_err-carried.field-0.0 (edit_after c.operations.run.splices.items (carry_all (operations_of c.operations.rest.now) t)) =
     first_fails c.operations.rest.now c.op-item.result t c.operations.run.splices.items c.in_err-carried.field-0.0 c.in-len1-up.len_at_least c.op-item.is c.in_err-carried.ensures.err in

@@ -1,0 +1,89 @@
+-- Collections to which steps lead in a node, each item or entry found on its own.
+use Rattle.std.proofs.Common.{◌≡◌, ◌-◌, ◌<◌, ◌≤◌, List, [], ◌∷◌, Option, Some, None, Bool, true, false, cond, drop, length, map}
+use Rattle.std.proofs.Common.{slice_index_or, take, arith, refl, sym, ap, ◌∙◌, subst, take_all}
+use Rattle.std.{proofs.lemmas.Option.{none-some, same_Some}, proofs.lemmas.Bool.false≢true, specs.Prelude.option_and_then}
+use Rattle.yq_core.{specs.Answers.◌>>=◌, specs.Entries.{PlacedEntry, flow_part_at, parts_of, placed_entry_at, tree_step}}
+use Rattle.yq_core.{specs.Keys.{EachHasUniqueKeys, HasUniqueKeys}, specs.Paths.{Step, further, is_here}, specs.Tree.key_label}
+use Rattle.yq_core.specs.Places.{Parts, Placed, end, mapping, name, nothing, part, placed, sequence, text}
+use Rattle.yq_core.specs.Trees.{parts_tree, placed_tree, unplaced_key}
+use Rattle.yq_places.specs.FlowViews.{behind_anchor, collection_along, collection_of}
+use Rattle.yq_edit_laws.specs.NearParts.{IsUniqueNode, is_collection}
+use Rattle.yq_core.specs.declared.path.Step as declared
+
+-- ---- the first step, and others
+
+abbrev later : List declared.Step → List declared.Step
+later ss = take (length ss - 1) (drop 1 ss)
+
+apart : (ss : List declared.Step) (s : declared.Step) → 1 ≤ length ss → s ≡ slice_index_or ss 0 s → ss ≡ s ∷ later ss
+apart [] s some at = absurd (omega (arith, some))
+apart (x ∷ ss) s some at = (λ i. sym at i ∷ sym (take_all (length (x ∷ ss) - 1) ss (omega arith)) i)
+
+-- ---- one step
+
+-- an item or entry of a node without a key twice has none
+unique_part : (s : Step) (ps : Parts) (e : PlacedEntry) → flow_part_at s ps ≡ Some e → EachHasUniqueKeys (parts_tree ps) → HasUniqueKeys (placed_tree e.1)
+unique_part s end e at h = absurd (none-some _ at)
+unique_part s (part key n ps) e at h = go (is_here s (key_label (unplaced_key key))) at h.0 (λ there. unique_part (further s) ps e there h.1)
+  where
+    go : (b : Bool) → cond b (Some (key, n)) (flow_part_at (further s) ps) ≡ Some e → HasUniqueKeys (placed_tree n) → (flow_part_at (further s) ps ≡ Some e → HasUniqueKeys (placed_tree e.1)) → HasUniqueKeys (placed_tree e.1)
+    go true here own again = subst (λ (x : PlacedEntry). HasUniqueKeys (placed_tree x.1)) (same_Some _ _ here) own
+    go false there own again = again there
+
+parts_unique : (p : Placed) → IsUniqueNode p → (s : Step) (e : PlacedEntry) → flow_part_at s (parts_of p) ≡ Some e → HasUniqueKeys (placed_tree e.1)
+parts_unique (placed a i c j nothing) h s e at = absurd (none-some _ at)
+parts_unique (placed a i c j (name n)) h s e at = absurd (none-some _ at)
+parts_unique (placed a i c j (text k q)) h s e at = absurd (none-some _ at)
+parts_unique (placed None i c j (sequence ps)) h s e at = unique_part s ps e at (h refl)
+parts_unique (placed (Some a) i c j (sequence ps)) h s e at = unique_part s ps e at (h refl)
+parts_unique (placed None i c j (mapping ps)) h s e at = unique_part s ps e at (h refl).1
+parts_unique (placed (Some a) i c j (mapping ps)) h s e at = unique_part s ps e at (h refl).1
+
+pub part_unique : (p : Placed) (s : Step) (e : PlacedEntry) → IsUniqueNode p → Some e ≡ flow_part_at s (parts_of p) → IsUniqueNode e.1
+part_unique p s e h at is = parts_unique p h s e (sym at)
+
+-- the steps after it lead on from there
+pub goes_on : (ss : List declared.Step) (s : declared.Step) (slot e : PlacedEntry) (o : Option PlacedEntry) → 1 ≤ length ss → s ≡ slice_index_or ss 0 s → Some e ≡ flow_part_at (tree_step s) (parts_of slot.1) →
+    placed_entry_at (map tree_step ss) slot ≡ o → placed_entry_at (map tree_step (later ss)) e ≡ o
+goes_on ss s slot e o some first at leads =
+    ap (option_and_then (placed_entry_at (map tree_step (later ss)))) at
+    ∙ (ap (λ (x : List declared.Step). placed_entry_at (map tree_step x) slot) (sym (apart ss s some first)) ∙ leads)
+
+-- or it leads nowhere
+pub stops : (ss : List declared.Step) (s : declared.Step) (slot : PlacedEntry) (o : Option PlacedEntry) → 1 ≤ length ss → s ≡ slice_index_or ss 0 s → None ≡ flow_part_at (tree_step s) (parts_of slot.1) →
+    placed_entry_at (map tree_step ss) slot ≡ o → None ≡ o
+stops ss s slot o some first at leads =
+    ap (option_and_then (placed_entry_at (map tree_step (later ss)))) at
+    ∙ (ap (λ (x : List declared.Step). placed_entry_at (map tree_step x) slot) (sym (apart ss s some first)) ∙ leads)
+
+pub ended : (ss : List declared.Step) (slot : PlacedEntry) (o : Option PlacedEntry) → length ss < 1 → placed_entry_at (map tree_step ss) slot ≡ o → Some slot ≡ o
+ended [] slot o none leads = leads
+ended (s ∷ ss) slot o none leads = absurd (omega (arith, none))
+
+-- ---- the collection there
+
+abbrev coll_or_none : Option PlacedEntry → Option Placed
+coll_or_none o = o >>= λ e. collection_of e.1
+
+pub none_along : (steps : List Step) (p : Placed) → None ≡ placed_entry_at steps (None, p) → None ≡ collection_along steps p
+none_along steps p e = ap coll_or_none e
+
+is_own : (p : Placed) → is_collection p ≡ true → collection_of p ≡ Some (behind_anchor p)
+is_own (placed a s c e nothing) h = absurd (false≢true h)
+is_own (placed a s c e (name n)) h = absurd (false≢true h)
+is_own (placed a s c e (text k q)) h = absurd (false≢true h)
+is_own (placed a s c e (sequence ps)) h = refl
+is_own (placed a s c e (mapping ps)) h = refl
+
+is_no_own : (p : Placed) → is_collection p ≡ false → collection_of p ≡ None
+is_no_own (placed a s c e nothing) h = refl
+is_no_own (placed a s c e (name n)) h = refl
+is_no_own (placed a s c e (text k q)) h = refl
+is_no_own (placed a s c e (sequence ps)) h = absurd (false≢true (sym h))
+is_no_own (placed a s c e (mapping ps)) h = absurd (false≢true (sym h))
+
+pub own_along : (steps : List Step) (p : Placed) (e : PlacedEntry) → Some e ≡ placed_entry_at steps (None, p) → is_collection e.1 ≡ true → Some (behind_anchor e.1) ≡ collection_along steps p
+own_along steps p e at is = sym (is_own e.1 is) ∙ ap coll_or_none at
+
+pub no_own_along : (steps : List Step) (p : Placed) (e : PlacedEntry) → Some e ≡ placed_entry_at steps (None, p) → is_collection e.1 ≡ false → None ≡ collection_along steps p
+no_own_along steps p e at is = sym (is_no_own e.1 is) ∙ ap coll_or_none at
