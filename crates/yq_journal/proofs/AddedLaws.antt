@@ -1,8 +1,7 @@
 -- The pieces that calls add to a text are the compact JSON of a splice, a record, an open move or a journal.
-use Rattle.std.proofs.Common.{◌≡◌, ◌≤◌, ◌<◌, ◌+◌, ℕ, List, [], ◌∷◌, ◌++◌, Bool, true, false, Option, Some, codes, decimal, refl, sym, ap}
-use Rattle.std.proofs.Common.{ap₂, ◌∙◌, subst, append_assoc, arith, drop, get_or, length, Ok, ◌^◌}
-use Rattle.std.{proofs.lemmas.List.{at_drop_all, drop_more}, specs.Prelude.{option_and_then, option_map, ⊤}}
-use Rattle.std.proofs.lemmas.Fmt.{decimal_digit}
+use Rattle.std.proofs.Common.{◌≡◌, ◌≤◌, ◌<◌, ◌+◌, ℕ, List, [], ◌∷◌, ◌++◌, Bool, true, Option, Some, codes, decimal, refl, sym, ap, ap₂, ◌∙◌}
+use Rattle.std.{proofs.Common.{subst, append_assoc, arith, drop, get_or, length, Ok, ◌^◌}, proofs.lemmas.List.{at_drop_all, drop_more}}
+use Rattle.std.{specs.Prelude.{option_and_then, option_map, ⊤}, proofs.lemmas.Fmt.decimal_digit}
 use Rattle.base64.{specs.Engines.standard, specs.GeneralPurpose.{decode_of, encode_of}}
 use Rattle.json.{specs.Print.{escape, escape_byte, quoted}, specs.Tree.ItemsHaveNumbers}
 use Rattle.serde_json.{specs.Data.{Data, array, item}, specs.Read.of_items, specs.Find.as_array}
@@ -169,12 +168,6 @@ list_kept to_data of_data xs k = record {
 pub record SoFar {A : Type 0} (to_data : A → Data) (of_data : Data → Option A) (xs : List A) (i : ℕ) (later : Bool) (before now : List ℕ) : Type 0 where
   pub text_is : now ++ items_text later (list_data to_data (drop i xs)) ≡ before ++ compact_text (array_of to_data xs)
   pub kept : AreReadBack to_data of_data (drop i xs) → AreReadBack to_data of_data xs
-
-pub so_far_begins : {A : Type 0} (to_data : A → Data) (of_data : Data → Option A) (xs : List A) (before now : List ℕ) → now ≡ before ++ codes "[" → SoFar to_data of_data xs 0 false before now
-so_far_begins to_data of_data xs before now e = record {
-  text_is = ap (λ l. l ++ items_text false (list_data to_data xs)) e ∙ append_assoc before (codes "[") (items_text false (list_data to_data xs));
-  kept = λ k. k;
-}
 
 pub so_far_more : {A : Type 0} (to_data : A → Data) (of_data : Data → Option A) (xs : List A) (i : ℕ) (x : A) (later : Bool) (before now mid next : List ℕ)
     → i < length xs → x ≡ get_or xs i x → SoFar to_data of_data xs i later before now → mid ≡ now ++ comma_if later → Adds to_data of_data x mid next

@@ -13,7 +13,7 @@ use Rattle.yq_journal.specs.Json.{change_data, journal_in, journal_text, list_da
 use Rattle.yq_journal.{specs.Json.splices_of, specs.Record.{IsRecord, Record, is_length}, specs.Refusals.{IsSound, most_records}}
 use Rattle.yq_journal.specs.State.{state}
 use Rattle.yq_journal.proofs.AddedLaws.{AreReadBack, array_of, journal_adds, list_kept, record_adds, splice_adds, things_of}
-use Rattle.yq_journal.{proofs.ReadBackLaws.{kept_none, text_read}, proofs.NumberLaws.number_ends}
+use Rattle.yq_journal.proofs.ReadBackLaws.{kept_none, text_read}
 
 -- what holds of what is there
 pub if_there : {A : Type 0} (P : Type 0) (Q : A → Type 0) (r : Option A) → MatchOption r P Q → IfSome r Q
@@ -49,12 +49,6 @@ pub front_is : (t front rest : List ℕ) → t ≡ front ++ rest → take (lengt
 front_is t front rest e =
     let size : length t - length rest ≡ length front = ap (λ l. length l - length rest) e ∙ (let n = length-append front rest in omega (arith, n)) in
     ap (λ n. take n t) size ∙ ap (take (length front)) e ∙ take-append_seam front rest
-
--- a string with no escapes is in front
-pub bare_in_front : (inner m rest : List ℕ) (e : ℕ) → e ≤ length inner → m ≡ take e inner → escape (take e inner) ≡ take e inner
-    → take (length inner - e) (drop e inner) ≡ codes "\"" ++ rest → 34 ∷ inner ≡ quoted m ++ rest
-bare_in_front inner m rest e within is bare end =
-    ap (λ l. 34 ∷ l) (number_ends inner e within ∙ ap₂ (λ (a b : List ℕ). a ++ b) (sym bare ∙ ap escape (sym is)) end ∙ sym (append_assoc (escape m) (34 ∷ []) rest))
 
 -- a splice is in front
 pub splice_in_front : (s : Splice) (t x₁ x₂ x₃ x₄ x₅ : List ℕ) → s.at < 2 ^ 64 → decode_of standard (encode_of standard s.new) ≡ Ok s.new → decode_of standard (encode_of standard s.old) ≡ Ok s.old
