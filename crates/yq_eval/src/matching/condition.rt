@@ -102,8 +102,7 @@ fn operand_is<'a, 't>(
     comparison: &'a Comparison,
     place: &FoundPlace<'a, 't>,
 ) -> Result<bool, ExprError>
-    ensures { JudgesWhether result
-        (equals_scalar doc comparison.now.operand comparison.now.scalar (place_of place.now)) }
+    ensures { JudgesWhether result (equals_scalar doc comparison.now (place_of place.now)) }
 {
     let scalar = &comparison.scalar;
     match &comparison.operand {
