@@ -1,9 +1,13 @@
 -- What is reported where a call within a move failed.
-use Rattle.std.proofs.Common.{◌≡◌, ℕ, true, false, List, Some, None, Result, Ok, Err, OnOk, IfErr, IsTrue, IsNone, is_some, if◌then◌else◌}
-use Rattle.std.proofs.Common.{sym, ap, ◌∙◌, subst, true≢false}
+use Rattle.std.proofs.Common.{rules, ◌≡◌, ℕ, false, List, Some, None, Result, Err, OnOk, IfErr, IsTrue, IsNone, is_some, if◌then◌else◌, sym}
+use Rattle.std.proofs.Common.{ap, ◌∙◌, subst}
+use Rattle.yq_journal.{specs.declared.fault.JournalError.JournalError, specs.declared.fault.JournalFault.JournalFault}
 use Rattle.yq_journal.{specs.declared.moves.Move.Move, specs.Refusals.{move_fault, no_way, way_fault}, specs.State.{State, moved_text}}
+use Rattle.yq_store.{specs.Count.after_write, specs.declared.store.FileWriteError.FileWriteError}
 use Rattle.yq_history.{specs.declared.fault.Fault.Fault, specs.Faults.is_outer_fault, proofs.MoveLaws.{no_way_free, none_of}}
+use Rattle.yq_journal.specs.declared.fault.JournalError.TheVariants as error
 use Rattle.yq_journal.specs.declared.fault.JournalFault.TheVariants as journal
+use Rattle.yq_store.specs.declared.store.FileWriteError.TheVariants as write
 
 -- what is known of an error
 pub told : {T : Type 0} (P : Fault → Type 0) (r : Result T Fault) (e : Fault) → r ≡ Err e → P e → IfErr r P
@@ -13,13 +17,10 @@ told P r e is h = subst (λ x. IfErr x P) (sym is) h
 pub no_success : {T : Type 0} (P : Type 0) (r : Result T Fault) (e : Fault) → r ≡ Err e → OnOk r P
 no_success P r e is = subst (λ x. OnOk x P) (sym is) tt
 
--- an error from outside tells nothing of those from inside
-pub from_outside : (P : Type 0) (e : Fault) → is_outer_fault e ≡ true → is_outer_fault e ≡ false → P
-from_outside P e out inside = absurd (true≢false (sym out ∙ inside))
-
 pub all_outside : {T : Type 0} (P : Fault → Type 0) (r : Result T Fault) → IfErr r (λ e. IsTrue (is_outer_fault e)) → IfErr r (λ e. is_outer_fault e ≡ false → P e)
-all_outside P (Ok v) out = tt
-all_outside P (Err e) out = from_outside (P e) e out
+all_outside P r out = search rules
+
+-- ---- writes
 
 -- ---- the journal
 
