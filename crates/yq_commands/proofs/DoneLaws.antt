@@ -1,20 +1,18 @@
 -- What a command does where a call within it failed, or its text stays equal.
-use Rattle.std.proofs.Common.{◌≡◌, ◌≢◌, inl, ℕ, Bool, true, false, nat_le, List, [], Option, Some, None, Result, Ok, Err, OnOk, sym, ap}
-use Rattle.std.{proofs.Common.{◌∙◌, if◌then◌else◌, subst, refl}, specs.FinMap.get, specs.Str.bytes_eq}
+use Rattle.std.proofs.Common.{◌≡◌, ◌≢◌, inl, ℕ, Bool, true, false, List, Option, Some, None, Result, Ok, Err, OnOk, sym, ap, ◌∙◌}
+use Rattle.std.{proofs.Common.{if◌then◌else◌, subst, refl}, specs.FinMap.get}
 use Rattle.yq_semantics.specs.Program.{Program}
-use Rattle.yq_text.specs.Splice.{Splice}
-use Rattle.yq_journal.{specs.History.{History, after_edit, text_at}, specs.Refusals.most_records, specs.State.State}
+use Rattle.yq_journal.{specs.History.History, specs.State.State}
 use Rattle.yq_args.specs.declared.eval_options.EvalOptions.{EvalOptions}
 use Rattle.yq_store.{specs.FileMap.FileMap, specs.declared.store.FileReadError.FileReadError}
 use Rattle.yq_history.{specs.declared.fault.Fault.Fault, specs.Causes.{Cause, IsFor, named}, specs.Faults.{is_outer_fault, of_read}}
-use Rattle.yq_history.{specs.Effects.{Effect, Works, from_names, refuses, writes_nothing}, specs.Output.{Showing, Shows, bytes}}
+use Rattle.yq_history.{specs.Effects.{Effect, Works, from_names, refuses}, specs.Output.{Showing, Shows}}
 use Rattle.yq_history.{specs.Pair.{Arrives, GoodIn, Opens}, specs.Report.Report, proofs.EffectLaws.{not_opened, works_outside}}
 use Rattle.yq_history.{proofs.MoveLaws.{cut, is_refused}, proofs.PairLaws.same_pair}
 use Rattle.yq_commands.specs.CommandDone.{EditsFrom, EditsInPlace, EditsOpened, Evaluates, program_effect}
-use Rattle.yq_commands.specs.CommandEffects.{edit_effect, edit_writes}
-use Rattle.yq_commands.specs.CommandSteps.{edit_cause, edit_next, update_cause, update_next}
+use Rattle.yq_commands.{specs.CommandEffects.edit_effect, specs.CommandSteps.{edit_cause, update_cause, update_next}}
 use Rattle.yq_commands.specs.Editing.{EditOutcome, Refuses, edited, program_edits, program_in, refused, unreadable}
-use Rattle.yq_commands.{specs.Edits.record_between, specs.Evaluation.{cause_in, evaluated, of_file, report_in, shows}}
+use Rattle.yq_commands.specs.Evaluation.{cause_in, evaluated, of_file, report_in, shows}
 use Rattle.yq_commands.proofs.EditEffects.{edit_fails, inside_memory, not_parsed, parsed_works}
 use Rattle.yq_commands.proofs.OutcomeLaws.{arrives_as, each_error, unopened}
 use Rattle.yq_history.specs.declared.fault.Fault.TheVariants as fault
@@ -96,23 +94,6 @@ module _ (p : Program) (expr f j : List ℕ) (s : State) (t : List ℕ) (c : Fil
   cut_edits {T = T} r e is out = record {
     arrives = λ h k. cut c f j (update_cause (Ok p) (Some h)) (Some h) (update_next expr (Ok p) (Some h)) r e is out (inl k.stands);
     effect = subst (Works (program_effect expr p t s) f j c c) (sym is) (works_outside T (program_effect expr p t s) f j c e out);
-  }
-
-  -- the text stays equal
-  pub equal_edits : (u : List ℕ) (changes : List Splice) {T : Type 0} (v : T) → program_edits p t ≡ edited u changes → bytes_eq u t ≡ true → EditsFrom p expr f j s t c c {T = T} (Ok v)
-  equal_edits u changes {T = T} v gives equal = record {
-    arrives = λ h k.
-        let outcome : program_edits p (text_at h) ≡ edited u changes = sym (ap (program_edits p) k.at_rest.text) ∙ gives in
-        let same : bytes_eq u (text_at h) ≡ true = sym (ap (bytes_eq u) k.at_rest.text) ∙ equal in
-        let next : edit_next h expr (program_edits p (text_at h)) ≡ h = ap (edit_next h expr) outcome ∙ ap (λ b. if b then h else if nat_le most_records h.at then h else after_edit h expr u) same in (
-          ap (edit_cause h) outcome ∙ ap (λ b. if b then None else if nat_le most_records h.at then Some (named fault.JournalFull) else None) same,
-          subst (λ x. GoodIn c f j (Some x)) (sym next) k.stands,
-        );
-    effect =
-        subst (λ x. Works x f j c c {T = T} (Ok v))
-        (sym (ap (λ o. edit_effect expr o t s) gives
-        ∙ ap (λ b. if b then writes_nothing (bytes []) else if nat_le most_records s.at then refuses (named fault.JournalFull) else edit_writes (record_between expr changes t u) t u s) equal))
-        refl;
   }
 
 -- ---- an expression that isn't carried out in place

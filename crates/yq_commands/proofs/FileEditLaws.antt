@@ -1,6 +1,6 @@
 -- What an accepted edit makes of a file, and an expression that is no program.
-use Rattle.std.proofs.Common.{Bool, true, [], if◌then◌else◌, length, nat_le, ◌≡◌, ◌≢◌, ℕ, List, false, Option, Some, Result, Ok, Err, IfOk}
-use Rattle.std.{proofs.Common.{OnOk, string_bytes, refl, sym, ap, ◌∙◌, subst}, proofs.lemmas.Option.{same_Some, none-some}}
+use Rattle.std.proofs.Common.{Bool, true, [], if◌then◌else◌, length, nat_le, ◌≡◌, ◌≢◌, ℕ, List, false, Option, Some, Result, Ok, Err, OnOk}
+use Rattle.std.{proofs.Common.{refl, sym, ap, ◌∙◌, subst}, proofs.lemmas.Option.{same_Some, none-some}}
 use Rattle.std.{proofs.lemmas.Slice.Eq.bytes_eq-Decides, specs.Str.bytes_eq}
 use Rattle.yq_semantics.specs.Program.{Program, is_read, updates}
 use Rattle.yq_text.{specs.declared.edited.Edited.Edited, specs.Splice.Splice}
@@ -30,13 +30,6 @@ unparsed_fault r expr e is why f fault =
     subst (IsUnparsed f) (sym is) (λ other. same_Some e f (sym (ap fault_of (why other)) ∙ fault))
 
 -- ---- an accepted edit
-
--- of a text, by the contract of the edit
-pub text_comes : (r : Result Edited EditError) (p : Program) (s t : List ℕ) → s ≡ t → Edits r (edit_of p s) →
-    IfOk r (λ e. IsEdited p s (string_bytes e.text) e.splices.items) → IfOk r (λ e. IsTextEdited p t (string_bytes e.text))
-text_comes (Ok e) p s t same exact edited_to =
-    subst (λ x. IsTextEdited p x (string_bytes e.text)) same (record { splices = e.splices.items; exact = exact; edited = edited_to })
-text_comes (Err e) p s t same exact edited_to = tt
 
 pub text_same : (p : Program) (t u v : List ℕ) → IsTextEdited p t u → v ≡ u → IsTextEdited p t v
 text_same p t u v edited_to same = subst (IsTextEdited p t) (sym same) edited_to

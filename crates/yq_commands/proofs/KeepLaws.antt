@@ -4,12 +4,10 @@ use Rattle.std.proofs.Common.{◌&&◌, not, true≢false, ◌≡◌, ◌≢◌,
 use Rattle.std.proofs.Common.{if◌then◌else◌, List, [], ◌∷◌, ◌++◌, Option, Some, None, Result, Ok, Err, OnOk, MatchBool, IfErr, sym, ap, ◌∙◌}
 use Rattle.std.{proofs.Common.{subst, refl}, proofs.lemmas.List.Elements.{All-head, All-tail}, specs.Str.bytes_eq, specs.FinMap.get}
 use Rattle.std.specs.String.{string_bytes}
-use Rattle.yq_semantics.specs.Program.{Program}
 use Rattle.yq_journal.{specs.declared.moves.Move.Move, specs.Good.{Good, journal_beside}, specs.History.History}
 use Rattle.yq_journal.specs.Refusals.{most_records, no_way, squash_fault}
 use Rattle.yq_journal.specs.State.{State, journal_after, moved_text, with_move, settled_beside, squashed}
-use Rattle.yq_commands.specs.declared.answer.Answer.{Answer}
-use Rattle.yq_commands.specs.Editing.{EditOutcome, unreadable, refused, edited, program_edits, program_in}
+use Rattle.yq_commands.{specs.declared.answer.Answer.Answer, specs.Editing.{EditOutcome, unreadable, refused, edited, program_in}}
 use Rattle.yq_commands.specs.CommandEffects.{edit_effect, edit_writes, update_effect, OfEffect, IsListing, IsUnparsed, expression_fault}
 use Rattle.yq_commands.{specs.CommandEffects.output_by, specs.FileEdits.HasEdited, specs.Edits.edit_record}
 use Rattle.yq_commands.{specs.CommandDone.{CarriesOut, IsSilent}, specs.CommandNames.{IsOn, file_of}}
@@ -17,8 +15,7 @@ use Rattle.yq_commands.specs.Lists.{answer_by, IsUnrelated, AllOnOrApart, Reply,
 use Rattle.yq_commands.{specs.Lists.{Keeps, ReportsUnparsed, is_accepted, leaves_names}, specs.Help.{AnswersHelp, Helps, IsHelpAnswer}}
 use Rattle.yq_commands.{specs.Expecting.{expects_change, works_as_expected}, specs.Prints.{prints, prints_change}}
 use Rattle.yq_commands.{proofs.ReplyLaws.{reply, reply-answer, reply-printed}, proofs.ListLaws.{arrived, not_true}}
-use Rattle.yq_args.specs.declared.command.Command.{Command}
-use Rattle.yq_args.specs.declared.command.Command.TheVariants.{Eval, Undo, Redo, History as Lists, Squash, Help}
+use Rattle.yq_args.{specs.declared.command.Command.Command, specs.declared.command.Command.TheVariants.{Eval, Undo, Redo, Squash, Help}}
 use Rattle.yq_history.{specs.declared.fault.Fault.Fault, specs.Causes.named}
 use Rattle.yq_history.specs.Effects.{Effect, refuses, writes_nothing, writes_both, from_settled, from_journal, from_pair, leads_to, goes_to}
 use Rattle.yq_history.specs.Effects.{move_effect, joins_to, squash_effect, listing_effect, printed_by, Works}
@@ -63,10 +60,6 @@ edit_silent expr (edited u cs) t s =
     let left = edit_writes (edit_record expr cs (length t) (length u)) t u s in
     let full = refuses (named fault.JournalFull) in
     if_silent (bytes_eq u t) (writes_nothing (bytes [])) (if nat_le most_records s.at then full else left) refl (if_silent (nat_le most_records s.at) full left refl refl)
-
-pub update_silent : (expr : List ℕ) (p : Result Program Fault) (file journal : Option (List ℕ)) → printed_by (update_effect expr p file journal) ≡ bytes []
-update_silent expr (Err f) file journal = refl
-update_silent expr (Ok p) file journal = from_silent file journal (λ t s. edit_effect expr (program_edits p t) t s) (λ t s. edit_silent expr (program_edits p t) t s)
 
 on_ok_by : {T : Type 0} (A B : Type 0) (r : Result T Fault) → OnOk r (A → B) → A → OnOk r B
 on_ok_by A B (Ok v) h a = h a

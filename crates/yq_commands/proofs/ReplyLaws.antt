@@ -2,7 +2,7 @@
 use Rattle.std.proofs.Common.{◌≡◌, inl, inr, ℕ, ◌+◌, ◌-◌, ◌^◌, ◌<◌, min, Bool, true, false, if◌then◌else◌, List, [], ◌∷◌, ◌++◌}
 use Rattle.std.{proofs.Common.{append_assoc, Result, Ok, Err, MatchResult, sym, ap, ap₂, ◌∙◌, refl, arith}, proofs.lemmas.List.append-nil}
 use Rattle.yq_commands.{specs.declared.answer.Answer.Answer, specs.declared.answer.Answer.TheVariants.{Done, NoMatch, Refused}}
-use Rattle.yq_commands.specs.Lists.{answer_by, Reply, answers_in, printed_in, IsAnswer, reports_failure, reports_output, is_inner_refusal}
+use Rattle.yq_commands.specs.Lists.{answer_by, Reply, answers_in, printed_in, IsAnswer, reports_failure, reports_output}
 use Rattle.yq_history.{specs.declared.fault.Fault.Fault, specs.Report.Report}
 use Rattle.yq_store.specs.Count.{count_plus_one}
 
@@ -33,10 +33,6 @@ reply-printed false o = refl
 pub no_failure : (m : Bool) → reports_failure (answer_by m) ≡ false
 no_failure true = refl
 no_failure false = refl
-
-pub no_refusal : (m : Bool) → is_inner_refusal (answer_by m) ≡ false
-no_refusal true = refl
-no_refusal false = refl
 
 printed_push : (rs : List Reply) (r : Reply) → printed_in (rs ++ r ∷ []) ≡ printed_in rs ++ r.printed
 printed_push [] r = append-nil r.printed

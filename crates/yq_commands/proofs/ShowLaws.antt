@@ -18,7 +18,6 @@ use Rattle.yq_commands.specs.Editing.{EditOutcome, unreadable, refused, edited, 
 use Rattle.yq_commands.specs.CommandFaults.{of_refusal, of_matching}
 use Rattle.yq_commands.specs.Evaluation.{of_file, IsShowing, show_edit, show_found, show_read, shows, cause_in, report_in, edit_output}
 use Rattle.yq_commands.{proofs.EditingLaws.unread_text, specs.Expecting.{change_output, changes_as_expected}}
-use Rattle.yq_commands.specs.FileEdits.{IsTextEdited, PrintsEdit}
 use Rattle.yq_text.specs.Splice.{Splice}
 use Rattle.yq_core.specs.declared.fault.ReadError.TheVariants as reading
 use Rattle.yq_history.specs.declared.report.Report as declared
@@ -144,16 +143,6 @@ pub diff_output : (options : EvalOptions) (file t u : List ℕ) (changes : List 
 diff_output options file t u changes o printed on gives shows =
     subst (λ b. IsOutput file (if b then diff t u else bytes u) printed) (sym on)
     (subst (λ x. IsOutput file (change_output true t x) printed) gives (subst (λ b. IsOutput file (change_output b t o) printed) on shows))
-
--- what was printed of it
-pub text_printed : (options : EvalOptions) (file t printed : List ℕ) (p : Program) → options.diff ≡ false → IsTextEdited p t printed → PrintsEdit options.diff file p t printed
-text_printed options file t printed p off edited_to = subst (λ b. PrintsEdit b file p t printed) (sym off) edited_to
-
-pub diff_printed : (options : EvalOptions) (file t u : List ℕ) (changes : List Splice) (o : EditOutcome) (printed : List ℕ) (p : Program) → options.diff ≡ true → o ≡ edited u changes →
-    IsOutput file (change_output options.diff t o) printed → IsTextEdited p t u → PrintsEdit options.diff file p t printed
-diff_printed options file t u changes o printed p on gives shows edited_to =
-    subst (λ b. PrintsEdit b file p t printed) (sym on)
-    (u, edited_to, subst (λ x. IsOutput file (change_output true t x) printed) gives (subst (λ b. IsOutput file (change_output b t o) printed) on shows))
 
 -- a read that is shown
 pub read_shows : {E : Type 0} (name : List ℕ) (x : Result Showing Cause) (r : Result declared.Report E) → IfOk r (λ s. x ≡ Ok (showing_by s)) → IfOk r (λ s. IsShowing name x (report_by s))

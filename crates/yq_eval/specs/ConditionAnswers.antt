@@ -3,7 +3,7 @@ use Rattle.std.specs.Prelude.{ℕ, Bool, List, map}
 use Rattle.yq_core.{specs.Scalar.ScalarText, specs.SchemaReading.int_value, specs.Tree.Node}
 use Rattle.yq_semantics.{specs.Conditions.{condition_holds, first_equals, is_scalar, operand_is, same_int}, specs.Judgement.Judgement}
 use Rattle.yq_semantics.{specs.Places.FoundPlace, specs.Program.value_at, specs.View.{condition_of, operand_of, program_step}}
-use Rattle.yq_semantics.{specs.declared.program.Condition.Condition, specs.declared.program.Operand.Operand}
+use Rattle.yq_semantics.{specs.declared.program.Condition.Condition, specs.declared.program.Comparison.Comparison}
 use Rattle.yq_semantics.specs.declared.program.PathStep.{PathStep}
 
 -- whether texts are the same integer, or the same text where one of them is none
@@ -18,9 +18,9 @@ is_that_scalar s n = is_scalar s.kind s.text n
 abbrev pub first_is_that : ScalarText → List FoundPlace → Judgement Bool
 first_is_that s ps = first_equals s.kind s.text ps
 
--- whether an operand is a scalar at a place of the document of that number
-abbrev pub equals_scalar : ℕ → Operand → ScalarText → FoundPlace → Judgement Bool
-equals_scalar doc operand s p = operand_is doc (operand_of operand) s.kind s.text p
+-- whether what is compared is the scalar of a comparison, at a place of the document of that number
+abbrev pub equals_scalar : ℕ → Comparison → FoundPlace → Judgement Bool
+equals_scalar doc c p = operand_is doc (operand_of c.operand) c.scalar.kind c.scalar.text p
 
 -- whether the value to which steps lead from a place is a scalar
 abbrev pub value_equals : List PathStep → ScalarText → FoundPlace → Judgement Bool

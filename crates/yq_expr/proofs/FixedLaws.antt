@@ -4,27 +4,25 @@ use Rattle.std.proofs.Common.{length, map, slice_get, Option, Some, None, if◌t
 use Rattle.std.{proofs.Common.{ap, subst, ◌∙◌, arith, append-nil, append_assoc}, proofs.lemmas.Bool.false≢true}
 use Rattle.std.{proofs.lemmas.Bool.Decides.nat_tests, proofs.lemmas.Option.{none-some, same_Some}, proofs.lemmas.Simd.map-map}
 use Rattle.std.{specs.List.list_any, specs.Borrow.Bor, specs.Prelude.IfSome}
-use Rattle.yq_core.{specs.Scalar.ScalarText, specs.Entries.tree_step, specs.Anchors.{Name, names_in, names_of}, specs.Answers.◌>>=◌}
-use Rattle.yq_core.{specs.Keys.depth, specs.Shapes.{AreEntries, AreItems, IsTree}}
-use Rattle.yq_core.specs.Paths.{Step, To, Nth, child_at, is_item, key_is, node_at}
+use Rattle.yq_core.{specs.Scalar.ScalarText, specs.Entries.tree_step, specs.Anchors.names_of, specs.Answers.◌>>=◌}
+use Rattle.yq_core.{specs.Shapes.{AreEntries, AreItems, IsTree}, specs.Paths.{Step, To, Nth, child_at, is_item, key_is, node_at}}
 use Rattle.yq_core.specs.Tree.{Node, alias, scalar, list, Children, none, child, children_of}
 use Rattle.yq_semantics.{specs.View.{stage_of, term_of, program_step}, specs.declared.program.CommentPlace.CommentPlace}
 use Rattle.yq_semantics.specs.Judgement.{Judgement, and_then, gives, refuses}
-use Rattle.yq_semantics.specs.Changes.{Change, replaces, removes, sets_comment, Changed, Room, allowed, all_allowed, at_each, changes_at}
-use Rattle.yq_semantics.specs.Changes.{changes_in, left_pipe, can_be_comment, has_comment, is_too_deep, is_too_long, is_used, is_used_in}
-use Rattle.yq_semantics.specs.Changes.{is_used_inside, put_with_path, refers_to, remove_at, comment_at, takes_used, update_changes}
-use Rattle.yq_semantics.{specs.Fits.IsBelow, specs.Matching.{key_step, step_child}}
-use Rattle.yq_semantics.{specs.Meaning.{AreReady, all_changed, changed_at_once, meaning, placed_edit}, specs.NodeEdits.{at_once, done_by}}
+use Rattle.yq_semantics.specs.Changes.{replaces, removes, sets_comment, Changed, Room, allowed, all_allowed, at_each, changes_at}
+use Rattle.yq_semantics.specs.Changes.{changes_in, can_be_comment, has_comment, is_too_deep, is_too_long, is_used_in, is_used_inside}
+use Rattle.yq_semantics.{specs.Changes.{put_with_path, remove_at, comment_at, takes_used, update_changes}, specs.Fits.IsBelow}
+use Rattle.yq_semantics.{specs.Meaning.{AreReady, all_changed, changed_at_once, meaning, placed_edit}, specs.NodeEdits.done_by}
 use Rattle.yq_semantics.{specs.Operations.Operation, specs.Pipes.{places, stage_on}, specs.Plans.{all_ops, comment_op, is_removal, plan}}
-use Rattle.yq_semantics.specs.Places.{FoundPlace, child_place, chained, for_each, found_place, root_place, step_on, step_there, traverse}
-use Rattle.yq_semantics.specs.Program.{PathStep, key, index, each, Stage, path, Term, literal, Update, UpdatesHold, assign, delete, comment}
-use Rattle.yq_semantics.{specs.RightValues.right_value, specs.Rooms.room_of}
+use Rattle.yq_semantics.specs.Places.{FoundPlace, chained, for_each, found_place, step_on, step_there, traverse}
+use Rattle.yq_semantics.specs.Program.{PathStep, key, index, each, Stage, path, literal, Update, UpdatesHold, assign, delete, comment}
+use Rattle.yq_semantics.specs.Rooms.{room_of}
 use Rattle.yq_semantics.specs.declared.refusal.Refusal.TheVariants.{AnchorInUse, BadCommentText, KeyTooLong, NoPlaceForComment, TooDeep}
-use Rattle.yq_semantics.{proofs.ChildPlaces.{absent, child_tree, children_tree}, proofs.JudgementLaws.{gives_same, then_gives}}
+use Rattle.yq_semantics.{proofs.ChildPlaces.{child_tree, children_tree}, proofs.JudgementLaws.{gives_same, then_gives}}
 use Rattle.yq_semantics.{proofs.RoomLaws.rooms_are_ready, proofs.updates.Aliases.{AllWriteNone, WritesNone, all_bring, at_once_no_more}}
-use Rattle.yq_semantics.{proofs.updates.Each.{Each, each_weaker}, proofs.updates.FitChanges.update_fit}
-use Rattle.yq_semantics.{proofs.updates.FitsInOrder.MayChange, proofs.updates.Mentions.in_less}
-use Rattle.yq_documents.{specs.Documents.Document, specs.Reading.{documents, documents_of, cut_of, read_at}, proofs.ReadLaws.read_takes}
+use Rattle.yq_semantics.{proofs.updates.Each.each_weaker, proofs.updates.FitChanges.update_fit, proofs.updates.FitsInOrder.MayChange}
+use Rattle.yq_semantics.proofs.updates.Mentions.{in_less}
+use Rattle.yq_documents.{specs.Documents.Document, specs.Reading.{documents_of, cut_of, read_at}, proofs.ReadLaws.read_takes}
 use Rattle.yq_documents.proofs.ReadyLaws.{read_ready}
 use Rattle.yq_outline.{proofs.ShapeLaws.{shaped_by_lines, shaped_is_tree}, specs.Names.is_reference}
 use Rattle.yq_places.specs.NodesAt.{NodeAt, node_in, node_summary}

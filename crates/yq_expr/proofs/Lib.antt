@@ -1,4 +1,5 @@
 pub mod ChangeLaws
+pub mod DocumentLaws
 pub mod AllChanges
 pub mod ChildPlaces
 pub mod SummandLaws

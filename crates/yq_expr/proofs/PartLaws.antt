@@ -1,19 +1,19 @@
 -- A plan that is made part by part.
-use Rattle.std.proofs.Common.{◌≡◌, ℕ, zero, suc, ◌+◌, ◌<◌, ◌≤◌, ◌-◌, false, if◌then◌else◌, List, [], ◌∷◌, ◌++◌, length, map, take, drop}
-use Rattle.std.proofs.Common.{Option, Some, None, refl, sym, ap, ◌∙◌, append_assoc, append-nil, add-one, arith, subst}
+use Rattle.std.proofs.Common.{◌≡◌, ℕ, zero, suc, ◌+◌, ◌<◌, ◌≤◌, ◌-◌, false, if◌then◌else◌, List, [], ◌∷◌, ◌++◌, length, take, drop, Some}
+use Rattle.std.proofs.Common.{None, refl, sym, ap, ◌∙◌, append_assoc, append-nil, add-one, arith, subst}
 use Rattle.std.proofs.lemmas.List.{drop-drop, drop-map, drop_all, length-drop, take-append-drop, take-map, take_rest}
 use Rattle.yq_core.specs.Tree.{Node}
 use Rattle.yq_documents.specs.Documents.{Document}
-use Rattle.yq_semantics.specs.Changes.{Room, Changed, add_at, all_allowed, at_each, changes_at, changes_from, changes_in, comment_at}
-use Rattle.yq_semantics.specs.Changes.{left_pipe, put_with_path, remove_at, update_changes, with_value}
+use Rattle.yq_semantics.specs.Changes.{Room, Changed, add_at, all_allowed, at_each, changes_at, changes_from, comment_at, left_pipe}
+use Rattle.yq_semantics.specs.Changes.{put_with_path, remove_at, with_value}
 use Rattle.yq_semantics.{specs.Judgement.{Judgement, MatchFails, and_then, gives, refuses}, specs.Meaning.roots_of}
 use Rattle.yq_semantics.{specs.Operations.Operation, specs.Pipes.places, specs.Places.{FoundPlace, for_each, root_place}}
-use Rattle.yq_semantics.{specs.Plans.{all_ops, change_ops, is_removal, ops_of, plan}, specs.PlacesApart.{AreIn, IsIn}}
+use Rattle.yq_semantics.{specs.Plans.{all_ops, change_ops, ops_of, plan}, specs.PlacesApart.AreIn}
 use Rattle.yq_semantics.{specs.Program.{Update, assign, comment, delete}, specs.declared.refusal.Refusal.TheVariants.BadCommentText}
 use Rattle.yq_semantics.{specs.RightValues.right_value, specs.declared.expr_error.ExprError.ExprError}
 use Rattle.yq_eval.{specs.PlaceView.{place_of, places_of, put_behind}, specs.TreeScalars.HaveScalars}
 use Rattle.yq_eval.proofs.EachLaws.{fails_then, put_both}
-use Rattle.yq_expr.specs.Parts.{IsInOrder, IsPlanPart, LeavesOps, document_ops, ops_from, rest_ops}
+use Rattle.yq_expr.specs.Parts.{IsInOrder, IsPlanPart, document_ops, ops_from, rest_ops}
 use Rattle.yq_eval.specs.declared.matching.place.FoundPlace as declared
 use Rattle.yq_semantics.specs.declared.program.Operator.TheVariants as operator
 
@@ -158,10 +158,6 @@ module _ (u : Update) (doc : ℕ) (room : Room) (root : Node) (ps : List FoundPl
       (sym (ops_there place ∙ ap (and_then (λ cs. gives (ops_of doc cs))) (ap (changes_at doc room root u) (split_places place to ps order) ∙ changes_both doc room root u (take (to - place) (drop place ps)) (drop to ps))))
       (fails_then (λ cs. gives (ops_of doc cs)) (both (changes_at doc room root u (take (to - place) (drop place ps))) (changes_at doc room root u (drop to ps))) e
       (fails_then (λ xs. and_then (λ ys. gives (xs ++ ys)) (changes_at doc room root u (drop to ps))) (changes_at doc room root u (take (to - place) (drop place ps))) e h))
-
--- a refusal of the places is one of all
-pub places_fail : (u : Update) (doc : ℕ) (room : Room) (root : Node) (place : ℕ) (e : ExprError) → MatchFails e (places doc (left_pipe u) root) → MatchFails e (document_ops u doc room root place)
-places_fail u doc room root place e h = fails_then (λ ps. and_then (λ cs. gives (ops_of doc cs)) (changes_at doc room root u (drop place ps))) (places doc (left_pipe u) root) e h
 
 -- ---- document after document
 

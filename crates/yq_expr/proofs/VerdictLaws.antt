@@ -1,15 +1,13 @@
 -- Whether something comes of an update, place by place and document by document.
 use Rattle.std.proofs.Common.{Result, Ok, Err, Option, Some, None, IfOk, IfSome, ◌≡◌, ℕ, suc, ◌+◌, ◌<◌, ◌≤◌, Bool, true, false, List, []}
-use Rattle.std.proofs.Common.{◌∷◌, ◌++◌, length, drop, if◌then◌else◌, refl, sym, ap, ◌∙◌, subst, add-one, arith}
-use Rattle.std.proofs.lemmas.List.{drop_all}
+use Rattle.std.{proofs.Common.{◌∷◌, ◌++◌, length, drop, if◌then◌else◌, refl, sym, ap, ◌∙◌, subst, add-one}, proofs.lemmas.List.drop_all}
 use Rattle.yq_core.{specs.Anchors.names_of, specs.Tree.Node}
 use Rattle.yq_documents.specs.Documents.{Document}
 use Rattle.yq_eval.{specs.PlaceView.put_behind, proofs.EachLaws.fails_then}
 use Rattle.yq_planner.specs.StandIns.{HaveNoAlias, IsStandIn, verdict}
 use Rattle.yq_semantics.specs.Changes.{Room, add_at, all_allowed, at_each, changes_at, changes_from, changes_in, put_with_path}
-use Rattle.yq_semantics.specs.Changes.{update_changes, with_value}
-use Rattle.yq_semantics.{specs.Judgement.{Judgement, MatchFails, Judges, and_then, gives, refuses}, specs.Meaning.roots_of}
-use Rattle.yq_semantics.{specs.Places.{FoundPlace, for_each, root_place}, specs.Plans.{all_ops, is_removal, plan}}
+use Rattle.yq_semantics.{specs.Changes.{update_changes, with_value}, specs.Judgement.{Judgement, MatchFails, and_then, gives, refuses}}
+use Rattle.yq_semantics.{specs.Meaning.roots_of, specs.Places.{FoundPlace, for_each, root_place}, specs.Plans.{all_ops, is_removal, plan}}
 use Rattle.yq_semantics.{specs.RightValues.right_value, specs.Program.{Stage, Term, Update, assign}}
 use Rattle.yq_semantics.{specs.declared.program.Operator.Operator, specs.declared.expr_error.ExprError.ExprError}
 use Rattle.yq_expr.{specs.EffectView.{is_mapping, value_at}, proofs.AllChanges.value_there, proofs.StandInLaws.{add_alike, put_alike}}

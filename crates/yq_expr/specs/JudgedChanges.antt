@@ -1,21 +1,21 @@
 -- What calls answer of changes: those that are judged, or the refusal that is (own).
-use Rattle.std.{specs.Prelude.{◌≡◌, ℕ, true, List, Option, Result, map}, specs.Borrow.Bor, specs.BTreeMap.BTreeMap, specs.Global.Vec}
+use Rattle.std.{specs.Prelude.{◌≡◌, ℕ, Bool, true, List, Option, Result, map, if◌then◌else◌}, specs.Borrow.Bor, specs.BTreeMap.BTreeMap}
+use Rattle.std.specs.Global.{Vec}
 use Rattle.yq_core.{specs.Anchors.{Name, names_of}, specs.Tree.Node}
 use Rattle.yq_documents.specs.Reading.{documents_of}
 use Rattle.yq_eval.{specs.FoundView.found_places, specs.PlaceView.{place_of, put_behind}}
 use Rattle.yq_nodes.specs.Nodes.{node_of}
 use Rattle.yq_planner.{specs.ChangeView.{changed_of, placed}, specs.Indexes.HasAliases, specs.StandIns.{HaveNoAlias, verdict}}
 use Rattle.yq_planner.{specs.declared.updating.change.Change.Change, specs.declared.updating.change.PlacedChange.PlacedChange}
-use Rattle.yq_semantics.{specs.Changes.{Changed, all_allowed, at_each, changes_at, changes_in, update_changes}, specs.Meaning.roots_of}
-use Rattle.yq_semantics.{specs.Judgement.{Judgement, Judges, and_then}, specs.Places.{FoundPlace, root_place}}
-use Rattle.yq_semantics.{specs.PlacesApart.{AreIn, IsIn}, specs.RightValues.right_value, specs.Rooms.room_of}
-use Rattle.yq_semantics.{specs.View.{term_of, update_of}, specs.declared.expr_error.ExprError.ExprError, specs.declared.program.Term.Term}
-use Rattle.yq_semantics.specs.declared.program.Update.{Update}
-use Rattle.yq_expr.specs.EffectView.{effect_at, is_mapping}
-use Rattle.yq_eval.specs.declared.matching.found.FoundPlaces as found
+use Rattle.yq_semantics.specs.Changes.{Changed, add_at, all_allowed, at_each, changes_at, changes_in, put_with_path, update_changes}
+use Rattle.yq_semantics.{specs.Changes.with_value, specs.Meaning.roots_of, specs.Judgement.{Judgement, Judges, and_then}}
+use Rattle.yq_semantics.{specs.Places.{FoundPlace, root_place}, specs.PlacesApart.{AreIn, IsIn}, specs.RightValues.right_value}
+use Rattle.yq_semantics.{specs.Rooms.room_of, specs.View.{term_of, update_of}, specs.declared.expr_error.ExprError.ExprError}
+use Rattle.yq_semantics.{specs.declared.program.Term.Term, specs.declared.program.Update.Update}
+use Rattle.yq_expr.{specs.EffectView.{effect_at, is_mapping}, specs.declared.document.DocumentEffect.DocumentEffect}
+use Rattle.yq_expr.{specs.declared.document.DocumentPlaces.DocumentPlaces, specs.declared.document.DocumentRoot.DocumentRoot}
 use Rattle.yq_expr.specs.declared.effect.Action as effect
 use Rattle.yq_eval.specs.declared.matching.place.FoundPlace as place
-use Rattle.yq_nodes.specs.declared.nodes.node.Node as nodes
 
 -- an answer's changes are those of a judgement, or its refusal is that of the judgement (own)
 abbrev pub JudgesChanges : Result (Vec PlacedChange) ExprError → Judgement (List Changed) → Type 0
@@ -53,29 +53,44 @@ JudgesEachVerdict aliases ps f result = (root : Node) → HasAliases (names_of r
 abbrev pub JudgesAt : {X Y : Type 0} → BTreeMap (Bor (List ℕ)) X → FoundPlace → Judgement (List Changed) → Result Y ExprError → Type 0
 JudgesAt aliases p j result = (root : Node) → HasAliases (names_of root) aliases → IsIn root p → JudgesVerdict result (and_then (all_allowed root) j)
 
--- what an update changes at places of the document of that number, which has that root, by the room that the text has (own)
-abbrev pub changes_there : ℕ → List ℕ → nodes.Node → Update → found.FoundPlaces → Judgement (List Changed)
-changes_there doc t root u ps = changes_at doc (room_of t doc) (node_of root) (update_of u) (found_places ps)
+-- what an update changes at places of a document, by the room that the text has (own)
+abbrev pub changes_there : DocumentPlaces → Update → Judgement (List Changed)
+changes_there ps u =
+    changes_at ps.document.doc (room_of ps.document.documents.now ps.document.doc) (node_of ps.document.root) (update_of u) (found_places ps.places)
 
--- what it changes in that document (own)
-abbrev pub changes_inside : Update → ℕ → List ℕ → nodes.Node → Judgement (List Changed)
-changes_inside u doc t root = changes_in (update_of u) doc (room_of t doc) (node_of root)
+-- what it changes in a document (own)
+abbrev pub changes_inside : DocumentRoot → Update → Judgement (List Changed)
+changes_inside d u = changes_in (update_of u) d.doc (room_of d.documents.now d.doc) (node_of d.root)
+
+-- what a right side changes that is added, or put, at places of a document (own)
+abbrev pub with_right : DocumentPlaces → Bool → List Term → Judgement (List Changed)
+with_right ps adds right =
+    with_value (node_of ps.document.root) (right_at_root ps.document.doc right (node_of ps.document.root))
+    (if adds then add_at else put_with_path) (found_places ps.places)
+
+-- what an action changes at a place of a document, by the room that the text has (own)
+abbrev pub action_in : DocumentRoot → effect.Action → FoundPlace → Judgement (List Changed)
+action_in d action = effect_at d.doc (room_of d.documents.now d.doc) action
+
+-- the same by what an update does at each place (own)
+abbrev pub effect_of : DocumentEffect → List ℕ → FoundPlace → Judgement (List Changed)
+effect_of e t = effect_at e.doc (room_of t e.doc) e.action
 
 -- what it changes in each document of a text (own)
 abbrev pub changes_of_all : Update → List ℕ → Judgement (List (List Changed))
 changes_of_all u t = update_changes (update_of u) (room_of t) (roots_of (documents_of t))
 
--- an answer is whether anything refuses what an update does at a place of the document of that number, by the room that the text has (own)
-abbrev pub JudgesEffect : {X Y : Type 0} → BTreeMap (Bor (List ℕ)) X → ℕ → List ℕ → effect.Action → FoundPlace → Result Y ExprError → Type 0
-JudgesEffect aliases doc t effect p result = JudgesAt aliases p (effect_at doc (room_of t doc) effect p) result
+-- an answer is whether anything refuses what an update does at a place of a document of a text (own)
+abbrev pub JudgesEffect : {Y : Type 0} → DocumentEffect → List ℕ → FoundPlace → Result Y ExprError → Type 0
+JudgesEffect e t p result = JudgesAt e.aliases.now p (effect_of e t p) result
 
 -- the same at each of places (own)
-abbrev pub JudgesEffects : {X Y : Type 0} → BTreeMap (Bor (List ℕ)) X → ℕ → List ℕ → effect.Action → List FoundPlace → Result Y ExprError → Type 0
-JudgesEffects aliases doc t effect ps result = JudgesEachVerdict aliases ps (effect_at doc (room_of t doc) effect) result
+abbrev pub JudgesEffects : {Y : Type 0} → DocumentEffect → List ℕ → List FoundPlace → Result Y ExprError → Type 0
+JudgesEffects e t ps result = JudgesEachVerdict e.aliases.now ps (effect_of e t) result
 
--- the same of an update at places of the document of that number, which has that root (own)
-abbrev pub JudgesThere : {X : Type 0} → ℕ → List ℕ → nodes.Node → Update → found.FoundPlaces → Result X ExprError → Type 0
-JudgesThere doc t root u ps result = JudgesVerdict result (changes_there doc t root u ps)
+-- the same of an update at places of a document (own)
+abbrev pub JudgesThere : {X : Type 0} → DocumentPlaces → Update → Result X ExprError → Type 0
+JudgesThere ps u result = JudgesVerdict result (changes_there ps u)
 
 -- a document with these aliases has none (own)
 abbrev pub HasNone : {X : Type 0} → BTreeMap (Bor (List ℕ)) X → Type 0

@@ -1,6 +1,7 @@
 pub use Rattle.yq_core.specs.Values
 pub use Rattle.yq_core.specs.Tree
 pub mod EffectView
+pub mod DocumentPlaces
 pub mod Summand
 pub mod ManyKeys
 pub mod Parts

@@ -6,8 +6,8 @@ use Rattle.yq_semantics.{specs.Operations.{Operation, operations_of}, specs.Plan
 use Rattle.yq_semantics.{specs.Rooms.room_of, specs.View.{program_of, update_of}, specs.declared.expr_error.ExprError.ExprError}
 use Rattle.yq_semantics.{specs.declared.op.Op.Op, specs.declared.program.Syntax.Syntax}
 use Rattle.yq_expr.{specs.Parts.{LeavesOps, document_ops, rest_ops}, specs.declared.parts.PlanPart.PlanPart}
+use Rattle.yq_expr.specs.declared.document.DocumentRoot.{DocumentRoot}
 use Rattle.yq_nodes.specs.Nodes.{node_of}
-use Rattle.yq_nodes.specs.declared.nodes.node.Node as nodes
 use Rattle.yq_semantics.specs.declared.program.Update as declared
 
 -- a program has that update, counted from 0 (own)
@@ -42,6 +42,6 @@ rest_in u t doc place = rest_ops u (room_of t) (documents_of t) doc place
 abbrev pub IsPartOfPlan : Update → List ℕ → ℕ → ℕ → PlanPart → Type 0
 IsPartOfPlan u t doc place p = LeavesOps u (room_of t) (documents_of t) doc place (operations_of p.ops.items) p.doc p.place
 
--- the operations of an update in the document of that number, which has that root, at its places from the one of an index on (own)
-abbrev pub ops_inside : declared.Update → ℕ → List ℕ → nodes.Node → ℕ → Judgement (List Operation)
-ops_inside u doc t root place = document_ops (update_of u) doc (room_of t doc) (node_of root) place
+-- the operations of an update in a document, at its places from the one of an index on (own)
+abbrev pub ops_inside : DocumentRoot → declared.Update → ℕ → Judgement (List Operation)
+ops_inside d u place = document_ops (update_of u) d.doc (room_of d.documents.now d.doc) (node_of d.root) place

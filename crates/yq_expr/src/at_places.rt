@@ -1,11 +1,12 @@
 //! What is changed at each of places.
 ghost use Rattle.std.specs.Prelude.{◌≡◌};
 ghost use Rattle.yq_nodes.specs.Nodes.{node_of};
-ghost use Rattle.yq_expr.{specs.EffectView.effect_at, specs.JudgedChanges.{JudgesAllowed, JudgesEach}};
+ghost use Rattle.yq_expr.specs.JudgedChanges.{JudgesAllowed, JudgesEach, action_in, effect_of};
 ghost use Rattle.yq_semantics.specs.Rooms.{room_of};
 ghost use Rattle.yq_eval.{specs.FoundView.{child_places, found_places}, specs.PlaceView.{path_of, place_of, places_of}};
 ghost use Rattle.yq_eval.specs.TreeScalars.{HasScalars, HaveScalars};
 
+use crate::document::{DocumentEffect, DocumentPlaces};
 use crate::effect::{Action, change_at};
 use crate::many_keys::check_depth;
 use crate::push_change;
@@ -21,26 +22,30 @@ use yq_semantics::ExprError;
 pub(crate) fn push_effect<'a, 't>(
     alloc: Global,
     cut: &mut CutText<'_, '_>,
-    doc: usize,
-    aliases: &Aliases<'_>,
-    effect: Action<'a, '_>,
+    effect: &DocumentEffect<'a, '_, '_>,
     place: &FoundPlace<'a, 't>,
     changes: &mut Vec<PlacedChange>,
 ) -> Result<(), ExprError>
     requires { HasScalars (place_of place.now).node }
     ensures same { cut.new ≡ cut.old }
-    ensures change { JudgesAllowed aliases.now (place_of place.now)
-        (effect_at doc (room_of cut.old doc) effect.entry (place_of place.now))
+    ensures change { JudgesAllowed effect.now.aliases.now (place_of place.now)
+        (effect_of effect.now cut.old (place_of place.now))
         changes.old.items changes.new.items result }
 {
     let path = Path {
-        doc,
+        doc: effect.doc,
         steps: path_steps(alloc, place.path)?,
     };
-    check_depth(alloc, doc, effect, place)?;
-    match change_at(alloc, cut, &path, effect, place)? {
+    check_depth(alloc, effect.doc, effect.action, place)?;
+    match change_at(alloc, cut, &path, effect.action, place)? {
         None => Ok(()),
-        Some(change) => push_change(alloc, aliases, place, path.steps, change, changes),
+        Some(change) => {
+            let changed = PlacedChange {
+                path: path.steps,
+                change,
+            };
+            push_change(alloc, effect.aliases, place, changed, changes)
+        }
     }
 }
 
@@ -48,19 +53,17 @@ pub(crate) fn push_effect<'a, 't>(
 fn at_each<'a, 't>(
     alloc: Global,
     documents: &Documents<'_>,
-    doc: usize,
-    aliases: &Aliases<'_>,
-    effect: Action<'a, '_>,
+    effect: &DocumentEffect<'a, '_, '_>,
     places: &[FoundPlace<'a, 't>],
 ) -> Result<Vec<PlacedChange>, ExprError>
     requires { HaveScalars (places_of places.now) }
-    ensures { JudgesEach aliases.now (places_of places.now)
-        (effect_at doc (room_of documents.now doc) effect.entry) result }
+    ensures { JudgesEach effect.now.aliases.now (places_of places.now)
+        (effect_of effect.now documents.now) result }
 {
     let mut changes = Vec::new(alloc);
-    let mut cut = CutText::of_document(documents, doc);
+    let mut cut = CutText::of_document(documents, effect.doc);
     'places: for place in places {
-        push_effect(alloc, &mut cut, doc, aliases, effect, place, &mut changes)?;
+        push_effect(alloc, &mut cut, effect, place, &mut changes)?;
     }
     Ok(changes)
 }
@@ -69,19 +72,17 @@ fn at_each<'a, 't>(
 fn at_children<'a, 't>(
     alloc: Global,
     documents: &Documents<'_>,
-    doc: usize,
-    aliases: &Aliases<'_>,
-    effect: Action<'a, '_>,
+    effect: &DocumentEffect<'a, '_, '_>,
     parent: &'a FoundPlace<'a, 't>,
 ) -> Result<Vec<PlacedChange>, ExprError>
     requires { HaveScalars (child_places (path_of parent.now.path) (node_of parent.now.node)) }
-    ensures { JudgesEach aliases.now
+    ensures { JudgesEach effect.now.aliases.now
         (child_places (path_of parent.now.path) (node_of parent.now.node))
-        (effect_at doc (room_of documents.now doc) effect.entry) result }
+        (effect_of effect.now documents.now) result }
 {
     let count = parent.node.count();
     let mut changes = Vec::with_capacity(alloc, count)?;
-    let mut cut = CutText::of_document(documents, doc);
+    let mut cut = CutText::of_document(documents, effect.doc);
     let mut children = parent.node.children();
     let mut before = 0;
     'children: while before < count {
@@ -89,29 +90,32 @@ fn at_children<'a, 't>(
             return Ok(changes);
         };
         let place = FoundPlace::nth_below(&parent.path, before, &child);
-        push_effect(alloc, &mut cut, doc, aliases, effect, &place, &mut changes)?;
+        push_effect(alloc, &mut cut, effect, &place, &mut changes)?;
         before += 1;
     }
     Ok(changes)
 }
 
-/// What is changed at each of the places that a pipe found.
+/// What an action changes at each of the places that a pipe found in a document, which has those aliases.
 pub(crate) fn at_found<'a, 't>(
     alloc: Global,
-    documents: &Documents<'_>,
-    doc: usize,
+    found: &DocumentPlaces<'a, 't>,
     aliases: &Aliases<'_>,
-    effect: Action<'a, '_>,
-    places: &FoundPlaces<'a, 't>,
+    action: Action<'a, '_>,
 ) -> Result<Vec<PlacedChange>, ExprError>
-    requires { HaveScalars (found_places places.now) }
-    ensures { JudgesEach aliases.now (found_places places.now)
-        (effect_at doc (room_of documents.now doc) effect.entry) result }
+    requires { HaveScalars (found_places found.now.places) }
+    ensures { JudgesEach aliases.now (found_places found.now.places)
+        (action_in found.now.document action.entry) result }
 {
-    match places {
-        FoundPlaces::Listed(places) => at_each(alloc, documents, doc, aliases, effect, places),
+    let effect = DocumentEffect {
+        doc: found.document.doc,
+        aliases,
+        action,
+    };
+    match &found.places {
+        FoundPlaces::Listed(places) => at_each(alloc, found.document.documents, &effect, places),
         FoundPlaces::Children(parent) => {
-            at_children(alloc, documents, doc, aliases, effect, parent)
+            at_children(alloc, found.document.documents, &effect, parent)
         }
     }
 }

@@ -1,5 +1,5 @@
 //! What an update does at one place.
-ghost use Rattle.std.specs.Prelude.{◌≡◌};
+ghost use Rattle.std.{specs.Prelude.◌≡◌, specs.String.string_bytes};
 ghost use Rattle.yq_expr.{specs.EffectView.effect_at, specs.JudgedChanges.JudgesPut};
 ghost use Rattle.yq_semantics.specs.Rooms.{comment_part, room_of};
 ghost use Rattle.yq_documents.specs.Located.{steps_of};
@@ -15,7 +15,7 @@ use yq_documents::{Part, Path};
 use yq_eval::{FoundPlace, Missing, NodePath};
 use yq_lookup::CutText;
 use yq_planner::{Change, added, copied, is_null};
-use yq_semantics::{CommentPlace, ExprError, Refusal, Term};
+use yq_semantics::{Comment, CommentPlace, ExprError, Refusal, Term};
 
 /// What an update does at each place.
 #[derive(Clone, Copy)]
@@ -28,8 +28,8 @@ pub(crate) enum Action<'a, 'v> {
     Add(&'v Value),
     /// What is there is removed.
     Remove,
-    /// The text of a comment is set.
-    SetComment(CommentPlace, &'v str),
+    /// A comment is set.
+    SetComment(&'v Comment),
 }
 
 /// A value that is added at a place.
@@ -93,23 +93,23 @@ fn set_comment(
     alloc: Global,
     cut: &mut CutText<'_, '_>,
     path: &Path,
-    comment: CommentPlace,
-    text: &str,
+    comment: &Comment,
     place: &FoundPlace<'_, '_>,
 ) -> Result<Option<Change>, ExprError>
     requires { steps_of path.now ≡ path_of place.now.path }
     ensures same { cut.new ≡ cut.old }
     ensures change { JudgesPut place.now result
-        (spec.comment_at (room_of cut.old path.now.doc) comment text.now (place_of place.now)) }
+        (spec.comment_at (room_of cut.old path.now.doc) comment.now.place
+        (string_bytes comment.now.text) (place_of place.now)) }
 {
     if let Missing::Further(..) = place.missing {
         return Err(ExprError::Refused(Refusal::NoPlaceForComment));
     }
-    if !has_room(alloc, cut, path, comment) {
+    if !has_room(alloc, cut, path, comment.place) {
         return Err(ExprError::Refused(Refusal::NoPlaceForComment));
     }
-    let text = String::from_str(alloc, text)?;
-    Ok(Some(Change::SetsComment(comment, text)))
+    let text = String::from_str(alloc, comment.text.as_str())?;
+    Ok(Some(Change::SetsComment(comment.place, text)))
 }
 
 /// What is changed at a place of document `doc` of a text, before anything refuses it.
@@ -132,6 +132,6 @@ pub(crate) fn change_at<'a, 't>(
         Action::Modify(terms) => put(alloc, place, right_value(alloc, path.doc, terms, place)?),
         Action::Add(value) => add(alloc, place, value),
         Action::Remove => remove(place),
-        Action::SetComment(comment, text) => { set_comment(alloc, cut, path, comment, text, place) }
+        Action::SetComment(comment) => set_comment(alloc, cut, path, comment, place),
     }
 }

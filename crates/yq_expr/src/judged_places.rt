@@ -2,11 +2,12 @@
 //! is made.
 ghost use Rattle.std.specs.Prelude.{◌≡◌};
 ghost use Rattle.yq_nodes.specs.Nodes.{node_of};
-ghost use Rattle.yq_expr.specs.JudgedChanges.{JudgesEffect, JudgesEffects};
+ghost use Rattle.yq_expr.specs.JudgedChanges.{JudgesEachVerdict, JudgesEffect, JudgesEffects, action_in};
 ghost use Rattle.yq_eval.{specs.FoundView.{child_places, found_places}, specs.PlaceView.{path_of, place_of, places_of}};
 ghost use Rattle.yq_eval.specs.TreeScalars.{HasScalars, HaveScalars};
 
 use crate::at_places::push_effect;
+use crate::document::{DocumentEffect, DocumentPlaces};
 use crate::effect::Action;
 use std::alloc::Global;
 use yq_documents::Documents;
@@ -19,18 +20,15 @@ use yq_semantics::ExprError;
 fn judge_place<'a, 't>(
     alloc: Global,
     cut: &mut CutText<'_, '_>,
-    doc: usize,
-    aliases: &Aliases<'_>,
-    effect: Action<'a, '_>,
+    effect: &DocumentEffect<'a, '_, '_>,
     place: &FoundPlace<'a, 't>,
 ) -> Result<(), ExprError>
     requires { HasScalars (place_of place.now).node }
     ensures same { cut.new ≡ cut.old }
-    ensures verdict { JudgesEffect aliases.now doc cut.old effect.entry (place_of place.now)
-        result }
+    ensures verdict { JudgesEffect effect.now cut.old (place_of place.now) result }
 {
     let mut changes = Vec::new(alloc);
-    push_effect(alloc, cut, doc, aliases, effect, place, &mut changes)?;
+    push_effect(alloc, cut, effect, place, &mut changes)?;
     Ok(())
 }
 
@@ -38,18 +36,15 @@ fn judge_place<'a, 't>(
 fn judge_each<'a, 't>(
     alloc: Global,
     documents: &Documents<'_>,
-    doc: usize,
-    aliases: &Aliases<'_>,
-    effect: Action<'a, '_>,
+    effect: &DocumentEffect<'a, '_, '_>,
     places: &[FoundPlace<'a, 't>],
 ) -> Result<(), ExprError>
     requires { HaveScalars (places_of places.now) }
-    ensures { JudgesEffects aliases.now doc documents.now effect.entry (places_of places.now)
-        result }
+    ensures { JudgesEffects effect.now documents.now (places_of places.now) result }
 {
-    let mut cut = CutText::of_document(documents, doc);
+    let mut cut = CutText::of_document(documents, effect.doc);
     'places: for place in places {
-        judge_place(alloc, &mut cut, doc, aliases, effect, place)?;
+        judge_place(alloc, &mut cut, effect, place)?;
     }
     Ok(())
 }
@@ -58,17 +53,15 @@ fn judge_each<'a, 't>(
 fn judge_children<'a, 't>(
     alloc: Global,
     documents: &Documents<'_>,
-    doc: usize,
-    aliases: &Aliases<'_>,
-    effect: Action<'a, '_>,
+    effect: &DocumentEffect<'a, '_, '_>,
     parent: &'a FoundPlace<'a, 't>,
 ) -> Result<(), ExprError>
     requires { HaveScalars (child_places (path_of parent.now.path) (node_of parent.now.node)) }
-    ensures { JudgesEffects aliases.now doc documents.now effect.entry
+    ensures { JudgesEffects effect.now documents.now
         (child_places (path_of parent.now.path) (node_of parent.now.node)) result }
 {
     let count = parent.node.count();
-    let mut cut = CutText::of_document(documents, doc);
+    let mut cut = CutText::of_document(documents, effect.doc);
     let mut children = parent.node.children();
     let mut before = 0;
     'children: while before < count {
@@ -76,29 +69,32 @@ fn judge_children<'a, 't>(
             return Ok(());
         };
         let place = FoundPlace::nth_below(&parent.path, before, &child);
-        judge_place(alloc, &mut cut, doc, aliases, effect, &place)?;
+        judge_place(alloc, &mut cut, effect, &place)?;
         before += 1;
     }
     Ok(())
 }
 
-/// Judges what is changed at each of the places that a pipe found.
+/// Judges what an action changes at each of the places that a pipe found in a document, which has those aliases.
 pub(crate) fn judge_found<'a, 't>(
     alloc: Global,
-    documents: &Documents<'_>,
-    doc: usize,
+    found: &DocumentPlaces<'a, 't>,
     aliases: &Aliases<'_>,
-    effect: Action<'a, '_>,
-    places: &FoundPlaces<'a, 't>,
+    action: Action<'a, '_>,
 ) -> Result<(), ExprError>
-    requires { HaveScalars (found_places places.now) }
-    ensures { JudgesEffects aliases.now doc documents.now effect.entry
-        (found_places places.now) result }
+    requires { HaveScalars (found_places found.now.places) }
+    ensures { JudgesEachVerdict aliases.now (found_places found.now.places)
+        (action_in found.now.document action.entry) result }
 {
-    match places {
-        FoundPlaces::Listed(places) => judge_each(alloc, documents, doc, aliases, effect, places),
+    let effect = DocumentEffect {
+        doc: found.document.doc,
+        aliases,
+        action,
+    };
+    match &found.places {
+        FoundPlaces::Listed(places) => judge_each(alloc, found.document.documents, &effect, places),
         FoundPlaces::Children(parent) => {
-            judge_children(alloc, documents, doc, aliases, effect, parent)
+            judge_children(alloc, found.document.documents, &effect, parent)
         }
     }
 }

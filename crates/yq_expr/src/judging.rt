@@ -1,17 +1,17 @@
 //! Judging: whether an update is refused on documents, with no copy of its value for each place.
 ghost use Rattle.std.specs.Prelude.{◌≡◌, ◌<◌, IfOk, IfSome, List, length, true, if◌then◌else◌};
-ghost use Rattle.yq_core.{specs.Anchors.names_of, specs.Shapes.IsTree, specs.Values.value_node};
+ghost use Rattle.yq_core.{specs.Anchors.names_of, specs.Values.value_node};
 ghost use Rattle.yq_nodes.specs.Nodes.{node_of};
 ghost use Rattle.yq_planner.{specs.Indexes.HasAliases, specs.StandIns.IsStandIn};
-ghost use Rattle.yq_semantics.{specs.PlacesApart.AreIn, specs.Program.update_count, specs.View.{program_of, update_of}};
+ghost use Rattle.yq_semantics.{specs.Program.update_count, specs.View.{program_of, update_of}};
 ghost use Rattle.yq_expr.{specs.EffectView.{is_mapping, value_at}, specs.PlannedUpdates.{IsUpdateAt, plan_in}};
 ghost use Rattle.yq_expr.specs.JudgedChanges.{HasNone, JudgesEachVerdict, JudgesThere, JudgesVerdict, MayStandIn, changes_inside};
-ghost use Rattle.yq_expr.specs.JudgedChanges.{changes_of_all, right_at_root};
-ghost use Rattle.yq_eval.{specs.FoundView.found_places, specs.TreeScalars.{HasScalars, HaveScalars}};
-ghost use Rattle.yq_semantics.specs.Changes as spec;
+ghost use Rattle.yq_expr.{specs.JudgedChanges.{changes_of_all, with_right}, specs.DocumentPlaces.{AreInDocument, IsDocumentRoot}};
+ghost use Rattle.yq_eval.{specs.FoundView.found_places, specs.TreeScalars.HaveScalars};
 ghost use Rattle.yq_semantics.specs.Program as programs;
 
 use crate::changes::{changes_at, left};
+use crate::document::{DocumentPlaces, DocumentRoot};
 use crate::effect::Action;
 use crate::judged_places::judge_found;
 use crate::right_value::right_value;
@@ -19,7 +19,7 @@ use bumpalo::Bump;
 use std::alloc::{AllocError, Global};
 use yq_core::Value;
 use yq_documents::Documents;
-use yq_eval::{FoundPlace, FoundPlaces, find_places};
+use yq_eval::{FoundPlace, find_places};
 use yq_nodes::Node;
 use yq_planner::{Aliases, aliases_of, has_comment, stand_in};
 use yq_semantics::{Assignment, ExprError, Operator, Program, Refusal, Syntax, Term, Update};
@@ -86,18 +86,16 @@ fn small_value(
     stand_in(alloc, value)
 }
 
-/// Judges one value that is added, or put, at each of places of document `doc`.
+/// Judges one value that is added, or put, at each of places of a document, which has those aliases.
 fn judge_one<'a, 't>(
     alloc: Global,
-    documents: &Documents<'_>,
-    doc: usize,
+    found: &DocumentPlaces<'a, 't>,
     aliases: &Aliases<'_>,
     adds: bool,
     value: &Value,
-    places: &FoundPlaces<'a, 't>,
 ) -> Result<(), ExprError>
-    requires { HaveScalars (found_places places.now) }
-    ensures { JudgesEachVerdict aliases.now (found_places places.now)
+    requires { HaveScalars (found_places found.now.places) }
+    ensures { JudgesEachVerdict aliases.now (found_places found.now.places)
         (value_at adds (value_node value.now)) result }
 {
     let effect = if adds {
@@ -105,166 +103,127 @@ fn judge_one<'a, 't>(
     } else {
         Action::Put(value)
     };
-    judge_found(alloc, documents, doc, aliases, effect, places)
+    judge_found(alloc, found, aliases, effect)
 }
 
 /// The same, by a small value if there is one.
 fn judge_value<'a, 't>(
     alloc: Global,
-    documents: &Documents<'_>,
-    doc: usize,
+    found: &DocumentPlaces<'a, 't>,
     aliases: &Aliases<'_>,
     adds: bool,
     value: &Value,
-    places: &FoundPlaces<'a, 't>,
 ) -> Result<(), ExprError>
-    requires { HaveScalars (found_places places.now) }
-    ensures { JudgesEachVerdict aliases.now (found_places places.now)
+    requires { HaveScalars (found_places found.now.places) }
+    ensures { JudgesEachVerdict aliases.now (found_places found.now.places)
         (value_at adds (value_node value.now)) result }
 {
-    let found = small_value(alloc, aliases, adds, value)?;
-    match found {
-        Some(small) => judge_one(alloc, documents, doc, aliases, adds, &small, places),
-        None => judge_one(alloc, documents, doc, aliases, adds, value, places),
+    let small = small_value(alloc, aliases, adds, value)?;
+    match small {
+        Some(small) => judge_one(alloc, found, aliases, adds, &small),
+        None => judge_one(alloc, found, aliases, adds, value),
     }
 }
 
-/// Judges a right side that is added, or put, at each of places of document `doc`, which has that root.
+/// Judges a right side that is added, or put, at each of places of a document, which has those aliases.
 fn judge_right<'a, 't>(
     alloc: Global,
-    documents: &Documents<'_>,
-    doc: usize,
-    root: &Node<'a, 't>,
+    found: &DocumentPlaces<'a, 't>,
     aliases: &Aliases<'_>,
     adds: bool,
     right: &'a [Term],
-    places: &FoundPlaces<'a, 't>,
 ) -> Result<(), ExprError>
-    requires root { HasScalars (node_of root.now) }
-    requires scalars { HaveScalars (found_places places.now) }
-    requires within { AreIn (node_of root.now) (found_places places.now) }
-    requires aliases { HasAliases (names_of (node_of root.now)) aliases.now }
-    requires some { 0 < length (found_places places.now) }
-    ensures { JudgesVerdict result (spec.with_value (node_of root.now)
-        (right_at_root doc right.now (node_of root.now))
-        (if adds then spec.add_at else spec.put_with_path) (found_places places.now)) }
+    requires places { AreInDocument found.now }
+    requires aliases { HasAliases (names_of (node_of found.now.document.root)) aliases.now }
+    requires some { 0 < length (found_places found.now.places) }
+    ensures { JudgesVerdict result (with_right found.now adds right.now) }
 {
-    let value = right_value(alloc, doc, right, &FoundPlace::of_root(root))?;
-    judge_value(alloc, documents, doc, aliases, adds, &value, places)
+    let from = FoundPlace::of_root(&found.document.root);
+    let value = right_value(alloc, found.document.doc, right, &from)?;
+    judge_value(alloc, found, aliases, adds, &value)
 }
 
-/// Judges an update at places of document `doc`, which has that root: its changes are made, and let go.
+/// Judges an update at places of a document: its changes are made, and let go.
 fn judge_changes<'a, 't>(
     alloc: Global,
-    documents: &Documents<'_>,
-    doc: usize,
-    root: Node<'a, 't>,
+    found: &DocumentPlaces<'a, 't>,
     update: &'a Update,
-    places: &FoundPlaces<'a, 't>,
 ) -> Result<(), ExprError>
-    requires root { HasScalars (node_of root) }
-    requires scalars { HaveScalars (found_places places.now) }
-    requires within { AreIn (node_of root) (found_places places.now) }
-    ensures { JudgesThere doc documents.now root.entry update.now places.now result }
+    requires { AreInDocument found.now }
+    ensures { JudgesThere found.now update.now result }
 {
-    let _changes = changes_at(alloc, documents, doc, root, update, places)?;
+    let _changes = changes_at(alloc, found, update)?;
     Ok(())
 }
 
 /// The same, of an assignment by one value for all places.
 fn judge_assigned<'a, 't>(
     alloc: Global,
-    documents: &Documents<'_>,
-    doc: usize,
-    root: Node<'a, 't>,
+    found: &DocumentPlaces<'a, 't>,
     adds: bool,
     assignment: &'a Assignment,
-    places: &FoundPlaces<'a, 't>,
 ) -> Result<(), ExprError>
-    requires root { HasScalars (node_of root) }
-    requires scalars { HaveScalars (found_places places.now) }
-    requires within { AreIn (node_of root) (found_places places.now) }
+    requires places { AreInDocument found.now }
     requires operator { assignment.now.operator ≡ (if adds then Operator.Add else Operator.Set) }
-    ensures { JudgesThere doc documents.now root.entry (Update.Assign assignment.now) places.now
-        result }
+    ensures { JudgesThere found.now (Update.Assign assignment.now) result }
 {
-    if places.is_empty() {
+    if found.places.is_empty() {
         return Ok(());
     }
-    let aliases = aliases_of(alloc, &root)?;
+    let aliases = aliases_of(alloc, &found.document.root)?;
     let right: &[Term] = &assignment.right;
-    judge_right(alloc, documents, doc, &root, &aliases, adds, right, places)
+    judge_right(alloc, found, &aliases, adds, right)
 }
 
 /// The same, of an assignment whose value is found from each place.
 fn judge_modified<'a, 't>(
     alloc: Global,
-    documents: &Documents<'_>,
-    doc: usize,
-    root: Node<'a, 't>,
+    found: &DocumentPlaces<'a, 't>,
     assignment: &'a Assignment,
-    places: &FoundPlaces<'a, 't>,
 ) -> Result<(), ExprError>
-    requires scalars { HaveScalars (found_places places.now) }
-    requires within { AreIn (node_of root) (found_places places.now) }
+    requires places { AreInDocument found.now }
     requires operator { assignment.now.operator ≡ Operator.Modify }
-    ensures { JudgesThere doc documents.now root.entry (Update.Assign assignment.now) places.now
-        result }
+    ensures { JudgesThere found.now (Update.Assign assignment.now) result }
 {
-    if places.is_empty() {
+    if found.places.is_empty() {
         return Ok(());
     }
-    let aliases = aliases_of(alloc, &root)?;
+    let aliases = aliases_of(alloc, &found.document.root)?;
     let right: &[Term] = &assignment.right;
-    judge_found(
-        alloc,
-        documents,
-        doc,
-        &aliases,
-        Action::Modify(right),
-        places,
-    )
+    judge_found(alloc, found, &aliases, Action::Modify(right))
 }
 
 /// The same, of any update.
 fn judge_at<'a, 't>(
     alloc: Global,
-    documents: &Documents<'_>,
-    doc: usize,
-    root: Node<'a, 't>,
+    found: &DocumentPlaces<'a, 't>,
     update: &'a Update,
-    places: &FoundPlaces<'a, 't>,
 ) -> Result<(), ExprError>
-    requires root { HasScalars (node_of root) }
-    requires scalars { HaveScalars (found_places places.now) }
-    requires within { AreIn (node_of root) (found_places places.now) }
-    ensures { JudgesThere doc documents.now root.entry update.now places.now result }
+    requires { AreInDocument found.now }
+    ensures { JudgesThere found.now update.now result }
 {
     let Update::Assign(assignment) = update else {
-        return judge_changes(alloc, documents, doc, root, update, places);
+        return judge_changes(alloc, found, update);
     };
     match assignment.operator {
-        Operator::Set => judge_assigned(alloc, documents, doc, root, false, assignment, places),
-        Operator::Add => judge_assigned(alloc, documents, doc, root, true, assignment, places),
-        Operator::Modify => judge_modified(alloc, documents, doc, root, assignment, places),
+        Operator::Set => judge_assigned(alloc, found, false, assignment),
+        Operator::Add => judge_assigned(alloc, found, true, assignment),
+        Operator::Modify => judge_modified(alloc, found, assignment),
     }
 }
 
-/// Judges an update in document `doc`, which has that root.
-fn judge_in(
+/// Judges an update in a document.
+fn judge_in<'a>(
     alloc: Global,
-    documents: &Documents<'_>,
-    doc: usize,
-    root: Node<'_, '_>,
-    update: &Update,
+    document: DocumentRoot<'a, '_>,
+    update: &'a Update,
 ) -> Result<(), ExprError>
-    requires scalars { HasScalars (node_of root) }
-    requires tree { IsTree (node_of root) }
-    ensures { JudgesVerdict result (changes_inside update.now doc documents.now root.entry) }
+    requires { IsDocumentRoot document }
+    ensures { JudgesVerdict result (changes_inside document.entry update.now) }
 {
     let bump = Bump::new(alloc);
-    let places = find_places(alloc, &bump, doc, left(update), root)?;
-    judge_at(alloc, documents, doc, root, update, &places)
+    let places = find_places(alloc, &bump, document.doc, left(update), document.root)?;
+    judge_at(alloc, &DocumentPlaces { document, places }, update)
 }
 
 /// Judges an update in each document, up to the first refusal.
@@ -276,7 +235,13 @@ fn judge_update(alloc: Global, update: &Update, documents: &Documents<'_>) -> Re
     }
     documents.are_ready();
     'documents: for doc in 0..documents.count() {
-        judge_in(alloc, documents, doc, Node::root(documents, doc), update)?;
+        let root = Node::root(documents, doc);
+        let document = DocumentRoot {
+            documents,
+            doc,
+            root,
+        };
+        judge_in(alloc, document, update)?;
     }
     Ok(())
 }

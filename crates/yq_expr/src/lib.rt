@@ -3,6 +3,7 @@
 
 mod at_places;
 mod changes;
+mod document;
 mod effect;
 mod fixed;
 mod judged_places;

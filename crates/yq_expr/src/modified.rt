@@ -11,7 +11,7 @@ use std::alloc::Global;
 use yq_documents::Documents;
 use yq_eval::{FoundPlace, find};
 use yq_nodes::Node;
-use yq_semantics::{ExprError, Stage, Term};
+use yq_semantics::{Assignment, ExprError, Stage, Term};
 
 /// How many bytes the value takes that terms give from a place in document `doc`; nothing, where they are
 /// refused.
@@ -57,19 +57,20 @@ pub(crate) fn count_within<'a, 't>(
     Ok((count, left))
 }
 
-/// How many bytes of room are left after the values of all places of a document with that root, if there is
-/// room for them.
+/// How many bytes of room are left after the values of an assignment at all places of a document with that root,
+/// if there is room for them.
 fn rest_after(
     alloc: Global,
     doc: usize,
-    left: &[Stage],
-    right: &[Term],
+    assignment: &Assignment,
     root: Node<'_, '_>,
     room: usize,
 ) -> Result<Option<usize>, ExprError>
     requires { HasScalars (node_of root) }
 {
     let bump = Bump::new(alloc);
+    let left: &[Stage] = &assignment.left;
+    let right: &[Term] = &assignment.right;
     let places = find(alloc, &bump, doc, left, root)?;
     let (count, rest) = count_within(alloc, doc, right, &places, room)?;
     if count < places.len() || rest == 0 {
@@ -82,26 +83,24 @@ fn rest_after(
 fn room_after(
     alloc: Global,
     doc: usize,
-    left: &[Stage],
-    right: &[Term],
+    assignment: &Assignment,
     root: Node<'_, '_>,
     room: usize,
 ) -> Result<Option<usize>, ExprError>
     requires { HasScalars (node_of root) }
     ensures { IfErr result (λ e. e ≡ ExprError.Memory) }
 {
-    match rest_after(alloc, doc, left, right, root, room) {
+    match rest_after(alloc, doc, assignment, root, room) {
         Ok(rest) => Ok(rest),
         Err(ExprError::Refused(_)) => Ok(Some(room)),
         Err(ExprError::Memory) => Err(ExprError::Memory),
     }
 }
 
-/// Whether the values take more than there is room for that terms give from the places of documents.
+/// Whether the values take more than there is room for that an assignment finds from places of documents.
 pub(crate) fn are_many(
     alloc: Global,
-    left: &[Stage],
-    right: &[Term],
+    assignment: &Assignment,
     documents: &Documents<'_>,
     room: usize,
 ) -> Result<bool, ExprError>
@@ -109,7 +108,7 @@ pub(crate) fn are_many(
 {
     let mut rest = room;
     'documents: for doc in 0..documents.count() {
-        match room_after(alloc, doc, left, right, Node::root(documents, doc), rest)? {
+        match room_after(alloc, doc, assignment, Node::root(documents, doc), rest)? {
             Some(room) => rest = room,
             None => return Ok(true),
         }

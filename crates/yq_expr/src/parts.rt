@@ -1,15 +1,16 @@
 //! Plans made part by part, where the values of one update would take too much memory at once.
 ghost use Rattle.std.specs.Prelude.{◌≡◌, ◌<◌, ◌≤◌, ◌-◌, IfErr, IfOk, drop, length, take};
-ghost use Rattle.yq_core.specs.Shapes.{IsTree};
 ghost use Rattle.yq_documents.specs.Reading.{documents_of};
 ghost use Rattle.yq_nodes.specs.Nodes.{node_of};
 ghost use Rattle.yq_eval.{specs.FoundView.found_places, specs.PlaceView.places_of, specs.TreeScalars.{HasScalars, HaveScalars}};
 ghost use Rattle.yq_semantics.{specs.declared.expr_error.ExprError.ExprError, specs.Judgement.MatchFails, specs.Operations.operations_of};
 ghost use Rattle.yq_semantics.specs.View.{program_of, update_of};
-ghost use Rattle.yq_expr.{specs.Parts.{IsLater, IsPlanPart}, specs.PlannedUpdates.{IsPartOfPlan, IsUpdateAt, ops_inside, rest_in}};
+ghost use Rattle.yq_expr.{specs.DocumentPlaces.IsDocumentRoot, specs.Parts.{IsLater, IsPlanPart}};
+ghost use Rattle.yq_expr.specs.PlannedUpdates.{IsPartOfPlan, IsUpdateAt, ops_inside, rest_in};
 ghost use Rattle.yq_semantics.specs.Program as spec;
 
 use crate::changes::{changes_at, left};
+use crate::document::{DocumentPlaces, DocumentRoot};
 use crate::modified::count_within;
 use crate::weights::{VALUES_LIMIT, modified, weight_at};
 use bumpalo::Bump;
@@ -30,6 +31,13 @@ pub struct PlanPart {
     pub place: usize,
 }
 
+/// The operations of a part so far, and how many bytes of room are left for values.
+#[derive(Drop)]
+struct OpenPart {
+    ops: Vec<Op>,
+    room: usize,
+}
+
 /// How many of so many places a part has, where there is room for values of so many bytes, each of which takes
 /// some.
 fn few_of(count: usize, room: usize, weight: usize) -> usize
@@ -44,26 +52,25 @@ fn few_of(count: usize, room: usize, weight: usize) -> usize
     }
 }
 
-/// How many of some places of document `doc`, which has that root, a part has, where there is room for values of
-/// so many bytes; and how many bytes of room are left then.
+/// How many of some places of a document a part has, where there is room for values of so many bytes; and how
+/// many bytes of room are left then.
 fn part_count<'a, 't>(
     alloc: Global,
     update: &'a Update,
-    doc: usize,
-    root: &Node<'a, 't>,
+    document: &DocumentRoot<'a, 't>,
     places: &[FoundPlace<'a, 't>],
     room: usize,
 ) -> Result<(usize, usize), ExprError>
-    requires root { HasScalars (node_of root.now) }
+    requires root { HasScalars (node_of document.now.root) }
     requires scalars { HaveScalars (places_of places.now) }
     ensures some { IfOk result (λ x. 0 < length places.now → 0 < x.0) }
     ensures within { IfOk result (λ x. x.0 ≤ length places.now) }
     ensures err { IfErr result (λ e. e ≡ ExprError.Memory) }
 {
     if let Some(right) = modified(update) {
-        return count_within(alloc, doc, right, places, room);
+        return count_within(alloc, document.doc, right, places, room);
     }
-    let weight = weight_at(alloc, doc, update, root)?;
+    let weight = weight_at(alloc, document.doc, update, &document.root)?;
     let few = few_of(places.len(), room, weight);
     Ok((few, room.saturating_sub(few.saturating_mul(weight))))
 }
@@ -83,40 +90,34 @@ fn some_places<'a, 't>(
     Ok(FoundPlaces::Listed(Vec::from_slice(alloc, &places[from..to])?))
 }
 
-/// Puts the operations of an update at places of document `doc`, which has that root, after others: from a
-/// place on, as many as there is room for. The answer is the place after them, if there are more, and how many
-/// bytes of room are left.
-fn document_part(
+/// Puts the operations of an update at places of a document into a part: from a place on, as many as there is
+/// room for. The answer is the place after them, if there are more.
+fn document_part<'a>(
     alloc: Global,
-    update: &Update,
-    documents: &Documents<'_>,
-    doc: usize,
-    root: Node<'_, '_>,
+    update: &'a Update,
+    document: DocumentRoot<'a, '_>,
     place: usize,
-    room: usize,
-    ops: &mut Vec<Op>,
-) -> Result<(Option<usize>, usize), ExprError>
-    requires scalars { HasScalars (node_of root) }
-    requires tree { IsTree (node_of root) }
-    ensures part { IfOk result (λ x.
-        IsPlanPart (ops_inside update.now doc documents.now root.entry) place
-        (operations_of ops.old.items) (operations_of ops.new.items) x.0) }
-    ensures err { IfErr result (λ e.
-        MatchFails e (ops_inside update.now doc documents.now root.entry place)) }
+    part: &mut OpenPart,
+) -> Result<Option<usize>, ExprError>
+    requires { IsDocumentRoot document }
+    ensures part { IfOk result (IsPlanPart (ops_inside document.entry update.now) place
+        (operations_of part.old.ops.items) (operations_of part.new.ops.items)) }
+    ensures err { IfErr result (λ e. MatchFails e (ops_inside document.entry update.now place)) }
 {
     let bump = Bump::new(alloc);
-    let places = find(alloc, &bump, doc, left(update), root)?;
+    let places = find(alloc, &bump, document.doc, left(update), document.root)?;
     let count = places.len();
     if count <= place {
-        return Ok((None, room));
+        return Ok(None);
     }
-    let (few, room) = part_count(alloc, update, doc, &root, &places[place..], room)?;
+    let (few, room) = part_count(alloc, update, &document, &places[place..], part.room)?;
     let end = place + few;
-    let some = some_places(alloc, &places, place, end)?;
-    let changes = changes_at(alloc, documents, doc, root, update, &some)?;
-    push_changes(alloc, doc, changes, ops)?;
+    let places = some_places(alloc, &places, place, end)?;
+    let changes = changes_at(alloc, &DocumentPlaces { document, places }, update)?;
+    push_changes(alloc, document.doc, changes, &mut part.ops)?;
+    part.room = room;
     let next = if end < count { Some(end) } else { None };
-    Ok((next, room))
+    Ok(next)
 }
 
 /// The operations of a part of an update's plan.
@@ -134,32 +135,35 @@ fn part_of(
         MatchFails e (rest_in (update_of update.now) documents.now doc place)) }
 {
     documents.are_ready();
-    let mut ops = Vec::new(alloc);
-    let mut room = VALUES_LIMIT;
+    let mut part = OpenPart {
+        ops: Vec::new(alloc),
+        room: VALUES_LIMIT,
+    };
     let mut at = doc;
     let mut place = place;
-    'documents: while at < documents.count() && room > 0 {
-        let root = Node::root(documents, at);
-        let (next, left) = document_part(
-            alloc, update, documents, at, root, place, room, &mut ops,
-        )?;
+    'documents: while at < documents.count() && part.room > 0 {
+        let document = DocumentRoot {
+            documents,
+            doc: at,
+            root: Node::root(documents, at),
+        };
+        let next = document_part(alloc, update, document, place, &mut part)?;
         match next {
             Some(place) => {
                 return Ok(PlanPart {
-                    ops,
+                    ops: part.ops,
                     doc: at,
                     place,
                 });
             }
             None => {
-                room = left;
                 at += 1;
                 place = 0;
             }
         }
     }
     Ok(PlanPart {
-        ops,
+        ops: part.ops,
         doc: at,
         place,
     })

@@ -7,9 +7,8 @@ ghost use Rattle.yq_expr.specs.JudgedChanges.{JudgesAllowed};
 ghost use Rattle.yq_semantics.specs.Judgement.{gives};
 
 use std::alloc::Global;
-use yq_core::Step as TreeStep;
 use yq_eval::FoundPlace;
-use yq_planner::{Aliases, Change, PlacedChange, allow};
+use yq_planner::{Aliases, PlacedChange, allow};
 use yq_semantics::ExprError;
 
 /// Puts a change of a place's node after others, if nothing refuses it.
@@ -17,16 +16,16 @@ pub fn push_change(
     alloc: Global,
     aliases: &Aliases<'_>,
     place: &FoundPlace<'_, '_>,
-    path: Vec<TreeStep>,
-    change: Change,
+    changed: PlacedChange,
     changes: &mut Vec<PlacedChange>,
 ) -> Result<(), ExprError>
-    requires { map tree_step path.items ≡ path_of place.now.path }
+    requires { map tree_step changed.path.items ≡ path_of place.now.path }
     ensures { JudgesAllowed aliases.now (place_of place.now)
-        (gives (placed_change (place_of place.now) change))
+        (gives (placed_change (place_of place.now) changed.change))
         changes.old.items changes.new.items result }
 {
-    allow(alloc, aliases, &place.node, path.len(), &change)?;
-    changes.push(PlacedChange { path, change })?;
+    let PlacedChange { path, change } = &changed;
+    allow(alloc, aliases, &place.node, path.len(), change)?;
+    changes.push(changed)?;
     Ok(())
 }

@@ -257,7 +257,7 @@ pub fn is_heavy(
             if most_modified(right, length) <= VALUES_LIMIT {
                 return Ok(false);
             }
-            are_many(alloc, left(update), right, documents, VALUES_LIMIT)
+            are_many(alloc, assignment, documents, VALUES_LIMIT)
         }
         Operator::Set | Operator::Add => {
             if most_weight(right, length) <= VALUES_LIMIT {

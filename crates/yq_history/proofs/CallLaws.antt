@@ -1,14 +1,14 @@
 -- The calls of a command, from those of the calls of which it is made.
-use Rattle.std.proofs.Common.{◌≡◌, ◌≢◌, inl, inr, ℕ, true, false, ◌==◌, List, [], ◌∷◌, Option, Some, None, Result, Ok, Err, IfErr, Vec}
+use Rattle.std.proofs.Common.{rules, ◌≡◌, ◌≢◌, inl, ℕ, true, false, ◌==◌, List, [], ◌∷◌, Option, Some, None, Result, Ok, Err, IfErr, Vec}
 use Rattle.std.{proofs.Common.{is_ok, if◌then◌else◌, sym, ap, ◌∙◌, subst, refl, true≢false}, specs.declared.alloc.Global.Global}
 use Rattle.yq_journal.{specs.declared.moves.Move.Move, specs.Good.journal_beside, specs.Json.journal_text}
 use Rattle.yq_journal.specs.Refusals.{no_way, squash_fault, way_fault}
 use Rattle.yq_journal.specs.State.{State, journal_after, moved_text, settled_beside, squashed, with_move}
 use Rattle.yq_store.{specs.Calls.{Call, writes}, specs.declared.store.FileReadError.FileReadError}
-use Rattle.yq_history.{specs.declared.fault.Fault.Fault, specs.Faults.{of_read, of_write}}
+use Rattle.yq_history.{specs.declared.fault.Fault.Fault, specs.Faults.of_read}
 use Rattle.yq_history.specs.Calls.{AfterFile, AfterJournal, CallsOnPair, IsOpened, Makes, Puts, PutsJournal, ReadsJournal, ReadsPair}
 use Rattle.yq_history.{specs.Calls.writes_of, specs.Output.bytes}
-use Rattle.yq_history.specs.Effects.{Effect, refuses, writes_nothing, writes_both, from_pair, goes_to, leads_to, move_effect, joins_to}
+use Rattle.yq_history.specs.Effects.{Effect, writes_nothing, writes_both, from_pair, goes_to, leads_to, move_effect, joins_to}
 use Rattle.yq_history.{specs.Effects.squash_effect, proofs.EffectLaws.settles, proofs.MoveLaws.{bytes_differ, bytes_same, no_way_free}}
 use Rattle.yq_store.specs.declared.store.FileReadError.TheVariants as read
 
@@ -30,22 +30,16 @@ module _ {S : Type 0} (leads : S → Call → S → Type 0) where
 
   -- nor one of an effect
   pub makes_none : {T : Type 0} (r : Result T Fault) (f j t : List ℕ) (x : Effect) (s : S) → is_ok r ≡ false → Makes leads r f j t x s s
-  makes_none r f j t (refuses y) s bad = (bad, refl)
-  makes_none r f j t (writes_nothing o) s bad = refl
-  makes_none r f j t (writes_both u started z) s bad = stops r (writes_of f j t u started z) s bad
+  makes_none r f j t x s bad = search rules
 
   -- one write that was made
   pub was_put : {T : Type 0} (v : T) (p : List ℕ × List ℕ) (s m : S) → Puts leads (Ok v) (p ∷ []) s m → leads s (writes p.0 p.1 (Ok tt)) m
-  was_put v p s m (inl k) = absurd (true≢false k.0)
-  was_put v p s m (inr (inl k)) = absurd (true≢false (ap is_ok k.2))
-  was_put v p s m (inr (inr k)) = subst (λ x. leads s (writes p.0 p.1 (Ok tt)) x) (sym k.2) k.1
+  was_put v p s m k = search rules
 
   -- one that was not, or after which something else failed: it is the last of several
   pub was_last : {T V : Type 0} (r : Result T Fault) (e : Fault) (p : List ℕ × List ℕ) (ps : List (List ℕ × List ℕ)) (s m : S) →
       r ≡ Err e → Puts {T = V} leads (Err e) (p ∷ []) s m → Puts leads r (p ∷ ps) s m
-  was_last r e p ps s m is (inl k) = inl (fails r e is, k.1)
-  was_last r e p ps s m is (inr (inl k)) = inr (inl (k.0, k.1, is ∙ ap Err (same_err (Err e) e (of_write k.0) refl k.2)))
-  was_last r e p ps s m is (inr (inr k)) = inr (inr (k.0, k.1, subst (λ x. Puts leads r ps k.0 x) (sym k.2) (stops r ps k.0 (fails r e is))))
+  was_last r e p ps s m is k = search (rules, fails, same_err, stops)
 
   -- the write of a journal
   pub puts_as : {T : Type 0} (r : Result T Fault) (j : List ℕ) (y z : State) (s m : S) → y ≡ z → PutsJournal leads r j y s m → PutsJournal leads r j z s m

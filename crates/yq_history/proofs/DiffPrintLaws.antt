@@ -1,7 +1,6 @@
 -- What is printed part by part is the print of the hunks.
-use Rattle.std.proofs.Common.{◌≡◌, ℕ, ◌+◌, ◌-◌, List, [], ◌∷◌, ◌++◌, length, map, refl, sym, ap, ◌∙◌, arith}
-use Rattle.std.{proofs.lemmas.List.{append-nil, length-append}, proofs.lemmas.List.Concat.flat_map-append, specs.List.flat_map}
-use Rattle.std.specs.Prelude.{codes}
+use Rattle.std.proofs.Common.{rules, ◌≡◌, ℕ, ◌+◌, ◌-◌, List, [], ◌∷◌, ◌++◌, length, map, refl, sym, ap, ◌∙◌, arith}
+use Rattle.std.{proofs.lemmas.List.length-append, proofs.lemmas.List.Concat.flat_map-append, specs.List.flat_map, specs.Prelude.codes}
 use Rattle.yq_core.specs.Text.{text_lines}
 use Rattle.yq_history.specs.Hunks.{LineChange, unchanged, deleted, added, old_side, new_side}
 use Rattle.yq_history.specs.Unified.{marked_line, print_change, print_changes, print_ranges, print_hunk}
@@ -20,19 +19,11 @@ same_open : (m n a b c d : ℕ) (x y : List ℕ) → a ≡ b → c ≡ d → x �
 same_open m n a b c d x y h i j = cc
 
 shown : (m k n l : ℕ) (c : LineChange) (cs : List LineChange) → with_ranges m k n l (print_changes (c ∷ cs)) ≡ print_ranges m k n l ++ print_changes (c ∷ cs)
-shown m k n l (unchanged t) cs = refl
-shown m k n l (deleted t) cs = refl
-shown m k n l (added t) cs = refl
+shown m k n l c cs = search rules
 
 -- a hunk that is closed
 closed_is : (m n : ℕ) (cs : List LineChange) → print_closed (printed_open m n cs) ≡ flat_map print_hunk (closed_hunk m n cs)
-closed_is m n [] = refl
-closed_is m n (c ∷ cs) =
-    let k : (m + length (old_side (c ∷ cs))) - m ≡ length (old_side (c ∷ cs)) = omega arith in
-    let l : (n + length (new_side (c ∷ cs))) - n ≡ length (new_side (c ∷ cs)) = omega arith in
-    ap (λ i. with_ranges m i n ((n + length (new_side (c ∷ cs))) - n) (print_changes (c ∷ cs))) k ∙
-    (ap (λ i. with_ranges m (length (old_side (c ∷ cs))) n i (print_changes (c ∷ cs))) l ∙
-    (shown m (length (old_side (c ∷ cs))) n (length (new_side (c ∷ cs))) c cs ∙ sym (append-nil _)))
+closed_is m n cs = search rules
 
 -- lines after one mark
 lines_unchanged : (ls : List (List ℕ)) → print_changes (map unchanged ls) ≡ marked_lines (codes " ") ls

@@ -1,38 +1,26 @@
 -- The effects of commands, from the contracts of the calls of which they are made.
-use Rattle.std.proofs.Common.{◌≡◌, ◌⊎◌, inl, ℕ, Bool, true, false, ◌==◌, List, [], Option, Some, None, Result, Ok, Err, OnOk, OnErr, IfErr}
-use Rattle.std.{proofs.Common.{IsTrue, MatchBool, if◌then◌else◌, sym, ap, ◌∙◌, subst, refl}, specs.Option.option_or}
-use Rattle.std.{proofs.lemmas.Option.{same_Some, none-some}, specs.FinMap.get}
+use Rattle.std.proofs.Common.{rules, ◌≡◌, ◌⊎◌, ℕ, Bool, true, false, ◌==◌, List, [], Option, Some, None, Result, Ok, Err, OnOk, OnErr}
+use Rattle.std.{proofs.Common.{IfErr, IsTrue, if◌then◌else◌, sym, ap, ◌∙◌, subst, refl}, specs.FinMap.get}
 use Rattle.yq_journal.{specs.declared.fault.JournalError.JournalError, specs.declared.fault.JournalFault.JournalFault}
 use Rattle.yq_journal.{specs.declared.moves.Move.Move, specs.Good.journal_beside, specs.Record.Record}
-use Rattle.yq_journal.specs.Refusals.{ErrorIs, Reports, no_way, if_moves, way_fault, squash_fault}
+use Rattle.yq_journal.specs.Refusals.{ErrorIs, Reports, no_way, way_fault, squash_fault}
 use Rattle.yq_journal.specs.State.{State, journal_after, moved_text, with_move, settled_beside, squashed}
 use Rattle.yq_history.{specs.declared.fault.Fault.Fault, specs.declared.direction.Direction.Direction}
-use Rattle.yq_history.specs.Effects.{Effect, refuses, writes_nothing, writes_both, from_pair, from_journal, from_settled, leads_to, goes_to}
-use Rattle.yq_history.specs.Effects.{move_effect, joins_to, squash_effect, IsCutShort, Works}
-use Rattle.yq_history.{specs.Faults.{is_outer_fault, of_fault, of_journal}, specs.Output.{Output, bytes}, specs.Pair.IsJournal}
-use Rattle.yq_history.{specs.Causes.{IsFor, named}, specs.Directions.walk_move}
-use Rattle.yq_history.proofs.MoveLaws.{IsMove, either, fault_outside, no_way_free, on_err_map}
-use Rattle.yq_history.proofs.CutLaws.{cut_unwritten, cut_settled}
+use Rattle.yq_history.specs.Effects.{Effect, refuses, writes_nothing, writes_both, from_pair, from_journal, from_settled, goes_to}
+use Rattle.yq_history.{specs.Effects.{move_effect, joins_to, squash_effect, IsCutShort, Works}, specs.Faults.{is_outer_fault, of_journal}}
+use Rattle.yq_history.{specs.Output.{Output, bytes}, specs.Pair.IsJournal, specs.Causes.named, specs.Directions.walk_move}
+use Rattle.yq_history.proofs.MoveLaws.{IsMove}
 use Rattle.yq_store.specs.FileMap.{FileMap}
 use Rattle.yq_journal.specs.declared.fault.JournalError.TheVariants as error
 use Rattle.yq_journal.specs.declared.fault.JournalFault.TheVariants as journal
 use Rattle.yq_history.specs.declared.fault.Fault.TheVariants as fault
 
 pub on_ok : {T E P : Type 0} (r : Result T E) → P → OnOk r P
-on_ok (Ok v) p = p
-on_ok (Err e) p = tt
+on_ok r p = search rules
 
 -- cut short by the store or by want of memory, with nothing written
 pub works_outside : (T : Type 0) (x : Effect) (f j : List ℕ) (c : FileMap) (e : Fault) → is_outer_fault e ≡ true → Works x f j c c {T = T} (Err e)
-works_outside T (refuses x) f j c e out = (subst (λ b. MatchBool b (Unit {0}) (IsFor (Some x) e)) (sym out) tt, refl)
-works_outside T (writes_nothing o) f j c e out = (out, refl)
-works_outside T (writes_both u started s) f j c e out = (out, inl (refl, inl refl))
-
--- refused for its cause
-pub works_refused : (T : Type 0) (x : Effect) (f j : List ℕ) (c : FileMap) (e : Fault) → x ≡ refuses (named e) → Works x f j c c {T = T} (Err e)
-works_refused T x f j c e is =
-    subst (λ y. Works y f j c c {T = T} (Err e)) (sym is)
-    (elim (is_outer_fault e) as (λ b. MatchBool b (Unit {0}) (e ≡ e)) [ true ↦ tt | false ↦ refl ], refl)
+works_outside T x f j c e out = search rules
 
 -- What is known where an effect came about or was cut short.
 pub record IsLeft {T : Type 0} (u : List ℕ) (started z : State) (f j : List ℕ) (c d : FileMap) (r : Result T Fault) : Type 0 where
@@ -42,73 +30,29 @@ pub record IsLeft {T : Type 0} (u : List ℕ) (started z : State) (f j : List �
   pub cut : OnErr r (IsCutShort u started z f j c d)
 
 left : (u : List ℕ) (started z : State) (f j : List ℕ) (c d : FileMap) {T : Type 0} (r : Result T Fault) → IsLeft u started z f j c d r → Works (writes_both u started z) f j c d r
-left u started z f j c d (Ok v) k = (k.text, k.journal)
-left u started z f j c d (Err e) k = (k.outside, k.cut)
-
--- carried out, or cut short
-pub works_writes : (x : Effect) (u : List ℕ) (started z : State) (f j : List ℕ) (c d : FileMap) {T : Type 0} (r : Result T Fault) →
-    x ≡ writes_both u started z → IsLeft u started z f j c d r → Works x f j c d r
-works_writes x u started z f j c d r is k = subst (λ y. Works y f j c d r) (sym is) (left u started z f j c d r k)
-
--- the journal alone was written, or nothing was
-journal_left : (f j : List ℕ) (c d : FileMap) (t : List ℕ) (started z : State) {T : Type 0} (r : Result T Fault) → get c f ≡ Some t → get d f ≡ get c f →
-    OnOk r (IsJournal (get d j) z) → OnErr r ((d ≡ c) ⊎ IsJournal (get d j) z) → IfErr r (λ e. IsTrue (is_outer_fault e)) → IsLeft t started z f j c d r
-journal_left f j c d t started z r there same journal cut out = record {
-  text = on_ok r (same ∙ there);
-  journal = journal;
-  outside = out;
-  cut = on_err_map r cut (λ x. either x (cut_unwritten f j t started z c d) (cut_settled f j t started z c d (same ∙ there)));
-}
+left u started z f j c d r k = search rules
 
 -- ---- moves
 
 -- a move that applies leads to its text
 pub way_free : (records : List Record) (at : ℕ) (step : Move) (t u : List ℕ) (started z : State) →
     way_fault records at step t ≡ None → moved_text records at step t ≡ Some u → goes_to (no_way records at step) (moved_text records at step t) started z ≡ writes_both u started z
-way_free records at step t u started z free is =
-    ap (λ o. goes_to o (moved_text records at step t) started z) (no_way_free records at step t free) ∙ ap (λ o. leads_to o started z) is
-
--- and one that doesn't is refused for the first cause
-pub way_barred : (records : List Record) (at : ℕ) (step : Move) (t : List ℕ) (started z : State) (y : JournalFault) →
-    way_fault records at step t ≡ Some y → goes_to (no_way records at step) (moved_text records at step t) started z ≡ refuses (named (of_fault y))
-way_barred records at step t started z y is = elim (no_way records at step) as (λ o. option_or o (if_moves (moved_text records at step t)) ≡ Some y → goes_to o (moved_text records at step t) started z ≡ refuses (named (of_fault y))) [
-  | None ↦ λ e. elim (moved_text records at step t) as (λ o. if_moves o ≡ Some y → leads_to o started z ≡ refuses (named (of_fault y))) [
-    | None ↦ λ p. ap (λ x. refuses (named (of_fault x))) (same_Some journal.DoesNotStand y p)
-    | Some u ↦ λ p. absurd (none-some y p)
-  ] e
-  | Some x ↦ λ e. ap (λ x. refuses (named (of_fault x))) (same_Some x y e)
-] is
-
-named_move : (T : Type 0) (f j : List ℕ) (c : FileMap) (s : State) (t : List ℕ) (step : Move) (x : JournalError) → ErrorIs x (way_fault s.records s.at step t) → Works (move_effect step t s) f j c c {T = T} (Err (of_journal x))
-named_move T f j c s t step error.Memory names = works_outside T (move_effect step t s) f j c fault.OutOfMemory refl
-named_move T f j c s t step (error.Fault y) names = works_refused T (move_effect step t s) f j c (of_fault y) (way_barred s.records s.at step t (with_move s step t) (journal_after s step) y names)
+way_free records at step t u started z free is = search rules
 
 -- an undo or a redo that the journal refused
 pub move_refused : (f j : List ℕ) (c : FileMap) (s : State) (t : List ℕ) (w : Direction) (step : Move) {T : Type 0} (r : Result T Fault) (e : Fault) (x : JournalError) →
     step ≡ walk_move w → r ≡ Err e → e ≡ of_journal x → ErrorIs x (way_fault s.records s.at step t) → Works (move_effect (walk_move w) t s) f j c c r
-move_refused f j c s t w step {T = T} r e x is err of names =
-    subst (Works (move_effect (walk_move w) t s) f j c c) (sym (err ∙ ap Err of))
-    (named_move T f j c s t (walk_move w) x (subst (λ y. ErrorIs x (way_fault s.records s.at y t)) is names))
+move_refused f j c s t w step r e x is err of names = search rules
 
 -- one that leaves the text equal: the journal alone was written
 pub move_equal : (f j : List ℕ) (c d : FileMap) (s : State) (t : List ℕ) (step : Move) {T : Type 0} (r : Result T Fault) →
     get c f ≡ Some t → get d f ≡ get c f → move_effect step t s ≡ writes_both t (with_move s step t) (journal_after s step) →
     OnOk r (IsJournal (get d j) (journal_after s step)) → OnErr r ((d ≡ c) ⊎ IsJournal (get d j) (journal_after s step)) → IfErr r (λ e. IsTrue (is_outer_fault e)) → Works (move_effect step t s) f j c d r
-move_equal f j c d s t step r there same is journal cut out =
-    works_writes (move_effect step t s) t (with_move s step t) (journal_after s step) f j c d r is
-    (journal_left f j c d t (with_move s step t) (journal_after s step) r there same journal cut out)
+move_equal f j c d s t step r there same is journal cut out = search rules
 
 -- a move in three writes
 pub works_carried : (f j : List ℕ) (c d : FileMap) (s : State) (t u : List ℕ) (step : Move) {T : Type 0} (r : Result T Fault) → IsMove c d f j s t u step r → Works (move_effect step t s) f j c d r
-works_carried f j c d s t u step {T = T} r m =
-    elim (no_way s.records s.at step) as (λ o. no_way s.records s.at step ≡ o → Works (goes_to o (moved_text s.records s.at step t) (with_move s step t) (journal_after s step)) f j c d r) [
-      | None ↦ λ is. works_writes (leads_to (moved_text s.records s.at step t) (with_move s step t) (journal_after s step)) u (with_move s step t) (journal_after s step) f j c d r
-          (ap (λ o. leads_to o (with_move s step t) (journal_after s step)) m.leads)
-          (record { text = m.text; journal = m.beside; outside = fault_outside r (no_way s.records s.at step) is m.fault; cut = m.cut })
-      | Some y ↦ λ is.
-          subst (λ x. Works (refuses (named (of_fault y))) f j c x r) (sym (m.barred (λ none. none-some y (sym none ∙ is))))
-          (subst (Works (refuses (named (of_fault y))) f j c c) (sym (m.refused y is)) (works_refused T (refuses (named (of_fault y))) f j c (of_fault y) refl))
-    ] refl
+works_carried f j c d s t u step r m = search rules
 
 -- an undo or a redo in three writes
 pub move_other : (f j : List ℕ) (c d : FileMap) (s : State) (t u : List ℕ) (w : Direction) (step : Move) {T : Type 0} (r : Result T Fault) →
@@ -136,26 +80,18 @@ module _ (file beside : Option (List ℕ)) where
 -- a pair that was not read
 pub not_opened : (file journal : Option (List ℕ)) (go : List ℕ → State → Effect) (f j : List ℕ) (c d : FileMap) {T : Type 0} (r : Result T Fault) (e : Fault) →
     r ≡ Err e → d ≡ c → Refused file journal e → Works (from_pair file journal go) f j c d r
-not_opened file journal go f j c d {T = T} r e is same why =
-    subst (Works (from_pair file journal go) f j c d) (sym is)
-    (subst (λ m. Works (from_pair file journal go) f j c m {T = T} (Err e)) (sym same)
-    (elim (is_outer_fault e) as (λ b. is_outer_fault e ≡ b → Works (from_pair file journal go) f j c c {T = T} (Err e)) [
-      | true ↦ λ out. works_outside T (from_pair file journal go) f j c e out
-      | false ↦ λ out. works_refused T (from_pair file journal go) f j c e (why out go)
-    ] refl))
+not_opened file journal go f j c d r e is same why = search rules
 
 -- one that was, by what it came to
 pub from_opened : (file journal : Option (List ℕ)) (go : List ℕ → State → Effect) (f j : List ℕ) (c m d : FileMap) (t : List ℕ) (s : State) {T : Type 0} (r : Result T Fault) →
     m ≡ c → from_pair file journal go ≡ go t s → Works (go t s) f j m d r → Works (from_pair file journal go) f j c d r
-from_opened file journal go f j c m d t s r same is works =
-    subst (λ x. Works x f j c d r) (sym is) (subst (λ x. Works (go t s) f j x d r) same works)
+from_opened file journal go f j c m d t s r same is works = search rules
 
 -- ---- squashes
 
 module _ (f j : List ℕ) (c : FileMap) (s : State) (t : List ℕ) (n : ℕ) where
   joined_by : (T : Type 0) (x : JournalError) → Reports x (squash_fault s n) → Works (squash_effect n t s) f j c c {T = T} (Err (of_journal x))
-  joined_by T error.Memory reports = works_outside T (squash_effect n t s) f j c fault.OutOfMemory refl
-  joined_by T (error.Fault y) reports = works_refused T (squash_effect n t s) f j c (of_fault y) (ap (λ o. joins_to o n t (squashed s n)) reports)
+  joined_by T x reports = search rules
 
   -- the journal refused it
   pub squash_not_done : {T : Type 0} (r : Result T Fault) (e : Fault) (x : JournalError) → r ≡ Err e → e ≡ of_journal x → Reports x (squash_fault s n) → Works (squash_effect n t s) f j c c r
@@ -171,9 +107,7 @@ module _ (f j : List ℕ) (c : FileMap) (s : State) (t : List ℕ) (n : ℕ) whe
   -- of others the journal alone
   pub squash_works : (d : FileMap) {T : Type 0} (r : Result T Fault) → (n == 1) ≡ false → squash_fault s n ≡ None → get c f ≡ Some t → get d f ≡ get c f →
       OnOk r (IsJournal (get d j) (squashed s n)) → OnErr r ((d ≡ c) ⊎ IsJournal (get d j) (squashed s n)) → IfErr r (λ e. IsTrue (is_outer_fault e)) → Works (squash_effect n t s) f j c d r
-  squash_works d r some free there same journal cut out =
-      works_writes (squash_effect n t s) t (squashed s n) (squashed s n) f j c d r (by_count false some free)
-      (journal_left f j c d t (squashed s n) (squashed s n) r there same journal cut out)
+  squash_works d r some free there same journal cut out = search rules
 
 -- ---- listings
 

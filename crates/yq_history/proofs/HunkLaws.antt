@@ -1,6 +1,6 @@
 -- Hunks of parts lead from one text to the other, and reversed they lead back.
-use Rattle.std.proofs.Common.{◌≡◌, ℕ, ◌+◌, List, [], ◌∷◌, ◌++◌, length, map, refl, sym, ap, ◌∙◌, subst, arith, append_assoc}
-use Rattle.std.proofs.lemmas.List.{length-append}
+use Rattle.std.proofs.Common.{rules, ◌≡◌, ℕ, ◌+◌, List, [], ◌∷◌, ◌++◌, length, map, refl, sym, ap, ◌∙◌, subst, arith, append_assoc}
+use Rattle.std.{proofs.lemmas.Grind.common_steps, proofs.lemmas.List.length-append}
 use Rattle.yq_core.specs.Text.{text_lines}
 use Rattle.yq_history.specs.Hunks.{LineChange, unchanged, deleted, added, old_side, new_side, Hunk, Applies, reversed_change, reversed_hunk}
 use Rattle.yq_history.{specs.DiffParts.{old_parts, new_parts, closed_hunk, hunks_from}, specs.declared.diff.part.Part.Part}
@@ -83,8 +83,7 @@ applies_after n (k ∷ hs) ls old new (old_rest, new_rest, first, rest) = (
 -- a hunk that is closed, and hunks after it
 closed_applies : (m n : ℕ) (cs : List LineChange) (hs : List Hunk) (old new : List (List ℕ)) → Applies (m + length (old_side cs)) hs old new →
     Applies m (closed_hunk m n cs ++ hs) (old_side cs ++ old) (new_side cs ++ new)
-closed_applies m n [] hs old new h = subst (λ i. Applies i hs old new) (omega arith) h
-closed_applies m n (c ∷ cs) hs old new h = (old, new, record { between = []; before = omega arith; old_is = refl; new_is = refl }, h)
+closed_applies m n cs hs old new h = search rules
 
 closed_back : (m n : ℕ) (cs : List LineChange) (hs : List Hunk) (old new : List (List ℕ)) → Applies (n + length (new_side cs)) (map reversed_hunk hs) new old →
     Applies n (map reversed_hunk (closed_hunk m n cs ++ hs)) (new_side cs ++ new) (old_side cs ++ old)
@@ -103,8 +102,7 @@ closed_back m n (c ∷ cs) hs old new h = (
 
 -- the last hunk
 last_applies : (m n : ℕ) (cs : List LineChange) → Applies m (closed_hunk m n cs) (old_side cs ++ []) (new_side cs ++ [])
-last_applies m n [] = refl
-last_applies m n (c ∷ cs) = closed_applies m n (c ∷ cs) [] [] [] refl
+last_applies m n cs = search rules
 
 last_back : (m n : ℕ) (cs : List LineChange) → Applies n (map reversed_hunk (closed_hunk m n cs)) (new_side cs ++ []) (old_side cs ++ [])
 last_back m n [] = refl

@@ -1,6 +1,7 @@
 -- Where the lines of a text are cut.
-use Rattle.std.proofs.Common.{◌≡◌, ◌<◌, ◌≤◌, ℕ, suc, ◌-◌, true, false, cond, eqb, eqb-true, List, [], ◌∷◌, ◌++◌, length, take, drop, get_or}
-use Rattle.std.{proofs.Common.{drop-cons, refl, sym, ap, ap₂, ◌∙◌, arith}, proofs.lemmas.List.{append-nil, drop_all, take-append-drop}}
+use Rattle.std.proofs.Common.{rules, ◌≡◌, ◌<◌, ◌≤◌, ℕ, suc, ◌-◌, true, false, cond, eqb, eqb-true, List, [], ◌∷◌, ◌++◌, length, take, drop}
+use Rattle.std.proofs.Common.{get_or, drop-cons, refl, sym, ap, ap₂, ◌∙◌, arith}
+use Rattle.std.proofs.lemmas.List.{append-nil, drop_all, take-append-drop}
 use Rattle.yq_core.{specs.Text.{is_feed, put_byte, text_lines, joined}, proofs.LineLaws.{joined_lines, line_step}}
 use Rattle.yq_history.specs.Hunks.{EndsInFeed}
 
@@ -10,8 +11,7 @@ lines_some t h = omega (arith, ap length (line_step t h))
 
 -- a byte before the first line of several
 put_more : (x : ℕ) (ls ms : List (List ℕ)) → 0 < length ls → put_byte x (ls ++ ms) ≡ put_byte x ls ++ ms
-put_more x [] ms h = absurd (omega (arith, h))
-put_more x (l ∷ ls) ms h = refl
+put_more x ls ms h = search rules
 
 -- a text that ends with LF is not empty
 ends_some : (f : List ℕ) → 0 < length (f ++ 10 ∷ [])
@@ -34,8 +34,7 @@ lines_of_none = refl
 
 -- lines are no more than bytes
 put_length : (x : ℕ) (ls : List (List ℕ)) (n : ℕ) → length ls ≤ n → length (put_byte x ls) ≤ suc n
-put_length x [] n h = omega arith
-put_length x (l ∷ ls) n h = omega (arith, h)
+put_length x ls n h = search rules
 
 pub lines_within : (t : List ℕ) → length (text_lines t) ≤ length t
 unfolding text_lines
@@ -63,8 +62,7 @@ whole : (t a b : List ℕ) (n : ℕ) → a ≡ take n t → b ≡ drop n t → t
 whole t a b n front back = sym (ap₂ (λ x y. x ++ y) front back ∙ take-append-drop n t)
 
 pub cut_front : (t a b : List ℕ) (n : ℕ) → a ≡ take n t → b ≡ drop n t → a ≡ [] → text_lines t ≡ text_lines a ++ text_lines b
-cut_front t a b n front back none =
-    ap text_lines (whole t a b n front back ∙ ap (λ x. x ++ b) none) ∙ ap (λ x. x ++ text_lines b) (sym (no_lines a none))
+cut_front t a b n front back h6 = search (rules, whole, no_lines)
 
 pub cut_back : (t a b : List ℕ) (n : ℕ) → a ≡ take n t → b ≡ drop n t → b ≡ [] → text_lines t ≡ text_lines a ++ text_lines b
 cut_back t a b n front back none =

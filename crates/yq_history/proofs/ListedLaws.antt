@@ -1,10 +1,9 @@
 -- The texts around the records of a journal are those of its history, and lines of edits, one more.
-use Rattle.std.proofs.Common.{◌≡◌, ℕ, suc, ◌+◌, ◌≤◌, List, [], ◌∷◌, ◌++◌, length, map, take, drop, nat_lt, Option, Some, None, refl, sym}
-use Rattle.std.proofs.Common.{ap, ap₂, ◌∙◌, arith, append_assoc, subst, ◌-◌, ◌<◌, ◌⊎◌, inl, inr, Bool, true, false, ◌&&◌, Result, Ok, Err}
-use Rattle.std.{proofs.Common.{IfOk, MatchBool, slice_get}, specs.Prelude.{option_and_then, String}, specs.String.string_bytes}
-use Rattle.std.{specs.declared.alloc.Global.Global, proofs.lemmas.List.append-nil}
-use Rattle.std.{proofs.lemmas.Str.{is_utf8-from_IsUtf8, IsUtf8-from_is_utf8}, proofs.lemmas.Bool.false_from_ne_true}
-use Rattle.std.specs.Str.{IsUtf8, is_utf8}
+use Rattle.std.proofs.Common.{rules, ◌≡◌, ℕ, suc, ◌+◌, ◌≤◌, List, [], ◌∷◌, ◌++◌, length, map, take, drop, nat_lt, Option, Some, None, refl}
+use Rattle.std.proofs.Common.{sym, ap, ap₂, ◌∙◌, arith, append_assoc, subst, ◌-◌, ◌<◌, ◌⊎◌, false, ◌&&◌, Result, IfOk, slice_get}
+use Rattle.std.{specs.Prelude.{option_and_then, String}, specs.String.string_bytes, specs.declared.alloc.Global.Global}
+use Rattle.std.{proofs.lemmas.List.append-nil, proofs.lemmas.Str.{is_utf8-from_IsUtf8, IsUtf8-from_is_utf8}}
+use Rattle.std.{proofs.lemmas.Bool.false_from_ne_true, specs.Str.{IsUtf8, is_utf8}}
 use Rattle.yq_history.specs.ListedView.{backwards, exprs_of}
 use Rattle.yq_history.specs.ListedDiffs.{IsDiffOrNote, no_text_line, AreDiffLines, IsAfterLine, text_before, texts_around, texts_back}
 use Rattle.yq_history.{specs.ListedDiffs.{texts_of, texts_on}, specs.Output.{IsOutput, Output}, specs.Unified.IsPrintedDiff}
@@ -43,9 +42,7 @@ around t (r ∷ rs) [] (suc n) l fits = absurd l
 
 -- the texts around the records of a journal at rest
 pub history_texts : (s : State) (t : List ℕ) (h : History) → AtRest s t h → texts_around s t ≡ texts_of h
-history_texts s t h k =
-    ap₂ (λ n u. texts_back (take n s.records) u ++ texts_on (drop n s.records) (Some u)) k.reports.cursor k.text
-    ∙ around h.first s.records h.later h.at k.reports.leads k.reports.within
+history_texts s t h k = search (rules, around)
 
 -- ---- lines, one more
 
@@ -94,10 +91,7 @@ last_back (r ∷ q ∷ rs) t os = last_back (q ∷ rs) t os
 -- the texts around records of which one more is undone
 pub around_more : (ds us : List Record) (r : Record) (t : List ℕ) →
     (texts_back ds t ++ texts_on us (Some t)) ++ option_and_then (done r) (last_of (texts_back ds t ++ texts_on us (Some t))) ∷ [] ≡ texts_back ds t ++ texts_on (us ++ r ∷ []) (Some t)
-around_more ds us r t =
-    append_assoc (texts_back ds t) (texts_on us (Some t)) (option_and_then (done r) (last_of (texts_back ds t ++ texts_on us (Some t))) ∷ [])
-    ∙ ap (λ o. texts_back ds t ++ (texts_on us (Some t) ++ option_and_then (done r) o ∷ [])) (last_back ds t (texts_on us (Some t)))
-    ∙ ap (λ os. texts_back ds t ++ os) (sym (on_more us r (Some t)))
+around_more ds us r t = search (rules, append_assoc, last_back, on_more)
 
 -- ---- lines, one before them
 
@@ -107,8 +101,7 @@ first_text [] = None
 first_text (o ∷ os) = o
 
 pub before_first : (r : Record) (os : List (Option (List ℕ))) → text_before r os ≡ option_and_then (undone r) (first_text os)
-before_first r [] = refl
-before_first r (o ∷ os) = refl
+before_first r os = search rules
 
 -- the line of a done record before those of the records after it
 pub listed_before : (file : List ℕ) (n m done : ℕ) (r : Record) (rs : List Record) (t change rest : List ℕ) (old : Option (List ℕ)) →
@@ -220,21 +213,11 @@ texts_to at rs t i = texts_back (take at rs) t ++ texts_on (take (i - at) (drop 
 -- before the first undone record
 pub undone_start : (file : List ℕ) (at : ℕ) (rs : List Record) (t o : List ℕ) → AreDiffLines file 0 at (exprs_of (take at rs)) (texts_back (take at rs) t) o →
     (Some t ≡ last_of (texts_to at rs t at)) × AreDiffLines file 0 at (exprs_of (take at rs)) (texts_to at rs t at) o
-undone_start file at rs t o lines =
-    let none : at - at ≡ 0 = omega arith in
-    let same : texts_to at rs t at ≡ texts_back (take at rs) t = ap (λ k. texts_back (take at rs) t ++ texts_on (take k (drop at rs)) (Some t)) none ∙ append-nil (texts_back (take at rs) t) in (
-      sym (ap (λ k. last_of (texts_back (take at rs) t ++ texts_on (take k (drop at rs)) (Some t))) none ∙ last_back (take at rs) t []),
-      subst (λ ts. AreDiffLines file 0 at (exprs_of (take at rs)) ts o) (sym same) lines,
-    )
+undone_start file at rs t o lines = search (rules, append-nil, last_back)
 
 pub undone_init : (file : List ℕ) (at i : ℕ) (rs : List Record) (t u o lines : List ℕ) → i ≡ at → u ≡ t → o ≡ lines → AreDiffLines file 0 at (exprs_of (take at rs)) (texts_back (take at rs) u) lines →
     (at ≤ i) × (Some t ≡ last_of (texts_to at rs t i)) × AreDiffLines file 0 at (exprs_of (take i rs)) (texts_to at rs t i) o
-undone_init file at i rs t u o lines place text_is out printed =
-    let start = undone_start file at rs t o (subst (λ x. AreDiffLines file 0 at (exprs_of (take at rs)) (texts_back (take at rs) x) o) text_is (subst (AreDiffLines file 0 at (exprs_of (take at rs)) (texts_back (take at rs) u)) (sym out) printed)) in (
-      omega (arith, place),
-      subst (λ k. Some t ≡ last_of (texts_to at rs t k)) (sym place) start.0,
-      subst (λ k. AreDiffLines file 0 at (exprs_of (take k rs)) (texts_to at rs t k) o) (sym place) start.1,
-    )
+undone_init file at i rs t u o lines place text_is out printed = search (rules, undone_start)
 
 -- the line of an undone record more
 pub undone_more : (file : List ℕ) (at i : ℕ) (rs : List Record) (r : Record) (t : List ℕ) (near far : Option (List ℕ)) (lines new line change : List ℕ) → new ≡ lines ++ line →
@@ -265,34 +248,19 @@ undone_more file at i rs r t near far lines new line change pushed begun found n
 -- after the last record
 pub undone_end : (file : List ℕ) (at i : ℕ) (rs : List Record) (t o : List ℕ) → at ≤ i → length rs ≤ i → AreDiffLines file 0 at (exprs_of (take i rs)) (texts_to at rs t i) o →
     AreDiffLines file 0 at (exprs_of rs) (texts_back (take at rs) t ++ texts_on (drop at rs) (Some t)) o
-undone_end file at i rs t o begun all lines =
-    let rest = length_dropped rs at in
-    subst (λ xs. AreDiffLines file 0 at (exprs_of xs) (texts_back (take at rs) t ++ texts_on (drop at rs) (Some t)) o) (take_whole rs i all)
-    (subst (λ us. AreDiffLines file 0 at (exprs_of (take i rs)) (texts_back (take at rs) t ++ texts_on us (Some t)) o) (take_whole (drop at rs) (i - at) (omega (arith, rest, all))) lines)
+undone_end file at i rs t o begun all lines = search (rules, length_dropped, take_whole)
 
 -- ---- what comes after a line
 
 -- a diff of two texts
 pub diff_comes : {E : Type 0} (file old new o n : List ℕ) (r : Result (String Global) E) → o ≡ old → n ≡ new → IsUtf8 old → IsUtf8 new →
     IfOk r (λ s. IsPrintedDiff file o n (string_bytes s)) → IfOk r (λ s. IsDiffOrNote file old new (string_bytes s))
-diff_comes file old new o n (Err e) old_is new_is first second diff = tt
-diff_comes file old new o n (Ok s) old_is new_is first second diff =
-    let both : (is_utf8 old && is_utf8 new) ≡ true = ap₂ (λ a b. a && b) (is_utf8-from_IsUtf8 old first) (is_utf8-from_IsUtf8 new second) in
-    subst (λ b. MatchBool b (IsPrintedDiff file old new (string_bytes s)) (string_bytes s ≡ no_text_line)) (sym both)
-    (subst (λ x. IsPrintedDiff file x new (string_bytes s)) old_is (subst (λ x. IsPrintedDiff file o x (string_bytes s)) new_is diff))
-
-second_false : (a b : Bool) → b ≡ false → (a && b) ≡ false
-second_false true b is = is
-second_false false b is = refl
+diff_comes file old new o n r old_is new_is first second diff = search (rules, is_utf8-from_IsUtf8)
 
 -- or the line that says that there is none
 pub note_comes : {E : Type 0} (file old new : List ℕ) (r : Result (String Global) E) → (is_utf8 old ≡ false) ⊎ (is_utf8 new ≡ false) →
     IfOk r (λ s. string_bytes s ≡ no_text_line) → IfOk r (λ s. IsDiffOrNote file old new (string_bytes s))
-note_comes file old new (Err e) other note = tt
-note_comes file old new (Ok s) (inl is) note =
-    subst (λ b. MatchBool b (IsPrintedDiff file old new (string_bytes s)) (string_bytes s ≡ no_text_line)) (sym (ap (λ a. a && is_utf8 new) is)) note
-note_comes file old new (Ok s) (inr is) note =
-    subst (λ b. MatchBool b (IsPrintedDiff file old new (string_bytes s)) (string_bytes s ≡ no_text_line)) (sym (second_false (is_utf8 old) (is_utf8 new) is)) note
+note_comes file old new r other note = search rules
 
 pub not_utf8 : (t : List ℕ) → (IsUtf8 t → ⊥) → is_utf8 t ≡ false
 not_utf8 t other = false_from_ne_true (is_utf8 t) (λ e. other (IsUtf8-from_is_utf8 t e))

@@ -1,32 +1,26 @@
 -- What each write of a move leaves, and how a move ends.
-use Rattle.std.proofs.Common.{◌≡◌, ◌≢◌, ◌⊎◌, inl, inr, ℕ, true, false, List, [], Option, Some, None, Result, Ok, Err, OnOk, OnErr, IfErr}
-use Rattle.std.{proofs.Common.{IsTrue, IsNone, MatchBool, option_map, if◌then◌else◌, sym, ap, ◌∙◌, subst, refl}, specs.FinMap.{get, insert}}
-use Rattle.std.{specs.Str.bytes_eq, specs.Option.option_or, proofs.lemmas.Option.{same_Some, none-some}}
-use Rattle.std.proofs.lemmas.Slice.Eq.{bytes_eq-Decides}
+use Rattle.std.proofs.Common.{rules, ◌≡◌, ◌≢◌, ◌⊎◌, ℕ, true, false, List, Option, Some, None, Result, Err, OnOk, OnErr, IfErr, IsTrue}
+use Rattle.std.{proofs.Common.{IsNone, option_map, if◌then◌else◌, sym, ap, ◌∙◌, subst, refl}, specs.FinMap.{get, insert}}
+use Rattle.std.{specs.Str.bytes_eq, proofs.lemmas.Option.same_Some, proofs.lemmas.Slice.Eq.bytes_eq-Decides}
 use Rattle.yq_journal.{specs.declared.fault.JournalError.JournalError, specs.declared.fault.JournalFault.JournalFault}
-use Rattle.yq_journal.{specs.declared.moves.Move.Move, specs.declared.moves.Move.TheVariants.{Edit, Undo, Redo}}
-use Rattle.yq_journal.{specs.Good.{AtRest, Describes, after_move, journal_beside, step_fault}, specs.Json.journal_text, specs.Record.Record}
-use Rattle.yq_journal.{specs.History.History, specs.Refusals.{ErrorIs, no_way, if_moves, way_fault}}
-use Rattle.yq_journal.specs.State.{State, without_move, is_reached, journal_after, moved_text, with_move, settled_beside}
+use Rattle.yq_journal.{specs.declared.moves.Move.Move, specs.Good.{AtRest, Describes, after_move, journal_beside, step_fault}}
+use Rattle.yq_journal.{specs.Json.journal_text, specs.Record.Record, specs.History.History, specs.Refusals.{ErrorIs, no_way, way_fault}}
+use Rattle.yq_journal.specs.State.{State, journal_after, moved_text, with_move, settled_beside}
 use Rattle.yq_journal.proofs.GoodLaws.{describes, open_before, open_after, settled_rests, undo_fault, redo_fault}
 use Rattle.yq_journal.proofs.HistoryLaws.{move_moves}
-use Rattle.yq_history.{specs.declared.fault.Fault.Fault, specs.Causes.{Cause, IsFor, named}, specs.Effects.IsCutShort}
+use Rattle.yq_history.{specs.declared.fault.Fault.Fault, specs.Causes.{Cause, IsFor}, specs.Effects.IsCutShort}
 use Rattle.yq_history.specs.Faults.{is_outer_fault, of_fault, of_journal}
-use Rattle.yq_history.specs.Pair.{Arrives, GoodIn, IsJournal, PairAtRest, PairStands, Writes}
-use Rattle.yq_history.{specs.Steps.{move_cause, move_next, unless_fault}, specs.Directions.walk_move}
-use Rattle.yq_history.specs.declared.direction.Direction.{Direction}
+use Rattle.yq_history.{specs.Pair.{Arrives, GoodIn, IsJournal, PairAtRest, PairStands, Writes}, specs.Steps.{move_cause, move_next}}
+use Rattle.yq_history.{specs.Directions.walk_move, specs.declared.direction.Direction.Direction}
 use Rattle.yq_store.specs.FileMap.{FileMap, get_written, get_other}
 use Rattle.yq_journal.specs.declared.fault.JournalError.TheVariants as error
 use Rattle.yq_journal.specs.declared.fault.JournalFault.TheVariants as journal
 
 moved_closed : (s : State) (step : Move) → (journal_after s step).pending ≡ None
-moved_closed s (Edit r) = refl
-moved_closed s Undo = refl
-moved_closed s Redo = refl
+moved_closed s step = search rules
 
 pub none_of : {A : Type 0} (o : Option A) → IsNone o → o ≡ None
-none_of None h = refl
-none_of (Some x) h = cc
+none_of o h = search rules
 
 -- what was written is the journal's text, which is read back
 pub journal_written : (c e : FileMap) (j : List ℕ) (s : State) → Writes c e j s → IsJournal (get e j) s
@@ -82,74 +76,46 @@ module _ (f j : List ℕ) (apart : f ≢ j) where
         wrote_journal g l u z (after_move h step u) (ap (λ x. get x f) put ∙ get_written e f u) w (describes z u (after_move h step u) rests.1 rests.0)
 
 pub on_err : {T E P : Type 0} (r : Result T E) → P → OnErr r P
-on_err (Ok v) p = tt
-on_err (Err e) p = p
+on_err r p = search rules
 
 pub on_ok_map : {T E P Q : Type 0} (r : Result T E) → OnOk r P → (P → Q) → OnOk r Q
-on_ok_map (Ok v) p f = f p
-on_ok_map (Err e) p f = tt
+on_ok_map r p f = search rules
 
 pub on_err_map : {T E P Q : Type 0} (r : Result T E) → OnErr r P → (P → Q) → OnErr r Q
-on_err_map (Ok v) p f = tt
-on_err_map (Err e) p f = f p
+on_err_map r p f = search rules
 
 pub either : {A B C : Type 0} → A ⊎ B → (A → C) → (B → C) → C
-either (inl a) f h = f a
-either (inr b) f h = h b
+either a f h = search rules
 
 pub fault_inside : (f : JournalFault) → is_outer_fault (of_fault f) ≡ false
-fault_inside journal.NothingToUndo = refl
-fault_inside journal.NothingToRedo = refl
-fault_inside journal.DoesNotStand = refl
-fault_inside journal.BadJournal = refl
-fault_inside journal.Unsettled = refl
-fault_inside journal.JournalFull = refl
-fault_inside journal.BadCount = refl
+fault_inside f = search rules
 
 module _ (c : FileMap) (f j : List ℕ) (cause : Option Cause) (h k : Option History) where
   -- cut short by the store or by want of memory
   pub cut : {T : Type 0} (r : Result T Fault) (e : Fault) → r ≡ Err e → is_outer_fault e ≡ true → GoodIn c f j h ⊎ GoodIn c f j k → Arrives c f j cause h k r
-  cut r e is out goods =
-      subst (Arrives c f j cause h k) (sym is)
-      (subst (λ b. MatchBool b (GoodIn c f j h ⊎ GoodIn c f j k) (IsFor cause e × GoodIn c f j h)) (sym out) goods)
+  cut r e is out goods = search rules
 
   -- refused
   pub is_refused : {T : Type 0} (r : Result T Fault) (e : Fault) → r ≡ Err e → is_outer_fault e ≡ false → IsFor cause e → GoodIn c f j h → Arrives c f j cause h k r
-  is_refused r e is out reports good =
-      subst (Arrives c f j cause h k) (sym is)
-      (subst (λ b. MatchBool b (GoodIn c f j h ⊎ GoodIn c f j k) (IsFor cause e × GoodIn c f j h)) (sym out) (reports, good))
+  is_refused r e is out reports good = search rules
 
   -- carried out, or cut short
   pub ends : {T : Type 0} (r : Result T Fault) → cause ≡ None → OnOk r (GoodIn c f j k) → OnErr r (GoodIn c f j h ⊎ GoodIn c f j k) → IfErr r (λ e. IsTrue (is_outer_fault e)) → Arrives c f j cause h k r
-  ends (Ok v) none ok err out = (none, ok)
-  ends {T = T} (Err e) none ok err out = cut {T = T} (Err e) e refl out err
+  ends r h1 ok err out = search rules
 
 pub same_content : (c e : FileMap) (f j : List ℕ) (h : History) → e ≡ c → PairStands c f j h → PairStands e f j h
 same_content c e f j h is k = subst (λ m. PairStands m f j h) (sym is) k
 
--- an undo or a redo goes on with the history, whatever its text
-pub same_move : (h : History) (w : Direction) (u : List ℕ) → after_move h (walk_move w) u ≡ after_move h (walk_move w) []
-same_move h Direction.Undo u = refl
-same_move h Direction.Redo u = refl
-
 -- the journal refuses it where the history does
 pub move_fault_of : (s : State) (t : List ℕ) (h : History) (w : Direction) → AtRest s t h → way_fault s.records s.at (walk_move w) t ≡ step_fault h (walk_move w)
-move_fault_of s t h Direction.Undo k = undo_fault s t h k
-move_fault_of s t h Direction.Redo k = redo_fault s t h k
-
-outside_if : (e : Fault) → (is_outer_fault e ≡ false → ⊥) → is_outer_fault e ≡ true
-outside_if e h = elim (is_outer_fault e) as (λ b. is_outer_fault e ≡ b → b ≡ true) [ true ↦ λ _. refl | false ↦ λ is. absurd (h is) ] refl
+move_fault_of s t h w k = search (rules, undo_fault, redo_fault)
 
 pub fault_outside : {T : Type 0} (r : Result T Fault) (o : Option JournalFault) → o ≡ None → IfErr r (λ e. is_outer_fault e ≡ false → option_map of_fault o ≡ Some e) → IfErr r (λ e. IsTrue (is_outer_fault e))
-fault_outside (Ok v) o none h = tt
-fault_outside (Err e) o none h = outside_if e (λ out. none-some e (sym (ap (option_map of_fault) none) ∙ h out))
+fault_outside r o h2 h = search rules
 
 -- where a journal at rest gives the text, the way is free
 pub no_way_free : (records : List Record) (at : ℕ) (step : Move) (t : List ℕ) → way_fault records at step t ≡ None → no_way records at step ≡ None
-no_way_free records at step t free = elim (no_way records at step) as (λ o. option_or o (if_moves (moved_text records at step t)) ≡ None → o ≡ None) [
-  | None ↦ λ e. refl
-  | Some y ↦ λ e. absurd (none-some y (sym e))
-] free
+no_way_free records at step t free = search rules
 
 -- what is known after a move of a pair from one text to another, by its contract: it was carried out from any history, or cut short; or the journal had no way for it
 pub record IsMove {T : Type 0} (c d : FileMap) (f j : List ℕ) (s : State) (t u : List ℕ) (step : Move) (r : Result T Fault) : Type 0 where
@@ -174,17 +140,11 @@ module _ (f j : List ℕ) (h : History) (w : Direction) where
       OnOk r (PairStands d f j (after_move h (walk_move w) u)) →
       OnErr r (PairStands d f j h ⊎ PairStands d f j (after_move h (walk_move w) u)) →
       IfErr r (λ e. IsTrue (is_outer_fault e)) → MoveDone d r
-  move_ends d r u free ok err out =
-      subst (λ x. Arrives d f j (move_cause (walk_move w) (Some h)) (Some h) (Some x) r)
-      (same_move h w u ∙ ap (λ o. unless_fault o h (after_move h (walk_move w) [])) (sym free))
-      (ends d f j (move_cause (walk_move w) (Some h)) (Some h) (Some (after_move h (walk_move w) u)) r (ap (option_map (λ y. named (of_fault y))) free) ok err out)
+  move_ends d r u free ok err out = search rules
 
   -- the journal refused it
   move_fails : {T : Type 0} (c : FileMap) (r : Result T Fault) (x : JournalError) → r ≡ Err (of_journal x) → ErrorIs x (step_fault h (walk_move w)) → PairStands c f j h → MoveDone c r
-  move_fails c r error.Memory is names good = cut c f j (move_cause (walk_move w) (Some h)) (Some h) (move_next (walk_move w) (Some h)) r (of_journal error.Memory) is refl (inl good)
-  move_fails c r (error.Fault y) is names good =
-      is_refused c f j (move_cause (walk_move w) (Some h)) (Some h) (move_next (walk_move w) (Some h)) r (of_fault y) is (fault_inside y)
-      (subst (λ o. IsFor (option_map (λ z. named (of_fault z)) o) (of_fault y)) (sym names) refl) good
+  move_fails c r x is names good = search rules
 
   -- from a pair at rest, by the journal's answer
   module _ (c d : FileMap) (s : State) (t : List ℕ) (step : Move) (is : step ≡ walk_move w) (k : PairAtRest c f j s t h) where
@@ -213,17 +173,11 @@ pub bytes_same : (t : List ℕ) → bytes_eq t t ≡ true
 bytes_same t = (bytes_eq-Decides t t).1 refl
 
 pub bytes_differ : (t u : List ℕ) → t ≢ u → bytes_eq t u ≡ false
-bytes_differ t u d = elim (bytes_eq t u) as (λ b. bytes_eq t u ≡ b → b ≡ false) [
-  | true ↦ λ e. absurd (d ((bytes_eq-Decides t u).0 e))
-  | false ↦ λ e. refl
-] refl
+bytes_differ t u d = search rules
 
 -- an open move is done beside the text to which it leads
 settles_moved : (s : State) (t u : List ℕ) (step : Move) → moved_text s.records s.at step t ≡ Some u → u ≢ t → settled_beside (with_move s step t) u ≡ Some (journal_after s step)
-settles_moved s t u step m d =
-    ap (λ b. if b then Some (without_move s) else if is_reached (moved_text s.records s.at step t) u then Some (journal_after s step) else None) (bytes_differ t u (λ e. d (sym e)))
-    ∙ ap (λ o. if is_reached o u then Some (journal_after s step) else None) m
-    ∙ ap (λ b. if b then Some (journal_after s step) else None) (bytes_same u)
+settles_moved s t u step m d = search rules
 
 -- the journal with the move open, settled beside the new text
 pub settled_is : (s : State) (t u : List ℕ) (step : Move) (y z : State) →
@@ -233,5 +187,4 @@ settled_is s t u step y z m changes is settles = same_Some z (journal_after s st
 -- the journal that a move leaves
 pub moved_journal : (j : List ℕ) (s : State) (t u : List ℕ) (step : Move) (y z : State) (g l : FileMap) →
     moved_text s.records s.at step t ≡ Some u → u ≢ t → y ≡ with_move s step t → settled_beside y u ≡ Some z → Writes g l j z → IsJournal (get l j) (journal_after s step)
-moved_journal j s t u step y z g l m changes is settles w =
-    subst (IsJournal (get l j)) (settled_is s t u step y z m changes is settles) (journal_written g l j z w)
+moved_journal j s t u step y z g l m changes is settles w = search (rules, settled_is, journal_written)

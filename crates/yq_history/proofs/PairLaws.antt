@@ -1,6 +1,6 @@
 -- What reading a pair and writing to it leave.
-use Rattle.std.proofs.Common.{◌≡◌, ℕ, List, Option, Some, None, Ok, Vec, option_map, sym, ap, ◌∙◌, subst}
-use Rattle.std.{proofs.lemmas.Option.{same_Some, none-some}, specs.FinMap.get, specs.declared.alloc.Global.Global}
+use Rattle.std.{proofs.Common.{rules, ◌≡◌, ℕ, List, Option, Some, Ok, Vec, option_map, sym, ◌∙◌, subst}, proofs.lemmas.Option.none-some}
+use Rattle.std.{specs.FinMap.get, specs.declared.alloc.Global.Global}
 use Rattle.yq_journal.{specs.Good.{Describes, journal_beside}, specs.History.{History, text_at}, specs.State.{State, settled_beside}}
 use Rattle.yq_journal.proofs.GoodLaws.{settles, settled_rests}
 use Rattle.yq_store.specs.FileMap.{FileMap}
@@ -8,8 +8,7 @@ use Rattle.yq_history.specs.Pair.{GoodIn, Opens, PairAtRest}
 
 -- the file of a good pair is the text at the cursor
 pub good_text : (c : FileMap) (f j : List ℕ) (m : Option History) → GoodIn c f j m → get c f ≡ option_map text_at m
-good_text c f j None good = good
-good_text c f j (Some h) k = k.file_is ∙ ap Some (settles k.state k.text h k.describes).at_rest.text
+good_text c f j m good = search (rules, settles)
 
 -- a pair in a store that holds the same
 pub same_pair : (c e : FileMap) (f j : List ℕ) (h : Option History) → e ≡ c → GoodIn c f j h → GoodIn e f j h
@@ -18,8 +17,7 @@ same_pair c e f j h is good = subst (λ m. GoodIn m f j h) (sym is) good
 module _ (c : FileMap) (f j : List ℕ) (t : List ℕ) (s : State) (file_is : get c f ≡ Some t) (journal_is : journal_beside (get c j) ≡ Some s) where
   -- what is read of a good pair describes its history
   pub reads : (h : History) → GoodIn c f j (Some h) → Describes s t h
-  reads h k = subst (λ x. Describes x t h) (same_Some k.state s (sym k.journal_is ∙ journal_is))
-      (subst (λ x. Describes k.state x h) (same_Some k.text t (sym k.file_is ∙ file_is)) k.describes)
+  reads h k = search rules
 
   -- and can be settled
   pub settled_pair : (r : State) (h : History) → settled_beside s t ≡ Some r → GoodIn c f j (Some h) → PairAtRest c f j r t h
@@ -32,6 +30,4 @@ module _ (c : FileMap) (f j : List ℕ) (t : List ℕ) (s : State) (file_is : ge
 -- a pair that was read and settled
 pub opens : (c e : FileMap) (f j : List ℕ) (v : Vec ℕ Global) (s r : State) (h : Option History) →
     e ≡ c → get c f ≡ Some v.items → journal_beside (get c j) ≡ Some s → settled_beside s v.items ≡ Some r → GoodIn c f j h → Opens e f j h (Ok (v, r))
-opens c e f j v s r None is file journal rest good = none-some v.items (sym good ∙ file)
-opens c e f j v s r (Some h) is file journal rest good =
-    subst (λ m. PairAtRest m f j r v.items h) (sym is) (settled_pair c f j v.items s file journal r h rest good)
+opens c e f j v s r h is file journal rest good = search (rules, none-some, settled_pair)

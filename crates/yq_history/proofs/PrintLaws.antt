@@ -1,7 +1,6 @@
 -- What is printed of a journal is what is printed of its history.
-use Rattle.std.proofs.Common.{◌≡◌, ℕ, Bool, true, false, suc, ◌+◌, List, [], ◌∷◌, ◌++◌, map, nat_lt, slice_get, take, Option, Some, None}
-use Rattle.std.{proofs.Common.{Ok, Vec, sym, ap, ap₂, ◌∙◌, refl, arith, append_assoc}, specs.declared.alloc.Global.Global}
-use Rattle.std.proofs.lemmas.List.{append-nil}
+use Rattle.std.proofs.Common.{rules, ◌≡◌, ℕ, Bool, suc, ◌+◌, List, [], ◌∷◌, ◌++◌, map, nat_lt, slice_get, take, Option, Some, Ok, Vec, sym}
+use Rattle.std.{proofs.Common.{ap, ap₂, ◌∙◌, refl, arith, append_assoc}, specs.declared.alloc.Global.Global, proofs.lemmas.List.append-nil}
 use Prim.Native.Nat.{zero}
 use Rattle.yq_journal.{specs.Good.{Leads, AtRest}, specs.History.{History, Revision}, specs.Record.Record, specs.State.State}
 use Rattle.yq_store.specs.FileMap.{FileMap}
@@ -24,9 +23,7 @@ lines_more_at n done m (q ∷ rs) (suc i) r is found =
 -- the lines of a journal's first records, of one record more
 pub lines_more : (done : ℕ) (rs : List Record) (i : ℕ) (r : Record) → slice_get rs i ≡ Some r →
     listing_after 0 done (map (λ (q : Record). q.expr) (take (i + 1) rs)) ≡ listing_after 0 done (map (λ (q : Record). q.expr) (take i rs)) ++ edit_line (i + 1) (nat_lt i done) r.expr
-lines_more done rs i r found =
-    let next : i + 1 ≡ suc i = omega arith in
-    ap (λ n. listing_after 0 done (map (λ (q : Record). q.expr) (take n rs))) next ∙ lines_more_at 0 done i rs i r (omega arith) found
+lines_more done rs i r found = search (rules, lines_more_at)
 
 same_exprs : (t : List ℕ) (rs : List Record) (es : List Revision) → Leads t rs es → map (λ (r : Record). r.expr) rs ≡ map (λ (e : Revision). e.expr) es
 same_exprs t [] [] l = refl
@@ -39,12 +36,9 @@ pub listed : (s : State) (t : List ℕ) (h : History) → AtRest s t h → listi
 listed s t h k = ap₂ (λ at exprs. listing_after 0 at exprs) k.reports.cursor (same_exprs h.first s.records h.later k.reports.leads)
 
 same_listing : (diffs : Bool) (s : State) (t : List ℕ) (h : History) → AtRest s t h → record_output diffs t s ≡ listing_output diffs (Some h)
-same_listing false s t h k = ap output.bytes (listed s t h k)
-same_listing true s t h k =
-    (λ i. output.listed (k.reports.cursor i) (same_exprs h.first s.records h.later k.reports.leads i) (history_texts s t h k i))
+same_listing diffs s t h k = search (rules, listed, same_exprs, history_texts)
 
 -- and so is what is printed of a pair that was read and settled
 pub listed_output : (diffs : Bool) (c : FileMap) (f j : List ℕ) (h : Option History) (v : Vec ℕ Global) (s : State) → Opens c f j h (Ok (v, s)) →
     record_output diffs v.items s ≡ listing_output diffs h
-listed_output diffs c f j None v s opens = absurd opens
-listed_output diffs c f j (Some x) v s opens = same_listing diffs s v.items x opens.at_rest
+listed_output diffs c f j h v s opens = search (rules, same_listing)

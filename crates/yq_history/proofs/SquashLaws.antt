@@ -1,27 +1,23 @@
 -- How a squash of a pair ends.
-use Rattle.std.proofs.Common.{◌≡◌, ◌≢◌, ◌⊎◌, inl, inr, ℕ, ◌≤◌, true, false, ◌&&◌, nat_le, List, Option, Some, None, Result, Ok, Err, OnOk}
-use Rattle.std.proofs.Common.{OnErr, IfErr, IsTrue, Bool, Vec, option_map, if◌then◌else◌, sym, ap, ◌∙◌, subst, refl, arith}
-use Rattle.std.{proofs.lemmas.Bool.Decides.nat_tests, specs.declared.alloc.Global.Global}
+use Rattle.std.proofs.Common.{rules, ◌≡◌, ◌≢◌, ◌⊎◌, inl, inr, ℕ, ◌≤◌, true, ◌&&◌, List, Option, Some, None, Result, Ok, Err, OnOk, OnErr}
+use Rattle.std.proofs.Common.{IfErr, IsTrue, Bool, Vec, option_map, if◌then◌else◌, sym, ap, ◌∙◌, subst, refl}
+use Rattle.std.{proofs.lemmas.Grind.common_steps, proofs.lemmas.Bool.Decides.nat_tests, specs.declared.alloc.Global.Global}
 use Rattle.yq_journal.{specs.declared.fault.JournalError.JournalError, specs.Good.squash_refusal, specs.History.{History, after_squash}}
 use Rattle.yq_journal.{specs.Refusals.{Reports, squash_fault}, specs.State.{State, squashed}, proofs.GoodLaws.describes}
 use Rattle.yq_journal.proofs.SquashLaws.{squash_fault_of, squash_one, squash_rests}
-use Rattle.yq_history.{specs.declared.fault.Fault.Fault, specs.Causes.{IsFor, named}, specs.Faults.{is_outer_fault, of_fault, of_journal}}
-use Rattle.yq_history.specs.Pair.{Arrives, GoodIn, Opens, PairAtRest, PairStands, Writes}
-use Rattle.yq_history.specs.Steps.{squash_cause, squash_next, unless_fault}
+use Rattle.yq_history.{specs.declared.fault.Fault.Fault, specs.Causes.named, specs.Faults.{is_outer_fault, of_fault, of_journal}}
+use Rattle.yq_history.{specs.Pair.{Arrives, Opens, PairAtRest, PairStands, Writes}, specs.Steps.{squash_cause, squash_next, unless_fault}}
 use Rattle.yq_history.proofs.MoveLaws.{cut, is_refused, ends, either, fault_inside, on_ok_map, on_err_map, same_content, wrote_journal}
 use Rattle.yq_store.specs.FileMap.{FileMap}
 use Rattle.yq_journal.specs.declared.fault.JournalError.TheVariants as error
 use Rattle.yq_journal.specs.declared.fault.JournalFault.TheVariants as journal
 
 passed : (b : Bool) → (if b then None else Some journal.BadCount) ≡ None → b ≡ true
-passed true e = refl
-passed false e = cc
+passed b e = search rules
 
 -- a squash that isn't refused is of some edits, as many as are done at most
 within : (h : History) (n : ℕ) → squash_refusal h n ≡ None → (1 ≤ n) × (n ≤ h.at)
-within h n free =
-    let is : (nat_le 1 n && nat_le n h.at) ≡ true = passed (nat_le 1 n && nat_le n h.at) free in
-    (grind (arith, nat_tests, is), grind (arith, nat_tests, is))
+within h n free = search rules
 
 module _ (c : FileMap) (f j : List ℕ) (h : History) (n : ℕ) (s : State) (t : List ℕ) (rest : s.pending ≡ None) (k : PairAtRest c f j s t h) where
   same_fault : squash_fault s n ≡ squash_refusal h n
@@ -29,10 +25,7 @@ module _ (c : FileMap) (f j : List ℕ) (h : History) (n : ℕ) (s : State) (t :
 
   -- the journal refused it
   pub squash_refused : {T : Type 0} (r : Result T Fault) (e : Fault) (x : JournalError) → r ≡ Err e → e ≡ of_journal x → Reports x (squash_fault s n) → Arrives c f j (squash_cause n (Some h)) (Some h) (squash_next n (Some h)) r
-  squash_refused r e error.Memory is of reports = cut c f j (squash_cause n (Some h)) (Some h) (squash_next n (Some h)) r e is (ap is_outer_fault of) (inl k.stands)
-  squash_refused r e (error.Fault y) is of reports =
-      is_refused c f j (squash_cause n (Some h)) (Some h) (squash_next n (Some h)) r e is (ap is_outer_fault of ∙ fault_inside y)
-      (subst (λ o. IsFor (option_map (λ z. named (of_fault z)) o) e) (sym (sym same_fault ∙ reports)) of) k.stands
+  squash_refused r e x is of reports = search (rules, cut, is_refused, fault_inside, same_fault)
 
   free_squash : squash_fault s n ≡ None → squash_refusal h n ≡ None
   free_squash free = sym same_fault ∙ free
@@ -45,10 +38,7 @@ module _ (c : FileMap) (f j : List ℕ) (h : History) (n : ℕ) (s : State) (t :
 
   -- of one edit nothing is written
   pub squash_of_one : {T : Type 0} (v : T) (d : FileMap) → n ≡ 1 → d ≡ c → squash_fault s n ≡ None → Arrives d f j (squash_cause n (Some h)) (Some h) (squash_next n (Some h)) {T = T} (Ok v)
-  squash_of_one v d one same free =
-      let some : 1 ≤ h.at = omega (arith, one, (within h n (free_squash free)).1) in
-      let stays : after_squash h n ≡ h = ap (after_squash h) one ∙ squash_one h some k.at_rest.reports.within in
-      (no_cause free, subst (λ x. GoodIn d f j x) (sym (next_is free ∙ ap Some stays)) (same_content c d f j h same k.stands))
+  squash_of_one v d one same free = search (rules, within, free_squash, squash_one, no_cause, next_is, same_content)
 
   module _ (apart : f ≢ j) (d : FileMap) (z : State) (is : z ≡ squashed s n) (free : squash_fault s n ≡ None) where
     wrote : Writes c d j z → PairStands d f j (after_squash h n)
@@ -70,5 +60,4 @@ module _ (c : FileMap) (f j : List ℕ) (h : History) (n : ℕ) (s : State) (t :
 pub squash_opened : (c d : FileMap) (f j : List ℕ) (n : ℕ) (h : Option History) (v : Vec ℕ Global) (s : State) {T : Type 0} (r : Result T Fault) →
     Opens c f j h (Ok (v, s)) →
     ((t : List ℕ) (x : History) → PairAtRest c f j s t x → Arrives d f j (squash_cause n (Some x)) (Some x) (squash_next n (Some x)) r) → Arrives d f j (squash_cause n h) h (squash_next n h) r
-squash_opened c d f j n None v s r opens k = absurd opens
-squash_opened c d f j n (Some x) v s r opens k = k v.items x opens
+squash_opened c d f j n h v s r opens k = search rules

@@ -1,29 +1,19 @@
 -- What is printed of the parts of two texts is a diff of these.
-use Rattle.std.{proofs.Common.{◌≡◌, ℕ, ◌<◌, ◌^◌, List, [], ◌∷◌, ◌++◌, length, map, refl, sym, ap, ◌∙◌, subst, arith}, specs.List.flat_map}
+use Rattle.std.{proofs.Common.{rules, ◌≡◌, ℕ, ◌<◌, ◌^◌, List, [], ◌∷◌, ◌++◌, length, sym, ap, ◌∙◌, arith}, specs.List.flat_map}
 use Rattle.yq_core.specs.Text.{text_lines}
-use Rattle.yq_history.specs.Hunks.{Hunk, Applies, IsDiff, reversed_hunk}
-use Rattle.yq_history.specs.Unified.{IsPrintedDiff, print_diff, print_hunk, print_names}
+use Rattle.yq_history.{specs.Hunks.{Hunk, Applies, IsDiff}, specs.Unified.{IsPrintedDiff, print_diff, print_hunk, print_names}}
 use Rattle.yq_history.{specs.DiffParts.{ArePartsOf, hunks_of, new_parts, old_parts}, specs.DiffPrinting.{opened, print_parts}}
 use Rattle.yq_history.{proofs.HunkLaws.{hunks_apply, hunks_back}, proofs.LineCuts.{lines_within, same_lines}, proofs.DiffPrintLaws.print_is}
 use Rattle.yq_history.specs.declared.diff.part.Part.{Part}
 
 -- the hunks of the parts of two texts that differ are a diff of these
 is_diff : (ps : List Part) (old new : List ℕ) → ArePartsOf ps old new → (old ≡ new → ⊥) → IsDiff (hunks_of ps) old new
-is_diff ps old new are differ = record {
-  forward =
-      subst (λ x. Applies 0 (hunks_of ps) x (text_lines new)) are.old_lines
-      (subst (λ x. Applies 0 (hunks_of ps) (old_parts ps) x) are.new_lines (hunks_apply 0 0 [] ps));
-  backward =
-      subst (λ x. Applies 0 (map reversed_hunk (hunks_of ps)) x (text_lines old)) are.new_lines
-      (subst (λ x. Applies 0 (map reversed_hunk (hunks_of ps)) (new_parts ps) x) are.old_lines (hunks_back 0 0 [] ps));
-  none = λ same. absurd (differ same);
-}
+is_diff ps old new are differ = search (rules, hunks_apply, hunks_back)
 
 -- there is a hunk, and the names are above it
 named : (hs : List Hunk) (name old new : List ℕ) → Applies 0 hs (text_lines old) (text_lines new) → (old ≡ new → ⊥) →
     print_diff name hs ≡ print_names name ++ flat_map print_hunk hs
-named [] name old new same differ = absurd (differ (sym (same_lines new old same)))
-named (h ∷ hs) name old new same differ = refl
+named hs name old new same differ = search (rules, same_lines)
 
 pub printed_diff : (name old new out : List ℕ) (ps : List Part) → ArePartsOf ps old new → (old ≡ new → ⊥) →
     out ≡ print_names name ++ print_parts (opened 0 0) ps → IsPrintedDiff name old new out
@@ -33,11 +23,7 @@ printed_diff name old new out ps are differ is =
 
 -- where no byte changes nothing is printed
 pub no_diff : (name old new : List ℕ) → old ≡ new → IsPrintedDiff name old new []
-no_diff name old new same = record {
-  hunks = [];
-  diff = record { forward = ap text_lines (sym same); backward = ap text_lines same; none = λ again. refl };
-  print = refl;
-}
+no_diff name old new same = search rules
 
 -- the lines of parts are no more than the bytes of their texts
 pub old_few : (ps : List Part) (old new : List ℕ) → ArePartsOf ps old new → length old < 2 ^ 64 → length (old_parts ps) < 2 ^ 64

@@ -1,10 +1,10 @@
 -- A text of which JSON escapes no byte, and which has none from DEL on, is printed as it is.
-use Rattle.std.proofs.Common.{◌≡◌, ◌==◌, ◌||◌, ◌<◌, ℕ, zero, suc, List, [], ◌∷◌, ◌++◌, Bool, true, false, nat_lt, flat_map, encode_utf8}
-use Rattle.std.{proofs.Common.{if◌then◌else◌, refl, ap, ap₂, ◌∙◌, arith}, specs.Prelude.⊤, specs.Bool.OnTrue, specs.Str.IsAscii}
+use Rattle.std.proofs.Common.{rules, ◌≡◌, ◌==◌, ◌||◌, ◌<◌, ℕ, zero, suc, List, [], ◌∷◌, ◌++◌, Bool, false, nat_lt, flat_map, if◌then◌else◌}
+use Rattle.std.{proofs.Common.{refl, ap, ap₂, ◌∙◌, arith}, specs.Prelude.⊤, specs.Bool.OnTrue, specs.Str.IsAscii}
 use Rattle.std.{proofs.lemmas.Str.{chars-IsAscii, encode_ascii}, proofs.lemmas.Bool.{agree_below_at, leb-false, or_parts}}
 use Rattle.json.specs.Print.{quoted}
 use Rattle.yq_journal.{specs.Bare.{IsBare, is_special}, proofs.LaneLaws.bare_escapes}
-use Rattle.yq_history.specs.Visible.{escaped_char, in_quotes, is_hidden, visible, visible_char}
+use Rattle.yq_history.specs.Visible.{in_quotes, visible, visible_char}
 
 low_byte : (b : ℕ) → is_special 127 b ≡ false → b < 127
 low_byte b e = leb-false 127 b (or_parts (nat_lt b 32 || b == 34 || b == 92) _ e).1
@@ -23,9 +23,7 @@ low_ascii (b ∷ bs) h zero = omega (arith, h.0)
 low_ascii (b ∷ bs) h (suc i) = low_ascii bs h.1 i
 
 low_char : (b : ℕ) → b < 127 → visible_char b ≡ b ∷ []
-low_char b h =
-    let none : is_hidden b ≡ false = agree_below_at is_hidden (λ _. false) 127 b refl h in
-    ap (λ hidden. if hidden then escaped_char b else encode_utf8 b) none ∙ encode_ascii b (omega (arith, h))
+low_char b h = search (rules, agree_below_at, encode_ascii)
 
 low_visible : (bs : List ℕ) → AreLow bs → flat_map visible_char bs ≡ bs
 low_visible [] h = refl
@@ -37,5 +35,4 @@ bare_is t h =
     ap (λ e. visible (in_quotes e)) (bare_escapes 127 t h) ∙ ap (flat_map visible_char) (chars-IsAscii (in_quotes t) (low_ascii (in_quotes t) low)) ∙ low_visible (in_quotes t) low
 
 pub bare_on : (b : Bool) (t : List ℕ) → OnTrue b (IsBare 127 t) → OnTrue b (visible (quoted t) ≡ in_quotes t)
-bare_on true t h = bare_is t h
-bare_on false t h = tt
+bare_on b t h = search (rules, bare_is)

@@ -1,8 +1,7 @@
 -- The pieces that calls add to a text are the compact JSON of a splice, a record, an open move or a journal.
-use Rattle.std.proofs.Common.{◌≡◌, ◌≤◌, ◌<◌, ◌+◌, ℕ, List, [], ◌∷◌, ◌++◌, Bool, true, false, Option, Some, codes, decimal, refl, sym, ap}
-use Rattle.std.proofs.Common.{ap₂, ◌∙◌, subst, append_assoc, arith, drop, get_or, length, Ok, ◌^◌}
-use Rattle.std.{proofs.lemmas.List.{at_drop_all, drop_more}, specs.Prelude.{option_and_then, option_map, ⊤}}
-use Rattle.std.proofs.lemmas.Fmt.{decimal_digit}
+use Rattle.std.proofs.Common.{rules, ◌≡◌, ◌≤◌, ◌<◌, ◌+◌, ℕ, List, [], ◌∷◌, ◌++◌, Bool, true, Option, Some, codes, decimal, refl, sym, ap}
+use Rattle.std.{proofs.Common.{ap₂, ◌∙◌, subst, append_assoc, drop, get_or, length, Ok, ◌^◌}, proofs.lemmas.List.{at_drop_all, drop_more}}
+use Rattle.std.{specs.Prelude.{option_and_then, option_map, ⊤}, proofs.lemmas.Fmt.decimal_digit}
 use Rattle.base64.{specs.Engines.standard, specs.GeneralPurpose.{decode_of, encode_of}}
 use Rattle.json.{specs.Print.{escape, escape_byte, quoted}, specs.Tree.ItemsHaveNumbers}
 use Rattle.serde_json.{specs.Data.{Data, array, item}, specs.Read.of_items, specs.Find.as_array}
@@ -83,25 +82,17 @@ open_regroup t from kind held = simp append_assoc
 
 kind_kept : (step : Move) → escape (kind_text step) ≡ kind_text step
 unfolding escape_byte
-kind_kept (Edit r) = refl
-kind_kept _ = refl
+kind_kept step = search rules
 
 open_text : (t : List ℕ) (p : Pending) → open_after t (escape (encode_of standard p.from)) (kind_text p.step) (compact_text (move_data p.step)) ≡ t ++ compact_text (pending_data (Some p))
 unfolding escape_byte
-open_text t p =
-    open_regroup t (escape (encode_of standard p.from)) (kind_text p.step) (compact_text (move_data p.step))
-    ∙ ap (λ k. t ++ open_pieces (escape (encode_of standard p.from)) k (compact_text (move_data p.step))) (sym (kind_kept p.step))
+open_text t p = search (rules, open_regroup, kind_kept)
 
 -- what the calls for an open move add
 pub open_adds : (p : Pending) (t t₁ t₂ t₃ t₄ t₅ t₆ t₇ : List ℕ) → decode_of standard (encode_of standard p.from) ≡ Ok p.from → t₁ ≡ t ++ codes "{\"from\":\"" → t₂ ≡ t₁ ++ escape (encode_of standard p.from)
     → t₃ ≡ t₂ ++ codes "\",\"kind\":\"" → t₄ ≡ t₃ ++ kind_text p.step → t₅ ≡ t₄ ++ codes "\",\"record\":" → Adds move_data (move_of true (kind_text p.step)) p.step t₅ t₆ → t₇ ≡ t₆ ++ codes "}"
     → Adds pending_data (pending_of true) (Some p) t t₇
-open_adds p t t₁ t₂ t₃ t₄ t₅ t₆ t₇ b e₁ e₂ e₃ e₄ e₅ e₆ e₇ = record {
-  text_is =
-      e₇ ∙ ap (λ l. l ++ codes "}") (e₆.text_is ∙ ap (λ l. l ++ compact_text (move_data p.step)) (e₅ ∙ ap (λ l. l ++ codes "\",\"record\":") (e₄ ∙ ap (λ l. l ++ kind_text p.step)
-      (e₃ ∙ ap (λ l. l ++ codes "\",\"kind\":\"") (e₂ ∙ ap (λ l. l ++ escape (encode_of standard p.from)) e₁))))) ∙ open_text t p;
-  kept = kept_open p e₆.kept b;
-}
+open_adds p t t₁ t₂ t₃ t₄ t₅ t₆ t₇ b e₁ e₂ e₃ e₄ e₅ e₆ e₇ = search (rules, open_text, kept_open)
 
 -- a journal, with its open move and its records
 abbrev journal_after : List ℕ → List ℕ → List ℕ → List ℕ → List ℕ
@@ -116,9 +107,7 @@ journal_regroup t at p rs = simp append_assoc
 
 text_of_journal : (t : List ℕ) (s : State) → journal_after t (decimal s.at) (compact_text (pending_data s.pending)) (compact_text (records_data s.records)) ≡ t ++ compact_text (journal_data s)
 unfolding escape_byte
-text_of_journal t s =
-    journal_regroup t (decimal s.at) (compact_text (pending_data s.pending)) (compact_text (records_data s.records))
-    ∙ ap (λ v. t ++ journal_pieces (decimal s.at) (compact_text (pending_data s.pending)) (compact_text (records_data s.records)) v) (sym (decimal_digit 2 (omega arith)))
+text_of_journal t s = search (rules, journal_regroup, decimal_digit)
 
 -- what the calls for a journal add
 pub journal_adds : (s : State) (t t₁ t₂ t₃ t₄ t₅ t₆ : List ℕ) → IsSound s → s.at < 2 ^ 64 → t₁ ≡ t ++ codes "{\"at\":" ++ decimal s.at → t₂ ≡ t₁ ++ codes ",\"pending\":"
@@ -159,36 +148,17 @@ abbrev pub things_of : {A : Type 0} → (Data → Option A) → Data → Option 
 things_of of_data d = option_and_then (each_of of_data) (as_array d)
 
 pub list_kept : {A : Type 0} (to_data : A → Data) (of_data : Data → Option A) (xs : List A) → AreReadBack to_data of_data xs → IsReadBack (array_of to_data) (things_of of_data) xs
-list_kept to_data of_data xs k = record {
-  numbers = numbers_of to_data of_data xs k;
-  reads = ap (option_map array) (items_read to_data of_data xs k);
-  stands = all_stand to_data of_data xs k;
-}
+list_kept to_data of_data xs k = search (rules, numbers_of, items_read, all_stand)
 
 -- the first things of a list were added to a text
 pub record SoFar {A : Type 0} (to_data : A → Data) (of_data : Data → Option A) (xs : List A) (i : ℕ) (later : Bool) (before now : List ℕ) : Type 0 where
   pub text_is : now ++ items_text later (list_data to_data (drop i xs)) ≡ before ++ compact_text (array_of to_data xs)
   pub kept : AreReadBack to_data of_data (drop i xs) → AreReadBack to_data of_data xs
 
-pub so_far_begins : {A : Type 0} (to_data : A → Data) (of_data : Data → Option A) (xs : List A) (before now : List ℕ) → now ≡ before ++ codes "[" → SoFar to_data of_data xs 0 false before now
-so_far_begins to_data of_data xs before now e = record {
-  text_is = ap (λ l. l ++ items_text false (list_data to_data xs)) e ∙ append_assoc before (codes "[") (items_text false (list_data to_data xs));
-  kept = λ k. k;
-}
-
 pub so_far_more : {A : Type 0} (to_data : A → Data) (of_data : Data → Option A) (xs : List A) (i : ℕ) (x : A) (later : Bool) (before now mid next : List ℕ)
     → i < length xs → x ≡ get_or xs i x → SoFar to_data of_data xs i later before now → mid ≡ now ++ comma_if later → Adds to_data of_data x mid next
     → SoFar to_data of_data xs (i + 1) true before next
-so_far_more to_data of_data xs i x later before now mid next within is s comma added =
-    let left : drop i xs ≡ x ∷ drop (i + 1) xs = drop_more xs i x within ∙ ap (λ y. y ∷ drop (i + 1) xs) (sym is) in
-    let rest : List ℕ = items_text true (list_data to_data (drop (i + 1) xs)) in
-    record {
-      text_is =
-          ap (λ l. l ++ rest) (added.text_is ∙ ap (λ l. l ++ compact_text (to_data x)) comma)
-          ∙ append_assoc (now ++ comma_if later) (compact_text (to_data x)) rest ∙ append_assoc now (comma_if later) (compact_text (to_data x) ++ rest)
-          ∙ sym (ap (λ l. now ++ items_text later (list_data to_data l)) left) ∙ s.text_is;
-      kept = λ k. s.kept (subst (AreReadBack to_data of_data) (sym left) (added.kept, k));
-    }
+so_far_more to_data of_data xs i x later before now mid next within is s comma added = search (rules, drop_more, append_assoc)
 
 pub so_far_ends : {A : Type 0} (to_data : A → Data) (of_data : Data → Option A) (xs : List A) (i : ℕ) (later : Bool) (before now last : List ℕ)
     → length xs ≤ i → SoFar to_data of_data xs i later before now → last ≡ now ++ codes "]" → Adds (array_of to_data) (things_of of_data) xs before last

@@ -1,7 +1,7 @@
 -- Which bytes JSON doesn't escape: those of base64, and those of a text that has none that it escapes.
 use Rattle.std.proofs.Common.{◌≡◌, ◌<◌, ◌/◌, ◌%◌, ◌*◌, ◌+◌, ℕ, zero, suc, List, [], ◌∷◌, ◌++◌, Bool, true, replicate, slice_index, refl, ap}
-use Rattle.std.{proofs.Common.{ap₂, ◌∙◌, arith, take, length, get_or, append-nil}, specs.Prelude.⊤, specs.Str.bytes_eq}
-use Rattle.std.{proofs.lemmas.Slice.Eq.bytes_eq-Decides, proofs.lemmas.List.take_more, proofs.lemmas.Grind.flat_map-append}
+use Rattle.std.{proofs.Common.{ap₂, ◌∙◌, arith, take, length, get_or, append-nil}, proofs.lemmas.Grind.flat_map-append, specs.Prelude.⊤}
+use Rattle.std.{specs.Str.bytes_eq, proofs.lemmas.Slice.Eq.bytes_eq-Decides, proofs.lemmas.List.take_more}
 use Rattle.base64.{specs.Engines.standard, specs.GeneralPurpose.{IsBytes, encode_of}, specs.Rfc4648.encode_symbols, specs.Tables.all_below}
 use Rattle.base64.proofs.Tables.{all_below_at}
 use Rattle.json.specs.Print.{escape, escape_byte}

@@ -1,9 +1,9 @@
 -- The pieces that a text has in front, one after the other, are the compact JSON of a splice, a record or a journal.
-use Rattle.std.proofs.Common.{◌≡◌, ◌<◌, ◌≤◌, ◌^◌, ◌-◌, ◌+◌, ℕ, List, [], ◌∷◌, ◌++◌, Bool, true, false, Option, Some, None, Ok, codes}
+use Rattle.std.proofs.Common.{rules, ◌≡◌, ◌<◌, ◌≤◌, ◌^◌, ◌-◌, ◌+◌, ℕ, List, [], ◌∷◌, ◌++◌, Bool, true, false, Option, Some, None, Ok, codes}
 use Rattle.std.proofs.Common.{decimal, length, take, refl, sym, ap, ap₂, ◌∙◌, subst, append_assoc, append-nil, true≢false, arith, Vec}
 use Rattle.std.{proofs.Common.{Global, get_or, drop}, proofs.Math.Seq.take-append_seam, specs.Str.IsUtf8}
 use Rattle.std.proofs.lemmas.List.{length-append, length-drop, take-append-drop, take-take, take_all, take_more}
-use Rattle.std.{specs.Prelude.{MatchOption, IfSome, is_some}, proofs.lemmas.Bool.eqb-true}
+use Rattle.std.specs.Prelude.{MatchOption, IfSome, is_some}
 use Rattle.base64.{specs.Engines.standard, specs.GeneralPurpose.{decode_of, encode_of}}
 use Rattle.json.specs.Print.{escape, quoted}
 use Rattle.serde_json.{specs.Data.Data, specs.Written.{comma_if, compact_text, items_text}}
@@ -13,12 +13,11 @@ use Rattle.yq_journal.specs.Json.{change_data, journal_in, journal_text, list_da
 use Rattle.yq_journal.{specs.Json.splices_of, specs.Record.{IsRecord, Record, is_length}, specs.Refusals.{IsSound, most_records}}
 use Rattle.yq_journal.specs.State.{state}
 use Rattle.yq_journal.proofs.AddedLaws.{AreReadBack, array_of, journal_adds, list_kept, record_adds, splice_adds, things_of}
-use Rattle.yq_journal.{proofs.ReadBackLaws.{kept_none, text_read}, proofs.NumberLaws.number_ends}
+use Rattle.yq_journal.proofs.ReadBackLaws.{kept_none, text_read}
 
 -- what holds of what is there
 pub if_there : {A : Type 0} (P : Type 0) (Q : A → Type 0) (r : Option A) → MatchOption r P Q → IfSome r Q
-if_there P Q None m = tt
-if_there P Q (Some x) m = m
+if_there P Q r m = search rules
 
 -- two texts that begin alike, and have the same byte next
 pub alike_more : (t bytes : List ℕ) (i : ℕ) → i < length t → i < length bytes → take i t ≡ take i bytes → get_or t i 0 ≡ get_or bytes i 0
@@ -29,11 +28,7 @@ alike_more t bytes i first second alike next =
 -- a text that begins with all of some bytes
 pub alike_end : (t bytes : List ℕ) (i : ℕ) → length bytes ≤ i → take i t ≡ take i bytes
     → t ≡ bytes ++ take (length t - length bytes) (drop (length bytes) t)
-alike_end t bytes i all alike =
-    let n = length bytes in
-    let front : take n t ≡ bytes = sym (take-take n i t all) ∙ ap (take n) (alike ∙ take_all i bytes all) ∙ take_all n bytes (omega arith) in
-    let rest : take (length t - n) (drop n t) ≡ drop n t = take_all (length t - n) (drop n t) (omega (arith, length-drop n t)) in
-    sym (take-append-drop n t) ∙ ap₂ (λ (a b : List ℕ). a ++ b) front (sym rest)
+alike_end t bytes i all alike = search (rules, take-take, take_all, length-drop, take-append-drop)
 
 -- what comes next in the rest of a text
 pub and_then : (t front next rest last : List ℕ) → t ≡ front ++ rest → rest ≡ next ++ last → t ≡ (front ++ next) ++ last
@@ -41,20 +36,13 @@ and_then t front next rest last e f = e ∙ ap (λ l. front ++ l) f ∙ sym (app
 
 -- five pieces that come one after the other
 five : (a b c d e t x₁ x₂ x₃ x₄ x₅ : List ℕ) → t ≡ a ++ x₁ → x₁ ≡ b ++ x₂ → x₂ ≡ c ++ x₃ → x₃ ≡ d ++ x₄ → x₄ ≡ e ++ x₅ → t ≡ ((((a ++ b) ++ c) ++ d) ++ e) ++ x₅
-five a b c d e t x₁ x₂ x₃ x₄ x₅ e₁ e₂ e₃ e₄ e₅ =
-    and_then t (((a ++ b) ++ c) ++ d) e x₄ x₅ (and_then t ((a ++ b) ++ c) d x₃ x₄ (and_then t (a ++ b) c x₂ x₃ (and_then t a b x₁ x₂ e₁ e₂) e₃) e₄) e₅
+five a b c d e t x₁ x₂ x₃ x₄ x₅ e₁ e₂ e₃ e₄ e₅ = search (rules, and_then)
 
 -- the front of a text is what comes before its rest
 pub front_is : (t front rest : List ℕ) → t ≡ front ++ rest → take (length t - length rest) t ≡ front
 front_is t front rest e =
     let size : length t - length rest ≡ length front = ap (λ l. length l - length rest) e ∙ (let n = length-append front rest in omega (arith, n)) in
     ap (λ n. take n t) size ∙ ap (take (length front)) e ∙ take-append_seam front rest
-
--- a string with no escapes is in front
-pub bare_in_front : (inner m rest : List ℕ) (e : ℕ) → e ≤ length inner → m ≡ take e inner → escape (take e inner) ≡ take e inner
-    → take (length inner - e) (drop e inner) ≡ codes "\"" ++ rest → 34 ∷ inner ≡ quoted m ++ rest
-bare_in_front inner m rest e within is bare end =
-    ap (λ l. 34 ∷ l) (number_ends inner e within ∙ ap₂ (λ (a b : List ℕ). a ++ b) (sym bare ∙ ap escape (sym is)) end ∙ sym (append_assoc (escape m) (34 ∷ []) rest))
 
 -- a splice is in front
 pub splice_in_front : (s : Splice) (t x₁ x₂ x₃ x₄ x₅ : List ℕ) → s.at < 2 ^ 64 → decode_of standard (encode_of standard s.new) ≡ Ok s.new → decode_of standard (encode_of standard s.old) ≡ Ok s.old
@@ -65,8 +53,7 @@ splice_in_front s t x₁ x₂ x₃ x₄ x₅ h n o e₁ e₂ e₃ e₄ e₅ =
     record { text_is = five ((codes "{\"at\":" ++ decimal s.at) ++ codes ",\"new\":\"") (escape (encode_of standard s.new)) (codes "\",\"old\":\"") (escape (encode_of standard s.old)) (codes "\"}") t x₁ x₂ x₃ x₄ x₅ e₁ e₂ e₃ e₄ e₅ ∙ ap (λ l. l ++ x₅) added.text_is; kept = added.kept }
 
 led : (o : Option ℕ) (n : ℕ) → is_length o n ≡ true → o ≡ Some n
-led None n h = absurd (true≢false (sym h))
-led (Some m) n h = ap Some (eqb-true m n h)
+led o n h = search rules
 
 -- what was tested of a record makes it one
 pub is_record_if : (r : Record) → 0 < r.count → is_length (lengths_done r.changes r.before_len) r.after_len ≡ true → IsRecord r
@@ -113,16 +100,7 @@ read_back_more to_data of_data (y ∷ ys) x k l = (k.0, read_back_more to_data o
 
 pub found_more : {A : Type 0} (to_data : A → Data) (of_data : Data → Option A) (xs : List A) (x : A) (later : Bool) (text left next last : List ℕ)
     → FoundSoFar to_data of_data xs later text left → left ≡ comma_if later ++ next → IsInFront to_data of_data x next last → FoundSoFar to_data of_data (xs ++ x ∷ []) true text last
-found_more to_data of_data xs x later text left next last f comma front = record {
-  all =
-      λ ys rest e.
-      let items : List ℕ = items_text true (list_data to_data ys) in
-      f.all (x ∷ ys) rest
-      (comma ∙ ap (λ l. comma_if later ++ l) (front.text_is ∙ ap (λ l. compact_text (to_data x) ++ l) e ∙ sym (append_assoc (compact_text (to_data x)) items rest))
-      ∙ sym (append_assoc (comma_if later) (compact_text (to_data x) ++ items) rest))
-      ∙ ap (λ l. compact_text (array_of to_data l) ++ rest) (sym (append_assoc xs (x ∷ []) ys));
-  kept = read_back_more to_data of_data xs x f.kept front.kept;
-}
+found_more to_data of_data xs x later text left next last f comma front = search (rules, append_assoc, array_of, read_back_more)
 
 pub found_ends : {A : Type 0} (to_data : A → Data) (of_data : Data → Option A) (xs : List A) (later : Bool) (text left rest : List ℕ)
     → FoundSoFar to_data of_data xs later text left → left ≡ codes "]" ++ rest → IsInFront (array_of to_data) (things_of of_data) xs text rest

@@ -1,7 +1,7 @@
 -- Pieces before and after a cursor, as bytes go over it and are exchanged there.
-use Rattle.std.proofs.Common.{◌≡◌, ◌≢◌, ℕ, ◌+◌, ◌≤◌, ◌<◌, List, [], ◌∷◌, ◌++◌, length, take, drop, refl, sym, ap, ◌∙◌, arith, append_assoc}
-use Rattle.std.{proofs.Common.{append-nil, ◌-◌, length-drop, take_all, Bor, length-append, Some, None}, specs.Prelude.{◌↔◌, reverse}}
-use Rattle.std.proofs.Math.Seq.{drop-append_seam, take-append_seam}
+use Rattle.std.proofs.Common.{rules, ◌≡◌, ◌≢◌, ℕ, ◌+◌, ◌≤◌, ◌<◌, List, [], ◌∷◌, ◌++◌, length, take, drop, refl, sym, ap, ◌∙◌, arith}
+use Rattle.std.proofs.Common.{append_assoc, append-nil, ◌-◌, length-drop, take_all, Bor, length-append, Some, None}
+use Rattle.std.{specs.Prelude.{◌↔◌, reverse}, proofs.Math.Seq.{drop-append_seam, take-append_seam}}
 use Rattle.std.proofs.lemmas.List.{length-take-le, reverse-append, take-append-drop, take-append-le}
 use Rattle.yq_text.{specs.Splice.{Splice, Exchanges, change_done}, proofs.SpliceLaws.{done-from_exchanges, exchanges-from_done}}
 use Rattle.yq_journal.specs.ByteGapBuffer.{forward_bytes, backward_bytes, splice_of_parts}
@@ -94,5 +94,4 @@ exchanged at old new before after b whole place =
 -- a splice is not done where other bytes come after the cursor
 pub not_exchanged : (at : ℕ) (old new before after b : List ℕ) → before ++ after ≡ b → length before ≡ at → ((c : List ℕ) → after ≢ old ++ c)
     → None ≡ change_done (splice_of_parts at old new) b
-not_exchanged at old new before after b whole place other = sym (none_done (splice_of_parts at old new) b (λ c e.
-    other e.rest (rest_same before e.front after (old ++ e.rest) (place ∙ sym e.offset) (whole ∙ e.before))))
+not_exchanged at old new before after b whole place other = search (rules, none_done, rest_same)

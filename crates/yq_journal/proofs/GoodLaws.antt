@@ -29,15 +29,7 @@ describes s t h none k = subst (λ o. DescribesPending s o t h) (sym none) k
 
 module _ (s : State) (h : History) (t u : List ℕ) (step : Move) (k : AtRest s t h) (m : moved_text s.records s.at step t ≡ Some u) (d : u ≢ t) where
   underway : (v : List ℕ) (g : History) → ((v ≡ t) × (g ≡ h)) ⊎ ((v ≡ u) × (g ≡ after_move h step u)) → Describes (with_move s step t) v g
-  underway v g stands = record {
-    before = h;
-    reports = record { leads = k.reports.leads; cursor = k.reports.cursor; within = k.reports.within };
-    from = k.text;
-    to = u;
-    moves = m;
-    changes = d;
-    stands = stands;
-  }
+  underway v g stands = search rules
 
   -- a move is opened: beside the old text the history is what it was
   pub open_before : Describes (with_move s step t) t h
@@ -48,8 +40,7 @@ module _ (s : State) (h : History) (t u : List ℕ) (step : Move) (k : AtRest s 
   open_after = underway u (after_move h step u) (inr (refl, refl))
 
 pub moved_closed : (s : State) (step : Move) → (journal_after s step).pending ≡ None
-moved_closed s (Edit r) = refl
-moved_closed s _ = refl
+moved_closed s step = search rules
 
 settles_before : (s : State) (p : Pending) (t : List ℕ) (h : History) (k : Underway s p t h) → t ≡ p.from → h ≡ k.before → Rests (settled_pending s (Some p) t) t h
 settles_before s p t h k is same = search (rules, bytes_same, at_rest)
@@ -129,8 +120,7 @@ redo_fault s t h k =
     ∙ way_of s t h Redo k
 
 or_none : (o : Option JournalFault) → option_or o None ≡ o
-or_none None = refl
-or_none (Some f) = refl
+or_none o = search rules
 
 -- an edit whose record applies before the text has the history's fault alone
 pub edit_fault : (s : State) (t u : List ℕ) (h : History) (r : Record) → AtRest s t h → done r t ≡ Some u → way_fault s.records s.at (Edit r) t ≡ step_fault h (Edit r)

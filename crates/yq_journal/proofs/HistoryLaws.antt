@@ -1,6 +1,6 @@
 -- Moves of a journal are moves of its history.
-use Rattle.std.proofs.Common.{◌≡◌, ◌==◌, ℕ, suc, ◌+◌, ◌-◌, ◌≤◌, ◌<◌, List, [], ◌∷◌, ◌++◌, length, take, Option, Some, None, Bool, true}
-use Rattle.std.{proofs.Common.{false, refl, sym, ap, ◌∙◌, arith, add-one, if◌then◌else◌, rules}, specs.Prelude.slice_get}
+use Rattle.std.proofs.Common.{◌≡◌, ◌==◌, ℕ, suc, ◌+◌, ◌-◌, ◌≤◌, ◌<◌, List, [], ◌∷◌, ◌++◌, length, take, Option, Some, None, Bool, false}
+use Rattle.std.{proofs.Common.{refl, sym, ap, ◌∙◌, arith, add-one, if◌then◌else◌, rules}, specs.Prelude.slice_get}
 use Rattle.std.{proofs.lemmas.Bool.Decides.nat_tests, proofs.lemmas.Grind.common_steps}
 use Rattle.std.proofs.lemmas.Option.{option_and_then_some, slice_get_within, same_Some}
 use Prim.Native.Nat.{zero}
@@ -62,8 +62,7 @@ redo_moves : (s : State) (h : History) (t u : List ℕ) (r : Record) → AtRest 
 redo_moves s h t u r k is d = search (rules, leads_at, slice_get_within, same_length, same_Some, add-one)
 
 if_not : {A : Type 0} {o : Option A} {y : A} (b : Bool) → (if b then None else o) ≡ Some y → (b ≡ false) × (o ≡ Some y)
-if_not true h = cc
-if_not false h = (refl, h)
+if_not b h = search rules
 
 -- where a move applies, the journal and its history go on together
 pub move_moves : (s : State) (h : History) (t u : List ℕ) (step : Move) → AtRest s t h → moved_text s.records s.at step t ≡ Some u → AtRest (journal_after s step) u (after_move h step u)

@@ -25,8 +25,7 @@ pub IsRecord-join : (r q : Record) → IsRecord r → IsRecord q → r.after_len
 IsRecord-join r q h k meets = search (rules, lengths_done-append)
 
 meet_join : (r p : Record) (rs : List Record) → meet (p ∷ rs) ≡ true → meet (join r p ∷ rs) ≡ true
-meet_join r p [] h = refl
-meet_join r p (q ∷ rs) h = h
+meet_join r p rs h = search rules
 
 -- what is joined so far ends with the length with which the next record begins
 pub joined_meets : (r : Record) (rs : List Record) (i : ℕ) (q : Record) → meet (r ∷ rs) ≡ true → slice_get rs i ≡ Some q → (records_joined r (take i rs)).after_len ≡ q.before_len
@@ -41,8 +40,7 @@ slice_run rs at i h =
     sym (drop-take i (at - i) rs) ∙ ap (λ n. drop i (take n rs)) whole
 
 never : (b : Bool) → (if b && false then None else Some BadCount) ≡ Some BadCount
-never true = refl
-never false = refl
+never b = search rules
 
 -- what is refused as a bad count, and what isn't refused
 pub bad_count : (rs : List Record) (at n : ℕ) → meet (last_done rs at n) ≡ false → count_fault rs at n ≡ Some BadCount

@@ -1,6 +1,6 @@
 -- Sixteen bytes of a text at once, and what a text without special bytes is in a string of JSON.
-use Rattle.std.proofs.Common.{◌≡◌, ◌==◌, ◌||◌, ◌≤◌, ◌+◌, ◌%◌, ◌^◌, ℕ, suc, List, [], ◌∷◌, ◌++◌, Bool, true, false, cond, eqb, ltb, leb}
-use Rattle.std.{proofs.Common.{nat_lt, true≢false, length, map, replicate, IsTrue, refl, sym, ap, ap₂, ◌∙◌, arith}, specs.Bool.OnTrue}
+use Rattle.std.proofs.Common.{rules, ◌≡◌, ◌==◌, ◌||◌, ◌≤◌, ◌+◌, ◌%◌, ◌^◌, ℕ, suc, List, [], ◌∷◌, ◌++◌, Bool, true, false, cond, eqb, ltb}
+use Rattle.std.{proofs.Common.{leb, nat_lt, true≢false, length, map, replicate, IsTrue, refl, sym, ap, ap₂, ◌∙◌, arith}, specs.Bool.OnTrue}
 use Rattle.std.{proofs.lemmas.Bool.{eqb-true, eqb-false, ltb-false, or_parts}, proofs.lemmas.List.length-map}
 use Rattle.std.proofs.lemmas.Simd.{length-chunk, mask_l-mod, none_from_empty_mask, zip2_of_maps, zip2_splat, zip2_splat_left}
 use lib.Bits.{bit_or}
@@ -22,22 +22,7 @@ abbrev pub at_most : ℕ → ℕ → ℕ
 at_most a b = lane (leb a b)
 
 four_lanes : (p q r s : Bool) → top 7 (bit_or (bit_or (bit_or (lane p) (lane q)) (lane r)) (lane s)) ≡ (p || q || r || s)
-four_lanes true true true true = refl
-four_lanes true true true false = refl
-four_lanes true true false true = refl
-four_lanes true true false false = refl
-four_lanes true false true true = refl
-four_lanes true false true false = refl
-four_lanes true false false true = refl
-four_lanes true false false false = refl
-four_lanes false true true true = refl
-four_lanes false true true false = refl
-four_lanes false true false true = refl
-four_lanes false true false false = refl
-four_lanes false false true true = refl
-four_lanes false false true false = refl
-four_lanes false false false true = refl
-four_lanes false false false false = refl
+four_lanes p q r s = search rules
 
 -- what the code makes of a byte
 abbrev tested : ℕ → ℕ → ℕ
@@ -48,8 +33,7 @@ each_tested limit [] = refl
 each_tested limit (x ∷ xs) = ap₂ (λ a b. a ∷ b) (four_lanes (ltb x 32) (eqb x 34) (eqb x 92) (leb limit x)) (each_tested limit xs)
 
 on_true : (b : Bool) (P : Type 0) → (b ≡ true → P) → OnTrue b P
-on_true true P f = f refl
-on_true false P f = tt
+on_true b P f = search rules
 
 -- the tests of sixteen bytes, as the code makes them
 pub bare_from_lanes : (limit : ℕ) (d : List ℕ) (i : ℕ) → i + 16 ≤ length d

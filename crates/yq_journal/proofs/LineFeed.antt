@@ -2,9 +2,8 @@
 use Rattle.std.proofs.Common.{◌≡◌, ℕ, Bool, true, false, cond, ◌&&◌, List, [], ◌∷◌, ◌++◌, refl, sym, ap, ap₂, ◌∙◌, append_assoc, append-nil}
 use Rattle.std.proofs.Common.{rules}
 use Rattle.json.specs.Token.{Token, begin_object, end_object, begin_array, end_array, key, string, number, boolean, null, bad}
-use Rattle.json.specs.Word.{ends_word, word}
-use Rattle.json.specs.Lex.{Lexeme, token, comma, colon, string_token, lex, between, fresh, punctuate, tokens}
-use Rattle.json.specs.Print.{escape, quoted, token_text, begins, ends, print_from, print, IsPrintable, ArePrintable}
+use Rattle.json.{specs.Word.{ends_word, word}, specs.Lex.{Lexeme, token, comma, colon, lex, between, fresh, punctuate, tokens}}
+use Rattle.json.specs.Print.{quoted, token_text, begins, ends, print_from, print, IsPrintable, ArePrintable}
 use Rattle.json.{proofs.Printed.Numbers.{lex-number, in_word-ended}, proofs.Printed.Strings.{content-escape, lex-escape}}
 
 -- what the lexer gives of a token
@@ -33,9 +32,7 @@ ends_with (_ ∷ ts) r h = refl
 
 lex-quoted : (s r : List ℕ) → lex between (quoted s ++ r) ≡ token (string s) ∷ lex between r
 unfolding lex
-lex-quoted s r =
-    let e = append_assoc (escape s) (34 ∷ []) r in
-    ap (λ l. lex between (34 ∷ l)) e ∙ ap₂ (λ o l. token (string_token o) ∷ l) (content-escape s r) (lex-escape s r)
+lex-quoted s r = search (rules, append_assoc, content-escape, lex-escape)
 
 lex-token_text : (t : Token) (r : List ℕ) → IsPrintable t → (ends t ≡ true → ends_word r ≡ true) → lex between (token_text t ++ r) ≡ token_lexemes t ++ lex between r
 unfolding lex word
@@ -43,8 +40,7 @@ lex-token_text t r h1 h2 = search (rules, append_assoc, lex-quoted, lex-number, 
 
 lex-separator : (b : Bool) (r : List ℕ) → lex between (cond b (44 ∷ []) [] ++ r) ≡ cond b (comma ∷ []) [] ++ lex between r
 unfolding lex
-lex-separator true r = refl
-lex-separator false r = refl
+lex-separator b r = search rules
 
 lex-print_from : (c : Bool) (ts : List Token) (r : List ℕ) → ArePrintable ts → ends_word r ≡ true → lex between r ≡ [] → lex between (print_from c ts ++ r) ≡ lexemes c ts
 unfolding print_from ArePrintable

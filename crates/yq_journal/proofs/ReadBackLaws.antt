@@ -13,8 +13,8 @@ use Rattle.serde_json.proofs.Texts.{print-outline}
 use Rattle.yq_text.specs.Splice.{Splice}
 use Rattle.yq_journal.{specs.declared.moves.Move.TheVariants.{Edit, Undo, Redo}, specs.Added.{IsReadBack, changes_data, records_data}}
 use Rattle.yq_journal.specs.Json.{bytes_data, change_data, change_from, splice_of, splices_of, is_record, journal_data, journal_in}
-use Rattle.yq_journal.specs.Json.{journal_object, journal_of, journal_text, kind_text, list_data, move_data, move_of, open_from}
-use Rattle.yq_journal.specs.Json.{open_move_of, pending_data, pending_of, record_data, record_from, record_of, records_of}
+use Rattle.yq_journal.specs.Json.{journal_object, journal_of, journal_text, kind_text, list_data, move_data, move_of, open_move_of}
+use Rattle.yq_journal.specs.Json.{pending_data, pending_of, record_data, record_from, record_of, records_of}
 use Rattle.yq_journal.{specs.Record.{IsRecord, Record, is_length}, specs.Refusals.IsSound, specs.State.{Pending, State}}
 use Rattle.yq_journal.{proofs.JsonLaws.journal_reads, proofs.LineFeed.tokens-line_feed}
 use Rattle.json.specs.Json as json
@@ -82,10 +82,6 @@ shallow s = search (rules, flat_pending, flat_records)
 number_reads : (n : ℕ) → n < 2 ^ 64 → of_json (outline (number (unsigned n))) ≡ Some (number (unsigned n))
 number_reads n h = ap (option_map number) (number_of-decimal n h)
 
-pending_reads : (p : Pending) → of_json (outline (move_data p.step)) ≡ Some (move_data p.step) → of_json (outline (pending_data (Some p))) ≡ Some (pending_data (Some p))
-pending_reads p e =
-    ap (λ o. option_map object (option_and_then (λ d. Some (put (codes "record") d (put (codes "kind") (string (kind_text p.step)) (put (codes "from") (bytes_data p.from) no_members)))) o)) e
-
 object_reads : (n : ℕ) (p : Data) (rs : Items) → n < 2 ^ 64 → of_json (outline p) ≡ Some p → of_json (outline (array rs)) ≡ Some (array rs)
     → of_json (outline (journal_object n p rs)) ≡ Some (journal_object n p rs)
 object_reads n p rs h e f =
@@ -138,11 +134,7 @@ kept_redo = record { numbers = tt; reads = refl; stands = refl }
 pub kept_open : (p : Pending) → IsReadBack move_data (move_of true (kind_text p.step)) p.step → decode_of standard (encode_of standard p.from) ≡ Ok p.from
     → IsReadBack pending_data (pending_of true) (Some p)
 unfolding open_move_of
-kept_open p k b = record {
-  numbers = (tt, (tt, (k.numbers, tt)));
-  reads = pending_reads p k.reads;
-  stands = ap₂ (λ x y. option_map Some (open_from x (result_ok y))) k.stands b;
-}
+kept_open p k b = search rules
 
 pub kept_none : IsReadBack pending_data (pending_of true) None
 kept_none = record { numbers = tt; reads = refl; stands = refl }

@@ -1,7 +1,6 @@
 -- What a record does to a text is undone, and what was undone is done again.
-use Rattle.std.proofs.Common.{◌≡◌, ◌==◌, ℕ, ◌-◌, ◌≤◌, ◌<◌, List, [], ◌∷◌, ◌++◌, length, take, Option, Some, None, sym, ap, ◌∙◌, arith}
+use Rattle.std.proofs.Common.{◌≡◌, ◌==◌, ℕ, ◌-◌, ◌≤◌, ◌<◌, List, [], ◌∷◌, ◌++◌, length, take, Option, Some, None, ap, ◌∙◌, arith}
 use Rattle.std.{proofs.Common.{if◌then◌else◌, eq-eqb, get_or, rules}, proofs.lemmas.Bool.eqb-true, proofs.lemmas.Grind.common_steps}
-use Rattle.std.proofs.lemmas.Option.{cond_some}
 use Rattle.yq_text.{specs.Splice.{Splice, swapped, all_done, flipped}, proofs.SpliceLaws.{taken_back, done_again, flipped-append}}
 use Rattle.yq_journal.specs.Record.{Record, if_length, done, undone}
 
@@ -15,24 +14,18 @@ pub of_stands : (n m : ℕ) (ss : List Splice) (b c : List ℕ) → Stands n m s
 of_stands n m ss b c h = cc (eq-eqb (length b) n h.starts, h.leads, eq-eqb (length c) m h.ends)
 
 stands_if_length : (n m : ℕ) (ss : List Splice) (b c : List ℕ) (r : Option (List ℕ)) → length b ≡ n → all_done ss b ≡ r → if_length m r ≡ Some c → Stands n m ss b c
-stands_if_length n m ss b c None e is h = cc
-stands_if_length n m ss b c (Some d) e is h =
-    let p = cond_some _ _ _ h in record { starts = e; leads = is ∙ ap Some p.1; ends = ap length (sym p.1) ∙ eqb-true (length d) m p.0 }
+stands_if_length n m ss b c r e is h = search rules
 
 pub stands_of : (n m : ℕ) (ss : List Splice) (b c : List ℕ) → (if length b == n then if_length m (all_done ss b) else None) ≡ Some c → Stands n m ss b c
 stands_of n m ss b c h = search (rules, stands_if_length, eqb-true)
 
 -- what was done is undone, on every text on which it was done
 pub undone_after_done : (r : Record) (b c : List ℕ) → done r b ≡ Some c → undone r c ≡ Some b
-undone_after_done r b c e =
-    let h = stands_of r.before_len r.after_len r.changes b c e in
-    of_stands r.after_len r.before_len (flipped r.changes) c b (record { starts = h.ends; leads = taken_back r.changes b c h.leads; ends = h.starts })
+undone_after_done r b c e = search (rules, stands_of, of_stands, taken_back)
 
 -- and the other way round
 pub done_after_undone : (r : Record) (b c : List ℕ) → undone r c ≡ Some b → done r b ≡ Some c
-done_after_undone r b c e =
-    let h = stands_of r.after_len r.before_len (flipped r.changes) c b e in
-    of_stands r.before_len r.after_len r.changes b c (record { starts = h.ends; leads = done_again r.changes b c h.leads; ends = h.starts })
+done_after_undone r b c e = search (rules, stands_of, of_stands, done_again)
 
 take_last : (ss : List Splice) (n : ℕ) (s : Splice) → 0 < n → n ≤ length ss → s ≡ get_or ss (n - 1) s → take n ss ≡ take (n - 1) ss ++ s ∷ []
 take_last ss n s pos fits is = grind (arith, common_steps)

@@ -72,12 +72,10 @@ latest-text e (f ∷ fs) = latest-text (record { expr = e.expr ++ codes " | " ++
 
 text_end-latest_of : (t : List ℕ) (es : List Revision) → text_end t (latest_of es) ≡ text_end t es
 unfolding text_end
-text_end-latest_of t [] = refl
-text_end-latest_of t (e ∷ es) = latest-text e es
+text_end-latest_of t es = search (rules, latest-text)
 
 length-latest_of : (es : List Revision) → 0 < length es → length (latest_of es) ≡ 1
-length-latest_of [] h = absurd (omega arith)
-length-latest_of (e ∷ es) h = refl
+length-latest_of es h = search rules
 
 -- records that lead through texts have lengths that meet
 leads_meet : (t : List ℕ) (rs : List Record) (es : List Revision) → Leads t rs es → meet rs ≡ true
@@ -91,9 +89,7 @@ leads_meet t _ es l = refl
 
 -- the done records from a place on lead from the text there to the one at the cursor
 last_leads : (s : State) (t : List ℕ) (h : History) (n : ℕ) → AtRest s t h → Leads (text_end h.first (take (h.at - n) (take h.at h.later))) (last_done s.records s.at n) (drop (h.at - n) (take h.at h.later))
-last_leads s t h n k =
-    subst (λ a. Leads (text_end h.first (take (h.at - n) (take h.at h.later))) (drop (a - n) (take a s.records)) (drop (h.at - n) (take h.at h.later))) (sym k.reports.cursor)
-    (leads_drop h.first (take h.at s.records) (take h.at h.later) (h.at - n) (leads_take h.first s.records h.later h.at k.reports.leads))
+last_leads s t h n k = search (rules, text_end, leads_drop, leads_take)
 
 -- whether a squash is refused is the history's to say
 pub squash_fault_of : (s : State) (t : List ℕ) (h : History) (n : ℕ) → s.pending ≡ None → AtRest s t h → squash_fault s n ≡ squash_refusal h n
@@ -124,9 +120,7 @@ end_of_squash h n =
 
 text_end-squashed_front : (h : History) (n : ℕ) → h.at ≤ length h.later → text_end h.first (squashed_front h n) ≡ text_at h
 unfolding squashed_front
-text_end-squashed_front h n within =
-    text_end-append h.first (take (h.at - n) h.later) (latest_of (drop (h.at - n) (take h.at h.later)))
-    ∙ end_of_squash h n ∙ text_end-take h.first h.later h.at within
+text_end-squashed_front h n within = search (rules, text_end-append, end_of_squash, text_end-take)
 
 squash_leads : (s : State) (t : List ℕ) (h : History) (n : ℕ) → AtRest s t h → Leads h.first (squashed s n).records (after_squash h n).later
 squash_leads s t h n k =

@@ -12,8 +12,7 @@ use Rattle.yq_text.proofs.SpliceLaws.{done-from_exchanges, exchanges-from_done, 
 use Rattle.yq_journal.{specs.Turned.flipped_if, proofs.GapLaws.none_done, specs.Record.if_length}
 
 and_then_one : (o : Option (List ℕ)) (s : Splice) → option_and_then (all_done (s ∷ [])) o ≡ option_and_then (change_done s) o
-and_then_one None s = refl
-and_then_one (Some b) s = elim (change_done s b) as (λ r. option_and_then (λ d. Some d) r ≡ r) [ None ↦ refl | Some d ↦ refl ]
+and_then_one o s = search rules
 
 -- ---- elements by their places
 
@@ -78,8 +77,7 @@ grown s b c e =
     record { within = omega (arith, old, offset); long = omega (arith, old, new, offset) }
 
 and_then_some : {A B : Type 0} (f : A → Option B) (o : Option A) → option_and_then f o ≢ None → (x : A) × (o ≡ Some x) × (f x ≢ None)
-and_then_some f None h = absurd (h refl)
-and_then_some f (Some x) h = (x, refl, h)
+and_then_some f o h = search rules
 
 -- lengths that are reached are those of the texts
 pub lengths_follow : (ss : List Splice) (b c : List ℕ) → all_done ss b ≡ Some c → lengths_done ss (length b) ≢ None → lengths_done ss (length b) ≡ Some (length c)
@@ -181,15 +179,12 @@ earlier ss text k s c h small is e =
 
 -- the same, from a place down
 pub one_earlier : (ss : List Splice) (text : List ℕ) (n : ℕ) (s : Splice) (c : List ℕ) → 0 < n → lengths_done ss (length text) ≢ None → length text < 2 ^ 64 → slice_get ss (n - 1) ≡ Some s → all_done (take n ss) text ≡ Some c → Earlier ss text (n - 1) s c
-one_earlier ss text n s c pos h small is e =
-    let one : n - 1 + 1 ≡ n = omega arith in
-    earlier ss text (n - 1) s c h small is (ap (λ k. all_done (take k ss) text) one ∙ e)
+one_earlier ss text n s c pos h small is e = search (rules, earlier)
 
 -- ---- whether a splice's old bytes are there
 
 pub some_of : {A : Type 0} (o : Option A) → is_some o ≡ true → (x : A) × (o ≡ Some x)
-some_of None h = cc
-some_of (Some x) h = (x, refl)
+some_of o h = search rules
 
 pub found_there : (s : Splice) (b : List ℕ) → s.at + length s.old ≤ length b → take (length s.old) (drop s.at b) ≡ s.old → (c : List ℕ) × (change_done s b ≡ Some c)
 found_there s b within is = (
@@ -207,8 +202,7 @@ pub not_there : (s : Splice) (b : List ℕ) → take (length s.old) (drop s.at b
 not_there s b other = search (rules, none_done, drop-append_seam, take-append_seam)
 
 pub length-turned : (back : Bool) (ss : List Splice) → length (flipped_if back ss) ≡ length ss
-length-turned false ss = refl
-length-turned true ss = length-flipped ss
+length-turned back ss = search (rules, length-flipped)
 
 -- where lengths are within, splices that are done end with the length that is reported
 pub ends_alike : (ss : List Splice) (n m : ℕ) (b : List ℕ) → lengths_done ss n ≡ Some m → length b ≡ n → is_some (all_done ss b) ≡ is_some (if length b == n then if_length m (all_done ss b) else None)

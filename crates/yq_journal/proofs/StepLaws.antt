@@ -1,7 +1,7 @@
 -- Splices done one after the other, each within the length that was reached.
-use Rattle.std.proofs.Common.{◌≡◌, ◌≢◌, ℕ, suc, ◌+◌, ◌-◌, ◌<◌, ◌≤◌, List, [], ◌∷◌, ◌++◌, length, take, drop, Bool, true, false, Option}
-use Rattle.std.proofs.Common.{Some, None, refl, sym, ap, ap₂, ◌∙◌, arith, subst, get_or}
-use Rattle.std.{specs.Prelude.{◌^◌, if◌then◌else◌, option_and_then}, proofs.lemmas.List.take-append-drop, proofs.Math.Seq.drop-cons}
+use Rattle.std.proofs.Common.{rules, ◌≡◌, ◌≢◌, ℕ, ◌+◌, ◌-◌, ◌<◌, ◌≤◌, List, [], ◌∷◌, ◌++◌, length, take, drop, Bool, true, false, Option}
+use Rattle.std.{proofs.Common.{Some, None, sym, ap, ap₂, ◌∙◌, get_or}, specs.Prelude.{◌^◌, if◌then◌else◌, option_and_then}}
+use Rattle.std.{proofs.lemmas.List.take-append-drop, proofs.Math.Seq.drop-cons}
 use Rattle.yq_text.specs.Splice.{Splice, change_done, all_done, flipped, length_done, lengths_done}
 use Rattle.yq_text.proofs.SpliceLaws.{all_done-append, flipped-append, lengths_done-append}
 use Rattle.yq_journal.{specs.Turned.flipped_if, proofs.StandLaws.{lengths_up_to, parts_of_length}}
@@ -9,8 +9,7 @@ use Rattle.yq_journal.{specs.Turned.flipped_if, proofs.StandLaws.{lengths_up_to,
 -- ---- lengths
 
 some_there : (o : Option ℕ) → o ≢ None → (m : ℕ) × (o ≡ Some m)
-some_there None h = absurd (h refl)
-some_there (Some m) h = (m, refl)
+some_there o h = search rules
 
 -- a splice lies within a length, and what it leaves is held by 64 bits
 pub record Lies (s : Splice) (n : ℕ) : Type 0 where
@@ -18,10 +17,7 @@ pub record Lies (s : Splice) (n : ℕ) : Type 0 where
   pub small : n - length s.old + length s.new < 2 ^ 64
 
 pub lies : (s : Splice) (n : ℕ) → length_done s n ≢ None → Lies s n
-lies s n h =
-    let m = some_there (length_done s n) h in
-    let p = parts_of_length s n m.0 m.1 in
-    record { fits = p.fits; small = subst (λ x. x < 2 ^ 64) p.is p.small }
+lies s n h = search (rules, some_there, parts_of_length)
 
 -- the first splice lies within the length
 pub first_lies : (s : Splice) (ss : List Splice) (n : ℕ) → lengths_done (s ∷ ss) n ≢ None → length_done s n ≢ None
@@ -45,12 +41,10 @@ rest_lie all xs ys b c e h is = (lengths_up_to xs ys b c (λ none. h (ap (λ l. 
 
 -- what a test says of a text that was made
 pub is_done : (d : Bool) (c : List ℕ) (o : Option (List ℕ)) → d ≡ true → (if d then Some c else None) ≡ o → Some c ≡ o
-is_done true c o h e = e
-is_done false c o h e = cc
+is_done d c o h e = search rules
 
 pub not_done : (d : Bool) (c : List ℕ) (o : Option (List ℕ)) → d ≡ false → (if d then Some c else None) ≡ o → None ≡ o
-not_done false c o h e = e
-not_done true c o h e = cc
+not_done d c o h e = search rules
 
 -- where the first are done, the others lead on to the same text as all
 pub goes_on : (all xs ys : List Splice) (b c : List ℕ) → all ≡ xs ++ ys → Some c ≡ all_done xs b → all_done ys c ≡ all_done all b
@@ -63,9 +57,7 @@ stops all xs ys b e none = ap (option_and_then (all_done ys)) none ∙ sym (all_
 -- ---- parts of splices
 
 pub drop_next : (ss : List Splice) (j : ℕ) (s : Splice) → j < length ss → s ≡ get_or ss j s → drop j ss ≡ s ∷ drop (j + 1) ss
-drop_next ss j s h is =
-    let next : suc j ≡ j + 1 = omega arith in
-    drop-cons ss j s h ∙ ap₂ (λ x l. x ∷ l) (sym is) (ap (λ n. drop n ss) next)
+drop_next ss j s h is = search (rules, drop-cons)
 
 -- the splices that are taken back first are the last ones
 pub back_parts : (back : Bool) (n : ℕ) (ss first rest : List Splice) → back ≡ true → rest ≡ take n ss → first ≡ drop n ss

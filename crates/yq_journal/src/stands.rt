@@ -2,18 +2,26 @@
 ghost use Rattle.std.specs.Prelude.{◌≡◌, ◌≢◌, ◌+◌, ◌-◌, ◌<◌, ◌≤◌, ◌↔◌, IfSome, IsTrue, List, None, Some, length, is_some, slice_get, ℕ};
 ghost use Rattle.yq_text.specs.Splice.{all_done, flipped, lengths_done};
 ghost use Rattle.yq_journal.specs.Record.{done, undone};
-ghost use Rattle.yq_journal.specs.Turned.{flipped_if, IsNth, IsMovedFrom, FirstMake, HoldsAt, IfFirstMake, FitAt};
+ghost use Rattle.yq_journal.specs.Turned.{IsNth, IsMovedFrom, FirstMake, HoldsAt, IfFirstMake, FitAt, turned_splices};
 
 use crate::Record;
 use yq_text::Splice;
 
+/// Splices as they are done, or, the last one first, as they are taken back.
+#[derive(Clone, Copy)]
+pub(crate) struct Turned<'a> {
+    pub(crate) splices: &'a [Splice],
+    pub(crate) back: bool,
+}
+
 /// The splice at a place: its offset, the bytes that it finds and those that
 /// it puts there.
-fn nth<'a>(splices: &'a [Splice], back: bool, k: usize) -> (usize, &'a [u8], &'a [u8])
-    requires { k < length splices.now }
-    ensures { IsNth back splices.entry.now k result.0 result.1.now result.2.now }
+fn nth<'a>(turned: &Turned<'a>, k: usize) -> (usize, &'a [u8], &'a [u8])
+    requires { k < length turned.now.splices.now }
+    ensures { IsNth turned.now k result.0 result.1.now result.2.now }
 {
-    if back {
+    let splices = turned.splices;
+    if turned.back {
         let splice = &splices[splices.len() - 1 - k];
         (splice.at as usize, &splice.new, &splice.old)
     } else {
@@ -45,17 +53,17 @@ fn byte_at(bytes: &[u8], i: usize) -> Option<u8>
 }
 
 /// A byte of the text that the first splices make of a text.
-fn byte_after(splices: &[Splice], back: bool, count: usize, text: &[u8], at: usize) -> Option<u8>
-    requires within { count ≤ length splices.now }
-    requires lengths { lengths_done (flipped_if back splices.now) (length text.now) ≢ None }
-    requires done { (b : List ℕ) × FirstMake back splices.now count text.now b × (at < length b) }
-    ensures { IfFirstMake back splices.now count text.now (λ b. result ≡ slice_get b at) }
+fn byte_after(turned: &Turned<'_>, count: usize, text: &[u8], at: usize) -> Option<u8>
+    requires within { count ≤ length turned.now.splices.now }
+    requires lengths { lengths_done (turned_splices turned.now) (length text.now) ≢ None }
+    requires done { (b : List ℕ) × FirstMake turned.now count text.now b × (at < length b) }
+    ensures { IfFirstMake turned.now count text.now (λ b. result ≡ slice_get b at) }
 {
     let mut left = count;
     let mut i = at;
     'splices: while left > 0 {
         left -= 1;
-        let (start, old, new) = nth(splices, back, left);
+        let (start, old, new) = nth(turned, left);
         match origin(i, start, old.len(), new.len()) {
             Some(next) => i = next,
             None => return byte_at(new, i - start),
@@ -65,21 +73,14 @@ fn byte_after(splices: &[Splice], back: bool, count: usize, text: &[u8], at: usi
 }
 
 /// Whether bytes are at an offset of the text that the first splices make.
-fn is_there(
-    splices: &[Splice],
-    back: bool,
-    count: usize,
-    text: &[u8],
-    at: usize,
-    old: &[u8],
-) -> bool
-    requires within { count ≤ length splices.now }
-    requires lengths { lengths_done (flipped_if back splices.now) (length text.now) ≢ None }
-    requires done { (b : List ℕ) × FirstMake back splices.now count text.now b × FitAt at old.now b }
-    ensures { IfFirstMake back splices.now count text.now (λ b. IsTrue result ↔ HoldsAt at old.now b) }
+fn is_there(turned: &Turned<'_>, count: usize, text: &[u8], at: usize, old: &[u8]) -> bool
+    requires within { count ≤ length turned.now.splices.now }
+    requires lengths { lengths_done (turned_splices turned.now) (length text.now) ≢ None }
+    requires done { (b : List ℕ) × FirstMake turned.now count text.now b × FitAt at old.now b }
+    ensures { IfFirstMake turned.now count text.now (λ b. IsTrue result ↔ HoldsAt at old.now b) }
 {
     'bytes: for j in 0..old.len() {
-        if byte_after(splices, back, count, text, at + j) != Some(old[j]) {
+        if byte_after(turned, count, text, at + j) != Some(old[j]) {
             return false;
         }
     }
@@ -87,13 +88,13 @@ fn is_there(
 }
 
 /// Whether splices can be done on a text one after the other, or taken back.
-fn stand(splices: &[Splice], back: bool, text: &[u8]) -> bool
-    requires { lengths_done (flipped_if back splices.now) (length text.now) ≢ None }
-    ensures { result ≡ is_some (all_done (flipped_if back splices.now) text.now) }
+fn stand(turned: &Turned<'_>, text: &[u8]) -> bool
+    requires { lengths_done (turned_splices turned.now) (length text.now) ≢ None }
+    ensures { result ≡ is_some (all_done (turned_splices turned.now) text.now) }
 {
-    'splices: for k in 0..splices.len() {
-        let (at, old, _) = nth(splices, back, k);
-        if !is_there(splices, back, k, text, at, old) {
+    'splices: for k in 0..turned.splices.len() {
+        let (at, old, _) = nth(turned, k);
+        if !is_there(turned, k, text, at, old) {
             return false;
         }
     }
@@ -105,7 +106,11 @@ fn stand(splices: &[Splice], back: bool, text: &[u8]) -> bool
 pub fn stands_before(patch: &Record, text: &[u8]) -> bool
     ensures { result ≡ is_some (done patch.now text.now) }
 {
-    text.len() as u64 == patch.before_len && stand(&patch.splices, false, text)
+    let done = Turned {
+        splices: &patch.splices,
+        back: false,
+    };
+    text.len() as u64 == patch.before_len && stand(&done, text)
 }
 
 /// Whether splices that led from a length to that of a text can be taken back.
@@ -113,7 +118,11 @@ fn stand_back(splices: &[Splice], _before_len: u64, text: &[u8]) -> bool
     requires { lengths_done splices.now _before_len ≡ Some (length text.now) }
     ensures { result ≡ is_some (all_done (flipped splices.now) text.now) }
 {
-    stand(splices, true, text)
+    let taken_back = Turned {
+        splices,
+        back: true,
+    };
+    stand(&taken_back, text)
 }
 
 /// Whether a record applies after a text: the text has its length, and the

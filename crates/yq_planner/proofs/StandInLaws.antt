@@ -1,5 +1,5 @@
 -- Small values are refused where large ones are.
-use Rattle.std.proofs.Common.{◌≡◌, ℕ, ◌-◌, ◌<◌, ◌≤◌, min, nat_lt, true, false, ◌||◌, List, [], ◌∷◌, length, map, Option, Some, None, IfSome}
+use Rattle.std.proofs.Common.{◌≡◌, ℕ, ◌-◌, ◌<◌, min, nat_lt, true, false, ◌||◌, List, [], ◌∷◌, length, map, Option, Some, None, IfSome}
 use Rattle.std.{proofs.Common.{IfOk, Result, Ok, Err, eqb, rules, refl, sym, ap, ◌∙◌, subst, arith}, proofs.lemmas.Bool.Decides.nat_tests}
 use Rattle.std.{specs.Prelude.Vec, specs.declared.alloc.AllocError.AllocError, specs.declared.alloc.Global.Global}
 use Rattle.yq_core.{specs.Keys.depth, specs.Values.{entries, entry, items, value_node}, specs.Scalar.ScalarText}
@@ -61,10 +61,6 @@ mapped es inside v d is some fit short deep inner (Ok (Some w)) node key =
     subst (λ (x : Node). IsStandIn x (value_node w)) (sym is)
     (subst (IsStandIn (tree.map None (entries es))) (sym node)
     (map_for es inside d some (ap has_long_key (sym is) ∙ fit) short key (deep ∙ ap (λ x. min 65 (depth x)) is) inner))
-
--- no more are nested than so many
-pub no_deeper : (d n : ℕ) → d ≤ 65 → d ≤ n → false ≡ nat_lt d n → d ≡ min 65 n
-no_deeper d n most below h = let few : n ≤ d = grind (arith, nat_tests, h) in omega (arith, most, below, few)
 
 pub deeper : (d n : ℕ) → nat_lt d n ≡ true → d < n
 deeper d n h = grind (arith, nat_tests, h)

@@ -27,6 +27,7 @@ use crate::disk::edited::{EditedFile, read_edited, write_journal, write_own};
 use crate::disk::hint::{JournalHint, hint_of};
 use crate::disk::journal::read_journal;
 use crate::disk::links::is_absence;
+use crate::disk::locking::LockRequest;
 use crate::disk::purpose::Purpose;
 use crate::disk::reading::read_text;
 use crate::store::{FileReadError, FileWriteError, Store};
@@ -102,27 +103,18 @@ impl<
             };
         }
         if name == self.file {
-            return read_edited(
-                &self.rt,
-                &mut self.edited,
-                alloc,
+            let request = LockRequest {
                 name,
-                self.purpose,
-                self.reports,
-            );
+                purpose: self.purpose,
+                reports: self.reports,
+            };
+            return read_edited(&self.rt, &mut self.edited, &request);
         }
         let Some(edited) = &self.edited else {
             return Err(io::Error::from(ErrorKind::Other));
         };
         let writes = self.purpose != Purpose::List;
-        let journal = read_journal(
-            &self.rt,
-            alloc,
-            name,
-            edited.trust,
-            edited.as_read.state,
-            writes,
-        );
+        let journal = read_journal(&self.rt, name, edited.trust, edited.as_read.state, writes);
         self.hint = hint_of(&journal);
         // What only lists has read all: it holds nobody back while it prints.
         if self.purpose == Purpose::List {
@@ -145,7 +137,7 @@ impl<
             Some(edited) if name == self.file => write_own(&self.rt, edited, name, bytes),
             Some(edited) => {
                 let file = self.file;
-                let written = write_journal(&self.rt, edited, file, name, bytes, self.purpose);
+                let written = write_journal(&self.rt, edited, file, name, bytes);
                 self.hint = hint_of(&written);
                 written
             }

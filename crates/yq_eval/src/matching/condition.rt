@@ -13,7 +13,7 @@ use std::alloc::Global;
 use yq_core::{Kind, Scalar, is_true_word};
 use yq_nodes::{Node, NodeKind};
 use yq_scalar_reader::int_value;
-use yq_semantics::{Condition, ExprError, Operand, PathStep, Refusal};
+use yq_semantics::{Comparison, Condition, ExprError, Operand, PathStep, Refusal};
 
 /// Whether two ints are the same: by their numbers, where both have one in 64
 /// bits, and else by their texts.
@@ -94,18 +94,18 @@ fn value_is<'a, 't>(
     first_is(&places, scalar)
 }
 
-/// Whether what is compared is that scalar, at a place in document `doc`.
+/// Whether what is compared is the scalar of a comparison, at a place in document `doc`.
 fn operand_is<'a, 't>(
     alloc: Global,
     bump: &'a Bump,
     doc: usize,
-    operand: &'a Operand,
-    scalar: &Scalar,
+    comparison: &'a Comparison,
     place: &FoundPlace<'a, 't>,
 ) -> Result<bool, ExprError>
-    ensures { JudgesWhether result (equals_scalar doc operand.now scalar.now (place_of place.now)) }
+    ensures { JudgesWhether result (equals_scalar doc comparison.now (place_of place.now)) }
 {
-    match operand {
+    let scalar = &comparison.scalar;
+    match &comparison.operand {
         Operand::Path(steps) => value_is(alloc, bump, steps, scalar, place),
         Operand::DocumentIndex => {
             let number = doc.to_string(alloc)?;
@@ -147,8 +147,7 @@ pub(crate) fn holds<'a, 't>(
 {
     match condition {
         Condition::Compare(comparison) => {
-            let operand = &comparison.operand;
-            let same = operand_is(alloc, bump, doc, operand, &comparison.scalar, &place)?;
+            let same = operand_is(alloc, bump, doc, comparison, &place)?;
             Ok(same_bool(comparison.equal, same))
         }
         Condition::Has(key) => place_has(&place, key.as_str()),

@@ -4,7 +4,7 @@ use crate::disk::as_read::{FileAsRead, found_before_reading};
 use crate::disk::journal::journal_rights;
 use crate::disk::journal_limit::most_written;
 use crate::disk::links::{Target, target_of};
-use crate::disk::locking::locked_file;
+use crate::disk::locking::{LockRequest, locked_file};
 use crate::disk::old_journal::{OldJournal, put_back};
 use crate::disk::opening::OpenedFile;
 use crate::disk::ownership::Rights;
@@ -29,6 +29,8 @@ pub struct EditedFile {
     opened: OpenedFile,
     pub as_read: FileAsRead,
     pub trust: Trust,
+    /// What the command does with it.
+    purpose: Purpose,
     /// Whether it was looked, before the first write, that the command may write.
     is_checked: bool,
     /// The journal that the first write replaced or made, where it wrote one.
@@ -36,28 +38,25 @@ pub struct EditedFile {
 }
 
 /// Locks the file to which a name leads, if any, and reads it; the one that was locked before is closed first.
-/// Where `reports` is set, a run that waits for the lock for longer than a second tells it.
 pub fn read_edited<R: Files<File = File> + Clock + Eprint + Env + Alloc<A = Global>>(
     rt: &R,
     edited: &mut Option<EditedFile>,
-    alloc: Global,
-    name: &str,
-    purpose: Purpose,
-    reports: bool,
+    request: &LockRequest<'_>,
 ) -> io::Result<Option<Vec<u8>>> {
     *edited = None;
-    let Some(opened) = locked_file(rt, name, purpose, reports)? else {
+    let Some(opened) = locked_file(rt, request)? else {
         return Ok(None);
     };
     let found = found_before_reading(rt, &opened.file)?;
-    if purpose == Purpose::Replay && found.len() >= MOST_OF_TEXT {
+    if request.purpose == Purpose::Replay && found.len() >= MOST_OF_TEXT {
         return Err(io::Error::from(ErrorKind::FileTooLarge));
     }
-    let (as_read, text) = FileAsRead::read(rt, alloc, &opened.file, &found)?;
+    let (as_read, text) = FileAsRead::read(rt, rt.alloc(), &opened.file, &found)?;
     *edited = Some(EditedFile {
         opened,
         as_read,
         trust: Trust::of_user(user_of_run(rt), Writers::of(&found)),
+        purpose: request.purpose,
         is_checked: false,
         old_journal: None,
     });
@@ -145,12 +144,11 @@ pub fn write_journal<R: Files<File = File> + RandomSource + Clock + Env + Alloc<
     name: &str,
     journal: &str,
     bytes: &[u8],
-    purpose: Purpose,
 ) -> io::Result<()> {
     let target = target_of(rt, journal)?;
     let rights = journal_rights(rt, &target, edited.trust, &edited.opened)?;
     if !edited.is_checked {
-        if bytes.len() as u64 > most_written(rt, purpose) {
+        if bytes.len() as u64 > most_written(rt, edited.purpose) {
             return Err(io::Error::from(ErrorKind::FileTooLarge));
         }
         let old = check_first(rt, edited, name, Some(&target))?;

@@ -25,7 +25,6 @@ const MOST_LOOKS: u32 = 40;
 /// another run, and once more of what was opened. One that is too large isn't read.
 pub fn read_journal<R: Files<File = File> + Env + Alloc<A = Global>>(
     rt: &R,
-    alloc: Global,
     name: &str,
     trust: Trust,
     file: FileState,
@@ -52,7 +51,7 @@ pub fn read_journal<R: Files<File = File> + Env + Alloc<A = Global>>(
         }
         if let Some((journal, _)) = open_found(rt, name, &path, &found, writes)? {
             let journal = OpenJournal::of(journal, makers)?;
-            return Ok(Some(journal.read(alloc, trust, file, most_read(rt))?));
+            return Ok(Some(journal.read(rt.alloc(), trust, file, most_read(rt))?));
         }
     }
     Err(io::Error::from(ErrorKind::ResourceBusy))

@@ -29,6 +29,15 @@ const NO_LOCKS: i32 = 37;
 /// What the environment sets to 1 where edits are to go on without a lock.
 const UNLOCKED: &str = "YQ_NO_LOCK";
 
+/// The lock that a command asks for, of the file to which a name leads.
+#[derive(Clone, Copy)]
+pub struct LockRequest<'n> {
+    pub name: &'n str,
+    pub purpose: Purpose,
+    /// Whether a run that waits for it for longer than a second tells that on standard error.
+    pub reports: bool,
+}
+
 /// Whether runs that write go on where a file system has no locks: the environment asks for it.
 fn goes_unlocked<R: Env + Alloc<A = Global>>(rt: &R) -> bool {
     match env::var(rt, UNLOCKED) {
@@ -64,24 +73,23 @@ pub fn is_locked<R: Env + Alloc<A = Global>>(
 }
 
 /// Waits for the lock of an open file until a minute has gone by since a time, and gives how many tries have
-/// failed, with those before. Where `reports` is set, it tells on standard error for what it waits.
+/// failed, with those before.
 fn wait_for_lock<R: Clock + Eprint + Env + Alloc<A = Global>>(
     rt: &R,
     file: &File,
-    name: &str,
-    purpose: Purpose,
-    reports: bool,
+    request: &LockRequest<'_>,
     since: Duration,
     failed: u32,
 ) -> io::Result<u32> {
     'tries: for tried in failed..MOST_TRIES {
-        if is_locked(rt, file, purpose)? {
+        if is_locked(rt, file, request.purpose)? {
             return Ok(tried);
         }
         if rt.monotonic()?.saturating_sub(since).as_secs() >= LONGEST_WAIT {
             break;
         }
-        if reports && tried == SILENT_TRIES {
+        if request.reports && tried == SILENT_TRIES {
+            let name = request.name;
             let _reported = eprintln!(rt; "yq: waiting for another run at {name:?}");
         }
         thread::sleep(rt, Duration::from_millis(PAUSE));
@@ -94,14 +102,13 @@ fn wait_for_lock<R: Clock + Eprint + Env + Alloc<A = Global>>(
 /// copy a file where it is opened so, or lend its lock for one run alone only then. Where the name leads
 /// to another file once the file is open, or once the lock is had, since it was exchanged or a run that
 /// held the lock put another one there, it begins again. The lock goes when the file is closed, also
-/// when a run is killed. Where `reports` is set, a run that waits for longer than a second tells it.
+/// when a run is killed.
 pub fn locked_file<R: Files<File = File> + Clock + Eprint + Env + Alloc<A = Global>>(
     rt: &R,
-    name: &str,
-    purpose: Purpose,
-    reports: bool,
+    request: &LockRequest<'_>,
 ) -> io::Result<Option<OpenedFile>> {
-    let writes = purpose != Purpose::List;
+    let name = request.name;
+    let writes = request.purpose != Purpose::List;
     let since = rt.monotonic()?;
     let mut failed = 0;
     'tries: for _ in 0..MOST_TRIES {
@@ -112,7 +119,7 @@ pub fn locked_file<R: Files<File = File> + Clock + Eprint + Env + Alloc<A = Glob
         let Some((file, is_writable)) = open_found(rt, name, &path, &found, writes)? else {
             continue;
         };
-        failed = wait_for_lock(rt, &file, name, purpose, reports, since, failed)?;
+        failed = wait_for_lock(rt, &file, request, since, failed)?;
         if leads_to(rt, name, &file.metadata()?)? {
             return Ok(Some(OpenedFile {
                 path,

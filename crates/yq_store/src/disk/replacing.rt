@@ -35,19 +35,14 @@ fn fill(file: &mut File, bytes: &[u8], rights: Rights) -> io::Result<()> {
     file.sync_all()
 }
 
-/// Fills a temporary file, and renames it over a path; gives whether it did, since it doesn't where
-/// another file is there than is to be replaced. Want of memory is reported where that isn't known.
-fn finish<R: Files + Alloc<A = Global>>(
+/// Renames a temporary file over a path; gives whether it did, since it doesn't where another file is there
+/// than is to be replaced. Want of memory is reported where that isn't known.
+fn put_over<R: Files + Alloc<A = Global>>(
     rt: &R,
-    temporary: &mut OpenedFile,
+    temporary: &OpenedFile,
     path: &PathBuf,
-    bytes: &[u8],
-    rights: Rights,
     replaced: Replaced<'_>,
 ) -> io::Result<bool> {
-    if fill(&mut temporary.file, bytes, rights).is_err() {
-        return Err(io::Error::from(ErrorKind::Other));
-    }
     if !is_there(rt, path, replaced)? {
         return Ok(false);
     }
@@ -79,7 +74,10 @@ pub fn replace_file<R: Files<File = File> + RandomSource + Env + Alloc<A = Globa
 ) -> io::Result<Option<File>> {
     let folder = fs::open(rt, folder_of(path))?;
     let mut temporary = make_temporary(rt, path)?;
-    let finished = finish(rt, &mut temporary, path, bytes, rights, replaced);
+    let finished = match fill(&mut temporary.file, bytes, rights) {
+        Ok(()) => put_over(rt, &temporary, path, replaced),
+        Err(_) => Err(io::Error::from(ErrorKind::Other)),
+    };
     if !matches!(finished, Ok(true)) {
         let _ = fs::remove_file(rt, temporary.path.as_str());
     }

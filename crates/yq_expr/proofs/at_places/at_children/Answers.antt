@@ -2,9 +2,9 @@ use Rattle.std.{proofs.Common.{◌≡◌, Err, List, map, refl, sym, ap, ◌∙�
 use Rattle.yq_nodes.{specs.Children.left_of, specs.Nodes.{label_of, node_of}}
 use Rattle.yq_outline.specs.Counts.{count}
 use Rattle.yq_semantics.{specs.Changes.{Changed, all_allowed, at_each}, specs.Judgement.{MatchFails, Judgement, and_then, gives}}
-use Rattle.yq_semantics.{specs.PlacesApart.{AreIn, IsIn}, specs.Places.{FoundPlace, child_place, stepped}, specs.Rooms.room_of}
+use Rattle.yq_semantics.{specs.PlacesApart.{AreIn, IsIn}, specs.Places.{FoundPlace, child_place, stepped}}
 use Rattle.yq_planner.specs.ChangeView.{changed_of}
-use Rattle.yq_expr.{specs.EffectView.effect_at, proofs.ChildPlaces.{nothing_before, first_child, child_more, child_fails, children_done}}
+use Rattle.yq_expr.{specs.JudgedChanges.effect_of, proofs.ChildPlaces.{nothing_before, first_child, child_more, child_fails, children_done}}
 use Rattle.yq_eval.{specs.FoundView.place_at_path, specs.PlaceView.{path_of, put_behind}, specs.TreeScalars.{HasScalars, HaveScalars}}
 use Rattle.yq_eval.{proofs.EachLaws.failed, proofs.PlaceLaws.none_counted}
 use Rattle.yq_expr.proofs.at_places.at_children.Goals as goal
@@ -19,7 +19,7 @@ pub returns-in_err-push_effect : goal.returns-in_err-push_effect
 returns-in_err-push_effect c = λ root named within.
     let e = err_from_is_err_and c.from_residual-in_err-push_effect.result c.from_residual-in_err-push_effect.ensures.1 in
     let p : FoundPlace = place_at_path (path_of c.args.parent.now.path) (node_of c.args.parent.now.node) in
-    let f : FoundPlace → Judgement (List Changed) = λ q. and_then (all_allowed root) (effect_at c.args.doc (room_of c.args.documents.now c.args.doc) c.args.effect q) in
+    let f : FoundPlace → Judgement (List Changed) = λ q. and_then (all_allowed root) (effect_of c.args.effect.now c.args.documents.now q) in
     let first = first_child p c.children.before (left_of c.children.children) (left_of c.next.new.self) (label_of c.in-Some.child) (node_of c.in-Some.child) c.in-Some.ensures.steps in
     let here = c.nth_below-place.ensures p refl in
     failed _ _ _ _ (e.1 ∙ ap Err e.2)
@@ -40,7 +40,7 @@ children-preserved c =
       scalars = (subst HaveScalars first c.children.invariant.scalars).1;
       within = λ root within. (subst (AreIn root) first (c.children.invariant.within root within)).1;
       so_far = λ root named within.
-          let f : FoundPlace → Judgement (List Changed) = λ q. and_then (all_allowed root) (effect_at c.args.doc (room_of c.args.documents.now c.args.doc) c.args.effect q) in
+          let f : FoundPlace → Judgement (List Changed) = λ q. and_then (all_allowed root) (effect_of c.args.effect.now c.args.documents.now q) in
           child_more f p c.children.before (left_of c.children.children) (left_of c.next.new.self) (label_of c.in-Some.child) (node_of c.in-Some.child) (map changed_of c.children.changes.items) (map changed_of c.push_effect.new.changes.items) _ c.in-Some.ensures.steps
           (subst (λ (q : FoundPlace). put_behind (map changed_of c.children.changes.items) (f q) ≡ gives (map changed_of c.push_effect.new.changes.items)) here
           ((rw c.children.invariant.same at c.in_ok-push_effect.ensures.change) root named (subst (IsIn root) (sym here) (subst (AreIn root) first (c.children.invariant.within root within)).0)))
@@ -50,7 +50,7 @@ children-preserved c =
 pub returns : goal.returns
 returns c = λ root named within.
     let p : FoundPlace = place_at_path (path_of c.args.parent.now.path) (node_of c.args.parent.now.node) in
-    let f : FoundPlace → Judgement (List Changed) = λ q. and_then (all_allowed root) (effect_at c.args.doc (room_of c.args.documents.now c.args.doc) c.args.effect q) in
+    let f : FoundPlace → Judgement (List Changed) = λ q. and_then (all_allowed root) (effect_of c.args.effect.now c.args.documents.now q) in
     let zero : count (left_of c.children.children) ≡ 0 = omega (arith, c.children.invariant.counted, c.children-test.false) in
     children_done f p c.children.before (left_of c.children.children) (map changed_of c.children.changes.items) _ (none_counted (left_of c.children.children) zero) (c.children.invariant.so_far root named within)
 
@@ -67,13 +67,13 @@ children-init c =
       scalars = subst (λ cs. HaveScalars (map (child_place p) (stepped 0 cs))) (sym all) c.requires;
       within = λ root within. subst (λ cs. AreIn root (map (child_place p) (stepped 0 cs))) (sym all) within;
       so_far = λ root named within.
-          ap (λ l. put_behind (map changed_of l) (at_each root (effect_at c.args.doc (room_of c.args.documents.now c.args.doc) c.args.effect) (map (child_place p) (stepped 0 (left_of c.children-children.result))))) c.in_ok-changes.ensures.items
+          ap (λ l. put_behind (map changed_of l) (at_each root (effect_of c.args.effect.now c.args.documents.now) (map (child_place p) (stepped 0 (left_of c.children-children.result))))) c.in_ok-changes.ensures.items
           ∙ nothing_before _
-          ∙ ap (λ cs. at_each root (effect_at c.args.doc (room_of c.args.documents.now c.args.doc) c.args.effect) (map (child_place p) (stepped 0 cs))) all;
+          ∙ ap (λ cs. at_each root (effect_of c.args.effect.now c.args.documents.now) (map (child_place p) (stepped 0 cs))) all;
     }
 
 pub returns-in_default : goal.returns-in_default
 returns-in_default c = λ root named within.
     let p : FoundPlace = place_at_path (path_of c.args.parent.now.path) (node_of c.args.parent.now.node) in
-    let f : FoundPlace → Judgement (List Changed) = λ q. and_then (all_allowed root) (effect_at c.args.doc (room_of c.args.documents.now c.args.doc) c.args.effect q) in
+    let f : FoundPlace → Judgement (List Changed) = λ q. and_then (all_allowed root) (effect_of c.args.effect.now c.args.documents.now q) in
     children_done f p c.children.before (left_of c.children.children) (map changed_of c.children.changes.items) _ c.in_default.ensures.steps.0 (c.children.invariant.so_far root named within)

@@ -1,8 +1,8 @@
 use Rattle.std.{proofs.Common.{Err, List, map, ap, ◌∙◌, subst, arith, ◌≤◌, length}, proofs.lemmas.Result.err_from_is_err_and}
 use Rattle.yq_semantics.{specs.Changes.{Changed, all_allowed}, specs.Judgement.{Judgement, and_then}, specs.PlacesApart.AreIn}
-use Rattle.yq_semantics.{specs.Places.FoundPlace, specs.Rooms.room_of}
+use Rattle.yq_semantics.specs.Places.{FoundPlace}
 use Rattle.yq_planner.specs.ChangeView.{changed_of}
-use Rattle.yq_expr.{specs.EffectView.effect_at, proofs.AllChanges.each_done}
+use Rattle.yq_expr.{specs.JudgedChanges.effect_of, proofs.AllChanges.each_done}
 use Rattle.yq_eval.{specs.PlaceView.place_of, specs.TreeScalars.HaveScalars, proofs.EachLaws.{each_more, each_fails, failed, reached}}
 use Rattle.yq_expr.proofs.at_places.at_each.Goals as goal
 
@@ -10,7 +10,7 @@ pub returns-in_err-push_effect : goal.returns-in_err-push_effect
 returns-in_err-push_effect c = λ root named within.
     let p = err_from_is_err_and c.from_residual.result c.from_residual.ensures.1 in
     let here = reached place_of c.args.places.now c.places.place-index c.place-item.result c.places-test.true c.place-item.is in
-    let f : FoundPlace → Judgement (List Changed) = λ q. and_then (all_allowed root) (effect_at c.args.doc (room_of c.args.documents.now c.args.doc) c.args.effect q) in
+    let f : FoundPlace → Judgement (List Changed) = λ q. and_then (all_allowed root) (effect_of c.args.effect.now c.args.documents.now q) in
     failed _ _ _ _ (p.1 ∙ ap Err p.2)
     (each_fails place_of f (map changed_of c.places.changes.items) c.args.places.now c.places.place-index c.place-item.result _ _ c.places-test.true c.place-item.is
     ((rw c.places.invariant.same at c.in_err-push_effect.ensures.change) root named (subst (AreIn root) here (c.places.invariant.within root within)).0)
@@ -24,7 +24,7 @@ places-preserved c =
       scalars = (subst HaveScalars here c.places.invariant.scalars).1;
       within = λ root within. (subst (AreIn root) here (c.places.invariant.within root within)).1;
       so_far = λ root named within.
-          let f : FoundPlace → Judgement (List Changed) = λ q. and_then (all_allowed root) (effect_at c.args.doc (room_of c.args.documents.now c.args.doc) c.args.effect q) in
+          let f : FoundPlace → Judgement (List Changed) = λ q. and_then (all_allowed root) (effect_of c.args.effect.now c.args.documents.now q) in
           each_more place_of f (map changed_of c.places.changes.items) (map changed_of c.push_effect.new.changes.items) c.args.places.now c.places.place-index c.place-item.result _ c.places-test.true c.place-item.is
           ((rw c.places.invariant.same at c.in_ok-push_effect.ensures.change) root named (subst (AreIn root) here (c.places.invariant.within root within)).0)
           (c.places.invariant.so_far root named within);
@@ -32,6 +32,6 @@ places-preserved c =
 
 pub returns : goal.returns
 returns c = λ root named within.
-    let f : FoundPlace → Judgement (List Changed) = λ q. and_then (all_allowed root) (effect_at c.args.doc (room_of c.args.documents.now c.args.doc) c.args.effect q) in
+    let f : FoundPlace → Judgement (List Changed) = λ q. and_then (all_allowed root) (effect_of c.args.effect.now c.args.documents.now q) in
     let past : length c.args.places.now ≤ c.places.place-index = omega (arith, c.places-test.false) in
     each_done place_of f (map changed_of c.places.changes.items) c.args.places.now c.places.place-index _ past (c.places.invariant.so_far root named within)

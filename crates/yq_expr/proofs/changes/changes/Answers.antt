@@ -1,27 +1,15 @@
 use Rattle.std.{proofs.Common.{◌<◌, List, length, map, Err, ap, sym, ◌∙◌, subst, arith}, proofs.lemmas.List.map_push}
 use Rattle.std.proofs.lemmas.Result.{err_from_is_err_and}
-use Rattle.yq_core.{specs.Shapes.IsTree, specs.Tree.Node}
-use Rattle.yq_documents.{specs.Documents.{Document, document_parts}, specs.Reading.{cut_of, documents_of}}
+use Rattle.yq_core.specs.Tree.{Node}
+use Rattle.yq_documents.{specs.Documents.Document, specs.Reading.documents_of}
 use Rattle.yq_semantics.{specs.Changes.changes_in, specs.Judgement.MatchFails, specs.Rooms.room_of, specs.View.update_of}
 use Rattle.yq_planner.specs.ChangeView.{all_changed_of, changed_of}
-use Rattle.yq_eval.{specs.TreeScalars.HasScalars, proofs.EachLaws.failed, proofs.MatchLaws.document_there}
-use Rattle.yq_eval.proofs.TreeScalarLaws.{documents_have}
-use Rattle.yq_expr.proofs.AllChanges.{document_more, document_fails}
+use Rattle.yq_eval.{proofs.EachLaws.failed, proofs.MatchLaws.document_there}
+use Rattle.yq_expr.{proofs.AllChanges.{document_more, document_fails}, proofs.DocumentLaws.document_root}
 use Rattle.yq_expr.proofs.changes.changes.Goals as goal
 
-pub changes_in-requires-clause-scalars : goal.changes_in-requires-clause-scalars
-changes_in-requires-clause-scalars c =
-    let docs : List Document = documents_of c.args.documents.now in
-    let within : c.documents.doc < length docs = omega (arith, c.count-doc-end.ensures, c.documents-test.true) in
-    let d = document_there docs c.documents.doc within in
-    subst HasScalars (sym (c.root.ensures.node d.0 d.1)) (documents_have (document_parts (cut_of c.args.documents.now)) c.documents.doc d.0 d.1)
-
-pub changes_in-requires-clause-tree : goal.changes_in-requires-clause-tree
-changes_in-requires-clause-tree c =
-    let docs : List Document = documents_of c.args.documents.now in
-    let within : c.documents.doc < length docs = omega (arith, c.count-doc-end.ensures, c.documents-test.true) in
-    let d = document_there docs c.documents.doc within in
-    subst IsTree (sym (c.root.ensures.node d.0 d.1)) (c.are_ready.ensures c.documents.doc d.0 d.1).tree
+pub changes_in-requires : goal.changes_in-requires
+changes_in-requires c = document_root _ c.are_ready.ensures (omega (arith, c.count-doc-end.ensures, c.documents-test.true)) c.root-root.ensures.node
 
 pub returns-in_err-changes_in : goal.returns-in_err-changes_in
 returns-in_err-changes_in c =
@@ -31,7 +19,7 @@ returns-in_err-changes_in c =
     let p = err_from_is_err_and c.from_residual.result c.from_residual.ensures.1 in
     failed _ _ _ _ (p.1 ∙ ap Err p.2)
     (document_fails (update_of c.args.update.now) (room_of c.args.documents.now) docs c.documents.doc d.0 (all_changed_of c.documents.changes.items) _ _ d.2
-    (subst (λ (n : Node). MatchFails c.in_err-changes_in.field-0.0 (changes_in (update_of c.args.update.now) c.documents.doc (room_of c.args.documents.now c.documents.doc) n)) (c.root.ensures.node d.0 d.1) c.in_err-changes_in.ensures)
+    (subst (λ (n : Node). MatchFails c.in_err-changes_in.field-0.0 (changes_in (update_of c.args.update.now) c.documents.doc (room_of c.args.documents.now c.documents.doc) n)) (c.root-root.ensures.node d.0 d.1) c.in_err-changes_in.ensures)
     c.documents.invariant)
 
 pub documents-preserved : goal.documents-preserved
@@ -41,5 +29,5 @@ documents-preserved c =
     let d = document_there docs c.documents.doc within in
     document_more (update_of c.args.update.now) (room_of c.args.documents.now) docs c.documents.doc d.0 (all_changed_of c.documents.changes.items) _ (map changed_of c.in_ok-changes_in.field-0.items) _ d.2
     (ap all_changed_of c.in_ok-push.ensures.items ∙ map_push (λ cs. map changed_of cs.items) c.documents.changes.items c.in_ok-changes_in.field-0)
-    (ap (λ (n : Node). changes_in (update_of c.args.update.now) c.documents.doc (room_of c.args.documents.now c.documents.doc) n) (sym (c.root.ensures.node d.0 d.1)) ∙ c.in_ok-changes_in.ensures)
+    (ap (λ (n : Node). changes_in (update_of c.args.update.now) c.documents.doc (room_of c.args.documents.now c.documents.doc) n) (sym (c.root-root.ensures.node d.0 d.1)) ∙ c.in_ok-changes_in.ensures)
     c.documents.invariant

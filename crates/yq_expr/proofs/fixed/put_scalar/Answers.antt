@@ -1,4 +1,4 @@
-use Rattle.std.{proofs.Common.{◌≡◌, ◌≤◌, [], ◌∷◌, IfSome, length, map, rules, sym, ap, ◌∙◌, subst, arith}, proofs.lemmas.List.length-map}
+use Rattle.std.{proofs.Common.{◌≡◌, ◌≤◌, [], ◌∷◌, IfSome, map, rules, sym, ap, ◌∙◌, subst, arith}, proofs.lemmas.List.length-map}
 use Rattle.yq_core.{specs.Entries.tree_step, specs.Scalar.ScalarText, specs.Tree.Node, specs.Values.value_node}
 use Rattle.yq_documents.specs.Located.{steps_of}
 use Rattle.yq_semantics.{specs.Program.{assign, literal}, specs.View.{stage_of, term_of}}

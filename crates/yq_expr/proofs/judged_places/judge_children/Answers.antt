@@ -2,9 +2,9 @@ use Rattle.std.{proofs.Common.{◌≡◌, Err, List, [], map, refl, sym, ap, ◌
 use Rattle.yq_nodes.{specs.Children.left_of, specs.Nodes.{label_of, node_of}}
 use Rattle.yq_outline.specs.Counts.{count}
 use Rattle.yq_semantics.{specs.Changes.{Changed, all_allowed, at_each}, specs.Judgement.{Judgement, MatchFails, and_then, gives}}
-use Rattle.yq_semantics.{specs.PlacesApart.{AreIn, IsIn}, specs.Places.{FoundPlace, child_place, stepped}, specs.Rooms.room_of}
+use Rattle.yq_semantics.{specs.PlacesApart.{AreIn, IsIn}, specs.Places.{FoundPlace, child_place, stepped}}
 use Rattle.yq_planner.specs.StandIns.{verdict}
-use Rattle.yq_expr.{specs.EffectView.effect_at, proofs.ChildPlaces.{nothing_before, first_child, child_more, child_fails, children_done}}
+use Rattle.yq_expr.{specs.JudgedChanges.effect_of, proofs.ChildPlaces.{nothing_before, first_child, child_more, child_fails, children_done}}
 use Rattle.yq_expr.proofs.VerdictLaws.{behind_given, behind_fails, verdict_fails}
 use Rattle.yq_eval.{specs.FoundView.place_at_path, specs.PlaceView.path_of, specs.TreeScalars.{HasScalars, HaveScalars}}
 use Rattle.yq_eval.{proofs.EachLaws.failed, proofs.PlaceLaws.none_counted}
@@ -20,7 +20,7 @@ pub returns-in_err-judge_place : goal.returns-in_err-judge_place
 returns-in_err-judge_place c = λ root named within.
     let e = err_from_is_err_and c.from_residual.result c.from_residual.ensures.1 in
     let p : FoundPlace = place_at_path (path_of c.args.parent.now.path) (node_of c.args.parent.now.node) in
-    let f : FoundPlace → Judgement (List Changed) = λ q. and_then (all_allowed root) (effect_at c.args.doc (room_of c.args.documents.now c.args.doc) c.args.effect q) in
+    let f : FoundPlace → Judgement (List Changed) = λ q. and_then (all_allowed root) (effect_of c.args.effect.now c.args.documents.now q) in
     let first = first_child p c.children.before (left_of c.children.children) (left_of c.next.new.self) (label_of c.in-Some.child) (node_of c.in-Some.child) c.in-Some.ensures.steps in
     let here = c.nth_below-place.ensures p refl in
     let before = c.children.invariant.so_far root named within in
@@ -44,7 +44,7 @@ children-preserved c =
       scalars = (subst HaveScalars first c.children.invariant.scalars).1;
       within = λ root within. (subst (AreIn root) first (c.children.invariant.within root within)).1;
       so_far = λ root named within.
-          let f : FoundPlace → Judgement (List Changed) = λ q. and_then (all_allowed root) (effect_at c.args.doc (room_of c.args.documents.now c.args.doc) c.args.effect q) in
+          let f : FoundPlace → Judgement (List Changed) = λ q. and_then (all_allowed root) (effect_of c.args.effect.now c.args.documents.now q) in
           let before = c.children.invariant.so_far root named within in
           let more = behind_given before.0 _
           (subst (λ (q : FoundPlace). verdict (f q) ≡ gives tt) here
@@ -55,7 +55,7 @@ children-preserved c =
 pub returns : goal.returns
 returns c = λ root named within.
     let p : FoundPlace = place_at_path (path_of c.args.parent.now.path) (node_of c.args.parent.now.node) in
-    let f : FoundPlace → Judgement (List Changed) = λ q. and_then (all_allowed root) (effect_at c.args.doc (room_of c.args.documents.now c.args.doc) c.args.effect q) in
+    let f : FoundPlace → Judgement (List Changed) = λ q. and_then (all_allowed root) (effect_of c.args.effect.now c.args.documents.now q) in
     let zero : count (left_of c.children.children) ≡ 0 = omega (arith, c.children.invariant.counted, c.children-test.false) in
     let before = c.children.invariant.so_far root named within in
     ap verdict (children_done f p c.children.before (left_of c.children.children) before.0 _ (none_counted (left_of c.children.children) zero) before.1)
@@ -75,13 +75,13 @@ children-init c =
       so_far = λ root named within. (
         [],
         nothing_before _
-            ∙ ap (λ cs. at_each root (effect_at c.args.doc (room_of c.args.documents.now c.args.doc) c.args.effect) (map (child_place p) (stepped 0 cs))) all,
+            ∙ ap (λ cs. at_each root (effect_of c.args.effect.now c.args.documents.now) (map (child_place p) (stepped 0 cs))) all,
       );
     }
 
 pub returns-in_default : goal.returns-in_default
 returns-in_default c = λ root named within.
     let p : FoundPlace = place_at_path (path_of c.args.parent.now.path) (node_of c.args.parent.now.node) in
-    let f : FoundPlace → Judgement (List Changed) = λ q. and_then (all_allowed root) (effect_at c.args.doc (room_of c.args.documents.now c.args.doc) c.args.effect q) in
+    let f : FoundPlace → Judgement (List Changed) = λ q. and_then (all_allowed root) (effect_of c.args.effect.now c.args.documents.now q) in
     let before = c.children.invariant.so_far root named within in
     ap verdict (children_done f p c.children.before (left_of c.children.children) before.0 _ c.in_default.ensures.steps.0 before.1)

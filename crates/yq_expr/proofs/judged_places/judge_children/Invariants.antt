@@ -3,9 +3,8 @@ use Rattle.yq_core.{specs.Tree.Node, specs.Anchors.names_of}
 use Rattle.yq_nodes.{specs.Children.left_of, specs.Nodes.node_of}
 use Rattle.yq_outline.specs.Counts.{count}
 use Rattle.yq_semantics.{specs.Changes.{Changed, at_each}, specs.Places.{child_place, stepped}, specs.PlacesApart.AreIn}
-use Rattle.yq_semantics.specs.Rooms.{room_of}
 use Rattle.yq_planner.specs.Indexes.{HasAliases}
-use Rattle.yq_expr.specs.EffectView.{effect_at}
+use Rattle.yq_expr.specs.JudgedChanges.{effect_of}
 use Rattle.yq_eval.{specs.FoundView.{child_places, place_at_path}, specs.PlaceView.{path_of, put_behind}, specs.TreeScalars.HaveScalars}
 use Rattle.yq_expr.proofs.judged_places.judge_children.Given as goal
 
@@ -17,9 +16,9 @@ invariant-children l =
       counted : l.before + count (left_of l.children) ≡ l.count;
       scalars : HaveScalars left;
       within : (root : Node) → AreIn root (child_places (path_of l.parent.path) (node_of l.parent.node)) → AreIn root left;
-      so_far : (root : Node) → HasAliases (names_of root) l.aliases → AreIn root (child_places (path_of l.parent.path) (node_of l.parent.node)) → (cs : List Changed) ×
-          (put_behind cs (at_each root (effect_at l.doc (room_of l.documents l.doc) l.effect) left)
-          ≡ at_each root (effect_at l.doc (room_of l.documents l.doc) l.effect) (child_places (path_of l.parent.path) (node_of l.parent.node)));
+      so_far : (root : Node) → HasAliases (names_of root) l.effect.aliases.now → AreIn root (child_places (path_of l.parent.path) (node_of l.parent.node)) → (cs : List Changed) ×
+          (put_behind cs (at_each root (effect_of l.effect l.documents) left)
+          ≡ at_each root (effect_of l.effect l.documents) (child_places (path_of l.parent.path) (node_of l.parent.node)));
     }
 
 abbrev pub decreases-children : goal.decreases-children

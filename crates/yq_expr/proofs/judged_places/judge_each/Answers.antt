@@ -1,7 +1,7 @@
 use Rattle.std.{proofs.Common.{Err, List, [], ap, ◌∙◌, subst, arith, ◌≤◌, length}, proofs.lemmas.Result.err_from_is_err_and}
 use Rattle.yq_semantics.{specs.Changes.{Changed, all_allowed}, specs.Judgement.{Judgement, and_then}, specs.PlacesApart.AreIn}
-use Rattle.yq_semantics.{specs.Places.FoundPlace, specs.Rooms.room_of}
-use Rattle.yq_expr.{specs.EffectView.effect_at, proofs.AllChanges.each_done, proofs.ChildPlaces.nothing_before}
+use Rattle.yq_semantics.specs.Places.{FoundPlace}
+use Rattle.yq_expr.{specs.JudgedChanges.effect_of, proofs.AllChanges.each_done, proofs.ChildPlaces.nothing_before}
 use Rattle.yq_expr.proofs.VerdictLaws.{behind_given, behind_fails, verdict_fails}
 use Rattle.yq_planner.specs.StandIns.{verdict}
 use Rattle.yq_eval.{specs.PlaceView.place_of, specs.TreeScalars.HaveScalars, proofs.EachLaws.{each_more, each_fails, failed, reached}}
@@ -19,7 +19,7 @@ pub returns-in_err-judge_place : goal.returns-in_err-judge_place
 returns-in_err-judge_place c = λ root named within.
     let p = err_from_is_err_and c.from_residual.result c.from_residual.ensures.1 in
     let here = reached place_of c.args.places.now c.places.place-index c.place-item.result c.places-test.true c.place-item.is in
-    let f : FoundPlace → Judgement (List Changed) = λ q. and_then (all_allowed root) (effect_at c.args.doc (room_of c.args.documents.now c.args.doc) c.args.effect q) in
+    let f : FoundPlace → Judgement (List Changed) = λ q. and_then (all_allowed root) (effect_of c.args.effect.now c.args.documents.now q) in
     let before = c.places.invariant.so_far root named within in
     failed _ _ _ _ (p.1 ∙ ap Err p.2)
     (verdict_fails _ _
@@ -36,7 +36,7 @@ places-preserved c =
       scalars = (subst HaveScalars here c.places.invariant.scalars).1;
       within = λ root within. (subst (AreIn root) here (c.places.invariant.within root within)).1;
       so_far = λ root named within.
-          let f : FoundPlace → Judgement (List Changed) = λ q. and_then (all_allowed root) (effect_at c.args.doc (room_of c.args.documents.now c.args.doc) c.args.effect q) in
+          let f : FoundPlace → Judgement (List Changed) = λ q. and_then (all_allowed root) (effect_of c.args.effect.now c.args.documents.now q) in
           let before = c.places.invariant.so_far root named within in
           let more = behind_given before.0 (f (place_of c.place-item.result))
           ((rw c.places.invariant.same at c.in_ok-judge_place.ensures.verdict) root named (subst (AreIn root) here (c.places.invariant.within root within)).0) in
@@ -45,7 +45,7 @@ places-preserved c =
 
 pub returns : goal.returns
 returns c = λ root named within.
-    let f : FoundPlace → Judgement (List Changed) = λ q. and_then (all_allowed root) (effect_at c.args.doc (room_of c.args.documents.now c.args.doc) c.args.effect q) in
+    let f : FoundPlace → Judgement (List Changed) = λ q. and_then (all_allowed root) (effect_of c.args.effect.now c.args.documents.now q) in
     let past : length c.args.places.now ≤ c.places.place-index = omega (arith, c.places-test.false) in
     let before = c.places.invariant.so_far root named within in
     ap verdict (each_done place_of f before.0 c.args.places.now c.places.place-index _ past before.1)

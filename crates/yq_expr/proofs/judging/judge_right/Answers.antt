@@ -10,18 +10,18 @@ use Rattle.yq_expr.proofs.judging.judge_right.Goals as goal
 
 pub returns-in_err-value : goal.returns-in_err-value
 returns-in_err-value c =
-    let root = node_of c.args.root.now in
+    let root = node_of c.args.found.now.document.root in
     let ts = map term_of c.args.right.now in
     let p = err_from_is_err_and c.from_residual.result c.from_residual.ensures.1 in
     failed _ _ _ _ (p.1 ∙ ap Err p.2)
-    (verdict_fails _ _ (value_fails root (right_value c.args.doc ts (root_place root)) (if c.args.adds then add_at else put_with_path) (found_places c.args.places.now) _ c.requires.some
-    (subst (MatchFails _) (ap (right_value c.args.doc ts) c.of_root.ensures) c.in_err-value.ensures)))
+    (verdict_fails _ _ (value_fails root (right_value c.args.found.now.document.doc ts (root_place root)) (if c.args.adds then add_at else put_with_path) (found_places c.args.found.now.places) _ c.requires.some
+    (subst (MatchFails _) (ap (right_value c.args.found.now.document.doc ts) c.of_root-from.ensures) c.in_err-value.ensures)))
 
 pub returns : goal.returns
 returns c =
-    let root = node_of c.args.root.now in
+    let root = node_of c.args.found.now.document.root in
     let ts = map term_of c.args.right.now in
-    let value : right_value c.args.doc ts (root_place root) ≡ gives (value_node c.in_ok-value.value) = sym (ap (right_value c.args.doc ts) c.of_root.ensures) ∙ c.in_ok-value.ensures in
+    let value : right_value c.args.found.now.document.doc ts (root_place root) ≡ gives (value_node c.in_ok-value.value) = sym (ap (right_value c.args.found.now.document.doc ts) c.of_root-from.ensures) ∙ c.in_ok-value.ensures in
     subst (Judges (λ _. tt) c.judge_value.result)
-    (ap verdict (sym (value_judged root (right_value c.args.doc ts (root_place root)) c.args.adds (found_places c.args.places.now) (value_node c.in_ok-value.value) c.requires.some value)))
-    (c.judge_value.ensures root c.requires.aliases c.requires.within)
+    (ap verdict (sym (value_judged root (right_value c.args.found.now.document.doc ts (root_place root)) c.args.adds (found_places c.args.found.now.places) (value_node c.in_ok-value.value) c.requires.some value)))
+    (c.judge_value.ensures root c.requires.aliases c.requires.places.within)

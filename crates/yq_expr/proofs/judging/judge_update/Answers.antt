@@ -1,26 +1,14 @@
 use Rattle.std.{proofs.Common.{◌<◌, ◌≤◌, List, length, Err, ap, sym, ◌∙◌, subst, arith}, proofs.lemmas.Result.err_from_is_err_and}
-use Rattle.yq_core.{specs.Shapes.IsTree, specs.Tree.Node}
-use Rattle.yq_documents.{specs.Documents.{Document, document_parts}, specs.Reading.{cut_of, documents_of}}
+use Rattle.yq_core.specs.Tree.{Node}
+use Rattle.yq_documents.{specs.Documents.Document, specs.Reading.documents_of}
 use Rattle.yq_planner.specs.StandIns.{verdict}
 use Rattle.yq_semantics.{specs.Changes.changes_in, specs.Judgement.MatchFails, specs.Rooms.room_of, specs.View.update_of}
-use Rattle.yq_eval.{specs.TreeScalars.HasScalars, proofs.EachLaws.failed, proofs.MatchLaws.document_there}
-use Rattle.yq_eval.proofs.TreeScalarLaws.{documents_have}
-use Rattle.yq_expr.proofs.VerdictLaws.{document_judged, document_refused, documents_judged}
+use Rattle.yq_eval.{proofs.EachLaws.failed, proofs.MatchLaws.document_there}
+use Rattle.yq_expr.{proofs.VerdictLaws.{document_judged, document_refused, documents_judged}, proofs.DocumentLaws.document_root}
 use Rattle.yq_expr.proofs.judging.judge_update.Goals as goal
 
-pub judge_in-requires-clause-scalars : goal.judge_in-requires-clause-scalars
-judge_in-requires-clause-scalars c =
-    let docs : List Document = documents_of c.args.documents.now in
-    let within : c.documents.doc < length docs = omega (arith, c.count-doc-end.ensures, c.documents-test.true) in
-    let d = document_there docs c.documents.doc within in
-    subst HasScalars (sym (c.root.ensures.node d.0 d.1)) (documents_have (document_parts (cut_of c.args.documents.now)) c.documents.doc d.0 d.1)
-
-pub judge_in-requires-clause-tree : goal.judge_in-requires-clause-tree
-judge_in-requires-clause-tree c =
-    let docs : List Document = documents_of c.args.documents.now in
-    let within : c.documents.doc < length docs = omega (arith, c.count-doc-end.ensures, c.documents-test.true) in
-    let d = document_there docs c.documents.doc within in
-    subst IsTree (sym (c.root.ensures.node d.0 d.1)) (c.are_ready.ensures c.documents.doc d.0 d.1).tree
+pub judge_in-requires : goal.judge_in-requires
+judge_in-requires c = document_root _ c.are_ready.ensures (omega (arith, c.count-doc-end.ensures, c.documents-test.true)) c.root-root.ensures.node
 
 pub returns-in_err-judge_in : goal.returns-in_err-judge_in
 returns-in_err-judge_in c =
@@ -30,7 +18,7 @@ returns-in_err-judge_in c =
     let p = err_from_is_err_and c.from_residual.result c.from_residual.ensures.1 in
     failed _ _ _ _ (p.1 ∙ ap Err p.2)
     (document_refused (update_of c.args.update.now) (room_of c.args.documents.now) docs c.documents.doc d.0 _ _ d.2
-    (subst (λ (n : Node). MatchFails c.in_err-judge_in.field-0.0 (verdict (changes_in (update_of c.args.update.now) c.documents.doc (room_of c.args.documents.now c.documents.doc) n))) (c.root.ensures.node d.0 d.1) c.in_err-judge_in.ensures)
+    (subst (λ (n : Node). MatchFails c.in_err-judge_in.field-0.0 (verdict (changes_in (update_of c.args.update.now) c.documents.doc (room_of c.args.documents.now c.documents.doc) n))) (c.root-root.ensures.node d.0 d.1) c.in_err-judge_in.ensures)
     c.documents.invariant)
 
 pub documents-preserved : goal.documents-preserved
@@ -39,7 +27,7 @@ documents-preserved c =
     let within : c.documents.doc < length docs = omega (arith, c.count-doc-end.ensures, c.documents-test.true) in
     let d = document_there docs c.documents.doc within in
     document_judged (update_of c.args.update.now) (room_of c.args.documents.now) docs c.documents.doc d.0 _ d.2
-    (ap (λ (n : Node). verdict (changes_in (update_of c.args.update.now) c.documents.doc (room_of c.args.documents.now c.documents.doc) n)) (sym (c.root.ensures.node d.0 d.1)) ∙ c.in_ok-judge_in.ensures)
+    (ap (λ (n : Node). verdict (changes_in (update_of c.args.update.now) c.documents.doc (room_of c.args.documents.now c.documents.doc) n)) (sym (c.root-root.ensures.node d.0 d.1)) ∙ c.in_ok-judge_in.ensures)
     c.documents.invariant
 
 pub returns : goal.returns

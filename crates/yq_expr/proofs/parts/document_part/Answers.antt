@@ -15,75 +15,71 @@ use Rattle.yq_expr.proofs.parts.document_part.Goals as goal
 pub returns-then-count-place-clause-part : goal.returns-then-count-place-clause-part
 returns-then-count-place-clause-part c =
     let u : Update = update_of c.args.update.now in
-    let root : Node = node_of c.args.root in
-    let room : Room = room_of c.args.documents.now c.args.doc in
+    let root : Node = node_of c.args.document.root in
+    let room : Room = room_of c.args.document.documents.now c.args.document.doc in
     let ps : List FoundPlace = places_of c.in_ok-places.places.items in
-    let found : places c.args.doc (left_pipe u) root ≡ gives ps = ap (λ (pipe : List Stage). places c.args.doc pipe root) (sym c.left.ensures) ∙ c.in_ok-places.ensures in
+    let found : places c.args.document.doc (left_pipe u) root ≡ gives ps = ap (λ (pipe : List Stage). places c.args.document.doc pipe root) (sym c.left.ensures) ∙ c.in_ok-places.ensures in
     let past : length ps ≤ c.args.place = omega (arith, length-map c.in_ok-places.places.items place_of, c.in_ok-places.places.ok.0, c.len-count.ensures, c.if-count-place.true) in
-    none_part u c.args.doc room root ps found (operations_of c.args.ops.now.items) (operations_of c.args.ops.now.items) c.args.place past refl
+    none_part u c.args.document.doc room root ps found (operations_of c.args.part.now.ops.items) (operations_of c.args.part.now.ops.items) c.args.place past refl
 
 pub part_count-requires-clause-scalars : goal.part_count-requires-clause-scalars
 part_count-requires-clause-scalars c =
     let u : Update = update_of c.args.update.now in
-    let root : Node = node_of c.args.root in
+    let root : Node = node_of c.args.document.root in
     let ps : List FoundPlace = places_of c.in_ok-places.places.items in
-    let found : places c.args.doc (left_pipe u) root ≡ gives ps = ap (λ (pipe : List Stage). places c.args.doc pipe root) (sym c.left.ensures) ∙ c.in_ok-places.ensures in
+    let found : places c.args.document.doc (left_pipe u) root ≡ gives ps = ap (λ (pipe : List Stage). places c.args.document.doc pipe root) (sym c.left.ensures) ∙ c.in_ok-places.ensures in
     let left : ℕ = length c.deref.result.now - c.args.place in
     subst HaveScalars (sym (some_are left c.args.place c.in_ok-places.places.items c.deref.result.now c.deref.ensures.value))
-    (some_have left c.args.place ps (places_have c.args.doc (left_pipe u) root ps c.requires.scalars found))
+    (some_have left c.args.place ps (places_have c.args.document.doc (left_pipe u) root ps c.requires.scalars found))
 
-pub changes_at-requires-clause-scalars : goal.changes_at-requires-clause-scalars
-changes_at-requires-clause-scalars c =
+pub changes_at-requires : goal.changes_at-requires
+changes_at-requires c =
     let u : Update = update_of c.args.update.now in
-    let root : Node = node_of c.args.root in
+    let root : Node = node_of c.args.document.root in
     let ps : List FoundPlace = places_of c.in_ok-places.places.items in
-    let found : places c.args.doc (left_pipe u) root ≡ gives ps = ap (λ (pipe : List Stage). places c.args.doc pipe root) (sym c.left.ensures) ∙ c.in_ok-places.ensures in
-    let some = c.in_ok-some.ensures ∙ some_are ((c.args.place + c.in_ok-few.few) - c.args.place) c.args.place c.in_ok-places.places.items c.deref-2.result.now c.deref-2.ensures.value in
-    subst HaveScalars (sym some) (some_have ((c.args.place + c.in_ok-few.few) - c.args.place) c.args.place ps (places_have c.args.doc (left_pipe u) root ps c.requires.scalars found))
-
-pub changes_at-requires-clause-within : goal.changes_at-requires-clause-within
-changes_at-requires-clause-within c =
-    let u : Update = update_of c.args.update.now in
-    let root : Node = node_of c.args.root in
-    let ps : List FoundPlace = places_of c.in_ok-places.places.items in
-    let found : places c.args.doc (left_pipe u) root ≡ gives ps = ap (λ (pipe : List Stage). places c.args.doc pipe root) (sym c.left.ensures) ∙ c.in_ok-places.ensures in
-    let some = c.in_ok-some.ensures ∙ some_are ((c.args.place + c.in_ok-few.few) - c.args.place) c.args.place c.in_ok-places.places.items c.deref-2.result.now c.deref-2.ensures.value in
-    subst (AreIn root) (sym some) (some_in root ((c.args.place + c.in_ok-few.few) - c.args.place) c.args.place ps (places_stand c.args.doc (left_pipe u) root ps c.requires.tree found).1)
+    let found : places c.args.document.doc (left_pipe u) root ≡ gives ps = ap (λ (pipe : List Stage). places c.args.document.doc pipe root) (sym c.left.ensures) ∙ c.in_ok-places.ensures in
+    let few : ℕ = (c.args.place + c.in_ok-few.few) - c.args.place in
+    let some = c.in_ok-places-2.ensures ∙ some_are few c.args.place c.in_ok-places.places.items c.deref-2.result.now c.deref-2.ensures.value in
+    record {
+      root = c.requires.scalars;
+      scalars = subst HaveScalars (sym some) (some_have few c.args.place ps (places_have c.args.document.doc (left_pipe u) root ps c.requires.scalars found));
+      within = subst (AreIn root) (sym some) (some_in root few c.args.place ps (places_stand c.args.document.doc (left_pipe u) root ps c.requires.tree found).1);
+    }
 
 pub returns-in_err-changes-clause-err : goal.returns-in_err-changes-clause-err
 returns-in_err-changes-clause-err c =
     let u : Update = update_of c.args.update.now in
-    let root : Node = node_of c.args.root in
-    let room : Room = room_of c.args.documents.now c.args.doc in
+    let root : Node = node_of c.args.document.root in
+    let room : Room = room_of c.args.document.documents.now c.args.document.doc in
     let ps : List FoundPlace = places_of c.in_ok-places.places.items in
-    let found : places c.args.doc (left_pipe u) root ≡ gives ps = ap (λ (pipe : List Stage). places c.args.doc pipe root) (sym c.left.ensures) ∙ c.in_ok-places.ensures in
-    let some = c.in_ok-some.ensures ∙ some_are ((c.args.place + c.in_ok-few.few) - c.args.place) c.args.place c.in_ok-places.places.items c.deref-2.result.now c.deref-2.ensures.value in
+    let found : places c.args.document.doc (left_pipe u) root ≡ gives ps = ap (λ (pipe : List Stage). places c.args.document.doc pipe root) (sym c.left.ensures) ∙ c.in_ok-places.ensures in
+    let some = c.in_ok-places-2.ensures ∙ some_are ((c.args.place + c.in_ok-few.few) - c.args.place) c.args.place c.in_ok-places.places.items c.deref-2.result.now c.deref-2.ensures.value in
     let order : c.args.place ≤ (c.args.place + c.in_ok-few.few) = omega arith in
     let p = err_from_is_err_and c.from_residual-in_err-changes.result c.from_residual-in_err-changes.ensures.1 in
     rw (p.1, p.2)
-    (part_fails u c.args.doc room root ps found c.args.place (c.args.place + c.in_ok-few.few) _ order
-    (subst (λ (qs : List FoundPlace). MatchFails c.in_err-changes.field-0.0 (changes_at c.args.doc room root u qs)) some c.in_err-changes.ensures))
+    (part_fails u c.args.document.doc room root ps found c.args.place (c.args.place + c.in_ok-few.few) _ order
+    (subst (λ (qs : List FoundPlace). MatchFails c.in_err-changes.field-0.0 (changes_at c.args.document.doc room root u qs)) some c.in_err-changes.ensures))
 
 pub returns-clause-part : goal.returns-clause-part
 returns-clause-part c =
     let u : Update = update_of c.args.update.now in
-    let root : Node = node_of c.args.root in
-    let room : Room = room_of c.args.documents.now c.args.doc in
+    let root : Node = node_of c.args.document.root in
+    let room : Room = room_of c.args.document.documents.now c.args.document.doc in
     let ps : List FoundPlace = places_of c.in_ok-places.places.items in
-    let found : places c.args.doc (left_pipe u) root ≡ gives ps = ap (λ (pipe : List Stage). places c.args.doc pipe root) (sym c.left.ensures) ∙ c.in_ok-places.ensures in
-    let some = c.in_ok-some.ensures ∙ some_are ((c.args.place + c.in_ok-few.few) - c.args.place) c.args.place c.in_ok-places.places.items c.deref-2.result.now c.deref-2.ensures.value in
+    let found : places c.args.document.doc (left_pipe u) root ≡ gives ps = ap (λ (pipe : List Stage). places c.args.document.doc pipe root) (sym c.left.ensures) ∙ c.in_ok-places.ensures in
+    let some = c.in_ok-places-2.ensures ∙ some_are ((c.args.place + c.in_ok-few.few) - c.args.place) c.args.place c.in_ok-places.places.items c.deref-2.result.now c.deref-2.ensures.value in
     let left : c.args.place < length c.deref.result.now = omega (arith, c.if-count-place.false, c.len-count.ensures, c.deref.ensures.len) in
     let few : 0 < c.in_ok-few.few = c.in_ok-few.ensures.some (some_left c.args.place c.deref.result.now left) in
     let order : c.args.place < (c.args.place + c.in_ok-few.few) = omega (arith, few) in
-    let changed = ap (changes_at c.args.doc room root u) (sym some) ∙ c.in_ok-changes.ensures in
-    let before = operations_of c.args.ops.now.items in
+    let changed = ap (changes_at c.args.document.doc room root u) (sym some) ∙ c.in_ok-changes.ensures in
+    let before = operations_of c.args.part.now.ops.items in
     let after = operations_of c.push_changes.new.ops.items in
     let cs = map changed_of c.in_ok-changes.changes.items in
     let is = c.in_ok-push_changes.ensures in
     let count = length-map c.in_ok-places.places.items place_of in
     elim c.if-end-count.branch [
-      | then-end-count w ↦ subst (IsPlanPart (document_ops u c.args.doc room root) c.args.place before after) (sym w.next-is) (more_part u c.args.doc room root ps found before after c.args.place (c.args.place + c.in_ok-few.few) cs order changed is)
-      | else-end-count w ↦ subst (IsPlanPart (document_ops u c.args.doc room root) c.args.place before after) (sym w.next-is)
-          (last_part u c.args.doc room root ps found before after c.args.place (c.args.place + c.in_ok-few.few) cs order changed is
+      | then-end-count w ↦ subst (IsPlanPart (document_ops u c.args.document.doc room root) c.args.place before after) (sym w.next-is) (more_part u c.args.document.doc room root ps found before after c.args.place (c.args.place + c.in_ok-few.few) cs order changed is)
+      | else-end-count w ↦ subst (IsPlanPart (document_ops u c.args.document.doc room root) c.args.place before after) (sym w.next-is)
+          (last_part u c.args.document.doc room root ps found before after c.args.place (c.args.place + c.in_ok-few.few) cs order changed is
           (omega (arith, count, c.in_ok-places.places.ok.0, c.len-count.ensures, w.if-end-count.false)))
     ]

@@ -1,13 +1,12 @@
 use Rattle.std.proofs.Common.{◌≡◌, ◌⊎◌, inl, inr, ℕ, ◌+◌, ◌<◌, List, length, Option, Some, None, refl, sym, ap, ◌∙◌, subst, arith}
 use Rattle.std.proofs.lemmas.Result.{err_from_is_err_and}
-use Rattle.yq_core.{specs.Shapes.IsTree, specs.Tree.Node}
-use Rattle.yq_documents.{specs.Documents.{Document, document_parts}, specs.Reading.{cut_of, documents_of}}
+use Rattle.yq_core.specs.Tree.{Node}
+use Rattle.yq_documents.{specs.Documents.Document, specs.Reading.documents_of}
 use Rattle.yq_nodes.specs.Nodes.{node_of}
 use Rattle.yq_semantics.{specs.Judgement.MatchFails, specs.Operations.{Operation, operations_of}, specs.Rooms.room_of, specs.View.update_of}
-use Rattle.yq_eval.{specs.PlaceView.put_behind, specs.TreeScalars.HasScalars, proofs.MatchLaws.document_there}
-use Rattle.yq_eval.proofs.TreeScalarLaws.{documents_have}
+use Rattle.yq_eval.{specs.PlaceView.put_behind, proofs.MatchLaws.document_there}
 use Rattle.yq_expr.{specs.Parts.{IsPlanPart, document_ops, rest_ops}, proofs.ChildPlaces.nothing_before}
-use Rattle.yq_expr.proofs.PartLaws.{document_fails, next_document, same_document}
+use Rattle.yq_expr.{proofs.PartLaws.{document_fails, next_document, same_document}, proofs.DocumentLaws.document_root}
 use Rattle.yq_expr.proofs.parts.part_of.Goals as goal
 
 pub documents-init : goal.documents-init
@@ -15,7 +14,7 @@ documents-init c = record {
   later = inl (refl, refl);
   within = omega (arith, c.requires);
   room = λ _. omega arith;
-  so_far = ap (λ xs. put_behind (operations_of xs) (rest_ops (update_of c.args.update.now) (room_of c.args.documents.now) (documents_of c.args.documents.now) c.args.doc c.args.place)) c.new-ops.ensures.items ∙ nothing_before _;
+  so_far = ap (λ xs. put_behind (operations_of xs) (rest_ops (update_of c.args.update.now) (room_of c.args.documents.now) (documents_of c.args.documents.now) c.args.doc c.args.place)) c.new.ensures.items ∙ nothing_before _;
 }
 
 -- what is no later than one document comes before the end of it
@@ -23,19 +22,8 @@ before_next : (doc at place first : ℕ) → (at ≡ doc) × (place ≡ first) �
 before_next doc at place first (inl h) = let same : at ≡ doc = h.0 in omega arith
 before_next doc at place first (inr h) = omega (arith, h)
 
-pub document_part-requires-clause-scalars : goal.document_part-requires-clause-scalars
-document_part-requires-clause-scalars c =
-    let docs : List Document = documents_of c.args.documents.now in
-    let within : c.documents.at < length docs = omega (arith, c.count.ensures, c.documents-test.true) in
-    let d = document_there docs c.documents.at within in
-    subst HasScalars (sym (c.root-root.ensures.node d.0 d.1)) (documents_have (document_parts (cut_of c.args.documents.now)) c.documents.at d.0 d.1)
-
-pub document_part-requires-clause-tree : goal.document_part-requires-clause-tree
-document_part-requires-clause-tree c =
-    let docs : List Document = documents_of c.args.documents.now in
-    let within : c.documents.at < length docs = omega (arith, c.count.ensures, c.documents-test.true) in
-    let d = document_there docs c.documents.at within in
-    subst IsTree (sym (c.root-root.ensures.node d.0 d.1)) (c.are_ready.ensures c.documents.at d.0 d.1).tree
+pub document_part-requires : goal.document_part-requires
+document_part-requires c = document_root _ c.are_ready.ensures (omega (arith, c.count.ensures, c.documents-test.true)) c.root.ensures.node
 
 pub returns-in_err-next-clause-err : goal.returns-in_err-next-clause-err
 returns-in_err-next-clause-err c =
@@ -44,8 +32,8 @@ returns-in_err-next-clause-err c =
     let d = document_there docs c.documents.at within in
     let p = err_from_is_err_and c.from_residual.result c.from_residual.ensures.1 in
     rw (p.1, p.2)
-    (document_fails (update_of c.args.update.now) (room_of c.args.documents.now) docs c.documents.at d.0 d.2 c.documents.place (operations_of c.documents.ops.items) _ _
-    (subst (λ (n : Node). MatchFails c.in_err-next.field-0.0 (document_ops (update_of c.args.update.now) c.documents.at (room_of c.args.documents.now c.documents.at) n c.documents.place)) (c.root-root.ensures.node d.0 d.1) c.in_err-next.ensures.err)
+    (document_fails (update_of c.args.update.now) (room_of c.args.documents.now) docs c.documents.at d.0 d.2 c.documents.place (operations_of c.documents.part.ops.items) _ _
+    (subst (λ (n : Node). MatchFails c.in_err-next.field-0.0 (document_ops (update_of c.args.update.now) c.documents.at (room_of c.args.documents.now c.documents.at) n c.documents.place)) (c.root.ensures.node d.0 d.1) c.in_err-next.ensures.err)
     c.documents.invariant.so_far)
 
 pub returns-in-Some-clause-part : goal.returns-in-Some-clause-part
@@ -53,10 +41,10 @@ returns-in-Some-clause-part c =
     let docs : List Document = documents_of c.args.documents.now in
     let within : c.documents.at < length docs = omega (arith, c.count.ensures, c.documents-test.true) in
     let d = document_there docs c.documents.at within in
-    let before : List Operation = operations_of c.documents.ops.items in
-    let after : List Operation = operations_of c.document_part.new.ops.items in
-    let part = subst (λ (o : Option ℕ). IsPlanPart (document_ops (update_of c.args.update.now) c.documents.at (room_of c.args.documents.now c.documents.at) (node_of c.root-root.result)) c.documents.place before after o) c.in-Some.is c.in_ok-next.ensures.part in
-    let there = subst (λ (n : Node). IsPlanPart (document_ops (update_of c.args.update.now) c.documents.at (room_of c.args.documents.now c.documents.at) n) c.documents.place before after (Some c.in-Some.place)) (c.root-root.ensures.node d.0 d.1) part in
+    let before : List Operation = operations_of c.documents.part.ops.items in
+    let after : List Operation = operations_of c.document_part.new.part.ops.items in
+    let part = subst (λ (o : Option ℕ). IsPlanPart (document_ops (update_of c.args.update.now) c.documents.at (room_of c.args.documents.now c.documents.at) (node_of c.root.result)) c.documents.place before after o) c.in-Some.is c.in_ok-next.ensures.part in
+    let there = subst (λ (n : Node). IsPlanPart (document_ops (update_of c.args.update.now) c.documents.at (room_of c.args.documents.now c.documents.at) n) c.documents.place before after (Some c.in-Some.place)) (c.root.ensures.node d.0 d.1) part in
     sym c.documents.invariant.so_far ∙ same_document (update_of c.args.update.now) (room_of c.args.documents.now) docs c.documents.at d.0 d.2 c.documents.place c.in-Some.place before after there
 
 pub documents-preserved : goal.documents-preserved
@@ -64,10 +52,10 @@ documents-preserved c =
     let docs : List Document = documents_of c.args.documents.now in
     let within : c.documents.at < length docs = omega (arith, c.count.ensures, c.documents-test.true) in
     let d = document_there docs c.documents.at within in
-    let before : List Operation = operations_of c.documents.ops.items in
-    let after : List Operation = operations_of c.document_part.new.ops.items in
-    let part = subst (λ (o : Option ℕ). IsPlanPart (document_ops (update_of c.args.update.now) c.documents.at (room_of c.args.documents.now c.documents.at) (node_of c.root-root.result)) c.documents.place before after o) c.in-None.is c.in_ok-next.ensures.part in
-    let there = subst (λ (n : Node). IsPlanPart (document_ops (update_of c.args.update.now) c.documents.at (room_of c.args.documents.now c.documents.at) n) c.documents.place before after None) (c.root-root.ensures.node d.0 d.1) part in
+    let before : List Operation = operations_of c.documents.part.ops.items in
+    let after : List Operation = operations_of c.document_part.new.part.ops.items in
+    let part = subst (λ (o : Option ℕ). IsPlanPart (document_ops (update_of c.args.update.now) c.documents.at (room_of c.args.documents.now c.documents.at) (node_of c.root.result)) c.documents.place before after o) c.in-None.is c.in_ok-next.ensures.part in
+    let there = subst (λ (n : Node). IsPlanPart (document_ops (update_of c.args.update.now) c.documents.at (room_of c.args.documents.now c.documents.at) n) c.documents.place before after None) (c.root.ensures.node d.0 d.1) part in
     let later : c.args.doc < c.documents.at + 1 = before_next c.args.doc c.documents.at c.documents.place c.args.place c.documents.invariant.later in
     record {
       later = inr later;

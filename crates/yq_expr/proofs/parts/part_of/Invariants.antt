@@ -9,8 +9,8 @@ abbrev pub invariant-documents : goal.invariant-documents
 invariant-documents l = record {
   later : (l.at ≡ l.doc) × (l.place ≡ l.fn.place) ⊎ (l.doc < l.at);
   within : l.at ≤ length (documents_of l.documents);
-  room : l.at ≡ l.doc → 0 < l.room;
-  so_far : put_behind (operations_of l.ops.items) (rest_ops (update_of l.update) (room_of l.documents) (documents_of l.documents) l.at l.place)
+  room : l.at ≡ l.doc → 0 < l.part.room;
+  so_far : put_behind (operations_of l.part.ops.items) (rest_ops (update_of l.update) (room_of l.documents) (documents_of l.documents) l.at l.place)
       ≡ rest_ops (update_of l.update) (room_of l.documents) (documents_of l.documents) l.doc l.fn.place;
 }
 

@@ -1,35 +1,35 @@
 use Rattle.std.{proofs.Common.{take, sym, ap, ◌∙◌, arith, take_all}, proofs.lemmas.Bool.both_ways, specs.Prelude.{is_some, option_and_then}}
 use Rattle.yq_text.specs.Splice.{all_done, change_done}
-use Rattle.yq_journal.{specs.ByteGapBuffer.splice_of_parts, specs.Turned.flipped_if}
+use Rattle.yq_journal.{specs.ByteGapBuffer.splice_of_parts, specs.Turned.turned_splices}
 use Rattle.yq_journal.proofs.StandLaws.{some_of, lies_within, stays_small, found_there, not_there, not_all, done_next, length-turned}
 use Rattle.yq_journal.proofs.stands.stand.Goals as goal
 
 pub is_there-requires-clause-done : goal.is_there-requires-clause-done
 is_there-requires-clause-done c =
-    let b = some_of (all_done (take c.splices.k (flipped_if c.args.back c.args.splices.now)) c.args.text.now) c.splices.invariant in (
+    let b = some_of (all_done (take c.splices.k (turned_splices c.args.turned.now)) c.args.text.now) c.splices.invariant in (
       b.0,
       b.1,
       (
-        lies_within (flipped_if c.args.back c.args.splices.now) c.splices.k _ c.args.text.now b.0 c.requires b.1 c.nth-at.ensures,
-        stays_small (flipped_if c.args.back c.args.splices.now) c.splices.k c.args.text.now b.0 c.requires b.1 (omega arith),
+        lies_within (turned_splices c.args.turned.now) c.splices.k _ c.args.text.now b.0 c.requires b.1 c.nth-at.ensures,
+        stays_small (turned_splices c.args.turned.now) c.splices.k c.args.text.now b.0 c.requires b.1 (omega arith),
       ),
     )
 
 pub returns-then-not-is_there : goal.returns-then-not-is_there
 returns-then-not-is_there c =
-    let b = some_of (all_done (take c.splices.k (flipped_if c.args.back c.args.splices.now)) c.args.text.now) c.splices.invariant in
+    let b = some_of (all_done (take c.splices.k (turned_splices c.args.turned.now)) c.args.text.now) c.splices.invariant in
     let s = splice_of_parts c.nth-at.result.0 c.nth-at.result.1.now c.nth-at.result.2.now in
     let none = not_there s b.0 (λ same. both_ways c.is_there.result c.if-not-is_there.true ((c.is_there.ensures b.0 b.1).1 same)) in
-    sym (ap is_some (not_all (flipped_if c.args.back c.args.splices.now) c.splices.k s c.args.text.now b.0 c.nth-at.ensures b.1 none))
+    sym (ap is_some (not_all (turned_splices c.args.turned.now) c.splices.k s c.args.text.now b.0 c.nth-at.ensures b.1 none))
 
 pub splices-preserved : goal.splices-preserved
 splices-preserved c =
-    let b = some_of (all_done (take c.splices.k (flipped_if c.args.back c.args.splices.now)) c.args.text.now) c.splices.invariant in
+    let b = some_of (all_done (take c.splices.k (turned_splices c.args.turned.now)) c.args.text.now) c.splices.invariant in
     let s = splice_of_parts c.nth-at.result.0 c.nth-at.result.1.now c.nth-at.result.2.now in
-    let within = lies_within (flipped_if c.args.back c.args.splices.now) c.splices.k s c.args.text.now b.0 c.requires b.1 c.nth-at.ensures in
+    let within = lies_within (turned_splices c.args.turned.now) c.splices.k s c.args.text.now b.0 c.requires b.1 c.nth-at.ensures in
     let found = found_there s b.0 within ((c.is_there.ensures b.0 b.1).0 c.if-not-is_there.false) in
-    ap is_some (done_next (flipped_if c.args.back c.args.splices.now) c.splices.k s c.args.text.now c.nth-at.ensures ∙ ap (option_and_then (change_done s)) b.1 ∙ found.1)
+    ap is_some (done_next (turned_splices c.args.turned.now) c.splices.k s c.args.text.now c.nth-at.ensures ∙ ap (option_and_then (change_done s)) b.1 ∙ found.1)
 
 pub returns : goal.returns
 returns c =
-    sym (ap (λ l. is_some (all_done l c.args.text.now)) (sym (take_all c.splices.k (flipped_if c.args.back c.args.splices.now) (omega (arith, length-turned c.args.back c.args.splices.now)))) ∙ c.splices.invariant)
+    sym (ap (λ l. is_some (all_done l c.args.text.now)) (sym (take_all c.splices.k (turned_splices c.args.turned.now) (omega (arith, length-turned c.args.turned.now.back c.args.turned.now.splices.now)))) ∙ c.splices.invariant)
