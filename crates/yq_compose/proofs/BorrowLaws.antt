@@ -7,7 +7,8 @@ use Rattle.yq_core.{specs.Nodes.begins_with, specs.Scalars.{scalar_content, is_q
 use Rattle.yq_outline.proofs.OneLine.{kept, borrowed_quoted}
 use Rattle.yq_documents.{specs.FlowReading.head_flow_at, specs.Decoded.{borrowed_head, borrowed_text}}
 use Rattle.yq_documents.specs.RowReading.{is_block_head, read_head, is_short_plain, string_head}
-use Rattle.yq_compose.specs.Checking.{begins_tree, holds_escape, borrows_head, borrows_text}
+use Rattle.yq_core.specs.Borrowed.{holds_escape, borrows_text}
+use Rattle.yq_compose.specs.Checking.{begins_tree, borrows_head}
 
 any_drop : (f : ℕ → Bool) (n : ℕ) (t : List ℕ) → list_any f t ≡ false → list_any f (drop n t) ≡ false
 any_drop f zero t e = e

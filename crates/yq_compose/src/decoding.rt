@@ -2,7 +2,7 @@
 ghost use Rattle.std.specs.List.{list_any};
 ghost use Rattle.std.specs.Prelude.{◌≡◌, ◌<◌, ◌++◌, ◌==◌, if◌then◌else◌, length, option_and_then, option_map, string_bytes, true, IfErr};
 ghost use Rattle.std.specs.Prelude.{IfOk, IfSome};
-ghost use Rattle.yq_core.{specs.Answers.IsOfText, specs.Quoted.IsQuotedText, specs.Scalars.is_quoted as is_in_quotes};
+ghost use Rattle.yq_core.{specs.Answers.IsOfText, specs.Borrowed.borrows_text as is_borrowed_text, specs.Quoted.IsQuotedText, specs.Scalars.is_quoted as is_in_quotes};
 ghost use Rattle.yq_outline.specs.View.{head_flow, head_view};
 ghost use Rattle.yq_row_table.specs.View.{rows_of};
 ghost use Rattle.yq_documents.{specs.Decoded.IsDecodedBy, specs.Reading.{content_is_fit, cut_of, have_fit_keys, mark_is_fit}};
@@ -35,7 +35,7 @@ fn holds_escape(is_double: bool, inner: &str) -> bool
 /// Whether the text lends what a key or scalar means: it is on one line, and has no escapes.
 fn borrows_text(piece: &str) -> bool
     requires { is_in_quotes piece.now ≡ true → IsQuotedText piece.now }
-    ensures { result ≡ spec.borrows_text piece.now }
+    ensures { result ≡ is_borrowed_text piece.now }
 {
     if holds_break(piece) {
         return false;

@@ -1,4 +1,5 @@
 pub mod Across
+pub mod BorrowedLaws
 pub mod TextChars
 pub mod PlainRuns
 pub mod Prefixes

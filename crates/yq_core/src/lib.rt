@@ -6,6 +6,7 @@
 pub mod block_header;
 pub mod block_lines;
 mod block_types;
+mod borrowed;
 pub mod characters;
 mod fault;
 pub mod fault_place;
@@ -24,6 +25,7 @@ mod tokens;
 mod value;
 
 pub use block_types::{Break, LineBefore};
+pub use borrowed::BorrowedNode;
 pub use characters::is_text_char;
 pub use fault::{FaultKind, ReadError, ReadFault};
 pub use gap::gap_len;
