@@ -4,6 +4,7 @@ pub mod FitReading
 pub mod Deciding
 pub mod Ahead
 pub mod Checking
+pub mod Borrowing
 pub mod Named
 pub mod Decoding
 pub mod Places

@@ -33,7 +33,7 @@ fn holds_escape(is_double: bool, inner: &str) -> bool
 }
 
 /// Whether the text lends what a key or scalar means: it is on one line, and has no escapes.
-fn borrows_text(piece: &str) -> bool
+pub(crate) fn borrows_text(piece: &str) -> bool
     requires { is_in_quotes piece.now ≡ true → IsQuotedText piece.now }
     ensures { result ≡ is_borrowed_text piece.now }
 {
