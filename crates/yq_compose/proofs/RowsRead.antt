@@ -7,7 +7,8 @@ use Rattle.std.{specs.List.slice_get, specs.Prelude.option_map, specs.Str.{IsCha
 use Rattle.yq_core.{specs.Answers.ReadFails, specs.Quoted.IsQuotedText, specs.Text.is_empty, specs.declared.fault.ReadError.ReadError}
 use Rattle.yq_core.{specs.Scalars.{scalar_content, is_quoted}, specs.Borrowed.borrows_text}
 use Rattle.yq_outline.{specs.declared.line.Head.Head, specs.View.{head_flow, head_view}, specs.Lines.head_of}
-use Rattle.yq_outline.{proofs.RowLaws.{colon_some, mark_quoted}, proofs.OneLine.kept}
+use Rattle.yq_outline.proofs.RowLaws.{colon_some, mark_quoted}
+use Rattle.yq_core.proofs.OneLine.{kept}
 use Rattle.yq_row_table.{specs.Exchange.{before_content, behind_row, rows_behind}, specs.Grammar.IsMark}
 use Rattle.yq_row_table.{specs.Rows.{Row, Cut, parent_indent}, specs.View.{Slices, colon_of, key_of_mark, slices, rows_of, RowsView}}
 use Rattle.yq_row_table.{proofs.PlaceLaws.{RowIn, place, row_in}, proofs.SliceLaws.content_slices}
