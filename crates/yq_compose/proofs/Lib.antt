@@ -25,3 +25,4 @@ pub mod DocumentsRead
 pub mod FlowSound
 pub mod PassedLaws
 pub mod BorrowedHeads
+pub mod BorrowedDepths

@@ -6,5 +6,6 @@ pub mod Ahead
 pub mod Checking
 pub mod Borrowing
 pub mod Named
+pub mod Flows
 pub mod Decoding
 pub mod Places

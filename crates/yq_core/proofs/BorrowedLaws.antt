@@ -1,5 +1,5 @@
 -- Nodes in front of a text that lends them.
-use Rattle.std.proofs.Common.{◌≡◌, ℕ, Bool, true, false, List, Option, Some, None, refl, ap, ◌∙◌, arith}
+use Rattle.std.proofs.Common.{◌≡◌, ℕ, true, false, List, Option, Some, None, refl, sym, ap, ◌∙◌, arith}
 use Rattle.std.proofs.lemmas.Bool.{and_parts, and_from}
 use Rattle.yq_core.{specs.Places.{locate, locate_items}, specs.Trees.{tree_of, items_tree}, specs.Keys.{has_unique_keys, each_has_unique_keys}}
 use Rattle.yq_core.specs.Nodes.{FlowNode, Items, node_text, flow_items_text, IsFlowNode, AreFlowItems, is_close}

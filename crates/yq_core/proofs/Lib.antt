@@ -82,3 +82,6 @@ pub mod LineNodes
 pub mod EditPlaces
 pub mod NestedLaws
 pub mod FaultPlaceLaws
+pub mod OneLine
+pub mod BorrowedTexts
+pub mod BorrowedNames

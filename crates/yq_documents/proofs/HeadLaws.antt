@@ -16,7 +16,8 @@ use Rattle.yq_row_table.{specs.Grammar.IsContent, specs.Rows.{Content, Nothing, 
 use Rattle.yq_documents.{specs.KeyReading.EndsIn, specs.Reading.{has_fit_keys, content_is_fit}}
 use Rattle.yq_documents.specs.RowReading.{placed_head, is_short_plain, is_block_head, string_head, block_head_at, fit_head, node_head_at}
 use Rattle.yq_documents.{specs.RowReading.read_head, proofs.FlowKeyLaws.keys_there}
-use Rattle.yq_outline.{specs.Lines.head_of, proofs.OneLine.one_line}
+use Rattle.yq_outline.specs.Lines.{head_of}
+use Rattle.yq_core.proofs.OneLine.{one_line}
 use Rattle.yq_core.specs.declared.block_header.BlockStyle.TheVariants as styles
 use Rattle.yq_core.specs.declared.style.Place.TheVariants as places
 use Rattle.yq_core.specs.Tree as trees

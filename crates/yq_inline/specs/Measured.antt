@@ -3,8 +3,8 @@ use Rattle.std.specs.Prelude.{ℕ, Bool, true, false, ◌||◌, ◌&&◌, not, L
 use Rattle.yq_core.{specs.Answers.◌>>=◌, specs.Text.is_empty}
 use Rattle.yq_core.specs.Places.{Placed, placed, CoreNode, nothing, name, text, sequence, mapping}
 use Rattle.yq_core.{specs.PlacedReading.{placed_entry, placed_item}, specs.declared.style.Style.Style}
-use Rattle.yq_rows.{specs.declared.measuring.MeasuredKind.MeasuredKind, specs.declared.measuring.Measured.Measured}
-use Rattle.yq_rows.specs.declared.measuring.MeasuredKind.TheVariants as kinds
+use Rattle.yq_inline.{specs.declared.measuring.MeasuredKind.MeasuredKind, specs.declared.measuring.Measured.Measured}
+use Rattle.yq_inline.specs.declared.measuring.MeasuredKind.TheVariants as kinds
 use Rattle.yq_core.specs.declared.style.Style.TheVariants as styles
 
 -- the kind of a scalar of this style (own)
