@@ -4,12 +4,12 @@ use Rattle.std.{proofs.Common.{sym, ap, ◌∙◌, arith}, proofs.lemmas.Bool.{f
 use Rattle.std.{specs.List.slice_get, specs.Prelude.{is_some, option_and_then, option_map}}
 use Rattle.yq_core.{specs.Scalar.plain_of, specs.Text.is_empty, specs.Tree.Node, specs.Places.Placed, specs.Scalars.is_quoted}
 use Rattle.yq_core.specs.Trees.{placed_tree, scalar_node}
-use Rattle.yq_outline.{specs.Outline.Line, specs.Sound.head_is_sound, specs.Lines.lines_of_rows}
-use Rattle.yq_outline.{specs.RowWalk.{IsLine, line_number}, specs.declared.line_position.Position.Position}
-use Rattle.yq_outline.{specs.declared.line_position.Stretch.Stretch, proofs.KnownLaws.get_dropped, proofs.WalkPositions.located}
+use Rattle.yq_outline.{specs.Outline.Line, specs.Sound.head_is_sound, specs.Lines.lines_of_rows, specs.RowWalk.{IsLine, line_number}}
+use Rattle.yq_outline.{specs.declared.line_position.Position.Position, specs.declared.line_position.Stretch.Stretch}
+use Rattle.yq_outline.{proofs.KnownLaws.get_dropped, proofs.WalkPositions.located}
 use Rattle.yq_row_table.{specs.Rows.Row, specs.View.{RowsView, rows_of, slices}}
-use Rattle.yq_documents.specs.Decoded.{borrowed_head, borrowed_text, decoded_at, decoded_or, decoded_flow, decoded_head, decoded_view, flow_in}
-use Rattle.yq_documents.{specs.RowReading.string_head, specs.declared.decoded.Decoded.Decoded}
+use Rattle.yq_documents.specs.Decoded.{borrowed_head, borrowed_text, decoded_at, decoded_or, decoded_flow, decoded_head, decoded_view}
+use Rattle.yq_documents.{specs.Decoded.flow_in, specs.RowReading.string_head, specs.declared.decoded.Decoded.Decoded}
 use Rattle.yq_compose.{specs.Checking.IsCheckable, proofs.PositionOrder.head_last}
 use Rattle.yq_documents.specs.declared.decoded.DecodedHead as made
 use Rattle.yq_outline.specs.declared.line.Head as heads

@@ -4,11 +4,11 @@ use Rattle.std.{proofs.Common.{◌∙◌, append_assoc, append-nil}, proofs.lemm
 use Rattle.std.specs.Prelude.{option_and_then, option_map}
 use Rattle.yq_core.{specs.Anchors.{Name, anchor_names}, specs.Scalar.plain_of, specs.Text.is_empty, specs.Scalars.is_quoted}
 use Rattle.yq_core.specs.Trees.{scalar_node}
-use Rattle.yq_outline.{specs.Names.{head_names, line_names}, specs.Outline.Line}
-use Rattle.yq_outline.{specs.Lines.{content_anchor, head_of, lines_of_rows}, proofs.WalkLevels.names_row}
+use Rattle.yq_outline.{specs.Names.{head_names, line_names}, specs.Outline.Line, specs.Lines.{content_anchor, head_of, lines_of_rows}}
+use Rattle.yq_outline.proofs.WalkLevels.{names_row}
 use Rattle.yq_row_table.specs.Rows.{Row}
-use Rattle.yq_documents.{specs.Decoded.{borrowed_head, borrowed_text, decoded_or, decoded_flow, decoded_head, decoded_view, flow_in}, specs.RowReading.string_head}
-use Rattle.yq_documents.specs.declared.decoded.Decoded.{Decoded}
+use Rattle.yq_documents.specs.Decoded.{borrowed_head, borrowed_text, decoded_or, decoded_flow, decoded_head, decoded_view, flow_in}
+use Rattle.yq_documents.{specs.RowReading.string_head, specs.declared.decoded.Decoded.Decoded}
 use Rattle.yq_compose.{specs.Named.flow_names, proofs.RowContents.lines_at}
 use Rattle.yq_documents.specs.declared.decoded.DecodedHead as made
 use Rattle.yq_outline.specs.declared.line.Head as heads

@@ -3,7 +3,8 @@ ghost use Rattle.std.specs.Prelude.{◌≡◌, List, option_map, IfErr, Some};
 ghost use Rattle.yq_core.specs.Answers.{IsOfText};
 ghost use Rattle.yq_outline.specs.RowWalk.{IsLine};
 ghost use Rattle.yq_documents.{specs.Decoded.{decoded_at, decoded_flow}, specs.declared.decoded.Decoded.Decoded as DecodedOf};
-ghost use Rattle.yq_compose.{specs.Ahead.IsAhead, specs.Checking.{IsChecked, IsReached, OfCheckedLine}, specs.Deciding.Decides, specs.Flows.flow_view};
+ghost use Rattle.yq_compose.{specs.Ahead.IsAhead, specs.Checking.{IsChecked, IsReached, OfCheckedLine}, specs.Deciding.Decides};
+ghost use Rattle.yq_compose.specs.Flows.{flow_view};
 ghost use Rattle.yq_outline.specs.Sound as spec;
 
 use crate::ahead::decoded_here;
