@@ -2,8 +2,8 @@
 ghost use Rattle.std.specs.Prelude.{◌≡◌, None, map, option_map};
 ghost use Rattle.yq_core.specs.Entries.{end_of, entry_place, flow_part_at, parts_of, placed_entry_at, tree_step};
 ghost use Rattle.yq_core.specs.View.{borrowed_view};
-ghost use Rattle.yq_inline.specs.BorrowedParts.{borrowed_entry};
 ghost use Rattle.yq_core.specs.Entries as spec;
+ghost use Rattle.yq_inline.specs.BorrowedParts.{borrowed_entry};
 
 use crate::forms::{BorrowedForm, form_of};
 use crate::parts::{BorrowedEntry, past_borrowed};

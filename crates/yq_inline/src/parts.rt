@@ -1,8 +1,8 @@
 //! The items and entries of nodes that a text lends, one after the other.
 ghost use Rattle.std.specs.Prelude.{◌≡◌, ◌≢◌, ◌<◌, ◌≤◌, IfSome, List, None, Some, false, length, option_map, true, ℕ};
-ghost use Rattle.yq_core.{specs.Borrowed.are_borrowed, specs.Entries.flow_part_at, specs.Nodes.begins_with};
-ghost use Rattle.yq_core.{specs.Paths.{Nth, To, is_item, key_is}, specs.PlacedReading.{past_sep, split_key}, specs.Quoted.IsQuotedText};
-ghost use Rattle.yq_core.{specs.Reading.all_node, specs.Scalars.is_quoted as is_in_quotes, specs.Trees.unplaced_key};
+ghost use Rattle.yq_core.{specs.Borrowed.are_borrowed, specs.Entries.flow_part_at, specs.Nodes.begins_with, specs.Paths.{Nth, To}};
+ghost use Rattle.yq_core.{specs.PlacedReading.{past_sep, split_key}, specs.Quoted.IsQuotedText, specs.Reading.all_node};
+ghost use Rattle.yq_core.{specs.Paths.{is_item, key_is}, specs.Scalars.is_quoted as is_in_quotes, specs.Trees.unplaced_key};
 ghost use Rattle.yq_inline.specs.Measured.{closing_byte, past_node};
 
 use crate::measuring::measure_node;
