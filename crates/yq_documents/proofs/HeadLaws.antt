@@ -44,7 +44,7 @@ ends_drop whole t h =
 abbrev pub fitting : Bool → Option trees.Node → Option (Option trees.Node)
 fitting fit head = cond fit (Some head) None
 
-node_again : (whole : List ℕ) (n : ℤ) (node : FlowNode) (rest : List ℕ) → is_anchored node ≡ false → is_empty_node node ≡ false → EndsIn whole (node_text node rest) → IsFlowNode false (Some (deeper n)) depth_limit node rest →
+pub node_again : (whole : List ℕ) (n : ℤ) (node : FlowNode) (rest : List ℕ) → is_anchored node ≡ false → is_empty_node node ≡ false → EndsIn whole (node_text node rest) → IsFlowNode false (Some (deeper n)) depth_limit node rest →
     node_head_at whole n (node_text node rest) ≡ fitting (has_fit_keys node) (node_head node)
 node_again whole n node rest a some ends h =
     let at : ℕ = length whole - length (node_text node rest) in
@@ -60,7 +60,7 @@ node_again whole n node rest a some ends h =
     ∙ (λ i. fitting (keys_there whole node rest ends i) (placed_head_is (length whole) node rest a i))
 
 -- which head a text is
-by_node : (whole : List ℕ) (n : ℤ) (head t : List ℕ) → is_empty head ≡ false → is_block_head head ≡ false → is_quoted head ≡ false → is_short_plain head ≡ false → read_head whole n head t ≡ node_head_at whole n t
+pub by_node : (whole : List ℕ) (n : ℤ) (head t : List ℕ) → is_empty head ≡ false → is_block_head head ≡ false → is_quoted head ≡ false → is_short_plain head ≡ false → read_head whole n head t ≡ node_head_at whole n t
 unfolding read_head
 by_node whole n head t some block quoted short = rw (some, block, short, quoted) refl
 
