@@ -7,8 +7,8 @@ use Rattle.yq_nodes.proofs.nodes.count.count_parts.Given as goal
 -- what is counted, and what is left, are all; each that is counted has a byte of its own
 abbrev pub invariant-parts : goal.invariant-parts
 invariant-parts l =
-    (l.count + spec.count (parts_tree (parts_view l.rest)) ≡ spec.count (parts_tree (parts_view l.fn.parts)))
-    × (l.count + length l.rest.text.now ≤ length l.fn.parts.text.now)
+    (l.n + spec.count (parts_tree (parts_view l.rest)) ≡ spec.count (parts_tree (parts_view l.fn.parts)))
+    × (l.n + length l.rest.text.now ≤ length l.fn.parts.text.now)
 
 abbrev pub decreases-parts : goal.decreases-parts
 decreases-parts l = length l.rest.text.now
