@@ -37,12 +37,12 @@ decoded_key m key = decoded_or (option_and_then (λ x. option_map string_bytes x
 
 -- what a head spells that is decoded, if it is anything (own)
 abbrev pub decoded_view : heads.DecodedHead → Option Node
-decoded_view (heads.TheVariants.Made head) = head_view head
+decoded_view (heads.TheVariants.Owned head) = head_view head
 decoded_view (heads.TheVariants.Borrowed node) = Some (placed_tree (borrowed_view node))
 
 -- the alias or flow collection that it is, with its places (own)
 abbrev pub flow_in : heads.DecodedHead → Option Placed
-flow_in (heads.TheVariants.Made head) = head_flow head
+flow_in (heads.TheVariants.Owned head) = head_flow head
 flow_in (heads.TheVariants.Borrowed node) = Some (borrowed_view node)
 
 -- what a row's head spells, by what is made of the row and by its head (own)

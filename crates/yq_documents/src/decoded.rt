@@ -7,7 +7,7 @@ use yq_outline::Head;
 #[derive(Drop)]
 pub enum DecodedHead<'t> {
     /// A scalar, an alias or a flow collection, made.
-    Made(Head<'t>),
+    Owned(Head<'t>),
     /// A flow collection of which the text lends each key and scalar.
     Borrowed(BorrowedNode<'t>),
 }

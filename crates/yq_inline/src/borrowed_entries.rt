@@ -1,9 +1,9 @@
 //! Where items and entries are that a text lends, and where paths lead in its nodes.
-ghost use Rattle.std.specs.Prelude.{◌≡◌, None, map, option_map};
-ghost use Rattle.yq_core.specs.Entries.{end_of, entry_place, flow_part_at, parts_of, placed_entry_at, tree_step};
+ghost use Rattle.std.specs.Prelude.{◌≡◌, option_map};
+ghost use Rattle.yq_core.specs.Entries.{entry_place};
 ghost use Rattle.yq_core.specs.View.{borrowed_view};
 ghost use Rattle.yq_core.specs.Entries as spec;
-ghost use Rattle.yq_inline.specs.BorrowedParts.{borrowed_entry};
+ghost use Rattle.yq_inline.{specs.BorrowedForms.{entry_at, part_at}, specs.BorrowedParts.borrowed_entry};
 
 use crate::forms::{BorrowedForm, form_of};
 use crate::parts::{BorrowedEntry, past_borrowed};
@@ -12,8 +12,7 @@ use yq_core::{BorrowedNode, Step};
 
 /// The item or entry to which a step leads.
 fn part_of<'t>(node: BorrowedNode<'t>, step: &Step) -> Option<BorrowedEntry<'t>>
-    ensures { option_map borrowed_entry result ≡
-        flow_part_at (tree_step step.now) (parts_of (borrowed_view node.entry)) }
+    ensures { option_map borrowed_entry result ≡ part_at step.now node.entry }
 {
     let parts = match form_of(node) {
         BorrowedForm::Scalar(..) => return None,
@@ -28,8 +27,7 @@ fn part_of<'t>(node: BorrowedNode<'t>, step: &Step) -> Option<BorrowedEntry<'t>>
 
 /// The item or entry at a path from a node, which itself is the entry of the empty path.
 pub fn entry_in<'t>(node: BorrowedNode<'t>, steps: &[Step]) -> Option<BorrowedEntry<'t>>
-    ensures { option_map borrowed_entry result ≡
-        placed_entry_at (map tree_step steps.now) (None, borrowed_view node.entry) }
+    ensures { option_map borrowed_entry result ≡ entry_at steps.now node.entry }
 {
     let mut found = BorrowedEntry { key: None, node };
     'steps: for step in steps {

@@ -1,7 +1,7 @@
 //! What nodes are that a text lends.
 ghost use Rattle.std.specs.Prelude.{◌≡◌, None, Some, drop, true};
 ghost use Rattle.yq_core.specs.Entries.{parts_of};
-ghost use Rattle.yq_core.{specs.Nodes.{begins_with, opening_bracket}, specs.Reading.read_scalar as scalar_at, specs.Tree.scalar};
+ghost use Rattle.yq_core.{specs.Nodes.{begins_with, opening_bracket}, specs.Reading.read_scalar as read, specs.Tree.scalar};
 ghost use Rattle.yq_core.{specs.Trees.placed_tree, specs.View.borrowed_view};
 ghost use Rattle.yq_inline.specs.Measured.{closing_byte};
 ghost use Rattle.yq_inline.specs.BorrowedForms as spec;
@@ -25,8 +25,8 @@ pub enum BorrowedForm<'t> {
 
 /// The kind and the text of the scalar in front.
 fn scalar_in_front(text: &str) -> (Kind, &str)
-    requires { spec.borrows_front (scalar_at true (Some 0) text.now) ≡ true }
-    ensures { spec.front_node (scalar_at true (Some 0) text.now) ≡
+    requires { spec.borrows_front (read true (Some 0) text.now) ≡ true }
+    ensures { spec.front_node (read true (Some 0) text.now) ≡
         Some (scalar None result.0 result.1.now) }
 {
     let piece = match read_scalar(true, Some(0), text, text) {

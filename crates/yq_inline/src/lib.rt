@@ -1,4 +1,5 @@
 //! Inline nodes of YAML: aliases, plain and quoted scalars and flow collections, with their anchors.
+//! Where they end is found without memory, and those that the text lends are walked so.
 #![tactic(auto)]
 
 mod borrowed_entries;

@@ -13,10 +13,11 @@ labelled e = (key_label (unplaced_key e.0), placed_tree e.1)
 
 pub labelled_parts : (s : Step) (ps : Parts) → labelled_at s (parts_tree ps) ≡ option_map labelled (flow_part_at s ps)
 labelled_parts s end = refl
-labelled_parts s (part key n ps) = go (is_here s (key_label (unplaced_key key))) where
-  go : (b : Bool) → cond b (Some (key_label (unplaced_key key), placed_tree n)) (labelled_at (further s) (parts_tree ps)) ≡ option_map labelled (cond b (Some (key, n)) (flow_part_at (further s) ps))
-  go true = refl
-  go false = labelled_parts (further s) ps
+labelled_parts s (part key n ps) = go (is_here s (key_label (unplaced_key key))) (labelled_parts (further s) ps) where
+  go : (b : Bool) → labelled_at (further s) (parts_tree ps) ≡ option_map labelled (flow_part_at (further s) ps) →
+      cond b (Some (key_label (unplaced_key key), placed_tree n)) (labelled_at (further s) (parts_tree ps)) ≡ option_map labelled (cond b (Some (key, n)) (flow_part_at (further s) ps))
+  go true rest = refl
+  go false rest = rest
 
 -- where a step leads
 pub part_found : (s : Step) (ps : Parts) (e : PlacedEntry) (n : declared.Node) → Some e ≡ flow_part_at s ps → labelled_of n ≡ labelled e → Some (labelled_of n) ≡ labelled_at s (parts_tree ps)

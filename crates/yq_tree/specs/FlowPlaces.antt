@@ -5,5 +5,5 @@ use Rattle.yq_tree.specs.declared.flow_place.FlowEntry as entries
 
 -- the item or entry that one of the code shows (own)
 abbrev pub flow_entry_view : entries.FlowEntry → PlacedEntry
-flow_entry_view (entries.TheVariants.Made entry) = entry_view entry
+flow_entry_view (entries.TheVariants.Owned entry) = entry_view entry
 flow_entry_view (entries.TheVariants.Borrowed entry) = borrowed_entry entry

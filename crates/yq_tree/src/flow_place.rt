@@ -3,7 +3,7 @@ ghost use Rattle.std.specs.Prelude.{◌≡◌, map, option_map};
 ghost use Rattle.yq_core.specs.Entries.{content_place, entry_place, tree_step};
 ghost use Rattle.yq_outline.specs.View.{head_flow};
 ghost use Rattle.yq_documents.{specs.Decoded.{decoded_flow, flow_in}, specs.Pieces.span, specs.Reading.cut_of};
-ghost use Rattle.yq_tree.specs.FlowPlaces.{flow_entry_view};
+ghost use Rattle.yq_tree.specs.FlowPlaces.{flow_entry_view as view};
 ghost use Rattle.yq_places.specs.EntryReading as spec;
 
 use yq_core::{Entry, Step};
@@ -17,20 +17,20 @@ use yq_row_walk::reach;
 #[derive(Clone, Copy)]
 pub(crate) enum FlowEntry<'d, 't> {
     /// In a tree that was made.
-    Made(Entry<'d, 't>),
+    Owned(Entry<'d, 't>),
     /// In a text that lends it.
     Borrowed(BorrowedEntry<'t>),
 }
 
 /// The item or entry to which steps lead in a head.
 fn head_entry<'d, 't>(head: &'d Head<'t>, steps: &[Step]) -> Option<FlowEntry<'d, 't>>
-    ensures { option_map flow_entry_view result ≡
+    ensures { option_map view result ≡
         spec.entry_within (map tree_step steps.now) (head_flow head.now) }
 {
     match head {
         Head::Nothing => None,
         Head::Scalar(..) => None,
-        Head::Inline(node) => Some(FlowEntry::Made(node.entry(steps)?)),
+        Head::Inline(node) => Some(FlowEntry::Owned(node.entry(steps)?)),
     }
 }
 
@@ -39,21 +39,21 @@ fn decoded_head_entry<'d, 't>(
     head: &'d DecodedHead<'t>,
     steps: &[Step],
 ) -> Option<FlowEntry<'d, 't>>
-    ensures { option_map flow_entry_view result ≡
+    ensures { option_map view result ≡
         spec.entry_within (map tree_step steps.now) (flow_in head.now) }
 {
     match head {
-        DecodedHead::Made(head) => head_entry(head, steps),
+        DecodedHead::Owned(head) => head_entry(head, steps),
         DecodedHead::Borrowed(node) => Some(FlowEntry::Borrowed(entry_in(*node, steps)?)),
     }
 }
 
 /// The place of an item or entry in a flow collection.
 pub(crate) fn entry_span(entry: &FlowEntry<'_, '_>) -> Span
-    ensures { span result ≡ entry_place (flow_entry_view entry.now) }
+    ensures { span result ≡ entry_place (view entry.now) }
 {
     let (start, end) = match entry {
-        FlowEntry::Made(entry) => entry.place(),
+        FlowEntry::Owned(entry) => entry.place(),
         FlowEntry::Borrowed(entry) => entry.place(),
     };
     Span { start, end }
@@ -61,10 +61,10 @@ pub(crate) fn entry_span(entry: &FlowEntry<'_, '_>) -> Span
 
 /// The place of the content of an item or entry in a flow collection.
 pub(crate) fn content_span(entry: &FlowEntry<'_, '_>) -> Option<Span>
-    ensures { option_map span result ≡ content_place (flow_entry_view entry.now).1 }
+    ensures { option_map span result ≡ content_place (view entry.now).1 }
 {
     let (start, end) = match entry {
-        FlowEntry::Made(entry) => entry.node.content_place()?,
+        FlowEntry::Owned(entry) => entry.node.content_place()?,
         FlowEntry::Borrowed(entry) => entry.content_place()?,
     };
     Some(Span { start, end })
@@ -75,7 +75,7 @@ fn decoded_entry<'d, 't>(
     decoded: Option<&'d Decoded<'t>>,
     steps: &[Step],
 ) -> Option<FlowEntry<'d, 't>>
-    ensures { option_map flow_entry_view result ≡
+    ensures { option_map view result ≡
         spec.entry_within (map tree_step steps.now)
         (decoded_flow (option_map (λ m. m.now) decoded.entry)) }
 {
@@ -90,7 +90,7 @@ pub(crate) fn flow_entry<'d, 't>(
     documents: &'d Documents<'t>,
     path: &Path,
 ) -> Option<FlowEntry<'d, 't>>
-    ensures { option_map flow_entry_view result ≡
+    ensures { option_map view result ≡
         spec.flow_entry_at path.now (cut_of documents.now) }
 {
     let cut = CutText::of(documents);

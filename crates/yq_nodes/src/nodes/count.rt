@@ -28,12 +28,12 @@ fn count_parts(parts: BorrowedParts<'_>) -> usize
     ensures { result ≡ spec.count (parts_tree (parts_view parts.entry)) }
 {
     let mut rest = parts;
-    let mut count = 0;
+    let mut n = 0;
     'parts: while let Some((_, others)) = rest.split_first() {
         rest = others;
-        count += 1;
+        n += 1;
     }
-    count
+    n
 }
 
 impl Node<'_, '_> {

@@ -46,7 +46,7 @@ fn decoded_body<'d, 't>(head: &'d DecodedHead<'t>) -> Option<Body<'d, 't>>
     ensures { option_map body_node result ≡ spec.decoded_view head.now }
 {
     match head {
-        DecodedHead::Made(head) => head_body(head),
+        DecodedHead::Owned(head) => head_body(head),
         DecodedHead::Borrowed(node) => Some(Body::Borrowed(*node)),
     }
 }
