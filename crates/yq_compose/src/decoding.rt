@@ -119,7 +119,7 @@ fn decode_head<'t>(
     }
     let parent = rows.row(i).parent_indent();
     match read_head(alloc, text, parent, head, behind) {
-        Ok(head) => Ok(Some(DecodedHead::Made(head))),
+        Ok(head) => Ok(Some(DecodedHead::Owned(head))),
         Err(e) => Err(e),
     }
 }
@@ -216,7 +216,7 @@ fn row_refers(row: &Decoded<'_>) -> bool
     ensures { result ≡ spec.decoded_refers row.now }
 {
     match flow_decoded(Some(row)) {
-        Some(Flow::Made(node)) => node_refers(node),
+        Some(Flow::Owned(node)) => node_refers(node),
         Some(Flow::Borrowed(_)) => false,
         None => false,
     }

@@ -19,7 +19,7 @@ fn push_flow<'t>(names: &mut Vec<Name<'t>>, flow: Option<Flow<'_, 't>>) -> Resul
         return Ok(());
     };
     match flow {
-        Flow::Made(node) => push_node(names, node),
+        Flow::Owned(node) => push_node(names, node),
         Flow::Borrowed(_) => Ok(()),
     }
 }

@@ -5,7 +5,7 @@ use Rattle.yq_row_table.{specs.Rows.parent_indent, specs.View.{Slices, slices}}
 use Rattle.yq_documents.specs.Reading.{cut_of}
 use Rattle.yq_compose.proofs.RowsRead.{fit_agrees, head_quoted, head_read, borrowed_fit, none_decoded, no_head, pieces_there, place_whole}
 use Rattle.yq_compose.{proofs.RowsRead.{read_decoded, row_at, text_ends, unfit_agrees}, proofs.DocumentsRead.cut_view}
-use Rattle.yq_documents.specs.declared.decoded.DecodedHead as made
+use Rattle.yq_documents.specs.declared.decoded.DecodedHead as kept
 use Rattle.yq_compose.proofs.decoding.decode_head.Goals as goal
 
 pub returns-then-not-has_head-clause-fits : goal.returns-then-not-has_head-clause-fits
@@ -77,7 +77,7 @@ returns-in-Ok-clause-agrees c = λ r is.
     let start = ap (λ (x : ℕ × ℕ). x.0) (c.head_place-start.ensures (cut_of c.args.text.now) k.rows r is) in
     let f : SFits w64 c.parent_indent-parent.result = search rules in
     let parent = to_z-of_z w64 c.parent_indent-parent.result f ∙ (c.parent_indent-parent.ensures ∙ ap (λ (x : Slices). x.parent) (same_Some _ _ (sym c.row.ensures ∙ pieces))) in
-    read_decoded c.args.text.now c.args.rows.now k c.args.i r is c.split_at.result.1.now c.head_place-start.result.0 c.split_at.ensures.back start _ c.head-head.result.now parent head (made.TheVariants.Made c.in-Ok.head) c.in-Ok.ensures.view c.in-Ok.ensures.flow
+    read_decoded c.args.text.now c.args.rows.now k c.args.i r is c.split_at.result.1.now c.head_place-start.result.0 c.split_at.ensures.back start _ c.head-head.result.now parent head (kept.TheVariants.Owned c.in-Ok.head) c.in-Ok.ensures.view c.in-Ok.ensures.flow
 
 pub returns-in-Err-clause-fits : goal.returns-in-Err-clause-fits
 returns-in-Err-clause-fits c = λ r is.
@@ -111,4 +111,4 @@ returns-in-Some-clause-agrees c = λ r is.
     let k = c.requires.cut in
     let head = c.head-head.ensures (slices r) (pieces_there c.args.text.now c.args.rows.now k c.args.i r is) in
     let start = ap (λ (x : ℕ × ℕ). x.0) (c.head_place-start.ensures (cut_of c.args.text.now) k.rows r is) in
-    read_decoded c.args.text.now c.args.rows.now k c.args.i r is c.split_at.result.1.now c.head_place-start.result.0 c.split_at.ensures.back start (parent_indent r) c.head-head.result.now refl head (made.TheVariants.Borrowed c.in-Some.node) (c.in-Some.ensures.view (parent_indent r)) (c.in-Some.ensures.flow (parent_indent r))
+    read_decoded c.args.text.now c.args.rows.now k c.args.i r is c.split_at.result.1.now c.head_place-start.result.0 c.split_at.ensures.back start (parent_indent r) c.head-head.result.now refl head (kept.TheVariants.Borrowed c.in-Some.node) (c.in-Some.ensures.view (parent_indent r)) (c.in-Some.ensures.flow (parent_indent r))

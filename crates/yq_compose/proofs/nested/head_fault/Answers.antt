@@ -14,11 +14,11 @@ returns-in-None-clause-sound c = λ r l is.
 pub returns-then-not-has_head-clause-sound : goal.returns-then-not-has_head-clause-sound
 returns-then-not-has_head-clause-sound c = λ r l is. headless c.args.depth l.head (c.if-not-has_head.ensures r.document l is)
 
-pub returns-in-Made-clause-sound : goal.returns-in-Made-clause-sound
-returns-in-Made-clause-sound c = λ r l is.
+pub returns-in-Owned-clause-sound : goal.returns-in-Owned-clause-sound
+returns-in-Owned-clause-sound c = λ r l is.
     let x = c.args.x in
     let k = located x.rows.now x.document r.document c.args.at.position c.requires.line in
-    let flow = sym (c.row_flow.ensures x.decoded.now c.requires.at.decoded) ∙ ap (option_map flow_view) (c.in-Some.is ∙ ap Some c.in-Made.is) in
+    let flow = sym (c.row_flow.ensures x.decoded.now c.requires.at.decoded) ∙ ap (option_map flow_view) (c.in-Some.is ∙ ap Some c.in-Owned.is) in
     decides_as c.node_fault.result _ _
     (ap (head_is_sound c.args.depth)
     (head_some (decoded_at c.args.at.position.row x.decoded.now) (slices k.row).head _ flow ∙ head_line x.text.now x.rows.now x.decoded.now x.document r c.args.at.position c.requires.line l is (c.if-not-has_head.ensures r.document l is)))
