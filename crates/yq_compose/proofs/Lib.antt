@@ -23,3 +23,6 @@ pub mod DecodedRows
 pub mod PartLaws
 pub mod DocumentsRead
 pub mod FlowSound
+pub mod PassedLaws
+pub mod BorrowedHeads
+pub mod BorrowedDepths

@@ -1,7 +1,7 @@
 -- Reading (own; a reader may skip it): a document of a text whose rows are cut, with what is made of these.
-use Rattle.std.specs.Prelude.{◌≡◌, ℕ, ◌<◌, nat_lt, List, length, slice_get, Some, Bool, false, ◌&&◌, ◌||◌, ◌-◌, ◌==◌, not, take, drop}
-use Rattle.std.{specs.Prelude.if◌then◌else◌, specs.List.list_any}
-use Rattle.yq_core.{specs.Plain.holds_break, specs.Scalars.is_quoted, specs.Nodes.begins_with}
+use Rattle.std.specs.Prelude.{◌≡◌, ℕ, ◌<◌, nat_lt, List, length, slice_get, Some, Bool, false, ◌&&◌, ◌||◌, ◌-◌, not, take, drop}
+use Rattle.std.specs.List.{list_any}
+use Rattle.yq_core.{specs.Borrowed.borrows_text, specs.Nodes.begins_with}
 use Rattle.yq_outline.{specs.Ends.{IsEndOf, has_no_lines, part}, specs.Extents.IsRowsView, specs.Outline.{Line, level}}
 use Rattle.yq_outline.{specs.Lines.lines_of_rows, specs.RowWalk.{HasRows, IsPosition, OfLine, OfLines, line_number, lines_stop}}
 use Rattle.yq_outline.{specs.declared.line_position.Position.Position, specs.declared.line_position.Stretch.Stretch}
@@ -11,14 +11,6 @@ use Rattle.yq_documents.{specs.Decoded.{IsDecoded, Rise, decoded_flow}, specs.Ro
 use Rattle.yq_documents.specs.declared.decoded.Decoded.{Decoded}
 use Rattle.yq_compose.{specs.Named.flow_names, specs.Ahead.IsAhead, specs.declared.checked.Checked.Checked}
 use Rattle.yq_compose.specs.declared.reached.Reached.{Reached}
-
--- a backslash in double quotes, or a quote in single ones, comes after the first byte and before the last (own)
-abbrev pub holds_escape : List ℕ → Bool
-holds_escape t = if is_quoted t then list_any (λ b. b == (if begins_with 34 t then 92 else 39)) (take (length t - 2) (drop 1 t)) else false
-
--- the text lends what a key or scalar means: it is on one line, and has no escapes (own)
-abbrev pub borrows_text : List ℕ → Bool
-borrows_text t = not (holds_break t) && not (holds_escape t)
 
 -- an alias, a flow collection or a block scalar begins so (own)
 abbrev pub begins_tree : List ℕ → Bool

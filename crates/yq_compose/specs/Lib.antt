@@ -4,6 +4,8 @@ pub mod FitReading
 pub mod Deciding
 pub mod Ahead
 pub mod Checking
+pub mod Borrowing
 pub mod Named
+pub mod Flows
 pub mod Decoding
 pub mod Places

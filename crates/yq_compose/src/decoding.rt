@@ -2,22 +2,22 @@
 ghost use Rattle.std.specs.List.{list_any};
 ghost use Rattle.std.specs.Prelude.{◌≡◌, ◌<◌, ◌++◌, ◌==◌, if◌then◌else◌, length, option_and_then, option_map, string_bytes, true, IfErr};
 ghost use Rattle.std.specs.Prelude.{IfOk, IfSome};
-ghost use Rattle.yq_core.{specs.Answers.IsOfText, specs.Quoted.IsQuotedText, specs.Scalars.is_quoted as is_in_quotes};
-ghost use Rattle.yq_outline.specs.View.{head_flow, head_view};
+ghost use Rattle.yq_core.{specs.Answers.IsOfText, specs.Borrowed.borrows_text as is_borrowed_text, specs.Quoted.IsQuotedText};
+ghost use Rattle.yq_core.specs.Scalars.{is_quoted as is_in_quotes};
 ghost use Rattle.yq_row_table.specs.View.{rows_of};
-ghost use Rattle.yq_documents.{specs.Decoded.IsDecodedBy, specs.Reading.{content_is_fit, cut_of, have_fit_keys, mark_is_fit}};
-ghost use Rattle.yq_documents.specs.RowReading.{row_fits};
+ghost use Rattle.yq_documents.specs.Decoded.{IsDecodedBy, decoded_view, flow_in};
+ghost use Rattle.yq_documents.{specs.Reading.{content_is_fit, cut_of, have_fit_keys, mark_is_fit}, specs.RowReading.row_fits};
 ghost use Rattle.yq_compose.specs.Deciding.{Decides};
 ghost use Rattle.yq_compose.specs.Decoding.{AreDecoded, IsCutInto, IsHeadDecoded, IsKeyDecoded, OfRow, list_of_option};
 ghost use Rattle.yq_compose.specs.Checking as spec;
 
+use crate::borrowing::borrow_head;
 use crate::fit::key_fits;
-use crate::nested::flow_decoded;
+use crate::nested::{Flow, flow_decoded};
 use std::alloc::{AllocError, Global};
 use yq_core::fault_place::fault_at;
 use yq_core::{FaultKind, ReadError, first_is, is_quoted};
-use yq_documents::{Decoded, borrowed_text, node_refers};
-use yq_outline::Head;
+use yq_documents::{Decoded, DecodedHead, borrowed_text, node_refers};
 use yq_row_heads::read_head;
 use yq_row_table::Rows;
 use yq_row_walk::head_place;
@@ -33,9 +33,9 @@ fn holds_escape(is_double: bool, inner: &str) -> bool
 }
 
 /// Whether the text lends what a key or scalar means: it is on one line, and has no escapes.
-fn borrows_text(piece: &str) -> bool
+pub(crate) fn borrows_text(piece: &str) -> bool
     requires { is_in_quotes piece.now ≡ true → IsQuotedText piece.now }
-    ensures { result ≡ spec.borrows_text piece.now }
+    ensures { result ≡ is_borrowed_text piece.now }
 {
     if holds_break(piece) {
         return false;
@@ -98,7 +98,7 @@ fn decode_head<'t>(
     text: &'t str,
     rows: &Rows<'t>,
     i: usize,
-) -> Result<Option<Head<'t>>, ReadError>
+) -> Result<Option<DecodedHead<'t>>, ReadError>
     requires cut { IsCutInto text.now rows.now }
     requires within { i < length rows.now.rows }
     ensures fits { OfRow text.now i (λ r. Decides result (content_is_fit r.content)) }
@@ -114,22 +114,29 @@ fn decode_head<'t>(
     }
     let (start, _) = head_place(rows, i);
     let behind = text.split_at(start).1;
+    if let Some(node) = borrow_head(alloc, text, head, behind) {
+        return Ok(Some(DecodedHead::Borrowed(node)));
+    }
     let parent = rows.row(i).parent_indent();
     match read_head(alloc, text, parent, head, behind) {
-        Ok(head) => Ok(Some(head)),
+        Ok(head) => Ok(Some(DecodedHead::Owned(head))),
         Err(e) => Err(e),
     }
 }
 
 /// What is made of row `i`, by what is made of its key and of its head, if anything is.
-fn decoded_row<'t>(i: usize, key: Option<String>, head: Option<Head<'t>>) -> Option<Decoded<'t>>
+fn decoded_row<'t>(
+    i: usize,
+    key: Option<String>,
+    head: Option<DecodedHead<'t>>,
+) -> Option<Decoded<'t>>
     ensures row { IfSome result (λ m. m.row ≡ i) }
     ensures key { option_and_then (λ m. option_map string_bytes m.key) result ≡
         option_map string_bytes key }
-    ensures head { option_and_then (λ m. option_map head_view m.head) result ≡
-        option_map head_view head.entry }
-    ensures flow { option_and_then (λ m. option_and_then head_flow m.head) result ≡
-        option_and_then head_flow head.entry }
+    ensures head { option_and_then (λ m. option_map decoded_view m.head) result ≡
+        option_map decoded_view head.entry }
+    ensures flow { option_and_then (λ m. option_and_then flow_in m.head) result ≡
+        option_and_then flow_in head.entry }
 {
     if key.is_none() && head.is_none() {
         return None;
@@ -209,7 +216,8 @@ fn row_refers(row: &Decoded<'_>) -> bool
     ensures { result ≡ spec.decoded_refers row.now }
 {
     match flow_decoded(Some(row)) {
-        Some(node) => node_refers(node),
+        Some(Flow::Owned(node)) => node_refers(node),
+        Some(Flow::Borrowed(_)) => false,
         None => false,
     }
 }

@@ -1,25 +1,26 @@
 //! The anchors and aliases of a document, in the order of the text.
 ghost use Rattle.std.specs.Prelude.{◌≡◌, ◌++◌, option_map, IfOk, OnOk};
-ghost use Rattle.yq_core.specs.View.{inline_view};
 ghost use Rattle.yq_outline.specs.Names.{line_names};
-ghost use Rattle.yq_compose.{specs.Checking.{IsChecked, OfChecked}, specs.Named.{all_named, flow_names}};
+ghost use Rattle.yq_compose.{specs.Checking.{IsChecked, OfChecked}, specs.Flows.flow_view, specs.Named.{all_named, flow_names}};
 
 use crate::ahead::{ahead_from, ahead_of};
 use crate::checked::Checked;
 use crate::names::{Name, push_anchor, push_node};
-use crate::nested::row_flow;
+use crate::nested::{Flow, row_flow};
 use std::alloc::{AllocError, Global};
-use yq_core::Inline;
 use yq_documents::anchor_name;
 
 /// Adds the names in an alias or flow collection, if there is one.
-fn push_flow<'t>(names: &mut Vec<Name<'t>>, flow: Option<&Inline<'t>>) -> Result<(), AllocError>
+fn push_flow<'t>(names: &mut Vec<Name<'t>>, flow: Option<Flow<'_, 't>>) -> Result<(), AllocError>
     ensures { OnOk result (all_named names.new.items ≡ all_named names.old.items ++
-        flow_names (option_map (λ n. inline_view n.now) flow.entry)) }
+        flow_names (option_map flow_view flow.entry)) }
 {
+    let Some(flow) = flow else {
+        return Ok(());
+    };
     match flow {
-        Some(node) => push_node(names, node),
-        None => Ok(()),
+        Flow::Owned(node) => push_node(names, node),
+        Flow::Borrowed(_) => Ok(()),
     }
 }
 

@@ -1,7 +1,7 @@
 //! What is asked of flow collections: how deep they are nested, and the keys of each.
 ghost use Rattle.std.specs.Prelude.{◌&&◌, Some, IfErr};
 ghost use Rattle.yq_core.{specs.Answers.IsOfText, specs.Keys.{are_distinct, keys_of}, specs.Trees.{parts_tree, placed_tree}};
-ghost use Rattle.yq_core.specs.View.{entries_end, items_end, inline_view};
+ghost use Rattle.yq_core.specs.View.{borrowed_view, entries_end, items_end, inline_view};
 ghost use Rattle.yq_compose.specs.Deciding.{Decides};
 ghost use Rattle.yq_outline.specs.Sound as spec;
 
@@ -9,7 +9,8 @@ use crate::keys::Keys;
 use std::alloc::{AllocError, Global};
 use std::collections::BTreeMap;
 use yq_core::fault_place::fault_at;
-use yq_core::{FaultKind, Form, Inline, Piece, ReadError};
+use yq_core::{BorrowedNode, FaultKind, Form, Inline, Piece, ReadError};
+use yq_inline::reading::read_node;
 use yq_scalar_reader::are_distinct;
 
 /// An inline node of a text, in which at most so many collections may be nested.
@@ -113,4 +114,30 @@ fn entries_fault(
         return Err(ReadError::Fault(fault_at(FaultKind::DuplicateKey, text.as_bytes(), byte)));
     }
     Ok(())
+}
+
+/// A node that the text lends, in which at most so many collections may be nested. Where more may be in it,
+/// it is read.
+pub(crate) fn borrowed_fault<'t>(
+    alloc: Global,
+    text: &'t str,
+    node: BorrowedNode<'t>,
+    depth: usize,
+) -> Result<(), ReadError>
+    ensures sound { Decides result (spec.head_is_sound depth
+        (Some (placed_tree (borrowed_view node.entry)))) }
+    ensures fault { IfErr result IsOfText }
+{
+    if node.depth <= depth {
+        return Ok(());
+    }
+    let whole = if node.text.len() <= text.len() {
+        text
+    } else {
+        node.text
+    };
+    match read_node(alloc, true, Some(0), whole, node.depth, node.text) {
+        Ok((found, _)) => node_fault(alloc, text, &found, depth),
+        Err(e) => Err(e),
+    }
 }

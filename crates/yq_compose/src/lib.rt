@@ -3,6 +3,7 @@
 
 mod ahead;
 mod anchors;
+mod borrowing;
 mod bound;
 mod checked;
 mod decoding;
@@ -14,6 +15,7 @@ mod keys;
 mod names;
 mod nested;
 mod parts;
+mod passing;
 mod reached;
 mod reading;
 mod sound;

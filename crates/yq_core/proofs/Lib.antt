@@ -1,4 +1,5 @@
 pub mod Across
+pub mod BorrowedLaws
 pub mod TextChars
 pub mod PlainRuns
 pub mod Prefixes
@@ -81,3 +82,6 @@ pub mod LineNodes
 pub mod EditPlaces
 pub mod NestedLaws
 pub mod FaultPlaceLaws
+pub mod OneLine
+pub mod BorrowedTexts
+pub mod BorrowedNames

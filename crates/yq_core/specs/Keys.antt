@@ -35,6 +35,19 @@ abbrev mutual
   EachHasUniqueKeys (child label n cs) = HasUniqueKeys n × EachHasUniqueKeys cs
 
 abbrev mutual
+  -- whether no mapping, at any depth, has a key twice (YAML 1.2.2, section 3.2.1.3)
+  pub has_unique_keys : Node → Bool
+  has_unique_keys (alias name) = true
+  has_unique_keys (scalar anchor kind text) = true
+  has_unique_keys (list anchor cs) = each_has_unique_keys cs
+  has_unique_keys (map anchor cs) = are_distinct (keys_of cs) && each_has_unique_keys cs
+
+  -- the same of each item or entry (own)
+  pub each_has_unique_keys : Children → Bool
+  each_has_unique_keys none = true
+  each_has_unique_keys (child label n cs) = has_unique_keys n && each_has_unique_keys cs
+
+abbrev mutual
   -- how many collections are nested in a node, itself among them (own)
   pub depth : Node → ℕ
   depth (alias name) = 0

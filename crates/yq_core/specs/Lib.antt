@@ -40,6 +40,7 @@ pub mod Places
 pub mod PlacedReading
 pub mod Inline
 pub mod View
+pub mod Borrowed
 pub mod Values
 pub mod NodesWritten
 pub mod Trees

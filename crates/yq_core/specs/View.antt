@@ -1,9 +1,10 @@
--- The node that an `Inline` of the code shows.
+-- The nodes that an `Inline` and a `BorrowedNode` of the code show.
 use Rattle.std.{specs.Prelude.{ℕ, List, [], ◌∷◌, map, Option, Some, None, String, string_bytes}, specs.declared.alloc.Global.Global}
 use denote.Bor.{Bor}
 use Rattle.yq_core.{specs.declared.piece.Piece.Piece, specs.Answers.◌>>=◌, specs.declared.inline.Inline.Inline}
 use Rattle.yq_core.{specs.declared.inline.Form.Form, specs.declared.inline.Form.TheOpen.{Inline-F, Form-F}}
 use Rattle.yq_core.specs.declared.inline.Form.TheFolds.{fold-Inline, fold-Form}
+use Rattle.yq_core.{specs.Borrowed.node_in_front, specs.declared.borrowed.BorrowedNode.BorrowedNode}
 use Rattle.yq_core.specs.Places.{Placed, placed, CoreNode, nothing, name, text, sequence, mapping, Parts, end, part}
 
 -- items before others (own)
@@ -68,3 +69,7 @@ behind_items is read = read >>= λ x. Some (items_view is x.0, x.1)
 -- entries before those that are read (own)
 abbrev pub behind_entries : List (String Global × Piece × Inline) → Option (Parts × List ℕ) → Option (Parts × List ℕ)
 behind_entries es read = read >>= λ x. Some (entries_view es x.0, x.1)
+
+-- the node that a `BorrowedNode` shows (own)
+abbrev pub borrowed_view : BorrowedNode → Placed
+borrowed_view b = node_in_front b.total b.depth b.text.now

@@ -16,7 +16,8 @@ use Rattle.yq_row_table.{specs.Grammar.IsContent, specs.Rows.{Content, Nothing, 
 use Rattle.yq_documents.{specs.KeyReading.EndsIn, specs.Reading.{has_fit_keys, content_is_fit}}
 use Rattle.yq_documents.specs.RowReading.{placed_head, is_short_plain, is_block_head, string_head, block_head_at, fit_head, node_head_at}
 use Rattle.yq_documents.{specs.RowReading.read_head, proofs.FlowKeyLaws.keys_there}
-use Rattle.yq_outline.{specs.Lines.head_of, proofs.OneLine.one_line}
+use Rattle.yq_outline.specs.Lines.{head_of}
+use Rattle.yq_core.proofs.OneLine.{one_line}
 use Rattle.yq_core.specs.declared.block_header.BlockStyle.TheVariants as styles
 use Rattle.yq_core.specs.declared.style.Place.TheVariants as places
 use Rattle.yq_core.specs.Tree as trees
@@ -43,7 +44,7 @@ ends_drop whole t h =
 abbrev pub fitting : Bool → Option trees.Node → Option (Option trees.Node)
 fitting fit head = cond fit (Some head) None
 
-node_again : (whole : List ℕ) (n : ℤ) (node : FlowNode) (rest : List ℕ) → is_anchored node ≡ false → is_empty_node node ≡ false → EndsIn whole (node_text node rest) → IsFlowNode false (Some (deeper n)) depth_limit node rest →
+pub node_again : (whole : List ℕ) (n : ℤ) (node : FlowNode) (rest : List ℕ) → is_anchored node ≡ false → is_empty_node node ≡ false → EndsIn whole (node_text node rest) → IsFlowNode false (Some (deeper n)) depth_limit node rest →
     node_head_at whole n (node_text node rest) ≡ fitting (has_fit_keys node) (node_head node)
 node_again whole n node rest a some ends h =
     let at : ℕ = length whole - length (node_text node rest) in
@@ -59,7 +60,7 @@ node_again whole n node rest a some ends h =
     ∙ (λ i. fitting (keys_there whole node rest ends i) (placed_head_is (length whole) node rest a i))
 
 -- which head a text is
-by_node : (whole : List ℕ) (n : ℤ) (head t : List ℕ) → is_empty head ≡ false → is_block_head head ≡ false → is_quoted head ≡ false → is_short_plain head ≡ false → read_head whole n head t ≡ node_head_at whole n t
+pub by_node : (whole : List ℕ) (n : ℤ) (head t : List ℕ) → is_empty head ≡ false → is_block_head head ≡ false → is_quoted head ≡ false → is_short_plain head ≡ false → read_head whole n head t ≡ node_head_at whole n t
 unfolding read_head
 by_node whole n head t some block quoted short = rw (some, block, short, quoted) refl
 

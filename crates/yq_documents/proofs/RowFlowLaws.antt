@@ -15,7 +15,7 @@ use Rattle.yq_outline.specs.Lines.{tail_of}
 use Rattle.yq_core.specs.declared.style.Place.TheVariants as places
 
 -- an inline node that is read
-node_again : (whole : List ℕ) (n : ℤ) (node : FlowNode) (rest : List ℕ) → is_empty_node node ≡ false → EndsIn whole (node_text node rest) → IsFlowNode false (Some (deeper n)) depth_limit node rest → node_flow_at whole n (node_text node rest) ≡ alias_or_collection (locate (length whole) node rest)
+pub node_again : (whole : List ℕ) (n : ℤ) (node : FlowNode) (rest : List ℕ) → is_empty_node node ≡ false → EndsIn whole (node_text node rest) → IsFlowNode false (Some (deeper n)) depth_limit node rest → node_flow_at whole n (node_text node rest) ≡ alias_or_collection (locate (length whole) node rest)
 node_again whole n node rest some ends h =
     let at : ℕ = length whole - length (node_text node rest) in
     let p = locate (length whole) node rest in
@@ -29,7 +29,7 @@ node_again whole n node rest some ends h =
     ap (λ o. o >>= alias_or_collection) (inline_again places.Block n 0 at whole p is)
 
 -- which head a text is
-by_node : (whole : List ℕ) (n : ℤ) (head t : List ℕ) → is_empty head ≡ false → is_block_head head ≡ false → is_quoted head ≡ false → is_short_plain head ≡ false → head_flow_at whole n head t ≡ node_flow_at whole n t
+pub by_node : (whole : List ℕ) (n : ℤ) (head t : List ℕ) → is_empty head ≡ false → is_block_head head ≡ false → is_quoted head ≡ false → is_short_plain head ≡ false → head_flow_at whole n head t ≡ node_flow_at whole n t
 unfolding head_flow_at
 by_node whole n head t some block quoted short = rw (some, block, short, quoted) refl
 

@@ -2,10 +2,11 @@
 use Rattle.std.specs.Prelude.{◌≡◌, ℕ, suc, ◌-◌, ◌≤◌, ◌==◌, List, [], ◌∷◌, drop, length, take, Option, Some, None, option_and_then}
 use Rattle.std.specs.Prelude.{option_map, string_bytes, if◌then◌else◌, ⊤}
 use Rattle.yq_core.{specs.Scalar.plain_of, specs.Text.is_empty, specs.Tree.Node, specs.Places.Placed}
-use Rattle.yq_core.{specs.Scalars.{is_quoted, scalar_content}, specs.Trees.scalar_node}
+use Rattle.yq_core.{specs.Scalars.{is_quoted, scalar_content}, specs.Trees.{placed_tree, scalar_node}, specs.View.borrowed_view}
 use Rattle.yq_outline.{specs.View.{head_flow, head_view}, specs.Lines.head_of}
 use Rattle.yq_row_table.{specs.Exchange.behind_row, specs.Rows.{Row, Cut}, specs.View.slices}
 use Rattle.yq_documents.{specs.FlowReading.row_flow, specs.RowReading.string_head, specs.declared.decoded.Decoded.Decoded}
+use Rattle.yq_documents.specs.declared.decoded.DecodedHead as heads
 
 -- what is made of row i, if anything is (own)
 abbrev pub decoded_at : ℕ → List Decoded → Option Decoded
@@ -34,13 +35,23 @@ decoded_or (Some x) borrowed = x
 abbrev pub decoded_key : Option Decoded → List ℕ → List ℕ
 decoded_key m key = decoded_or (option_and_then (λ x. option_map string_bytes x.key) m) (borrowed_text key)
 
+-- what a head spells that is decoded, if it is anything (own)
+abbrev pub decoded_view : heads.DecodedHead → Option Node
+decoded_view (heads.TheVariants.Owned head) = head_view head
+decoded_view (heads.TheVariants.Borrowed node) = Some (placed_tree (borrowed_view node))
+
+-- the alias or flow collection that it is, with its places (own)
+abbrev pub flow_in : heads.DecodedHead → Option Placed
+flow_in (heads.TheVariants.Owned head) = head_flow head
+flow_in (heads.TheVariants.Borrowed node) = Some (borrowed_view node)
+
 -- what a row's head spells, by what is made of the row and by its head (own)
 abbrev pub decoded_head : Option Decoded → List ℕ → Option Node
-decoded_head m head = decoded_or (option_and_then (λ x. option_map head_view x.head) m) (borrowed_head head)
+decoded_head m head = decoded_or (option_and_then (λ x. option_map decoded_view x.head) m) (borrowed_head head)
 
 -- the alias or flow collection in a row's head with its places, by what is made of the row (own)
 abbrev pub decoded_flow : Option Decoded → Option Placed
-decoded_flow m = option_and_then (λ x. option_and_then head_flow x.head) m
+decoded_flow m = option_and_then (λ x. option_and_then flow_in x.head) m
 
 -- What row i of a cut of a text so long spells is given by what is made of it and by its pieces (own).
 pub record IsDecodedBy (total : ℕ) (c : Cut) (m : Option Decoded) (i : ℕ) (r : Row) : Type 0 where

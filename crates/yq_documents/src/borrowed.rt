@@ -4,8 +4,7 @@ ghost use Rattle.yq_core.{specs.Scalars.is_quoted, specs.Quoted.IsQuotedText};
 ghost use Rattle.yq_documents.specs.Decoded as spec;
 
 use crate::decoded::Decoded;
-use yq_core::is_quoted;
-use yq_outline::between_quotes;
+use yq_core::{between_quotes, is_quoted};
 
 /// A text as it is written, without its quotes.
 pub fn borrowed_text(piece: &str) -> &str

@@ -13,7 +13,7 @@ mod references;
 
 pub use borrowed::{borrowed_text, decoded_key};
 pub use comment::{Comments, comment_text, is_comment, last_run};
-pub use decoded::Decoded;
+pub use decoded::{Decoded, DecodedHead};
 pub use documents::{DocumentRows, Documents};
 pub use indicators::{anchor_name, is_block_head};
 pub use of_row::{decoded_at, head_decoded};

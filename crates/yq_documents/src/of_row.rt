@@ -1,10 +1,8 @@
 //! What is made of a row.
 ghost use Rattle.std.specs.Prelude.{◌≡◌, option_and_then, option_map};
-ghost use Rattle.yq_outline.specs.View.{head_view};
 ghost use Rattle.yq_documents.specs.Decoded as spec;
 
-use crate::decoded::Decoded;
-use yq_outline::Head;
+use crate::decoded::{Decoded, DecodedHead};
 
 /// What is made of a row, if anything is.
 pub fn decoded_at<'d, 't>(decoded: &'d [Decoded<'t>], row: usize) -> Option<&'d Decoded<'t>>
@@ -23,9 +21,10 @@ pub fn decoded_at<'d, 't>(decoded: &'d [Decoded<'t>], row: usize) -> Option<&'d 
 }
 
 /// The head that is made of a row, if one is.
-pub fn head_decoded<'d, 't>(decoded: Option<&'d Decoded<'t>>) -> Option<&'d Head<'t>>
-    ensures { option_map (λ h. head_view h.now) result ≡
-        option_and_then (λ x. option_map head_view x.head) (option_map (λ m. m.now) decoded.entry) }
+pub fn head_decoded<'d, 't>(decoded: Option<&'d Decoded<'t>>) -> Option<&'d DecodedHead<'t>>
+    ensures { option_map (λ h. spec.decoded_view h.now) result ≡
+        option_and_then (λ x. option_map spec.decoded_view x.head)
+        (option_map (λ m. m.now) decoded.entry) }
 {
     match &decoded?.head {
         Some(head) => Some(head),

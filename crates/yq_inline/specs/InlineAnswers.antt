@@ -5,6 +5,7 @@ use Rattle.yq_core.{specs.Answers.{Gives, ReadsAs}, specs.Places.{CoreNode, Part
 use Rattle.yq_core.{specs.PlacedReading.then_anchored, specs.View.{entries_end, form_view, inline_view, items_end}}
 use Rattle.yq_core.{specs.declared.fault.ReadError.ReadError, specs.declared.inline.Form.Form, specs.declared.inline.Inline.Inline}
 use Rattle.yq_core.specs.declared.piece.Piece.{Piece}
+use Rattle.yq_inline.{specs.Measured.{measured, measured_view, past_node}, specs.declared.measuring.Measured.Measured}
 
 -- the answer is the node that reading gives and what comes after it, unless memory ran out
 abbrev pub GivesNode : Result (Inline × Bor (List ℕ)) ReadError → Option (Placed × List ℕ) → Type 0
@@ -45,3 +46,11 @@ IsBetween whole text rest form node = inline_view node ≡ placed_between (lengt
 -- the answer is a node with its anchor and the gap after that, and what comes after the node
 abbrev pub GivesAnchored : (whole text name gap : List ℕ) → Inline → List ℕ → Result (Inline × Bor (List ℕ)) ReadError → Type 0
 GivesAnchored whole text name gap node rest r = GivesNode r (then_anchored (length whole) text name gap (inline_view node, rest))
+
+-- the answer is what is known of the node that reading gives, and what comes after it
+abbrev pub MeasuresNode : {E : Type 0} → Result Measured E → Option (Placed × List ℕ) → Type 0
+MeasuresNode r read = ReadsAs measured_view r (measured read)
+
+-- the answer is what comes after the node that reading gives
+abbrev pub PassesNode : {A E : Type 0} → Result (Bor (List ℕ)) E → Option (A × List ℕ) → Type 0
+PassesNode r read = ReadsAs (λ r. r.now) r (past_node read)

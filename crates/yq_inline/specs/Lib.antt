@@ -10,4 +10,7 @@ pub use Rattle.yq_core.specs.Tree
 pub use Rattle.yq_core.specs.Writable
 pub mod Forms
 pub mod NodesWithin
+pub mod Measured
+pub mod BorrowedParts
+pub mod BorrowedForms
 pub mod InlineAnswers

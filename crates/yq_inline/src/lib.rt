@@ -1,17 +1,25 @@
 //! Inline nodes of YAML: aliases, plain and quoted scalars and flow collections, with their anchors.
+//! Where they end is found without memory, and those that the text lends are walked so.
 #![tactic(auto)]
 
+mod borrowed_entries;
 pub mod fault;
+mod forms;
 mod item;
 mod laws;
 mod lead;
+pub mod measuring;
+mod parts;
 pub mod pieces;
 mod read;
 pub mod reading;
 mod scalar;
 
+pub use borrowed_entries::entry_in;
+pub use forms::{BorrowedForm, form_of};
 pub use laws::{entry_places, one_inline, one_tree};
 pub use lead::read_gap;
+pub use parts::{BorrowedEntry, BorrowedParts};
 pub use read::read_inline;
-pub use scalar::style_of;
+pub use scalar::{plain_kind, style_of};
 pub use yq_core::{DEPTH_LIMIT, Entry, Form, Inline, ReadFault, Step, Value, first_is, gap_len};

@@ -1,14 +1,14 @@
 //! Scalars and keys with what they mean and their pieces.
-ghost use Rattle.std.specs.Prelude.{◌≡◌, ◌<◌, ◌≤◌, IfErr, IfOk, length, string_bytes, true};
-ghost use Rattle.yq_core.{specs.Answers.IsOfText, specs.Quoted.IsQuotedText, specs.Written.IsOneLine};
-ghost use Rattle.yq_core.specs.PlacedReading.{placed_key, placed_text};
+ghost use Rattle.std.specs.Prelude.{◌≡◌, ◌<◌, ◌≤◌, IfErr, IfOk, None, length, string_bytes, true};
+ghost use Rattle.yq_core.{specs.Answers.IsOfText, specs.Borrowed.borrows_text, specs.Quoted.IsQuotedText, specs.Written.IsOneLine};
+ghost use Rattle.yq_core.{specs.PlacedReading.{placed_key, placed_text}, specs.Scalar.plain_of, specs.Tree.scalar, specs.Trees.scalar_node};
 ghost use Rattle.yq_inline.specs.InlineAnswers.{GivesCore, GivesKey};
 ghost use Rattle.yq_core.specs.Scalars as scalars;
 
 use crate::pieces::{read_key, read_scalar};
 use std::alloc::{AllocError, Global};
 use yq_core::piece::inline_piece;
-use yq_core::{Form, Piece, ReadError, Scalar, Style, is_quoted};
+use yq_core::{Form, Kind, Piece, ReadError, Scalar, Style, between_quotes, is_quoted, resolve};
 use yq_scalar_reader::folding::{plain_content, quoted_content};
 
 /// The style of a plain or quoted scalar, as it is written (YAML 1.2.2, 7.3).
@@ -20,6 +20,30 @@ pub fn style_of(piece: &[u8]) -> Style
         [b'\'', ..] => Style::Single,
         [b'"', ..] => Style::Double,
         _ => Style::Plain,
+    }
+}
+
+/// The text that a key or scalar means, where it is what is written, without its quotes.
+#[tactic(auto, using(yq_core::proofs::BorrowedTexts::quoted_means, yq_core::proofs::BorrowedTexts::plain_means))]
+pub fn borrowed_content(piece: &str) -> &str
+    requires quoted { scalars.is_quoted piece.now ≡ true → IsQuotedText piece.now }
+    requires borrows { borrows_text piece.now ≡ true }
+    ensures { result.now ≡ scalars.scalar_content piece.now }
+{
+    if is_quoted(piece.as_bytes()) {
+        between_quotes(piece)
+    } else {
+        piece
+    }
+}
+
+/// The kind and the text of a plain scalar on one line.
+pub fn plain_kind(text: &str) -> (Kind, &str)
+    ensures { scalar None result.0 result.1.now ≡ scalar_node (plain_of text.now) }
+{
+    match resolve(text) {
+        Kind::Null => (Kind::Null, "null"),
+        kind => (kind, text),
     }
 }
 

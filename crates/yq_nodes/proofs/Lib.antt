@@ -1,3 +1,4 @@
 pub mod KindLaws
 pub mod WalkLaws
 mod RestLaws
+pub mod BorrowedChildren

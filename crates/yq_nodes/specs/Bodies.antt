@@ -18,6 +18,7 @@ body_node (bodies.TheVariants.Scalar kind text) = scalar None kind text.now
 body_node (bodies.TheVariants.Map under) = map None (children (body_outline under))
 body_node (bodies.TheVariants.List under) = list None (children (body_outline under))
 body_node (bodies.TheVariants.Inline node) = placed_tree (inline.inline_view node.now)
+body_node (bodies.TheVariants.Borrowed node) = placed_tree (inline.borrowed_view node)
 
 -- the same with that anchor (own)
 abbrev pub named_node : Named → Node

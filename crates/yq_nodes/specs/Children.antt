@@ -1,6 +1,7 @@
 -- The items or entries of the code, as those of trees.
 use Rattle.std.specs.Prelude.{◌≡◌, ℕ, length, Option, Some, None}
 use Rattle.yq_core.{specs.Tree.{Children, none, child}, specs.Trees.parts_tree, specs.View.{entries_end, items_end}}
+use Rattle.yq_inline.specs.BorrowedParts.{parts_view}
 use Rattle.yq_outline.specs.Places.{content_under}
 use Rattle.yq_nodes.{specs.Bodies.body_outline, specs.Nodes.{node_of, label_of}, specs.declared.nodes.node.Node.Node}
 use Rattle.yq_nodes.specs.declared.nodes.under.Under.{Under}
@@ -19,6 +20,7 @@ rest_of rests.TheVariants.Nothing = none
 rest_of (rests.TheVariants.Lines under) = outline.children (body_outline under)
 rest_of (rests.TheVariants.Items items) = parts_tree (items_end items.now)
 rest_of (rests.TheVariants.Entries entries) = parts_tree (entries_end entries.now)
+rest_of (rests.TheVariants.Borrowed parts) = parts_tree (parts_view parts)
 
 -- how many lines of a document are from one on (own)
 abbrev pub lines_left : Under → ℕ
@@ -30,6 +32,7 @@ rest_length rests.TheVariants.Nothing = 0
 rest_length (rests.TheVariants.Lines under) = lines_left under
 rest_length (rests.TheVariants.Items items) = length items.now
 rest_length (rests.TheVariants.Entries entries) = length entries.now
+rest_length (rests.TheVariants.Borrowed parts) = length parts.text.now
 
 -- the items or entries that an iterator of the code has not yielded yet (own)
 abbrev pub left_of : declared.Children → Children

@@ -7,7 +7,8 @@ use Rattle.std.{specs.List.{list_any, All}, proofs.lemmas.List.drop_all, specs.P
 use Rattle.yq_core.specs.Tree.{Node, alias, scalar, list, map, Children, none, child}
 use Rattle.yq_core.{specs.Keys.{AreDistinct, keys_of, HasUniqueKeys, EachHasUniqueKeys, are_distinct}, specs.declared.piece.Piece.Piece}
 use Rattle.yq_core.{specs.declared.inline.Inline.Inline, specs.Trees.parts_tree, specs.View.entries_end}
-use Rattle.yq_outline.specs.Sound.{has_unique_keys, each_has_unique_keys, are_sound}
+use Rattle.yq_core.specs.Keys.{has_unique_keys, each_has_unique_keys}
+use Rattle.yq_outline.specs.Sound.{are_sound}
 
 pub differ : (a b : List ℕ) → bytes_eq a b ≡ false → a ≢ b
 differ a b e is = false≢true (sym e ∙ (bytes_eq-Decides a b).1 is)

@@ -14,7 +14,6 @@ pub mod LineEnds
 pub mod NameConditions
 pub mod NameLaws
 pub mod NodeLaws
-pub mod OneLine
 pub mod PathLines
 pub mod PlaceLaws
 pub mod Plug

@@ -1,20 +1,7 @@
 -- Reading (own; a reader may skip it: the grammar is what is believed, and the clauses `found` and `only` tie the two): what is asked of a document's lines.
 use Rattle.std.specs.Prelude.{ℕ, nat_le, nat_eq, Option, Some, None, Bool, true, false, ◌&&◌}
-use Rattle.yq_core.{specs.Tree.{Node, alias, scalar, list, map, Children, none, child}, specs.Keys.{are_distinct, keys_of, depth, deepest}}
+use Rattle.yq_core.{specs.Tree.{Node, Children}, specs.Keys.{depth, deepest, has_unique_keys, each_has_unique_keys}}
 use Rattle.yq_outline.{specs.Outline.{LineMark, Bare, Key, Dash, Line, level, Outline, value}, specs.Group.{is_fine, is_open}}
-
-abbrev mutual
-  -- whether no mapping has a key twice (3.2.1.3)
-  pub has_unique_keys : Node → Bool
-  has_unique_keys (alias name) = true
-  has_unique_keys (scalar anchor kind text) = true
-  has_unique_keys (list anchor cs) = each_has_unique_keys cs
-  has_unique_keys (map anchor cs) = are_distinct (keys_of cs) && each_has_unique_keys cs
-
-  -- the same of each item or entry
-  pub each_has_unique_keys : Children → Bool
-  each_has_unique_keys none = true
-  each_has_unique_keys (child label n cs) = has_unique_keys n && each_has_unique_keys cs
 
 -- whether an outline means a node in which at most d collections are nested and no mapping has a key twice
 abbrev pub is_sound_outline : ℕ → Outline → Bool

@@ -5,9 +5,7 @@
 mod laws;
 mod line;
 mod line_position;
-mod quotes;
 
 pub use laws::{exchanged, heads_joined, lines_shaped, one_node, rules};
 pub use line::{Head, ScalarContent};
 pub use line_position::{KnownItem, Next, Position, Stretch};
-pub use quotes::between_quotes;

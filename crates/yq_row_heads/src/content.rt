@@ -6,8 +6,8 @@ ghost use Rattle.yq_core.specs.ContentReading as reading;
 ghost use Rattle.yq_core.specs.Scalars as scalars;
 
 use std::alloc::{AllocError, Global};
-use yq_core::{Kind, is_quoted, resolve};
-use yq_outline::{Head, ScalarContent, between_quotes};
+use yq_core::{Kind, between_quotes, is_quoted, resolve};
+use yq_outline::{Head, ScalarContent};
 use yq_scalar_reader::folding::{plain_content, quoted_content};
 use yq_scalar_reader::plain::holds_break;
 
@@ -33,7 +33,7 @@ fn quoted_text<'t>(alloc: Global, piece: &'t str) -> Result<ScalarContent<'t>, A
 }
 
 /// The text that a key or a scalar, as it is written, means: one on one line without escapes is borrowed.
-#[tactic(auto, unfolding(yq_core::specs::Scalars::scalar_content), using(yq_outline::proofs::OneLine::one_line))]
+#[tactic(auto, unfolding(yq_core::specs::Scalars::scalar_content), using(yq_core::proofs::OneLine::one_line))]
 pub(crate) fn content_of<'t>(alloc: Global, piece: &'t str) -> Result<ScalarContent<'t>, AllocError>
     requires { scalars.is_quoted piece.now ≡ true → IsQuotedText piece.now }
     ensures { IfOk result (λ c. content_view c ≡ scalars.scalar_content piece.now) }

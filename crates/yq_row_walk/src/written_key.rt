@@ -3,8 +3,7 @@ ghost use Rattle.std.{specs.List.list_any, specs.Prelude.{◌≡◌, ◌==◌, f
 ghost use Rattle.yq_core.{specs.ContentReading.quoted_content, specs.Plain.holds_break, specs.Quoted.IsQuotedText};
 ghost use Rattle.yq_core.specs.Scalars as scalars;
 
-use yq_core::{first_is, is_quoted};
-use yq_outline::between_quotes;
+use yq_core::{between_quotes, first_is, is_quoted};
 use yq_scalar_reader::is_quoted_content;
 
 /// Whether a backslash is in what is between double quotes, or a quote between single ones.

@@ -1,7 +1,6 @@
 mod Colons
 mod Columns
 pub mod MeasuredSlicing
-pub mod MeasureSteps
 pub mod SplitLaws
 pub mod BeginLaws
 pub mod CountLaws

@@ -2,7 +2,7 @@
 use Rattle.std.specs.Borrow.{Bor}
 use Rattle.std.specs.Prelude.{◌≡◌, ◌-◌, ◌==◌, ◌&&◌, ◌||◌, ℕ, Bool, List, Option, Some, None, OnOk, Result, Vec, [], is_ok, length, nat_lt}
 use Rattle.std.{specs.Prelude.{not, option_map, if◌then◌else◌}, specs.declared.alloc.Global.Global}
-use Rattle.yq_core.{specs.Answers.{Gives, ReadsAs}, specs.Places.Placed, specs.Text.{is_empty, is_marker}}
+use Rattle.yq_core.{specs.Answers.Gives, specs.Text.{is_empty, is_marker}}
 use Rattle.yq_core.specs.declared.fault.ReadError.{ReadError}
 use Rattle.yq_row_table.{specs.Grammar.allows, specs.Items.{Item, items_text, view_of_items}, specs.Kept.{kept_rows, rows_placed}}
 use Rattle.yq_row_table.{specs.Meter.{begins_line, count_after, line_count}, specs.Offsets.{offsets_of, rows_in, slices_in}}
@@ -11,21 +11,10 @@ use Rattle.yq_row_table.{specs.Slicing.{SlicedRow, marked_sliced, row_of, rows_s
 use Rattle.yq_row_table.{specs.declared.offsets.Offsets.Offsets, specs.declared.places.Places.Places}
 use Rattle.yq_text.specs.TextGapBuffer.{TextGapView, buffer_text}
 use Rattle.yq_rows.{specs.Exchanging.TextChange, specs.Following.{CountsWritten, Follows, exchanged}}
-use Rattle.yq_rows.specs.Measured.{measured, measured_view, past_node}
 use Rattle.yq_rows.{specs.ReadPieces.{begin_view, filling_view, limit_view, read_slices}, specs.Sides.both_sides}
 use Rattle.yq_rows.{specs.declared.content.Filling.Filling, specs.declared.kept.Kept.Kept, specs.declared.marks.Begin.Begin}
-use Rattle.yq_rows.{specs.declared.measuring.Measured.Measured, specs.declared.sides.Side.Side, specs.declared.touched.Touched.Touched}
+use Rattle.yq_rows.{specs.declared.sides.Side.Side, specs.declared.touched.Touched.Touched}
 use Rattle.yq_rows.specs.declared.limit.Limit as asked
-
--- ---- nodes
-
--- the answer is what is known of the node that reading gives, and what comes after it
-abbrev pub MeasuresNode : {E : Type 0} → Result Measured E → Option (Placed × List ℕ) → Type 0
-MeasuresNode r read = ReadsAs measured_view r (measured read)
-
--- the answer is what comes after the node that reading gives
-abbrev pub PassesNode : {A E : Type 0} → Result (Bor (List ℕ)) E → Option (A × List ℕ) → Type 0
-PassesNode r read = ReadsAs (λ r. r.now) r (past_node read)
 
 -- ---- rows
 

@@ -4,7 +4,7 @@ ghost use Rattle.yq_core.{specs.Answers.{Gives, IsOfText}, specs.Text.{front, is
 ghost use Rattle.yq_core.specs.declared.fault.FaultKind.TheVariants.{NotUtf8};
 ghost use Rattle.yq_rows.specs.ReadPieces.{is_plain_kind, filling_view};
 ghost use Rattle.yq_row_table.specs.Slicing.{filled_at};
-ghost use Rattle.yq_rows.specs.Measured as measured;
+ghost use Rattle.yq_inline.specs.Measured as measured;
 ghost use Rattle.yq_core.specs.Scalars as scalars;
 ghost use Rattle.yq_row_table.specs.Slicing as slicing;
 ghost use Rattle.yq_row_table.specs.Reading as spec;
@@ -12,7 +12,6 @@ ghost use Rattle.yq_row_table.specs.Reading as spec;
 use crate::fault::block_fault;
 use crate::gap::is_hash;
 use crate::marks::RowMark;
-use crate::measuring::{Measured, MeasuredKind, measure_node};
 use crate::naming::{no_content, no_further_line, no_tail};
 use crate::words::{begins_word, read_front};
 use yq_core::fault_place::fault;
@@ -21,6 +20,7 @@ use yq_core::text::{ends_line, split_white};
 use yq_core::{
     DEPTH_LIMIT, FaultKind, Place, ReadError, ReadFault, first_is, further_spaces, is_quoted, strip,
 };
+use yq_inline::measuring::{Measured, MeasuredKind, measure_node};
 use yq_inline::pieces::{begins_scalar, name_len};
 use yq_scalar::read_block;
 

@@ -1,7 +1,7 @@
 //! What nodes are, where they are on lines or in heads.
 
 use crate::nodes::under::Under;
-use yq_core::{Inline, Kind};
+use yq_core::{BorrowedNode, Inline, Kind};
 
 /// What a node is, but for the anchor before it.
 #[derive(Clone, Copy)]
@@ -16,6 +16,8 @@ pub(crate) enum Body<'d, 't> {
     List(Under<'d, 't>),
     /// An alias or a flow collection after a mark, or what is in one.
     Inline(&'d Inline<'t>),
+    /// A flow collection after a mark, or what is in one, of which the text lends each key and scalar.
+    Borrowed(BorrowedNode<'t>),
 }
 
 /// A node, with the anchor before it.

@@ -9,7 +9,8 @@ use crate::nodes::body::Body;
 use crate::nodes::lines::has_lines;
 use crate::nodes::node::Node;
 use crate::nodes::under::Under;
-use yq_core::{Form, Inline, Piece};
+use yq_core::{BorrowedNode, Form, Inline, Piece};
+use yq_inline::{BorrowedForm, BorrowedParts, form_of};
 use yq_row_walk::behind;
 
 /// What is left of the items or entries of a node.
@@ -23,6 +24,8 @@ pub(crate) enum Rest<'d, 't> {
     Items(&'d [Inline<'t>]),
     /// Entries of a flow mapping.
     Entries(&'d [(String, Piece, Inline<'t>)]),
+    /// Items or entries of which the text lends each key and scalar.
+    Borrowed(BorrowedParts<'t>),
 }
 
 /// The items of a sequence, or the values of the entries of a mapping, in order.
@@ -45,6 +48,17 @@ fn inline_rest<'d, 't>(node: &'d Inline<'t>) -> Rest<'d, 't>
     }
 }
 
+/// The items or entries of a node of which the text lends each key and scalar.
+fn borrowed_rest<'d, 't>(node: BorrowedNode<'t>) -> Rest<'d, 't>
+    ensures { spec.rest_of result ≡ children_of (placed_tree (inline.borrowed_view node.entry)) }
+{
+    match form_of(node) {
+        BorrowedForm::Scalar(..) => Rest::Nothing,
+        BorrowedForm::List(items) => Rest::Borrowed(items),
+        BorrowedForm::Map(entries) => Rest::Borrowed(entries),
+    }
+}
+
 impl<'d, 't> Node<'d, 't> {
     /// Its items or entries.
     #[tactic(auto, using(yq_outline::proofs::ChildLaws::anchored_children))]
@@ -57,6 +71,7 @@ impl<'d, 't> Node<'d, 't> {
             Body::Map(under) => Rest::Lines(under),
             Body::List(under) => Rest::Lines(under),
             Body::Inline(node) => inline_rest(node),
+            Body::Borrowed(node) => borrowed_rest(node),
         }
     }
 
@@ -116,6 +131,13 @@ impl<'d, 't> Iterator for Children<'d, 't> {
                 };
                 self.rest = Rest::Entries(others);
                 Some(Node::of_inline(Some(entry.0.as_str()), &entry.2))
+            }
+            Rest::Borrowed(parts) => {
+                let Some((entry, others)) = parts.split_first() else {
+                    return None;
+                };
+                self.rest = Rest::Borrowed(others);
+                Some(Node::of_borrowed(entry))
             }
         }
     }

@@ -1,13 +1,14 @@
 //! Nodes in flow collections.
 ghost use Rattle.std.specs.Prelude.{◌≡◌, Some, None, option_map};
-ghost use Rattle.yq_core.{specs.Trees.{parts_tree, placed_tree}, specs.View.{entries_end, items_end, inline_view}, specs.Paths.{To, Nth}};
+ghost use Rattle.yq_core.{specs.Trees.{parts_tree, placed_tree}, specs.View.{borrowed_view, entries_end, items_end, inline_view}, specs.Paths.{To, Nth}};
 ghost use Rattle.yq_core.specs.Tree.{anchor_of, key_label};
 ghost use Rattle.yq_outline.{specs.Labelled.labelled_at, specs.Outline.anchored, specs.Bodies.borrowed};
 ghost use Rattle.yq_nodes.specs.Nodes as spec;
 ghost use Rattle.yq_outline.specs.Outline as outline;
 
 use crate::nodes::node::NodeKind;
-use yq_core::{Form, Inline, Kind, Piece};
+use yq_core::{BorrowedNode, Form, Inline, Kind, Piece};
+use yq_inline::{BorrowedForm, form_of};
 
 /// What a node of a flow collection is.
 #[tactic(auto, using(crate::proofs::KindLaws::kind_named))]
@@ -34,6 +35,28 @@ pub(crate) fn inline_text<'d>(node: &'d Inline<'_>) -> &'d str
         Form::Scalar(scalar, _) => scalar.text(),
         Form::List(_) => "",
         Form::Map(_) => "",
+    }
+}
+
+/// What a node is of which the text lends each key and scalar.
+pub(crate) fn borrowed_kind(node: BorrowedNode<'_>) -> NodeKind
+    ensures { result ≡ spec.kind_of (placed_tree (borrowed_view node.entry)) }
+{
+    match form_of(node) {
+        BorrowedForm::Scalar(kind, _) => NodeKind::Scalar(kind),
+        BorrowedForm::List(_) => NodeKind::List,
+        BorrowedForm::Map(_) => NodeKind::Map,
+    }
+}
+
+/// The text of such a node that is a scalar.
+pub(crate) fn borrowed_node_text(node: BorrowedNode<'_>) -> &str
+    ensures { result.now ≡ spec.text_of (placed_tree (borrowed_view node.entry)) }
+{
+    match form_of(node) {
+        BorrowedForm::Scalar(_, text) => text,
+        BorrowedForm::List(_) => "",
+        BorrowedForm::Map(_) => "",
     }
 }
 

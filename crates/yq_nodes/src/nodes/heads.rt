@@ -1,7 +1,6 @@
 //! What the lines of rows spell, borrowed or made.
-ghost use Rattle.std.specs.Prelude.{◌≡◌, ◌<◌, None, Some, length, option_map, true};
-ghost use Rattle.yq_core.{specs.Scalars.is_quoted, specs.Trees.scalar_node, specs.Quoted.IsQuotedText, specs.Scalar.plain_of};
-ghost use Rattle.yq_core.specs.Tree.{scalar};
+ghost use Rattle.std.specs.Prelude.{◌≡◌, ◌<◌, length, option_map, true};
+ghost use Rattle.yq_core.{specs.Scalars.is_quoted, specs.Quoted.IsQuotedText};
 ghost use Rattle.yq_outline.{specs.Bodies.borrowed, specs.Outline.{key_of, label}, specs.View.head_view};
 ghost use Rattle.yq_nodes.{specs.Bodies.body_node, specs.Nodes.written_label};
 ghost use Rattle.yq_documents.{specs.Reading.documents_of, specs.Stretches.{IsLineIn, OfLineIn}};
@@ -10,20 +9,11 @@ ghost use Rattle.yq_documents.specs.Decoded as spec;
 
 use crate::nodes::body::Body;
 use crate::nodes::node::WrittenLabel;
-use yq_core::{Kind, is_quoted, resolve};
-use yq_documents::{Documents, anchor_name, decoded_key, head_decoded};
-use yq_outline::{Head, Position, between_quotes};
+use yq_core::{Kind, between_quotes, is_quoted};
+use yq_documents::{DecodedHead, Documents, anchor_name, decoded_key, head_decoded};
+use yq_inline::plain_kind;
+use yq_outline::{Head, Position};
 use yq_row_walk::{has_head, lines_before_mark, rank_at};
-
-/// The kind and the text of a plain scalar on one line.
-fn plain_kind(text: &str) -> (Kind, &str)
-    ensures { scalar None result.0 result.1.now ≡ scalar_node (plain_of text.now) }
-{
-    match resolve(text) {
-        Kind::Null => (Kind::Null, "null"),
-        kind => (kind, text),
-    }
-}
 
 /// What a head spells that is borrowed as it is written.
 fn borrowed_head<'d, 't>(head: &'d str) -> Option<Body<'d, 't>>
@@ -51,6 +41,16 @@ fn head_body<'d, 't>(head: &'d Head<'t>) -> Option<Body<'d, 't>>
     }
 }
 
+/// What a head spells that is decoded, if it is anything.
+fn decoded_body<'d, 't>(head: &'d DecodedHead<'t>) -> Option<Body<'d, 't>>
+    ensures { option_map body_node result ≡ spec.decoded_view head.now }
+{
+    match head {
+        DecodedHead::Owned(head) => head_body(head),
+        DecodedHead::Borrowed(node) => Some(Body::Borrowed(*node)),
+    }
+}
+
 /// What the head of a line spells, if it has one.
 pub(crate) fn line_head<'d, 't>(
     text: &'d Documents<'t>,
@@ -66,7 +66,7 @@ pub(crate) fn line_head<'d, 't>(
         return None;
     }
     match head_decoded(text.decoded(at.row)) {
-        Some(head) => head_body(head),
+        Some(head) => decoded_body(head),
         None => borrowed_head(rows.head(at.row)),
     }
 }

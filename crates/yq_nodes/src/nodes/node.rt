@@ -1,20 +1,24 @@
 //! The nodes of documents.
 ghost use Rattle.std.{specs.List.list_any, specs.Prelude.{◌≡◌, ◌<◌, false, length, Some}};
-ghost use Rattle.yq_core.{specs.Anchors.names_of, specs.Trees.placed_tree, specs.Tree.{anchor_of, key_label, plain_label}};
+ghost use Rattle.yq_core.{specs.Anchors.names_of, specs.Trees.{placed_tree, unplaced_key}, specs.Tree.{anchor_of, key_label, plain_label}};
 ghost use Rattle.yq_outline.{specs.Names.is_reference, specs.Bodies.borrowed, specs.Outline.label, specs.Places.content_under};
 ghost use Rattle.yq_nodes.specs.Bodies.{body_node};
+ghost use Rattle.yq_inline.specs.BorrowedParts.{borrowed_entry};
 ghost use Rattle.yq_documents.{specs.Documents.Document, specs.Located.document_at, specs.Reading.documents_of};
 ghost use Rattle.yq_documents.specs.Stretches.{IsLineIn, OfLineIn, lines_under};
 ghost use Rattle.yq_core.specs.View as inline;
 ghost use Rattle.yq_nodes.specs.Nodes as spec;
 
 use crate::nodes::body::{Body, Named};
-use crate::nodes::flow::{inline_anchor, inline_kind, inline_text};
+use crate::nodes::flow::{
+    borrowed_kind, borrowed_node_text, inline_anchor, inline_kind, inline_text,
+};
 use crate::nodes::heads::line_written;
 use crate::nodes::node_lines::{line_node, lines_node};
 use crate::nodes::under::Under;
 use yq_core::{Inline, Kind};
 use yq_documents::{Documents, node_refers};
+use yq_inline::BorrowedEntry;
 use yq_outline::Position;
 
 /// What a node is.
@@ -69,6 +73,7 @@ fn body_refers(body: &Body<'_, '_>) -> bool
         Body::Map(under) => under.text.may_refer(),
         Body::List(under) => under.text.may_refer(),
         Body::Inline(node) => node_refers(node),
+        Body::Borrowed(_) => false,
     }
 }
 
@@ -127,6 +132,28 @@ impl<'d, 't> Node<'d, 't> {
         }
     }
 
+    /// An item or entry of a flow collection of which the text lends each key and scalar.
+    #[tactic(auto, using(yq_outline::proofs::NodeLaws::anchored_none))]
+    pub(crate) fn of_borrowed(entry: BorrowedEntry<'t>) -> Node<'d, 't>
+        ensures node { spec.node_of result ≡ placed_tree (borrowed_entry entry.entry).1 }
+        ensures label { spec.label_of result ≡ key_label (unplaced_key (borrowed_entry entry.entry).0) }
+    {
+        let named = Named {
+            anchor: None,
+            body: Body::Borrowed(entry.node),
+        };
+        match entry.key {
+            Some((key, _)) => Node {
+                slot: Slot::Inline(Some(key)),
+                named,
+            },
+            None => Node {
+                slot: Slot::Inline(None),
+                named,
+            },
+        }
+    }
+
     /// What the node is.
     #[tactic(auto, using(crate::proofs::KindLaws::kind_anchored))]
     pub fn kind(&self) -> NodeKind
@@ -138,6 +165,7 @@ impl<'d, 't> Node<'d, 't> {
             Body::Map(_) => NodeKind::Map,
             Body::List(_) => NodeKind::List,
             Body::Inline(node) => inline_kind(node),
+            Body::Borrowed(node) => borrowed_kind(node),
         }
     }
 
@@ -152,6 +180,7 @@ impl<'d, 't> Node<'d, 't> {
             Body::Map(_) => "",
             Body::List(_) => "",
             Body::Inline(node) => inline_text(node),
+            Body::Borrowed(node) => borrowed_node_text(node),
         }
     }
 
@@ -167,6 +196,7 @@ impl<'d, 't> Node<'d, 't> {
             Body::Map(_) => before,
             Body::List(_) => before,
             Body::Inline(node) => inline_anchor(before, node),
+            Body::Borrowed(_) => before,
         }
     }
 

@@ -44,6 +44,7 @@ fn rest_entry<'d, 't>(rest: Rest<'d, 't>, key: &str) -> Option<Node<'d, 't>>
             let (key, node) = entry_at(entries, key)?;
             Some(Node::of_inline(Some(key), node))
         }
+        Rest::Borrowed(parts) => Some(Node::of_borrowed(parts.entry(key)?)),
     }
 }
 
@@ -60,6 +61,7 @@ fn rest_item<'d, 't>(rest: Rest<'d, 't>, index: usize) -> Option<Node<'d, 't>>
             Some(Node::of_inline(None, node))
         }
         Rest::Entries(_) => None,
+        Rest::Borrowed(parts) => Some(Node::of_borrowed(parts.item(index)?)),
     }
 }
 

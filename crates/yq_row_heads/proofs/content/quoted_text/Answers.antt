@@ -1,5 +1,5 @@
 use Rattle.std.proofs.Common.{◌∙◌, sym}
-use Rattle.yq_outline.proofs.OneLine.{borrowed_quoted}
+use Rattle.yq_core.proofs.OneLine.{borrowed_quoted}
 use Rattle.yq_row_heads.proofs.content.quoted_text.Goals as goal
 
 pub returns : goal.returns

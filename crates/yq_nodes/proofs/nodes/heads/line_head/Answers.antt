@@ -13,7 +13,7 @@ pub returns-in-Some : goal.returns-in-Some
 returns-in-Some c = λ l e.
     let k = located_in c.document_rows.ensures c.requires.line in
     let agrees = c.decoded.ensures k.row (row_there c.document_rows.ensures c.requires.line) in
-    c.head_body.ensures
+    c.decoded_body.ensures
     ∙ (ap (λ o. decoded_or o (borrowed_head (slices k.row).head)) c.in-Some.ensures
     ∙ (agrees.head ∙ head_some c.document_rows.ensures c.requires.line l e (of_line c.document_rows.ensures c.args.at (λ m. true ≡ is_some m.head) c.if-not-has_head.ensures l e)))
 

@@ -1,7 +1,7 @@
 use Rattle.std.{proofs.Common.{◌≡◌, ◌+◌, ◌*◌, ◌≤◌, length}, specs.Str.IsUtf8}
-use Rattle.yq_rows.specs.Measured.{closing_byte, past_node}
+use Rattle.yq_inline.specs.Measured.{closing_byte, past_node}
 use Rattle.yq_core.specs.PlacedReading.{placed_items}
-use Rattle.yq_rows.proofs.measuring.+ends.Given as goal
+use Rattle.yq_inline.proofs.measuring.+ends.Given as goal
 
 abbrev pub decreases-measure_node : goal.decreases-measure_node
 decreases-measure_node l = 5 * l.depth + 2

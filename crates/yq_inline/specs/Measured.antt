@@ -2,9 +2,10 @@
 use Rattle.std.specs.Prelude.{ℕ, Bool, true, false, ◌||◌, ◌&&◌, not, List, Option, Some, None}
 use Rattle.yq_core.{specs.Answers.◌>>=◌, specs.Text.is_empty}
 use Rattle.yq_core.specs.Places.{Placed, placed, CoreNode, nothing, name, text, sequence, mapping}
-use Rattle.yq_core.{specs.PlacedReading.{placed_entry, placed_item}, specs.declared.style.Style.Style}
-use Rattle.yq_rows.{specs.declared.measuring.MeasuredKind.MeasuredKind, specs.declared.measuring.Measured.Measured}
-use Rattle.yq_rows.specs.declared.measuring.MeasuredKind.TheVariants as kinds
+use Rattle.yq_core.{specs.PlacedReading.{placed_entry, placed_item}, specs.Reading.all_node, specs.declared.style.Style.Style}
+use Rattle.yq_core.specs.declared.borrowed.BorrowedNode.{BorrowedNode}
+use Rattle.yq_inline.{specs.declared.measuring.MeasuredKind.MeasuredKind, specs.declared.measuring.Measured.Measured}
+use Rattle.yq_inline.specs.declared.measuring.MeasuredKind.TheVariants as kinds
 use Rattle.yq_core.specs.declared.style.Style.TheVariants as styles
 
 -- the kind of a scalar of this style (own)
@@ -77,3 +78,7 @@ closing_byte false = 93
 abbrev pub past_part : Bool → ℕ → List ℕ → Option (List ℕ)
 past_part true d t = past_node (placed_entry 0 d t)
 past_part false d t = past_node (placed_item 0 d t)
+
+-- what follows a node that a text lends (own)
+abbrev pub rest_after : BorrowedNode → Option (List ℕ)
+rest_after node = past_node (all_node true (Some 0) node.depth node.text.now)

@@ -10,10 +10,10 @@ use Rattle.yq_core.specs.PlacedReading.{split_key, past_sep, stands_behind, then
 use Rattle.yq_core.specs.Reading.{read_gap, read_scalar, name_at, lead_at, read_collection, read_core, kids_of, all_items}
 use Rattle.yq_core.{specs.Scalars.{scalar_style, begins_scalar}, proofs.Loops.node_shorter}
 use Rattle.yq_core.proofs.Steps.{items_end, items_more, entries_more, node_plain, node_anchored, node_no_name, node_no_lead}
-use Rattle.yq_rows.specs.Measured.{kind_of_style, node_measure, measured, past_node, is_no_node, node_may_follow, closing_byte, past_part}
-use Rattle.yq_rows.specs.declared.measuring.MeasuredKind.{MeasuredKind}
+use Rattle.yq_inline.specs.Measured.{kind_of_style, node_measure, measured, past_node, is_no_node, node_may_follow, closing_byte, past_part}
+use Rattle.yq_inline.specs.declared.measuring.MeasuredKind.{MeasuredKind}
 use Rattle.yq_core.specs.declared.style.Style.TheVariants as styles
-use Rattle.yq_rows.specs.declared.measuring.MeasuredKind.TheVariants as kinds
+use Rattle.yq_inline.specs.declared.measuring.MeasuredKind.TheVariants as kinds
 
 pub within : (a b c : ℕ) → a ≤ b → b ≤ c → a ≤ c
 within a b c h k = omega arith

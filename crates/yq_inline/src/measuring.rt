@@ -3,17 +3,17 @@ ghost use Rattle.std.specs.Prelude.{◌≡◌, ◌≢◌, ◌<◌, ◌≤◌, If
 ghost use Rattle.yq_core.{specs.Answers.ReadsAs, specs.declared.fault.FaultKind.TheVariants.NotUtf8};
 ghost use Rattle.yq_core.specs.Scalars.{scalar_style as style_at};
 ghost use Rattle.yq_core.specs.PlacedReading.{placed_node, placed_content, placed_coll, placed_items};
-ghost use Rattle.yq_rows.{specs.Measured.measured_view, specs.RowAnswers.{MeasuresNode, PassesNode}};
-ghost use Rattle.yq_rows.specs.Measured as spec;
+ghost use Rattle.yq_inline.{specs.InlineAnswers.{MeasuresNode, PassesNode}, specs.Measured.measured_view};
+ghost use Rattle.yq_inline.specs.Measured as spec;
 ghost use Rattle.yq_core.specs.PlacedReading as reading;
 
-use yq_core::fault_place::fault;
-use yq_core::{FaultKind, ReadFault, strip};
-use yq_inline::fault::flow_fault;
-use yq_inline::pieces::{
+use crate::fault::flow_fault;
+use crate::lead::read_gap;
+use crate::pieces::{
     begins_content, no_node, read_key, read_lead, read_name, read_scalar, read_sep,
 };
-use yq_inline::read_gap;
+use yq_core::fault_place::fault;
+use yq_core::{FaultKind, ReadFault, strip};
 
 /// What a node is, after its anchor.
 #[derive(Clone, Copy)]

@@ -1,6 +1,6 @@
 use Rattle.std.proofs.Common.{◌∙◌}
 use Rattle.yq_core.proofs.ContentLaws.{boundary_open, boundary_close, between_quotes}
-use Rattle.yq_outline.proofs.quotes.between_quotes.Goals as goal
+use Rattle.yq_core.proofs.quotes.between_quotes.Goals as goal
 
 pub split_at-requires : goal.split_at-requires
 split_at-requires c = boundary_open c.requires.0 c.requires.1.0 c.args.piece.now c.requires.1.1.0 c.requires.1.1.1 c.utf8.piece

@@ -1,7 +1,7 @@
 use Rattle.std.{proofs.Common.{rules, arith, sym, ap, ◌∙◌}, proofs.lemmas.Result.IfOk-weaker}
 use Rattle.yq_core.specs.Reading.{name_at}
-use Rattle.yq_rows.proofs.MeasureSteps.{node_apart, node_some, item_shorter, parts_some}
-use Rattle.yq_rows.proofs.measuring.+ends.Goals as goal
+use Rattle.yq_inline.proofs.MeasureSteps.{node_apart, node_some, item_shorter, parts_some}
+use Rattle.yq_inline.proofs.measuring.+ends.Goals as goal
 
 pub measure_parts-each-preserved : goal.measure_parts-each-preserved
 measure_parts-each-preserved t c = record {

@@ -1,0 +1,71 @@
+use Rattle.std.proofs.Common.{rules, true, ℕ, [], ◌∷◌, ◌++◌, List, map, sym, ap, ◌∙◌, subst, arith, append-nil}
+use Rattle.std.proofs.lemmas.Option.{IfSome_then}
+use Rattle.yq_core.specs.Nodes.{begins_content, begins_with}
+use Rattle.yq_outline.proofs.KeyLaws.{distinct_agrees}
+use Rattle.yq_compose.specs.Borrowing.{ArePassedParts}
+use Rattle.yq_compose.proofs.PassedLaws.{bracket_front, collection_passed, entry_passed, item_passed, keys_more, mapping_passed}
+use Rattle.yq_compose.proofs.PassedLaws.{none_passed, nothing_passed, sequence_passed}
+use Rattle.yq_compose.proofs.passing.+passing.Goals as goal
+
+pub pass_content-returns-in-Some-clause-passed : goal.pass_content-returns-in-Some-clause-passed
+pass_content-returns-in-Some-clause-passed t c =
+    let front = bracket_front 93 c.args.text.now c.in-Some.behind.now c.in-Some.ensures.0 c.in-Some.ensures.1 in
+    IfSome_then c.pass_sequence.result c.pass_sequence.ensures.passed (λ p is. collection_passed 93 p.nested c.args.text.now c.in-Some.behind.now p.rest.now front is)
+
+pub pass_content-returns-in-Some-strip-clause-passed : goal.pass_content-returns-in-Some-strip-clause-passed
+pass_content-returns-in-Some-strip-clause-passed t c =
+    let front = bracket_front 125 c.args.text.now c.in-Some-strip.behind.now c.in-Some-strip.ensures.0 c.in-Some-strip.ensures.1 in
+    IfSome_then c.pass_mapping.result c.pass_mapping.ensures.passed (λ p is. collection_passed 125 p.nested c.args.text.now c.in-Some-strip.behind.now p.rest.now front is)
+
+pub pass_node-returns-clause-passed : goal.pass_node-returns-clause-passed
+pass_node-returns-clause-passed t c =
+    nothing_passed 0 c.args.text.now (ap (begins_content true) (sym c.as_bytes.ensures.value) ∙ (sym c.begins_content.ensures ∙ c.if-begins_content.false))
+    (ap (begins_with 38) (sym c.as_bytes-2.ensures.value) ∙ (sym c.first_is.ensures ∙ c.if-first_is.false))
+
+pub pass_sequence-returns-clause-passed : goal.pass_sequence-returns-clause-passed
+pass_sequence-returns-clause-passed t c =
+    sequence_passed c.in_ok-items.items.nested c.args.text.now c.in-Ok.field-0-0.now c.in-Ok.rest.now c.in_ok-items.items.rest.now c.in-Ok.ensures.read c.in_ok-items.ensures.passed
+
+pub pass_mapping-returns-clause-passed : goal.pass_mapping-returns-clause-passed
+pass_mapping-returns-clause-passed t c =
+    mapping_passed c.in_ok-entries.entries.nested c.args.text.now c.in-Ok.field-0-0.now c.in-Ok.rest.now c.in_ok-entries.entries.rest.now c.in-Ok.ensures.read c.in_ok-entries.ensures.passed
+
+pub pass_items-returns-in-Some-clause-passed : goal.pass_items-returns-in-Some-clause-passed
+pass_items-returns-in-Some-clause-passed t c =
+    c.each.invariant.so_far c.each.nested c.in-Some.behind.now (omega arith) (none_passed c.each.nested 93 c.each.rest.now c.in-Some.behind.now c.in-Some.ensures.0 c.in-Some.ensures.1)
+
+pub pass_items-each-preserved : goal.pass_items-each-preserved
+pass_items-each-preserved t c =
+    let item = c.in_ok-item.item in
+    record {
+      utf8 = search rules;
+      within = omega (arith, c.in-Ok.ensures.shorter, c.in_ok-item.ensures.shorter, c.each.invariant.within);
+      room = omega (arith, c.max-nested.ensures, c.each.invariant.room, c.in_ok-item.ensures.nested);
+      so_far = λ d r le a.
+          c.each.invariant.so_far d r (omega (arith, c.max-nested.ensures, le))
+          (item_passed item.nested d c.each.rest.now item.rest.now c.in-Ok.after.now r (omega (arith, c.max-nested.ensures, le)) c.in_ok-item.ensures.passed c.in-Ok.ensures.read a);
+    }
+
+pub pass_entries-returns-in-Some-clause-passed : goal.pass_entries-returns-in-Some-clause-passed
+pass_entries-returns-in-Some-clause-passed t c =
+    let keys : List (List ℕ) = map (λ k. k.now) c.each.keys.items in
+    let all = c.each.invariant.so_far c.each.nested [] c.in-Some.behind.now (omega arith) (none_passed c.each.nested 125 c.each.rest.now c.in-Some.behind.now c.in-Some.ensures.0 c.in-Some.ensures.1) in
+    record {
+      keys = keys;
+      passed = subst (λ (ks : List (List ℕ)). ArePassedParts c.each.nested 125 ks c.args.text.now c.in-Some.behind.now) (append-nil keys) all;
+      apart = distinct_agrees keys true (rw c.as_mut_slice.ensures.value at c.if-not-are_distinct.ensures);
+    }
+
+pub pass_entries-each-preserved : goal.pass_entries-each-preserved
+pass_entries-each-preserved t c =
+    let node = c.in_ok-node.node in
+    let key = c.in_ok-key.key in
+    record {
+      utf8 = search rules;
+      within = omega (arith, c.in-Ok.ensures.shorter, c.in_ok-node.ensures.shorter, c.in_ok-key.ensures.shorter, c.each.invariant.within);
+      room = omega (arith, c.max-nested.ensures, c.each.invariant.room, c.in_ok-node.ensures.nested);
+      so_far = λ d more r le a.
+          subst (λ (ks : List (List ℕ)). ArePassedParts d 125 ks c.args.text.now r) (sym (keys_more c.each.keys.items key more) ∙ ap (λ ks. map (λ k. k.now) ks ++ more) (sym c.in-Ok-push.ensures.ok))
+          (c.each.invariant.so_far d (key.now ∷ more) r (omega (arith, c.max-nested.ensures, le))
+          (entry_passed node.nested d c.each.rest.now key.now c.in_ok-key.value.now node.rest.now c.in-Ok.after.now r more (omega (arith, c.max-nested.ensures, le)) c.in_ok-key.ensures.passed c.in_ok-node.ensures.passed c.in-Ok.ensures.read a));
+    }

@@ -1,0 +1,205 @@
+//! Flow collections that the text lends, passed without their trees.
+ghost use Rattle.std.{specs.Prelude.{◌≡◌, ◌<◌, ◌≤◌, [], IfSome, IsTrue, length, nat_le, true}, specs.Str.chars};
+ghost use Rattle.yq_row_table.specs.Grammar.{key_limit};
+ghost use Rattle.yq_compose.specs.Borrowing as spec;
+
+use crate::decoding::borrows_text;
+use crate::fit::key_fits;
+use crate::keys::Keys;
+use std::alloc::Global;
+use yq_core::{first_is, strip};
+use yq_documents::borrowed_text;
+use yq_inline::pieces::{begins_content, begins_scalar, read_key, read_scalar, read_sep};
+use yq_inline::read_gap;
+use yq_row_table::KEY_LIMIT;
+use yq_scalar_reader::are_distinct;
+
+/// What was passed: what follows it, and how many collections are nested in it at most.
+#[derive(Clone, Copy)]
+pub(crate) struct Passed<'t> {
+    pub(crate) rest: &'t str,
+    pub(crate) nested: usize,
+}
+
+/// What follows the scalar in front, where the text lends it.
+#[inline(always)]
+fn past_scalar(text: &str) -> Option<&str>
+    ensures shorter { IfSome result (λ r. length r.now < length text.now) }
+    ensures passed { IfSome result (λ r. spec.IsPassedContent 0 text.now r.now) }
+{
+    let Ok((piece, rest)) = read_scalar(true, Some(0), text, text) else {
+        return None;
+    };
+    if !borrows_text(piece) {
+        return None;
+    }
+    Some(rest)
+}
+
+/// Whether a key is as short as it has to be, by its bytes.
+#[inline(always)]
+#[tactic(auto, using(yq_row_heads::proofs::ShortKeys::short_by_bytes))]
+fn is_short(key: &str) -> bool
+    ensures { IsTrue result → nat_le (length (chars key.now)) key_limit ≡ true }
+{
+    key.len() <= KEY_LIMIT
+}
+
+/// What the key in front means, where it is fit and the text lends it, and what follows its `:` and the gap
+/// after that.
+#[inline(always)]
+fn pass_key(text: &str) -> Option<(&str, &str)>
+    ensures shorter { IfSome result (λ x. length x.1.now < length text.now) }
+    ensures passed { IfSome result (λ x. spec.IsPassedKey x.0.now text.now x.1.now) }
+{
+    let Ok((key, rest)) = read_key(text, text, text) else {
+        return None;
+    };
+    if !is_short(key) || !key_fits(key) || !borrows_text(key) {
+        return None;
+    }
+    Some((borrowed_text(key), rest))
+}
+
+/// A node that is something, in which at most so many collections are nested.
+#[cycle(passing)]
+fn pass_content<'t>(alloc: Global, depth: usize, text: &'t str) -> Option<Passed<'t>>
+    ensures shorter { IfSome result (λ p. length p.rest.now < length text.now) }
+    ensures nested { IfSome result (λ p. p.nested ≤ depth) }
+    ensures passed { IfSome result (λ p. spec.IsPassedContent p.nested text.now p.rest.now) }
+{
+    if let Some(behind) = strip(b'[', text) {
+        return pass_sequence(alloc, depth, behind);
+    }
+    if let Some(behind) = strip(b'{', text) {
+        return pass_mapping(alloc, depth, behind);
+    }
+    if !begins_scalar(true, text.as_bytes()) {
+        return None;
+    }
+    let rest = past_scalar(text)?;
+    Some(Passed { rest, nested: 0 })
+}
+
+/// A node in which at most so many collections are nested.
+#[inline(always)]
+#[cycle(passing)]
+fn pass_node<'t>(alloc: Global, depth: usize, text: &'t str) -> Option<Passed<'t>>
+    ensures shorter { IfSome result (λ p. length p.rest.now ≤ length text.now) }
+    ensures nested { IfSome result (λ p. p.nested ≤ depth) }
+    ensures passed { IfSome result (λ p. spec.IsPassedNode p.nested text.now p.rest.now) }
+{
+    if begins_content(true, text.as_bytes()) {
+        return pass_content(alloc, depth, text);
+    }
+    if first_is(b'&', text.as_bytes()) {
+        return None;
+    }
+    Some(Passed {
+        rest: text,
+        nested: 0,
+    })
+}
+
+/// A sequence after its `[`, in which at most so many collections are nested, itself among them.
+#[cycle(passing)]
+pub(crate) fn pass_sequence<'t>(alloc: Global, depth: usize, text: &'t str) -> Option<Passed<'t>>
+    ensures shorter { IfSome result (λ p. length p.rest.now ≤ length text.now) }
+    ensures nested { IfSome result (λ p. p.nested ≤ depth) }
+    ensures passed { IfSome result (λ p.
+        spec.IsPassedCollection 93 p.nested text.now p.rest.now) }
+{
+    if depth == 0 {
+        return None;
+    }
+    let Ok((_, rest)) = read_gap(text, text) else {
+        return None;
+    };
+    let items = pass_items(alloc, depth - 1, rest)?;
+    Some(Passed {
+        rest: items.rest,
+        nested: items.nested + 1,
+    })
+}
+
+/// A mapping after its `{`, in which at most so many collections are nested, itself among them.
+#[cycle(passing)]
+pub(crate) fn pass_mapping<'t>(alloc: Global, depth: usize, text: &'t str) -> Option<Passed<'t>>
+    ensures shorter { IfSome result (λ p. length p.rest.now ≤ length text.now) }
+    ensures nested { IfSome result (λ p. p.nested ≤ depth) }
+    ensures passed { IfSome result (λ p.
+        spec.IsPassedCollection 125 p.nested text.now p.rest.now) }
+{
+    if depth == 0 {
+        return None;
+    }
+    let Ok((_, rest)) = read_gap(text, text) else {
+        return None;
+    };
+    let entries = pass_entries(alloc, depth - 1, rest)?;
+    Some(Passed {
+        rest: entries.rest,
+        nested: entries.nested + 1,
+    })
+}
+
+/// The items in front and their `]`.
+#[inline(always)]
+#[cycle(passing)]
+fn pass_items<'t>(alloc: Global, depth: usize, text: &'t str) -> Option<Passed<'t>>
+    ensures shorter { IfSome result (λ p. length p.rest.now ≤ length text.now) }
+    ensures nested { IfSome result (λ p. p.nested ≤ depth) }
+    ensures passed { IfSome result (λ p. spec.ArePassedParts p.nested 93 [] text.now p.rest.now) }
+{
+    let mut nested = 0;
+    let mut rest = text;
+    'each: loop {
+        if let Some(behind) = strip(b']', rest) {
+            return Some(Passed {
+                rest: behind,
+                nested,
+            });
+        }
+        let item = pass_content(alloc, depth, rest)?;
+        let Ok(after) = read_sep(b']', text, text, item.rest) else {
+            return None;
+        };
+        nested = nested.max(item.nested);
+        rest = after;
+    }
+}
+
+/// The entries in front and their `}`, where their keys differ.
+#[inline(always)]
+#[cycle(passing)]
+fn pass_entries<'t>(alloc: Global, depth: usize, text: &'t str) -> Option<Passed<'t>>
+    ensures shorter { IfSome result (λ p. length p.rest.now ≤ length text.now) }
+    ensures nested { IfSome result (λ p. p.nested ≤ depth) }
+    ensures passed { IfSome result (λ p. spec.AreApartEntries p.nested text.now p.rest.now) }
+{
+    let mut keys = Keys::new(alloc);
+    let mut nested = 0;
+    let mut rest = text;
+    'each: loop {
+        if let Some(behind) = strip(b'}', rest) {
+            if !are_distinct(keys.as_mut_slice()) {
+                return None;
+            }
+            return Some(Passed {
+                rest: behind,
+                nested,
+            });
+        }
+        let (key, value) = pass_key(rest)?;
+        let node = pass_node(alloc, depth, value)?;
+        let Ok(after) = read_sep(b'}', text, text, node.rest) else {
+            return None;
+        };
+        match keys.push(key) {
+            Ok(()) => {}
+            Err(_) => return None,
+        }
+        nested = nested.max(node.nested);
+        rest = after;
+    }
+}
