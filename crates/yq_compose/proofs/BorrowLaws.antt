@@ -3,11 +3,10 @@ use Rattle.std.proofs.Common.{◌≡◌, ℕ, ℤ, zero, suc, ◌-◌, eqb, Bool
 use Rattle.std.{proofs.Common.{Some, None, refl, sym, ap, ◌∙◌}, proofs.lemmas.Bool.{and_parts, cond-false, cond-true, not-true, or_parts}}
 use Rattle.std.specs.List.{list_any}
 use Rattle.yq_core.{specs.ContentReading.quoted_content, specs.Plain.holds_break, specs.Quoted.IsQuotedText, specs.Text.{is_empty, is_feed}}
-use Rattle.yq_core.{specs.Nodes.begins_with, specs.Scalars.{scalar_content, is_quoted}}
-use Rattle.yq_core.proofs.OneLine.{kept, borrowed_quoted}
+use Rattle.yq_core.{specs.Nodes.begins_with, specs.Scalars.{scalar_content, is_quoted}, proofs.OneLine.{kept, borrowed_quoted}}
+use Rattle.yq_core.specs.Borrowed.{holds_escape, borrows_text}
 use Rattle.yq_documents.{specs.FlowReading.head_flow_at, specs.Decoded.{borrowed_head, borrowed_text}}
 use Rattle.yq_documents.specs.RowReading.{is_block_head, read_head, is_short_plain, string_head}
-use Rattle.yq_core.specs.Borrowed.{holds_escape, borrows_text}
 use Rattle.yq_compose.specs.Checking.{begins_tree, borrows_head}
 
 any_drop : (f : ℕ → Bool) (n : ℕ) (t : List ℕ) → list_any f t ≡ false → list_any f (drop n t) ≡ false

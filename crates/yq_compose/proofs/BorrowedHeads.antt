@@ -1,16 +1,14 @@
 -- A head that the text lends is what is read of it.
-use Rattle.std.proofs.Common.{◌≡◌, ℕ, ℤ, ◌-◌, ◌≤◌, Bool, true, false, cond, ◌||◌, eqb, List, [], ◌∷◌, ◌++◌, length, Option, Some, None, refl, sym, ap}
-use Rattle.std.proofs.Common.{◌∙◌, subst, arith, length-append, ⊎_elim, eqb-true}
-use Rattle.std.{proofs.lemmas.Bool.{false≢true, or_cases}}
-use Rattle.yq_core.{specs.Borrowed.{IsBorrowed, is_borrowed, node_in_front}, specs.Inline.depth_limit, specs.Piece.deeper}
-use Rattle.yq_core.specs.Nodes.{FlowNode, coll, Items, node_text, IsFlowNode, begins_with, is_empty_node, opening_bracket}
-use Rattle.yq_core.{specs.Places.{holder, locate, locate_items, mapping, Parts, sequence, placed}, specs.Scalars.is_quoted, specs.Text.is_empty}
-use Rattle.yq_core.{specs.Trees.{node_head, placed_tree, tree_of}, proofs.BorrowedLaws.{front_located, node_borrowed}}
+use Rattle.std.proofs.Common.{◌≡◌, ℕ, ℤ, ◌-◌, ◌≤◌, true, false, cond, eqb, List, [], ◌∷◌, length, Some, None, refl, sym, ap, ◌∙◌, subst}
+use Rattle.std.{proofs.Common.{arith, length-append, ⊎_elim, eqb-true}, proofs.lemmas.Bool.{false≢true, or_cases}}
+use Rattle.yq_core.{specs.Borrowed.{is_borrowed, node_in_front}, specs.Inline.depth_limit, specs.Piece.deeper}
+use Rattle.yq_core.specs.Nodes.{FlowNode, coll, Items, node_text, IsFlowNode, is_empty_node, opening_bracket}
+use Rattle.yq_core.{specs.Places.{holder, locate, locate_items, mapping, Parts, sequence, placed}, specs.Scalars.is_quoted}
+use Rattle.yq_core.{specs.Text.is_empty, specs.Trees.{node_head, placed_tree, tree_of}, proofs.BorrowedLaws.{front_located, node_borrowed}}
 use Rattle.yq_core.{proofs.NodeAgain.is_anchored, proofs.TreeLaws.node_tree}
-use Rattle.yq_documents.{specs.FlowReading.{alias_or_collection, head_flow_at, node_flow_at}, specs.KeyReading.EndsIn, specs.Reading.has_fit_keys}
+use Rattle.yq_documents.{specs.FlowReading.{alias_or_collection, head_flow_at, node_flow_at}, specs.KeyReading.EndsIn}
 use Rattle.yq_documents.{specs.RowReading.{is_block_head, is_short_plain, read_head, node_head_at}, proofs.HeadLaws.fitting}
 use Rattle.yq_compose.{specs.Borrowing.{IsPassedHead, IsPassedNode, opens_collection}, proofs.PassedLaws.deeper_node}
-use Rattle.yq_core.specs.Tree as trees
 use Rattle.yq_documents.proofs.HeadLaws as heads
 use Rattle.yq_documents.proofs.RowFlowLaws as flows
 

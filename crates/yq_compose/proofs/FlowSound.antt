@@ -3,10 +3,10 @@ use Rattle.std.proofs.Common.{◌≡◌, ℕ, ◌+◌, ◌<◌, Bool, true, fals
 use Rattle.std.proofs.Common.{inr, refl, sym, ap, ◌∙◌, append_assoc, arith, String, string_bytes}
 use Rattle.std.{proofs.lemmas.Bool.{and_parts, cases_lt, le-leb, leb-false, leb-true, lt-leb}, proofs.lemmas.List.drop_more}
 use Rattle.std.specs.declared.alloc.Global.{Global}
-use Rattle.yq_core.{specs.declared.piece.Piece.Piece, specs.Keys.{are_distinct, deepest, depth, keys_of}}
+use Rattle.yq_core.specs.declared.piece.Piece.{Piece}
+use Rattle.yq_core.specs.Keys.{are_distinct, deepest, depth, keys_of, each_has_unique_keys, has_unique_keys}
 use Rattle.yq_core.{specs.Tree.{Children, Label, Node, child, plain_label}, specs.Trees.{parts_tree, placed_tree}}
 use Rattle.yq_core.{specs.View.{entries_end, items_end, inline_view}, specs.declared.inline.Inline.Inline}
-use Rattle.yq_core.specs.Keys.{each_has_unique_keys, has_unique_keys}
 use Rattle.yq_outline.specs.Sound.{are_sound, head_is_sound}
 
 abbrev Field : Type 0

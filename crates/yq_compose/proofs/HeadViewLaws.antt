@@ -4,14 +4,14 @@ use Rattle.std.{proofs.Common.{sym, ap, ◌∙◌, arith}, proofs.lemmas.Bool.{f
 use Rattle.std.{specs.List.slice_get, specs.Prelude.{is_some, option_and_then, option_map}}
 use Rattle.yq_core.{specs.Scalar.plain_of, specs.Text.is_empty, specs.Tree.Node, specs.Places.Placed, specs.Scalars.is_quoted}
 use Rattle.yq_core.specs.Trees.{placed_tree, scalar_node}
-use Rattle.yq_outline.{specs.Outline.Line, specs.Sound.head_is_sound, specs.Lines.lines_of_rows}
-use Rattle.yq_outline.{specs.RowWalk.{IsLine, line_number}, specs.declared.line_position.Position.Position}
-use Rattle.yq_outline.{specs.declared.line_position.Stretch.Stretch, proofs.KnownLaws.get_dropped, proofs.WalkPositions.located}
+use Rattle.yq_outline.{specs.Outline.Line, specs.Sound.head_is_sound, specs.Lines.lines_of_rows, specs.RowWalk.{IsLine, line_number}}
+use Rattle.yq_outline.{specs.declared.line_position.Position.Position, specs.declared.line_position.Stretch.Stretch}
+use Rattle.yq_outline.{proofs.KnownLaws.get_dropped, proofs.WalkPositions.located}
 use Rattle.yq_row_table.{specs.Rows.Row, specs.View.{RowsView, rows_of, slices}}
-use Rattle.yq_documents.specs.Decoded.{borrowed_head, borrowed_text, decoded_at, decoded_or, decoded_flow, decoded_head, decoded_view, flow_in}
-use Rattle.yq_documents.{specs.RowReading.string_head, specs.declared.decoded.Decoded.Decoded}
+use Rattle.yq_documents.specs.Decoded.{borrowed_head, borrowed_text, decoded_at, decoded_or, decoded_flow, decoded_head, decoded_view}
+use Rattle.yq_documents.{specs.Decoded.flow_in, specs.RowReading.string_head, specs.declared.decoded.Decoded.Decoded}
 use Rattle.yq_compose.{specs.Checking.IsCheckable, proofs.PositionOrder.head_last}
-use Rattle.yq_documents.specs.declared.decoded.DecodedHead as made
+use Rattle.yq_documents.specs.declared.decoded.DecodedHead as kept
 use Rattle.yq_outline.specs.declared.line.Head as heads
 
 -- an item of a part of a list is one of the list
@@ -44,10 +44,10 @@ head_line t s ms d k q at l is some =
 -- an alias or flow collection that is made is the head
 flow_of : (o : Option made.DecodedHead) (h : List ℕ) (p : Placed) → option_and_then flow_in o ≡ Some p → Some (placed_tree p) ≡ decoded_or (option_map decoded_view o) (borrowed_head h)
 flow_of None h p e = absurd (cc)
-flow_of (Some (made.TheVariants.Made heads.TheVariants.Nothing)) h p e = absurd (cc)
-flow_of (Some (made.TheVariants.Made (heads.TheVariants.Scalar kind text))) h p e = absurd (cc)
-flow_of (Some (made.TheVariants.Made (heads.TheVariants.Inline node))) h p e = ap (λ (x : Placed). Some (placed_tree x)) (sym (same_Some _ _ e))
-flow_of (Some (made.TheVariants.Borrowed node)) h p e = ap (λ (x : Placed). Some (placed_tree x)) (sym (same_Some _ _ e))
+flow_of (Some (kept.TheVariants.Owned heads.TheVariants.Nothing)) h p e = absurd (cc)
+flow_of (Some (kept.TheVariants.Owned (heads.TheVariants.Scalar kind text))) h p e = absurd (cc)
+flow_of (Some (kept.TheVariants.Owned (heads.TheVariants.Inline node))) h p e = ap (λ (x : Placed). Some (placed_tree x)) (sym (same_Some _ _ e))
+flow_of (Some (kept.TheVariants.Borrowed node)) h p e = ap (λ (x : Placed). Some (placed_tree x)) (sym (same_Some _ _ e))
 
 pub head_some : (m : Option Decoded) (h : List ℕ) (p : Placed) → decoded_flow m ≡ Some p → Some (placed_tree p) ≡ decoded_head m h
 head_some None h p e = absurd (cc)
@@ -64,10 +64,10 @@ borrowed_flat d h = go (is_empty h) (is_quoted h)
 
 flat_of : (d : ℕ) (o : Option made.DecodedHead) (h : List ℕ) → option_and_then flow_in o ≡ None → head_is_sound d (decoded_or (option_map decoded_view o) (borrowed_head h)) ≡ true
 flat_of d None h e = borrowed_flat d h
-flat_of d (Some (made.TheVariants.Made heads.TheVariants.Nothing)) h e = refl
-flat_of d (Some (made.TheVariants.Made (heads.TheVariants.Scalar kind text))) h e = rw (le-leb 0 d (omega arith)) refl
-flat_of d (Some (made.TheVariants.Made (heads.TheVariants.Inline node))) h e = absurd (cc)
-flat_of d (Some (made.TheVariants.Borrowed node)) h e = absurd (cc)
+flat_of d (Some (kept.TheVariants.Owned heads.TheVariants.Nothing)) h e = refl
+flat_of d (Some (kept.TheVariants.Owned (heads.TheVariants.Scalar kind text))) h e = rw (le-leb 0 d (omega arith)) refl
+flat_of d (Some (kept.TheVariants.Owned (heads.TheVariants.Inline node))) h e = absurd (cc)
+flat_of d (Some (kept.TheVariants.Borrowed node)) h e = absurd (cc)
 
 head_flat : (d : ℕ) (m : Option Decoded) (h : List ℕ) → decoded_flow m ≡ None → head_is_sound d (decoded_head m h) ≡ true
 head_flat d None h e = borrowed_flat d h

@@ -4,13 +4,13 @@ use Rattle.std.{proofs.Common.{◌∙◌, append_assoc, append-nil}, proofs.lemm
 use Rattle.std.specs.Prelude.{option_and_then, option_map}
 use Rattle.yq_core.{specs.Anchors.{Name, anchor_names}, specs.Scalar.plain_of, specs.Text.is_empty, specs.Scalars.is_quoted}
 use Rattle.yq_core.specs.Trees.{scalar_node}
-use Rattle.yq_outline.{specs.Names.{head_names, line_names}, specs.Outline.Line}
-use Rattle.yq_outline.{specs.Lines.{content_anchor, head_of, lines_of_rows}, proofs.WalkLevels.names_row}
+use Rattle.yq_outline.{specs.Names.{head_names, line_names}, specs.Outline.Line, specs.Lines.{content_anchor, head_of, lines_of_rows}}
+use Rattle.yq_outline.proofs.WalkLevels.{names_row}
 use Rattle.yq_row_table.specs.Rows.{Row}
-use Rattle.yq_documents.{specs.Decoded.{borrowed_head, borrowed_text, decoded_or, decoded_flow, decoded_head, decoded_view, flow_in}, specs.RowReading.string_head}
-use Rattle.yq_documents.specs.declared.decoded.Decoded.{Decoded}
+use Rattle.yq_documents.specs.Decoded.{borrowed_head, borrowed_text, decoded_or, decoded_flow, decoded_head, decoded_view, flow_in}
+use Rattle.yq_documents.{specs.RowReading.string_head, specs.declared.decoded.Decoded.Decoded}
 use Rattle.yq_compose.{specs.Named.flow_names, proofs.RowContents.lines_at}
-use Rattle.yq_documents.specs.declared.decoded.DecodedHead as made
+use Rattle.yq_documents.specs.declared.decoded.DecodedHead as kept
 use Rattle.yq_outline.specs.declared.line.Head as heads
 
 with-append : (a : Option (List ℕ)) (xs ys : List Name) → anchor_names a (xs ++ ys) ≡ anchor_names a xs ++ ys
@@ -52,10 +52,10 @@ borrowed_named h = go (is_empty h) (is_quoted h)
 
 decoded_named : (o : Option made.DecodedHead) (h : List ℕ) → head_names (decoded_or (option_map decoded_view o) (borrowed_head h)) ≡ flow_names (option_and_then flow_in o)
 decoded_named None h = borrowed_named h
-decoded_named (Some (made.TheVariants.Made heads.TheVariants.Nothing)) h = refl
-decoded_named (Some (made.TheVariants.Made (heads.TheVariants.Scalar kind text))) h = refl
-decoded_named (Some (made.TheVariants.Made (heads.TheVariants.Inline node))) h = refl
-decoded_named (Some (made.TheVariants.Borrowed node)) h = refl
+decoded_named (Some (kept.TheVariants.Owned heads.TheVariants.Nothing)) h = refl
+decoded_named (Some (kept.TheVariants.Owned (heads.TheVariants.Scalar kind text))) h = refl
+decoded_named (Some (kept.TheVariants.Owned (heads.TheVariants.Inline node))) h = refl
+decoded_named (Some (kept.TheVariants.Borrowed node)) h = refl
 
 pub flow_named : (m : Option Decoded) (h : List ℕ) → head_names (decoded_head m h) ≡ flow_names (decoded_flow m)
 flow_named None h = borrowed_named h

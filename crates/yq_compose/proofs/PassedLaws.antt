@@ -1,16 +1,16 @@
 -- What is passed of flow collections is of the grammar.
-use Rattle.std.proofs.Common.{◌≡◌, ℕ, zero, suc, ◌+◌, ◌≤◌, ◌<◌, Bool, true, false, not, ◌&&◌, ◌||◌, eqb, List, [], ◌∷◌, ◌++◌, length, drop, Option}
-use Rattle.std.proofs.Common.{Some, None, refl, sym, ap, ◌∙◌, subst, arith, length-append, map, Bor}
-use Rattle.std.{proofs.lemmas.Bool.{and_from, false≢true}, proofs.lemmas.Option.same_Some}
-use Rattle.yq_core.{specs.Answers.◌>>=◌, specs.Borrowed.{borrows_items, borrows_key, borrows_node, borrows_text}, specs.Gaps.IsInlineGap}
+use Rattle.std.proofs.Common.{◌≡◌, ℕ, zero, suc, ◌+◌, ◌≤◌, ◌<◌, Bool, true, false, not, ◌&&◌, List, [], ◌∷◌, ◌++◌, length, drop, Option}
+use Rattle.std.{proofs.Common.{Some, refl, sym, ap, ◌∙◌, subst, arith, length-append, map, Bor}, proofs.lemmas.Bool.and_from}
+use Rattle.std.proofs.lemmas.Option.{same_Some}
+use Rattle.yq_core.{specs.Borrowed.{borrows_items, borrows_node, borrows_text}, specs.Gaps.IsInlineGap}
 use Rattle.yq_core.specs.Keys.{are_distinct, each_has_unique_keys, has_unique_keys, keys_of}
-use Rattle.yq_core.specs.Nodes.{FlowNode, empty, alias, scalar, coll, anchored, Items, none, item, Key, bare, keyed, node_text, flow_items_text}
-use Rattle.yq_core.specs.Nodes.{sep_text, key_text, IsFlowNode, AreFlowItems, IsInlineKey, IsSep, Deeper, is_empty_node, begins_with, begins_content}
-use Rattle.yq_core.{specs.Nodes.opening_bracket, specs.PlacedReading.{key_piece, past_sep, split_key}, specs.Scalars.scalar_content}
-use Rattle.yq_core.{specs.Reading.{read_flow_key, read_gap, read_scalar, sep_at}, specs.Text.with_first, specs.Trees.{items_tree, tree_of}}
-use Rattle.yq_core.{proofs.Bools.bind_some, proofs.GapLaws.gap_takes}
+use Rattle.yq_core.specs.Nodes.{FlowNode, empty, alias, scalar, coll, anchored, Items, none, item, Key, bare, keyed, node_text}
+use Rattle.yq_core.specs.Nodes.{flow_items_text, sep_text, key_text, IsFlowNode, AreFlowItems, IsInlineKey, IsSep, Deeper, is_empty_node}
+use Rattle.yq_core.{specs.Nodes.{begins_with, begins_content, opening_bracket}, specs.PlacedReading.{key_piece, past_sep}}
+use Rattle.yq_core.{specs.Scalars.scalar_content, specs.Reading.{read_flow_key, read_gap, read_scalar, sep_at}}
+use Rattle.yq_core.{specs.Trees.{items_tree, tree_of}, proofs.Bools.bind_some, proofs.GapLaws.gap_takes}
 use Rattle.yq_core.proofs.NodesPieceLaws.{front_is, key_takes, scalar_some, scalar_takes, sep_takes}
-use Rattle.yq_documents.specs.Reading.{each_has_fit_keys, has_fit_key, has_fit_keys, is_fit}
+use Rattle.yq_documents.specs.Reading.{each_has_fit_keys, has_fit_keys, is_fit}
 use Rattle.yq_compose.specs.Borrowing.{AreApartEntries, ArePassedParts, IsPassedCollection, IsPassedContent, IsPassedKey, IsPassedNode}
 
 -- more collections may be nested

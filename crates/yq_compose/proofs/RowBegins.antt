@@ -1,8 +1,7 @@
 -- What a row's key begins with tells what it spells.
 use Rattle.std.{proofs.Common.{◌≡◌, ℕ, true, false, List, [], ◌++◌, Some, refl, sym, ap, ◌∙◌, subst}, specs.List.slice_get}
-use Rattle.yq_core.{specs.Scalars.{scalar_content, is_quoted}, specs.Quoted.IsQuotedText}
+use Rattle.yq_core.{specs.Scalars.{scalar_content, is_quoted}, specs.Quoted.IsQuotedText, proofs.OneLine.kept as stands}
 use Rattle.yq_outline.{specs.declared.line_position.Stretch.Stretch, proofs.RowLaws.mark_quoted}
-use Rattle.yq_core.proofs.OneLine.{kept as stands}
 use Rattle.yq_row_table.{specs.Exchange.{behind_row, rows_behind}, specs.Grammar.IsMark, specs.Rows.{Content, Row, content_text}}
 use Rattle.yq_row_table.{specs.View.{Slices, RowsView, key_of_mark, rows_of, slices}, proofs.KeyLines.key_line}
 use Rattle.yq_row_table.proofs.PlaceLaws.{RowIn, row_in}

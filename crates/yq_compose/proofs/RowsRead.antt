@@ -5,17 +5,16 @@ use Rattle.std.{proofs.Math.Seq.{drop-append_seam, get_or-append_seam}, proofs.l
 use Rattle.std.{proofs.lemmas.List.length-map, proofs.lemmas.Option.{cond_some, slice_get-map}, proofs.lemmas.Str.IsCharBoundary-start}
 use Rattle.std.{specs.List.slice_get, specs.Prelude.option_map, specs.Str.{IsCharBoundary, IsUtf8}}
 use Rattle.yq_core.{specs.Answers.ReadFails, specs.Quoted.IsQuotedText, specs.Text.is_empty, specs.declared.fault.ReadError.ReadError}
-use Rattle.yq_core.{specs.Scalars.{scalar_content, is_quoted}, specs.Borrowed.borrows_text}
-use Rattle.yq_outline.specs.Lines.{head_of}
-use Rattle.yq_outline.proofs.RowLaws.{colon_some, mark_quoted}
-use Rattle.yq_core.proofs.OneLine.{kept}
+use Rattle.yq_core.{specs.Scalars.{scalar_content, is_quoted}, specs.Borrowed.borrows_text, proofs.OneLine.kept}
+use Rattle.yq_outline.{specs.Lines.head_of, proofs.RowLaws.{colon_some, mark_quoted}}
 use Rattle.yq_row_table.{specs.Exchange.{before_content, behind_row, rows_behind}, specs.Grammar.IsMark}
 use Rattle.yq_row_table.{specs.Rows.{Row, Cut, parent_indent}, specs.View.{Slices, colon_of, key_of_mark, slices, rows_of, RowsView}}
 use Rattle.yq_row_table.{proofs.PlaceLaws.{RowIn, place, row_in}, proofs.SliceLaws.content_slices}
-use Rattle.yq_documents.{specs.FlowReading.{head_flow_at, row_flow}, specs.KeyReading.EndsIn, specs.Decoded.{borrowed_head, borrowed_text, decoded_view, flow_in}}
-use Rattle.yq_documents.specs.declared.decoded.DecodedHead.{DecodedHead}
-use Rattle.yq_documents.{specs.Reading.{content_is_fit, cut_of, mark_is_fit}, specs.RowReading.read_head}
-use Rattle.yq_documents.{proofs.HeadLaws.{fitting, head_is, head_text}, proofs.RowFlowLaws.flow_is, proofs.RowLineLaws.content_quoted}
+use Rattle.yq_documents.{specs.FlowReading.{head_flow_at, row_flow}, specs.KeyReading.EndsIn}
+use Rattle.yq_documents.specs.Decoded.{borrowed_head, borrowed_text, decoded_view, flow_in}
+use Rattle.yq_documents.{specs.declared.decoded.DecodedHead.DecodedHead, specs.Reading.{content_is_fit, cut_of, mark_is_fit}}
+use Rattle.yq_documents.{specs.RowReading.read_head, proofs.HeadLaws.{fitting, head_is, head_text}, proofs.RowFlowLaws.flow_is}
+use Rattle.yq_documents.proofs.RowLineLaws.{content_quoted}
 use Rattle.yq_compose.{specs.Checking.borrows_head, specs.Deciding.Denies, specs.FitReading.key_fits}
 use Rattle.yq_compose.{specs.Decoding.{IsCutInto, IsHeadDecoded, IsKeyDecoded}, proofs.RowBegins.mark_plain}
 use Rattle.yq_compose.proofs.BorrowLaws.{borrows_key, borrowed_read}

@@ -1,10 +1,13 @@
 -- Reading (own; a reader may skip it): what is passed of flow collections that the text lends.
-use Rattle.std.specs.Prelude.{◌≡◌, ℕ, Bool, true, false, ◌||◌, List, ◌∷◌, Option, Some, ℤ}
-use Rattle.yq_core.{specs.Borrowed.{borrows_items, borrows_node, borrows_text}, specs.Keys.{are_distinct, each_has_unique_keys, has_unique_keys, keys_of}}
-use Rattle.yq_core.specs.Nodes.{FlowNode, coll, Items, node_text, flow_items_text, IsFlowNode, AreFlowItems, begins_with, is_empty_node, opening_bracket}
-use Rattle.yq_core.{specs.PlacedReading.split_key, specs.Places.Placed, specs.Scalars.scalar_content, specs.Trees.{placed_tree, tree_of, items_tree}}
-use Rattle.yq_core.{specs.View.borrowed_view, specs.declared.borrowed.BorrowedNode.BorrowedNode}
-use Rattle.yq_documents.{specs.FlowReading.head_flow_at, specs.Reading.{is_fit, has_fit_keys, each_has_fit_keys}, specs.RowReading.read_head}
+use Rattle.std.specs.Prelude.{◌≡◌, ℕ, Bool, true, false, ◌||◌, List, ◌∷◌, Some, ℤ}
+use Rattle.yq_core.specs.Borrowed.{borrows_items, borrows_node, borrows_text}
+use Rattle.yq_core.specs.Keys.{are_distinct, each_has_unique_keys, has_unique_keys, keys_of}
+use Rattle.yq_core.specs.Nodes.{FlowNode, coll, Items, node_text, flow_items_text, IsFlowNode, AreFlowItems, begins_with, is_empty_node}
+use Rattle.yq_core.{specs.Nodes.opening_bracket, specs.PlacedReading.split_key, specs.Scalars.scalar_content}
+use Rattle.yq_core.{specs.Trees.{placed_tree, tree_of, items_tree}, specs.View.borrowed_view}
+use Rattle.yq_core.specs.declared.borrowed.BorrowedNode.{BorrowedNode}
+use Rattle.yq_documents.{specs.FlowReading.head_flow_at, specs.Reading.{is_fit, has_fit_keys, each_has_fit_keys}}
+use Rattle.yq_documents.specs.RowReading.{read_head}
 
 -- A node that the text lends is in front, with at most d collections nested; its keys are fit, and no mapping has one twice (own).
 pub record IsPassedNode (d : ℕ) (t rest : List ℕ) : Type 0 where

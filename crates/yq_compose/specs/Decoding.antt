@@ -4,7 +4,8 @@ use Rattle.std.{specs.Prelude.string_bytes, specs.declared.alloc.Global.Global}
 use Rattle.yq_core.specs.Scalars.{scalar_content}
 use Rattle.yq_outline.specs.Lines.{head_of}
 use Rattle.yq_row_table.{specs.Exchange.behind_row, specs.Grammar.IsCut, specs.Rows.Row, specs.View.{rows_of, slices, RowsView, rows_view}}
-use Rattle.yq_documents.{specs.FlowReading.row_flow, specs.Decoded.{IsDecoded, Rise, borrowed_head, borrowed_text, decoded_or, decoded_view, flow_in}}
+use Rattle.yq_documents.specs.FlowReading.{row_flow}
+use Rattle.yq_documents.specs.Decoded.{IsDecoded, Rise, borrowed_head, borrowed_text, decoded_or, decoded_view, flow_in}
 use Rattle.yq_documents.{specs.Reading.cut_of, specs.declared.decoded.Decoded.Decoded, specs.declared.decoded.DecodedHead.DecodedHead}
 
 -- A text has a cut, and these are its pieces (own).

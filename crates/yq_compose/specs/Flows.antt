@@ -4,5 +4,5 @@ use Rattle.yq_compose.specs.declared.nested.Flow as flows
 
 -- the alias or flow collection that one of the code shows (own)
 abbrev pub flow_view : flows.Flow → Placed
-flow_view (flows.TheVariants.Made node) = inline_view node.now
+flow_view (flows.TheVariants.Owned node) = inline_view node.now
 flow_view (flows.TheVariants.Borrowed node) = borrowed_view node

@@ -2,10 +2,11 @@
 ghost use Rattle.std.specs.List.{list_any};
 ghost use Rattle.std.specs.Prelude.{◌≡◌, ◌<◌, ◌++◌, ◌==◌, if◌then◌else◌, length, option_and_then, option_map, string_bytes, true, IfErr};
 ghost use Rattle.std.specs.Prelude.{IfOk, IfSome};
-ghost use Rattle.yq_core.{specs.Answers.IsOfText, specs.Borrowed.borrows_text as is_borrowed_text, specs.Quoted.IsQuotedText, specs.Scalars.is_quoted as is_in_quotes};
+ghost use Rattle.yq_core.{specs.Answers.IsOfText, specs.Borrowed.borrows_text as is_borrowed_text, specs.Quoted.IsQuotedText};
+ghost use Rattle.yq_core.specs.Scalars.{is_quoted as is_in_quotes};
 ghost use Rattle.yq_row_table.specs.View.{rows_of};
-ghost use Rattle.yq_documents.{specs.Decoded.{IsDecodedBy, decoded_view, flow_in}, specs.Reading.{content_is_fit, cut_of, have_fit_keys, mark_is_fit}};
-ghost use Rattle.yq_documents.specs.RowReading.{row_fits};
+ghost use Rattle.yq_documents.specs.Decoded.{IsDecodedBy, decoded_view, flow_in};
+ghost use Rattle.yq_documents.{specs.Reading.{content_is_fit, cut_of, have_fit_keys, mark_is_fit}, specs.RowReading.row_fits};
 ghost use Rattle.yq_compose.specs.Deciding.{Decides};
 ghost use Rattle.yq_compose.specs.Decoding.{AreDecoded, IsCutInto, IsHeadDecoded, IsKeyDecoded, OfRow, list_of_option};
 ghost use Rattle.yq_compose.specs.Checking as spec;
@@ -118,7 +119,7 @@ fn decode_head<'t>(
     }
     let parent = rows.row(i).parent_indent();
     match read_head(alloc, text, parent, head, behind) {
-        Ok(head) => Ok(Some(DecodedHead::Made(head))),
+        Ok(head) => Ok(Some(DecodedHead::Owned(head))),
         Err(e) => Err(e),
     }
 }
@@ -215,7 +216,7 @@ fn row_refers(row: &Decoded<'_>) -> bool
     ensures { result ≡ spec.decoded_refers row.now }
 {
     match flow_decoded(Some(row)) {
-        Some(Flow::Made(node)) => node_refers(node),
+        Some(Flow::Owned(node)) => node_refers(node),
         Some(Flow::Borrowed(_)) => false,
         None => false,
     }

@@ -15,10 +15,12 @@ fn push_flow<'t>(names: &mut Vec<Name<'t>>, flow: Option<Flow<'_, 't>>) -> Resul
     ensures { OnOk result (all_named names.new.items ≡ all_named names.old.items ++
         flow_names (option_map flow_view flow.entry)) }
 {
+    let Some(flow) = flow else {
+        return Ok(());
+    };
     match flow {
-        Some(Flow::Made(node)) => push_node(names, node),
-        Some(Flow::Borrowed(_)) => Ok(()),
-        None => Ok(()),
+        Flow::Owned(node) => push_node(names, node),
+        Flow::Borrowed(_) => Ok(()),
     }
 }
 

@@ -137,7 +137,7 @@ pub(crate) fn borrowed_fault<'t>(
         node.text
     };
     match read_node(alloc, true, Some(0), whole, node.depth, node.text) {
-        Ok((made, _)) => node_fault(alloc, text, &made, depth),
+        Ok((found, _)) => node_fault(alloc, text, &found, depth),
         Err(e) => Err(e),
     }
 }

@@ -3,7 +3,8 @@ ghost use Rattle.std.specs.Prelude.{◌≡◌, List, option_map, IfErr, Some};
 ghost use Rattle.yq_core.specs.Answers.{IsOfText};
 ghost use Rattle.yq_outline.specs.RowWalk.{IsLine};
 ghost use Rattle.yq_documents.{specs.Decoded.{decoded_at, decoded_flow}, specs.declared.decoded.Decoded.Decoded as DecodedOf};
-ghost use Rattle.yq_compose.{specs.Ahead.IsAhead, specs.Checking.{IsChecked, IsReached, OfCheckedLine}, specs.Deciding.Decides, specs.Flows.flow_view};
+ghost use Rattle.yq_compose.{specs.Ahead.IsAhead, specs.Checking.{IsChecked, IsReached, OfCheckedLine}, specs.Deciding.Decides};
+ghost use Rattle.yq_compose.specs.Flows.{flow_view};
 ghost use Rattle.yq_outline.specs.Sound as spec;
 
 use crate::ahead::decoded_here;
@@ -19,8 +20,8 @@ use yq_row_walk::has_head;
 /// The alias or flow collection in a row's head.
 #[derive(Clone, Copy)]
 pub(crate) enum Flow<'a, 't> {
-    /// It is made.
-    Made(&'a Inline<'t>),
+    /// It is read.
+    Owned(&'a Inline<'t>),
     /// The text lends each key and scalar of it.
     Borrowed(BorrowedNode<'t>),
 }
@@ -33,9 +34,9 @@ pub(crate) fn flow_decoded<'a, 't>(decoded: Option<&'a Decoded<'t>>) -> Option<F
     match decoded {
         Some(row) => match &row.head {
             Some(DecodedHead::Borrowed(node)) => Some(Flow::Borrowed(*node)),
-            Some(DecodedHead::Made(Head::Inline(node))) => Some(Flow::Made(node)),
-            Some(DecodedHead::Made(Head::Scalar(..))) => None,
-            Some(DecodedHead::Made(Head::Nothing)) => None,
+            Some(DecodedHead::Owned(Head::Inline(node))) => Some(Flow::Owned(node)),
+            Some(DecodedHead::Owned(Head::Scalar(..))) => None,
+            Some(DecodedHead::Owned(Head::Nothing)) => None,
             None => None,
         },
         None => None,
@@ -74,7 +75,7 @@ pub(crate) fn head_fault(
         return Ok(());
     }
     match node {
-        Flow::Made(node) => node_fault(alloc, x.text, node, depth),
+        Flow::Owned(node) => node_fault(alloc, x.text, node, depth),
         Flow::Borrowed(node) => borrowed_fault(alloc, x.text, node, depth),
     }
 }

@@ -1,10 +1,11 @@
 use Rattle.std.{proofs.Common.{rules, ℕ, refl, sym, ap, ◌∙◌, SFits, w64}, proofs.lemmas.Bool.not-false, proofs.lemmas.Int.to_z-of_z}
 use Rattle.std.proofs.lemmas.Option.{same_Some}
 use Rattle.yq_core.specs.Text.{is_empty}
-use Rattle.yq_row_table.specs.View.{Slices, slices}
+use Rattle.yq_row_table.{specs.Rows.parent_indent, specs.View.{Slices, slices}}
 use Rattle.yq_documents.specs.Reading.{cut_of}
 use Rattle.yq_compose.proofs.RowsRead.{fit_agrees, head_quoted, head_read, borrowed_fit, none_decoded, no_head, pieces_there, place_whole}
 use Rattle.yq_compose.{proofs.RowsRead.{read_decoded, row_at, text_ends, unfit_agrees}, proofs.DocumentsRead.cut_view}
+use Rattle.yq_documents.specs.declared.decoded.DecodedHead as kept
 use Rattle.yq_compose.proofs.decoding.decode_head.Goals as goal
 
 pub returns-then-not-has_head-clause-fits : goal.returns-then-not-has_head-clause-fits
@@ -76,7 +77,7 @@ returns-in-Ok-clause-agrees c = λ r is.
     let start = ap (λ (x : ℕ × ℕ). x.0) (c.head_place-start.ensures (cut_of c.args.text.now) k.rows r is) in
     let f : SFits w64 c.parent_indent-parent.result = search rules in
     let parent = to_z-of_z w64 c.parent_indent-parent.result f ∙ (c.parent_indent-parent.ensures ∙ ap (λ (x : Slices). x.parent) (same_Some _ _ (sym c.row.ensures ∙ pieces))) in
-    read_decoded c.args.text.now c.args.rows.now k c.args.i r is c.split_at.result.1.now c.head_place-start.result.0 c.split_at.ensures.back start _ c.head-head.result.now parent head c.in-Ok.head c.in-Ok.ensures.view c.in-Ok.ensures.flow
+    read_decoded c.args.text.now c.args.rows.now k c.args.i r is c.split_at.result.1.now c.head_place-start.result.0 c.split_at.ensures.back start _ c.head-head.result.now parent head (kept.TheVariants.Owned c.in-Ok.head) c.in-Ok.ensures.view c.in-Ok.ensures.flow
 
 pub returns-in-Err-clause-fits : goal.returns-in-Err-clause-fits
 returns-in-Err-clause-fits c = λ r is.
@@ -90,3 +91,24 @@ returns-in-Err-clause-fits c = λ r is.
 
 pub head_place-start-requires-clause-rows_view : goal.head_place-start-requires-clause-rows_view
 head_place-start-requires-clause-rows_view c = cut_view c.args.text.now c.args.rows.now c.requires.cut
+
+pub borrow_head-requires : goal.borrow_head-requires
+borrow_head-requires c =
+    let k = c.requires.cut in
+    let r = row_at c.args.text.now c.args.rows.now k c.args.i c.requires.within in
+    let start = ap (λ (x : ℕ × ℕ). x.0) (c.head_place-start.ensures (cut_of c.args.text.now) k.rows r.0 r.1) in
+    record { ends = text_ends c.args.text.now c.args.rows.now k c.args.i r.0 r.1 c.split_at.result.1.now c.head_place-start.result.0 c.split_at.ensures.back start }
+
+pub returns-in-Some-clause-fits : goal.returns-in-Some-clause-fits
+returns-in-Some-clause-fits c = λ r is.
+    let k = c.requires.cut in
+    let head = c.head-head.ensures (slices r) (pieces_there c.args.text.now c.args.rows.now k c.args.i r is) in
+    let start = ap (λ (x : ℕ × ℕ). x.0) (c.head_place-start.ensures (cut_of c.args.text.now) k.rows r is) in
+    fit_agrees _ _ _ _ (head_read c.args.text.now c.args.rows.now k c.args.i r is c.split_at.result.1.now c.head_place-start.result.0 c.split_at.ensures.back start (parent_indent r) c.head-head.result.now refl head) (c.in-Some.ensures.view (parent_indent r))
+
+pub returns-in-Some-clause-agrees : goal.returns-in-Some-clause-agrees
+returns-in-Some-clause-agrees c = λ r is.
+    let k = c.requires.cut in
+    let head = c.head-head.ensures (slices r) (pieces_there c.args.text.now c.args.rows.now k c.args.i r is) in
+    let start = ap (λ (x : ℕ × ℕ). x.0) (c.head_place-start.ensures (cut_of c.args.text.now) k.rows r is) in
+    read_decoded c.args.text.now c.args.rows.now k c.args.i r is c.split_at.result.1.now c.head_place-start.result.0 c.split_at.ensures.back start (parent_indent r) c.head-head.result.now refl head (kept.TheVariants.Borrowed c.in-Some.node) (c.in-Some.ensures.view (parent_indent r)) (c.in-Some.ensures.flow (parent_indent r))

@@ -2,8 +2,9 @@ use Rattle.std.proofs.Common.{rules, true, ℕ, [], ◌∷◌, ◌++◌, List, m
 use Rattle.std.proofs.lemmas.Option.{IfSome_then}
 use Rattle.yq_core.specs.Nodes.{begins_content, begins_with}
 use Rattle.yq_outline.proofs.KeyLaws.{distinct_agrees}
-use Rattle.yq_compose.{specs.Borrowing.ArePassedParts, proofs.PassedLaws.{bracket_front, collection_passed, entry_passed, item_passed, keys_more}}
-use Rattle.yq_compose.proofs.PassedLaws.{mapping_passed, none_passed, nothing_passed, sequence_passed}
+use Rattle.yq_compose.specs.Borrowing.{ArePassedParts}
+use Rattle.yq_compose.proofs.PassedLaws.{bracket_front, collection_passed, entry_passed, item_passed, keys_more, mapping_passed}
+use Rattle.yq_compose.proofs.PassedLaws.{none_passed, nothing_passed, sequence_passed}
 use Rattle.yq_compose.proofs.passing.+passing.Goals as goal
 
 pub pass_content-returns-in-Some-clause-passed : goal.pass_content-returns-in-Some-clause-passed

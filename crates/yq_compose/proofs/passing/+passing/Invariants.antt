@@ -1,4 +1,4 @@
-use Rattle.std.{proofs.Common.{◌≡◌, ℕ, ◌+◌, ◌*◌, ◌≤◌, List, [], ◌++◌, length, map}, specs.Str.IsUtf8}
+use Rattle.std.{proofs.Common.{ℕ, ◌+◌, ◌*◌, ◌≤◌, List, [], ◌++◌, length, map}, specs.Str.IsUtf8}
 use Rattle.yq_compose.specs.Borrowing.{ArePassedParts}
 use Rattle.yq_compose.proofs.passing.+passing.Given as goal
 
