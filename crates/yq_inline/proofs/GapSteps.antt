@@ -1,9 +1,8 @@
 -- Gaps of no byte, of one space, and of a break and spaces.
-use Rattle.std.proofs.Common.{◌≡◌, ◌⊎◌, ℕ, zero, suc, ◌+◌, ◌<◌, ◌≤◌, true, false, ◌||◌, eqb, List, [], ◌∷◌, drop, get_or, length, take, Some, refl, sym}
-use Rattle.std.proofs.Common.{ap, ◌∙◌, arith, eqb-true, inl, inr, subst, ⊎_elim}
-use Rattle.std.proofs.lemmas.Bool.{cases_Bool, cases_lt, or_parts}
-use Rattle.std.{proofs.lemmas.List.Sums.prefix_len_passes, proofs.lemmas.Str.IsCharBoundary-after_ascii}
-use Rattle.std.{specs.List.prefix_len, specs.Str.{IsCharBoundary, IsUtf8}}
+use Rattle.std.proofs.Common.{◌≡◌, ◌⊎◌, ℕ, zero, suc, ◌+◌, ◌<◌, ◌≤◌, true, false, ◌||◌, eqb, List, [], ◌∷◌, drop, get_or, length, take}
+use Rattle.std.proofs.Common.{Some, refl, sym, ap, ◌∙◌, arith, eqb-true, inl, inr, subst, ⊎_elim}
+use Rattle.std.{proofs.lemmas.Bool.{cases_Bool, cases_lt, or_parts}, proofs.lemmas.List.Sums.prefix_len_passes}
+use Rattle.std.{proofs.lemmas.Str.IsCharBoundary-after_ascii, specs.List.prefix_len, specs.Str.{IsCharBoundary, IsUtf8}}
 use Rattle.yq_core.{specs.Nodes.begins_with, specs.Reading.{flow_gap_len, gap_end, read_gap}, specs.Text.{is_space, no_space, unless, upto}}
 use Rattle.yq_core.{specs.declared.gap.GapPlace.GapPlace, proofs.NodesPieceLaws.front_is, proofs.Upto.{upto_le_length, upto_unless}}
 use Rattle.yq_core.specs.declared.gap.GapPlace.TheVariants.{White, Break}

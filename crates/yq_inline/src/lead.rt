@@ -35,11 +35,11 @@ fn line_gap(text: &str) -> Option<(&str, &str)>
     if n == 0 {
         return None;
     }
-    let (gap, rest) = text.split_at(n + 1);
-    if is_space(rest.as_bytes()) || first_is(b'#', rest.as_bytes()) {
+    let (gap, after) = text.split_at(n + 1);
+    if is_space(after.as_bytes()) || first_is(b'#', after.as_bytes()) {
         return None;
     }
-    Some((gap, rest))
+    Some((gap, after))
 }
 
 /// The gap in front, and what follows it.
