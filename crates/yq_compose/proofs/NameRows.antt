@@ -50,7 +50,7 @@ borrowed_named h = go (is_empty h) (is_quoted h)
     go false true = refl
     go false false = refl
 
-decoded_named : (o : Option made.DecodedHead) (h : List ℕ) → head_names (decoded_or (option_map decoded_view o) (borrowed_head h)) ≡ flow_names (option_and_then decoded_head_flow o)
+decoded_named : (o : Option kept.DecodedHead) (h : List ℕ) → head_names (decoded_or (option_map decoded_view o) (borrowed_head h)) ≡ flow_names (option_and_then decoded_head_flow o)
 decoded_named None h = borrowed_named h
 decoded_named (Some (kept.TheVariants.Owned heads.TheVariants.Nothing)) h = refl
 decoded_named (Some (kept.TheVariants.Owned (heads.TheVariants.Scalar kind text))) h = refl
