@@ -9,7 +9,7 @@ use Rattle.yq_outline.{specs.declared.line_position.Position.Position, specs.dec
 use Rattle.yq_outline.{proofs.KnownLaws.get_dropped, proofs.WalkPositions.located}
 use Rattle.yq_row_table.{specs.Rows.Row, specs.View.{RowsView, rows_of, slices}}
 use Rattle.yq_documents.specs.Decoded.{borrowed_head, borrowed_text, decoded_at, decoded_or, decoded_flow, decoded_head, decoded_view}
-use Rattle.yq_documents.{specs.Decoded.flow_in, specs.RowReading.string_head, specs.declared.decoded.Decoded.Decoded}
+use Rattle.yq_documents.{specs.Decoded.decoded_head_flow, specs.RowReading.string_head, specs.declared.decoded.Decoded.Decoded}
 use Rattle.yq_compose.{specs.Checking.IsCheckable, proofs.PositionOrder.head_last}
 use Rattle.yq_documents.specs.declared.decoded.DecodedHead as kept
 use Rattle.yq_outline.specs.declared.line.Head as heads
@@ -42,7 +42,7 @@ head_line t s ms d k q at l is some =
     (k.agrees q.row f.row (row_of_cut t s ms d k q at)).head ∙ (sym (f.agrees.mark last).1 ∙ ap (λ (y : Line). y.head) own)
 
 -- an alias or flow collection that is made is the head
-flow_of : (o : Option made.DecodedHead) (h : List ℕ) (p : Placed) → option_and_then flow_in o ≡ Some p → Some (placed_tree p) ≡ decoded_or (option_map decoded_view o) (borrowed_head h)
+flow_of : (o : Option kept.DecodedHead) (h : List ℕ) (p : Placed) → option_and_then decoded_head_flow o ≡ Some p → Some (placed_tree p) ≡ decoded_or (option_map decoded_view o) (borrowed_head h)
 flow_of None h p e = absurd (cc)
 flow_of (Some (kept.TheVariants.Owned heads.TheVariants.Nothing)) h p e = absurd (cc)
 flow_of (Some (kept.TheVariants.Owned (heads.TheVariants.Scalar kind text))) h p e = absurd (cc)
@@ -62,7 +62,7 @@ borrowed_flat d h = go (is_empty h) (is_quoted h)
     go false true = rw (le-leb 0 d (omega arith)) refl
     go false false = rw (le-leb 0 d (omega arith)) refl
 
-flat_of : (d : ℕ) (o : Option made.DecodedHead) (h : List ℕ) → option_and_then flow_in o ≡ None → head_is_sound d (decoded_or (option_map decoded_view o) (borrowed_head h)) ≡ true
+flat_of : (d : ℕ) (o : Option kept.DecodedHead) (h : List ℕ) → option_and_then decoded_head_flow o ≡ None → head_is_sound d (decoded_or (option_map decoded_view o) (borrowed_head h)) ≡ true
 flat_of d None h e = borrowed_flat d h
 flat_of d (Some (kept.TheVariants.Owned heads.TheVariants.Nothing)) h e = refl
 flat_of d (Some (kept.TheVariants.Owned (heads.TheVariants.Scalar kind text))) h e = rw (le-leb 0 d (omega arith)) refl

@@ -7,8 +7,8 @@ use Rattle.yq_core.specs.Trees.{scalar_node}
 use Rattle.yq_outline.{specs.Names.{head_names, line_names}, specs.Outline.Line, specs.Lines.{content_anchor, head_of, lines_of_rows}}
 use Rattle.yq_outline.proofs.WalkLevels.{names_row}
 use Rattle.yq_row_table.specs.Rows.{Row}
-use Rattle.yq_documents.specs.Decoded.{borrowed_head, borrowed_text, decoded_or, decoded_flow, decoded_head, decoded_view, flow_in}
-use Rattle.yq_documents.{specs.RowReading.string_head, specs.declared.decoded.Decoded.Decoded}
+use Rattle.yq_documents.specs.Decoded.{borrowed_head, borrowed_text, decoded_or, decoded_flow, decoded_head, decoded_view}
+use Rattle.yq_documents.{specs.Decoded.decoded_head_flow, specs.RowReading.string_head, specs.declared.decoded.Decoded.Decoded}
 use Rattle.yq_compose.{specs.Named.flow_names, proofs.RowContents.lines_at}
 use Rattle.yq_documents.specs.declared.decoded.DecodedHead as kept
 use Rattle.yq_outline.specs.declared.line.Head as heads
@@ -50,7 +50,7 @@ borrowed_named h = go (is_empty h) (is_quoted h)
     go false true = refl
     go false false = refl
 
-decoded_named : (o : Option made.DecodedHead) (h : List ℕ) → head_names (decoded_or (option_map decoded_view o) (borrowed_head h)) ≡ flow_names (option_and_then flow_in o)
+decoded_named : (o : Option kept.DecodedHead) (h : List ℕ) → head_names (decoded_or (option_map decoded_view o) (borrowed_head h)) ≡ flow_names (option_and_then decoded_head_flow o)
 decoded_named None h = borrowed_named h
 decoded_named (Some (kept.TheVariants.Owned heads.TheVariants.Nothing)) h = refl
 decoded_named (Some (kept.TheVariants.Owned (heads.TheVariants.Scalar kind text))) h = refl

@@ -11,7 +11,7 @@ use Rattle.yq_row_table.{specs.Exchange.{before_content, behind_row, rows_behind
 use Rattle.yq_row_table.{specs.Rows.{Row, Cut, parent_indent}, specs.View.{Slices, colon_of, key_of_mark, slices, rows_of, RowsView}}
 use Rattle.yq_row_table.{proofs.PlaceLaws.{RowIn, place, row_in}, proofs.SliceLaws.content_slices}
 use Rattle.yq_documents.{specs.FlowReading.{head_flow_at, row_flow}, specs.KeyReading.EndsIn}
-use Rattle.yq_documents.specs.Decoded.{borrowed_head, borrowed_text, decoded_view, flow_in}
+use Rattle.yq_documents.specs.Decoded.{borrowed_head, borrowed_text, decoded_view, decoded_head_flow}
 use Rattle.yq_documents.{specs.declared.decoded.DecodedHead.DecodedHead, specs.Reading.{content_is_fit, cut_of, mark_is_fit}}
 use Rattle.yq_documents.{specs.RowReading.read_head, proofs.HeadLaws.{fitting, head_is, head_text}, proofs.RowFlowLaws.flow_is}
 use Rattle.yq_documents.proofs.RowLineLaws.{content_quoted}
@@ -162,7 +162,7 @@ module _ (t : List ℕ) (s : RowsView) (k : IsCutInto t s) (i : ℕ) (r : Row) (
       flow_read : head_flow_at t p h text ≡ row_flow (length t) r (behind_row i c)
       flow_read = (λ j. head_flow_at t (parent j) (head j) (from_there j)) ∙ flow_again
 
-      pub read_decoded : (x : DecodedHead) → read_head t p h text ≡ Some (decoded_view x) → flow_in x ≡ head_flow_at t p h text → IsHeadDecoded t i (Some x) r
+      pub read_decoded : (x : DecodedHead) → read_head t p h text ≡ Some (decoded_view x) → decoded_head_flow x ≡ head_flow_at t p h text → IsHeadDecoded t i (Some x) r
       read_decoded x view flow = record {
         head = sym (cond_some (content_is_fit r.content) _ _ (sym head_read ∙ view)).1;
         flow = flow ∙ flow_read;

@@ -6,7 +6,11 @@ ghost use Rattle.yq_compose.specs.Borrowing as spec;
 
 use crate::passing::{Passed, pass_mapping, pass_sequence};
 use std::alloc::Global;
-use yq_core::{BorrowedNode, DEPTH_LIMIT, strip};
+use yq_core::{BorrowedNode, strip};
+
+/// How many collections are nested at most in a head that is kept without a tree. Each level that is walked
+/// passes all that is deeper once more.
+const BORROWED_DEPTH: usize = 16;
 
 /// Whether a sequence or mapping in flow style begins so.
 fn opens_collection(head: &[u8]) -> bool
@@ -21,9 +25,9 @@ fn pass_head<'t>(alloc: Global, text: &'t str) -> Option<Passed<'t>>
     ensures passed { IfSome result (λ p. spec.IsPassedHead p.nested text.now p.rest.now) }
 {
     if let Some(behind) = strip(b'[', text) {
-        return pass_sequence(alloc, DEPTH_LIMIT, behind);
+        return pass_sequence(alloc, BORROWED_DEPTH, behind);
     }
-    pass_mapping(alloc, DEPTH_LIMIT, strip(b'{', text)?)
+    pass_mapping(alloc, BORROWED_DEPTH, strip(b'{', text)?)
 }
 
 /// The flow collection that a head is which is written so and with which the text begins, where the text

@@ -5,7 +5,7 @@ ghost use Rattle.std.specs.Prelude.{IfOk, IfSome};
 ghost use Rattle.yq_core.{specs.Answers.IsOfText, specs.Borrowed.borrows_text as is_borrowed_text, specs.Quoted.IsQuotedText};
 ghost use Rattle.yq_core.specs.Scalars.{is_quoted as is_in_quotes};
 ghost use Rattle.yq_row_table.specs.View.{rows_of};
-ghost use Rattle.yq_documents.specs.Decoded.{IsDecodedBy, decoded_view, flow_in};
+ghost use Rattle.yq_documents.specs.Decoded.{IsDecodedBy, decoded_view, decoded_head_flow};
 ghost use Rattle.yq_documents.{specs.Reading.{content_is_fit, cut_of, have_fit_keys, mark_is_fit}, specs.RowReading.row_fits};
 ghost use Rattle.yq_compose.specs.Deciding.{Decides};
 ghost use Rattle.yq_compose.specs.Decoding.{AreDecoded, IsCutInto, IsHeadDecoded, IsKeyDecoded, OfRow, list_of_option};
@@ -135,8 +135,8 @@ fn decoded_row<'t>(
         option_map string_bytes key }
     ensures head { option_and_then (λ m. option_map decoded_view m.head) result ≡
         option_map decoded_view head.entry }
-    ensures flow { option_and_then (λ m. option_and_then flow_in m.head) result ≡
-        option_and_then flow_in head.entry }
+    ensures flow { option_and_then (λ m. option_and_then decoded_head_flow m.head) result ≡
+        option_and_then decoded_head_flow head.entry }
 {
     if key.is_none() && head.is_none() {
         return None;

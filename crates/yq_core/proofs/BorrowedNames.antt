@@ -3,8 +3,9 @@ use Rattle.std.proofs.Common.{◌≡◌, ℕ, Bool, true, false, ◌&&◌, cond,
 use Rattle.std.proofs.lemmas.Bool.{false≢true, and_parts}
 use Rattle.yq_core.{specs.Anchors.{Name, names_of, names_in}, specs.Places.{Placed, locate}, specs.Tree.Children}
 use Rattle.yq_core.specs.Nodes.{FlowNode, empty, alias, scalar, coll, anchored, Items, none, item}
-use Rattle.yq_core.{specs.Borrowed.{borrows_key, borrows_node, borrows_items, is_borrowed, node_in_front}, specs.Trees.{placed_tree, tree_of, items_tree, tree_collection}}
-use Rattle.yq_core.{proofs.BorrowedLaws.{borrowed_node, front_located}, proofs.TreeLaws.node_tree}
+use Rattle.yq_core.specs.Borrowed.{borrows_key, borrows_node, borrows_items, is_borrowed, node_in_front}
+use Rattle.yq_core.{specs.Trees.{placed_tree, tree_of, items_tree, tree_collection}, proofs.BorrowedLaws.{borrowed_node, front_located}}
+use Rattle.yq_core.proofs.TreeLaws.{node_tree}
 use Rattle.yq_core.specs.Tree as tree
 
 collection_names : (k : ℕ) (cs : Children) → names_of (tree_collection k cs) ≡ names_in cs

@@ -2,8 +2,8 @@
 use Rattle.std.specs.Prelude.{◌≡◌, ℕ, ◌-◌, ◌==◌, Bool, true, false, ◌&&◌, not, List, take, drop, length, Option, Some, None, if◌then◌else◌}
 use Rattle.std.specs.List.{list_any}
 use Rattle.yq_core.{specs.Plain.holds_break, specs.Scalars.is_quoted, specs.Keys.{has_unique_keys, each_has_unique_keys}}
-use Rattle.yq_core.specs.Nodes.{Key, bare, keyed, FlowNode, empty, alias, scalar, coll, anchored, Items, none, item, begins_with}
-use Rattle.yq_core.specs.Nodes.{node_text, flow_items_text, IsFlowNode, AreFlowItems}
+use Rattle.yq_core.specs.Nodes.{Key, bare, keyed, FlowNode, empty, alias, scalar, coll, anchored, Items, none, item, begins_with, node_text}
+use Rattle.yq_core.specs.Nodes.{flow_items_text, IsFlowNode, AreFlowItems}
 use Rattle.yq_core.{specs.Places.{Placed, placed, nothing, Parts, end, locate, locate_items}, specs.Reading.{all_node, all_items}}
 use Rattle.yq_core.specs.Trees.{tree_of, items_tree}
 

@@ -3,8 +3,8 @@ use Rattle.std.{specs.Prelude.{ℕ, List, [], ◌∷◌, map, Option, Some, None
 use denote.Bor.{Bor}
 use Rattle.yq_core.{specs.declared.piece.Piece.Piece, specs.Answers.◌>>=◌, specs.declared.inline.Inline.Inline}
 use Rattle.yq_core.{specs.declared.inline.Form.Form, specs.declared.inline.Form.TheOpen.{Inline-F, Form-F}}
-use Rattle.yq_core.specs.declared.inline.Form.TheFolds.{fold-Inline, fold-Form}
-use Rattle.yq_core.{specs.Borrowed.node_in_front, specs.declared.borrowed.BorrowedNode.BorrowedNode}
+use Rattle.yq_core.{specs.declared.inline.Form.TheFolds.{fold-Inline, fold-Form}, specs.Borrowed.node_in_front}
+use Rattle.yq_core.specs.declared.borrowed.BorrowedNode.{BorrowedNode}
 use Rattle.yq_core.specs.Places.{Placed, placed, CoreNode, nothing, name, text, sequence, mapping, Parts, end, part}
 
 -- items before others (own)

@@ -41,9 +41,9 @@ decoded_view (heads.TheVariants.Owned head) = head_view head
 decoded_view (heads.TheVariants.Borrowed node) = Some (placed_tree (borrowed_view node))
 
 -- the alias or flow collection that it is, with its places (own)
-abbrev pub flow_in : heads.DecodedHead → Option Placed
-flow_in (heads.TheVariants.Owned head) = head_flow head
-flow_in (heads.TheVariants.Borrowed node) = Some (borrowed_view node)
+abbrev pub decoded_head_flow : heads.DecodedHead → Option Placed
+decoded_head_flow (heads.TheVariants.Owned head) = head_flow head
+decoded_head_flow (heads.TheVariants.Borrowed node) = Some (borrowed_view node)
 
 -- what a row's head spells, by what is made of the row and by its head (own)
 abbrev pub decoded_head : Option Decoded → List ℕ → Option Node
@@ -51,7 +51,7 @@ decoded_head m head = decoded_or (option_and_then (λ x. option_map decoded_view
 
 -- the alias or flow collection in a row's head with its places, by what is made of the row (own)
 abbrev pub decoded_flow : Option Decoded → Option Placed
-decoded_flow m = option_and_then (λ x. option_and_then flow_in x.head) m
+decoded_flow m = option_and_then (λ x. option_and_then decoded_head_flow x.head) m
 
 -- What row i of a cut of a text so long spells is given by what is made of it and by its pieces (own).
 pub record IsDecodedBy (total : ℕ) (c : Cut) (m : Option Decoded) (i : ℕ) (r : Row) : Type 0 where

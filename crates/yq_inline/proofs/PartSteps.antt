@@ -1,24 +1,22 @@
 -- The first item or entry of those that a text lends, as the code takes it.
-use Rattle.std.proofs.Common.{◌≡◌, ℕ, zero, suc, ◌-◌, ◌<◌, ◌≤◌, Bool, true, false, not, ◌&&◌, ◌||◌, eqb, List, ◌∷◌, ◌++◌, length, Option, Some, None, refl, sym, ap, ◌∙◌}
-use Rattle.std.{proofs.Common.{subst, arith, eq-eqb, eqb-true, length-append, option_map, ⊎_elim}, proofs.lemmas.Bool.{false≢true, and_parts, or_cases}}
-use Rattle.std.proofs.lemmas.Option.{same_Some}
+use Rattle.std.proofs.Common.{◌≡◌, ℕ, zero, suc, ◌-◌, ◌<◌, ◌≤◌, Bool, true, false, not, ◌&&◌, ◌||◌, eqb, List, ◌∷◌, ◌++◌, length, Option}
+use Rattle.std.proofs.Common.{Some, None, refl, sym, ap, ◌∙◌, subst, arith, eq-eqb, eqb-true, length-append, option_map, ⊎_elim}
+use Rattle.std.{proofs.lemmas.Bool.{false≢true, and_parts, or_cases}, proofs.lemmas.Option.same_Some}
 use Rattle.yq_core.{specs.Answers.◌>>=◌, specs.declared.piece.Piece.Piece}
-use Rattle.yq_core.specs.Nodes.{Key, bare, keyed, Sep, FlowNode, Items, none, item, key_text, sep_text, node_text, flow_items_text, begins_with}
-use Rattle.yq_core.specs.Nodes.{IsInlineKey, IsSep, is_keyed, is_empty_node, is_close, IsFlowNode, AreFlowItems}
-use Rattle.yq_core.specs.Places.{Placed, Parts, part, key_placed, key_here, locate, locate_items}
-use Rattle.yq_core.specs.PlacedReading.{key_piece, past_sep, split_key}
-use Rattle.yq_core.specs.Reading.{all_node, all_items, read_flow_key, sep_at}
-use Rattle.yq_core.{specs.Keys.{has_unique_keys, each_has_unique_keys}, specs.Trees.{tree_of, items_tree}}
-use Rattle.yq_core.specs.Borrowed.{borrows_text, borrows_key, borrows_node, borrows_items, AreBorrowed, is_borrowed, are_borrowed, node_in_front}
-use Rattle.yq_core.specs.Borrowed.{items_in_front}
-use Rattle.yq_core.{proofs.NodesPieceLaws.sep_again, proofs.NodeLaws.all_again, proofs.NodeTakes.key_in}
+use Rattle.yq_core.specs.Nodes.{Key, bare, keyed, Sep, FlowNode, Items, none, item, key_text, sep_text, node_text, flow_items_text}
+use Rattle.yq_core.specs.Nodes.{begins_with, IsInlineKey, IsSep, is_keyed, is_empty_node, is_close, IsFlowNode, AreFlowItems}
+use Rattle.yq_core.specs.Places.{Placed, Parts, part, key_placed, key_here, locate, locate_items, end}
+use Rattle.yq_core.specs.PlacedReading.{key_piece, past_sep, split_key, placed_node}
+use Rattle.yq_core.{specs.Reading.{all_node, all_items, read_flow_key, sep_at}, specs.Keys.{has_unique_keys, each_has_unique_keys}}
+use Rattle.yq_core.specs.Trees.{tree_of, items_tree, unplaced_key}
+use Rattle.yq_core.specs.Borrowed.{borrows_text, borrows_key, borrows_node, borrows_items, AreBorrowed, is_borrowed, are_borrowed}
+use Rattle.yq_core.{specs.Borrowed.{node_in_front, items_in_front, located_or_end}, proofs.NodesPieceLaws.sep_again}
+use Rattle.yq_core.{proofs.NodeLaws.{all_again, items_done}, proofs.NodeTakes.key_in}
 use Rattle.yq_core.proofs.NodeAgain.{key_in_again, item_longer, sep_longer}
 use Rattle.yq_core.proofs.BorrowedLaws.{borrowed_items, items_borrowed, items_located, front_located, node_borrowed}
-use Rattle.yq_core.{specs.Entries.{entry_start, flow_part_at, start_of}, specs.View.borrowed_view, specs.Paths.{Nth, To, is_item, key_is}, specs.PlacedReading.placed_node, specs.Places.end}
-use Rattle.yq_core.{specs.Borrowed.located_or_end, specs.Trees.unplaced_key, proofs.NodeLaws.items_done}
-use Rattle.yq_inline.specs.BorrowedParts.{IsFirstEntry, borrowed_entry, parts_view}
-use Rattle.yq_inline.specs.Measured.{closing_byte, measured, past_node}
-use Rattle.yq_inline.specs.declared.parts.{BorrowedEntry.BorrowedEntry, BorrowedParts.BorrowedParts}
+use Rattle.yq_core.{specs.Entries.{entry_start, flow_part_at, start_of}, specs.View.borrowed_view, specs.Paths.{Nth, To, is_item, key_is}}
+use Rattle.yq_inline.{specs.BorrowedParts.{IsFirstEntry, borrowed_entry, parts_view}, specs.Measured.{closing_byte, measured, past_node}}
+use Rattle.yq_inline.{specs.declared.parts.BorrowedEntry.BorrowedEntry, specs.declared.parts.BorrowedParts.BorrowedParts}
 
 -- the pieces of the first item or entry, of which the text lends each key and scalar
 pub record First (d k : ℕ) (t : List ℕ) : Type 0 where
@@ -216,7 +214,7 @@ parts_left p e r s j before is passed same sep =
     let k : ℕ = closing_byte p.keyed in
     let left = left_after p.total p.depth k p.text.now (close_is p.keyed) before p.borrowed is.key e.node.text.now r s is.stands (entry_node p e r is passed) (ap (λ m. past_sep m r) (sym same) ∙ sep) in
     record {
-      shown = left.shown ∙ (λ i. part (sym is.shown i) (node_in_front (sym is.total i) (sym is.depth i) e.node.text.now) (items_in_front p.total p.depth k s));
+      shown = left.shown ∙ (λ i. part (sym is.view i) (node_in_front (sym is.total i) (sym is.depth i) e.node.text.now) (items_in_front p.total p.depth k s));
       borrowed = left.borrowed;
       shorter = left.shorter;
     }

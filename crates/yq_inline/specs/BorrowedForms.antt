@@ -1,12 +1,10 @@
 -- What nodes are that a text lends (own).
 use Rattle.std.specs.Prelude.{◌≡◌, Bool, false, true, List, None, Option, Some, ℕ, map}
-use Rattle.yq_core.specs.Entries.{PlacedEntry, flow_part_at, parts_of, placed_entry_at, tree_step}
-use Rattle.yq_core.{specs.Borrowed.borrows_text, specs.Places.{Parts, end}, specs.Scalars.scalar_of}
-use Rattle.yq_core.{specs.Tree.{Node, scalar, list}, specs.Trees.{parts_tree, placed_tree, scalar_node, tree_collection}}
-use Rattle.yq_core.{specs.View.borrowed_view, specs.declared.borrowed.BorrowedNode.BorrowedNode}
-use Rattle.yq_core.specs.declared.path.Step.{Step}
-use Rattle.yq_inline.{specs.BorrowedParts.parts_view, specs.Measured.closing_byte}
-use Rattle.yq_inline.specs.declared.parts.BorrowedParts.{BorrowedParts}
+use Rattle.yq_core.{specs.Entries.{PlacedEntry, flow_part_at, parts_of, placed_entry_at, tree_step}, specs.Borrowed.borrows_text}
+use Rattle.yq_core.{specs.Places.{Parts, end}, specs.Scalars.scalar_of, specs.Tree.{Node, scalar, list}}
+use Rattle.yq_core.{specs.Trees.{parts_tree, placed_tree, scalar_node, tree_collection}, specs.View.borrowed_view}
+use Rattle.yq_core.{specs.declared.borrowed.BorrowedNode.BorrowedNode, specs.declared.path.Step.Step}
+use Rattle.yq_inline.{specs.BorrowedParts.parts_view, specs.Measured.closing_byte, specs.declared.parts.BorrowedParts.BorrowedParts}
 use Rattle.yq_core.specs.Tree as tree
 use Rattle.yq_inline.specs.declared.forms.BorrowedForm as forms
 
@@ -38,9 +36,9 @@ pub record AreInside (node : BorrowedNode) (inside : BorrowedParts) : Type 0 whe
   pub parts : parts_of (borrowed_view node) ≡ parts_view inside
 
 -- the item or entry of a node to which a step leads (own)
-abbrev pub part_at : Step → BorrowedNode → Option PlacedEntry
-part_at step node = flow_part_at (tree_step step) (parts_of (borrowed_view node))
+abbrev pub borrowed_part_at : Step → BorrowedNode → Option PlacedEntry
+borrowed_part_at step node = flow_part_at (tree_step step) (parts_of (borrowed_view node))
 
 -- the item or entry at a path from a node (own)
-abbrev pub entry_at : List Step → BorrowedNode → Option PlacedEntry
-entry_at steps node = placed_entry_at (map tree_step steps) (None, borrowed_view node)
+abbrev pub borrowed_entry_at : List Step → BorrowedNode → Option PlacedEntry
+borrowed_entry_at steps node = placed_entry_at (map tree_step steps) (None, borrowed_view node)

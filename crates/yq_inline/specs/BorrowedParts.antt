@@ -1,8 +1,8 @@
 -- The items and entries of nodes that a text lends (own).
 use Rattle.std.specs.Prelude.{◌≡◌, ℕ, ◌==◌, List, Option, Some, None, option_map, if◌then◌else◌}
-use Rattle.yq_core.{specs.Answers.◌>>=◌, specs.Borrowed.{borrows_text, items_in_front}, specs.Entries.PlacedEntry}
-use Rattle.yq_core.{specs.Nodes.{Key, bare}, specs.Places.{Parts, end, part, key_placed}, specs.Reading.read_flow_key}
-use Rattle.yq_core.{specs.Trees.parts_tree, specs.Tree.{Node, scalar, list, map}, specs.View.borrowed_view}
+use Rattle.yq_core.{specs.Answers.◌>>=◌, specs.Borrowed.{borrows_text, items_in_front}, specs.Entries.PlacedEntry, specs.Nodes.{Key, bare}}
+use Rattle.yq_core.{specs.Places.{Parts, end, part, key_placed}, specs.Reading.read_flow_key, specs.Trees.parts_tree}
+use Rattle.yq_core.{specs.Tree.{Node, scalar, list, map}, specs.View.borrowed_view}
 use Rattle.yq_inline.{specs.Measured.closing_byte, specs.declared.parts.BorrowedEntry.BorrowedEntry}
 use Rattle.yq_inline.specs.declared.parts.BorrowedParts.{BorrowedParts}
 
@@ -32,6 +32,6 @@ key_before k t = if k == 125 then read_flow_key t else Some (bare, t)
 pub record IsFirstEntry (p : BorrowedParts) (e : BorrowedEntry) : Type 0 where
   pub key : Key
   pub stands : key_before (closing_byte p.keyed) p.text.now ≡ Some (key, e.node.text.now)
-  pub shown : (borrowed_entry e).0 ≡ key_placed p.total p.text.now key
+  pub view : (borrowed_entry e).0 ≡ key_placed p.total p.text.now key
   pub total : e.node.total ≡ p.total
   pub depth : e.node.depth ≡ p.depth

@@ -1,9 +1,8 @@
 //! Where items and entries are that a text lends, and where paths lead in its nodes.
 ghost use Rattle.std.specs.Prelude.{◌≡◌, option_map};
-ghost use Rattle.yq_core.specs.Entries.{entry_place};
-ghost use Rattle.yq_core.specs.View.{borrowed_view};
+ghost use Rattle.yq_core.{specs.Entries.entry_place, specs.View.borrowed_view};
+ghost use Rattle.yq_inline.{specs.BorrowedForms.{borrowed_entry_at, borrowed_part_at}, specs.BorrowedParts.borrowed_entry};
 ghost use Rattle.yq_core.specs.Entries as spec;
-ghost use Rattle.yq_inline.{specs.BorrowedForms.{entry_at, part_at}, specs.BorrowedParts.borrowed_entry};
 
 use crate::forms::{BorrowedForm, form_of};
 use crate::parts::{BorrowedEntry, past_borrowed};
@@ -12,7 +11,7 @@ use yq_core::{BorrowedNode, Step};
 
 /// The item or entry to which a step leads.
 fn part_of<'t>(node: BorrowedNode<'t>, step: &Step) -> Option<BorrowedEntry<'t>>
-    ensures { option_map borrowed_entry result ≡ part_at step.now node.entry }
+    ensures { option_map borrowed_entry result ≡ borrowed_part_at step.now node.entry }
 {
     let parts = match form_of(node) {
         BorrowedForm::Scalar(..) => return None,
@@ -27,7 +26,7 @@ fn part_of<'t>(node: BorrowedNode<'t>, step: &Step) -> Option<BorrowedEntry<'t>>
 
 /// The item or entry at a path from a node, which itself is the entry of the empty path.
 pub fn entry_in<'t>(node: BorrowedNode<'t>, steps: &[Step]) -> Option<BorrowedEntry<'t>>
-    ensures { option_map borrowed_entry result ≡ entry_at steps.now node.entry }
+    ensures { option_map borrowed_entry result ≡ borrowed_entry_at steps.now node.entry }
 {
     let mut found = BorrowedEntry { key: None, node };
     'steps: for step in steps {

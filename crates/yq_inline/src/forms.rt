@@ -1,8 +1,7 @@
 //! What nodes are that a text lends.
 ghost use Rattle.std.specs.Prelude.{◌≡◌, None, Some, drop, true};
-ghost use Rattle.yq_core.specs.Entries.{parts_of};
-ghost use Rattle.yq_core.{specs.Nodes.{begins_with, opening_bracket}, specs.Reading.read_scalar as read, specs.Tree.scalar};
-ghost use Rattle.yq_core.{specs.Trees.placed_tree, specs.View.borrowed_view};
+ghost use Rattle.yq_core.{specs.Entries.parts_of, specs.Nodes.{begins_with, opening_bracket}, specs.Reading.read_scalar as read};
+ghost use Rattle.yq_core.{specs.Tree.scalar, specs.Trees.placed_tree, specs.View.borrowed_view};
 ghost use Rattle.yq_inline.specs.Measured.{closing_byte};
 ghost use Rattle.yq_inline.specs.BorrowedForms as spec;
 

@@ -5,7 +5,7 @@ ghost use Rattle.yq_inline.specs.Forms.{after_bracket};
 ghost use Rattle.yq_core.specs.Reading as reading;
 
 use yq_core::fault_place::fault;
-use yq_core::text::{is_marker, is_space};
+use yq_core::text::{is_marker, is_space, spaces_len};
 use yq_core::{FaultKind, ReadFault, first_is, gap_len, strip};
 
 /// The gap in front, and what follows it, where that gap is nothing or one space.
@@ -23,6 +23,23 @@ fn short_gap(text: &str) -> Option<(&str, &str)>
         return None;
     }
     Some((" ", rest))
+}
+
+/// The gap in front, and what follows it, where that gap is a break and spaces.
+fn line_gap(text: &str) -> Option<(&str, &str)>
+    ensures read { IfSome result (λ x. reading.read_gap text.now ≡ Some (x.0.now, x.1.now)) }
+    ensures shorter { IfSome result (λ x. length x.1.now ≤ length text.now) }
+{
+    let line = strip(b'\n', text)?;
+    let n = spaces_len(line.as_bytes());
+    if n == 0 {
+        return None;
+    }
+    let (gap, after) = text.split_at(n + 1);
+    if is_space(after.as_bytes()) || first_is(b'#', after.as_bytes()) {
+        return None;
+    }
+    Some((gap, after))
 }
 
 /// The gap in front, and what follows it.
@@ -47,7 +64,10 @@ pub fn read_gap<'t>(whole: &str, text: &'t str) -> Result<(&'t str, &'t str), Re
     ensures shorter { IfOk result (λ x. length x.1.now ≤ length text.now) }
     ensures fault { IfErr result (λ f. f.kind ≢ NotUtf8) }
 {
-    match short_gap(text) {
+    if let Some(found) = short_gap(text) {
+        return Ok(found);
+    }
+    match line_gap(text) {
         Some(found) => Ok(found),
         None => long_gap(whole, text),
     }

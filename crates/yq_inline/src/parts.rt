@@ -1,9 +1,9 @@
 //! The items and entries of nodes that a text lends, one after the other.
 ghost use Rattle.std.specs.Prelude.{◌≡◌, ◌≢◌, ◌<◌, ◌≤◌, IfSome, List, None, Some, false, length, option_map, true, ℕ};
-ghost use Rattle.yq_core.{specs.Borrowed.are_borrowed, specs.Entries.flow_part_at, specs.Nodes.begins_with, specs.Paths.{Nth, To}};
-ghost use Rattle.yq_core.{specs.PlacedReading.{past_sep, split_key}, specs.Quoted.IsQuotedText};
-ghost use Rattle.yq_core.{specs.Paths.{is_item, key_is}, specs.Scalars.is_quoted as is_in_quotes, specs.Trees.unplaced_key};
-ghost use Rattle.yq_inline.specs.Measured.{closing_byte, rest_after};
+ghost use Rattle.yq_core.{specs.Borrowed.are_borrowed, specs.Entries.flow_part_at, specs.Nodes.begins_with};
+ghost use Rattle.yq_core.{specs.Paths.{Nth, To, is_item, key_is}, specs.PlacedReading.{past_sep, split_key}, specs.Quoted.IsQuotedText};
+ghost use Rattle.yq_core.{specs.Scalars.is_quoted as is_in_quotes, specs.Trees.unplaced_key};
+ghost use Rattle.yq_inline.specs.Measured.{closing_byte, behind_borrowed};
 
 use crate::measuring::measure_node;
 use crate::pieces::{read_key, read_sep};
@@ -58,7 +58,7 @@ fn key_in_front(text: &str) -> (&str, &str)
 
 /// What follows a node.
 pub fn past_borrowed(node: BorrowedNode<'_>) -> &str
-    ensures rest { rest_after node.entry ≡ Some result.now }
+    ensures rest { behind_borrowed node.entry ≡ Some result.now }
     ensures shorter { length result.now ≤ length node.entry.text.now }
 {
     match measure_node(true, Some(0), node.text, node.depth, node.text) {

@@ -5,9 +5,8 @@ use Rattle.std.proofs.lemmas.Bool.{and_parts, and_from, or_parts, false≢true, 
 use Rattle.std.{proofs.lemmas.List.Folds.list_any_none, proofs.lemmas.List.Kept.AllPairs-cons, proofs.lemmas.Slice.Eq.bytes_eq-Decides}
 use Rattle.std.{specs.List.{list_any, All}, proofs.lemmas.List.drop_all, specs.Prelude.String, specs.declared.alloc.Global.Global}
 use Rattle.yq_core.specs.Tree.{Node, alias, scalar, list, map, Children, none, child}
-use Rattle.yq_core.{specs.Keys.{AreDistinct, keys_of, HasUniqueKeys, EachHasUniqueKeys, are_distinct}, specs.declared.piece.Piece.Piece}
-use Rattle.yq_core.{specs.declared.inline.Inline.Inline, specs.Trees.parts_tree, specs.View.entries_end}
-use Rattle.yq_core.specs.Keys.{has_unique_keys, each_has_unique_keys}
+use Rattle.yq_core.specs.Keys.{AreDistinct, keys_of, HasUniqueKeys, EachHasUniqueKeys, are_distinct, has_unique_keys, each_has_unique_keys}
+use Rattle.yq_core.{specs.declared.piece.Piece.Piece, specs.declared.inline.Inline.Inline, specs.Trees.parts_tree, specs.View.entries_end}
 use Rattle.yq_outline.specs.Sound.{are_sound}
 
 pub differ : (a b : List ℕ) → bytes_eq a b ≡ false → a ≢ b

@@ -6,9 +6,9 @@ use Rattle.std.{specs.List.{slice_get, list_any}, proofs.lemmas.List.Sums.sum_by
 use Rattle.yq_core.{specs.Piece.deeper, specs.Plain.{begins_plain, holds_break}, specs.Quoted.IsQuotedText}
 use Rattle.yq_core.{specs.Text.{is_empty, text_lines, is_feed}, specs.Scalars.{IsScalarAt, is_quoted}}
 use Rattle.yq_core.{proofs.NodesPieceLaws.{front_not, scalar_some}, specs.ContentReading.quoted_content, specs.Nodes.begins_with}
-use Rattle.yq_outline.{specs.Comments.head_comment, specs.Outline.Line}
 use Rattle.yq_core.proofs.OneLine.{borrowed_quoted}
-use Rattle.yq_outline.{specs.Lines.{lines_from, content_anchor, tail_of}, specs.Extents.{dash_count, lines_before_mark}}
+use Rattle.yq_outline.{specs.Comments.head_comment, specs.Outline.Line, specs.Lines.{lines_from, content_anchor, tail_of}}
+use Rattle.yq_outline.specs.Extents.{dash_count, lines_before_mark}
 use Rattle.yq_row_table.{specs.Grammar.{IsMark, AreDashes}, specs.Rows.{Content, RowMark, Bare, Dash, Key, dashes_text}}
 use Rattle.yq_row_table.{specs.View.{key_of_mark, Slices, last_dash, colon_of}, proofs.KeyLines.key_line}
 use Rattle.yq_row_table.specs.Rows as rows

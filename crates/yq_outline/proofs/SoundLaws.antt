@@ -3,10 +3,10 @@ use Rattle.std.proofs.Common.{◌≡◌, ℕ, suc, ◌+◌, ◌<◌, ◌≤◌, 
 use Rattle.std.proofs.Common.{false, ◌&&◌, ◌⊎◌, inl, inr, refl, sym, ap, ◌∙◌, arith, append_assoc, rules}
 use Rattle.std.proofs.lemmas.Bool.{lt-ltb, eq-eqb, ne_eqb, leb-true, le-leb, cases_eq, and_parts, false_from_ne_true, false≢true}
 use Rattle.std.proofs.Math.Bool.{and-false, and-true, and_comm}
-use Rattle.yq_core.{specs.Tree.Node, specs.Keys.{keys_of, depth, deepest, are_distinct}, specs.Text.with_first}
+use Rattle.yq_core.{specs.Tree.Node, specs.Keys.{keys_of, depth, deepest, are_distinct, has_unique_keys, each_has_unique_keys}}
+use Rattle.yq_core.specs.Text.{with_first}
 use Rattle.yq_outline.specs.Outline.{LineMark, Bare, Dash, rank, Line, level, Outline, end, row, anchored, head_or, key_of, children, value}
 use Rattle.yq_outline.{specs.Group.{deeper_lines, shallow, is_open, is_whole, level_or, is_even, is_fine}, specs.Ends.has_no_lines}
-use Rattle.yq_core.specs.Keys.{has_unique_keys, each_has_unique_keys}
 use Rattle.yq_outline.specs.Sound.{is_sound_outline, head_is_sound, line_is_sound, is_entry_line}
 
 -- what is asked of the items or entries from one on, where these keys come before it

@@ -2,8 +2,8 @@
 use Rattle.std.proofs.Common.{◌≡◌, ℕ, Bool, false, List, Option, Some, None, refl, sym, ap, ◌∙◌, subst, ℤ}
 use Rattle.yq_core.{specs.Piece.deeper, specs.declared.style.Style.Style, specs.Inline.depth_limit}
 use Rattle.yq_core.{specs.Places.{Placed, placed, nothing, name, text, sequence, mapping}, specs.PlacedReading.placed_node}
-use Rattle.yq_inline.{specs.Measured.{kind_of_style, node_measure, measured, is_nothing}, specs.declared.measuring.MeasuredKind.MeasuredKind}
-use Rattle.yq_inline.proofs.MeasureSteps.{found, unread}
+use Rattle.yq_inline.specs.Measured.{kind_of_style, node_measure, measured, is_nothing}
+use Rattle.yq_inline.{specs.declared.measuring.MeasuredKind.MeasuredKind, proofs.MeasureSteps.{found, unread}}
 use Rattle.yq_rows.specs.ReadPieces.{is_plain_kind}
 use Rattle.yq_row_table.specs.Slicing.{nothing_placed, is_plain_style, plain_placed, inline_sliced}
 use Rattle.yq_row_table.proofs.InlineSlicing.{Read, node_read, inline_no_node}

@@ -1,8 +1,7 @@
 -- What the readers of rows give, as pieces of rows (own; a reader may skip it).
 use Rattle.std.specs.Prelude.{◌≡◌, ℕ, Bool, true, false, List, ◌++◌, Some}
 use Rattle.yq_inline.specs.declared.measuring.MeasuredKind.{MeasuredKind}
-use Rattle.yq_rows.specs.declared.content.Filling.{Filling}
-use Rattle.yq_rows.{specs.declared.marks.RowMark.RowMark as Sign, specs.declared.marks.Begin.Begin}
+use Rattle.yq_rows.{specs.declared.content.Filling.Filling, specs.declared.marks.RowMark.RowMark as Sign, specs.declared.marks.Begin.Begin}
 use Rattle.yq_row_table.{specs.Grammar.Limit, specs.Rows.{RowMark, Bare, Dash, Key}, specs.View.Slices}
 use Rattle.yq_row_table.specs.Slicing.{Begun, Filled, row_of, row_sliced}
 use Rattle.yq_inline.specs.declared.measuring.MeasuredKind.TheVariants as kinds

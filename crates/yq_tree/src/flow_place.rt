@@ -2,7 +2,7 @@
 ghost use Rattle.std.specs.Prelude.{◌≡◌, map, option_map};
 ghost use Rattle.yq_core.specs.Entries.{content_place, entry_place, tree_step};
 ghost use Rattle.yq_outline.specs.View.{head_flow};
-ghost use Rattle.yq_documents.{specs.Decoded.{decoded_flow, flow_in}, specs.Pieces.span, specs.Reading.cut_of};
+ghost use Rattle.yq_documents.{specs.Decoded.{decoded_flow, decoded_head_flow as flow}, specs.Pieces.span, specs.Reading.cut_of};
 ghost use Rattle.yq_tree.specs.FlowPlaces.{flow_entry_view as view};
 ghost use Rattle.yq_places.specs.EntryReading as spec;
 
@@ -40,7 +40,7 @@ fn decoded_head_entry<'d, 't>(
     steps: &[Step],
 ) -> Option<FlowEntry<'d, 't>>
     ensures { option_map view result ≡
-        spec.entry_within (map tree_step steps.now) (flow_in head.now) }
+        spec.entry_within (map tree_step steps.now) (flow head.now) }
 {
     match head {
         DecodedHead::Owned(head) => head_entry(head, steps),

@@ -1,7 +1,7 @@
 //! Nodes in flow collections.
 ghost use Rattle.std.specs.Prelude.{◌≡◌, Some, None, option_map};
-ghost use Rattle.yq_core.{specs.Trees.{parts_tree, placed_tree}, specs.View.{borrowed_view, entries_end, items_end, inline_view}, specs.Paths.{To, Nth}};
-ghost use Rattle.yq_core.specs.Tree.{anchor_of, key_label};
+ghost use Rattle.yq_core.{specs.Trees.{parts_tree, placed_tree}, specs.View.{borrowed_view, entries_end, items_end, inline_view}};
+ghost use Rattle.yq_core.{specs.Paths.{To, Nth}, specs.Tree.{anchor_of, key_label}};
 ghost use Rattle.yq_outline.{specs.Labelled.labelled_at, specs.Outline.anchored, specs.Bodies.borrowed};
 ghost use Rattle.yq_nodes.specs.Nodes as spec;
 ghost use Rattle.yq_outline.specs.Outline as outline;

@@ -1,6 +1,5 @@
 use Rattle.std.proofs.Common.{sym, ap, ◌∙◌}
-use Rattle.yq_core.specs.Scalars.{is_quoted}
-use Rattle.yq_core.proofs.OneLine.{kept}
+use Rattle.yq_core.{specs.Scalars.is_quoted, proofs.OneLine.kept}
 use Rattle.yq_row_heads.proofs.content.content_of.Goals as goal
 
 pub returns : goal.returns

@@ -37,7 +37,7 @@ returns c =
     record {
       key = k.key;
       stands = ap (λ b. key_before (closing_byte b) s.text.now) c.requires.keyed ∙ k.read;
-      shown = (λ i. Some (c.borrowed_content.ensures i, place i)) ∙ k.piece s.total;
+      view = (λ i. Some (c.borrowed_content.ensures i, place i)) ∙ k.piece s.total;
       total = refl;
       depth = refl;
     }
