@@ -1,33 +1,28 @@
 -- Words at which no step of clap's reading fails are words that clap takes.
-use Rattle.std.proofs.Common.{◌≡◌, ◌∙◌, ◌&&◌, ◌||◌, ◌==◌, not, subst, Result, Ok, Err, IfOk, ℕ, zero, suc, Bool, true, false, cond, List}
-use Rattle.std.proofs.Common.{[], ◌∷◌, length, drop, Option, Some, None, is_some, if◌then◌else◌, refl, ap, find, encode_utf8, slice_get}
-use Rattle.std.{proofs.Common.{nat_le, nat_lt, min, ◌+◌, arith}, proofs.lemmas.Bool.{and_from, and_parts}, proofs.lemmas.Result.IfOk-weaker}
-use Rattle.std.{specs.List.{list_all, list_any}, specs.Option.option_map_or, specs.Str.{bytes_eq, chars}}
-use Rattle.std.proofs.lemmas.Bool.Decides.{nat_tests}
-use Rattle.clap.{specs.Lexer.{long_of, short_of}, specs.Facts.{explicit_source, parser_of_value, unwrap_or_range}}
-use Rattle.clap.{specs.Kinds.{FailsBy, Kinds, or_else, range_kinds, value_kinds}, specs.Matches.count_text}
-use Rattle.clap.specs.Simple.{App, HasMatchesOf, Shape, argument_words, built, entered, is_simple, label_of, names_of, subcommand_of}
+use Rattle.std.proofs.Common.{rules, ◌≡◌, ◌∙◌, ◌&&◌, ◌||◌, ◌==◌, not, subst, Result, Ok, Err, IfOk, ℕ, zero, suc, Bool, true, false, cond}
+use Rattle.std.proofs.Common.{List, [], ◌∷◌, length, drop, Option, Some, None, is_some, if◌then◌else◌, refl, ap, find, encode_utf8}
+use Rattle.std.{proofs.Common.{slice_get, ◌+◌}, proofs.lemmas.Bool.{and_from, and_parts}, specs.List.{list_all, list_any}}
+use Rattle.std.{specs.Option.option_map_or, specs.Str.{bytes_eq, chars}}
+use Rattle.clap.{specs.Lexer.{long_of, short_of}, specs.Facts.{explicit_source, parser_of_value}}
+use Rattle.clap.specs.Kinds.{FailsBy, Kinds, or_else, value_kinds}
+use Rattle.clap.specs.Simple.{App, HasMatchesOf, Shape, argument_words, built, entered, label_of, names_of, subcommand_of}
 use Rattle.clap.{specs.Simple.subcommand_rows_of, specs.Faults.{fault_of, is_simple_and_free}, specs.Takes.takes, specs.ValueTests.accepts}
-use Rattle.clap.specs.Walk.{Held, Names, Row, Rule, Step, value, Text, Waiting, Walk, action_of, answers_to, arg_by_id, arg_by_index}
-use Rattle.clap.specs.Walk.{arg_by_long, arg_by_short, attached_value, count_of, finished, has_row, is_pending, most_values, nothing_held}
-use Rattle.clap.specs.Walk.{reacted, settled, subcommand_met, takes_several, takes_values, values_or_missing, walk, walk_from, walked}
-use Rattle.clap.{specs.Walk.word_met, specs.declared.builder.action.ArgAction.ArgAction}
-use Rattle.clap.specs.declared.builder.action.ArgAction.TheVariants.{Set, Append, SetTrue, SetFalse, Count}
-use Rattle.clap.{specs.declared.error.Error.Error, specs.declared.parser.matches.ArgMatches.ArgMatches}
-use Rattle.clap.{specs.declared.error.kind.ErrorKind.ErrorKind, proofs.OnLiterals.clap_on_literals, proofs.WalkLemmas.both}
+use Rattle.clap.specs.Walk.{Held, Names, Row, Rule, Step, value, Text, Waiting, Walk, answers_to, arg_by_id, arg_by_index, arg_by_long}
+use Rattle.clap.specs.Walk.{arg_by_short, attached_value, is_pending, nothing_held, reacted, subcommand_met, takes_several, takes_values}
+use Rattle.clap.{specs.Walk.{walk, walked, word_met}, specs.declared.builder.action.ArgAction.ArgAction, specs.declared.error.Error.Error}
+use Rattle.clap.{specs.declared.parser.matches.ArgMatches.ArgMatches, specs.declared.error.kind.ErrorKind.ErrorKind}
+use Rattle.clap.{proofs.OnLiterals.clap_on_literals, proofs.WalkLemmas.both}
 use Rattle.yq_args.specs.Line.{yq, four_commands, two_commands}
 use Rattle.clap.specs.Faults as fault
 use Rattle.clap.specs.Takes as pass
 
 -- neither of two steps fails
 neither : (a b : Kinds) → or_else a b ≡ [] → (a ≡ []) × (b ≡ [])
-neither [] b e = (refl, e)
-neither (k ∷ ks) b e = cc
+neither a b e = search rules
 
 -- a test that fails by a kind
 unless : (b : Bool) (k : ErrorKind) (ks : Kinds) → (if b then [] else k ∷ ks) ≡ [] → b ≡ true
-unless true k ks e = refl
-unless false k ks e = cc
+unless b k ks e = search rules
 
 -- ---- one use of an argument
 
@@ -41,56 +36,25 @@ values_pass a (v ∷ vs) e =
     and_from _ _ (value_passes a v p.0) (values_pass a vs p.1)
 
 count_passes : (a : Rule) (vs : List Text) (rows : List Row) → fault.count_fault a vs rows ≡ [] → pass.count_passes a vs rows ≡ true
-count_passes a [] rows e = value_passes a (count_text (min (count_of a.id rows + 1) 255)) e
-count_passes a (v ∷ vs) rows e = values_pass a (v ∷ vs) e
+count_passes a vs rows e = search (rules, value_passes, values_pass)
 
 repeat_passes : (b again : Bool) (k : ErrorKind) → (if b && not again then k ∷ [] else []) ≡ [] → (not b || again) ≡ true
-repeat_passes true true k e = refl
-repeat_passes true false k e = cc
-repeat_passes false again k e = refl
+repeat_passes b again k e = search rules
 
 set_passes : (again : Bool) (a : Rule) (values : List Text) (rows : List Row) → fault.set_fault again a values rows ≡ [] → pass.set_passes again a values rows ≡ true
-set_passes again a values rows e =
-    let p = neither (fault.repeat_fault again a.id rows) _ e in
-    and_from _ _ (repeat_passes (has_row a.id rows) again _ p.0) (values_pass a values p.1)
+set_passes again a values rows e = search (rules, neither, and_from, repeat_passes, values_pass)
 
 action_passes : (x : ArgAction) (again : Bool) (a : Rule) (values : List Text) (rows : List Row) → fault.action_fault x again a values rows ≡ [] → pass.action_passes x again a values rows ≡ true
-action_passes Set again a values rows e = set_passes again a values rows e
-action_passes SetTrue again a values rows e = set_passes again a values rows e
-action_passes SetFalse again a values rows e = set_passes again a values rows e
-action_passes Append again a values rows e = values_pass a values e
-action_passes Count again a values rows e = count_passes a values rows e
-action_passes _ again a values rows e = cc
-
--- as many values as are wanted
-in_range : (least most n : ℕ) → range_kinds least most n ≡ [] → (nat_le least n ≡ true) × (nat_le n most ≡ true)
-in_range least most n e = by_none (nat_lt 0 least && n == 0) e where
-  by_few : (few many : Bool) → few ≡ nat_lt n least → many ≡ nat_lt most n → (if few then ErrorKind.TooFewValues ∷ [] else (if many then ErrorKind.TooManyValues ∷ [] else [])) ≡ [] → (nat_le least n ≡ true) × (nat_le n most ≡ true)
-  by_few true many h k e = cc
-  by_few false true h k e = cc
-  by_few false false h k e = (grind (arith, nat_tests, h), grind (arith, nat_tests, k))
-
-  by_one : (one here : Bool) → one ≡ (least == most) → here ≡ (least == n) → (if one then (if here then [] else ErrorKind.WrongNumberOfValues ∷ []) else (if nat_lt n least then ErrorKind.TooFewValues ∷ [] else (if nat_lt most n then ErrorKind.TooManyValues ∷ [] else []))) ≡ [] → (nat_le least n ≡ true) × (nat_le n most ≡ true)
-  by_one true true h k e = (grind (arith, nat_tests, h, k), grind (arith, nat_tests, h, k))
-  by_one true false h k e = cc
-  by_one false here h k e = by_few (nat_lt n least) (nat_lt most n) refl refl e
-
-  by_none : (none : Bool) → (if none then ErrorKind.InvalidValue ∷ [] else (if least == most then (if least == n then [] else ErrorKind.WrongNumberOfValues ∷ []) else (if nat_lt n least then ErrorKind.TooFewValues ∷ [] else (if nat_lt most n then ErrorKind.TooManyValues ∷ [] else [])))) ≡ [] → (nat_le least n ≡ true) × (nat_le n most ≡ true)
-  by_none true e = cc
-  by_none false e = by_one (least == most) (least == n) refl refl e
+action_passes x again a values rows e = search (rules, set_passes, values_pass, count_passes)
 
 use_passes : (again : Bool) (a : Rule) (values : List Text) (rows : List Row) → fault.use_fault again a values rows ≡ [] → pass.use_passes again a values rows ≡ true
-use_passes again a values rows e =
-    let p = neither (range_kinds (unwrap_or_range a.range).start_inclusive (most_values a) (length values)) _ e in
-    let r = in_range (unwrap_or_range a.range).start_inclusive (most_values a) (length values) p.0 in
-    and_from _ _ r.0 (and_from _ _ r.1 (action_passes (action_of a) again a (values_or_missing a values) rows p.1))
+use_passes again a values rows e = search (rules, neither, and_from, action_passes)
 
 -- ---- the walk
 
 module _ (c : List Rule) (again : Bool) where
   by_id_passes : (o : Option Rule) (values : List Text) (rows : List Row) → option_map_or (λ a. fault.use_fault again a values rows) o [] ≡ [] → option_map_or (λ a. pass.use_passes again a values rows) o true ≡ true
-  by_id_passes None values rows e = refl
-  by_id_passes (Some a) values rows e = use_passes again a values rows e
+  by_id_passes o values rows e = search (rules, use_passes)
 
   pending_passes : (p : Option (Text × List Text)) (rows : List Row) → option_map_or (λ q. option_map_or (λ a. fault.use_fault again a q.1 rows) (arg_by_id c q.0) []) p [] ≡ []
       → option_map_or (λ q. option_map_or (λ a. pass.use_passes again a q.1 rows) (arg_by_id c q.0) true) p true ≡ true
@@ -101,9 +65,7 @@ module _ (c : List Rule) (again : Bool) where
   settle_passes h e = pending_passes h.pending h.rows e
 
   react_passes : (a : Rule) (values : List Text) (h : Held) → fault.react_fault c again a values h ≡ [] → pass.react_passes c again a values h ≡ true
-  react_passes a values h e =
-      let p = neither (fault.settle_fault c again h) _ e in
-      and_from _ _ (settle_passes h p.0) (use_passes again a values (settled c h).rows p.1)
+  react_passes a values h e = search (rules, neither, and_from, settle_passes, use_passes)
 
   option_passes : (a : Rule) (v : Option Text) (h : Held) → fault.option_fault c again a v h ≡ [] → pass.option_passes c again a v h ≡ true
   option_passes a (Some v) h e = react_passes a (v ∷ []) h e
@@ -207,23 +169,16 @@ none_wants (a ∷ rules) rows e = by_one a.required (pass.is_given a.id rows) (l
 
 -- a step fails by a test
 not_met : (b : Bool) (k : ErrorKind) (ks : Kinds) → (if b then k ∷ [] else ks) ≡ [] → (b ≡ false) × (ks ≡ [])
-not_met true k ks e = cc
-not_met false k ks e = (refl, e)
+not_met b k ks e = search rules
 
 no_help : (has help any : Bool) → (not has && (help && not any)) ≡ false → (not help || (has || any)) ≡ true
-no_help has false any e = refl
-no_help true true any e = refl
-no_help false true true e = refl
-no_help false true false e = cc
+no_help has help any e = search rules
 
 no_want : (has wants : Bool) → (not has && wants) ≡ false → (not wants || has) ≡ true
-no_want has false e = refl
-no_want true true e = refl
-no_want false true e = cc
+no_want has wants e = search rules
 
 no_miss : (negated some all : Bool) → (not negated && some) ≡ false → (some ≡ false → all ≡ true) → (negated || all) ≡ true
-no_miss true some all e given = refl
-no_miss false some all e given = given e
+no_miss negated some all e given = search rules
 
 -- a command whose defaults pass, and whose arguments have no rule on one another
 abbrev is_usual : Shape → Bool
@@ -240,18 +195,7 @@ valid s rows has free e =
 
 -- one level, and what is below it
 level_passes : (s : Shape) (names : Names) (h : Held) (words : List Text) (has : Bool) (below : Kinds) → is_usual s ≡ true → fault.level_fault s names h words has below ≡ [] → (below ≡ []) × (pass.level_passes s names h words has ≡ true)
-level_passes s names h words has below usual e =
-    let end = (walk s.rules names h words).held in
-    let u = both (list_all pass.default_passes s.rules) _ usual in
-    let p = neither (fault.walk_fault s names (walk_from h) words) _ e in
-    let q = neither below _ p.1 in
-    let r = neither (fault.settle_fault s.rules s.args_override_self end) _ q.1 in
-    let d = neither (fault.defaults_fault (settled s.rules end).rows s.rules) _ r.1 in (
-      q.0,
-      and_from _ _ (walk_passes s names (walk_from h) words p.0)
-          (and_from _ _ (settle_passes s.rules s.args_override_self end r.0)
-          (and_from _ _ u.0 (valid s (finished s.rules end) has u.1 d.1))),
-    )
+level_passes s names h words has below usual e = search (rules, both, neither, and_from, walk_passes, settle_passes, valid)
 
 entered_passes : (a : App) (stop : Option (Text × List Text)) → list_all is_usual a.subs ≡ true → fault.entered_fault a stop ≡ [] → pass.entered_passes a stop ≡ true
 entered_passes a None usual e = refl
@@ -297,5 +241,4 @@ module _ {T : Type 0} (answer : Result T Error) (app : App) (words : List Text) 
 -- what clap finds in the words, by the command line
 pub matched_rows : (answer : Result ArgMatches Error) (app : App) (words : List Text) → app ≡ yq → IfOk answer (HasMatchesOf app words) →
     IfOk answer (λ m. subcommand_rows_of m ≡ subcommand_of yq words)
-matched_rows answer app words is =
-    IfOk-weaker answer _ _ (λ m h. (h (ap is_simple is ∙ (and_parts _ _ yq_free).0)).1 ∙ ap (λ a. subcommand_of a words) is)
+matched_rows answer app words is = search (rules, and_parts, yq_free)

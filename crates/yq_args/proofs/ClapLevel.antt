@@ -1,11 +1,10 @@
 -- clap's parse of one command, where it passes: what is required has a text.
-use Rattle.std.proofs.Common.{◌≡◌, ◌∙◌, ◌&&◌, ◌||◌, true, false, List, [], ◌∷◌, ◌++◌, Option, Some, None, is_some, not, find, option_map}
-use Rattle.std.{proofs.Common.{refl, sym, ap, fold, append-nil, append_assoc}, specs.List.list_all, specs.Option.option_map_or}
+use Rattle.std.proofs.Common.{rules, ◌≡◌, ◌∙◌, ◌&&◌, ◌||◌, true, false, List, [], ◌∷◌, ◌++◌, Option, Some, None, is_some, not, find}
+use Rattle.std.{proofs.Common.{option_map, refl, sym, ap, fold, append-nil, append_assoc}, specs.List.list_all}
 use Rattle.clap.specs.Simple.{App, Shape, entered, label_of, names_of}
-use Rattle.clap.specs.Takes.{built_takes, default_passes, entered_passes, is_given, level_passes, settle_passes, step_passes, turn_passes}
-use Rattle.clap.specs.Takes.{walk_passes, word_passes}
-use Rattle.clap.specs.Walk.{Names, Rule, Text, Walk, answers_to, nothing_held, rows_after, settled, stop_after, walk, walk_from, walked}
-use Rattle.clap.{specs.Walk.{walked_from, word_met}, proofs.WalkLemmas.both}
+use Rattle.clap.specs.Takes.{built_takes, is_given, level_passes, step_passes, turn_passes, walk_passes, word_passes}
+use Rattle.clap.specs.Walk.{Names, Rule, Text, Walk, answers_to, nothing_held, rows_after, stop_after, walk_from, walked, walked_from}
+use Rattle.clap.{specs.Walk.word_met, proofs.WalkLemmas.both}
 use Rattle.yq_args.{proofs.ClapRows.{AreFilled, fills, defaults_filled}, proofs.ClapWalk.{settled_filled, word_filled, step_filled}}
 
 turn_filled : (s : Shape) (names : Names) (w : Walk) (word : Text) → list_all fills s.rules ≡ true → turn_passes s names w word ≡ true → AreFilled w.held.rows → AreFilled (walked s.rules names w word).held.rows
@@ -35,17 +34,7 @@ pub record Passed (s : Shape) (words : List Text) : Type 0 where
   pub given : ((s.subcommand_negates_reqs && false) || list_all (λ a. not a.required || is_given a.id (rows_after s.rules [] words)) s.rules) ≡ true
 
 pub level_passed : (s : Shape) (words : List Text) → list_all fills s.rules ≡ true → level_passes s [] nothing_held words false ≡ true → Passed s words
-level_passed s words f p =
-    let end = (walk s.rules [] nothing_held words).held in
-    let a = both (walk_passes s [] (walk_from nothing_held) words) _ p in
-    let b = both (settle_passes s.rules s.args_override_self end) _ a.1 in
-    let c = both (list_all default_passes s.rules) _ b.1 in
-    let d = both (not s.arg_required_else_help || (false || _)) _ c.1 in
-    let e = both (not s.subcommand_required || false) _ d.1 in
-    record {
-      filled = defaults_filled s.rules (settled s.rules end).rows (settled_filled s.rules s.args_override_self f end b.0 (walk_filled s [] words (walk_from nothing_held) f a.0 tt));
-      given = (both (list_all (λ a. a.is_free) s.rules) _ e.1).1;
-    }
+level_passed s words f p = search (rules, both, defaults_filled, settled_filled, walk_filled)
 
 -- the words after the one that names a command are that command's
 stop_goes_on : (c : List Rule) (names : Names) (words : List Text) (w : Walk) (name : Text) (before : List Text) → w.stopped ≡ Some (name, before) → (fold (walked c names) w words).stopped ≡ Some (name, before ++ words)
@@ -60,9 +49,7 @@ stops_at c names word name words e = stop_goes_on c names words (walked c names 
 
 pub sub_passed : (a : App) (words rest : List Text) (name : Text) (s : Shape) → stop_after a.top.rules (names_of a) words ≡ Some (name, rest) → find (λ x. answers_to name (label_of x)) a.subs ≡ Some s → list_all fills s.rules ≡ true →
     built_takes a nothing_held words ≡ true → Passed s rest
-sub_passed a words rest name s stop found f p =
-    let entered : entered_passes a (Some (name, rest)) ≡ true = sym (ap (entered_passes a) stop) ∙ (both (entered_passes a (stop_after a.top.rules (names_of a) words)) _ p).0 in
-    level_passed s rest f (sym (ap (λ o. option_map_or (λ x. level_passes x [] nothing_held rest false) o true) found) ∙ entered)
+sub_passed a words rest name s stop found f p = search (rules, both, level_passed)
 
 pub sub_found : (a : App) (words rest : List Text) (name : Text) (s : Shape) → stop_after a.top.rules (names_of a) words ≡ Some (name, rest) → find (λ x. answers_to name (label_of x)) a.subs ≡ Some s →
     entered a (stop_after a.top.rules (names_of a) words) ≡ Some (s.name, rows_after s.rules [] rest)

@@ -1,15 +1,15 @@
 -- clap's walk over words that pass: the rows that it leaves have values.
-use Rattle.std.proofs.Common.{if◌then◌else◌, ◌≡◌, ◌∙◌, ◌&&◌, ◌||◌, ◌⊎◌, inl, inr, not, ℕ, zero, suc, Bool, true, false, cond, List, [], ◌∷◌}
-use Rattle.std.proofs.Common.{length, drop, Option, Some, None, is_some, refl, sym, ap₂, find, encode_utf8, slice_get}
+use Rattle.std.proofs.Common.{rules, if◌then◌else◌, ◌≡◌, ◌∙◌, ◌&&◌, ◌||◌, ◌⊎◌, inl, inr, not, ℕ, zero, suc, Bool, true, false, cond, List}
+use Rattle.std.proofs.Common.{[], ◌∷◌, length, drop, Option, Some, None, is_some, refl, sym, ap₂, find, encode_utf8, slice_get}
 use Rattle.std.{specs.List.list_all, specs.Option.option_map_or, specs.Str.{bytes_eq, chars}}
 use Rattle.clap.{specs.Lexer.{long_of, short_of}, specs.Simple.Shape}
 use Rattle.clap.specs.Takes.{bundle_passes, bundle_step_passes, flag_word_passes, flags_pass, long_passes, option_passes, other_passes}
 use Rattle.clap.specs.Takes.{positional_passes, react_passes, settle_passes, short_passes, use_passes, word_passes}
-use Rattle.clap.specs.Walk.{Held, Names, Outcome, done, plain, refused, Row, Rule, Step, trailing, value, Text, Waiting, option, Walk}
-use Rattle.clap.specs.Walk.{after_flag, after_step, arg_by_id, arg_by_index, arg_by_long, arg_by_short, attached_value, bundle, bundle_met}
-use Rattle.clap.specs.Walk.{bundle_step, flag_met, is_pending, long_met, long_or_other, option_met, option_word, plain_word}
-use Rattle.clap.specs.Walk.{positional_held, reacted, settled, settled_rows, short_met, short_or_plain, subcommand_met, subcommand_or_other}
-use Rattle.clap.{specs.Walk.{takes_several, takes_values, to_positional, used_by_id, word_met}, proofs.WalkLemmas.both}
+use Rattle.clap.specs.Walk.{Held, Names, Outcome, done, Row, Rule, Step, trailing, value, Text, Waiting, Walk, after_flag, after_step}
+use Rattle.clap.specs.Walk.{arg_by_id, arg_by_index, arg_by_long, arg_by_short, attached_value, bundle_met, bundle_step, flag_met}
+use Rattle.clap.specs.Walk.{is_pending, long_met, long_or_other, option_met, positional_held, reacted, settled, settled_rows, short_met}
+use Rattle.clap.specs.Walk.{short_or_plain, subcommand_met, subcommand_or_other, takes_several, takes_values, to_positional, used_by_id}
+use Rattle.clap.{specs.Walk.word_met, proofs.WalkLemmas.both}
 use Rattle.yq_args.proofs.ClapRows.{AreFilled, fills, used_filled}
 
 -- the argument, if there is one, asks for a value
@@ -26,8 +26,7 @@ found_fills p (a ∷ c) f = here (p a) (find p c) (found_fills p c (both _ _ f).
 
 module _ (c : List Rule) (again : Bool) (f : list_all fills c ≡ true) where
   by_id_filled : (o : Option Rule) (values : List Text) (rows : List Row) → RuleFills o → option_map_or (λ a. use_passes again a values rows) o true ≡ true → AreFilled rows → AreFilled (used_by_id o values rows)
-  by_id_filled None values rows one passes h = h
-  by_id_filled (Some a) values rows one passes h = used_filled again a values rows one passes h
+  by_id_filled o values rows one passes h = search (rules, used_filled)
 
   pending_filled : (p : Option (Text × List Text)) (rows : List Row) → option_map_or (λ q. option_map_or (λ a. use_passes again a q.1 rows) (arg_by_id c q.0) true) p true ≡ true → AreFilled rows → AreFilled (settled_rows c p rows)
   pending_filled None rows passes h = h
@@ -37,9 +36,7 @@ module _ (c : List Rule) (again : Bool) (f : list_all fills c ≡ true) where
   settled_filled h passes k = pending_filled h.pending h.rows passes k
 
   reacted_filled : (a : Rule) (values : List Text) (h : Held) → fills a ≡ true → react_passes c again a values h ≡ true → AreFilled h.rows → AreFilled (reacted c a values h).rows
-  reacted_filled a values h one passes k =
-      let p = both (settle_passes c again h) _ passes in
-      used_filled again a values (settled c h).rows one p.1 (settled_filled h p.0 k)
+  reacted_filled a values h one passes k = search (rules, both, used_filled, settled_filled)
 
   -- options and flags
   option_filled : (a : Rule) (v : Option Text) (h : Held) → fills a ≡ true → option_passes c again a v h ≡ true → AreFilled h.rows → AreFilled (option_met c a v h).0.rows
@@ -77,23 +74,11 @@ module _ (c : List Rule) (again : Bool) (f : list_all fills c ≡ true) where
   flags_filled zero flags skip so_far h p k = k
   flags_filled (suc n) flags skip so_far h p k = flag_filled (slice_get (chars flags) 0) flags skip so_far h (flags_pass c again n) (bundle_met c n) (flags_filled n) p k
 
-  -- a word
-  plain_filled : (waiting : Waiting) (word : Text) (h : Held) → AreFilled h.rows → AreFilled (plain_word c waiting word h).0.rows
-  plain_filled (option id) word h k = go (arg_by_id c id) where
-    go : (o : Option Rule) → AreFilled (option_word o id word h).0.rows
-    go None = k
-    go (Some a) = k
-  plain_filled _ word h k = k
-
   after_filled : (waiting : Waiting) (word : Text) (h : Held) (o : Outcome) → AreFilled h.rows → AreFilled (after_flag c waiting word h o).0.rows
-  after_filled waiting word h plain k = plain_filled waiting word h k
-  after_filled waiting word h refused k = plain_filled waiting word h k
-  after_filled waiting word h _ k = k
+  after_filled waiting word h o k = search rules
 
   short_word_filled : (waiting : Waiting) (word : Text) (o : Option Text) (h : Held) → option_map_or (λ flags. bundle_passes c again flags h) o true ≡ true → AreFilled h.rows → AreFilled (short_or_plain c waiting word o h).0.rows
-  short_word_filled waiting word None h p k = plain_filled waiting word h k
-  short_word_filled waiting word (Some flags) h p k =
-      after_filled waiting word (bundle c flags h).0 (bundle c flags h).1 (flags_filled (length flags) flags h.skip plain (record h { skip = 0 }) p k)
+  short_word_filled waiting word o h p k = search (rules, after_filled, flags_filled)
 
   flag_word_filled : (waiting : Waiting) (word : Text) (o : Option (Text × Option Text)) (h : Held) → flag_word_passes c again o word h ≡ true → AreFilled h.rows → AreFilled (long_or_other c waiting word o h).0.rows
   flag_word_filled waiting word None h p k = short_word_filled waiting word (short_of word) h p k

@@ -1,7 +1,7 @@
 -- Texts of decimal digits.
-use Rattle.std.proofs.Common.{◌≡◌, ◌≢◌, ◌&&◌, ◌<◌, ◌^◌, ℕ, Bool, true, false, List, length, nat_lt, if◌then◌else◌, Some, None, Result, Ok}
-use Rattle.std.{proofs.Common.{Err, sym, ap, ◌∙◌, refl, arith, get_or}, proofs.lemmas.Bool.{and_from, and_parts}, specs.Result.result_ok}
-use Rattle.std.{specs.Str.all_ascii_digits, specs.Str.Parse.{ParsesUnsigned, digits_value}}
+use Rattle.std.proofs.Common.{rules, ◌≡◌, ◌≢◌, ◌&&◌, ◌<◌, ◌^◌, ℕ, Bool, true, List, length, nat_lt, if◌then◌else◌, None, Result, ◌∙◌, arith}
+use Rattle.std.{proofs.Common.get_or, proofs.lemmas.Bool.and_from, specs.Result.result_ok, specs.Str.all_ascii_digits}
+use Rattle.std.specs.Str.Parse.{ParsesUnsigned, digits_value}
 use Rattle.std.proofs.lemmas.Str.Parse.{IsNumeralModel, numerals_by_value, tells_all_ascii_digits, parse_plain, not_in_digits}
 use Rattle.std.proofs.lemmas.Bool.Decides.{nat_tests}
 use Rattle.yq_args.specs.Asked.{count_in}
@@ -24,23 +24,12 @@ is_count-true : (text : List ℕ) → all_ascii_digits text ≡ true → 0 < len
 is_count-true text d l v = and_from _ _ d (and_from _ _ (lt_true 0 (length text) l) (lt_true (digits_value 10 text) (2 ^ 64) v))
 
 true_is_count : (text : List ℕ) → is_count text ≡ true → (all_ascii_digits text ≡ true) × (0 < length text) × (digits_value 10 text < 2 ^ 64)
-true_is_count text e =
-    let rest = (and_parts _ _ e).1 in
-    ((and_parts _ _ e).0, true_lt 0 (length text) (and_parts _ _ rest).0, true_lt (digits_value 10 text) (2 ^ 64) (and_parts _ _ rest).1)
+true_is_count text e = search rules
 
 -- a text is read as the number that it writes, where no plus is first
 pub count_parsed : {E : Type 0} (text : List ℕ) (r : Result ℕ E) → ParsesUnsigned 64 10 text r → get_or text 0 0 ≢ 43 → result_ok r ≡ count_in text
-count_parsed {E = E} text (Ok n) parses plain =
-    let p = parse_plain own {E = E} 64 text (Ok n) parses plain in
-    ap Some p.1 ∙ sym (ap (λ b. if b then Some (digits_value 10 text) else None) (is_count-true text p.0.0 p.0.1 p.0.2))
-count_parsed {E = E} text (Err e) parses plain = elim (is_count text) as (λ b. is_count text ≡ b → None ≡ (if b then Some (digits_value 10 text) else None)) [
-  | true ↦ λ is. absurd (parse_plain own {E = E} 64 text (Err e) parses plain (true_is_count text is))
-  | false ↦ λ _. refl
-] refl
+count_parsed text r parses plain = search (rules, parse_plain, own, is_count-true, true_is_count)
 
 -- a text that begins with a plus writes none
 pub no_count : (text : List ℕ) → get_or text 0 0 ≡ 43 → None ≡ count_in text
-no_count text plus = elim (is_count text) as (λ b. is_count text ≡ b → None ≡ (if b then Some (digits_value 10 text) else None)) [
-  | true ↦ λ is. let p = true_is_count text is in absurd (not_in_digits own text 43 p.0 (λ r. absurd (omega arith)) 0 p.1 plus)
-  | false ↦ λ _. refl
-] refl
+no_count text plus = search (rules, true_is_count, not_in_digits, own)

@@ -1,8 +1,8 @@
 -- Names that are made of paths.
-use Rattle.std.proofs.Common.{◌≡◌, ◌≢◌, ◌∙◌, ◌++◌, ◌∷◌, ◌<◌, ◌≤◌, ℕ, suc, true, not, if◌then◌else◌, List, [], inl, inr, length, get_or}
-use Rattle.std.proofs.Common.{codes, drop, flat_map, encode_utf8, encode_utf8_all, append-nil, append_assoc, refl, sym, ap, ap₂, arith}
-use Rattle.std.{proofs.Common.{Result, Ok, Err, OnOk, is_ok}, proofs.lemmas.Bool.{and_from, cases_eq, cases_lt, ne_eqb}}
-use Rattle.std.{proofs.lemmas.Str.{encode_ascii, inside_one}, proofs.lemmas.List.{append_cancel_left, append_cancel_right}}
+use Rattle.std.proofs.Common.{rules, ◌≡◌, ◌≢◌, ◌∙◌, ◌++◌, ◌∷◌, ◌<◌, ◌≤◌, ℕ, suc, true, if◌then◌else◌, List, [], inl, inr, length, get_or}
+use Rattle.std.proofs.Common.{codes, flat_map, encode_utf8, encode_utf8_all, append-nil, append_assoc, refl, sym, ap, ap₂, arith, Result}
+use Rattle.std.{proofs.Common.{OnOk, is_ok}, proofs.lemmas.Bool.{cases_lt, ne_eqb}, proofs.lemmas.Str.{encode_ascii, inside_one}}
+use Rattle.std.proofs.lemmas.List.{append_cancel_left, append_cancel_right}
 use Rattle.yq_args.specs.JournalNames.{escaped_byte, escaped_path, name_of_path, journal_in_folder, is_one_name}
 
 -- ---- characters
@@ -29,8 +29,7 @@ other_char c no_percent no_slash = elim (cases_lt c 128) [
 
 -- a character that was pushed, as it is in a name
 pub pushed : {T E : Type 0} (r : Result T E) (new old l m : List ℕ) → new ≡ (if is_ok r then old ++ l else old) → l ≡ m → OnOk r (new ≡ old ++ m)
-pushed (Ok v) new old l m is same = is ∙ ap (λ x. old ++ x) same
-pushed (Err e) new old l m is same = tt
+pushed r new old l m is same = search rules
 
 escaped_append : (xs ys : List ℕ) → escaped_path (xs ++ ys) ≡ escaped_path xs ++ escaped_path ys
 escaped_append [] ys = refl
@@ -47,42 +46,12 @@ module _ (a b : ℕ) (xs ys : List ℕ) (same : escaped_byte a ++ xs ≡ escaped
   spelled : (as' bs : List ℕ) → escaped_byte a ≡ as' → escaped_byte b ≡ bs → as' ++ xs ≡ bs ++ ys
   spelled as' bs p q = ap (λ l. l ++ xs) (sym p) ∙ same ∙ ap (λ l. l ++ ys) q
 
-  both_other : a ∷ xs ≡ b ∷ ys → (a ≡ b) × (xs ≡ ys)
-  both_other e = (cc, cc)
-
   same_byte : (a ≡ b) × (xs ≡ ys)
-  same_byte = elim (cases_eq a 37) [
-    | inl p ↦ elim (cases_eq b 37) [
-      | inl q ↦ (p ∙ sym q, ap (drop 3) (spelled _ _ (ap escaped_byte p) (ap escaped_byte q)))
-      | inr q ↦ elim (cases_eq b 47) [
-        | inl r ↦ let no : 53 ≡ 70 = ap (λ l. get_or l 2 0) (spelled _ _ (ap escaped_byte p) (ap escaped_byte r)) in absurd (omega (arith, no))
-        | inr r ↦ absurd (q (sym (ap (λ l. get_or l 0 0) (spelled _ _ (ap escaped_byte p) (other_byte b q r)))))
-      ]
-    ]
-    | inr n ↦ elim (cases_eq a 47) [
-      | inl p ↦ elim (cases_eq b 37) [
-        | inl q ↦ let no : 70 ≡ 53 = ap (λ l. get_or l 2 0) (spelled _ _ (ap escaped_byte p) (ap escaped_byte q)) in absurd (omega (arith, no))
-        | inr q ↦ elim (cases_eq b 47) [
-          | inl r ↦ (p ∙ sym r, ap (drop 3) (spelled _ _ (ap escaped_byte p) (ap escaped_byte r)))
-          | inr r ↦ absurd (q (sym (ap (λ l. get_or l 0 0) (spelled _ _ (ap escaped_byte p) (other_byte b q r)))))
-        ]
-      ]
-      | inr m ↦ elim (cases_eq b 37) [
-        | inl q ↦ absurd (n (ap (λ l. get_or l 0 0) (spelled _ _ (other_byte a n m) (ap escaped_byte q))))
-        | inr q ↦ elim (cases_eq b 47) [
-          | inl r ↦ absurd (n (ap (λ l. get_or l 0 0) (spelled _ _ (other_byte a n m) (ap escaped_byte r))))
-          | inr r ↦ both_other (spelled _ _ (other_byte a n m) (other_byte b q r))
-        ]
-      ]
-    ]
-  ]
+  same_byte = search rules
 
 -- what an escaped byte begins isn't empty
 some_byte : (b : ℕ) (xs : List ℕ) → 1 ≤ length (escaped_byte b ++ xs)
-some_byte b xs = elim (cases_eq b 37) [
-  | inl p ↦ rw p (omega arith)
-  | inr n ↦ elim (cases_eq b 47) [ inl p ↦ rw p (omega arith) | inr m ↦ rw (other_byte b n m) (omega arith) ]
-]
+some_byte b xs = search rules
 
 same_path : (p q : List ℕ) → escaped_path p ≡ escaped_path q → p ≡ q
 same_path [] [] e = refl
@@ -94,20 +63,12 @@ same_path (a ∷ p) (b ∷ q) e =
 
 -- no other path has the same journal
 pub one_path : (folder other path : List ℕ) → journal_in_folder folder other ≡ journal_in_folder folder path → other ≡ path
-one_path folder other path e =
-    let names : name_of_path other ≡ name_of_path path = ap (drop 1) (append_cancel_left folder _ _ e) in
-    same_path other path (append_cancel_right (escaped_path other) (escaped_path path) (codes ".undo.json") names)
+one_path folder other path e = search (rules, append_cancel_left, same_path, append_cancel_right)
 
 -- ---- one name
 
 byte_in_name : (b : ℕ) (ys : List ℕ) → is_one_name ys ≡ true → is_one_name (escaped_byte b ++ ys) ≡ true
-byte_in_name b ys rest = elim (cases_eq b 37) [
-  | inl p ↦ rw p rest
-  | inr n ↦ elim (cases_eq b 47) [
-    | inl p ↦ rw p rest
-    | inr m ↦ rw (other_byte b n m) (and_from _ _ (ap not (ne_eqb b 47 m)) rest)
-  ]
-]
+byte_in_name b ys rest = search rules
 
 path_in_name : (path ys : List ℕ) → is_one_name ys ≡ true → is_one_name (escaped_path path ++ ys) ≡ true
 path_in_name [] ys rest = rest

@@ -1,12 +1,12 @@
 -- Where clap takes the words, it finds the texts that a command needs.
-use Rattle.std.proofs.Common.{◌≡◌, ◌∙◌, ◌&&◌, ◌||◌, inl, inr, not, Bool, true, false, List, [], ◌∷◌, codes, Option, Some, None, Result}
-use Rattle.std.{proofs.Common.{IfErr, is_some, find, option_and_then, if◌then◌else◌, refl, sym, ap, subst}, specs.List.{list_all, list_any}}
-use Rattle.std.{specs.Option.option_map_or, specs.Str.bytes_eq, proofs.lemmas.Bool.{false≢true, or_cases}}
+use Rattle.std.proofs.Common.{rules, ◌≡◌, ◌∙◌, ◌&&◌, ◌||◌, inl, inr, not, Bool, true, false, List, [], ◌∷◌, codes, Option, Some, None}
+use Rattle.std.proofs.Common.{Result, IfErr, is_some, find, option_and_then, if◌then◌else◌, refl, sym, ap, subst}
+use Rattle.std.{specs.List.{list_all, list_any}, specs.Option.option_map_or, specs.Str.bytes_eq, proofs.lemmas.Bool.{false≢true, or_cases}}
 use Rattle.std.{proofs.lemmas.Result.IfErr-weaker, proofs.lemmas.Slice.Eq.bytes_eq-Decides}
 use Rattle.clap.{specs.Simple.{Shape, built, is_simple, label_of, names_of, subcommand_of}, specs.Takes.{is_given, takes}}
 use Rattle.clap.specs.Walk.{Row, Rule, Text, answers_to, first_of, nothing_held, rows_after, walk_from, walked}
 use Rattle.clap.{proofs.OnLiterals.clap_on_literals, proofs.WalkLemmas.both}
-use Rattle.yq_args.specs.CommandWords.{command_words, is_command_word}
+use Rattle.yq_args.specs.CommandWords.{is_command_word}
 use Rattle.yq_args.specs.Asked.{checks, count_in, WordsRefused, IsNotTaken, finds, full_words, name_fits, names_fit, words_fit}
 use Rattle.yq_args.{specs.Line.{yq, four_commands, two_commands}, specs.declared.command.Command.Command}
 use Rattle.yq_args.{specs.declared.words_error.WordsError.WordsError, proofs.ClapLevel.{Passed, stops_at, sub_found, sub_passed}}
@@ -46,15 +46,7 @@ command_taken name s rest stop found f taken =
 
 -- a refusal whose texts are found comes from a check of the program
 kept : (b other : Bool) → (b && true) ≡ false → (b && other) ≡ false
-kept true other e = cc
-kept false other e = refl
-
-names_refused : (rows : List Row) → is_some (first_of (codes "file") rows) ≡ true → (names_fit (first_of (codes "file") rows) (first_of (codes "journal") rows) && true) ≡ false → checks rows ≡ false
-names_refused rows some e = go (first_of (codes "file") rows) some e where
-  go : (file : Option Text) → is_some file ≡ true → (names_fit file (first_of (codes "journal") rows) && true) ≡ false →
-      (option_map_or (name_fits (first_of (codes "journal") rows)) file true && option_map_or (λ text. is_some (count_in text)) (first_of (codes "n") rows) true) ≡ false
-  go None some e = cc
-  go (Some file) some e = kept _ _ e
+kept b other e = search rules
 
 squash_refused : (rows : List Row) → is_some (first_of (codes "file") rows) ≡ true → is_some (first_of (codes "n") rows) ≡ true →
     (names_fit (first_of (codes "file") rows) (first_of (codes "journal") rows) && is_some (option_and_then count_in (first_of (codes "n") rows))) ≡ false → checks rows ≡ false
@@ -69,16 +61,10 @@ squash_refused rows some count e = go (first_of (codes "file") rows) (first_of (
 abbrev pub Refused : List Text → Type 0
 Refused full = takes yq full ≡ true → finds (subcommand_of yq full) ≡ false → option_map_or (λ found. checks found.1) (subcommand_of yq full) true ≡ false
 
--- the checks of what is found in words that are taken
-checks_taken : (name : Text) (s : Shape) (rest : List Text) → Taken name s rest → checks (rows_after s.rules [] rest) ≡ false → option_map_or (λ found. checks found.1) (subcommand_of yq (codes "yq" ∷ name ∷ rest)) true ≡ false
-checks_taken name s rest t e = ap (λ o. option_map_or (λ (found : Text × List Row). checks found.1) o true) t.found ∙ e
-
 -- FILE is there, and what a command has besides
 file_refused : (name : Text) (s : Shape) (rest : List Text) → Taken name s rest → is_some (first_of (codes "file") (rows_after s.rules [] rest)) ≡ true → words_fit s.name (rows_after s.rules [] rest) ≡ true →
     finds (subcommand_of yq (codes "yq" ∷ name ∷ rest)) ≡ false → option_map_or (λ found. checks found.1) (subcommand_of yq (codes "yq" ∷ name ∷ rest)) true ≡ false
-file_refused name s rest t file fit e =
-    let rows = rows_after s.rules [] rest in
-    checks_taken name s rest t (names_refused rows file (sym (ap (λ b. names_fit (first_of (codes "file") rows) (first_of (codes "journal") rows) && b) fit) ∙ (sym (ap finds t.found) ∙ e)))
+file_refused name s rest t file fit e = search rules
 
 simple_refused : (name : Text) (s : Shape) (rest : List Text) → Taken name s rest → s.subcommand_negates_reqs ≡ false → list_any (λ a. a.required && bytes_eq a.id (codes "file")) s.rules ≡ true → ((rows : List Row) → words_fit s.name rows ≡ true) →
     finds (subcommand_of yq (codes "yq" ∷ name ∷ rest)) ≡ false → option_map_or (λ found. checks found.1) (subcommand_of yq (codes "yq" ∷ name ∷ rest)) true ≡ false
@@ -86,9 +72,7 @@ simple_refused name s rest t none file fit = file_refused name s rest t (require
 
 count_refused : (name : Text) (s : Shape) (rest : List Text) → Taken name s rest → is_some (first_of (codes "file") (rows_after s.rules [] rest)) ≡ true → is_some (first_of (codes "n") (rows_after s.rules [] rest)) ≡ true →
     ((rows : List Row) → words_fit s.name rows ≡ is_some (option_and_then count_in (first_of (codes "n") rows))) → finds (subcommand_of yq (codes "yq" ∷ name ∷ rest)) ≡ false → option_map_or (λ found. checks found.1) (subcommand_of yq (codes "yq" ∷ name ∷ rest)) true ≡ false
-count_refused name s rest t file count fit e =
-    let rows = rows_after s.rules [] rest in
-    checks_taken name s rest t (squash_refused rows file count (sym (ap (λ b. names_fit (first_of (codes "file") rows) (first_of (codes "journal") rows) && b) (fit rows)) ∙ (sym (ap finds t.found) ∙ e)))
+count_refused name s rest t file count fit e = search rules
 
 eval_refused : (rest : List Text) → Refused (codes "yq" ∷ codes "eval" ∷ rest)
 unfolding clap_on_literals yq four_commands two_commands
@@ -129,8 +113,7 @@ any_refused (name ∷ names) word rest h some = elim (or_cases (bytes_eq word na
 
 -- each word that names a command
 word_refused : (word : Text) (rest : List Text) → is_command_word word ≡ true → Refused (codes "yq" ∷ word ∷ rest)
-word_refused word rest h =
-    any_refused command_words word rest (eval_refused rest, (undo_refused rest, (redo_refused rest, (history_refused rest, (squash_words_refused rest, tt))))) h
+word_refused word rest h = search (rules, any_refused, eval_refused, undo_refused, redo_refused, history_refused, squash_words_refused)
 
 words_refused : (words : List Text) → Refused (full_words words)
 words_refused [] = eval_refused []

@@ -1,9 +1,8 @@
 -- Counts of failures, one answer more.
-use Rattle.std.proofs.Common.{◌≡◌, inl, inr, ℕ, ◌+◌, ◌-◌, ◌^◌, ◌<◌, min, Bool, true, false, if◌then◌else◌, List, [], ◌∷◌, ◌++◌, Result, Ok}
-use Rattle.std.proofs.Common.{Err, MatchResult, IfErr, sym, ap, ◌∙◌, subst, refl, arith}
+use Rattle.std.proofs.Common.{rules, ◌≡◌, ℕ, ◌+◌, ◌-◌, ◌^◌, ◌<◌, min, Bool, true, false, if◌then◌else◌, List, [], ◌∷◌, ◌++◌, Result}
+use Rattle.std.proofs.Common.{MatchResult, IfErr, ◌∙◌, subst, refl, arith}
 use Rattle.yq_commands.specs.declared.answer.Answer.{Answer}
 use Rattle.yq_commands.specs.Lists.{IsAnswer, reports_failure, reports_output, count_passing, failures_in, output_failures_in}
-use Rattle.yq_commands.proofs.ReplyLaws.{no_failure}
 use Rattle.yq_history.{specs.declared.fault.Fault.Fault, specs.Faults.{is_output, failures_after}, specs.Report.Report}
 use Rattle.yq_store.specs.Count.{count_plus_one}
 
@@ -23,16 +22,10 @@ no_answers passes rs old none small = subst (λ xs. old ≡ min (old + count_pas
 -- a count of failures is that of the answers that tell them
 sum_more : (passes : Answer → Bool) (rs : List Answer) (a : Answer) (old n m : ℕ) →
     n ≡ min (old + count_passing passes rs) (2 ^ 64 - 1) → m ≡ (if passes a then count_plus_one n else n) → m ≡ min (old + count_passing passes (rs ++ a ∷ [])) (2 ^ 64 - 1)
-sum_more passes rs a old n m before after =
-    elim (passes a) as (λ b. count_passing passes (rs ++ a ∷ []) ≡ count_passing passes rs + (if b then 1 else 0) → m ≡ (if b then count_plus_one n else n) → m ≡ min (old + count_passing passes (rs ++ a ∷ [])) (2 ^ 64 - 1)) [
-      | true ↦ λ e g. omega (arith, e, g, before)
-      | false ↦ λ e g. omega (arith, e, g, before)
-    ] (passing_more passes rs a) after
+sum_more passes rs a old n m before after = search (rules, passing_more)
 
 counted_passing : {T : Type 0} (r : Result T Fault) (a : Answer) (s : Report) (n : ℕ) → IsAnswer r a s → failures_after r n ≡ (if reports_failure a then count_plus_one n else n)
-counted_passing (Ok v) a s n (inl is) = ap (λ b. if b then count_plus_one n else n) (sym (ap reports_failure is ∙ no_failure s.is_match))
-counted_passing (Ok v) a s n (inr is) = ap (λ y. if reports_failure y then count_plus_one n else n) (sym is.0)
-counted_passing (Err x) a s n is = ap (λ y. if reports_failure y then count_plus_one n else n) (sym is)
+counted_passing r a s n is = search rules
 
 -- the store's count, one answer more
 pub count_more : {T : Type 0} (r : Result T Fault) (rs : List Answer) (a : Answer) (s : Report) (old n m : ℕ) →
@@ -42,8 +35,7 @@ count_more r rs a s old n m is before after = sum_more reports_failure rs a old 
 -- the output's count after an answer
 pub put_passing : {T : Type 0} (r : Result T Fault) (a : Answer) (s : Report) (n m : ℕ) →
     IsAnswer r a s → IfErr r (λ x. is_output x ≡ false) → MatchResult r (λ _. m ≡ (if reports_output a then count_plus_one n else n)) (λ _. m ≡ n) → m ≡ (if reports_output a then count_plus_one n else n)
-put_passing (Ok v) a s n m is no_output after = after
-put_passing (Err x) a s n m is no_output after = after ∙ ap (λ b. if b then count_plus_one n else n) (sym (ap reports_output is ∙ no_output))
+put_passing r a s n m is no_output after = search rules
 
 -- the output's
 pub put_more : (rs : List Answer) (a : Answer) (old n m : ℕ) →

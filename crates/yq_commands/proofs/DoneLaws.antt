@@ -1,19 +1,16 @@
 -- What a command does where a call within it failed, or its text stays equal.
-use Rattle.std.proofs.Common.{◌≡◌, ◌≢◌, inl, ℕ, Bool, true, false, List, Option, Some, None, Result, Ok, Err, OnOk, sym, ap, ◌∙◌}
-use Rattle.std.{proofs.Common.{if◌then◌else◌, subst, refl}, specs.FinMap.get}
+use Rattle.std.proofs.Common.{rules, ◌≡◌, ◌≢◌, ℕ, Bool, true, false, List, Option, None, Result, Ok, Err, OnOk, sym, ap, ◌∙◌, if◌then◌else◌}
+use Rattle.std.{proofs.Common.{subst, refl}, specs.FinMap.get}
 use Rattle.yq_semantics.specs.Program.{Program}
 use Rattle.yq_journal.{specs.History.History, specs.State.State}
 use Rattle.yq_args.specs.declared.eval_options.EvalOptions.{EvalOptions}
 use Rattle.yq_store.{specs.FileMap.FileMap, specs.declared.store.FileReadError.FileReadError}
 use Rattle.yq_history.{specs.declared.fault.Fault.Fault, specs.Causes.{Cause, IsFor, named}, specs.Faults.{is_outer_fault, of_read}}
-use Rattle.yq_history.{specs.Effects.{Effect, Works, from_names, refuses}, specs.Output.{Showing, Shows}}
-use Rattle.yq_history.{specs.Pair.{Arrives, GoodIn, Opens}, specs.Report.Report, proofs.EffectLaws.{not_opened, works_outside}}
-use Rattle.yq_history.{proofs.MoveLaws.{cut, is_refused}, proofs.PairLaws.same_pair}
-use Rattle.yq_commands.specs.CommandDone.{EditsFrom, EditsInPlace, EditsOpened, Evaluates, program_effect}
-use Rattle.yq_commands.{specs.CommandEffects.edit_effect, specs.CommandSteps.{edit_cause, update_cause, update_next}}
-use Rattle.yq_commands.specs.Editing.{EditOutcome, Refuses, edited, program_edits, program_in, refused, unreadable}
-use Rattle.yq_commands.specs.Evaluation.{cause_in, evaluated, of_file, report_in, shows}
-use Rattle.yq_commands.proofs.EditEffects.{edit_fails, inside_memory, not_parsed, parsed_works}
+use Rattle.yq_history.{specs.Effects.{Effect, from_names, refuses}, specs.Output.Showing, specs.Pair.{Arrives, GoodIn, Opens}}
+use Rattle.yq_history.{specs.Report.Report, proofs.EffectLaws.not_opened, proofs.PairLaws.same_pair}
+use Rattle.yq_commands.{specs.CommandDone.{EditsFrom, EditsInPlace, EditsOpened, Evaluates}, specs.CommandEffects.edit_effect}
+use Rattle.yq_commands.{specs.CommandSteps.{update_cause, update_next}, specs.Editing.{Refuses, edited, program_edits, program_in}}
+use Rattle.yq_commands.{specs.Evaluation.{cause_in, evaluated, of_file, shows}, proofs.EditEffects.parsed_works}
 use Rattle.yq_commands.proofs.OutcomeLaws.{arrives_as, each_error, unopened}
 use Rattle.yq_history.specs.declared.fault.Fault.TheVariants as fault
 use Rattle.yq_store.specs.declared.store.FileReadError.TheVariants as read
@@ -25,28 +22,14 @@ no_success P r e is = subst (λ x. OnOk x P) (sym is) tt
 -- a command that failed, and wrote nothing, stays where it was
 stays_at : (c : FileMap) (f j : List ℕ) (cause : Option Cause) (h k : Option History) {T : Type 0} (r : Result T Fault) (e : Fault) →
     r ≡ Err e → (is_outer_fault e ≡ false → IsFor cause e) → GoodIn c f j h → Arrives c f j cause h k r
-stays_at c f j cause h k r e is why good = elim (is_outer_fault e) as (λ b. is_outer_fault e ≡ b → Arrives c f j cause h k r) [
-  | true ↦ λ out. cut c f j cause h k r e is out (inl good)
-  | false ↦ λ out. is_refused c f j cause h k r e is out (why out) good
-] refl
+stays_at c f j cause h k r e is why good = search rules
 
 -- ---- an edit in place
 
 module _ (expr : List ℕ) (options : EvalOptions) (f j : List ℕ) (c : FileMap) {T : Type 0} (r : Result T Fault) (e : Fault) (is : r ≡ Err e) (s : Report) where
   -- its expression is no program
   pub unparsed_edits : (e ≢ fault.OutOfMemory → program_in expr ≡ Err e) → EditsInPlace expr options f j c c r s
-  unparsed_edits why = record {
-    arrives = λ apart h good.
-        stays_at c f j (update_cause (program_in expr) h) h (update_next expr (program_in expr) h) r e is
-        (λ out. subst (λ q. IsFor (update_cause q h) e) (sym (inside_memory e out why)) refl) good;
-    effect = λ apart. not_parsed f j c expr (get c f) (get c j) r e is why;
-    edited = λ apart. no_success _ r e is;
-    output = λ h good. no_success _ r e is;
-    listed = λ apart. no_success _ r e is;
-    expected = no_success _ r e is;
-    kept = each_error _ r (λ x inside. refl);
-    others = λ q apart beside. refl;
-  }
+  unparsed_edits why = search rules
 
   -- its file or its journal couldn't be read, or settled
   pub unopened_edits : (p : Program) (m : FileMap) → program_in expr ≡ Ok p → m ≡ c → ((h : Option History) → GoodIn c f j h → Opens m f j h (Err e)) →
@@ -68,62 +51,28 @@ module _ (expr : List ℕ) (options : EvalOptions) (f j : List ℕ) (c : FileMap
 
 -- ---- an edit of a text
 
-refuses_cause : (h : History) (o : EditOutcome) (e : Fault) → Refuses o e → IsFor (edit_cause h o) e
-refuses_cause h (unreadable old) e why = why
-refuses_cause h (refused x) e why = why
-refuses_cause h (edited u changes) e why = absurd why
-
 module _ (p : Program) (expr f j : List ℕ) (s : State) (t : List ℕ) (c : FileMap) where
   -- the program is refused on it
   pub refused_edits : {T : Type 0} (r : Result T Fault) (e : Fault) (diffs : Bool) (report : Report) →
       r ≡ Err e → (e ≢ fault.OutOfMemory → Refuses (program_edits p t) e) → EditsOpened p expr diffs f j s t c c r report
-  refused_edits r e diffs report is why = record {
-    edit = λ apart. record {
-      arrives = λ h k.
-          stays_at c f j (update_cause (Ok p) (Some h)) (Some h) (update_next expr (Ok p) (Some h)) r e is
-          (λ out. subst (λ x. IsFor (edit_cause h (program_edits p x)) e) k.at_rest.text (refuses_cause h (program_edits p t) e (inside_memory e out why))) k.stands;
-      effect = edit_fails f j c expr s t (program_edits p t) r e is why;
-    };
-    held = λ apart there. no_success _ r e is;
-    kept = each_error _ r (λ x inside. refl);
-    others = λ q apart beside. refl;
-  }
+  refused_edits r e diffs report is why = search rules
 
   -- memory was refused before anything was written
   pub cut_edits : {T : Type 0} (r : Result T Fault) (e : Fault) → r ≡ Err e → is_outer_fault e ≡ true → EditsFrom p expr f j s t c c r
-  cut_edits {T = T} r e is out = record {
-    arrives = λ h k. cut c f j (update_cause (Ok p) (Some h)) (Some h) (update_next expr (Ok p) (Some h)) r e is out (inl k.stands);
-    effect = subst (Works (program_effect expr p t s) f j c c) (sym is) (works_outside T (program_effect expr p t s) f j c e out);
-  }
+  cut_edits r e is out = search rules
 
 -- ---- an expression that isn't carried out in place
 
 -- the file couldn't be read
 pub unread_arrives : (c m : FileMap) (f j : List ℕ) (of_text : List ℕ → Result Showing Cause) {T : Type 0} (r : Result T Fault) (x : FileReadError) → r ≡ Err (of_read x) → m ≡ c →
     (x ≡ read.NotThere → get c f ≡ None) → (h : Option History) → GoodIn c f j h → Arrives m f j (cause_in (of_file of_text h)) h h r
-unread_arrives c m f j of_text r read.NotThere is same absent None good =
-    is_refused m f j (Some (named fault.NotThere)) None None r fault.NotThere is refl refl (same_pair c m f j None same good)
-unread_arrives c m f j of_text r read.NotThere is same absent (Some h) good = let no : None ≡ Some good.text = sym (absent refl) ∙ good.file_is in cc
-unread_arrives c m f j of_text r read.ReadFailed is same absent h good =
-    cut m f j (cause_in (of_file of_text h)) h h r fault.ReadFailed is refl (inl (same_pair c m f j h same good))
-unread_arrives c m f j of_text r read.OutOfMemory is same absent h good =
-    cut m f j (cause_in (of_file of_text h)) h h r fault.OutOfMemory is refl (inl (same_pair c m f j h same good))
+unread_arrives c m f j of_text r x is same absent h good = search rules
 
 module _ (options : EvalOptions) (expr f : List ℕ) (c : FileMap) {T : Type 0} (r : Result T Fault) (s : Report) where
   -- its expression is no program
   pub unparsed_shows : (e : Fault) → r ≡ Err e → (e ≢ fault.OutOfMemory → program_in expr ≡ Err e) → Evaluates (evaluated options (program_in expr)) f c c r s
-  unparsed_shows e is why = record {
-    arrives = λ j h good.
-        stays_at c f j (cause_in (evaluated options (program_in expr) h)) h h r e is
-        (λ out. subst (λ q. IsFor (cause_in (evaluated options q h)) e) (sym (inside_memory e out why)) refl) good;
-    output = λ j h good. no_success _ r e is;
-    same = refl;
-  }
+  unparsed_shows e is why = search rules
 
   -- it is one
   pub parsed_shows : (p : Program) (d : FileMap) → program_in expr ≡ Ok p → Evaluates (of_file (shows options p)) f c d r s → Evaluates (evaluated options (program_in expr)) f c d r s
-  parsed_shows p d is k = record {
-    arrives = λ j h good. subst (λ q. Arrives d f j (cause_in (evaluated options q h)) h h r) (sym is) (k.arrives j h good);
-    output = λ j h good. subst (λ q. OnOk r (Shows f (report_in (evaluated options q h)) s)) (sym is) (k.output j h good);
-    same = k.same;
-  }
+  parsed_shows p d is k = search rules

@@ -1,40 +1,24 @@
 -- The effects of edits, from the contracts of the calls of which they are made.
-use Rattle.std.proofs.Common.{◌≡◌, ◌≢◌, ℕ, Bool, true, false, nat_le, List, [], length, Option, Some, None, Result, Ok, Err, MatchBool}
+use Rattle.std.proofs.Common.{rules, ◌≡◌, ◌≢◌, ℕ, Bool, true, false, nat_le, List, [], length, Option, Some, None, Result, Ok, Err}
 use Rattle.std.proofs.Common.{if◌then◌else◌, sym, ap, ◌∙◌, subst, refl}
 use Rattle.yq_semantics.specs.Program.{Program}
 use Rattle.yq_text.specs.Splice.{Splice}
 use Rattle.yq_journal.{specs.Record.Record, specs.Refusals.{most_records, no_way}}
 use Rattle.yq_journal.specs.State.{State, journal_after, moved_text, with_move}
 use Rattle.yq_history.specs.declared.fault.Fault.{Fault}
-use Rattle.yq_history.{specs.Effects.{Effect, refuses, writes_nothing, from_pair, goes_to, move_effect, Works}, specs.Faults.is_outer_fault}
-use Rattle.yq_history.{specs.Output.bytes, specs.Causes.named, proofs.EffectLaws.{works_outside, works_refused, works_carried}}
-use Rattle.yq_history.proofs.MoveLaws.{IsMove, bytes_differ}
+use Rattle.yq_history.{specs.Effects.{Effect, refuses, writes_nothing, from_pair, goes_to, move_effect, Works}, specs.Output.bytes}
+use Rattle.yq_history.{specs.Causes.named, proofs.EffectLaws.works_carried, proofs.MoveLaws.{IsMove, bytes_differ}}
 use Rattle.yq_store.specs.FileMap.{FileMap}
 use Rattle.yq_commands.specs.CommandEffects.{edit_effect, edit_writes, update_effect}
-use Rattle.yq_commands.specs.Editing.{EditOutcome, unreadable, refused, edited, Refuses, program_in, program_edits}
-use Rattle.yq_commands.specs.Edits.{edit_record}
+use Rattle.yq_commands.{specs.Editing.{EditOutcome, edited, Refuses, program_in, program_edits}, specs.Edits.edit_record}
 use Rattle.yq_journal.specs.declared.fault.JournalFault.TheVariants as journal
 use Rattle.yq_journal.specs.declared.moves.Move.TheVariants as move
 use Rattle.yq_history.specs.declared.fault.Fault.TheVariants as fault
 
--- a fault that is reported where it isn't want of memory
-pub inside_memory : {P : Type 0} (e : Fault) → is_outer_fault e ≡ false → (e ≢ fault.OutOfMemory → P) → P
-inside_memory e out why = why (λ memory. let bad : false ≡ true = sym out ∙ ap is_outer_fault memory in cc)
-
 module _ (f j : List ℕ) (c : FileMap) (expr : List ℕ) (s : State) (t : List ℕ) where
-  reports_why : (T : Type 0) (o : EditOutcome) (e : Fault) → Refuses o e → Works (edit_effect expr o t s) f j c c {T = T} (Err e)
-  reports_why T (unreadable old) e why = (elim (is_outer_fault e) as (λ b. MatchBool b (Unit {0}) (Refuses (unreadable old) e)) [ true ↦ tt | false ↦ why ], refl)
-  reports_why T (refused x) e why = works_refused T (refuses (named x)) f j c e (ap (λ y. refuses (named y)) (sym why))
-  reports_why T (edited u cs) e why = absurd why
-
   -- the edit was refused
   pub edit_fails : (o : EditOutcome) {T : Type 0} (r : Result T Fault) (e : Fault) → r ≡ Err e → (e ≢ fault.OutOfMemory → Refuses o e) → Works (edit_effect expr o t s) f j c c r
-  edit_fails o {T = T} r e is why =
-      subst (Works (edit_effect expr o t s) f j c c) (sym is)
-      (elim (is_outer_fault e) as (λ b. is_outer_fault e ≡ b → Works (edit_effect expr o t s) f j c c {T = T} (Err e)) [
-        | true ↦ λ out. works_outside T (edit_effect expr o t s) f j c e out
-        | false ↦ λ out. reports_why T o e (inside_memory e out why)
-      ] refl)
+  edit_fails o r e is why = search rules
 
   -- the effect of an edit to another text, by whether the texts are equal and the journal has no room
   abbrev by_tests : List ℕ → List Splice → Bool → Bool → Effect
@@ -57,16 +41,6 @@ module _ (f j : List ℕ) (c : FileMap) (expr : List ℕ) (s : State) (t : List 
 
     pub edit_works : (o : EditOutcome) (d : FileMap) {T : Type 0} (r : Result T Fault) → o ≡ edited u cs → u ≢ t → IsMove c d f j s t u (move.Edit edit) r → Works (edit_effect expr o t s) f j c d r
     edit_works o d r is changes m = subst (λ x. Works x f j c d r) (sym (edit_moves o is changes m.leads)) (works_carried f j c d s t u (move.Edit edit) r m)
-
--- an expression that has no program
-pub not_parsed : (f j : List ℕ) (c : FileMap) (expr : List ℕ) (file journal : Option (List ℕ)) {T : Type 0} (r : Result T Fault) (e : Fault) →
-    r ≡ Err e → (e ≢ fault.OutOfMemory → program_in expr ≡ Err e) → Works (update_effect expr (program_in expr) file journal) f j c c r
-not_parsed f j c expr file journal {T = T} r e is why =
-    subst (Works (update_effect expr (program_in expr) file journal) f j c c) (sym is)
-    (elim (is_outer_fault e) as (λ b. is_outer_fault e ≡ b → Works (update_effect expr (program_in expr) file journal) f j c c {T = T} (Err e)) [
-      | true ↦ λ out. works_outside T (update_effect expr (program_in expr) file journal) f j c e out
-      | false ↦ λ out. works_refused T (update_effect expr (program_in expr) file journal) f j c e (ap (λ x. update_effect expr x file journal) (inside_memory e out why))
-    ] refl)
 
 -- one that has
 pub parsed_works : (f j : List ℕ) (c d : FileMap) (expr : List ℕ) (p : Program) (file journal : Option (List ℕ)) {T : Type 0} (r : Result T Fault) →

@@ -1,10 +1,10 @@
 -- How an edit of a pair ends.
-use Rattle.std.proofs.Common.{◌≡◌, ◌≢◌, ◌⊎◌, ℕ, Bool, true, false, nat_le, List, length, Some, None, Result, Ok, OnOk, OnErr, if◌then◌else◌}
-use Rattle.std.{proofs.Common.{sym, ap, ◌∙◌, subst, refl}, proofs.lemmas.Bool.eq-eqb, proofs.lemmas.Option.none-some}
+use Rattle.std.proofs.Common.{rules, ◌≡◌, ◌≢◌, ◌⊎◌, ℕ, Bool, true, false, nat_le, List, length, Some, None, Result, Ok, OnOk, OnErr}
+use Rattle.std.{proofs.Common.{if◌then◌else◌, sym, ap, ◌∙◌, subst, refl}, proofs.lemmas.Option.none-some}
 use Rattle.yq_semantics.specs.Program.{Program}
 use Rattle.yq_text.specs.Splice.{Splice, all_done}
 use Rattle.yq_journal.{specs.declared.moves.Move.TheVariants.Edit, specs.Good.after_move, specs.History.{History, text_at, after_edit}}
-use Rattle.yq_journal.{specs.Record.{Record, done, if_length}, specs.Refusals.{no_way, most_records}, specs.State.State}
+use Rattle.yq_journal.{specs.Record.{Record, done}, specs.Refusals.{no_way, most_records}, specs.State.State}
 use Rattle.yq_history.{specs.declared.fault.Fault.Fault, specs.declared.fault.Fault.TheVariants.JournalFull, specs.Causes.{IsFor, named}}
 use Rattle.yq_history.specs.Pair.{Arrives, PairAtRest, PairStands}
 use Rattle.yq_history.proofs.MoveLaws.{IsMove, bytes_differ, is_refused, ends, same_content, fault_outside}
@@ -15,10 +15,7 @@ use Rattle.yq_journal.specs.declared.fault.JournalFault.TheVariants as journal
 
 -- the record of an edit leads to its text
 pub edit_done : (expr : List ℕ) (cs : List Splice) (t u : List ℕ) → all_done cs t ≡ Some u → done (edit_record expr cs (length t) (length u)) t ≡ Some u
-edit_done expr cs t u leads =
-    ap (λ b. if b then if_length (length u) (all_done cs t) else None) (eq-eqb (length t) (length t) refl)
-    ∙ ap (if_length (length u)) leads
-    ∙ ap (λ b. if b then Some u else None) (eq-eqb (length u) (length u) refl)
+edit_done expr cs t u leads = search rules
 
 module _ (c : FileMap) (f j : List ℕ) (h : History) (expr : List ℕ) (p : Program) (s : State) (t : List ℕ) (k : PairAtRest c f j s t h) where
   same_edits : program_edits p t ≡ program_edits p (text_at h)

@@ -1,5 +1,5 @@
 -- Texts without a reading, and why a program is refused on a text.
-use Rattle.std.proofs.Common.{◌≡◌, ◌≢◌, ℕ, List, true, false, if◌then◌else◌, None, refl, sym, ap, subst, ◌∙◌, true≢false, Err}
+use Rattle.std.proofs.Common.{rules, ◌≡◌, ◌≢◌, ℕ, List, true, false, if◌then◌else◌, None, sym, ap, subst, ◌∙◌, true≢false, Err}
 use Rattle.std.specs.Str.{is_utf8}
 use Rattle.yq_core.{specs.declared.ReadFault.ReadFault, specs.declared.fault.FaultKind.TheVariants.NotUtf8}
 use Rattle.yq_documents.specs.Reading.{read_at, checked_at}
@@ -8,8 +8,8 @@ use Rattle.yq_edit_laws.{specs.Carried.{edit_of, program_done}, specs.Edit.by_re
 use Rattle.yq_edit_laws.specs.declared.edit_error.EditError.{EditError}
 use Rattle.yq_history.{specs.declared.fault.Fault.Fault, specs.declared.fault.Fault.TheVariants.{OutOfMemory, Unreadable}}
 use Rattle.yq_history.specs.Causes.{IsUnreadable}
-use Rattle.yq_commands.specs.Editing.{Refuses, program_edits, program_in, result_of, unreadable, edit_outcome}
-use Rattle.yq_commands.specs.CommandFaults.{of_edit, of_parse, of_refusal}
+use Rattle.yq_commands.specs.Editing.{Refuses, program_edits, program_in, unreadable, edit_outcome}
+use Rattle.yq_commands.specs.CommandFaults.{of_edit, of_parse}
 use Rattle.yq_expr_parser.{specs.declared.error.ParseError.ParseError, specs.Outcome.AnswersError, specs.Parse.outcome}
 use Rattle.yq_edit_laws.specs.declared.edit_error.EditError.TheVariants as error
 use Rattle.yq_expr_parser.specs.declared.error.ParseError.TheVariants as parse
@@ -30,10 +30,7 @@ unread_refuses p t e none reports = subst (λ o. Refuses o e) (sym (unread p t n
 -- why an expression has no program
 pub parse_refused : (t : List ℕ) (e : ParseError) → AnswersError e (outcome t) → of_parse e ≢ OutOfMemory → program_in t ≡ Err (of_parse e)
 unfolding program_in
-parse_refused t parse.Syntax h other = ap result_of h
-parse_refused t parse.NotInProfile h other = ap result_of h
-parse_refused t parse.Pattern h other = ap result_of h
-parse_refused t parse.Memory h other = absurd (other refl)
+parse_refused t e h other = search rules
 
 -- ---- whether a fault tells that they are no UTF-8
 
@@ -48,6 +45,4 @@ unread_text t f utf8 other = (λ is. absurd (other is), λ no. absurd (true≢fa
 -- why a program is refused on a text
 pub edit_refuses : (p : Program) (s t : List ℕ) (e : EditError) → s ≡ t → is_utf8 t ≡ true → EditFails e (edit_of p s) → of_edit e ≢ OutOfMemory → Refuses (program_edits p t) (of_edit e)
 unfolding program_edits
-edit_refuses p s t (error.Read f) same utf8 fails other = subst (λ o. Refuses (edit_outcome t o) (Unreadable f)) (sym (ap (edit_of p) (sym same) ∙ fails.0)) (unread_text t f utf8 fails.1)
-edit_refuses p s t (error.Refused why) same utf8 fails other = subst (λ o. Refuses (edit_outcome t o) (of_refusal why)) (sym (ap (edit_of p) (sym same) ∙ fails)) refl
-edit_refuses p s t error.Memory same utf8 fails other = absurd (other refl)
+edit_refuses p s t e same utf8 fails other = search rules

@@ -1,5 +1,5 @@
 -- What a command comes to, by the contract of the call that carries it out.
-use Rattle.std.{proofs.Common.{ap, ◌≡◌, ◌≢◌, ℕ, Bool, List, Option, Result, Ok, Err, OnOk, sym, ◌∙◌, subst}, specs.FinMap.get}
+use Rattle.std.{proofs.Common.{rules, ap, ◌≡◌, ◌≢◌, ℕ, Bool, List, Option, Result, Ok, Err, OnOk, sym, ◌∙◌, subst}, specs.FinMap.get}
 use Rattle.yq_journal.{specs.State.State, specs.History.History}
 use Rattle.yq_history.{specs.declared.fault.Fault.Fault, specs.Causes.Cause}
 use Rattle.yq_history.{specs.Effects.{Effect, Works, from_names, listing_effect, printed_by}, specs.Pair.{Arrives, GoodIn, OthersStay}}
@@ -25,8 +25,7 @@ module _ (s t f j : List ℕ) (file_is : s ≡ f) (journal_is : t ≡ j) where
   pub pair_arrives : (c d : FileMap) {T : Type 0} (r : Result T Fault) (cause : Option History → Option Cause) (next : Option History → Option History) →
       (s ≢ t → (h : Option History) → GoodIn c s t h → Arrives d s t (cause h) h (next h) r) →
       (file journal : List ℕ) → file ≢ journal → (f ≡ file) × (j ≡ journal) → (h : Option History) → GoodIn c file journal h → Arrives d file journal (cause h) h (next h) r
-  pair_arrives c d r cause next h file journal apart on =
-      by_names (λ x y. x ≢ y → (k : Option History) → GoodIn c x y k → Arrives d x y (cause k) k (next k) r) file journal on h apart
+  pair_arrives c d r cause next h file journal apart on = search rules
 
   pub pair_works : (c d : FileMap) {T : Type 0} (r : Result T Fault) (go : List ℕ → State → Effect) → (s ≢ t → Works (from_names c s t go) s t c d r) →
       (file journal : List ℕ) → file ≢ journal → (f ≡ file) × (j ≡ journal) → Works (from_names c file journal go) file journal c d r
@@ -39,15 +38,11 @@ module _ (s t f j : List ℕ) (file_is : s ≡ f) (journal_is : t ≡ j) where
   pub update_arrives : (c d : FileMap) {T : Type 0} (r : Result T Fault) (e x : List ℕ) → e ≡ x →
       (s ≢ t → (h : Option History) → GoodIn c s t h → Arrives d s t (update_cause (program_in e) h) h (update_next e (program_in e) h) r) →
       (file journal : List ℕ) → file ≢ journal → (f ≡ file) × (j ≡ journal) → (h : Option History) → GoodIn c file journal h → Arrives d file journal (update_cause (program_in x) h) h (update_next x (program_in x) h) r
-  update_arrives c d r e x is h =
-      pair_arrives c d r (update_cause (program_in x)) (update_next x (program_in x))
-      (subst (λ y. s ≢ t → (k : Option History) → GoodIn c s t k → Arrives d s t (update_cause (program_in y) k) k (update_next y (program_in y) k) r) is h)
+  update_arrives c d r e x is h = search rules
 
   pub update_works : (c d : FileMap) {T : Type 0} (r : Result T Fault) (e x : List ℕ) → e ≡ x → (s ≢ t → Works (update_effect e (program_in e) (get c s) (get c t)) s t c d r) →
       (file journal : List ℕ) → file ≢ journal → (f ≡ file) × (j ≡ journal) → Works (update_effect x (program_in x) (get c file) (get c journal)) file journal c d r
-  update_works c d r e x is h file journal apart on =
-      by_names (λ u v. u ≢ v → Works (update_effect x (program_in x) (get c u) (get c v)) u v c d r) file journal on
-      (subst (λ y. s ≢ t → Works (update_effect y (program_in y) (get c s) (get c t)) s t c d r) is h) apart
+  update_works c d r e x is h file journal apart on = search rules
 
   pub update_edits : (c d : FileMap) {T : Type 0} (r : Result T Fault) (b : Bool) (o : List ℕ) (e x : List ℕ) → e ≡ x →
       (s ≢ t → OnOk r (IsFileEdited e (get c s) (get d s) × PrintsChange b s (get c s) (get d s) o)) →
@@ -60,17 +55,12 @@ module _ (s t f j : List ℕ) (file_is : s ≡ f) (journal_is : t ≡ j) where
   pub update_expects : (c : FileMap) {T : Type 0} (r : Result T Fault) (m b : Bool) (e x : List ℕ) → e ≡ x →
       OnOk r (m ≡ works_as_expected b (update_effect e (program_in e) (get c s) (get c t))) →
       (file journal : List ℕ) → (f ≡ file) × (j ≡ journal) → OnOk r (m ≡ works_as_expected b (update_effect x (program_in x) (get c file) (get c journal)))
-  update_expects c r m b e x is h file journal on =
-      by_names (λ u v. OnOk r (m ≡ works_as_expected b (update_effect x (program_in x) (get c u) (get c v)))) file journal on
-      (subst (λ y. OnOk r (m ≡ works_as_expected b (update_effect y (program_in y) (get c s) (get c t)))) is h)
+  update_expects c r m b e x is h file journal on = search rules
 
   pub update_shows : (c : FileMap) {T : Type 0} (r : Result T Fault) (o : Report) (options : EvalOptions) (e x : List ℕ) → e ≡ x →
       ((h : Option History) → GoodIn c s t h → OnOk r (Shows s (report_edit options (program_in e) h) o)) →
       (file journal : List ℕ) → (f ≡ file) × (j ≡ journal) → (h : Option History) → GoodIn c file journal h → OnOk r (Shows f (report_edit options (program_in x) h) o)
-  update_shows c r o options e x is shows file journal on =
-      by_names (λ u v. (h : Option History) → GoodIn c u v h → OnOk r (Shows f (report_edit options (program_in x) h) o)) file journal on
-      (subst (λ y. (h : Option History) → GoodIn c s t h → OnOk r (Shows y (report_edit options (program_in x) h) o)) file_is
-      (subst (λ y. (h : Option History) → GoodIn c s t h → OnOk r (Shows s (report_edit options (program_in y) h) o)) is shows))
+  update_shows c r o options e x is shows file journal on = search rules
 
   pub update_lists : (c : FileMap) {T : Type 0} (r : Result T Fault) (o : List ℕ) (b : Bool) (e x : List ℕ) → e ≡ x →
       (s ≢ t → OnOk r (IsOutput s (output_by b (get c s) (update_effect e (program_in e) (get c s) (get c t))) o)) →
@@ -85,16 +75,12 @@ module _ (s t f j : List ℕ) (file_is : s ≡ f) (journal_is : t ≡ j) where
   pub listing_shows : (c : FileMap) {T : Type 0} (r : Result T Fault) (o : Report) (diffs : Bool) →
       ((h : Option History) → GoodIn c s t h → OnOk r (Shows s (showing (listing_output diffs h)) o)) →
       (file journal : List ℕ) → (f ≡ file) × (j ≡ journal) → (h : Option History) → GoodIn c file journal h → OnOk r (Shows f (showing (listing_output diffs h)) o)
-  listing_shows c r o diffs shows file journal on =
-      by_names (λ u v. (h : Option History) → GoodIn c u v h → OnOk r (Shows f (showing (listing_output diffs h)) o)) file journal on
-      (subst (λ y. (h : Option History) → GoodIn c s t h → OnOk r (Shows y (showing (listing_output diffs h)) o)) file_is shows)
+  listing_shows c r o diffs shows file journal on = search rules
 
   pub listing_lists : (c : FileMap) {T : Type 0} (r : Result T Fault) (o : List ℕ) (diffs : Bool) →
       OnOk r (IsOutput s (printed_by (from_names c s t (listing_effect diffs))) o) →
       (file journal : List ℕ) → (f ≡ file) × (j ≡ journal) → OnOk r (IsOutput f (printed_by (from_names c file journal (listing_effect diffs))) o)
-  listing_lists c r o diffs shows file journal on =
-      by_names (λ u v. OnOk r (IsOutput f (printed_by (from_names c u v (listing_effect diffs))) o)) file journal on
-      (subst (λ y. OnOk r (IsOutput y (printed_by (from_names c s t (listing_effect diffs))) o)) file_is shows)
+  listing_lists c r o diffs shows file journal on = search rules
 
 -- ---- by the name of a file, and the bytes of an expression that isn't carried out in place
 
@@ -102,18 +88,12 @@ module _ (s f : List ℕ) (file_is : s ≡ f) (e x : List ℕ) (is : e ≡ x) (o
   pub evaluate_arrives : (c d : FileMap) {T : Type 0} (r : Result T Fault) →
       ((journal : List ℕ) (h : Option History) → GoodIn c s journal h → Arrives d s journal (cause_in (evaluated options (program_in e) h)) h h r) →
       (file journal : List ℕ) → f ≡ file → (h : Option History) → GoodIn c file journal h → Arrives d file journal (cause_in (evaluated options (program_in x) h)) h h r
-  evaluate_arrives c d r h file journal on =
-      subst (λ y. (k : Option History) → GoodIn c y journal k → Arrives d y journal (cause_in (evaluated options (program_in x) k)) k k r) (file_is ∙ on)
-      (subst (λ y. (k : Option History) → GoodIn c s journal k → Arrives d s journal (cause_in (evaluated options (program_in y) k)) k k r) is (h journal))
+  evaluate_arrives c d r h file journal on = search rules
 
   pub evaluate_shows : (c : FileMap) {T : Type 0} (r : Result T Fault) (o : Report) →
       ((journal : List ℕ) (h : Option History) → GoodIn c s journal h → OnOk r (Shows s (report_in (evaluated options (program_in e) h)) o)) →
       (file journal : List ℕ) → f ≡ file → (h : Option History) → GoodIn c file journal h → OnOk r (Shows f (report_in (evaluated options (program_in x) h)) o)
-  evaluate_shows c r o h file journal on =
-      subst (λ y. (k : Option History) → GoodIn c y journal k → OnOk r (Shows f (report_in (evaluated options (program_in x) k)) o)) (file_is ∙ on)
-      (subst (λ y. (k : Option History) → GoodIn c s journal k → OnOk r (Shows y (report_in (evaluated options (program_in x) k)) o)) file_is
-      (subst (λ y. (k : Option History) → GoodIn c s journal k → OnOk r (Shows s (report_in (evaluated options (program_in y) k)) o)) is (h journal)))
+  evaluate_shows c r o h file journal on = search rules
 
   pub evaluate_edits : (c : FileMap) {T : Type 0} (r : Result T Fault) (b : Bool) (o : List ℕ) → OnOk r (PrintsUpdate b e s (get c s) o) → OnOk r (PrintsUpdate b x f (get c f) o)
-  evaluate_edits c r b o h =
-      subst (λ y. OnOk r (PrintsUpdate b y f (get c f) o)) is (subst (λ y. OnOk r (PrintsUpdate b e y (get c y) o)) file_is h)
+  evaluate_edits c r b o h = search rules

@@ -1,12 +1,12 @@
 -- How a command ends, by how a call within it ended.
-use Rattle.std.proofs.Common.{◌≡◌, inl, inr, ℕ, false, List, Option, Some, None, Result, Ok, Err, IfErr, Vec, sym, ap, subst, refl}
+use Rattle.std.proofs.Common.{rules, ◌≡◌, ℕ, false, List, Option, Some, None, Result, Ok, Err, IfErr, Vec, sym, subst}
 use Rattle.std.specs.declared.alloc.Global.{Global}
 use Rattle.yq_journal.{specs.History.History, specs.State.State}
 use Rattle.yq_semantics.specs.Program.{Program}
 use Rattle.yq_store.specs.FileMap.{FileMap}
 use Rattle.yq_history.{specs.declared.fault.Fault.Fault, specs.declared.fault.Fault.TheVariants.{NotThere, OutOfMemory}}
-use Rattle.yq_history.{specs.Causes.{Cause, IsFor, named}, specs.Faults.{failures_after, is_outer_fault, is_output}}
-use Rattle.yq_history.{specs.Pair.{Arrives, GoodIn, Opens, PairAtRest}, proofs.MoveLaws.{cut, is_refused}}
+use Rattle.yq_history.{specs.Causes.{Cause, named}, specs.Faults.{failures_after, is_output}}
+use Rattle.yq_history.specs.Pair.{Arrives, GoodIn, Opens, PairAtRest}
 
 -- what is known of an error
 pub told : {T : Type 0} (P : Fault → Type 0) (r : Result T Fault) (e : Fault) → r ≡ Err e → P e → IfErr r P
@@ -14,17 +14,14 @@ told P r e is h = subst (λ x. IfErr x P) (sym is) h
 
 -- what holds anyway holds of each error
 pub each_error : {T : Type 0} (P : Fault → Type 0) (r : Result T Fault) → ((e : Fault) → P e) → IfErr r P
-each_error P (Ok v) h = tt
-each_error P (Err e) h = h e
+each_error P r h = search rules
 
 -- want of memory tells of no output, and of no failed call
 pub memory_no_output : {T : Type 0} (r : Result T Fault) → IfErr r (λ e. e ≡ OutOfMemory) → IfErr r (λ e. is_output e ≡ false)
-memory_no_output (Ok v) h = tt
-memory_no_output (Err e) h = ap is_output h
+memory_no_output r h = search rules
 
 pub memory_counted : {T : Type 0} (r : Result T Fault) (n : ℕ) → IfErr r (λ e. e ≡ OutOfMemory) → n ≡ failures_after r n
-memory_counted (Ok v) n h = refl
-memory_counted {T = T} (Err e) n h = ap (λ x. failures_after {T = T} (Err x) n) (sym h)
+memory_counted r n h = search rules
 
 -- the same, by what an expression is
 pub arrives_as : (c : FileMap) (f j : List ℕ) {T : Type 0} (r : Result T Fault) (cause : Result Program Fault → Option Cause) (next : Result Program Fault → Option History) (h : Option History) (p q : Result Program Fault) → p ≡ q →
@@ -36,11 +33,7 @@ arrives_as c f j r cause next h p q is arrives = subst (λ x. Arrives c f j (cau
 module _ (cause : Option History → Option Cause) (next : Option History → Option History) (m d : FileMap) (f j : List ℕ) {T : Type 0} (r : Result T Fault) where
   pub opened : (p : Vec ℕ Global × State) (h : Option History) → Opens m f j h (Ok p) →
       ((x : History) → PairAtRest m f j p.1 p.0.items x → Arrives d f j (cause (Some x)) (Some x) (next (Some x)) r) → Arrives d f j (cause h) h (next h) r
-  opened p None opens go = absurd opens
-  opened p (Some x) opens go = go x opens
+  opened p h opens go = search rules
 
   pub unopened : cause None ≡ Some (named NotThere) → (e : Fault) (h : Option History) → r ≡ Err e → Opens m f j h (Err e) → GoodIn m f j h → Arrives m f j (cause h) h (next h) r
-  unopened missed e None is (inl missing) good =
-      is_refused m f j (cause None) None (next None) r e is (ap is_outer_fault missing) (subst (λ o. IsFor o e) (sym missed) missing) good
-  unopened missed e None is (inr out) good = cut m f j (cause None) None (next None) r e is out (inl good)
-  unopened missed e (Some x) is out good = cut m f j (cause (Some x)) (Some x) (next (Some x)) r e is out (inl good)
+  unopened missed e h is out good = search rules

@@ -1,6 +1,6 @@
 -- Replies, and the bytes that the output took of them.
-use Rattle.std.proofs.Common.{◌≡◌, inl, inr, ℕ, ◌+◌, ◌-◌, ◌^◌, ◌<◌, min, Bool, true, false, if◌then◌else◌, List, [], ◌∷◌, ◌++◌}
-use Rattle.std.{proofs.Common.{append_assoc, Result, Ok, Err, MatchResult, sym, ap, ap₂, ◌∙◌, refl, arith}, proofs.lemmas.List.append-nil}
+use Rattle.std.proofs.Common.{rules, ◌≡◌, ℕ, ◌+◌, ◌-◌, ◌^◌, ◌<◌, min, Bool, false, if◌then◌else◌, List, [], ◌∷◌, ◌++◌, append_assoc, Result}
+use Rattle.std.{proofs.Common.{MatchResult, sym, ap, ap₂, ◌∙◌, refl}, proofs.lemmas.List.append-nil}
 use Rattle.yq_commands.{specs.declared.answer.Answer.Answer, specs.declared.answer.Answer.TheVariants.{Done, NoMatch, Refused}}
 use Rattle.yq_commands.specs.Lists.{answer_by, Reply, answers_in, printed_in, IsAnswer, reports_failure, reports_output}
 use Rattle.yq_history.{specs.declared.fault.Fault.Fault, specs.Report.Report}
@@ -13,9 +13,7 @@ reply NoMatch o = record { answer = NoMatch; printed = o }
 reply (Refused e) o = record { answer = Refused e; printed = [] }
 
 pub reply-answer : (a : Answer) (o : List ℕ) → (reply a o).answer ≡ a
-reply-answer Done o = refl
-reply-answer NoMatch o = refl
-reply-answer (Refused e) o = refl
+reply-answer a o = search rules
 
 answers_push : (rs : List Reply) (r : Reply) → answers_in (rs ++ r ∷ []) ≡ answers_in rs ++ r.answer ∷ []
 answers_push [] r = refl
@@ -25,14 +23,8 @@ answers_push (x ∷ rs) r = ap (λ as'. x.answer ∷ as') (answers_push rs r)
 pub answers_more : (rs : List Reply) (as' : List Answer) (a : Answer) (o : List ℕ) → answers_in rs ≡ as' → answers_in (rs ++ reply a o ∷ []) ≡ as' ++ a ∷ []
 answers_more rs as' a o is = answers_push rs (reply a o) ∙ ap₂ (λ xs x. xs ++ x ∷ []) is (reply-answer a o)
 
--- a command that was carried out prints, and its answer tells of no failure
-pub reply-printed : (m : Bool) (o : List ℕ) → (reply (answer_by m) o).printed ≡ o
-reply-printed true o = refl
-reply-printed false o = refl
-
 pub no_failure : (m : Bool) → reports_failure (answer_by m) ≡ false
-no_failure true = refl
-no_failure false = refl
+no_failure m = search rules
 
 printed_push : (rs : List Reply) (r : Reply) → printed_in (rs ++ r ∷ []) ≡ printed_in rs ++ r.printed
 printed_push [] r = append-nil r.printed
@@ -40,25 +32,15 @@ printed_push (x ∷ rs) r = ap (λ os. x.printed ++ os) (printed_push rs r) ∙ 
 
 -- the output failed at no answer, if its count is where it was
 not_output : (a : Answer) (c start n m : ℕ) → n ≡ min (start + c) (2 ^ 64 - 1) → m ≡ (if reports_output a then count_plus_one n else n) → m ≡ start → m < 2 ^ 64 - 1 → (reports_output a ≡ false) × (n ≡ start)
-not_output a c start n m before after same below = elim (reports_output a) as (λ b. reports_output a ≡ b → m ≡ (if b then count_plus_one n else n) → (reports_output a ≡ false) × (n ≡ start)) [
-  | true ↦ λ is e. absurd (omega (arith, before, e, same, below))
-  | false ↦ λ is e. (is, sym e ∙ same)
-] refl after
+not_output a c start n m before after same below = search rules
 
 took : {T : Type 0} (r : Result T Fault) (a : Answer) (s : Report) (now after : List ℕ) →
     IsAnswer r a s → reports_output a ≡ false → MatchResult r (λ _. reports_output a ≡ false → after ≡ now ++ s.printed) (λ _. after ≡ now) → after ≡ now ++ (reply a s.printed).printed
-took (Ok v) a s now after (inl is) no_output puts = puts no_output ∙ ap (λ xs. now ++ xs) (sym (ap (λ y. (reply y s.printed).printed) is ∙ reply-printed s.is_match s.printed))
-took (Ok v) a s now after (inr is) no_output puts = let no : true ≡ false = sym (ap reports_output is.0) ∙ no_output in cc
-took (Err x) a s now after is no_output puts = puts ∙ sym (append-nil now) ∙ ap (λ y. now ++ (reply y s.printed).printed) (sym is)
+took r a s now after is no_output puts = search rules
 
 -- the bytes that were put, one command more
 pub taken_more : {T : Type 0} (r : Result T Fault) (a : Answer) (s : Report) (rs : List Reply) (start now after : List ℕ) (c first n m : ℕ) → IsAnswer r a s →
     (first < 2 ^ 64 → n ≡ min (first + c) (2 ^ 64 - 1)) → m ≡ (if reports_output a then count_plus_one n else n) → m ≡ first → m < 2 ^ 64 - 1 →
     (n ≡ first → n < 2 ^ 64 - 1 → now ≡ start ++ printed_in rs) →
     MatchResult r (λ _. reports_output a ≡ false → after ≡ now ++ s.printed) (λ _. after ≡ now) → after ≡ start ++ printed_in (rs ++ reply a s.printed ∷ [])
-taken_more r a s rs start now after c first n m is sum count same below before puts =
-    let no_output = not_output a c first n m (sum (omega (arith, same, below))) count same below in
-    took r a s now after is no_output.0 puts
-    ∙ ap (λ x. x ++ (reply a s.printed).printed) (before no_output.1 (omega (arith, no_output.1, same, below)))
-    ∙ append_assoc start (printed_in rs) (reply a s.printed).printed
-    ∙ ap (λ os. start ++ os) (sym (printed_push rs (reply a s.printed)))
+taken_more r a s rs start now after c first n m is sum count same below before puts = search (rules, not_output, took, append_assoc, printed_push)

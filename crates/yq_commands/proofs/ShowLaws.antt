@@ -1,21 +1,20 @@
 -- What is shown of a file, by what is shown of its text.
-use Rattle.std.proofs.Common.{◌≡◌, ◌≢◌, inl, true, false, ℕ, List, Option, Some, None, option_map, Result, Ok, Err, IfErr, sym, ap, ◌∙◌}
-use Rattle.std.{proofs.Common.{subst, refl, true≢false, if◌then◌else◌, IfOk}, proofs.lemmas.Option.same_Some, specs.FinMap.get}
+use Rattle.std.proofs.Common.{rules, ◌≡◌, ◌≢◌, inl, true, false, ℕ, List, Option, Some, None, option_map, Result, Ok, Err, IfErr, sym, ap}
+use Rattle.std.{proofs.Common.{◌∙◌, subst, refl, true≢false, if◌then◌else◌, IfOk}, proofs.lemmas.Option.same_Some, specs.FinMap.get}
 use Rattle.std.specs.Str.{is_utf8}
 use Rattle.yq_core.{specs.Answers.ReadFails, specs.Tree.Node, specs.declared.fault.ReadError.ReadError}
 use Rattle.yq_places.specs.Answers.{IsNotUtf8}
 use Rattle.yq_documents.{specs.Documents.Document, specs.Reading.{documents, read_at}}
 use Rattle.yq_semantics.{specs.Copies.matches, specs.Judgement.{Judgement, refuses}, specs.declared.expr_error.ExprError.ExprError}
-use Rattle.yq_semantics.specs.Program.{Program, Stage, is_read, read, updates}
+use Rattle.yq_semantics.specs.Program.{Program, Stage, is_read, read}
 use Rattle.yq_journal.specs.History.{History, text_at}
-use Rattle.yq_history.{specs.declared.fault.Fault.Fault, specs.declared.fault.Fault.TheVariants.{OutOfMemory, Unreadable}}
+use Rattle.yq_history.{specs.declared.fault.Fault.Fault, specs.declared.fault.Fault.TheVariants.OutOfMemory}
 use Rattle.yq_history.{specs.Causes.{Cause, IsFor, named, no_reading, IsUnreadable}, specs.Faults.{is_outer_fault, fault_of_reading}}
 use Rattle.yq_history.{specs.Pair.{Arrives, GoodIn}, specs.Report.{Report, report_by}, proofs.MoveLaws.{cut, is_refused}}
 use Rattle.yq_history.{specs.Output.{Showing, Shows, showing_by, IsOutput, bytes, diff}, proofs.PairLaws.{good_text, same_pair}}
 use Rattle.yq_store.specs.FileMap.{FileMap}
 use Rattle.yq_args.specs.declared.eval_options.EvalOptions.{EvalOptions}
-use Rattle.yq_commands.specs.Editing.{EditOutcome, unreadable, refused, edited, Refuses, program_edits}
-use Rattle.yq_commands.specs.CommandFaults.{of_refusal, of_matching}
+use Rattle.yq_commands.{specs.Editing.{EditOutcome, edited, Refuses, program_edits}, specs.CommandFaults.{of_refusal, of_matching}}
 use Rattle.yq_commands.specs.Evaluation.{of_file, IsShowing, show_edit, show_found, show_read, shows, cause_in, report_in, edit_output}
 use Rattle.yq_commands.{proofs.EditingLaws.unread_text, specs.Expecting.{change_output, changes_as_expected}}
 use Rattle.yq_text.specs.Splice.{Splice}
@@ -26,9 +25,7 @@ use Rattle.yq_semantics.specs.declared.expr_error.ExprError.TheVariants as match
 
 -- the fault of an edit tells why its text isn't shown
 pub reports_edit : (options : EvalOptions) (t : List ℕ) (o : EditOutcome) (x : Fault) → Refuses o x → IsFor (cause_in (show_edit options t o)) x
-reports_edit options t (unreadable old) x is = is
-reports_edit options t (refused f) x is = is
-reports_edit options t (edited u changes) x is = absurd is
+reports_edit options t o x is = search rules
 
 -- ---- of a text
 
@@ -37,8 +34,7 @@ module _ (options : EvalOptions) (t : List ℕ) where
   by_documents : (p : Program) (docs : Option (List Document)) → is_read p ≡ true →
       option_map documents (read_at t) ≡ docs → (pipe : List Stage) × (p ≡ read pipe) × (shows options p t ≡ show_read options pipe t docs)
   unfolding shows
-  by_documents (read pipe) docs is reads = (pipe, refl, ap (show_read options pipe t) reads)
-  by_documents (updates us) docs is reads = cc
+  by_documents p docs is reads = search rules
 
   -- a read of a text without a reading
   pub unread_shows : (p : Program) → is_read p ≡ true → read_at t ≡ None → shows options p t ≡ Err (no_reading t)
@@ -66,8 +62,7 @@ module _ (options : EvalOptions) (t : List ℕ) where
   -- a text that isn't read
   pub reading_fails : (p : Program) {T : Type 0} (r : Result T Fault) (e : ReadError) → is_read p ≡ true → is_utf8 t ≡ true →
       r ≡ Err (fault_of_reading e) → ReadFails e (read_at t) → (IsNotUtf8 {X = List ℕ} (Err e) → is_utf8 t ≡ false) → HasFault p r
-  reading_fails p r reading.Memory is utf8 fails none text = for_cause p (no_reading t) r OutOfMemory fails (λ memory. absurd (memory refl))
-  reading_fails p r (reading.Fault f) is utf8 fails none text = unread_fails p r (Unreadable f) is fails (unread_text t f utf8 (λ no. true≢false (sym utf8 ∙ text no))) none
+  reading_fails p r e is utf8 fails h6 text = search (rules, for_cause, unread_fails, unread_text, true≢false)
 
   -- documents on which matching is refused
   pub matching_fails : (p : Program) (docs : List Document) {T : Type 0} (r : Result T Fault) (e : ExprError) → is_read p ≡ true →
@@ -79,8 +74,7 @@ module _ (options : EvalOptions) (t : List ℕ) where
   -- an update of a text
   pub edit_shows : (p : Program) → is_read p ≡ false → shows options p t ≡ show_edit options t (program_edits p t)
   unfolding shows
-  edit_shows (read pipe) is = cc
-  edit_shows (updates us) is = refl
+  edit_shows p is = search rules
 
   -- an update that is refused
   pub edit_fails : (p : Program) {T : Type 0} (r : Result T Fault) (x : Fault) → is_read p ≡ false → r ≡ Err x → (x ≢ OutOfMemory → Refuses (program_edits p t) x) → HasFault p r
@@ -89,18 +83,12 @@ module _ (options : EvalOptions) (t : List ℕ) where
 -- ---- of a file
 
 is_showing : (name : List ℕ) (r : Result Showing Cause) (s : Report) → IsShowing name r s → (due : Showing) × (r ≡ Ok due) × Shows name due s
-is_showing name (Ok due) s shows = (due, refl, shows)
-is_showing name (Err x) s shows = absurd shows
-
--- what a read shows are these bytes
-read_showing : (name : List ℕ) (r : Result Showing Cause) (s : declared.Report) → r ≡ Ok (showing_by s) → IsShowing name r (report_by s)
-read_showing name r s is = subst (λ x. IsShowing name x (report_by s)) (sym is) (record { output = refl; is_match = refl })
+is_showing name r s shows = search rules
 
 module _ (c e : FileMap) (f j : List ℕ) (of_text : List ℕ → Result Showing Cause) (t : List ℕ) (same : e ≡ c) (file_is : get c f ≡ Some t) where
   -- a file that is there has a history, of which it is the text at the cursor
   there : (h : Option History) → GoodIn c f j h → (x : History) × (h ≡ Some x) × (text_at x ≡ t)
-  there None good = let no : None ≡ Some t = sym good ∙ file_is in cc
-  there (Some x) good = (x, refl, same_Some (text_at x) t (sym (good_text c f j (Some x) good) ∙ file_is))
+  there h good = search (rules, same_Some, good_text)
 
   module _ (h : Option History) (good : GoodIn c f j h) where
     file_shows : of_file of_text h ≡ of_text t
@@ -131,8 +119,7 @@ module _ (c e : FileMap) (f j : List ℕ) (of_text : List ℕ → Result Showing
 -- by the new text, or with `--diff` by what changed
 pub edit_showing : (options : EvalOptions) (file t u : List ℕ) (changes : List Splice) (p : Program) (s : Report) → is_read p ≡ false → program_edits p t ≡ edited u changes →
     IsOutput file (edit_output options t u) s.printed → s.is_match ≡ changes_as_expected options t u → IsShowing file (shows options p t) s
-edit_showing options file t u changes p s update gives output is_match =
-    subst (λ r. IsShowing file r s) (sym (edit_shows options t p update ∙ ap (show_edit options t) gives)) (record { output = output; is_match = is_match })
+edit_showing options file t u changes p s update gives output is_match = search (rules, edit_shows)
 
 -- the output, by whether a diff is asked for
 pub text_output : (options : EvalOptions) (file t u printed : List ℕ) → options.diff ≡ false → printed ≡ u → IsOutput file (edit_output options t u) printed
@@ -140,11 +127,8 @@ text_output options file t u printed off is = subst (λ b. IsOutput file (if b t
 
 pub diff_output : (options : EvalOptions) (file t u : List ℕ) (changes : List Splice) (o : EditOutcome) (printed : List ℕ) → options.diff ≡ true → o ≡ edited u changes →
     IsOutput file (change_output options.diff t o) printed → IsOutput file (edit_output options t u) printed
-diff_output options file t u changes o printed on gives shows =
-    subst (λ b. IsOutput file (if b then diff t u else bytes u) printed) (sym on)
-    (subst (λ x. IsOutput file (change_output true t x) printed) gives (subst (λ b. IsOutput file (change_output b t o) printed) on shows))
+diff_output options file t u changes o printed on gives shows = search rules
 
 -- a read that is shown
 pub read_shows : {E : Type 0} (name : List ℕ) (x : Result Showing Cause) (r : Result declared.Report E) → IfOk r (λ s. x ≡ Ok (showing_by s)) → IfOk r (λ s. IsShowing name x (report_by s))
-read_shows name x (Ok s) is = read_showing name x s is
-read_shows name x (Err e) is = tt
+read_shows name x r is = search rules

@@ -1,6 +1,6 @@
 -- Copies of items and entries, one after the other.
-use Rattle.std.proofs.Common.{◌≡◌, ℕ, ◌<◌, ◌≤◌, List, [], ◌∷◌, ◌++◌, None, sym, ap, ◌∙◌, arith, append-nil}
-use Rattle.yq_core.{specs.Keys.{depth, deepest}, specs.Tree.{Label, Node, list, Children, child, children_of, none}, specs.Values.entries}
+use Rattle.std.proofs.Common.{rules, ◌≡◌, ℕ, ◌<◌, ◌≤◌, List, [], ◌∷◌, ◌++◌, None, sym, ap, ◌∙◌, arith, append-nil}
+use Rattle.yq_core.{specs.Keys.{depth, deepest}, specs.Tree.{Label, Node, Children, child, children_of, none}, specs.Values.entries}
 use Rattle.yq_outline.specs.Counts.{count}
 use Rattle.yq_nodes.specs.Nodes.{kind_of}
 use Rattle.yq_semantics.{specs.Copies.{and_others, keyed, copy, item_copies, entry_copies}, specs.Judgement.{Judgement, and_then, gives}}
@@ -27,14 +27,11 @@ entries_more before cs rest label n v all is h so_far =
 
 -- a mapping's copy has copies of its entries
 pub map_copied : (n : Node) (es : List (List ℕ × Node)) → kinds.Map ≡ kind_of n → entry_copies (children_of n) ≡ gives es → copy n ≡ gives (tree.map None (entries es))
-map_copied (tree.map anchor cs) es is h = ap (and_then (λ xs. gives (tree.map None (entries xs)))) h
-map_copied _ es is h = absurd (cc)
+map_copied n es is h = search rules
 
 -- collections are nested less deep in an item or entry than in its node
 pub depth_below : (n m : Node) (label : Label) (cs rest : Children) → cs ≡ child label m rest → count cs ≤ count (children_of n) → deepest cs ≤ deepest (children_of n) → depth m < depth n
-depth_below (list anchor ds) m label cs rest is some deep = let reaches = ap deepest is in omega arith
-depth_below (tree.map anchor ds) m label cs rest is some deep = let reaches = ap deepest is in omega arith
-depth_below _ m label cs rest is some deep = let counted = ap count is in absurd (omega arith)
+depth_below n m label cs rest is some deep = search rules
 
 -- after the last item or entry
 pub items_done : (before : List Node) (cs : Children) (all : Judgement (List Node)) → cs ≡ none → put_behind before (item_copies cs) ≡ all → all ≡ gives before

@@ -1,13 +1,12 @@
 -- What a pipe finds whose last step leads to all items or values.
-use Rattle.std.proofs.Common.{◌≡◌, ℕ, List, [], ◌∷◌, ◌++◌, refl, ap, ◌∙◌}
+use Rattle.std.proofs.Common.{rules, ◌≡◌, ℕ, List, [], ◌∷◌, ◌++◌, refl, ap, ◌∙◌}
 use Rattle.yq_core.specs.Tree.{Node}
 use Rattle.yq_semantics.{specs.Judgement.{Judgement, and_then, gives, refuses}, specs.Pipes.{pipe_on, places}}
 use Rattle.yq_semantics.{specs.Places.{root_place, for_each, step_on, chained, traverse}, specs.Program.{PathStep, Stage, each, path}}
 
 -- nothing more comes of a last step that gives what it has
 pub then_same : {A : Type 0} (j : Judgement A) → and_then (λ x. gives x) j ≡ j
-then_same (gives x) = refl
-then_same (refuses why) = refl
+then_same j = search rules
 
 -- several in turn, and then one more
 chain_last : {S A : Type 0} (f : S → A → Judgement A) (ss : List S) (s : S) (a : A) → chained f (ss ++ s ∷ []) a ≡ and_then (f s) (chained f ss a)

@@ -1,9 +1,9 @@
 -- Matches of a pipe in documents: the nodes of its places, one document more.
-use Rattle.std.proofs.Common.{◌≡◌, ℕ, zero, suc, ◌+◌, ◌<◌, ◌≤◌, Bool, true, false, cond, List, [], ◌∷◌, ◌++◌, length, map, drop, Option}
-use Rattle.std.{proofs.Common.{Some, None, option_map, refl, sym, ap, ◌∙◌, subst, add-one, append-nil, arith}, proofs.lemmas.List.drop_all}
-use Rattle.std.{proofs.lemmas.Option.same_Some, specs.List.slice_get, specs.Prelude.ℤ}
+use Rattle.std.proofs.Common.{rules, ◌≡◌, ℕ, zero, suc, ◌+◌, ◌<◌, ◌≤◌, Bool, true, false, cond, List, [], ◌∷◌, ◌++◌, length, map, drop}
+use Rattle.std.proofs.Common.{Option, Some, None, option_map, refl, sym, ap, ◌∙◌, subst, add-one, append-nil, arith}
+use Rattle.std.{proofs.lemmas.List.drop_all, proofs.lemmas.Option.same_Some, specs.List.slice_get, specs.Prelude.ℤ}
 use Rattle.yq_core.{specs.declared.kind.Kind.Kind, specs.Paths.{is_here, further, child_at}}
-use Rattle.yq_core.specs.Tree.{Node, alias, scalar, list, Children, none, child}
+use Rattle.yq_core.specs.Tree.{Node, scalar, list, Children, none, child}
 use Rattle.yq_documents.specs.Documents.{Document}
 use Rattle.yq_semantics.{specs.Conditions.{node_there, value_of, condition_holds}, specs.Copies.{matches_in, matches_from}}
 use Rattle.yq_semantics.specs.Judgement.{MatchFails, Judgement, and_then, gives}
@@ -56,8 +56,7 @@ find_has s cs h x e = go (child_at s cs) refl (gives_same e)
     go (Some m) at e = subst (λ (y : paths.Step × Node). HasScalars y.1) (same_Some _ _ e) (child_has s cs m h at)
 
 scalar_finds : (why : Refusal) (kind : Kind) → FindsScalars (in_scalar why kind)
-scalar_finds why kinds.Null x e = absurd (cc)
-scalar_finds why _ x e = absurd (cc)
+scalar_finds why kind x e = search rules
 
 key_finds : (k : List ℕ) (n : Node) → HasScalars n → FindsScalars (key_step k n)
 key_finds k (scalar anchor kind text) h x e = scalar_finds NotAMap kind x e
@@ -71,8 +70,7 @@ index_finds i (list anchor cs) h x e =
 index_finds i _ h x e = absurd (cc)
 
 miss_has : (s : PathStep) (p : FoundPlace) → HasScalars p.node → HaveScalars (miss s p)
-miss_has each p h = tt
-miss_has _ p h = (h, tt)
+miss_has s p h = search rules
 
 found_have : (s : PathStep) (p : FoundPlace) (j : Judgement ChildFound) (qs : List FoundPlace) → HasScalars p.node → FindsScalars j → and_then (λ x. gives (found_place s p x)) j ≡ gives qs → HaveScalars qs
 found_have s p j qs h finds e =
@@ -88,13 +86,7 @@ children_have p i none h = tt
 children_have p i (child label n cs) h = (h.0, children_have p (suc i) cs h.1)
 
 all_have : (p : FoundPlace) (n : Node) (qs : List FoundPlace) → HasScalars n → and_then (λ xs. gives (map (child_place p) xs)) (all_steps n) ≡ gives qs → HaveScalars qs
-all_have p (alias name) qs h e = absurd (cc)
-all_have p (scalar anchor kind text) qs h e =
-    let x = then_gives (λ (xs : List (paths.Step × Node)). gives (map (child_place p) xs)) (all_steps (scalar anchor kind text)) qs e in
-    let y = then_gives (λ (nothing : ChildFound). gives []) (in_scalar NotASequence kind) x.0 x.1 in
-    subst HaveScalars (gives_same x.2) (subst (λ (xs : List (paths.Step × Node)). HaveScalars (map (child_place p) xs)) (gives_same y.2) tt)
-all_have p (list anchor cs) qs h e = subst HaveScalars (gives_same e) (children_have p 0 cs h)
-all_have p (tree.map anchor cs) qs h e = subst HaveScalars (gives_same e) (children_have p 0 cs h)
+all_have p n qs h e = search (rules, then_gives, gives_same, children_have)
 
 step_has : (s : PathStep) → LeadsToScalars (step_on s)
 step_has s p qs h e = go p.missing e
@@ -159,8 +151,7 @@ behind_document pipe docs i d before at =
 
 pub document_more : (pipe : List Stage) (docs : List Document) (i : ℕ) (d : Document) (before after : List (ℕ × Node)) (all : Judgement (List (ℕ × Node))) → drop i docs ≡ d ∷ drop (suc i) docs →
     put_behind before (matches_in i pipe d.root) ≡ gives after → put_behind before (matches_from i pipe (drop i docs)) ≡ all → put_behind after (matches_from (i + 1) pipe (drop (i + 1) docs)) ≡ all
-document_more pipe docs i d before after all at h so_far =
-    ap (and_then (λ ys. put_behind ys (matches_from (i + 1) pipe (drop (i + 1) docs)))) (sym h) ∙ (sym (behind_document pipe docs i d before at) ∙ so_far)
+document_more pipe docs i d before after all at h so_far = search (rules, behind_document)
 
 pub document_fails : (pipe : List Stage) (docs : List Document) (i : ℕ) (d : Document) (before : List (ℕ × Node)) (all : Judgement (List (ℕ × Node))) (e : ExprError) → drop i docs ≡ d ∷ drop (suc i) docs →
     MatchFails e (put_behind before (matches_in i pipe d.root)) → put_behind before (matches_from i pipe (drop i docs)) ≡ all → MatchFails e all
@@ -170,5 +161,4 @@ document_fails pipe docs i d before all e at h so_far =
 
 -- after the last document nothing more is found
 pub documents_done : (pipe : List Stage) (docs : List Document) (i : ℕ) (before : List (ℕ × Node)) (all : Judgement (List (ℕ × Node))) → length docs ≤ i → put_behind before (matches_from i pipe (drop i docs)) ≡ all → all ≡ gives before
-documents_done pipe docs i before all h so_far =
-    sym so_far ∙ (ap (λ ds. put_behind before (matches_from i pipe ds)) (drop_all i docs h) ∙ ap gives (append-nil before))
+documents_done pipe docs i before all h so_far = search (rules, drop_all, append-nil)

@@ -1,5 +1,5 @@
 -- What is missing from a place.
-use Rattle.std.proofs.Common.{◌≡◌, ℕ, suc, ◌+◌, List, [], ◌∷◌, ◌++◌, map, refl, sym, ap, ◌∙◌, append_assoc, add-one, arith, Fits, w64, ◌<◌}
+use Rattle.std.proofs.Common.{rules, ◌≡◌, ℕ, ◌+◌, List, [], ◌∷◌, ◌++◌, map, refl, ◌∙◌, append_assoc, add-one, arith, Fits, w64, ◌<◌}
 use Rattle.std.proofs.lemmas.List.{map_push}
 use Rattle.yq_core.specs.Tree.{Label, Node, Children, none, child}
 use Rattle.yq_outline.{specs.Counts.count, specs.Outline.null_node}
@@ -22,13 +22,7 @@ missed_on (t ∷ ts) s step p = refl
 pub children_more : (p : FoundPlace) (before : ℕ) (cs rest : Children) (label : Label) (n : Node) (items : List declared.FoundPlace) (new : declared.FoundPlace) (all : List FoundPlace) →
     cs ≡ child label n rest → place_of new ≡ child_place p (step_by before label.key, n) → places_of items ++ map (child_place p) (stepped before cs) ≡ all →
     places_of (items ++ new ∷ []) ++ map (child_place p) (stepped (before + 1) rest) ≡ all
-children_more p before cs rest label n items new all is place so_far =
-    let others : List FoundPlace = map (child_place p) (stepped (suc before) rest) in
-    ap (λ (i : ℕ). places_of (items ++ new ∷ []) ++ map (child_place p) (stepped i rest)) (add-one before)
-    ∙ (ap (λ (ps : List FoundPlace). ps ++ others) (map_push place_of items new)
-    ∙ (append_assoc (places_of items) (place_of new ∷ []) others
-    ∙ (ap (λ (q : FoundPlace). places_of items ++ (q ∷ others)) place
-    ∙ (ap (λ (ds : Children). places_of items ++ map (child_place p) (stepped before ds)) (sym is) ∙ so_far))))
+children_more p before cs rest label n items new all is place so_far = search (rules, add-one, map_push, append_assoc)
 
 -- where nothing is counted there is none
 pub none_counted : (cs : Children) → count cs ≡ 0 → cs ≡ none

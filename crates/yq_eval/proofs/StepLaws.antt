@@ -1,11 +1,11 @@
 -- Where a step leads from a place, by what it is and by what is there.
-use Rattle.std.proofs.Common.{◌≡◌, ◌⊎◌, inl, inr, ℕ, ◌≤◌, ◌<◌, List, [], ◌∷◌, ◌++◌, length, map, slice_index_or, Option, option_map, Bor}
-use Rattle.std.{proofs.Common.{refl, sym, ap, ◌∙◌, rules, arith, append-nil}, specs.Prelude.ℤ}
-use Rattle.yq_core.{specs.Paths.{Nth, child_at}, specs.Tree.{Node, alias, scalar, list, Children, children_of}}
+use Rattle.std.proofs.Common.{◌≡◌, ◌⊎◌, ℕ, ◌≤◌, ◌<◌, List, [], ◌∷◌, ◌++◌, length, map, slice_index_or, Option, option_map, Bor, sym, ap}
+use Rattle.std.{proofs.Common.{◌∙◌, rules, arith, append-nil}, specs.Prelude.ℤ}
+use Rattle.yq_core.{specs.Paths.{Nth, child_at}, specs.Tree.{Node, Children, children_of}}
 use Rattle.yq_nodes.{specs.Nodes.{kind_of, node_of}, specs.declared.nodes.node.NodeKind.NodeKind}
 use Rattle.yq_eval.{specs.declared.matching.place.Missing.{Missing, Further, Nothing, the_lemmas}, specs.FoundView.child_places}
 use Rattle.yq_eval.{specs.PlaceView.{missing_of, path_of, place_of, places_of, put_behind}, proofs.PlaceLaws.missed_on}
-use Rattle.yq_semantics.{specs.Judgement.{and_then, gives}, specs.Matching.{step_child, item_at_index, item_number}}
+use Rattle.yq_semantics.{specs.Judgement.{and_then, gives}, specs.Matching.{item_at_index, item_number}}
 use Rattle.yq_semantics.specs.Places.{FoundPlace, all_steps, child_place, for_each, miss, step_from, step_on, stepped}
 use Rattle.yq_semantics.{specs.Program.{PathStep, each}, specs.View.program_step}
 use Rattle.yq_core.specs.Tree as tree
@@ -30,18 +30,12 @@ step_missed before s last p front is = ap (λ ms. put_behind before (step_from m
 -- ---- from a node, by its kind
 
 pub steps_of_coll : (n : Node) (k : NodeKind) → k ≡ kind_of n → (k ≡ node_kinds.List) ⊎ (k ≡ node_kinds.Map) → all_steps n ≡ gives (stepped 0 (children_of n))
-steps_of_coll (list anchor cs) k is coll = refl
-steps_of_coll (tree.map anchor cs) k is coll = refl
-steps_of_coll (alias name) k is (inl e) = absurd (cc)
-steps_of_coll (alias name) k is (inr e) = absurd (cc)
-steps_of_coll (scalar anchor kind text) k is (inl e) = absurd (cc)
-steps_of_coll (scalar anchor kind text) k is (inr e) = absurd (cc)
+steps_of_coll n k is coll = search rules
 
 -- the item of an index, by its number
 pub item_found : (i j : ℤ) (cs : Children) (n : ℕ) (o : Option Node) → j ≡ i → item_number j cs ≡ gives n → o ≡ child_at (Nth n) cs → item_at_index i cs ≡ gives
     (option_map (λ m. (Nth n, m)) o)
-item_found i j cs n o same h at =
-    ap (and_then (λ m. gives (step_child (Nth m) cs))) (ap (λ k. item_number k cs) (sym same) ∙ h) ∙ ap (λ q. gives (option_map (λ m. (Nth n, m)) q)) (sym at)
+item_found i j cs n o same h at = search rules
 
 -- ---- of places
 

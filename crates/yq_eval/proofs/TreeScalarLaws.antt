@@ -1,12 +1,12 @@
 -- The scalars of documents have the kinds of their texts.
-use Rattle.std.proofs.Common.{◌≡◌, ℕ, zero, suc, ◌+◌, ◌==◌, nat_lt, Bool, true, false, cond, List, [], ◌∷◌, ◌++◌, map, Option, Some, None}
-use Rattle.std.{proofs.Common.{refl, subst}, proofs.lemmas.Option.none-some, specs.List.slice_get}
+use Rattle.std.proofs.Common.{rules, ◌≡◌, ℕ, zero, suc, ◌+◌, ◌==◌, nat_lt, Bool, true, false, cond, List, [], ◌∷◌, ◌++◌, map, Option, Some}
+use Rattle.std.{proofs.Common.{None, refl, subst}, proofs.lemmas.Option.none-some, specs.List.slice_get}
 use Rattle.yq_core.{specs.declared.kind.Kind.Kind, specs.Scalar.{IsScalar, of_kind, string_of, plain_of}}
 use Rattle.yq_core.{specs.ContentReading.{plain_content, quoted_content}, specs.SchemaReading.resolve, specs.Tree.{Node, Children}}
 use Rattle.yq_core.{specs.Scalars.{is_quoted, scalar_of}, specs.Trees.{tree_of, items_tree, with_name, node_head}}
 use Rattle.yq_documents.{specs.Documents.Document, specs.Reading.part_document}
 use Rattle.yq_outline.{specs.Group.{deeper_lines, shallow, group}, specs.Lines.{head_of, lines_from, row_lines, lines_of_rows}}
-use Rattle.yq_outline.specs.Outline.{LineMark, Bare, Key, Dash, Line, level, Outline, end, row, anchored, head_or, shaped, children}
+use Rattle.yq_outline.specs.Outline.{Line, level, Outline, end, row, anchored, head_or, shaped, children}
 use Rattle.yq_eval.specs.TreeScalars.{HasScalars, EachHasScalars}
 use Rattle.yq_core.specs.declared.kind.Kind.TheVariants as kinds
 use Rattle.yq_core.specs.Tree as tree
@@ -17,9 +17,7 @@ use Rattle.yq_outline.specs.Outline as outline
 -- ---- inline nodes
 
 of_kind_is : (t : List ℕ) (k : Kind) → resolve t ≡ k → IsScalar (of_kind k t).kind (of_kind k t).text
-of_kind_is t kinds.Null h = refl
-of_kind_is t kinds.Text h = tt
-of_kind_is t _ h = h
+of_kind_is t k h = search rules
 
 plain_is : (t : List ℕ) → IsScalar (plain_of t).kind (plain_of t).text
 plain_is t = of_kind_is t (resolve t) refl
@@ -33,12 +31,10 @@ scalar_is p = go (is_quoted p)
     go false = plain_is (plain_content p)
 
 name_has : (a : List ℕ) (n : Node) → HasScalars n → HasScalars (with_name a n)
-name_has a (tree.alias name) h = h
-name_has a _ h = h
+name_has a n h = search rules
 
 collection_has : (b : Bool) (cs : Children) → EachHasScalars cs → HasScalars (cond b (tree.map None cs) (tree.list None cs))
-collection_has true cs h = h
-collection_has false cs h = h
+collection_has b cs h = search rules
 
 mutual
   unfolding tree_of items_tree
@@ -77,8 +73,7 @@ node_head_has (inline.coll k gap is) = tree_has (inline.coll k gap is)
 node_head_has (inline.anchored name gap n) = node_head_has n
 
 head_has : (c : rows.Content) → HeadHas (head_of c)
-head_has (rows.Inline space node tail) = node_head_has node
-head_has _ = tt
+head_has c = search (rules, node_head_has)
 
 from_has : (above : List (List ℕ)) (column : ℕ) (dashes : List ℕ) (mark : rows.RowMark) (c : rows.Content) → LinesHave (lines_from above column dashes mark c)
 from_has above column [] mark c = (head_has c, tt)
@@ -116,21 +111,13 @@ group_has (l ∷ ls) h =
     let rest = group_has ls h.1 in (h.0, (deeper_has (level l) (group ls) rest, shallow_has (level l) (group ls) rest))
 
 anchored_has : (a : Option (List ℕ)) (n : Node) → HasScalars n → HasScalars (anchored a n)
-anchored_has a (tree.alias name) h = h
-anchored_has a _ h = h
+anchored_has a n h = search rules
 
 head_or_has : (head : Option Node) (n : Node) → HeadHas head → HasScalars n → HasScalars (head_or head n)
-head_or_has None n h k = k
-head_or_has (Some m) n h k = h
-
-coll_has : (mark : LineMark) (cs : Children) → EachHasScalars cs → HasScalars (outline.outline_node mark cs)
-coll_has Bare tree.none h = refl
-coll_has Bare (tree.child label n cs) h = h.0
-coll_has _ cs h = h
+head_or_has head n h k = search rules
 
 shaped_has : (o : Outline) (cs : Children) → EachHasScalars cs → HasScalars (shaped o cs)
-shaped_has end cs h = refl
-shaped_has (row l under after) cs h = coll_has l.mark cs h
+shaped_has o cs h = search rules
 
 children_have : (o : Outline) → OutlineHas o → EachHasScalars (children o)
 children_have end h = tt

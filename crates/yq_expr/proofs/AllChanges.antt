@@ -1,47 +1,41 @@
 -- What an update changes: place by place, and document by document.
-use Rattle.std.proofs.Common.{refl, append_assoc, ◌≡◌, ℕ, suc, ◌+◌, ◌<◌, ◌≤◌, List, [], ◌∷◌, ◌++◌, length, map, drop, sym, ap, ◌∙◌, subst}
-use Rattle.std.{proofs.Common.{append-nil, add-one, arith}, proofs.lemmas.List.drop_all}
+use Rattle.std.proofs.Common.{rules, append_assoc, ◌≡◌, ℕ, suc, ◌+◌, ◌<◌, ◌≤◌, List, [], ◌∷◌, ◌++◌, length, map, drop, sym, ap, ◌∙◌}
+use Rattle.std.{proofs.Common.{append-nil, add-one}, proofs.lemmas.List.drop_all}
 use Rattle.yq_core.specs.Tree.{Node}
 use Rattle.yq_documents.specs.Documents.{Document}
 use Rattle.yq_semantics.specs.Changes.{Room, Changed, put_with_path, at_each, with_value, changes_at, changes_in, changes_from}
 use Rattle.yq_semantics.{specs.Judgement.{MatchFails, Judgement, and_then, gives}, specs.Meaning.roots_of}
 use Rattle.yq_semantics.{specs.Places.{FoundPlace, for_each}, specs.Program.{Stage, Term, Update, assign}, specs.RightValues.right_value}
 use Rattle.yq_semantics.{specs.declared.program.Operator.Operator, specs.declared.expr_error.ExprError.ExprError}
-use Rattle.yq_eval.{specs.PlaceView.put_behind, proofs.EachLaws.fails_then}
+use Rattle.yq_eval.specs.PlaceView.{put_behind}
 use Rattle.yq_semantics.specs.declared.program.Operator.TheVariants as operator
 
 -- ---- places
 
 -- after the last one nothing more comes
 pub each_done : {X A B : Type 0} (v : X → A) (f : A → Judgement (List B)) (before : List B) (xs : List X) (i : ℕ) (all : Judgement (List B)) → length xs ≤ i → put_behind before (for_each f (map v (drop i xs))) ≡ all → all ≡ gives before
-each_done {X} v f before xs i all past so_far =
-    sym so_far ∙ (ap (λ (ys : List X). put_behind before (for_each f (map v ys))) (drop_all i xs past) ∙ ap gives (append-nil before))
+each_done v f before xs i all past so_far = search (rules, drop_all, append-nil)
 
 -- ---- the value of a right side
 
 -- a value that was evaluated is put or added at each place
 pub value_there : (root : Node) (right : Judgement Node) (f : FoundPlace → Node → Judgement (List Changed)) (ps : List FoundPlace) (v : Node) → 0 < length ps → right ≡ gives v → with_value root right f ps ≡ at_each root (λ q. f q v) ps
-value_there root right f [] v some is = absurd (omega (arith, some))
-value_there root right f (p ∷ ps) v some is = ap (and_then (λ w. at_each root (λ q. f q w) (p ∷ ps))) is
+value_there root right f ps v some is = search rules
 
 -- a refusal of the right side is one of all
 pub value_fails : (root : Node) (right : Judgement Node) (f : FoundPlace → Node → Judgement (List Changed)) (ps : List FoundPlace) (e : ExprError) → 0 < length ps → MatchFails e right → MatchFails e (with_value root right f ps)
-value_fails root right f [] e some h = absurd (omega (arith, some))
-value_fails root right f (p ∷ ps) e some h = fails_then (λ w. at_each root (λ q. f q w) (p ∷ ps)) right e h
+value_fails root right f ps e some h = search rules
 
 module _ (doc : ℕ) (room : Room) (root : Node) (left : List Stage) (op : Operator) (right ts : List Term) (ps : List FoundPlace) where
   -- the sum of terms is put at each place
   pub modified : op ≡ operator.Modify → ts ≡ right → at_each root (λ p. and_then (put_with_path p) (right_value doc ts p)) ps ≡ changes_at doc room root (assign left op right) ps
-  modified is same =
-      ap (λ (us : List Term). at_each root (λ p. and_then (put_with_path p) (right_value doc us p)) ps) same
-      ∙ ap (λ (o : Operator). changes_at doc room root (assign left o right) ps) (sym is)
+  modified is same = search rules
 
 -- ---- documents
 
 -- the changes of one document before those of others
 put_one : {B : Type 0} (before : List B) (j : Judgement B) (k : Judgement (List B)) → put_behind before (and_then (λ first. and_then (λ others. gives (first ∷ others)) k) j) ≡ and_then (λ first. put_behind (before ++ first ∷ []) k) j
-put_one before (gives x) (gives xs) = ap gives (sym (append_assoc before (x ∷ []) xs))
-put_one before _ _ = refl
+put_one before j k = search (rules, append_assoc)
 
 module _ (u : Update) (rooms : ℕ → Room) where
   -- those from one document on, that one being known
@@ -55,14 +49,9 @@ module _ (u : Update) (rooms : ℕ → Room) where
   -- one document more
   pub document_more : (docs : List Document) (i : ℕ) (d : Document) (before after : List (List Changed)) (cs : List Changed) (all : Judgement (List (List Changed))) → drop i docs ≡ d ∷ drop (suc i) docs → after ≡ before ++ cs ∷ [] →
       changes_in u i (rooms i) d.root ≡ gives cs → put_behind before (changes_from u rooms i (roots_of (drop i docs))) ≡ all → put_behind after (changes_from u rooms (i + 1) (roots_of (drop (i + 1) docs))) ≡ all
-  document_more docs i d before after cs all at more h so_far =
-      ap (λ (css : List (List Changed)). put_behind css (changes_from u rooms (i + 1) (roots_of (drop (i + 1) docs)))) more
-      ∙ (ap (and_then (λ first. put_behind (before ++ first ∷ []) (changes_from u rooms (i + 1) (roots_of (drop (i + 1) docs))))) (sym h)
-      ∙ (sym (behind_document docs i d before at) ∙ so_far))
+  document_more docs i d before after cs all at more h so_far = search (rules, behind_document)
 
   -- a refusal of one document is one of all
   pub document_fails : (docs : List Document) (i : ℕ) (d : Document) (before : List (List Changed)) (all : Judgement (List (List Changed))) (e : ExprError) → drop i docs ≡ d ∷ drop (suc i) docs →
       MatchFails e (changes_in u i (rooms i) d.root) → put_behind before (changes_from u rooms i (roots_of (drop i docs))) ≡ all → MatchFails e all
-  document_fails docs i d before all e at h so_far =
-      subst (MatchFails e) (sym (behind_document docs i d before at) ∙ so_far)
-      (fails_then (λ first. put_behind (before ++ first ∷ []) (changes_from u rooms (i + 1) (roots_of (drop (i + 1) docs)))) (changes_in u i (rooms i) d.root) e h)
+  document_fails docs i d before all e at h so_far = search rules

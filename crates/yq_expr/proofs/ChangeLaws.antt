@@ -1,6 +1,6 @@
 -- Changes at a place: steps that are missing, and what is added.
-use Rattle.std.proofs.Common.{◌≡◌, ℕ, zero, suc, ◌-◌, ◌≤◌, Bool, cond, List, [], ◌∷◌, ◌++◌, length, map, take, drop, get_or, Some, None}
-use Rattle.std.{proofs.Common.{refl, sym, ap, ◌∙◌, arith}, specs.List.list_any, proofs.lemmas.List.{map_push, take_rest}}
+use Rattle.std.proofs.Common.{rules, ◌≡◌, ℕ, zero, suc, ◌-◌, ◌≤◌, Bool, cond, List, [], ◌∷◌, ◌++◌, length, map, take, drop, get_or, Some}
+use Rattle.std.{proofs.Common.{None, refl, sym, ap, ◌∙◌, arith}, specs.List.list_any, proofs.lemmas.List.{map_push, take_rest}}
 use Rattle.yq_core.specs.Tree.{Node, none, child, key_label}
 use Rattle.yq_semantics.{specs.Changes.{nested, created, put_below}, specs.Judgement.{gives, refuses}}
 use Rattle.yq_semantics.{specs.declared.refusal.Refusal.TheVariants.IndexOutOfRange, proofs.Lists.list_any_map}
@@ -40,7 +40,4 @@ split_first (y ∷ ys) x some is = ap (λ z. z ∷ ys) (sym is) ∙ ap (λ zs. x
 pub put_first : {X : Type 0} (f : X → PathStep) (n : Node) (xs : List X) (x : X) (v : Node) (b : Bool) → 1 ≤ length xs →
     x ≡ get_or xs 0 x → list_any (λ s. is_index (f s)) xs ≡ b →
     put_below n (map f xs) v ≡ cond b (refuses IndexOutOfRange) (gives (created n (f x) (map f (take (length xs - 1) (drop 1 xs))) v))
-put_first {X} f n xs x v b some is indexed =
-    ap (λ (ys : List X). put_below n (map f ys) v) (split_first xs x some is)
-    ∙ ap (λ c. cond c (refuses IndexOutOfRange) (gives (created n (f x) (map f (take (length xs - 1) (drop 1 xs))) v)))
-    (list_any_map is_index f (x ∷ take (length xs - 1) (drop 1 xs)) ∙ (ap (list_any (λ s. is_index (f s))) (sym (split_first xs x some is)) ∙ indexed))
+put_first f n xs x v b some is indexed = search (rules, split_first, list_any_map)

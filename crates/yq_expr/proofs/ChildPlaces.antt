@@ -1,16 +1,14 @@
 -- What is changed at the items or values of a node, one after the other.
-use Rattle.std.proofs.Common.{◌≡◌, ℕ, suc, ◌+◌, List, [], ◌∷◌, map, refl, sym, ap, ◌∙◌, add-one, append-nil, arith}
+use Rattle.std.proofs.Common.{rules, ◌≡◌, ℕ, suc, ◌+◌, List, [], ◌∷◌, map, refl, sym, ap, ◌∙◌, add-one, arith}
 use Rattle.yq_core.specs.Tree.{Label, Node, Children, none, child}
 use Rattle.yq_eval.{specs.PlaceView.put_behind, proofs.EachLaws.{each_more, each_fails}}
-use Rattle.yq_semantics.specs.Judgement.{MatchFails, Judgement, gives, refuses}
-use Rattle.yq_semantics.{specs.Places.{FoundPlace, child_place, for_each, step_by, stepped}, specs.declared.expr_error.ExprError.ExprError}
+use Rattle.yq_semantics.{specs.Judgement.{MatchFails, Judgement, gives}, specs.Places.{FoundPlace, child_place, for_each, step_by, stepped}}
+use Rattle.yq_semantics.specs.declared.expr_error.ExprError.{ExprError}
 
 -- the places of items or entries, the first one apart
 pub first_child : (p : FoundPlace) (b : ℕ) (cs rest : Children) (label : Label) (n : Node) → cs ≡ child label n rest →
     map (child_place p) (stepped b cs) ≡ child_place p (step_by b label.key, n) ∷ map (child_place p) (stepped (b + 1) rest)
-first_child p b cs rest label n is =
-    ap (λ (ds : Children). map (child_place p) (stepped b ds)) is
-    ∙ ap (λ (i : ℕ). child_place p (step_by b label.key, n) ∷ map (child_place p) (stepped i rest)) (sym (add-one b))
+first_child p b cs rest label n is = search rules
 
 module _ {B : Type 0} (f : FoundPlace → Judgement (List B)) (p : FoundPlace) (b : ℕ) (cs rest : Children) (label : Label) (n : Node) where
   -- one item or entry more
@@ -31,10 +29,8 @@ module _ {B : Type 0} (f : FoundPlace → Judgement (List B)) (p : FoundPlace) (
 -- after the last one nothing more comes
 pub children_done : {B : Type 0} (f : FoundPlace → Judgement (List B)) (p : FoundPlace) (b : ℕ) (cs : Children) (before : List B) (all : Judgement (List B)) → cs ≡ none →
     put_behind before (for_each f (map (child_place p) (stepped b cs))) ≡ all → all ≡ gives before
-children_done f p b cs before all is so_far =
-    sym so_far ∙ (ap (λ (ds : Children). put_behind before (for_each f (map (child_place p) (stepped b ds)))) is ∙ ap gives (append-nil before))
+children_done f p b cs before all is so_far = search rules
 
 -- after nothing comes what comes
 pub nothing_before : {B : Type 0} (j : Judgement (List B)) → put_behind [] j ≡ j
-nothing_before (gives x) = refl
-nothing_before (refuses why) = refl
+nothing_before j = search rules

@@ -1,23 +1,22 @@
 -- What an update of one node at a fixed path plans, and that no update brings an alias.
-use Rattle.std.proofs.Common.{not, ◌==◌, ◌≡◌, ℕ, zero, suc, cond, nat_lt, ◌+◌, ◌≤◌, pos, negsuc, Bool, true, false, List, [], ◌∷◌, ◌++◌}
+use Rattle.std.proofs.Common.{rules, not, ◌==◌, ◌≡◌, ℕ, zero, suc, cond, nat_lt, ◌+◌, ◌≤◌, pos, Bool, true, false, List, [], ◌∷◌, ◌++◌}
 use Rattle.std.proofs.Common.{length, map, slice_get, Option, Some, None, if◌then◌else◌, is_some, option_and_then, option_map, refl, sym}
 use Rattle.std.{proofs.Common.{ap, subst, ◌∙◌, arith, append-nil, append_assoc}, proofs.lemmas.Bool.false≢true}
 use Rattle.std.{proofs.lemmas.Bool.Decides.nat_tests, proofs.lemmas.Option.{none-some, same_Some}, proofs.lemmas.Simd.map-map}
 use Rattle.std.{specs.List.list_any, specs.Borrow.Bor, specs.Prelude.IfSome}
 use Rattle.yq_core.{specs.Scalar.ScalarText, specs.Entries.tree_step, specs.Anchors.names_of, specs.Answers.◌>>=◌}
 use Rattle.yq_core.{specs.Shapes.{AreEntries, AreItems, IsTree}, specs.Paths.{Step, To, Nth, child_at, is_item, key_is, node_at}}
-use Rattle.yq_core.specs.Tree.{Node, alias, scalar, list, Children, none, child, children_of}
+use Rattle.yq_core.specs.Tree.{Node, scalar, list, Children, none, child, children_of}
 use Rattle.yq_semantics.{specs.View.{stage_of, term_of, program_step}, specs.declared.program.CommentPlace.CommentPlace}
 use Rattle.yq_semantics.specs.Judgement.{Judgement, and_then, gives, refuses}
-use Rattle.yq_semantics.specs.Changes.{replaces, removes, sets_comment, Changed, Room, allowed, all_allowed, at_each, changes_at}
-use Rattle.yq_semantics.specs.Changes.{changes_in, can_be_comment, has_comment, is_too_deep, is_too_long, is_used_in, is_used_inside}
-use Rattle.yq_semantics.{specs.Changes.{put_with_path, remove_at, comment_at, takes_used, update_changes}, specs.Fits.IsBelow}
-use Rattle.yq_semantics.{specs.Meaning.{AreReady, all_changed, changed_at_once, meaning, placed_edit}, specs.NodeEdits.done_by}
-use Rattle.yq_semantics.{specs.Operations.Operation, specs.Pipes.{places, stage_on}, specs.Plans.{all_ops, comment_op, is_removal, plan}}
-use Rattle.yq_semantics.specs.Places.{FoundPlace, chained, for_each, found_place, step_on, step_there, traverse}
-use Rattle.yq_semantics.specs.Program.{PathStep, key, index, each, Stage, path, literal, Update, UpdatesHold, assign, delete, comment}
-use Rattle.yq_semantics.specs.Rooms.{room_of}
-use Rattle.yq_semantics.specs.declared.refusal.Refusal.TheVariants.{AnchorInUse, BadCommentText, KeyTooLong, NoPlaceForComment, TooDeep}
+use Rattle.yq_semantics.specs.Changes.{replaces, Changed, Room, allowed, at_each, changes_at, changes_in, can_be_comment, has_comment}
+use Rattle.yq_semantics.specs.Changes.{is_too_deep, is_too_long, is_used_in, is_used_inside, put_with_path, takes_used, update_changes}
+use Rattle.yq_semantics.{specs.Fits.IsBelow, specs.Meaning.{AreReady, all_changed, changed_at_once, meaning, placed_edit}}
+use Rattle.yq_semantics.{specs.NodeEdits.done_by, specs.Operations.Operation, specs.Pipes.places}
+use Rattle.yq_semantics.specs.Plans.{all_ops, comment_op, is_removal, plan}
+use Rattle.yq_semantics.specs.Places.{FoundPlace, chained, for_each, step_on, step_there, traverse}
+use Rattle.yq_semantics.specs.Program.{PathStep, key, index, Stage, path, literal, Update, UpdatesHold, assign, delete, comment}
+use Rattle.yq_semantics.{specs.Rooms.room_of, specs.declared.refusal.Refusal.TheVariants.BadCommentText}
 use Rattle.yq_semantics.{proofs.ChildPlaces.{child_tree, children_tree}, proofs.JudgementLaws.{gives_same, then_gives}}
 use Rattle.yq_semantics.{proofs.RoomLaws.rooms_are_ready, proofs.updates.Aliases.{AllWriteNone, WritesNone, all_bring, at_once_no_more}}
 use Rattle.yq_semantics.{proofs.updates.Each.each_weaker, proofs.updates.FitChanges.update_fit, proofs.updates.FitsInOrder.MayChange}
@@ -54,26 +53,13 @@ no_item zero (child label n cs) h = ap (λ (o : Option (List ℕ)). cond (is_ite
 no_item (suc i) (child label n cs) h = no_item i cs h.1
 
 key_there : (j : List ℕ) (y : List Step) (m k : Node) → IsTree m → child_at (To j) (children_of m) ≡ Some k → step_there (key j) (there y m) ≡ gives (there (y ++ To j ∷ []) k ∷ [])
-key_there j y (alias name) k tree at = absurd (none-some _ at)
-key_there j y (scalar anchor kind text) k tree at = absurd (none-some _ at)
-key_there j y (list anchor cs) k tree at = absurd (none-some _ (sym (no_key j cs tree.0) ∙ at))
-key_there j y (trees.map anchor cs) k tree at = ap (λ (o : Option Node). gives (found_place (key j) (there y (trees.map anchor cs)) (option_map (λ n. (To j, n)) o))) at
+key_there j y m k tree at = search (rules, none-some, no_key)
 
 item_there : (i : ℕ) (y : List Step) (m k : Node) → IsTree m → child_at (Nth i) (children_of m) ≡ Some k → step_there (index (pos i)) (there y m) ≡ gives (there (y ++ Nth i ∷ []) k ∷ [])
-item_there i y (alias name) k tree at = absurd (none-some _ at)
-item_there i y (scalar anchor kind text) k tree at = absurd (none-some _ at)
-item_there i y (list anchor cs) k tree at = ap (λ (o : Option Node). gives (found_place (index (pos i)) (there y (list anchor cs)) (option_map (λ n. (Nth i, n)) o))) at
-item_there i y (trees.map anchor cs) k tree at = absurd (none-some _ (sym (no_item i cs tree.0) ∙ at))
+item_there i y m k tree at = search (rules, none-some, no_item)
 
 fixed_there : (s : PathStep) (x : Step) (y : List Step) (m k : Node) → fixed_step s ≡ Some x → IsTree m → child_at x (children_of m) ≡ Some k → step_there s (there y m) ≡ gives (there (y ++ x ∷ []) k ∷ [])
-fixed_there (key j) x y m k is tree at =
-    let same : To j ≡ x = same_Some _ _ is in
-    subst (λ (z : Step). step_there (key j) (there y m) ≡ gives (there (y ++ z ∷ []) k ∷ [])) same (key_there j y m k tree (subst (λ (z : Step). child_at z (children_of m) ≡ Some k) (sym same) at))
-fixed_there (index (pos i)) x y m k is tree at =
-    let same : Nth i ≡ x = same_Some _ _ is in
-    subst (λ (z : Step). step_there (index (pos i)) (there y m) ≡ gives (there (y ++ z ∷ []) k ∷ [])) same (item_there i y m k tree (subst (λ (z : Step). child_at z (children_of m) ≡ Some k) (sym same) at))
-fixed_there (index (negsuc i)) x y m k is tree at = absurd (none-some _ is)
-fixed_there each x y m k is tree at = absurd (none-some _ is)
+fixed_there s x y m k is tree at = search (rules, same_Some, key_there, item_there, none-some)
 
 -- the child on a path to a node
 on_way : (x : Step) (xs : List Step) (m n : Node) → node_at (x ∷ xs) m ≡ Some n → (k : Node) × (child_at x (children_of m) ≡ Some k) × (node_at xs k ≡ Some n)
@@ -98,29 +84,21 @@ walked (s ∷ ss) (x ∷ xs) y m n tree same at =
 
 -- where a pipe leads that is one fixed path
 pub place_found : (pipe : List Stage) (xs : List Step) (root n : Node) → IsTree root → IsFixed pipe xs → node_at xs root ≡ Some n → places 0 pipe root ≡ gives (there xs n ∷ [])
-place_found pipe xs root n tree h at =
-    ap (λ (p : List Stage). places 0 p root) h.is ∙ ap (and_then (chained (stage_on 0) [])) (walked h.own xs [] root n tree h.fixed at)
+place_found pipe xs root n tree h at = search (rules, walked)
 
 -- ---- one change
 
 -- a change that nothing refuses
 allowed_so : (root : Node) (c : Changed) → is_too_long c.1 ≡ false → is_too_deep (length c.0) c.1 ≡ false → takes_used root c.0 c.1 ≡ false → allowed root c ≡ gives c
-allowed_so root c short near free =
-    ap (λ (b : Bool). if b then refuses KeyTooLong else (if is_too_deep (length c.0) c.1 then refuses TooDeep else (if takes_used root c.0 c.1 then refuses AnchorInUse else gives c))) short
-    ∙ (ap (λ (b : Bool). if b then refuses TooDeep else (if takes_used root c.0 c.1 then refuses AnchorInUse else gives c)) near
-    ∙ ap (λ (b : Bool). if b then refuses AnchorInUse else gives c) free)
+allowed_so root c short near free = search rules
 
 -- the one change at a place
 at_one : (root : Node) (f : FoundPlace → Judgement (List Changed)) (p : FoundPlace) (c : Changed) → f p ≡ gives (c ∷ []) → allowed root c ≡ gives c → at_each root f (p ∷ []) ≡ gives (c ∷ [])
-at_one root f p c is free =
-    ap (λ (j : Judgement (List Changed)). and_then (λ a. and_then (λ b. gives (a ++ b)) (gives [])) (and_then (all_allowed root) j)) is
-    ∙ ap (λ (j : Judgement Changed). and_then (λ a. and_then (λ b. gives (a ++ b)) (gives [])) (and_then (λ a. and_then (λ b. gives (a ++ b)) (gives [])) (and_then (λ d. gives (d ∷ [])) j))) free
+at_one root f p c is free = search rules
 
 -- the plan of one change in one document
 plan_one : (u : Update) (rooms : ℕ → Room) (d : Document) (c : Changed) → has_comment u ≡ true → changes_in u 0 (rooms 0) d.root ≡ gives (c ∷ []) → plan u rooms (d ∷ []) ≡ gives (all_ops (is_removal u) 0 ((c ∷ []) ∷ []))
-plan_one u rooms d c can is =
-    ap (λ (t : Bool). and_then (λ css. gives (all_ops (is_removal u) 0 css)) (if t then and_then (λ a. and_then (λ b. gives (a ∷ b)) (gives [])) (changes_in u 0 (rooms 0) d.root) else refuses BadCommentText)) can
-    ∙ ap (λ (j : Judgement (List Changed)). and_then (λ css. gives (all_ops (is_removal u) 0 css)) (and_then (λ a. and_then (λ b. gives (a ∷ b)) (gives [])) j)) is
+plan_one u rooms d c can is = search rules
 
 -- ---- what an update of one node plans
 
@@ -144,24 +122,11 @@ module _ (rooms : ℕ → Room) (d : Document) (tree : IsTree d.root) (free : (n
       plan_one u rooms d (xs, replaces v) refl one
 
   removal_planned : (left : List Stage) (xs : List Step) (n : Node) → IsBelow xs → IsFixed left xs → node_at xs d.root ≡ Some n → plan (delete left) rooms (d ∷ []) ≡ gives (operations.remove 0 xs ∷ [])
-  removal_planned left [] n below fixed at = absurd below
-  removal_planned left (x ∷ xs) n below fixed at =
-      let taken : takes_used d.root (x ∷ xs) removes ≡ false = ap (λ (o : Option Node). is_used_in (names_of d.root) o) at ∙ free n in
-      let one : changes_in (delete left) 0 (rooms 0) d.root ≡ gives ((x ∷ xs, removes) ∷ []) =
-      ap (and_then (changes_at 0 (rooms 0) d.root (delete left))) (place_found left (x ∷ xs) d.root n tree fixed at)
-      ∙ at_one d.root remove_at (there (x ∷ xs) n) (x ∷ xs, removes) refl (allowed_so d.root (x ∷ xs, removes) refl refl taken) in
-      plan_one (delete left) rooms d (x ∷ xs, removes) refl one
+  removal_planned left xs n below fixed at = search (rules, place_found, at_one, allowed_so, plan_one)
 
   comment_planned : (left : List Stage) (xs : List Step) (n : Node) (place : CommentPlace) (text : List ℕ) → can_be_comment place text ≡ true → IsFixed left xs →
       node_at xs d.root ≡ Some n → (rooms 0).has place xs ≡ true → plan (comment left place text) rooms (d ∷ []) ≡ gives (comment_op 0 xs place text ∷ [])
-  comment_planned left xs n place text can fixed at room =
-      let u : Update = comment left place text in
-      let here : comment_at (rooms 0) place text (there xs n) ≡ gives ((xs, sets_comment place text) ∷ []) =
-      ap (λ (b : Bool). if b then gives ((xs, sets_comment place text) ∷ []) else refuses NoPlaceForComment) room in
-      let one : changes_in u 0 (rooms 0) d.root ≡ gives ((xs, sets_comment place text) ∷ []) =
-      ap (and_then (changes_at 0 (rooms 0) d.root u)) (place_found left xs d.root n tree fixed at)
-      ∙ at_one d.root (comment_at (rooms 0) place text) (there xs n) (xs, sets_comment place text) here (allowed_so d.root (xs, sets_comment place text) refl refl refl) in
-      plan_one u rooms d (xs, sets_comment place text) can one
+  comment_planned left xs n place text can fixed at room = search (rules, place_found, at_one, allowed_so, plan_one)
 
   -- an update of one node at a fixed path that is there plans its operation
   pub fixed_plans : (u : Update) (op : Operation) → IsFixedOp u op → FindsNode rooms (d ∷ []) op → plan u rooms (d ∷ []) ≡ gives (op ∷ [])
@@ -216,8 +181,7 @@ sole_of docs d is unreferred = record { document = d; is = is; free = λ n. none
 
 -- what was chosen
 chosen_so : {A : Type 0} (b : Bool) (j : Judgement A) (x : A) → (if b then j else refuses BadCommentText) ≡ gives x → (b ≡ true) × (j ≡ gives x)
-chosen_so true j x h = (refl, h)
-chosen_so false j x h = absurd (cc)
+chosen_so b j x h = search rules
 
 -- an update brings no alias into the one document
 pub sole_stays : (u : Update) (rooms : ℕ → Room) (docs after : List Document) → AreReady rooms 0 docs → UpdatesHold (u ∷ []) → meaning u rooms docs ≡ gives after → IsSole docs → IsSole after
@@ -248,14 +212,11 @@ sole_by (d ∷ (e ∷ ds)) one all = absurd (omega (arith, one))
 
 -- what isn't so
 pub not_so : (b : Bool) → not b ≡ true → b ≡ false
-not_so true h = absurd (false≢true h)
-not_so false h = refl
+not_so b h = search rules
 
 -- of two things of which the same is known, one is there where the other is
 both_there : {A B C : Type 0} (f : A → C) (g : B → C) (a : Option A) (b : Option B) → option_map f a ≡ option_map g b → is_some a ≡ true → is_some b ≡ true
-both_there f g None b e h = absurd (false≢true h)
-both_there f g (Some x) None e h = absurd (none-some _ (sym e))
-both_there f g (Some x) (Some y) e h = refl
+both_there f g a b e h = search rules
 
 -- a node of which something is known in a text
 pub leads_so : {A : Type 0} (f : A → NodeAt) (o : Option A) (t u : List ℕ) (doc : ℕ) (xs ys : List Step) → u ≡ t → ys ≡ xs → option_map f o ≡ option_map node_summary (node_in doc ys (cut_of u)) → is_some o ≡ true →
@@ -276,9 +237,7 @@ some_below (x ∷ xs) b is none_there = tt
 -- an update that sets a comment at a fixed path
 pub comments_one : (u : Update) (left own : List Stage) (doc : ℕ) (steps : List Step) (place given : CommentPlace) (text written : List ℕ) → u ≡ comment own given text → given ≡ place → written ≡ text → doc ≡ 0 →
     IsFixed left steps → left ≡ own → has_comment u ≡ true → CommentsOne u doc steps place written
-comments_one u left own doc steps place given text written is put same first fixed_left mine can =
-    let all : u ≡ comment own place written = is ∙ (λ i. comment own (put i) (sym same i)) in
-    record { left = own; is = all; first = first; fixed = subst (λ (l : List Stage). IsFixed l steps) mine fixed_left; can = sym (ap has_comment all) ∙ can }
+comments_one u left own doc steps place given text written is put same first fixed_left mine can = search rules
 
 -- what is so of the steps, or of the scalar, that are there
 pub alone_by : (pipe : List declared_stage.Stage) (o : Option (Bor (List declared_step.PathStep))) (x : Bor (List declared_step.PathStep)) → o ≡ Some x →

@@ -1,14 +1,14 @@
 -- A value under more missing keys than collections may be nested is refused, whatever it is.
-use Rattle.std.proofs.Common.{◌≡◌, ℕ, suc, ◌+◌, ◌<◌, nat_lt, Bool, true, false, cond, ◌||◌, List, [], ◌∷◌, ◌++◌, length, map, IsTrue, IfErr}
-use Rattle.std.{proofs.Common.{Result, Ok, Err, refl, sym, ap, ◌∙◌, arith, rules, if◌then◌else◌}, specs.List.{list_all, list_any}}
+use Rattle.std.proofs.Common.{◌≡◌, ℕ, ◌+◌, ◌<◌, nat_lt, Bool, true, false, cond, ◌||◌, List, [], ◌∷◌, ◌++◌, length, map, IsTrue, IfErr}
+use Rattle.std.{proofs.Common.{Result, refl, sym, ap, ◌∙◌, arith, rules, if◌then◌else◌}, specs.List.{list_all, list_any}}
 use Rattle.std.{proofs.lemmas.Bool.Decides.nat_tests, proofs.lemmas.List.length-map}
-use Rattle.yq_core.{specs.Inline.depth_limit, specs.Keys.depth, specs.Paths.Step, specs.Tree.{Node, alias, scalar, list}}
+use Rattle.yq_core.{specs.Inline.depth_limit, specs.Keys.depth, specs.Paths.Step, specs.Tree.Node}
 use Rattle.yq_expr.specs.ManyKeys.{AreManyKeys, is_key_step, is_long_step}
-use Rattle.yq_semantics.specs.Changes.{Change, Changed, add_at, add_below, all_allowed, created, has_long_key, is_too_deep, is_too_long}
-use Rattle.yq_semantics.{specs.Changes.{nested, put_below, put_with_path, takes_used}, proofs.Lists.{list_all_map, list_any_map}}
-use Rattle.yq_semantics.{specs.RightValues.is_null, specs.Judgement.{Judgement, and_then, gives, refuses}, specs.Places.FoundPlace}
+use Rattle.yq_semantics.specs.Changes.{Change, add_at, all_allowed, created, has_long_key, is_too_deep, is_too_long, nested, put_below}
+use Rattle.yq_semantics.{specs.Changes.put_with_path, proofs.Lists.{list_all_map, list_any_map}, specs.RightValues.is_null}
+use Rattle.yq_semantics.{specs.Judgement.{Judgement, and_then, gives, refuses}, specs.Places.FoundPlace}
 use Rattle.yq_semantics.{specs.Program.{PathStep, key, index, each, is_index}, specs.declared.expr_error.ExprError.ExprError}
-use Rattle.yq_semantics.specs.declared.refusal.Refusal.TheVariants.{IndexOutOfRange, KeyTooLong, TooDeep, AnchorInUse}
+use Rattle.yq_semantics.specs.declared.refusal.Refusal.TheVariants.{KeyTooLong, TooDeep}
 use Rattle.yq_core.specs.Tree as tree
 
 lt_true : (a b : ℕ) → a < b → nat_lt a b ≡ true
@@ -29,16 +29,10 @@ none_indexed (index i ∷ ms) keys = search (rules, keys)
 none_indexed (each ∷ ms) keys = search (rules, keys)
 
 or_again : (a l h b : Bool) → b ≡ (l || h) → (a || (b || false)) ≡ ((a || l) || h)
-or_again true l h b is = refl
-or_again false true h b is = ap (λ c. c || false) is
-or_again false false true b is = ap (λ c. c || false) is
-or_again false false false b is = ap (λ c. c || false) is
+or_again a l h b is = search rules
 
 or_last : (a l h b : Bool) → b ≡ (l || h) → ((a || b) || false) ≡ ((a || l) || h)
-or_last true l h b is = refl
-or_last false true h b is = ap (λ c. c || false) is
-or_last false false true b is = ap (λ c. c || false) is
-or_last false false false b is = ap (λ c. c || false) is
+or_last a l h b is = search rules
 
 -- a key is too long among those, or in the value
 nested_long : (ms : List PathStep) (v : Node) → list_all is_key_step ms ≡ true → has_long_key (nested ms v) ≡ (list_any is_long_step ms || has_long_key v)
@@ -50,58 +44,25 @@ nested_long (each ∷ ms) v keys = search (rules, keys)
 -- the same of what is made of them, below any node
 made_long : (n : Node) (m : PathStep) (ms : List PathStep) (v : Node) → list_all is_key_step (m ∷ ms) ≡ true →
     is_too_long (created n m ms v) ≡ (list_any is_long_step (m ∷ ms) || has_long_key v)
-made_long (tree.map anchor cs) (key k) ms v keys = or_last (is_long_step (key k)) (list_any is_long_step ms) (has_long_key v) (has_long_key (nested ms v)) (nested_long ms v keys)
-made_long (tree.map anchor cs) (index i) ms v keys = search (rules, keys)
-made_long (tree.map anchor cs) each ms v keys = search (rules, keys)
-made_long (alias name) m ms v keys = nested_long (m ∷ ms) v keys
-made_long (scalar anchor kind text) m ms v keys = nested_long (m ∷ ms) v keys
-made_long (list anchor cs) m ms v keys = nested_long (m ∷ ms) v keys
+made_long n m ms v keys = search (rules, or_last, nested_long)
 
 or_true : (b : Bool) → b ≡ true → (b || false) ≡ true
 or_true b is = ap (λ c. c || false) is
 
 deep_alone : (outer : ℕ) (ms : List PathStep) (v : Node) → AreManyKeys ms → nat_lt depth_limit (outer + depth (nested ms v)) ≡ true
-deep_alone outer ms v many =
-    let below = nested_depth ms v many.keys in
-    let long = many.many in
-    lt_true depth_limit (outer + depth (nested ms v)) (omega (arith, below, long))
+deep_alone outer ms v many = search (rules, nested_depth, lt_true)
 
 -- what is made of so many is too deep, below any node and wherever it is
 made_deep : (outer : ℕ) (n : Node) (m : PathStep) (ms : List PathStep) (v : Node) → AreManyKeys (m ∷ ms) → is_too_deep outer (created n m ms v) ≡ true
-made_deep outer (tree.map anchor cs) (key k) ms v many =
-    let below = nested_depth ms v many.keys in
-    let long = many.many in
-    or_true _ (lt_true depth_limit (suc outer + depth (nested ms v)) (omega (arith, below, long)))
-made_deep outer (tree.map anchor cs) (index i) ms v many = let keys = many.keys in search (rules, keys)
-made_deep outer (tree.map anchor cs) each ms v many = let keys = many.keys in search (rules, keys)
-made_deep outer (alias name) m ms v many = deep_alone outer (m ∷ ms) v many
-made_deep outer (scalar anchor kind text) m ms v many = deep_alone outer (m ∷ ms) v many
-made_deep outer (list anchor cs) m ms v many = deep_alone outer (m ∷ ms) v many
-
--- why a change is refused that is too deep, and has too long a key or not
-deep_change : (root : Node) (c : Changed) (long : Bool) → is_too_long c.1 ≡ long → is_too_deep (length c.0) c.1 ≡ true →
-    all_allowed root (c ∷ []) ≡ refuses (cond long KeyTooLong TooDeep)
-deep_change root c long is deep =
-    let rest : Judgement Changed = if takes_used root c.0 c.1 then refuses AnchorInUse else gives c in
-    let f : Bool → Bool → Judgement (List Changed) = λ l d.
-    and_then (λ first. and_then (λ others. gives (first ++ others)) (gives [])) (and_then (λ e. gives (e ∷ [])) (if l then refuses KeyTooLong else (if d then refuses TooDeep else rest))) in
-    ap (λ l. f l (is_too_deep (length c.0) c.1)) is ∙ (ap (f long) deep ∙ last long)
-  where
-    last : (l : Bool) → and_then (λ (first : List Changed). and_then (λ others. gives (first ++ others)) (gives [])) (and_then (λ (e : Changed). gives (e ∷ [])) (if l then refuses KeyTooLong else refuses TooDeep)) ≡ refuses (cond l KeyTooLong TooDeep)
-    last true = refl
-    last false = refl
+made_deep outer n m ms v many = search (rules, nested_depth, or_true, lt_true, deep_alone)
 
 -- why a value isn't put under so many keys, below any node
 pub deep_put : (root n : Node) (x : List Step) (ms : List PathStep) (v : Node) → AreManyKeys ms →
     and_then (λ c. all_allowed root ((x, c) ∷ [])) (put_below n ms v) ≡ refuses (cond (list_any is_long_step ms || has_long_key v) KeyTooLong TooDeep)
-deep_put root n x [] v many = let long = many.many in absurd (omega (arith, long))
-deep_put root n x (m ∷ ms) v many =
-    ap (λ b. and_then (λ c. all_allowed root ((x, c) ∷ [])) (if b then refuses IndexOutOfRange else gives (created n m ms v))) (none_indexed (m ∷ ms) many.keys)
-    ∙ deep_change root (x, created n m ms v) (list_any is_long_step (m ∷ ms) || has_long_key v) (made_long n m ms v many.keys) (made_deep (length x) n m ms v many)
+deep_put root n x ms v many = search (rules, none_indexed, made_long, made_deep)
 
 with_path : (root : Node) (x : List Step) (j : Judgement Change) → and_then (all_allowed root) (and_then (λ c. gives ((x, c) ∷ [])) j) ≡ and_then (λ c. all_allowed root ((x, c) ∷ [])) j
-with_path root x (gives c) = refl
-with_path root x (refuses why) = refl
+with_path root x j = search rules
 
 -- the same with its path
 pub deep_at : (root : Node) (p : FoundPlace) (v : Node) → and_then (all_allowed root) (put_with_path p v) ≡ and_then (λ c. all_allowed root ((p.path, c) ∷ [])) (put_below p.node p.missing v)
@@ -109,11 +70,7 @@ deep_at root p v = with_path root p.path (put_below p.node p.missing v)
 
 -- steps as they are seen
 pub many_keys : {X : Type 0} (f : X → PathStep) (xs : List X) (b : Bool) → depth_limit < length xs → b ≡ list_all (λ x. is_key_step (f x)) xs → IsTrue b → AreManyKeys (map f xs)
-many_keys f xs true long is h = record {
-  many = let same = length-map xs f in omega (arith, same, long);
-  keys = list_all_map is_key_step f xs ∙ sym is;
-}
-many_keys f xs false long is h = search (rules, h)
+many_keys f xs b long is h = search (rules, length-map, list_all_map)
 
 -- why a value isn't put under so many of them at a place
 pub deep_refusal : {X : Type 0} (f : X → PathStep) (xs : List X) (p : FoundPlace) (v : Node) (long : Bool) → AreManyKeys (map f xs) → map f xs ≡ p.missing →
@@ -126,11 +83,8 @@ deep_refusal f xs p v long many same is root =
 
 -- the same of a value that is added, where keys are missing
 pub deep_added : (ms : List PathStep) (p : FoundPlace) (v : Node) → AreManyKeys ms → ms ≡ p.missing → is_null v ≡ false → add_at p v ≡ put_with_path p v
-deep_added [] p v many same null = let long = many.many in absurd (omega (arith, long))
-deep_added (m ∷ ms) p v many same null =
-    ap (λ b. if b then gives [] else add_below p.missing p v) null ∙ ap (λ (ns : List PathStep). add_below ns p v) (sym same)
+deep_added ms p v many same null = search rules
 
 -- what an error says, said of it otherwise
 pub each_refusal : {T : Type 0} {P Q : ExprError → Type 0} (r : Result T ExprError) → ((e : ExprError) → P e → Q e) → IfErr r P → IfErr r Q
-each_refusal (Ok v) f h = tt
-each_refusal (Err e) f h = f e h
+each_refusal r f h = search rules

@@ -1,6 +1,6 @@
 -- A plan that is made part by part.
-use Rattle.std.proofs.Common.{◌≡◌, ℕ, zero, suc, ◌+◌, ◌<◌, ◌≤◌, ◌-◌, false, if◌then◌else◌, List, [], ◌∷◌, ◌++◌, length, take, drop, Some}
-use Rattle.std.proofs.Common.{None, refl, sym, ap, ◌∙◌, append_assoc, append-nil, add-one, arith, subst}
+use Rattle.std.proofs.Common.{rules, ◌≡◌, ℕ, zero, suc, ◌+◌, ◌<◌, ◌≤◌, ◌-◌, false, if◌then◌else◌, List, [], ◌∷◌, ◌++◌, length, take, drop}
+use Rattle.std.proofs.Common.{Some, None, refl, sym, ap, ◌∙◌, append_assoc, append-nil, add-one, arith, subst}
 use Rattle.std.proofs.lemmas.List.{drop-drop, drop-map, drop_all, length-drop, take-append-drop, take-map, take_rest}
 use Rattle.yq_core.specs.Tree.{Node}
 use Rattle.yq_documents.specs.Documents.{Document}
@@ -11,8 +11,7 @@ use Rattle.yq_semantics.{specs.Operations.Operation, specs.Pipes.places, specs.P
 use Rattle.yq_semantics.{specs.Plans.{all_ops, change_ops, ops_of, plan}, specs.PlacesApart.AreIn}
 use Rattle.yq_semantics.{specs.Program.{Update, assign, comment, delete}, specs.declared.refusal.Refusal.TheVariants.BadCommentText}
 use Rattle.yq_semantics.{specs.RightValues.right_value, specs.declared.expr_error.ExprError.ExprError}
-use Rattle.yq_eval.{specs.PlaceView.{place_of, places_of, put_behind}, specs.TreeScalars.HaveScalars}
-use Rattle.yq_eval.proofs.EachLaws.{fails_then, put_both}
+use Rattle.yq_eval.{specs.PlaceView.{places_of, put_behind}, specs.TreeScalars.HaveScalars, proofs.EachLaws.{fails_then, put_both}}
 use Rattle.yq_expr.specs.Parts.{IsInOrder, IsPlanPart, document_ops, ops_from, rest_ops}
 use Rattle.yq_eval.specs.declared.matching.place.FoundPlace as declared
 use Rattle.yq_semantics.specs.declared.program.Operator.TheVariants as operator
@@ -57,21 +56,15 @@ some_left n xs h = let is = ap length (take_rest xs n) ∙ length-drop n xs in o
 
 -- some places that the code has stand for some of those for which it has them
 pub some_are : (m n : ℕ) (xs ys : List declared.FoundPlace) → ys ≡ xs → places_of (take m (drop n ys)) ≡ take m (drop n (places_of xs))
-some_are m n xs ys same =
-    ap (λ (zs : List declared.FoundPlace). places_of (take m (drop n zs))) same
-    ∙ (sym (take-map place_of m (drop n xs)) ∙ ap (take m) (sym (drop-map place_of n xs)))
+some_are m n xs ys same = search (rules, take-map, drop-map)
 
 -- ---- what is changed at some places and at the others
 
 both_assoc : {A : Type 0} (a b c : Judgement (List A)) → both a (both b c) ≡ both (both a b) c
-both_assoc (gives x) (gives y) (gives z) = ap gives (sym (append_assoc x y z))
-both_assoc (gives x) (gives y) (refuses why) = refl
-both_assoc (gives x) (refuses why) c = refl
-both_assoc (refuses why) b c = refl
+both_assoc a b c = search (rules, append_assoc)
 
 both_none : {A : Type 0} (j : Judgement (List A)) → both (gives []) j ≡ j
-both_none (gives x) = refl
-both_none (refuses why) = refl
+both_none j = search rules
 
 each_both : {A B : Type 0} (f : A → Judgement (List B)) (xs ys : List A) → for_each f (xs ++ ys) ≡ both (for_each f xs) (for_each f ys)
 each_both f [] ys = sym (both_none (for_each f ys))
@@ -95,11 +88,7 @@ changes_both doc room root (delete left) ps qs = each_both (λ p. and_then (all_
 changes_both doc room root (comment left place text) ps qs = each_both (λ p. and_then (all_allowed root) (comment_at room place text p)) ps qs
 
 pub changes_none : (doc : ℕ) (room : Room) (root : Node) (u : Update) → changes_at doc room root u [] ≡ gives []
-changes_none doc room root (assign left operator.Set right) = refl
-changes_none doc room root (assign left operator.Modify right) = refl
-changes_none doc room root (assign left operator.Add right) = refl
-changes_none doc room root (delete left) = refl
-changes_none doc room root (comment left place text) = refl
+changes_none doc room root u = search rules
 
 -- ---- the operations of a part
 
@@ -110,8 +99,7 @@ ops_join doc (c ∷ cs) ds = ap (λ ops. change_ops doc c ++ ops) (ops_join doc 
 -- those of changes after others
 ops_behind : (doc : ℕ) (before : List Operation) (cs : List Changed) (j : Judgement (List Changed)) →
     put_behind before (and_then (λ xs. gives (ops_of doc xs)) (both (gives cs) j)) ≡ put_behind (before ++ ops_of doc cs) (and_then (λ xs. gives (ops_of doc xs)) j)
-ops_behind doc before cs (gives ds) = ap (λ ops. gives (before ++ ops)) (ops_join doc cs ds) ∙ ap gives (sym (append_assoc before (ops_of doc cs) (ops_of doc ds)))
-ops_behind doc before cs (refuses why) = refl
+ops_behind doc before cs j = search (rules, ops_join, append_assoc)
 
 split_places : (place to : ℕ) (ps : List FoundPlace) → place ≤ to → drop place ps ≡ take (to - place) (drop place ps) ++ drop to ps
 split_places place to ps h =
@@ -125,10 +113,7 @@ module _ (u : Update) (doc : ℕ) (room : Room) (root : Node) (ps : List FoundPl
 
   -- from the end of the places on nothing is left
   none_left : (place : ℕ) → length ps ≤ place → document_ops u doc room root place ≡ gives []
-  none_left place past =
-      ops_there place
-      ∙ (ap (λ (qs : List FoundPlace). and_then (λ cs. gives (ops_of doc cs)) (changes_at doc room root u qs)) (drop_all place ps past)
-      ∙ ap (and_then (λ cs. gives (ops_of doc cs))) (changes_none doc room root u))
+  none_left place past = search (rules, ops_there, drop_all, changes_none)
 
   pub none_part : (before after : List Operation) (place : ℕ) → length ps ≤ place → after ≡ before → IsPlanPart (document_ops u doc room root) place before after None
   none_part before after place past same = ap (put_behind before) (none_left place past) ∙ ap gives (append-nil before ∙ sym same)
@@ -173,24 +158,15 @@ module _ (u : Update) (rooms : ℕ → Room) (docs : List Document) (doc : ℕ) 
 
   -- after a document the next one comes
   pub next_document : (place : ℕ) (before after : List Operation) → IsPlanPart here place before after None → put_behind before (rest_ops u rooms docs doc place) ≡ put_behind after (rest_ops u rooms docs (doc + 1) 0)
-  next_document place before after h =
-      ap (put_behind before) (rest_there place)
-      ∙ (put_both before (here place) later
-      ∙ (ap (and_then (λ ys. put_behind ys later)) h ∙ ap (λ (n : ℕ). put_behind after (rest_ops u rooms docs n 0)) (sym (add-one doc))))
+  next_document place before after h = search (rules, rest_there, put_both, add-one)
 
   -- in a document there is more
   pub same_document : (place next : ℕ) (before after : List Operation) → IsPlanPart here place before after (Some next) → put_behind before (rest_ops u rooms docs doc place) ≡ put_behind after (rest_ops u rooms docs doc next)
-  same_document place next before after h =
-      ap (put_behind before) (rest_there place)
-      ∙ (put_both before (here place) later
-      ∙ (ap (and_then (λ ys. put_behind ys later)) h.1
-      ∙ (sym (put_both after (here next) later) ∙ ap (put_behind after) (sym (rest_there next)))))
+  same_document place next before after h = search (rules, rest_there, put_both)
 
   -- a refusal in a document is one of all
   pub document_fails : (place : ℕ) (before : List Operation) (all : Judgement (List Operation)) (e : ExprError) → MatchFails e (here place) → put_behind before (rest_ops u rooms docs doc place) ≡ all → MatchFails e all
-  document_fails place before all e h so_far =
-      subst (MatchFails e) (ap (put_behind before) (sym (rest_there place)) ∙ so_far)
-      (fails_then (λ xs. gives (before ++ xs)) (both (here place) later) e (fails_then (λ xs. and_then (λ ys. gives (xs ++ ys)) later) (here place) e h))
+  document_fails place before all e h so_far = search rules
 
 -- ---- the whole plan
 

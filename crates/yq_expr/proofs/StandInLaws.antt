@@ -3,8 +3,7 @@ use Rattle.std.proofs.Common.{◌≡◌, ℕ, suc, ◌+◌, ◌<◌, ◌≤◌, 
 use Rattle.std.proofs.Common.{if◌then◌else◌, refl, sym, ap, ◌∙◌, arith, rules, Option, Some, None, is_some}
 use Rattle.std.{proofs.lemmas.Bool.Decides.nat_tests, specs.List.list_any}
 use Rattle.yq_core.{specs.Inline.depth_limit, specs.Keys.{depth, deepest}, specs.Paths.{Step, To, child_at, node_at}}
-use Rattle.yq_core.specs.Anchors.{names_in, names_of}
-use Rattle.yq_core.specs.Tree.{Label, Node, alias, scalar, list, Children, none, child, children_of, key_label}
+use Rattle.yq_core.{specs.Anchors.{names_in, names_of}, specs.Tree.{Label, Node, alias, scalar, list, Children, none, child, children_of}}
 use Rattle.yq_planner.{specs.StandIns.{AreOneKind, texts, lists, maps, HaveNoAlias, IsStandIn, verdict}, proofs.UsedLaws.none_used}
 use Rattle.yq_semantics.specs.Changes.{Addition, appends, overwrites, Change, replaces, adds, Changed, added, addition, additions, add_at}
 use Rattle.yq_semantics.specs.Changes.{add_below, all_allowed, created, has_long_key, have_long_key, is_deep, is_overlong_key, is_too_deep}
@@ -24,17 +23,9 @@ judged l d u c =
     and_then (λ first. and_then (λ others. gives (first ++ others)) (gives []))
     (and_then (λ e. gives (e ∷ [])) (if l then refuses KeyTooLong else (if d then refuses TooDeep else (if u then refuses AnchorInUse else gives c))))
 
-judged_alike : (l d u : Bool) (c e : Changed) → verdict (judged l d u c) ≡ verdict (judged l d u e)
-judged_alike true d u c e = refl
-judged_alike false true u c e = refl
-judged_alike false false true c e = refl
-judged_alike false false false c e = refl
-
 allowed_alike : (root : Node) (x : List Step) (c e : Change) → is_too_long c ≡ is_too_long e → is_too_deep (length x) c ≡ is_too_deep (length x) e → takes_used root x c ≡ takes_used root x e →
     verdict (all_allowed root ((x, c) ∷ [])) ≡ verdict (all_allowed root ((x, e) ∷ []))
-allowed_alike root x c e long deep used =
-    (λ i. verdict (judged (long i) (deep i) (used i) (x, c)))
-    ∙ judged_alike (is_too_long e) (is_too_deep (length x) e) (takes_used root x e) (x, c) (x, e)
+allowed_alike root x c e long deep used = search rules
 
 -- ---- values that are nested as deep
 
@@ -92,10 +83,7 @@ created_deep outer (scalar anchor kind text) m ms v w h = (nested_alike (m ∷ m
 created_deep outer (list anchor cs) m ms v w h = (nested_alike (m ∷ ms) v w h).deep outer
 
 created_used : (root : Node) (x : List Step) (n : Node) (m : PathStep) (ms : List PathStep) (v w : Node) → takes_used root x (created n m ms v) ≡ takes_used root x (created n m ms w)
-created_used root x (tree.map anchor cs) m ms v w = refl
-created_used root x (alias name) m ms v w = refl
-created_used root x (scalar anchor kind text) m ms v w = refl
-created_used root x (list anchor cs) m ms v w = refl
+created_used root x n m ms v w = search rules
 
 -- ---- a value that is put
 
@@ -117,9 +105,7 @@ put_alike root p v w h = below_alike root p.path p.node p.missing v w (alike v w
 -- ---- a value that is added
 
 or_parts : (a b c : Bool) → (a || (b || c)) ≡ false → (a ≡ false) × ((b ≡ false) × (c ≡ false))
-or_parts false false c h = (refl, (refl, h))
-or_parts false true c h = (refl, (h, search (rules, h)))
-or_parts true b c h = (h, (search (rules, h), search (rules, h)))
+or_parts a b c h = search rules
 
 value_added : (cs : Children) (k : Option (List ℕ)) (v : Node) → value_in (addition cs k v) ≡ v
 value_added cs None v = refl
@@ -178,8 +164,7 @@ module _ (root : Node) (x : List Step) where
 
   -- an item overwrites nothing
   item_appended : (k : Option (List ℕ)) (v : Node) → overwrites_used root x (addition none k v) ≡ false
-  item_appended None v = refl
-  item_appended (Some k) v = refl
+  item_appended k v = search rules
 
   none_appended : (ds : Children) → list_any (overwrites_used root x) (additions none ds) ≡ false
   none_appended none = refl
@@ -205,8 +190,7 @@ module _ (root : Node) (x : List Step) where
   replaced v w same = allowed_alike root x (replaces v) (replaces w) same.long (same.deep (length x)) refl
 
   one_item : (v w : Node) → AreAlike v w → verdict (all_allowed root ((x, adds (appends None v ∷ [])) ∷ [])) ≡ verdict (all_allowed root ((x, adds (appends None w ∷ [])) ∷ []))
-  one_item v w same =
-      allowed_alike root x (adds (appends None v ∷ [])) (adds (appends None w ∷ [])) (ap (λ b. b || false) same.long) (ap (λ b. b || false) (same.deep (suc (length x)))) refl
+  one_item v w same = search rules
 
   added_alike : (n : Node) {v w : Node} → (is_mapping v ≡ true → HaveNoAlias (names_of root)) → AreOneKind v w → IsStandIn v w →
       verdict (and_then (all_allowed root) (and_then (λ c. gives ((x, c) ∷ [])) (added n v)))

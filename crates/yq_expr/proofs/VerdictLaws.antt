@@ -1,6 +1,6 @@
 -- Whether something comes of an update, place by place and document by document.
-use Rattle.std.proofs.Common.{Result, Ok, Err, Option, Some, None, IfOk, IfSome, ◌≡◌, ℕ, suc, ◌+◌, ◌<◌, ◌≤◌, Bool, true, false, List, []}
-use Rattle.std.{proofs.Common.{◌∷◌, ◌++◌, length, drop, if◌then◌else◌, refl, sym, ap, ◌∙◌, subst, add-one}, proofs.lemmas.List.drop_all}
+use Rattle.std.proofs.Common.{rules, Result, Option, IfOk, IfSome, ◌≡◌, ℕ, suc, ◌+◌, ◌<◌, ◌≤◌, Bool, true, false, List, [], ◌∷◌, ◌++◌}
+use Rattle.std.{proofs.Common.{length, drop, if◌then◌else◌, refl, sym, ap, ◌∙◌, subst, add-one}, proofs.lemmas.List.drop_all}
 use Rattle.yq_core.{specs.Anchors.names_of, specs.Tree.Node}
 use Rattle.yq_documents.specs.Documents.{Document}
 use Rattle.yq_eval.{specs.PlaceView.put_behind, proofs.EachLaws.fails_then}
@@ -18,19 +18,15 @@ use Rattle.yq_semantics.specs.declared.program.Operator.TheVariants as operator
 
 -- an error is also one of whether something comes
 pub verdict_fails : {A : Type 0} (e : ExprError) (j : Judgement A) → MatchFails e j → MatchFails e (verdict j)
-verdict_fails (error.Refused why) j h = ap verdict h
-verdict_fails error.Memory j h = tt
+verdict_fails e j h = search rules
 
 -- and the other way round
 pub fails_back : {A : Type 0} (e : ExprError) (j : Judgement A) → MatchFails e (verdict j) → MatchFails e j
-fails_back (error.Refused why) (gives x) h = absurd (cc)
-fails_back (error.Refused why) (refuses other) h = cc
-fails_back error.Memory j h = tt
+fails_back e j h = search rules
 
 -- something comes
 pub given : {A : Type 0} (j : Judgement A) → verdict j ≡ gives tt → (x : A) × (j ≡ gives x)
-given (gives x) h = (x, refl)
-given (refuses why) h = absurd (cc)
+given j h = search rules
 
 -- something comes, after what is there
 pub behind_given : {B : Type 0} (before : List B) (j : Judgement (List B)) → verdict j ≡ gives tt → (after : List B) × (put_behind before j ≡ gives after)
@@ -42,8 +38,7 @@ behind_fails before j e h = fails_then (λ xs. gives (before ++ xs)) j e (fails_
 
 -- the same of what is made of it
 pub verdict_of : {A B : Type 0} (f : A → B) (j : Judgement A) → verdict (and_then (λ x. gives (f x)) j) ≡ verdict j
-verdict_of f (gives x) = refl
-verdict_of f (refuses why) = refl
+verdict_of f j = search rules
 
 -- ---- places
 
@@ -52,9 +47,7 @@ both_verdict (gives x) k = k
 both_verdict (refuses why) k = refuses why
 
 verdict_both : {A B C : Type 0} (g : A → B → C) (j : Judgement A) (k : Judgement B) → verdict (and_then (λ x. and_then (λ y. gives (g x y)) k) j) ≡ both_verdict (verdict j) (verdict k)
-verdict_both g (gives x) (gives y) = refl
-verdict_both g (gives x) (refuses why) = refl
-verdict_both g (refuses why) k = refl
+verdict_both g j k = search rules
 
 each_alike : {A B : Type 0} (f h : A → Judgement (List B)) → ((x : A) → verdict (f x) ≡ verdict (h x)) → (xs : List A) → verdict (for_each f xs) ≡ verdict (for_each h xs)
 each_alike f h same [] = refl
@@ -76,14 +69,10 @@ value_judged root right false ps v some is = value_there root right put_with_pat
 
 -- an answer of which something is asked where it gives something
 pub ok_some : {A E B : Type 0} (r : Result (Option A) E) → B → IfOk r (λ o. IfSome o (λ _. B))
-ok_some (Ok None) b = tt
-ok_some (Ok (Some x)) b = b
-ok_some (Err e) b = tt
+ok_some r b = search rules
 
 pub ok_given : {A E : Type 0} (B C : Type 0) (r : Result (Option A) E) → IfOk r (λ o. IfSome o (λ _. B)) → IfOk r (λ o. IfSome o (λ _. C → B))
-ok_given B C (Ok None) b = tt
-ok_given B C (Ok (Some x)) b = λ c. b
-ok_given B C (Err e) b = tt
+ok_given B C r b = search rules
 
 -- ---- documents
 
@@ -121,7 +110,4 @@ plan_judged u rooms docs = verdict_of (all_ops (is_removal u) 0) (update_changes
 -- an assignment by one value for all places
 pub assigned : (doc : ℕ) (room : Room) (root : Node) (left : List Stage) (op : Operator) (right ts : List Term) (ps : List FoundPlace) (adds : Bool) → op ≡ (if adds then operator.Add else operator.Set) → ts ≡ right →
     with_value root (right_value doc ts (root_place root)) (if adds then add_at else put_with_path) ps ≡ changes_at doc room root (assign left op right) ps
-assigned doc room root left op right ts ps true is same =
-    ap (λ (us : List Term). with_value root (right_value doc us (root_place root)) add_at ps) same ∙ ap (λ (o : Operator). changes_at doc room root (assign left o right) ps) (sym is)
-assigned doc room root left op right ts ps false is same =
-    ap (λ (us : List Term). with_value root (right_value doc us (root_place root)) put_with_path ps) same ∙ ap (λ (o : Operator). changes_at doc room root (assign left o right) ps) (sym is)
+assigned doc room root left op right ts ps adds is same = search rules

@@ -1,8 +1,8 @@
 -- What is in front of the bytes after a pattern: turns of the search for a closing quote, and forms of tokens.
-use Rattle.std.proofs.Common.{◌≡◌, ℕ, ◌+◌, ◌-◌, ◌≤◌, Bool, true, false, ◌||◌, ◌&&◌, ◌==◌, List, [], ◌∷◌, length, take, drop, get_or, Option}
-use Rattle.std.{proofs.Common.{Some, None, is_some, refl, sym, ap, ◌∙◌, arith, length-drop, eqb-true}, proofs.lemmas.List.take_all}
+use Rattle.std.proofs.Common.{rules, ◌≡◌, ℕ, ◌+◌, ◌-◌, ◌≤◌, Bool, true, false, ◌||◌, ◌&&◌, ◌==◌, List, [], ◌∷◌, length, take, drop, get_or}
+use Rattle.std.{proofs.Common.{Option, Some, is_some, refl, sym, ap, ◌∙◌, arith, length-drop, eqb-true}, proofs.lemmas.List.take_all}
 use Rattle.std.{proofs.lemmas.Bool.{and_parts, false_from_ne_true}, specs.Char.is_ascii_digit, specs.List.prefix_len}
-use Rattle.yq_core.{specs.Text.front, proofs.Bools.at_byte}
+use Rattle.yq_core.specs.Text.{front}
 use Rattle.yq_semantics.specs.Tokens.{escaped_character, begins_name}
 use Rattle.yq_expr_parser.specs.declared.token.TokenForm.{TokenForm}
 use Rattle.yq_expr_parser.specs.Lexing.{beyond, closing, quoted, fraction_len, number_len, dotted, marked, worded, token_measure}
@@ -19,29 +19,21 @@ pub behind_length : (k n : ℕ) (t text : List ℕ) → k ≤ length t → n + l
 behind_length k n t text le h = omega (arith, ap length (behind_all k t), length-drop k t)
 
 beyond_on : (o p : Bool) (n m : ℕ) (r : Option (Bool × ℕ)) → beyond o n (beyond p m r) ≡ beyond (o || p) (n + m) r
-beyond_on o p n m None = refl
-beyond_on true p n m (Some x) = ap (λ (k : ℕ). Some (true, k)) (omega arith)
-beyond_on false p n m (Some x) = ap (λ (k : ℕ). Some (p || x.0, k)) (omega arith)
+beyond_on o p n m r = search rules
 
 or_true : (o : Bool) → (o || true) ≡ true
-or_true true = refl
-or_true false = refl
+or_true o = search rules
 
 or_false : (o : Bool) → (o || false) ≡ o
-or_false true = refl
-or_false false = refl
+or_false o = search rules
 
 foreign_here : (t : List ℕ) → 2 ≤ length t → get_or t 0 0 ≡ 92 → get_or t 1 0 ≡ 40 → closing t ≡ beyond true 2 (closing (drop 2 t))
 unfolding closing
-foreign_here [] le back open_ = absurd (omega (arith, le))
-foreign_here (b ∷ []) le back open_ = absurd (omega (arith, le))
-foreign_here (b ∷ c ∷ bs) le back open_ = rw (back, open_) refl
+foreign_here t le back open_ = search rules
 
 escape_here : (t : List ℕ) → 2 ≤ length t → get_or t 0 0 ≡ 92 → true ≡ is_some (escaped_character (get_or t 1 0)) → closing t ≡ beyond false 2 (closing (drop 2 t))
 unfolding closing
-escape_here [] le back known = absurd (omega (arith, le))
-escape_here (b ∷ []) le back known = absurd (omega (arith, le))
-escape_here (b ∷ c ∷ bs) le back known = rw (back, at_byte (λ b. is_some (escaped_character b)) c 40 (sym known) refl, ← known) refl
+escape_here t le back known = search rules
 
 -- a `\(` is in front
 pub foreign_further : (o : Bool) (n : ℕ) (t text : List ℕ) → 2 ≤ length t → get_or t 0 0 ≡ 92 → get_or t 1 0 ≡ 40 → beyond o n (closing t) ≡ closing text

@@ -1,5 +1,5 @@
 -- What the token in front is taken as, of what splitting it off gives.
-use Rattle.std.proofs.Common.{◌≡◌, ℕ, List, ◌∷◌, true, false, Option, Some, None, is_some, option_map, refl, sym, ap, ◌∙◌}
+use Rattle.std.proofs.Common.{rules, ◌≡◌, ℕ, List, ◌∷◌, true, false, Option, Some, None, is_some, option_map, refl, sym, ap, ◌∙◌}
 use Rattle.yq_semantics.specs.Tokens.{Token, is_symbol}
 use Rattle.yq_expr_parser.{specs.Lexing.{next_token, ahead, tokens, after, taken}, proofs.Lexing.{tokens_next, tokens_some}}
 
@@ -14,8 +14,7 @@ pub taken_end : {A : Type 0} (view : Token → Option A) (t : List ℕ) → None
 taken_end view t at = ap (λ o. taken view (ahead tokens o)) at ∙ ap (taken view) (sym (tokens_next t))
 
 is_mapped : {A B : Type 0} (f : A → B) (o : Option A) → is_some o ≡ is_some (option_map f o)
-is_mapped f None = refl
-is_mapped f (Some a) = refl
+is_mapped f o = search rules
 
 pub is_taken : {A : Type 0} (view : Token → Option A) (t : List ℕ) (x : Token × List ℕ) → Some x ≡ next_token t → is_some (view x.0) ≡ is_some (taken view (tokens t))
 is_taken {A} view t x at =

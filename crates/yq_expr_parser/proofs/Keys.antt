@@ -1,15 +1,13 @@
 -- Keys that differ, as a test.
-use Rattle.std.proofs.Common.{◌≡◌, ◌≢◌, ℕ, zero, suc, not, Bool, true, false, List, [], ◌∷◌, get_or, refl, sym, ap, ◌∙◌, arith, map, IsTrue}
-use Rattle.std.{proofs.Common.◌↔◌, specs.Str.bytes_eq, specs.List.{list_any, All}}
+use Rattle.std.proofs.Common.{rules, ◌≡◌, ◌≢◌, ℕ, zero, suc, not, Bool, true, false, List, [], ◌∷◌, get_or, refl, ap, ◌∙◌, arith, map}
+use Rattle.std.{proofs.Common.{IsTrue, ◌↔◌}, specs.Str.bytes_eq, specs.List.{list_any, All}}
 use Rattle.std.proofs.lemmas.Bool.{and_from, not-true, false≢true, false_from_ne_true, and_parts}
 use Rattle.std.{proofs.lemmas.List.Folds.{list_any_at, list_any_none}, proofs.lemmas.List.Kept.AllPairs-cons}
 use Rattle.std.{proofs.lemmas.Slice.Eq.bytes_eq-Decides, specs.Prelude.{string_bytes, String}, specs.declared.alloc.Global.Global}
 use Rattle.yq_core.{specs.Keys.{AreDistinct, are_distinct}, specs.declared.value.Value.Value, specs.Values.field_of}
 
 others : (k : List ℕ) (ks : List (List ℕ)) → list_any (bytes_eq k) ks ≡ false → All (λ x. k ≢ x) ks
-others k ks none i d lt same =
-    let here : bytes_eq k (get_or ks i d) ≡ true = (bytes_eq-Decides k (get_or ks i d)).1 same in
-    false≢true (sym none ∙ list_any_at (bytes_eq k) ks i d lt here)
+others k ks h2 i d lt same = search (rules, bytes_eq-Decides, false≢true, list_any_at)
 
 pub distinct_keys : (ks : List (List ℕ)) → are_distinct ks ≡ true → AreDistinct ks
 distinct_keys [] h = λ i j d lt last. absurd (omega arith)
@@ -28,8 +26,7 @@ distinct_again (k ∷ ks) h =
 
 -- a test that tells whether they differ is that test
 pub tested : (b : Bool) (ks : List (List ℕ)) → IsTrue b ↔ AreDistinct ks → b ≡ are_distinct ks
-tested true ks h = sym (distinct_again ks (h.0 refl))
-tested false ks h = sym (false_from_ne_true (are_distinct ks) (λ passes. false≢true (h.1 (distinct_keys ks passes))))
+tested b ks h = search (rules, distinct_again, false_from_ne_true, false≢true, distinct_keys)
 
 -- the keys of entries
 pub keys_of_fields : (es : List (String Global × Value)) → map (λ e. string_bytes e.0) es ≡ map (λ e. e.0) (map field_of es)

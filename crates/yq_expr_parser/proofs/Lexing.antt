@@ -1,13 +1,12 @@
 -- Where tokens end, and that the tokens of a text are those in front and those of what follows.
 use Rattle.std.proofs.Common.{◌≡◌, ◌⊎◌, ℕ, suc, ◌+◌, ◌<◌, ◌≤◌, Bool, true, false, cond, ◌&&◌, ◌||◌, ◌==◌, List, [], ◌∷◌, length, take, drop}
-use Rattle.std.proofs.Common.{get_or, Option, Some, None, is_some, refl, sym, ap, ◌∙◌, subst, inl, inr, arith, add-one, eqb-true}
-use Rattle.std.{proofs.Common.{length-drop, rules}, proofs.lemmas.Bool.{and_parts, cases_Bool}, proofs.lemmas.List.get_or-drop}
+use Rattle.std.proofs.Common.{get_or, Option, Some, is_some, refl, sym, ap, ◌∙◌, subst, inl, inr, arith, add-one, eqb-true, length-drop}
+use Rattle.std.{proofs.Common.rules, proofs.lemmas.Bool.{and_parts, cases_Bool}, proofs.lemmas.List.get_or-drop}
 use Rattle.std.{proofs.lemmas.List.Sums.{prefix_len_passes, prefix_len-le-length}, proofs.lemmas.Option.same_Some}
 use Rattle.std.{proofs.lemmas.Str.IsCharBoundary-after_ascii, specs.Char.is_ascii_digit, specs.List.prefix_len}
 use Rattle.std.specs.Str.{IsUtf8, IsCharBoundary}
 use Rattle.yq_core.{specs.Text.front, proofs.Boundaries.boundary_unless, proofs.Upto.upto_unless, proofs.Bools.{chosen, guard_then}}
-use Rattle.yq_semantics.specs.Tokens.{Token, is_token_blank, begins_name, is_name_byte, is_keyword, is_mark_character, is_mark_before}
-use Rattle.yq_semantics.specs.Tokens.{is_foreign, escaped_character}
+use Rattle.yq_semantics.specs.Tokens.{Token, is_token_blank, begins_name, is_name_byte, is_keyword, is_mark_character, escaped_character}
 use Rattle.yq_expr_parser.specs.Lexing.{beyond, closing, escaping, quoted, fraction_len, number_len, dotted, marked, worded, token_measure}
 use Rattle.yq_expr_parser.{specs.Lexing.{front_token, next_token, ahead, tokens_in, tokens}, specs.declared.token.TokenForm.TokenForm}
 use Rattle.yq_expr_parser.specs.declared.token.TokenForm.TheVariants as form
@@ -30,8 +29,7 @@ len_is : {A : Type 0} (x y : A × ℕ) → Some x ≡ Some y → x.1 ≡ y.1
 len_is x y h = let e : x ≡ y = cc in ap (λ p. p.1) e
 
 beyond_some : (o : Bool) (m : ℕ) (r : Option (Bool × ℕ)) (y : Bool × ℕ) → beyond o m r ≡ Some y → (x : Bool × ℕ) × (r ≡ Some x) × (m + x.1 ≡ y.1)
-beyond_some o m None y h = cc
-beyond_some o m (Some x) y h = (x, refl, len_is (o || x.0, m + x.1) y h)
+beyond_some o m r y h = search rules
 
 ends_here : (b : ℕ) (t : List ℕ) (n : ℕ) → b < 128 → 1 ≡ n → EndsAscii (b ∷ t) n
 ends_here b t n low e = (0, omega arith, omega arith, low)
@@ -71,8 +69,7 @@ mutual
   ]
 
 quoted_ends : (f : TokenForm) (m : ℕ) (r : Option (Bool × ℕ)) (y : TokenForm × ℕ) → quoted f m r ≡ Some y → (x : Bool × ℕ) × (r ≡ Some x) × (m + x.1 ≡ y.1)
-quoted_ends f m None y h = cc
-quoted_ends f m (Some x) y h = (x, refl, len_is (cond x.0 form.Foreign f, m + x.1) y h)
+quoted_ends f m r y h = search rules
 
 -- a run of ASCII bytes, not empty
 run_ends : (p : ℕ → Bool) (b : ℕ) (bs : List ℕ) → ((x : ℕ) → p x ≡ true → x < 128) → p b ≡ true → EndsAscii (b ∷ bs) (prefix_len p (b ∷ bs))
@@ -129,26 +126,11 @@ number_ends (b ∷ bs) h =
       | inr some ↦ ends_after (b ∷ bs) n _ some
     ]
 
-foreign_ascii : (b : ℕ) → is_foreign b ≡ true → b < 128
-foreign_ascii b h = grind arith
-
 mark_ascii : (b : ℕ) → is_mark_character b ≡ true → b < 128
 mark_ascii b h = grind arith
 
-two_end : (b : ℕ) (bs : List ℕ) → front (λ c. c == 61) bs ≡ true → EndsAscii (b ∷ bs) 2
-two_end b [] h = cc
-two_end b (c ∷ cs) h = (1, refl, omega arith, omega (arith, add-one, eqb-true c 61 h))
-
 marked_ends : (b : ℕ) (bs : List ℕ) (y : TokenForm × ℕ) → marked b bs ≡ Some y → EndsAscii (b ∷ bs) y.1
-marked_ends b bs y h = elim (chosen (is_mark_before b && front (λ c. c == 61) bs) h) [
-  | inl two ↦ let e : 2 ≡ y.1 = len_is (form.Symbol, 2) y two.1 in subst (EndsAscii (b ∷ bs)) e (two_end b bs (and_parts (is_mark_before b) _ two.0).1)
-  | inr one ↦ elim (chosen (is_mark_character b) one.1) [
-    | inl mark ↦ ends_here b bs y.1 (mark_ascii b mark.0) (len_is (form.Symbol, 1) y mark.1)
-    | inr other ↦
-        let g = guard_then (is_foreign b) other.1 in
-        ends_here b bs y.1 (foreign_ascii b g.0) (len_is (form.Foreign, 1) y g.1)
-  ]
-]
+marked_ends b bs y h = search rules
 
 worded_ends : (b : ℕ) (bs : List ℕ) (y : TokenForm × ℕ) → worded (b ∷ bs) ≡ Some y → EndsAscii (b ∷ bs) y.1
 worded_ends b bs y h = elim (chosen (begins_name b) h) [
@@ -198,8 +180,7 @@ next_shorter t x h =
     omega (arith, length-drop n t)
 
 ahead_same : (f g : List ℕ → List Token) (o : Option (Token × List ℕ)) → ((x : Token × List ℕ) → o ≡ Some x → f x.1 ≡ g x.1) → ahead f o ≡ ahead g o
-ahead_same f g None h = refl
-ahead_same f g (Some x) h = ap (λ ts. x.0 ∷ ts) (h x refl)
+ahead_same f g o h = search rules
 
 enough : (n m : ℕ) (t : List ℕ) → length t < n → length t < m → tokens_in n t ≡ tokens_in m t
 unfolding tokens_in

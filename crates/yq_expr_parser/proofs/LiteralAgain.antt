@@ -14,9 +14,7 @@ word_again w r h = search (rules, cases_Bool, bytes_eq-Decides, false≢true)
 
 pub scalar_again : Again parse_scalar IsPlainLiteral Anything
 unfolding parse_scalar
-scalar_again s ts rest (inl h) f = rw (h.2, h.1) refl
-scalar_again s ts rest (inr (inl h)) f = rw (h.2, h.1) refl
-scalar_again s ts rest (inr (inr h)) f = rw (h.3, h.1) (rw (word_again h.0 rest h.2) refl)
+scalar_again s ts rest h f = search rules
 
 -- a word for a scalar is none of these marks
 word_is_none : (w : List ℕ) (r : List Token) (s : List ℕ) → is_one_of scalar_words w ≡ true → is_one_of scalar_words s ≡ false → after s (symbol w ∷ r) ≡ None
@@ -36,8 +34,7 @@ pub record BeginsLiteral (ts : List Token) : Type 0 where
   pub left : begins_left ts ≡ false
 
 listed_begins : {A : Type 0} (opening closing : List ℕ) (Is : Production A) (xs : List A) (ts rest : List Token) → AreListed opening closing Is xs ts rest → (inner : List Token) × HasSymbol opening ts inner
-listed_begins opening closing Is [] ts rest h = (symbol closing ∷ rest, h)
-listed_begins opening closing Is (x ∷ xs) ts rest h = (h.0, h.2)
+listed_begins opening closing Is xs ts rest h = search rules
 
 pub literal_begins : (depth : ℕ) (n : Node) (ts rest : List Token) → IsLiteral depth n ts rest → BeginsLiteral ts
 unfolding IsLiteral

@@ -26,14 +26,11 @@ scalar_takes ts x h = elim (either_cases (taken as_number ts) h) [
 ]
 
 pub scalar_shortens : Shortens IsPlainLiteral
-scalar_shortens s ts rest (inl h) = omega (arith, ap length h.2)
-scalar_shortens s ts rest (inr (inl h)) = omega (arith, ap length h.2)
-scalar_shortens s ts rest (inr (inr h)) = omega (arith, ap length h.3)
+scalar_shortens s ts rest h = search rules
 
 listed_is : {A : Type 0} (opening closing : List ℕ) (Is : Production A) (xs : List A) (all inner end rest : List Token)
     → HasSymbol opening all inner → AreParted (codes ",") Is xs inner end → HasSymbol closing end rest → AreListed opening closing Is xs all rest
-listed_is opening closing Is [] all inner end rest o are c = absurd are
-listed_is opening closing Is (x ∷ xs) all inner end rest o are c = (inner, end, o, are, c)
+listed_is opening closing Is xs all inner end rest o are c = search rules
 
 listed_takes : {A : Type 0} (opening closing : List ℕ) (at : Parse A) (Is : Production A) → Takes at Is → (all ts : List Token) (x : List A × List Token)
     → HasSymbol opening all ts → listed_at closing at ts ≡ Some x → AreListed opening closing Is x.0 all x.1

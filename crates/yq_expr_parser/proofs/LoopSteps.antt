@@ -1,6 +1,7 @@
 -- Loops over forms one after the other, a turn at a time.
-use Rattle.std.proofs.Common.{◌≡◌, ℕ, List, [], ◌∷◌, ◌++◌, ◌<◌, subst, length, map, Option, Some, None, option_map, refl, sym, ap, ◌∙◌}
-use Rattle.std.{proofs.Common.{append_assoc, append-nil, Result, Err}, proofs.lemmas.List.map_push, specs.Borrow.Bor, specs.Prelude.codes}
+use Rattle.std.proofs.Common.{rules, ◌≡◌, ℕ, List, [], ◌∷◌, ◌++◌, ◌<◌, subst, length, map, Option, Some, None, option_map, refl, sym, ap}
+use Rattle.std.{proofs.Common.{◌∙◌, append_assoc, append-nil, Result, Err}, proofs.lemmas.List.map_push, specs.Borrow.Bor}
+use Rattle.std.specs.Prelude.{codes}
 use Rattle.yq_core.specs.Answers.{◌>>=◌}
 use Rattle.yq_expr_parser.{specs.declared.error.ParseError.ParseError, specs.declared.error.ParseFault.ParseFault}
 use Rattle.yq_expr_parser.{specs.ReadAnswers.{ParseFails, GivesForm, with_tokens, IsShorter}, specs.Lexing.{tokens, after}}
@@ -20,8 +21,7 @@ onto xs None = None
 onto xs (Some y) = Some (xs ++ y.0, y.1)
 
 onto_front : {A : Type 0} (xs : List A) (x : A) (o : Option (List A × List Token)) → onto xs (with_front x o) ≡ onto (xs ++ x ∷ []) o
-onto_front xs x None = refl
-onto_front xs x (Some y) = ap (λ zs. Some (zs, y.1)) (sym (append_assoc xs (x ∷ []) y.0))
+onto_front xs x o = search (rules, append_assoc)
 
 turned : {A : Type 0} (next : List Token → Option (Option (A × List Token))) → Lessens next → (xs : List A) (ts : List Token) (w : Option (List A × List Token))
     → onto xs (many next ts) ≡ w → (o : Option (Option (A × List Token))) → next ts ≡ o → onto xs (o >>= λ o. either o (λ x. with_front x.0 (many next x.1)) (Some ([], ts))) ≡ w
@@ -68,8 +68,7 @@ before_some {X} text o x b h is = let at : IsShorter text (Some (x, b)) = subst 
 -- ---- loops over forms with a mark between them
 
 pub onto_new : {X Y : Type 0} (v : X → Y) (xs : List X) (o : Option (List Y × List Token)) → xs ≡ [] → onto (map v xs) o ≡ o
-onto_new v xs None is = refl
-onto_new v xs (Some y) is = ap (λ l. Some (map v l ++ y.0, y.1)) is
+onto_new v xs o is = search rules
 
 behind_many : {A : Type 0} (s : List ℕ) (form : Parse A) → Lessens (after_mark s form) → (a : A) (ts : List Token)
     → with_front a (many (after_mark s form) ts) ≡ either (after s ts) (λ r. with_front a (parted_at s form r)) (Some (a ∷ [], ts))
@@ -112,9 +111,7 @@ parted_end v s form less xs ts w h x r e ys pushed a =
 -- a form is refused
 pub parted_fails : {A : Type 0} (s : List ℕ) (form : Parse A) (xs : List A) (ts : List Token) (w : Option (List A × List Token))
     → onto xs (parted_at s form ts) ≡ w → (e : ParseError) → ParseFails e (form ts) → ParseFails e w
-parted_fails s form xs ts w h error.Syntax f = sym h ∙ ap (λ o. onto xs (o >>= λ y. with_front y.0 (many (after_mark s form) y.1))) f
-parted_fails s form xs ts w h error.Memory f = tt
-parted_fails s form xs ts w h _ f = f
+parted_fails s form xs ts w h e f = search rules
 
 -- ---- which forms leave less
 

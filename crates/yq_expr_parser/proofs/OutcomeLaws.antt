@@ -1,5 +1,5 @@
 -- That the outcome of a text is what it comes to by the grammar, and nothing else.
-use Rattle.std.proofs.Common.{◌≡◌, ◌⊎◌, ◌↔◌, ℕ, Bool, true, false, List, Option, Some, None, refl, sym, ap, ◌∙◌, inl, inr, rules}
+use Rattle.std.proofs.Common.{◌≡◌, ◌⊎◌, ◌↔◌, ℕ, Bool, true, false, List, Option, Some, None, refl, sym, ◌∙◌, inl, inr, rules}
 use Rattle.yq_core.proofs.Bools.{chosen}
 use Rattle.yq_expr_parser.{specs.declared.error.ParseError.ParseError, specs.Lexing.{tokens, AreRead}}
 use Rattle.yq_expr_parser.specs.Outcome.{Outcome, parsed, refused, ComesTo, HasForeign, ExprRefused, IsTooDeep}
@@ -16,8 +16,7 @@ one_list text ts us a b = sym (tokens_again ts text a).0 ∙ (tokens_again us te
 -- ---- what a survey tells, where a text has no tokens, or has a token or a place of other expressions
 
 no_tokens : (text : List ℕ) → ((ts : List Token) → AreTokens ts text → ⊥) → (o : Option Bool) → surveyed false 0 0 (tokens text) ≡ o → surveyed false 0 0 (tokens text) ≡ None
-no_tokens text none None s = s
-no_tokens text none (Some b) s = absurd (none (tokens text) (tokens_take text (all_read (tokens text) false 0 0 b s)))
+no_tokens text h1 o s = search (rules, tokens_take, all_read)
 
 others : (ts : List Token) → AreRead ts → HasForeign ts ⊎ IsTooDeep ts → (o : Option Bool) → surveyed false 0 0 ts ≡ o → surveyed false 0 0 ts ≡ Some true
 others ts h1 h2 o h3 = search (rules, unread_in, none_in)
@@ -44,8 +43,7 @@ unfolding outcome
 no_memory text h = search (rules, chosen)
 
 takes : (text : List ℕ) (o : Outcome) → outcome text ≡ o → ComesTo text o
-takes text (parsed p) h = outcome_parsed text p h
-takes text (refused e) h = (λ memory. no_memory text (h ∙ ap (λ (x : ParseError). refused x) memory), outcome_refused text e h)
+takes text o h = search (rules, outcome_parsed, no_memory, outcome_refused)
 
 again : (text : List ℕ) (o : Outcome) → ComesTo text o → outcome text ≡ o
 again text (parsed p) h = outcome_again text p h.0 h.1

@@ -47,8 +47,7 @@ abbrev DeepFrom : ℕ → ℕ → List Token → ℕ → Type 0
 DeepFrom a b ts n = (closing_count (take n ts) + b) + 64 < opening_count (take n ts) + a
 
 counted-add : (c : Bool) (x y : ℕ) → count_if c x + y ≡ x + count_if c y
-counted-add true x y = omega arith
-counted-add false x y = refl
+counted-add c x y = search rules
 
 deep_later : (a b : ℕ) (t : Token) (ts : List Token) (n : ℕ) → DeepFrom (count_if (is_opening t) a) (count_if (is_closing t) b) ts n → DeepFrom a b (t ∷ ts) (suc n)
 deep_later a b t ts n h = search (rules, counted-add)
@@ -145,9 +144,7 @@ pub surveys : (ts : List Token) → AreRead ts → (HasForeign ts → ⊥) → (
 surveys ts h1 h2 h3 o h4 = search (rules, unread_in, refused_in, too_deep)
 
 pub derives_again : (text : List ℕ) (p : Program) → Derives text p → (surveyed false 0 0 (tokens text) ≡ Some false) × (program_at literal_depth (tokens text) ≡ Some p)
-derives_again text p h =
-    let again = tokens_again h.0 text h.1 in
-    rw again.0 (surveys h.0 again.1 h.2 h.3 (surveyed false 0 0 h.0) refl, program_again p h.0 h.4)
+derives_again text p h = search (rules, tokens_again, surveys, program_again)
 
 pub one_of : (text : List ℕ) (p q : Program) → Derives text p → Derives text q → p ≡ q
 one_of text p q h k = let a = (derives_again text p h).1 in let b = (derives_again text q k).1 in let e : Some p ≡ Some q = sym a ∙ b in cc
@@ -184,15 +181,13 @@ outcome_again text p h none = let again = derives_again text p h in rw (again.0,
 -- ---- clauses
 
 pub found_by : {X : Type 0} (view : X → Program) (text : List ℕ) (r : Result X ParseFault) → Answers view r (outcome text) → IfOk r (λ x. Derives text (view x) × (has_pattern (view x) ≡ false))
-found_by view text (Ok x) h = outcome_parsed text (view x) h
-found_by view text (Err e) h = tt
+found_by view text r h = search (rules, outcome_parsed)
 
 error_refused : (text : List ℕ) (e : ParseError) → AnswersError e (outcome text) → ExprRefused e text
 error_refused text e h1 = search (rules, outcome_refused)
 
 pub refused_by : {X : Type 0} (view : X → Program) (text : List ℕ) (r : Result X ParseFault) → Answers view r (outcome text) → IfErr r (λ e. ExprRefused e.error text)
-refused_by view text (Ok x) h = tt
-refused_by view text (Err e) h = error_refused text e.error h
+refused_by view text r h = search (rules, error_refused)
 
 pub only_by : {X : Type 0} (view : X → Program) (text : List ℕ) (r : Result X ParseFault) → Answers view r (outcome text)
     → (p : Program) → Derives text p → has_pattern p ≡ false → Answers view r (parsed p)

@@ -18,9 +18,7 @@ named_again s ts rest h1 = search rules
 
 step_again : AgainMaybe step_at IsNext Anything
 unfolding step_at
-step_again s ts rest (inl h) f = named_again s ts rest h
-step_again s ts rest (inr (inl h)) f = let un = unnamed s ts rest h in rw (un.0, un.1) (bracket_again s ts rest h)
-step_again s ts rest (inr (inr h)) f = rw h.1 (bracket_again s h.0 rest h.2)
+step_again s ts rest h f = search (rules, named_again, unnamed, bracket_again)
 
 step_ends : (ts : List Token) → Ends ts → step_at ts ≡ Some None
 unfolding step_at
@@ -37,13 +35,11 @@ first_begins : (s : PathStep) (ts rest : List Token) → IsFirst s ts rest → B
 first_begins s ts rest h1 = search rules
 
 pub path_begins : (steps : List PathStep) (ts rest : List Token) → IsPath steps ts rest → BeginsPath ts
-path_begins [] ts rest h = inr (rest, h)
-path_begins (s ∷ steps) ts rest h = first_begins s ts h.0 h.1
+path_begins steps ts rest h = search rules
 
 -- so it begins with no other mark
 pub no_mark : (s : List ℕ) (ts : List Token) → is_symbol s (symbol (codes ".")) ≡ false → BeginsPath ts → after s ts ≡ None
-no_mark s ts other (inl h) = rw h.2 refl
-no_mark s ts other (inr h) = rw h.1 (rw other refl)
+no_mark s ts other h = search rules
 
 pub path_again : Again path_at IsPath Ends
 unfolding path_at step_at

@@ -1,9 +1,8 @@
 -- The steps and paths that are read are those of the grammar, and each has a token at least.
-use Rattle.std.proofs.Common.{◌≡◌, false, List, [], ◌∷◌, length, Some, is_some, ap, inl, inr, arith, rules}
-use Rattle.std.{proofs.lemmas.Option.same_Some, specs.Prelude.codes}
+use Rattle.std.{proofs.Common.{◌≡◌, false, List, ◌∷◌, Some, is_some, inl, inr, rules}, proofs.lemmas.Option.same_Some, specs.Prelude.codes}
 use Rattle.yq_core.proofs.Bools.{bind_some, chosen}
-use Rattle.yq_semantics.{specs.Program.{PathStep, key, index}, specs.Tokens.Token}
-use Rattle.yq_semantics.specs.Grammar.{Production, HasSymbol, IsBracket, IsDotted, IsNamed, IsFirst, IsNext, Are, IsPath}
+use Rattle.yq_semantics.{specs.Program.PathStep, specs.Tokens.Token}
+use Rattle.yq_semantics.specs.Grammar.{Production, HasSymbol, IsBracket, IsFirst, IsNext, Are, IsPath}
 use Rattle.yq_expr_parser.{specs.Lexing.after, specs.Parse.{many, bracketed_at, bracket_at, step_at, written_path, path_at}}
 use Rattle.yq_expr_parser.proofs.Readers.{either_cases, after_takes, string_takes, number_takes, named_takes, Takes, TakesMaybe, Shortens}
 use Rattle.yq_expr_parser.proofs.Readers.{same_form, many_takes, many_shortens}
@@ -23,21 +22,8 @@ pub step_takes : TakesMaybe step_at IsNext
 unfolding step_at
 step_takes ts x h = search (rules, either_cases, same_form, same_Some, named_takes, after_takes, bracket_takes)
 
-bracket_shortens : Shortens IsBracket
-bracket_shortens (index n) ts rest h = omega (arith, ap length h.2)
-bracket_shortens _ ts rest h = omega (arith, ap length h)
-
-dotted_shortens : Shortens IsDotted
-dotted_shortens s ts rest h = let inner = bracket_shortens s h.0 rest h.2 in omega (arith, ap length h.1)
-
-named_shortens : Shortens IsNamed
-named_shortens (key k) ts rest h = omega (arith, ap length h)
-named_shortens _ ts rest h = absurd h
-
 pub next_shortens : Shortens IsNext
-next_shortens s ts rest (inl h) = named_shortens s ts rest h
-next_shortens s ts rest (inr (inl h)) = bracket_shortens s ts rest h
-next_shortens s ts rest (inr (inr h)) = dotted_shortens s ts rest h
+next_shortens s ts rest h = search rules
 
 path_takes_of : (ts : List Token) (y x : List PathStep × List Token) → is_some (after (codes "[") ts) ≡ false → Are IsNext y.0 ts y.1 → written_path y ≡ Some x → IsPath x.0 ts x.1
 path_takes_of ts y x = search (rules, bind_some, same_form, after_takes)
@@ -52,9 +38,7 @@ path_takes ts x h = elim (chosen (is_some (after (codes "[") ts)) h) [
 ]
 
 first_shortens : Shortens IsFirst
-first_shortens s ts rest (inl h) = named_shortens s ts rest h
-first_shortens s ts rest (inr h) = dotted_shortens s ts rest h
+first_shortens s ts rest h = search rules
 
 pub path_shortens : Shortens IsPath
-path_shortens [] ts rest h = omega (arith, ap length h)
-path_shortens (s ∷ steps) ts rest h = search (rules, first_shortens, many_shortens, next_shortens)
+path_shortens h0 ts rest h = search (rules, first_shortens, many_shortens, next_shortens)

@@ -1,6 +1,6 @@
 -- Conditions, stages and pipes of the grammar are read again.
-use Rattle.std.{proofs.Common.{◌≡◌, Bool, true, false, List, [], ◌∷◌, Some, None, refl, sym, subst, inl, inr, rules}, specs.Prelude.codes}
-use Rattle.yq_semantics.specs.Program.{is_simple, PathStep, each, Operand, value_at, document_index, compares, has, Stage, path, select}
+use Rattle.std.{proofs.Common.{◌≡◌, Bool, true, List, [], ◌∷◌, Some, None, refl, sym, subst, inl, inr, rules}, specs.Prelude.codes}
+use Rattle.yq_semantics.specs.Program.{is_simple, PathStep, each, Operand, value_at, document_index, compares, has, Stage}
 use Rattle.yq_semantics.specs.Tokens.{Token, symbol}
 use Rattle.yq_semantics.specs.Grammar.{Production, HasSymbol, IsSimple, IsOperand, comparison, IsCondition, InParentheses, IsStage, IsPipe}
 use Rattle.yq_semantics.specs.Grammar.{IsLeft}
@@ -27,8 +27,7 @@ operand_begins : (o : Operand) (ts rest : List Token) → IsOperand o ts rest �
 operand_begins o ts rest h1 = search (rules, path_begins)
 
 comparison_again : (equal : Bool) (ts rest : List Token) → HasSymbol (comparison equal) ts rest → (comparison_at ts ≡ Some (equal, rest)) × Ends ts
-comparison_again true ts rest h = (rw h refl, (rw h refl, rw h refl, rw h refl))
-comparison_again false ts rest h = (rw h refl, (rw h refl, rw h refl, rw h refl))
+comparison_again equal ts rest h = search rules
 
 condition_again : Again condition_at IsCondition Anything
 unfolding condition_at
@@ -45,10 +44,7 @@ parenthesized_again at Is Follows again mark x ts rest h f = search (rules, afte
 
 stage_again : Again stage_at IsStage Ends
 unfolding stage_at
-stage_again (path steps) ts rest h f = rw (no_mark (codes "select") ts refl (path_begins steps ts rest h), path_again steps ts rest h f) refl
-stage_again (select c) ts rest h f =
-    let read = parenthesized_again condition_at IsCondition Anything condition_again (λ r. tt) c h.0 rest h.2 tt in
-    rw h.1 (rw read refl)
+stage_again steps ts rest h f = search (rules, no_mark, path_begins, path_again, parenthesized_again, condition_again)
 
 pub pipe_again : (stages : List Stage) (ts rest : List Token) → IsPipe stages ts rest → Ends rest → after (codes "|") rest ≡ None → pipe_at ts ≡ Some (stages, rest)
 unfolding pipe_at

@@ -2,8 +2,7 @@
 use Rattle.std.proofs.Common.{◌≡◌, Bool, true, List, [], ◌∷◌, length, Some, refl, ap, inl, inr, arith, rules}
 use Rattle.std.{proofs.lemmas.Option.cond_some, specs.Prelude.codes}
 use Rattle.yq_core.proofs.Bools.{bind_some}
-use Rattle.yq_semantics.specs.Program.{is_simple, PathStep, each, value_at, document_index, compares, has, path, select}
-use Rattle.yq_semantics.specs.Tokens.{Token, string, symbol}
+use Rattle.yq_semantics.{specs.Program.{is_simple, PathStep, each, value_at, document_index, has}, specs.Tokens.{Token, string, symbol}}
 use Rattle.yq_semantics.specs.Grammar.{Production, HasSymbol, IsSimple, IsOperand, comparison, IsCondition, InParentheses, IsStage, IsPipe}
 use Rattle.yq_semantics.specs.Grammar.{IsLeft}
 use Rattle.yq_expr_parser.specs.Lexing.{after, taken, as_string}
@@ -53,12 +52,10 @@ operand_shortens document_index ts rest (inl h) = omega (arith, ap length h)
 operand_shortens document_index ts rest (inr h) = omega (arith, ap length h)
 
 condition_shortens : Shortens IsCondition
-condition_shortens (compares o b k t) ts rest h = search (rules, scalar_shortens, operand_shortens)
-condition_shortens (has k) ts rest h = omega (arith, ap length h)
+condition_shortens t ts rest h = search (rules, scalar_shortens, operand_shortens)
 
 pub stage_shortens : Shortens IsStage
-stage_shortens (path steps) ts rest h = path_shortens steps ts rest h
-stage_shortens (select c) ts rest h = behind_shortens (codes "select") (InParentheses IsCondition) (between_shortens (codes "(") (codes ")") IsCondition condition_shortens) c ts rest h
+stage_shortens steps ts rest h = search (rules, path_shortens, behind_shortens, between_shortens, condition_shortens)
 
 pub pipe_takes : Takes pipe_at IsPipe
 unfolding pipe_at

@@ -2,13 +2,13 @@
 use Rattle.std.{proofs.Common.{◌≡◌, ◌⊎◌, ℕ, false, List, [], ◌∷◌, Option, Some, None, refl, inl, inr, rules}, specs.Prelude.codes}
 use Rattle.std.{specs.Str.bytes_eq, proofs.lemmas.Bool.false≢true, proofs.lemmas.Slice.Eq.bytes_eq-Decides}
 use Rattle.yq_semantics.{specs.declared.program.Operator.Operator, specs.declared.program.CommentPlace.CommentPlace}
-use Rattle.yq_semantics.specs.Program.{Stage, path, select, Update, assign, delete, comment, Program, read, updates}
+use Rattle.yq_semantics.specs.Program.{Stage, Update, assign, delete, comment, Program, read, updates}
 use Rattle.yq_semantics.specs.Tokens.{Token, string, symbol}
 use Rattle.yq_semantics.specs.Grammar.{HasSymbol, Are, Behind, AreParted, IsStage, IsPipe, IsLeft, literal_depth, operator_mark, place_word}
 use Rattle.yq_semantics.specs.Grammar.{IsUpdate, IsProgram}
 use Rattle.yq_expr_parser.{specs.Parse.{pipe_at, whole_form, updates_at, program_at}, proofs.Readers.second, proofs.UpdateTakes.whole_takes}
 use Rattle.yq_expr_parser.{proofs.PipeTakes.pipe_takes, proofs.FormsAgain.Ends, proofs.PathAgain.{BeginsPath, path_begins, path_again}}
-use Rattle.yq_expr_parser.{proofs.PipeAgain.pipe_again, proofs.UpdateAgain.{operator_again, place_again, updates_again}}
+use Rattle.yq_expr_parser.{proofs.PipeAgain.pipe_again, proofs.UpdateAgain.updates_again}
 use Rattle.yq_semantics.specs.declared.program.CommentPlace.TheVariants as place
 
 -- what follows the first stage of a pipe that is all
@@ -21,40 +21,25 @@ abbrev Acts : List Token → Type 0
 Acts ts = ((op : Operator) × (r : List Token) × HasSymbol (operator_mark op) ts r) ⊎ ((p : CommentPlace) × (r : List Token) × HasSymbol (place_word p) ts r)
 
 acts_ends : (ts : List Token) → Acts ts → Ends ts
-acts_ends ts (inl h) = (operator_again h.0 ts h.1 h.2).1.0
-acts_ends ts (inr h) = (place_again h.0 ts h.1 h.2).2.0
+acts_ends ts h = search rules
 
 -- two marks that differ
 two_marks : (ts : List Token) (w v : List ℕ) (r q : List Token) → HasSymbol w ts r → HasSymbol v ts q → bytes_eq w v ≡ false → ⊥
 two_marks ts w v r q h k differ = search (rules, false≢true, bytes_eq-Decides)
 
-mark_alone : (ts : List Token) (w : List ℕ) (r : List Token) → HasSymbol w ts r → bytes_eq w (codes "|") ≡ false → ((ts ≡ []) ⊎ ((r : List Token) × HasSymbol (codes "|") ts r)) → ⊥
-mark_alone ts w r h other (inl e) = cc
-mark_alone ts w r h other (inr e) = two_marks ts w (codes "|") r e.0 h e.1 other
-
-no_operator : (op : Operator) → bytes_eq (operator_mark op) (codes "|") ≡ false
-no_operator op = search rules
-
-no_place : (p : CommentPlace) → bytes_eq (place_word p) (codes "|") ≡ false
-no_place place.Line = refl
-no_place place.Head = refl
-
 -- it doesn't end there, nor is there a `|`
 acts_alone : (ts : List Token) → Acts ts → ((ts ≡ []) ⊎ ((r : List Token) × HasSymbol (codes "|") ts r)) → ⊥
-acts_alone ts (inl h) on = mark_alone ts (operator_mark h.0) h.1 h.2 (no_operator h.0) on
-acts_alone ts (inr h) on = mark_alone ts (place_word h.0) h.1 h.2 (no_place h.0) on
+acts_alone ts h on = search rules
 
 begins_other : (ts : List Token) (w : List ℕ) (r : List Token) → BeginsPath ts → HasSymbol w ts r → bytes_eq w (codes ".") ≡ false → ⊥
-begins_other ts w r (inl b) e other = let f = b.2 in cc
-begins_other ts w r (inr b) e other = two_marks ts w (codes ".") r b.0 e b.1 other
+begins_other ts w r b e other = search rules
 
 -- no tokens are both a pipe and updates
 no_stage : (s : Stage) (ts end sign : List Token) (left : List Stage) → IsStage s ts end → ((end ≡ []) ⊎ ((r : List Token) × HasSymbol (codes "|") end r)) → IsLeft left ts sign → Acts sign → ⊥
 no_stage s ts end sign left h1 h2 h3 h4 = search (rules, path_again, acts_ends, second, acts_alone, begins_other, path_begins, two_marks)
 
 no_delete : (s : Stage) (ts end r : List Token) → IsStage s ts end → HasSymbol (codes "del") ts r → ⊥
-no_delete (path steps) ts end r h d = begins_other ts (codes "del") r (path_begins steps ts end h) d refl
-no_delete (select c) ts end r h d = two_marks ts (codes "select") (codes "del") h.0 r h.1 d refl
+no_delete s ts end r h d = search rules
 
 not_both : (stages : List Stage) (us : List Update) (ts : List Token) → IsPipe stages ts [] → AreParted (codes "|") IsUpdate us ts [] → ⊥
 not_both [] us ts h k = h

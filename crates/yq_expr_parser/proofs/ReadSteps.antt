@@ -1,6 +1,6 @@
 -- What reading gives, a step at a time.
-use Rattle.std.proofs.Common.{◌≡◌, ℕ, suc, ◌-◌, ◌<◌, length, arith, List, [], ◌∷◌, ◌++◌, Bool, true, false, Option, Some, None, refl, sym}
-use Rattle.std.{proofs.Common.{ap, ◌∙◌, subst, map, option_map, Result, Ok, Err}, specs.Borrow.Bor}
+use Rattle.std.proofs.Common.{rules, ◌≡◌, ℕ, suc, ◌-◌, ◌<◌, length, arith, List, [], ◌∷◌, ◌++◌, Bool, true, false, Option, Some, None, refl}
+use Rattle.std.{proofs.Common.{sym, ap, ◌∙◌, subst, map, option_map, Result}, specs.Borrow.Bor}
 use Rattle.std.specs.Prelude.{if◌then◌else◌, ◌==◌, is_some, codes}
 use Rattle.yq_core.{specs.Answers.◌>>=◌, specs.Values.items}
 use Rattle.yq_expr_parser.{specs.declared.error.ParseError.ParseError, specs.declared.error.ParseFault.ParseFault}
@@ -26,9 +26,7 @@ either_none f y o z e h = ap (λ o. either o f y) e ∙ h
 
 -- a step failed, and so does what follows it
 pub bind_fails : {A B : Type 0} (f : A → Option B) (o : Option A) (e : ParseError) → ParseFails e o → ParseFails e (o >>= f)
-bind_fails f o error.Syntax h = ap (λ o. o >>= f) h
-bind_fails f o error.Memory h = tt
-bind_fails f o _ h = h
+bind_fails f o e h = search rules
 
 -- what fails is the same
 pub fails_as : {A : Type 0} (e : ParseError) (o z : Option A) → o ≡ z → ParseFails e z → ParseFails e o
@@ -37,26 +35,15 @@ fails_as e o z is h = subst (ParseFails e) (sym is) h
 pub gives_as : {X Y : Type 0} (view : X → Y) (r : Result X ParseFault) (o z : Option Y) → o ≡ z → GivesForm view r z → GivesForm view r o
 gives_as view r o z is h = subst (GivesForm view r) (sym is) h
 
-closed_fails : {X Y : Type 0} (e : ParseError) (x : X) (y : Y) (o : Option (List Token)) → ParseFails {Y = X × List Token} e (option_map (λ q. (x, q)) o)
-    → ParseFails {Y = Y × List Token} e (o >>= λ q. Some (y, q))
-closed_fails error.Syntax x y (Some q) h = cc
-closed_fails error.Syntax x y None h = refl
-closed_fails error.Memory x y o h = tt
-closed_fails error.NotInProfile x y o h = h
-closed_fails error.Pattern x y o h = h
-
 -- a form that a mark closes, as it is seen
 pub closed_reads : {X Y : Type 0} (view : X → Y) (r : Result (X × Bor (List ℕ)) ParseFault) (x : X) (o : Option (List Token))
     → ReadsForm (λ x. x) r (option_map (λ q. (x, q)) o) → ReadsForm view r (o >>= λ q. Some (view x, q))
-closed_reads view (Ok y) x (Some q) h = ap (option_map (λ p. (view p.0, p.1))) h
-closed_reads view (Ok y) x None h = cc
-closed_reads view (Err e) x o h = closed_fails e.error x (view x) o h
+closed_reads view r x o h = search rules
 
 -- ---- forms one after the other, from the first one on
 
 pub onto_nothing : {A : Type 0} (o : Option (List A × List Token)) → onto [] o ≡ o
-onto_nothing None = refl
-onto_nothing (Some y) = refl
+onto_nothing o = search rules
 
 -- a test that doesn't hold
 pub test_fails : {A : Type 0} (b : Bool) (x y z : A) → b ≡ false → y ≡ z → (if b then x else y) ≡ z
@@ -69,8 +56,7 @@ test_holds b x y z e h = ap (λ b. if b then x else y) e ∙ h
 pub step_pushed : {X Y : Type 0} (v : X → Y) (next : List Token → Option (Option (Y × List Token))) → Lessens next → (xs : List X) (rest : List ℕ) (w : Option (List Y × List Token))
     → onto (map v xs) (many next (tokens rest)) ≡ w → (o : Option (X × Bor (List ℕ))) → next (tokens rest) ≡ Some (option_map (with_tokens v) o)
     → (x : X) (b : Bor (List ℕ)) → o ≡ Some (x, b) → (ys : List X) → ys ≡ xs ++ x ∷ [] → onto (map v ys) (many next (tokens b.now)) ≡ w
-step_pushed v next less xs rest w h o e x b is ys pushed =
-    ap (λ l. onto (map v l) (many next (tokens b.now))) pushed ∙ step_more v next less xs rest w h o e x b is
+step_pushed v next less xs rest w h o e x b is ys pushed = search (rules, onto, step_more)
 
 -- a literal that may hold others
 deeper_at : (depth d : ℕ) (ts : List Token) → depth ≡ suc d
@@ -87,8 +73,7 @@ deeper depth ts h = deeper_at depth (depth - 1) ts (omega arith)
 -- ---- paths
 
 pub seen_as : {X Y : Type 0} (f : X → Y) (o : Option X) (b : Bool) → is_some o ≡ b → is_some (option_map f o) ≡ b
-seen_as f None b h = h
-seen_as f (Some x) b h = h
+seen_as f o b h = search rules
 
 pub path_plain : {X : Type 0} (v : X → PathStep) (xs : List X) (ts : List Token) → (length xs == 0) ≡ false → written_path (map v xs, ts) ≡ Some (map v xs, ts)
 path_plain v [] ts h = cc

@@ -8,8 +8,7 @@ use Rattle.yq_expr_parser.specs.Lexing.{after, taken, as_number, as_string, as_s
 use Rattle.yq_expr_parser.specs.Parse.{Parse, either, with_front, many_in, many, after_mark, parted_at, closed_at}
 
 pub either_cases : {A B : Type 0} {f : A → B} {y z : B} (o : Option A) → either o f y ≡ z → ((x : A) × (o ≡ Some x) × (f x ≡ z)) ⊎ ((o ≡ None) × (y ≡ z))
-either_cases (Some x) h = inl (x, refl, h)
-either_cases None h = inr (refl, h)
+either_cases o h = search rules
 
 -- the front of two pairs
 pub first : {A B : Type 0} {x y : A × B} → Some x ≡ Some y → x.0 ≡ y.0
@@ -73,8 +72,7 @@ same_form {A} Is ts h is = subst (λ (p : A × List Token). Is p.0 ts p.1) (same
 
 with_front_some : {A : Type 0} (a : A) (o : Option (List A × List Token)) (y : List A × List Token) → with_front a o ≡ Some y
     → (x : List A × List Token) × (o ≡ Some x) × (◌≡◌ {A = Option (List A × List Token)} (Some (a ∷ x.0, x.1)) (Some y))
-with_front_some a None y h = cc
-with_front_some a (Some x) y h = (x, refl, h)
+with_front_some a o y h = search rules
 
 many_in_takes : {A : Type 0} (next : List Token → Option (Option (A × List Token))) (Is : Production A) → TakesMaybe next Is → (n : ℕ) → Takes (many_in next n) (Are Is)
 unfolding many_in
@@ -119,26 +117,20 @@ many_shortens Is less (x ∷ xs) ts rest h =
     omega arith
 
 pub behind_shortens : {A : Type 0} (s : List ℕ) (Is : Production A) → Shortens Is → Shortens (Behind s Is)
-behind_shortens s Is less x ts rest h =
-    let one = less x h.0 rest h.2 in
-    omega (arith, ap length h.1)
+behind_shortens s Is less x ts rest h = search rules
 
 pub parted_shortens : {A : Type 0} (s : List ℕ) (Is : Production A) → Shortens Is → Shortens (AreParted s Is)
 parted_shortens s Is h1 = search (rules, many_shortens, behind_shortens)
 
 pub between_shortens : {A : Type 0} (opening closing : List ℕ) (Is : Production A) → Shortens Is → Shortens (Between opening closing Is)
-between_shortens opening closing Is less x ts rest h =
-    let one = less x h.0 h.1 h.3 in
-    omega (arith, ap length h.2, ap length h.4)
+between_shortens opening closing Is less x ts rest h = search rules
 
 -- one turn of forms one after the other
 either_same : {A B : Type 0} (o : Option A) (f g : A → B) (y : B) → ((x : A) → o ≡ Some x → f x ≡ g x) → either o f y ≡ either o g y
-either_same None f g y h = refl
-either_same (Some x) f g y h = h x refl
+either_same o f g y h = search rules
 
 bind_same : {A B : Type 0} (o : Option A) (f g : A → Option B) → ((x : A) → o ≡ Some x → f x ≡ g x) → (o >>= f) ≡ (o >>= g)
-bind_same None f g h = refl
-bind_same (Some x) f g h = h x refl
+bind_same o f g h = search rules
 
 -- what follows a form has fewer tokens
 abbrev pub Lessens : {A : Type 0} → (List Token → Option (Option (A × List Token))) → Type 0

@@ -1,6 +1,6 @@
 -- Runs of bytes, and strings, as they are measured and spelled.
-use Rattle.std.proofs.Common.{◌≡◌, ℕ, suc, ◌+◌, Bool, true, false, cond, ◌||◌, ◌==◌, List, [], ◌∷◌, ◌++◌, length, take, drop, Option, Some}
-use Rattle.std.proofs.Common.{None, is_some, refl, sym, ap, ◌∙◌, subst, inl, inr, arith, eqb-true}
+use Rattle.std.proofs.Common.{rules, ◌≡◌, ℕ, suc, ◌+◌, Bool, true, false, cond, ◌||◌, ◌==◌, List, [], ◌∷◌, ◌++◌, length, take, drop, Option}
+use Rattle.std.proofs.Common.{Some, is_some, refl, sym, ap, ◌∙◌, subst, inl, inr, arith, eqb-true}
 use Rattle.std.{proofs.lemmas.Bool.{not-true, and_parts, cases_Bool, or_parts}, proofs.lemmas.Option.same_Some}
 use Rattle.std.specs.List.{prefix_len, list_all}
 use Rattle.yq_core.{specs.Text.{front, unless}, proofs.Bools.{chosen, guard_then}}
@@ -44,8 +44,7 @@ abbrev pub Closed : List ℕ → Bool × ℕ → Type 0
 Closed t x = (cs : List Character) × AreCharacters cs × (take x.1 t ≡ spelling cs ++ 34 ∷ []) × (x.0 ≡ interpolates cs)
 
 pub beyond_is : (o : Bool) (m : ℕ) (r : Option (Bool × ℕ)) (x : Bool × ℕ) → beyond o m r ≡ Some x → (y : Bool × ℕ) × (r ≡ Some y) × (◌≡◌ {A = Bool × ℕ} (o || y.0, m + y.1) x)
-beyond_is o m None x h = cc
-beyond_is o m (Some y) x h = (y, refl, same_Some _ _ h)
+beyond_is o m r x h = search rules
 
 pub closed_more : (b : ℕ) (bs : List ℕ) (y : Bool × ℕ) → (b == 34 || b == 92) ≡ false → Closed bs y → Closed (b ∷ bs) (false || y.0, 1 + y.1)
 closed_more b bs y plain c =
@@ -116,9 +115,7 @@ content_again (escaped e ∷ cs) rest h = ap (character_before (escaped_characte
 
 pub string_closed : (make : List ℕ → Token) (o : Bool) (p : List ℕ) (t : Token) (cs : List Character) → AreCharacters cs → p ≡ spelling cs ++ 34 ∷ [] → o ≡ interpolates cs
     → t ≡ cond o foreign (make (string_content p)) → IsString make t (34 ∷ p)
-string_closed make o p t cs are spelled_is flag is =
-    let text : string_content p ≡ said cs = ap string_content spelled_is ∙ content_again cs [] are in
-    (cs, are, ap (λ (s : List ℕ). 34 ∷ s) spelled_is, is ∙ rw (flag, text) refl)
+string_closed make o p t cs are spelled_is flag is = search (rules, content_again)
 
 -- a string in front
 pub string_in : (make : List ℕ → Token) (x : Bool × ℕ) (bs : List ℕ) (t : Token) → closing bs ≡ Some x → t ≡ cond x.0 foreign (make (string_content (take x.1 bs))) → IsString make t (34 ∷ take x.1 bs)
@@ -127,9 +124,7 @@ string_in make x bs t h is =
     string_closed make x.0 (take x.1 bs) t c.0 c.1 c.2 c.3 is
 
 pub form_if : (b : Bool) (f : TokenForm) (p : List ℕ) → token_of (cond b form.Foreign f) p ≡ cond b foreign (token_of f p)
-form_if true f p = refl
-form_if false f p = refl
+form_if b f p = search rules
 
 pub quoted_is : (f : TokenForm) (m : ℕ) (r : Option (Bool × ℕ)) (y : TokenForm × ℕ) → quoted f m r ≡ Some y → (x : Bool × ℕ) × (r ≡ Some x) × (◌≡◌ {A = TokenForm × ℕ} (cond x.0 form.Foreign f, m + x.1) y)
-quoted_is f m None y h = cc
-quoted_is f m (Some x) y h = (x, refl, same_Some _ _ h)
+quoted_is f m r y h = search rules

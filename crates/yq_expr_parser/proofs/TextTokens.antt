@@ -1,6 +1,6 @@
 -- The tokens of a text are those that the grammar has.
-use Rattle.std.proofs.Common.{◌≡◌, ℕ, zero, suc, ◌+◌, ◌<◌, Bool, true, false, cond, List, [], ◌∷◌, ◌++◌, length, take, drop, Option, Some}
-use Rattle.std.proofs.Common.{None, refl, sym, ap, ◌∙◌, subst, arith, append-nil, eqb-true, rules}
+use Rattle.std.proofs.Common.{◌≡◌, ℕ, zero, suc, ◌+◌, ◌<◌, Bool, true, cond, List, [], ◌∷◌, ◌++◌, length, take, drop, Option, Some, None}
+use Rattle.std.proofs.Common.{refl, sym, ap, ◌∙◌, subst, arith, append-nil, eqb-true, rules}
 use Rattle.std.{proofs.lemmas.Bool.{or_cases, false_from_ne_true, and_parts}, proofs.lemmas.List.take-append-drop}
 use Rattle.std.{proofs.Math.Seq.{take-append_seam, drop-append_seam}, proofs.lemmas.Option.none-some, specs.List.{prefix_len, list_all}}
 use Rattle.yq_core.specs.Text.{unless}
@@ -33,12 +33,10 @@ token_next t white piece rest blank is =
     ap (λ (n : ℕ). front_token (drop n (white ++ u))) len ∙ (ap front_token behind ∙ (front_is.1 ∙ rw (taken, left, m.2) refl))
 
 pub of_string : (make : List ℕ → Token) → ((c : List ℕ) → make c ≡ unread → ⊥) → (t : Token) (b : Bool) (c : List ℕ) → t ≡ cond b foreign (make c) → t ≡ unread → ⊥
-of_string make never t true c h e = cc
-of_string make never t false c h e = never c (sym h ∙ e)
+of_string make never t b c h e = search rules
 
 pub of_word : (t : Token) (w : List ℕ) (b : Bool) → t ≡ cond b (symbol w) foreign → t ≡ unread → ⊥
-of_word t w true h e = cc
-of_word t w false h e = cc
+of_word t w b h e = search rules
 
 pub not_unread : (t : Token) (piece rest : List ℕ) → IsToken t piece rest → t ≡ unread → ⊥
 not_unread t piece rest h1 h2 = search (rules, of_string, of_word)

@@ -77,8 +77,7 @@ word_measured t piece rest m is = (cond (is_keyword piece) form.Symbol form.Fore
     form_word false w = refl
 
 named_front : (piece rest : List ℕ) → front begins_name piece ≡ true → token_measure (piece ++ rest) ≡ read_word (piece ++ rest)
-named_front [] rest h = absurd (false≢true h)
-named_front (b ∷ w) rest h = name_first_in b (w ++ rest) h
+named_front piece rest h = search (rules, false≢true, name_first_in)
 
 pub word_again : (t : Token) (piece rest : List ℕ) → IsBareName piece rest → t ≡ cond (is_keyword piece) (symbol piece) foreign → Measures t piece rest
 word_again t piece rest h is =
@@ -86,8 +85,7 @@ word_again t piece rest h is =
     (named_front piece rest h.0 ∙ named_of (piece ++ rest) piece (length piece) (run_len is_name_byte piece rest h.1 h.2) (take-append_seam piece rest)) is
 
 pub no_fraction : (rest : List ℕ) → begins_fraction rest ≡ false → fraction_len rest ≡ 0
-no_fraction [] h = refl
-no_fraction (b ∷ bs) h = rw h refl
+no_fraction rest h = search rules
 
 pub unsigned_again : (piece rest : List ℕ) → IsUnsigned piece rest → (number_len (piece ++ rest) ≡ length piece) × (front is_ascii_digit piece ≡ true)
 unsigned_again piece rest h1 = search (rules, run_len, drop-append_seam, no_fraction, append_assoc, length-append)

@@ -47,23 +47,12 @@ with_fraction t n d ds digits point h m is =
     rw (front_is, rest_is) (inr (take n t, take m (d ∷ ds), refl, (digits.0, digits.1, refl), rw is (digits_in d ds h)))
 
 pub unsigned_in : (t : List ℕ) → front is_ascii_digit t ≡ true → IsUnsigned (take (number_len t) t) (drop (number_len t) t)
-unsigned_in [] h = cc
-unsigned_in (b ∷ bs) h =
-    let n = prefix_len is_ascii_digit (b ∷ bs) in
-    let digits = digits_in b bs h in
-    elim (fraction_in (drop n (b ∷ bs))) [
-      | inl none ↦
-          let end : n + fraction_len (drop n (b ∷ bs)) ≡ n = omega (arith, none.1) in
-          rw end (inl (digits, none.0))
-      | inr point ↦
-          rw point.4 (with_fraction (b ∷ bs) n point.0 point.1 digits point.2 point.3 (prefix_len is_ascii_digit (point.0 ∷ point.1)) refl)
-    ]
+unsigned_in t h = search (rules, digits_in, fraction_in, with_fraction)
 
 -- ---- measuring finds each token
 
 pub front_some : (p : ℕ → Bool) (t : List ℕ) → front p t ≡ true → (b : ℕ) × (bs : List ℕ) × (t ≡ b ∷ bs) × (p b ≡ true)
-front_some p [] h = cc
-front_some p (b ∷ bs) h = (b, bs, refl, h)
+front_some p t h = search rules
 
 -- what measuring gives of a piece, and what it is then
 abbrev pub Measures : Token → List ℕ → List ℕ → Type 0

@@ -30,8 +30,7 @@ pub operator_again : (op : Operator) (ts rest : List Token) → HasSymbol (opera
 operator_again op ts rest h1 = search rules
 
 pub place_again : (p : CommentPlace) (ts rest : List Token) → HasSymbol (place_word p) ts rest → (operator_at ts ≡ None) × (place_at ts ≡ Some (p, rest)) × EndsPipe ts
-place_again place.Line ts rest h = (rw h refl, rw h refl, ((rw h refl, rw h refl, rw h refl), rw h refl))
-place_again place.Head ts rest h = (rw h refl, rw h refl, ((rw h refl, rw h refl, rw h refl), rw h refl))
+place_again p ts rest h = search rules
 
 update_again : Again (parse_update literal_depth) IsUpdate EndsSum
 unfolding parse_update action_at

@@ -8,8 +8,8 @@ use Rattle.yq_semantics.specs.Tokens.{Token, string, symbol}
 use Rattle.yq_semantics.specs.Grammar.{Production, HasSymbol, InParentheses, IsPipe, IsLeft, literal_depth, IsTerm, IsRight, operator_mark}
 use Rattle.yq_semantics.specs.Grammar.{place_word, IsUpdate, IsProgram}
 use Rattle.yq_expr_parser.specs.Lexing.{after, taken, as_string}
-use Rattle.yq_expr_parser.specs.Parse.{Parse, parenthesized_at, pipe_at, left_at, term_at, right_at, operator_at, place_at, action_at}
-use Rattle.yq_expr_parser.specs.Parse.{parse_update, all_read, updates_at, program_at}
+use Rattle.yq_expr_parser.specs.Parse.{Parse, term_at, right_at, operator_at, place_at, action_at, parse_update, all_read, updates_at}
+use Rattle.yq_expr_parser.specs.Parse.{program_at}
 use Rattle.yq_expr_parser.proofs.Readers.{either_cases, after_takes, string_takes, Takes, Shortens, same_form, parted_takes}
 use Rattle.yq_expr_parser.proofs.Readers.{behind_shortens, parted_shortens, between_shortens}
 use Rattle.yq_expr_parser.proofs.LiteralTakes.{literal_takes, literal_shortens}
@@ -54,14 +54,7 @@ action_takes left all ts x is h = elim (either_cases (operator_at ts) h) [
 
 pub update_takes : Takes (parse_update literal_depth) IsUpdate
 unfolding parse_update
-update_takes ts x h = elim (either_cases (after (codes "del") ts) h) [
-  | inl del ↦
-      let y = bind_some (parenthesized_at pipe_at del.0) del.2 in
-      same_form IsUpdate ts y.2 (del.0, after_takes (codes "del") ts del.0 del.1, parenthesized_takes pipe_at IsPipe pipe_takes del.0 y.0 y.1)
-  | inr other ↦
-      let y = bind_some (left_at ts) other.1 in
-      action_takes y.0.0 ts y.0.1 x (left_takes ts y.0 y.1) y.2
-]
+update_takes ts x h = search (rules, either_cases, bind_some, same_form, after_takes, parenthesized_takes, pipe_takes, action_takes, left_takes)
 
 pub update_shortens : Shortens IsUpdate
 update_shortens (assign left op right) ts rest h =

@@ -1,9 +1,8 @@
 -- Maps by texts: one entry or alias more.
 use Rattle.std.proofs.lemmas.Bool.{cases_Bool, false≢true}
-use Rattle.std.proofs.Common.{◌≡◌, ℕ, Bool, true, false, ◌||◌, cond, List, Option, Some, None, is_some, option_map, refl, sym, ap, ◌∙◌}
-use Rattle.std.{proofs.Common.{bytes_eq, rules}, proofs.lemmas.Map.Text.btree_map_updates_str, proofs.lemmas.Slice.Eq.bytes_eq-Decides}
-use Rattle.std.{specs.BTreeMap.BTreeMap, specs.Map.lookup, specs.Borrow.Bor, specs.Cmp.Lexicographic.slice_cmp, specs.List.list_any}
-use Rattle.std.specs.Ordering.{nat_cmp}
+use Rattle.std.proofs.Common.{◌≡◌, ℕ, Bool, true, false, ◌||◌, cond, List, Option, Some, is_some, option_map, sym, ap, ◌∙◌, bytes_eq, rules}
+use Rattle.std.{proofs.lemmas.Map.Text.btree_map_updates_str, proofs.lemmas.Slice.Eq.bytes_eq-Decides, specs.BTreeMap.BTreeMap}
+use Rattle.std.{specs.Map.lookup, specs.Borrow.Bor, specs.Cmp.Lexicographic.slice_cmp, specs.List.list_any, specs.Ordering.nat_cmp}
 use Rattle.yq_core.{specs.Tree.{Label, Node}, specs.Anchors.{Name, names_of}}
 use Rattle.yq_outline.proofs.BoundLaws.{equal_back}
 use Rattle.yq_semantics.specs.Changes.{refers_to}
@@ -41,13 +40,11 @@ without_aliases names m empty none k = ap (λ es. is_some (lookup (maps.is_at (�
 
 -- a view of a value, if one is put
 pub map_put : {A B : Type 0} (f : A → B) (b : Bool) (v : A) (o : Option A) → option_map f (cond b (Some v) o) ≡ cond b (Some (f v)) (option_map f o)
-map_put f true v o = refl
-map_put f false v o = refl
+map_put f b v o = search rules
 
 -- no value has no view
 pub map_none : {A B : Type 0} (f : A → B) (o : Option A) → is_some o ≡ false → is_some (option_map f o) ≡ false
-map_none f None h = refl
-map_none f (Some x) h = h
+map_none f o h = search rules
 
 -- the number of an entry whose key has none is kept
 pub new_number : (a k : List ℕ) (f : List ℕ → Option ℕ) (n : ℕ) → is_some (f a) ≡ false → cond (bytes_eq a k) (Some n) (f k) ≡ number_kept k (f k) a n

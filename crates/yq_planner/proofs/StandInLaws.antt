@@ -1,6 +1,6 @@
 -- Small values are refused where large ones are.
-use Rattle.std.proofs.Common.{◌≡◌, ℕ, ◌-◌, ◌<◌, min, nat_lt, true, false, ◌||◌, List, [], ◌∷◌, length, map, Option, Some, None, IfSome}
-use Rattle.std.{proofs.Common.{IfOk, Result, Ok, Err, eqb, rules, refl, sym, ap, ◌∙◌, subst, arith}, proofs.lemmas.Bool.Decides.nat_tests}
+use Rattle.std.proofs.Common.{◌≡◌, ℕ, ◌-◌, ◌<◌, ◌≤◌, min, nat_lt, true, false, ◌||◌, List, [], ◌∷◌, length, map, Option, None, IfSome, IfOk}
+use Rattle.std.{proofs.Common.{Result, eqb, rules, refl, sym, ap, ◌∙◌, subst, arith}, proofs.lemmas.Bool.Decides.nat_tests}
 use Rattle.std.{specs.Prelude.Vec, specs.declared.alloc.AllocError.AllocError, specs.declared.alloc.Global.Global}
 use Rattle.yq_core.{specs.Keys.depth, specs.Values.{entries, entry, items, value_node}, specs.Scalar.ScalarText}
 use Rattle.yq_core.{specs.declared.value.Value.{Value, Scalar as ScalarValue, List as ListValue, the_lemmas}, specs.declared.kind.Kind.Kind}
@@ -55,12 +55,7 @@ pub mapped : (es : List (List ℕ × Node)) (inside v : Node) (d : ℕ) → v �
     d ≡ min 65 (depth v) → depth inside ≡ d - 1 → (r : Result (Option Value) AllocError) →
     IfOk r (λ o. IfSome o (λ w. value_node w ≡ tree.map None (child (entry []) inside none))) → IfOk r (λ o. IfSome o (λ _. is_long_key [] ≡ false)) →
     IfOk r (λ o. IfSome o (λ w. IsStandIn v (value_node w)))
-mapped es inside v d is some fit short deep inner (Err e) node key = tt
-mapped es inside v d is some fit short deep inner (Ok None) node key = tt
-mapped es inside v d is some fit short deep inner (Ok (Some w)) node key =
-    subst (λ (x : Node). IsStandIn x (value_node w)) (sym is)
-    (subst (IsStandIn (tree.map None (entries es))) (sym node)
-    (map_for es inside d some (ap has_long_key (sym is) ∙ fit) short key (deep ∙ ap (λ x. min 65 (depth x)) is) inner))
+mapped es inside v d is some fit short deep inner r node key = search (rules, map_for)
 
 pub deeper : (d n : ℕ) → nat_lt d n ≡ true → d < n
 deeper d n h = grind (arith, nat_tests, h)

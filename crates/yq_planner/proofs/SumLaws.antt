@@ -10,7 +10,7 @@ use Rattle.yq_core.{specs.Values.{items, entries}, specs.Numbers.{unsigned, minu
 use Rattle.yq_core.{specs.Paths.{To, child_at, change_child, append_child, append_children}, specs.SchemaReading.resolve}
 use Rattle.yq_core.{specs.Tree.{Node, Children, none, child, key_label}, proofs.SchemaLaws.resolve_again}
 use Rattle.yq_planner.specs.EntryNumbers.{entry_number, number_kept}
-use Rattle.yq_semantics.{specs.Judgement.{Judgement, and_then, gives, refuses}, specs.Places.{FoundPlace, chained}, specs.Program.Term}
+use Rattle.yq_semantics.{specs.Judgement.{Judgement, and_then, gives}, specs.Places.{FoundPlace, chained}, specs.Program.Term}
 use Rattle.yq_semantics.specs.RightValues.{as_items, with_entry, with_entries, value_sum, sum, term_value, sum_from, right_value}
 use Rattle.yq_core.specs.Numbers as numbers
 use Rattle.yq_core.specs.Tree as tree
@@ -48,8 +48,7 @@ item_last xs x = sym (followed_none (items (xs ++ x ∷ []))) ∙ item_more xs x
 
 -- a value that is no list is one item
 pub one_item : (xs : List Node) (x v m : Node) → x ≡ m → v ≡ m → as_items m ≡ child (key_label None) m none → items (xs ++ x ∷ []) ≡ append_children (items xs) (as_items v)
-one_item xs x v m a b one =
-    ap (λ (y : Node). items (xs ++ y ∷ [])) a ∙ (item_last xs m ∙ ap (append_children (items xs)) (sym one ∙ ap as_items (sym b)))
+one_item xs x v m a b one = search (rules, item_last)
 
 -- an entry after others
 pub entry_last : (k : List ℕ) (v : Node) (es : List (List ℕ × Node)) → append_child (key_label (Some k)) v (entries es) ≡ entries (es ++ (k, v) ∷ [])
@@ -57,8 +56,7 @@ entry_last k v [] = refl
 entry_last k v (e ∷ es) = ap (child (key_label (Some e.0)) e.1) (entry_last k v es)
 
 mapped_none : {A B : Type 0} (f : A → B) (o : Option A) → option_map f o ≡ None → o ≡ None
-mapped_none f None h = refl
-mapped_none f (Some x) h = absurd (cc)
+mapped_none f o h = search rules
 
 -- no entry has a key that has no number
 pub none_there : (k : List ℕ) (es : List (List ℕ × Node)) → entry_number k es ≡ None → is_some (child_at (To k) (entries es)) ≡ false
@@ -70,8 +68,7 @@ none_there k (e ∷ es) h = go (bytes_eq e.0 k) (none_there k es) h
     go false rest h = rest (mapped_none suc (entry_number k es) h)
 
 mapped_some : (o : Option ℕ) (i : ℕ) → option_map suc o ≡ Some i → (j : ℕ) × (o ≡ Some j) × (suc j ≡ i)
-mapped_some None i h = absurd (cc)
-mapped_some (Some j) i h = (j, refl, cc)
+mapped_some o i h = search rules
 
 -- the entry of a key's number has that key
 pub some_there : (k : List ℕ) (es : List (List ℕ × Node)) (i : ℕ) → entry_number k es ≡ Some i → is_some (child_at (To k) (entries es)) ≡ true
@@ -163,19 +160,16 @@ map_get f _ _ d = refl
 
 -- the entries of two mappings
 pub map_sum : (n m : Node) (es ds : List (List ℕ × Node)) (cs : Children) → n ≡ tree.map None (entries es) → m ≡ tree.map None (entries ds) → cs ≡ with_entries (entries es) (entries ds) → value_sum n m ≡ gives (tree.map None cs)
-map_sum n m es ds cs a b h =
-    ap (λ (x : Node). value_sum x m) a ∙ (ap (λ (x : Node). value_sum (tree.map None (entries es)) x) b ∙ ap (λ (x : Children). gives (tree.map None x)) (sym h))
+map_sum n m es ds cs a b h = search rules
 
 -- ---- terms
 
 -- the first of three steps and the second are one step before the third
 joined_steps : {A B C : Type 0} (f : A → Judgement B) (g : B → Judgement C) (j : Judgement A) → and_then (λ x. and_then g (f x)) j ≡ and_then g (and_then f j)
-joined_steps f g (gives x) = refl
-joined_steps f g (refuses why) = refl
+joined_steps f g j = search rules
 
 same_then : {A B : Type 0} (f g : A → Judgement B) (j : Judgement A) → ((x : A) → f x ≡ g x) → and_then f j ≡ and_then g j
-same_then f g (gives x) h = h x
-same_then f g (refuses why) h = refl
+same_then f g j h = search rules
 
 -- what a term does to a value
 abbrev with_term : ℕ → FoundPlace → Term → Node → Judgement Node

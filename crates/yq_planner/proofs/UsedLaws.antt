@@ -1,8 +1,7 @@
 -- Anchors that aliases name, node by node.
-use Rattle.std.proofs.Common.{◌≡◌, ℕ, Bool, true, false, ◌||◌, cond, List, [], ◌∷◌, length, Option, Some, None, refl, sym, ap, ◌∙◌}
+use Rattle.std.proofs.Common.{rules, ◌≡◌, ℕ, Bool, true, false, ◌||◌, cond, List, [], ◌∷◌, length, Option, Some, None, refl, sym, ap, ◌∙◌}
 use Rattle.std.{proofs.lemmas.Bool.false≢true, proofs.lemmas.List.Folds.list_any-append, specs.List.list_any}
-use Rattle.yq_core.specs.Paths.{Step, To, child_at, node_at}
-use Rattle.yq_core.specs.Tree.{Label, Node, alias, scalar, list, Children, child, children_of, anchor_of}
+use Rattle.yq_core.{specs.Paths.{Step, To, child_at, node_at}, specs.Tree.{Label, Node, alias, Children, child, children_of, anchor_of}}
 use Rattle.yq_core.specs.Anchors.{Name, Anchors, Refers, names_of, names_in}
 use Rattle.yq_outline.specs.Names.{is_reference}
 use Rattle.yq_nodes.specs.Nodes.{kind_of, text_of}
@@ -18,13 +17,7 @@ use Rattle.yq_nodes.specs.declared.nodes.node.NodeKind.TheVariants as kinds
 
 -- an anchor of a node is its own, or one inside
 pub used_parts : (names : List Name) (n : Node) → (is_used_anchor names (anchor_of n) || list_any (is_used names) (names_in (children_of n))) ≡ list_any (is_used names) (names_of n)
-used_parts names (alias name) = refl
-used_parts names (scalar None kind text) = refl
-used_parts names (scalar (Some a) kind text) = refl
-used_parts names (list None cs) = refl
-used_parts names (list (Some a) cs) = refl
-used_parts names (tree.map None cs) = refl
-used_parts names (tree.map (Some a) cs) = refl
+used_parts names n = search rules
 
 -- without aliases none has a name
 pub none_refer : (ns : List Name) (k : List ℕ) → list_any is_reference ns ≡ false → list_any (refers_to k) ns ≡ false
@@ -41,34 +34,23 @@ none_used names (Refers a ∷ ns) h = none_used names ns h
 -- one item or entry more, in which none is used
 pub used_more : (names : List Name) (cs rest : Children) (label : Label) (n : Node) (all : Bool) → cs ≡ child label n rest → list_any (is_used names) (names_of n) ≡ false →
     list_any (is_used names) (names_in cs) ≡ all → list_any (is_used names) (names_in rest) ≡ all
-used_more names cs rest label n all is unused so_far =
-    ap (λ b. b || list_any (is_used names) (names_in rest)) (sym unused)
-    ∙ (sym (list_any-append (is_used names) (names_of n) (names_in rest))
-    ∙ (ap (λ (ds : Children). list_any (is_used names) (names_in ds)) (sym is) ∙ so_far))
+used_more names cs rest label n all is unused so_far = search (rules, list_any-append)
 
 -- one in which some anchor is used
 pub used_here : (names : List Name) (cs rest : Children) (label : Label) (n : Node) (all : Bool) → cs ≡ child label n rest → list_any (is_used names) (names_of n) ≡ true →
     list_any (is_used names) (names_in cs) ≡ all → true ≡ all
-used_here names cs rest label n all is used so_far =
-    ap (λ b. b || list_any (is_used names) (names_in rest)) (sym used)
-    ∙ (sym (list_any-append (is_used names) (names_of n) (names_in rest))
-    ∙ (ap (λ (ds : Children). list_any (is_used names) (names_in ds)) (sym is) ∙ so_far))
+used_here names cs rest label n all is used so_far = search (rules, list_any-append)
 
 -- one item or entry more, the aliases in which are counted in already
 pub named_more : (p : Name → Bool) (cs rest : Children) (label : Label) (n : Node) (old new all : Bool) → cs ≡ child label n rest → new ≡ (old || list_any p (names_of n)) →
     (old || list_any p (names_in cs)) ≡ all → (new || list_any p (names_in rest)) ≡ all
-named_more p cs rest label n true new all is more so_far = ap (λ b. b || list_any p (names_in rest)) more ∙ so_far
-named_more p cs rest label n false new all is more so_far =
-    ap (λ b. b || list_any p (names_in rest)) more
-    ∙ (sym (list_any-append p (names_of n) (names_in rest))
-    ∙ (ap (λ (ds : Children). list_any p (names_in ds)) (sym is) ∙ so_far))
+named_more p cs rest label n old new all is more so_far = search (rules, list_any-append)
 
 -- ---- what a change takes
 
 -- by the node at a path
 overwrites_there : (root n : Node) (x : List Step) (a : Addition) → node_at x root ≡ Some n → overwrites_used root x a ≡ overwrites_at (names_of root) (children_of n) a
-overwrites_there root n x (appends k v) h = refl
-overwrites_there root n x (overwrites k v) h = ap (is_used_inside (names_of root)) (node_further x (To k) root n h)
+overwrites_there root n x a h = search (rules, node_further)
 
 all_there : (root n : Node) (x : List Step) (bs : List Addition) → node_at x root ≡ Some n → list_any (overwrites_used root x) bs ≡ list_any (overwrites_at (names_of root) (children_of n)) bs
 all_there root n x [] h = refl
@@ -82,8 +64,7 @@ takes_there root n x (sets_comment place text) h = refl
 
 -- an alias by its name
 pub alias_is : (n : Node) → kinds.Alias ≡ kind_of n → n ≡ alias (text_of n)
-alias_is (alias name) is = refl
-alias_is _ is = absurd (cc)
+alias_is n is = search rules
 
 -- without aliases nothing is taken
 pub none_taken : (names : List Name) (n : Node) (c : Change) → ((k : List ℕ) → list_any (refers_to k) names ≡ false) → false ≡ takes_at names n c
@@ -109,8 +90,7 @@ none_taken names n (sets_comment place text) h = refl
 -- where it is short and shallow enough, an anchor may
 pub allowed_by : (root n : Node) (x : List Step) (c : Change) (b : Bool) → is_too_long c ≡ false → is_too_deep (length x) c ≡ false → b ≡ takes_at (names_of root) n c → node_at x root ≡ Some n →
     allowed root (x, c) ≡ cond b (refuses AnchorInUse) (gives (x, c))
-allowed_by root n x c b long deep taken at =
-    rw (long, deep) (ap (λ t. cond t (refuses AnchorInUse) (gives (x, c))) (takes_there root n x c at ∙ sym taken))
+allowed_by root n x c b long deep taken at = search (rules, takes_there)
 
 -- an anchor of its own is used
 pub used_own : (names : List Name) (n : Node) (b : Bool) → b ≡ is_used_anchor names (anchor_of n) → b ≡ true → b ≡ list_any (is_used names) (names_of n)
