@@ -1,3 +1,4 @@
+pub mod AsciiLaws
 mod ContentRuns
 pub mod DistinctKeys
 pub mod IntegerLaws

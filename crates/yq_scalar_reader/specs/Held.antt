@@ -1,8 +1,12 @@
 -- What plain, single-quoted and literal scalars hold as it is (own; a reader may skip it: only clauses inside this crate cite it).
-use Rattle.std.specs.Prelude.{ℕ, Bool, false, ◌&&◌, not, List, [], ◌∷◌}
+use Rattle.std.specs.Prelude.{ℕ, nat_le, Bool, false, ◌&&◌, not, List, [], ◌∷◌}
 use Rattle.yq_scalar_reader.specs.declared.plain_text.Holder.{Holder}
 use Rattle.yq_core.{specs.PlainText.is_plain_char, specs.Text.{is_feed, is_white}, specs.Writable.{is_single_char, is_literal_char}}
 use Rattle.yq_scalar_reader.specs.declared.plain_text.Holder.TheVariants as holders
+
+-- a space or a visible character of ASCII (own)
+abbrev pub is_visible_ascii : ℕ → Bool
+is_visible_ascii b = nat_le 32 b && nat_le b 126
 
 -- a character that is there as it is (own)
 abbrev pub is_written_as_is : Holder → ℕ → Bool

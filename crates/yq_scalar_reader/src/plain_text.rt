@@ -1,6 +1,6 @@
 //! What may be written plain, on one line.
 ghost use Rattle.std.{specs.List.list_all, specs.Prelude.◌≡◌, specs.Str.chars};
-ghost use Rattle.yq_scalar_reader.specs.Held.{is_written_as_is};
+ghost use Rattle.yq_scalar_reader.specs.Held.{is_visible_ascii, is_written_as_is};
 ghost use Rattle.yq_core.specs.PlainText as spec;
 
 use crate::plain::{is_flow_indicator, is_indicator};
@@ -34,10 +34,20 @@ fn holds(holder: Holder, c: char) -> bool
     }
 }
 
-/// Whether each character is there as it is.
+/// Whether each byte is a space or a visible character of ASCII.
+fn is_visible_ascii(text: &[u8]) -> bool
+    ensures { result ≡ list_all is_visible_ascii text.now }
+{
+    text.iter().all(|b| matches!(*b, b' '..=b'~'))
+}
+
+/// Whether each character is there as it is. Those of ASCII need not be told apart.
 pub fn holds_each(holder: Holder, text: &str) -> bool
     ensures { result ≡ list_all (is_written_as_is holder) (chars text.now) }
 {
+    if is_visible_ascii(text.as_bytes()) {
+        return true;
+    }
     text.chars().all(|c| holds(holder, c))
 }
 
