@@ -2,8 +2,7 @@
 use Rattle.std.proofs.Common.{◌≡◌, ◌<◌, ℕ, zero, suc, eqb, leb, Bool, true, ◌&&◌, ◌||◌, List, [], ◌∷◌, refl, ap, ◌∙◌, arith}
 use Rattle.std.{proofs.lemmas.Bool.{and_parts, leb-true}, proofs.lemmas.Str.chars-IsAscii, specs.List.list_all, specs.Str.{IsAscii, chars}}
 use Rattle.yq_core.{proofs.Bools.at_byte, specs.PlainText.is_plain_char}
-use Rattle.yq_scalar_reader.specs.declared.plain_text.Holder.{Holder}
-use Rattle.yq_scalar_reader.specs.Held.{is_visible_ascii, is_written_as_is}
+use Rattle.yq_scalar_reader.{specs.declared.plain_text.Holder.Holder, specs.Held.{is_visible_ascii, is_written_as_is}}
 use Rattle.yq_scalar_reader.specs.declared.plain_text.Holder.TheVariants as holders
 
 visible_plain : (c : ℕ) → is_visible_ascii c ≡ true → is_plain_char c ≡ true

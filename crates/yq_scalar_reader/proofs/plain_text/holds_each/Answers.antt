@@ -1,5 +1,4 @@
-use Rattle.std.proofs.Common.{ap, sym, ◌∙◌}
-use Rattle.std.specs.List.{list_all}
+use Rattle.std.{proofs.Common.{ap, sym, ◌∙◌}, specs.List.list_all}
 use Rattle.yq_scalar_reader.{proofs.AsciiLaws.visible_text_held, specs.Held.is_visible_ascii}
 use Rattle.yq_scalar_reader.proofs.plain_text.holds_each.Goals as goal
 
