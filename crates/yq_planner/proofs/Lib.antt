@@ -4,3 +4,4 @@ pub mod LimitLaws
 pub mod IndexLaws
 pub mod UsedLaws
 pub mod StandInLaws
+pub mod ChildDepths
