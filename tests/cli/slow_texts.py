@@ -83,3 +83,18 @@ def check_paths_through_a_long_flow_mapping(folder):
     for update in ('.[].v = "x"', ".[].x = 1", ".[].w += [3]"):
         status, seconds, _megabytes = hostile.used(folder.yq, folder.name("f"), update, 2 * SECONDS)
         equal((status, seconds <= SECONDS), (0, True), (update, seconds))
+
+
+def check_values_put_in_one_row_in_any_order(folder):
+    """The row is read once, in whichever order the keys and items come."""
+    keys = [f"p{n * 7919 % MANY}" for n in range(MANY)]
+    mapping = ", ".join(f'"p{n}": 1' for n in range(MANY))
+    for others in (keys, [key for there in keys for key in (there, "n" + there)]):
+        added = ", ".join(f'"{key}": 2' for key in others)
+        folder.write("f", f'{{"a": {{{mapping}}}, "b": {{{added}}}}}\n'.encode())
+        status, seconds, _megabytes = hostile.used(folder.yq, folder.name("f"), ".a += .b", 2 * SECONDS)
+        equal((status, seconds <= SECONDS), (0, True), (len(others), seconds))
+    folder.write("f", ("[" + ", ".join('{"a": 1, "b": 2}' for _ in range(MANY)) + "]\n").encode())
+    update = '.[] += {"c": 3, "b": 4, "a": 5}'
+    status, seconds, _megabytes = hostile.used(folder.yq, folder.name("f"), update, 2 * SECONDS)
+    equal((status, seconds <= SECONDS), (0, True), (update, seconds))
