@@ -100,3 +100,15 @@ def check_paths_through_a_long_flow_mapping(folder):
     """Each entry is looked for next to the one before it."""
     folder.write("f", ("{" + ", ".join(f'"p{n}": {{"v": 1, "w": [2]}}' for n in range(2 * MANY)) + "}\n").encode())
     each_within_a_second(folder, ['.[].v = "x"', ".[].x = 1", ".[].w += [3]"])
+
+
+def check_values_put_in_one_row_in_any_order(folder):
+    """The row is read once, in whichever order the keys and items come."""
+    keys = [f"p{n * 7919 % MANY}" for n in range(MANY)]
+    mapping = ", ".join(f'"p{n}": 1' for n in range(MANY))
+    for others in (keys, [key for there in keys for key in (there, "n" + there)]):
+        added = ", ".join(f'"{key}": 2' for key in others)
+        folder.write("f", f'{{"a": {{{mapping}}}, "b": {{{added}}}}}\n'.encode())
+        each_within_a_second(folder, [".a += .b"])
+    folder.write("f", ("[" + ", ".join('{"a": 1, "b": 2}' for _ in range(MANY)) + "]\n").encode())
+    each_within_a_second(folder, ['.[] += {"c": 3, "b": 4, "a": 5}'])

@@ -28,3 +28,10 @@ pub mod RowsInFront
 pub mod RowRunGoesOn
 pub mod RowRunBegins
 pub mod RowRemovalAnswers
+pub mod SlotLaws
+pub mod SlotCounts
+pub mod SlotStills
+pub mod SlotPuts
+pub mod SlotWrites
+pub mod SlotMores
+pub mod UnorderedAnswers

@@ -5,3 +5,5 @@ pub mod RemovalRuns
 pub mod LeftItems
 pub mod LeftPlaces
 pub mod RowRemovals
+pub mod Slots
+pub mod OpenRuns

@@ -1,5 +1,6 @@
 -- Items and entries taken out, one before the other, of the flow collections of one head, which was read once (YAML 1.2.2, 7.4; own).
 use Rattle.std.specs.Prelude.{◌≡◌, ⊤, ◌⊎◌, ℕ, ◌+◌, ◌<◌, ◌≤◌, Bool, true, List, [], ◌++◌, drop, take, length, map, Option, Some, None}
+use Rattle.std.specs.Prelude.{IfSome, string_bytes}
 use Rattle.yq_text.{specs.Limit.text_limit, specs.Script.splice_at, specs.Splice.Splice, specs.TextGapBuffer.buffer_text}
 use Rattle.yq_core.{specs.Paths.Step, specs.Collections.CollPieces, specs.Entries.{end_of, parts_of, tree_step}}
 use Rattle.yq_core.{specs.PlainText.begins_marker, specs.Nodes.{flow_items_text, key_text, node_text}, specs.Places.Placed}
@@ -13,7 +14,7 @@ use Rattle.yq_edit_laws.{specs.Carried.{carried, carry_all}, specs.Edit.{edit_af
 use Rattle.yq_edit_laws.{specs.NearParts.LeadsToPart, specs.Valid.AreServed, specs.declared.edit_error.EditError.EditError}
 use Rattle.yq_batch.specs.LeftItems.{Ending, closing, count_parts, others, left_items, upto_text}
 use Rattle.yq_batch.{specs.declared.removals.RemovalRun.RemovalRun, specs.LeftPlaces.IsLeftPlace, specs.declared.left.LeftPlace.LeftPlace}
-use Rattle.yq_batch.specs.declared.removals.LeftOf.{LeftOf}
+use Rattle.yq_batch.{specs.declared.removals.LeftOf.LeftOf, specs.declared.together.Together.Together}
 use Rattle.yq_edit_laws.specs.declared.edit_error.EditError.TheVariants as error
 
 -- ---- runs
@@ -120,3 +121,7 @@ pub record CarriesOn (ops : List Op) (t : List ℕ) (left : List Op) (u : List �
   pub few : length left ≤ 1
   pub whole : edit_after before (carry_all (operations_of left) u) ≡ carry_all (operations_of ops) t
   pub serves : AreServed (operations_of left) u
+
+-- the same of what the code made of them, if it did (own)
+abbrev pub CarriesTogether : List Op → List ℕ → Option Together → Type 0
+CarriesTogether ops t o = IfSome o (λ x. CarriesOn ops t x.left.now (string_bytes x.edited.text) x.edited.splices.items)

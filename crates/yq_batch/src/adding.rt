@@ -8,8 +8,9 @@ ghost use Rattle.yq_edit_laws.{specs.Answers.EditFails, specs.Carried.carried, s
 ghost use Rattle.yq_batch.specs.FilledRuns as filled;
 ghost use Rattle.yq_batch.specs.Runs as spec;
 
+use crate::near::Near;
 use crate::run::PutRun;
-use crate::together::{Near, are_same_steps, steps_on};
+use crate::together::{are_same_steps, steps_on};
 use std::alloc::{AllocError, Global};
 use yq_core::Step;
 use yq_edit_laws::{EditError, MorePut, collection_near, more_in_found, operand_holds};
@@ -19,14 +20,14 @@ use yq_semantics::Op;
 
 /// The edit of an operation that puts an item or entry into a collection of a head; nothing, where it does something
 /// else.
-fn more_put<'s>(
+pub(crate) fn more_put<'s>(
     alloc: Global,
     cut: &CutText<'_, '_>,
     doc: usize,
     stem: &[Step],
     head: &mut FlowHead<'s, '_>,
     op: &'s Op,
-    near: &mut Near,
+    near: &mut Near<'s>,
 ) -> Result<Option<MorePut>, AllocError>
     requires { ReportsHead cut.now (cut_of cut.now) doc (map tree_step stem.now) head.old }
     ensures head { ReportsHead cut.now (cut_of cut.now) doc (map tree_step stem.now) head.new }
@@ -88,7 +89,7 @@ pub(crate) fn add_one<'s>(
     op: &'s Op,
     known: Option<Filled<'s>>,
     run: &mut PutRun,
-    near: &mut Near,
+    near: &mut Near<'s>,
 ) -> Result<Option<Option<Filled<'s>>>, EditError>
     requires head { ReportsHead cut.now (cut_of cut.now) doc (map tree_step stem.now) head.old }
     requires run { filled.FillsSo (cut_of cut.now) doc (map tree_step stem.now) known run.old }

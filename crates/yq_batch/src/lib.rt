@@ -2,12 +2,16 @@
 #![tactic(auto)]
 
 mod adding;
+mod any_order;
 mod in_rows;
 mod left;
+mod near;
 mod removals;
 mod row_removals;
 mod run;
+mod slots;
 mod together;
+mod unordered;
 
 pub use in_rows::carry_in_rows;
 pub use row_removals::carry_beside;

@@ -1,19 +1,21 @@
 //! Values that an update puts in the flow collections of one head, and items and entries that it puts into
 //! these: they are carried out together, and the head is read once.
-ghost use Rattle.std.specs.Prelude.{◌≡◌, ◌++◌, true, map, IfErr, IfOk, IfSome, string_bytes};
+ghost use Rattle.std.specs.Prelude.{◌≡◌, ◌++◌, true, map, IfErr, IfOk, IfSome};
 ghost use Rattle.yq_core.specs.Entries.{tree_step};
 ghost use Rattle.yq_documents.{specs.Located.steps_of, specs.Reading.cut_of};
 ghost use Rattle.yq_places.specs.FlowViews.{ReportsHead};
 ghost use Rattle.yq_semantics.specs.Operations.{operation_of, operations_of};
 ghost use Rattle.yq_edit_laws.{specs.Answers.EditFails, specs.Carried.{carry_all, carried}, specs.Edit.gives, specs.Theorems.IsFitting};
 ghost use Rattle.yq_edit_laws.specs.Valid.{AreServed};
-ghost use Rattle.yq_batch.specs.RemovalRuns.{CarriesOn};
+ghost use Rattle.yq_batch.specs.RemovalRuns.{CarriesTogether};
 ghost use Rattle.yq_batch.specs.FilledRuns as filled;
 ghost use Rattle.yq_batch.specs.Runs as spec;
 
 use crate::adding::{Filled, add_one};
+use crate::near::Near;
 use crate::removals::remove_each;
 use crate::run::PutRun;
+use crate::unordered::put_in_any_order;
 use std::alloc::{AllocError, Global};
 use yq_core::Step;
 use yq_documents::Path;
@@ -29,21 +31,6 @@ pub struct Together<'o> {
     pub edited: Edited,
     /// The operation that isn't carried out, if the last one isn't.
     pub left: &'o [Op],
-}
-
-/// Where entries are looked for, near the ones that were found last.
-#[derive(Drop)]
-pub(crate) struct Near {
-    /// At each depth of the way to a collection.
-    pub(crate) above: Vec<usize>,
-    /// In the collection.
-    pub(crate) last: usize,
-}
-
-/// Nothing was found yet: at each depth the first entry is looked at first.
-fn nothing_near(alloc: Global) -> Result<Near, AllocError> {
-    let above = vec![in alloc; 0, 0, 0, 0, 0, 0, 0, 0]?;
-    Ok(Near { above, last: 0 })
 }
 
 /// Whether steps are the same.
@@ -107,14 +94,14 @@ pub(crate) fn steps_in_head<'s>(path: &'s Path, doc: usize, stem: &[Step]) -> Op
 
 /// The edit of an operation that puts a value in a collection of a head; nothing, where it does something
 /// else.
-fn part_put<'s>(
+pub(crate) fn part_put<'s>(
     alloc: Global,
     cut: &CutText<'_, '_>,
     doc: usize,
     stem: &[Step],
     head: &mut FlowHead<'s, '_>,
     op: &'s Op,
-    near: &mut Near,
+    near: &mut Near<'s>,
 ) -> Result<Option<PartPut>, AllocError>
     requires { ReportsHead cut.now (cut_of cut.now) doc (map tree_step stem.now) head.old }
     ensures head { ReportsHead cut.now (cut_of cut.now) doc (map tree_step stem.now) head.new }
@@ -131,6 +118,7 @@ fn part_put<'s>(
     head.left = left;
     let _text = cut.text();
     let found = collection_near(&head.node, left, near.above.as_mut_slice());
+    near.go_to(alloc, found, left, path)?;
     put_in_found(alloc, cut, head, found, path, value, &mut near.last)
 }
 
@@ -144,7 +132,7 @@ fn put_one<'s>(
     head: &mut FlowHead<'s, '_>,
     op: &'s Op,
     run: &mut PutRun,
-    near: &mut Near,
+    near: &mut Near<'s>,
 ) -> Result<bool, EditError>
     requires head { ReportsHead cut.now (cut_of cut.now) doc (map tree_step stem.now) head.old }
     requires run { spec.Runs (cut_of cut.now) doc (map tree_step stem.now) run.old }
@@ -182,7 +170,7 @@ fn carry_next<'s>(
     op: &'s Op,
     known: Option<Filled<'s>>,
     run: &mut PutRun,
-    near: &mut Near,
+    near: &mut Near<'s>,
 ) -> Result<Option<Option<Filled<'s>>>, EditError>
     requires head { ReportsHead cut.now (cut_of cut.now) doc (map tree_step stem.now) head.old }
     requires run { filled.FillsSo (cut_of cut.now) doc (map tree_step stem.now) known run.old }
@@ -217,13 +205,13 @@ fn put_each<'s>(
 ) -> Result<Option<Together<'s>>, EditError>
     requires head { ReportsHead cut.now (cut_of cut.now) doc (map tree_step stem.now) head.old }
     requires serves { AreServed (operations_of ops.now) cut.now }
-    ensures ok { IfOk result (λ o. IfSome o (λ x. CarriesOn ops.now cut.now x.left.now
-        (string_bytes x.edited.text) x.edited.splices.items)) }
+    ensures head { ReportsHead cut.now (cut_of cut.now) doc (map tree_step stem.now) head.new }
+    ensures ok { IfOk result (CarriesTogether ops.now cut.now) }
     ensures err { IfErr result (λ e. EditFails e (carry_all (operations_of ops.now) cut.now)) }
 {
     let text = cut.text();
     let mut run = PutRun::new(alloc);
-    let mut near = nothing_near(alloc)?;
+    let mut near = Near::new(alloc, false)?;
     let mut known = None;
     let mut rest = ops;
     'operations: while let [op, after @ ..] = rest {
@@ -236,6 +224,28 @@ fn put_each<'s>(
     }
     let edited = run.end(text)?;
     Ok(Some(Together { edited, left: rest }))
+}
+
+/// Carries out operations that change the collections of a head, each after the one before it in the text or in any
+/// order; nothing, where one of them does something else, or changes what another one put.
+fn put_all<'s>(
+    alloc: Global,
+    cut: &CutText<'_, '_>,
+    doc: usize,
+    stem: &[Step],
+    head: &mut FlowHead<'s, '_>,
+    ops: &'s [Op],
+) -> Result<Option<Together<'s>>, EditError>
+    requires head { ReportsHead cut.now (cut_of cut.now) doc (map tree_step stem.now) head.old }
+    requires serves { AreServed (operations_of ops.now) cut.now }
+    ensures ok { IfOk result (CarriesTogether ops.now cut.now) }
+    ensures err { IfErr result (λ e. EditFails e (carry_all (operations_of ops.now) cut.now)) }
+{
+    let found = put_each(alloc, cut, doc, stem, head, ops)?;
+    if let Some(together) = found {
+        return Ok(Some(together));
+    }
+    Ok(put_in_any_order(alloc, cut, doc, stem, head, ops)?)
 }
 
 /// The document and the steps of the collection that an operation may change in a head, if it is one that
@@ -260,8 +270,7 @@ pub fn carry_together<'o>(
     ops: &'o [Op],
 ) -> Result<Option<Together<'o>>, EditError>
     requires { AreServed (operations_of ops.now) cut.now }
-    ensures ok { IfOk result (λ o. IfSome o (λ x. CarriesOn ops.now cut.now x.left.now
-        (string_bytes x.edited.text) x.edited.splices.items)) }
+    ensures ok { IfOk result (CarriesTogether ops.now cut.now) }
     ensures err { IfErr result (λ e. EditFails e (carry_all (operations_of ops.now) cut.now)) }
 {
     let [op, _, ..] = ops else {
@@ -276,6 +285,6 @@ pub fn carry_together<'o>(
     let (stem, _) = steps.split_at(steps.len() - head.left.len());
     match op {
         Op::Remove(_) => remove_each(alloc, cut, doc, stem, &mut head, ops),
-        _ => put_each(alloc, cut, doc, stem, &mut head, ops),
+        _ => put_all(alloc, cut, doc, stem, &mut head, ops),
     }
 }

@@ -56,16 +56,16 @@ key_new (Some k) n t = subst (λ (m : tree.Node). IsNewKey (Some k) (keys_of (ch
 -- ---- in a collection
 
 module _ (c : Cut) (doc : ℕ) (steps : List Step) (key : Option (List ℕ)) (v : tree.Node) (w : CollPieces) (read : read_at (cut_text c) ≡ Some c) (found : flow_collection doc steps c ≡ Some w) where
-  abbrev at : FlowAt c doc steps w
+  abbrev pub at : FlowAt c doc steps w
   at = standing.at c doc steps w read found
 
-  abbrev x : CollAt
+  abbrev pub x : CollAt
   x = standing.x c doc steps w read found
 
   abbrev pub e : FlowEdit
   e = appending (flow_key key) (flow_of v) w
 
-  stands : IsCollAt x
+  pub stands : IsCollAt x
   stands = standing.stands c doc steps w read found
 
   old_is : cut_text c ≡ (standing.row_text c doc steps w read found).before ++ node_text x.node x.rest
@@ -79,7 +79,7 @@ module _ (c : Cut) (doc : ℕ) (steps : List Step) (key : Option (List ℕ)) (v 
 
   -- one that fits
   module _ (u : KeyIsUtf8 key) (h : IsValueTree v) (takes : takes_key w.close key ≡ true) (fits : Fits (room_of (cut_text c)) (append doc steps key v) (documents c)) where
-    append_done : FlowCarried (append doc steps key v) c steps w at e (append_child (key_label key) v)
+    pub append_done : FlowCarried (append doc steps key v) c steps w at e (append_child (key_label key) v)
     append_done =
         let known = document_known (cut_text c) c doc at.part (standing.old c doc steps w read found) in
         let old : IsSoundRoot (root_of at.part) = record { unique = known.document.unique; nested = known.document.nested; bound = known.document.bound } in

@@ -148,7 +148,7 @@ module _ (c : Cut) (doc : ℕ) (path : List Step) (v : tree.Node) (read : read_a
         let size : length path ≡ length a.init + 1 = ap length (last_is path a.init a.step a.last) ∙ length-append a.init (a.step ∷ []) in
         omega (arith, standing.fewer c doc a.init a.coll read a.found, fitting.may.value_is.nested, size)
 
-    edited : IsFlowEdited x e (changed_at at.rest (within (change_child a.step (replaced_node v))))
+    pub edited : IsFlowEdited x e (changed_at at.rest (within (change_child a.step (replaced_node v))))
     edited =
         let same : changed_at (at.rest ++ (a.step ∷ [])) (put_value v) ≡ changed_at at.rest (within (change_child a.step (replaced_node v))) =
         ap (changed_at (at.rest ++ (a.step ∷ []))) (λ i n. put_is v n i) ∙ sym (change_last at.rest a.step (replaced_node v)) in

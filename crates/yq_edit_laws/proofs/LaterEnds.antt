@@ -76,7 +76,7 @@ added_behind k g gap key m (item j n sep (item j2 n2 sep2 is)) rest some =
 
 -- ---- where a collection ends
 
-items_end : (k : ℕ) (gap : List ℕ) (is : Items) (rest : List ℕ) → is_none is ≡ false → length (behind_last k gap is rest) ≤ length (flow_items_text k is rest)
+pub items_end : (k : ℕ) (gap : List ℕ) (is : Items) (rest : List ℕ) → is_none is ≡ false → length (behind_last k gap is rest) ≤ length (flow_items_text k is rest)
 unfolding flow_items_text
 items_end k gap none rest some = absurd (false≢true (sym some))
 items_end k gap (item key n sep none) rest some = omega (arith, key_longer key (node_text n (sep_text sep (k ∷ rest))), node_longer n (sep_text sep (k ∷ rest)))
@@ -85,7 +85,7 @@ items_end k gap (item key n sep (item key2 n2 sep2 is)) rest some =
     omega (arith, items_end k gap (item key2 n2 sep2 is) rest refl, sep_longer sep behind, node_longer n (sep_text sep behind), key_longer key (node_text n (sep_text sep behind)))
 
 -- no item or entry ends after the last one
-item_end : (k : ℕ) (gap : List ℕ) (s : Step) (is : Items) (rest : List ℕ) (y : EntryPieces) → item_at k s is rest ≡ Some y → length (behind_last k gap is rest) ≤ length y.rest
+pub item_end : (k : ℕ) (gap : List ℕ) (s : Step) (is : Items) (rest : List ℕ) (y : EntryPieces) → item_at k s is rest ≡ Some y → length (behind_last k gap is rest) ≤ length y.rest
 unfolding flow_items_text
 item_end k gap s none rest y e = absurd (none-some _ e)
 item_end k gap s (item key n sep none) rest y e = go (is_here s (key_label (key_content key))) e
@@ -103,19 +103,19 @@ item_end k gap s (item key n sep (item key2 n2 sep2 is)) rest y e = go (is_here 
     go true e again = omega (arith, ap (λ (z : EntryPieces). length z.rest) (same_Some _ _ e), items_end k gap others rest refl, sep_longer sep (flow_items_text k others rest))
     go false e again = again e
 
-node_end : (s : Step) (node : FlowNode) (rest : List ℕ) (w : CollPieces) (y : EntryPieces) → coll_in node rest ≡ Some w → path_inside s node rest ≡ Some y → length (behind_appended w) ≤ length y.rest
+pub node_end : (s : Step) (node : FlowNode) (rest : List ℕ) (w : CollPieces) (y : EntryPieces) → coll_in node rest ≡ Some w → path_inside s node rest ≡ Some y → length (behind_appended w) ≤ length y.rest
 node_end s empty rest w y e at = absurd (none-some _ e)
 node_end s (alias n) rest w y e at = absurd (none-some _ e)
 node_end s (scalar p) rest w y e at = absurd (none-some _ e)
 node_end s (coll k gap is) rest w y e at = omega (arith, item_end k gap s is rest y at, ap (λ (v : CollPieces). length (behind_appended v)) (same_Some _ _ e))
 node_end s (anchored n gap node) rest w y e at = node_end s node rest w y e at
 
-coll_end : (k : ℕ) (gap : List ℕ) (is : Items) (rest : List ℕ) → length (behind_last k gap is rest) ≤ length (gap ++ flow_items_text k is rest)
+pub coll_end : (k : ℕ) (gap : List ℕ) (is : Items) (rest : List ℕ) → length (behind_last k gap is rest) ≤ length (gap ++ flow_items_text k is rest)
 unfolding flow_items_text
 coll_end k gap none rest = omega arith
 coll_end k gap (item key n sep is) rest = omega (arith, items_end k gap (item key n sep is) rest refl, length-append gap (flow_items_text k (item key n sep is) rest))
 
-own_end : (node : FlowNode) (rest : List ℕ) (w : CollPieces) → coll_in node rest ≡ Some w → length (behind_appended w) < length (node_text (without_anchor node) rest)
+pub own_end : (node : FlowNode) (rest : List ℕ) (w : CollPieces) → coll_in node rest ≡ Some w → length (behind_appended w) < length (node_text (without_anchor node) rest)
 unfolding node_text
 own_end empty rest w e = absurd (none-some _ e)
 own_end (alias n) rest w e = absurd (none-some _ e)
@@ -138,7 +138,7 @@ rest_in (scalar p) rest w e = absurd (none-some _ e)
 rest_in (coll k gap is) rest w e = ap (λ (v : CollPieces). v.rest) (sym (same_Some _ _ e))
 rest_in (anchored n gap node) rest w e = rest_in node rest w e
 
-last_longer : (k : ℕ) (gap : List ℕ) (is : Items) (rest : List ℕ) → length rest < length (behind_last k gap is rest)
+pub last_longer : (k : ℕ) (gap : List ℕ) (is : Items) (rest : List ℕ) → length rest < length (behind_last k gap is rest)
 last_longer k gap none rest = omega (arith, length-append gap (k ∷ rest))
 last_longer k gap (item j n sep none) rest = omega (arith, sep_longer sep (k ∷ rest))
 last_longer k gap (item j n sep (item j2 n2 sep2 is)) rest = last_longer k gap (item j2 n2 sep2 is) rest

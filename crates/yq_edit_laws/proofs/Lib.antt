@@ -7,12 +7,14 @@ pub mod FlowStandings
 pub mod FlowWholeLaws
 pub mod LaterParts
 pub mod LaterEnds
+pub mod FlowLonger
+pub mod EarlierParts
 pub mod LaterCuts
 pub mod FlowPutLaws
 pub mod FlowAppendLaws
+pub mod EarlierPuts
 pub mod FlowRemoveLaws
 pub mod SoleLaws
-pub mod FlowLonger
 pub mod EarlierCollections
 pub mod FlowHeads
 pub mod FlowAnswers

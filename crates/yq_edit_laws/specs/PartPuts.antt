@@ -113,3 +113,11 @@ EndsAsIn w c n steps = (z : CollPieces) × (flow_collection n steps c ≡ Some z
 -- one more item or entry of a collection comes in the last n bytes of a text; if it has none, with more bytes before it there (own)
 abbrev pub EndsAfter : ℕ → CollPieces → Type 0
 EndsAfter n w = (length (behind_appended w) ≤ n) × (is_none w.items ≡ true → length (behind_appended w) < n)
+
+-- a part of document n comes before a text, and is in a cut, before another one in its place (7.4; own)
+abbrev pub IsPartBefore : Cut → ℕ → List Step → Step → EntryPieces → List ℕ → List ℕ → Type 0
+IsPartBefore cut n steps s y t t2 = (m : List ℕ) × (y.rest ≡ m ++ t) × IsPartOf cut n steps s (record y { rest = m ++ t2 })
+
+-- the same of a collection (own)
+abbrev pub IsCollBefore : Cut → ℕ → List Step → CollPieces → List ℕ → List ℕ → Type 0
+IsCollBefore cut n steps w t t2 = (m : List ℕ) × (w.rest ≡ m ++ t) × (flow_collection n steps cut ≡ Some (record w { rest = m ++ t2 }))

@@ -1,0 +1,116 @@
+-- Values put in any order in the flow collections of one head, which was read once, and items and entries put into these (YAML 1.2.2, 7.4; own).
+use Rattle.std.specs.Prelude.{◌≡◌, ⊤, ℕ, ◌+◌, ◌-◌, ◌<◌, ◌≤◌, Bool, true, false, List, [], ◌∷◌, ◌++◌, drop, take, length, map, Option, Some}
+use Rattle.std.{specs.Prelude.{None, IfSome, String, string_bytes}, specs.Str.IsCharBoundary, specs.declared.alloc.Global.Global}
+use Rattle.yq_text.{specs.Halves.whole, specs.declared.halves.Halves.Halves, specs.Limit.text_limit, specs.Script.splice_at}
+use Rattle.yq_text.specs.Splice.{Splice}
+use Rattle.yq_core.{specs.Paths.Step, specs.Collections.CollPieces, specs.Entries.{EntryPieces, tree_step}}
+use Rattle.yq_core.specs.Nodes.{node_text, without_anchor}
+use Rattle.yq_flow_edits.specs.FlowEdits.{behind_appended, is_none}
+use Rattle.yq_row_table.specs.Rows.{Cut, cut_text}
+use Rattle.yq_documents.specs.Reading.{cut_of, read_at}
+use Rattle.yq_places.{specs.FlowNodes.flow_collection, specs.FlowViews.LeadsToHead}
+use Rattle.yq_semantics.{specs.Operations.{Operation, operation_of}, specs.declared.op.Op.Op}
+use Rattle.yq_edit_laws.{specs.PartPuts.IsPartOf, specs.Carried.carried, specs.Edit.gives, specs.Theorems.IsApplied}
+use Rattle.yq_batch.specs.Slots.{AreInOrder, HasCounts, IsPutIn, SlotView, slot_places, slots_of, text_from}
+use Rattle.yq_batch.{specs.declared.any_order.SlotRun.SlotRun, specs.declared.slots.SlotPlace.SlotPlace, specs.declared.slots.Slots.Slots}
+use Rattle.yq_core.specs.declared.path.Step as declared
+
+-- a collection is in a cut that has the same bracket and as many items or none, and this text after the last one (7.4; own)
+abbrev pub EndsBefore : CollPieces → Cut → ℕ → List Step → List ℕ → Type 0
+EndsBefore w cut n steps rest = (z : CollPieces) × (flow_collection n steps cut ≡ Some z) × (z.close ≡ w.close) × (is_none z.items ≡ is_none w.items) × (behind_appended z ≡ rest)
+
+-- What is known in a cut of a place of another one, after which is this text: the part that has its content there, as long as nothing was put there, or
+-- the collection that ends there, unless it was empty and something was put there (own).
+pub record IsStill (c cut : Cut) (n : ℕ) (stem : List Step) (s : SlotView) (rest : List ℕ) : Type 0 where
+  pub part : s.new ≡ None → s.place.more ≡ false → (left : List Step) (r : Step) (y : EntryPieces) → IsPartOf c n (stem ++ left) r y → y.rest ≡ drop s.place.end (cut_text c) →
+      length (node_text (without_anchor y.node) y.rest) ≡ length (cut_text c) - s.place.start → IsPartOf cut n (stem ++ left) r (record y { rest = rest })
+  pub ends : s.place.more ≡ true → (left : List Step) (w : CollPieces) → flow_collection n (stem ++ left) c ≡ Some w → behind_appended w ≡ drop s.place.end (cut_text c) →
+      (is_none w.items ≡ true → s.new ≡ None) → EndsBefore w cut n (stem ++ left) rest
+
+-- the same of several places (own)
+abbrev pub AreStill : (c cut : Cut) → ℕ → List Step → List SlotView → Type 0
+AreStill c cut n stem [] = ⊤
+AreStill c cut n stem (s ∷ ss) = IsStill c cut n stem s (text_from (cut_text c) s.place.end ss) × AreStill c cut n stem ss
+
+-- the places at which something was put are between characters (own)
+abbrev pub AreCharEdges : List ℕ → List SlotView → Type 0
+AreCharEdges t [] = ⊤
+AreCharEdges t (s ∷ ss) = ((w : List ℕ) → s.new ≡ Some w → IsCharBoundary t s.place.start × IsCharBoundary t s.place.end) × AreCharEdges t ss
+
+-- Values were put at places of a head, and items and entries: the text reads, and the places are there as far as is known of them (own).
+pub record IsOpenRun (c : Cut) (n : ℕ) (stem : List Step) (slots : List SlotView) : Type 0 where
+  pub order : AreInOrder 0 (slot_places slots) (length (cut_text c))
+  pub edges : AreCharEdges (cut_text c) slots
+  pub cut : Cut
+  pub read : read_at (text_from (cut_text c) 0 slots) ≡ Some cut
+  pub leads : LeadsToHead cut n stem
+  pub still : AreStill c cut n stem slots
+
+-- the text that a run has made so far (own)
+abbrev pub open_text : Cut → SlotRun → List ℕ
+open_text c r = text_from (cut_text c) 0 (slots_of r.slots)
+
+-- a run of the code is one (own)
+pub record RunsOpen (c : Cut) (n : ℕ) (stem : List Step) (r : SlotRun) : Type 0 where
+  pub run : IsOpenRun c n stem (slots_of r.slots)
+  pub counts : HasCounts r.slots
+  pub size : r.size ≡ length (open_text c r)
+
+-- A text was put at a place of a run, after a lead (own).
+pub record HasOpened (t : List ℕ) (place : SlotPlace) (lead written : List ℕ) (before after : SlotRun) : Type 0 where
+  pub at : ℕ
+  pub was : ℕ
+  pub put : IsPutIn (slots_of before.slots) (slots_of after.slots) place lead written at was
+  pub counts : HasCounts after.slots
+  pub splices : after.splices.items ≡ before.splices.items ++ splice_at at (drop place.start (take place.end t)) (lead ++ written)
+  pub size : after.size + was ≡ before.size + length (lead ++ written)
+  pub small : after.size ≤ text_limit
+
+-- The bytes of a place were put there again (own).
+pub record HasKept (t : List ℕ) (place : SlotPlace) (before after : SlotRun) : Type 0 where
+  pub at : ℕ
+  pub was : ℕ
+  pub put : IsPutIn (slots_of before.slots) (slots_of after.slots) place [] (drop place.start (take place.end t)) at was
+  pub counts : HasCounts after.slots
+  pub splices : after.splices.items ≡ before.splices.items
+  pub size : after.size ≡ before.size
+
+-- An operation is carried out on the text of a run, which goes on after it (own).
+pub record OpensOn (op : Operation) (c : Cut) (n : ℕ) (steps : List Step) (before after : SlotRun) : Type 0 where
+  pub new_bytes : List Splice
+  pub comes : carried op (open_text c before) ≡ gives (open_text c after) new_bytes
+  pub applied : IsApplied op (open_text c before) (open_text c after) new_bytes
+  pub splices : after.splices.items ≡ before.splices.items ++ new_bytes
+  pub run : RunsOpen c n steps after
+
+-- what was put at places after an offset may be written: they come in order, between characters (own)
+abbrev pub MayWrite : List ℕ → ℕ → List SlotView → Type 0
+MayWrite t at ss = AreCharEdges t ss × AreInOrder at (slot_places ss) (length t)
+
+-- It was written after a text that ends at an offset, up to another offset: so the same bytes come, whatever comes after it (own).
+pub record HasWritten (t : List ℕ) (ss : List SlotView) (out : List ℕ) (at : ℕ) (out2 : List ℕ) (at2 : ℕ) : Type 0 where
+  pub edge : IsCharBoundary t at2
+  pub reached : (after : List SlotView) → AreInOrder at (slot_places (ss ++ after)) (length t) → AreInOrder at2 (slot_places after) (length t)
+  pub text : (after : List SlotView) → out2 ++ text_from t at2 after ≡ out ++ text_from t at (ss ++ after)
+
+-- a run in which nothing was put (own)
+pub record BeginsOpen (t : List ℕ) (n : ℕ) (stem : List Step) (r : SlotRun) : Type 0 where
+  pub run : RunsOpen (cut_of t) n stem r
+  pub text : open_text (cut_of t) r ≡ t
+  pub none : r.splices.items ≡ []
+
+-- the same of an operation of the code, if it was carried out (own)
+abbrev pub CarriesOpen : Op → List ℕ → ℕ → List declared.Step → (before after : SlotRun) → Bool → Type 0
+CarriesOpen op t n stem before after done = done ≡ true → OpensOn (operation_of op) (cut_of t) n (map tree_step stem) before after
+
+-- such a run of the code, if there is one (own)
+abbrev pub BeginsIfAny : List ℕ → ℕ → List declared.Step → Option SlotRun → Type 0
+BeginsIfAny t n stem o = IfSome o (λ r. BeginsOpen t n (map tree_step stem) r)
+
+-- the bytes of a text with all that was put at places (own)
+abbrev pub IsWritten : Halves → Slots → String Global → Type 0
+IsWritten t slots new = string_bytes new ≡ text_from (whole t) 0 (slots_of slots)
+
+-- a text was put at a place of a run, after a lead, if it was (own)
+abbrev pub OpensIf : Halves → SlotPlace → (lead written : List ℕ) → (before after : SlotRun) → Bool → Type 0
+OpensIf t place lead written before after done = done ≡ true → HasOpened (whole t) place lead written before after

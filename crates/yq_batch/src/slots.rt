@@ -1,0 +1,213 @@
+//! Places of a text at which values are put in any order, each with what was put there.
+ghost use Rattle.std.specs.Prelude.{◌≡◌, ◌+◌, true, IfOk, IfSome};
+ghost use Rattle.yq_batch.specs.Slots as spec;
+
+use std::alloc::{AllocError, Global};
+
+/// Where a value is put, or an item or entry more.
+#[derive(Clone, Copy)]
+pub(crate) struct SlotPlace {
+    pub(crate) start: usize,
+    pub(crate) end: usize,
+    /// Whether it is an item or entry more.
+    pub(crate) more: bool,
+}
+
+/// A place, and what was put there.
+#[derive(Drop)]
+pub(crate) struct Slot {
+    pub(crate) place: SlotPlace,
+    pub(crate) text: Option<String>,
+}
+
+/// Places in order: one, or those before an offset and those from there on. Of the ones before, how many bytes were
+/// replaced, and by how many.
+#[derive(Drop)]
+pub(crate) enum Slots {
+    One(Slot),
+    Two(Box<Slots>, usize, usize, usize, Box<Slots>),
+}
+
+/// Where a text was put in the text as it was then, and of how many bytes of the first text it takes the place.
+#[derive(Clone, Copy)]
+pub(crate) struct SlotPut {
+    pub(crate) at: usize,
+    pub(crate) was: usize,
+}
+
+/// An offset, after as many bytes were replaced by others.
+pub(crate) fn moved(at: usize, olds: usize, news: usize) -> Option<usize>
+    ensures { IfSome result (λ n. n + olds ≡ at + news) }
+{
+    let longer = at.checked_add(news)?;
+    longer.checked_sub(olds)
+}
+
+impl Slot {
+    /// Puts a text there, after a lead: a content once, an item or entry more after those that were put.
+    fn put(
+        &mut self,
+        alloc: Global,
+        place: SlotPlace,
+        lead: &str,
+        written: &str,
+    ) -> Result<Option<SlotPut>, AllocError>
+        ensures { IfOk result (λ o. IfSome o (λ p. spec.IsPutAt (spec.slot_view self.old)
+            (spec.slot_view self.new) place lead.now written.now p.at p.was)) }
+    {
+        if self.place.start != place.start || self.place.end != place.end {
+            return Ok(None);
+        }
+        if self.place.more != place.more || place.end < place.start {
+            return Ok(None);
+        }
+        let Some(text) = &mut self.text else {
+            let mut new = String::from_str(alloc, lead)?;
+            new.push_str(written)?;
+            self.text = Some(new);
+            return Ok(Some(SlotPut {
+                at: place.start,
+                was: place.end - place.start,
+            }));
+        };
+        if !place.more || lead.is_empty() {
+            return Ok(None);
+        }
+        let Some(at) = place.start.checked_add(text.len()) else {
+            return Ok(None);
+        };
+        text.push_str(lead)?;
+        text.push_str(written)?;
+        Ok(Some(SlotPut { at, was: 0 }))
+    }
+}
+
+impl Slots {
+    /// Puts a text at one of the places, after a lead.
+    pub(crate) fn put(
+        &mut self,
+        alloc: Global,
+        place: SlotPlace,
+        lead: &str,
+        written: &str,
+    ) -> Result<Option<SlotPut>, AllocError>
+        requires { spec.HasCounts self.old }
+        ensures counts { IfOk result (λ o. IfSome o (λ p. spec.HasCounts self.new)) }
+        ensures put { IfOk result (λ o. IfSome o (λ p. spec.IsPutIn (spec.slots_of self.old)
+            (spec.slots_of self.new) place lead.now written.now p.at p.was)) }
+    {
+        match self {
+            Slots::One(slot) => slot.put(alloc, place, lead, written),
+            Slots::Two(left, split, olds, news, right) => {
+                if place.start >= *split {
+                    let Some(put) = right.put(alloc, place, lead, written)? else {
+                        return Ok(None);
+                    };
+                    let Some(at) = moved(put.at, *olds, *news) else {
+                        return Ok(None);
+                    };
+                    return Ok(Some(SlotPut { at, was: put.was }));
+                }
+                let Some(put) = left.put(alloc, place, lead, written)? else {
+                    return Ok(None);
+                };
+                let Some(replaced) = olds.checked_add(put.was) else {
+                    return Ok(None);
+                };
+                let Some(longer) = news.checked_add(lead.len()) else {
+                    return Ok(None);
+                };
+                let Some(by) = longer.checked_add(written.len()) else {
+                    return Ok(None);
+                };
+                *olds = replaced;
+                *news = by;
+                Ok(Some(put))
+            }
+        }
+    }
+}
+
+/// Places at which nothing was put.
+pub(crate) fn slots_at(alloc: Global, places: &[SlotPlace]) -> Result<Option<Slots>, AllocError>
+    ensures { IfOk result (spec.AreEmpty places.now) }
+{
+    let [first, others @ ..] = places else {
+        return Ok(None);
+    };
+    if others.is_empty() {
+        return Ok(Some(Slots::One(Slot {
+            place: *first,
+            text: None,
+        })));
+    }
+    let (front, back) = places.split_at(places.len() / 2);
+    let Some(left) = slots_at(alloc, front)? else {
+        return Ok(None);
+    };
+    let Some(right) = slots_at(alloc, back)? else {
+        return Ok(None);
+    };
+    let [middle, ..] = back else {
+        return Ok(None);
+    };
+    let left = Box::new(alloc, left)?;
+    let right = Box::new(alloc, right)?;
+    Ok(Some(Slots::Two(left, middle.start, 0, 0, right)))
+}
+
+/// Places, each once, if equal ones are next to each other.
+pub(crate) fn each_once(
+    alloc: Global,
+    places: &[(usize, usize, bool)],
+) -> Result<Vec<SlotPlace>, AllocError> {
+    let mut once = Vec::with_capacity(alloc, places.len())?;
+    let mut last = None;
+    let mut rest = places;
+    'places: while let [place, after @ ..] = rest {
+        if last != Some(*place) {
+            let (start, end, more) = *place;
+            once.push(SlotPlace { start, end, more })?;
+        }
+        last = Some(*place);
+        rest = after;
+    }
+    Ok(once)
+}
+
+/// Whether a place comes before another one, with something between them, or a content ends where an item or entry
+/// more comes.
+fn comes_first(one: SlotPlace, other: SlotPlace) -> bool
+    ensures { result ≡ true → spec.ComesFirst one other }
+{
+    if one.end < other.start {
+        return true;
+    }
+    one.end == other.start && !one.more && other.more && one.start < one.end
+}
+
+/// The same of the first one of several, if there is one.
+fn is_first(one: SlotPlace, others: &[SlotPlace]) -> bool
+    ensures { result ≡ true → spec.IsBeforeFirst one others.now }
+{
+    match others {
+        [other, ..] => comes_first(one, *other),
+        [] => true,
+    }
+}
+
+/// Whether places come one after the other in a text so long.
+pub(crate) fn are_in_order(places: &[SlotPlace], size: usize) -> bool
+    ensures { result ≡ true → spec.AreInOrder 0 places.now size }
+{
+    let mut at = 0;
+    let mut rest = places;
+    'places: while let [place, after @ ..] = rest {
+        if place.start < at || place.end < place.start || !is_first(*place, after) {
+            return false;
+        }
+        at = place.end;
+        rest = after;
+    }
+    at <= size
+}
