@@ -45,8 +45,8 @@ abbrev pub BeginsThere : (dashes : Bool) → List Slices → StepSearch → Type
 BeginsThere dashes ss k = (s : Slices) → slice_get ss k.row ≡ Some s → begins_under_level dashes k.above (line_level 0 s) ≡ true
 
 -- a search that ended before two rows ended at such a collection
-abbrev pub EndsBefore : ℕ → ℕ → (dashes : Bool) → List Slices → StepSearch → Type 0
-EndsBefore upto end dashes ss k = k.row < upto → k.row < end → BeginsThere dashes ss k
+abbrev pub EndsSearch : ℕ → ℕ → (dashes : Bool) → List Slices → StepSearch → Type 0
+EndsSearch upto end dashes ss k = k.row < upto → k.row < end → BeginsThere dashes ss k
 
 -- A search went as far in each text in which the items of its cut stay that end in front of so many bytes.
 abbrev pub StaysSearched : (dashes : Bool) → ℕ → Cut → StepSearch → Type 0

@@ -79,7 +79,7 @@ pub fn search_step(
     ensures order { document.first ≤ result.row }
     ensures within { result.row ≤ document.end }
     ensures searched { reading.IsSearched dashes rows.now.rows result }
-    ensures stops { reading.EndsBefore upto document.end dashes rows.now.rows result }
+    ensures stops { reading.EndsSearch upto document.end dashes rows.now.rows result }
 {
     let start = search_from(document, known);
     let end = upto.min(document.end).max(start.row);
