@@ -1,5 +1,5 @@
 -- A text put at one of several places: which one, and how many bytes were replaced before others.
-use Rattle.std.proofs.Common.{◌≡◌, ℕ, ◌+◌, ◌-◌, List, [], ◌∷◌, ◌++◌, length, map, Option, Some, None, refl, sym, ap, ◌∙◌, subst, arith}
+use Rattle.std.proofs.Common.{◌≡◌, ℕ, ◌+◌, ◌-◌, List, [], ◌∷◌, ◌++◌, length, map, Option, Some, None, refl, sym, ap, ◌∙◌, arith}
 use Rattle.std.{proofs.Common.{append_assoc, length-append, Result, Ok, Err, IfOk}, specs.Prelude.IfSome}
 use Rattle.yq_batch.{specs.declared.slots.SlotPlace.SlotPlace, specs.declared.slots.SlotPut.SlotPut}
 use Rattle.yq_batch.specs.Slots.{IsPutAt, IsPutIn, SlotView, count_of, empty_slot, news_of, olds_of, put_or, put_text}

@@ -1,10 +1,10 @@
 -- The text with what was put at places in any order: before a place, there, and after it.
 use Rattle.std.proofs.Common.{◌≡◌, ◌⊎◌, inl, inr, ℕ, ◌+◌, ◌-◌, ◌<◌, ◌≤◌, false, List, [], ◌∷◌, ◌++◌, drop, take, length, map, Option, Some}
-use Rattle.std.proofs.Common.{None, refl, sym, ap, ◌∙◌, subst, arith, append_assoc, length-append}
+use Rattle.std.proofs.Common.{None, refl, sym, ap, ◌∙◌, arith, append_assoc, length-append}
 use Rattle.std.proofs.lemmas.List.{drop-append-le, length-drop, length-take-le, take-append-drop, take-take}
 use Rattle.yq_batch.specs.declared.slots.SlotPlace.{SlotPlace}
-use Rattle.yq_batch.specs.Slots.{AreInOrder, ComesFirst, IsBeforeFirst, SlotView, count_of, empty_slot, news_of, olds_of, passed}
-use Rattle.yq_batch.specs.Slots.{slot_places, put_or, put_text, slot_text, text_from}
+use Rattle.yq_batch.specs.Slots.{AreInOrder, IsBeforeFirst, SlotView, count_of, empty_slot, news_of, olds_of, passed, slot_places, put_or}
+use Rattle.yq_batch.specs.Slots.{slot_text, text_from}
 
 -- ---- places in order
 

@@ -1,27 +1,25 @@
 -- One more item or entry put into a collection of a head, whatever was put at other places.
-use Rattle.std.proofs.Common.{◌≡◌, ℕ, ◌+◌, ◌-◌, ◌≤◌, ◌<◌, Bool, true, false, cond, List, [], ◌∷◌, ◌++◌, drop, take, length, Option, Some}
-use Rattle.std.proofs.Common.{None, refl, sym, ap, ◌∙◌, subst, arith, append_assoc, append-nil, length-append}
-use Rattle.std.{proofs.Math.Seq.drop-append_seam, proofs.lemmas.List.{drop_all, length-take-le}, specs.Option.option_or}
-use Rattle.std.{proofs.lemmas.Bool.false≢true, proofs.lemmas.Option.none-some, specs.Str.IsCharBoundary}
-use Rattle.yq_text.{specs.Limit.text_limit, specs.Script.{Segment, new_text, splice_at}}
-use Rattle.yq_core.{specs.NodesWritten.{flow_key, flow_of}, specs.Answers.◌>>=◌, specs.Paths.Step, specs.Tree.Node}
-use Rattle.yq_core.specs.Collections.{CollPieces}
-use Rattle.yq_flow_edits.{specs.FlowEdits.{FlowEdit, behind_appended, is_none}, specs.FlowPlaces.PlacedEdit}
-use Rattle.yq_flow_edits.specs.declared.flow_place.EditPlace.{EditPlace}
+use Rattle.std.proofs.Common.{◌≡◌, ℕ, ◌+◌, ◌-◌, ◌≤◌, Bool, true, false, cond, List, [], ◌∷◌, ◌++◌, drop, take, length, Option, Some, None}
+use Rattle.std.{proofs.Common.{refl, sym, ap, ◌∙◌, subst, arith, append_assoc, append-nil, length-append}, proofs.Math.Seq.drop-append_seam}
+use Rattle.std.{proofs.lemmas.List.{drop_all, length-take-le}, specs.Option.option_or, proofs.lemmas.Bool.false≢true}
+use Rattle.std.{proofs.lemmas.Option.none-some, specs.Str.IsCharBoundary}
+use Rattle.yq_text.{specs.Limit.text_limit, specs.Script.{Segment, splice_at}}
+use Rattle.yq_core.{specs.Answers.◌>>=◌, specs.Paths.Step, specs.Tree.Node, specs.Collections.CollPieces}
+use Rattle.yq_flow_edits.{specs.FlowEdits.{FlowEdit, is_none}, specs.FlowPlaces.PlacedEdit, specs.declared.flow_place.EditPlace.EditPlace}
 use Rattle.yq_row_table.specs.Rows.{Cut, cut_text}
 use Rattle.yq_documents.specs.Reading.{documents, read_at}
 use Rattle.yq_places.{specs.FlowNodes.flow_collection, specs.declared.places.flow_node.FlowHead.FlowHead}
 use Rattle.yq_semantics.{specs.Fits.Fits, specs.Operations.append, specs.Rooms.room_of}
 use Rattle.yq_edit_rules.{specs.Edits.{op_edits, or_stay}, specs.FlowParts.{flow_more, flow_segments, takes_key}, specs.Operands.HasOperand}
-use Rattle.yq_edit_laws.{specs.PartPuts.{EndsAsIn, IsEditPlace, more_edit}, proofs.CutLaws.text_read}
+use Rattle.yq_edit_laws.{specs.PartPuts.{IsEditPlace, more_edit}, proofs.CutLaws.text_read}
 use Rattle.yq_edit_laws.proofs.EarlierPuts.{coll_before_more, part_before_more}
 use Rattle.yq_edit_laws.proofs.FlowAppendLaws.{appended_reads, end_behind, head_behind, next, part_behind}
 use Rattle.yq_edit_laws.{proofs.HeadStandings.no_rows_more, specs.Carried.{carried, carry_one}}
 use Rattle.yq_edit_laws.{specs.Edit.{by_reading, edit_of_segments, gives}, specs.Theorems.IsFitting}
 use Rattle.yq_batch.{proofs.PutComes.{made_text, new_is, segments_come}, proofs.RunEdits.{edit_size, fits_now}}
 use Rattle.yq_batch.specs.declared.slots.SlotPlace.{SlotPlace}
-use Rattle.yq_batch.specs.Slots.{AreInOrder, IsPutIn, SlotView, count_of, news_of, olds_of, slot_places, put_or, put_text, slot_text}
-use Rattle.yq_batch.{specs.Slots.text_from, specs.OpenRuns.{AreCharEdges, AreStill, EndsBefore, IsOpenRun, IsStill}}
+use Rattle.yq_batch.specs.Slots.{AreInOrder, IsPutIn, SlotView, count_of, slot_places, put_or, put_text, slot_text, text_from}
+use Rattle.yq_batch.specs.OpenRuns.{AreCharEdges, AreStill, EndsBefore, IsOpenRun, IsStill}
 use Rattle.yq_batch.{proofs.SlotLaws.{front_length, front_of, order_at, places_same}, proofs.SlotPuts.{edges_put, still_at}}
 use Rattle.yq_batch.proofs.SlotStills.{Leaves, new_text_is, old_text, room_more, stills}
 
@@ -116,7 +114,7 @@ module _ (c : Cut) (n : ℕ) (stem left : List Step) (key : Option (List ℕ)) (
   ends = (still_at c run.cut n stem front s back still).ends (ap (λ (q : SlotPlace). q.more) s_place) left w found (sym behind_is ∙ ap (λ (q : SlotPlace). drop q.end t) (sym s_place)) none_new
 
   abbrev z : CollPieces
-  z = ends.0
+  z = ends.coll
 
   text : cut_text run.cut ≡ now
   text = text_read now run.cut run.read
@@ -125,15 +123,15 @@ module _ (c : Cut) (n : ℕ) (stem left : List Step) (key : Option (List ℕ)) (
   read = ap read_at text ∙ run.read
 
   takes_now : takes_key z.close key ≡ true
-  takes_now = ap (λ (k : ℕ). takes_key k key) ends.2 ∙ takes
+  takes_now = ap (λ (k : ℕ). takes_key k key) ends.close ∙ takes
 
   abbrev e2 : FlowEdit
   e2 = more_edit key v z
 
   edits : op_edits (append n path key v) run.cut ≡ Some (flow_segments (cut_text run.cut) e2)
   edits =
-      ap (λ (o : Option (List Segment)). option_or o (flow_collection n path run.cut >>= flow_more (cut_text run.cut) key v)) (no_rows_more run.cut n path z key v read ends.1)
-      ∙ (ap (λ (o : Option CollPieces). o >>= flow_more (cut_text run.cut) key v) ends.1
+      ap (λ (o : Option (List Segment)). option_or o (flow_collection n path run.cut >>= flow_more (cut_text run.cut) key v)) (no_rows_more run.cut n path z key v read ends.is)
+      ∙ (ap (λ (o : Option CollPieces). o >>= flow_more (cut_text run.cut) key v) ends.is
       ∙ ap (λ (b : Bool). cond b (Some (flow_segments (cut_text run.cut) e2)) None) takes_now)
 
   comes : carried (append n path key v) now ≡ edit_of_segments (flow_segments (cut_text run.cut) e2)
@@ -184,10 +182,10 @@ module _ (c : Cut) (n : ℕ) (stem left : List Step) (key : Option (List ℕ)) (
   new_size = omega (arith, none_gone, ap length new_text_at, ap length old_split, length-append before_text ((lead ++ written) ++ rest), length-append (lead ++ written) rest, length-append before_text ([] ++ rest))
 
   split : cut_text run.cut ≡ before_text ++ (e2.old ++ e2.behind)
-  split = text ∙ (old_split ∙ ap (λ (l : List ℕ). before_text ++ l) (sym ends.4))
+  split = text ∙ (old_split ∙ ap (λ (l : List ℕ). before_text ++ l) (sym ends.behind))
 
   new_is_made : (lead ++ written) ++ rest ≡ (e2.lead ++ e2.written) ++ e2.behind
-  new_is_made = λ i. ((lead_is ∙ ap (λ (b : Bool). cond b [] (44 ∷ (32 ∷ []))) (sym ends.3)) i ++ is i) ++ sym ends.4 i
+  new_is_made = λ i. ((lead_is ∙ ap (λ (b : Bool). cond b [] (44 ∷ (32 ∷ []))) (sym ends.none)) i ++ is i) ++ sym ends.behind i
 
   made_is : made_text before_text e2 ≡ text_from t 0 slots2
   made_is = append_assoc before_text (e2.lead ++ e2.written) e2.behind ∙ (ap (λ (l : List ℕ). before_text ++ l) (sym new_is_made) ∙ sym new_text_at)
@@ -197,21 +195,21 @@ module _ (c : Cut) (n : ℕ) (stem left : List Step) (key : Option (List ℕ)) (
     more_put_there =
         comes
         ∙ (segments_come (cut_text run.cut) before_text e2 split (omega (arith, small, ap length made_is))
-        ∙ λ i. gives (made_is i) (splice_at (sym at_is i) (sym nothing_old i) (sym (lead_is ∙ ap (λ (b : Bool). cond b [] (44 ∷ (32 ∷ []))) (sym ends.3)) i ++ sym is i)))
+        ∙ λ i. gives (made_is i) (splice_at (sym at_is i) (sym nothing_old i) (sym (lead_is ∙ ap (λ (b : Bool). cond b [] (44 ∷ (32 ∷ []))) (sym ends.none)) i ++ sym is i)))
 
     module _ (operand : HasOperand (append n path key v)) (fitting : IsFitting (append n path key v) now) where
       fit : Fits (room_of (cut_text run.cut)) (append n path key v) (documents run.cut)
       fit = fits_now (append n path key v) now run.cut operand fitting run.read
 
       abbrev following : Cut
-      following = next run.cut n path key v z read ends.1 stem left refl run.leads
+      following = next run.cut n path key v z read ends.is stem left refl run.leads
 
       leaves : Leaves run.cut following n stem (e2.old ++ e2.behind) ((e2.lead ++ e2.written) ++ e2.behind) (length rest) 1
       leaves = record {
-        parts_behind = λ ss r y part less begins. part_behind run.cut n path key v z read ends.1 stem left refl run.leads ss r y part (omega (arith, less, ap length ends.4)) (omega (arith, begins, ap length ends.4));
-        ends_behind = λ ss u there fits. end_behind run.cut n path key v z read ends.1 stem left refl run.leads ss u there (omega (arith, fits, ap length ends.4), λ none. omega (arith, fits, ap length ends.4));
-        parts_before = λ ss r y part long begins. part_before_more run.cut n path key v z read ends.1 stem left refl run.leads operand.0 operand.1 takes_now fit ss r y part long begins;
-        colls_before = λ ss u there long. coll_before_more run.cut n path key v z read ends.1 stem left refl run.leads operand.0 operand.1 takes_now fit ss u there long;
+        parts_behind = λ ss r y part less begins. part_behind run.cut n path key v z read ends.is stem left refl run.leads ss r y part (omega (arith, less, ap length ends.behind)) (omega (arith, begins, ap length ends.behind));
+        ends_behind = λ ss u there fits. end_behind run.cut n path key v z read ends.is stem left refl run.leads ss u there (omega (arith, fits, ap length ends.behind), λ none. omega (arith, fits, ap length ends.behind));
+        parts_before = λ ss r y part long begins. part_before_more run.cut n path key v z read ends.is stem left refl run.leads operand.0 operand.1 takes_now fit ss r y part long begins;
+        colls_before = λ ss u there long. coll_before_more run.cut n path key v z read ends.is stem left refl run.leads operand.0 operand.1 takes_now fit ss u there long;
       }
 
       -- what is known of its own place after it: the end of a collection that had some
@@ -221,8 +219,8 @@ module _ (c : Cut) (n : ℕ) (stem left : List Step) (key : Option (List ℕ)) (
         ends = λ more ss u there behind none.
             let some : is_none u.items ≡ false = some_of (is_none u.items) (λ no. none-some _ (sym (none no) ∙ put.put.new)) in
             let d = (still_at c run.cut n stem front s back still).ends (ap (λ (q : SlotPlace). q.more) s_place) ss u there (behind ∙ ap (λ (q : SlotPlace). drop q.end t) same_place) (λ no. absurd (false≢true (sym some ∙ no))) in
-            let f = end_behind run.cut n path key v z read ends.1 stem left refl run.leads ss d.0 d.1 (omega (arith, ap length d.4, ap length ends.4), λ no. absurd (false≢true (sym (d.3 ∙ some) ∙ no))) in
-            (f.0, f.1, f.2.close ∙ d.2, f.2.none ∙ d.3, f.2.behind ∙ d.4);
+            let f = end_behind run.cut n path key v z read ends.is stem left refl run.leads ss d.coll d.is (omega (arith, ap length d.behind, ap length ends.behind), λ no. absurd (false≢true (sym (d.none ∙ some) ∙ no))) in
+            record { coll = f.0; is = f.1; close = f.2.close ∙ d.close; none = f.2.none ∙ d.none; behind = f.2.behind ∙ d.behind };
       }
         where
           some_of : (b : Bool) → (b ≡ true → ⊥) → b ≡ false
@@ -236,10 +234,10 @@ module _ (c : Cut) (n : ℕ) (stem left : List Step) (key : Option (List ℕ)) (
             subst (AreCharEdges t) (sym put.new_is)
             (edges_put t front s s2 back (subst (AreCharEdges t) put.old_is run.edges) (subst (λ (q : SlotPlace). IsCharBoundary t q.start) (sym put.put.same) there.lies.start) (subst (λ (q : SlotPlace). IsCharBoundary t q.end) (sym put.put.same) there.lies.end));
         cut = following;
-        read = ap read_at (sym (new_is (cut_text run.cut) before_text e2 split ∙ made_is)) ∙ appended_reads run.cut n path key v z read ends.1 operand.0 operand.1 takes_now fit (omega (arith, small, ap length (new_is (cut_text run.cut) before_text e2 split ∙ made_is)));
-        leads = head_behind run.cut n path key v z read ends.1 stem left refl run.leads;
+        read = ap read_at (sym (new_is (cut_text run.cut) before_text e2 split ∙ made_is)) ∙ appended_reads run.cut n path key v z read ends.is operand.0 operand.1 takes_now fit (omega (arith, small, ap length (new_is (cut_text run.cut) before_text e2 split ∙ made_is)));
+        leads = head_behind run.cut n path key v z read ends.is stem left refl run.leads;
         still =
             subst (AreStill c following n stem) (sym put.new_is)
-            (stills c run.cut following n stem (e2.old ++ e2.behind) ((e2.lead ++ e2.written) ++ e2.behind) (length rest) 1 leaves s s2 back same_place before [] (lead ++ written) slot_old slot_new ends.4 (sym new_is_made) own_after
+            (stills c run.cut following n stem (e2.old ++ e2.behind) ((e2.lead ++ e2.written) ++ e2.behind) (length rest) 1 leaves s s2 back same_place before [] (lead ++ written) slot_old slot_new ends.behind (sym new_is_made) own_after
             (room_more c run.cut following n stem (e2.old ++ e2.behind) ((e2.lead ++ e2.written) ++ e2.behind) (length rest) 1 leaves s.place back (ap (λ (q : SlotPlace). q.more) s_place) (order_at 0 (length t) front s back order).2 (order_at 0 (length t) front s back order).3 (omega arith) (omega arith)) 0 front order still);
       }

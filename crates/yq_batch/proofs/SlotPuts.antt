@@ -1,12 +1,10 @@
 -- A value put at a place of a head, whatever was put at others.
-use Rattle.std.proofs.Common.{◌≡◌, ℕ, ◌+◌, ◌-◌, ◌≤◌, ◌<◌, true, false, List, [], ◌∷◌, ◌++◌, drop, take, length, Option, Some, None, refl}
-use Rattle.std.proofs.Common.{sym, ap, ◌∙◌, subst, arith, append_assoc, length-append}
-use Rattle.std.{proofs.Math.Seq.{drop-append_seam, take-append_seam}, proofs.lemmas.Bool.false≢true}
-use Rattle.std.{proofs.lemmas.Option.{none-some, same_Some}, specs.Str.IsCharBoundary}
-use Rattle.yq_text.{specs.Limit.text_limit, specs.Script.{new_text, splice_at}}
+use Rattle.std.proofs.Common.{◌≡◌, ℕ, ◌+◌, ◌-◌, ◌≤◌, true, false, List, [], ◌∷◌, ◌++◌, drop, take, length, Option, Some, None, refl, sym}
+use Rattle.std.{proofs.Common.{ap, ◌∙◌, subst, arith, append_assoc, length-append}, proofs.Math.Seq.{drop-append_seam, take-append_seam}}
+use Rattle.std.{proofs.lemmas.Bool.false≢true, proofs.lemmas.Option.{none-some, same_Some}, specs.Str.IsCharBoundary}
+use Rattle.yq_text.{specs.Limit.text_limit, specs.Script.splice_at}
 use Rattle.yq_core.{specs.Paths.Step, specs.Tree.Node, specs.Answers.◌>>=◌, proofs.Bools.bind_some, specs.Collections.CollPieces}
-use Rattle.yq_core.{specs.Entries.{EntryPieces, item_at}, specs.Nodes.{node_text, without_anchor}, proofs.NodesWrittenLaws.node_then}
-use Rattle.yq_core.specs.Trees.{tree_of}
+use Rattle.yq_core.{specs.Entries.item_at, specs.Nodes.{node_text, without_anchor}, proofs.NodesWrittenLaws.node_then, specs.Trees.tree_of}
 use Rattle.yq_flow_edits.{specs.FlowEdits.FlowEdit, specs.FlowPlaces.PlacedEdit, specs.Valued.IsValueTree}
 use Rattle.yq_flow_edits.specs.declared.flow_place.EditPlace.{EditPlace}
 use Rattle.yq_row_table.specs.Rows.{Cut, cut_text}
@@ -14,16 +12,15 @@ use Rattle.yq_documents.specs.Reading.{documents, read_at}
 use Rattle.yq_places.{specs.FlowNodes.flow_collection, specs.NodesAt.node_in, specs.Standings.{FlowPart, flow_standing, last_step}}
 use Rattle.yq_places.specs.declared.places.flow_node.FlowHead.{FlowHead}
 use Rattle.yq_semantics.{specs.Fits.Fits, specs.Operations.replace, specs.Rooms.room_of}
-use Rattle.yq_edit_rules.{specs.FlowParts.flow_segments, specs.Replacing.keeps_scalar}
+use Rattle.yq_edit_rules.specs.Replacing.{keeps_scalar}
 use Rattle.yq_edit_laws.{specs.PartPuts.{IsEditPlace, IsPartOf, IsPlaceOf, put_edit}, proofs.CutLaws.text_read}
 use Rattle.yq_edit_laws.{proofs.EarlierPuts.{coll_before_put, part_before_put}, proofs.FlowPartNodes.part_node}
 use Rattle.yq_edit_laws.proofs.FlowPutLaws.{end_behind, head_behind, next, part_behind, replaced_reads}
-use Rattle.yq_edit_laws.{proofs.FlowStandings.{EntryAt, entry_found}, specs.Carried.carried, specs.Edit.{edit_of_segments, gives}}
-use Rattle.yq_edit_laws.specs.Theorems.{IsFitting}
+use Rattle.yq_edit_laws.{proofs.FlowStandings.{EntryAt, entry_found}, specs.Carried.carried, specs.Edit.gives, specs.Theorems.IsFitting}
 use Rattle.yq_batch.{specs.Runs.EndsInCollection, proofs.PutComes.{kept_comes, made_text, new_is, put_comes, segments_come}}
 use Rattle.yq_batch.{proofs.RunEdits.{edit_size, fits_now}, specs.declared.slots.SlotPlace.SlotPlace}
-use Rattle.yq_batch.specs.Slots.{AreInOrder, IsPutIn, SlotView, count_of, news_of, olds_of, slot_places, put_or, put_text, slot_text}
-use Rattle.yq_batch.{specs.Slots.text_from, specs.OpenRuns.{AreCharEdges, AreStill, IsOpenRun, IsStill}}
+use Rattle.yq_batch.specs.Slots.{AreInOrder, IsPutIn, SlotView, count_of, slot_places, put_or, slot_text, text_from}
+use Rattle.yq_batch.specs.OpenRuns.{AreCharEdges, AreStill, IsOpenRun, IsStill}
 use Rattle.yq_batch.proofs.SlotLaws.{front_length, front_of, order_at, places_same}
 use Rattle.yq_batch.proofs.SlotStills.{Leaves, new_text_is, old_text, room_next, stills}
 

@@ -1,17 +1,17 @@
 -- What is known of places of a head stays known after a change at one of them.
-use Rattle.std.proofs.Common.{◌≡◌, ◌⊎◌, inl, inr, ℕ, ◌+◌, ◌-◌, ◌<◌, ◌≤◌, Bool, true, false, List, [], ◌∷◌, ◌++◌, drop, take, length, Option}
-use Rattle.std.{proofs.Common.{Some, None, refl, sym, ap, ◌∙◌, subst, arith, append_assoc, length-append}, specs.Prelude.⊤}
+use Rattle.std.proofs.Common.{◌≡◌, ◌⊎◌, inl, inr, ℕ, ◌+◌, ◌-◌, ◌<◌, ◌≤◌, true, false, List, [], ◌∷◌, ◌++◌, drop, take, length, Option, Some}
+use Rattle.std.{proofs.Common.{None, sym, ap, ◌∙◌, subst, arith, append_assoc, length-append}, specs.Prelude.⊤}
 use Rattle.std.{proofs.lemmas.Bool.false≢true, proofs.lemmas.List.{append_cancel_right, length-drop}}
 use Rattle.yq_core.{specs.Paths.Step, specs.Collections.CollPieces, specs.Entries.EntryPieces}
 use Rattle.yq_core.{specs.Nodes.{node_text, without_anchor, Items, none, item}, proofs.NodesWrittenLaws.{node_then, sep_append}}
-use Rattle.yq_flow_edits.specs.FlowEdits.{behind_appended, behind_last, is_none}
+use Rattle.yq_flow_edits.specs.FlowEdits.{behind_appended, behind_last}
 use Rattle.yq_row_table.specs.Rows.{Cut, cut_text}
 use Rattle.yq_places.specs.FlowNodes.{flow_collection}
 use Rattle.yq_edit_laws.specs.PartPuts.{EndsAsIn, IsCollBefore, IsPartBefore, IsPartOf}
 use Rattle.yq_batch.specs.declared.slots.SlotPlace.{SlotPlace}
 use Rattle.yq_batch.specs.Slots.{AreInOrder, ComesFirst, IsBeforeFirst, SlotView, slot_places, put_or, slot_text, text_from}
-use Rattle.yq_batch.specs.OpenRuns.{AreStill, EndsBefore, IsStill}
-use Rattle.yq_batch.proofs.SlotLaws.{apart, between_length, front_of, order_at, order_within, places_same, split_at}
+use Rattle.yq_batch.specs.OpenRuns.{AreStill, IsStill}
+use Rattle.yq_batch.proofs.SlotLaws.{apart, between_length, front_of, order_within, places_same, split_at}
 
 -- What a change in a head leaves: parts and ends of collections in the last bytes, and those before the change, which come before another text then.
 pub record Leaves (cut next : Cut) (n : ℕ) (stem : List Step) (gone made : List ℕ) (last apart : ℕ) : Type 0 where
@@ -76,8 +76,8 @@ module _ (c cut next : Cut) (n : ℕ) (stem : List Step) (gone made : List ℕ) 
         leaves.parts_behind left r (record y { rest = rest }) (h.part no_text one left r y there is size) (omega (arith, less)) (omega (arith, less, content));
     ends = λ more left w found is no_text.
         let z = h.ends more left w found is no_text in
-        let f = leaves.ends_behind left z.0 z.1 (omega (arith, small, ap length z.4)) in
-        (f.0, f.1, f.2.close ∙ z.2, f.2.none ∙ z.3, f.2.behind ∙ z.4);
+        let f = leaves.ends_behind left z.coll z.is (omega (arith, small, ap length z.behind)) in
+        record { coll = f.0; is = f.1; close = f.2.close ∙ z.close; none = f.2.none ∙ z.none; behind = f.2.behind ∙ z.behind };
   }
 
   -- one before the change
@@ -90,10 +90,16 @@ module _ (c cut next : Cut) (n : ℕ) (stem : List Step) (gone made : List ℕ) 
         subst (λ (m : List ℕ). IsPartOf next n (stem ++ left) r (record y { rest = m ++ made })) (append_cancel_right b.0 mid gone (sym b.1)) b.2;
     ends = λ more left w found is no_text.
         let z = h.ends more left w found is no_text in
-        let b = leaves.colls_before left z.0 z.1 (omega (arith, ap length z.4, length-append mid gone, own some more)) in
-        let own : behind_last z.0.close z.0.gap z.0.items b.0 ≡ mid =
-        append_cancel_right _ mid gone (sym (last_then z.0.close z.0.gap z.0.items b.0 gone) ∙ (ap (behind_last z.0.close z.0.gap z.0.items) (sym b.1) ∙ z.4)) in
-        (record z.0 { rest = b.0 ++ made }, b.2, z.2, z.3, last_then z.0.close z.0.gap z.0.items b.0 made ∙ ap (λ (l : List ℕ). l ++ made) own);
+        let b = leaves.colls_before left z.coll z.is (omega (arith, ap length z.behind, length-append mid gone, own some more)) in
+        let own : behind_last z.coll.close z.coll.gap z.coll.items b.0 ≡ mid =
+        append_cancel_right _ mid gone (sym (last_then z.coll.close z.coll.gap z.coll.items b.0 gone) ∙ (ap (behind_last z.coll.close z.coll.gap z.coll.items) (sym b.1) ∙ z.behind)) in
+        record {
+          coll = record z.coll { rest = b.0 ++ made };
+          is = b.2;
+          close = z.close;
+          none = z.none;
+          behind = last_then z.coll.close z.coll.gap z.coll.items b.0 made ∙ ap (λ (l : List ℕ). l ++ made) own;
+        };
   }
     where
       go : {k : ℕ} → (0 < length mid) ⊎ ((s.place.more ≡ false) × (s.place.start < s.place.end)) → k ≡ size_of s + length (mid ++ gone) → length gone < k

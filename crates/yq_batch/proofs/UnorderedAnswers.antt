@@ -1,15 +1,14 @@
 -- Values put in any order in the collections of one head, as the code puts them.
-use Rattle.std.proofs.Common.{◌≡◌, ℕ, ◌+◌, ◌≤◌, true, false, List, [], ◌∷◌, ◌++◌, drop, take, length, map, Option, Some, None, refl, sym}
-use Rattle.std.{proofs.Common.{ap, ◌∙◌, subst, arith, Bool, Result, Ok, Err, IfOk, append-nil, string_bytes}, specs.Prelude.String}
+use Rattle.std.proofs.Common.{◌≡◌, ℕ, ◌+◌, ◌≤◌, true, false, List, [], ◌∷◌, ◌++◌, drop, take, length, map, Some, None, refl, sym, ap, ◌∙◌}
+use Rattle.std.{proofs.Common.{subst, arith, Bool, Result, Ok, Err, IfOk, append-nil, string_bytes}, specs.Prelude.String}
 use Rattle.std.{specs.declared.alloc.Global.Global, proofs.lemmas.Option.none-some}
-use Rattle.yq_core.{specs.Paths.Step, specs.Entries.tree_step}
-use Rattle.yq_flow_edits.specs.FlowPlaces.{edit_view}
+use Rattle.yq_core.specs.Paths.{Step}
 use Rattle.yq_row_table.specs.Rows.{Cut, cut_text}
 use Rattle.yq_documents.specs.Reading.{cut_of, read_at}
 use Rattle.yq_places.{specs.NodesAt.node_in, specs.declared.places.flow_node.FlowHead.FlowHead, specs.FlowViews.LeadsToHead}
 use Rattle.yq_semantics.specs.Operations.{Operation, append, replace}
 use Rattle.yq_edit_rules.specs.Operands.{HasOperand}
-use Rattle.yq_edit_laws.{specs.PartPuts.{IsWrittenPart, put_edit, IsPartOf}, specs.declared.append.MorePut.MorePut}
+use Rattle.yq_edit_laws.{specs.PartPuts.{IsWrittenPart, IsPartOf}, specs.declared.append.MorePut.MorePut}
 use Rattle.yq_edit_laws.{specs.declared.put.PartPut.PartPut, proofs.ApplyLaws.applied_by, proofs.CutLaws.text_read}
 use Rattle.yq_edit_laws.{proofs.FlowAnswers.whole_text, specs.Carried.carried, specs.Edit.gives, specs.Theorems.IsFitting}
 use Rattle.yq_text.{specs.Limit.text_limit, specs.Script.splice_at, specs.Splice.Splice}
@@ -116,7 +115,7 @@ stills_empty c n stem [] = tt
 stills_empty c n stem (p ∷ ps) = (
   record {
     part = λ none one left r y there is size. subst (λ (l : List ℕ). IsPartOf c n (stem ++ left) r (record y { rest = l })) (is ∙ sym (text_empty (cut_text c) p.end ps)) there;
-    ends = λ more left w found is none. (w, found, refl, refl, is ∙ sym (text_empty (cut_text c) p.end ps));
+    ends = λ more left w found is none. record { coll = w; is = found; close = refl; none = refl; behind = is ∙ sym (text_empty (cut_text c) p.end ps) };
   },
   stills_empty c n stem ps,
 )

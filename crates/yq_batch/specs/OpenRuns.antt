@@ -1,6 +1,6 @@
 -- Values put in any order in the flow collections of one head, which was read once, and items and entries put into these (YAML 1.2.2, 7.4; own).
-use Rattle.std.specs.Prelude.{◌≡◌, ⊤, ℕ, ◌+◌, ◌-◌, ◌<◌, ◌≤◌, Bool, true, false, List, [], ◌∷◌, ◌++◌, drop, take, length, map, Option, Some}
-use Rattle.std.{specs.Prelude.{None, IfSome, String, string_bytes}, specs.Str.IsCharBoundary, specs.declared.alloc.Global.Global}
+use Rattle.std.specs.Prelude.{◌≡◌, ⊤, ℕ, ◌+◌, ◌-◌, ◌≤◌, Bool, true, false, List, [], ◌∷◌, ◌++◌, drop, take, length, map, Option, Some, None}
+use Rattle.std.{specs.Prelude.{IfSome, String, string_bytes}, specs.Str.IsCharBoundary, specs.declared.alloc.Global.Global}
 use Rattle.yq_text.{specs.Halves.whole, specs.declared.halves.Halves.Halves, specs.Limit.text_limit, specs.Script.splice_at}
 use Rattle.yq_text.specs.Splice.{Splice}
 use Rattle.yq_core.{specs.Paths.Step, specs.Collections.CollPieces, specs.Entries.{EntryPieces, tree_step}}
@@ -15,17 +15,35 @@ use Rattle.yq_batch.specs.Slots.{AreInOrder, HasCounts, IsPutIn, SlotView, slot_
 use Rattle.yq_batch.{specs.declared.any_order.SlotRun.SlotRun, specs.declared.slots.SlotPlace.SlotPlace, specs.declared.slots.Slots.Slots}
 use Rattle.yq_core.specs.declared.path.Step as declared
 
--- a collection is in a cut that has the same bracket and as many items or none, and this text after the last one (7.4; own)
-abbrev pub EndsBefore : CollPieces → Cut → ℕ → List Step → List ℕ → Type 0
-EndsBefore w cut n steps rest = (z : CollPieces) × (flow_collection n steps cut ≡ Some z) × (z.close ≡ w.close) × (is_none z.items ≡ is_none w.items) × (behind_appended z ≡ rest)
+-- A collection is in a cut at these steps that has the bracket of another one and as many items or none, and this text after the last one (7.4; own).
+pub record EndsBefore (w : CollPieces) (cut : Cut) (n : ℕ) (steps : List Step) (rest : List ℕ) : Type 0 where
+  pub coll : CollPieces
+  pub is : flow_collection n steps cut ≡ Some coll
+  pub close : coll.close ≡ w.close
+  pub none : is_none coll.items ≡ is_none w.items
+  pub behind : behind_appended coll ≡ rest
+
+-- an item or entry has its content at a place of a cut's text (7.4; own)
+abbrev pub BeginsAtPlace : Cut → SlotPlace → EntryPieces → Type 0
+BeginsAtPlace c p y = length (node_text (without_anchor y.node) y.rest) ≡ length (cut_text c) - p.start
+
+-- it is in another cut, with this text after its content (7.4; own)
+abbrev pub PartIsStill : (c cut : Cut) → ℕ → List Step → SlotPlace → List ℕ → Type 0
+PartIsStill c cut n stem p rest =
+    (left : List Step) (r : Step) (y : EntryPieces) → IsPartOf c n (stem ++ left) r y → y.rest ≡ drop p.end (cut_text c) → BeginsAtPlace c p y →
+    IsPartOf cut n (stem ++ left) r (record y { rest = rest })
+
+-- the collection that ends at a place is in another cut, with this text after its last item, if it was not empty or nothing was put there (7.4; own)
+abbrev pub EndIsStill : (c cut : Cut) → ℕ → List Step → SlotView → List ℕ → Type 0
+EndIsStill c cut n stem s rest =
+    (left : List Step) (w : CollPieces) → flow_collection n (stem ++ left) c ≡ Some w → behind_appended w ≡ drop s.place.end (cut_text c) →
+    (is_none w.items ≡ true → s.new ≡ None) → EndsBefore w cut n (stem ++ left) rest
 
 -- What is known in a cut of a place of another one, after which is this text: the part that has its content there, as long as nothing was put there, or
 -- the collection that ends there, unless it was empty and something was put there (own).
 pub record IsStill (c cut : Cut) (n : ℕ) (stem : List Step) (s : SlotView) (rest : List ℕ) : Type 0 where
-  pub part : s.new ≡ None → s.place.more ≡ false → (left : List Step) (r : Step) (y : EntryPieces) → IsPartOf c n (stem ++ left) r y → y.rest ≡ drop s.place.end (cut_text c) →
-      length (node_text (without_anchor y.node) y.rest) ≡ length (cut_text c) - s.place.start → IsPartOf cut n (stem ++ left) r (record y { rest = rest })
-  pub ends : s.place.more ≡ true → (left : List Step) (w : CollPieces) → flow_collection n (stem ++ left) c ≡ Some w → behind_appended w ≡ drop s.place.end (cut_text c) →
-      (is_none w.items ≡ true → s.new ≡ None) → EndsBefore w cut n (stem ++ left) rest
+  pub part : s.new ≡ None → s.place.more ≡ false → PartIsStill c cut n stem s.place rest
+  pub ends : s.place.more ≡ true → EndIsStill c cut n stem s rest
 
 -- the same of several places (own)
 abbrev pub AreStill : (c cut : Cut) → ℕ → List Step → List SlotView → Type 0

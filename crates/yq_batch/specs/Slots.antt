@@ -1,6 +1,6 @@
 -- Places of a text at which values are put in any order, and the text then (YAML 1.2.2, 7.4; own).
-use Rattle.std.specs.Prelude.{◌≡◌, ⊤, ◌⊎◌, ℕ, ◌+◌, ◌-◌, ◌<◌, ◌≤◌, Bool, true, false, List, [], ◌∷◌, ◌++◌, drop, take, length, map, Option}
-use Rattle.std.specs.Prelude.{Some, None, IfSome, option_map, string_bytes}
+use Rattle.std.specs.Prelude.{◌≡◌, ⊤, ◌⊎◌, ℕ, ◌+◌, ◌-◌, ◌<◌, ◌≤◌, true, false, List, [], ◌∷◌, ◌++◌, drop, take, length, map, Option, Some}
+use Rattle.std.specs.Prelude.{None, IfSome, option_map, string_bytes}
 use Rattle.yq_batch.{specs.declared.slots.Slot.Slot, specs.declared.slots.SlotPlace.SlotPlace, specs.declared.slots.Slots.Slots}
 use Rattle.yq_batch.specs.declared.slots.Slots.TheVariants.{One, Two'}
 

@@ -86,7 +86,7 @@ pub fn more_in_found(
 ///
 /// # Errors
 /// [`AllocError`] where memory is refused.
-pub fn more_at_end(
+fn more_at_end(
     alloc: Global,
     cut: &CutText<'_, '_>,
     head: &FlowHead<'_, '_>,

@@ -102,7 +102,7 @@ pub fn put_in_found(
 ///
 /// # Errors
 /// [`AllocError`] where memory is refused.
-pub fn put_at_part(
+fn put_at_part(
     alloc: Global,
     cut: &CutText<'_, '_>,
     head: &FlowHead<'_, '_>,

@@ -52,6 +52,10 @@ EndsSearch upto end dashes ss k = k.row < upto → k.row < end → BeginsThere d
 abbrev pub StaysSearched : (dashes : Bool) → ℕ → Cut → StepSearch → Type 0
 StaysSearched dashes front c k = (new : Cut) (back : ℕ) → TouchesOnly front back c new → IsSearched dashes (rows_view new).rows k
 
--- what is left of a search, if there was one, stays so in each such text
+-- a search, if there is one, went as far in each such text of a cut with these rows
+abbrev pub StaysInEach : (dashes : Bool) → ℕ → RowsView → Option StepSearch → Type 0
+StaysInEach dashes front s left = (c : Cut) → s ≡ rows_view c → IfSome left (StaysSearched dashes front c)
+
+-- what is left of a search, if there was one, stays so
 abbrev pub StaysAfter : ℕ → RowsView → (known left : Option StepSearch) → Type 0
-StaysAfter front s known left = (dashes : Bool) (c : Cut) → s ≡ rows_view c → IfSome known (IsSearched dashes s.rows) → IfSome left (StaysSearched dashes front c)
+StaysAfter front s known left = (dashes : Bool) → IfSome known (IsSearched dashes s.rows) → StaysInEach dashes front s left

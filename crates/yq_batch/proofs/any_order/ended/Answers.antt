@@ -1,4 +1,4 @@
-use Rattle.std.proofs.Common.{◌≡◌, ◌∙◌, ◌++◌, ℕ, List, ap, subst, append_assoc, string_bytes}
+use Rattle.std.proofs.Common.{◌∙◌, ◌++◌, ℕ, List, ap, subst, append_assoc, string_bytes}
 use Rattle.yq_text.specs.Halves.{whole}
 use Rattle.yq_batch.{specs.Slots.slots_of, specs.OpenRuns.HasWritten, proofs.SlotWrites.all_written}
 use Rattle.yq_batch.proofs.any_order.ended.Goals as goal

@@ -1,7 +1,6 @@
-use Rattle.std.{proofs.Common.{◌≡◌, ◌∙◌, ◌++◌, List, Option, map, sym, ap, subst, arith}, specs.Prelude.IfSome}
-use Rattle.std.proofs.lemmas.List.{map-append}
-use Rattle.yq_batch.{specs.Slots.{HasCounts, SlotView, empty_slot, news_of, olds_of, slots_of}, proofs.SlotCounts.{none_news, none_olds}}
-use Rattle.yq_batch.{specs.declared.slots.SlotPlace.SlotPlace, specs.declared.slots.Slots.Slots}
+use Rattle.std.{proofs.Common.{◌≡◌, ◌∙◌, ◌++◌, Option, map, sym, ap, subst}, specs.Prelude.IfSome, proofs.lemmas.List.map-append}
+use Rattle.yq_batch.{specs.Slots.{HasCounts, empty_slot, news_of, olds_of, slots_of}, proofs.SlotCounts.{none_news, none_olds}}
+use Rattle.yq_batch.specs.declared.slots.Slots.{Slots}
 use Rattle.yq_batch.proofs.slots.+slots_at.Goals as goal
 
 pub returns : goal.returns

@@ -1,4 +1,4 @@
-use Rattle.std.{proofs.Common.{◌≡◌, ◌+◌, ◌++◌, ℕ, List, map, Option, subst, true, false}, specs.Prelude.IfSome}
+use Rattle.std.{proofs.Common.{◌+◌, ℕ, List, map, Option, subst, true}, specs.Prelude.IfSome}
 use Rattle.yq_text.specs.Halves.{whole}
 use Rattle.yq_core.specs.Entries.{tree_step}
 use Rattle.yq_semantics.specs.Operations.{operation_of}

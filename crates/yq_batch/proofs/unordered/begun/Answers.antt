@@ -1,8 +1,8 @@
-use Rattle.std.{proofs.Common.{◌≡◌, ◌∙◌, List, Option, map, sym, ap, subst}, specs.Prelude.IfSome}
+use Rattle.std.{proofs.Common.{◌≡◌, ◌∙◌, Option, map, sym, ap, subst}, specs.Prelude.IfSome}
 use Rattle.yq_text.specs.Halves.{whole}
 use Rattle.yq_core.specs.Entries.{tree_step}
 use Rattle.yq_batch.{specs.Slots.{AreInOrder, HasCounts, empty_slot, slots_of}, proofs.UnorderedAnswers.open_begins}
-use Rattle.yq_batch.{specs.declared.slots.SlotPlace.SlotPlace, specs.declared.slots.Slots.Slots}
+use Rattle.yq_batch.specs.declared.slots.Slots.{Slots}
 use Rattle.yq_batch.proofs.unordered.begun.Goals as goal
 
 pub returns-clause-run : goal.returns-clause-run

@@ -1,13 +1,12 @@
-use Rattle.std.{proofs.Common.{◌≡◌, ◌∙◌, ℕ, List, map, sym, ap, subst, string_bytes, arith}, proofs.lemmas.Str.IsCharBoundary-start}
+use Rattle.std.{proofs.Common.{◌≡◌, ◌∙◌, ℕ, List, sym, ap, subst, string_bytes, arith}, proofs.lemmas.Str.IsCharBoundary-start}
 use Rattle.std.specs.Str.{IsCharBoundary}
 use Rattle.yq_text.specs.Halves.{whole}
 use Rattle.yq_row_table.specs.Rows.{cut_text}
-use Rattle.yq_core.specs.Entries.{tree_step}
 use Rattle.yq_documents.specs.Reading.{cut_of}
-use Rattle.yq_semantics.specs.Operations.{operation_of, operations_of}
+use Rattle.yq_semantics.specs.Operations.{operations_of}
 use Rattle.yq_edit_laws.{proofs.FlowAnswers.whole_text, specs.Carried.carry_all, specs.Edit.edit_after, specs.Valid.AreServed}
-use Rattle.yq_edit_laws.proofs.OperationsLaws.{first_fits, others_come, others_served}
-use Rattle.yq_batch.{specs.OpenRuns.{MayWrite, OpensOn, open_text}, specs.Slots.{slots_of, text_from}}
+use Rattle.yq_edit_laws.proofs.OperationsLaws.{others_come, others_served}
+use Rattle.yq_batch.{specs.OpenRuns.{MayWrite, open_text}, specs.Slots.{slots_of, text_from}}
 use Rattle.yq_batch.proofs.unordered.put_in_any_order.Goals as goal
 
 pub operations-preserved : goal.operations-preserved

@@ -10,6 +10,6 @@ went_so_far dashes front back c new (Some k) touched h = h new back touched
 
 pub returns : goal.returns
 returns c = λ cut is new back touched. (
-  went_so_far true c.args.front back cut new c.searched_in_front.result touched (c.searched_in_front.ensures true cut is c.requires.steps.0),
-  went_so_far false c.args.front back cut new c.searched_in_front-2.result touched (c.searched_in_front-2.ensures false cut is c.requires.steps.1),
+  went_so_far true c.args.front back cut new c.searched_in_front.result touched (c.searched_in_front.ensures true c.requires.steps.0 cut is),
+  went_so_far false c.args.front back cut new c.searched_in_front-2.result touched (c.searched_in_front-2.ensures false c.requires.steps.1 cut is),
 )

@@ -1,4 +1,4 @@
-use Rattle.std.{proofs.Common.{◌≡◌, ℕ, ◌+◌, List, Option, sym, ap, [], ◌∷◌, ◌++◌, subst, arith, rules}, specs.Prelude.{IfOk, IfSome}}
+use Rattle.std.{proofs.Common.{Option, sym, [], ◌∷◌, ◌++◌, subst, arith, rules}, specs.Prelude.{IfOk, IfSome}}
 use Rattle.yq_batch.{specs.Slots.{IsPutIn, HasCounts, slot_view, slots_of}, proofs.SlotCounts.{counts_put, in_right, one_put}}
 use Rattle.yq_batch.{specs.declared.slots.SlotPut.SlotPut, specs.declared.slots.Slots.Slots}
 use Rattle.yq_batch.proofs.slots.Slots.+put.Goals as goal

@@ -1,5 +1,4 @@
-use Rattle.std.proofs.Common.{◌≡◌, ◌+◌, ◌≤◌, ◌++◌, length, length-append, sym, ap, subst, string_bytes, arith}
-use Rattle.std.proofs.lemmas.Result.{IfOk-weaker}
+use Rattle.std.{proofs.Common.{length, length-append, sym, ap, subst, string_bytes, arith}, proofs.lemmas.Result.IfOk-weaker}
 use Rattle.yq_text.specs.Halves.{whole}
 use Rattle.yq_batch.{specs.Slots.slots_of, specs.OpenRuns.{HasWritten, MayWrite}}
 use Rattle.yq_batch.{proofs.SlotWrites.{some_slots, write_left, write_right, written_both}, specs.declared.slots.Slots.Slots}

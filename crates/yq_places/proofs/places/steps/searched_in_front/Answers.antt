@@ -6,7 +6,7 @@ use Rattle.yq_places.specs.declared.places.steps.StepSearch.{StepSearch}
 use Rattle.yq_places.proofs.places.steps.searched_in_front.Goals as goal
 
 pub returns-then-row-known-2 : goal.returns-then-row-known-2
-returns-then-row-known-2 c = λ dashes cut is searched.
+returns-then-row-known-2 c = λ dashes searched cut is.
     let s = c.args.rows.now in
     let known : IsSearched dashes s.rows c.in_ok-known.known = subst (λ (o : Option StepSearch). IfSome o (IsSearched dashes s.rows)) c.in_ok-known.was searched in
     let within : c.in_ok-known.known.row < length s.rows = omega (arith, c.if-row-known-2.true, c.if-row-len.false, c.len.ensures) in
@@ -14,14 +14,14 @@ returns-then-row-known-2 c = λ dashes cut is searched.
     search_stays dashes s c.in_ok-known.known c.args.front known within before cut is
 
 pub returns-then-row-known-3 : goal.returns-then-row-known-3
-returns-then-row-known-3 c = λ dashes cut is searched.
+returns-then-row-known-3 c = λ dashes searched cut is.
     let s = c.args.rows.now in
     let within : c.row_in_front-row.result < length s.rows = omega (arith, c.if-row-len.false, c.len.ensures) in
     let before : row_start c.row_in_front-row.result s < c.args.front = omega (arith, c.if-start-front.false, c.start.ensures) in
     search_stays dashes s (record { first = c.in_ok-known.known.first; row = c.row_in_front-row.result; above = 0 }) c.args.front (search_anew dashes s.rows c.in_ok-known.known c.row_in_front-row.result c.if-row-known-3.true) within before cut is
 
 pub returns-else-row-known-3 : goal.returns-else-row-known-3
-returns-else-row-known-3 c = λ dashes cut is searched.
+returns-else-row-known-3 c = λ dashes searched cut is.
     let s = c.args.rows.now in
     let row : ℕ = c.row_in_front-row.result in
     let k : StepSearch = c.in_ok-known.known in
