@@ -1,11 +1,11 @@
 -- Faults of expressions as faults of a command (own).
 use Rattle.yq_expr_parser.specs.declared.error.ParseError.{ParseError}
-use Rattle.yq_semantics.{specs.declared.expr_error.ExprError.ExprError, specs.declared.refusal.Refusal.Refusal}
+use Rattle.yq_semantics.{specs.Judgement.ExprError, specs.declared.refusal.Refusal.Refusal}
 use Rattle.yq_edit_laws.specs.declared.edit_error.EditError.{EditError}
 use Rattle.yq_history.specs.declared.fault.Fault.{Fault}
 use Rattle.yq_history.specs.declared.fault.Fault.TheVariants.{Syntax, NotInProfile, Pattern, OutOfMemory, Unreadable}
 use Rattle.yq_expr_parser.specs.declared.error.ParseError.TheVariants as parse
-use Rattle.yq_semantics.specs.declared.expr_error.ExprError.TheVariants as matching
+use Rattle.yq_failure.specs.declared.failure.Failure.TheVariants as matching
 use Rattle.yq_semantics.specs.declared.refusal.Refusal.TheVariants as refusal
 use Rattle.yq_edit_laws.specs.declared.edit_error.EditError.TheVariants as error
 use Rattle.yq_history.specs.declared.fault.Fault.TheVariants as fault
@@ -38,7 +38,7 @@ of_refusal refusal.KeyTooLong = fault.KeyTooLong
 
 -- why nothing was matched
 abbrev pub of_matching : ExprError → Fault
-of_matching (matching.Refused why) = of_refusal why
+of_matching (matching.Fault why) = of_refusal why
 of_matching matching.Memory = OutOfMemory
 
 -- why a text isn't edited

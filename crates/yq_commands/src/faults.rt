@@ -51,7 +51,7 @@ pub fn match_fault(error: ExprError) -> Fault
     ensures { result ≡ of_matching error }
 {
     match error {
-        ExprError::Refused(why) => refusal_fault(why),
+        ExprError::Fault(why) => refusal_fault(why),
         ExprError::Memory => Fault::OutOfMemory,
     }
 }

@@ -2,9 +2,9 @@
 use Rattle.std.proofs.Common.{rules, ◌≡◌, ◌≢◌, ◌⊎◌, ℕ, true, false, List, Option, Some, None, Result, Err, OnOk, OnErr, IfErr, IsTrue}
 use Rattle.std.{proofs.Common.{IsNone, option_map, if◌then◌else◌, sym, ap, ◌∙◌, subst, refl}, specs.FinMap.{get, insert}}
 use Rattle.std.{specs.Str.bytes_eq, proofs.lemmas.Option.same_Some, proofs.lemmas.Slice.Eq.bytes_eq-Decides}
-use Rattle.yq_journal.{specs.declared.fault.JournalError.JournalError, specs.declared.fault.JournalFault.JournalFault}
+use Rattle.yq_journal.{specs.Refusals.{JournalError, ErrorIs, no_way, way_fault}, specs.declared.fault.JournalFault.JournalFault}
 use Rattle.yq_journal.{specs.declared.moves.Move.Move, specs.Good.{AtRest, Describes, after_move, journal_beside, step_fault}}
-use Rattle.yq_journal.{specs.Json.journal_text, specs.Record.Record, specs.History.History, specs.Refusals.{ErrorIs, no_way, way_fault}}
+use Rattle.yq_journal.{specs.Json.journal_text, specs.Record.Record, specs.History.History}
 use Rattle.yq_journal.specs.State.{State, journal_after, moved_text, with_move, settled_beside}
 use Rattle.yq_journal.proofs.GoodLaws.{describes, open_before, open_after, settled_rests, undo_fault, redo_fault}
 use Rattle.yq_journal.proofs.HistoryLaws.{move_moves}
@@ -13,7 +13,7 @@ use Rattle.yq_history.specs.Faults.{is_outer_fault, of_fault, of_journal}
 use Rattle.yq_history.{specs.Pair.{Arrives, GoodIn, IsJournal, PairAtRest, PairStands, Writes}, specs.Steps.{move_cause, move_next}}
 use Rattle.yq_history.{specs.Directions.walk_move, specs.declared.direction.Direction.Direction}
 use Rattle.yq_store.specs.FileMap.{FileMap, get_written, get_other}
-use Rattle.yq_journal.specs.declared.fault.JournalError.TheVariants as error
+use Rattle.yq_failure.specs.declared.failure.Failure.TheVariants as error
 use Rattle.yq_journal.specs.declared.fault.JournalFault.TheVariants as journal
 
 moved_closed : (s : State) (step : Move) → (journal_after s step).pending ≡ None

@@ -2,14 +2,14 @@
 use Rattle.std.proofs.Common.{rules, ◌≡◌, ◌≢◌, ◌⊎◌, inl, inr, ℕ, ◌≤◌, true, ◌&&◌, List, Option, Some, None, Result, Ok, Err, OnOk, OnErr}
 use Rattle.std.proofs.Common.{IfErr, IsTrue, Bool, Vec, option_map, if◌then◌else◌, sym, ap, ◌∙◌, subst, refl}
 use Rattle.std.{proofs.lemmas.Grind.common_steps, proofs.lemmas.Bool.Decides.nat_tests, specs.declared.alloc.Global.Global}
-use Rattle.yq_journal.{specs.declared.fault.JournalError.JournalError, specs.Good.squash_refusal, specs.History.{History, after_squash}}
-use Rattle.yq_journal.{specs.Refusals.{Reports, squash_fault}, specs.State.{State, squashed}, proofs.GoodLaws.describes}
+use Rattle.yq_journal.{specs.Refusals.{JournalError, Reports, squash_fault}, specs.Good.squash_refusal}
+use Rattle.yq_journal.{specs.History.{History, after_squash}, specs.State.{State, squashed}, proofs.GoodLaws.describes}
 use Rattle.yq_journal.proofs.SquashLaws.{squash_fault_of, squash_one, squash_rests}
 use Rattle.yq_history.{specs.declared.fault.Fault.Fault, specs.Causes.named, specs.Faults.{is_outer_fault, of_fault, of_journal}}
 use Rattle.yq_history.{specs.Pair.{Arrives, Opens, PairAtRest, PairStands, Writes}, specs.Steps.{squash_cause, squash_next, unless_fault}}
 use Rattle.yq_history.proofs.MoveLaws.{cut, is_refused, ends, either, fault_inside, on_ok_map, on_err_map, same_content, wrote_journal}
 use Rattle.yq_store.specs.FileMap.{FileMap}
-use Rattle.yq_journal.specs.declared.fault.JournalError.TheVariants as error
+use Rattle.yq_failure.specs.declared.failure.Failure.TheVariants as error
 use Rattle.yq_journal.specs.declared.fault.JournalFault.TheVariants as journal
 
 passed : (b : Bool) → (if b then None else Some journal.BadCount) ≡ None → b ≡ true
