@@ -4,7 +4,8 @@ ghost use Rattle.std.specs.Prelude.{[], false};
 use crate::colours::coloured;
 use memchr::memchr_iter;
 use std::alloc::Global;
-use yq_run::{Out, PutError, StandardOut};
+use std::fmt;
+use yq_run::{Out, StandardOut};
 
 /// Standard output, and how many lines it took, where that is asked.
 #[derive(Drop)]
@@ -57,7 +58,7 @@ fn put_coloured(
     alloc: Global,
     has_colours: bool,
     bytes: &[u8],
-) -> Result<(), PutError> {
+) -> fmt::Result {
     if !has_colours {
         return out.put(bytes);
     }
@@ -82,7 +83,7 @@ impl<'a> Out for CountedOut<'a> {
 
     ghost failures = { λ w. w.failures };
 
-    fn put(&mut self, bytes: &[u8]) -> Result<(), PutError> {
+    fn put(&mut self, bytes: &[u8]) -> fmt::Result {
         match put_coloured(&mut self.out, self.alloc, self.has_colours, bytes) {
             Ok(()) => {
                 if self.is_counting {

@@ -11,6 +11,7 @@ use yq_explain::{
 };
 use yq_history::Fault;
 use yq_run::{Out, as_slices, asked_command, own_words, purpose_of};
+use yq_semantics::Refusal;
 
 /// The most bytes of a file that are read once more to show a line of it.
 const MOST: u64 = 1 << 25;
@@ -29,13 +30,13 @@ fn push_value(
     text: &mut String,
     file: &str,
     expr: &str,
-    fault: Fault,
+    why: Refusal,
 ) -> Result<(), Fault> {
-    if !names_value(fault) {
+    if !names_value(why) {
         return Ok(());
     }
     match bytes_of(rt, file) {
-        Some(bytes) => Ok(push_value_line(rt.alloc(), text, &bytes, expr, fault)?),
+        Some(bytes) => Ok(push_value_line(rt.alloc(), text, &bytes, expr, why)?),
         None => Ok(()),
     }
 }
@@ -61,8 +62,8 @@ fn lines_of(
             let mut text = String::from_str(rt.alloc(), "FILE: ")?;
             push_name(&mut text, file)?;
             text.push('\n')?;
-            if let (Some(fault), Command::Eval { expr, .. }) = (fault, command) {
-                push_value(rt, &mut text, file, expr.as_str(), fault)?;
+            if let (Some(Fault::Refused(why)), Command::Eval { expr, .. }) = (fault, command) {
+                push_value(rt, &mut text, file, expr.as_str(), why)?;
             }
             push_rows(&mut text, code, false)?;
             Ok(text)

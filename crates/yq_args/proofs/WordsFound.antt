@@ -7,10 +7,9 @@ use Rattle.clap.{specs.Simple.{Shape, built, is_simple, label_of, names_of, subc
 use Rattle.clap.specs.Walk.{Row, Rule, Text, answers_to, first_of, nothing_held, rows_after, walk_from, walked}
 use Rattle.clap.{proofs.OnLiterals.clap_on_literals, proofs.WalkLemmas.both}
 use Rattle.yq_args.specs.CommandWords.{is_command_word}
-use Rattle.yq_args.specs.Asked.{checks, count_in, WordsRefused, IsNotTaken, finds, full_words, name_fits, names_fit, words_fit}
+use Rattle.yq_args.specs.Asked.{checks, count_in, WordsRefused, IsNotTaken, finds, full_words, name_fits, names_fit, words_fit, WordsError}
 use Rattle.yq_args.{specs.Line.{yq, four_commands, two_commands}, specs.declared.command.Command.Command}
-use Rattle.yq_args.{specs.declared.words_error.WordsError.WordsError, proofs.ClapLevel.{Passed, stops_at, sub_found, sub_passed}}
-use Rattle.yq_args.proofs.ClapRows.{fills, option_text}
+use Rattle.yq_args.{proofs.ClapLevel.{Passed, stops_at, sub_found, sub_passed}, proofs.ClapRows.{fills, option_text}}
 
 -- an argument that is required was given
 required_in : (rules : List Rule) (rows : List Row) (id : Text) → list_all (λ a. not a.required || is_given a.id rows) rules ≡ true → list_any (λ a. a.required && bytes_eq a.id id) rules ≡ true → is_given id rows ≡ true

@@ -7,10 +7,14 @@ use Rattle.clap.specs.Words.{IsAmong, Row, Text, fault_of, first_of, one_of, sub
 use Rattle.clap.{specs.declared.error.kind.ErrorKind.ErrorKind, specs.declared.error.kind.ErrorKind.TheVariants.DisplayHelp}
 use Rattle.yq_args.{specs.declared.command.Command.Command, specs.declared.eval_options.EvalOptions.EvalOptions}
 use Rattle.yq_args.specs.declared.command.Command.TheVariants.{Eval, Undo, Redo, History, Squash, Help}
-use Rattle.yq_args.specs.declared.words_error.WordsError.{WordsError}
-use Rattle.yq_args.{specs.declared.words_error.WordsError.TheVariants.{OutOfMemory, Usage}, specs.CommandWords.with_command, specs.Line.yq}
+use Rattle.yq_args.{specs.declared.cause.UsageCause.UsageCause, specs.CommandWords.with_command, specs.Line.yq}
 use Rattle.yq_args.specs.Setting.{asked_expression}
+use Rattle.yq_failure.{specs.declared.failure.Failure.Failure, specs.declared.failure.Failure.TheVariants.{Memory, Fault}}
 use Rattle.clap.specs.declared.error.kind.ErrorKind.TheVariants as kinds
+
+-- why words are no command
+abbrev pub WordsError : Type 0
+WordsError = Failure UsageCause
 
 -- the words as clap reads them, after the program's name
 abbrev pub full_words : List Text → List Text
@@ -130,12 +134,12 @@ passes name rows = names_fit (first_of (codes "file") rows) (first_of (codes "jo
 
 -- the words are no command, whatever the cause
 abbrev pub is_usage : WordsError → Bool
-is_usage (Usage cause) = true
-is_usage OutOfMemory = false
+is_usage (Fault cause) = true
+is_usage Memory = false
 
 -- memory ran out, or the words are no command, and this is so
 abbrev pub RefusedWhere : Type 0 → WordsError → Type 0
-RefusedWhere so fault = (fault ≡ OutOfMemory) ⊎ ((is_usage fault ≡ true) × so)
+RefusedWhere so fault = (fault ≡ Memory) ⊎ ((is_usage fault ≡ true) × so)
 
 -- memory ran out, or a name is missing or isn't allowed
 abbrev pub AreNamesMissed : List Row → WordsError → Type 0
@@ -149,7 +153,7 @@ IsMissed name rows fault = RefusedWhere (passes name rows ≡ false) fault
 -- but not a call for help where one asks for it
 abbrev pub AnswersKind : ErrorKind → Bool → WordsError → Type 0
 AnswersKind kind asked fault =
-    ((fault ≡ OutOfMemory) × (kind ≡ kinds.OutOfMemory))
+    ((fault ≡ Memory) × (kind ≡ kinds.OutOfMemory))
     ⊎ ((is_usage fault ≡ true) × (kind ≢ kinds.OutOfMemory) × (kind ≡ DisplayHelp → asked ≡ false))
 
 -- clap finds a command, whose texts are there and may be

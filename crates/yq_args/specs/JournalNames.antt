@@ -1,8 +1,8 @@
 -- The journal of a file in a folder of journals, under a name that is made of the file's path (own).
 use Rattle.std.specs.Prelude.{◌≡◌, ◌⊎◌, ◌<◌, ℕ, ◌==◌, Bool, not, if◌then◌else◌, List, [], ◌∷◌, ◌++◌, codes, length}
 use Rattle.std.specs.List.{flat_map, list_all}
-use Rattle.yq_args.{specs.declared.words_error.WordsError.WordsError, specs.declared.cause.UsageCause.TheVariants.LongJournalName}
-use Rattle.yq_args.specs.declared.words_error.WordsError.TheVariants.{OutOfMemory, Usage}
+use Rattle.yq_args.{specs.Asked.WordsError, specs.declared.cause.UsageCause.TheVariants.LongJournalName}
+use Rattle.yq_failure.specs.declared.failure.Failure.TheVariants.{Memory, Fault}
 
 -- a byte of a path as it is in a name: `/` and `%` by `%` and two hexadecimal digits, as in RFC 3986, section 2.1
 abbrev pub escaped_byte : ℕ → List ℕ
@@ -34,4 +34,4 @@ NamesOnePath folder path = (other : List ℕ) → journal_in_folder folder other
 
 -- memory ran out, or the name is too long
 abbrev pub IsTooLong : List ℕ → WordsError → Type 0
-IsTooLong path e = (e ≡ OutOfMemory) ⊎ ((e ≡ Usage LongJournalName) × (most_of_name < length (name_of_path path)))
+IsTooLong path e = (e ≡ Memory) ⊎ ((e ≡ Fault LongJournalName) × (most_of_name < length (name_of_path path)))

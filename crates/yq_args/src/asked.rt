@@ -4,9 +4,9 @@ ghost use Rattle.clap.specs.Words.{first_of, one_of, rows_of, found_of};
 ghost use Rattle.yq_args.specs.declared.command.Command.TheVariants.{Help};
 ghost use Rattle.yq_args.specs.Asked as spec;
 
+use crate::cause::WordsError;
 use crate::command::Command;
 use crate::setting::expression;
-use crate::words_error::WordsError;
 use crate::{EvalOptions, UsageCause};
 use clap::ArgMatches;
 use std::alloc::{AllocError, Global};
@@ -59,14 +59,14 @@ fn names_of(alloc: Global, matches: &ArgMatches) -> Result<(String, String), Wor
     ensures err { IfErr result (spec.AreNamesMissed (rows_of (found_of matches.now))) }
 {
     let Some(file) = text_of(matches, "file") else {
-        return Err(WordsError::Usage(UsageCause::Words));
+        return Err(WordsError::Fault(UsageCause::Words));
     };
     let journal = journal_name(alloc, text_of(matches, "journal"), file)?;
     if file == "-" {
-        return Err(WordsError::Usage(UsageCause::FileIsDash));
+        return Err(WordsError::Fault(UsageCause::FileIsDash));
     }
     if journal.as_str() == file {
-        return Err(WordsError::Usage(UsageCause::JournalIsFile));
+        return Err(WordsError::Fault(UsageCause::JournalIsFile));
     }
     Ok((String::from_str(alloc, file)?, journal))
 }
@@ -91,7 +91,7 @@ fn eval_in(alloc: Global, matches: &ArgMatches) -> Result<Command, WordsError>
 {
     let (file, journal) = names_of(alloc, matches)?;
     let Some(expr) = text_of(matches, "expr") else {
-        return Err(WordsError::Usage(UsageCause::Words));
+        return Err(WordsError::Fault(UsageCause::Words));
     };
     Ok(Command::Eval {
         expr: expression(alloc, expr, text_of(matches, "text"))?,
@@ -111,7 +111,7 @@ fn squash_in(alloc: Global, matches: &ArgMatches) -> Result<Command, WordsError>
     let (file, journal) = names_of(alloc, matches)?;
     match text_of(matches, "n").and_then(count_of) {
         Some(n) => Ok(Command::Squash { n, file, journal }),
-        None => Err(WordsError::Usage(UsageCause::BadCount)),
+        None => Err(WordsError::Fault(UsageCause::BadCount)),
     }
 }
 
@@ -135,6 +135,6 @@ pub fn command_in(alloc: Global, name: &str, matches: &ArgMatches) -> Result<Com
             journal,
             diffs: switch_of(matches, "diff"),
         }),
-        _ => Err(WordsError::Usage(UsageCause::Words)),
+        _ => Err(WordsError::Fault(UsageCause::Words)),
     }
 }

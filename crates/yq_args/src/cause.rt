@@ -1,5 +1,7 @@
 //! What is wrong with words that are no command.
 
+use yq_failure::Failure;
+
 /// What is wrong with words that are no command.
 #[derive(Clone, Copy, Debug, PartialEq, Eq)]
 pub enum UsageCause {
@@ -20,3 +22,6 @@ pub enum UsageCause {
     /// The path of FILE isn't had, or isn't UTF-8, and the journal's name would be made of it.
     FilePath,
 }
+
+/// Why words are no command.
+pub type WordsError = Failure<UsageCause>;

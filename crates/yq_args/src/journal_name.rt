@@ -3,7 +3,7 @@ ghost use Rattle.std.{specs.Prelude.{◌≡◌, ◌++◌, ◌≤◌, IfOk, IfErr
 ghost use Rattle.yq_args.specs.JournalNames as spec;
 
 use crate::UsageCause;
-use crate::words_error::WordsError;
+use crate::cause::WordsError;
 use std::alloc::{AllocError, Global};
 
 /// The most bytes that the name of a path may have in front of `.undo.json`.
@@ -46,7 +46,7 @@ pub fn journal_in_folder(alloc: Global, folder: &str, path: &str) -> Result<Stri
 {
     let name = escaped_path(alloc, path)?;
     if name.len() > MOST {
-        return Err(WordsError::Usage(UsageCause::LongJournalName));
+        return Err(WordsError::Fault(UsageCause::LongJournalName));
     }
     Ok(format!(in alloc; "{folder}/{name}.undo.json")?)
 }

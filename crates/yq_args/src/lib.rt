@@ -16,10 +16,9 @@ mod options;
 mod setting;
 mod spelling;
 mod words;
-mod words_error;
 
 pub use asked::command_in;
-pub use cause::UsageCause;
+pub use cause::{UsageCause, WordsError};
 pub use command::Command;
 pub use command_word::split_command;
 pub use eval_options::EvalOptions;
@@ -28,4 +27,3 @@ pub use line::matched;
 pub use lines::{first_name, usage_text};
 pub use named::push_named;
 pub use words::{names_journal, read_words};
-pub use words_error::WordsError;

@@ -1,8 +1,8 @@
 //! The words of the command line.
 ghost use Rattle.std.specs.Prelude.{◌≡◌, ◌≢◌, IfOk, IfErr, map, true, Ok};
 ghost use Rattle.clap.specs.Words.{subcommand_of, takes};
-ghost use Rattle.yq_args.{specs.declared.command.Command.TheVariants.Help, specs.declared.words_error.WordsError.TheVariants.OutOfMemory};
-ghost use Rattle.yq_args.specs.Line.{yq};
+ghost use Rattle.yq_args.{specs.declared.command.Command.TheVariants.Help, specs.Line.yq};
+ghost use Rattle.yq_failure.specs.declared.failure.Failure.TheVariants.{Memory};
 ghost use Rattle.yq_args.specs.Asked as spec;
 
 use crate::asked::has_journal;
@@ -51,8 +51,8 @@ fn without_matches(kind: ErrorKind, asked: bool) -> Result<Command, WordsError>
 {
     match kind {
         ErrorKind::DisplayHelp if asked => Ok(Command::Help),
-        ErrorKind::OutOfMemory => Err(WordsError::OutOfMemory),
-        _ => Err(WordsError::Usage(UsageCause::Words)),
+        ErrorKind::OutOfMemory => Err(WordsError::Memory),
+        _ => Err(WordsError::Fault(UsageCause::Words)),
     }
 }
 
@@ -64,14 +64,14 @@ fn command_by(alloc: Global, full: &[&str], asked: bool) -> Result<Command, Word
     ensures only { result ≡ Ok Help → (asked ≡ true) ×
         spec.MayEndAtHelp (map (λ w. w.now) full.now) }
     ensures called { asked ≡ true → spec.EndsAtHelp (map (λ w. w.now) full.now) →
-        spec.IsHelpOr OutOfMemory result }
+        spec.IsHelpOr Memory result }
     ensures err { IfErr result (spec.IsNotTaken (map (λ w. w.now) full.now)) }
 {
     match matched(alloc, full) {
         Err(e) => without_matches(e.kind(), asked),
         Ok(matches) => match matches.subcommand() {
             Some((name, found)) => command_in(alloc, name, found),
-            None => Err(WordsError::Usage(UsageCause::Words)),
+            None => Err(WordsError::Fault(UsageCause::Words)),
         },
     }
 }
@@ -83,8 +83,8 @@ pub fn names_journal(alloc: Global, words: &[&str]) -> Result<bool, WordsError>
 {
     let full = full_words(alloc, words)?;
     match matched(alloc, &full) {
-        Err(e) if e.kind() == ErrorKind::OutOfMemory => Err(WordsError::OutOfMemory),
-        Err(_) => Err(WordsError::Usage(UsageCause::Words)),
+        Err(e) if e.kind() == ErrorKind::OutOfMemory => Err(WordsError::Memory),
+        Err(_) => Err(WordsError::Fault(UsageCause::Words)),
         Ok(matches) => match matches.subcommand() {
             Some((_, found)) => Ok(has_journal(found)),
             None => Ok(false),
@@ -106,7 +106,7 @@ pub fn read_words(alloc: Global, words: &[&str]) -> Result<Command, WordsError>
     // Help is answered where `-h` or `--help` is a word and clap reads a call for help, and not else.
     ensures only { result ≡ Ok Help → spec.MayCallHelp (map (λ w. w.now) words.now) }
     ensures called { spec.CallsHelp (map (λ w. w.now) words.now) →
-        spec.IsHelpOr OutOfMemory result }
+        spec.IsHelpOr Memory result }
     ensures err { IfErr result (spec.WordsRefused (spec.full_words (map (λ w. w.now) words.now))) }
 {
     let full = full_words(alloc, words)?;

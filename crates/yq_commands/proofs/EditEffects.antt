@@ -24,7 +24,7 @@ module _ (f j : List ℕ) (c : FileMap) (expr : List ℕ) (s : State) (t : List 
   abbrev by_tests : List ℕ → List Splice → Bool → Bool → Effect
   by_tests u cs equal full =
       if equal then writes_nothing (bytes [])
-      else if full then refuses (named fault.JournalFull) else edit_writes (edit_record expr cs (length t) (length u)) t u s
+      else if full then refuses (named (fault.Journal journal.JournalFull)) else edit_writes (edit_record expr cs (length t) (length u)) t u s
 
   -- an edit to another text is a move
   module _ (u : List ℕ) (cs : List Splice) (edit : Record) (is_edit : edit ≡ edit_record expr cs (length t) (length u)) where

@@ -5,13 +5,14 @@ use Rattle.yq_semantics.specs.Program.{Program}
 use Rattle.yq_text.specs.Splice.{Splice, all_done}
 use Rattle.yq_journal.{specs.declared.moves.Move.TheVariants.Edit, specs.Good.after_move, specs.History.{History, text_at, after_edit}}
 use Rattle.yq_journal.{specs.Record.{Record, done}, specs.Refusals.{no_way, most_records}, specs.State.State}
-use Rattle.yq_history.{specs.declared.fault.Fault.Fault, specs.declared.fault.Fault.TheVariants.JournalFull, specs.Causes.{IsFor, named}}
-use Rattle.yq_history.specs.Pair.{Arrives, PairAtRest, PairStands}
+use Rattle.yq_journal.specs.declared.fault.JournalFault.TheVariants.{JournalFull}
+use Rattle.yq_history.{specs.declared.fault.Fault.Fault, specs.Causes.{IsFor, named}, specs.Pair.{Arrives, PairAtRest, PairStands}}
 use Rattle.yq_history.proofs.MoveLaws.{IsMove, bytes_differ, is_refused, ends, same_content, fault_outside}
 use Rattle.yq_store.specs.FileMap.{FileMap}
 use Rattle.yq_commands.{specs.Editing.{edited, program_edits}, specs.Edits.edit_record}
 use Rattle.yq_commands.specs.CommandSteps.{edit_cause, edit_next, update_cause, update_next}
 use Rattle.yq_journal.specs.declared.fault.JournalFault.TheVariants as journal
+use Rattle.yq_history.specs.declared.fault.Fault.TheVariants as fault
 
 -- the record of an edit leads to its text
 pub edit_done : (expr : List ℕ) (cs : List Splice) (t u : List ℕ) → all_done cs t ≡ Some u → done (edit_record expr cs (length t) (length u)) t ≡ Some u
@@ -27,11 +28,11 @@ module _ (c : FileMap) (f j : List ℕ) (h : History) (expr : List ℕ) (p : Pro
 
   module _ (d : FileMap) (u : List ℕ) (cs : List Splice) (edit : Record) (is_edit : edit ≡ edit_record expr cs (length t) (length u)) (gives : program_edits p t ≡ edited u cs) (changes : u ≢ t) where
     -- whether the journal has room, by the history
-    room : (b : Bool) → nat_le most_records s.at ≡ b → update_cause (Ok p) (Some h) ≡ (if b then Some (named JournalFull) else None)
+    room : (b : Bool) → nat_le most_records s.at ≡ b → update_cause (Ok p) (Some h) ≡ (if b then Some (named (fault.Journal JournalFull)) else None)
     room b is =
         ap (edit_cause h) (sym same_edits ∙ gives)
-        ∙ ap (λ x. if x then None else if nat_le most_records h.at then Some (named JournalFull) else None) (bytes_differ u (text_at h) (λ e. changes (e ∙ sym k.at_rest.text)))
-        ∙ ap (λ x. if x then Some (named JournalFull) else None) (ap (nat_le most_records) (sym k.at_rest.reports.cursor) ∙ is)
+        ∙ ap (λ x. if x then None else if nat_le most_records h.at then Some (named (fault.Journal JournalFull)) else None) (bytes_differ u (text_at h) (λ e. changes (e ∙ sym k.at_rest.text)))
+        ∙ ap (λ x. if x then Some (named (fault.Journal JournalFull)) else None) (ap (nat_le most_records) (sym k.at_rest.reports.cursor) ∙ is)
 
     -- and the history after the edit
     after : (b : Bool) → nat_le most_records s.at ≡ b → update_next expr (Ok p) (Some h) ≡ Some (if b then h else after_edit h expr u)
@@ -47,8 +48,8 @@ module _ (c : FileMap) (f j : List ℕ) (h : History) (expr : List ℕ) (p : Pro
     full : {T : Type 0} (r : Result T Fault) → nat_le most_records s.at ≡ true → IsMove c d f j s t u (Edit edit) r → Updated d r
     full r is m =
         let no : no_way s.records s.at (Edit edit) ≡ Some journal.JournalFull = ap (λ b. if b then Some journal.JournalFull else None) is in
-        is_refused d f j (update_cause (Ok p) (Some h)) (Some h) (update_next expr (Ok p) (Some h)) r JournalFull (m.refused journal.JournalFull no) refl
-        (subst (λ o. IsFor o JournalFull) (sym (room true is)) refl)
+        is_refused d f j (update_cause (Ok p) (Some h)) (Some h) (update_next expr (Ok p) (Some h)) r (fault.Journal JournalFull) (m.refused journal.JournalFull no) refl
+        (subst (λ o. IsFor o (fault.Journal JournalFull)) (sym (room true is)) refl)
         (same_content c d f j h (m.barred (λ none. none-some journal.JournalFull (sym none ∙ no))) k.stands)
 
     -- the edit was carried out, or cut short

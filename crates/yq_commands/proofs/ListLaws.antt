@@ -1,8 +1,8 @@
 -- Runs of commands.
-use Rattle.std.proofs.Common.{rules, ◌≡◌, ◌⊎◌, inl, inr, ℕ, ◌+◌, Bool, true, false, ◌&&◌, not, if◌then◌else◌, List, [], ◌∷◌, Option, Some}
-use Rattle.std.{proofs.Common.{None, Result, Ok, Err, OnOk, MatchBool, IfErr, sym, ap, ◌∙◌, subst, refl}, proofs.lemmas.Bool.and_parts}
+use Rattle.std.proofs.Common.{rules, ◌≡◌, ◌⊎◌, inl, inr, ℕ, Bool, true, false, ◌&&◌, not, if◌then◌else◌, List, [], ◌∷◌, Option, Some, None}
+use Rattle.std.{proofs.Common.{Result, Ok, Err, OnOk, MatchBool, IfErr, sym, ap, ◌∙◌, subst, refl}, proofs.lemmas.Bool.and_parts}
 use Rattle.std.specs.List.{list_all}
-use Rattle.yq_journal.{specs.declared.moves.Move.Move, specs.History.{History, after_edit}}
+use Rattle.yq_journal.specs.History.{History, after_edit}
 use Rattle.yq_commands.{specs.declared.answer.Answer.Answer, specs.declared.answer.Answer.TheVariants.{Done, NoMatch, Refused}}
 use Rattle.yq_commands.specs.Lists.{answer_by, Reply, answers_in, IsAnswer, CommandRefused, IsCarriedOut, RunsCommand, Goes, RunsAll}
 use Rattle.yq_commands.specs.Lists.{IsReply, StepsExactly, GoesExactly, RunExactly, reports_failure, reports_output, count_passing}
@@ -12,8 +12,8 @@ use Rattle.yq_args.specs.declared.command.Command.{Command}
 use Rattle.yq_history.{specs.declared.fault.Fault.Fault, specs.Causes.{Cause, IsFor, named}, specs.Faults.{is_outer_fault, is_output}}
 use Rattle.yq_history.{specs.Output.{Showing, Shows}, specs.Pair.{GoodIn, Arrives}, specs.Report.Report}
 use Rattle.yq_store.specs.FileMap.{FileMap}
-use Rattle.yq_journal.specs.declared.moves.Move.TheVariants as move
 use Rattle.yq_history.specs.declared.fault.Fault.TheVariants as fault
+use Rattle.yq_journal.specs.declared.fault.JournalFault.TheVariants as journal
 
 module _ (e : FileMap) (f j : List ℕ) (c : Command) (h : Option History) where
   refused_step : (x : Fault) (b : Bool) → is_output x ≡ false → is_outer_fault x ≡ b →
@@ -41,7 +41,7 @@ module _ (e : FileMap) (f j : List ℕ) (c : Command) (h : Option History) where
 
 -- ---- what a refused command leaves
 
-room_stays : (h : History) (expr u : List ℕ) (x : Cause) (a b : Bool) → (if a then None else if b then Some (named fault.JournalFull) else None) ≡ Some x → (if a then h else if b then h else after_edit h expr u) ≡ h
+room_stays : (h : History) (expr u : List ℕ) (x : Cause) (a b : Bool) → (if a then None else if b then Some (named (fault.Journal journal.JournalFull)) else None) ≡ Some x → (if a then h else if b then h else after_edit h expr u) ≡ h
 room_stays h expr u x a b is = search rules
 
 -- a command with a cause for a refusal leaves the history

@@ -3,13 +3,15 @@ use Rattle.std.specs.Prelude.{◌≡◌, ◌≢◌, ℕ, List, [], nat_le, Bool,
 use Rattle.std.{specs.Str.bytes_eq, specs.String.string_bytes}
 use Rattle.yq_semantics.specs.Program.{Program}
 use Rattle.yq_journal.{specs.Record.Record, specs.Refusals.most_records, specs.State.{State, journal_after, with_move}}
+use Rattle.yq_journal.specs.declared.fault.JournalFault.TheVariants.{JournalFull}
 use Rattle.yq_args.specs.declared.command.Command.{Command}
 use Rattle.yq_args.specs.declared.command.Command.TheVariants.{Eval, Undo, Redo, History as Lists, Squash}
-use Rattle.yq_history.{specs.declared.fault.Fault.Fault, specs.declared.fault.Fault.TheVariants.{JournalFull, OutOfMemory}}
+use Rattle.yq_history.{specs.declared.fault.Fault.Fault, specs.declared.fault.Fault.TheVariants.OutOfMemory}
 use Rattle.yq_history.specs.Effects.{Effect, refuses, writes_nothing, writes_both, from_pair, move_effect, squash_effect, listing_effect}
 use Rattle.yq_history.{specs.Effects.printed_by, specs.Causes.{named, no_reading}, specs.Output.{IsOutput, Output, bytes, diff}}
 use Rattle.yq_commands.{specs.Editing.{EditOutcome, unreadable, refused, edited, program_in, program_edits}, specs.Edits.record_between}
 use Rattle.yq_journal.specs.declared.moves.Move.TheVariants as move
+use Rattle.yq_history.specs.declared.fault.Fault.TheVariants as fault
 
 -- what the edit of a record does from one text to another
 abbrev pub edit_writes : Record → List ℕ → List ℕ → State → Effect
@@ -21,7 +23,7 @@ edit_effect expr (unreadable old) t s = refuses (no_reading old)
 edit_effect expr (refused f) t s = refuses (named f)
 edit_effect expr (edited u changes) t s =
     if bytes_eq u t then writes_nothing (bytes [])
-    else if nat_le most_records s.at then refuses (named JournalFull)
+    else if nat_le most_records s.at then refuses (named (fault.Journal JournalFull))
     else edit_writes (record_between expr changes t u) t u s
 
 -- the same, by its expression

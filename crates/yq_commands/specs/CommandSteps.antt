@@ -3,20 +3,22 @@ use Rattle.std.{specs.Prelude.{ℕ, true, false, if◌then◌else◌, List, nat_
 use Rattle.std.specs.String.{string_bytes}
 use Rattle.yq_semantics.specs.Program.{Program}
 use Rattle.yq_journal.{specs.History.{History, text_at, after_edit}, specs.Refusals.most_records}
+use Rattle.yq_journal.specs.declared.fault.JournalFault.TheVariants.{JournalFull}
 use Rattle.yq_args.specs.declared.command.Command.{Command}
 use Rattle.yq_args.specs.declared.command.Command.TheVariants.{Eval, Undo, Redo, History as Lists, Squash, Help}
-use Rattle.yq_history.{specs.declared.fault.Fault.Fault, specs.declared.fault.Fault.TheVariants.{NotThere, JournalFull}}
+use Rattle.yq_history.{specs.declared.fault.Fault.Fault, specs.declared.fault.Fault.TheVariants.NotThere}
 use Rattle.yq_history.specs.Causes.{Cause, named, no_reading}
 use Rattle.yq_history.specs.Steps.{move_cause, move_next, squash_cause, squash_next, listing_cause}
 use Rattle.yq_commands.specs.Editing.{EditOutcome, unreadable, refused, edited, program_in, program_edits}
 use Rattle.yq_commands.specs.Evaluation.{evaluated, cause_in}
 use Rattle.yq_journal.specs.declared.moves.Move.TheVariants as move
+use Rattle.yq_history.specs.declared.fault.Fault.TheVariants as fault
 
 -- an edit to another text wants room in the journal
 abbrev pub room_cause : History → List ℕ → Option Cause
 room_cause h text =
     if bytes_eq text (text_at h) then None
-    else if nat_le most_records h.at then Some (named JournalFull) else None
+    else if nat_le most_records h.at then Some (named (fault.Journal JournalFull)) else None
 
 -- why an edit is refused, by what it gives
 abbrev pub edit_cause : History → EditOutcome → Option Cause

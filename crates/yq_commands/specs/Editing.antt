@@ -5,9 +5,10 @@ use Rattle.yq_expr_parser.specs.Parse.{outcome}
 use Rattle.yq_text.{specs.Splice.{Splice, all_done, lengths_done}, specs.declared.edited.Edited.Edited}
 use Rattle.yq_edit_laws.{specs.Carried.edit_of, specs.Edit.Edit}
 use Rattle.yq_history.{specs.declared.fault.Fault.Fault, specs.declared.fault.Fault.TheVariants.OutOfMemory, specs.Causes.IsUnreadable}
-use Rattle.yq_commands.specs.CommandFaults.{of_parse, of_refusal}
+use Rattle.yq_commands.specs.CommandFaults.{of_parse}
 use Rattle.yq_expr_parser.specs.Outcome as expr
 use Rattle.yq_edit_laws.specs.Edit as edit
+use Rattle.yq_history.specs.declared.fault.Fault.TheVariants as fault
 
 -- what an edit gives: this text has no reading, or the program is refused on it, or it gives a text by splices (own)
 pub data EditOutcome : Type 0 where
@@ -49,7 +50,7 @@ program_in expr = result_of (outcome expr)
 -- what an edit of a text gives (own)
 abbrev pub edit_outcome : List ℕ → Edit → EditOutcome
 edit_outcome old edit.unreadable = unreadable old
-edit_outcome old (edit.refuses why) = refused (of_refusal why)
+edit_outcome old (edit.refuses why) = refused (fault.Refused why)
 edit_outcome old (edit.gives text changes) = edited text changes
 
 -- what a program makes of a text (own)

@@ -8,9 +8,10 @@ use Rattle.yq_args.specs.declared.eval_options.EvalOptions.{EvalOptions}
 use Rattle.yq_history.{specs.declared.fault.Fault.Fault, specs.declared.fault.Fault.TheVariants.{NotThere, OutOfMemory}}
 use Rattle.yq_history.{specs.Causes.{Cause, IsFor, named, no_reading}, specs.Output.{Output, Showing, Shows, bytes, diff, showing_nothing}}
 use Rattle.yq_history.specs.Report.{Report, report_by}
-use Rattle.yq_commands.{specs.Editing.{EditOutcome, unreadable, refused, edited, program_edits}, specs.CommandFaults.of_refusal}
-use Rattle.yq_commands.{specs.Expecting.changes_as_expected, specs.Reads.report_matches}
+use Rattle.yq_commands.{specs.Editing.{EditOutcome, unreadable, refused, edited, program_edits}, specs.Expecting.changes_as_expected}
+use Rattle.yq_commands.specs.Reads.{report_matches}
 use Rattle.yq_history.specs.declared.report.Report as declared
+use Rattle.yq_history.specs.declared.fault.Fault.TheVariants as fault
 
 -- what is printed of an edit that isn't carried out in place: the new text, or with `--diff` what changed
 abbrev pub edit_output : EvalOptions → List ℕ → List ℕ → Output
@@ -25,7 +26,7 @@ show_edit options t (edited u changes) = Ok (record { output = edit_output optio
 -- of a read its matches are shown, by what matching gives
 abbrev pub show_found : EvalOptions → Judgement (List (ℕ × Node)) → Result Showing Cause
 show_found options (gives ms) = Ok (report_matches options ms)
-show_found options (refuses why) = Err (named (of_refusal why))
+show_found options (refuses why) = Err (named (fault.Refused why))
 
 -- the same, by the documents, if the text reads as documents
 abbrev pub show_read : EvalOptions → List Stage → List ℕ → Option (List Document) → Result Showing Cause

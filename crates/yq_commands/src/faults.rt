@@ -1,12 +1,12 @@
 //! The fault of a command for each cause that expressions tell.
 ghost use Rattle.std.specs.Prelude.{◌≡◌, false};
 ghost use Rattle.yq_history.specs.Faults.{is_failure, is_output};
-ghost use Rattle.yq_commands.specs.CommandFaults.{of_edit, of_matching, of_parse, of_refusal};
+ghost use Rattle.yq_commands.specs.CommandFaults.{of_edit, of_matching, of_parse};
 
 use yq_edit_laws::EditError;
 use yq_expr_parser::ParseError;
 use yq_history::Fault;
-use yq_semantics::{ExprError, Refusal};
+use yq_semantics::ExprError;
 
 /// Why an expression has no program.
 pub fn parse_fault(error: ParseError) -> Fault
@@ -22,36 +22,12 @@ pub fn parse_fault(error: ParseError) -> Fault
     }
 }
 
-/// Why a program is refused on a text.
-fn refusal_fault(refusal: Refusal) -> Fault
-    ensures { result ≡ of_refusal refusal }
-{
-    match refusal {
-        Refusal::NotAMap => Fault::NotAMap,
-        Refusal::NotASequence => Fault::NotASequence,
-        Refusal::IndexOutOfRange => Fault::IndexOutOfRange,
-        Refusal::ThroughAlias => Fault::ThroughAlias,
-        Refusal::AnchorInUse => Fault::AnchorInUse,
-        Refusal::NotOneValue => Fault::NotOneValue,
-        Refusal::KindMismatch => Fault::KindMismatch,
-        Refusal::IntegerRange => Fault::IntegerRange,
-        Refusal::FloatArithmetic => Fault::FloatArithmetic,
-        Refusal::NoPlaceForComment => Fault::NoPlaceForComment,
-        Refusal::BadCommentText => Fault::BadCommentText,
-        Refusal::RootDelete => Fault::RootDelete,
-        Refusal::TooDeep => Fault::TooDeep,
-        Refusal::TooLarge => Fault::TooLarge,
-        Refusal::NotAnUpdate => Fault::NotAnUpdate,
-        Refusal::KeyTooLong => Fault::KeyTooLong,
-    }
-}
-
 /// Why nothing is matched.
 pub fn match_fault(error: ExprError) -> Fault
     ensures { result ≡ of_matching error }
 {
     match error {
-        ExprError::Refused(why) => refusal_fault(why),
+        ExprError::Fault(why) => Fault::Refused(why),
         ExprError::Memory => Fault::OutOfMemory,
     }
 }
@@ -62,7 +38,7 @@ pub fn edit_fault(error: EditError) -> Fault
 {
     match error {
         EditError::Read(fault) => Fault::Unreadable(fault),
-        EditError::Refused(why) => refusal_fault(why),
+        EditError::Refused(why) => Fault::Refused(why),
         EditError::Memory => Fault::OutOfMemory,
     }
 }

@@ -5,9 +5,7 @@ ghost use Rattle.yq_store.specs.Count.{after_put};
 pub mod memory;
 pub mod standard;
 
-/// An output took not all bytes, or none.
-#[derive(Clone, Copy, Debug)]
-pub struct PutError;
+use std::fmt;
 
 /// What takes the program's output.
 pub trait Out {
@@ -20,8 +18,8 @@ pub trait Out {
     /// How many calls failed, up to the last value of 64 bits, where it stays.
     ghost failures: { Self → ℕ };
 
-    /// Puts bytes after those put so far. After a failure nothing is known of them.
-    fn put(&mut self, bytes: &[u8]) -> Result<(), PutError>
+    /// Puts bytes after those put so far. It fails where not all were taken; nothing is known of them then.
+    fn put(&mut self, bytes: &[u8]) -> fmt::Result
         ensures appended { IsTrue observable → OnOk result (taken self.new ≡ taken self.old ++ bytes.now) }
         ensures count { failures self.new ≡ after_put result (failures self.old) };
 }

@@ -14,8 +14,8 @@ pub fn words_fault(error: WordsError) -> Fault
     ensures { result ≡ of_words error }
 {
     match error {
-        WordsError::Usage(cause) => Fault::Usage(cause),
-        WordsError::OutOfMemory => Fault::OutOfMemory,
+        WordsError::Fault(cause) => Fault::Usage(cause),
+        WordsError::Memory => Fault::OutOfMemory,
     }
 }
 

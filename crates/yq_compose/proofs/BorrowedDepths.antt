@@ -1,17 +1,17 @@
 -- How deep collections are nested in a node that the text lends.
 use Rattle.std.proofs.Common.{◌≡◌, ℕ, zero, suc, ◌≤◌, Bool, true, false, cond, eqb, leb, List, Option, Some, None, refl, sym, ap, ◌∙◌}
 use Rattle.std.{proofs.Common.arith, proofs.lemmas.Bool.{and_from, le-leb}, proofs.lemmas.Option.same_Some}
-use Rattle.yq_core.{specs.Answers.{◌>>=◌, ReadFails}, specs.Borrowed.{IsBorrowed, is_borrowed, located_or_nothing, node_in_front}}
+use Rattle.yq_core.specs.Answers.{◌>>=◌, ReadFails, ReadError}
+use Rattle.yq_core.specs.Borrowed.{IsBorrowed, is_borrowed, located_or_nothing, node_in_front}
 use Rattle.yq_core.{specs.Keys.{deepest, depth, has_unique_keys}, specs.Places.{Placed, locate}, specs.PlacedReading.placed_node}
 use Rattle.yq_core.specs.Nodes.{FlowNode, empty, alias, scalar, coll, anchored, Items, none, item, IsFlowNode, AreFlowItems, sep_text}
 use Rattle.yq_core.{specs.Nodes.flow_items_text, specs.Reading.all_node}
-use Rattle.yq_core.{specs.Trees.{items_tree, placed_tree, tree_collection, tree_of, with_name}, specs.declared.fault.ReadError.ReadError}
-use Rattle.yq_core.{proofs.Bools.bind_some, proofs.BorrowedLaws.{borrowed_node, front_located}, proofs.NodeLaws.all_again}
-use Rattle.yq_core.proofs.TreeLaws.{node_tree}
+use Rattle.yq_core.{specs.Trees.{items_tree, placed_tree, tree_collection, tree_of, with_name}, proofs.Bools.bind_some}
+use Rattle.yq_core.{proofs.BorrowedLaws.{borrowed_node, front_located}, proofs.NodeLaws.all_again, proofs.TreeLaws.node_tree}
 use Rattle.yq_outline.specs.Sound.{head_is_sound}
 use Rattle.yq_compose.specs.Deciding.{Denies}
 use Rattle.yq_core.specs.Tree as trees
-use Rattle.yq_core.specs.declared.fault.ReadError.TheVariants as errors
+use Rattle.yq_failure.specs.declared.failure.Failure.TheVariants as errors
 
 named_depth : (a : List ℕ) (n : trees.Node) → depth (with_name a n) ≡ depth n
 named_depth a (trees.alias n) = refl

@@ -1,8 +1,8 @@
 -- What answers say of whether a text is as is asked.
 use Rattle.std.proofs.Common.{◌≡◌, Bool, false, Result, subst}
-use Rattle.yq_core.specs.declared.fault.ReadError.{ReadError}
+use Rattle.yq_core.specs.Answers.{ReadError}
 use Rattle.yq_compose.specs.Deciding.{Denies, Decides}
-use Rattle.yq_core.specs.declared.fault.ReadError.TheVariants as error
+use Rattle.yq_failure.specs.declared.failure.Failure.TheVariants as error
 
 -- what denies a part denies the whole
 pub denies_as : (e : ReadError) (a b : Bool) → (a ≡ false → b ≡ false) → Denies e a → Denies e b

@@ -4,7 +4,7 @@ use Rattle.std.proofs.Common.{None, refl, sym, ap, ◌∙◌, subst, arith, appe
 use Rattle.std.{proofs.Math.Seq.{drop-append_seam, get_or-append_seam}, proofs.lemmas.Bool.{cond-false, false≢true}}
 use Rattle.std.{proofs.lemmas.List.length-map, proofs.lemmas.Option.{cond_some, slice_get-map}, proofs.lemmas.Str.IsCharBoundary-start}
 use Rattle.std.{specs.List.slice_get, specs.Prelude.option_map, specs.Str.{IsCharBoundary, IsUtf8}}
-use Rattle.yq_core.{specs.Answers.ReadFails, specs.Quoted.IsQuotedText, specs.Text.is_empty, specs.declared.fault.ReadError.ReadError}
+use Rattle.yq_core.{specs.Answers.{ReadFails, ReadError}, specs.Quoted.IsQuotedText, specs.Text.is_empty}
 use Rattle.yq_core.{specs.Scalars.{scalar_content, is_quoted}, specs.Borrowed.borrows_text, proofs.OneLine.kept}
 use Rattle.yq_outline.{specs.Lines.head_of, proofs.RowLaws.{colon_some, mark_quoted}}
 use Rattle.yq_row_table.{specs.Exchange.{before_content, behind_row, rows_behind}, specs.Grammar.IsMark}
@@ -19,7 +19,7 @@ use Rattle.yq_compose.{specs.Checking.borrows_head, specs.Deciding.Denies, specs
 use Rattle.yq_compose.{specs.Decoding.{IsCutInto, IsHeadDecoded, IsKeyDecoded}, proofs.RowBegins.mark_plain}
 use Rattle.yq_compose.proofs.BorrowLaws.{borrows_key, borrowed_read}
 use Rattle.yq_core.specs.Tree as trees
-use Rattle.yq_core.specs.declared.fault.ReadError.TheVariants as errors
+use Rattle.yq_failure.specs.declared.failure.Failure.TheVariants as errors
 use Rattle.yq_row_table.specs.Rows as rows
 
 -- a key is fit that is no plain `<<`

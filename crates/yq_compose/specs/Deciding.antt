@@ -1,7 +1,7 @@
 -- Reading (own; a reader may skip it): what answers say of whether a text is as is asked.
 use Rattle.std.specs.Prelude.{◌≡◌, Bool, true, false, Result, Ok, Err, ⊤}
-use Rattle.yq_core.specs.declared.fault.ReadError.{ReadError}
-use Rattle.yq_core.specs.declared.fault.ReadError.TheVariants as error
+use Rattle.yq_core.specs.Answers.{ReadError}
+use Rattle.yq_failure.specs.declared.failure.Failure.TheVariants as error
 
 -- an error says that it is not so, unless memory ran out (own)
 abbrev pub Denies : ReadError → Bool → Type 0

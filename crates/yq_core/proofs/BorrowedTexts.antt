@@ -1,9 +1,8 @@
 -- Keys and scalars that a text lends mean what is written, without its quotes.
-use Rattle.std.proofs.Common.{◌≡◌, ℕ, zero, suc, ◌-◌, eqb, Bool, true, false, cond, not, ◌||◌, ◌&&◌, List, [], ◌∷◌, drop, take, length}
-use Rattle.std.{proofs.Common.{refl, sym, ap, ◌∙◌}, proofs.lemmas.Bool.{and_parts, cond-true, not-true, or_parts}, specs.List.list_any}
-use Rattle.yq_core.{specs.Borrowed.{borrows_text, holds_escape}, specs.ContentReading.{plain_content, quoted_content}}
-use Rattle.yq_core.{specs.Nodes.begins_with, specs.Plain.holds_break, specs.Quoted.IsQuotedText}
-use Rattle.yq_core.{specs.Scalar.{ScalarText, plain_of, string_of}, specs.Scalars.{is_quoted, scalar_content, scalar_of}}
+use Rattle.std.proofs.Common.{◌≡◌, ℕ, zero, suc, ◌-◌, eqb, Bool, true, false, cond, not, ◌||◌, List, [], ◌∷◌, drop, take, length, refl, sym}
+use Rattle.std.{proofs.Common.{ap, ◌∙◌}, proofs.lemmas.Bool.{and_parts, cond-true, not-true, or_parts}, specs.List.list_any}
+use Rattle.yq_core.{specs.Borrowed.{borrows_text, holds_escape}, specs.ContentReading.quoted_content, specs.Plain.holds_break}
+use Rattle.yq_core.{specs.Quoted.IsQuotedText, specs.Scalar.{plain_of, string_of}, specs.Scalars.{is_quoted, scalar_content, scalar_of}}
 use Rattle.yq_core.{specs.Text.is_feed, proofs.OneLine.{kept, one_line, borrowed_quoted}}
 
 pub any_drop : (f : ℕ → Bool) (n : ℕ) (t : List ℕ) → list_any f t ≡ false → list_any f (drop n t) ≡ false

@@ -1,10 +1,10 @@
 -- The inline node at an offset, read and spelled.
 use Rattle.std.proofs.Common.{◌≡◌, ℕ, ◌-◌, not, List, length, drop, Some, subst, ℤ, Result, Ok, Err, IfOk, rules}
 use Rattle.std.proofs.lemmas.Option.{cond_some, same_Some}
-use Rattle.yq_core.{specs.declared.fault.ReadError.ReadError, specs.declared.style.Place.Place, specs.Answers.Gives}
-use Rattle.yq_core.{specs.Piece.further_spaces, specs.Writable.in_flow, proofs.Bools.bind_some}
-use Rattle.yq_core.{specs.Inline.{depth_limit, IsInlineAt, inline_at}, specs.Places.{Placed, bare_placed}, specs.PlacedReading.placed_node}
-use Rattle.yq_core.{specs.Reading.all_node, proofs.NodeLaws.{all_takes, all_again}, proofs.Steps.bare_locate}
+use Rattle.yq_core.{specs.Answers.{ReadError, Gives}, specs.declared.style.Place.Place, specs.Piece.further_spaces, specs.Writable.in_flow}
+use Rattle.yq_core.{proofs.Bools.bind_some, specs.Inline.{depth_limit, IsInlineAt, inline_at}, specs.Places.{Placed, bare_placed}}
+use Rattle.yq_core.{specs.PlacedReading.placed_node, specs.Reading.all_node, proofs.NodeLaws.{all_takes, all_again}}
+use Rattle.yq_core.proofs.Steps.{bare_locate}
 
 pub inline_takes : (place : Place) (n : ℤ) (depth at : ℕ) (text : List ℕ) (p : Placed) → inline_at place n depth at text ≡ Some p → IsInlineAt place n depth at text p
 inline_takes place n depth at text p h =

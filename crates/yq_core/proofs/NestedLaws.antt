@@ -1,8 +1,8 @@
 -- The parts of an inline node lie inside it, one after the other.
 use Rattle.std.proofs.Common.{ℕ, suc, ◌-◌, ◌≤◌, true, false, eqb, cond, List, ◌++◌, length, refl, sym, ap, subst, arith, length-append, ℤ}
 use Rattle.std.{proofs.Common.{Result, Ok, Err, IfOk, rules}, proofs.lemmas.List.length-drop}
-use Rattle.yq_core.{specs.declared.fault.ReadError.ReadError, specs.declared.style.Place.Place, specs.Answers.Gives}
-use Rattle.yq_core.{specs.Entries.{EntryPieces, end_of}, specs.Inline.{IsInlineAt, inline_at}}
+use Rattle.yq_core.{specs.Answers.{ReadError, Gives}, specs.declared.style.Place.Place, specs.Entries.{EntryPieces, end_of}}
+use Rattle.yq_core.specs.Inline.{IsInlineAt, inline_at}
 use Rattle.yq_core.specs.Nodes.{Key, FlowNode, empty, alias, scalar, coll, anchored, Items, none, item, key_text, sep_text, node_text}
 use Rattle.yq_core.specs.Nodes.{flow_items_text}
 use Rattle.yq_core.specs.Places.{Placed, placed, sequence, mapping, Parts, holder, anchored_node, key_placed, locate, locate_items}

@@ -3,8 +3,8 @@ use Rattle.std.proofs.Common.{◌≡◌, ℕ, zero, suc, ◌+◌, ◌-◌, ◌�
 use Rattle.std.proofs.Common.{Some, None, refl, sym, ap, ◌∙◌, subst, append_assoc, arith, length-append, ℤ, Result, Ok, Err, IfOk, rules}
 use Rattle.std.{proofs.lemmas.Str.{IsCharBoundary-at_seam, IsUtf8-drop}, proofs.lemmas.List.take-append-drop}
 use Rattle.std.specs.Str.{IsUtf8, IsCharBoundary}
-use Rattle.yq_core.{specs.declared.fault.ReadError.ReadError, specs.declared.style.Place.Place, specs.Answers.Gives}
-use Rattle.yq_core.{specs.Piece.further_spaces, specs.Writable.in_flow, specs.Inline.{depth_limit, IsInlineAt, inline_at}}
+use Rattle.yq_core.{specs.Answers.{ReadError, Gives}, specs.declared.style.Place.Place, specs.Piece.further_spaces, specs.Writable.in_flow}
+use Rattle.yq_core.specs.Inline.{depth_limit, IsInlineAt, inline_at}
 use Rattle.yq_core.specs.Nodes.{Key, bare, keyed, Sep, FlowNode, empty, alias, scalar, coll, anchored, Items, none, item, key_text}
 use Rattle.yq_core.specs.Nodes.{sep_text, node_text, flow_items_text, is_close, opening_bracket, begins_content, IsInlineKey, IsSep}
 use Rattle.yq_core.specs.Nodes.{IsFlowNode, AreFlowItems}

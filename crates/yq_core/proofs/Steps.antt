@@ -2,8 +2,7 @@
 use Rattle.std.proofs.Common.{◌≡◌, ℕ, zero, suc, ◌-◌, Bool, true, false, cond, not, ◌&&◌, ◌||◌, eqb, List, ◌∷◌, ◌++◌, length, drop, Option}
 use Rattle.std.{proofs.Common.{Some, None, refl, sym, ap, ◌∙◌, subst, Result, rules}, proofs.lemmas.Bool.false≢true}
 use Rattle.std.proofs.lemmas.Option.{same_Some}
-use Rattle.yq_core.{specs.declared.fault.ReadError.ReadError, specs.declared.piece.Piece.Piece, specs.Answers.{◌>>=◌, ReadFails, Gives}}
-use Rattle.yq_core.specs.Text.{is_empty}
+use Rattle.yq_core.{specs.Answers.{ReadError, ◌>>=◌, ReadFails, Gives}, specs.declared.piece.Piece.Piece, specs.Text.is_empty}
 use Rattle.yq_core.specs.Nodes.{begins_with, Key, bare, keyed, FlowNode, anchored, Items, item, key_text, sep_text, node_text}
 use Rattle.yq_core.specs.Nodes.{flow_items_text, begins_content, is_keyed, is_empty_node, takes_anchor, IsInlineKey}
 use Rattle.yq_core.specs.Places.{Placed, mapping, sequence, Parts, end, part, key_placed, key_here, locate, locate_items, placed_between}
@@ -15,7 +14,7 @@ use Rattle.yq_core.{specs.Reading.all_node, proofs.Binds.{bind_same, bind_bind}}
 use Rattle.yq_core.proofs.NodesPieceLaws.{name_takes, lead_takes, key_takes, sep_takes, front_is}
 use Rattle.yq_core.proofs.NodeTakes.{content_takes, lead_amp, KidsTake, items_takes}
 use Rattle.yq_core.{proofs.NodeLaws.{items_step, items_done, all_takes, then_node, then_sep, then_items}, proofs.NodeAgain.is_anchored}
-use Rattle.yq_core.specs.declared.fault.ReadError.TheVariants as errors
+use Rattle.yq_failure.specs.declared.failure.Failure.TheVariants as errors
 
 bare_holder : (k : ℕ) (s : Parts) → (bare_in None (holder k s) ≡ false) × (takes_in None (holder k s) ≡ true)
 bare_holder k s = elim (eqb k 125) as (λ c. (bare_in None (cond c (mapping s) (sequence s)) ≡ false) × (takes_in None (cond c (mapping s) (sequence s)) ≡ true)) [ true ↦ (refl, refl) | false ↦ (refl, refl) ]

@@ -1,7 +1,12 @@
 -- What an answer says of what reading a text gives.
 use Rattle.std.specs.Prelude.{◌≡◌, ◌≢◌, ℕ, ◌+◌, Option, Some, None, Result, Ok, Err}
-use Rattle.yq_core.{specs.declared.fault.FaultKind.TheVariants.NotUtf8, specs.declared.fault.ReadError.ReadError}
-use Rattle.yq_core.specs.declared.fault.ReadError.TheVariants as error
+use Rattle.yq_core.{specs.declared.fault.FaultKind.TheVariants.NotUtf8, specs.declared.fault.ReadFault.ReadFault}
+use Rattle.yq_failure.specs.declared.failure.Failure.{Failure}
+use Rattle.yq_failure.specs.declared.failure.Failure.TheVariants as error
+
+-- why a text was not read (own)
+abbrev pub ReadError : Type 0
+ReadError = Failure ReadFault
 
 infixl 10 ◌>>=◌
 -- what the second step gives of what the first one gave, if both give something (own)

@@ -1,9 +1,9 @@
 -- Where a text is at fault.
 use Rattle.std.{specs.Prelude.{◌≡◌, ◌-◌, ◌^◌, ◌<◌, ℕ, suc, List, length, take, min, count_by}, specs.NonZero.non_zero_u64_get}
 use Rattle.std.specs.Str.Lossy.{utf8_valid_len}
-use Rattle.yq_core.{specs.declared.fault.FaultKind.TheVariants.NotUtf8, specs.declared.fault.ReadError.ReadError}
-use Rattle.yq_core.{specs.declared.fault.ReadFault.ReadFault, specs.Text.is_feed}
-use Rattle.yq_core.specs.declared.fault.ReadError.TheVariants as error
+use Rattle.yq_core.{specs.declared.fault.FaultKind.TheVariants.NotUtf8, specs.Answers.ReadError, specs.declared.fault.ReadFault.ReadFault}
+use Rattle.yq_core.specs.Text.{is_feed}
+use Rattle.yq_failure.specs.declared.failure.Failure.TheVariants as error
 
 -- on which line, counted from 1, a place of a text is: one more than the LFs before it (YAML 1.2.2, section 5.4)
 abbrev pub counted_line : List ℕ → ℕ → ℕ

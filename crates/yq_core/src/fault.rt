@@ -1,8 +1,8 @@
 //! Why a text is refused.
 
-use std::alloc::{AllocError, AllocFailed};
 use std::fmt::{self, Debug, Formatter, Write};
 use std::num::NonZeroU64;
+use yq_failure::Failure;
 
 /// What is at fault in a text.
 #[derive(Clone, Copy, Debug, PartialEq, Eq)]
@@ -64,48 +64,11 @@ impl Debug for ReadFault {
 }
 
 /// Why a text was not read.
-#[derive(Clone, Copy)]
-pub enum ReadError {
-    /// Memory ran out.
-    Memory,
-    /// The text is refused.
-    Fault(ReadFault),
-}
-
-impl Debug for ReadError {
-    fn fmt<W: Write>(&self, f: &mut Formatter<W>) -> fmt::Result {
-        match self {
-            ReadError::Memory => f.write_str("memory ran out"),
-            ReadError::Fault(fault) => fault.fmt(f),
-        }
-    }
-}
-
-impl From<AllocError> for ReadError {
-    ghost use Rattle.std.specs.Prelude.{◌≡◌};
-    ghost use Rattle.yq_core.specs.declared.fault.ReadError.TheVariants.{Memory};
-
-    ghost from_gives = { λ _ e. e ≡ Memory };
-
-    fn from(_refused: AllocError) -> ReadError {
-        ReadError::Memory
-    }
-}
-
-impl<T: Drop> From<AllocFailed<T>> for ReadError {
-    ghost use Rattle.std.specs.Prelude.{◌≡◌};
-    ghost use Rattle.yq_core.specs.declared.fault.ReadError.TheVariants.{Memory};
-
-    ghost from_gives = { λ _ e. e ≡ Memory };
-
-    fn from(_refused: AllocFailed<T>) -> ReadError {
-        ReadError::Memory
-    }
-}
+pub type ReadError = Failure<ReadFault>;
 
 impl From<ReadFault> for ReadError {
     ghost use Rattle.std.specs.Prelude.{◌≡◌};
-    ghost use Rattle.yq_core.specs.declared.fault.ReadError.TheVariants.{Fault};
+    ghost use Rattle.yq_failure.specs.declared.failure.Failure.TheVariants.{Fault};
 
     ghost from_gives = { λ fault e. e ≡ Fault fault };
 

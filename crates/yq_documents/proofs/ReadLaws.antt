@@ -1,7 +1,7 @@
 -- Reading bytes as documents, both ways.
 use Rattle.std.{proofs.Common.{◌≡◌, ℕ, List, true, Option, Some, None, refl, sym, ap, ◌∙◌, subst, ◌↔◌, rules}, proofs.lemmas.Bool.cond-true}
 use Rattle.std.{proofs.lemmas.Option.{cond_some, none-some, same_Some}, specs.Str.is_utf8}
-use Rattle.yq_core.{specs.Answers.{◌>>=◌, ReadFails}, specs.declared.fault.ReadError.ReadError, proofs.Bools.{bind_some, guard_then}}
+use Rattle.yq_core.{specs.Answers.{◌>>=◌, ReadFails, ReadError}, proofs.Bools.{bind_some, guard_then}}
 use Rattle.yq_row_table.{specs.Grammar.IsCut, specs.Slicing.read_view, specs.Reading.scan_at, specs.Rows.Cut}
 use Rattle.yq_row_table.proofs.ScanLaws.{scan_takes, scan_again}
 use Rattle.yq_documents.specs.Documents.{Document, document_parts, ReadsDocuments}

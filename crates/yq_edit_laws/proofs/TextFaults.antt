@@ -1,13 +1,13 @@
 -- A text that isn't read, which is never since it is no UTF-8, and one that is.
 use Rattle.std.{proofs.Common.{◌≡◌, ◌≢◌, ◌↔◌, List, ℕ, Some, None, Err, false, sym, ap, ◌∙◌}, specs.Str.{IsUtf8, is_utf8}}
 use Rattle.std.{proofs.lemmas.Bool.false≢true, proofs.lemmas.Str.{IsUtf8-from_is_utf8, is_utf8-from_IsUtf8}}
-use Rattle.yq_core.{proofs.Bools.guard_then, specs.Answers.ReadFails as FailsReading, specs.declared.ReadFault.ReadFault}
-use Rattle.yq_core.{specs.declared.fault.FaultKind.TheVariants.NotUtf8, specs.declared.fault.ReadError.ReadError}
+use Rattle.yq_core.{proofs.Bools.guard_then, specs.Answers.{ReadFails as FailsReading, ReadError}, specs.declared.ReadFault.ReadFault}
+use Rattle.yq_core.specs.declared.fault.FaultKind.TheVariants.{NotUtf8}
 use Rattle.yq_row_table.specs.Rows.{Cut}
 use Rattle.yq_places.specs.Answers.{IsNotUtf8}
 use Rattle.yq_documents.specs.Reading.{read_at}
 use Rattle.yq_edit_laws.{specs.Answers.{EditFails, error_of_reading}, specs.Edit.{Edit, unreadable}}
-use Rattle.yq_core.specs.declared.fault.ReadError.TheVariants as reading
+use Rattle.yq_failure.specs.declared.failure.Failure.TheVariants as reading
 
 -- What is known where bytes aren't read.
 pub record FailsToRead (e : ReadError) (bytes : List ℕ) : Type 0 where

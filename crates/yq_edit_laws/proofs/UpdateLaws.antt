@@ -1,23 +1,20 @@
 -- An update that is planned on the documents of a text and carried out.
 use Rattle.std.proofs.Common.{◌≡◌, ◌≢◌, ℕ, zero, suc, ◌<◌, List, [], ◌∷◌, ◌++◌, slice_get, Some, None, Result, Ok, Err, IfOk, IfErr}
 use Rattle.std.{proofs.Common.{string_bytes, sym, ap, ◌∙◌, subst, arith}, proofs.lemmas.Option.{none-some, same_Some}, specs.Str.IsUtf8}
-use Rattle.yq_core.{specs.declared.ReadFault.ReadFault, specs.declared.fault.FaultKind.TheVariants.NotUtf8}
-use Rattle.yq_core.specs.declared.fault.ReadError.{ReadError}
+use Rattle.yq_core.{specs.declared.ReadFault.ReadFault, specs.declared.fault.FaultKind.TheVariants.NotUtf8, specs.Answers.ReadError}
 use Rattle.yq_row_table.specs.Rows.{Cut}
 use Rattle.yq_documents.{specs.Reading.{documents, documents_of, cut_of, read_at}, proofs.ReadLaws.parts_read}
-use Rattle.yq_semantics.{specs.Judgement.Judges, specs.Operations.Operation, specs.Plans.plan}
+use Rattle.yq_semantics.{specs.Judgement.{Judges, ExprError}, specs.Operations.Operation, specs.Plans.plan}
 use Rattle.yq_semantics.specs.Program.{Program, Update, assign, delete, comment, read, updates, update_at, update_count, UpdatesHold}
 use Rattle.yq_semantics.{specs.Program.LiteralsHold, specs.Rooms.room_of, specs.declared.refusal.Refusal.Refusal}
-use Rattle.yq_semantics.specs.declared.expr_error.ExprError.{ExprError}
 use Rattle.yq_text.{specs.Splice.Splice, proofs.PlaceInList.get_some, specs.declared.edited.Edited.Edited}
 use Rattle.yq_edit_laws.{specs.Answers.{Edits, EditFails, of_planning, error_of_reading}, specs.Carried.{carry_all, carry_out, updated}}
 use Rattle.yq_edit_laws.{specs.Edit.{Edit, unreadable, refuses, gives, edit_after, by_reading}, specs.Theorems.{HasReading, IsUpdated}}
 use Rattle.yq_edit_laws.{specs.Valid.{HaveOperands, IsStep, UpdateFails, FailsAt}, specs.declared.edit_error.EditError.EditError}
 use Rattle.yq_edit_laws.{proofs.MeaningLaws.{UpdateComes, plan_comes, plan_stops}, proofs.OrderLaws.fails_itself}
 use Rattle.yq_edit_laws.proofs.TextFaults.{FailsToRead, text_unread}
-use Rattle.yq_core.specs.declared.fault.ReadError.TheVariants as reading
+use Rattle.yq_failure.specs.declared.failure.Failure.TheVariants as failure
 use Rattle.yq_semantics.specs.Judgement as judgement
-use Rattle.yq_semantics.specs.declared.expr_error.ExprError.TheVariants as planning
 use Rattle.yq_edit_laws.specs.declared.edit_error.EditError.TheVariants as error
 
 -- a text that isn't read has no reading
@@ -76,14 +73,14 @@ update_refused_memory u t = record { fails = tt; why = tt }
 
 -- an update of a text that isn't read
 pub update_not_read : (u : Update) (bytes t : List ℕ) (e : ReadError) → bytes ≡ t → IsUtf8 t → FailsToRead e bytes → FailsAt (error_of_reading e) u t
-update_not_read u bytes t reading.Memory same utf8 h = update_refused_memory u t
-update_not_read u bytes t (reading.Fault fault) same utf8 h = let k = text_unread bytes t fault same utf8 h in update_unread u t fault k.0 k.1
+update_not_read u bytes t failure.Memory same utf8 h = update_refused_memory u t
+update_not_read u bytes t (failure.Fault fault) same utf8 h = let k = text_unread bytes t fault same utf8 h in update_unread u t fault k.0 k.1
 
 -- an update that is not planned, by the documents of a text
 pub update_unplanned : {X : Type 0} (view : X → List Operation) (u : Update) (t d : List ℕ) (p : ExprError) → read_at t ≡ Some (cut_of d) → d ≡ t →
     Judges view (Err p) (plan u (room_of d) (documents_of d)) → FailsAt (of_planning p) u t
-update_unplanned view u t d (planning.Refused why) is same h = update_refused u t (cut_of d) why is (ap (λ (x : List ℕ). plan u (room_of x) (documents_of d)) (sym same) ∙ h)
-update_unplanned view u t d planning.Memory is same h = update_refused_memory u t
+update_unplanned view u t d (failure.Fault why) is same h = update_refused u t (cut_of d) why is (ap (λ (x : List ℕ). plan u (room_of x) (documents_of d)) (sym same) ∙ h)
+update_unplanned view u t d failure.Memory is same h = update_refused_memory u t
 
 -- and one that is
 pub update_planned : (u : Update) (t d : List ℕ) (ops : List Operation) → d ≡ t → plan u (room_of d) (documents_of d) ≡ judgement.gives ops →

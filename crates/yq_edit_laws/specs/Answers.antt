@@ -1,28 +1,26 @@
 -- What an answer to an edit says.
 use Rattle.std.specs.Prelude.{◌≡◌, ◌≢◌, Result, Ok, Err, string_bytes}
-use Rattle.yq_core.{specs.declared.fault.FaultKind.TheVariants.NotUtf8, specs.declared.fault.ReadError.ReadError}
-use Rattle.yq_semantics.{specs.declared.expr_error.ExprError.ExprError, specs.declared.refusal.Refusal.TheVariants.TooLarge}
-use Rattle.yq_text.{specs.declared.edited.Edited.Edited, specs.declared.exchange_error.ExchangeError.ExchangeError}
+use Rattle.yq_core.{specs.declared.fault.FaultKind.TheVariants.NotUtf8, specs.Answers.ReadError}
+use Rattle.yq_semantics.{specs.Judgement.ExprError, specs.declared.refusal.Refusal.TheVariants.TooLarge}
+use Rattle.yq_text.{specs.declared.edited.Edited.Edited, specs.Exchanging.ExchangeError}
 use Rattle.yq_edit_laws.{specs.Edit.{Edit, unreadable, refuses, gives}, specs.declared.edit_error.EditError.EditError}
-use Rattle.yq_core.specs.declared.fault.ReadError.TheVariants as reading
-use Rattle.yq_semantics.specs.declared.expr_error.ExprError.TheVariants as planning
-use Rattle.yq_text.specs.declared.exchange_error.ExchangeError.TheVariants as exchanging
+use Rattle.yq_failure.specs.declared.failure.Failure.TheVariants as failure
 use Rattle.yq_edit_laws.specs.declared.edit_error.EditError.TheVariants as error
 
 -- the error of an edit whose text is not read (own)
 abbrev pub error_of_reading : ReadError → EditError
-error_of_reading reading.Memory = error.Memory
-error_of_reading (reading.Fault fault) = error.Read fault
+error_of_reading failure.Memory = error.Memory
+error_of_reading (failure.Fault fault) = error.Read fault
 
 -- the error of an edit whose update is not planned (own)
 abbrev pub of_planning : ExprError → EditError
-of_planning (planning.Refused why) = error.Refused why
-of_planning planning.Memory = error.Memory
+of_planning (failure.Fault why) = error.Refused why
+of_planning failure.Memory = error.Memory
 
 -- the error of an edit whose new text is not made (own)
 abbrev pub of_exchange : ExchangeError → EditError
-of_exchange exchanging.TooLarge = error.Refused TooLarge
-of_exchange exchanging.Memory = error.Memory
+of_exchange (failure.Fault e) = error.Refused TooLarge
+of_exchange failure.Memory = error.Memory
 
 -- what an error says of the edit, and that no text is reported to be no UTF-8; want of memory says nothing (own)
 abbrev pub EditFails : EditError → Edit → Type 0

@@ -49,7 +49,7 @@ impl From<ExprError> for EditError {
 
     fn from(error: ExprError) -> EditError {
         match error {
-            ExprError::Refused(why) => EditError::Refused(why),
+            ExprError::Fault(why) => EditError::Refused(why),
             ExprError::Memory => EditError::Memory,
         }
     }
@@ -63,7 +63,7 @@ impl From<ExchangeError> for EditError {
 
     fn from(error: ExchangeError) -> EditError {
         match error {
-            ExchangeError::TooLarge => EditError::Refused(Refusal::TooLarge),
+            ExchangeError::Fault(_) => EditError::Refused(Refusal::TooLarge),
             ExchangeError::Memory => EditError::Memory,
         }
     }

@@ -1,10 +1,9 @@
 -- What comes of each of several, one after the other, and of several that act in turn.
 use Rattle.std.proofs.Common.{rules, ◌≡◌, ℕ, suc, ◌+◌, ◌<◌, List, [], ◌∷◌, ◌++◌, length, map, drop, get_or, Result, Err, sym, ap, ◌∙◌}
 use Rattle.std.{proofs.Common.{subst, append_assoc, add-one, drop-cons, ◌≤◌, append-nil}, proofs.lemmas.List.drop_all}
-use Rattle.yq_semantics.{specs.Judgement.{MatchFails, Judgement, Judges, and_then, gives}, specs.Places.{for_each, chained}}
-use Rattle.yq_semantics.specs.declared.expr_error.ExprError.{ExprError}
+use Rattle.yq_semantics.{specs.Judgement.{MatchFails, Judgement, Judges, and_then, gives, ExprError}, specs.Places.{for_each, chained}}
 use Rattle.yq_eval.specs.PlaceView.{put_behind}
-use Rattle.yq_semantics.specs.declared.expr_error.ExprError.TheVariants as error
+use Rattle.yq_failure.specs.declared.failure.Failure.TheVariants as error
 
 -- an error on the first of two steps is one of both
 pub fails_then : {Y W : Type 0} (f : Y → Judgement W) (j : Judgement Y) (e : ExprError) → MatchFails e j → MatchFails e (and_then f j)

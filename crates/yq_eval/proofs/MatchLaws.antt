@@ -6,13 +6,13 @@ use Rattle.yq_core.{specs.declared.kind.Kind.Kind, specs.Paths.{is_here, further
 use Rattle.yq_core.specs.Tree.{Node, scalar, list, Children, none, child}
 use Rattle.yq_documents.specs.Documents.{Document}
 use Rattle.yq_semantics.{specs.Conditions.{node_there, value_of, condition_holds}, specs.Copies.{matches_in, matches_from}}
-use Rattle.yq_semantics.specs.Judgement.{MatchFails, Judgement, and_then, gives}
+use Rattle.yq_semantics.specs.Judgement.{MatchFails, Judgement, and_then, gives, ExprError}
 use Rattle.yq_semantics.specs.Matching.{ChildFound, step_child, in_scalar, key_step, item_number, index_step}
 use Rattle.yq_semantics.specs.Pipes.{kept_place, select_on, stage_on, pipe_on, places}
 use Rattle.yq_semantics.specs.Places.{FoundPlace, root_place, child_place, for_each, miss, found_place, stepped, all_steps, step_there}
 use Rattle.yq_semantics.{specs.Places.{step_from, step_on, chained}, specs.Program.{PathStep, key, index, each, Stage, path, select}}
-use Rattle.yq_semantics.{specs.declared.expr_error.ExprError.ExprError, specs.declared.refusal.Refusal.Refusal}
-use Rattle.yq_semantics.{specs.declared.refusal.Refusal.TheVariants.{NotAMap, NotASequence}, proofs.JudgementLaws.{then_gives, gives_same}}
+use Rattle.yq_semantics.{specs.declared.refusal.Refusal.Refusal, specs.declared.refusal.Refusal.TheVariants.{NotAMap, NotASequence}}
+use Rattle.yq_semantics.proofs.JudgementLaws.{then_gives, gives_same}
 use Rattle.yq_eval.{specs.PlaceView.put_behind, specs.TreeScalars.{HasScalars, EachHasScalars, HaveScalars}}
 use Rattle.yq_eval.proofs.EachLaws.{fails_then, put_both}
 use Rattle.yq_core.specs.declared.kind.Kind.TheVariants as kinds

@@ -3,10 +3,9 @@ use Rattle.std.{specs.Prelude.{◌≡◌, ℕ, List, Result, String, Vec, map}, 
 use Rattle.yq_core.{specs.Tree.Node as TreeNode, specs.Values.{field_of, value_node}, specs.declared.value.Value.Value}
 use Rattle.yq_documents.specs.Reading.{documents_of}
 use Rattle.yq_nodes.{specs.Nodes.node_of, specs.declared.nodes.node.Node.Node}
-use Rattle.yq_semantics.{specs.Copies.{match_at, matches, matches_in}, specs.Judgement.{Judgement, Judges}, specs.Places.for_each}
-use Rattle.yq_semantics.{specs.Program.{Stage as PipeStage, read}, specs.View.{program_of, stage_of}}
-use Rattle.yq_semantics.{specs.declared.expr_error.ExprError.ExprError, specs.declared.program.Stage.Stage}
-use Rattle.yq_semantics.specs.declared.program.Syntax.{Syntax}
+use Rattle.yq_semantics.{specs.Copies.{match_at, matches, matches_in}, specs.Judgement.{Judgement, Judges, ExprError}}
+use Rattle.yq_semantics.{specs.Places.for_each, specs.Program.{Stage as PipeStage, read}, specs.View.{program_of, stage_of}}
+use Rattle.yq_semantics.{specs.declared.program.Stage.Stage, specs.declared.program.Syntax.Syntax}
 use Rattle.yq_eval.{specs.MatchView.matches_of, specs.PlaceView.{places_of, put_behind}, specs.declared.matched.Match.Match}
 use Rattle.yq_eval.specs.declared.matching.place.FoundPlace.{FoundPlace}
 

@@ -2,12 +2,11 @@
 use Rattle.std.{specs.Prelude.{◌≡◌, ◌++◌, ◌∷◌, [], ℕ, List, Option, OnOk, Result, Vec, Bool, map}, specs.declared.alloc.Global.Global}
 use Rattle.yq_core.{specs.Tree.{Node as TreeNode, children_of}, specs.Paths.Step}
 use Rattle.yq_nodes.{specs.Nodes.{label_of, node_of}, specs.declared.nodes.node.Node.Node}
-use Rattle.yq_semantics.specs.Judgement.{Judgement, Judges, gives}
+use Rattle.yq_semantics.specs.Judgement.{Judgement, Judges, gives, ExprError}
 use Rattle.yq_semantics.specs.Places.{child_place, for_each, further_place, found_place, miss, step_by, step_on, stepped}
 use Rattle.yq_semantics.{specs.Places.FoundPlace as Place, specs.Pipes.{places, select_on}, specs.Program.{each, path}}
-use Rattle.yq_semantics.{specs.View.{condition_of, program_step, stage_of}, specs.declared.expr_error.ExprError.ExprError}
-use Rattle.yq_semantics.{specs.declared.program.PathStep.PathStep, specs.declared.program.Condition.Condition}
-use Rattle.yq_semantics.specs.declared.program.Stage.{Stage}
+use Rattle.yq_semantics.{specs.View.{condition_of, program_step, stage_of}, specs.declared.program.PathStep.PathStep}
+use Rattle.yq_semantics.{specs.declared.program.Condition.Condition, specs.declared.program.Stage.Stage}
 use Rattle.yq_eval.{specs.FoundView.child_places, specs.PlaceView.{found_of, missing_of, path_of, place_of, places_of, put_behind}}
 use Rattle.yq_eval.{specs.declared.matching.place.FoundPlace.FoundPlace, specs.declared.matching.place.Missing.Missing}
 use Rattle.yq_eval.{specs.declared.matching.place.NodePath.NodePath, specs.declared.matching.place.NodeStep.NodeStep}

@@ -7,8 +7,8 @@ use std::alloc::{AllocError, Global};
 use yq_core::{Kind, Step};
 use yq_documents::{Documents, Part, Path};
 use yq_expr_parser::parse_expr;
-use yq_history::Fault;
 use yq_nodes::{Node, NodeKind};
+use yq_semantics::Refusal;
 use yq_tree::{extent, locate, read};
 
 /// Whether a key is a step of a path without quotes.
@@ -103,14 +103,14 @@ fn push_value(
     out.push('\n')
 }
 
-/// Adds which value of a file with these bytes refuses the steps of an expression with this fault, and on
+/// Adds which value of a file with these bytes refuses the steps of an expression for this reason, and on
 /// which line it is, counted from 1. Nothing where no value does, or where more than one path may lead to it.
 pub fn push_value_line(
     alloc: Global,
     out: &mut String,
     bytes: &[u8],
     expr: &str,
-    fault: Fault,
+    why: Refusal,
 ) -> Result<(), AllocError> {
     let Ok(documents) = read(alloc, bytes) else {
         return Ok(());
@@ -118,16 +118,16 @@ pub fn push_value_line(
     let Ok(program) = parse_expr(alloc, expr) else {
         return Ok(());
     };
-    match refusing(alloc, &documents, pipe_of(&program), fault)? {
+    match refusing(alloc, &documents, pipe_of(&program), why)? {
         Some(path) => push_value(alloc, out, &documents, &path, bytes),
         None => Ok(()),
     }
 }
 
-/// Whether a value is named for such a fault.
-pub fn names_value(fault: Fault) -> bool {
+/// Whether a value is named for such a refusal.
+pub fn names_value(why: Refusal) -> bool {
     matches!(
-        fault,
-        Fault::NotAMap | Fault::NotASequence | Fault::IndexOutOfRange | Fault::ThroughAlias
+        why,
+        Refusal::NotAMap | Refusal::NotASequence | Refusal::IndexOutOfRange | Refusal::ThroughAlias
     )
 }

@@ -3,9 +3,8 @@
 use std::alloc::{AllocError, Global};
 use yq_core::{Kind, Step};
 use yq_documents::{Documents, Path};
-use yq_history::Fault;
 use yq_nodes::NodeKind;
-use yq_semantics::{PathStep, Program, Stage, Syntax, Update};
+use yq_semantics::{PathStep, Program, Refusal, Stage, Syntax, Update};
 use yq_tree::locate;
 
 /// Where a step of a pipe leads.
@@ -31,15 +30,15 @@ pub fn pipe_of(program: &Program) -> &[Stage] {
     }
 }
 
-/// Whether a value of this kind can be what refused a step with this fault.
-fn can_refuse(fault: Fault, kind: NodeKind, step: &PathStep) -> bool {
-    match (fault, kind, step) {
-        (Fault::ThroughAlias, NodeKind::Alias, _) => true,
+/// Whether a value of this kind can be what refused a step.
+fn can_refuse(why: Refusal, kind: NodeKind, step: &PathStep) -> bool {
+    match (why, kind, step) {
+        (Refusal::ThroughAlias, NodeKind::Alias, _) => true,
         (_, NodeKind::Alias | NodeKind::Scalar(Kind::Null), _) => false,
-        (Fault::NotAMap, kind, PathStep::Key(_)) => kind != NodeKind::Map,
-        (Fault::NotASequence, kind, PathStep::Index(_)) => kind != NodeKind::List,
-        (Fault::NotASequence, NodeKind::Scalar(_), PathStep::Each) => true,
-        (Fault::IndexOutOfRange, NodeKind::List, PathStep::Index(_)) => true,
+        (Refusal::NotAMap, kind, PathStep::Key(_)) => kind != NodeKind::Map,
+        (Refusal::NotASequence, kind, PathStep::Index(_)) => kind != NodeKind::List,
+        (Refusal::NotASequence, NodeKind::Scalar(_), PathStep::Each) => true,
+        (Refusal::IndexOutOfRange, NodeKind::List, PathStep::Index(_)) => true,
         _ => false,
     }
 }
@@ -60,12 +59,12 @@ fn step_on(
     documents: &Documents<'_>,
     path: &mut Path,
     step: &PathStep,
-    fault: Fault,
+    why: Refusal,
 ) -> Result<Way, AllocError> {
     let Some(node) = locate(documents, path) else {
         return Ok(Way::Unknown);
     };
-    if can_refuse(fault, node.kind(), step) {
+    if can_refuse(why, node.kind(), step) {
         return Ok(Way::Refused);
     }
     let next = match step {
@@ -86,10 +85,10 @@ fn steps_on(
     documents: &Documents<'_>,
     path: &mut Path,
     steps: &[PathStep],
-    fault: Fault,
+    why: Refusal,
 ) -> Result<Way, AllocError> {
     'steps: for step in steps {
-        match step_on(alloc, documents, path, step, fault)? {
+        match step_on(alloc, documents, path, step, why)? {
             Way::Further => {}
             way => return Ok(way),
         }
@@ -103,13 +102,13 @@ fn stages_on(
     documents: &Documents<'_>,
     path: &mut Path,
     pipe: &[Stage],
-    fault: Fault,
+    why: Refusal,
 ) -> Result<Way, AllocError> {
     'stages: for stage in pipe {
         let Stage::Path(steps) = stage else {
             return Ok(Way::Unknown);
         };
-        match steps_on(alloc, documents, path, steps, fault)? {
+        match steps_on(alloc, documents, path, steps, why)? {
             Way::Further => {}
             way => return Ok(way),
         }
@@ -117,19 +116,19 @@ fn stages_on(
     Ok(Way::Unknown)
 }
 
-/// The path to the first value that refuses a step of a pipe with this fault.
+/// The path to the first value that refuses a step of a pipe with this refusal.
 pub fn refusing(
     alloc: Global,
     documents: &Documents<'_>,
     pipe: &[Stage],
-    fault: Fault,
+    why: Refusal,
 ) -> Result<Option<Path>, AllocError> {
     'documents: for doc in 0..documents.count() {
         let mut path = Path {
             doc,
             steps: Vec::new(alloc),
         };
-        if let Way::Refused = stages_on(alloc, documents, &mut path, pipe, fault)? {
+        if let Way::Refused = stages_on(alloc, documents, &mut path, pipe, why)? {
             return Ok(Some(path));
         }
     }

@@ -4,9 +4,9 @@ use Rattle.std.{proofs.Common.{append-nil, add-one}, proofs.lemmas.List.drop_all
 use Rattle.yq_core.specs.Tree.{Node}
 use Rattle.yq_documents.specs.Documents.{Document}
 use Rattle.yq_semantics.specs.Changes.{Room, Changed, put_with_path, at_each, with_value, changes_at, changes_in, changes_from}
-use Rattle.yq_semantics.{specs.Judgement.{MatchFails, Judgement, and_then, gives}, specs.Meaning.roots_of}
+use Rattle.yq_semantics.{specs.Judgement.{MatchFails, Judgement, and_then, gives, ExprError}, specs.Meaning.roots_of}
 use Rattle.yq_semantics.{specs.Places.{FoundPlace, for_each}, specs.Program.{Stage, Term, Update, assign}, specs.RightValues.right_value}
-use Rattle.yq_semantics.{specs.declared.program.Operator.Operator, specs.declared.expr_error.ExprError.ExprError}
+use Rattle.yq_semantics.specs.declared.program.Operator.{Operator}
 use Rattle.yq_eval.specs.PlaceView.{put_behind}
 use Rattle.yq_semantics.specs.declared.program.Operator.TheVariants as operator
 

@@ -2,8 +2,8 @@
 use Rattle.std.proofs.Common.{rules, ◌≡◌, ℕ, suc, ◌+◌, List, [], ◌∷◌, map, refl, sym, ap, ◌∙◌, add-one, arith}
 use Rattle.yq_core.specs.Tree.{Label, Node, Children, none, child}
 use Rattle.yq_eval.{specs.PlaceView.put_behind, proofs.EachLaws.{each_more, each_fails}}
-use Rattle.yq_semantics.{specs.Judgement.{MatchFails, Judgement, gives}, specs.Places.{FoundPlace, child_place, for_each, step_by, stepped}}
-use Rattle.yq_semantics.specs.declared.expr_error.ExprError.{ExprError}
+use Rattle.yq_semantics.specs.Judgement.{MatchFails, Judgement, gives, ExprError}
+use Rattle.yq_semantics.specs.Places.{FoundPlace, child_place, for_each, step_by, stepped}
 
 -- the places of items or entries, the first one apart
 pub first_child : (p : FoundPlace) (b : ℕ) (cs rest : Children) (label : Label) (n : Node) → cs ≡ child label n rest →

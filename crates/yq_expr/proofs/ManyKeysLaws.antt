@@ -6,8 +6,8 @@ use Rattle.yq_core.{specs.Inline.depth_limit, specs.Keys.depth, specs.Paths.Step
 use Rattle.yq_expr.specs.ManyKeys.{AreManyKeys, is_key_step, is_long_step}
 use Rattle.yq_semantics.specs.Changes.{Change, add_at, all_allowed, created, has_long_key, is_too_deep, is_too_long, nested, put_below}
 use Rattle.yq_semantics.{specs.Changes.put_with_path, proofs.Lists.{list_all_map, list_any_map}, specs.RightValues.is_null}
-use Rattle.yq_semantics.{specs.Judgement.{Judgement, and_then, gives, refuses}, specs.Places.FoundPlace}
-use Rattle.yq_semantics.{specs.Program.{PathStep, key, index, each, is_index}, specs.declared.expr_error.ExprError.ExprError}
+use Rattle.yq_semantics.{specs.Judgement.{Judgement, and_then, gives, refuses, ExprError}, specs.Places.FoundPlace}
+use Rattle.yq_semantics.specs.Program.{PathStep, key, index, each, is_index}
 use Rattle.yq_semantics.specs.declared.refusal.Refusal.TheVariants.{KeyTooLong, TooDeep}
 use Rattle.yq_core.specs.Tree as tree
 

@@ -6,11 +6,11 @@ use Rattle.yq_core.specs.Tree.{Node}
 use Rattle.yq_documents.specs.Documents.{Document}
 use Rattle.yq_semantics.specs.Changes.{Room, Changed, add_at, all_allowed, at_each, changes_at, changes_from, comment_at, left_pipe}
 use Rattle.yq_semantics.specs.Changes.{put_with_path, remove_at, with_value}
-use Rattle.yq_semantics.{specs.Judgement.{Judgement, MatchFails, and_then, gives, refuses}, specs.Meaning.roots_of}
+use Rattle.yq_semantics.{specs.Judgement.{Judgement, MatchFails, and_then, gives, refuses, ExprError}, specs.Meaning.roots_of}
 use Rattle.yq_semantics.{specs.Operations.Operation, specs.Pipes.places, specs.Places.{FoundPlace, for_each, root_place}}
 use Rattle.yq_semantics.{specs.Plans.{all_ops, change_ops, ops_of, plan}, specs.PlacesApart.AreIn}
 use Rattle.yq_semantics.{specs.Program.{Update, assign, comment, delete}, specs.declared.refusal.Refusal.TheVariants.BadCommentText}
-use Rattle.yq_semantics.{specs.RightValues.right_value, specs.declared.expr_error.ExprError.ExprError}
+use Rattle.yq_semantics.specs.RightValues.{right_value}
 use Rattle.yq_eval.{specs.PlaceView.{places_of, put_behind}, specs.TreeScalars.HaveScalars, proofs.EachLaws.{fails_then, put_both}}
 use Rattle.yq_expr.specs.Parts.{IsInOrder, IsPlanPart, document_ops, ops_from, rest_ops}
 use Rattle.yq_eval.specs.declared.matching.place.FoundPlace as declared

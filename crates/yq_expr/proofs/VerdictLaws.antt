@@ -6,12 +6,13 @@ use Rattle.yq_documents.specs.Documents.{Document}
 use Rattle.yq_eval.{specs.PlaceView.put_behind, proofs.EachLaws.fails_then}
 use Rattle.yq_planner.specs.StandIns.{HaveNoAlias, IsStandIn, verdict}
 use Rattle.yq_semantics.specs.Changes.{Room, add_at, all_allowed, at_each, changes_at, changes_from, changes_in, put_with_path}
-use Rattle.yq_semantics.{specs.Changes.{update_changes, with_value}, specs.Judgement.{Judgement, MatchFails, and_then, gives, refuses}}
-use Rattle.yq_semantics.{specs.Meaning.roots_of, specs.Places.{FoundPlace, for_each, root_place}, specs.Plans.{all_ops, is_removal, plan}}
+use Rattle.yq_semantics.specs.Changes.{update_changes, with_value}
+use Rattle.yq_semantics.{specs.Judgement.{Judgement, MatchFails, and_then, gives, refuses, ExprError}, specs.Meaning.roots_of}
+use Rattle.yq_semantics.{specs.Places.{FoundPlace, for_each, root_place}, specs.Plans.{all_ops, is_removal, plan}}
 use Rattle.yq_semantics.{specs.RightValues.right_value, specs.Program.{Stage, Term, Update, assign}}
-use Rattle.yq_semantics.{specs.declared.program.Operator.Operator, specs.declared.expr_error.ExprError.ExprError}
+use Rattle.yq_semantics.specs.declared.program.Operator.{Operator}
 use Rattle.yq_expr.{specs.EffectView.{is_mapping, value_at}, proofs.AllChanges.value_there, proofs.StandInLaws.{add_alike, put_alike}}
-use Rattle.yq_semantics.specs.declared.expr_error.ExprError.TheVariants as error
+use Rattle.yq_failure.specs.declared.failure.Failure.TheVariants as error
 use Rattle.yq_semantics.specs.declared.program.Operator.TheVariants as operator
 
 -- ---- an answer
@@ -96,7 +97,7 @@ module _ (u : Update) (rooms : ℕ → Room) where
   document_refused docs i d all e at h so_far = subst (MatchFails e) (sym (from_document docs i d at) ∙ so_far) (go e (verdict (changes_in u i (rooms i) d.root)) h)
     where
       go : (x : ExprError) (j : Judgement (Unit {0})) → MatchFails x j → MatchFails x (both_verdict j (verdict (changes_from u rooms (i + 1) (roots_of (drop (i + 1) docs)))))
-      go (error.Refused why) j k = ap (λ l. both_verdict l (verdict (changes_from u rooms (i + 1) (roots_of (drop (i + 1) docs))))) k
+      go (error.Fault why) j k = ap (λ l. both_verdict l (verdict (changes_from u rooms (i + 1) (roots_of (drop (i + 1) docs))))) k
       go error.Memory j k = tt
 
   -- after the last one nothing is refused

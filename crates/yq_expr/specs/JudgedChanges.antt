@@ -8,10 +8,10 @@ use Rattle.yq_nodes.specs.Nodes.{node_of}
 use Rattle.yq_planner.{specs.ChangeView.{changed_of, placed}, specs.Indexes.HasAliases, specs.StandIns.{HaveNoAlias, verdict}}
 use Rattle.yq_planner.{specs.declared.updating.change.Change.Change, specs.declared.updating.change.PlacedChange.PlacedChange}
 use Rattle.yq_semantics.specs.Changes.{Changed, add_at, all_allowed, at_each, changes_at, changes_in, put_with_path, update_changes}
-use Rattle.yq_semantics.{specs.Changes.with_value, specs.Meaning.roots_of, specs.Judgement.{Judgement, Judges, and_then}}
+use Rattle.yq_semantics.{specs.Changes.with_value, specs.Meaning.roots_of, specs.Judgement.{Judgement, Judges, and_then, ExprError}}
 use Rattle.yq_semantics.{specs.Places.{FoundPlace, root_place}, specs.PlacesApart.{AreIn, IsIn}, specs.RightValues.right_value}
-use Rattle.yq_semantics.{specs.Rooms.room_of, specs.View.{term_of, update_of}, specs.declared.expr_error.ExprError.ExprError}
-use Rattle.yq_semantics.{specs.declared.program.Term.Term, specs.declared.program.Update.Update}
+use Rattle.yq_semantics.{specs.Rooms.room_of, specs.View.{term_of, update_of}, specs.declared.program.Term.Term}
+use Rattle.yq_semantics.specs.declared.program.Update.{Update}
 use Rattle.yq_expr.{specs.EffectView.{effect_at, is_mapping}, specs.declared.document.DocumentEffect.DocumentEffect}
 use Rattle.yq_expr.{specs.declared.document.DocumentPlaces.DocumentPlaces, specs.declared.document.DocumentRoot.DocumentRoot}
 use Rattle.yq_expr.specs.declared.effect.Action as effect

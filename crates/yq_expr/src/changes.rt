@@ -119,7 +119,7 @@ pub(crate) fn changes(
         (changes_of_all update.now documents.now) }
 {
     if !has_comment(update) {
-        return Err(ExprError::Refused(Refusal::BadCommentText));
+        return Err(ExprError::Fault(Refusal::BadCommentText));
     }
     documents.are_ready();
     let mut changes = Vec::new(alloc);

@@ -231,7 +231,7 @@ fn judge_update(alloc: Global, update: &Update, documents: &Documents<'_>) -> Re
     ensures { JudgesVerdict result (changes_of_all update.now documents.now) }
 {
     if !has_comment(update) {
-        return Err(ExprError::Refused(Refusal::BadCommentText));
+        return Err(ExprError::Fault(Refusal::BadCommentText));
     }
     documents.are_ready();
     'documents: for doc in 0..documents.count() {

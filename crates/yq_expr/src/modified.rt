@@ -1,8 +1,9 @@
 //! How much memory the values take that an update by `|=` makes, place by place.
 ghost use Rattle.std.specs.Prelude.{◌≡◌, ◌<◌, ◌≤◌, IfErr, IfOk, length};
 ghost use Rattle.yq_nodes.specs.Nodes.{node_of};
-ghost use Rattle.yq_semantics.specs.declared.expr_error.ExprError.{ExprError};
+ghost use Rattle.yq_semantics.specs.Judgement.{ExprError};
 ghost use Rattle.yq_eval.{specs.PlaceView.{place_of, places_of}, specs.TreeScalars.{HasScalars, HaveScalars}};
+ghost use Rattle.yq_failure.specs.declared.failure.Failure.TheVariants as failure;
 
 use crate::right_value::right_value;
 use crate::weights::weight;
@@ -22,11 +23,11 @@ fn weight_there<'a, 't>(
     place: &FoundPlace<'a, 't>,
 ) -> Result<usize, ExprError>
     requires { HasScalars (place_of place.now).node }
-    ensures { IfErr result (λ e. e ≡ ExprError.Memory) }
+    ensures { IfErr result (λ e. e ≡ failure.Memory) }
 {
     match right_value(alloc, doc, right, place) {
         Ok(value) => Ok(weight(&value)),
-        Err(ExprError::Refused(_)) => Ok(0),
+        Err(ExprError::Fault(_)) => Ok(0),
         Err(ExprError::Memory) => Err(ExprError::Memory),
     }
 }
@@ -43,7 +44,7 @@ pub(crate) fn count_within<'a, 't>(
     requires { HaveScalars (places_of places.now) }
     ensures some { IfOk result (λ x. 0 < length places.now → 0 < x.0) }
     ensures within { IfOk result (λ x. x.0 ≤ length places.now) }
-    ensures err { IfErr result (λ e. e ≡ ExprError.Memory) }
+    ensures err { IfErr result (λ e. e ≡ failure.Memory) }
 {
     let mut count = 0;
     let mut left = room;
@@ -88,11 +89,11 @@ fn room_after(
     room: usize,
 ) -> Result<Option<usize>, ExprError>
     requires { HasScalars (node_of root) }
-    ensures { IfErr result (λ e. e ≡ ExprError.Memory) }
+    ensures { IfErr result (λ e. e ≡ failure.Memory) }
 {
     match rest_after(alloc, doc, assignment, root, room) {
         Ok(rest) => Ok(rest),
-        Err(ExprError::Refused(_)) => Ok(Some(room)),
+        Err(ExprError::Fault(_)) => Ok(Some(room)),
         Err(ExprError::Memory) => Err(ExprError::Memory),
     }
 }
@@ -104,7 +105,7 @@ pub(crate) fn are_many(
     documents: &Documents<'_>,
     room: usize,
 ) -> Result<bool, ExprError>
-    ensures { IfErr result (λ e. e ≡ ExprError.Memory) }
+    ensures { IfErr result (λ e. e ≡ failure.Memory) }
 {
     let mut rest = room;
     'documents: for doc in 0..documents.count() {

@@ -3,11 +3,11 @@ ghost use Rattle.std.specs.Prelude.{◌≡◌, ◌<◌, ◌≤◌, ◌-◌, IfEr
 ghost use Rattle.yq_documents.specs.Reading.{documents_of};
 ghost use Rattle.yq_nodes.specs.Nodes.{node_of};
 ghost use Rattle.yq_eval.{specs.FoundView.found_places, specs.PlaceView.places_of, specs.TreeScalars.{HasScalars, HaveScalars}};
-ghost use Rattle.yq_semantics.{specs.declared.expr_error.ExprError.ExprError, specs.Judgement.MatchFails, specs.Operations.operations_of};
-ghost use Rattle.yq_semantics.specs.View.{program_of, update_of};
+ghost use Rattle.yq_semantics.{specs.Judgement.{ExprError, MatchFails}, specs.Operations.operations_of, specs.View.{program_of, update_of}};
 ghost use Rattle.yq_expr.{specs.DocumentPlaces.IsDocumentRoot, specs.Parts.{IsLater, IsPlanPart}};
 ghost use Rattle.yq_expr.specs.PlannedUpdates.{IsPartOfPlan, IsUpdateAt, ops_inside, rest_in};
 ghost use Rattle.yq_semantics.specs.Program as spec;
+ghost use Rattle.yq_failure.specs.declared.failure.Failure.TheVariants as failure;
 
 use crate::changes::{changes_at, left};
 use crate::document::{DocumentPlaces, DocumentRoot};
@@ -65,7 +65,7 @@ fn part_count<'a, 't>(
     requires scalars { HaveScalars (places_of places.now) }
     ensures some { IfOk result (λ x. 0 < length places.now → 0 < x.0) }
     ensures within { IfOk result (λ x. x.0 ≤ length places.now) }
-    ensures err { IfErr result (λ e. e ≡ ExprError.Memory) }
+    ensures err { IfErr result (λ e. e ≡ failure.Memory) }
 {
     if let Some(right) = modified(update) {
         return count_within(alloc, document.doc, right, places, room);

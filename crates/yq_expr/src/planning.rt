@@ -4,6 +4,7 @@ ghost use Rattle.yq_semantics.{specs.Judgement.{gives, refuses}, specs.View.{pro
 ghost use Rattle.yq_expr.specs.PlannedUpdates.{AllFitIn, IsUpdateAt, JudgesPlan, documents_after, meaning_in};
 ghost use Rattle.yq_semantics.specs.Plans as plans;
 ghost use Rattle.yq_semantics.specs.Program as spec;
+ghost use Rattle.yq_failure.specs.declared.failure.Failure.TheVariants as failure;
 
 use crate::changes::changes;
 use std::alloc::Global;
@@ -67,13 +68,13 @@ pub fn plan(
         IfOk result (λ ops. AllFitIn ops.items documents.now) }
     // A refusal is that of what the update means.
     ensures refused { (u : spec.Update) (why : Refusal) →
-        IsUpdateAt nth program.now u → result ≡ Err (ExprError.Refused why) →
+        IsUpdateAt nth program.now u → result ≡ Err (failure.Fault why) →
         meaning_in u documents.now ≡ refuses why }
     // What the update means is refused only with that refusal.
     ensures refuses { (u : spec.Update) (why : Refusal) →
         IsUpdateAt nth program.now u →
         meaning_in u documents.now ≡ refuses why →
-        (result ≡ Err (ExprError.Refused why)) ⊎ (result ≡ Err ExprError.Memory) }
+        (result ≡ Err (failure.Fault why)) ⊎ (result ≡ Err failure.Memory) }
 {
     documents.are_ready();
     program.literals_hold();

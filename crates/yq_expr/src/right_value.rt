@@ -22,7 +22,7 @@ fn only(alloc: Global, places: &[FoundPlace<'_, '_>]) -> Result<Value, ExprError
 {
     match places {
         [place] => copy_at(alloc, place),
-        _ => Err(ExprError::Refused(Refusal::NotOneValue)),
+        _ => Err(ExprError::Fault(Refusal::NotOneValue)),
     }
 }
 

@@ -2,11 +2,11 @@
 ghost use Rattle.std.specs.Prelude.{◌≡◌, ◌<◌, IfErr, IfOk, IfSome, Some, length, true};
 ghost use Rattle.yq_documents.specs.Reading.{documents_of};
 ghost use Rattle.yq_nodes.specs.Nodes.{node_of};
-ghost use Rattle.yq_semantics.{specs.Program.{update_at, update_count}, specs.View.{program_of, update_of}};
-ghost use Rattle.yq_semantics.specs.declared.expr_error.ExprError.{ExprError};
+ghost use Rattle.yq_semantics.{specs.Program.{update_at, update_count}, specs.View.{program_of, update_of}, specs.Judgement.ExprError};
 ghost use Rattle.yq_eval.specs.TreeScalars.{HasScalars};
 ghost use Rattle.yq_expr.specs.Parts.{IsInOrder};
 ghost use Rattle.yq_semantics.specs.Program as spec;
+ghost use Rattle.yq_failure.specs.declared.failure.Failure.TheVariants as failure;
 
 use crate::changes::left;
 use crate::modified::are_many;
@@ -169,11 +169,11 @@ pub(crate) fn weight_at(
     root: &Node<'_, '_>,
 ) -> Result<usize, ExprError>
     requires { HasScalars (node_of root.now) }
-    ensures { IfErr result (λ e. e ≡ ExprError.Memory) }
+    ensures { IfErr result (λ e. e ≡ failure.Memory) }
 {
     match value_weight(alloc, doc, update, root) {
         Ok(weight) => Ok(weight),
-        Err(ExprError::Refused(_)) => Ok(0),
+        Err(ExprError::Fault(_)) => Ok(0),
         Err(ExprError::Memory) => Err(ExprError::Memory),
     }
 }
@@ -195,12 +195,12 @@ fn document_weight(
     root: Node<'_, '_>,
 ) -> Result<Option<usize>, ExprError>
     requires { HasScalars (node_of root) }
-    ensures { IfErr result (λ e. e ≡ ExprError.Memory) }
+    ensures { IfErr result (λ e. e ≡ failure.Memory) }
 {
     let bump = Bump::new(alloc);
     let count = match find_places(alloc, &bump, doc, left(update), root) {
         Ok(places) => place_count(&places),
-        Err(ExprError::Refused(_)) => return Ok(None),
+        Err(ExprError::Fault(_)) => return Ok(None),
         Err(ExprError::Memory) => return Err(ExprError::Memory),
     };
     let others = if doc == 0 {
@@ -217,7 +217,7 @@ fn document_weight(
 
 /// Whether the values of an update, which are made for documents, take more than they may at once.
 fn are_heavy(alloc: Global, update: &Update, documents: &Documents<'_>) -> Result<bool, ExprError>
-    ensures { IfErr result (λ e. e ≡ ExprError.Memory) }
+    ensures { IfErr result (λ e. e ≡ failure.Memory) }
 {
     let mut sum = 0usize;
     'documents: for doc in 0..documents.count() {
@@ -241,7 +241,7 @@ pub fn is_heavy(
     // Such an update has its operations in the order of its places.
     ensures heavy { result ≡ Ok true → (u : spec.Update) →
         update_at nth (program_of program.now) ≡ Some u → IsInOrder u }
-    ensures err { IfErr result (λ e. e ≡ ExprError.Memory) }
+    ensures err { IfErr result (λ e. e ≡ failure.Memory) }
 {
     let Syntax::Updates(updates) = program.syntax() else {
         return Ok(false);

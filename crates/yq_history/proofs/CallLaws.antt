@@ -5,7 +5,7 @@ use Rattle.yq_journal.{specs.declared.moves.Move.Move, specs.Good.journal_beside
 use Rattle.yq_journal.specs.Refusals.{no_way, squash_fault, way_fault}
 use Rattle.yq_journal.specs.State.{State, journal_after, moved_text, settled_beside, squashed, with_move}
 use Rattle.yq_store.{specs.Calls.{Call, writes}, specs.declared.store.FileReadError.FileReadError}
-use Rattle.yq_history.{specs.declared.fault.Fault.Fault, specs.Faults.of_read}
+use Rattle.yq_history.{specs.declared.fault.Fault.Fault, specs.Faults.of_read, specs.PairAnswers.IsReadFrom}
 use Rattle.yq_history.specs.Calls.{AfterFile, AfterJournal, CallsOnPair, IsOpened, Makes, Puts, PutsJournal, ReadsJournal, ReadsPair}
 use Rattle.yq_history.{specs.Calls.writes_of, specs.Output.bytes}
 use Rattle.yq_history.specs.Effects.{Effect, writes_nothing, writes_both, from_pair, goes_to, leads_to, move_effect, joins_to}
@@ -110,6 +110,17 @@ module _ {S : Type 0} (leads : S → Call → S → Type 0) where
 
     pub opens_journal : (j : List ℕ) (s t : S) → ReadsJournal {T = State} leads (Ok z) j IsRead s t → ReadsJournal leads pair j (IsOpened pair v.items) s t
     opens_journal j s t k = (k.0, k.1, k.2, opens_after k.0 k.1 t k.3)
+
+  -- a journal that was read, with a fault after that
+  module _ (z : State) (text : List ℕ) (e : Fault) where
+    misses_after : (a : Result (List ℕ) FileReadError) (s t : S) → AfterJournal {T = State} leads (Ok z) (IsReadFrom {E = Fault} (Ok z)) a s t → AfterJournal {T = Vec ℕ Global × State} leads (Err e) (IsOpened (Err e) text) a s t
+    misses_after (Ok b) s t k = k.0
+    misses_after (Err read.NotThere) s t k = k.0
+    misses_after (Err read.ReadFailed) s t k = absurd (true≢false (ap is_ok k.0))
+    misses_after (Err read.OutOfMemory) s t k = absurd (true≢false (ap is_ok k.0))
+
+    pub misses_pair : (r : Result (Vec ℕ Global × State) Fault) → r ≡ Err e → (j : List ℕ) (s t : S) → ReadsJournal {T = State} leads (Ok z) j (IsReadFrom {E = Fault} (Ok z)) s t → ReadsJournal leads r j (IsOpened r text) s t
+    misses_pair r is j s t k = subst (λ q. ReadsJournal leads q j (IsOpened q text) s t) (sym is) (k.0, k.1, k.2, misses_after k.0 k.1 t k.3)
 
   module _ {T : Type 0} (r : Result T Fault) (f j : List ℕ) (go : List ℕ → State → Effect) where
     -- what an effect does then

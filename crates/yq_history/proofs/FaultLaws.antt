@@ -1,11 +1,11 @@
 -- What is reported where a call within a move failed.
 use Rattle.std.proofs.Common.{rules, ◌≡◌, ℕ, false, List, Some, None, Result, Err, OnOk, IfErr, IsTrue, IsNone, is_some, if◌then◌else◌, sym}
 use Rattle.std.proofs.Common.{ap, ◌∙◌, subst}
-use Rattle.yq_journal.{specs.declared.fault.JournalError.JournalError, specs.declared.fault.JournalFault.JournalFault}
-use Rattle.yq_journal.{specs.declared.moves.Move.Move, specs.Refusals.{move_fault, no_way, way_fault}, specs.State.{State, moved_text}}
+use Rattle.yq_journal.{specs.Refusals.{JournalError, move_fault, no_way, way_fault}, specs.declared.fault.JournalFault.JournalFault}
+use Rattle.yq_journal.{specs.declared.moves.Move.Move, specs.State.{State, moved_text}}
 use Rattle.yq_store.{specs.Count.after_write, specs.declared.store.FileWriteError.FileWriteError}
 use Rattle.yq_history.{specs.declared.fault.Fault.Fault, specs.Faults.is_outer_fault, proofs.MoveLaws.{no_way_free, none_of}}
-use Rattle.yq_journal.specs.declared.fault.JournalError.TheVariants as error
+use Rattle.yq_failure.specs.declared.failure.Failure.TheVariants as error
 use Rattle.yq_journal.specs.declared.fault.JournalFault.TheVariants as journal
 use Rattle.yq_store.specs.declared.store.FileWriteError.TheVariants as write
 

@@ -1,20 +1,18 @@
 -- What each write of a move leaves, and how a move ends.
 use Rattle.std.proofs.Common.{rules, ◌≡◌, ◌≢◌, ◌⊎◌, ℕ, true, false, List, Option, Some, None, Result, Err, OnOk, OnErr, IfErr, IsTrue}
-use Rattle.std.{proofs.Common.{IsNone, option_map, if◌then◌else◌, sym, ap, ◌∙◌, subst, refl}, specs.FinMap.{get, insert}}
-use Rattle.std.{specs.Str.bytes_eq, proofs.lemmas.Option.same_Some, proofs.lemmas.Slice.Eq.bytes_eq-Decides}
-use Rattle.yq_journal.{specs.declared.fault.JournalError.JournalError, specs.declared.fault.JournalFault.JournalFault}
+use Rattle.std.{proofs.Common.{IsNone, option_map, sym, ap, ◌∙◌, subst, refl}, specs.FinMap.{get, insert}, specs.Str.bytes_eq}
+use Rattle.std.{proofs.lemmas.Option.same_Some, proofs.lemmas.Slice.Eq.bytes_eq-Decides}
+use Rattle.yq_journal.{specs.Refusals.{JournalError, ErrorIs, no_way, way_fault}, specs.declared.fault.JournalFault.JournalFault}
 use Rattle.yq_journal.{specs.declared.moves.Move.Move, specs.Good.{AtRest, Describes, after_move, journal_beside, step_fault}}
-use Rattle.yq_journal.{specs.Json.journal_text, specs.Record.Record, specs.History.History, specs.Refusals.{ErrorIs, no_way, way_fault}}
+use Rattle.yq_journal.{specs.Json.journal_text, specs.Record.Record, specs.History.History}
 use Rattle.yq_journal.specs.State.{State, journal_after, moved_text, with_move, settled_beside}
 use Rattle.yq_journal.proofs.GoodLaws.{describes, open_before, open_after, settled_rests, undo_fault, redo_fault}
 use Rattle.yq_journal.proofs.HistoryLaws.{move_moves}
 use Rattle.yq_history.{specs.declared.fault.Fault.Fault, specs.Causes.{Cause, IsFor}, specs.Effects.IsCutShort}
-use Rattle.yq_history.specs.Faults.{is_outer_fault, of_fault, of_journal}
-use Rattle.yq_history.{specs.Pair.{Arrives, GoodIn, IsJournal, PairAtRest, PairStands, Writes}, specs.Steps.{move_cause, move_next}}
-use Rattle.yq_history.{specs.Directions.walk_move, specs.declared.direction.Direction.Direction}
+use Rattle.yq_history.{specs.Faults.{is_outer_fault, of_journal}, specs.Pair.{Arrives, GoodIn, IsJournal, PairAtRest, PairStands, Writes}}
+use Rattle.yq_history.{specs.Steps.{move_cause, move_next}, specs.Directions.walk_move, specs.declared.direction.Direction.Direction}
 use Rattle.yq_store.specs.FileMap.{FileMap, get_written, get_other}
-use Rattle.yq_journal.specs.declared.fault.JournalError.TheVariants as error
-use Rattle.yq_journal.specs.declared.fault.JournalFault.TheVariants as journal
+use Rattle.yq_history.specs.declared.fault.Fault.TheVariants as faults
 
 moved_closed : (s : State) (step : Move) → (journal_after s step).pending ≡ None
 moved_closed s step = search rules
@@ -87,7 +85,7 @@ on_err_map r p f = search rules
 pub either : {A B C : Type 0} → A ⊎ B → (A → C) → (B → C) → C
 either a f h = search rules
 
-pub fault_inside : (f : JournalFault) → is_outer_fault (of_fault f) ≡ false
+pub fault_inside : (f : JournalFault) → is_outer_fault (faults.Journal f) ≡ false
 fault_inside f = search rules
 
 module _ (c : FileMap) (f j : List ℕ) (cause : Option Cause) (h k : Option History) where
@@ -110,7 +108,7 @@ same_content c e f j h is k = subst (λ m. PairStands m f j h) (sym is) k
 pub move_fault_of : (s : State) (t : List ℕ) (h : History) (w : Direction) → AtRest s t h → way_fault s.records s.at (walk_move w) t ≡ step_fault h (walk_move w)
 move_fault_of s t h w k = search (rules, undo_fault, redo_fault)
 
-pub fault_outside : {T : Type 0} (r : Result T Fault) (o : Option JournalFault) → o ≡ None → IfErr r (λ e. is_outer_fault e ≡ false → option_map of_fault o ≡ Some e) → IfErr r (λ e. IsTrue (is_outer_fault e))
+pub fault_outside : {T : Type 0} (r : Result T Fault) (o : Option JournalFault) → o ≡ None → IfErr r (λ e. is_outer_fault e ≡ false → option_map faults.Journal o ≡ Some e) → IfErr r (λ e. IsTrue (is_outer_fault e))
 fault_outside r o h2 h = search rules
 
 -- where a journal at rest gives the text, the way is free
@@ -125,8 +123,8 @@ pub record IsMove {T : Type 0} (c d : FileMap) (f j : List ℕ) (s : State) (t u
   pub text : OnOk r (get d f ≡ Some u)
   pub beside : OnOk r (IsJournal (get d j) (journal_after s step))
   pub cut : OnErr r (IsCutShort u (with_move s step t) (journal_after s step) f j c d)
-  pub fault : IfErr r (λ e. is_outer_fault e ≡ false → option_map of_fault (no_way s.records s.at step) ≡ Some e)
-  pub refused : (y : JournalFault) → no_way s.records s.at step ≡ Some y → r ≡ Err (of_fault y)
+  pub fault : IfErr r (λ e. is_outer_fault e ≡ false → option_map faults.Journal (no_way s.records s.at step) ≡ Some e)
+  pub refused : (y : JournalFault) → no_way s.records s.at step ≡ Some y → r ≡ Err (faults.Journal y)
   pub barred : no_way s.records s.at step ≢ None → d ≡ c
 
 -- an undo or a redo of a pair

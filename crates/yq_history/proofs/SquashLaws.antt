@@ -1,16 +1,15 @@
 -- How a squash of a pair ends.
-use Rattle.std.proofs.Common.{rules, ◌≡◌, ◌≢◌, ◌⊎◌, inl, inr, ℕ, ◌≤◌, true, ◌&&◌, List, Option, Some, None, Result, Ok, Err, OnOk, OnErr}
-use Rattle.std.proofs.Common.{IfErr, IsTrue, Bool, Vec, option_map, if◌then◌else◌, sym, ap, ◌∙◌, subst, refl}
-use Rattle.std.{proofs.lemmas.Grind.common_steps, proofs.lemmas.Bool.Decides.nat_tests, specs.declared.alloc.Global.Global}
-use Rattle.yq_journal.{specs.declared.fault.JournalError.JournalError, specs.Good.squash_refusal, specs.History.{History, after_squash}}
-use Rattle.yq_journal.{specs.Refusals.{Reports, squash_fault}, specs.State.{State, squashed}, proofs.GoodLaws.describes}
+use Rattle.std.proofs.Common.{rules, ◌≡◌, ◌≢◌, ◌⊎◌, inl, inr, ℕ, ◌≤◌, true, List, Option, Some, None, Result, Ok, Err, OnOk, OnErr, IfErr}
+use Rattle.std.{proofs.Common.{IsTrue, Bool, Vec, option_map, if◌then◌else◌, sym, ap, ◌∙◌, subst, refl}, specs.declared.alloc.Global.Global}
+use Rattle.yq_journal.{specs.Refusals.{JournalError, Reports, squash_fault}, specs.Good.squash_refusal}
+use Rattle.yq_journal.{specs.History.{History, after_squash}, specs.State.{State, squashed}, proofs.GoodLaws.describes}
 use Rattle.yq_journal.proofs.SquashLaws.{squash_fault_of, squash_one, squash_rests}
-use Rattle.yq_history.{specs.declared.fault.Fault.Fault, specs.Causes.named, specs.Faults.{is_outer_fault, of_fault, of_journal}}
+use Rattle.yq_history.{specs.declared.fault.Fault.Fault, specs.Causes.named, specs.Faults.{is_outer_fault, of_journal}}
 use Rattle.yq_history.{specs.Pair.{Arrives, Opens, PairAtRest, PairStands, Writes}, specs.Steps.{squash_cause, squash_next, unless_fault}}
 use Rattle.yq_history.proofs.MoveLaws.{cut, is_refused, ends, either, fault_inside, on_ok_map, on_err_map, same_content, wrote_journal}
 use Rattle.yq_store.specs.FileMap.{FileMap}
-use Rattle.yq_journal.specs.declared.fault.JournalError.TheVariants as error
 use Rattle.yq_journal.specs.declared.fault.JournalFault.TheVariants as journal
+use Rattle.yq_history.specs.declared.fault.Fault.TheVariants as fault
 
 passed : (b : Bool) → (if b then None else Some journal.BadCount) ≡ None → b ≡ true
 passed b e = search rules
@@ -31,7 +30,7 @@ module _ (c : FileMap) (f j : List ℕ) (h : History) (n : ℕ) (s : State) (t :
   free_squash free = sym same_fault ∙ free
 
   no_cause : squash_fault s n ≡ None → squash_cause n (Some h) ≡ None
-  no_cause free = ap (option_map (λ z. named (of_fault z))) (free_squash free)
+  no_cause free = ap (option_map (λ z. named (fault.Journal z))) (free_squash free)
 
   next_is : squash_fault s n ≡ None → squash_next n (Some h) ≡ Some (after_squash h n)
   next_is free = ap (λ o. Some (unless_fault o h (after_squash h n))) (free_squash free)

@@ -4,11 +4,11 @@ use Rattle.std.specs.FinMap.{get}
 use Rattle.yq_journal.{specs.declared.fault.JournalFault.JournalFault, specs.declared.moves.Move.Move, specs.Good.journal_beside}
 use Rattle.yq_journal.specs.Refusals.{no_way, squash_fault}
 use Rattle.yq_journal.specs.State.{State, journal_after, moved_text, with_move, settled_beside, squashed}
-use Rattle.yq_history.specs.declared.fault.Fault.{Fault}
-use Rattle.yq_history.{specs.declared.fault.Fault.TheVariants.{NotThere, DoesNotStand, BadJournal, Unsettled}, specs.Pair.IsJournal}
-use Rattle.yq_history.{specs.Faults.{is_outer_fault, of_fault}, specs.Output.{Output, bytes, record_output}}
-use Rattle.yq_history.specs.Causes.{Cause, IsFor, named}
+use Rattle.yq_journal.specs.declared.fault.JournalFault.TheVariants.{DoesNotStand, BadJournal, Unsettled}
+use Rattle.yq_history.{specs.declared.fault.Fault.Fault, specs.declared.fault.Fault.TheVariants.NotThere, specs.Pair.IsJournal}
+use Rattle.yq_history.{specs.Faults.is_outer_fault, specs.Output.{Output, bytes, record_output}, specs.Causes.{Cause, IsFor, named}}
 use Rattle.yq_store.specs.FileMap.{FileMap}
+use Rattle.yq_history.specs.declared.fault.Fault.TheVariants as fault
 
 -- what a command does: it is refused; it writes nothing and has this output; or it has none of its own, and leaves this text in the file
 -- and the second of these journals beside it, where the first one, in which its move is open, is until the text does
@@ -19,12 +19,12 @@ pub data Effect : Type 0 where
 
 -- what goes on from a text and its journal, settled beside it; J5 where it can't be settled
 abbrev pub from_settled : Option State → List ℕ → (List ℕ → State → Effect) → Effect
-from_settled None t go = refuses (named Unsettled)
+from_settled None t go = refuses (named (fault.Journal Unsettled))
 from_settled (Some s) t go = go t s
 
 -- the same, from the journal as it was read; J4 where it is none
 abbrev pub from_journal : Option State → List ℕ → (List ℕ → State → Effect) → Effect
-from_journal None t go = refuses (named BadJournal)
+from_journal None t go = refuses (named (fault.Journal BadJournal))
 from_journal (Some s) t go = from_settled (settled_beside s t) t go
 
 -- the same, from the bytes of the file and of the journal; S1 where the file isn't there
@@ -38,12 +38,12 @@ from_names c file journal go = from_pair (get c file) (get c journal) go
 
 -- what a move does, by the text to which it leads, the journal in which it is open, and that after it; J3 where it leads nowhere
 abbrev pub leads_to : Option (List ℕ) → State → State → Effect
-leads_to None started s = refuses (named DoesNotStand)
+leads_to None started s = refuses (named (fault.Journal DoesNotStand))
 leads_to (Some u) started s = writes_both u started s
 
 -- the same, where there may be no way for it: J1, J2 or J6 come first
 abbrev pub goes_to : Option JournalFault → Option (List ℕ) → State → State → Effect
-goes_to (Some f) u started s = refuses (named (of_fault f))
+goes_to (Some f) u started s = refuses (named (fault.Journal f))
 goes_to None u started s = leads_to u started s
 
 -- what an undo or a redo does to a text and its settled journal
@@ -52,7 +52,7 @@ move_effect step t s = goes_to (no_way s.records s.at step) (moved_text s.record
 
 -- what a squash does, by its fault: the file stays, no move is opened, and one edit stays as it is
 abbrev pub joins_to : Option JournalFault → ℕ → List ℕ → State → Effect
-joins_to (Some f) n t s = refuses (named (of_fault f))
+joins_to (Some f) n t s = refuses (named (fault.Journal f))
 joins_to None n t s = if n == 1 then writes_nothing (bytes []) else writes_both t s s
 
 -- what a squash of the last n edits does to a text and its settled journal

@@ -1,16 +1,13 @@
 -- Faults of stores, journals and readings as faults of a command, and those that come from outside (own).
 use Rattle.std.specs.Prelude.{ℕ, Bool, true, false, if◌then◌else◌, Result, Ok, Err}
-use Rattle.yq_core.specs.declared.fault.ReadError.{ReadError}
-use Rattle.yq_journal.{specs.declared.fault.JournalError.JournalError, specs.declared.fault.JournalFault.JournalFault}
+use Rattle.yq_core.specs.Answers.{ReadError}
+use Rattle.yq_journal.specs.Refusals.{JournalError}
 use Rattle.yq_history.specs.declared.fault.Fault.{Fault}
-use Rattle.yq_history.specs.declared.fault.Fault.TheVariants.{NotThere, ReadFailed, WriteFailed, OutFailed, NothingToUndo, NothingToRedo}
-use Rattle.yq_history.specs.declared.fault.Fault.TheVariants.{DoesNotStand, BadJournal, Unsettled, JournalFull, BadCount, Unreadable}
+use Rattle.yq_history.specs.declared.fault.Fault.TheVariants.{NotThere, ReadFailed, WriteFailed, OutFailed, Journal, Unreadable}
 use Rattle.yq_history.specs.declared.fault.Fault.TheVariants.{OutOfMemory}
 use Rattle.yq_store.{specs.declared.store.FileReadError.FileReadError, specs.declared.store.FileWriteError.FileWriteError}
 use Rattle.yq_store.specs.Count.{count_plus_one}
-use Rattle.yq_core.specs.declared.fault.ReadError.TheVariants as reading
-use Rattle.yq_journal.specs.declared.fault.JournalError.TheVariants as error
-use Rattle.yq_journal.specs.declared.fault.JournalFault.TheVariants as journal
+use Rattle.yq_failure.specs.declared.failure.Failure.TheVariants as failure
 use Rattle.yq_store.specs.declared.store.FileReadError.TheVariants as read
 use Rattle.yq_store.specs.declared.store.FileWriteError.TheVariants as write
 
@@ -25,25 +22,15 @@ abbrev pub of_write : FileWriteError → Fault
 of_write write.WriteFailed = WriteFailed
 of_write write.OutOfMemory = OutOfMemory
 
--- why a journal refused
-abbrev pub of_fault : JournalFault → Fault
-of_fault journal.NothingToUndo = NothingToUndo
-of_fault journal.NothingToRedo = NothingToRedo
-of_fault journal.DoesNotStand = DoesNotStand
-of_fault journal.BadJournal = BadJournal
-of_fault journal.Unsettled = Unsettled
-of_fault journal.JournalFull = JournalFull
-of_fault journal.BadCount = BadCount
-
 -- why a call of a journal failed
 abbrev pub of_journal : JournalError → Fault
-of_journal error.Memory = OutOfMemory
-of_journal (error.Fault f) = of_fault f
+of_journal failure.Memory = OutOfMemory
+of_journal (failure.Fault f) = Journal f
 
 -- why a text was not read as documents
 abbrev pub fault_of_reading : ReadError → Fault
-fault_of_reading reading.Memory = OutOfMemory
-fault_of_reading (reading.Fault f) = Unreadable f
+fault_of_reading failure.Memory = OutOfMemory
+fault_of_reading (failure.Fault f) = Unreadable f
 
 -- a call of the store failed
 abbrev pub is_failure : Fault → Bool

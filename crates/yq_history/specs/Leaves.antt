@@ -3,16 +3,17 @@ use Rattle.std.{specs.Prelude.{◌≡◌, ◌⊎◌, ℕ, List, Option, Some, fa
 use Rattle.yq_journal.{specs.declared.fault.JournalFault.JournalFault, specs.declared.moves.Move.Move}
 use Rattle.yq_journal.{specs.Good.{after_move, journal_beside}, specs.History.History, specs.State.State}
 use Rattle.yq_history.{specs.declared.fault.Fault.Fault, specs.Causes.Cause, specs.Effects.{Effect, Works, from_names}}
-use Rattle.yq_history.{specs.Faults.{is_outer_fault, of_fault}, specs.Pair.{Arrives, GoodIn, OthersStay, PairAtRest, PairStands}}
+use Rattle.yq_history.{specs.Faults.is_outer_fault, specs.Pair.{Arrives, GoodIn, OthersStay, PairAtRest, PairStands}}
 use Rattle.yq_store.specs.FileMap.{FileMap}
+use Rattle.yq_history.specs.declared.fault.Fault.TheVariants as fault
 
 -- where there is such a fault, the call is refused for it
 abbrev pub RefusedFor : Option JournalFault → {T : Type 0} → Result T Fault → Type 0
-RefusedFor found r = (f : JournalFault) → found ≡ Some f → r ≡ Err (of_fault f)
+RefusedFor found r = (f : JournalFault) → found ≡ Some f → r ≡ Err (fault.Journal f)
 
 -- a refusal from inside is for such a fault
 abbrev pub RefusedOnlyFor : Option JournalFault → {T : Type 0} → Result T Fault → Type 0
-RefusedOnlyFor found r = IfErr r (λ e. is_outer_fault e ≡ false → option_map of_fault found ≡ Some e)
+RefusedOnlyFor found r = IfErr r (λ e. is_outer_fault e ≡ false → option_map fault.Journal found ≡ Some e)
 
 -- a name holds these bytes
 abbrev pub HoldsBytes : FileMap → List ℕ → List ℕ → Type 0

@@ -2,22 +2,22 @@
 use Rattle.std.specs.Prelude.{◌≡◌, ◌≢◌, ◌⊎◌, ℕ, Bool, List, Option, Some, None, false, IfErr, IfOk, IsTrue, OnErr, OnOk, Result, Vec}
 use Rattle.std.{specs.Prelude.string_bytes, specs.FinMap.get, specs.declared.alloc.Global.Global}
 use Rattle.yq_journal.{specs.Good.journal_beside, specs.History.History, specs.State.{State, journal_after}, specs.Refusals.no_way}
-use Rattle.yq_journal.specs.declared.moves.Move.{Move}
+use Rattle.yq_journal.{specs.declared.moves.Move.Move, specs.declared.fault.JournalFault.TheVariants.BadJournal}
 use Rattle.yq_store.{specs.Calls.Call, specs.FileMap.FileMap}
 use Rattle.yq_history.{specs.declared.direction.Direction.Direction, specs.declared.fault.Fault.Fault}
-use Rattle.yq_history.{specs.declared.fault.Fault.TheVariants.BadJournal, specs.Calls.{CallsOnPair, IsOpened, Makes, ReadsPair}}
-use Rattle.yq_history.{specs.Causes.named, specs.Directions.walk_move}
+use Rattle.yq_history.{specs.Calls.{CallsOnPair, IsOpened, Makes, ReadsPair}, specs.Causes.named, specs.Directions.walk_move}
 use Rattle.yq_history.specs.Effects.{Effect, Works, from_names, listing_effect, move_effect, printed_by, refuses, squash_effect}
 use Rattle.yq_history.{specs.Faults.is_outer_fault, specs.Leaves.{ArrivesBy, ArrivesFromRest, HoldsBytes, WorksFromRest, WorksOnPair}}
 use Rattle.yq_history.{specs.Output.{IsOutput, Shows, listing_output, showing}, specs.Pair.{Arrives, GoodIn, IsJournal, Opens, Writes}}
 use Rattle.yq_history.{specs.Report.report_by, specs.Steps.{listing_cause, move_cause, move_next, squash_cause, squash_next}}
 use Rattle.yq_history.specs.declared.report.Report as declared
+use Rattle.yq_history.specs.declared.fault.Fault.TheVariants as fault
 
 -- ---- reading
 
 -- an error from inside is that what a name holds is no journal
 abbrev pub BadOnlyIfNone : FileMap → List ℕ → {T : Type 0} → Result T Fault → Type 0
-BadOnlyIfNone content name r = IfErr r (λ e. ((e ≡ BadJournal) × (journal_beside (get content name) ≡ None)) ⊎ IsTrue (is_outer_fault e))
+BadOnlyIfNone content name r = IfErr r (λ e. ((e ≡ fault.Journal BadJournal) × (journal_beside (get content name) ≡ None)) ⊎ IsTrue (is_outer_fault e))
 
 -- the journal that was read is the one of these bytes or of their lack, and no other call was made
 abbrev pub IsReadFrom : {S E : Type 0} → Result State E → Option (List ℕ) → S → S → Type 0

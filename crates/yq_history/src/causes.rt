@@ -3,7 +3,7 @@
 use crate::fault::Fault;
 use std::alloc::{AllocError, AllocFailed};
 use yq_core::{ReadError, ReadFault};
-use yq_journal::{JournalError, JournalFault};
+use yq_journal::JournalError;
 use yq_store::{FileReadError, FileWriteError};
 
 impl From<AllocError> for Fault {
@@ -57,25 +57,6 @@ impl From<FileWriteError> for Fault {
     }
 }
 
-impl From<JournalFault> for Fault {
-    ghost use Rattle.std.specs.Prelude.{◌≡◌};
-    ghost use Rattle.yq_history.specs.Faults.{of_fault};
-
-    ghost from_gives = { λ x e. e ≡ of_fault x };
-
-    fn from(fault: JournalFault) -> Fault {
-        match fault {
-            JournalFault::NothingToUndo => Fault::NothingToUndo,
-            JournalFault::NothingToRedo => Fault::NothingToRedo,
-            JournalFault::DoesNotStand => Fault::DoesNotStand,
-            JournalFault::BadJournal => Fault::BadJournal,
-            JournalFault::Unsettled => Fault::Unsettled,
-            JournalFault::JournalFull => Fault::JournalFull,
-            JournalFault::BadCount => Fault::BadCount,
-        }
-    }
-}
-
 impl From<JournalError> for Fault {
     ghost use Rattle.std.specs.Prelude.{◌≡◌};
     ghost use Rattle.yq_history.specs.Faults.{of_journal};
@@ -85,7 +66,7 @@ impl From<JournalError> for Fault {
     fn from(error: JournalError) -> Fault {
         match error {
             JournalError::Memory => Fault::OutOfMemory,
-            JournalError::Fault(fault) => Fault::from(fault),
+            JournalError::Fault(fault) => Fault::Journal(fault),
         }
     }
 }

@@ -4,6 +4,8 @@ use std::error::Error;
 use std::fmt::{self, Debug, Display, Formatter, Write};
 use yq_args::UsageCause;
 use yq_core::{FaultKind, ReadFault};
+use yq_journal::JournalFault;
+use yq_semantics::Refusal;
 
 /// Why a command is refused. Its text is the line that the program prints.
 #[derive(Clone, Copy, PartialEq, Eq)]
@@ -16,30 +18,9 @@ pub enum Fault {
     ReadFailed,
     WriteFailed,
     OutFailed,
-    NothingToUndo,
-    NothingToRedo,
-    DoesNotStand,
-    BadJournal,
-    Unsettled,
-    JournalFull,
-    BadCount,
+    Journal(JournalFault),
     Unreadable(ReadFault),
-    NotAMap,
-    NotASequence,
-    IndexOutOfRange,
-    ThroughAlias,
-    AnchorInUse,
-    NotOneValue,
-    KindMismatch,
-    IntegerRange,
-    FloatArithmetic,
-    NoPlaceForComment,
-    BadCommentText,
-    RootDelete,
-    TooDeep,
-    TooLarge,
-    NotAnUpdate,
-    KeyTooLong,
+    Refused(Refusal),
     OutOfMemory,
 }
 
@@ -50,6 +31,7 @@ impl Display for Fault {
                 let (number, words) = numbered(fault.kind);
                 write!(f, "{number} line {}: {words}", fault.line)
             }
+            Fault::Journal(fault) => Display::fmt(fault, f),
             fault => f.write_str(line_of(fault)),
         }
     }
@@ -63,7 +45,8 @@ impl Debug for Fault {
 
 impl Error for Fault {}
 
-/// The line of a fault; of one of reading its words alone, without its number and place.
+/// The line of a fault; of one of reading its words alone, without its number and place, and of one of a
+/// journal none.
 fn line_of(fault: &Fault) -> &'static str {
     match fault {
         Fault::Usage(_) => "U1 usage",
@@ -74,31 +57,32 @@ fn line_of(fault: &Fault) -> &'static str {
         Fault::ReadFailed => "S2 read failed",
         Fault::WriteFailed => "S3 write failed",
         Fault::OutFailed => "S4 out failed",
-        Fault::NothingToUndo => "J1 nothing to undo",
-        Fault::NothingToRedo => "J2 nothing to redo",
-        Fault::DoesNotStand => "J3 does not stand",
-        Fault::BadJournal => "J4 bad journal",
-        Fault::Unsettled => "J5 unsettled",
-        Fault::JournalFull => "J6 journal full",
-        Fault::BadCount => "J7 bad count",
-        Fault::NotAMap => "X1 not a map",
-        Fault::NotASequence => "X2 not a sequence",
-        Fault::IndexOutOfRange => "X3 index out of range",
-        Fault::ThroughAlias => "X4 through alias",
-        Fault::AnchorInUse => "X5 anchor in use",
-        Fault::NotOneValue => "X6 not one value",
-        Fault::KindMismatch => "X7 kind mismatch",
-        Fault::IntegerRange => "X8 integer range",
-        Fault::FloatArithmetic => "X9 float arithmetic",
-        Fault::NoPlaceForComment => "X10 no place for comment",
-        Fault::BadCommentText => "X11 bad comment text",
-        Fault::RootDelete => "X12 root delete",
-        Fault::TooDeep => "X13 too deep",
-        Fault::TooLarge => "X14 too large",
-        Fault::NotAnUpdate => "X15 not an update",
-        Fault::KeyTooLong => "X16 key too long",
-        Fault::OutOfMemory => "M1 out of memory",
+        Fault::Journal(_) => "",
         Fault::Unreadable(fault) => numbered(fault.kind).1,
+        Fault::Refused(why) => refusal_line(*why),
+        Fault::OutOfMemory => "M1 out of memory",
+    }
+}
+
+/// The line of a refusal.
+fn refusal_line(why: Refusal) -> &'static str {
+    match why {
+        Refusal::NotAMap => "X1 not a map",
+        Refusal::NotASequence => "X2 not a sequence",
+        Refusal::IndexOutOfRange => "X3 index out of range",
+        Refusal::ThroughAlias => "X4 through alias",
+        Refusal::AnchorInUse => "X5 anchor in use",
+        Refusal::NotOneValue => "X6 not one value",
+        Refusal::KindMismatch => "X7 kind mismatch",
+        Refusal::IntegerRange => "X8 integer range",
+        Refusal::FloatArithmetic => "X9 float arithmetic",
+        Refusal::NoPlaceForComment => "X10 no place for comment",
+        Refusal::BadCommentText => "X11 bad comment text",
+        Refusal::RootDelete => "X12 root delete",
+        Refusal::TooDeep => "X13 too deep",
+        Refusal::TooLarge => "X14 too large",
+        Refusal::NotAnUpdate => "X15 not an update",
+        Refusal::KeyTooLong => "X16 key too long",
     }
 }
 

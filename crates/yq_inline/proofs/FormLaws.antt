@@ -1,14 +1,14 @@
 -- Steps of reading a node's form, a collection and an item, as the code takes them.
 use Rattle.std.proofs.Common.{◌≡◌, ℕ, zero, suc, ◌-◌, Bool, true, false, cond, List, drop, Option, Some, None, refl, sym, ap, ◌∙◌, subst}
 use Rattle.std.{proofs.Common.{Result, arith}, proofs.lemmas.Bool.{cond-true, cond-false}, proofs.lemmas.Option.same_Some}
-use Rattle.yq_core.{specs.declared.fault.ReadError.ReadError, specs.Answers.{◌>>=◌, Gives, ReadFails}}
+use Rattle.yq_core.specs.Answers.{ReadError, ◌>>=◌, Gives, ReadFails}
 use Rattle.yq_core.specs.Nodes.{FlowNode, alias, begins_content, coll, begins_with, scalar, Items}
 use Rattle.yq_core.specs.Places.{CoreNode, Placed, bare_placed, holder, locate_items, name, nothing, Parts, placed_between}
 use Rattle.yq_core.specs.PlacedReading.{core_between, past_sep, placed_coll, placed_content, placed_item, placed_items, placed_node}
 use Rattle.yq_core.specs.PlacedReading.{placed_text}
 use Rattle.yq_core.{specs.Reading.{all_items, read_collection, read_core, read_gap, kids_of, name_at, read_scalar}, proofs.Binds.bind_bind}
 use Rattle.yq_inline.specs.Forms.{after_item, after_bracket, placed_form}
-use Rattle.yq_core.specs.declared.fault.ReadError.TheVariants as errors
+use Rattle.yq_failure.specs.declared.failure.Failure.TheVariants as errors
 
 -- forms
 module _ (flow : Bool) (spaces : Option ℕ) (total d : ℕ) (t : List ℕ) where

@@ -1,10 +1,9 @@
 -- What calls that read inline nodes answer (own).
 use Rattle.std.{specs.Borrow.Bor, specs.Prelude.{◌≡◌, ℕ, List, Option, Result, Some, String, Vec, length, string_bytes}}
 use Rattle.std.specs.declared.alloc.Global.{Global}
-use Rattle.yq_core.{specs.Answers.{Gives, ReadsAs}, specs.Places.{CoreNode, Parts, Placed, placed_between}}
+use Rattle.yq_core.{specs.Answers.{Gives, ReadsAs, ReadError}, specs.Places.{CoreNode, Parts, Placed, placed_between}}
 use Rattle.yq_core.{specs.PlacedReading.then_anchored, specs.View.{entries_end, form_view, inline_view, items_end}}
-use Rattle.yq_core.{specs.declared.fault.ReadError.ReadError, specs.declared.inline.Form.Form, specs.declared.inline.Inline.Inline}
-use Rattle.yq_core.specs.declared.piece.Piece.{Piece}
+use Rattle.yq_core.{specs.declared.inline.Form.Form, specs.declared.inline.Inline.Inline, specs.declared.piece.Piece.Piece}
 use Rattle.yq_inline.{specs.Measured.{measured, measured_view, past_node}, specs.declared.measuring.Measured.Measured}
 
 -- the answer is the node that reading gives and what comes after it, unless memory ran out

@@ -5,10 +5,10 @@ use Rattle.std.specs.Prelude.{◌==◌, ◌&&◌, Bool, false, slice_get, take, 
 use Rattle.std.{proofs.lemmas.Bool.{eqb-true, and_parts, le-leb}, specs.Cmp.Derive.both_true, proofs.lemmas.List.drop-take}
 use Prim.Native.Nat.{zero}
 use Rattle.yq_text.proofs.SpliceLaws.{lengths_done-append}
-use Rattle.yq_journal.{specs.declared.fault.JournalError.JournalError, specs.declared.fault.JournalFault.JournalFault}
-use Rattle.yq_journal.{specs.declared.fault.JournalFault.TheVariants.BadCount, specs.Refusals.{Reports, count_fault}, specs.State.last_done}
+use Rattle.yq_journal.{specs.Refusals.{JournalError, Reports, count_fault}, specs.declared.fault.JournalFault.JournalFault}
+use Rattle.yq_journal.{specs.declared.fault.JournalFault.TheVariants.BadCount, specs.State.last_done}
 use Rattle.yq_journal.specs.Record.{Record, IsRecord, join, records_joined, meet}
-use Rattle.yq_journal.specs.declared.fault.JournalError.TheVariants as error
+use Rattle.yq_failure.specs.declared.failure.Failure.TheVariants as error
 
 -- fewer than two records meet
 pub short_meet : (rs : List Record) → length rs < 2 → meet rs ≡ true

@@ -3,11 +3,15 @@ use Rattle.std.specs.Prelude.{◌≡◌, ◌≢◌, ◌⊎◌, ◌==◌, ℕ, �
 use Rattle.std.{specs.Prelude.{IsNone, Result}, specs.Option.{ForSome, option_or}}
 use Rattle.yq_journal.specs.declared.fault.JournalFault.{JournalFault}
 use Rattle.yq_journal.specs.declared.fault.JournalFault.TheVariants.{NothingToUndo, NothingToRedo, DoesNotStand, BadJournal, Unsettled}
-use Rattle.yq_journal.specs.declared.fault.JournalFault.TheVariants.{JournalFull, BadCount}
-use Rattle.yq_journal.{specs.declared.fault.JournalError.JournalError, specs.declared.moves.Move.Move}
+use Rattle.yq_journal.{specs.declared.fault.JournalFault.TheVariants.{JournalFull, BadCount}, specs.declared.moves.Move.Move}
 use Rattle.yq_journal.{specs.declared.moves.Move.TheVariants.{Edit, Undo, Redo}, specs.Record.{Record, meet}}
 use Rattle.yq_journal.specs.State.{State, moved_text, last_done}
-use Rattle.yq_journal.specs.declared.fault.JournalError.TheVariants as error
+use Rattle.yq_failure.specs.declared.failure.Failure.{Failure}
+use Rattle.yq_failure.specs.declared.failure.Failure.TheVariants as error
+
+-- why a call failed (own)
+abbrev pub JournalError : Type 0
+JournalError = Failure JournalFault
 
 -- an error names the fault; want of memory says nothing (own)
 abbrev pub ErrorIs : JournalError → Option JournalFault → Type 0

@@ -1,7 +1,7 @@
 //! Why a journal refuses.
 
-use std::alloc::{AllocError, AllocFailed};
 use thiserror::Error;
+use yq_failure::Failure;
 
 /// What is at fault.
 #[derive(Clone, Copy, Debug, PartialEq, Eq, Error)]
@@ -30,32 +30,4 @@ pub enum JournalFault {
 }
 
 /// Why a call failed.
-#[derive(Clone, Copy, Debug, PartialEq, Eq)]
-pub enum JournalError {
-    /// Memory ran out.
-    Memory,
-    /// It is refused.
-    Fault(JournalFault),
-}
-
-impl From<AllocError> for JournalError {
-    ghost use Rattle.std.specs.Prelude.{◌≡◌};
-    ghost use Rattle.yq_journal.specs.declared.fault.JournalError.TheVariants.{Memory};
-
-    ghost from_gives = { λ _ e. e ≡ Memory };
-
-    fn from(_refused: AllocError) -> JournalError {
-        JournalError::Memory
-    }
-}
-
-impl<T: Drop> From<AllocFailed<T>> for JournalError {
-    ghost use Rattle.std.specs.Prelude.{◌≡◌};
-    ghost use Rattle.yq_journal.specs.declared.fault.JournalError.TheVariants.{Memory};
-
-    ghost from_gives = { λ _ e. e ≡ Memory };
-
-    fn from(_refused: AllocFailed<T>) -> JournalError {
-        JournalError::Memory
-    }
-}
+pub type JournalError = Failure<JournalFault>;

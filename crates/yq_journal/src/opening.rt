@@ -2,6 +2,7 @@
 ghost use Rattle.std.specs.Prelude.{◌≡◌, ◌≢◌, None, Some, IfErr, OnOk, OnErr, IsNone, IsOk};
 ghost use Rattle.yq_journal.specs.Refusals.{ErrorIs, move_fault, MemoryOnlyIf, UnsettledOnlyIf, MayBegin};
 ghost use Rattle.yq_journal.specs.State.{moved_text, with_move, settled_beside, OpenLeads};
+ghost use Rattle.yq_failure.specs.declared.failure.Failure.TheVariants as failure;
 
 use crate::journal::{Journal, Open};
 use crate::ways::check_way;
@@ -29,7 +30,7 @@ impl Journal {
         ensures free { OnOk result (move_fault self.old step text.now ≡ None) }
         ensures ok { OnOk result (self.new ≡ with_move self.old step text.now) }
         ensures fault { IfErr result (λ e. ErrorIs e.1 (move_fault self.old step text.now)) }
-        ensures memory { IfErr result (λ e. e.1 ≡ JournalError.Memory → MayBegin self.old step) }
+        ensures memory { IfErr result (λ e. e.1 ≡ failure.Memory → MayBegin self.old step) }
         ensures err { IfErr result (λ e. (e.0 ≡ step) × (self.new ≡ self.old)) }
     {
         if let Err(error) = self.check_start(&step, text) {
@@ -92,7 +93,7 @@ impl Journal {
     pub fn finish(&mut self, _text: &[u8]) -> Result<(), JournalError>
         requires { OpenLeads self.old _text.now }
         ensures ok { OnOk result (settled_beside self.old _text.now ≡ Some self.new) }
-        ensures fault { IfErr result (λ e. e ≡ JournalError.Memory) }
+        ensures fault { IfErr result (λ e. e ≡ failure.Memory) }
         ensures err { OnErr result (self.new ≡ self.old) }
     {
         if let Some(taken) = self.open.take() {

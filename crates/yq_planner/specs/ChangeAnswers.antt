@@ -8,10 +8,9 @@ use Rattle.yq_core.{specs.Values.{entries_of, entry, items_of, value_node}, spec
 use Rattle.yq_documents.{specs.Located.steps_of, specs.declared.path.Path.Path}
 use Rattle.yq_nodes.specs.Nodes.{label_of, node_of}
 use Rattle.yq_semantics.specs.Changes.{Addition, Change, added_entries, allowed, is_deep, is_overlong_key, is_used, has_long_key, refers_to}
-use Rattle.yq_semantics.{specs.Changes.{value_in, writes_long_key}, specs.Judgement.{Judgement, Judges}}
+use Rattle.yq_semantics.{specs.Changes.{value_in, writes_long_key}, specs.Judgement.{Judgement, Judges, ExprError}}
 use Rattle.yq_semantics.{specs.Operations.{Operation, operations_of}, specs.Plans.add_op}
-use Rattle.yq_semantics.{specs.RightValues.{int_sum, with_entries, with_entry}, specs.declared.expr_error.ExprError.ExprError}
-use Rattle.yq_semantics.specs.declared.op.Op.{Op}
+use Rattle.yq_semantics.{specs.RightValues.{int_sum, with_entries, with_entry}, specs.declared.op.Op.Op}
 use Rattle.yq_planner.{specs.ChangeView.{addition_of, change_of}, specs.ChangedNodes.LeadsToNode, specs.EntryNumbers.number_kept}
 use Rattle.yq_planner.{specs.StandIns.IsStandIn, specs.TakenNames.{is_used_anchor, overwrites_at, takes_at}}
 use Rattle.yq_planner.specs.Indexes.{HasAliases, IsIndex, get_text, kept_first}

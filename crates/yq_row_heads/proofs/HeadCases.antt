@@ -1,11 +1,11 @@
 -- The head of a row by cases: nothing, a block scalar, a quoted one, a plain one on one line, and any other inline node.
 use Rattle.std.proofs.Common.{◌≡◌, ℕ, ℤ, List, [], ◌∷◌, true, false, length, Option, Some, None, refl, sym, subst, ◌∙◌, rules}
 use Rattle.std.{specs.Prelude.◌==◌, proofs.lemmas.Bool.{cond-true, cond-false}}
-use Rattle.yq_core.{specs.Answers.ReadFails, specs.declared.fault.ReadError.ReadError, specs.declared.fault.ReadFault.ReadFault}
-use Rattle.yq_core.{specs.Scalar.plain_of, specs.Text.is_empty, specs.Scalars.{is_quoted, scalar_content}, specs.Trees.scalar_node}
+use Rattle.yq_core.{specs.Answers.{ReadFails, ReadError}, specs.declared.fault.ReadFault.ReadFault, specs.Scalar.plain_of}
+use Rattle.yq_core.{specs.Text.is_empty, specs.Scalars.{is_quoted, scalar_content}, specs.Trees.scalar_node}
 use Rattle.yq_documents.specs.FlowReading.{head_flow_at, node_flow_at}
 use Rattle.yq_documents.specs.RowReading.{block_head_at, read_head, is_block_head, is_short_plain, node_head_at, string_head}
-use Rattle.yq_core.specs.declared.fault.ReadError.TheVariants as reading
+use Rattle.yq_failure.specs.declared.failure.Failure.TheVariants as reading
 
 -- what reads has no fault
 pub no_fault : {Y : Type 0} (e : ReadError) (f : ReadFault) (read : Option Y) (y : Y) → e ≡ reading.Fault f → ReadFails e read → read ≡ Some y → ⊥

@@ -1,9 +1,8 @@
 -- The law of regions: items between others, read alone.
 use Rattle.std.proofs.Common.{◌≡◌, inl, ℕ, Bool, true, false, List, [], ◌∷◌, ◌++◌, Option, Some, Result, refl, sym, ap, ◌∙◌, subst, ⊎_elim}
 use Rattle.std.{proofs.Common.{append-nil, rules}, proofs.lemmas.Bool.or_right}
-use Rattle.yq_core.{specs.Answers.Gives, specs.declared.fault.ReadError.ReadError, specs.Block.ends_block}
-use Rattle.yq_core.{specs.declared.block_lines.TextIndent.TextIndent, specs.Text.{is_line, text_lines}, specs.Alike.Alike}
-use Rattle.yq_core.proofs.Alikes.{alike_append}
+use Rattle.yq_core.{specs.Answers.{Gives, ReadError}, specs.Block.ends_block, specs.declared.block_lines.TextIndent.TextIndent}
+use Rattle.yq_core.{specs.Text.{is_line, text_lines}, specs.Alike.Alike, proofs.Alikes.alike_append}
 use Rattle.yq_row_table.specs.Grammar.{Limit, IsRow, IsMarkerLine}
 use Rattle.yq_row_table.specs.Items.{Item, row_item, end_item, items_text, Asked, nothing_asked, asked_by, asked_of, AreRowItems}
 use Rattle.yq_row_table.{specs.Items.view_of_items, specs.Regions.{StandIn, region_items, IsReadAlone}, specs.Slicing.read_view}

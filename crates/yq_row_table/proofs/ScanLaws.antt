@@ -2,7 +2,7 @@
 use Rattle.std.proofs.Common.{◌≡◌, ℕ, zero, suc, ◌<◌, Bool, true, false, ◌&&◌, leb, List, [], ◌++◌, length, Option, Some, Result, Ok, Err}
 use Rattle.std.{proofs.Common.{IfOk, refl, sym, ⊎_elim, ap, ◌∙◌, subst, arith, rules}, proofs.lemmas.Bool.{leb-true, le-leb, and_parts}}
 use Rattle.std.proofs.lemmas.Option.{same_Some}
-use Rattle.yq_core.{specs.Answers.{◌>>=◌, Gives}, specs.Characters.is_text, specs.Text.is_empty, specs.declared.fault.ReadError.ReadError}
+use Rattle.yq_core.{specs.Answers.{◌>>=◌, Gives, ReadError}, specs.Characters.is_text, specs.Text.is_empty}
 use Rattle.yq_core.proofs.Bools.{bind_some, chosen, guard_then}
 use Rattle.yq_text.specs.Limit.{text_limit}
 use Rattle.yq_row_table.specs.Grammar.{begins_document, IsPart, IsMarkerLine, AreParts, IsCut}

@@ -4,8 +4,7 @@ use Rattle.std.proofs.Common.{Option, Some, None, IfSome, if◌then◌else◌, �
 use Rattle.std.{proofs.Common.{append_assoc, length-append, length-take, rules}, proofs.lemmas.Bool.{cases_Bool, cond-false, cond-true}}
 use Rattle.std.{proofs.lemmas.Option.same_Some, proofs.lemmas.List.{drop_all, drop_more, set_split, take_at}}
 use Rattle.std.{proofs.lemmas.Str.IsCharBoundary-at_seam, specs.Str.IsCharBoundary}
-use Rattle.yq_core.{specs.Answers.ReadFails, specs.declared.fault.ReadError.ReadError, specs.declared.fault.ReadFault.ReadFault}
-use Rattle.yq_core.specs.Text.{front}
+use Rattle.yq_core.{specs.Answers.{ReadFails, ReadError}, specs.declared.fault.ReadFault.ReadFault, specs.Text.front}
 use Rattle.yq_row_table.{specs.Ends.end_at, specs.Items.{Item, end_item, items_of_cut, items_text, rows_items, view_of_items}}
 use Rattle.yq_row_table.{specs.Kept.{IsPlaced, near, ends_near, TextsIn}, specs.Meter.begins_line}
 use Rattle.yq_row_table.{specs.Regions.{IsReadAlone, region_items, ended, no_items}, specs.Rows.{Row, Cut, last, marked, print_row}}
@@ -16,7 +15,7 @@ use Rattle.yq_rows.specs.Reading.{ArePlacesRead, IsRead, IsUnread, marked_as, re
 use Rattle.yq_rows.{specs.Sides.text_length, specs.declared.session_reading.NewRows.NewRows, specs.declared.touched.Touched.Touched}
 use Rattle.yq_rows.{proofs.CountLaws.ends_joined, proofs.ExchangeLaws.{alone_are, texts_first, texts_second}}
 use Rattle.yq_rows.{proofs.ItemPlaces.{places_are, text_split}, proofs.SideLaws.{ends_end, rows_end}}
-use Rattle.yq_core.specs.declared.fault.ReadError.TheVariants as reading
+use Rattle.yq_failure.specs.declared.failure.Failure.TheVariants as reading
 
 -- The items that are read of a region, before others, and how the ends of parts that come of it are those of all its items.
 pub record Parted (text : List ℕ) (written : List Item) (u : Option EndPlace) (more : Bool) : Type 0 where

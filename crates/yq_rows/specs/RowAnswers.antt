@@ -2,7 +2,7 @@
 use Rattle.std.specs.Borrow.{Bor}
 use Rattle.std.specs.Prelude.{◌≡◌, ◌-◌, ◌==◌, ◌&&◌, ◌||◌, ℕ, Bool, List, Option, Some, None, OnOk, Result, Vec, [], is_ok, length, nat_lt}
 use Rattle.std.{specs.Prelude.{not, option_map, if◌then◌else◌}, specs.declared.alloc.Global.Global}
-use Rattle.yq_core.{specs.Answers.Gives, specs.Text.{is_empty, is_marker}, specs.declared.fault.ReadError.ReadError}
+use Rattle.yq_core.{specs.Answers.{Gives, ReadError}, specs.Text.{is_empty, is_marker}}
 use Rattle.yq_row_table.{specs.Grammar.allows, specs.Items.{Item, items_text, view_of_items}, specs.Kept.{kept_rows, rows_placed}}
 use Rattle.yq_row_table.{specs.Meter.{begins_line, count_after, line_count}, specs.Offsets.{offsets_of, rows_in, slices_in}}
 use Rattle.yq_row_table.{specs.Reading.read_row_key, specs.Regions.{IsReadAlone, region_items}, specs.Rows.Part}

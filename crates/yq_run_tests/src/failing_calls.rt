@@ -7,6 +7,7 @@ use std::alloc::Global;
 use std::test::Fail;
 use yq_args::Command;
 use yq_history::Fault;
+use yq_journal::JournalFault;
 use yq_run::Answer::Refused;
 use yq_run::{Answer, MemoryOut, run_list};
 use yq_store::{Left, MemoryStore};
@@ -68,7 +69,7 @@ fn leads_back(alloc: Global, store: &mut MemoryStore, undos: &[Command]) -> bool
     is_back
         && matches!(
             answers.as_slice().last(),
-            Some(Refused(Fault::NothingToUndo))
+            Some(Refused(Fault::Journal(JournalFault::NothingToUndo)))
         )
 }
 

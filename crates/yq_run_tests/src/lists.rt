@@ -5,8 +5,10 @@ use crate::asked::{FILE, Request, commands, store_with_file};
 use std::alloc::{AllocError, Global};
 use std::test::Fail;
 use yq_history::Fault;
+use yq_journal::JournalFault;
 use yq_run::Answer::{Done, NoMatch, Refused};
 use yq_run::{Answer, MemoryOut, run_list};
+use yq_semantics::Refusal;
 use yq_store::{Left, MemoryStore};
 
 /// The commands. The calls of the store that each makes: the file and the journal are read by a call each, but
@@ -51,9 +53,9 @@ fn wanted() -> [Answer; 16] {
         Done,
         Done,
         Done,
-        Refused(Fault::NotAMap),
+        Refused(Fault::Refused(Refusal::NotAMap)),
         Done,
-        Refused(Fault::NothingToRedo),
+        Refused(Fault::Journal(JournalFault::NothingToRedo)),
         Done,
         Done,
         NoMatch,

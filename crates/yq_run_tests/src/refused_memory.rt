@@ -8,6 +8,7 @@ use std::test::Fail;
 use yq_api_tests::hold_memory;
 use yq_args::Command;
 use yq_history::Fault;
+use yq_journal::JournalFault;
 use yq_run::Answer::{Done, Refused};
 use yq_run::{Answer, MemoryOut, run_list};
 use yq_store::{MemoryStore, Store};
@@ -117,7 +118,12 @@ fn is_refused_first(
         if let Ok(answers) = run_list(alloc, store, &mut out, slice::from_ref(command)) {
             match answers.as_slice().first() {
                 Some(Refused(Fault::OutOfMemory | Fault::OutFailed)) => is_refused = true,
-                Some(Done | Refused(Fault::NothingToUndo | Fault::NothingToRedo)) => {
+                Some(
+                    Done
+                    | Refused(
+                        Fault::Journal(JournalFault::NothingToUndo | JournalFault::NothingToRedo),
+                    ),
+                ) => {
                     let (text, printed) = done;
                     return is_refused && holds(store, text) && out.bytes() == printed.as_bytes();
                 }

@@ -5,11 +5,10 @@ use Rattle.yq_core.{specs.Keys.{depth, deepest}, specs.Paths.{is_here, further, 
 use Rattle.yq_core.{specs.Tree.{Node, alias, scalar, list, Children, none, child, children_of}, specs.Values.{items, entries}}
 use Rattle.yq_documents.specs.Documents.{Document}
 use Rattle.yq_semantics.specs.Copies.{and_others, keyed, copy, item_copies, entry_copies, match_at, matches_in, matches_from, matches}
-use Rattle.yq_semantics.{specs.Judgement.{Judges, gives}, specs.MatchTrees.{IsMatch, AreMatches}, specs.Pipes.places}
+use Rattle.yq_semantics.{specs.Judgement.{Judges, gives, ExprError}, specs.MatchTrees.{IsMatch, AreMatches}, specs.Pipes.places}
 use Rattle.yq_semantics.{specs.Places.{FoundPlace, for_each}, specs.PlacesApart.IsIn, specs.Program.{Stage, PathStep}}
-use Rattle.yq_semantics.{specs.declared.expr_error.ExprError.ExprError, proofs.JudgementLaws.{then_gives, gives_same}}
-use Rattle.yq_semantics.{proofs.GoodPlaces.AreSound, proofs.updates.PipePlaces.places_apart, proofs.updates.Pure.copy_pure}
-use Rattle.yq_semantics.proofs.updates.Each.{joined_gives}
+use Rattle.yq_semantics.{proofs.JudgementLaws.{then_gives, gives_same}, proofs.GoodPlaces.AreSound, proofs.updates.PipePlaces.places_apart}
+use Rattle.yq_semantics.{proofs.updates.Pure.copy_pure, proofs.updates.Each.joined_gives}
 use Rattle.yq_core.specs.Paths as paths
 use Rattle.yq_core.specs.Tree as tree
 

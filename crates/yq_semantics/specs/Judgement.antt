@@ -1,7 +1,12 @@
 -- What comes of a program.
 use Rattle.std.specs.Prelude.{◌≡◌, Result, Ok, Err}
-use Rattle.yq_semantics.{specs.declared.expr_error.ExprError.ExprError, specs.declared.refusal.Refusal.Refusal}
-use Rattle.yq_semantics.specs.declared.expr_error.ExprError.TheVariants as errors
+use Rattle.yq_failure.specs.declared.failure.Failure.{Failure}
+use Rattle.yq_semantics.specs.declared.refusal.Refusal.{Refusal}
+use Rattle.yq_failure.specs.declared.failure.Failure.TheVariants as errors
+
+-- why an expression has no matches, or why no operations are planned for it (own)
+abbrev pub ExprError : Type 0
+ExprError = Failure Refusal
 
 -- something, or a refusal (own)
 pub data Judgement (A : Type 0) : Type 0 where
@@ -15,7 +20,7 @@ and_then f (refuses why) = refuses why
 
 -- what an error says of what comes of something: the refusal; want of memory says nothing (own)
 abbrev pub MatchFails : {Y : Type 0} → ExprError → Judgement Y → Type 0
-MatchFails (errors.Refused why) outcome = outcome ≡ refuses why
+MatchFails (errors.Fault why) outcome = outcome ≡ refuses why
 MatchFails errors.Memory outcome = Unit {0}
 
 -- what matching or planning answers, as it is seen: what comes of something, or why nothing does (own)

@@ -3,13 +3,11 @@
 //! Laws of plans: the operations of an update fit, and make what it means.
 #![tactic(auto)]
 
-mod expr_error;
 mod laws;
 mod op;
 mod program;
 mod refusal;
 
-pub use expr_error::ExprError;
 pub use laws::{
     changes_apart, places_apart, plan_fits, plan_means, plan_refused, plan_rooms, rest_follows,
     rooms_alike, rooms_ready,
@@ -19,4 +17,4 @@ pub use program::{
     Assignment, Comment, CommentPlace, Comparison, Condition, Operand, Operator, PathStep, Program,
     Stage, Syntax, Term, Update, is_index, is_simple,
 };
-pub use refusal::Refusal;
+pub use refusal::{ExprError, Refusal};

@@ -1,5 +1,7 @@
 //! Why a program can't be carried out on a document.
 
+use yq_failure::Failure;
+
 /// Why a program can't be carried out on a document.
 #[derive(Clone, Copy, PartialEq, Eq, Debug)]
 pub enum Refusal {
@@ -36,3 +38,6 @@ pub enum Refusal {
     /// X16: a key of more than 1,024 characters as written.
     KeyTooLong,
 }
+
+/// Why an expression has no matches, or why no operations are planned for it.
+pub type ExprError = Failure<Refusal>;

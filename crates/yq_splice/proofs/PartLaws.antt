@@ -5,11 +5,11 @@ use Rattle.yq_documents.{specs.Documents.{Document, ReadsDocuments}, specs.Readi
 use Rattle.yq_documents.{proofs.ReadLaws.{one_reading, parts_read, read_takes}, proofs.ReadyLaws.read_ready}
 use Rattle.yq_outline.proofs.ShapeLaws.{shaped_by_lines, shaped_is_tree}
 use Rattle.yq_semantics.{specs.After.{after_op, all_after, op_document}, specs.Changes.Room, specs.Fits.AllFit, specs.Meaning.AreReady}
-use Rattle.yq_semantics.{specs.Judgement.{Judgement, MatchFails, gives, refuses}, specs.Operations.Operation, specs.Plans.plan}
+use Rattle.yq_semantics.{specs.Judgement.{Judgement, MatchFails, gives, refuses, ExprError}, specs.Operations.Operation, specs.Plans.plan}
 use Rattle.yq_semantics.{specs.Program.{Update, UpdatesHold}, specs.Rooms.room_of}
 use Rattle.yq_semantics.specs.RoomsKept.{BlockLasts, KeepsBlockIn, LeavesRooms, MayFollow, NoneOn, SetComments, SetNoComment}
-use Rattle.yq_semantics.{specs.declared.expr_error.ExprError.ExprError, proofs.JudgementLaws.gives_same, proofs.RoomLaws.rooms_are_ready}
-use Rattle.yq_semantics.{proofs.updates.AlikeRooms.rest_follow, proofs.updates.RoomsLast.plan_follows}
+use Rattle.yq_semantics.{proofs.JudgementLaws.gives_same, proofs.RoomLaws.rooms_are_ready, proofs.updates.AlikeRooms.rest_follow}
+use Rattle.yq_semantics.proofs.updates.RoomsLast.{plan_follows}
 use Rattle.yq_eval.specs.PlaceView.{put_behind}
 use Rattle.yq_expr.{specs.Parts.{LeavesOps, rest_ops}, proofs.PartLaws.{nothing_left, whole_plan}}
 use Rattle.yq_text.specs.Splice.{Splice}
@@ -20,12 +20,11 @@ use Rattle.yq_edit_laws.{specs.Valid.{AreServed, FailsAt, HaveOperands, IsStep, 
 use Rattle.yq_edit_laws.{proofs.ApplyLaws.applied_by, proofs.CutLaws.cut_same, proofs.MeaningLaws.{UpdateComes, plan_comes}}
 use Rattle.yq_edit_laws.{proofs.ServeLaws.{OperationsCome, all_come}, proofs.TextFaults.{FailsToRead, text_unread, text_utf8}}
 use Rattle.yq_edit_laws.proofs.OrderLaws.{behind_both, behind_none, fails_behind, fails_itself, fails_on}
-use Rattle.yq_core.specs.declared.fault.ReadError.{ReadError}
+use Rattle.yq_core.specs.Answers.{ReadError}
 use Rattle.yq_splice.specs.Parts.{Awaits, IsJudged}
-use Rattle.yq_core.specs.declared.fault.ReadError.TheVariants as reading
+use Rattle.yq_failure.specs.declared.failure.Failure.TheVariants as failure
 use Rattle.yq_edit_laws.specs.Edit as edits
 use Rattle.yq_edit_laws.specs.declared.edit_error.EditError.TheVariants as error
-use Rattle.yq_semantics.specs.declared.expr_error.ExprError.TheVariants as planning
 
 -- ---- what is left of a plan
 
@@ -265,8 +264,8 @@ module _ (u : Update) (t : List ℕ) (before : List Splice) (is : read_at t ≡ 
 
   module _ (doc place : ℕ) (m : List ℕ) (cs : List Splice) (h : IsUnderWay u t before doc place m cs) where
     pub unplanned : (e : ExprError) → MatchFails e (rest_ops u (room_of t) (documents_of t) doc place) → FailsAt (of_planning e) u t
-    unplanned (planning.Refused why) k = absurd (let left = h.left in cc)
-    unplanned planning.Memory k = record { fails = tt; why = tt }
+    unplanned (failure.Fault why) k = absurd (let left = h.left in cc)
+    unplanned failure.Memory k = record { fails = tt; why = tt }
 
     pub all_carried : length (documents_of t) ≤ doc → (ds : List Splice) × IsStep u t m ds × (cs ≡ before ++ ds)
     all_carried past =
@@ -282,13 +281,13 @@ module _ (u : Update) (t : List ℕ) (before : List Splice) (is : read_at t ≡ 
 
 -- a text on which operations are served is read
 pub read_fails : (ops : List Operation) (bytes m : List ℕ) (e : ReadError) (r : Edit) → AreServed ops m → bytes ≡ m → FailsToRead e bytes → EditFails (error_of_reading e) r
-read_fails ops bytes m reading.Memory r s same h = tt
-read_fails ops bytes m (reading.Fault fault) r s same h =
+read_fails ops bytes m failure.Memory r s same h = tt
+read_fails ops bytes m (failure.Fault fault) r s same h =
     let reads = (parts_read m s.0 s.1.read).0 in
     absurd (none-some _ (sym (text_unread bytes m fault same (text_utf8 m s.1.read.parts reads) h).0 ∙ reads))
 
 -- memory that ran out where an update was weighed
-pub weighing_fails : (e : ExprError) (u : Update) (t : List ℕ) → e ≡ planning.Memory → FailsAt (of_planning e) u t
+pub weighing_fails : (e : ExprError) (u : Update) (t : List ℕ) → e ≡ failure.Memory → FailsAt (of_planning e) u t
 weighing_fails e u t is = subst (λ (x : ExprError). FailsAt (of_planning x) u t) (sym is) (record { fails = tt; why = tt })
 
 -- memory that ran out before a part was planned

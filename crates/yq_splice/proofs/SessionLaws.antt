@@ -4,7 +4,7 @@ use Rattle.std.{proofs.Common.{subst, arith, append-nil}, proofs.lemmas.Bool.le-
 use Rattle.std.specs.Str.{IsCharBoundary, IsUtf8, is_utf8}
 use Rattle.yq_text.{specs.Halves.whole, specs.TextGapBuffer.{TextGapView, buffer_text}, specs.declared.halves.Halves.Halves}
 use Rattle.yq_text.{specs.Changing.IsChange, specs.Script.new_text, specs.declared.changed.ChangedMiddle.ChangedMiddle}
-use Rattle.yq_core.{specs.declared.fault.ReadError.ReadError, proofs.Bools.guard_then}
+use Rattle.yq_core.{specs.Answers.ReadError, proofs.Bools.guard_then}
 use Rattle.yq_row_table.{specs.Grammar.IsCut, specs.Items.{Item, items_of_cut, items_text}, specs.Kept.IsPlaced, specs.Rows.Cut}
 use Rattle.yq_row_table.{specs.Touched.{TouchesOnly, in_back, in_front, item_text}, specs.View.{RowsView, rows_view}}
 use Rattle.yq_row_table.{specs.declared.places.Places.Places, proofs.PlacedLaws.split_boundary}
@@ -17,7 +17,7 @@ use Rattle.yq_edit_laws.{proofs.CutLaws.{cut_read, cut_same}, specs.Carried.{car
 use Rattle.yq_edit_laws.{specs.Edit.{gives, by_reading, exchange_edit}, specs.Theorems.HasReading, specs.Valid.segments_by}
 use Rattle.yq_edit_laws.{proofs.TextFaults.{FailsToRead, text_unread}, proofs.UpdateLaws.no_reading}
 use Rattle.yq_splice.specs.Session.{HasPlaces, Knows, NotOpened}
-use Rattle.yq_core.specs.declared.fault.ReadError.TheVariants as reading
+use Rattle.yq_failure.specs.declared.failure.Failure.TheVariants as reading
 
 -- ---- a text with its cut
 

@@ -1,6 +1,6 @@
 -- What a session is known by, and what an operation applied to it adds to its count.
 use Rattle.std.specs.Prelude.{◌≡◌, ◌≢◌, ◌⊎◌, ⊤, ℕ, ◌+◌, ◌≤◌, List, [], length, Some}
-use Rattle.yq_core.{specs.declared.fault.FaultKind.TheVariants.NotUtf8, specs.declared.fault.ReadError.ReadError}
+use Rattle.yq_core.{specs.declared.fault.FaultKind.TheVariants.NotUtf8, specs.Answers.ReadError}
 use Rattle.yq_row_table.{specs.Kept.IsPlaced, specs.Meter.{count_after, line_count}, specs.Rows.Cut, specs.Touched.TouchesOnly}
 use Rattle.yq_row_table.{specs.Items.items_of_cut, specs.View.rows_view, specs.declared.places.Places.Places}
 use Rattle.yq_documents.specs.Reading.{cut_of, read_at}
@@ -13,7 +13,7 @@ use Rattle.yq_edit_rules.specs.Edits.{op_edits}
 use Rattle.yq_edit_laws.{specs.Carried.carry_one, specs.Edit.Edit, specs.TouchedRanges.{PutAreTouched, put_ranges}}
 use Rattle.yq_edit_laws.{specs.Theorems.HasReading, specs.Valid.segments_by}
 use Rattle.yq_splice.specs.TouchedLines.{touched_lines}
-use Rattle.yq_core.specs.declared.fault.ReadError.TheVariants as reading
+use Rattle.yq_failure.specs.declared.failure.Failure.TheVariants as reading
 
 -- What a session is known by: its text, and how many lines were counted (own).
 pub record SessionState : Type 0 where

@@ -1,8 +1,8 @@
 -- What segments of a text change of it, and what an answer says of that.
 use Rattle.std.{specs.Prelude.{◌≡◌, ◌-◌, false, List, ◌++◌, length, take, drop, Result, Ok, Err, string_bytes}, specs.Str.IsUtf8}
-use Rattle.yq_text.specs.Exchanging.{NotExchanged, exchange_of, gives}
+use Rattle.yq_text.specs.Exchanging.{NotExchanged, exchange_of, gives, ExchangeError}
 use Rattle.yq_text.specs.Script.{Segment, old_text, new_text, are_kept, kept_front, kept_back}
-use Rattle.yq_text.{specs.declared.changed.ChangedMiddle.ChangedMiddle, specs.declared.exchange_error.ExchangeError.ExchangeError}
+use Rattle.yq_text.specs.declared.changed.ChangedMiddle.{ChangedMiddle}
 
 -- What segments change of their text: so many bytes stay at both ends, which are characters, and where one is replaced, the new text is the old one with
 -- another text between these (own).

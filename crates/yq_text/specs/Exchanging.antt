@@ -1,8 +1,13 @@
 -- What the exchange of segments of a text comes to, and what an answer says of that.
 use Rattle.std.specs.Prelude.{◌≡◌, ℕ, List, length, nat_le, if◌then◌else◌, Option, Some, None, Result, Ok, Err, string_bytes}
 use Rattle.yq_text.{specs.Limit.text_limit, specs.Splice.Splice, specs.Script.{Segment, new_text, changes}}
-use Rattle.yq_text.{specs.declared.edited.Edited.Edited, specs.declared.exchange_error.ExchangeError.ExchangeError}
-use Rattle.yq_text.specs.declared.exchange_error.ExchangeError.TheVariants as error
+use Rattle.yq_text.{specs.declared.edited.Edited.Edited, specs.declared.exchange_error.TooLarge.TooLarge}
+use Rattle.yq_failure.specs.declared.failure.Failure.{Failure}
+use Rattle.yq_failure.specs.declared.failure.Failure.TheVariants as error
+
+-- Why a text is not made of its segments (own).
+abbrev pub ExchangeError : Type 0
+ExchangeError = Failure TooLarge
 
 -- What an exchange comes to: it gives a new text by these changes, or that would be too large (own).
 pub data Exchange : Type 0 where
@@ -19,7 +24,7 @@ exchange_of ss = if nat_le (length (new_text ss)) text_limit then gives (new_tex
 
 -- what an error says of the exchange; want of memory says nothing (own)
 abbrev pub NotExchanged : ExchangeError → Exchange → Type 0
-NotExchanged error.TooLarge x = x ≡ too_large
+NotExchanged (error.Fault e) x = x ≡ too_large
 NotExchanged error.Memory x = Unit {0}
 
 -- the answer is what the exchange comes to (own)

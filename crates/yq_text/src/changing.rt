@@ -6,7 +6,7 @@ ghost use Rattle.yq_text.specs.Script as script;
 use crate::Halves;
 use crate::changed::ChangedMiddle;
 use crate::edited::Edited;
-use crate::exchange_error::ExchangeError;
+use crate::exchange_error::{ExchangeError, TooLarge};
 use crate::exchanging::{build, new_len};
 use crate::segment::{Segment, Segments};
 use std::alloc::Global;
@@ -75,14 +75,14 @@ fn kept_back(segments: &[Segment<'_>]) -> usize
 /// What segments change of their text, and the splices of that ([`exchange`](crate::exchange)). Bytes
 /// that stay in front of all that is replaced or after it are not moved.
 ///
-/// The new text may have 16,777,216 bytes at most ([`ExchangeError::TooLarge`]).
+/// The new text may have 16,777,216 bytes at most ([`TooLarge`]).
 pub fn changes(alloc: Global, segments: &Segments<'_>) -> Result<ChangedMiddle, ExchangeError>
     requires { length (script.old_text segments.now) < 2 ^ 64 }
     ensures { Changes result segments.now }
 {
     let segments = segments.segments.as_slice();
     let Some(len) = new_len(segments) else {
-        return Err(ExchangeError::TooLarge);
+        return Err(ExchangeError::Fault(TooLarge));
     };
     let back = kept_back(segments);
     let (front, rest) = from_first(segments);

@@ -1,6 +1,7 @@
 //! What is made of the segments of a text, one after the other.
 ghost use Rattle.std.specs.Prelude.{◌≡◌, ℕ, ◌+◌, ◌<◌, ◌^◌, ◌++◌, [], List, IfErr, OnOk, length, string_bytes};
-ghost use Rattle.yq_text.{specs.Halves.whole, specs.declared.exchange_error.ExchangeError.TheVariants.Memory};
+ghost use Rattle.yq_text.specs.Halves.{whole};
+ghost use Rattle.yq_failure.specs.declared.failure.Failure.TheVariants.{Memory};
 ghost use Rattle.yq_text.specs.Script as script;
 
 use crate::Halves;

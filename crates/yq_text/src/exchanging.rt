@@ -6,7 +6,7 @@ ghost use Rattle.yq_text.specs.Script as script;
 
 use crate::draft::{Draft, push_splice};
 use crate::edited::Edited;
-use crate::exchange_error::ExchangeError;
+use crate::exchange_error::{ExchangeError, TooLarge};
 use crate::segment::{Segment, Segments};
 use crate::{Halves, TEXT_LIMIT};
 use std::alloc::Global;
@@ -83,7 +83,7 @@ pub(crate) fn build(
 /// touch are one, and one that changes no byte is none. One pass counts the
 /// new text's bytes, and one moves each of them once.
 ///
-/// The new text may have 16,777,216 bytes at most ([`ExchangeError::TooLarge`]).
+/// The new text may have 16,777,216 bytes at most ([`TooLarge`]).
 #[tactic(auto, unfolding(crate::specs::Script::changes))]
 pub fn exchange(alloc: Global, segments: &Segments<'_>) -> Result<Edited, ExchangeError>
     ensures { Exchanged result (exchange_of segments.now) }
@@ -91,6 +91,6 @@ pub fn exchange(alloc: Global, segments: &Segments<'_>) -> Result<Edited, Exchan
     let segments = segments.segments.as_slice();
     match new_len(segments) {
         Some(len) => build(alloc, segments, 0, len),
-        None => Err(ExchangeError::TooLarge),
+        None => Err(ExchangeError::Fault(TooLarge)),
     }
 }

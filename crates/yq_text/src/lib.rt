@@ -18,7 +18,7 @@ mod text_gap_buffer;
 pub use changed::ChangedMiddle;
 pub use changing::changes;
 pub use edited::Edited;
-pub use exchange_error::ExchangeError;
+pub use exchange_error::{ExchangeError, TooLarge};
 pub use exchanging::exchange;
 pub use halves::Halves;
 pub use laws::{changes_lead, outside_stays, touching_are_one, unchanged_stay};

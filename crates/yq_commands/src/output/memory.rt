@@ -1,8 +1,9 @@
 //! An output in memory, which can be made to fail.
 ghost use Rattle.std.specs.Prelude.{◌≡◌, true, []};
 
-use crate::output::{Out, PutError};
+use crate::output::Out;
 use std::alloc::Global;
+use std::fmt;
 
 /// The bytes that were put.
 #[derive(Drop)]
@@ -51,11 +52,11 @@ impl Out for MemoryOut {
 
     ghost failures = { λ w. w.failures };
 
-    fn put(&mut self, bytes: &[u8]) -> Result<(), PutError> {
+    fn put(&mut self, bytes: &[u8]) -> fmt::Result {
         self.calls = self.calls.saturating_add(1);
         if self.fails == Some(self.calls) || self.bytes.extend_from_slice(bytes).is_err() {
             self.failures = self.failures.saturating_add(1);
-            return Err(PutError);
+            return Err(fmt::Error);
         }
         Ok(())
     }

@@ -1,9 +1,9 @@
 //! Standard output.
 ghost use Rattle.std.specs.Prelude.{false, []};
 
-use crate::output::{Out, PutError};
-use std::io;
+use crate::output::Out;
 use std::io::{ErrorKind, Print, Write};
+use std::{fmt, io};
 
 /// What goes to standard output.
 #[derive(Drop)]
@@ -36,13 +36,13 @@ impl<R: Print + Drop> Out for StandardOut<R> {
 
     ghost failures = { λ w. w.failures };
 
-    fn put(&mut self, bytes: &[u8]) -> Result<(), PutError> {
+    fn put(&mut self, bytes: &[u8]) -> fmt::Result {
         match io::writer(&self.rt).write_all(bytes) {
             Ok(()) => Ok(()),
             Err(e) => {
                 self.is_closed = e.kind() == ErrorKind::BrokenPipe;
                 self.failures = self.failures.saturating_add(1);
-                Err(PutError)
+                Err(fmt::Error)
             }
         }
     }

@@ -54,7 +54,7 @@ fn node_is(node: &Node<'_, '_>, scalar: &Scalar) -> Result<bool, ExprError>
     ensures { JudgesWhether result (is_that_scalar scalar.now (node_of node.now)) }
 {
     match node.kind() {
-        NodeKind::Alias => Err(ExprError::Refused(Refusal::ThroughAlias)),
+        NodeKind::Alias => Err(ExprError::Fault(Refusal::ThroughAlias)),
         NodeKind::Scalar(kind) => Ok(same_scalar(kind, node.text(), scalar)),
         NodeKind::List | NodeKind::Map => Ok(false),
     }
@@ -119,7 +119,7 @@ fn node_has(node: &Node<'_, '_>, key: &str) -> Result<bool, ExprError>
     ensures { Judges (λ b. b) result (spec.has_key key.now (node_of node.now)) }
 {
     match node.kind() {
-        NodeKind::Alias => Err(ExprError::Refused(Refusal::ThroughAlias)),
+        NodeKind::Alias => Err(ExprError::Fault(Refusal::ThroughAlias)),
         NodeKind::Scalar(_) | NodeKind::List => Ok(false),
         NodeKind::Map => Ok(node.entry(key).is_some()),
     }

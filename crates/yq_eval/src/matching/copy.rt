@@ -43,7 +43,7 @@ pub(crate) fn copy(alloc: Global, node: &Node<'_, '_>) -> Result<Value, ExprErro
     ensures { Judges value_node result (spec.copy (node_of node.now)) }
 {
     match node.kind() {
-        NodeKind::Alias => Err(ExprError::Refused(Refusal::ThroughAlias)),
+        NodeKind::Alias => Err(ExprError::Fault(Refusal::ThroughAlias)),
         NodeKind::Scalar(kind) => Ok(Value::Scalar(scalar_of(alloc, kind, node.text())?)),
         NodeKind::List => Ok(Value::List(item_copies(alloc, node)?)),
         NodeKind::Map => Ok(Value::Map(entry_copies(alloc, node)?)),

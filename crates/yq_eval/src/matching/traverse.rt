@@ -87,9 +87,9 @@ fn push_all<'a, 't>(
     ensures { AddsPlaces result places.old places.new (spec.step_there each (place_of place.now)) }
 {
     match place.node.kind() {
-        NodeKind::Alias => Err(ExprError::Refused(Refusal::ThroughAlias)),
+        NodeKind::Alias => Err(ExprError::Fault(Refusal::ThroughAlias)),
         NodeKind::Scalar(Kind::Null) => Ok(()),
-        NodeKind::Scalar(_) => Err(ExprError::Refused(Refusal::NotASequence)),
+        NodeKind::Scalar(_) => Err(ExprError::Fault(Refusal::NotASequence)),
         NodeKind::List | NodeKind::Map => Ok(push_children(bump, place, places)?),
     }
 }

@@ -74,13 +74,13 @@ pub fn allow(
     ensures { JudgesChangeOf aliases.now node.now outer change.now result }
 {
     if is_too_long(alloc, change)? {
-        return Err(ExprError::Refused(Refusal::KeyTooLong));
+        return Err(ExprError::Fault(Refusal::KeyTooLong));
     }
     if is_too_deep(outer, change) {
-        return Err(ExprError::Refused(Refusal::TooDeep));
+        return Err(ExprError::Fault(Refusal::TooDeep));
     }
     if takes_used(alloc, aliases, node, change)? {
-        return Err(ExprError::Refused(Refusal::AnchorInUse));
+        return Err(ExprError::Fault(Refusal::AnchorInUse));
     }
     Ok(())
 }

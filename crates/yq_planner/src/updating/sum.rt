@@ -26,11 +26,11 @@ fn int_sum(alloc: Global, one: &str, other: &str) -> Result<Value, ExprError>
     ensures { Judges value_node result (sum_of_texts one.now other.now) }
 {
     let (Some(m), Some(n)) = (int_value(one), int_value(other)) else {
-        return Err(ExprError::Refused(Refusal::IntegerRange));
+        return Err(ExprError::Fault(Refusal::IntegerRange));
     };
     match m.checked_add(n) {
         Some(total) => Ok(int(alloc, total)?),
-        None => Err(ExprError::Refused(Refusal::IntegerRange)),
+        None => Err(ExprError::Fault(Refusal::IntegerRange)),
     }
 }
 
@@ -52,9 +52,9 @@ pub fn scalar_sum(alloc: Global, kind: Kind, text: &str, other: &Scalar) -> Resu
         (Kind::Int, Kind::Int) => int_sum(alloc, text, other.text()),
         (Kind::Text, Kind::Text) => Ok(text_sum(alloc, text, other.text())?),
         (Kind::Int, Kind::Float) | (Kind::Float, Kind::Int) | (Kind::Float, Kind::Float) => {
-            Err(ExprError::Refused(Refusal::FloatArithmetic))
+            Err(ExprError::Fault(Refusal::FloatArithmetic))
         }
-        _ => Err(ExprError::Refused(Refusal::KindMismatch)),
+        _ => Err(ExprError::Fault(Refusal::KindMismatch)),
     }
 }
 
@@ -149,7 +149,7 @@ fn value_sum(alloc: Global, one: Value, other: Value) -> Result<Value, ExprError
             put_entries(alloc, &mut all, added)?;
             Ok(Value::Map(all))
         }
-        _ => Err(ExprError::Refused(Refusal::KindMismatch)),
+        _ => Err(ExprError::Fault(Refusal::KindMismatch)),
     }
 }
 

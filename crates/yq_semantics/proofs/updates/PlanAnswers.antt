@@ -2,12 +2,12 @@
 use Rattle.std.proofs.Common.{◌≡◌, ◌⊎◌, ℕ, zero, suc, List, [], ◌∷◌, Some, Result, Ok, Err, IfOk, refl, ap, subst, inl, inr}
 use Rattle.std.specs.List.{slice_get}
 use Rattle.yq_documents.specs.Documents.{Document}
-use Rattle.yq_semantics.{specs.declared.expr_error.ExprError.ExprError, specs.declared.refusal.Refusal.Refusal, specs.After.all_after}
-use Rattle.yq_semantics.{specs.Changes.Room, specs.Fits.AllFit, specs.Judgement.{Judges, gives, refuses}, specs.Meaning.{AreReady, meaning}}
-use Rattle.yq_semantics.{specs.Operations.Operation, specs.Plans.plan}
+use Rattle.yq_semantics.{specs.Judgement.{ExprError, Judges, gives, refuses}, specs.declared.refusal.Refusal.Refusal, specs.After.all_after}
+use Rattle.yq_semantics.{specs.Changes.Room, specs.Fits.AllFit, specs.Meaning.{AreReady, meaning}, specs.Operations.Operation}
+use Rattle.yq_semantics.specs.Plans.{plan}
 use Rattle.yq_semantics.specs.Program.{update_at, Update, assign, delete, comment, Program, read, updates, UpdatesHold, LiteralsHold}
 use Rattle.yq_semantics.{proofs.updates.PlanFits.plan_fits, proofs.updates.PlanMeans.{plan_means, plan_refused, meaning_refused}}
-use Rattle.yq_semantics.specs.declared.expr_error.ExprError.TheVariants as error
+use Rattle.yq_failure.specs.declared.failure.Failure.TheVariants as error
 
 -- a literal of one update is one of the program
 update_holds : (us : List Update) (n : ℕ) (u : Update) → UpdatesHold us → slice_get us n ≡ Some u → UpdatesHold (u ∷ [])
@@ -35,14 +35,14 @@ module _ {X : Type 0} (view : X → List Operation) (u : Update) (rooms : ℕ �
   answer_fits (Err e) ready holds exact = tt
 
   -- its refusal is that of the update
-  pub answer_refused : (r : Result X ExprError) (why : Refusal) → Judges view r (plan u rooms docs) → r ≡ Err (error.Refused why) → meaning u rooms docs ≡ refuses why
+  pub answer_refused : (r : Result X ExprError) (why : Refusal) → Judges view r (plan u rooms docs) → r ≡ Err (error.Fault why) → meaning u rooms docs ≡ refuses why
   answer_refused r why exact is = plan_refused u rooms docs why (subst (λ (q : Result X ExprError). Judges view q (plan u rooms docs)) is exact)
 
   -- and where the update is refused, so is the answer, but for want of memory
-  pub answer_refuses : (r : Result X ExprError) (why : Refusal) → Judges view r (plan u rooms docs) → meaning u rooms docs ≡ refuses why → (r ≡ Err (error.Refused why)) ⊎ (r ≡ Err error.Memory)
+  pub answer_refuses : (r : Result X ExprError) (why : Refusal) → Judges view r (plan u rooms docs) → meaning u rooms docs ≡ refuses why → (r ≡ Err (error.Fault why)) ⊎ (r ≡ Err error.Memory)
   answer_refuses r why exact h = go r exact (meaning_refused u rooms docs why h)
     where
-      go : (r : Result X ExprError) → Judges view r (plan u rooms docs) → plan u rooms docs ≡ refuses why → (r ≡ Err (error.Refused why)) ⊎ (r ≡ Err error.Memory)
+      go : (r : Result X ExprError) → Judges view r (plan u rooms docs) → plan u rooms docs ≡ refuses why → (r ≡ Err (error.Fault why)) ⊎ (r ≡ Err error.Memory)
       go (Ok x) e is = absurd (cc)
-      go (Err (error.Refused other)) e is = let same : other ≡ why = cc in inl (ap (λ (w : Refusal). Err (error.Refused w)) same)
+      go (Err (error.Fault other)) e is = let same : other ≡ why = cc in inl (ap (λ (w : Refusal). Err (error.Fault w)) same)
       go (Err error.Memory) e is = inr refl
