@@ -12,8 +12,7 @@ impl CutText<'_, '_> {
     pub fn content_place(&self, path: &Path) -> Option<Span>
         ensures { option_map span result ≡ spec.line_content_at path.now (cut_of self.now) }
     {
-        let document = self.stretch(path.doc)?;
-        let _whole = self.whole();
-        content_of(self.rows(), document, self.known(), &path.steps)
+        let walk = self.walk(path.doc)?;
+        content_of(walk, &path.steps)
     }
 }

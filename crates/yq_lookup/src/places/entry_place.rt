@@ -12,8 +12,7 @@ impl CutText<'_, '_> {
     pub fn entry_place(&self, path: &Path) -> Option<Span>
         ensures { option_map span result ≡ spec.line_entry_at path.now (cut_of self.now) }
     {
-        let document = self.stretch(path.doc)?;
-        let _whole = self.whole();
-        entry_of(self.rows(), document, self.known(), &path.steps)
+        let walk = self.walk(path.doc)?;
+        entry_of(walk, &path.steps)
     }
 }

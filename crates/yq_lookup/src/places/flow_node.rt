@@ -25,16 +25,13 @@ impl<'t> CutText<'_, 't> {
         ensures whole { IfOk result (λ o. IfSome o (spec.IsHeadFor self.now (cut_of self.now) doc
             (map tree_step steps.now))) }
     {
-        let _whole = self.whole();
-        let rows = self.rows();
-        let Some(document) = self.stretch(doc) else {
+        let Some(walk) = self.walk(doc) else {
             return Ok(None);
         };
-        let Some((place, left)) = node_place(rows, document, self.known(), self.line(), steps)
-        else {
+        let Some((place, left)) = node_place(walk, steps) else {
             return Ok(None);
         };
-        let Some(at) = place_line(rows, document, place) else {
+        let Some(at) = place_line(walk, place) else {
             return Ok(None);
         };
         let RowHead { head, text, before } = self.row_head(alloc, at.row)?;

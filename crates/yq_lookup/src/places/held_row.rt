@@ -34,10 +34,8 @@ impl<'d, 't> CutText<'d, 't> {
         ensures row { IfSome result (row_agrees.IsHeldRow path.now.doc (steps_of path.now)
             (cut_of self.now)) }
     {
-        let _whole = self.whole();
-        let rows = self.rows();
-        let document = self.stretch(path.doc)?;
-        let (_, at) = known_along(rows, document, known, &path.steps);
-        row_of_last(rows, at?)
+        let walk = self.walk(path.doc)?;
+        let (_, at) = known_along(walk, known, &path.steps);
+        row_of_last(walk.rows, at?)
     }
 }

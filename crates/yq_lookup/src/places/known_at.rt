@@ -3,7 +3,8 @@ ghost use Rattle.std.specs.Prelude.{◌≡◌, IfSome};
 ghost use Rattle.yq_row_table.specs.View.{rows_view};
 ghost use Rattle.yq_documents.specs.Reading.{cut_of};
 ghost use Rattle.yq_outline.specs.RowWalk.{AreKnown};
-ghost use Rattle.yq_places.specs.RowWalk.{IsKnownLine, StayKnown};
+ghost use Rattle.yq_places.specs.RowWalk.{StayKnown};
+ghost use Rattle.yq_row_walk.specs.Walk.{IsKnownLine};
 ghost use Rattle.yq_lookup.{specs.Knowledge.{KnowledgeStays, SearchesStay}, specs.KnownDocuments.DocumentsStay};
 
 use crate::cut_text::CutText;
@@ -12,7 +13,8 @@ use crate::known_document::{KnownDocuments, document_in_front};
 use std::alloc::Global;
 use yq_documents::Path;
 use yq_outline::KnownItem;
-use yq_places::{KnownLine, keep_in_front, known_along, known_end, line_known, put_item};
+use yq_places::{keep_in_front, known_along, known_end, line_known, put_item};
+use yq_row_walk::{KnownLine, Walk};
 
 impl<'d, 't> CutText<'d, 't> {
     /// Puts the items on the way of a path in the place of the items that are known.
@@ -21,12 +23,10 @@ impl<'d, 't> CutText<'d, 't> {
         requires { AreKnown (rows_view (cut_of self.now)).rows known.old.items }
         ensures { AreKnown (rows_view (cut_of self.now)).rows known.new.items }
     {
-        let _whole = self.whole();
-        let rows = self.rows();
-        let Some(document) = self.stretch(path.doc) else {
+        let Some(walk) = self.walk(path.doc) else {
             return;
         };
-        let _ = known_along(rows, document, known, &path.steps);
+        let _ = known_along(walk, known, &path.steps);
     }
 
     /// The same, and gives the line to which the path leads, if none of its steps goes on in the head of one.
@@ -36,11 +36,10 @@ impl<'d, 't> CutText<'d, 't> {
         ensures known { AreKnown (rows_view (cut_of self.now)).rows known.new.items }
         ensures line { IfSome result (IsKnownLine (rows_view (cut_of self.now))) }
     {
-        let _whole = self.whole();
-        let rows = self.rows();
-        let document = self.stretch(path.doc)?;
-        let (_, at) = known_along(rows, document, known, &path.steps);
-        line_known(rows, document, &path.steps, at)
+        let walk = self.walk(path.doc)?;
+        let steps = path.steps.as_slice();
+        let (_, at) = known_along(walk, known, steps);
+        line_known(walk.document, steps, at)
     }
 
     /// The same, and puts the last row of the collection at the path after the items. It is looked for from an
@@ -50,13 +49,17 @@ impl<'d, 't> CutText<'d, 't> {
         ensures known { AreKnown (rows_view (cut_of self.now)).rows known.new.items }
         ensures line { IfSome result (IsKnownLine (rows_view (cut_of self.now))) }
     {
-        let _whole = self.whole();
-        let rows = self.rows();
-        let document = self.stretch(path.doc)?;
-        let (count, at) = known_along(rows, document, known, &path.steps);
-        let line = line_known(rows, document, &path.steps, at);
-        if let Some(end) = known_end(rows, document, known.as_slice(), line, &path.steps) {
-            let _ = put_item(rows, known, count, end);
+        let walk = self.walk(path.doc)?;
+        let steps = path.steps.as_slice();
+        let (count, at) = known_along(walk, known, steps);
+        let line = line_known(walk.document, steps, at);
+        let here = Walk {
+            known: known.as_slice(),
+            line,
+            ..walk
+        };
+        if let Some(end) = known_end(here, steps) {
+            let _ = put_item(known, count, end);
         }
         line
     }
@@ -118,7 +121,6 @@ impl<'d, 't> CutText<'d, 't> {
         requires { AreKnown (rows_view (cut_of self.now)).rows known.old.items }
         ensures { StayKnown front (cut_of self.now) known.new.items }
     {
-        let _whole = self.whole();
         keep_in_front(self.rows(), known, front);
     }
 
@@ -140,7 +142,6 @@ impl<'d, 't> CutText<'d, 't> {
     fn steps_in_front(&self, front: usize) -> StepSearches
         ensures { SearchesStay front (cut_of self.now) result }
     {
-        let _whole = self.whole();
         searches_in_front(self.rows(), self.steps(), front)
     }
 }

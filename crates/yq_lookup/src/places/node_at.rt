@@ -24,17 +24,14 @@ impl<'t> CutText<'_, 't> {
             option_map spec.node_summary (spec.node_in doc (map tree_step steps.now)
             (cut_of self.now))) }
     {
-        let _whole = self.whole();
-        let rows = self.rows();
-        let Some(document) = self.stretch(doc) else {
+        let Some(walk) = self.walk(doc) else {
             return Ok(None);
         };
-        let Some((place, left)) = node_place(rows, document, self.known(), self.line(), steps)
-        else {
+        let Some((place, left)) = node_place(walk, steps) else {
             return Ok(None);
         };
-        let Some(at) = place_line(rows, document, place) else {
-            return Ok(block_node(rows, document, place));
+        let Some(at) = place_line(walk, place) else {
+            return Ok(block_node(walk, place));
         };
         let head = self.row_head(alloc, at.row)?;
         head_node(alloc, head.head, left)

@@ -17,15 +17,8 @@ impl<'t> CutText<'_, 't> {
         ensures { option_map (λ m. (m.0, m.1, m.2)) result ≡
             reading.mark_counts path.now.doc (steps_of path.now) (cut_of self.now) }
     {
-        let document = self.stretch(path.doc)?;
-        let _whole = self.whole();
-        own_rows(
-            self.rows(),
-            document,
-            self.known(),
-            self.line(),
-            &path.steps,
-        )
+        let walk = self.walk(path.doc)?;
+        own_rows(walk, &path.steps)
     }
 
     /// What is taken out of the text with the item or entry at a path: the lines of the comment above

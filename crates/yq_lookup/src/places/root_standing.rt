@@ -43,9 +43,9 @@ impl<'t> CutText<'_, 't> {
         match self.no_rows(doc) {
             Some(place) => Some(Standing::NoRows(place)),
             None => {
-                let document = self.stretch(doc)?;
+                let walk = self.walk(doc)?;
                 let text = self.whole();
-                Some(rows_standing(self.rows(), text, document))
+                Some(rows_standing(walk.rows, text, walk.document))
             }
         }
     }

@@ -14,14 +14,7 @@ impl<'t> CutText<'_, 't> {
         ensures { option_map reading.as_numbers result ≡
             reading.numbers_at path.now.doc (steps_of path.now) (cut_of self.now) }
     {
-        let document = self.stretch(path.doc)?;
-        let _whole = self.whole();
-        entry_along(
-            self.rows(),
-            document,
-            self.known(),
-            self.line(),
-            &path.steps,
-        )
+        let walk = self.walk(path.doc)?;
+        entry_along(walk, &path.steps)
     }
 }

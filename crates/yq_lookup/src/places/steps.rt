@@ -1,15 +1,13 @@
 //! By how many columns the collections of a document are deeper than their keys.
 ghost use Rattle.std.specs.Prelude.{◌≡◌, if◌then◌else◌};
 ghost use Rattle.yq_documents.specs.Reading.{cut_of};
-ghost use Rattle.yq_outline.specs.RowWalk.{HasRows};
 ghost use Rattle.yq_row_table.specs.View.{rows_view};
-ghost use Rattle.yq_places.{specs.StepReading.IsSearched, specs.Steps.document_steps};
+ghost use Rattle.yq_places.specs.Steps.{document_steps};
 ghost use Rattle.yq_lookup.specs.Knowledge.{AreSearches};
 
 use crate::cut_text::CutText;
 use crate::knowledge::StepSearches;
-use yq_outline::Stretch;
-use yq_places::{StepSearch, first_step, search_step};
+use yq_places::{first_step, search_step};
 
 impl CutText<'_, '_> {
     /// By how many columns the sequences, or mappings, of document `doc`, counted from 0, are deeper than
@@ -18,35 +16,24 @@ impl CutText<'_, '_> {
         ensures { result ≡ (if dashes then (document_steps doc (cut_of self.now)).sequence
             else (document_steps doc (cut_of self.now)).mapping) }
     {
-        let _whole = self.whole();
-        let rows = self.rows();
-        let Some(document) = self.stretch(doc) else {
+        let Some(walk) = self.walk(doc) else {
             return 2;
         };
-        first_step(rows, document, self.steps().of(dashes), dashes)
-    }
-
-    /// Goes on searching the rows of a document for a step, up to the last row that is known.
-    fn searched(&self, document: Stretch, dashes: bool) -> StepSearch
-        requires { HasRows (rows_view (cut_of self.now)) document }
-        ensures { IsSearched dashes (rows_view (cut_of self.now)).rows result }
-    {
-        let _whole = self.whole();
-        let upto = self.known().last().map_or(0, |item| item.row);
-        search_step(self.rows(), document, self.steps().of(dashes), dashes, upto)
+        first_step(walk, self.steps().of(dashes), dashes)
     }
 
     /// How far steps are searched once those of document `doc` were, up to the last row that is known.
     fn steps_to(&self, doc: usize) -> StepSearches
         ensures { AreSearches (rows_view (cut_of self.now)).rows result }
     {
-        let _whole = self.whole();
-        let Some(document) = self.stretch(doc) else {
+        let Some(walk) = self.walk(doc) else {
             return self.steps();
         };
+        let steps = self.steps();
+        let upto = walk.known.last().map_or(0, |item| item.row);
         StepSearches {
-            sequences: Some(self.searched(document, true)),
-            mappings: Some(self.searched(document, false)),
+            sequences: Some(search_step(walk, steps.of(true), true, upto)),
+            mappings: Some(search_step(walk, steps.of(false), false, upto)),
         }
     }
 

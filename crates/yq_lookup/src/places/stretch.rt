@@ -1,25 +1,24 @@
-//! The rows of documents among those of a text, and lines of them at paths.
-ghost use Rattle.std.specs.Prelude.{◌≡◌, ◌-◌, option_map, true};
-ghost use Rattle.yq_documents.{specs.Reading.{all_documents, cut_of}, specs.LinesInRows.{document_row, row_line_at}};
+//! The rows of documents among those of a text, with what is known of them, and lines of them at paths.
+ghost use Rattle.std.{specs.Prelude.{◌≡◌, ◌-◌, IfSome, option_map}, specs.Str.IsUtf8};
+ghost use Rattle.yq_documents.{specs.Reading.cut_of, specs.LinesInRows.{document_row, row_line_at}};
 ghost use Rattle.yq_outline.specs.RowWalk.{stretch_view};
 ghost use Rattle.yq_places.specs.RowLineReading.{numbers, line_view};
+ghost use Rattle.yq_row_walk.specs.Walk.{IsWalk, walked_rows};
 ghost use Rattle.yq_places.specs.RowWalk as spec;
 
 use crate::cut_text::CutText;
 use crate::known_document::part_from;
 use yq_documents::{Path, rows_to};
 use yq_outline::Stretch;
-use yq_places::{RowLine, row_line_along};
+use yq_places::{RowLine, is_text, row_line_along};
+use yq_row_walk::Walk;
 
 impl<'d, 't> CutText<'d, 't> {
-    /// The rows of document `doc`, counted from 0, if there is one.
+    /// Where the rows of document `doc`, counted from 0, begin and end, if there is one.
     #[inline(always)]
-    pub fn stretch(&self, doc: usize) -> Option<Stretch>
-        ensures place { option_map stretch_view result ≡
-            spec.document_row_range doc (cut_of self.now) }
-        ensures sound { all_documents (cut_of self.now) ≡ true }
+    fn stretch(&self, doc: usize) -> Option<Stretch>
+        ensures { option_map stretch_view result ≡ spec.document_row_range doc (cut_of self.now) }
     {
-        let _whole = self.whole();
         let rows = self.rows();
         if let Some(known) = self.rows_known(doc) {
             return Some(known);
@@ -31,14 +30,31 @@ impl<'d, 't> CutText<'d, 't> {
         })
     }
 
+    /// The rows of document `doc`, counted from 0, if there is one, with what is known of them.
+    #[inline(always)]
+    pub fn walk(&self, doc: usize) -> Option<Walk<'_, 't>>
+        ensures place { option_map walked_rows result ≡ spec.document_row_range doc (cut_of self.now) }
+        ensures cut { IfSome result (λ w. spec.HasCut self.now w.rows.now) }
+        ensures walk { IfSome result IsWalk }
+        ensures utf8 { IsUtf8 self.now }
+    {
+        is_text(self.text);
+        let document = self.stretch(doc)?;
+        Some(Walk {
+            rows: self.rows(),
+            document,
+            known: self.known(),
+            line: self.line(),
+        })
+    }
+
     /// The line of the entry or item at a path, if one of a row is.
     pub(crate) fn row_line(&self, path: &Path) -> Option<RowLine>
         ensures { option_map line_view result ≡
             option_map (numbers (document_row path.now.doc (cut_of self.now)))
             (row_line_at path.now (cut_of self.now)) }
     {
-        let document = self.stretch(path.doc)?;
-        let _whole = self.whole();
-        row_line_along(self.rows(), document, self.known(), &path.steps)
+        let walk = self.walk(path.doc)?;
+        row_line_along(walk, &path.steps)
     }
 }

@@ -1,6 +1,6 @@
 use Rattle.std.proofs.Common.{◌≡◌, length, map}
 use Rattle.yq_core.specs.Entries.{tree_step}
-use Rattle.yq_places.proofs.places.known_line.are_same.Given as goal
+use Rattle.yq_row_walk.proofs.known_line.are_same.Given as goal
 
 abbrev pub decreases-steps : goal.decreases-steps
 decreases-steps l = length l.left
