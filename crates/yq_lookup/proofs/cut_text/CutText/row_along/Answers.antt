@@ -1,6 +1,6 @@
 use Rattle.std.{proofs.Common.{map, subst}, proofs.lemmas.Option.IfSome_then, specs.Prelude.IfSome}
 use Rattle.yq_core.specs.Entries.{tree_step}
-use Rattle.yq_documents.{specs.Located.steps_of}
+use Rattle.yq_documents.specs.Located.{steps_of}
 use Rattle.yq_places.proofs.HeldRowLaws.{held_row_is, line_in}
 use Rattle.yq_row_walk.specs.Walk.{IsLineAt}
 use Rattle.yq_lookup.proofs.CutRows.{items_agree, items_known, walk_found}

@@ -1,5 +1,5 @@
 use Rattle.yq_places.proofs.PieceExists.{contents_exist, entries_exist}
-use Rattle.yq_lookup.proofs.laws.piece_laws.pieces_exist.Goals as goal
+use Rattle.yq_lookup.proofs.laws.pieces_exist.Goals as goal
 
 pub returns-clause-contents : goal.returns-clause-contents
 returns-clause-contents c = contents_exist
