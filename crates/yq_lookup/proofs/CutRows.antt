@@ -1,14 +1,13 @@
 -- The rows of a text with its cut, and what is known of them.
-use Rattle.std.{proofs.Common.{◌≡◌, ℕ, ◌<◌, List, length, sym, ap, subst, arith}, proofs.lemmas.List.length-map}
-use Rattle.std.specs.Prelude.{IfSome, Option}
-use Rattle.yq_row_table.{specs.Grammar.IsCut, specs.View.{RowsView, rows_of, rows_view, slices}}
-use Rattle.yq_documents.specs.Reading.{cut_of}
-use Rattle.yq_outline.{specs.declared.line_position.KnownItem.KnownItem, specs.Extents.IsRowsView, specs.RowWalk.AreKnown}
+use Rattle.std.{proofs.Common.{◌≡◌, ℕ, ◌<◌, List, length, Option, Some, sym, ap, subst, arith}, proofs.lemmas.List.length-map}
+use Rattle.std.{specs.List.slice_get, specs.Prelude.IfSome}
+use Rattle.yq_core.specs.Answers.{◌>>=◌}
+use Rattle.yq_row_table.{specs.Rows.{Cut, Row}, specs.View.{RowsView, rows_of, rows_view, slices}}
+use Rattle.yq_documents.{specs.Documents.document_parts, specs.LinesInRows.document_row, specs.Reading.cut_of}
+use Rattle.yq_outline.{specs.declared.line_position.KnownItem.KnownItem, specs.RowWalk.{AreKnown, stretch_view}}
+use Rattle.yq_places.{specs.RowWalk.{HasCut, InCut, document_row_range}, proofs.WalkDocuments.{Found, found_document, place_found}}
 use Rattle.yq_lookup.{specs.KnownDocuments.AreKnownDocuments, specs.declared.known_document.KnownDocuments.KnownDocuments}
-use Rattle.yq_places.{specs.declared.places.known_line.KnownLine.KnownLine, specs.RowWalk.IsKnownLine}
-
-pub rows_are_view : (t : List ℕ) (s : RowsView) → IsCut t (cut_of t) → s ≡ rows_view (cut_of t) → IsRowsView s
-rows_are_view t s cut rows = record { cut = cut_of t; is = rows; size = omega (arith, ap length cut.text, cut.size) }
+use Rattle.yq_row_walk.{specs.declared.walk.KnownLine.KnownLine, specs.declared.walk.Walk.Walk, specs.Walk.IsKnownLine}
 
 pub row_within : (t : List ℕ) (s : RowsView) (i : ℕ) → s ≡ rows_view (cut_of t) → i < length (rows_of (cut_of t)) → i < length s.rows
 row_within t s i rows h = omega (arith, h, ap (λ (x : RowsView). length x.rows) rows, length-map (rows_of (cut_of t)) slices)
@@ -28,3 +27,13 @@ items_agree t s ks rows h = subst (λ (x : RowsView). AreKnown x.rows ks) rows h
 
 pub line_agrees : (t : List ℕ) (s : RowsView) (o : Option KnownLine) → s ≡ rows_view (cut_of t) → IfSome o (IsKnownLine s) → IfSome o (IsKnownLine (rows_view (cut_of t)))
 line_agrees t s o rows h = subst (λ (x : RowsView). IfSome o (IsKnownLine x)) rows h
+
+-- the document of what is walked
+pub walk_found : (t : List ℕ) (n : ℕ) (w : Walk) → HasCut t w.rows.now → Some (stretch_view w.document) ≡ document_row_range n (cut_of t) → Found w.rows.now (cut_of t) n w.document
+walk_found t n w h e = found_document t w.rows.now (cut_of t) n w.document h.cut h.rows e h.sound
+
+-- a place in it
+pub walk_place : {A : Type 0} (t : List ℕ) (n : ℕ) (w : Walk) (found : Option A) (place : ℕ → Cut → List Row → Option A) → HasCut t w.rows.now → Some (stretch_view w.document) ≡ document_row_range n (cut_of t) →
+    ((k : InCut w.rows.now w.document (cut_of t)) → found ≡ place w.document.first (cut_of t) k.document.stand.rows) →
+    found ≡ (slice_get (document_parts (cut_of t)) n >>= λ p. place (document_row n (cut_of t)) (cut_of t) p.rows)
+walk_place t n w found place h e agrees = place_found t w.rows.now (cut_of t) n w.document found place h.cut h.rows e h.sound agrees

@@ -2,7 +2,8 @@
 use Rattle.std.{specs.Prelude.{ℕ, true, false, IfSome, List, Option, Vec}, specs.declared.alloc.Global.Global}
 use Rattle.yq_row_table.{specs.Rows.Cut, specs.Touched.TouchesOnly, specs.View.{RowsView, Slices, rows_view}}
 use Rattle.yq_outline.{specs.RowWalk.AreKnown, specs.declared.line_position.KnownItem.KnownItem}
-use Rattle.yq_places.{specs.RowWalk.IsKnownLine, specs.StepReading.IsSearched, specs.declared.places.known_line.KnownLine.KnownLine}
+use Rattle.yq_places.specs.StepReading.{IsSearched}
+use Rattle.yq_row_walk.{specs.Walk.IsKnownLine, specs.declared.walk.KnownLine.KnownLine}
 use Rattle.yq_lookup.{specs.KnownDocuments.AreKnownDocuments, specs.declared.knowledge.Knowledge.Knowledge}
 use Rattle.yq_lookup.specs.declared.knowledge.StepSearches.{StepSearches}
 

@@ -4,7 +4,8 @@ ghost use Rattle.yq_text.specs.Halves.{whole};
 ghost use Rattle.yq_row_table.{specs.Grammar.IsCut, specs.View.rows_view};
 ghost use Rattle.yq_documents.specs.Reading.{all_documents, cut_of, read_at};
 ghost use Rattle.yq_outline.specs.RowWalk.{AreKnown, stretch_view};
-ghost use Rattle.yq_places.specs.RowWalk.{HasCut, IsKnownLine, document_row_range};
+ghost use Rattle.yq_places.specs.RowWalk.{HasCut, document_row_range};
+ghost use Rattle.yq_row_walk.specs.Walk.{IsKnownLine};
 ghost use Rattle.yq_lookup.specs.Knowledge.{AreKnownInRows, AreSearches, IsKnowledge};
 ghost use Rattle.yq_lookup.specs.KnownDocuments.{AreKnownDocuments, IsKnownStretch, AreKnownInText};
 
@@ -15,8 +16,9 @@ use std::marker::Model;
 use std::mem;
 use yq_documents::Documents;
 use yq_outline::{KnownItem, Stretch};
-use yq_places::{KnownLine, is_text};
+use yq_places::is_text;
 use yq_row_table::Rows;
+use yq_row_walk::KnownLine;
 use yq_text::Halves;
 
 /// A text that reads as documents, with its cut. It is known by its text.
@@ -182,8 +184,8 @@ impl<'d, 't> CutText<'d, 't> {
     }
 
     /// The rows of the text, and where its parts end.
-    pub fn rows(&self) -> &'d Rows<'t>
-        ensures { result.now ≡ rows_view (cut_of self.now) }
+    pub(crate) fn rows(&self) -> &'d Rows<'t>
+        ensures { HasCut self.now result.now }
     {
         self.rows
     }
@@ -196,7 +198,7 @@ impl<'d, 't> CutText<'d, 't> {
     }
 
     /// The items that are known.
-    pub fn known(&self) -> &[KnownItem]
+    pub(crate) fn known(&self) -> &[KnownItem]
         ensures { AreKnown (rows_view (cut_of self.now)).rows result.now }
     {
         match &self.known {

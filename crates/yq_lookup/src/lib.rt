@@ -3,15 +3,19 @@
 
 mod cut_text;
 mod knowledge;
+mod known_at;
 mod known_document;
 mod laws;
-mod places;
+mod node_at;
+mod removal;
+mod spans;
+mod standing;
+mod walks;
 
 pub use cut_text::CutText;
 pub use knowledge::{Knowledge, StepSearches};
 pub use known_document::{KnownDocument, KnownDocuments};
-pub use laws::path_laws::comments_stand;
-pub use laws::piece_laws::{contents_spell, entries_spell, pieces_exist, pieces_hold};
+pub use laws::{comments_stand, contents_spell, entries_spell, pieces_exist, pieces_hold};
 pub use yq_places::{
     BlockRoot, Compact, EntryMark, FirstRemoval, FlowHead, Held, HeldRow, LinesAbove, Lone, NoRows,
     NodeAt, Removal, Seam, Standing, collection_along, split_break,

@@ -1,11 +1,9 @@
 -- The items and entries of a node that a text lends, as those of its tree.
-use Rattle.std.proofs.Common.{◌≡◌, ℕ, suc, Bool, true, false, cond, List, Option, Some, None, option_map, refl, sym, ap, ◌∙◌}
-use Rattle.yq_core.{specs.Entries.{PlacedEntry, flow_part_at}, specs.Paths.{Step, is_here, further}}
-use Rattle.yq_core.specs.Places.{Placed, Parts, end, part}
-use Rattle.yq_core.specs.Tree.{Label, Node, alias, scalar, list, map, Children, none, child, key_label, anchor_of}
-use Rattle.yq_core.{specs.Trees.{parts_tree, placed_tree, unplaced_key}, proofs.BorrowedNames.IsUnnamed}
-use Rattle.yq_outline.{specs.Counts.count, specs.Labelled.{Labelled, labelled_at}, specs.Outline.{anchored, first_anchor}}
-use Rattle.yq_outline.proofs.NodeLaws.{first_none}
+use Rattle.std.proofs.Common.{◌≡◌, ℕ, Bool, true, false, cond, List, Option, Some, None, option_map, refl, sym, ap, ◌∙◌}
+use Rattle.yq_core.{specs.Entries.{PlacedEntry, flow_part_at}, specs.Paths.{Step, is_here, further}, specs.Places.{Parts, end, part}}
+use Rattle.yq_core.{specs.Tree.{Node, alias, scalar, list, map, key_label, anchor_of}, specs.Trees.{parts_tree, placed_tree, unplaced_key}}
+use Rattle.yq_core.proofs.BorrowedNames.{IsUnnamed}
+use Rattle.yq_outline.{specs.Labelled.{Labelled, labelled_at}, specs.Outline.{anchored, first_anchor}, proofs.NodeLaws.first_none}
 use Rattle.yq_nodes.specs.Nodes.{labelled_of}
 use Rattle.yq_nodes.specs.declared.nodes.node.Node as declared
 

@@ -13,12 +13,13 @@ use Rattle.yq_outline.{specs.declared.line_position.Position.Position, specs.dec
 use Rattle.yq_documents.{specs.LinesInRows.row_line_of, specs.Reading.{all_documents, cut_of}, specs.RowReading.is_block_head}
 use Rattle.yq_documents.proofs.HeadLaws.{block_marks}
 use Rattle.yq_places.{specs.CommentPlaces.text_to_line_end, specs.PlacedRows.{PlacedPart, placed_document}}
-use Rattle.yq_places.{specs.RowPieces.{anchor_before, space_before}, specs.RowWalk.{IsLineAt, document_row_range}}
+use Rattle.yq_places.{specs.RowPieces.{anchor_before, space_before}, specs.RowWalk.document_row_range}
 use Rattle.yq_places.specs.Standings.{RowsOfEntry, before_entry, entry_rows_at, held, rows_of_entry}
 use Rattle.yq_places.{specs.StandingReading.{AreRowsOf, numbers_of_entry}, specs.StandingViews.{IsHeldRow, IsLastOf}}
 use Rattle.yq_places.{specs.declared.places.held_row.HeldRow.HeldRow, proofs.EntryNumbers.{FoundEntry, entry_found, entry_row_agrees}}
 use Rattle.yq_places.{proofs.EntryRowLaws.{first_at, head_ends, pieces_at}, proofs.HeldTexts.line_is, proofs.RowHeads.slices_are}
 use Rattle.yq_places.{proofs.RowStarts.head_is, proofs.WalkDocuments.place_found}
+use Rattle.yq_row_walk.specs.Walk.{IsLineAt}
 
 -- what the code tells of a row in which a line is the last one
 pub last_of : (c : Cut) (s : RowsView) (q : Position) (r : Row) (x : HeldRow) (y : Slices) → s ≡ rows_view c → slice_get s.rows q.row ≡ Some y → slice_get (rows_of c) q.row ≡ Some r →

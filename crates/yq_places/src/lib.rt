@@ -15,7 +15,6 @@ pub use places::held::{EntryMark, Held, held_in};
 pub use places::held_row::{HeldRow, row_of_last};
 pub use places::known_at::{keep_in_front, known_along, line_known, put_item};
 pub use places::known_end::known_end;
-pub use places::known_line::KnownLine;
 pub use places::lines_above::{LinesAbove, above};
 pub use places::node_at::{NodeAt, block_node, head_node};
 pub use places::node_place::{node_place, place_line};

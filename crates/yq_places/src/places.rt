@@ -12,7 +12,6 @@ pub mod held;
 pub mod held_row;
 pub mod known_at;
 pub mod known_end;
-pub mod known_line;
 pub mod lines_above;
 mod lines_cut;
 pub mod node_at;

@@ -4,3 +4,4 @@ pub use Rattle.yq_outline.specs.Places
 pub use Rattle.yq_outline.specs.Positions
 pub use Rattle.yq_outline.specs.Comments
 pub use Rattle.yq_outline.specs.View
+pub mod Walk

@@ -1,10 +1,12 @@
 //! The item of a row, counted from one that is known.
 ghost use Rattle.std.specs.Prelude.{◌≡◌, ◌<◌, ◌≤◌, ◌+◌, length, IfSome, if◌then◌else◌};
-ghost use Rattle.yq_outline.{specs.Extents.IsRowsView, specs.RowWalk.{AreKnown, HasDocument, IsKnown}};
+ghost use Rattle.yq_outline.{specs.Extents.IsRowsView, specs.RowWalk.IsKnown};
+ghost use Rattle.yq_row_walk.specs.Walk.{IsWalk};
 
 use crate::known_item::known_among;
 use crate::position::level_at;
-use yq_outline::{KnownItem, Position, Stretch};
+use crate::walk::Walk;
+use yq_outline::{KnownItem, Position};
 use yq_row_table::Rows;
 
 /// The first item among the lines from one on that are deeper than a level, as one that is known.
@@ -94,30 +96,21 @@ fn known_back(rows: &Rows<'_>, known: KnownItem, row: usize) -> Option<KnownItem
 /// The item of a row among the lines from one on that are deeper than a level, as one that is known.
 /// The rows are counted from the known item on or back to it, or from the first one on.
 #[inline(always)]
-pub fn known_to(
-    rows: &Rows<'_>,
-    document: Stretch,
-    known: &[KnownItem],
-    under: Position,
-    floor: usize,
-    row: usize,
-) -> Option<KnownItem>
-    requires rows_view { IsRowsView rows.now }
-    requires document { HasDocument rows.now document }
-    requires known { AreKnown rows.now.rows known.now }
+pub fn known_to(walk: Walk<'_, '_>, under: Position, floor: usize, row: usize) -> Option<KnownItem>
+    requires walk { IsWalk walk }
     requires order { under.row < row }
-    requires within { row < length rows.now.rows }
-    ensures known { IfSome result (IsKnown rows.now.rows) }
+    requires within { row < length walk.rows.now.rows }
+    ensures known { IfSome result (IsKnown walk.entry.rows.now.rows) }
     ensures row { IfSome result (λ k. k.row ≡ row) }
 {
-    if let Some(known) = known_among(rows, document, known, under, floor) {
+    if let Some(known) = known_among(walk, under, floor) {
         if known.row <= row {
-            return known_further(rows, known, row);
+            return known_further(walk.rows, known, row);
         }
         if known.row - row <= row - under.row {
-            return known_back(rows, known, row);
+            return known_back(walk.rows, known, row);
         }
     }
-    let first = first_known(rows, under, floor)?;
-    known_further(rows, first, row)
+    let first = first_known(walk.rows, under, floor)?;
+    known_further(walk.rows, first, row)
 }

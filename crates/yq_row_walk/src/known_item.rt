@@ -1,9 +1,11 @@
 //! Items and entries that are known, from which a walk over the rows of a collection goes on.
 ghost use Rattle.std.specs.Prelude.{◌≡◌, ◌<◌, ◌≤◌, ◌+◌, length, IfSome, IsTrue};
-ghost use Rattle.yq_outline.{specs.Extents.IsRowsView, specs.RowWalk.{AreKnown, GoesOn, HasDocument, IsKnownIn, IsKnown, IsPosition}};
+ghost use Rattle.yq_outline.{specs.Extents.IsRowsView, specs.RowWalk.{GoesOn, IsKnownIn, IsKnown}};
+ghost use Rattle.yq_row_walk.specs.Walk.{IsWalk, IsWalkItem, IsWalkPosition};
 
 use crate::position::level_at;
-use yq_outline::{KnownItem, Position, Stretch};
+use crate::walk::Walk;
+use yq_outline::{KnownItem, Position};
 use yq_row_table::Rows;
 
 /// Whether an item is known among the lines from one on that are deeper than a level.
@@ -17,20 +19,13 @@ fn is_among(known: KnownItem, under: Position, floor: usize) -> bool
 
 /// The item that is known among the lines of a document from one on that are deeper than a level.
 #[inline(always)]
-pub fn known_among(
-    rows: &Rows<'_>,
-    document: Stretch,
-    known: &[KnownItem],
-    under: Position,
-    floor: usize,
-) -> Option<KnownItem>
-    requires known { AreKnown rows.now.rows known.now }
-    ensures { IfSome result (IsKnownIn rows.now.rows under floor document.end) }
+pub fn known_among(walk: Walk<'_, '_>, under: Position, floor: usize) -> Option<KnownItem>
+    requires { IsWalk walk }
+    ensures { IfSome result (IsWalkItem walk.entry under floor) }
 {
-    let _rows = rows;
-    let mut rest = known;
+    let mut rest = walk.known;
     'items: while let [item, others @ ..] = rest {
-        if is_among(*item, under, floor) && item.row < document.end {
+        if is_among(*item, under, floor) && item.row < walk.document.end {
             return Some(*item);
         }
         rest = others;
@@ -76,56 +71,44 @@ pub fn item_before(rows: &Rows<'_>, known: KnownItem) -> Option<KnownItem>
 
 /// The item that is known, or one before it, if the way to an item from there is no longer.
 #[inline(always)]
-fn known_for(
-    rows: &Rows<'_>,
-    document: Stretch,
-    known: &[KnownItem],
-    under: Position,
-    floor: usize,
-    index: usize,
-) -> Option<KnownItem>
-    requires rows_view { IsRowsView rows.now }
-    requires document { HasDocument rows.now document }
-    requires known { AreKnown rows.now.rows known.now }
-    ensures known { IfSome result (IsKnownIn rows.now.rows under floor document.end) }
+fn known_for(walk: Walk<'_, '_>, under: Position, floor: usize, index: usize) -> Option<KnownItem>
+    requires { IsWalk walk }
+    ensures known { IfSome result (IsWalkItem walk.entry under floor) }
     ensures index { IfSome result (λ k. k.index ≤ index) }
 {
-    let known = known_among(rows, document, known, under, floor)?;
+    let known = known_among(walk, under, floor)?;
     if known.index <= index {
         return Some(known);
     }
     if known.index - index > index {
         return None;
     }
-    item_back(rows, known, index)
+    item_back(walk.rows, known, index)
 }
 
 /// Where the walk to an item begins, among the lines from one on that are deeper than a level, and the
 /// index of the item from there on.
 #[inline(always)]
 pub fn walk_begin(
-    rows: &Rows<'_>,
-    document: Stretch,
-    known: &[KnownItem],
+    walk: Walk<'_, '_>,
     under: Position,
     floor: usize,
     index: usize,
 ) -> (Position, usize)
-    requires rows_view { IsRowsView rows.now }
-    requires document { HasDocument rows.now document }
-    requires known { AreKnown rows.now.rows known.now }
-    requires under { IsPosition rows.now document under }
-    ensures position { IsPosition rows.now document result.0 }
-    ensures found { GoesOn rows.now document floor under index result.0 result.1 }
+    requires walk { IsWalk walk }
+    requires under { IsWalkPosition walk under }
+    ensures position { IsWalkPosition walk.entry result.0 }
+    ensures found { GoesOn walk.entry.rows.now walk.entry.document floor under index
+        result.0 result.1 }
 {
-    let Some(known) = known_for(rows, document, known, under, floor, index) else {
+    let Some(known) = known_for(walk, under, floor, index) else {
         return (under, index);
     };
     let at = Position {
         row: known.row,
         line: 0,
     };
-    if level_at(rows, at) > known.level {
+    if level_at(walk.rows, at) > known.level {
         return (under, index);
     }
     (at, index - known.index)

@@ -1,14 +1,15 @@
 //! The entry of a key, looked for on both sides of an entry that is known.
 ghost use Rattle.std.specs.Prelude.{◌<◌, ◌≤◌, length, IfSome, Some};
-ghost use Rattle.yq_outline.specs.Extents.{IsRowsView};
-ghost use Rattle.yq_outline.specs.RowWalk.{AreKnown, Finds, HasDocument, HaveKeys, IsKnownIn, IsKnown, IsLine, IsPosition};
+ghost use Rattle.yq_outline.{specs.Extents.IsRowsView, specs.RowWalk.{IsKnownIn, IsKnown}};
+ghost use Rattle.yq_row_walk.specs.Walk.{HaveWalkKeys, IsWalk, IsWalkItem, IsWalkLine, IsWalkPosition, WalkFinds};
 ghost use Rattle.yq_core.specs.Paths as steps;
 
 use crate::known_count::counted;
 use crate::known_item::{item_before, known_among};
 use crate::position::level_at;
 use crate::position_marks::is_key;
-use yq_outline::{KnownItem, Position, Stretch};
+use crate::walk::Walk;
+use yq_outline::{KnownItem, Position};
 use yq_row_table::Rows;
 
 /// The item after one that is known, before the row where a document ends.
@@ -40,27 +41,24 @@ fn item_behind(rows: &Rows<'_>, known: KnownItem, end: usize) -> Option<KnownIte
 /// The line of an entry that is known among the lines of a document from one on that are deeper than a
 /// level, if its key is this one.
 fn keyed(
-    rows: &Rows<'_>,
-    document: Stretch,
+    walk: Walk<'_, '_>,
     under: Position,
     floor: usize,
     known: KnownItem,
     key: &str,
 ) -> Option<Position>
-    requires rows_view { IsRowsView rows.now }
-    requires document { HasDocument rows.now document }
-    requires under { IsPosition rows.now document under }
-    requires keys { HaveKeys rows.now document under floor }
-    requires known { IsKnownIn rows.now.rows under floor document.end known }
-    ensures within { IfSome result (IsLine rows.now document) }
-    ensures found { IfSome result (λ q.
-        Finds rows.now document under floor (steps.To key.now) (Some q)) }
+    requires walk { IsWalk walk }
+    requires under { IsWalkPosition walk under }
+    requires keys { HaveWalkKeys walk under floor }
+    requires known { IsWalkItem walk under floor known }
+    ensures within { IfSome result (IsWalkLine walk.entry) }
+    ensures found { IfSome result (λ q. WalkFinds walk.entry under floor (steps.To key.now) (Some q)) }
 {
     let at = Position {
         row: known.row,
         line: 0,
     };
-    if level_at(rows, at) != known.level || !is_key(rows, document, at, key) {
+    if level_at(walk.rows, at) != known.level || !is_key(walk.rows, walk.document, at, key) {
         return None;
     }
     Some(at)
@@ -68,39 +66,29 @@ fn keyed(
 
 /// The line of a key's entry among the lines of a document from one on that are deeper than a level,
 /// where one of them is known: it is looked for one by one on both sides, the nearest ones first.
-pub fn key_near(
-    rows: &Rows<'_>,
-    document: Stretch,
-    known: &[KnownItem],
-    under: Position,
-    floor: usize,
-    key: &str,
-) -> Option<Position>
-    requires rows_view { IsRowsView rows.now }
-    requires document { HasDocument rows.now document }
-    requires known { AreKnown rows.now.rows known.now }
-    requires under { IsPosition rows.now document under }
-    requires keys { HaveKeys rows.now document under floor }
-    ensures within { IfSome result (IsLine rows.now document) }
-    ensures found { IfSome result (λ q.
-        Finds rows.now document under floor (steps.To key.now) (Some q)) }
+pub fn key_near(walk: Walk<'_, '_>, under: Position, floor: usize, key: &str) -> Option<Position>
+    requires walk { IsWalk walk }
+    requires under { IsWalkPosition walk under }
+    requires keys { HaveWalkKeys walk under floor }
+    ensures within { IfSome result (IsWalkLine walk.entry) }
+    ensures found { IfSome result (λ q. WalkFinds walk.entry under floor (steps.To key.now) (Some q)) }
 {
-    let mut ahead = known_among(rows, document, known, under, floor);
+    let mut ahead = known_among(walk, under, floor);
     let mut back = ahead;
-    'entries: for _ in document.first..document.end {
+    'entries: for _ in walk.document.first..walk.document.end {
         if let Some(known) = ahead {
-            let at = keyed(rows, document, under, floor, known, key);
+            let at = keyed(walk, under, floor, known, key);
             if at.is_some() {
                 return at;
             }
-            ahead = item_behind(rows, known, document.end);
+            ahead = item_behind(walk.rows, known, walk.document.end);
         }
         if let Some(known) = back {
-            let at = keyed(rows, document, under, floor, known, key);
+            let at = keyed(walk, under, floor, known, key);
             if at.is_some() {
                 return at;
             }
-            back = item_before(rows, known);
+            back = item_before(walk.rows, known);
         }
         if ahead.is_none() && back.is_none() {
             return None;

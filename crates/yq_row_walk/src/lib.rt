@@ -5,10 +5,12 @@ mod extent;
 mod known_count;
 mod known_item;
 mod known_key;
+mod known_line;
 mod position;
 mod position_find;
 mod position_marks;
 mod position_reach;
+mod walk;
 mod written_key;
 
 pub use extent::{dash_at, front_len, head_place, lines_before_mark, row_len, row_start};
@@ -18,3 +20,4 @@ pub use position::{behind, is_deeper, level_at, line_column, next, rank_at, rows
 pub use position_find::{find_item, find_key, find_step};
 pub use position_marks::{has_head, is_bare, is_item_at, is_key};
 pub use position_reach::{begins_with_node, line_at, next_at, reach};
+pub use walk::{KnownLine, Walk};

@@ -2,15 +2,18 @@
 ghost use Rattle.std.specs.Prelude.{◌≡◌, ◌∷◌, map, option_map, IfSome, IsTrue, Some};
 ghost use Rattle.yq_core.specs.Entries.{tree_step};
 ghost use Rattle.yq_outline.{specs.Ends.{line_at_steps, part, reached}, specs.Lines.lines_of_rows, specs.Extents.IsRowsView};
-ghost use Rattle.yq_outline.specs.RowWalk.{AreKnown, HasDocument, HasRows, HaveKeys, IsLine, IsPosition, LeadsTo, line_number};
+ghost use Rattle.yq_outline.specs.RowWalk.{HasRows, IsLine, IsPosition, LeadsTo, line_number};
+ghost use Rattle.yq_row_walk.specs.Walk.{HaveWalkKeys, IsWalk, IsWalkLine, IsWalkPosition, OfWalkRows, WalkLeads};
 ghost use Rattle.yq_outline.specs.Positions as positions;
 ghost use Rattle.yq_outline.specs.RowWalk as spec;
 
+use crate::known_line::if_along;
 use crate::position::{is_deeper, level_at, next};
 use crate::position_find::find_step;
 use crate::position_marks::{has_head, is_bare};
+use crate::walk::Walk;
 use yq_core::Step;
-use yq_outline::{KnownItem, Next, Position, Stretch};
+use yq_outline::{Next, Position, Stretch};
 use yq_row_table::Rows;
 
 /// Whether the first of the lines from one on that are deeper than a level is a node itself.
@@ -32,104 +35,69 @@ pub fn begins_with_node(rows: &Rows<'_>, document: Stretch, under: Position, flo
 
 /// Where a step leads among the lines from one on that are deeper than a level.
 #[inline(always)]
-fn next_in(
-    rows: &Rows<'_>,
-    document: Stretch,
-    known: &[KnownItem],
-    under: Position,
-    floor: usize,
-    step: &Step,
-) -> Option<Next>
-    requires rows_view { IsRowsView rows.now }
-    requires document { HasDocument rows.now document }
-    requires known { AreKnown rows.now.rows known.now }
-    requires under { IsPosition rows.now document under }
-    requires keys { HaveKeys rows.now document under floor }
-    ensures within { IfSome result (λ x. IsLine rows.now document (spec.next_position x)) }
-    ensures found { LeadsTo rows.now document
+fn next_in(walk: Walk<'_, '_>, under: Position, floor: usize, step: &Step) -> Option<Next>
+    requires walk { IsWalk walk }
+    requires under { IsWalkPosition walk under }
+    requires keys { HaveWalkKeys walk under floor }
+    ensures within { IfSome result (λ x. IsWalkLine walk.entry (spec.next_position x)) }
+    ensures found { LeadsTo walk.entry.rows.now walk.entry.document
         (λ ls n ss. positions.reach_in ls (n under) floor (tree_step step.now) ss)
         (tree_step step.now) result }
 {
-    if begins_with_node(rows, document, under, floor) {
+    if begins_with_node(walk.rows, walk.document, under, floor) {
         return Some(Next::Head(under));
     }
-    let at = find_step(rows, document, known, under, floor, step)?;
+    let at = find_step(walk, under, floor, step)?;
     Some(Next::Line(at))
 }
 
 /// Where a step leads from a line.
 #[inline(always)]
-fn next_from(
-    rows: &Rows<'_>,
-    document: Stretch,
-    known: &[KnownItem],
-    at: Position,
-    step: &Step,
-) -> Option<Next>
-    requires rows_view { IsRowsView rows.now }
-    requires document { HasDocument rows.now document }
-    requires known { AreKnown rows.now.rows known.now }
-    requires at { IsLine rows.now document at }
-    ensures within { IfSome result (λ x. IsLine rows.now document (spec.next_position x)) }
-    ensures found { LeadsTo rows.now document (λ ls n ss. positions.reach_from ls (Some (n at))
-        (tree_step step.now ∷ ss)) (tree_step step.now) result }
+fn next_from(walk: Walk<'_, '_>, at: Position, step: &Step) -> Option<Next>
+    requires walk { IsWalk walk }
+    requires at { IsWalkLine walk at }
+    ensures within { IfSome result (λ x. IsWalkLine walk.entry (spec.next_position x)) }
+    ensures found { WalkLeads walk.entry (Some at) step.now result }
 {
-    if has_head(rows, document, at) {
+    if has_head(walk.rows, walk.document, at) {
         return Some(Next::Head(at));
     }
-    let under = next(rows, document, at);
-    next_in(rows, document, known, under, level_at(rows, at), step)
+    let under = next(walk.rows, walk.document, at);
+    next_in(walk, under, level_at(walk.rows, at), step)
 }
 
 /// Where a step leads from a line, or from the root.
 #[inline(always)]
-pub fn next_at(
-    rows: &Rows<'_>,
-    document: Stretch,
-    known: &[KnownItem],
-    from: Option<Position>,
-    step: &Step,
-) -> Option<Next>
-    requires rows_view { IsRowsView rows.now }
-    requires document { HasDocument rows.now document }
-    requires known { AreKnown rows.now.rows known.now }
-    requires from { IfSome from (IsLine rows.now document) }
-    ensures within { IfSome result (λ x. IsLine rows.now document (spec.next_position x)) }
-    ensures found { LeadsTo rows.now document (λ ls n ss. positions.reach_from ls (option_map n from)
-        (tree_step step.now ∷ ss)) (tree_step step.now) result }
+pub fn next_at(walk: Walk<'_, '_>, from: Option<Position>, step: &Step) -> Option<Next>
+    requires walk { IsWalk walk }
+    requires from { IfSome from (IsWalkLine walk) }
+    ensures within { IfSome result (λ x. IsWalkLine walk.entry (spec.next_position x)) }
+    ensures found { WalkLeads walk.entry from step.now result }
 {
     match from {
-        Some(at) => next_from(rows, document, known, at, step),
+        Some(at) => next_from(walk, at, step),
         None => {
             let first = Position {
-                row: document.first,
+                row: walk.document.first,
                 line: 0,
             };
-            next_in(rows, document, known, first, 0, step)
+            next_in(walk, first, 0, step)
         }
     }
 }
 
-/// The line of a document to which steps lead, and the steps that go on in its head.
+/// The line of a document to which steps lead, and the steps that go on in its head, from the root on.
 #[inline(always)]
-pub fn reach<'s>(
-    rows: &Rows<'_>,
-    document: Stretch,
-    known: &[KnownItem],
-    steps: &'s [Step],
-) -> Option<(Position, &'s [Step])>
-    requires rows_view { IsRowsView rows.now }
-    requires document { HasDocument rows.now document }
-    requires known { AreKnown rows.now.rows known.now }
-    ensures within { IfSome result (λ x. IsLine rows.now document x.0) }
-    ensures found { (h : HasDocument rows.now document) →
-        option_map (spec.reached_view document h.stand.rows) result ≡
-        reached (map tree_step steps.now) (lines_of_rows h.stand.rows) }
+fn reach_by_steps<'s>(walk: Walk<'_, '_>, steps: &'s [Step]) -> Option<(Position, &'s [Step])>
+    requires { IsWalk walk }
+    ensures within { IfSome result (λ x. IsWalkLine walk.entry x.0) }
+    ensures found { OfWalkRows walk.entry (λ d rs. option_map (spec.reached_view d rs) result ≡
+        reached (map tree_step steps.now) (lines_of_rows rs)) }
 {
     let mut found = None;
     let mut left = steps;
     'steps: while let [step, others @ ..] = left {
-        match next_at(rows, document, known, found, step)? {
+        match next_at(walk, found, step)? {
             Next::Line(at) => found = Some(at),
             Next::Head(at) => return Some((at, left)),
         }
@@ -139,22 +107,28 @@ pub fn reach<'s>(
     Some((at, left))
 }
 
+/// The line of a document to which steps lead, and the steps that go on in its head.
+#[inline(always)]
+pub fn reach<'s>(walk: Walk<'_, '_>, steps: &'s [Step]) -> Option<(Position, &'s [Step])>
+    requires { IsWalk walk }
+    ensures within { IfSome result (λ x. IsWalkLine walk.entry x.0) }
+    ensures found { OfWalkRows walk.entry (λ d rs. option_map (spec.reached_view d rs) result ≡
+        reached (map tree_step steps.now) (lines_of_rows rs)) }
+{
+    match if_along(walk, steps) {
+        Some(at) => Some((at, &steps[steps.len()..])),
+        None => reach_by_steps(walk, steps),
+    }
+}
+
 /// The line of a document to which steps lead, where none go on in its head.
 #[inline(always)]
-pub fn line_at(
-    rows: &Rows<'_>,
-    document: Stretch,
-    known: &[KnownItem],
-    steps: &[Step],
-) -> Option<Position>
-    requires rows_view { IsRowsView rows.now }
-    requires document { HasDocument rows.now document }
-    requires known { AreKnown rows.now.rows known.now }
-    ensures within { IfSome result (IsLine rows.now document) }
-    ensures found { (h : HasDocument rows.now document) →
-        option_map (line_number document h.stand.rows) result ≡
-        line_at_steps (map tree_step steps.now) (lines_of_rows h.stand.rows) }
+pub fn line_at(walk: Walk<'_, '_>, steps: &[Step]) -> Option<Position>
+    requires { IsWalk walk }
+    ensures within { IfSome result (IsWalkLine walk.entry) }
+    ensures found { OfWalkRows walk.entry (λ d rs. option_map (line_number d rs) result ≡
+        line_at_steps (map tree_step steps.now) (lines_of_rows rs)) }
 {
-    let (at, left) = reach(rows, document, known, steps)?;
+    let (at, left) = reach(walk, steps)?;
     if left.is_empty() { Some(at) } else { None }
 }

@@ -94,9 +94,8 @@ pub(crate) fn flow_entry<'d, 't>(
         spec.flow_entry_at path.now (cut_of documents.now) }
 {
     let cut = CutText::of(documents);
-    let _whole = cut.whole();
-    let document = cut.stretch(path.doc)?;
-    let (at, left) = reach(cut.rows(), document, cut.known(), &path.steps)?;
+    let walk = cut.walk(path.doc)?;
+    let (at, left) = reach(walk, &path.steps)?;
     if left.is_empty() {
         return None;
     }

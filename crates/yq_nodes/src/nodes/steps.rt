@@ -9,7 +9,7 @@ use crate::nodes::flow::{entry_at, item_at};
 use crate::nodes::node::Node;
 use crate::nodes::under::Under;
 use yq_core::Step;
-use yq_row_walk::{find_item, find_key};
+use yq_row_walk::{Walk, find_item, find_key};
 
 /// The entry of a key among those of lines.
 fn line_entry<'d, 't>(under: Under<'d, 't>, key: &str) -> Option<Node<'d, 't>>
@@ -17,7 +17,13 @@ fn line_entry<'d, 't>(under: Under<'d, 't>, key: &str) -> Option<Node<'d, 't>>
         labelled_at (To key.now) (children (body_outline under.entry)) }
 {
     let (rows, document) = under.text.document_rows(under.document);
-    let at = find_key(rows, document, under.first, under.floor, key)?;
+    let walk = Walk {
+        rows,
+        document,
+        known: &[],
+        line: None,
+    };
+    let at = find_key(walk, under.first, under.floor, key)?;
     Some(Node::of_line(under.text, under.document, at))
 }
 
@@ -27,7 +33,13 @@ fn line_item<'d, 't>(under: Under<'d, 't>, index: usize) -> Option<Node<'d, 't>>
         labelled_at (Nth index) (children (body_outline under.entry)) }
 {
     let (rows, document) = under.text.document_rows(under.document);
-    let at = find_item(rows, document, &[], under.first, under.floor, index)?;
+    let walk = Walk {
+        rows,
+        document,
+        known: &[],
+        line: None,
+    };
+    let at = find_item(walk, under.first, under.floor, index)?;
     Some(Node::of_line(under.text, under.document, at))
 }
 

@@ -1,8 +1,8 @@
 //! Where the contents of nodes are outside flow collections.
 ghost use Rattle.std.specs.Prelude.{◌≡◌, map, option_map};
 ghost use Rattle.yq_core.specs.Entries.{tree_step};
-ghost use Rattle.yq_outline.{specs.Extents.IsRowsView, specs.RowWalk.{AreKnown, HasDocument, IsPosition, lines_stop}};
-ghost use Rattle.yq_outline.specs.Lines.{lines_of_rows};
+ghost use Rattle.yq_outline.{specs.Lines.lines_of_rows, specs.RowWalk.lines_stop};
+ghost use Rattle.yq_row_walk.specs.Walk.{IsWalk, IsWalkPosition};
 ghost use Rattle.yq_places.specs.RowWalk.{InEach};
 ghost use Rattle.yq_documents.specs.Pieces.{span};
 ghost use Rattle.yq_places.specs.EntryReading as spec;
@@ -13,54 +13,38 @@ use crate::places::node_place::{NodePlace, node_place};
 use crate::places::row_place::head_extent;
 use yq_core::Step;
 use yq_documents::Span;
-use yq_outline::{KnownItem, Position, Stretch};
-use yq_row_table::Rows;
-use yq_row_walk::{is_bare, is_deeper};
+use yq_outline::Position;
+use yq_row_walk::{Walk, is_bare, is_deeper};
 
 /// The place of the node that the lines mean, from one on, that are deeper than a level.
-fn lines_content(
-    rows: &Rows<'_>,
-    document: Stretch,
-    known: &[KnownItem],
-    from: Position,
-    floor: usize,
-) -> Option<Span>
-    requires rows_view { IsRowsView rows.now }
-    requires document { HasDocument rows.now document }
-    requires known { AreKnown rows.now.rows known.now }
-    requires from { IsPosition rows.now document from }
-    ensures { InEach rows.now document (λ first c rs n. option_map span result ≡
+fn lines_content(walk: Walk<'_, '_>, from: Position, floor: usize) -> Option<Span>
+    requires walk { IsWalk walk }
+    requires from { IsWalkPosition walk from }
+    ensures { InEach walk.entry (λ first c rs n. option_map span result ≡
         spec.lines_content first c rs (n from) (lines_stop (n from) floor (lines_of_rows rs))) }
 {
-    if !is_deeper(rows, document, from, floor) {
+    if !is_deeper(walk.rows, walk.document, from, floor) {
         return None;
     }
-    if is_bare(rows, document, from) {
-        return Some(head_extent(rows, from.row));
+    if is_bare(walk.rows, walk.document, from) {
+        return Some(head_extent(walk.rows, from.row));
     }
-    let to = behind_all(rows, document, known, from, floor);
-    Some(lines_place(rows, document, from, to))
+    let to = behind_all(walk, from, floor);
+    Some(lines_place(walk, from, to))
 }
 
 /// The place of the node to which steps lead, unless they go on in a head.
-pub fn content_of(
-    rows: &Rows<'_>,
-    document: Stretch,
-    known: &[KnownItem],
-    steps: &[Step],
-) -> Option<Span>
-    requires rows_view { IsRowsView rows.now }
-    requires document { HasDocument rows.now document }
-    requires known { AreKnown rows.now.rows known.now }
-    ensures { InEach rows.now document (λ first c rs n. option_map span result ≡
+pub fn content_of(walk: Walk<'_, '_>, steps: &[Step]) -> Option<Span>
+    requires { IsWalk walk }
+    ensures { InEach walk.entry (λ first c rs n. option_map span result ≡
         spec.line_content_of first c rs (map tree_step steps.now)) }
 {
-    let (place, left) = node_place(rows, document, known, None, steps)?;
+    let (place, left) = node_place(walk, steps)?;
     if !left.is_empty() {
         return None;
     }
     match place {
-        NodePlace::Head(at) => Some(head_extent(rows, at.row)),
-        NodePlace::Lines(from, floor) => lines_content(rows, document, known, from, floor),
+        NodePlace::Head(at) => Some(head_extent(walk.rows, at.row)),
+        NodePlace::Lines(from, floor) => lines_content(walk, from, floor),
     }
 }

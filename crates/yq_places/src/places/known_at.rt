@@ -1,15 +1,15 @@
 //! The items on the way of a path from which later walks may go on.
-ghost use Rattle.std.specs.Prelude.{◌≡◌, ◌≤◌, length, map, take, IfSome, IsTrue};
+ghost use Rattle.std.specs.Prelude.{◌≡◌, ◌≤◌, List, length, map, take, IfSome, IsTrue};
 ghost use Rattle.yq_core.specs.Entries.{tree_step};
-ghost use Rattle.yq_row_table.{specs.Rows.Cut, specs.View.rows_view};
-ghost use Rattle.yq_outline.{specs.Extents.IsRowsView, specs.RowWalk.{AreKnown, HasDocument, IsKnown, IsLine}};
-ghost use Rattle.yq_places.specs.RowWalk.{IsKnownLine, IsLineAt, StaysKnown, StayKnown};
+ghost use Rattle.yq_row_table.{specs.Rows.Cut, specs.View.{RowsView, Slices, rows_view}};
+ghost use Rattle.yq_outline.{specs.Extents.IsRowsView, specs.RowWalk.{AreKnown, IsKnown}};
+ghost use Rattle.yq_places.specs.RowWalk.{StaysKnown, StayKnown};
+ghost use Rattle.yq_row_walk.specs.Walk.{IsKnownLine, IsLineAt, IsWalk, IsWalkLine, IsWalkLineAt};
 
-use crate::places::known_line::KnownLine;
 use yq_core::Step;
 use yq_outline::{KnownItem, Next, Position, Stretch};
 use yq_row_table::Rows;
-use yq_row_walk::{item_before, known_to, level_at, next, next_at};
+use yq_row_walk::{KnownLine, Walk, item_before, known_to, level_at, next, next_at};
 
 /// Whether an item that is known is there already after so many others.
 #[inline(always)]
@@ -23,12 +23,10 @@ fn is_there(known: &[KnownItem], count: usize, item: KnownItem) -> bool {
 /// Puts an item that is known after so many others, in the place of all that come after these, unless it
 /// is there already; and gives how many come before the next one then. It isn't kept where memory runs out.
 #[inline(always)]
-pub fn put_item(rows: &Rows<'_>, known: &mut Vec<KnownItem>, count: usize, item: KnownItem) -> usize
-    requires known { AreKnown rows.now.rows known.old.items }
-    requires item { IsKnown rows.now.rows item }
-    ensures { AreKnown rows.now.rows known.new.items }
+pub fn put_item(known: &mut Vec<KnownItem>, count: usize, item: KnownItem) -> usize
+    ensures { (ss : List Slices) → AreKnown ss known.old.items → IsKnown ss item →
+        AreKnown ss known.new.items }
 {
-    let _rows = rows;
     if is_there(known.as_slice(), count, item) {
         return count.saturating_add(1);
     }
@@ -40,25 +38,20 @@ pub fn put_item(rows: &Rows<'_>, known: &mut Vec<KnownItem>, count: usize, item:
 /// The item or entry of a line under another one, or of the root, as one that is known, unless it
 /// begins in the row of the first one.
 #[inline(always)]
-fn known_by(
-    rows: &Rows<'_>,
-    document: Stretch,
-    known: &[KnownItem],
-    from: Option<Position>,
-    at: Position,
-) -> Option<KnownItem>
-    requires rows_view { IsRowsView rows.now }
-    requires document { HasDocument rows.now document }
-    requires known { AreKnown rows.now.rows known.now }
-    requires from { IfSome from (IsLine rows.now document) }
-    requires at { IsLine rows.now document at }
-    ensures known { IfSome result (IsKnown rows.now.rows) }
+fn known_by(walk: Walk<'_, '_>, from: Option<Position>, at: Position) -> Option<KnownItem>
+    requires walk { IsWalk walk }
+    requires from { IfSome from (IsWalkLine walk) }
+    requires at { IsWalkLine walk at }
+    ensures known { IfSome result (IsKnown walk.entry.rows.now.rows) }
 {
     let (under, floor) = match from {
-        Some(above) => (next(rows, document, above), level_at(rows, above)),
+        Some(above) => {
+            let under = next(walk.rows, walk.document, above);
+            (under, level_at(walk.rows, above))
+        }
         None => {
             let first = Position {
-                row: document.first,
+                row: walk.document.first,
                 line: 0,
             };
             (first, 0)
@@ -67,7 +60,7 @@ fn known_by(
     if under.row >= at.row {
         return None;
     }
-    known_to(rows, document, known, under, floor, at.row)
+    known_to(walk, under, floor, at.row)
 }
 
 /// Puts the items on the way of steps, one for each collection, in the place of the items that are known, as
@@ -75,26 +68,28 @@ fn known_by(
 /// head of one.
 #[inline(always)]
 pub fn known_along(
-    rows: &Rows<'_>,
-    document: Stretch,
+    walk: Walk<'_, '_>,
     known: &mut Vec<KnownItem>,
     steps: &[Step],
 ) -> (usize, Option<Position>)
-    requires rows_view { IsRowsView rows.now }
-    requires document { HasDocument rows.now document }
-    requires known { AreKnown rows.now.rows known.old.items }
-    ensures known { AreKnown rows.now.rows known.new.items }
-    ensures line { IfSome result.1 (IsLineAt rows.now document (map tree_step steps.now)) }
+    requires walk { IsWalk walk }
+    requires known { AreKnown walk.rows.now.rows known.old.items }
+    ensures known { AreKnown walk.entry.rows.now.rows known.new.items }
+    ensures line { IfSome result.1 (IsWalkLineAt walk.entry steps.now) }
 {
     let mut from = None;
     let mut count = 0;
     let mut left = steps;
     'steps: while let [step, others @ ..] = left {
-        let Some(Next::Line(at)) = next_at(rows, document, known.as_slice(), from, step) else {
+        let here = Walk {
+            known: known.as_slice(),
+            ..walk
+        };
+        let Some(Next::Line(at)) = next_at(here, from, step) else {
             return (count, None);
         };
-        if let Some(item) = known_by(rows, document, known.as_slice(), from, at) {
-            count = put_item(rows, known, count, item);
+        if let Some(item) = known_by(here, from, at) {
+            count = put_item(known, count, item);
         }
         from = Some(at);
         left = others;
@@ -105,15 +100,13 @@ pub fn known_along(
 /// The line to which steps lead, as one that is known.
 #[inline(always)]
 pub fn line_known<'s>(
-    rows: &Rows<'_>,
     document: Stretch,
     steps: &'s [Step],
     at: Option<Position>,
 ) -> Option<KnownLine<'s>>
-    requires line { IfSome at (IsLineAt rows.now document (map tree_step steps.now)) }
-    ensures { IfSome result (IsKnownLine rows.now) }
+    ensures { (s : RowsView) → IfSome at (IsLineAt s document (map tree_step steps.now)) →
+        IfSome result (IsKnownLine s) }
 {
-    let _rows = rows;
     let at = at?;
     Some(KnownLine {
         document,

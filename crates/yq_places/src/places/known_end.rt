@@ -1,64 +1,45 @@
 //! The end of a collection, looked for from an item that is known.
 ghost use Rattle.std.specs.Prelude.{◌≡◌, ◌⊎◌, ◌<◌, ◌≤◌, ◌+◌, length, IfSome};
-ghost use Rattle.yq_outline.{specs.Outline.level, specs.Extents.IsRowsView};
-ghost use Rattle.yq_outline.specs.RowWalk.{AreKnown, HasDocument, IsKnown, IsLine, IsPosition, OfLine, OfLines, lines_stop};
-ghost use Rattle.yq_places.specs.RowWalk.{IsKnownLine};
+ghost use Rattle.yq_outline.{specs.Outline.level, specs.Extents.IsRowsView, specs.RowWalk.{IsKnown, OfLine, lines_stop}};
+ghost use Rattle.yq_row_walk.specs.Walk.{IsWalk, IsWalkLine, IsWalkPosition, OfWalkLines, walk_end};
 ghost use Rattle.yq_outline.specs.RowWalk as spec;
 
-use crate::places::known_line::KnownLine;
 use crate::places::node_place::{NodePlace, node_place};
 use yq_core::Step;
 use yq_outline::{KnownItem, Position, Stretch};
 use yq_row_table::Rows;
-use yq_row_walk::{counted, first_known, known_among, level_at, rows_under};
+use yq_row_walk::{Walk, counted, first_known, known_among, level_at, rows_under};
 
 /// The row from which on the end is looked for, after a line, of lines that are deeper than a level, of which
 /// this is the first one: that of an item among them that is known, or the next one.
 #[inline(always)]
-fn search_row(
-    rows: &Rows<'_>,
-    document: Stretch,
-    known: &[KnownItem],
-    at: Position,
-    first: Position,
-    floor: usize,
-) -> usize
-    requires document { HasDocument rows.now document }
-    requires known { AreKnown rows.now.rows known.now }
-    requires at { IsLine rows.now document at }
+fn search_row(walk: Walk<'_, '_>, at: Position, first: Position, floor: usize) -> usize
+    requires walk { IsWalk walk }
+    requires at { IsWalkLine walk at }
     requires first { (first.row ≡ at.row) ⊎ ((first.row ≡ at.row + 1) × (first.line ≡ 0)) }
     ensures later { at.row < result }
-    ensures within { result ≤ document.end }
-    ensures value { spec.rows_end rows.now document floor result ≡
-        spec.rows_end rows.now document floor (at.row + 1) }
+    ensures within { result ≤ walk.entry.document.end }
+    ensures value { walk_end walk.entry floor result ≡ walk_end walk.entry floor (at.row + 1) }
 {
-    match known_among(rows, document, known, first, floor) {
+    match known_among(walk, first, floor) {
         Some(known) => known.row,
         None => at.row + 1,
     }
 }
 
 /// What is after the lines from one on that are deeper than a level, of which that is one.
-pub fn behind_all(
-    rows: &Rows<'_>,
-    document: Stretch,
-    known: &[KnownItem],
-    from: Position,
-    floor: usize,
-) -> Position
-    requires rows_view { IsRowsView rows.now }
-    requires document { HasDocument rows.now document }
-    requires known { AreKnown rows.now.rows known.now }
-    requires from { IsLine rows.now document from }
-    requires deeper { OfLine rows.now document from (λ l. floor < level l) }
-    ensures number { OfLines rows.now document (λ ls n. n result ≡ lines_stop (n from) floor ls) }
-    ensures position { IsPosition rows.now document result }
+pub fn behind_all(walk: Walk<'_, '_>, from: Position, floor: usize) -> Position
+    requires walk { IsWalk walk }
+    requires from { IsWalkLine walk from }
+    requires deeper { OfLine walk.rows.now walk.document from (λ l. floor < level l) }
+    ensures number { OfWalkLines walk.entry (λ ls n. n result ≡ lines_stop (n from) floor ls) }
+    ensures position { IsWalkPosition walk.entry result }
     ensures line { result.line ≡ 0 }
     ensures later { from.row < result.row }
 {
-    let begin = search_row(rows, document, known, from, from, floor);
+    let begin = search_row(walk, from, from, floor);
     Position {
-        row: rows_under(rows, begin, document.end, floor),
+        row: rows_under(walk.rows, begin, walk.document.end, floor),
         line: 0,
     }
 }
@@ -86,23 +67,14 @@ fn line_behind(document: Stretch, at: Position, last: usize) -> Position
 /// The row after those of a line of a level, in whose row so many come before the last one, and of the
 /// lines under it.
 #[inline(always)]
-pub fn row_behind(
-    rows: &Rows<'_>,
-    document: Stretch,
-    known: &[KnownItem],
-    at: Position,
-    last: usize,
-    floor: usize,
-) -> usize
-    requires rows_view { IsRowsView rows.now }
-    requires document { HasDocument rows.now document }
-    requires known { AreKnown rows.now.rows known.now }
-    requires at { IsLine rows.now document at }
-    ensures { result ≡ spec.rows_end rows.now document floor (at.row + 1) }
+pub fn row_behind(walk: Walk<'_, '_>, at: Position, last: usize, floor: usize) -> usize
+    requires walk { IsWalk walk }
+    requires at { IsWalkLine walk at }
+    ensures { result ≡ walk_end walk.entry floor (at.row + 1) }
 {
-    let first = line_behind(document, at, last);
-    let begin = search_row(rows, document, known, at, first, floor);
-    rows_under(rows, begin, document.end, floor)
+    let first = line_behind(walk.document, at, last);
+    let begin = search_row(walk, at, first, floor);
+    rows_under(walk.rows, begin, walk.document.end, floor)
 }
 
 /// The last row of the collection of an item that is known, before that where a document ends, as an
@@ -134,28 +106,19 @@ fn known_last(rows: &Rows<'_>, known: KnownItem, end: usize) -> KnownItem
 }
 
 /// The last row of the collection to which steps lead, if it is one of rows, as an item that is known.
-pub fn known_end(
-    rows: &Rows<'_>,
-    document: Stretch,
-    known: &[KnownItem],
-    line: Option<KnownLine<'_>>,
-    steps: &[Step],
-) -> Option<KnownItem>
-    requires rows_view { IsRowsView rows.now }
-    requires document { HasDocument rows.now document }
-    requires known { AreKnown rows.now.rows known.now }
-    requires line { IfSome line (IsKnownLine rows.now) }
-    ensures { IfSome result (IsKnown rows.now.rows) }
+pub fn known_end(walk: Walk<'_, '_>, steps: &[Step]) -> Option<KnownItem>
+    requires { IsWalk walk }
+    ensures { IfSome result (IsKnown walk.entry.rows.now.rows) }
 {
-    let (NodePlace::Lines(under, floor), _) = node_place(rows, document, known, line, steps)? else {
+    let (NodePlace::Lines(under, floor), _) = node_place(walk, steps)? else {
         return None;
     };
-    if under.row >= document.end {
+    if under.row >= walk.document.end {
         return None;
     }
-    let known = match known_among(rows, document, known, under, floor) {
+    let known = match known_among(walk, under, floor) {
         Some(known) => known,
-        None => first_known(rows, under, floor)?,
+        None => first_known(walk.rows, under, floor)?,
     };
-    Some(known_last(rows, known, document.end))
+    Some(known_last(walk.rows, known, walk.document.end))
 }

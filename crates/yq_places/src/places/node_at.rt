@@ -2,7 +2,7 @@
 ghost use Rattle.std.specs.Prelude.{◌≡◌, map, option_map, false, IfOk, None};
 ghost use Rattle.yq_core.{specs.Entries.tree_step, specs.Paths.node_at, specs.Trees.placed_tree};
 ghost use Rattle.yq_outline.{specs.Ends.part, specs.Outline.value, specs.Positions.begins_with_node, specs.View.head_view};
-ghost use Rattle.yq_outline.{specs.Extents.IsRowsView, specs.RowWalk.{HasRows, IsPosition, OfLines}};
+ghost use Rattle.yq_row_walk.specs.Walk.{IsWalk, IsWalkPosition, OfWalkLines};
 ghost use Rattle.yq_core.specs.View as inline;
 ghost use Rattle.yq_places.specs.NodeReading as reading;
 ghost use Rattle.yq_places.specs.NodesAt as spec;
@@ -10,9 +10,8 @@ ghost use Rattle.yq_places.specs.NodesAt as spec;
 use crate::places::node_place::NodePlace;
 use std::alloc::{AllocError, Global};
 use yq_core::{Form, Inline, Kind, Step};
-use yq_outline::{Head, Position, ScalarContent, Stretch};
-use yq_row_table::Rows;
-use yq_row_walk::{behind, is_deeper, is_item_at};
+use yq_outline::{Head, Position, ScalarContent};
+use yq_row_walk::{Walk, behind, is_deeper, is_item_at};
 
 /// What a node is, as far as updates ask.
 #[derive(Drop)]
@@ -95,20 +94,19 @@ pub fn head_node<'t>(
 
 /// What the node is that the lines mean, from one on, that are deeper than a level, where the
 /// first of them is no node itself.
-fn lines_node<'t>(rows: &Rows<'_>, document: Stretch, under: Position, floor: usize) -> NodeAt<'t>
-    requires rows_view { IsRowsView rows.now }
-    requires document { HasRows rows.now document }
-    requires under { IsPosition rows.now document under }
-    ensures { OfLines rows.now document (λ ls n.
+fn lines_node<'t>(walk: Walk<'_, '_>, under: Position, floor: usize) -> NodeAt<'t>
+    requires walk { IsWalk walk }
+    requires under { IsWalkPosition walk under }
+    ensures { OfWalkLines walk.entry (λ ls n.
         begins_with_node (part ls (n under) floor) ≡ false →
         spec.node_view result ≡ spec.node_summary (value (part ls (n under) floor))) }
 {
-    if !is_deeper(rows, document, under, floor) {
+    if !is_deeper(walk.rows, walk.document, under, floor) {
         return NodeAt::Scalar(Kind::Null, ScalarContent::Slice("null"));
     }
-    let others = behind(rows, document, under);
-    let several = is_deeper(rows, document, others, floor);
-    if is_item_at(rows, document, under, 0) {
+    let others = behind(walk.rows, walk.document, under);
+    let several = is_deeper(walk.rows, walk.document, others, floor);
+    if is_item_at(walk.rows, walk.document, under, 0) {
         NodeAt::List(several)
     } else {
         NodeAt::Map(several)
@@ -116,17 +114,16 @@ fn lines_node<'t>(rows: &Rows<'_>, document: Stretch, under: Position, floor: us
 }
 
 /// What the node is that is written in the head of no line.
-pub fn block_node<'t>(rows: &Rows<'_>, document: Stretch, place: NodePlace) -> Option<NodeAt<'t>>
-    requires rows_view { IsRowsView rows.now }
-    requires document { HasRows rows.now document }
-    requires place { reading.IsPlace rows.now document place }
-    ensures { OfLines rows.now document (λ ls n.
+pub fn block_node<'t>(walk: Walk<'_, '_>, place: NodePlace) -> Option<NodeAt<'t>>
+    requires walk { IsWalk walk }
+    requires place { reading.IsPlace walk.rows.now walk.document place }
+    ensures { OfWalkLines walk.entry (λ ls n.
         reading.place_line ls (reading.place_by n place) ≡ None →
         option_map spec.node_view result ≡
         reading.summary_of_lines ls (reading.place_by n place)) }
 {
     match place {
         NodePlace::Head(_) => None,
-        NodePlace::Lines(under, floor) => Some(lines_node(rows, document, under, floor)),
+        NodePlace::Lines(under, floor) => Some(lines_node(walk, under, floor)),
     }
 }

@@ -1,24 +1,22 @@
 //! What is taken out of a text with an item or entry of a block collection.
-ghost use Rattle.std.specs.Prelude.{◌≡◌, ◌<◌, ◌≤◌, ◌-◌, Option, take, length, map, option_map, IfSome};
+ghost use Rattle.std.specs.Prelude.{◌≡◌, ◌<◌, ◌≤◌, ◌-◌, Option, take, length, map, option_map};
 ghost use Rattle.yq_text.specs.Halves.{whole};
 ghost use Rattle.yq_core.{specs.Entries.tree_step, specs.Block.BlockText, specs.Text.{joined, text_lines}};
-ghost use Rattle.yq_row_table.{specs.Removal.{block_numbers, hold_comment, last_block}, specs.View.rows_view};
-ghost use Rattle.yq_outline.{specs.Extents.IsRowsView, specs.RowWalk.{AreKnown, HasDocument}};
-ghost use Rattle.yq_places.{specs.PlacedRows.PlacedPart, specs.RowWalk.IsKnownLine};
+ghost use Rattle.yq_row_table.specs.Removal.{block_numbers, hold_comment, last_block};
+ghost use Rattle.yq_places.specs.PlacedRows.{PlacedPart};
+ghost use Rattle.yq_row_walk.specs.Walk.{IsWalk, OfWalkRows};
 ghost use Rattle.yq_documents.specs.Pieces as pieces;
 ghost use Rattle.yq_places.specs.RemovalPlaces as spec;
 ghost use Rattle.yq_places.specs.RemovalReading as reading;
 
 use crate::places::halves::is_text;
-use crate::places::known_line::{KnownLine, line_by};
 use crate::places::row_place::row_stop;
 use yq_core::Step;
 use yq_core::lines::split_line;
 use yq_core::text::is_blank;
 use yq_documents::last_run;
-use yq_outline::{KnownItem, Stretch};
 use yq_row_table::Rows;
-use yq_row_walk::{behind, row_start};
+use yq_row_walk::{Walk, behind, line_at, row_start};
 use yq_text::Halves;
 
 /// What a gap that ends up after a block scalar asks.
@@ -73,27 +71,18 @@ fn holds_comment(gap: &str) -> bool
 
 /// Where the rows of the item or entry begin and end to which steps lead, after where those of its
 /// document begin, if its line is the first one of a row.
-pub fn own_rows(
-    rows: &Rows<'_>,
-    document: Stretch,
-    known: &[KnownItem],
-    line: Option<KnownLine<'_>>,
-    steps: &[Step],
-) -> Option<(usize, usize, usize)>
-    requires rows_view { IsRowsView rows.now }
-    requires document { HasDocument rows.now document }
-    requires known { AreKnown rows.now.rows known.now }
-    requires line { IfSome line (IsKnownLine rows.now) }
-    ensures { (h : HasDocument rows.now document) →
-        option_map (λ m. (m.0, m.1, m.2)) result ≡
-        option_map (reading.marks document.first)
-        (spec.own_rows (map tree_step steps.now) h.stand.rows) }
+pub fn own_rows(walk: Walk<'_, '_>, steps: &[Step]) -> Option<(usize, usize, usize)>
+    requires { IsWalk walk }
+    ensures { OfWalkRows walk.entry (λ d rs. option_map (λ m. (m.0, m.1, m.2)) result ≡
+        option_map (reading.marks d.first)
+        (spec.own_rows (map tree_step steps.now) rs)) }
 {
-    let at = line_by(rows, document, known, line, steps)?;
+    let at = line_at(walk, steps)?;
     if at.line != 0 {
         return None;
     }
-    Some((document.first, at.row, behind(rows, document, at).row))
+    let end = behind(walk.rows, walk.document, at).row;
+    Some((walk.document.first, at.row, end))
 }
 
 /// The gap before row `i` and its column; where a part ends before it, the gap there and 0.

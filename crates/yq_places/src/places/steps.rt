@@ -1,13 +1,14 @@
 //! By how many columns the collections of a document are deeper than their keys.
-ghost use Rattle.std.specs.Prelude.{◌≡◌, ◌<◌, ◌≤◌, length, Bool, List, true, IfSome, IsTrue};
-ghost use Rattle.yq_row_table.{specs.RowStarts.row_start, specs.Rows.Cut, specs.View.{Slices, rows_view}};
+ghost use Rattle.std.specs.Prelude.{◌≡◌, ◌<◌, ◌≤◌, length, IfSome};
+ghost use Rattle.yq_row_table.specs.View.{rows_view};
 ghost use Rattle.yq_outline.{specs.Lines.lines_of_rows, specs.Extents.IsRowsView, specs.RowWalk.HasRows};
+ghost use Rattle.yq_row_walk.specs.Walk.{IsWalk};
 ghost use Rattle.yq_places.specs.StepReading as reading;
 ghost use Rattle.yq_places.specs.Steps as spec;
 
 use yq_outline::{Position, Stretch};
 use yq_row_table::Rows;
-use yq_row_walk::{level_at, lines_before_mark};
+use yq_row_walk::{Walk, level_at, lines_before_mark};
 
 /// How far the rows of a document were searched for the first collection of a kind that is under a key: no
 /// row before this one begins one.
@@ -66,37 +67,36 @@ fn last_level(rows: &Rows<'_>, row: usize) -> usize
 /// Goes on searching the rows of a document for the first sequence, or mapping, that is under a key, up to one
 /// of them. Such a one begins a row, since a key ends one.
 pub fn search_step(
-    rows: &Rows<'_>,
-    document: Stretch,
+    walk: Walk<'_, '_>,
     known: Option<StepSearch>,
     dashes: bool,
     upto: usize,
 ) -> StepSearch
-    requires rows_view { IsRowsView rows.now }
-    requires document { HasRows rows.now document }
-    requires known { IfSome known (reading.IsSearched dashes rows.now.rows) }
-    ensures first { result.first ≡ document.first }
-    ensures order { document.first ≤ result.row }
-    ensures within { result.row ≤ document.end }
-    ensures searched { reading.IsSearched dashes rows.now.rows result }
-    ensures stops { reading.EndsSearch upto document.end dashes rows.now.rows result }
+    requires walk { IsWalk walk }
+    requires known { IfSome known (reading.IsSearched dashes walk.rows.now.rows) }
+    ensures first { result.first ≡ walk.entry.document.first }
+    ensures order { walk.entry.document.first ≤ result.row }
+    ensures within { result.row ≤ walk.entry.document.end }
+    ensures searched { reading.IsSearched dashes walk.entry.rows.now.rows result }
+    ensures stops { reading.EndsSearch upto walk.entry.document.end dashes
+        walk.entry.rows.now.rows result }
 {
-    let start = search_from(document, known);
-    let end = upto.min(document.end).max(start.row);
+    let start = search_from(walk.document, known);
+    let end = upto.min(walk.document.end).max(start.row);
     let mut above = start.above;
     'rows: for row in start.row..end {
-        let first = level_at(rows, Position { row, line: 0 });
+        let first = level_at(walk.rows, Position { row, line: 0 });
         if begins_under(above, first, dashes) {
             return StepSearch {
-                first: document.first,
+                first: walk.document.first,
                 row,
                 above,
             };
         }
-        above = last_level(rows, row);
+        above = last_level(walk.rows, row);
     }
     StepSearch {
-        first: document.first,
+        first: walk.document.first,
         row: end,
         above,
     }
@@ -104,24 +104,18 @@ pub fn search_step(
 
 /// By how many columns the first sequence, or mapping, that is under a key is deeper than that
 /// key; 2 where there is none. The search goes on from where another one ended.
-pub fn first_step(
-    rows: &Rows<'_>,
-    document: Stretch,
-    known: Option<StepSearch>,
-    dashes: bool,
-) -> usize
-    requires rows_view { IsRowsView rows.now }
-    requires document { HasRows rows.now document }
-    requires known { IfSome known (reading.IsSearched dashes rows.now.rows) }
-    ensures { (h : HasRows rows.now document) →
+pub fn first_step(walk: Walk<'_, '_>, known: Option<StepSearch>, dashes: bool) -> usize
+    requires walk { IsWalk walk }
+    requires known { IfSome known (reading.IsSearched dashes walk.rows.now.rows) }
+    ensures { (h : HasRows walk.entry.rows.now walk.entry.document) →
         result ≡ spec.first_step (spec.is_kind dashes) (lines_of_rows h.rows) }
 {
-    let found = search_step(rows, document, known, dashes, document.end);
-    if found.row >= document.end {
+    let found = search_step(walk, known, dashes, walk.document.end);
+    if found.row >= walk.document.end {
         return 2;
     }
     let level = level_at(
-        rows,
+        walk.rows,
         Position {
             row: found.row,
             line: 0,

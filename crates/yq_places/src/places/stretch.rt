@@ -2,13 +2,11 @@
 ghost use Rattle.std.specs.Prelude.{◌≡◌, ◌-◌, map, option_map};
 ghost use Rattle.yq_core.specs.Entries.{tree_step};
 ghost use Rattle.yq_documents.specs.LinesInRows.{row_line_of};
-ghost use Rattle.yq_outline.{specs.Extents.IsRowsView, specs.RowWalk.{AreKnown, HasDocument}};
+ghost use Rattle.yq_row_walk.specs.Walk.{IsWalk, OfWalkRows};
 ghost use Rattle.yq_places.specs.RowLineReading.{numbers, line_view};
 
 use yq_core::Step;
-use yq_outline::{KnownItem, Stretch};
-use yq_row_table::Rows;
-use yq_row_walk::{line_at, lines_before_mark};
+use yq_row_walk::{Walk, line_at, lines_before_mark};
 
 /// A line of a row.
 #[derive(Clone, Copy)]
@@ -22,22 +20,15 @@ pub struct RowLine {
 }
 
 /// The line of the entry or item to which steps lead in a document, if one of a row is.
-pub fn row_line_along(
-    rows: &Rows<'_>,
-    document: Stretch,
-    known: &[KnownItem],
-    steps: &[Step],
-) -> Option<RowLine>
-    requires rows_view { IsRowsView rows.now }
-    requires document { HasDocument rows.now document }
-    requires known { AreKnown rows.now.rows known.now }
-    ensures { (h : HasDocument rows.now document) → option_map line_view result ≡
-        option_map (numbers document.first) (row_line_of (map tree_step steps.now) h.stand.rows) }
+pub fn row_line_along(walk: Walk<'_, '_>, steps: &[Step]) -> Option<RowLine>
+    requires { IsWalk walk }
+    ensures { OfWalkRows walk.entry (λ d rs. option_map line_view result ≡
+        option_map (numbers d.first) (row_line_of (map tree_step steps.now) rs)) }
 {
-    let position = line_at(rows, document, known, steps)?;
+    let position = line_at(walk, steps)?;
     Some(RowLine {
         row: position.row,
         line: position.line,
-        dashes: lines_before_mark(rows, position.row),
+        dashes: lines_before_mark(walk.rows, position.row),
     })
 }

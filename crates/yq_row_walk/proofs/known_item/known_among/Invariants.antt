@@ -7,4 +7,4 @@ decreases-items l = length l.rest
 
 -- the items that are left are known
 abbrev pub invariant-items : goal.invariant-items
-invariant-items l = AreKnown l.rows.rows l.rest
+invariant-items l = AreKnown l.walk.rows.now.rows l.rest

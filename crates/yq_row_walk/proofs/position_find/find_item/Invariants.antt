@@ -5,13 +5,13 @@ use Rattle.yq_outline.specs.RowWalk.{HasDocument, IsPosition, line_number}
 use Rattle.yq_row_walk.proofs.position_find.find_item.Given as goal
 
 abbrev pub decreases-lines : goal.decreases-lines
-decreases-lines l = l.document.end - l.at.row
+decreases-lines l = l.walk.document.end - l.at.row
 
 -- what is looked for is what is looked for from here on
 abbrev pub invariant-lines : goal.invariant-lines
 invariant-lines l = record {
-  at : IsPosition l.rows l.document l.at;
-  found : (h : HasDocument l.rows l.document) →
-      position (line_number l.document h.stand.rows l.fn.under) (find_row (Nth l.index) (part (lines_of_rows h.stand.rows) (line_number l.document h.stand.rows l.fn.under) l.floor)) ≡
-      position (line_number l.document h.stand.rows l.at) (find_row (Nth l.left) (part (lines_of_rows h.stand.rows) (line_number l.document h.stand.rows l.at) l.floor));
+  at : IsPosition l.walk.rows.now l.walk.document l.at;
+  found : (h : HasDocument l.walk.rows.now l.walk.document) →
+      position (line_number l.walk.document h.stand.rows l.fn.under) (find_row (Nth l.index) (part (lines_of_rows h.stand.rows) (line_number l.walk.document h.stand.rows l.fn.under) l.floor)) ≡
+      position (line_number l.walk.document h.stand.rows l.at) (find_row (Nth l.left) (part (lines_of_rows h.stand.rows) (line_number l.walk.document h.stand.rows l.at) l.floor));
 }

@@ -1,25 +1,15 @@
 use Rattle.std.proofs.Common.{List, ℕ, map, ap, ◌∙◌}
 use Rattle.yq_core.specs.Entries.{tree_step}
 use Rattle.yq_documents.{specs.Located.steps_of, specs.Reading.cut_of}
-use Rattle.yq_places.{specs.EntryReading.line_content_of, proofs.WalkDocuments.{found_document, no_place_found, place_found}}
-use Rattle.yq_lookup.proofs.CutRows.{rows_are_view, items_known}
+use Rattle.yq_places.{specs.EntryReading.line_content_of, proofs.WalkDocuments.no_place_found}
+use Rattle.yq_lookup.proofs.CutRows.{walk_place}
 use Rattle.yq_lookup.proofs.cut_text.CutText.content_place.Goals as goal
 
-pub returns-in_err-document : goal.returns-in_err-document
-returns-in_err-document c = rw c.from_residual.ensures (no_place_found (cut_of c.args.self.now) c.args.path.now.doc (λ k cut rows. line_content_of k cut rows (steps_of c.args.path.now)) c.in_err-document.ensures.place)
-
-pub content_of-requires-clause-document : goal.content_of-requires-clause-document
-content_of-requires-clause-document c =
-    (found_document c.args.self.now c.rows.result.now (cut_of c.args.self.now) c.args.path.now.doc c.in_ok-document.document c.whole-whole.ensures.cut c.rows.ensures c.in_ok-document.ensures.place c.in_ok-document.ensures.sound).document
+pub returns-in_err-walk : goal.returns-in_err-walk
+returns-in_err-walk c = rw c.from_residual.ensures (no_place_found (cut_of c.args.self.now) c.args.path.now.doc (λ k cut rows. line_content_of k cut rows (steps_of c.args.path.now)) c.in_err-walk.ensures.place)
 
 pub returns : goal.returns
 returns c =
     let t : List ℕ = c.args.self.now in
-    place_found t c.rows.result.now (cut_of t) c.args.path.now.doc c.in_ok-document.document _ (λ k cut rows. line_content_of k cut rows (steps_of c.args.path.now)) c.whole-whole.ensures.cut c.rows.ensures c.in_ok-document.ensures.place c.in_ok-document.ensures.sound
-    (λ k. c.content_of.ensures (cut_of t) k ∙ ap (λ xs. line_content_of c.in_ok-document.document.first (cut_of t) k.document.stand.rows (map tree_step xs)) c.deref.ensures.value)
-
-pub content_of-requires-clause-rows_view : goal.content_of-requires-clause-rows_view
-content_of-requires-clause-rows_view c = rows_are_view c.args.self.now c.rows.result.now c.whole-whole.ensures.cut c.rows.ensures
-
-pub content_of-requires-clause-known : goal.content_of-requires-clause-known
-content_of-requires-clause-known c = items_known c.args.self.now c.rows.result.now c.known.result.now c.rows.ensures c.known.ensures
+    walk_place t c.args.path.now.doc c.in_ok-walk.walk _ (λ k cut rows. line_content_of k cut rows (steps_of c.args.path.now)) c.in_ok-walk.ensures.cut c.in_ok-walk.ensures.place
+    (λ k. c.content_of.ensures (cut_of t) k ∙ ap (λ xs. line_content_of c.in_ok-walk.walk.document.first (cut_of t) k.document.stand.rows (map tree_step xs)) c.deref.ensures.value)

@@ -1,12 +1,13 @@
 use Rattle.yq_documents.specs.Reading.{cut_of}
-use Rattle.yq_lookup.proofs.CutRows.{rows_are_view, items_known}
+use Rattle.yq_places.proofs.HeldLaws.{cut_view}
+use Rattle.yq_lookup.proofs.CutRows.{items_known}
 use Rattle.yq_lookup.proofs.cut_text.CutText.items_in_front.Goals as goal
 
 pub keep_in_front-requires-clause-known : goal.keep_in_front-requires-clause-known
-keep_in_front-requires-clause-known c = items_known c.args.self.now c.rows.result.now c.args.known.now.items c.rows.ensures c.requires
+keep_in_front-requires-clause-known c = items_known c.args.self.now c.rows.result.now c.args.known.now.items c.rows.ensures.rows c.requires
 
 pub keep_in_front-requires-clause-rows_view : goal.keep_in_front-requires-clause-rows_view
-keep_in_front-requires-clause-rows_view c = rows_are_view c.args.self.now c.rows.result.now c.whole-whole.ensures.cut c.rows.ensures
+keep_in_front-requires-clause-rows_view c = cut_view c.args.self.now c.rows.result.now c.rows.ensures
 
 pub returns : goal.returns
-returns c = c.keep_in_front.ensures (cut_of c.args.self.now) c.rows.ensures
+returns c = c.keep_in_front.ensures (cut_of c.args.self.now) c.rows.ensures.rows

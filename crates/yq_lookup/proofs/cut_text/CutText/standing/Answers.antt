@@ -8,7 +8,7 @@ use Rattle.yq_lookup.proofs.cut_text.CutText.standing.Goals as goal
 
 pub entry_standing-requires : goal.entry_standing-requires
 entry_standing-requires c =
-    let f = rw (← c.whole-text.ensures.text) at (entry_found c.args.self.now c.rows.result.now c.args.path.now.doc (steps_of c.args.path.now) c.in_ok-entry.entry c.whole-text.ensures.cut c.rows.ensures c.in_ok-entry.ensures) in
+    let f = rw (← c.whole-text.ensures.text) at (entry_found c.args.self.now c.rows.result.now c.args.path.now.doc (steps_of c.args.path.now) c.in_ok-entry.entry c.whole-text.ensures.cut c.rows.ensures.rows c.in_ok-entry.ensures) in
     record { entry = f.entry; is = f.is }
 
 pub returns-in_err-entry : goal.returns-in_err-entry
@@ -19,7 +19,7 @@ returns-in_err-entry c =
 
 pub returns : goal.returns
 returns c =
-    let f = rw (← c.whole-text.ensures.text) at (entry_found c.args.self.now c.rows.result.now c.args.path.now.doc (steps_of c.args.path.now) c.in_ok-entry.entry c.whole-text.ensures.cut c.rows.ensures c.in_ok-entry.ensures) in
+    let f = rw (← c.whole-text.ensures.text) at (entry_found c.args.self.now c.rows.result.now c.args.path.now.doc (steps_of c.args.path.now) c.in_ok-entry.entry c.whole-text.ensures.cut c.rows.ensures.rows c.in_ok-entry.ensures) in
     let counted : vec_len c.args.path.now.steps ≡ length c.args.path.now.steps.items = search rules in
     let some = some_steps tree_step c.args.path.now.steps.items (sym c.is_empty.ensures ∙ c.if-is_empty.false) counted in
     ap Some (c.entry_standing.ensures f.entry f.is)

@@ -2,7 +2,7 @@ use Rattle.std.proofs.Common.{◌≡◌, Bool, true, false, cond, List, refl, ap
 use Rattle.yq_outline.{specs.Outline.Line, specs.Lines.lines_of_rows}
 use Rattle.yq_documents.specs.Reading.{cut_of}
 use Rattle.yq_places.{specs.Steps.{IndentSteps, first_step, is_kind, steps_in}, proofs.StepLaws.steps_found}
-use Rattle.yq_places.proofs.WalkDocuments.{found_document}
+use Rattle.yq_lookup.proofs.CutRows.{walk_found}
 use Rattle.yq_lookup.proofs.cut_text.CutText.step.Goals as goal
 
 -- the step of one kind among those of lines
@@ -10,11 +10,7 @@ step_in : (dashes : Bool) (ls : List Line) → first_step (is_kind dashes) ls �
 step_in true ls = refl
 step_in false ls = refl
 
-pub first_step-requires-clause-document : goal.first_step-requires-clause-document
-first_step-requires-clause-document c =
-    (found_document c.args.self.now c.rows-rows.result.now (cut_of c.args.self.now) c.args.doc c.in-Some.document c.whole-whole.ensures.cut c.rows-rows.ensures c.in-Some.ensures.place c.in-Some.ensures.sound).document.stand
-
 pub returns : goal.returns
 returns c =
-    let f = found_document c.args.self.now c.rows-rows.result.now (cut_of c.args.self.now) c.args.doc c.in-Some.document c.whole-whole.ensures.cut c.rows-rows.ensures c.in-Some.ensures.place c.in-Some.ensures.sound in
-    c.first_step.ensures f.document.stand ∙ (step_in c.args.dashes (lines_of_rows f.document.stand.rows) ∙ ap (λ (x : IndentSteps). cond c.args.dashes x.sequence x.mapping) (steps_found c.rows-rows.result.now (cut_of c.args.self.now) c.args.doc c.in-Some.document f))
+    let f = walk_found c.args.self.now c.args.doc c.in-Some.walk c.in-Some.ensures.cut c.in-Some.ensures.place in
+    c.first_step.ensures f.document.stand ∙ (step_in c.args.dashes (lines_of_rows f.document.stand.rows) ∙ ap (λ (x : IndentSteps). cond c.args.dashes x.sequence x.mapping) (steps_found c.in-Some.walk.rows.now (cut_of c.args.self.now) c.args.doc c.in-Some.walk.document f))

@@ -1,4 +1,4 @@
-use Rattle.std.proofs.Common.{◌≡◌, None, Some, sym}
+use Rattle.std.proofs.Common.{◌≡◌, None, Some, sym, arith}
 use Rattle.yq_core.specs.Paths.{Nth}
 use Rattle.yq_outline.{specs.Ends.part, specs.Places.find_row, specs.Positions.{line_here, position}}
 use Rattle.yq_outline.proofs.ChildLaws.{child_position, child_found}
@@ -26,11 +26,8 @@ returns c =
     let found = agrees_document c.document_rows.ensures (λ ms num. position (num u.first) (find_row (Nth c.args.index) (part ms (num u.first) u.floor)) ≡ line_here ms (Some (num c.in_ok-at.at))) c.in_ok-at.ensures.found in
     child_found (Nth c.args.index) ls (number_of u.document u.text.now u.first) u.floor (number_of u.document u.text.now c.in_ok-at.at) at.line (label_of c.of_line.result) (node_of c.of_line.result) at.there found (c.of_line.ensures.label at.line at.there) (c.of_line.ensures.node at.line at.there)
 
-pub find_item-requires-clause-rows_view : goal.find_item-requires-clause-rows_view
-find_item-requires-clause-rows_view c = c.document_rows.ensures.small
-
-pub find_item-requires-clause-document : goal.find_item-requires-clause-document
-find_item-requires-clause-document c = (document_in c.document_rows.ensures).0
+pub find_item-requires-clause-walk : goal.find_item-requires-clause-walk
+find_item-requires-clause-walk c = record { rows_view = c.document_rows.ensures.small; document = (document_in c.document_rows.ensures).0; known = λ k d none. absurd (omega (arith, none)); line = tt }
 
 pub find_item-requires-clause-under : goal.find_item-requires-clause-under
 find_item-requires-clause-under c = position_here c.document_rows.ensures c.args.under.position

@@ -10,7 +10,7 @@ decreases-steps l = length l.left
 -- the line that was found is one from which the steps that are left lead where all do, and the items are known
 abbrev pub invariant-steps : goal.invariant-steps
 invariant-steps l = record {
-  from : IfSome l.from (IsLine l.rows l.document);
-  leads : (h : HasDocument l.rows l.document) → reach_from (lines_of_rows h.stand.rows) (option_map (line_number l.document h.stand.rows) l.from) (map tree_step l.left) ≡ reached (map tree_step l.steps) (lines_of_rows h.stand.rows);
-  known : AreKnown l.rows.rows l.known.items;
+  from : IfSome l.from (IsLine l.walk.rows.now l.walk.document);
+  leads : (h : HasDocument l.walk.rows.now l.walk.document) → reach_from (lines_of_rows h.stand.rows) (option_map (line_number l.walk.document h.stand.rows) l.from) (map tree_step l.left) ≡ reached (map tree_step l.steps) (lines_of_rows h.stand.rows);
+  known : AreKnown l.walk.rows.now.rows l.known.items;
 }

@@ -4,7 +4,6 @@ use Rattle.yq_places.proofs.KnownFronts.{all_put}
 use Rattle.yq_places.proofs.places.known_at.put_item.Goals as goal
 
 pub returns : goal.returns
-returns c =
-    let known = IsKnown c.args.rows.now.rows in
-    let front = subst (All known) (sym c.truncate.ensures.items) (All-take known c.args.count c.args.known.now.items c.requires.known) in
-    subst (All known) (sym c.push.ensures.items) (all_put known _ c.args.item _ front c.requires.item)
+returns c = λ ss all item.
+    let front = subst (All (IsKnown ss)) (sym c.truncate.ensures.items) (All-take (IsKnown ss) c.args.count c.args.known.now.items all) in
+    subst (All (IsKnown ss)) (sym c.push.ensures.items) (all_put (IsKnown ss) _ c.args.item _ front item)

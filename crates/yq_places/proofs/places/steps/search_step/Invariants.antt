@@ -3,4 +3,4 @@ use Rattle.yq_places.proofs.places.steps.search_step.Given as goal
 
 -- the rows before this one were searched
 abbrev pub invariant-rows : goal.invariant-rows
-invariant-rows l = IsSearched l.dashes l.rows.rows (record { first = l.document.first; row = l.row; above = l.above })
+invariant-rows l = IsSearched l.dashes l.walk.rows.now.rows (record { first = l.walk.document.first; row = l.row; above = l.above })

@@ -1,8 +1,0 @@
-use Rattle.yq_places.{proofs.PieceHolds.pieces_hold, proofs.PieceSpelling.lines_stand}
-use Rattle.yq_lookup.proofs.laws.piece_laws.pieces_hold.Goals as goal
-
-pub returns-clause-lines : goal.returns-clause-lines
-returns-clause-lines c = lines_stand
-
-pub returns-clause-pieces : goal.returns-clause-pieces
-returns-clause-pieces c = pieces_hold

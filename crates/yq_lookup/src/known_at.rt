@@ -1,0 +1,177 @@
+//! The items on the way of a path from which later walks may go on, and the row of its key or dash.
+ghost use Rattle.std.specs.Prelude.{◌≡◌, IfSome};
+ghost use Rattle.yq_row_table.specs.View.{rows_view};
+ghost use Rattle.yq_documents.{specs.Located.steps_of, specs.Reading.cut_of};
+ghost use Rattle.yq_outline.specs.RowWalk.{AreKnown};
+ghost use Rattle.yq_places.specs.RowWalk.{StayKnown};
+ghost use Rattle.yq_row_walk.specs.Walk.{IsKnownLine};
+ghost use Rattle.yq_lookup.{specs.Knowledge.{KnowledgeStays, SearchesStay}, specs.KnownDocuments.DocumentsStay};
+ghost use Rattle.yq_places.specs.StandingViews as row_agrees;
+
+use crate::cut_text::CutText;
+use crate::knowledge::{Knowledge, StepSearches, searches_in_front};
+use crate::known_document::{KnownDocuments, document_in_front};
+use std::alloc::Global;
+use yq_documents::Path;
+use yq_outline::KnownItem;
+use yq_places::{
+    HeldRow, keep_in_front, known_along, known_end, line_known, put_item, row_of_last,
+};
+use yq_row_walk::{KnownLine, Walk};
+
+impl<'d, 't> CutText<'d, 't> {
+    /// Puts the items on the way of a path in the place of the items that are known.
+    #[inline(always)]
+    fn items_along(&self, known: &mut Vec<KnownItem>, path: &Path)
+        requires { AreKnown (rows_view (cut_of self.now)).rows known.old.items }
+        ensures { AreKnown (rows_view (cut_of self.now)).rows known.new.items }
+    {
+        let Some(walk) = self.walk(path.doc) else {
+            return;
+        };
+        let _ = known_along(walk, known, &path.steps);
+    }
+
+    /// The same, and gives the line to which the path leads, if none of its steps goes on in the head of one.
+    #[inline(always)]
+    fn line_along(&self, known: &mut Vec<KnownItem>, path: &'d Path) -> Option<KnownLine<'d>>
+        requires { AreKnown (rows_view (cut_of self.now)).rows known.old.items }
+        ensures known { AreKnown (rows_view (cut_of self.now)).rows known.new.items }
+        ensures line { IfSome result (IsKnownLine (rows_view (cut_of self.now))) }
+    {
+        let walk = self.walk(path.doc)?;
+        let steps = path.steps.as_slice();
+        let (_, at) = known_along(walk, known, steps);
+        line_known(walk.document, steps, at)
+    }
+
+    /// The same, and puts the last row of the collection at the path after the items. It is looked for from an
+    /// item of that on that is known.
+    fn end_along(&self, known: &mut Vec<KnownItem>, path: &'d Path) -> Option<KnownLine<'d>>
+        requires { AreKnown (rows_view (cut_of self.now)).rows known.old.items }
+        ensures known { AreKnown (rows_view (cut_of self.now)).rows known.new.items }
+        ensures line { IfSome result (IsKnownLine (rows_view (cut_of self.now))) }
+    {
+        let walk = self.walk(path.doc)?;
+        let steps = path.steps.as_slice();
+        let (count, at) = known_along(walk, known, steps);
+        let line = line_known(walk.document, steps, at);
+        let here = Walk {
+            known: known.as_slice(),
+            line,
+            ..walk
+        };
+        if let Some(end) = known_end(here, steps) {
+            let _ = put_item(known, count, end);
+        }
+        line
+    }
+
+    /// From now on the document of a path is known, and of each collection on its way the item or entry:
+    /// walks along the path go on from there.
+    #[inline(always)]
+    pub fn go_along(&mut self, alloc: Global, path: &Path)
+        ensures { self.new ≡ self.old }
+    {
+        self.to_document(path.doc);
+        let mut known = self.take_items(alloc);
+        self.items_along(&mut known, path);
+        self.put_items(known, None);
+    }
+
+    /// The same, and the line to which the path leads is known as well.
+    #[inline(always)]
+    pub fn go_to_line(&mut self, alloc: Global, path: &'d Path)
+        ensures { self.new ≡ self.old }
+    {
+        self.to_document(path.doc);
+        let mut known = self.take_items(alloc);
+        let line = self.line_along(&mut known, path);
+        self.put_items(known, line);
+    }
+
+    /// The same, and the end of the collection at the path is known as well.
+    pub fn go_to_end(&mut self, alloc: Global, path: &'d Path)
+        ensures { self.new ≡ self.old }
+    {
+        self.to_document(path.doc);
+        let mut known = self.take_items(alloc);
+        let line = self.end_along(&mut known, path);
+        self.put_items(known, line);
+    }
+
+    /// The key or dash of the item or entry at a path with its row, where the row ends in its line. From
+    /// then on it is known what is on the way of the path.
+    pub fn to_held_row(&mut self, alloc: Global, path: &Path) -> Option<HeldRow<'t>>
+        ensures same { self.new ≡ self.old }
+        ensures row { IfSome result (row_agrees.IsHeldRow path.now.doc (steps_of path.now)
+            (cut_of self.old)) }
+    {
+        self.to_document(path.doc);
+        let mut known = self.take_items(alloc);
+        let row = self.row_along(&mut known, path);
+        self.put_items(known, None);
+        row
+    }
+
+    /// The same, where items are known, and those on the way of the path are put in their place.
+    #[inline(always)]
+    fn row_along(&self, known: &mut Vec<KnownItem>, path: &Path) -> Option<HeldRow<'t>>
+        requires { AreKnown (rows_view (cut_of self.now)).rows known.old.items }
+        ensures known { AreKnown (rows_view (cut_of self.now)).rows known.new.items }
+        ensures row { IfSome result (row_agrees.IsHeldRow path.now.doc (steps_of path.now)
+            (cut_of self.now)) }
+    {
+        let walk = self.walk(path.doc)?;
+        let (_, at) = known_along(walk, known, &path.steps);
+        row_of_last(walk.rows, at?)
+    }
+
+    /// Takes what is known, as far as walks and searches may go on from there in each text that keeps so many
+    /// bytes in front; of the next item that of the one before it.
+    #[inline(always)]
+    pub fn known_in_front(&mut self, alloc: Global, front: usize) -> Knowledge
+        ensures same { self.new ≡ self.old }
+        ensures known { KnowledgeStays front (cut_of self.old) result }
+    {
+        let documents = self.documents_in_front(front);
+        let steps = self.steps_in_front(front);
+        let mut items = self.take_items(alloc);
+        self.items_in_front(&mut items, front);
+        Knowledge {
+            items,
+            documents,
+            steps,
+        }
+    }
+
+    /// Leaves of items that are known those that stay known in each text that keeps so many bytes in front.
+    #[inline(always)]
+    fn items_in_front(&self, known: &mut Vec<KnownItem>, front: usize)
+        requires { AreKnown (rows_view (cut_of self.now)).rows known.old.items }
+        ensures { StayKnown front (cut_of self.now) known.new.items }
+    {
+        keep_in_front(self.rows(), known, front);
+    }
+
+    /// The documents that are known, as far as searches may go on from there in each text that keeps so many
+    /// bytes in front.
+    #[inline(always)]
+    fn documents_in_front(&self, front: usize) -> KnownDocuments
+        ensures { DocumentsStay front (cut_of self.now) result }
+    {
+        let rows = self.rows();
+        let known = self.documents();
+        KnownDocuments {
+            last: document_in_front(rows, known.last, front),
+            before: document_in_front(rows, known.before, front),
+        }
+    }
+
+    /// How far steps were searched in each text that keeps so many bytes in front.
+    fn steps_in_front(&self, front: usize) -> StepSearches
+        ensures { SearchesStay front (cut_of self.now) result }
+    {
+        searches_in_front(self.rows(), self.steps(), front)
+    }
+}

@@ -1,0 +1,125 @@
+//! What the nodes at paths are, each read from the rows that tell it; the flow collections there; and the heads of rows.
+ghost use Rattle.std.specs.Prelude.{◌≡◌, ◌<◌, length, map, option_and_then, option_map, slice_get, true, IfOk, IfSome, Some};
+ghost use Rattle.yq_core.specs.Entries.{tree_step};
+ghost use Rattle.yq_row_table.{specs.Rows.Row as RowOf, specs.View.rows_of};
+ghost use Rattle.yq_documents.{specs.Located.steps_of, specs.Reading.{content_is_fit, cut_of}};
+ghost use Rattle.yq_places.{specs.FlowNodes.flow_collection, specs.HeadReading.IsRowHead, specs.RemovalPlaces.has_others_at};
+ghost use Rattle.yq_places.specs.FlowViews as flows;
+ghost use Rattle.yq_places.specs.NodesAt as spec;
+
+use crate::cut_text::CutText;
+use std::alloc::{AllocError, Global};
+use yq_core::{Kind, Step};
+use yq_documents::Path;
+use yq_outline::{Head, ScalarContent};
+use yq_places::{FlowHead, NodeAt, RowHead, block_node, head_node, node_place, place_line};
+use yq_row_heads::row_head;
+use yq_row_walk::head_place;
+
+impl<'t> CutText<'_, 't> {
+    /// What the node at a path of document `doc`, counted from 0, is.
+    pub fn node_at(
+        &self,
+        alloc: Global,
+        doc: usize,
+        steps: &[Step],
+    ) -> Result<Option<NodeAt<'t>>, AllocError>
+        ensures { IfOk result (λ o. option_map spec.node_view o ≡
+            option_map spec.node_summary (spec.node_in doc (map tree_step steps.now)
+            (cut_of self.now))) }
+    {
+        let Some(walk) = self.walk(doc) else {
+            return Ok(None);
+        };
+        let Some((place, left)) = node_place(walk, steps) else {
+            return Ok(None);
+        };
+        let Some(at) = place_line(walk, place) else {
+            return Ok(block_node(walk, place));
+        };
+        let head = self.row_head(alloc, at.row)?;
+        head_node(alloc, head.head, left)
+    }
+
+    /// The scalar at a path, if one is there.
+    pub fn scalar_at(
+        &self,
+        alloc: Global,
+        path: &Path,
+    ) -> Result<Option<(Kind, ScalarContent<'t>)>, AllocError>
+        ensures { IfOk result (λ o. option_map spec.scalar_view o ≡
+            option_and_then spec.scalar_in (spec.node_in path.now.doc (steps_of path.now)
+            (cut_of self.now))) }
+    {
+        match self.node_at(alloc, path.doc, &path.steps)? {
+            Some(node) => Ok(node.scalar()),
+            None => Ok(None),
+        }
+    }
+
+    /// Whether the collection in which a path ends has others beside the item or entry to which it
+    /// leads.
+    pub fn has_others(&self, alloc: Global, path: &Path) -> Result<bool, AllocError>
+        ensures { IfOk result (λ b. b ≡ has_others_at path.now.doc (steps_of path.now)
+            (cut_of self.now)) }
+    {
+        let above = path.steps.len().saturating_sub(1);
+        match self.node_at(alloc, path.doc, &path.steps[..above])? {
+            Some(node) => Ok(node.has_several()),
+            None => Ok(false),
+        }
+    }
+
+    /// The node in the head of a line, and the steps that lead in it to the flow collection at a path
+    /// of document `doc`, counted from 0, if there is one.
+    pub fn flow_head<'s>(
+        &self,
+        alloc: Global,
+        doc: usize,
+        steps: &'s [Step],
+    ) -> Result<Option<FlowHead<'s, 't>>, AllocError>
+        ensures found { IfOk result (flows.FlowAgrees self.now (flow_collection doc
+            (map tree_step steps.now) (cut_of self.now))) }
+        ensures whole { IfOk result (λ o. IfSome o (flows.IsHeadFor self.now (cut_of self.now) doc
+            (map tree_step steps.now))) }
+    {
+        let Some(walk) = self.walk(doc) else {
+            return Ok(None);
+        };
+        let Some((place, left)) = node_place(walk, steps) else {
+            return Ok(None);
+        };
+        let Some(at) = place_line(walk, place) else {
+            return Ok(None);
+        };
+        let RowHead { head, text, before } = self.row_head(alloc, at.row)?;
+        match head {
+            Head::Nothing => Ok(None),
+            Head::Scalar(..) => Ok(None),
+            Head::Inline(node) => Ok(Some(FlowHead {
+                node,
+                left,
+                text,
+                before,
+            })),
+        }
+    }
+
+    /// The head of row `i`, in which keys are fit.
+    pub(crate) fn row_head(&self, alloc: Global, i: usize) -> Result<RowHead<'t>, AllocError>
+        requires within { i < length (rows_of (cut_of self.now)) }
+        requires fit { (r : RowOf) → slice_get (rows_of (cut_of self.now)) i ≡ Some r →
+            content_is_fit r.content ≡ true }
+        ensures { (r : RowOf) → slice_get (rows_of (cut_of self.now)) i ≡ Some r →
+            IfOk result (IsRowHead i r (cut_of self.now)) }
+    {
+        let row = self.rows.row(i);
+        let (start, _) = head_place(self.rows, i);
+        let text = self.rows.from_head(i);
+        Ok(RowHead {
+            head: row_head(alloc, text, &row, text)?,
+            text,
+            before: start,
+        })
+    }
+}

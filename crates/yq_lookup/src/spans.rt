@@ -1,0 +1,70 @@
+//! Where entries, contents and comments are; the first break of a text; and where it has room for comments.
+ghost use Rattle.std.specs.Prelude.{◌≡◌, option_map};
+ghost use Rattle.yq_row_table.specs.Rows.{cut_text};
+ghost use Rattle.yq_documents.{specs.Pieces.{piece_span, span}, specs.Reading.cut_of};
+ghost use Rattle.yq_places.specs.PathPieces.{path_piece};
+ghost use Rattle.yq_documents.specs.LinesInRows as lines;
+ghost use Rattle.yq_documents.specs.declared.path.Part.TheVariants as parts;
+ghost use Rattle.yq_places.specs.EntryReading as spec;
+ghost use Rattle.yq_places.specs.FirstBreak as breaks;
+
+use crate::cut_text::CutText;
+use yq_core::Break;
+use yq_documents::{Part, Path, Span};
+use yq_places::{break_of, content_of, entry_of, head_comment_in, line_comment_in, line_has_room};
+
+impl<'t> CutText<'_, 't> {
+    /// The place of the entry or item at a path, unless it is in flow.
+    pub fn entry_place(&self, path: &Path) -> Option<Span>
+        ensures { option_map span result ≡ spec.line_entry_at path.now (cut_of self.now) }
+    {
+        let walk = self.walk(path.doc)?;
+        entry_of(walk, &path.steps)
+    }
+
+    /// The place of the content of the node at a path, unless it is in flow.
+    pub fn content_place(&self, path: &Path) -> Option<Span>
+        ensures { option_map span result ≡ spec.line_content_at path.now (cut_of self.now) }
+    {
+        let walk = self.walk(path.doc)?;
+        content_of(walk, &path.steps)
+    }
+
+    /// The place of the comment after the entry or item at a path, on the line of its key or dash.
+    pub fn line_comment_place(&self, path: &Path) -> Option<Span>
+        ensures { option_map span result ≡
+            option_map piece_span (path_piece path.now parts.LineComment (cut_of self.now)) }
+    {
+        let row_line = self.row_line(path)?;
+        line_comment_in(self.rows, row_line)
+    }
+
+    /// The place of the run of comments above the entry or item at a path, with the breaks.
+    pub fn head_comment_place(&self, path: &Path) -> Option<Span>
+        ensures { option_map span result ≡
+            option_map piece_span (path_piece path.now parts.HeadComment (cut_of self.now)) }
+    {
+        let row_line = self.row_line(path)?;
+        head_comment_in(self.rows, row_line)
+    }
+
+    /// The first break of the text, with which what is put into it is written; LF where it has none.
+    pub fn first_break(&self) -> Break
+        ensures { result ≡ breaks.first_break (cut_text (cut_of self.now)) }
+    {
+        break_of(self.whole())
+    }
+
+    /// Whether the text has room for a comment at a path: `HeadComment` above the row that the
+    /// entry's or item's key or dash begins, `LineComment` after what is on the line of that key
+    /// or dash, where it is the row's last one. The root has none, nor have items and entries in flow,
+    /// and the other parts are no comments.
+    pub fn has_room(&self, path: &Path, part: Part) -> bool
+        ensures { result ≡ lines.has_room path.now part self.now }
+    {
+        let Some(row_line) = self.row_line(path) else {
+            return false;
+        };
+        line_has_room(row_line, part)
+    }
+}
