@@ -1,7 +1,6 @@
 -- How a squash of a pair ends.
-use Rattle.std.proofs.Common.{rules, ◌≡◌, ◌≢◌, ◌⊎◌, inl, inr, ℕ, ◌≤◌, true, ◌&&◌, List, Option, Some, None, Result, Ok, Err, OnOk, OnErr}
-use Rattle.std.proofs.Common.{IfErr, IsTrue, Bool, Vec, option_map, if◌then◌else◌, sym, ap, ◌∙◌, subst, refl}
-use Rattle.std.{proofs.lemmas.Grind.common_steps, proofs.lemmas.Bool.Decides.nat_tests, specs.declared.alloc.Global.Global}
+use Rattle.std.proofs.Common.{rules, ◌≡◌, ◌≢◌, ◌⊎◌, inl, inr, ℕ, ◌≤◌, true, List, Option, Some, None, Result, Ok, Err, OnOk, OnErr, IfErr}
+use Rattle.std.{proofs.Common.{IsTrue, Bool, Vec, option_map, if◌then◌else◌, sym, ap, ◌∙◌, subst, refl}, specs.declared.alloc.Global.Global}
 use Rattle.yq_journal.{specs.declared.fault.JournalError.JournalError, specs.Good.squash_refusal, specs.History.{History, after_squash}}
 use Rattle.yq_journal.{specs.Refusals.{Reports, squash_fault}, specs.State.{State, squashed}, proofs.GoodLaws.describes}
 use Rattle.yq_journal.proofs.SquashLaws.{squash_fault_of, squash_one, squash_rests}
@@ -9,7 +8,6 @@ use Rattle.yq_history.{specs.declared.fault.Fault.Fault, specs.Causes.named, spe
 use Rattle.yq_history.{specs.Pair.{Arrives, Opens, PairAtRest, PairStands, Writes}, specs.Steps.{squash_cause, squash_next, unless_fault}}
 use Rattle.yq_history.proofs.MoveLaws.{cut, is_refused, ends, either, fault_inside, on_ok_map, on_err_map, same_content, wrote_journal}
 use Rattle.yq_store.specs.FileMap.{FileMap}
-use Rattle.yq_journal.specs.declared.fault.JournalError.TheVariants as error
 use Rattle.yq_journal.specs.declared.fault.JournalFault.TheVariants as journal
 
 passed : (b : Bool) → (if b then None else Some journal.BadCount) ≡ None → b ≡ true
@@ -59,5 +57,5 @@ module _ (c : FileMap) (f j : List ℕ) (h : History) (n : ℕ) (s : State) (t :
 -- a pair that was read and settled, and then squashed
 pub squash_opened : (c d : FileMap) (f j : List ℕ) (n : ℕ) (h : Option History) (v : Vec ℕ Global) (s : State) {T : Type 0} (r : Result T Fault) →
     Opens c f j h (Ok (v, s)) →
-    ((t : List ℕ) (x : History) → PairAtRest c f j s t x → Arrives d f j (squash_cause n (Some x)) (Some x) (squash_next n (Some x)) r) → Arrives d f j (squash_cause n h) h (squash_next n h) r
+    ((x : History) → PairAtRest c f j s v.items x → Arrives d f j (squash_cause n (Some x)) (Some x) (squash_next n (Some x)) r) → Arrives d f j (squash_cause n h) h (squash_next n h) r
 squash_opened c d f j n h v s r opens k = search rules
