@@ -1,15 +1,16 @@
 -- What a command does where a call within it failed, or its text stays equal.
-use Rattle.std.proofs.Common.{rules, ◌≡◌, ◌≢◌, ℕ, Bool, true, false, List, Option, None, Result, Ok, Err, OnOk, sym, ap, ◌∙◌, if◌then◌else◌}
-use Rattle.std.{proofs.Common.{subst, refl}, specs.FinMap.get}
+use Rattle.std.proofs.Common.{rules, ◌≡◌, ◌≢◌, ℕ, Bool, true, false, List, Option, None, Result, Ok, Err, OnOk, sym, ap, subst, refl}
+use Rattle.std.specs.FinMap.{get}
 use Rattle.yq_semantics.specs.Program.{Program}
 use Rattle.yq_journal.{specs.History.History, specs.State.State}
 use Rattle.yq_args.specs.declared.eval_options.EvalOptions.{EvalOptions}
 use Rattle.yq_store.{specs.FileMap.FileMap, specs.declared.store.FileReadError.FileReadError}
 use Rattle.yq_history.{specs.declared.fault.Fault.Fault, specs.Causes.{Cause, IsFor, named}, specs.Faults.{is_outer_fault, of_read}}
 use Rattle.yq_history.{specs.Effects.{Effect, from_names, refuses}, specs.Output.Showing, specs.Pair.{Arrives, GoodIn, Opens}}
-use Rattle.yq_history.{specs.Report.Report, proofs.EffectLaws.not_opened, proofs.PairLaws.same_pair}
+use Rattle.yq_history.{specs.declared.opened.OpenPair.OpenPair, specs.Report.Report, proofs.EffectLaws.not_opened}
+use Rattle.yq_history.proofs.PairLaws.{same_pair}
 use Rattle.yq_commands.{specs.CommandDone.{EditsFrom, EditsInPlace, EditsOpened, Evaluates}, specs.CommandEffects.edit_effect}
-use Rattle.yq_commands.{specs.CommandSteps.{update_cause, update_next}, specs.Editing.{Refuses, edited, program_edits, program_in}}
+use Rattle.yq_commands.{specs.CommandSteps.{update_cause, update_next}, specs.Editing.{Refuses, program_edits, program_in}}
 use Rattle.yq_commands.{specs.Evaluation.{cause_in, evaluated, of_file, shows}, proofs.EditEffects.parsed_works}
 use Rattle.yq_commands.proofs.OutcomeLaws.{arrives_as, each_error, unopened}
 use Rattle.yq_history.specs.declared.fault.Fault.TheVariants as fault
@@ -51,14 +52,14 @@ module _ (expr : List ℕ) (options : EvalOptions) (f j : List ℕ) (c : FileMap
 
 -- ---- an edit of a text
 
-module _ (p : Program) (expr f j : List ℕ) (s : State) (t : List ℕ) (c : FileMap) where
+module _ (p : Program) (expr : List ℕ) (o : OpenPair) (c : FileMap) where
   -- the program is refused on it
-  pub refused_edits : {T : Type 0} (r : Result T Fault) (e : Fault) (diffs : Bool) (report : Report) →
-      r ≡ Err e → (e ≢ fault.OutOfMemory → Refuses (program_edits p t) e) → EditsOpened p expr diffs f j s t c c r report
-  refused_edits r e diffs report is why = search rules
+  pub refused_edits : {T : Type 0} (r : Result T Fault) (e : Fault) (diffs : Bool) (report : Report) (t : List ℕ) → t ≡ o.text.items →
+      r ≡ Err e → (e ≢ fault.OutOfMemory → Refuses (program_edits p t) e) → EditsOpened p expr diffs o c c r report
+  refused_edits r e diffs report t same is why = search rules
 
   -- memory was refused before anything was written
-  pub cut_edits : {T : Type 0} (r : Result T Fault) (e : Fault) → r ≡ Err e → is_outer_fault e ≡ true → EditsFrom p expr f j s t c c r
+  pub cut_edits : {T : Type 0} (r : Result T Fault) (e : Fault) → r ≡ Err e → is_outer_fault e ≡ true → EditsFrom p expr o c c r
   cut_edits r e is out = search rules
 
 -- ---- an expression that isn't carried out in place

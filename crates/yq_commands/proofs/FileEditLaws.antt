@@ -1,17 +1,15 @@
 -- What an accepted edit makes of a file, and an expression that is no program.
-use Rattle.std.proofs.Common.{rules, Bool, true, if◌then◌else◌, ◌≡◌, ◌≢◌, ℕ, List, false, Option, Some, Result, Ok, Err, OnOk, sym, ap, ◌∙◌}
-use Rattle.std.{proofs.Common.subst, proofs.lemmas.Option.none-some}
+use Rattle.std.proofs.Common.{rules, Bool, true, ◌≡◌, ◌≢◌, ℕ, List, false, Option, Some, Result, Ok, Err, OnOk, sym, ap, ◌∙◌}
+use Rattle.std.proofs.lemmas.Option.{none-some}
 use Rattle.yq_semantics.specs.Program.{Program, is_read}
 use Rattle.yq_text.specs.Splice.{Splice}
 use Rattle.yq_history.{specs.declared.fault.Fault.Fault, specs.declared.fault.Fault.TheVariants.OutOfMemory, specs.Effects.Works}
 use Rattle.yq_history.{specs.Output.IsOutput, specs.Unified.IsPrintedDiff}
 use Rattle.yq_commands.specs.CommandEffects.{IsUnparsed, fault_of, edit_effect, output_by}
 use Rattle.yq_commands.specs.Editing.{program_in, EditOutcome, edited}
-use Rattle.yq_commands.specs.FileEdits.{HoldsEdited, IsFileEdited, IsTextEdited, PrintsChange, PrintsEdit, PrintsUpdate}
-use Rattle.yq_commands.specs.Expecting.{change_output}
+use Rattle.yq_commands.{specs.FileEdits.{HoldsEdited, IsFileEdited, PrintsChange, PrintsEdit, PrintsUpdate}, specs.Expecting.change_output}
 use Rattle.yq_journal.specs.State.{State}
 use Rattle.yq_store.specs.FileMap.{FileMap}
-use Rattle.yq_history.specs.declared.fault.Fault.TheVariants as fault
 
 -- ---- an expression that is no program
 
@@ -26,13 +24,6 @@ pub unparsed_fault : {T : Type 0} (r : Result T Fault) (expr : List ℕ) (e : Fa
 unparsed_fault r expr e is why f fault = search rules
 
 -- ---- an accepted edit
-
-pub text_same : (p : Program) (t u v : List ℕ) → IsTextEdited p t u → v ≡ u → IsTextEdited p t v
-text_same p t u v edited_to same = subst (IsTextEdited p t) (sym same) edited_to
-
--- it is there
-pub holds_comes : (p : Program) (t u v : List ℕ) (new : Option (List ℕ)) → IsTextEdited p t u → v ≡ u → new ≡ Some v → HoldsEdited p t new
-holds_comes p t u v new edited_to same is = (u, is ∙ ap Some same, edited_to)
 
 -- of a file
 pub file_comes : {T : Type 0} (r : Result T Fault) (expr : List ℕ) (p : Program) (t : List ℕ) (old new : Option (List ℕ)) → program_in expr ≡ Ok p → old ≡ Some t →

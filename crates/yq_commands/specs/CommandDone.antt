@@ -1,15 +1,18 @@
 -- What a command does over a store that keeps what it was given, by what the store's names held before it (old) and hold after it (new) (own).
-use Rattle.std.{specs.Prelude.{◌≡◌, ◌≢◌, ℕ, Bool, true, false, List, [], Option, Some, Result, Ok, OnOk, IfErr}, specs.FinMap.get}
+use Rattle.std.specs.Prelude.{◌≡◌, ◌≢◌, ℕ, Bool, true, false, List, [], Option, Some, Result, Ok, OnOk, IsTrue, string_bytes}
+use Rattle.std.specs.FinMap.{get}
 use Rattle.yq_journal.{specs.History.History, specs.State.State}
 use Rattle.yq_semantics.specs.Program.{Program}
 use Rattle.yq_args.{specs.declared.command.Command.Command, specs.declared.eval_options.EvalOptions.EvalOptions}
-use Rattle.yq_store.specs.FileMap.{FileMap}
+use Rattle.yq_store.{specs.Calls.Call, specs.FileMap.FileMap}
+use Rattle.yq_text.specs.declared.edited.Edited.{Edited}
 use Rattle.yq_history.{specs.declared.fault.Fault.Fault, specs.Causes.Cause, specs.Effects.{Effect, Works}}
-use Rattle.yq_history.{specs.Leaves.{ArrivesBy, LeavesRefused}, specs.Output.{IsOutput, Showing, Shows}}
-use Rattle.yq_history.{specs.Pair.{Arrives, GoodIn, OthersStay, PairAtRest}, specs.Report.Report}
+use Rattle.yq_history.{specs.Leaves.{ArrivesBy, HoldsBytes, LeavesRefused}, specs.Output.{IsOutput, Showing, Shows}}
+use Rattle.yq_history.{specs.OpenedAnswers.{IsHeld, MakesFrom}, specs.Pair.{NamesDiffer, Arrives, GoodIn, OthersStay}, specs.Report.Report}
+use Rattle.yq_history.specs.declared.opened.OpenPair.{OpenPair}
 use Rattle.yq_commands.specs.CommandEffects.{IsListing, OfEffect, edit_effect, output_by, update_effect}
 use Rattle.yq_commands.{specs.CommandNames.{IsNotNamed, IsOn, file_of}, specs.CommandSteps.{cause_of, next_of, update_cause, update_next}}
-use Rattle.yq_commands.{specs.Editing.{program_edits, program_in}, specs.Evaluation.{cause_in, report_in}}
+use Rattle.yq_commands.{specs.Editing.{EachProgram, program_edits, program_in}, specs.Evaluation.{cause_in, report_in}}
 use Rattle.yq_commands.specs.Expecting.{ReportsExpected, expects_change, report_edit, showing_change, works_as_expected}
 use Rattle.yq_commands.specs.FileEdits.{HasEdited, HoldsEdited, IsFileEdited, PrintsChange}
 use Rattle.yq_commands.specs.Prints.{prints, prints_change, reads_journal, report_of}
@@ -101,23 +104,38 @@ abbrev pub showing_edit : EvalOptions → Program → List ℕ → Showing
 showing_edit options p text = showing_change options text (program_edits p text)
 
 -- What an edit of a text by a program does, from a journal that is settled next to that text.
-pub record EditsFrom (p : Program) (expr file journal : List ℕ) (s : State) (text : List ℕ) (old new : FileMap) {T : Type 0} (r : Result T Fault) : Type 0 where
-  pub arrives : (h : History) → PairAtRest old file journal s text h →
-      Arrives new file journal (update_cause (Ok p) (Some h)) (Some h) (update_next expr (Ok p) (Some h)) r
-  pub effect : Works (program_effect expr p text s) file journal old new r
+pub record EditsFrom (p : Program) (expr : List ℕ) (o : OpenPair) (old new : FileMap) {T : Type 0} (r : Result T Fault) : Type 0 where
+  pub arrives : (h : History) → IsHeld old o h →
+      Arrives new o.pair.file.now o.pair.journal.now (update_cause (Ok p) (Some h)) (Some h) (update_next expr (Ok p) (Some h)) r
+  pub effect : Works (program_effect expr p o.text.items o.state) o.pair.file.now o.pair.journal.now old new r
 
 -- What it leaves in the file and prints, where it is carried out on the text that the file held.
-pub record LeavesEdited (p : Program) (file text : List ℕ) (diffs : Bool) (new : FileMap) (s : Report) : Type 0 where
-  pub edited : HoldsEdited p text (get new file)
-  pub printed : PrintsChange diffs file (Some text) (get new file) s.printed
+pub record LeavesEdited (p : Program) (o : OpenPair) (diffs : Bool) (new : FileMap) (s : Report) : Type 0 where
+  pub edited : HoldsEdited p o.text.items (get new o.pair.file.now)
+  pub printed : PrintsChange diffs o.pair.file.now (Some o.text.items) (get new o.pair.file.now) s.printed
 
 -- What an edit of a file and its journal does, from what was read of both, and what it shows where it is carried out.
-pub record EditsOpened (p : Program) (expr : List ℕ) (diffs : Bool) (file journal : List ℕ) (s : State) (text : List ℕ) (old new : FileMap)
+pub record EditsOpened (p : Program) (expr : List ℕ) (diffs : Bool) (o : OpenPair) (old new : FileMap)
     {T : Type 0} (r : Result T Fault) (report : Report) : Type 0 where
-  pub edit : file ≢ journal → EditsFrom p expr file journal s text old new r
-  pub held : file ≢ journal → get old file ≡ Some text → OnOk r (LeavesEdited p file text diffs new report)
+  pub edit : NamesDiffer o.pair → EditsFrom p expr o old new r
+  pub held : NamesDiffer o.pair → HoldsBytes old o.pair.file.now o.text.items → OnOk r (LeavesEdited p o diffs new report)
   pub kept : LeavesRefused old new r
-  pub others : OthersStay old new file journal
+  pub others : OthersStay old new o.pair.file.now o.pair.journal.now
+
+-- an edit to this text does so, whatever program makes it
+abbrev pub EditsByAny : {S : Type 0} → Bool → (S → FileMap) → (old new : S) → OpenPair → List ℕ → Edited → {T : Type 0} → Result T Fault → Type 0
+EditsByAny keeps content old new o expr e r =
+    IsTrue keeps → NamesDiffer o.pair → EachProgram o.text.items e (λ p. EditsFrom p expr o (content old) (content new) r)
+
+-- a success leaves the edited text in the file that held the text
+abbrev pub LeavesText : {S : Type 0} → Bool → (S → FileMap) → (old new : S) → OpenPair → Edited → {T E : Type 0} → Result T E → Type 0
+LeavesText keeps content old new o e r =
+    IsTrue keeps → NamesDiffer o.pair → HoldsBytes (content old) o.pair.file.now o.text.items →
+    OnOk r (HoldsBytes (content new) o.pair.file.now (string_bytes e.text))
+
+-- it is done by these calls
+abbrev pub CallsOfEdit : {S T : Type 0} → (S → Call → S → Type 0) → Result T Fault → OpenPair → List ℕ → Edited → S → S → Type 0
+CallsOfEdit leads r o expr e s t = EachProgram o.text.items e (λ p. MakesFrom leads r o (program_effect expr p) s t)
 
 -- what matched before still does after an edit that isn't asked to change a byte
 abbrev pub MatchesStill : EvalOptions → Report → Report → Type 0

@@ -57,6 +57,6 @@ edit_outcome old (edit.gives text changes) = edited text changes
 unfoldable pub program_edits : Program → List ℕ → EditOutcome
 program_edits program text = edit_outcome text (edit_of program text)
 
--- something holds of each program that makes one text of another by these splices (own)
-abbrev pub EachProgram : List ℕ → List ℕ → List Splice → (Program → Type 0) → Type 0
-EachProgram old new splices holds = (p : Program) → program_edits p old ≡ edited new splices → holds p
+-- something holds of each program that makes this edited text of a text (own)
+abbrev pub EachProgram : List ℕ → Edited → (Program → Type 0) → Type 0
+EachProgram old e holds = (p : Program) → program_edits p old ≡ outcome_of e → holds p

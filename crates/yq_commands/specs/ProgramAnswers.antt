@@ -1,11 +1,14 @@
 -- What calls that carry out programs of the code answer (own).
-use Rattle.std.specs.Prelude.{◌≡◌, ℕ, Bool, false, IfOk, IsTrue, List, Ok, OnOk, Option, Result, String, string_bytes}
+use Rattle.std.{specs.Prelude.{◌≡◌, ℕ, Bool, false, IfOk, IsTrue, List, Ok, OnOk, Option, Result, String, string_bytes}, specs.FinMap.get}
 use Rattle.std.specs.declared.alloc.Global.{Global}
 use Rattle.yq_args.{specs.declared.command.Command.Command, specs.declared.eval_options.EvalOptions.EvalOptions}
-use Rattle.yq_commands.{specs.CommandDone.{CarriesOut, showing_edit}, specs.Editing.{EditOutcome, program_edits}, specs.Evaluation.shows}
-use Rattle.yq_commands.{specs.Expecting.IsChangeOutput, specs.FileEdits.GivesEdit, specs.Reads.with_match}
+use Rattle.yq_commands.{specs.declared.parsed.Parsed.Parsed, specs.CommandDone.{CarriesOut, EditsOpened, program_effect, showing_edit}}
+use Rattle.yq_commands.{specs.Editing.{EditOutcome, program_edits}, specs.Evaluation.shows, specs.Expecting.IsChangeOutput}
+use Rattle.yq_commands.{specs.FileEdits.{GivesEdit, PrintsHeldEdit}, specs.Reads.with_match}
 use Rattle.yq_eval.specs.declared.matched.Match.{Match}
-use Rattle.yq_history.{specs.Output.{Shows, showing_by}, specs.Report.report_by, specs.declared.fault.Fault.Fault}
+use Rattle.yq_history.{specs.declared.fault.Fault.Fault, specs.declared.opened.OpenPair.OpenPair, specs.Causes.Cause, specs.Effects.Effect}
+use Rattle.yq_history.{specs.Output.{Showing, Shows, showing_by}, specs.Report.report_by}
+use Rattle.yq_journal.specs.State.{State}
 use Rattle.yq_semantics.{specs.Program.is_read, specs.View.program_of, specs.declared.program.Syntax.Syntax}
 use Rattle.yq_store.specs.FileMap.{FileMap}
 use Rattle.yq_history.specs.declared.report.Report as declared
@@ -30,9 +33,28 @@ GivesChange file diffs t outcome r = IfOk r (λ s. IsChangeOutput file diffs t o
 abbrev pub GivesProgramChange : List ℕ → Bool → List ℕ → Syntax → {X E : Type 0} → Result (X × String Global) E → Type 0
 GivesProgramChange file diffs t program r = IfOk r (λ e. IsChangeOutput file diffs t (program_edits (program_of program) t) (string_bytes e.1))
 
--- a success reports what an edit in place of a text by a program shows
-abbrev pub ShowsEdit : List ℕ → EvalOptions → Syntax → List ℕ → declared.Report → {T E : Type 0} → Result T E → Type 0
-ShowsEdit file options program t report r = OnOk r (Shows file (showing_edit options (program_of program) t) (report_by report))
+-- a success reports what an edit in place by a program shows
+abbrev pub ShowsEdit : OpenPair → Parsed → declared.Report → {T E : Type 0} → Result T E → Type 0
+ShowsEdit o e report r = OnOk r (Shows o.pair.file.now (showing_edit e.options (program_of e.program.now) o.text.items) (report_by report))
+
+-- what such an edit does to a text and its settled journal
+abbrev pub parsed_effect : Parsed → List ℕ → State → Effect
+parsed_effect e = program_effect e.expr.now (program_of e.program.now)
+
+-- what a program shows of a text
+abbrev pub parsed_showing : Parsed → List ℕ → Result Showing Cause
+parsed_showing e = shows e.options (program_of e.program.now)
+
+-- what was printed of a file is the text that a program makes of it, or with `--diff` a diff, where the program is no read
+abbrev pub PrintsParsed : Bool → FileMap → List ℕ → Parsed → declared.Report → {T E : Type 0} → Result T E → Type 0
+PrintsParsed keeps content file e report r =
+    IsTrue keeps → is_read (program_of e.program.now) ≡ false →
+    OnOk r (PrintsHeldEdit e.options.diff file (program_of e.program.now) (get content file) (string_bytes report.text))
+
+-- in a store that keeps what is put into it such an edit does what is defined
+abbrev pub EditsParsed : {S : Type 0} → Bool → (S → FileMap) → (old new : S) → OpenPair → Parsed → {T : Type 0} → Result T Fault → declared.Report → Type 0
+EditsParsed keeps content old new o e r report =
+    IsTrue keeps → EditsOpened (program_of e.program.now) e.expr.now e.options.diff o (content old) (content new) r (report_by report)
 
 -- in a store that keeps what is put into it a command is carried out
 abbrev pub Executes : {S : Type 0} → Bool → (S → FileMap) → (old new : S) → Command → {T : Type 0} → Result T Fault → declared.Report → Type 0

@@ -1,11 +1,10 @@
 -- What is reported where a call within a move failed.
 use Rattle.std.proofs.Common.{rules, ◌≡◌, ℕ, false, List, Some, None, Result, Err, OnOk, IfErr, IsTrue, IsNone, is_some, if◌then◌else◌, sym}
 use Rattle.std.proofs.Common.{ap, ◌∙◌, subst}
-use Rattle.yq_journal.{specs.Refusals.{JournalError, move_fault, no_way, way_fault}, specs.declared.fault.JournalFault.JournalFault}
-use Rattle.yq_journal.{specs.declared.moves.Move.Move, specs.State.{State, moved_text}}
+use Rattle.yq_journal.{specs.Refusals.{move_fault, no_way, way_fault}, specs.declared.moves.Move.Move, specs.State.{State, moved_text}}
 use Rattle.yq_store.{specs.Count.after_write, specs.declared.store.FileWriteError.FileWriteError}
-use Rattle.yq_history.{specs.declared.fault.Fault.Fault, specs.Faults.is_outer_fault, proofs.MoveLaws.{no_way_free, none_of}}
-use Rattle.yq_failure.specs.declared.failure.Failure.TheVariants as error
+use Rattle.yq_history.{specs.declared.fault.Fault.Fault, specs.Faults.{failures_after, is_outer_fault, of_write}}
+use Rattle.yq_history.proofs.MoveLaws.{no_way_free, none_of}
 use Rattle.yq_journal.specs.declared.fault.JournalFault.TheVariants as journal
 use Rattle.yq_store.specs.declared.store.FileWriteError.TheVariants as write
 
@@ -22,11 +21,16 @@ all_outside P r out = search rules
 
 -- ---- writes
 
+-- what is counted of a write that failed
+pub failed_write : {T : Type 0} (r : Result T Fault) (e : FileWriteError) (n : ℕ) → r ≡ Err (of_write e) → after_write {T = Unit {0}} (Err e) n ≡ failures_after r n
+failed_write r write.WriteFailed n is = sym (ap (λ q. failures_after q n) is)
+failed_write r write.OutOfMemory n is = sym (ap (λ q. failures_after q n) is)
+
 -- ---- the journal
 
 -- a move that leads from a text to another, of a settled journal
 module _ (s : State) (step : Move) (t u : List ℕ) (settled : IsNone s.pending) (leads : moved_text s.records s.at step t ≡ Some u) where
-  way_of : move_fault s step t ≡ way_fault s.records s.at step t
+  pub way_of : move_fault s step t ≡ way_fault s.records s.at step t
   way_of = ap (λ o. if is_some o then Some journal.Unsettled else way_fault s.records s.at step t) (none_of s.pending settled)
 
   -- where the journal opened it there was a way for it

@@ -58,5 +58,5 @@ module _ (c : FileMap) (f j : List ℕ) (h : History) (n : ℕ) (s : State) (t :
 -- a pair that was read and settled, and then squashed
 pub squash_opened : (c d : FileMap) (f j : List ℕ) (n : ℕ) (h : Option History) (v : Vec ℕ Global) (s : State) {T : Type 0} (r : Result T Fault) →
     Opens c f j h (Ok (v, s)) →
-    ((t : List ℕ) (x : History) → PairAtRest c f j s t x → Arrives d f j (squash_cause n (Some x)) (Some x) (squash_next n (Some x)) r) → Arrives d f j (squash_cause n h) h (squash_next n h) r
+    ((x : History) → PairAtRest c f j s v.items x → Arrives d f j (squash_cause n (Some x)) (Some x) (squash_next n (Some x)) r) → Arrives d f j (squash_cause n h) h (squash_next n h) r
 squash_opened c d f j n h v s r opens k = search rules

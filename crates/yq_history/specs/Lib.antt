@@ -16,4 +16,6 @@ pub mod Directions
 pub mod Visible
 pub mod Calls
 pub mod Unified
+pub mod Actions
+pub mod OpenedAnswers
 pub mod PairAnswers

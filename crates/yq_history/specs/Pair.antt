@@ -4,8 +4,12 @@ use Rattle.std.{specs.FinMap.{get, insert}, specs.declared.alloc.Global.Global}
 use Rattle.yq_journal.{specs.Good.{Good, PairHolds, AtRest, journal_beside}, specs.History.History, specs.Json.{journal_in, journal_text}}
 use Rattle.yq_journal.specs.State.{State}
 use Rattle.yq_history.{specs.declared.fault.Fault.Fault, specs.declared.fault.Fault.TheVariants.NotThere, specs.Causes.{Cause, IsFor}}
-use Rattle.yq_history.specs.Faults.{is_outer_fault}
+use Rattle.yq_history.{specs.declared.opened.Pair.Pair, specs.Faults.is_outer_fault}
 use Rattle.yq_store.specs.FileMap.{FileMap}
+
+-- a file and its journal have two names
+abbrev pub NamesDiffer : Pair → Type 0
+NamesDiffer pair = pair.file.now ≢ pair.journal.now
 
 -- a file and its journal are good for a history
 abbrev pub GoodIn : FileMap → List ℕ → List ℕ → Option History → Type 0

@@ -6,7 +6,7 @@ ghost use Rattle.yq_history.specs.PairAnswers.{BadOnlyIfNone, IsReadFrom, FindsP
 ghost use Rattle.yq_history.specs.PairAnswers.{WritesState, MayWriteState};
 ghost use Rattle.std.specs.Prelude.{◌≡◌, false, IfOk, IfErr, IsTrue, IsNone};
 
-use crate::fault::Fault;
+use crate::{Fault, Pair};
 use std::alloc::Global;
 use yq_journal::Journal;
 use yq_store::{FileReadError, Store};
@@ -51,21 +51,20 @@ pub fn write_journal<D: Store>(
 pub fn open_pair<D: Store>(
     alloc: Global,
     store: &mut D,
-    file: &str,
-    journal: &str,
+    pair: &Pair<'_>,
 ) -> Result<(Vec<u8>, Journal), Fault>
-    ensures opens { OpensPair D.keeps D.content store.old store.new file.now journal.now result }
-    ensures found { IsTrue D.keeps → FindsPair (D.content store.old) file.now journal.now result }
-    ensures missed { IsTrue D.keeps → MissesPair (D.content store.old) file.now journal.now result }
+    ensures opens { OpensPair D.keeps D.content store.old store.new pair.now result }
+    ensures found { IsTrue D.keeps → FindsPair (D.content store.old) pair.now result }
+    ensures missed { IsTrue D.keeps → MissesPair (D.content store.old) pair.now result }
     ensures same { IsTrue D.keeps → D.content store.new ≡ D.content store.old }
-    ensures text { IsTrue D.keeps → OpensText (D.content store.old) file.now result }
+    ensures text { IsTrue D.keeps → OpensText (D.content store.old) pair.now result }
     ensures at_rest { IfOk result (λ p. IsNone p.1.pending) }
     ensures no_output { IfErr result (λ e. is_output e ≡ false) }
     ensures count { D.failures store.new ≡ failures_after result (D.failures store.old) }
-    ensures calls { OpensBy D.leads result file.now journal.now store.old store.new }
+    ensures calls { OpensBy D.leads result pair.now store.old store.new }
 {
-    let text = store.read(alloc, file)?;
-    let mut state = read_journal(alloc, store, journal)?;
+    let text = store.read(alloc, pair.file)?;
+    let mut state = read_journal(alloc, store, pair.journal)?;
     state.settle(&text)?;
     Ok((text, state))
 }

@@ -7,11 +7,9 @@ ghost use Rattle.std.{specs.Prelude.{◌≡◌, IfErr, IfOk, IsTrue, false, true
 ghost use Rattle.json.specs.Print as json;
 ghost use Rattle.yq_history.specs.Listing as spec;
 
-use crate::fault::Fault;
 use crate::listed_diffs::lines_with_diffs;
-use crate::pair::open_pair;
-use crate::report::Report;
 use crate::visible::{is_bare, visible};
+use crate::{Fault, Pair, Report, open_pair};
 use itoa::Buffer;
 use std::alloc::{AllocError, Global};
 use yq_journal::{Journal, push_quoted};
@@ -133,23 +131,22 @@ fn output_of(
 pub fn listing<D: Store>(
     alloc: Global,
     store: &mut D,
-    file: &str,
-    journal: &str,
+    pair: &Pair<'_>,
     diffs: bool,
     report: &mut Report,
 ) -> Result<(), Fault>
     requires empty { report_by report.old ≡ nothing }
-    ensures arrives { ArrivesListed D.keeps D.content store.old store.new file.now journal.now result }
-    ensures effect { ListsPair D.keeps D.content store.old store.new file.now journal.now diffs result }
-    ensures lines { Lists D.keeps (D.content store.old) file.now journal.now diffs report.new result }
-    ensures output { Prints D.keeps (D.content store.old) file.now journal.now diffs report.new result }
+    ensures arrives { ArrivesListed D.keeps D.content store.old store.new pair.now result }
+    ensures effect { ListsPair D.keeps D.content store.old store.new pair.now diffs result }
+    ensures lines { Lists D.keeps (D.content store.old) pair.now diffs report.new result }
+    ensures output { Prints D.keeps (D.content store.old) pair.now diffs report.new result }
     ensures matched { report.new.is_match ≡ true }
     ensures same { IsTrue D.keeps → D.content store.new ≡ D.content store.old }
     ensures no_output { IfErr result (λ e. is_output e ≡ false) }
     ensures count { D.failures store.new ≡ failures_after result (D.failures store.old) }
-    ensures calls { CallsListing D.leads result file.now journal.now diffs store.old store.new }
+    ensures calls { CallsListing D.leads result pair.now diffs store.old store.new }
 {
-    let (text, state) = open_pair(alloc, store, file, journal)?;
-    report.text = output_of(alloc, file, &state, text, diffs)?;
+    let (text, state) = open_pair(alloc, store, pair)?;
+    report.text = output_of(alloc, pair.file, &state, text, diffs)?;
     Ok(())
 }

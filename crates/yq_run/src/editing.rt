@@ -1,17 +1,16 @@
 //! Edits of texts, and of files beside their journals.
-ghost use Rattle.std.{specs.Prelude.{◌≡◌, IfOk, IfErr, IsTrue, IsNone, [], false}, specs.String.string_bytes};
+ghost use Rattle.std.{specs.Prelude.{◌≡◌, IfOk, IfErr, [], false}, specs.String.string_bytes};
 ghost use Rattle.yq_semantics.specs.View.{program_of};
-ghost use Rattle.yq_commands.specs.CommandDone.{EditsOpened, MatchesStill, program_effect};
+ghost use Rattle.yq_commands.specs.CommandDone.{MatchesStill};
 ghost use Rattle.yq_commands.specs.Editing.{LengthsLead, RefusedBy, SplicesLead, outcome_of, program_edits};
 ghost use Rattle.yq_commands.{specs.Expecting.changes_as_expected, specs.FileEdits.IsEditedBy};
-ghost use Rattle.yq_commands.specs.ProgramAnswers.{GivesChange, GivesProgramChange, ShowsEdit};
-ghost use Rattle.yq_history.{specs.Calls.Makes, specs.Faults.{is_failure, is_output, failures_after}, specs.Report.report_by};
+ghost use Rattle.yq_commands.specs.ProgramAnswers.{EditsParsed, GivesChange, GivesProgramChange, ShowsEdit, parsed_effect};
+ghost use Rattle.yq_history.{specs.OpenedAnswers.MakesFrom, specs.Faults.{is_failure, is_output, failures_after}, specs.Report.report_by};
 
 use std::alloc::{AllocError, Global};
 use yq_args::EvalOptions;
-use yq_commands::{commit, edit_fault, utf8_text};
-use yq_history::{Fault, Report, unified_diff};
-use yq_journal::Journal;
+use yq_commands::{Parsed, commit, edit_fault, utf8_text};
+use yq_history::{Fault, OpenPair, Report, unified_diff};
 use yq_semantics::Program;
 use yq_splice::{Edited, edit};
 use yq_store::Store;
@@ -73,36 +72,23 @@ pub fn is_as_expected(options: EvalOptions, old: &[u8], new: &[u8]) -> bool
 pub fn edit_from<D: Store>(
     alloc: Global,
     store: &mut D,
-    file: &str,
-    journal: &str,
-    state: &mut Journal,
-    program: &Program,
-    expr: &str,
-    text: Vec<u8>,
-    options: EvalOptions,
+    open: OpenPair<'_>,
+    parsed: &Parsed<'_>,
     report: &mut Report,
 ) -> Result<(), Fault>
-    requires at_rest { IsNone state.old.pending }
     requires empty { string_bytes report.old.text ≡ [] }
-    ensures done { IsTrue D.keeps → EditsOpened (program_of program.now) expr.now options.diff
-        file.now journal.now state.old text.items (D.content store.old) (D.content store.new) result
-        (report_by report.new) }
-    ensures silent { options.diff ≡ false → string_bytes report.new.text ≡ [] }
-    ensures shows { ShowsEdit file.now options program.now text.items report.new result }
-    ensures unasked { MatchesStill options (report_by report.old) (report_by report.new) }
+    ensures done { EditsParsed D.keeps D.content store.old store.new open.entry parsed.now result report.new }
+    ensures silent { parsed.now.options.diff ≡ false → string_bytes report.new.text ≡ [] }
+    ensures shows { ShowsEdit open.entry parsed.now report.new result }
+    ensures unasked { MatchesStill parsed.now.options (report_by report.old) (report_by report.new) }
     ensures no_output { IfErr result (λ e. is_output e ≡ false) }
     ensures count { D.failures store.new ≡ failures_after result (D.failures store.old) }
-    ensures calls { Makes D.leads result file.now journal.now text.items
-        (program_effect expr.now (program_of program.now) text.items state.old)
-        store.old store.new }
+    ensures calls { MakesFrom D.leads result open.entry (parsed_effect parsed.now) store.old store.new }
 {
-    let (edited, change) = edit_text(alloc, file, program, text.as_slice(), options.diff)?;
-    let Edited {
-        text: edited_to,
-        splices,
-    } = edited;
-    let new = edited_to.as_bytes();
+    let options = parsed.options;
+    let old = open.text.as_slice();
+    let (edited, change) = edit_text(alloc, open.pair.file, parsed.program, old, options.diff)?;
     report.text = change;
-    report.is_match = is_as_expected(options, text.as_slice(), new);
-    commit(alloc, store, file, journal, state, expr, splices, text, new)
+    report.is_match = is_as_expected(options, old, edited.text.as_bytes());
+    commit(alloc, store, open, parsed.expr, edited)
 }

@@ -3,14 +3,15 @@ ghost use Rattle.std.{specs.Prelude.{◌≡◌, Some, IfErr, OnOk, IsTrue, false
 ghost use Rattle.yq_semantics.{specs.Program.is_read, specs.View.program_of};
 ghost use Rattle.yq_history.{specs.Calls.ReadsFile, specs.Faults.{is_failure, is_output, failures_after}, specs.Report.report_by};
 ghost use Rattle.yq_commands.{specs.Calls.CallsOfEvaluation, specs.CommandDone.Evaluates, specs.Editing.program_in};
-ghost use Rattle.yq_commands.{specs.CommandEffects.{IsUnparsed, fault_of}, specs.FileEdits.{GivesEdit, PrintsHeldEdit, PrintsUpdate}};
-ghost use Rattle.yq_commands.{specs.Evaluation.{FailsFor, GivesShowing, evaluated, of_file, shows}, specs.ProgramAnswers.GivesUpdate};
+ghost use Rattle.yq_commands.{specs.CommandEffects.{IsUnparsed, fault_of}, specs.FileEdits.{GivesEdit, PrintsUpdate}};
+ghost use Rattle.yq_commands.specs.Evaluation.{FailsFor, GivesShowing, evaluated, of_file, shows};
+ghost use Rattle.yq_commands.specs.ProgramAnswers.{GivesUpdate, PrintsParsed, parsed_showing};
 ghost use Rattle.std.specs.FinMap as map;
 
 use crate::editing::{edit_text, is_as_expected};
 use std::alloc::Global;
 use yq_args::EvalOptions;
-use yq_commands::{parse, show_read};
+use yq_commands::{Parsed, parse, show_read};
 use yq_history::{Fault, Report};
 use yq_semantics::Program;
 use yq_store::Store;
@@ -70,21 +71,18 @@ fn evaluate_program<D: Store>(
     alloc: Global,
     store: &mut D,
     file: &str,
-    program: &Program,
-    options: EvalOptions,
+    parsed: &Parsed<'_>,
     report: &mut Report,
 ) -> Result<(), Fault>
-    ensures done { IsTrue D.keeps → Evaluates (of_file (shows options (program_of program.now)))
-        file.now (D.content store.old) (D.content store.new) result (report_by report.new) }
-    ensures edited { IsTrue D.keeps → is_read (program_of program.now) ≡ false →
-        OnOk result (PrintsHeldEdit options.diff file.now (program_of program.now)
-        (map.get (D.content store.old) file.now) (string_bytes report.new.text)) }
+    ensures done { IsTrue D.keeps → Evaluates (of_file (parsed_showing parsed.now)) file.now
+        (D.content store.old) (D.content store.new) result (report_by report.new) }
+    ensures edited { PrintsParsed D.keeps (D.content store.old) file.now parsed.now report.new result }
     ensures no_output { IfErr result (λ e. is_output e ≡ false) }
     ensures count { D.failures store.new ≡ failures_after result (D.failures store.old) }
     ensures calls { ReadsFile D.leads result file.now (λ text s t. t ≡ s) store.old store.new }
 {
     let text = store.read(alloc, file)?;
-    *report = show(alloc, file, program, &text, options)?;
+    *report = show(alloc, file, parsed.program, &text, parsed.options)?;
     Ok(())
 }
 
@@ -109,5 +107,10 @@ pub fn evaluate<D: Store>(
     ensures calls { CallsOfEvaluation D.leads result expr.now file.now store.old store.new }
 {
     let program = parse(alloc, expr)?;
-    evaluate_program(alloc, store, file, &program, options, report)
+    let parsed = Parsed {
+        program: &program,
+        expr,
+        options,
+    };
+    evaluate_program(alloc, store, file, &parsed, report)
 }

@@ -10,8 +10,8 @@ use crate::evaluating::evaluate;
 use std::alloc::Global;
 use yq_args::{Command, EvalOptions};
 use yq_commands::help::help;
-use yq_commands::parse;
-use yq_history::{Direction, Fault, Report, listing, move_file, open_pair, squash};
+use yq_commands::{Parsed, parse};
+use yq_history::{Direction, Fault, OpenPair, Pair, Report, listing, move_file, open_pair, squash};
 use yq_store::Store;
 
 /// Edits a file in place, and reports with `--diff` what changed.
@@ -35,10 +35,15 @@ fn update<D: Store>(
     ensures calls { CallsOfUpdate D.leads result expr.now file.now journal.now store.old store.new }
 {
     let program = parse(alloc, expr)?;
-    let (text, mut state) = open_pair(alloc, store, file, journal)?;
-    edit_from(
-        alloc, store, file, journal, &mut state, &program, expr, text, options, report,
-    )
+    let pair = Pair { file, journal };
+    let (text, state) = open_pair(alloc, store, &pair)?;
+    let open = OpenPair { pair, text, state };
+    let parsed = Parsed {
+        program: &program,
+        expr,
+        options,
+    };
+    edit_from(alloc, store, open, &parsed, report)
 }
 
 /// Carries out a command but for its output, and tells what it shows.
@@ -81,37 +86,36 @@ pub fn execute<D: Store>(
             ..
         } => evaluate(alloc, store, file.as_str(), expr.as_str(), *options, report),
         Command::Undo { file, journal } => {
-            move_file(
-                alloc,
-                store,
-                file.as_str(),
-                journal.as_str(),
-                Direction::Undo,
-            )
+            let pair = Pair {
+                file: file.as_str(),
+                journal: journal.as_str(),
+            };
+            move_file(alloc, store, &pair, Direction::Undo)
         }
         Command::Redo { file, journal } => {
-            move_file(
-                alloc,
-                store,
-                file.as_str(),
-                journal.as_str(),
-                Direction::Redo,
-            )
+            let pair = Pair {
+                file: file.as_str(),
+                journal: journal.as_str(),
+            };
+            move_file(alloc, store, &pair, Direction::Redo)
         }
         Command::History {
             file,
             journal,
             diffs,
-        } => listing(
-            alloc,
-            store,
-            file.as_str(),
-            journal.as_str(),
-            *diffs,
-            report,
-        ),
+        } => {
+            let pair = Pair {
+                file: file.as_str(),
+                journal: journal.as_str(),
+            };
+            listing(alloc, store, &pair, *diffs, report)
+        }
         Command::Squash { n, file, journal } => {
-            squash(alloc, store, file.as_str(), journal.as_str(), *n)
+            let pair = Pair {
+                file: file.as_str(),
+                journal: journal.as_str(),
+            };
+            squash(alloc, store, &pair, *n)
         }
         Command::Help => help(alloc, report),
     }

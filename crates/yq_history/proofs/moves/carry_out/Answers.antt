@@ -2,7 +2,7 @@ use Rattle.std.{proofs.Common.{inl, inr, refl, ap, ◌∙◌, sym, Err, [], ◌�
 use Rattle.std.proofs.lemmas.Result.{err_from_is_err_and}
 use Rattle.yq_history.proofs.MoveLaws.{first_write, second_write, third_write, same_content, moved_journal, on_err, on_ok_map, on_err_map}
 use Rattle.yq_history.{proofs.MoveLaws.{either, settled_is}, proofs.CutLaws.{cut_unwritten, cut_opened, cut_changed, cut_settled}}
-use Rattle.yq_history.{proofs.EffectLaws.on_ok, specs.Faults.failures_after, proofs.FaultLaws.{all_outside, way_there}}
+use Rattle.yq_history.{proofs.EffectLaws.on_ok, specs.Faults.failures_after, proofs.FaultLaws.{all_outside, failed_write, way_there}}
 use Rattle.yq_history.{specs.Effects.move_effect, proofs.CallLaws.{fails, makes_none, puts_as, three_writes, was_last, was_put_as}}
 use Rattle.yq_journal.{specs.Json.journal_text, specs.State.journal_after}
 use Rattle.yq_store.specs.FileMap.{get_written}
@@ -10,7 +10,7 @@ use Rattle.yq_history.proofs.moves.carry_out.Goals as goal
 
 pub returns : goal.returns
 returns g c =
-    let free = way_there c.args.state.now c.args.step c.args.old.items _ c.requires.at_rest c.requires.moves c.in_ok-start_with.ensures.free in
+    let free = way_there c.args.open.state c.args.step c.args.open.text.items _ c.args.open.at_rest c.requires.moves c.in_ok-start_with.ensures.free in
     record {
       ok = λ keeps apart h k.
           on_ok_map _ (c.write_journal-2.ensures.ok keeps)
@@ -23,17 +23,17 @@ returns g c =
           (third_write _ _ apart _ _ _ _ _ _ _ k c.requires.moves _ _ _ _ c.requires.changes c.in_ok-start_with.ensures.ok put c.in_ok-finish.ensures.ok)));
       text = λ keeps apart.
           on_ok c.write_journal-2.result
-          (c.write_journal-2.ensures.others keeps c.args.file.now apart ∙ ap (λ m. get m c.args.file.now) (c.in_ok-replace.ensures.written keeps) ∙ get_written _ c.args.file.now _);
+          (c.write_journal-2.ensures.others keeps c.args.open.pair.file.now apart ∙ ap (λ m. get m c.args.open.pair.file.now) (c.in_ok-replace.ensures.written keeps) ∙ get_written _ c.args.open.pair.file.now _);
       moved = λ keeps. on_ok_map _ (c.write_journal-2.ensures.ok keeps)
-          (moved_journal _ c.args.state.now _ _ c.args.step _ _ _ _ c.requires.moves c.requires.changes c.in_ok-start_with.ensures.ok c.in_ok-finish.ensures.ok);
+          (moved_journal _ c.args.open.state _ _ c.args.step _ _ _ _ c.requires.moves c.requires.changes c.in_ok-start_with.ensures.ok c.in_ok-finish.ensures.ok);
       cut = λ keeps apart.
           let put = c.in_ok-replace.ensures.written keeps in
-          let file = c.write_journal-2.ensures.others keeps c.args.file.now apart ∙ ap (λ m. get m c.args.file.now) put ∙ get_written _ c.args.file.now _ in
+          let file = c.write_journal-2.ensures.others keeps c.args.open.pair.file.now apart ∙ ap (λ m. get m c.args.open.pair.file.now) put ∙ get_written _ c.args.open.pair.file.now _ in
           on_err_map _ (c.write_journal-2.ensures.err keeps)
           (λ x. either x
           (λ same. cut_changed _ _ _ _ _ _ apart _ _ c.in_ok-start_with.ensures.ok (c.in_ok-write_journal.ensures.ok keeps) _ (same ∙ put))
           (λ w. cut_settled _ _ _ _ _ _ _ file
-          (moved_journal _ c.args.state.now _ _ c.args.step _ _ _ _ c.requires.moves c.requires.changes c.in_ok-start_with.ensures.ok c.in_ok-finish.ensures.ok w)));
+          (moved_journal _ c.args.open.state _ _ c.args.step _ _ _ _ c.requires.moves c.requires.changes c.in_ok-start_with.ensures.ok c.in_ok-finish.ensures.ok w)));
       fault = all_outside _ c.write_journal-2.result c.write_journal-2.ensures.outside;
       refused = λ f why.
           absurd (none-some f (sym free ∙ why));
@@ -44,10 +44,10 @@ returns g c =
       no_output = c.write_journal-2.ensures.no_output;
       count = c.write_journal-2.ensures.count ∙ ap (failures_after c.write_journal-2.result) (c.in_ok-replace.ensures.count ∙ c.in_ok-write_journal.ensures.count);
       calls =
-          let first = was_put_as g.D.Store.leads tt c.args.journal.now _ _ c.args.store.now c.write_journal.new.store c.in_ok-start_with.ensures.ok c.in_ok-write_journal.ensures.calls in
-          let settled = settled_is c.args.state.now _ _ c.args.step _ _ c.requires.moves c.requires.changes c.in_ok-start_with.ensures.ok c.in_ok-finish.ensures.ok in
-          let third = puts_as g.D.Store.leads c.write_journal-2.result c.args.journal.now _ _ c.replace.new.self c.write_journal-2.new.store settled c.write_journal-2.ensures.calls in
-          three_writes g.D.Store.leads c.write_journal-2.result c.args.file.now c.args.journal.now c.args.state.now c.args.step c.args.old.items c.args.store.now c.write_journal-2.new.store c.args.new.now free c.requires.moves c.requires.changes
+          let first = was_put_as g.D.Store.leads tt c.args.open.pair.journal.now _ _ c.args.store.now c.write_journal.new.store c.in_ok-start_with.ensures.ok c.in_ok-write_journal.ensures.calls in
+          let settled = settled_is c.args.open.state _ _ c.args.step _ _ c.requires.moves c.requires.changes c.in_ok-start_with.ensures.ok c.in_ok-finish.ensures.ok in
+          let third = puts_as g.D.Store.leads c.write_journal-2.result c.args.open.pair.journal.now _ _ c.replace.new.self c.write_journal-2.new.store settled c.write_journal-2.ensures.calls in
+          three_writes g.D.Store.leads c.write_journal-2.result c.args.open.pair.file.now c.args.open.pair.journal.now c.args.open.state c.args.step c.args.open.text.items c.args.store.now c.write_journal-2.new.store c.args.new.now free c.requires.moves c.requires.changes
           (inr (inr (c.write_journal.new.store, first, inr (inr (c.replace.new.self, c.in_ok-replace.ensures.call, third)))));
     }
 
@@ -92,29 +92,35 @@ returns-in_err-finish-clause-cut g c = λ keeps apart.
 pub returns-in_err-start_with-clause-calls : goal.returns-in_err-start_with-clause-calls
 returns-in_err-start_with-clause-calls g c =
     let p = err_from_is_err_and c.from_residual.result c.from_residual.ensures.1 in
-    makes_none g.D.Store.leads c.from_residual.result c.args.file.now c.args.journal.now c.args.old.items (move_effect c.args.step c.args.old.items c.args.state.now) c.args.store.now (fails c.from_residual.result _ p.1)
+    makes_none g.D.Store.leads c.from_residual.result c.args.open.pair.file.now c.args.open.pair.journal.now c.args.open.text.items (move_effect c.args.step c.args.open.text.items c.args.open.state) c.args.store.now (fails c.from_residual.result _ p.1)
 
 pub returns-in_err-write_journal-clause-calls : goal.returns-in_err-write_journal-clause-calls
 returns-in_err-write_journal-clause-calls g c =
-    let free = way_there c.args.state.now c.args.step c.args.old.items _ c.requires.at_rest c.requires.moves c.in_ok-start_with.ensures.free in
+    let free = way_there c.args.open.state c.args.step c.args.open.text.items _ c.args.open.at_rest c.requires.moves c.in_ok-start_with.ensures.free in
     let p = err_from_is_err_and c.from_residual-in_err-write_journal.result c.from_residual-in_err-write_journal.ensures.1 in
-    three_writes g.D.Store.leads c.from_residual-in_err-write_journal.result c.args.file.now c.args.journal.now c.args.state.now c.args.step c.args.old.items c.args.store.now c.write_journal.new.store c.args.new.now free c.requires.moves c.requires.changes
+    three_writes g.D.Store.leads c.from_residual-in_err-write_journal.result c.args.open.pair.file.now c.args.open.pair.journal.now c.args.open.state c.args.step c.args.open.text.items c.args.store.now c.write_journal.new.store c.args.new.now free c.requires.moves c.requires.changes
     (was_last g.D.Store.leads c.from_residual-in_err-write_journal.result _ _
-    ((c.args.file.now, c.args.new.now) ∷ (c.args.journal.now, journal_text (journal_after c.args.state.now c.args.step)) ∷ []) c.args.store.now c.write_journal.new.store (p.1 ∙ ap Err p.2)
-    (puts_as g.D.Store.leads _ c.args.journal.now _ _ c.args.store.now c.write_journal.new.store c.in_ok-start_with.ensures.ok c.in_err-write_journal.ensures.calls))
+    ((c.args.open.pair.file.now, c.args.new.now) ∷ (c.args.open.pair.journal.now, journal_text (journal_after c.args.open.state c.args.step)) ∷ []) c.args.store.now c.write_journal.new.store (p.1 ∙ ap Err p.2)
+    (puts_as g.D.Store.leads _ c.args.open.pair.journal.now _ _ c.args.store.now c.write_journal.new.store c.in_ok-start_with.ensures.ok c.in_err-write_journal.ensures.calls))
 
 pub returns-in_err-replace-clause-calls : goal.returns-in_err-replace-clause-calls
 returns-in_err-replace-clause-calls g c =
-    let free = way_there c.args.state.now c.args.step c.args.old.items _ c.requires.at_rest c.requires.moves c.in_ok-start_with.ensures.free in
+    let free = way_there c.args.open.state c.args.step c.args.open.text.items _ c.args.open.at_rest c.requires.moves c.in_ok-start_with.ensures.free in
     let p = err_from_is_err_and c.from_residual-in_err-replace.result c.from_residual-in_err-replace.ensures.1 in
-    let first = was_put_as g.D.Store.leads tt c.args.journal.now _ _ c.args.store.now c.write_journal.new.store c.in_ok-start_with.ensures.ok c.in_ok-write_journal.ensures.calls in
-    three_writes g.D.Store.leads c.from_residual-in_err-replace.result c.args.file.now c.args.journal.now c.args.state.now c.args.step c.args.old.items c.args.store.now c.replace.new.self c.args.new.now free c.requires.moves c.requires.changes
+    let first = was_put_as g.D.Store.leads tt c.args.open.pair.journal.now _ _ c.args.store.now c.write_journal.new.store c.in_ok-start_with.ensures.ok c.in_ok-write_journal.ensures.calls in
+    three_writes g.D.Store.leads c.from_residual-in_err-replace.result c.args.open.pair.file.now c.args.open.pair.journal.now c.args.open.state c.args.step c.args.open.text.items c.args.store.now c.replace.new.self c.args.new.now free c.requires.moves c.requires.changes
     (inr (inr (c.write_journal.new.store, first, inr (inl (_, c.in_err-replace.ensures.call, p.1 ∙ ap Err p.2)))))
 
 pub returns-in_err-finish-clause-calls : goal.returns-in_err-finish-clause-calls
 returns-in_err-finish-clause-calls g c =
-    let free = way_there c.args.state.now c.args.step c.args.old.items _ c.requires.at_rest c.requires.moves c.in_ok-start_with.ensures.free in
+    let free = way_there c.args.open.state c.args.step c.args.open.text.items _ c.args.open.at_rest c.requires.moves c.in_ok-start_with.ensures.free in
     let p = err_from_is_err_and c.from_residual-in_err-finish.result c.from_residual-in_err-finish.ensures.1 in
-    let first = was_put_as g.D.Store.leads tt c.args.journal.now _ _ c.args.store.now c.write_journal.new.store c.in_ok-start_with.ensures.ok c.in_ok-write_journal.ensures.calls in
-    three_writes g.D.Store.leads c.from_residual-in_err-finish.result c.args.file.now c.args.journal.now c.args.state.now c.args.step c.args.old.items c.args.store.now c.replace.new.self c.args.new.now free c.requires.moves c.requires.changes
+    let first = was_put_as g.D.Store.leads tt c.args.open.pair.journal.now _ _ c.args.store.now c.write_journal.new.store c.in_ok-start_with.ensures.ok c.in_ok-write_journal.ensures.calls in
+    three_writes g.D.Store.leads c.from_residual-in_err-finish.result c.args.open.pair.file.now c.args.open.pair.journal.now c.args.open.state c.args.step c.args.open.text.items c.args.store.now c.replace.new.self c.args.new.now free c.requires.moves c.requires.changes
     (inr (inr (c.write_journal.new.store, first, inr (inr (c.replace.new.self, c.in_ok-replace.ensures.call, inl (fails c.from_residual-in_err-finish.result _ p.1, refl))))))
+
+pub returns-in_err-replace-clause-count : goal.returns-in_err-replace-clause-count
+returns-in_err-replace-clause-count g c =
+    let r = c.from_residual-in_err-replace.result in
+    let p = err_from_is_err_and r c.from_residual-in_err-replace.ensures.1 in
+    c.in_err-replace.ensures.count ∙ failed_write r _ _ (p.1 ∙ ap Err p.2) ∙ ap (failures_after r) c.in_ok-write_journal.ensures.count

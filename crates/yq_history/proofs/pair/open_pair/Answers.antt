@@ -7,10 +7,10 @@ pub returns-clause-opens : goal.returns-clause-opens
 returns-clause-opens g c = λ keeps h good.
     let content = g.D.Store.content in
     let first : content c.read.new.self ≡ content c.args.store.now = c.in_ok-text.ensures.same keeps in
-    opens (content c.args.store.now) (content c.read_journal.new.store) c.args.file.now c.args.journal.now c.in_ok-text.text c.in_ok-state.state c.settle.new.self h
+    opens (content c.args.store.now) (content c.read_journal.new.store) c.args.pair.now.file.now c.args.pair.now.journal.now c.in_ok-text.text c.in_ok-state.state c.settle.new.self h
     (c.in_ok-state.ensures.same keeps ∙ first)
     (c.in_ok-text.ensures.found keeps)
-    (sym (ap (λ m. journal_beside (get m c.args.journal.now)) first) ∙ c.in_ok-state.ensures.ok keeps)
+    (sym (ap (λ m. journal_beside (get m c.args.pair.now.journal.now)) first) ∙ c.in_ok-state.ensures.ok keeps)
     (sym (ap (settled_beside c.in_ok-state.state) c.deref.ensures.value) ∙ c.in_ok-settle.ensures.ok)
     good
 
@@ -18,8 +18,8 @@ pub returns-clause-found : goal.returns-clause-found
 returns-clause-found g c = λ keeps go.
     let content = g.D.Store.content in
     let first : content c.read.new.self ≡ content c.args.store.now = c.in_ok-text.ensures.same keeps in
-    settles (get (content c.args.store.now) c.args.file.now) (get (content c.args.store.now) c.args.journal.now) _ (c.in_ok-text.ensures.found keeps)
-    _ (sym (ap (λ m. journal_beside (get m c.args.journal.now)) first) ∙ c.in_ok-state.ensures.ok keeps)
+    settles (get (content c.args.store.now) c.args.pair.now.file.now) (get (content c.args.store.now) c.args.pair.now.journal.now) _ (c.in_ok-text.ensures.found keeps)
+    _ (sym (ap (λ m. journal_beside (get m c.args.pair.now.journal.now)) first) ∙ c.in_ok-state.ensures.ok keeps)
     _ (sym (ap (settled_beside c.in_ok-state.state) c.deref.ensures.value) ∙ c.in_ok-settle.ensures.ok) go
 
 pub returns-clause-calls : goal.returns-clause-calls
@@ -28,7 +28,7 @@ returns-clause-calls g c = (
   c.read.new.self,
   c.in_ok-text.ensures.call,
   opens_journal g.D.Store.leads c.in_ok-text.text c.in_ok-state.state c.settle.new.self (sym (ap (settled_beside c.in_ok-state.state) c.deref.ensures.value) ∙ c.in_ok-settle.ensures.ok)
-      c.args.journal.now c.read.new.self c.read_journal.new.store c.in_ok-state.ensures.calls,
+      c.args.pair.now.journal.now c.read.new.self c.read_journal.new.store c.in_ok-state.ensures.calls,
 )
 
 pub returns-in_err-settle-clause-calls : goal.returns-in_err-settle-clause-calls
@@ -37,5 +37,5 @@ returns-in_err-settle-clause-calls g c =
       Ok c.in_ok-text.text.items,
       c.read.new.self,
       c.in_ok-text.ensures.call,
-      misses_pair g.D.Store.leads c.in_ok-state.state c.in_ok-text.text.items _ _ p.1 c.args.journal.now c.read.new.self c.read_journal.new.store c.in_ok-state.ensures.calls,
+      misses_pair g.D.Store.leads c.in_ok-state.state c.in_ok-text.text.items _ _ p.1 c.args.pair.now.journal.now c.read.new.self c.read_journal.new.store c.in_ok-state.ensures.calls,
     )

@@ -6,45 +6,45 @@ use Rattle.yq_history.{proofs.CallLaws.{fails, makes_none, puts_as, squashed_one
 use Rattle.yq_history.proofs.squashing.squash_from.Goals as goal
 
 pub returns-in_err-squash-clause-arrives : goal.returns-in_err-squash-clause-arrives
-returns-in_err-squash-clause-arrives g c = λ keeps file t apart h k.
+returns-in_err-squash-clause-arrives g c = λ keeps apart h k.
     let p = err_from_is_err_and c.from_residual.result c.from_residual.ensures.1 in
-    squash_refused (g.D.Store.content c.args.store.now) _ _ h _ _ t (none_of _ c.requires.at_rest) k c.from_residual.result p.0 _ p.1 p.2 c.in_err-squash.ensures.fault
+    squash_refused (g.D.Store.content c.args.store.now) _ _ h _ _ _ (none_of _ c.args.open.at_rest) k c.from_residual.result p.0 _ p.1 p.2 c.in_err-squash.ensures.fault
 
 pub returns-then-n-eq1-clause-arrives : goal.returns-then-n-eq1-clause-arrives
-returns-then-n-eq1-clause-arrives g c = λ keeps file t apart h k.
-    squash_of_one (g.D.Store.content c.args.store.now) _ _ h _ _ t (none_of _ c.requires.at_rest) k {T = ℕ} 0 _ c.if-n-eq1.true refl c.in_ok-squash.ensures.free
+returns-then-n-eq1-clause-arrives g c = λ keeps apart h k.
+    squash_of_one (g.D.Store.content c.args.store.now) _ _ h _ _ _ (none_of _ c.args.open.at_rest) k {T = ℕ} 0 _ c.if-n-eq1.true refl c.in_ok-squash.ensures.free
 
 pub returns-clause-arrives : goal.returns-clause-arrives
-returns-clause-arrives g c = λ keeps file t apart h k.
-    squash_ends (g.D.Store.content c.args.store.now) _ _ h _ _ t (none_of _ c.requires.at_rest) k apart _ _ c.in_ok-squash.ensures.ok c.in_ok-squash.ensures.free c.write_journal.result
+returns-clause-arrives g c = λ keeps apart h k.
+    squash_ends (g.D.Store.content c.args.store.now) _ _ h _ _ _ (none_of _ c.args.open.at_rest) k apart _ _ c.in_ok-squash.ensures.ok c.in_ok-squash.ensures.free c.write_journal.result
     (c.write_journal.ensures.ok keeps) (c.write_journal.ensures.err keeps) c.write_journal.ensures.outside
 
 pub returns-in_err-squash-clause-effect : goal.returns-in_err-squash-clause-effect
-returns-in_err-squash-clause-effect g c = λ keeps file t apart there.
+returns-in_err-squash-clause-effect g c = λ keeps apart there.
     let p = err_from_is_err_and c.from_residual.result c.from_residual.ensures.1 in
-    squash_not_done file c.args.journal.now (g.D.Store.content c.args.store.now) c.args.state.now t c.args.n c.from_residual.result p.0 _ p.1 p.2 c.in_err-squash.ensures.fault
+    squash_not_done c.args.open.pair.file.now c.args.open.pair.journal.now (g.D.Store.content c.args.store.now) c.args.open.state c.args.open.text.items c.args.n c.from_residual.result p.0 _ p.1 p.2 c.in_err-squash.ensures.fault
 
 pub returns-then-n-eq1-clause-effect : goal.returns-then-n-eq1-clause-effect
-returns-then-n-eq1-clause-effect g c = λ keeps file t apart there.
-    squash_one_works file c.args.journal.now (g.D.Store.content c.args.store.now) c.args.state.now t c.args.n {T = Unit {0}} tt (eq-eqb c.args.n 1 c.if-n-eq1.true) c.in_ok-squash.ensures.free
+returns-then-n-eq1-clause-effect g c = λ keeps apart there.
+    squash_one_works c.args.open.pair.file.now c.args.open.pair.journal.now (g.D.Store.content c.args.store.now) c.args.open.state c.args.open.text.items c.args.n {T = Unit {0}} tt (eq-eqb c.args.n 1 c.if-n-eq1.true) c.in_ok-squash.ensures.free
 
 pub returns-clause-effect : goal.returns-clause-effect
-returns-clause-effect g c = λ keeps file t apart there.
-    squash_works file c.args.journal.now (g.D.Store.content c.args.store.now) c.args.state.now t c.args.n _ c.write_journal.result (ne_eqb c.args.n 1 c.if-n-eq1.false) c.in_ok-squash.ensures.free there (c.write_journal.ensures.others keeps file apart)
+returns-clause-effect g c = λ keeps apart there.
+    squash_works c.args.open.pair.file.now c.args.open.pair.journal.now (g.D.Store.content c.args.store.now) c.args.open.state c.args.open.text.items c.args.n _ c.write_journal.result (ne_eqb c.args.n 1 c.if-n-eq1.false) c.in_ok-squash.ensures.free there (c.write_journal.ensures.others keeps _ apart)
     (on_ok_map _ (c.write_journal.ensures.ok keeps) (λ w. subst (IsJournal _) c.in_ok-squash.ensures.ok (journal_written _ _ _ _ w)))
     (on_err_map _ (c.write_journal.ensures.err keeps) (λ x. either x inl (λ w. inr (subst (IsJournal _) c.in_ok-squash.ensures.ok (journal_written _ _ _ _ w)))))
     c.write_journal.ensures.outside
 
 pub returns-in_err-squash-clause-calls : goal.returns-in_err-squash-clause-calls
-returns-in_err-squash-clause-calls g c = λ file t.
+returns-in_err-squash-clause-calls g c =
     let p = err_from_is_err_and c.from_residual.result c.from_residual.ensures.1 in
-    makes_none g.D.Store.leads c.from_residual.result file c.args.journal.now t (squash_effect c.args.n t c.args.state.now) c.args.store.now (fails c.from_residual.result _ p.1)
+    makes_none g.D.Store.leads c.from_residual.result c.args.open.pair.file.now c.args.open.pair.journal.now c.args.open.text.items (squash_effect c.args.n c.args.open.text.items c.args.open.state) c.args.store.now (fails c.from_residual.result _ p.1)
 
 pub returns-then-n-eq1-clause-calls : goal.returns-then-n-eq1-clause-calls
-returns-then-n-eq1-clause-calls g c = λ file t.
-    squashed_one g.D.Store.leads {T = Unit {0}} (Ok tt) file c.args.journal.now t c.args.state.now c.args.n c.args.store.now c.args.store.now (eq-eqb c.args.n 1 c.if-n-eq1.true) c.in_ok-squash.ensures.free refl
+returns-then-n-eq1-clause-calls g c =
+    squashed_one g.D.Store.leads {T = Unit {0}} (Ok tt) c.args.open.pair.file.now c.args.open.pair.journal.now c.args.open.text.items c.args.open.state c.args.n c.args.store.now c.args.store.now (eq-eqb c.args.n 1 c.if-n-eq1.true) c.in_ok-squash.ensures.free refl
 
 pub returns-clause-calls : goal.returns-clause-calls
-returns-clause-calls g c = λ file t.
-    squash_write g.D.Store.leads c.write_journal.result file c.args.journal.now t c.args.state.now c.args.n c.args.store.now c.write_journal.new.store (ne_eqb c.args.n 1 c.if-n-eq1.false) c.in_ok-squash.ensures.free
-    (puts_as g.D.Store.leads c.write_journal.result c.args.journal.now _ _ c.args.store.now c.write_journal.new.store c.in_ok-squash.ensures.ok c.write_journal.ensures.calls)
+returns-clause-calls g c =
+    squash_write g.D.Store.leads c.write_journal.result c.args.open.pair.file.now c.args.open.pair.journal.now c.args.open.text.items c.args.open.state c.args.n c.args.store.now c.write_journal.new.store (ne_eqb c.args.n 1 c.if-n-eq1.false) c.in_ok-squash.ensures.free
+    (puts_as g.D.Store.leads c.write_journal.result c.args.open.pair.journal.now _ _ c.args.store.now c.write_journal.new.store c.in_ok-squash.ensures.ok c.write_journal.ensures.calls)

@@ -12,14 +12,14 @@ pub returns-clause-effect : goal.returns-clause-effect
 returns-clause-effect g c = λ keeps apart.
     let same = c.in_ok-text.ensures.same keeps in
     from_opened _ _ (move_effect (walk_move c.args.dir)) _ _ (g.D.Store.content c.args.store.now) _ _ c.in_ok-text.text.items c.in_ok-text.state c.move_from.result same (c.in_ok-text.ensures.found keeps (move_effect (walk_move c.args.dir)))
-    (c.move_from.ensures.effect keeps apart (ap (λ m. get m c.args.file.now) same ∙ c.in_ok-text.ensures.text keeps))
+    (c.move_from.ensures.effect keeps apart (ap (λ m. get m c.args.pair.now.file.now) same ∙ c.in_ok-text.ensures.text keeps))
 
 pub returns-in_err-text-clause-calls : goal.returns-in_err-text-clause-calls
 returns-in_err-text-clause-calls g c =
     let p = err_from_is_err_and c.from_residual.result c.from_residual.ensures.1 in
-    unopened_calls g.D.Store.leads c.from_residual.result c.args.file.now c.args.journal.now (move_effect (walk_move c.args.dir)) _ (p.1 ∙ ap Err p.2) c.args.store.now c.open_pair.new.store c.in_err-text.ensures.calls
+    unopened_calls g.D.Store.leads c.from_residual.result c.args.pair.now.file.now c.args.pair.now.journal.now (move_effect (walk_move c.args.dir)) _ (p.1 ∙ ap Err p.2) c.args.store.now c.open_pair.new.store c.in_err-text.ensures.calls
 
 pub returns-clause-calls : goal.returns-clause-calls
 returns-clause-calls g c =
-    opened_calls g.D.Store.leads c.move_from.result c.args.file.now c.args.journal.now (move_effect (walk_move c.args.dir)) (c.in_ok-text.text, c.in_ok-text.state)
+    opened_calls g.D.Store.leads c.move_from.result c.args.pair.now.file.now c.args.pair.now.journal.now (move_effect (walk_move c.args.dir)) (c.in_ok-text.text, c.in_ok-text.state)
     c.open_pair.new.store c.move_from.new.store c.move_from.ensures.calls c.args.store.now c.in_ok-text.ensures.calls

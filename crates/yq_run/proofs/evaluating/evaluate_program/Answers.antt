@@ -11,7 +11,7 @@ returns-in_err-text-clause-done g c = λ keeps.
     let content = g.D.Store.content in
     record {
       arrives = λ journal h good.
-          unread_arrives (content c.args.store.now) (content c.read.new.self) c.args.file.now journal (shows c.args.options (program_of c.args.program.now)) c.from_residual.result _ is (c.in_err-text.ensures.same keeps)
+          unread_arrives (content c.args.store.now) (content c.read.new.self) c.args.file.now journal (shows c.args.parsed.now.options (program_of c.args.parsed.now.program.now)) c.from_residual.result _ is (c.in_err-text.ensures.same keeps)
           (λ absent. c.in_err-text.ensures.absent keeps (ap Err absent)) h good;
       output = λ journal h good. no_success _ c.from_residual.result _ is;
       same = c.in_err-text.ensures.same keeps;
@@ -22,7 +22,7 @@ returns-in_err-report-clause-done g c = λ keeps.
     let p = err_from_is_err_and c.from_residual-in_err-report.result c.from_residual-in_err-report.ensures.1 in
     record {
       arrives = λ journal h good.
-          show_refused (g.D.Store.content c.args.store.now) _ _ _ (shows c.args.options (program_of c.args.program.now)) c.deref.result.now (c.in_ok-text.ensures.same keeps)
+          show_refused (g.D.Store.content c.args.store.now) _ _ _ (shows c.args.parsed.now.options (program_of c.args.parsed.now.program.now)) c.deref.result.now (c.in_ok-text.ensures.same keeps)
           (c.in_ok-text.ensures.found keeps ∙ ap Some (sym c.deref.ensures.value)) h good c.from_residual-in_err-report.result _ (p.1 ∙ ap Err p.2) c.in_err-report.ensures.err;
       output = λ journal h good. no_success _ c.from_residual-in_err-report.result _ (p.1 ∙ ap Err p.2);
       same = c.in_ok-text.ensures.same keeps;
@@ -34,10 +34,10 @@ returns-clause-done g c = λ keeps.
     let content = g.D.Store.content c.args.store.now in
     record {
       arrives = λ journal h good.
-          show_done content _ _ _ (shows c.args.options (program_of c.args.program.now)) c.deref.result.now (c.in_ok-text.ensures.same keeps)
+          show_done content _ _ _ (shows c.args.parsed.now.options (program_of c.args.parsed.now.program.now)) c.deref.result.now (c.in_ok-text.ensures.same keeps)
           found h good {T = ℕ} 0 c.args.file.now _ c.in_ok-report.ensures.ok;
       output = λ journal h good.
-          report_is content content _ _ (shows c.args.options (program_of c.args.program.now)) c.deref.result.now refl found h good c.args.file.now _ c.in_ok-report.ensures.ok;
+          report_is content content _ _ (shows c.args.parsed.now.options (program_of c.args.parsed.now.program.now)) c.deref.result.now refl found h good c.args.file.now _ c.in_ok-report.ensures.ok;
       same = c.in_ok-text.ensures.same keeps;
     }
 
