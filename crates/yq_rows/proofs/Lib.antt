@@ -24,3 +24,4 @@ pub mod PassedLaws
 pub mod FollowLaws
 pub mod DoneLaws
 pub mod DropLaws
+pub mod WordRows

@@ -1,7 +1,7 @@
 -- What calls that read and keep rows answer (own; a reader of the contracts may skip it).
 use Rattle.std.specs.Borrow.{Bor}
 use Rattle.std.specs.Prelude.{◌≡◌, ◌-◌, ◌==◌, ◌&&◌, ◌||◌, ℕ, Bool, List, Option, Some, None, OnOk, Result, Vec, [], is_ok, length, nat_lt}
-use Rattle.std.{specs.Prelude.{not, option_map, if◌then◌else◌}, specs.declared.alloc.Global.Global}
+use Rattle.std.{specs.Prelude.{not, option_map, if◌then◌else◌, IfSome}, specs.declared.alloc.Global.Global}
 use Rattle.yq_core.{specs.Answers.{Gives, ReadError}, specs.Text.{is_empty, is_marker}}
 use Rattle.yq_row_table.{specs.Grammar.allows, specs.Items.{Item, items_text, view_of_items}, specs.Kept.{kept_rows, rows_placed}}
 use Rattle.yq_row_table.{specs.Meter.{begins_line, count_after, line_count}, specs.Offsets.{offsets_of, rows_in, slices_in}}
@@ -28,6 +28,10 @@ may_be_at limit column text = allows (limit_view limit) column && not (column ==
 -- the answer is the row that reading gives, what it asks of the next one, and what comes after it
 abbrev pub GivesRow : List ℕ → Result (Offsets × asked.Limit × Bor (List ℕ)) ReadError → Option SlicedRow → Type 0
 GivesRow whole r read = Gives (λ x. (slices_in whole x.0, limit_view x.1, x.2.now)) r read
+
+-- a row that is found is that which reading gives, with what it asks of the next one, and what comes after it
+abbrev pub FindsRow : List ℕ → Option (Offsets × asked.Limit × Bor (List ℕ)) → Option SlicedRow → Type 0
+FindsRow whole found read = IfSome found (λ x. read ≡ Some (slices_in whole x.0, limit_view x.1, x.2.now))
 
 -- where a row is that begins where this end of the whole text does, and how long its pieces are
 abbrev pub offsets_from : (whole text : List ℕ) → Slices → Offsets

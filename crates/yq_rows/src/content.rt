@@ -164,7 +164,7 @@ fn split_lead(nothing: bool, text: &str) -> (&str, &str)
 }
 
 /// Whether a node after this white space may be on a line of its own.
-fn may_be_alone(space: &str, nothing: bool) -> bool
+pub(crate) fn may_be_alone(space: &str, nothing: bool) -> bool
     ensures { result ≡ (is_empty space.now && not nothing) }
 {
     space.is_empty() && !nothing

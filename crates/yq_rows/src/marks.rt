@@ -94,7 +94,7 @@ fn find_colon(text: &str) -> Option<(&str, &str)>
 /// Whether a key, and what comes after it up to its `:`, are as short as they have to be. Characters
 /// are counted where there are more bytes than that.
 #[tactic(auto, using(yq_row_table::proofs::KeyRoom::room_by_bytes))]
-fn has_key_room(key: &str, colon: &str) -> bool
+pub(crate) fn has_key_room(key: &str, colon: &str) -> bool
     ensures { result ≡ nat_le (length (chars key.now) + length (chars colon.now)) (key_limit + 1) }
 {
     if key.len().saturating_add(colon.len()) <= KEY_LIMIT + 1 {

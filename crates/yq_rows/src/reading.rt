@@ -14,6 +14,7 @@ use crate::lengths::offsets_of;
 use crate::limit::Limit;
 use crate::marks::{Begin, is_entry, parent_of, read_begin};
 use crate::naming::not_alone;
+use crate::word_rows::find_row;
 use std::alloc::Global;
 use yq_core::fault_place::fault;
 use yq_core::text::{is_marker, split_spaces};
@@ -41,7 +42,7 @@ fn read_marked<'t>(
 }
 
 /// Whether a row may be at a column before this text.
-fn may_stand(limit: Limit, column: usize, text: &[u8]) -> bool
+pub(crate) fn may_stand(limit: Limit, column: usize, text: &[u8]) -> bool
     ensures { result ≡ may_be_at limit column text.now }
 {
     limit.allows(column) && !(column == 0 && is_marker(text))
@@ -67,6 +68,9 @@ fn read_row<'t>(
     ensures place { IfOk result (λ x. x.0 ≡ offsets_from whole.now at.now (slices_in whole.now x.0)) }
     ensures fault { IfErr result IsOfText }
 {
+    if let Some(found) = find_row(whole, limit, at, gap, text) {
+        return Ok(found);
+    }
     let (indent, rest) = split_spaces(text);
     let column = indent.len();
     if !may_stand(limit, column, rest.as_bytes()) {
