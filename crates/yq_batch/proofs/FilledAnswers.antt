@@ -1,64 +1,109 @@
--- Runs of items and entries that are put into a collection that was empty, as the code makes them.
-use Rattle.std.proofs.Common.{◌≡◌, ℕ, List, [], ◌∷◌, ◌++◌, drop, map, Option, Some, sym, ap, ◌∙◌, subst, string_bytes}
+-- Runs of values, items and entries that are put into the collections of one head, as the code makes them.
+use Rattle.std.proofs.Common.{◌≡◌, ℕ, Bool, true, false, List, [], ◌∷◌, ◌++◌, drop, map, Option, Some, None, option_map, sym, ap, ◌∙◌}
+use Rattle.std.{proofs.Common.{subst, string_bytes}, proofs.lemmas.Bool.false≢true, proofs.lemmas.Option.{none-some, same_Some}}
+use Rattle.std.{specs.Prelude.{IfSome, String}, specs.declared.alloc.Global.Global}
 use Rattle.yq_core.{specs.Paths.Step, specs.Entries.tree_step}
 use Rattle.yq_row_table.specs.Rows.{Cut, cut_text}
-use Rattle.yq_documents.specs.Reading.{cut_of, read_at}
-use Rattle.yq_places.{specs.FlowNodes.flow_collection, specs.declared.places.flow_node.FlowHead.FlowHead}
+use Rattle.yq_places.specs.FlowNodes.{flow_collection}
 use Rattle.yq_semantics.specs.Operations.{Operation, append}
-use Rattle.yq_edit_laws.{proofs.FlowAnswers.whole_text, specs.declared.append.MorePut.MorePut}
-use Rattle.yq_edit_laws.{specs.declared.edit_error.EditError.EditError, specs.Answers.EditFails, specs.Carried.carried}
-use Rattle.yq_edit_laws.specs.Theorems.{IsFitting}
-use Rattle.yq_batch.{specs.Runs.{AddsAt, HasPut, PutFails, now_text}, specs.declared.adding.Filled.Filled, specs.declared.run.PutRun.PutRun}
-use Rattle.yq_batch.specs.FilledRuns.{FillsOn, FillsSo, IsFilledCollection, IsSameFilled, IsKnownFilled}
-use Rattle.yq_batch.{proofs.FilledLaws.{again_goes_on, again_large, again_there}, proofs.MoreAnswers.known_at}
-use Rattle.yq_batch.proofs.RunAnswers.{fill_on, run_fails}
+use Rattle.yq_edit_laws.{specs.PartPuts.more_edit, specs.Answers.EditFails, specs.Carried.carried, specs.Theorems.IsFitting}
+use Rattle.yq_edit_laws.specs.declared.edit_error.EditError.{EditError}
+use Rattle.yq_batch.specs.Runs.{AddsAt, ChangesAt, ChangesBy, HasPut, IsAfterBy, IsAfterRun, IsInText, PutFails, RunsOn, cut_with, stem_of}
+use Rattle.yq_batch.specs.FilledRuns.{FillsFirst, FillsOn, FillsSo, IsFilledCollection, IsSameFilled, IsKnownFilled, filled_text}
+use Rattle.yq_batch.{specs.declared.adding.Filled.Filled, specs.declared.adding.FilledRun.FilledRun}
+use Rattle.yq_batch.{specs.declared.change.HeadChange.HeadChange, specs.declared.head.HeadInText.HeadInText}
+use Rattle.yq_batch.{specs.declared.run.PutRun.PutRun, proofs.FilledLaws.{again_goes_on, again_large, again_there}}
+use Rattle.yq_batch.{proofs.MoreAnswers.{known_at, more_fails, more_on}, proofs.RunAnswers.{fill_on, kept_on, put_fails, put_on, run_fails}}
+
+-- a change comes after what was put
+module _ (x : HeadInText) (op : Operation) (before : FilledRun) (y : HeadChange) (there : IsInText x) (so : FillsSo x before) (h : ChangesAt op x y) (is_after : IsAfterRun before.run y.place y.lead.now) (fitting : IsFitting op (filled_text x before)) where
+  abbrev After : Bool → Type 0
+  After b = IsAfterBy b before.run.done y.place.start y.place.end y.lead.now
+
+  -- an equal scalar
+  pub change_kept : y.written ≡ None → FillsOn op x before (record before { filled = None })
+  change_kept none = go y.place.more h is_after.1
+    where
+      go : (b : Bool) → ChangesBy b op x y → After b → FillsOn op x before (record before { filled = None })
+      go true h after = absurd (none-some _ (sym (ap (option_map string_bytes) none) ∙ h.written))
+      go false h after = record { on = kept_on x (cut_text (cut_with x)) (λ i. cut_text (cut_with x)) op before.run y there so.run h is_after.0 after fitting none; filled = tt }
+
+  module _ (u : List ℕ) (all : u ≡ cut_text (cut_with x)) (s : String Global) (some : y.written ≡ Some s) (new : List ℕ) (new_is : new ≡ y.lead.now ++ string_bytes s) where
+    -- a text comes there
+    pub change_on : (known : Option Filled) → IfSome known (λ k. (y.place.more ≡ true) × FillsFirst y.lead.now (map tree_step y.steps.now) k) → (after : PutRun) → HasPut u y.place.start y.place.end new before.run after →
+        FillsOn op x before (record { run = after; filled = known })
+    change_on known fills after put = go y.place.more h is_after.1 known fills
+      where
+        has_put : HasPut u y.place.start y.place.end (y.lead.now ++ string_bytes s) before.run after
+        has_put = subst (λ (l : List ℕ). HasPut u y.place.start y.place.end l before.run after) new_is put
+
+        first : (b : Bool) (known : Option Filled) → IfSome known (λ k. (b ≡ true) × FillsFirst y.lead.now (map tree_step y.steps.now) k) → IfSome known (FillsFirst y.lead.now (map tree_step y.steps.now))
+        first b None fills = tt
+        first b (Some k) fills = fills.1
+
+        go : (b : Bool) → ChangesBy b op x y → After b → (known : Option Filled) → IfSome known (λ k. (b ≡ true) × FillsFirst y.lead.now (map tree_step y.steps.now) k) → FillsOn op x before (record { run = after; filled = known })
+        go true h later known fills =
+            let r = more_on x u all op before.run y so.run h is_after.0 later fitting s some known (first true known fills) after has_put in
+            record { on = r.0; filled = r.1 }
+        go false h later None fills = record { on = put_on x u all op before.run y there so.run h is_after.0 later fitting s some after has_put; filled = tt }
+        go false h later (Some k) fills = absurd (false≢true fills.0)
+
+    -- too large a text
+    pub change_fails : (e : EditError) → PutFails e u y.place.start y.place.end new before.run → EditFails e (carried op (filled_text x before))
+    change_fails e fails = go y.place.more h is_after.1 (subst (λ (l : List ℕ). PutFails e u y.place.start y.place.end l before.run) new_is fails)
+      where
+        go : (b : Bool) → ChangesBy b op x y → After b → PutFails e u y.place.start y.place.end (y.lead.now ++ string_bytes s) before.run → EditFails e (carried op (filled_text x before))
+        go true h later fails = more_fails x u all op before.run y so.run h is_after.0 later fitting s some e fails
+        go false h later fails = put_fails x u all op before.run y there so.run h is_after.0 later fitting s some e fails
 
 -- one more comes into the collection that is known
-module _ (t u : List ℕ) (n : ℕ) (stem : List Step) (op : Operation) (known : Option Filled) (before : PutRun) (x : FlowHead) (p : MorePut) (read : read_at t ≡ Some (cut_of t)) (all : u ≡ t)
-    (run : FillsSo (cut_of t) n stem known before) (h : AddsAt op t n stem x p) (is : IsSameFilled known (map tree_step x.left.now)) (fitting : IsFitting op (now_text (cut_of t) before)) where
-  abbrev c : Cut
-  c = cut_of t
+module _ (x : HeadInText) (u : List ℕ) (all : u ≡ cut_text (cut_with x)) (op : Operation) (before : FilledRun) (y : HeadChange) (so : FillsSo x before) (change : ChangesAt op x y) (known : (y.place.more ≡ true) × IsSameFilled before.filled (map tree_step y.steps.now))
+    (fitting : IsFitting op (filled_text x before)) (s : String Global) (some : y.written ≡ Some s) (new : List ℕ) (new_is : new ≡ (44 ∷ (32 ∷ [])) ++ string_bytes s) where
+  abbrev is : IsSameFilled before.filled (map tree_step y.steps.now)
+  is = known.1
+
+  h : AddsAt op x y
+  h = subst (λ (b : Bool). ChangesBy b op x y) known.0 change
 
   abbrev own : Operation
-  own = append n (stem ++ h.left) h.key h.value
+  own = append x.doc (stem_of x ++ h.left) h.key h.value
 
-  abbrev now : List ℕ
-  now = now_text c before
-
-  own_fits : IsFitting own now
-  own_fits = subst (λ (o : Operation). IsFitting o now) h.operation fitting
+  own_fits : IsFitting own (filled_text x before)
+  own_fits = subst (λ (o : Operation). IsFitting o (filled_text x before)) h.operation fitting
 
   abbrev done : ℕ
-  done = before.done
+  done = before.run.done
 
-  abbrev new : List ℕ
-  new = (44 ∷ (32 ∷ [])) ++ string_bytes p.written
+  abbrev put : List ℕ
+  put = (44 ∷ (32 ∷ [])) ++ string_bytes s
 
-  whole_is : u ≡ cut_text c
-  whole_is = whole_text t u read all
+  written_is : string_bytes s ≡ (more_edit h.key h.value h.collection).written
+  written_is = same_Some _ _ (sym (ap (option_map string_bytes) some) ∙ h.written)
 
   same_left : map tree_step is.0.steps.now ≡ h.left
   same_left = is.2 ∙ sym h.left_is
 
-  filled : IsFilledCollection h.collection run.run.cut n (stem ++ h.left) (drop done (cut_text c))
+  filled : IsFilledCollection h.collection so.run.cut x.doc (stem_of x ++ h.left) (drop done (cut_text (cut_with x)))
   filled =
-      let own_known : IsKnownFilled c run.run.cut n stem done (Some is.0) = subst (IsKnownFilled c run.run.cut n stem done) is.1 run.filled in
-      subst (λ (ss : List Step). IsFilledCollection h.collection run.run.cut n (stem ++ ss) (drop done (cut_text c))) same_left
-      (own_known h.collection (ap (λ (ss : List Step). flow_collection n (stem ++ ss) c) same_left ∙ h.found))
+      let own_known : IsKnownFilled (cut_with x) so.run.cut x.doc (stem_of x) done (Some is.0) = subst (IsKnownFilled (cut_with x) so.run.cut x.doc (stem_of x) done) is.1 so.filled in
+      subst (λ (ss : List Step). IsFilledCollection h.collection so.run.cut x.doc (stem_of x ++ ss) (drop done (cut_text (cut_with x)))) same_left
+      (own_known h.collection (ap (λ (ss : List Step). flow_collection x.doc (stem_of x ++ ss) (cut_with x)) same_left ∙ h.found))
 
-  known_then : (cut : Cut) → IsFilledCollection h.collection cut n (stem ++ h.left) (drop done (cut_text c)) → IsKnownFilled c cut n stem done known
-  known_then cut there = subst (IsKnownFilled c cut n stem done) (sym is.1) (known_at c cut n stem h.left done h.collection h.found is.0 same_left there)
+  known_then : (cut : Cut) → IsFilledCollection h.collection cut x.doc (stem_of x ++ h.left) (drop done (cut_text (cut_with x))) → IsKnownFilled (cut_with x) cut x.doc (stem_of x) done before.filled
+  known_then cut there = subst (IsKnownFilled (cut_with x) cut x.doc (stem_of x) done) (sym is.1) (known_at (cut_with x) cut x.doc (stem_of x) h.left done h.collection h.found is.0 same_left there)
 
-  pub again_on : (after : PutRun) → HasPut u done done new before after → FillsOn op c n stem before known after
+  pub again_on : (after : PutRun) → HasPut u done done new before.run after → FillsOn op x before (record { run = after; filled = before.filled })
   again_on after has_put =
-      subst (λ (o : Operation). FillsOn o c n stem before known after) (sym h.operation)
-      (fill_on t u n stem own before done done new whole_is h.valid own_fits known
-      (again_there c n stem h.left h.key h.value (string_bytes before.text) done run.run h.collection h.takes filled (string_bytes p.written) h.written)
-      (λ small. let r = again_goes_on c n stem h.left h.key h.value (string_bytes before.text) done run.run h.collection h.takes filled (string_bytes p.written) h.written h.valid own_fits small in
-      (r.0, known_then r.0.cut r.1)) after has_put)
+      let r : (on : RunsOn own x before.run after) × IsKnownFilled (cut_with x) on.run.cut x.doc (stem_of x) after.done before.filled =
+      fill_on x u all own before.run done done put h.valid own_fits before.filled
+      (again_there (cut_with x) x.doc (stem_of x) h.left h.key h.value (string_bytes before.run.text) done so.run h.collection h.takes filled (string_bytes s) written_is)
+      (λ small. let r = again_goes_on (cut_with x) x.doc (stem_of x) h.left h.key h.value (string_bytes before.run.text) done so.run h.collection h.takes filled (string_bytes s) written_is h.valid own_fits small in
+      (r.0, known_then r.0.cut r.1)) after (subst (λ (l : List ℕ). HasPut u done done l before.run after) new_is has_put) in
+      subst (λ (o : Operation). FillsOn o x before (record { run = after; filled = before.filled })) (sym h.operation) (record { on = r.0; filled = r.1 })
 
-  pub again_fails : (e : EditError) → PutFails e u done done new before → EditFails e (carried op now)
+  pub again_fails : (e : EditError) → PutFails e u done done new before.run → EditFails e (carried op (filled_text x before))
   again_fails e fails =
-      subst (λ (o : Operation). EditFails e (carried o now)) (sym h.operation)
-      (run_fails t u n stem own before done done new whole_is h.valid own_fits
-      (again_large c n stem h.left h.key h.value (string_bytes before.text) done run.run h.collection h.takes filled (string_bytes p.written) h.written) e fails)
+      subst (λ (o : Operation). EditFails e (carried o (filled_text x before))) (sym h.operation)
+      (run_fails x u all own before.run done done put h.valid own_fits
+      (again_large (cut_with x) x.doc (stem_of x) h.left h.key h.value (string_bytes before.run.text) done so.run h.collection h.takes filled (string_bytes s) written_is) e
+      (subst (λ (l : List ℕ). PutFails e u done done l before.run) new_is fails))

@@ -1,38 +1,37 @@
 -- Runs of items and entries that are put into the collections of one head, as the code makes them.
-use Rattle.std.proofs.Common.{◌≡◌, ℕ, ◌+◌, ◌≤◌, ◌<◌, Bool, true, false, cond, List, [], ◌∷◌, ◌++◌, drop, map, Option, Some, None, Result}
-use Rattle.std.{proofs.Common.{Ok, Err, IfOk, refl, sym, ap, ◌∙◌, subst, string_bytes}, proofs.lemmas.Option.same_Some}
-use Rattle.std.specs.Prelude.{IfSome}
+use Rattle.std.proofs.Common.{◌≡◌, ℕ, ◌≤◌, ◌<◌, Bool, true, false, cond, List, [], ◌∷◌, ◌++◌, drop, map, Option, Some, None, option_map}
+use Rattle.std.{proofs.Common.{refl, sym, ap, ◌∙◌, subst, string_bytes}, proofs.lemmas.Option.same_Some, specs.Prelude.{IfSome, String}}
+use Rattle.std.{specs.Borrow.Bor, specs.declared.alloc.Global.Global}
 use mathlib.Core.List.{cons≢nil}
 use Rattle.yq_core.{specs.Paths.Step, specs.Tree.Node, specs.Collections.CollPieces, specs.Entries.tree_step}
-use Rattle.yq_flow_edits.{specs.FlowEdits.is_none, specs.FlowPlaces.{PlacedEdit, edit_view}}
+use Rattle.yq_flow_edits.{specs.FlowEdits.is_none, specs.FlowPlaces.PlacedEdit}
 use Rattle.yq_row_table.specs.Rows.{Cut, cut_text}
-use Rattle.yq_documents.specs.Reading.{cut_of, read_at}
-use Rattle.yq_places.{specs.FlowNodes.flow_collection, specs.FlowViews.{FlowAgrees, ReportsHead}}
-use Rattle.yq_places.specs.declared.places.flow_node.FlowHead.{FlowHead}
+use Rattle.yq_places.{specs.FlowNodes.flow_collection, specs.FlowViews.FlowAgrees}
 use Rattle.yq_semantics.specs.Operations.{Operation, append}
 use Rattle.yq_edit_rules.specs.Operands.{HasOperand}
-use Rattle.yq_edit_laws.{specs.EditPlaces.{LiesIn, moved_on}, specs.PartPuts.AreMore, specs.declared.append.MorePut.MorePut}
-use Rattle.yq_edit_laws.{proofs.FlowAnswers.whole_text, specs.Answers.EditFails, specs.Carried.carried, specs.Theorems.IsFitting}
+use Rattle.yq_edit_laws.{specs.NearParts.head_with, specs.PartPuts.{AreMore, IsEditPlace, more_edit, place_after}}
+use Rattle.yq_edit_laws.{specs.declared.append.MorePut.MorePut, specs.Answers.EditFails, specs.Carried.carried, specs.Theorems.IsFitting}
 use Rattle.yq_edit_laws.specs.declared.edit_error.EditError.{EditError}
-use Rattle.yq_batch.{specs.Runs.{AddsAt, HasPut, PutFails, Runs, now_text}, specs.declared.adding.Filled.Filled}
-use Rattle.yq_batch.{specs.declared.run.PutRun.PutRun, specs.FilledRuns.{FillsFirst, FillsOn, IsFilledCollection, IsKnownFilled}}
+use Rattle.yq_batch.specs.Runs.{AddsAt, HasPut, IsInText, PutFails, Runs, RunsOn, change_place, cut_with, now_text, stem_of}
+use Rattle.yq_batch.{specs.declared.adding.Filled.Filled, specs.declared.change.HeadChange.HeadChange}
+use Rattle.yq_batch.{specs.declared.head.HeadInText.HeadInText, specs.declared.run.PutRun.PutRun}
+use Rattle.yq_batch.specs.FilledRuns.{FillsFirst, IsFilledCollection, IsKnownFilled}
 use Rattle.yq_batch.{proofs.MoreRuns.{more_goes_on, more_large, more_put_there}, proofs.RunAnswers.{fill_on, run_fails}}
+use Rattle.yq_core.specs.declared.path.Step as declared
 
 -- the head is that of the collection to which the steps lead that go on to it
-pub more_head : (t : List ℕ) (m n : ℕ) (stem path : List Step) (x y : FlowHead) → ReportsHead t (cut_of t) n stem x → m ≡ n → path ≡ stem ++ map tree_step y.left.now → y.node ≡ x.node → y.text ≡ x.text → y.before ≡ x.before →
-    FlowAgrees t (flow_collection m path (cut_of t)) (Some y)
-more_head t m n stem path x y head same steps node text before =
-    subst (λ (k : ℕ). FlowAgrees t (flow_collection k path (cut_of t)) (Some y)) (sym same)
-    (subst (λ (ss : List Step). FlowAgrees t (flow_collection n ss (cut_of t)) (Some y)) (sym steps) (head.reports y node text before))
+pub more_head : (x : HeadInText) → IsInText x → (m : ℕ) (path : List Step) (left : Bor (List declared.Step)) → m ≡ x.doc → path ≡ stem_of x ++ map tree_step left.now → FlowAgrees x.cut.now (flow_collection m path (cut_with x)) (Some (head_with x.head left))
+more_head x there m path left same steps =
+    subst (λ (k : ℕ). FlowAgrees x.cut.now (flow_collection k path (cut_with x)) (Some (head_with x.head left))) (sym same)
+    (subst (λ (ss : List Step). FlowAgrees x.cut.now (flow_collection x.doc ss (cut_with x)) (Some (head_with x.head left))) (sym steps) (there.reports.reports (head_with x.head left) refl refl refl))
 
 -- an item or entry is put into the collection there
-pub adds_at : {E : Type 0} (t : List ℕ) (m n : ℕ) (stem left : List Step) (op : Operation) (path : List Step) (key : Option (List ℕ)) (v : Node) (x : FlowHead) → op ≡ append m path key v → HasOperand op → m ≡ n → path ≡ stem ++ left → left ≡ map tree_step x.left.now →
-    (r : Result (Option MorePut) E) → IfOk r (λ o. AreMore m path key v (cut_of t) x o) → IfOk r (λ o. IfSome o (λ p. AddsAt op t n stem x p))
-adds_at t m n stem left op path key v x is operand same steps here (Ok None) h = tt
-adds_at t m n stem left op path key v x is operand same steps here (Ok (Some p)) h =
-    let own : op ≡ append n (stem ++ left) key v = is ∙ λ i. append (same i) (steps i) key v in
-    let a : AreMore n (stem ++ left) key v (cut_of t) x (Some p) =
-    subst (λ (ss : List Step). AreMore n ss key v (cut_of t) x (Some p)) steps (subst (λ (k : ℕ). AreMore k path key v (cut_of t) x (Some p)) same h) in
+pub adds_at : (x : HeadInText) (op : Operation) (m : ℕ) (path left : List Step) (key : Option (List ℕ)) (v : Node) (p : MorePut) (y : HeadChange) → op ≡ append m path key v → HasOperand op → m ≡ x.doc → path ≡ stem_of x ++ left →
+    AreMore m path key v (cut_with x) x.head.before (Some p) → left ≡ map tree_step y.steps.now → change_place y ≡ place_after x.head.before p.place → y.written ≡ Some p.written → AddsAt op x y
+adds_at x op m path left key v p y is operand same steps h here place written =
+    let own : op ≡ append x.doc (stem_of x ++ left) key v = is ∙ λ i. append (same i) (steps i) key v in
+    let a : AreMore x.doc (stem_of x ++ left) key v (cut_with x) x.head.before (Some p) =
+    subst (λ (ss : List Step). AreMore x.doc ss key v (cut_with x) x.head.before (Some p)) steps (subst (λ (k : ℕ). AreMore k path key v (cut_with x) x.head.before (Some p)) same h) in
     record {
       left = left;
       key = key;
@@ -43,10 +42,9 @@ adds_at t m n stem left op path key v x is operand same steps here (Ok (Some p))
       collection = a.0;
       found = a.1;
       takes = a.2.0;
-      placed = a.2.1;
-      written = a.2.2;
+      placed = subst (IsEditPlace (cut_text (cut_with x)) (more_edit key v a.0)) (sym place) a.2.1;
+      written = ap (option_map string_bytes) written ∙ ap Some a.2.2;
     }
-adds_at t m n stem left op path key v x is operand same steps here (Err e) h = tt
 
 -- a comma and a space lead to what comes after another one
 no_lead : (b : Bool) → cond {A = List ℕ} b [] (44 ∷ (32 ∷ [])) ≡ [] → b ≡ true
@@ -60,55 +58,40 @@ known_at c cut n stem left done w found k same filled v is =
     subst (λ (ss : List Step). IsFilledCollection v cut n (stem ++ ss) (drop done (cut_text c))) (sym same)
     (subst (λ (x : CollPieces). IsFilledCollection x cut n (stem ++ left) (drop done (cut_text c))) (same_Some _ _ (sym found ∙ (ap (λ (ss : List Step). flow_collection n (stem ++ ss) c) (sym same) ∙ is))) filled)
 
--- where it comes, in the text of the cut
-pub more_lies : (t u : List ℕ) (read : read_at t ≡ Some (cut_of t)) (all : u ≡ t) (op : Operation) (n : ℕ) (stem : List Step) (x : FlowHead) (p : MorePut) → AddsAt op t n stem x p → LiesIn u (moved_on x.before (edit_view p.place))
-more_lies t u read all op n stem x p h = subst (λ (l : List ℕ). LiesIn l (moved_on x.before (edit_view p.place))) (sym (whole_text t u read all)) h.placed.lies
-
-module _ (t u : List ℕ) (n : ℕ) (stem : List Step) (op : Operation) (before : PutRun) (x : FlowHead) (p : MorePut) (read : read_at t ≡ Some (cut_of t)) (all : u ≡ t) (run : Runs (cut_of t) n stem before) (h : AddsAt op t n stem x p)
-    (behind : before.done ≤ x.before + p.place.start) (opens : p.place.lead.now ≡ [] → before.done < x.before + p.place.start) (fitting : IsFitting op (now_text (cut_of t) before)) where
-  abbrev c : Cut
-  c = cut_of t
-
+module _ (x : HeadInText) (u : List ℕ) (all : u ≡ cut_text (cut_with x)) (op : Operation) (before : PutRun) (y : HeadChange) (run : Runs x before) (h : AddsAt op x y)
+    (behind : before.done ≤ y.place.start) (opens : y.lead.now ≡ [] → before.done < y.place.start) (fitting : IsFitting op (now_text (cut_with x) before)) (s : String Global) (some : y.written ≡ Some s) where
   abbrev own : Operation
-  own = append n (stem ++ h.left) h.key h.value
+  own = append x.doc (stem_of x ++ h.left) h.key h.value
 
-  abbrev now : List ℕ
-  now = now_text c before
-
-  own_fits : IsFitting own now
-  own_fits = subst (λ (o : Operation). IsFitting o now) h.operation fitting
-
-  abbrev start : ℕ
-  start = x.before + p.place.start
-
-  abbrev finish : ℕ
-  finish = x.before + p.place.end
+  own_fits : IsFitting own (now_text (cut_with x) before)
+  own_fits = subst (λ (o : Operation). IsFitting o (now_text (cut_with x) before)) h.operation fitting
 
   abbrev new : List ℕ
-  new = p.place.lead.now ++ string_bytes p.written
+  new = y.lead.now ++ string_bytes s
 
-  whole_is : u ≡ cut_text c
-  whole_is = whole_text t u read all
+  written_is : string_bytes s ≡ (more_edit h.key h.value h.collection).written
+  written_is = same_Some _ _ (sym (ap (option_map string_bytes) some) ∙ h.written)
 
   -- it was empty, if nothing leads to it
-  was_empty : p.place.lead.now ≡ [] → is_none h.collection.items ≡ true
+  was_empty : y.lead.now ≡ [] → is_none h.collection.items ≡ true
   was_empty lead = no_lead (is_none h.collection.items) (sym (ap (λ (q : PlacedEdit). q.lead) h.placed.place_is) ∙ lead)
 
-  known_then : (known : Option Filled) → IfSome known (FillsFirst p.place.lead.now (map tree_step x.left.now)) → (cut : Cut) →
-      (is_none h.collection.items ≡ true → IsFilledCollection h.collection cut n (stem ++ h.left) (drop finish (cut_text c))) → IsKnownFilled c cut n stem finish known
+  known_then : (known : Option Filled) → IfSome known (FillsFirst y.lead.now (map tree_step y.steps.now)) → (cut : Cut) →
+      (is_none h.collection.items ≡ true → IsFilledCollection h.collection cut x.doc (stem_of x ++ h.left) (drop y.place.end (cut_text (cut_with x)))) → IsKnownFilled (cut_with x) cut x.doc (stem_of x) y.place.end known
   known_then None fills cut filled = tt
-  known_then (Some k) fills cut filled = known_at c cut n stem h.left finish h.collection h.found k (fills.1 ∙ sym h.left_is) (filled (was_empty fills.0))
+  known_then (Some k) fills cut filled = known_at (cut_with x) cut x.doc (stem_of x) h.left y.place.end h.collection h.found k (fills.1 ∙ sym h.left_is) (filled (was_empty fills.0))
 
-  pub more_on : (known : Option Filled) → IfSome known (FillsFirst p.place.lead.now (map tree_step x.left.now)) → (after : PutRun) → HasPut u start finish new before after → FillsOn op c n stem before known after
+  pub more_on : (known : Option Filled) → IfSome known (FillsFirst y.lead.now (map tree_step y.steps.now)) → (after : PutRun) → HasPut u y.place.start y.place.end new before after →
+      (on : RunsOn op x before after) × IsKnownFilled (cut_with x) on.run.cut x.doc (stem_of x) after.done known
   more_on known fills after has_put =
-      subst (λ (o : Operation). FillsOn o c n stem before known after) (sym h.operation)
-      (fill_on t u n stem own before start finish new whole_is h.valid own_fits known
-      (more_put_there c n stem h.left h.key h.value (string_bytes before.text) before.done run h.collection h.found h.takes x p.place h.placed behind opens (string_bytes p.written) h.written)
-      (λ small. let r = more_goes_on c n stem h.left h.key h.value (string_bytes before.text) before.done run h.collection h.found h.takes x p.place h.placed behind opens (string_bytes p.written) h.written h.valid own_fits small in
+      subst (λ (o : Operation). (on : RunsOn o x before after) × IsKnownFilled (cut_with x) on.run.cut x.doc (stem_of x) after.done known) (sym h.operation)
+      (fill_on x u all own before y.place.start y.place.end new h.valid own_fits known
+      (more_put_there (cut_with x) x.doc (stem_of x) h.left h.key h.value (string_bytes before.text) before.done run h.collection h.found h.takes (change_place y) h.placed behind opens (string_bytes s) written_is)
+      (λ small. let r = more_goes_on (cut_with x) x.doc (stem_of x) h.left h.key h.value (string_bytes before.text) before.done run h.collection h.found h.takes (change_place y) h.placed behind opens (string_bytes s) written_is h.valid own_fits small in
       (r.0, known_then known fills r.0.cut r.1)) after has_put)
 
-  pub more_fails : (e : EditError) → PutFails e u start finish new before → EditFails e (carried op now)
+  pub more_fails : (e : EditError) → PutFails e u y.place.start y.place.end new before → EditFails e (carried op (now_text (cut_with x) before))
   more_fails e fails =
-      subst (λ (o : Operation). EditFails e (carried o now)) (sym h.operation)
-      (run_fails t u n stem own before start finish new whole_is h.valid own_fits
-      (more_large c n stem h.left h.key h.value (string_bytes before.text) before.done run h.collection h.found h.takes x p.place h.placed behind opens (string_bytes p.written) h.written) e fails)
+      subst (λ (o : Operation). EditFails e (carried o (now_text (cut_with x) before))) (sym h.operation)
+      (run_fails x u all own before y.place.start y.place.end new h.valid own_fits
+      (more_large (cut_with x) x.doc (stem_of x) h.left h.key h.value (string_bytes before.text) before.done run h.collection h.found h.takes (change_place y) h.placed behind opens (string_bytes s) written_is) e fails)

@@ -4,10 +4,10 @@ use Rattle.std.{proofs.Common.{sym, ap, ◌∙◌, arith}, specs.Option.option_o
 use Rattle.yq_core.{specs.NodesWritten.{flow_key, flow_of}, specs.Answers.◌>>=◌, specs.Paths.Step, specs.Tree.Node}
 use Rattle.yq_core.specs.Collections.{CollPieces}
 use Rattle.yq_text.{specs.Limit.text_limit, specs.Script.{Segment, new_text, script_text_before, keep, put}}
-use Rattle.yq_flow_edits.{specs.FlowEdits.{FlowEdit, is_none}, specs.FlowPlaces.PlacedEdit, specs.declared.flow_place.EditPlace.EditPlace}
+use Rattle.yq_flow_edits.{specs.FlowEdits.{FlowEdit, is_none}, specs.FlowPlaces.PlacedEdit}
 use Rattle.yq_row_table.specs.Rows.{Cut, cut_text}
 use Rattle.yq_documents.specs.Reading.{read_at}
-use Rattle.yq_places.{specs.FlowNodes.flow_collection, specs.declared.places.flow_node.FlowHead.FlowHead}
+use Rattle.yq_places.specs.FlowNodes.{flow_collection}
 use Rattle.yq_semantics.{specs.Operations.append, specs.declared.refusal.Refusal.TheVariants.TooLarge}
 use Rattle.yq_edit_rules.{specs.Edits.{op_edits, or_stay}, specs.FlowParts.{flow_more, flow_segments, takes_key}, specs.Operands.HasOperand}
 use Rattle.yq_edit_laws.{specs.PartPuts.{EndsAsIn, IsEditPlace, more_edit}, proofs.CutLaws.text_read}
@@ -19,8 +19,8 @@ use Rattle.yq_batch.proofs.RunEdits.{edit_large, edit_size, edit_there, fits_now
 use Rattle.yq_batch.{proofs.CollectionLeft.{behind_first, has_some, more_there, with_items}, specs.FilledRuns.IsFilledCollection}
 
 module _ (c : Cut) (n : ℕ) (stem left : List Step) (key : Option (List ℕ)) (v : Node) (out : List ℕ) (done : ℕ) (run : IsPutRun c n stem out done)
-    (w : CollPieces) (found : flow_collection n (stem ++ left) c ≡ Some w) (takes : takes_key w.close key ≡ true) (x : FlowHead) (place : EditPlace) (at : IsEditPlace (cut_text c) (more_edit key v w) x place)
-    (behind : done ≤ x.before + place.start) (opens : place.lead.now ≡ [] → done < x.before + place.start) (written : List ℕ) (is : written ≡ (more_edit key v w).written) where
+    (w : CollPieces) (found : flow_collection n (stem ++ left) c ≡ Some w) (takes : takes_key w.close key ≡ true) (place : PlacedEdit) (at : IsEditPlace (cut_text c) (more_edit key v w) place)
+    (behind : done ≤ place.start) (opens : place.lead ≡ [] → done < place.start) (written : List ℕ) (is : written ≡ (more_edit key v w).written) where
   abbrev path : List Step
   path = stem ++ left
 
@@ -31,10 +31,10 @@ module _ (c : Cut) (n : ℕ) (stem left : List Step) (key : Option (List ℕ)) (
   now = text_with_run t out done
 
   abbrev start : ℕ
-  start = x.before + place.start
+  start = place.start
 
   abbrev finish : ℕ
-  finish = x.before + place.end
+  finish = place.end
 
   abbrev e : FlowEdit
   e = more_edit key v w
@@ -46,10 +46,10 @@ module _ (c : Cut) (n : ℕ) (stem left : List Step) (key : Option (List ℕ)) (
   finish_is = ap (λ (p : PlacedEdit). p.end) at.place_is
 
   size : length t ≡ length at.before + (0 + length e.behind)
-  size = edit_size t e x place at
+  size = edit_size t e place at
 
   -- nothing is in the collection: so no item or entry leads to what is written
-  none_leads : is_none w.items ≡ true → place.lead.now ≡ []
+  none_leads : is_none w.items ≡ true → place.lead ≡ []
   none_leads none = ap (λ (p : PlacedEdit). p.lead) at.place_is ∙ ap (λ (b : Bool). cond b [] (44 ∷ (32 ∷ []))) none
 
   -- the collection as it is now
@@ -86,19 +86,19 @@ module _ (c : Cut) (n : ℕ) (stem left : List Step) (key : Option (List ℕ)) (
       ∙ (ap (by_reading (carry_one (append n path key v))) read ∙ ap (λ (o : Option (List Segment)). edit_of_segments (or_stay run.cut o)) edits)
 
   abbrev new_out : List ℕ
-  new_out = run_out t out done start (place.lead.now ++ written)
+  new_out = run_out t out done start (place.lead ++ written)
 
-  pub more_put_there : length (text_with_run t new_out finish) ≤ text_limit → carried (append n path key v) now ≡ gives (text_with_run t new_out finish) (run_splices t out done start finish (place.lead.now ++ written))
-  more_put_there = edit_there c n stem out done run e x place at behind written is (append n path key v) comes
+  pub more_put_there : length (text_with_run t new_out finish) ≤ text_limit → carried (append n path key v) now ≡ gives (text_with_run t new_out finish) (run_splices t out done start finish (place.lead ++ written))
+  more_put_there = edit_there c n stem out done run e place at behind written is (append n path key v) comes
 
   pub more_large : text_limit < length (text_with_run t new_out finish) → carried (append n path key v) now ≡ refuses TooLarge
-  more_large = edit_large c n stem out done run e x place at behind written is (append n path key v) comes
+  more_large = edit_large c n stem out done run e place at behind written is (append n path key v) comes
 
   -- the run goes on after it, and the collection has it, if it had nothing
   pub more_goes_on : HasOperand (append n path key v) → IsFitting (append n path key v) now → length (text_with_run t new_out finish) ≤ text_limit →
       (on : IsPutRun c n stem new_out finish) × (is_none w.items ≡ true → IsFilledCollection w on.cut n path (drop finish t))
   more_goes_on operand fitting small =
-      let new_bytes : new_text (flow_segments (cut_text run.cut) e) ≡ text_with_run t new_out finish = new_text_is c n stem out done run e x place at behind written is in
+      let new_bytes : new_text (flow_segments (cut_text run.cut) e) ≡ text_with_run t new_out finish = new_text_is c n stem out done run e place at behind written is in
       let own_bytes : new_text (flow_segments (cut_text run.cut) (more_edit key v z)) ≡ text_with_run t new_out finish = ap new_text same_segments ∙ new_bytes in
       let fit = fits_now (append n path key v) now run.cut operand fitting run.read in
       let reads = appended_reads run.cut n path key v z read there.1 operand.0 operand.1 takes_now fit (omega (arith, small, ap length own_bytes)) in
@@ -125,6 +125,6 @@ module _ (c : Cut) (n : ℕ) (stem left : List Step) (key : Option (List ℕ)) (
           some = has_some (flow_key key) (flow_of v) z.gap z.items;
           behind_is =
               behind_first z.close (more_edit key v z).gap z.gap (flow_key key) (flow_of v) z.items z.rest (there.2.none ∙ none)
-              ∙ (there.2.behind ∙ sym (left_is c n stem out done run e x place at behind written is));
+              ∙ (there.2.behind ∙ sym (left_is c n stem out done run e place at behind written is));
         },
       )

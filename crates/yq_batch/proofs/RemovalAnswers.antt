@@ -19,7 +19,7 @@ use Rattle.yq_edit_laws.{specs.Carried.{carried, carry_all}, specs.Edit.{edit_af
 use Rattle.yq_edit_laws.{specs.Valid.AreServed, specs.declared.edit_error.EditError.EditError, specs.NearParts.LeadsToPart}
 use Rattle.yq_batch.specs.LeftItems.{closing, count_items, count_parts}
 use Rattle.yq_batch.specs.RemovalRuns.{AreFirstLeft, AreLeft, HasTakenOut, IsKnownLeft, IsLeftOf, IsRemovalRun, RemovalFails, RemovesOn}
-use Rattle.yq_batch.{specs.RemovalRuns.{RemovesSo, CarriesOn, GoneInHead, left_coll, text_without}, specs.LeftPlaces.IsLeftPlace}
+use Rattle.yq_batch.{specs.RemovalRuns.{RemovesSo, CarriesTogether, GoneInHead, left_coll, text_without}, specs.LeftPlaces.IsLeftPlace}
 use Rattle.yq_batch.{specs.declared.left.LeftPlace.LeftPlace, specs.Runs.EndsAt, specs.declared.together.Together.Together}
 use Rattle.yq_batch.{specs.declared.removals.LeftOf.LeftOf, specs.declared.removals.RemovalRun.RemovalRun, proofs.CollectionLeft.left_there}
 use Rattle.yq_batch.{proofs.LeftItemLaws.{all_left, ends_within}, proofs.LeftPlaceLaws.counted}
@@ -260,60 +260,45 @@ module _ (c : Cut) (n : ℕ) (stem left path : List Step) (s : Step) (last : las
             ∙ ap refuses (sym fails.0)
         go error.Memory fails = tt
 
--- What the code finds of an operation.
-module _ (t : List ℕ) (m n : ℕ) (stem path : List Step) (op : Operation) (x : FlowHead) (p : LeftPlace) (i : ℕ) (before : RemovalRun) (known : Option LeftOf) (read : read_at t ≡ Some (cut_of t))
-    (is : op ≡ remove m path) (same : m ≡ n) (ends : EndsAt stem (map tree_step x.left.now) path) (agrees : FlowAgrees t (flow_collection n (stem ++ map tree_step x.left.now) (cut_of t)) (Some x))
-    (gone : GoneInHead path x known before.keep p i) (run : RemovesSo (cut_of t) n stem known before) where
-  abbrev left : List Step
-  left = map tree_step x.left.now
+-- An operation takes out what is between two places of the text of a run, which is cut at characters there, and goes on after it.
+pub record CanTakeOut (op : Operation) (c : Cut) (n : ℕ) (stem left : List Step) (index : ℕ) (others : Option Bool) (before : RemovalRun) (start finish : ℕ) : Type 0 where
+  pub order : start ≤ finish
+  pub starts : IsCharBoundary (buffer_text before.text) start
+  pub finishes : IsCharBoundary (buffer_text before.text) finish
+  pub utf8 : IsUtf8 (buffer_text before.text)
+  pub small : length (buffer_text before.text) < 2 ^ 64
+  pub on : IsFitting op (buffer_text before.text) → (k : LeftOf) → map tree_step k.steps.now ≡ left → k.count ≡ index → k.after ≡ others → (after : RemovalRun) → HasTakenOut start finish before after → RemovesOn op c n stem before k after
+  pub fails : (e : EditError) → RemovalFails e start finish before → EditFails e (carried op (buffer_text before.text))
 
-  own_is : op ≡ remove n path
-  own_is = is ∙ ap (λ (k : ℕ). remove k path) same
-
-  last : last_step path ≡ Some (stem ++ left, gone.step)
-  last = ends.1 ∙ ap (λ (r : Step). Some (stem ++ left, r)) (sym (ap (λ (y : List Step × Step). y.1) (same_Some _ _ (gone.last ∙ ends.1))))
-
-  f : CollFound (cut_of t) n (stem ++ left) x gone.node
-  f = coll_found t n (stem ++ left) (Some x) x gone.node read agrees refl gone.there
-
-  first : AreFirstLeft (with_more (more (cut_of t) n (stem ++ left) x gone.node f) (own (cut_of t) n (stem ++ left) x gone.node f)) (cut_of t) run.run.cut n (stem ++ left) before.keep gone.count gone.after
-  first = are_left (cut_of t) n stem left path gone.step last x gone.node f before known run (x.before + end_of gone.node) gone.count gone.after refl gone.first
-
-  pub out_order : x.before + p.start ≤ x.before + p.end
-  out_order = order (cut_of t) n stem left path gone.step last x gone.node f before known run i gone.count gone.after p gone.leads gone.goes first
-
-  pub out_starts : IsCharBoundary (buffer_text before.text) (x.before + p.start)
-  out_starts = starts (cut_of t) n stem left path gone.step last x gone.node f before known run i gone.count gone.after p gone.leads gone.goes first
-
-  pub out_finishes : IsCharBoundary (buffer_text before.text) (x.before + p.end)
-  out_finishes = finishes (cut_of t) n stem left path gone.step last x gone.node f before known run i gone.count gone.after p gone.leads gone.goes first
-
-  pub out_utf8 : IsUtf8 (buffer_text before.text)
-  out_utf8 = utf8 (cut_of t) n stem left path gone.step last x gone.node f before known run i gone.count gone.after p gone.leads gone.goes first
-
-  pub out_small : length (buffer_text before.text) < 2 ^ 64
-  out_small =
-      let text : cut_text run.run.cut ≡ buffer_text before.text = text_read _ run.run.cut run.run.read ∙ sym run.text in
-      subst (λ (l : List ℕ). length l < 2 ^ 64) text (text_small (cut_text run.run.cut) run.run.cut (ap read_at (text_read _ run.run.cut run.run.read) ∙ run.run.read))
-
-  pub out_on : IsFitting op (buffer_text before.text) → (k : LeftOf) → map tree_step k.steps.now ≡ left → k.count ≡ i → k.after ≡ p.after → (after : RemovalRun) → HasTakenOut (x.before + p.start) (x.before + p.end) before after →
-      RemovesOn op (cut_of t) n stem before k after
-  out_on fitting k steps count others after taken_out =
-      subst (λ (o : Operation). RemovesOn o (cut_of t) n stem before k after) (sym own_is)
-      (removal_on (cut_of t) n stem left path gone.step last x gone.node f before known run i gone.count gone.after p gone.leads gone.goes first
-      (subst (λ (o : Operation). IsFitting o (buffer_text before.text)) own_is fitting) k steps count others after taken_out)
-
-  pub out_fails : (e : EditError) → RemovalFails e (x.before + p.start) (x.before + p.end) before → EditFails e (carried op (buffer_text before.text))
-  out_fails e fails =
-      subst (λ (o : Operation). EditFails e (carried o (buffer_text before.text))) (sym own_is)
-      (removal_fails (cut_of t) n stem left path gone.step last x gone.node f before known run i gone.count gone.after p gone.leads gone.goes first e fails)
+-- what the code finds of an operation
+pub out_of : (t : List ℕ) (m n : ℕ) (stem path : List Step) (op : Operation) (x : FlowHead) (p : LeftPlace) (i : ℕ) (before : RemovalRun) (known : Option LeftOf) → read_at t ≡ Some (cut_of t) → op ≡ remove m path → m ≡ n →
+    EndsAt stem (map tree_step x.left.now) path → FlowAgrees t (flow_collection n (stem ++ map tree_step x.left.now) (cut_of t)) (Some x) → GoneInHead path x known before.keep p i → RemovesSo (cut_of t) n stem known before →
+    CanTakeOut op (cut_of t) n stem (map tree_step x.left.now) i p.after before (x.before + p.start) (x.before + p.end)
+out_of t m n stem path op x p i before known read is same ends agrees gone run =
+    let c : Cut = cut_of t in
+    let left : List Step = map tree_step x.left.now in
+    let own_is : op ≡ remove n path = is ∙ ap (λ (k : ℕ). remove k path) same in
+    let last : last_step path ≡ Some (stem ++ left, gone.step) = ends.1 ∙ ap (λ (r : Step). Some (stem ++ left, r)) (sym (ap (λ (y : List Step × Step). y.1) (same_Some _ _ (gone.last ∙ ends.1)))) in
+    let f : CollFound c n (stem ++ left) x gone.node = coll_found t n (stem ++ left) (Some x) x gone.node read agrees refl gone.there in
+    let first = are_left c n stem left path gone.step last x gone.node f before known run (x.before + end_of gone.node) gone.count gone.after refl gone.first in
+    let text : cut_text run.run.cut ≡ buffer_text before.text = text_read _ run.run.cut run.run.read ∙ sym run.text in
+    subst (λ (o : Operation). CanTakeOut o c n stem left i p.after before (x.before + p.start) (x.before + p.end)) (sym own_is)
+    (record {
+      order = order c n stem left path gone.step last x gone.node f before known run i gone.count gone.after p gone.leads gone.goes first;
+      starts = starts c n stem left path gone.step last x gone.node f before known run i gone.count gone.after p gone.leads gone.goes first;
+      finishes = finishes c n stem left path gone.step last x gone.node f before known run i gone.count gone.after p gone.leads gone.goes first;
+      utf8 = utf8 c n stem left path gone.step last x gone.node f before known run i gone.count gone.after p gone.leads gone.goes first;
+      small = subst (λ (l : List ℕ). length l < 2 ^ 64) text (text_small (cut_text run.run.cut) run.run.cut (ap read_at (text_read _ run.run.cut run.run.read) ∙ run.run.read));
+      on = λ fitting. removal_on c n stem left path gone.step last x gone.node f before known run i gone.count gone.after p gone.leads gone.goes first fitting;
+      fails = removal_fails c n stem left path gone.step last x gone.node f before known run i gone.count gone.after p gone.leads gone.goes first;
+    })
 
 -- ---- operations together
 
 pub ended_on : (ops left : List Op) (t : List ℕ) (run old : RemovalRun) → run ≡ old → edit_after old.splices.items (carry_all (operations_of left) (buffer_text old.text)) ≡ carry_all (operations_of ops) t →
     AreServed (operations_of left) (buffer_text old.text) → (r : Option Together) →
     IfSome r (λ x. (string_bytes x.edited.text ≡ buffer_text run.text) × (x.edited.splices.items ≡ run.splices.items) × (x.left.now ≡ left) × (length left ≤ 1)) →
-    IfSome r (λ x. CarriesOn ops t x.left.now (string_bytes x.edited.text) x.edited.splices.items)
+    CarriesTogether ops t r
 ended_on ops left t run old same whole serves r h = IfSome_then r h (λ x e.
     let text : string_bytes x.edited.text ≡ buffer_text old.text = e.0 ∙ ap (λ (z : RemovalRun). buffer_text z.text) same in
     let splices : x.edited.splices.items ≡ old.splices.items = e.1 ∙ ap (λ (z : RemovalRun). z.splices.items) same in

@@ -1,13 +1,13 @@
 -- Runs of items and entries that are taken out with their lines, as the code makes them.
 use Rattle.std.proofs.Common.{◌≡◌, ℕ, zero, suc, ◌+◌, ◌-◌, ◌≤◌, ◌<◌, ◌^◌, true, List, [], ◌∷◌, ◌++◌, length, take, drop, slice_get}
 use Rattle.std.proofs.Common.{slice_index_or, Option, Some, option_map, sym, ap, ◌∙◌, subst, arith, length-append, append_assoc}
-use Rattle.std.{proofs.Math.Seq.take-append_seam, proofs.lemmas.Option.{IfSome_then, none-some, same_Some}, specs.Prelude.IfSome}
-use Rattle.std.{specs.Str.{IsCharBoundary, IsUtf8}, proofs.lemmas.Str.{IsCharBoundary-from_take, IsUtf8-append}}
+use Rattle.std.{proofs.Math.Seq.take-append_seam, proofs.lemmas.Option.{none-some, same_Some}, specs.Str.{IsCharBoundary, IsUtf8}}
+use Rattle.std.proofs.lemmas.Str.{IsCharBoundary-from_take, IsUtf8-append}
 use Rattle.yq_text.{specs.Limit.text_limit, specs.Script.splice_at, specs.Splice.Splice, specs.TextGapBuffer.buffer_text}
 use Rattle.yq_core.{specs.Answers.◌>>=◌, specs.Paths.{Step, node_at}, proofs.Bools.bind_some}
 use Rattle.yq_row_table.specs.Rows.{Cut, cut_text}
 use Rattle.yq_documents.{specs.Documents.Document, specs.Reading.{cut_of, documents, read_at}, specs.TreeEdits.change_nth}
-use Rattle.yq_documents.proofs.ReadLaws.{parts_read}
+use Rattle.yq_documents.{proofs.ReadLaws.parts_read, specs.Located.steps_of, specs.declared.path.Path.Path}
 use Rattle.yq_places.{specs.PlacedRows.{PlacedPart, placed_document}, proofs.PlacedPartLaws.map_some}
 use Rattle.yq_places.specs.RemovalPlaces.{OwnRows, Removal, has_others_at, has_several, own_rows, removal_place, rows_out}
 use Rattle.yq_edit_rules.proofs.RemovalChangeLaws.{removal_stands, snoc, take_init}
@@ -17,8 +17,9 @@ use Rattle.yq_edit_laws.{proofs.ApplyLaws.applied_by, proofs.CutLaws.{text_read,
 use Rattle.yq_edit_laws.{proofs.TextFaults.text_utf8, specs.Answers.EditFails, specs.Carried.carried, specs.Edit.gives}
 use Rattle.yq_edit_laws.{specs.Theorems.IsFitting, specs.Valid.AreServed, specs.declared.edit_error.EditError.EditError}
 use Rattle.yq_batch.{specs.RemovalRuns.{HasTakenOut, RemovalFails, text_without}, specs.declared.removals.RemovalRun.RemovalRun}
-use Rattle.yq_batch.specs.RowRemovals.{FirstRemoves, HasOthersNow, IsLeast, LeadsInto, IsRowRemovalRun, RemovesRows, RemovesRowsOn, StaysAt}
-use Rattle.yq_batch.{specs.RowRemovals.above_of, proofs.OthersFollow.others_follow, proofs.RowRunGoesOn.goes_on, proofs.RunEdits.fits_now}
+use Rattle.yq_batch.specs.RowRemovals.{HasOthersNow, IsLeast, IsRowRemovalRun, RemovesBeside, RemovesRows, RemovesRowsOn, StaysAt}
+use Rattle.yq_batch.{specs.RowRemovals.{TakesFirst, above_of, removal_of}, proofs.OthersFollow.others_follow, proofs.RowRunGoesOn.goes_on}
+use Rattle.yq_batch.proofs.RunEdits.{fits_now}
 use Rattle.yq_edit_laws.specs.declared.edit_error.EditError.TheVariants as error
 use Rattle.yq_batch.proofs.RowsTaken as taken
 
@@ -235,36 +236,29 @@ two_apart (x ∷ []) a b some at be = absurd (omega (arith, some))
 two_apart (x ∷ (y ∷ os)) a b some at be = (os, λ i. sym at i ∷ (sym be i ∷ os))
 
 -- what they take out
-module _ (ops : List Op) (op next : Op) (n m k : ℕ) (above p q : List Step) (some : 2 ≤ length ops) (at : op ≡ slice_index_or ops 0 op) (next_at : next ≡ slice_index_or ops 1 next)
-    (one : (operation_of op ≡ remove n p) × (m ≡ n) × LeadsInto above p) (two : (operation_of next ≡ remove n q) × (k ≡ n) × LeadsInto above q) where
-  apart : (rest : List Op) × (ops ≡ op ∷ (next ∷ rest))
-  apart = two_apart ops op next some at next_at
+module _ (ops : List Op) (n : ℕ) (above : List Step) (p : Path) (h : TakesFirst ops n above p) where
+  steps_are : steps_of p ≡ above ++ (h.takes.2.0 ∷ [])
+  steps_are = last_is (steps_of p) above h.takes.2.0 h.takes.2.1
 
-  steps_are : p ≡ above ++ (one.2.0 ∷ [])
-  steps_are = last_is p above one.2.0 one.2.1
+  above_is : above_of (steps_of p) ≡ above
+  above_is = ap above_of steps_are ∙ take_init above h.takes.2.0
 
-  above_is : above_of p ≡ above
-  above_is = ap above_of steps_are ∙ take_init above one.2.0
+  pub first_is : operation_of h.op ≡ removal_of p
+  first_is = h.takes.0 ∙ ap (λ (j : ℕ). remove j (steps_of p)) (sym h.takes.1)
 
-  pub others_beside : (text : List ℕ) → AreServed (operations_of ops) text → HasOthersNow m p text
+  pub others_beside : (text : List ℕ) → AreServed (operations_of ops) text → HasOthersNow p.doc (steps_of p) text
   others_beside text served =
-      let first : operation_of op ≡ remove n (above ++ (one.2.0 ∷ [])) = one.0 ∙ ap (remove n) steps_are in
-      let second : operation_of next ≡ remove n (above ++ (two.2.0 ∷ [])) = two.0 ∙ ap (remove n) (last_is q above two.2.0 two.2.1) in
-      let both = subst (λ (os : List Operation). AreServed os text) (ap operations_of apart.1 ∙ λ i. first i ∷ (second i ∷ operations_of apart.0)) served in
-      subst (λ (j : ℕ). HasOthersNow j p text) (sym one.1)
-      (subst (λ (zs : List Step). HasOthersNow n zs text) (sym steps_are) (others_now n above one.2.0 two.2.0 (operations_of apart.0) text both))
+      let first : operation_of h.op ≡ remove n (above ++ (h.takes.2.0 ∷ [])) = h.takes.0 ∙ ap (remove n) steps_are in
+      let second : operation_of h.next ≡ remove n (above ++ (h.next_takes.2.0 ∷ [])) = h.next_takes.0 ∙ ap (remove n) (last_is (steps_of h.other) above h.next_takes.2.0 h.next_takes.2.1) in
+      let both = subst (λ (os : List Operation). AreServed os text) (ap operations_of h.ops_are ∙ λ i. first i ∷ (second i ∷ operations_of h.rest)) served in
+      subst (λ (j : ℕ). HasOthersNow j (steps_of p) text) (sym h.takes.1)
+      (subst (λ (zs : List Step). HasOthersNow n zs text) (sym steps_are) (others_now n above h.takes.2.0 h.next_takes.2.0 (operations_of h.rest) text both))
 
-  pub run_there : (c : Cut) (least : Option ℕ) (r : RemovalRun) → RemovesRows c n above least r → RemovesRows c m (above_of p) least r
+  pub run_there : (c : Cut) (least : Option ℕ) (r : RemovalRun) → RemovesRows c n above least r → RemovesBeside p c least r
   run_there c least r run =
-      subst (λ (zs : List Step). RemovesRows c m zs least r) (sym above_is) (subst (λ (j : ℕ). RemovesRows c j above least r) (sym one.1) run)
+      subst (λ (zs : List Step). RemovesRows c p.doc zs least r) (sym above_is) (subst (λ (j : ℕ). RemovesRows c j above least r) (sym h.takes.1) run)
 
-  pub first_removes : (c : Cut) (before : RemovalRun) (found : Option (Option ℕ)) (after : RemovalRun) → IfSome found (λ least. RemovesRowsOn (remove m p) c m (above_of p) before least after) →
-      IfSome found (λ least. FirstRemoves ops c n above before least after)
-  first_removes c before found after h = IfSome_then found h (λ least on.
-      let here : RemovesRowsOn (remove m p) c m above before least after = subst (λ (zs : List Step). RemovesRowsOn (remove m p) c m zs before least after) above_is on in
-      record {
-        op = op;
-        others = next ∷ apart.0;
-        ops_are = apart.1;
-        on = subst (λ (o : Operation). RemovesRowsOn o c n above before least after) (sym one.0) (subst (λ (j : ℕ). RemovesRowsOn (remove j p) c j above before least after) one.1 here);
-      })
+  pub first_on : (c : Cut) (before : RemovalRun) (least : Option ℕ) (after : RemovalRun) → RemovesRowsOn (removal_of p) c p.doc (above_of (steps_of p)) before least after → RemovesRowsOn (operation_of h.op) c n above before least after
+  first_on c before least after on =
+      let here : RemovesRowsOn (removal_of p) c p.doc above before least after = subst (λ (zs : List Step). RemovesRowsOn (removal_of p) c p.doc zs before least after) above_is on in
+      subst (λ (o : Operation). RemovesRowsOn o c n above before least after) (sym first_is) (subst (λ (j : ℕ). RemovesRowsOn (removal_of p) c j above before least after) h.takes.1 here)

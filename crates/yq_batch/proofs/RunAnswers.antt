@@ -1,26 +1,26 @@
 -- Runs of values that are put in the collections of one head, as the code makes them.
-use Rattle.std.proofs.Common.{◌≡◌, ℕ, ◌+◌, ◌-◌, ◌≤◌, ◌<◌, false, List, [], ◌++◌, length, length-append, map, take, drop, Option, Some, None}
-use Rattle.std.proofs.Common.{Result, Ok, Err, IfOk, sym, ap, ◌∙◌, subst, append-nil, arith, string_bytes, refl}
-use Rattle.std.{proofs.Math.Seq.take-append_seam, proofs.lemmas.List.{length-map, take-map}, proofs.lemmas.Str.IsCharBoundary-start}
-use Rattle.std.{specs.Prelude.{IfSome, String}, specs.Str.IsCharBoundary, specs.declared.alloc.Global.Global}
-use Rattle.yq_core.{specs.Paths.Step, specs.Tree.Node, specs.Entries.tree_step, specs.Places.Placed, specs.View.inline_view}
-use Rattle.yq_flow_edits.specs.FlowPlaces.{edit_view}
-use Rattle.yq_row_table.specs.Rows.{Cut, cut_text}
+use Rattle.std.proofs.Common.{◌≡◌, ℕ, ◌-◌, ◌≤◌, ◌<◌, Bool, true, false, List, [], ◌++◌, length, length-append, map, take, drop, Option}
+use Rattle.std.{proofs.Common.{Some, None, sym, ap, ◌∙◌, subst, append-nil, arith, string_bytes, refl}, proofs.Math.Seq.take-append_seam}
+use Rattle.std.{proofs.lemmas.List.{length-map, take-map}, proofs.lemmas.Str.IsCharBoundary-start, proofs.lemmas.Option.same_Some}
+use Rattle.std.{specs.Prelude.String, specs.Str.IsCharBoundary, specs.Borrow.Bor, specs.declared.alloc.Global.Global}
+use Rattle.yq_core.{specs.Paths.Step, specs.Tree.Node, specs.Entries.tree_step, specs.View.inline_view}
+use Rattle.yq_row_table.specs.Rows.{cut_text}
 use Rattle.yq_documents.specs.Reading.{cut_of, read_at}
-use Rattle.yq_places.{specs.FlowViews.{LeadsToHead, ReportsHead, collection_along}, specs.NodesAt.node_in, specs.Standings.last_step}
-use Rattle.yq_places.specs.declared.places.flow_node.FlowHead.{FlowHead}
+use Rattle.yq_places.{specs.FlowNodes.flow_collection, specs.FlowViews.{FlowAgrees, LeadsToHead}, specs.NodesAt.node_in}
+use Rattle.yq_places.{specs.Standings.last_step, specs.declared.places.flow_node.FlowHead.FlowHead}
 use Rattle.yq_semantics.{specs.Operations.{Operation, replace}, specs.declared.refusal.Refusal.TheVariants.TooLarge}
 use Rattle.yq_text.{specs.Limit.text_limit, specs.Script.splice_at, specs.Splice.Splice}
 use Rattle.yq_edit_rules.{specs.Operands.HasOperand, specs.Replacing.keeps_scalar}
-use Rattle.yq_edit_laws.{specs.EditPlaces.{LiesIn, moved_on}, specs.PartPuts.{IsHeadOfPath, ArePuts, IsWrittenPart, put_edit}}
-use Rattle.yq_edit_laws.{specs.declared.put.PartPut.PartPut, proofs.CutLaws.text_read, proofs.FlowAnswers.whole_text}
-use Rattle.yq_edit_laws.{specs.Answers.EditFails, specs.Carried.carried, specs.Edit.{gives, refuses}, specs.Theorems.IsFitting}
-use Rattle.yq_edit_laws.{specs.declared.edit_error.EditError.EditError, proofs.ApplyLaws.applied_by, proofs.TextFaults.text_utf8}
-use Rattle.yq_edit_laws.{proofs.LaterEnds.ends_same, specs.NearParts.IsUniqueNode, proofs.FlowKeys.collection_unique}
-use Rattle.yq_edit_laws.proofs.NearCollections.{own_along}
-use Rattle.yq_batch.specs.Runs.{EndsAt, EndsInCollection, HasPut, IsPutRun, PutFails, PutsAt, Runs, RunsOn, now_text, run_front}
-use Rattle.yq_batch.{specs.Runs.text_with_run, specs.FilledRuns.{FillsOn, IsKnownFilled}, specs.declared.adding.Filled.Filled}
-use Rattle.yq_batch.{specs.declared.run.PutRun.PutRun, proofs.RunLaws.{goes_on, kept_there, large_there, put_there}}
+use Rattle.yq_edit_laws.{specs.EditPlaces.LiesIn, specs.PartPuts.{IsPlaceOf, ArePuts, IsWrittenPart, place_after, put_edit}}
+use Rattle.yq_edit_laws.{specs.declared.put.PartPut.PartPut, proofs.CutLaws.text_read, specs.Carried.carried, specs.Answers.EditFails}
+use Rattle.yq_edit_laws.{specs.Edit.{gives, refuses}, specs.Theorems.IsFitting, specs.declared.edit_error.EditError.EditError}
+use Rattle.yq_edit_laws.{proofs.ApplyLaws.applied_by, proofs.TextFaults.text_utf8, proofs.LaterEnds.ends_same}
+use Rattle.yq_edit_laws.{specs.NearParts.{IsUniqueNode, head_with}, proofs.FlowKeys.collection_unique, proofs.NearCollections.own_along}
+use Rattle.yq_batch.specs.Runs.{ChangesAt, ChangesBy, EndsAt, EndsInCollection, HasPut, IsInText, IsPutRun, PutFails, PutsAt, Runs, RunsOn}
+use Rattle.yq_batch.{specs.Runs.{change_place, cut_with, now_text, run_front, stem_of, text_with_run}, specs.FilledRuns.IsKnownFilled}
+use Rattle.yq_batch.{specs.declared.adding.Filled.Filled, specs.declared.change.HeadChange.HeadChange}
+use Rattle.yq_batch.{specs.declared.head.HeadInText.HeadInText, specs.declared.run.PutRun.PutRun}
+use Rattle.yq_batch.proofs.RunLaws.{goes_on, kept_there, large_there, put_there}
 use Rattle.yq_core.specs.declared.path.Step as declared
 use Rattle.yq_edit_laws.specs.declared.edit_error.EditError.TheVariants as error
 
@@ -39,11 +39,10 @@ run_begins t n stem read leads =
     }
 
 -- the same of a run that the code begins
-pub begins : (t : List ℕ) (n : ℕ) (stem : List Step) (r : PutRun) → read_at t ≡ Some (cut_of t) → LeadsToHead (cut_of t) n stem →
-    string_bytes r.text ≡ [] → r.done ≡ 0 → Runs (cut_of t) n stem r
-begins t n stem r read leads text done =
-    subst (λ (d : ℕ). IsPutRun (cut_of t) n stem (string_bytes r.text) d) (sym done)
-    (subst (λ (l : List ℕ). IsPutRun (cut_of t) n stem l 0) (sym text) (run_begins t n stem read leads))
+pub begins : (x : HeadInText) (r : PutRun) → IsInText x → string_bytes r.text ≡ [] → r.done ≡ 0 → Runs x r
+begins x r there text done =
+    subst (λ (d : ℕ). IsPutRun (cut_with x) x.doc (stem_of x) (string_bytes r.text) d) (sym done)
+    (subst (λ (l : List ℕ). IsPutRun (cut_with x) x.doc (stem_of x) l 0) (sym text) (run_begins x.cut.now x.doc (stem_of x) there.read there.reports.leads))
 
 -- the text of a run in which nothing was put
 pub begins_with : (t : List ℕ) (r : PutRun) → read_at t ≡ Some (cut_of t) → string_bytes r.text ≡ [] → r.done ≡ 0 → now_text (cut_of t) r ≡ t
@@ -59,24 +58,25 @@ stem_is above left stem n same size =
     let long : length stem ≡ n = omega (arith, size, ap length same, length-append stem (map tree_step left), length-map above tree_step, length-map left tree_step) in
     sym (take-map tree_step n above) ∙ ((λ i. take (sym long i) (same i)) ∙ take-append_seam stem (map tree_step left))
 
--- the head is that of the collection there, once it has the steps that go on to it
-pub head_there : (t : List ℕ) (m n : ℕ) (stem path : List Step) (x y : FlowHead) → ReportsHead t (cut_of t) n stem x → (m ≡ n) × EndsAt stem (map tree_step y.left.now) path → y.node ≡ x.node → y.text ≡ x.text → y.before ≡ x.before → IsHeadOfPath m (last_step path) t y
-head_there t m n stem path x y head ends node text before =
-    subst (λ (k : ℕ). IsHeadOfPath k (last_step path) t y) (sym ends.0) (subst (λ (o : Option (List Step × Step)). IsHeadOfPath n o t y) (sym ends.1.1) (head.reports y node text before))
+-- the head is that of the collection in which a path ends, with the steps that go on to it
+pub head_there : (x : HeadInText) → IsInText x → (m : ℕ) (above : List Step) (s : Step) (path : List Step) (left : Bor (List declared.Step)) → Some (above, s) ≡ last_step path → (m ≡ x.doc) × EndsAt (stem_of x) (map tree_step left.now) path →
+    FlowAgrees x.cut.now (flow_collection m above (cut_with x)) (Some (head_with x.head left))
+head_there x there m above s path left last ends =
+    let above_is : above ≡ stem_of x ++ map tree_step left.now = ap (λ (y : List Step × Step). y.0) (same_Some _ _ (last ∙ ends.1.1)) in
+    subst (λ (k : ℕ). FlowAgrees x.cut.now (flow_collection k above (cut_with x)) (Some (head_with x.head left))) (sym ends.0)
+    (subst (λ (ss : List Step). FlowAgrees x.cut.now (flow_collection x.doc ss (cut_with x)) (Some (head_with x.head left))) (sym above_is) (there.reports.reports (head_with x.head left) refl refl refl))
 
--- the node of the head has no key twice, if it is a collection
-pub unique_head : (t : List ℕ) (n : ℕ) (stem : List Step) (x y : FlowHead) → read_at t ≡ Some (cut_of t) → ReportsHead t (cut_of t) n stem x → y.node ≡ x.node → IsUniqueNode (inline_view y.node.value)
-unique_head t n stem x y read head node is =
-    let root : FlowHead = record x { left = record x.left { now = [] } } in
-    collection_unique t n (stem ++ []) root read (head.reports root refl refl refl) (inline_view y.node.value) (own_along [] (inline_view y.node.value) (None, inline_view y.node.value) refl is ∙ ap (λ (q : Placed). collection_along [] q) (ap (λ b. inline_view b.value) node))
+-- the node of a head has no key twice, if it is a collection
+pub unique_head : (x : HeadInText) → IsInText x → IsUniqueNode (inline_view x.head.node.value)
+unique_head x there is =
+    let root : FlowHead = record x.head { left = record x.head.left { now = [] } } in
+    collection_unique x.cut.now x.doc (stem_of x ++ []) root there.read (there.reports.reports root refl refl refl) (inline_view x.head.node.value) (own_along [] (inline_view x.head.node.value) (None, inline_view x.head.node.value) refl is)
 
 -- a value is put at a part in that collection
-pub puts_at : {E : Type 0} (t : List ℕ) (m n : ℕ) (stem : List Step) (op : Operation) (path : List Step) (v : Node) (x : FlowHead) →
-    op ≡ replace m path v → HasOperand op → (m ≡ n) × EndsInCollection stem path → (r : Result (Option PartPut) E) → IfOk r (λ o. ArePuts m path v (cut_of t) x o) →
-    IfOk r (λ o. IfSome o (λ p. PutsAt op t n stem x p))
-puts_at t m n stem op path v x is operand beside (Ok None) h = tt
-puts_at t m n stem op path v x is operand beside (Ok (Some p)) h =
-    let a : ArePuts n path v (cut_of t) x (Some p) = subst (λ (k : ℕ). ArePuts k path v (cut_of t) x (Some p)) beside.0 h in
+pub puts_at : (x : HeadInText) (op : Operation) (m : ℕ) (path : List Step) (v : Node) (p : PartPut) (y : HeadChange) → op ≡ replace m path v → HasOperand op → (m ≡ x.doc) × EndsInCollection (stem_of x) path →
+    ArePuts m path v (cut_with x) x.head.before (Some p) → change_place y ≡ place_after x.head.before p.place → y.written ≡ p.written → PutsAt op x y
+puts_at x op m path v p y is operand beside h place written =
+    let a : ArePuts x.doc path v (cut_with x) x.head.before (Some p) = subst (λ (k : ℕ). ArePuts k path v (cut_with x) x.head.before (Some p)) beside.0 h in
     record {
       path = path;
       value = v;
@@ -85,128 +85,98 @@ puts_at t m n stem op path v x is operand beside (Ok (Some p)) h =
       ends = beside.1;
       part = a.0;
       standing = a.1;
-      placed = a.2;
-      written = a.3;
+      placed = subst (IsPlaceOf (cut_text (cut_with x)) v a.0) (sym place) a.2;
+      written = subst (IsWrittenPart (node_in x.doc path (cut_with x)) v a.0) (sym written) a.3;
     }
-puts_at t m n stem op path v x is operand beside (Err e) h = tt
 
--- where a run ends, and a value comes, in the text of the cut
-module _ (t u : List ℕ) (read : read_at t ≡ Some (cut_of t)) (all : u ≡ t) where
-  text_is : u ≡ cut_text (cut_of t)
-  text_is = whole_text t u read all
+-- where a change comes
+change_lies : (b : Bool) (op : Operation) (x : HeadInText) (y : HeadChange) → ChangesBy b op x y → LiesIn (cut_text (cut_with x)) (change_place y)
+change_lies true op x y h = h.placed.lies
+change_lies false op x y h = h.placed.lies
 
-  pub edge_in : (n : ℕ) (steps : List Step) (r : PutRun) → Runs (cut_of t) n steps r → IsCharBoundary u r.done
-  edge_in n steps r run = subst (λ (l : List ℕ). IsCharBoundary l r.done) (sym text_is) run.edge
+pub lies_in : (op : Operation) (x : HeadInText) (u : List ℕ) (y : HeadChange) → u ≡ cut_text (cut_with x) → ChangesAt op x y → LiesIn u (change_place y)
+lies_in op x u y all h = subst (λ (l : List ℕ). LiesIn l (change_place y)) (sym all) (change_lies y.place.more op x y h)
 
-  pub lies_in : (op : Operation) (n : ℕ) (steps : List Step) (x : FlowHead) (p : PartPut) → PutsAt op t n steps x p → LiesIn u (moved_on x.before (edit_view p.place))
-  lies_in op n steps x p h = subst (λ (l : List ℕ). LiesIn l (moved_on x.before (edit_view p.place))) (sym text_is) h.placed.lies
+-- where a run ends
+pub edge_in : (x : HeadInText) (u : List ℕ) → u ≡ cut_text (cut_with x) → (r : PutRun) → Runs x r → IsCharBoundary u r.done
+edge_in x u all r run = subst (λ (l : List ℕ). IsCharBoundary l r.done) (sym all) run.edge
 
 -- a run, of which this is known
-abbrev FilledRun : Cut → ℕ → List Step → Option Filled → List ℕ → ℕ → Type 0
-FilledRun c n stem known out done = (on : IsPutRun c n stem out done) × IsKnownFilled c on.cut n stem done known
+abbrev FilledOf : HeadInText → Option Filled → List ℕ → ℕ → Type 0
+FilledOf x known out done = (on : IsPutRun (cut_with x) x.doc (stem_of x) out done) × IsKnownFilled (cut_with x) on.cut x.doc (stem_of x) done known
 
 -- an operation exchanges what is between two places of the text that was read
-module _ (t u : List ℕ) (n : ℕ) (stem : List Step) (op : Operation) (before : PutRun) (start finish : ℕ) (new : List ℕ) (all : u ≡ cut_text (cut_of t)) (operand : HasOperand op)
-    (fitting : IsFitting op (now_text (cut_of t) before)) where
+module _ (x : HeadInText) (u : List ℕ) (all : u ≡ cut_text (cut_with x)) (op : Operation) (before : PutRun) (start finish : ℕ) (new : List ℕ) (operand : HasOperand op) (fitting : IsFitting op (now_text (cut_with x) before)) where
   abbrev out : List ℕ
-  out = run_front (cut_text (cut_of t)) before start ++ new
+  out = run_front (cut_text (cut_with x)) before start ++ new
 
   abbrev made : List ℕ
-  made = text_with_run (cut_text (cut_of t)) out finish
+  made = text_with_run (cut_text (cut_with x)) out finish
 
   abbrev cs : List Splice
-  cs = splice_at (length (run_front (cut_text (cut_of t)) before start)) (drop start (take finish (cut_text (cut_of t)))) new
+  cs = splice_at (length (run_front (cut_text (cut_with x)) before start)) (drop start (take finish (cut_text (cut_with x)))) new
 
-  pub run_on : (length made ≤ text_limit → carried op (now_text (cut_of t) before) ≡ gives made cs) → (length made ≤ text_limit → IsPutRun (cut_of t) n stem out finish) → (after : PutRun) → HasPut u start finish new before after →
-      RunsOn op (cut_of t) n stem before after
-  run_on there on after has_put =
-      let a : HasPut (cut_text (cut_of t)) start finish new before after = subst (λ (l : List ℕ). HasPut l start finish new before after) all has_put in
-      let text : made ≡ now_text (cut_of t) after = λ i. text_with_run (cut_text (cut_of t)) (sym a.text i) (sym a.done i) in
-      let comes : carried op (now_text (cut_of t) before) ≡ gives (now_text (cut_of t) after) cs = there a.size ∙ ap (λ (l : List ℕ). gives l cs) text in
-      record {
-        new_bytes = cs;
-        comes = comes;
-        applied = applied_by op (now_text (cut_of t) before) operand fitting (now_text (cut_of t) after) cs comes;
-        splices = a.splices;
-        run = subst (λ (d : ℕ). IsPutRun (cut_of t) n stem (string_bytes after.text) d) (sym a.done) (subst (λ (l : List ℕ). IsPutRun (cut_of t) n stem l finish) (sym a.text) (on a.size));
-      }
-
-  -- the same with what is known then of an empty collection that got an item or entry
-  pub fill_on : (known : Option Filled) → (length made ≤ text_limit → carried op (now_text (cut_of t) before) ≡ gives made cs) →
-      (length made ≤ text_limit → (on : IsPutRun (cut_of t) n stem out finish) × IsKnownFilled (cut_of t) on.cut n stem finish known) → (after : PutRun) → HasPut u start finish new before after →
-      FillsOn op (cut_of t) n stem before known after
+  -- the run goes on, with what is known then of an empty collection that got an item or entry
+  pub fill_on : (known : Option Filled) → (length made ≤ text_limit → carried op (now_text (cut_with x) before) ≡ gives made cs) → (length made ≤ text_limit → FilledOf x known out finish) → (after : PutRun) → HasPut u start finish new before after →
+      (on : RunsOn op x before after) × IsKnownFilled (cut_with x) on.run.cut x.doc (stem_of x) after.done known
   fill_on known there on after has_put =
-      let a : HasPut (cut_text (cut_of t)) start finish new before after = subst (λ (l : List ℕ). HasPut l start finish new before after) all has_put in
-      let text : made ≡ now_text (cut_of t) after = λ i. text_with_run (cut_text (cut_of t)) (sym a.text i) (sym a.done i) in
-      let comes : carried op (now_text (cut_of t) before) ≡ gives (now_text (cut_of t) after) cs = there a.size ∙ ap (λ (l : List ℕ). gives l cs) text in
-      let r = subst (λ (d : ℕ). FilledRun (cut_of t) n stem known (string_bytes after.text) d) (sym a.done) (subst (λ (l : List ℕ). FilledRun (cut_of t) n stem known l finish) (sym a.text) (on a.size)) in
-      record {
-        on = record { new_bytes = cs; comes = comes; applied = applied_by op (now_text (cut_of t) before) operand fitting (now_text (cut_of t) after) cs comes; splices = a.splices; run = r.0 };
-        filled = r.1;
-      }
+      let a : HasPut (cut_text (cut_with x)) start finish new before after = subst (λ (l : List ℕ). HasPut l start finish new before after) all has_put in
+      let text : made ≡ now_text (cut_with x) after = λ i. text_with_run (cut_text (cut_with x)) (sym a.text i) (sym a.done i) in
+      let comes : carried op (now_text (cut_with x) before) ≡ gives (now_text (cut_with x) after) cs = there a.size ∙ ap (λ (l : List ℕ). gives l cs) text in
+      let r = subst (λ (d : ℕ). FilledOf x known (string_bytes after.text) d) (sym a.done) (subst (λ (l : List ℕ). FilledOf x known l finish) (sym a.text) (on a.size)) in
+      (record { new_bytes = cs; comes = comes; applied = applied_by op (now_text (cut_with x) before) operand fitting (now_text (cut_with x) after) cs comes; splices = a.splices; run = r.0 }, r.1)
 
   -- too large a text
-  pub run_fails : (text_limit < length made → carried op (now_text (cut_of t) before) ≡ refuses TooLarge) → (e : EditError) → PutFails e u start finish new before → EditFails e (carried op (now_text (cut_of t) before))
+  pub run_fails : (text_limit < length made → carried op (now_text (cut_with x) before) ≡ refuses TooLarge) → (e : EditError) → PutFails e u start finish new before → EditFails e (carried op (now_text (cut_with x) before))
   run_fails large e fails = go e (subst (λ (l : List ℕ). PutFails e l start finish new before) all fails)
     where
-      go : (e : EditError) → PutFails e (cut_text (cut_of t)) start finish new before → EditFails e (carried op (now_text (cut_of t) before))
+      go : (e : EditError) → PutFails e (cut_text (cut_with x)) start finish new before → EditFails e (carried op (now_text (cut_with x) before))
       go (error.Read fault) fails = absurd fails
       go (error.Refused why) fails = large fails.1 ∙ ap refuses (sym fails.0)
       go error.Memory fails = tt
 
-module _ (t u : List ℕ) (n : ℕ) (steps : List Step) (op : Operation) (before : PutRun) (x : FlowHead) (p : PartPut) (read : read_at t ≡ Some (cut_of t)) (all : u ≡ t)
-    (run : Runs (cut_of t) n steps before) (h : PutsAt op t n steps x p) (behind : before.done ≤ x.before + p.place.start) (passes : before.done < x.before + p.place.end) (fitting : IsFitting op (now_text (cut_of t) before)) where
-  abbrev c : Cut
-  c = cut_of t
-
+-- a value comes at a part
+module _ (x : HeadInText) (u : List ℕ) (all : u ≡ cut_text (cut_with x)) (op : Operation) (before : PutRun) (y : HeadChange) (there : IsInText x) (run : Runs x before) (h : PutsAt op x y)
+    (behind : before.done ≤ y.place.start) (passes : before.done < y.place.end) (fitting : IsFitting op (now_text (cut_with x) before)) where
   abbrev own : Operation
-  own = replace n h.path h.value
+  own = replace x.doc h.path h.value
 
   abbrev now : List ℕ
-  now = now_text c before
+  now = now_text (cut_with x) before
 
-  again : read_at (cut_text c) ≡ Some c
-  again = ap read_at (text_read t c read) ∙ read
+  again : read_at (cut_text (cut_with x)) ≡ Some (cut_with x)
+  again = ap read_at (text_read x.cut.now (cut_with x) there.read) ∙ there.read
 
   own_fits : IsFitting own now
   own_fits = subst (λ (o : Operation). IsFitting o now) h.operation fitting
 
-  runs_so : (after : PutRun) → RunsOn own c n steps before after → RunsOn op c n steps before after
-  runs_so after = subst (λ (o : Operation). RunsOn o c n steps before after) (sym h.operation)
-
   -- an equal scalar
-  pub kept_on : p.written ≡ None → RunsOn op c n steps before before
+  pub kept_on : y.written ≡ None → RunsOn op x before before
   kept_on none =
-      let kept = subst (IsWrittenPart (node_in n h.path c) h.value h.part) none h.written in
-      let comes = kept_there c n steps h.path h.value (string_bytes before.text) before.done again run h.ends h.part h.standing x p.place h.placed behind passes kept in
-      runs_so before (record { new_bytes = []; comes = comes; applied = applied_by own now h.valid own_fits now [] comes; splices = sym (append-nil before.splices.items); run = run })
+      let kept = subst (IsWrittenPart (node_in x.doc h.path (cut_with x)) h.value h.part) none h.written in
+      let comes = kept_there (cut_with x) x.doc (stem_of x) h.path h.value (string_bytes before.text) before.done again run h.ends h.part h.standing (change_place y) h.placed behind passes kept in
+      subst (λ (o : Operation). RunsOn o x before before) (sym h.operation)
+      (record { new_bytes = []; comes = comes; applied = applied_by own now h.valid own_fits now [] comes; splices = sym (append-nil before.splices.items); run = run })
 
-  module _ (s : String Global) (some : p.written ≡ Some s) where
-    abbrev start : ℕ
-    start = x.before + p.place.start
-
-    abbrev finish : ℕ
-    finish = x.before + p.place.end
-
+  module _ (s : String Global) (some : y.written ≡ Some s) where
     abbrev new : List ℕ
-    new = p.place.lead.now ++ string_bytes s
+    new = y.lead.now ++ string_bytes s
 
-    whole_is : u ≡ cut_text c
-    whole_is = whole_text t u read all
-
-    is : (keeps_scalar (node_in n h.path c) h.value ≡ false) × (string_bytes s ≡ (put_edit h.value h.part).written)
-    is = subst (IsWrittenPart (node_in n h.path c) h.value h.part) some h.written
+    is : (keeps_scalar (node_in x.doc h.path (cut_with x)) h.value ≡ false) × (string_bytes s ≡ (put_edit h.value h.part).written)
+    is = subst (IsWrittenPart (node_in x.doc h.path (cut_with x)) h.value h.part) some h.written
 
     -- another value
-    pub put_on : (after : PutRun) → HasPut u start finish new before after → RunsOn op c n steps before after
+    pub put_on : (after : PutRun) → HasPut u y.place.start y.place.end new before after → RunsOn op x before after
     put_on after has_put =
-        runs_so after (run_on t u n steps own before start finish new whole_is h.valid own_fits
-        (put_there c n steps h.path h.value (string_bytes before.text) before.done again run h.ends h.part h.standing x p.place h.placed behind passes (string_bytes s) is.0 is.1)
-        (goes_on c n steps h.path h.value (string_bytes before.text) before.done again run h.ends h.part h.standing x p.place h.placed behind passes (string_bytes s) is.0 is.1 h.valid own_fits) after has_put)
+        subst (λ (o : Operation). RunsOn o x before after) (sym h.operation)
+        (fill_on x u all own before y.place.start y.place.end new h.valid own_fits None
+        (put_there (cut_with x) x.doc (stem_of x) h.path h.value (string_bytes before.text) before.done again run h.ends h.part h.standing (change_place y) h.placed behind passes (string_bytes s) is.0 is.1)
+        (λ small. (goes_on (cut_with x) x.doc (stem_of x) h.path h.value (string_bytes before.text) before.done again run h.ends h.part h.standing (change_place y) h.placed behind passes (string_bytes s) is.0 is.1 h.valid own_fits small, tt))
+        after has_put).0
 
     -- too large a text
-    pub put_fails : (e : EditError) → PutFails e u start finish new before → EditFails e (carried op now)
+    pub put_fails : (e : EditError) → PutFails e u y.place.start y.place.end new before → EditFails e (carried op now)
     put_fails e fails =
         subst (λ (o : Operation). EditFails e (carried o now)) (sym h.operation)
-        (run_fails t u n steps own before start finish new whole_is h.valid own_fits
-        (large_there c n steps h.path h.value (string_bytes before.text) before.done again run h.ends h.part h.standing x p.place h.placed behind passes (string_bytes s) is.0 is.1) e fails)
+        (run_fails x u all own before y.place.start y.place.end new h.valid own_fits
+        (large_there (cut_with x) x.doc (stem_of x) h.path h.value (string_bytes before.text) before.done again run h.ends h.part h.standing (change_place y) h.placed behind passes (string_bytes s) is.0 is.1) e fails)

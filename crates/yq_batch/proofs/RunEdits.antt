@@ -4,10 +4,9 @@ use Rattle.std.{proofs.Common.length-append, proofs.Math.Seq.{take-append_seam, 
 use Rattle.std.proofs.lemmas.Option.{same_Some}
 use Rattle.yq_text.{specs.Limit.text_limit, specs.Script.{new_text, splice_at}, specs.Splice.Splice}
 use Rattle.yq_core.specs.Paths.{Step}
-use Rattle.yq_flow_edits.{specs.FlowEdits.FlowEdit, specs.FlowPlaces.PlacedEdit, specs.declared.flow_place.EditPlace.EditPlace}
+use Rattle.yq_flow_edits.{specs.FlowEdits.FlowEdit, specs.FlowPlaces.PlacedEdit}
 use Rattle.yq_row_table.specs.Rows.{Cut, cut_text}
 use Rattle.yq_documents.{specs.Reading.{documents, read_at}, proofs.ReadLaws.parts_read}
-use Rattle.yq_places.specs.declared.places.flow_node.FlowHead.{FlowHead}
 use Rattle.yq_semantics.{specs.Fits.Fits, specs.Operations.Operation, specs.Rooms.room_of}
 use Rattle.yq_semantics.specs.declared.refusal.Refusal.TheVariants.{TooLarge}
 use Rattle.yq_edit_rules.{specs.FlowParts.flow_segments, specs.Operands.HasOperand}
@@ -34,11 +33,11 @@ fits_now op now d operand fitting read =
     subst (λ (c : Cut). Fits (room_of (cut_text c)) op (documents c)) same (fits op now operand fitting)
 
 -- how long the text is, by the edit
-pub edit_size : (t : List ℕ) (e : FlowEdit) (x : FlowHead) (place : EditPlace) (at : IsEditPlace t e x place) → length t ≡ length at.before + (length e.old + length e.behind)
-edit_size t e x place at = omega (arith, ap length at.text, length-append at.before (e.old ++ e.behind), length-append e.old e.behind)
+pub edit_size : (t : List ℕ) (e : FlowEdit) (place : PlacedEdit) (at : IsEditPlace t e place) → length t ≡ length at.before + (length e.old + length e.behind)
+edit_size t e place at = omega (arith, ap length at.text, length-append at.before (e.old ++ e.behind), length-append e.old e.behind)
 
-module _ (c : Cut) (n : ℕ) (stem : List Step) (out : List ℕ) (done : ℕ) (run : IsPutRun c n stem out done) (e : FlowEdit) (x : FlowHead) (place : EditPlace) (at : IsEditPlace (cut_text c) e x place)
-    (behind : done ≤ x.before + place.start) (written : List ℕ) (written_is : written ≡ e.written) where
+module _ (c : Cut) (n : ℕ) (stem : List Step) (out : List ℕ) (done : ℕ) (run : IsPutRun c n stem out done) (e : FlowEdit) (place : PlacedEdit) (at : IsEditPlace (cut_text c) e place)
+    (behind : done ≤ place.start) (written : List ℕ) (written_is : written ≡ e.written) where
   abbrev t : List ℕ
   t = cut_text c
 
@@ -46,10 +45,10 @@ module _ (c : Cut) (n : ℕ) (stem : List Step) (out : List ℕ) (done : ℕ) (r
   now = text_with_run t out done
 
   abbrev start : ℕ
-  start = x.before + place.start
+  start = place.start
 
   abbrev finish : ℕ
-  finish = x.before + place.end
+  finish = place.end
 
   start_is : start ≡ length t - length (e.old ++ e.behind)
   start_is = ap (λ (p : PlacedEdit). p.start) at.place_is
@@ -58,7 +57,7 @@ module _ (c : Cut) (n : ℕ) (stem : List Step) (out : List ℕ) (done : ℕ) (r
   finish_is = ap (λ (p : PlacedEdit). p.end) at.place_is
 
   size : length t ≡ length at.before + (length e.old + length e.behind)
-  size = edit_size t e x place at
+  size = edit_size t e place at
 
   front_size : start ≡ length at.before
   front_size = omega (arith, start_is, size, length-append e.old e.behind)
@@ -70,10 +69,10 @@ module _ (c : Cut) (n : ℕ) (stem : List Step) (out : List ℕ) (done : ℕ) (r
   front = between out t done start
 
   abbrev new_out : List ℕ
-  new_out = run_out t out done start (place.lead.now ++ written)
+  new_out = run_out t out done start (place.lead ++ written)
 
   abbrev cs : List Splice
-  cs = run_splices t out done start finish (place.lead.now ++ written)
+  cs = run_splices t out done start finish (place.lead ++ written)
 
   front_is : take start t ≡ at.before
   front_is = (λ i. take (front_size i) (at.text i)) ∙ take-append_seam at.before (e.old ++ e.behind)
@@ -101,7 +100,7 @@ module _ (c : Cut) (n : ℕ) (stem : List Step) (out : List ℕ) (done : ℕ) (r
   pub left_is : drop finish t ≡ e.behind
   left_is = (λ i. drop (finish_size i) (whole_split i)) ∙ drop-append_seam (at.before ++ e.old) e.behind
 
-  lead_is : place.lead.now ≡ e.lead
+  lead_is : place.lead ≡ e.lead
   lead_is = ap (λ (p : PlacedEdit). p.lead) at.place_is
 
   new_bytes_are : made_text front e ≡ text_with_run t new_out finish

@@ -5,11 +5,9 @@ use Rattle.yq_text.{specs.Limit.text_limit, specs.Script.new_text}
 use Rattle.yq_core.{specs.Paths.Step, specs.Tree.Node, specs.Answers.◌>>=◌, proofs.Bools.bind_some, specs.Collections.CollPieces}
 use Rattle.yq_core.{specs.Entries.item_at, specs.Nodes.{node_text, without_anchor}, proofs.NodesWrittenLaws.node_then, specs.Trees.tree_of}
 use Rattle.yq_flow_edits.{specs.FlowEdits.FlowEdit, specs.FlowPlaces.PlacedEdit, specs.Valued.IsValueTree}
-use Rattle.yq_flow_edits.specs.declared.flow_place.EditPlace.{EditPlace}
 use Rattle.yq_row_table.specs.Rows.{Cut, cut_text}
 use Rattle.yq_documents.specs.Reading.{read_at}
 use Rattle.yq_places.{specs.FlowNodes.flow_collection, specs.NodesAt.node_in, specs.Standings.{FlowPart, flow_standing, last_step}}
-use Rattle.yq_places.specs.declared.places.flow_node.FlowHead.{FlowHead}
 use Rattle.yq_semantics.{specs.Operations.replace, specs.declared.refusal.Refusal.TheVariants.TooLarge}
 use Rattle.yq_edit_rules.{specs.FlowParts.flow_segments, specs.Replacing.keeps_scalar}
 use Rattle.yq_edit_laws.{specs.PartPuts.{IsEditPlace, IsPartOf, IsPlaceOf, put_edit}, proofs.CutLaws.text_read}
@@ -21,8 +19,8 @@ use Rattle.yq_batch.proofs.RunEdits.{edit_large, edit_size, edit_there, fits_now
 
 -- A value is put at a part.
 module _ (c : Cut) (n : ℕ) (stem path : List Step) (v : Node) (out : List ℕ) (done : ℕ) (whole : read_at (cut_text c) ≡ Some c) (run : IsPutRun c n stem out done)
-    (ends : EndsInCollection stem path) (z : FlowPart) (standing : flow_standing n c (last_step path) ≡ Some z) (x : FlowHead) (place : EditPlace)
-    (placed : IsPlaceOf (cut_text c) v z x place) (behind : done ≤ x.before + place.start) (passes : done < x.before + place.end) where
+    (ends : EndsInCollection stem path) (z : FlowPart) (standing : flow_standing n c (last_step path) ≡ Some z) (place : PlacedEdit)
+    (placed : IsPlaceOf (cut_text c) v z place) (behind : done ≤ place.start) (passes : done < place.end) where
   abbrev t : List ℕ
   t = cut_text c
 
@@ -30,10 +28,10 @@ module _ (c : Cut) (n : ℕ) (stem path : List Step) (v : Node) (out : List ℕ)
   now = text_with_run t out done
 
   abbrev start : ℕ
-  start = x.before + place.start
+  start = place.start
 
   abbrev finish : ℕ
-  finish = x.before + place.end
+  finish = place.end
 
   -- the part as it was read
   abbrev b : EntryAt c n path
@@ -45,8 +43,8 @@ module _ (c : Cut) (n : ℕ) (stem path : List Step) (v : Node) (out : List ℕ)
   abbrev e : FlowEdit
   e = put_edit v first_part
 
-  at : IsEditPlace t e x place
-  at = subst (λ (y : FlowPart). IsPlaceOf t v y x place) (sym (entry_found c n path z standing).1) placed
+  at : IsEditPlace t e place
+  at = subst (λ (y : FlowPart). IsPlaceOf t v y place) (sym (entry_found c n path z standing).1) placed
 
   start_is : start ≡ length t - length (e.old ++ e.behind)
   start_is = ap (λ (p : PlacedEdit). p.start) at.place_is
@@ -55,7 +53,7 @@ module _ (c : Cut) (n : ℕ) (stem path : List Step) (v : Node) (out : List ℕ)
   finish_is = ap (λ (p : PlacedEdit). p.end) at.place_is
 
   size : length t ≡ length at.before + (length e.old + length e.behind)
-  size = edit_size t e x place at
+  size = edit_size t e place at
 
   -- and as it is now
   abbrev left : List Step
@@ -97,21 +95,21 @@ module _ (c : Cut) (n : ℕ) (stem path : List Step) (v : Node) (out : List ℕ)
     written_is = is ∙ ap (λ (y : FlowPart). (put_edit v y).written) (sym (entry_found c n path z standing).1)
 
     abbrev new_out : List ℕ
-    new_out = run_out t out done start (place.lead.now ++ written)
+    new_out = run_out t out done start (place.lead ++ written)
 
     pub comes : carried (replace n path v) now ≡ edit_of_segments (flow_segments (cut_text run.cut) e)
     comes = ap (carried (replace n path v)) (sym text) ∙ put_comes run.cut n path v read a (sym same_kept ∙ other)
 
-    pub put_there : length (text_with_run t new_out finish) ≤ text_limit → carried (replace n path v) now ≡ gives (text_with_run t new_out finish) (run_splices t out done start finish (place.lead.now ++ written))
-    put_there = edit_there c n stem out done run e x place at behind written written_is (replace n path v) comes
+    pub put_there : length (text_with_run t new_out finish) ≤ text_limit → carried (replace n path v) now ≡ gives (text_with_run t new_out finish) (run_splices t out done start finish (place.lead ++ written))
+    put_there = edit_there c n stem out done run e place at behind written written_is (replace n path v) comes
 
     pub large_there : text_limit < length (text_with_run t new_out finish) → carried (replace n path v) now ≡ refuses TooLarge
-    large_there = edit_large c n stem out done run e x place at behind written written_is (replace n path v) comes
+    large_there = edit_large c n stem out done run e place at behind written written_is (replace n path v) comes
 
     -- the run goes on after it
     pub goes_on : IsValueTree v → IsFitting (replace n path v) now → length (text_with_run t new_out finish) ≤ text_limit → IsPutRun c n stem new_out finish
     goes_on value fitting small =
-        let new_bytes : new_text (flow_segments (cut_text run.cut) e) ≡ text_with_run t new_out finish = new_text_is c n stem out done run e x place at behind written written_is in
+        let new_bytes : new_text (flow_segments (cut_text run.cut) e) ≡ text_with_run t new_out finish = new_text_is c n stem out done run e place at behind written written_is in
         let fit = fits_now (replace n path v) now run.cut value fitting run.read in
         let reads = replaced_reads run.cut n path v read a value fit (omega (arith, small, ap length new_bytes)) in
         record {

@@ -5,10 +5,10 @@ use Rattle.std.{proofs.lemmas.List.{drop_all, length-take-le}, specs.Option.opti
 use Rattle.std.{proofs.lemmas.Option.none-some, specs.Str.IsCharBoundary}
 use Rattle.yq_text.{specs.Limit.text_limit, specs.Script.{Segment, splice_at}}
 use Rattle.yq_core.{specs.Answers.◌>>=◌, specs.Paths.Step, specs.Tree.Node, specs.Collections.CollPieces}
-use Rattle.yq_flow_edits.{specs.FlowEdits.{FlowEdit, is_none}, specs.FlowPlaces.PlacedEdit, specs.declared.flow_place.EditPlace.EditPlace}
+use Rattle.yq_flow_edits.{specs.FlowEdits.{FlowEdit, is_none}, specs.FlowPlaces.PlacedEdit}
 use Rattle.yq_row_table.specs.Rows.{Cut, cut_text}
 use Rattle.yq_documents.specs.Reading.{documents, read_at}
-use Rattle.yq_places.{specs.FlowNodes.flow_collection, specs.declared.places.flow_node.FlowHead.FlowHead}
+use Rattle.yq_places.specs.FlowNodes.{flow_collection}
 use Rattle.yq_semantics.{specs.Fits.Fits, specs.Operations.append, specs.Rooms.room_of}
 use Rattle.yq_edit_rules.{specs.Edits.{op_edits, or_stay}, specs.FlowParts.{flow_more, flow_segments, takes_key}, specs.Operands.HasOperand}
 use Rattle.yq_edit_laws.{specs.PartPuts.{IsEditPlace, more_edit}, proofs.CutLaws.text_read}
@@ -29,9 +29,9 @@ none_before None b lead is again none = refl
 none_before (Some w) b lead is again none = absurd (again w refl (is ∙ ap (λ (k : Bool). cond k [] (44 ∷ (32 ∷ []))) none))
 
 module _ (c : Cut) (n : ℕ) (stem left : List Step) (key : Option (List ℕ)) (v : Node) (slots slots2 : List SlotView) (run : IsOpenRun c n stem slots)
-    (w : CollPieces) (found : flow_collection n (stem ++ left) c ≡ Some w) (takes : takes_key w.close key ≡ true) (x : FlowHead) (place : EditPlace) (there : IsEditPlace (cut_text c) (more_edit key v w) x place)
+    (w : CollPieces) (found : flow_collection n (stem ++ left) c ≡ Some w) (takes : takes_key w.close key ≡ true) (place : PlacedEdit) (there : IsEditPlace (cut_text c) (more_edit key v w) place)
     (written : List ℕ) (is : written ≡ (more_edit key v w).written) (at was : ℕ)
-    (put : IsPutIn slots slots2 (record { start = x.before + place.start; end = x.before + place.end; more = true }) place.lead.now written at was) where
+    (put : IsPutIn slots slots2 (record { start = place.start; end = place.end; more = true }) place.lead written at was) where
   abbrev path : List Step
   path = stem ++ left
 
@@ -42,10 +42,10 @@ module _ (c : Cut) (n : ℕ) (stem left : List Step) (key : Option (List ℕ)) (
   now = text_from t 0 slots
 
   abbrev start : ℕ
-  start = x.before + place.start
+  start = place.start
 
   abbrev finish : ℕ
-  finish = x.before + place.end
+  finish = place.end
 
   abbrev p : SlotPlace
   p = record { start = start; end = finish; more = true }
@@ -54,7 +54,7 @@ module _ (c : Cut) (n : ℕ) (stem left : List Step) (key : Option (List ℕ)) (
   e = more_edit key v w
 
   abbrev lead : List ℕ
-  lead = place.lead.now
+  lead = place.lead
 
   start_is : start ≡ length t - length e.behind
   start_is = ap (λ (q : PlacedEdit). q.start) there.place_is
@@ -66,7 +66,7 @@ module _ (c : Cut) (n : ℕ) (stem left : List Step) (key : Option (List ℕ)) (
   lead_is = ap (λ (q : PlacedEdit). q.lead) there.place_is
 
   size : length t ≡ length there.before + (0 + length e.behind)
-  size = edit_size t e x place there
+  size = edit_size t e place there
 
   finish_size : finish ≡ length there.before
   finish_size = omega (arith, finish_is, size)

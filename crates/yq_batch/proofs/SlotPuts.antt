@@ -6,11 +6,9 @@ use Rattle.yq_text.{specs.Limit.text_limit, specs.Script.splice_at}
 use Rattle.yq_core.{specs.Paths.Step, specs.Tree.Node, specs.Answers.◌>>=◌, proofs.Bools.bind_some, specs.Collections.CollPieces}
 use Rattle.yq_core.{specs.Entries.item_at, specs.Nodes.{node_text, without_anchor}, proofs.NodesWrittenLaws.node_then, specs.Trees.tree_of}
 use Rattle.yq_flow_edits.{specs.FlowEdits.FlowEdit, specs.FlowPlaces.PlacedEdit, specs.Valued.IsValueTree}
-use Rattle.yq_flow_edits.specs.declared.flow_place.EditPlace.{EditPlace}
 use Rattle.yq_row_table.specs.Rows.{Cut, cut_text}
 use Rattle.yq_documents.specs.Reading.{documents, read_at}
 use Rattle.yq_places.{specs.FlowNodes.flow_collection, specs.NodesAt.node_in, specs.Standings.{FlowPart, flow_standing, last_step}}
-use Rattle.yq_places.specs.declared.places.flow_node.FlowHead.{FlowHead}
 use Rattle.yq_semantics.{specs.Fits.Fits, specs.Operations.replace, specs.Rooms.room_of}
 use Rattle.yq_edit_rules.specs.Replacing.{keeps_scalar}
 use Rattle.yq_edit_laws.{specs.PartPuts.{IsEditPlace, IsPartOf, IsPlaceOf, put_edit}, proofs.CutLaws.text_read}
@@ -40,17 +38,17 @@ none_put None h = refl
 none_put (Some w) h = absurd (false≢true (h w refl))
 
 module _ (c : Cut) (n : ℕ) (stem path : List Step) (v : Node) (slots slots2 : List SlotView) (whole : read_at (cut_text c) ≡ Some c) (run : IsOpenRun c n stem slots)
-    (ends : EndsInCollection stem path) (z : FlowPart) (standing : flow_standing n c (last_step path) ≡ Some z) (x : FlowHead) (place : EditPlace)
-    (placed : IsPlaceOf (cut_text c) v z x place) (lead written : List ℕ) (at was : ℕ)
-    (put : IsPutIn slots slots2 (record { start = x.before + place.start; end = x.before + place.end; more = false }) lead written at was) where
+    (ends : EndsInCollection stem path) (z : FlowPart) (standing : flow_standing n c (last_step path) ≡ Some z) (place : PlacedEdit)
+    (placed : IsPlaceOf (cut_text c) v z place) (lead written : List ℕ) (at was : ℕ)
+    (put : IsPutIn slots slots2 (record { start = place.start; end = place.end; more = false }) lead written at was) where
   abbrev t : List ℕ
   t = cut_text c
 
   abbrev start : ℕ
-  start = x.before + place.start
+  start = place.start
 
   abbrev finish : ℕ
-  finish = x.before + place.end
+  finish = place.end
 
   abbrev p : SlotPlace
   p = record { start = start; end = finish; more = false }
@@ -65,8 +63,8 @@ module _ (c : Cut) (n : ℕ) (stem path : List Step) (v : Node) (slots slots2 : 
   abbrev e : FlowEdit
   e = put_edit v (record { step = b.step; collection = b.coll; part = b.item })
 
-  there : IsEditPlace t e x place
-  there = subst (λ (y : FlowPart). IsPlaceOf t v y x place) (sym (entry_found c n path z standing).1) placed
+  there : IsEditPlace t e place
+  there = subst (λ (y : FlowPart). IsPlaceOf t v y place) (sym (entry_found c n path z standing).1) placed
 
   start_is : start ≡ length t - length (e.old ++ e.behind)
   start_is = ap (λ (q : PlacedEdit). q.start) there.place_is
@@ -74,11 +72,11 @@ module _ (c : Cut) (n : ℕ) (stem path : List Step) (v : Node) (slots slots2 : 
   finish_is : finish ≡ length t - length e.behind
   finish_is = ap (λ (q : PlacedEdit). q.end) there.place_is
 
-  lead_is : place.lead.now ≡ e.lead
+  lead_is : place.lead ≡ e.lead
   lead_is = ap (λ (q : PlacedEdit). q.lead) there.place_is
 
   size : length t ≡ length there.before + (length e.old + length e.behind)
-  size = edit_size t e x place there
+  size = edit_size t e place there
 
   front_size : start ≡ length there.before
   front_size = omega (arith, start_is, size, length-append e.old e.behind)
@@ -231,7 +229,7 @@ module _ (c : Cut) (n : ℕ) (stem path : List Step) (v : Node) (slots slots2 : 
   kept_there kept = subst (λ (u : List ℕ). carried (replace n path v) u ≡ gives u []) text (kept_comes run.cut n path v read a (sym same_kept ∙ kept))
 
   -- another value
-  module _ (other : keeps_scalar (node_in n path c) v ≡ false) (lead_same : lead ≡ place.lead.now) (is : written ≡ (put_edit v z).written) (value : IsValueTree v) (fitting : IsFitting (replace n path v) now) (small : length (text_from t 0 slots2) ≤ text_limit) where
+  module _ (other : keeps_scalar (node_in n path c) v ≡ false) (lead_same : lead ≡ place.lead) (is : written ≡ (put_edit v z).written) (value : IsValueTree v) (fitting : IsFitting (replace n path v) now) (small : length (text_from t 0 slots2) ≤ text_limit) where
     written_is : written ≡ e.written
     written_is = is ∙ ap (λ (y : FlowPart). (put_edit v y).written) (sym (entry_found c n path z standing).1)
 

@@ -5,7 +5,8 @@ use Rattle.yq_flow_edits.specs.FlowEdits.{behind_appended, is_none}
 use Rattle.yq_row_table.specs.Rows.{Cut, cut_text}
 use Rattle.yq_places.specs.FlowNodes.{flow_collection}
 use Rattle.yq_semantics.specs.Operations.{Operation}
-use Rattle.yq_batch.{specs.Runs.{Runs, RunsOn}, specs.declared.adding.Filled.Filled, specs.declared.run.PutRun.PutRun}
+use Rattle.yq_batch.{specs.Runs.{Runs, RunsOn, cut_with, now_text, stem_of}, specs.declared.adding.Filled.Filled}
+use Rattle.yq_batch.{specs.declared.adding.FilledRun.FilledRun, specs.declared.head.HeadInText.HeadInText}
 
 -- The collection to which steps lead in a cut has an item or entry, and the bracket of another one, and one more comes before these last bytes (own).
 pub record IsFilledCollection (w : CollPieces) (cut : Cut) (n : ℕ) (steps : List Step) (behind : List ℕ) : Type 0 where
@@ -22,10 +23,14 @@ IsKnownFilled c cut n stem done (Some k) =
     (w : CollPieces) → flow_collection n (stem ++ map tree_step k.steps.now) c ≡ Some w →
     IsFilledCollection w cut n (stem ++ map tree_step k.steps.now) (drop done (cut_text c))
 
--- A run of the code is one, of which this is known (own).
-pub record FillsSo (c : Cut) (n : ℕ) (stem : List Step) (known : Option Filled) (r : PutRun) : Type 0 where
-  pub run : Runs c n stem r
-  pub filled : IsKnownFilled c run.cut n stem r.done known
+-- A run of the code is one, with what it knows (own).
+pub record FillsSo (x : HeadInText) (r : FilledRun) : Type 0 where
+  pub run : Runs x r.run
+  pub filled : IsKnownFilled (cut_with x) run.cut x.doc (stem_of x) r.run.done r.filled
+
+-- the text that it has made so far (own)
+abbrev pub filled_text : HeadInText → FilledRun → List ℕ
+filled_text x r = now_text (cut_with x) r.run
 
 -- the steps lead to the collection that is known (own)
 abbrev pub IsSameFilled : Option Filled → List Step → Type 0
@@ -35,7 +40,7 @@ IsSameFilled known steps = (k : Filled) × (known ≡ Some k) × (map tree_step 
 abbrev pub FillsFirst : (lead : List ℕ) → List Step → Filled → Type 0
 FillsFirst lead steps k = (lead ≡ []) × (map tree_step k.steps.now ≡ steps)
 
--- An operation is carried out on the text of a run, which goes on after it, and of which this is known then (own).
-pub record FillsOn (op : Operation) (c : Cut) (n : ℕ) (stem : List Step) (before : PutRun) (known : Option Filled) (after : PutRun) : Type 0 where
-  pub on : RunsOn op c n stem before after
-  pub filled : IsKnownFilled c on.run.cut n stem after.done known
+-- An operation is carried out on the text of a run, which goes on after it with what it knows then (own).
+pub record FillsOn (op : Operation) (x : HeadInText) (before after : FilledRun) : Type 0 where
+  pub on : RunsOn op x before.run after.run
+  pub filled : IsKnownFilled (cut_with x) on.run.cut x.doc (stem_of x) after.run.done after.filled

@@ -1,19 +1,18 @@
 -- Values put in any order in the flow collections of one head, which was read once, and items and entries put into these (YAML 1.2.2, 7.4; own).
-use Rattle.std.specs.Prelude.{◌≡◌, ⊤, ℕ, ◌+◌, ◌-◌, ◌≤◌, Bool, true, false, List, [], ◌∷◌, ◌++◌, drop, take, length, map, Option, Some, None}
-use Rattle.std.{specs.Prelude.{IfSome, String, string_bytes}, specs.Str.IsCharBoundary, specs.declared.alloc.Global.Global}
+use Rattle.std.specs.Prelude.{◌≡◌, ⊤, ℕ, ◌+◌, ◌-◌, ◌≤◌, true, false, List, [], ◌∷◌, ◌++◌, drop, take, length, Option, Some, None, String}
+use Rattle.std.{specs.Prelude.string_bytes, specs.Str.IsCharBoundary, specs.declared.alloc.Global.Global}
 use Rattle.yq_text.{specs.Halves.whole, specs.declared.halves.Halves.Halves, specs.Limit.text_limit, specs.Script.splice_at}
 use Rattle.yq_text.specs.Splice.{Splice}
-use Rattle.yq_core.{specs.Paths.Step, specs.Collections.CollPieces, specs.Entries.{EntryPieces, tree_step}}
-use Rattle.yq_core.specs.Nodes.{node_text, without_anchor}
+use Rattle.yq_core.{specs.Paths.Step, specs.Collections.CollPieces, specs.Entries.EntryPieces, specs.Nodes.{node_text, without_anchor}}
 use Rattle.yq_flow_edits.specs.FlowEdits.{behind_appended, is_none}
 use Rattle.yq_row_table.specs.Rows.{Cut, cut_text}
-use Rattle.yq_documents.specs.Reading.{cut_of, read_at}
+use Rattle.yq_documents.specs.Reading.{read_at}
 use Rattle.yq_places.{specs.FlowNodes.flow_collection, specs.FlowViews.LeadsToHead}
-use Rattle.yq_semantics.{specs.Operations.{Operation, operation_of}, specs.declared.op.Op.Op}
+use Rattle.yq_semantics.specs.Operations.{Operation}
 use Rattle.yq_edit_laws.{specs.PartPuts.IsPartOf, specs.Carried.carried, specs.Edit.gives, specs.Theorems.IsApplied}
 use Rattle.yq_batch.specs.Slots.{AreInOrder, HasCounts, IsPutIn, SlotView, slot_places, slots_of, text_from}
+use Rattle.yq_batch.{specs.Runs.{cut_with, stem_of}, specs.declared.change.HeadChange.HeadChange, specs.declared.head.HeadInText.HeadInText}
 use Rattle.yq_batch.{specs.declared.any_order.SlotRun.SlotRun, specs.declared.slots.SlotPlace.SlotPlace, specs.declared.slots.Slots.Slots}
-use Rattle.yq_core.specs.declared.path.Step as declared
 
 -- A collection is in a cut at these steps that has the bracket of another one and as many items or none, and this text after the last one (7.4; own).
 pub record EndsBefore (w : CollPieces) (cut : Cut) (n : ℕ) (steps : List Step) (rest : List ℕ) : Type 0 where
@@ -69,10 +68,10 @@ abbrev pub open_text : Cut → SlotRun → List ℕ
 open_text c r = text_from (cut_text c) 0 (slots_of r.slots)
 
 -- a run of the code is one (own)
-pub record RunsOpen (c : Cut) (n : ℕ) (stem : List Step) (r : SlotRun) : Type 0 where
-  pub run : IsOpenRun c n stem (slots_of r.slots)
+pub record RunsOpen (x : HeadInText) (r : SlotRun) : Type 0 where
+  pub run : IsOpenRun (cut_with x) x.doc (stem_of x) (slots_of r.slots)
   pub counts : HasCounts r.slots
-  pub size : r.size ≡ length (open_text c r)
+  pub size : r.size ≡ length (open_text (cut_with x) r)
 
 -- A text was put at a place of a run, after a lead (own).
 pub record HasOpened (t : List ℕ) (place : SlotPlace) (lead written : List ℕ) (before after : SlotRun) : Type 0 where
@@ -94,12 +93,12 @@ pub record HasKept (t : List ℕ) (place : SlotPlace) (before after : SlotRun) :
   pub size : after.size ≡ before.size
 
 -- An operation is carried out on the text of a run, which goes on after it (own).
-pub record OpensOn (op : Operation) (c : Cut) (n : ℕ) (steps : List Step) (before after : SlotRun) : Type 0 where
+pub record OpensOn (op : Operation) (x : HeadInText) (before after : SlotRun) : Type 0 where
   pub new_bytes : List Splice
-  pub comes : carried op (open_text c before) ≡ gives (open_text c after) new_bytes
-  pub applied : IsApplied op (open_text c before) (open_text c after) new_bytes
+  pub comes : carried op (open_text (cut_with x) before) ≡ gives (open_text (cut_with x) after) new_bytes
+  pub applied : IsApplied op (open_text (cut_with x) before) (open_text (cut_with x) after) new_bytes
   pub splices : after.splices.items ≡ before.splices.items ++ new_bytes
-  pub run : RunsOpen c n steps after
+  pub run : RunsOpen x after
 
 -- what was put at places after an offset may be written: they come in order, between characters (own)
 abbrev pub MayWrite : List ℕ → ℕ → List SlotView → Type 0
@@ -112,23 +111,20 @@ pub record HasWritten (t : List ℕ) (ss : List SlotView) (out : List ℕ) (at :
   pub text : (after : List SlotView) → out2 ++ text_from t at2 after ≡ out ++ text_from t at (ss ++ after)
 
 -- a run in which nothing was put (own)
-pub record BeginsOpen (t : List ℕ) (n : ℕ) (stem : List Step) (r : SlotRun) : Type 0 where
-  pub run : RunsOpen (cut_of t) n stem r
-  pub text : open_text (cut_of t) r ≡ t
+pub record BeginsOpen (x : HeadInText) (r : SlotRun) : Type 0 where
+  pub run : RunsOpen x r
+  pub text : open_text (cut_with x) r ≡ x.cut.now
   pub none : r.splices.items ≡ []
-
--- the same of an operation of the code, if it was carried out (own)
-abbrev pub CarriesOpen : Op → List ℕ → ℕ → List declared.Step → (before after : SlotRun) → Bool → Type 0
-CarriesOpen op t n stem before after done = done ≡ true → OpensOn (operation_of op) (cut_of t) n (map tree_step stem) before after
-
--- such a run of the code, if there is one (own)
-abbrev pub BeginsIfAny : List ℕ → ℕ → List declared.Step → Option SlotRun → Type 0
-BeginsIfAny t n stem o = IfSome o (λ r. BeginsOpen t n (map tree_step stem) r)
 
 -- the bytes of a text with all that was put at places (own)
 abbrev pub IsWritten : Halves → Slots → String Global → Type 0
 IsWritten t slots new = string_bytes new ≡ text_from (whole t) 0 (slots_of slots)
 
--- a text was put at a place of a run, after a lead, if it was (own)
-abbrev pub OpensIf : Halves → SlotPlace → (lead written : List ℕ) → (before after : SlotRun) → Bool → Type 0
-OpensIf t place lead written before after done = done ≡ true → HasOpened (whole t) place lead written before after
+-- what an operation changes was put at its place, or stays there, if it is an equal scalar (own)
+abbrev pub OpensSo : List ℕ → HeadChange → (before after : SlotRun) → Option (String Global) → Type 0
+OpensSo t y before after None = HasKept t y.place before after
+OpensSo t y before after (Some s) = HasOpened t y.place y.lead.now (string_bytes s) before after
+
+-- the same of what the code has for it (own)
+abbrev pub OpensAt : List ℕ → HeadChange → (before after : SlotRun) → Type 0
+OpensAt t y before after = OpensSo t y before after y.written

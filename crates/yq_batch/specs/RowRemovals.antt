@@ -1,18 +1,16 @@
 -- Items and entries taken out of one block collection with their lines, one before the other, on the rows as they were read (YAML 1.2.2, 8.2; own).
 use Rattle.std.specs.Prelude.{◌≡◌, ⊤, ◌⊎◌, not, if◌then◌else◌, ℕ, ◌+◌, ◌-◌, ◌<◌, ◌≤◌, Bool, true, false, List, [], ◌∷◌, ◌++◌, take, length}
-use Rattle.std.specs.Prelude.{Option, Some, None, IfSome, map, string_bytes}
+use Rattle.std.specs.Prelude.{Option, Some, None, IfSome, string_bytes}
 use Rattle.yq_text.{specs.Splice.Splice, specs.TextGapBuffer.buffer_text}
-use Rattle.yq_core.{specs.Entries.tree_step, specs.Paths.Step, specs.Lines.{spaces, behind_spaces, is_blank, is_tab}}
-use Rattle.yq_core.specs.Text.{ends_line, text_lines}
+use Rattle.yq_core.{specs.Paths.Step, specs.Lines.{spaces, behind_spaces, is_blank, is_tab}, specs.Text.{ends_line, text_lines}}
 use Rattle.yq_row_table.{specs.Rows.{Row, Cut, cut_text}, specs.Splices.first_gap}
-use Rattle.yq_documents.{specs.Located.steps_of, specs.Reading.{cut_of, read_at}, specs.declared.path.Path.Path}
+use Rattle.yq_documents.{specs.Located.steps_of, specs.Reading.read_at, specs.declared.path.Path.Path}
 use Rattle.yq_places.specs.PlacedRows.{PlacedPart, placed_document}
 use Rattle.yq_places.{specs.RemovalPlaces.{OwnRows, own_rows, rows_out, Seam, has_others_at}, specs.Standings.last_step}
 use Rattle.yq_semantics.{specs.declared.op.Op.Op, specs.Operations.{Operation, operation_of, operations_of, remove}}
 use Rattle.yq_edit_laws.{specs.Answers.EditFails, specs.Carried.{carried, carry_all}, specs.Edit.{Edit, edit_after, gives}}
 use Rattle.yq_edit_laws.{specs.Theorems.IsApplied, specs.Valid.AreServed, specs.declared.edit_error.EditError.EditError}
 use Rattle.yq_batch.{specs.declared.removals.RemovalRun.RemovalRun, specs.declared.together.Together.Together}
-use Rattle.yq_core.specs.declared.path.Step as declared
 
 -- ---- gaps that stay after a block scalar
 
@@ -78,6 +76,16 @@ LeadsInto above steps = (s : Step) × (last_step steps ≡ Some (above, s))
 abbrev pub TakesFrom : Op → ℕ → (above : List Step) → Path → Type 0
 TakesFrom op n above p = (operation_of op ≡ remove n (steps_of p)) × (p.doc ≡ n) × LeadsInto above (steps_of p)
 
+-- The first of some operations takes what is at a path out of the collection to which steps lead, and the next one something else (own).
+pub record TakesFirst (ops : List Op) (n : ℕ) (above : List Step) (p : Path) : Type 0 where
+  pub op : Op
+  pub next : Op
+  pub rest : List Op
+  pub ops_are : ops ≡ op ∷ (next ∷ rest)
+  pub takes : TakesFrom op n above p
+  pub other : Path
+  pub next_takes : TakesFrom next n above other
+
 -- the steps of a path but the last one (own)
 abbrev pub above_of : List Step → List Step
 above_of steps = take (length steps - 1) steps
@@ -107,25 +115,9 @@ abbrev pub GoesOnWithout : Path → Cut → RemovalRun → (found : Option (Opti
 GoesOnWithout p c before found after =
     IfSome found (λ least. RemovesRowsOn (removal_of p) c p.doc (above_of (steps_of p)) before least after)
 
--- The first of some operations is carried out on the text of a run, which goes on after it (own).
-pub record FirstRemoves (ops : List Op) (c : Cut) (n : ℕ) (above : List Step) (before : RemovalRun) (least : Option ℕ) (after : RemovalRun) : Type 0 where
-  pub op : Op
-  pub others : List Op
-  pub ops_are : ops ≡ op ∷ others
-  pub on : RemovesRowsOn (operation_of op) c n above before least after
-
--- where the first of them was carried out, the run goes on (own)
-abbrev pub GoesOnAfterFirst : List Op → List ℕ → ℕ → List declared.Step → RemovalRun → (found : Option (Option ℕ)) → RemovalRun → Type 0
-GoesOnAfterFirst ops t n above before found after =
-    IfSome found (λ least. FirstRemoves ops (cut_of t) n (map tree_step above) before least after)
-
 -- an operation fails on the text of a run (own)
 abbrev pub FailsOn : EditError → Operation → RemovalRun → Type 0
 FailsOn e op r = EditFails e (carried op (buffer_text r.text))
-
--- operations fail on the text of a run (own)
-abbrev pub AllFailOn : EditError → List Op → RemovalRun → Type 0
-AllFailOn e ops r = EditFails e (carry_all (operations_of ops) (buffer_text r.text))
 
 -- ---- operations carried out together
 

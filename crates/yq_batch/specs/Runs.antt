@@ -1,20 +1,20 @@
 -- Values put one after the other in the flow collections of one head, which was read once, and items and entries put into these (YAML 1.2.2, 7.4; own).
-use Rattle.std.specs.Prelude.{◌≡◌, ⊤, ℕ, ◌-◌, ◌<◌, ◌≤◌, true, List, ◌++◌, drop, take, length, map, Option, Some, string_bytes}
-use Rattle.std.specs.Str.{IsCharBoundary}
+use Rattle.std.specs.Prelude.{◌≡◌, ⊤, ℕ, ◌-◌, ◌<◌, ◌≤◌, Bool, true, false, List, [], ◌++◌, drop, take, length, map, Option, Some}
+use Rattle.std.{specs.Prelude.{option_map, string_bytes}, specs.Str.IsCharBoundary}
 use Rattle.yq_text.{specs.Limit.text_limit, specs.Script.splice_at, specs.Splice.Splice}
 use Rattle.yq_core.{specs.Paths.Step, specs.Tree.Node, specs.Collections.CollPieces, specs.Entries.{EntryPieces, tree_step}}
 use Rattle.yq_core.specs.Nodes.{node_text, without_anchor}
-use Rattle.yq_flow_edits.specs.Valued.{IsValueTree}
+use Rattle.yq_flow_edits.{specs.FlowPlaces.PlacedEdit, specs.Valued.IsValueTree}
 use Rattle.yq_row_table.specs.Rows.{Cut, cut_text}
 use Rattle.yq_documents.specs.Reading.{cut_of, read_at}
-use Rattle.yq_places.{specs.FlowNodes.flow_collection, specs.FlowViews.LeadsToHead, specs.NodesAt.node_in}
-use Rattle.yq_places.{specs.Standings.{FlowPart, flow_standing, last_step}, specs.declared.places.flow_node.FlowHead.FlowHead}
+use Rattle.yq_places.{specs.FlowNodes.flow_collection, specs.FlowViews.{LeadsToHead, ReportsHead}, specs.NodesAt.node_in}
+use Rattle.yq_places.specs.Standings.{FlowPart, flow_standing, last_step}
 use Rattle.yq_semantics.{specs.Operations.{Operation, append, replace}, specs.declared.refusal.Refusal.TheVariants.TooLarge}
 use Rattle.yq_edit_rules.{specs.FlowParts.takes_key, specs.Operands.HasOperand}
 use Rattle.yq_edit_laws.specs.PartPuts.{EndsAfter, EndsAsIn, IsEditPlace, IsPartOf, IsPlaceOf, IsWrittenPart, more_edit}
-use Rattle.yq_edit_laws.{specs.declared.append.MorePut.MorePut, specs.declared.put.PartPut.PartPut, specs.Carried.carried, specs.Edit.gives}
-use Rattle.yq_edit_laws.{specs.Theorems.IsApplied, specs.declared.edit_error.EditError.EditError}
-use Rattle.yq_batch.specs.declared.run.PutRun.{PutRun}
+use Rattle.yq_edit_laws.{specs.Carried.carried, specs.Edit.gives, specs.Theorems.IsApplied, specs.declared.edit_error.EditError.EditError}
+use Rattle.yq_batch.{specs.declared.change.HeadChange.HeadChange, specs.declared.head.HeadInText.HeadInText}
+use Rattle.yq_batch.{specs.declared.run.PutRun.PutRun, specs.declared.slots.SlotPlace.SlotPlace}
 use Rattle.yq_edit_laws.specs.declared.edit_error.EditError.TheVariants as error
 
 -- a text whose first bytes were replaced by others (own)
@@ -50,35 +50,70 @@ EndsInCollection stem steps = (left : List Step) × EndsAt stem left steps
 abbrev pub now_text : Cut → PutRun → List ℕ
 now_text c r = text_with_run (cut_text c) (string_bytes r.text) r.done
 
--- a run of the code is one (own)
-abbrev pub Runs : Cut → ℕ → List Step → PutRun → Type 0
-Runs c n stem r = IsPutRun c n stem (string_bytes r.text) r.done
+-- the cut of the text in which a head is (own)
+abbrev pub cut_with : HeadInText → Cut
+cut_with x = cut_of x.cut.now
 
--- An operation puts a value at a part of the head to which steps lead in document n of a text, which was read (own).
-pub record PutsAt (op : Operation) (t : List ℕ) (n : ℕ) (stem : List Step) (x : FlowHead) (p : PartPut) : Type 0 where
+-- the steps that lead to a head (own)
+abbrev pub stem_of : HeadInText → List Step
+stem_of x = map tree_step x.stem.now
+
+-- A head is in a text that was read, and the steps lead to it (own).
+pub record IsInText (x : HeadInText) : Type 0 where
+  pub read : read_at x.cut.now ≡ Some (cut_with x)
+  pub reports : ReportsHead x.cut.now (cut_with x) x.doc (stem_of x) x.head
+
+-- a run of the code is one (own)
+abbrev pub Runs : HeadInText → PutRun → Type 0
+Runs x r = IsPutRun (cut_with x) x.doc (stem_of x) (string_bytes r.text) r.done
+
+-- the place of a change, with what leads to what is written there (own)
+abbrev pub change_place : HeadChange → PlacedEdit
+change_place y = record { start = y.place.start; end = y.place.end; lead = y.lead.now }
+
+-- An operation puts a value at a part of a head in a text that was read (own).
+pub record PutsAt (op : Operation) (x : HeadInText) (y : HeadChange) : Type 0 where
   pub path : List Step
   pub value : Node
-  pub operation : op ≡ replace n path value
+  pub operation : op ≡ replace x.doc path value
   pub valid : IsValueTree value
-  pub ends : EndsInCollection stem path
+  pub ends : EndsInCollection (stem_of x) path
   pub part : FlowPart
-  pub standing : flow_standing n (cut_of t) (last_step path) ≡ Some part
-  pub placed : IsPlaceOf (cut_text (cut_of t)) value part x p.place
-  pub written : IsWrittenPart (node_in n path (cut_of t)) value part p.written
+  pub standing : flow_standing x.doc (cut_with x) (last_step path) ≡ Some part
+  pub placed : IsPlaceOf (cut_text (cut_with x)) value part (change_place y)
+  pub written : IsWrittenPart (node_in x.doc path (cut_with x)) value part y.written
 
--- An operation puts an item or entry into a collection of the head to which steps lead in document n of a text, which was read (own).
-pub record AddsAt (op : Operation) (t : List ℕ) (n : ℕ) (stem : List Step) (x : FlowHead) (p : MorePut) : Type 0 where
+-- An operation puts an item or entry into a collection of a head in a text that was read (own).
+pub record AddsAt (op : Operation) (x : HeadInText) (y : HeadChange) : Type 0 where
   pub left : List Step
   pub key : Option (List ℕ)
   pub value : Node
-  pub operation : op ≡ append n (stem ++ left) key value
-  pub left_is : left ≡ map tree_step x.left.now
-  pub valid : HasOperand (append n (stem ++ left) key value)
+  pub operation : op ≡ append x.doc (stem_of x ++ left) key value
+  pub left_is : left ≡ map tree_step y.steps.now
+  pub valid : HasOperand (append x.doc (stem_of x ++ left) key value)
   pub collection : CollPieces
-  pub found : flow_collection n (stem ++ left) (cut_of t) ≡ Some collection
+  pub found : flow_collection x.doc (stem_of x ++ left) (cut_with x) ≡ Some collection
   pub takes : takes_key collection.close key ≡ true
-  pub placed : IsEditPlace (cut_text (cut_of t)) (more_edit key value collection) x p.place
-  pub written : string_bytes p.written ≡ (more_edit key value collection).written
+  pub placed : IsEditPlace (cut_text (cut_with x)) (more_edit key value collection) (change_place y)
+  pub written : option_map string_bytes y.written ≡ Some (more_edit key value collection).written
+
+-- an operation changes a collection of a head: it puts an item or entry more into it, or else a value (own)
+abbrev pub ChangesBy : (more : Bool) → Operation → HeadInText → HeadChange → Type 0
+ChangesBy true op x y = AddsAt op x y
+ChangesBy false op x y = PutsAt op x y
+
+-- the same by what the code has of it (own)
+abbrev pub ChangesAt : Operation → HeadInText → HeadChange → Type 0
+ChangesAt op x y = ChangesBy y.place.more op x y
+
+-- a place is after what a run has replaced, if a content ends there, or something leads to an item or entry more (own)
+abbrev pub IsAfterBy : (more : Bool) → (done start end : ℕ) → (lead : List ℕ) → Type 0
+IsAfterBy true done start end lead = lead ≡ [] → done < start
+IsAfterBy false done start end lead = done < end
+
+-- the same of a run of the code (own)
+abbrev pub IsAfterRun : PutRun → SlotPlace → (lead : List ℕ) → Type 0
+IsAfterRun r place lead = (r.done ≤ place.start) × IsAfterBy place.more r.done place.start place.end lead
 
 -- what a run has written, with what stays up to a place (own)
 abbrev pub run_front : List ℕ → PutRun → ℕ → List ℕ
@@ -98,9 +133,9 @@ PutFails (error.Refused why) t start end new r = (why ≡ TooLarge) × (text_lim
 PutFails error.Memory t start end new r = ⊤
 
 -- An operation is carried out on the text of a run, which goes on after it (own).
-pub record RunsOn (op : Operation) (c : Cut) (n : ℕ) (steps : List Step) (before after : PutRun) : Type 0 where
+pub record RunsOn (op : Operation) (x : HeadInText) (before after : PutRun) : Type 0 where
   pub new_bytes : List Splice
-  pub comes : carried op (now_text c before) ≡ gives (now_text c after) new_bytes
-  pub applied : IsApplied op (now_text c before) (now_text c after) new_bytes
+  pub comes : carried op (now_text (cut_with x) before) ≡ gives (now_text (cut_with x) after) new_bytes
+  pub applied : IsApplied op (now_text (cut_with x) before) (now_text (cut_with x) after) new_bytes
   pub splices : after.splices.items ≡ before.splices.items ++ new_bytes
-  pub run : Runs c n steps after
+  pub run : Runs x after

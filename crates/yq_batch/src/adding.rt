@@ -1,54 +1,19 @@
-//! Items and entries that an update puts into the flow collections of one head.
-ghost use Rattle.std.specs.Prelude.{◌≡◌, true, map, IfErr, IfOk, IfSome};
+//! Values, items and entries that an update puts in the flow collections of one head, one after the other.
+ghost use Rattle.std.specs.Prelude.{◌≡◌, ◌++◌, [], true, false, None, map, IfErr, IfOk, IfSome, string_bytes};
 ghost use Rattle.yq_core.specs.Entries.{tree_step};
-ghost use Rattle.yq_documents.specs.Reading.{cut_of};
-ghost use Rattle.yq_places.specs.FlowViews.{ReportsHead};
 ghost use Rattle.yq_semantics.specs.Operations.{operation_of};
 ghost use Rattle.yq_edit_laws.{specs.Answers.EditFails, specs.Carried.carried, specs.Theorems.IsFitting};
-ghost use Rattle.yq_batch.specs.FilledRuns as filled;
-ghost use Rattle.yq_batch.specs.Runs as spec;
+ghost use Rattle.yq_batch.specs.FilledRuns as spec;
+ghost use Rattle.yq_batch.specs.Runs as runs;
 
+use crate::change::{HeadChange, are_same_steps, change_of};
+use crate::head::{HeadInText, text_around};
 use crate::near::Near;
 use crate::run::PutRun;
-use crate::together::{are_same_steps, steps_on};
 use std::alloc::{AllocError, Global};
 use yq_core::Step;
-use yq_edit_laws::{EditError, MorePut, collection_near, more_in_found, operand_holds};
-use yq_lookup::CutText;
-use yq_places::FlowHead;
+use yq_edit_laws::EditError;
 use yq_semantics::Op;
-
-/// The edit of an operation that puts an item or entry into a collection of a head; nothing, where it does something
-/// else.
-pub(crate) fn more_put<'s>(
-    alloc: Global,
-    cut: &CutText<'_, '_>,
-    doc: usize,
-    stem: &[Step],
-    head: &mut FlowHead<'s, '_>,
-    op: &'s Op,
-    near: &mut Near<'s>,
-) -> Result<Option<MorePut>, AllocError>
-    requires { ReportsHead cut.now (cut_of cut.now) doc (map tree_step stem.now) head.old }
-    ensures head { ReportsHead cut.now (cut_of cut.now) doc (map tree_step stem.now) head.new }
-    ensures put { IfOk result (λ o. IfSome o (λ p. spec.AddsAt (operation_of op.now) cut.now doc
-        (map tree_step stem.now) head.new p)) }
-{
-    operand_holds(op);
-    let Op::Append(path, key, value) = op else {
-        return Ok(None);
-    };
-    if path.doc != doc {
-        return Ok(None);
-    }
-    let Some(left) = steps_on(&path.steps, stem) else {
-        return Ok(None);
-    };
-    head.left = left;
-    let _text = cut.text();
-    let found = collection_near(&head.node, left, near.above.as_mut_slice());
-    more_in_found(alloc, cut, head, found, path, key.as_deref(), value)
-}
 
 /// A flow collection of a head that was empty, into which a run put the last item or entry.
 #[derive(Clone, Copy)]
@@ -57,64 +22,104 @@ pub(crate) struct Filled<'s> {
     pub(crate) steps: &'s [Step],
 }
 
-/// Whether this is the collection that is known.
-fn is_known(known: Option<Filled<'_>>, steps: &[Step]) -> bool
-    ensures { result ≡ true → filled.IsSameFilled known.entry (map tree_step steps.now) }
+/// A run, and the collection into which it put the last item or entry, if that was empty.
+#[derive(Drop)]
+pub(crate) struct FilledRun<'s> {
+    pub(crate) run: PutRun,
+    pub(crate) filled: Option<Filled<'s>>,
+}
+
+impl<'s> FilledRun<'s> {
+    /// Nothing yet.
+    pub(crate) fn new(alloc: Global) -> FilledRun<'s>
+        ensures text { string_bytes result.run.text ≡ [] }
+        ensures done { result.run.done ≡ 0 }
+        ensures splices { result.run.splices.items ≡ [] }
+        ensures filled { result.filled ≡ None }
+    {
+        FilledRun {
+            run: PutRun::new(alloc),
+            filled: None,
+        }
+    }
+}
+
+/// Whether an item or entry is put into the collection that is known.
+fn is_known(known: Option<Filled<'_>>, steps: &[Step], more: bool) -> bool
+    ensures { result ≡ true → (more ≡ true) × spec.IsSameFilled known.entry (map tree_step steps.now) }
 {
     match known {
-        Some(last) => are_same_steps(last.steps, steps),
+        Some(last) => more && are_same_steps(last.steps, steps),
         None => false,
     }
 }
 
 /// The collection into which an item or entry is put, if nothing leads to that: the collection was empty.
-fn filled_now<'s>(lead: &str, steps: &'s [Step]) -> Option<Filled<'s>>
-    ensures { IfSome result (λ k. filled.FillsFirst lead.now (map tree_step steps.now) k) }
+fn filled_now<'s>(lead: &str, steps: &'s [Step], more: bool) -> Option<Filled<'s>>
+    ensures { IfSome result (λ k. (more ≡ true) × spec.FillsFirst lead.now (map tree_step steps.now) k) }
 {
-    if lead.is_empty() {
+    if more && lead.is_empty() {
         Some(Filled { steps })
     } else {
         None
     }
 }
 
-/// Carries out an operation on the text of a run, if it puts an item or entry into a collection of a head,
-/// after those that were put; and tells which empty collection got one then.
-pub(crate) fn add_one<'s>(
-    alloc: Global,
-    cut: &CutText<'_, '_>,
-    doc: usize,
-    stem: &[Step],
-    head: &mut FlowHead<'s, '_>,
-    op: &'s Op,
-    known: Option<Filled<'s>>,
-    run: &mut PutRun,
-    near: &mut Near<'s>,
-) -> Result<Option<Option<Filled<'s>>>, EditError>
-    requires head { ReportsHead cut.now (cut_of cut.now) doc (map tree_step stem.now) head.old }
-    requires run { filled.FillsSo (cut_of cut.now) doc (map tree_step stem.now) known run.old }
-    requires fits { IsFitting (operation_of op.now) (spec.now_text (cut_of cut.now) run.old) }
-    ensures head { ReportsHead cut.now (cut_of cut.now) doc (map tree_step stem.now) head.new }
-    ensures ok { IfOk result (λ o. IfSome o (λ k. filled.FillsOn (operation_of op.now)
-        (cut_of cut.now) doc (map tree_step stem.now) run.old k run.new)) }
-    ensures err { IfErr result (λ e. EditFails e (carried (operation_of op.now)
-        (spec.now_text (cut_of cut.now) run.old))) }
+/// A text after a lead.
+fn joined(alloc: Global, lead: &str, written: String) -> Result<String, AllocError>
+    ensures { IfOk result (λ s. string_bytes s ≡ lead.now ++ string_bytes written) }
 {
-    let text = cut.text();
-    let Some(MorePut { place, written }) = more_put(alloc, cut, doc, stem, head, op, near)? else {
-        return Ok(None);
+    let mut new = String::from_str(alloc, lead)?;
+    new.push_str(&written)?;
+    Ok(new)
+}
+
+/// Carries out an operation on the text of a run, if it changes a collection of a head, after those that
+/// were changed.
+pub(crate) fn carry_next<'s>(
+    alloc: Global,
+    at: &HeadInText<'_, '_, '_, '_, '_, '_>,
+    op: &'s Op,
+    run: &mut FilledRun<'s>,
+    near: &mut Near<'s>,
+) -> Result<bool, EditError>
+    requires there { runs.IsInText at.now }
+    requires run { spec.FillsSo at.now run.old }
+    requires fits { IsFitting (operation_of op.now) (spec.filled_text at.now run.old) }
+    ensures ok { IfOk result (λ b. b ≡ true →
+        spec.FillsOn (operation_of op.now) at.now run.old run.new) }
+    ensures err { IfErr result (λ e. EditFails e (carried (operation_of op.now)
+        (spec.filled_text at.now run.old))) }
+{
+    let found = change_of(alloc, at, op, near)?;
+    let Some(change) = found else {
+        return Ok(false);
     };
-    let steps = head.left;
-    if is_known(known, steps) {
-        let end = run.done;
-        run.put(alloc, text, end, end, ", ", &written)?;
-        return Ok(Some(known));
+    let HeadChange {
+        place,
+        lead,
+        written,
+        steps,
+    } = change;
+    if is_known(run.filled, steps, place.more) {
+        let Some(written) = written else {
+            return Ok(false);
+        };
+        let new = joined(alloc, ", ", written)?;
+        let end = run.run.done;
+        run.run.put(alloc, text_around(at), end..end, new)?;
+        return Ok(true);
     }
-    let start = head.before + place.start;
-    let end = head.before + place.end;
-    if !run.comes_before(start, place.lead) {
-        return Ok(None);
+    if !run.run.comes_before(place, lead) {
+        return Ok(false);
     }
-    run.put(alloc, text, start, end, place.lead, &written)?;
-    Ok(Some(filled_now(place.lead, steps)))
+    let Some(written) = written else {
+        run.filled = None;
+        return Ok(true);
+    };
+    let new = joined(alloc, lead, written)?;
+    run.run
+        .put(alloc, text_around(at), place.start..place.end, new)?;
+    run.filled = filled_now(lead, steps, place.more);
+    Ok(true)
 }

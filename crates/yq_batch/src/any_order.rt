@@ -5,6 +5,7 @@ ghost use Rattle.yq_text.specs.Halves.{whole};
 ghost use Rattle.yq_batch.specs.OpenRuns as spec;
 ghost use Rattle.yq_batch.specs.Slots as slots;
 
+use crate::change::HeadChange;
 use crate::run::{between, bytes_of, push_splice};
 use crate::slots::{SlotPlace, Slots, moved};
 use std::alloc::{AllocError, Global};
@@ -20,23 +21,24 @@ pub(crate) struct SlotRun {
 }
 
 impl SlotRun {
-    /// A text comes at a place, after a lead; not where that is none of the places, something else was put there,
-    /// or the text would be too large.
-    pub(crate) fn put(
+    /// A text comes at the place of a change, after a lead; not where that is none of the places, something else was
+    /// put there, or the text would be too large.
+    fn put_text(
         &mut self,
         alloc: Global,
         text: Halves<'_>,
-        place: SlotPlace,
-        lead: &str,
+        change: &HeadChange<'_>,
         written: &str,
     ) -> Result<bool, AllocError>
         requires counts { slots.HasCounts self.old.slots }
-        requires order { place.start ≤ place.end }
-        requires start { IsCharBoundary (whole text) place.start }
-        requires end { IsCharBoundary (whole text) place.end }
-        ensures { IfOk result (spec.OpensIf text.entry place lead.now written.now self.old
-            self.new) }
+        requires order { change.now.place.start ≤ change.now.place.end }
+        requires start { IsCharBoundary (whole text) change.now.place.start }
+        requires end { IsCharBoundary (whole text) change.now.place.end }
+        ensures { IfOk result (λ b. b ≡ true → spec.HasOpened (whole text.entry) change.now.place
+            change.now.lead.now written.now self.old self.new) }
     {
+        let place = change.place;
+        let lead = change.lead;
         let Some(put) = self.slots.put(alloc, place, lead, written)? else {
             return Ok(false);
         };
@@ -55,7 +57,7 @@ impl SlotRun {
     }
 
     /// The bytes of a place stay, and nothing else is put there.
-    pub(crate) fn keep(
+    fn keep(
         &mut self,
         alloc: Global,
         text: Halves<'_>,
@@ -73,6 +75,26 @@ impl SlotRun {
         kept.push_str(old.back)?;
         let put = self.slots.put(alloc, place, "", &kept)?;
         Ok(put.is_some())
+    }
+
+    /// What an operation changes comes at its place, or stays there, if it is an equal scalar.
+    pub(crate) fn put(
+        &mut self,
+        alloc: Global,
+        text: Halves<'_>,
+        change: &HeadChange<'_>,
+    ) -> Result<bool, AllocError>
+        requires counts { slots.HasCounts self.old.slots }
+        requires order { change.now.place.start ≤ change.now.place.end }
+        requires start { IsCharBoundary (whole text) change.now.place.start }
+        requires end { IsCharBoundary (whole text) change.now.place.end }
+        ensures { IfOk result (λ b. b ≡ true →
+            spec.OpensAt (whole text.entry) change.now self.old self.new) }
+    {
+        match &change.written {
+            Some(written) => self.put_text(alloc, text, change, written),
+            None => self.keep(alloc, text, change.place),
+        }
     }
 }
 

@@ -179,7 +179,7 @@ fn put_one(
         (now_text (cut_of cut.old) run.old))) }
 {
     let text = cut.text();
-    let Some(put) = row_put(alloc, cut, op)? else {
+    let Some(found) = row_put(alloc, cut, op)? else {
         return Ok(None);
     };
     let RowPut {
@@ -188,14 +188,14 @@ fn put_one(
         start,
         end,
         written,
-    } = put;
+    } = found;
     if !is_behind(last, doc, row) || start < run.done {
         return Ok(None);
     }
     let Some(written) = written else {
         return Ok(Some(last));
     };
-    run.put_text(alloc, text, start, end, written)?;
+    run.put(alloc, text, start..end, written)?;
     Ok(Some(Some((doc, row))))
 }
 

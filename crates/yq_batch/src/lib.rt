@@ -3,6 +3,8 @@
 
 mod adding;
 mod any_order;
+mod change;
+mod head;
 mod in_rows;
 mod left;
 mod near;

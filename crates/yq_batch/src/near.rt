@@ -1,5 +1,5 @@
 //! Where entries of flow collections are looked for.
-use crate::together::are_same_steps;
+use crate::change::are_same_steps;
 use std::alloc::{AllocError, Global};
 use std::collections::BTreeMap;
 use yq_core::{Form, Inline, Step};
@@ -69,13 +69,10 @@ impl<'s> Near<'s> {
     pub(crate) fn go_to(
         &mut self,
         alloc: Global,
-        node: Option<&Inline<'_>>,
+        node: &Inline<'_>,
         steps: &'s [Step],
         path: &Path,
     ) -> Result<(), AllocError> {
-        let Some(node) = node else {
-            return Ok(());
-        };
         let Some((_, Step::Key(key))) = last_step(&path.steps) else {
             return Ok(());
         };

@@ -4,23 +4,23 @@ ghost use Rattle.std.specs.Prelude.{◌≡◌, ◌+◌, ◌≤◌, [], length, m
 ghost use Rattle.std.specs.Str.{IsCharBoundary, IsUtf8};
 ghost use Rattle.yq_text.{specs.Halves.whole, specs.TextGapBuffer.buffer_text};
 ghost use Rattle.yq_core.{specs.Entries.{end_of, parts_of, tree_step}, specs.View.inline_view};
-ghost use Rattle.yq_documents.{specs.Located.steps_of, specs.Reading.cut_of};
-ghost use Rattle.yq_places.specs.FlowViews.{ReportsHead};
+ghost use Rattle.yq_documents.specs.Located.{steps_of};
 ghost use Rattle.yq_semantics.specs.Operations.{operation_of, operations_of};
 ghost use Rattle.yq_edit_laws.{specs.Answers.EditFails, specs.Carried.{carry_all, carried}, specs.Theorems.IsFitting};
-ghost use Rattle.yq_edit_laws.{specs.NearParts.HasUniqueCollection, specs.Valid.AreServed};
-ghost use Rattle.yq_batch.specs.LeftItems.{count_parts};
+ghost use Rattle.yq_edit_laws.{specs.NearParts.head_with, specs.Valid.AreServed};
+ghost use Rattle.yq_batch.{specs.LeftItems.count_parts, specs.RemovalRuns.CarriesTogether, specs.Runs.{IsInText, cut_with, stem_of}};
 ghost use Rattle.yq_batch.specs.RemovalRuns as spec;
 
+use crate::change::{are_same_steps, steps_in_head};
+use crate::head::HeadInText;
 use crate::left::{LeftPlace, count_of, end_of, left_place};
 use crate::run::{between, bytes_of, push_splice};
-use crate::together::{Together, are_same_steps, steps_in_head};
+use crate::together::Together;
 use std::alloc::{AllocError, Global};
 use yq_core::{Inline, Step};
 use yq_documents::Path;
 use yq_edit_laws::{EditError, last_step, part_index};
-use yq_lookup::CutText;
-use yq_places::{FlowHead, collection_along};
+use yq_places::collection_along;
 use yq_semantics::{Op, Refusal};
 use yq_text::{Edited, Halves, Splice, TEXT_LIMIT, TextGapBuffer};
 
@@ -111,31 +111,32 @@ fn first_left<'s>(
     Some((count_of(node), None))
 }
 
-/// What goes with the item or entry in which a path ends, and its index, if what is left of its collection
-/// is known; nothing, where it is a sole one.
+/// What goes with the item or entry in which a path ends, and its index, if steps lead on to its collection in a head,
+/// and what is left of that is known; nothing, where it is a sole one.
 fn gone_in_head<'s>(
-    head: &FlowHead<'s, '_>,
+    at: &HeadInText<'_, '_, '_, '_, '_, '_>,
     path: &Path,
+    steps: &[Step],
     known: Option<LeftOf<'s>>,
     keep: usize,
 ) -> Option<(LeftPlace, usize)>
-    requires { HasUniqueCollection head.now }
-    ensures { IfSome result (λ x. spec.GoneInHead (steps_of path.now) head.now known.entry keep
-        x.0 x.1) }
+    requires { IsInText at.now }
+    ensures { IfSome result (λ x. spec.GoneInHead (steps_of path.now) (head_with at.now.head steps.entry)
+        known.entry keep x.0 x.1) }
 {
     let Some((_, last)) = last_step(&path.steps) else {
         return None;
     };
-    let Some(node) = collection_along(&head.node, head.left) else {
+    let Some(node) = collection_along(&at.head.node, steps) else {
         return None;
     };
-    let Some((count, after)) = first_left(head.left, head.before, node, known, keep) else {
+    let Some((count, after)) = first_left(steps, at.head.before, node, known, keep) else {
         return None;
     };
     let Some(index) = part_index(node, last, count) else {
         return None;
     };
-    let Some(place) = left_place(head.text.as_bytes(), node, index, count, after) else {
+    let Some(place) = left_place(at.head.text.as_bytes(), node, index, count, after) else {
         return None;
     };
     Some((place, index))
@@ -145,20 +146,16 @@ fn gone_in_head<'s>(
 /// head, before those that were taken out.
 fn remove_one<'s>(
     alloc: Global,
-    cut: &CutText<'_, '_>,
-    doc: usize,
-    stem: &[Step],
-    head: &mut FlowHead<'s, '_>,
+    at: &HeadInText<'_, '_, '_, '_, '_, '_>,
     op: &'s Op,
     known: Option<LeftOf<'s>>,
     run: &mut RemovalRun,
 ) -> Result<Option<LeftOf<'s>>, EditError>
-    requires head { ReportsHead cut.now (cut_of cut.now) doc (map tree_step stem.now) head.old }
-    requires run { spec.RemovesSo (cut_of cut.now) doc (map tree_step stem.now) known run.old }
+    requires there { IsInText at.now }
+    requires run { spec.RemovesSo (cut_with at.now) at.now.doc (stem_of at.now) known run.old }
     requires fits { IsFitting (operation_of op.now) (buffer_text run.old.text) }
-    ensures head { ReportsHead cut.now (cut_of cut.now) doc (map tree_step stem.now) head.new }
     ensures ok { IfOk result (λ o. IfSome o (λ k. spec.RemovesOn (operation_of op.now)
-        (cut_of cut.now) doc (map tree_step stem.now) run.old k run.new)) }
+        (cut_with at.now) at.now.doc (stem_of at.now) run.old k run.new)) }
     ensures stays { IfOk result (λ o. o ≡ None → run.new ≡ run.old) }
     ensures err { IfErr result (λ e. EditFails e (carried (operation_of op.now)
         (buffer_text run.old.text))) }
@@ -166,16 +163,14 @@ fn remove_one<'s>(
     let Op::Remove(path) = op else {
         return Ok(None);
     };
-    let Some(steps) = steps_in_head(path, doc, stem) else {
+    let Some(steps) = steps_in_head(path, at.doc, at.stem) else {
         return Ok(None);
     };
-    head.left = steps;
-    let _text = cut.text();
-    let Some((place, index)) = gone_in_head(head, path, known, run.keep) else {
+    let Some((place, index)) = gone_in_head(at, path, steps, known, run.keep) else {
         return Ok(None);
     };
     let LeftPlace { start, end, after } = place;
-    take_out(alloc, run, head.before + start, head.before + end)?;
+    take_out(alloc, run, at.head.before + start, at.head.before + end)?;
     Ok(Some(LeftOf {
         steps,
         count: index,
@@ -206,23 +201,20 @@ fn ended<'s>(run: RemovalRun, left: &'s [Op]) -> Option<Together<'s>>
 /// last one; nothing, where another one does something else, or isn't before one that was carried out.
 pub(crate) fn remove_each<'s>(
     alloc: Global,
-    cut: &CutText<'_, '_>,
-    doc: usize,
-    stem: &[Step],
-    head: &mut FlowHead<'s, '_>,
+    at: &HeadInText<'_, '_, '_, '_, '_, '_>,
     ops: &'s [Op],
 ) -> Result<Option<Together<'s>>, EditError>
-    requires head { ReportsHead cut.now (cut_of cut.now) doc (map tree_step stem.now) head.old }
-    requires serves { AreServed (operations_of ops.now) cut.now }
-    ensures ok { IfOk result (λ o. IfSome o (λ x. spec.CarriesOn ops.now cut.now x.left.now
-        (string_bytes x.edited.text) x.edited.splices.items)) }
-    ensures err { IfErr result (λ e. EditFails e (carry_all (operations_of ops.now) cut.now)) }
+    requires there { IsInText at.now }
+    requires serves { AreServed (operations_of ops.now) at.now.cut.now }
+    ensures ok { IfOk result (CarriesTogether ops.now at.now.cut.now) }
+    ensures err { IfErr result (λ e. EditFails e
+        (carry_all (operations_of ops.now) at.now.cut.now)) }
 {
-    let mut run = untouched(alloc, cut.text())?;
+    let mut run = untouched(alloc, at.cut.text())?;
     let mut known = None;
     let mut rest = ops;
     'operations: while let [op, after @ ..] = rest {
-        let found = remove_one(alloc, cut, doc, stem, head, op, known, &mut run)?;
+        let found = remove_one(alloc, at, op, known, &mut run)?;
         let Some(left) = found else {
             return Ok(ended(run, rest));
         };

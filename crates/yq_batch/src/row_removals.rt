@@ -9,8 +9,9 @@ ghost use Rattle.yq_semantics.specs.Operations.{operations_of};
 ghost use Rattle.yq_edit_laws.{specs.Answers.EditFails, specs.Carried.carry_all, specs.Theorems.IsFitting, specs.Valid.AreServed};
 ghost use Rattle.yq_batch.specs.RowRemovals as spec;
 
+use crate::change::are_same_steps;
 use crate::removals::{RemovalRun, take_out, untouched};
-use crate::together::{Together, are_same_steps};
+use crate::together::Together;
 use std::alloc::Global;
 use yq_core::lines::split_line;
 use yq_core::{Step, behind_spaces, ends_line, first_is, is_blank, spaces_len};
@@ -34,6 +35,23 @@ fn taken_from<'o>(op: &'o Op, doc: usize, above: &[Step]) -> Option<&'o Path>
     if path.doc != doc || !are_same_steps(steps, above) {
         return None;
     }
+    Some(path)
+}
+
+/// The path of the item or entry that the first of some operations takes out of the collection at some steps, if
+/// the next one takes out another one.
+fn taken_beside<'o>(ops: &'o [Op], doc: usize, above: &[Step]) -> Option<&'o Path>
+    ensures { IfSome result (λ p. spec.TakesFirst ops.now doc (map tree_step above.now) p.now) }
+{
+    let [op, next, ..] = ops else {
+        return None;
+    };
+    let Some(path) = taken_from(op, doc, above) else {
+        return None;
+    };
+    let Some(_after) = taken_from(next, doc, above) else {
+        return None;
+    };
     Some(path)
 }
 
@@ -120,38 +138,6 @@ fn take_rows<'d>(
     Ok(Some(next))
 }
 
-/// Carries out the first of some operations on the text of a run, if it and the next one take an item or entry
-/// out of a collection, and nothing but the lines of that goes.
-fn remove_beside<'d, 'o: 'd>(
-    alloc: Global,
-    cut: &mut CutText<'d, '_>,
-    doc: usize,
-    above: &[Step],
-    ops: &'o [Op],
-    least: Option<usize>,
-    run: &mut RemovalRun,
-) -> Result<Option<Option<usize>>, EditError>
-    requires run { spec.RemovesRows (cut_of cut.old) doc (map tree_step above.now) least run.old }
-    requires serves { AreServed (operations_of ops.now) (buffer_text run.old.text) }
-    ensures same { cut.new ≡ cut.old }
-    ensures ok { IfOk result (λ o. spec.GoesOnAfterFirst ops.now cut.old doc above.now run.old o
-        run.new) }
-    ensures stays { IfOk result (λ o. o ≡ None → run.new ≡ run.old) }
-    ensures err { IfErr result (λ e. spec.AllFailOn e ops.now run.old) }
-{
-    let [op, next, ..] = ops else {
-        return Ok(None);
-    };
-    let Some(path) = taken_from(op, doc, above) else {
-        return Ok(None);
-    };
-    let Some(_after) = taken_from(next, doc, above) else {
-        return Ok(None);
-    };
-    let found = take_rows(alloc, cut, path, least, run)?;
-    Ok(found)
-}
-
 /// The text of a run with the operations that are left.
 fn ended<'o>(run: RemovalRun, left: &'o [Op]) -> Together<'o>
     ensures text { string_bytes result.edited.text ≡ buffer_text run.text }
@@ -186,7 +172,10 @@ fn remove_rows<'d, 'o: 'd>(
     let mut least = Some(0);
     let mut rest = ops;
     'operations: while let [_, after @ ..] = rest {
-        let Some(next) = remove_beside(alloc, &mut way, doc, above, rest, least, &mut run)? else {
+        let Some(path) = taken_beside(rest, doc, above) else {
+            return Ok(ended(run, rest));
+        };
+        let Some(next) = take_rows(alloc, &mut way, path, least, &mut run)? else {
             return Ok(ended(run, rest));
         };
         least = next;

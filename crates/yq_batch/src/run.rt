@@ -3,7 +3,9 @@ ghost use Rattle.std.{specs.Prelude.{◌≡◌, ◌≤◌, ◌<◌, ◌++◌, []
 ghost use Rattle.yq_text.{specs.Halves.whole, specs.Script.splice_at};
 ghost use Rattle.yq_batch.specs.Runs as spec;
 
+use crate::slots::SlotPlace;
 use std::alloc::{AllocError, Global};
+use std::ops::Range;
 use yq_edit_laws::EditError;
 use yq_semantics::Refusal;
 use yq_text::{Edited, Halves, Splice, TEXT_LIMIT};
@@ -83,45 +85,41 @@ impl PutRun {
         })
     }
 
-    /// Whether what is between two places of the old text is after all that were replaced.
-    pub(crate) fn ends_before(&self, start: usize, end: usize) -> bool
-        ensures { result ≡ true → (self.now.done ≤ start) × (self.now.done < end) }
-    {
-        self.done <= start && self.done < end
-    }
-
     /// Whether what comes at a place of the old text, after what leads to it, is after all that were
-    /// replaced; what nothing leads to is right after a bracket, and so after what comes before that.
-    pub(crate) fn comes_before(&self, start: usize, lead: &str) -> bool
-        ensures { result ≡ true → (self.now.done ≤ start) ×
-            (lead.now ≡ [] → self.now.done < start) }
+    /// replaced; an item or entry to which nothing leads is right after a bracket, and so after what comes
+    /// before that.
+    pub(crate) fn comes_before(&self, place: SlotPlace, lead: &str) -> bool
+        ensures { result ≡ true → spec.IsAfterRun self.now place lead.now }
     {
-        if lead.is_empty() {
-            self.done < start
+        if self.done > place.start {
+            return false;
+        }
+        if place.more {
+            !lead.is_empty() || self.done < place.start
         } else {
-            self.done <= start
+            self.done < place.end
         }
     }
 
     /// A text comes in the place of what is between two places.
-    pub(crate) fn put_text(
+    pub(crate) fn put(
         &mut self,
         alloc: Global,
         text: Halves<'_>,
-        start: usize,
-        end: usize,
+        range: Range<usize>,
         written: String,
     ) -> Result<(), EditError>
-        requires done { self.old.done ≤ start }
-        requires order { start ≤ end }
+        requires done { self.old.done ≤ range.start }
+        requires order { range.start ≤ range.end }
         requires edge { IsCharBoundary (whole text) self.old.done }
-        requires start { IsCharBoundary (whole text) start }
-        requires end { IsCharBoundary (whole text) end }
-        ensures ok { OnOk result (spec.HasPut (whole text.entry) start end (string_bytes written)
-            self.old self.new) }
-        ensures err { IfErr result (λ e. spec.PutFails e (whole text.entry) start end
+        requires start { IsCharBoundary (whole text) range.start }
+        requires end { IsCharBoundary (whole text) range.end }
+        ensures ok { OnOk result (spec.HasPut (whole text.entry) range.start range.end
+            (string_bytes written) self.old self.new) }
+        ensures err { IfErr result (λ e. spec.PutFails e (whole text.entry) range.start range.end
             (string_bytes written) self.old) }
     {
+        let Range { start, end } = range;
         let kept = between(text, self.done, start);
         self.text.push_str(kept.front)?;
         self.text.push_str(kept.back)?;
@@ -134,31 +132,6 @@ impl PutRun {
         }
         let old = bytes_of(alloc, between(text, start, end))?;
         Ok(push_splice(&mut self.splices, at, old, written.into_bytes())?)
-    }
-
-    /// The same of a text after a lead.
-    pub(crate) fn put(
-        &mut self,
-        alloc: Global,
-        text: Halves<'_>,
-        start: usize,
-        end: usize,
-        lead: &str,
-        written: &str,
-    ) -> Result<(), EditError>
-        requires done { self.old.done ≤ start }
-        requires order { start ≤ end }
-        requires edge { IsCharBoundary (whole text) self.old.done }
-        requires start { IsCharBoundary (whole text) start }
-        requires end { IsCharBoundary (whole text) end }
-        ensures ok { OnOk result (spec.HasPut (whole text.entry) start end (lead.now ++ written.now)
-            self.old self.new) }
-        ensures err { IfErr result (λ e. spec.PutFails e (whole text.entry) start end
-            (lead.now ++ written.now) self.old) }
-    {
-        let mut new = String::from_str(alloc, lead)?;
-        new.push_str(written)?;
-        self.put_text(alloc, text, start, end, new)
     }
 
     /// The text that it made, with all that is left of the old one, and its splices.

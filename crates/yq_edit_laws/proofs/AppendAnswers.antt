@@ -1,6 +1,6 @@
 -- What putting an item or entry into a flow collection comes to, by what the code finds.
-use Rattle.std.proofs.Common.{◌≡◌, ℕ, Bool, true, false, not, cond, eqb, List, length, Option, Some, None, sym, ap, ◌∙◌, subst, refl}
-use Rattle.std.{proofs.lemmas.Option.same_Some, specs.Prelude.{is_some, string_bytes}}
+use Rattle.std.proofs.Common.{◌≡◌, inl, inr, ℕ, Bool, true, false, not, cond, eqb, List, length, Option, Some, None, sym, ap, ◌∙◌, subst}
+use Rattle.std.{proofs.Common.refl, proofs.lemmas.Option.{none-some, same_Some}, specs.Prelude.{is_some, string_bytes}}
 use Rattle.yq_core.{specs.Answers.◌>>=◌, specs.Paths.Step, specs.Tree.Node, specs.Collections.CollPieces}
 use Rattle.yq_core.{specs.Places.{Placed, placed, sequence, mapping, Parts, locate, locate_items}, specs.NodesWritten.{flow_key, flow_of}}
 use Rattle.yq_flow_edits.{specs.FlowEdits.{FlowEdit, appending}, specs.FlowPlaces.{append_place, edit_view, place_edit}}
@@ -10,8 +10,8 @@ use Rattle.yq_row_table.specs.Rows.{Cut, cut_text}
 use Rattle.yq_places.{specs.FlowNodes.flow_collection, specs.FlowViews.{FlowAgrees, behind_anchor, collection_view, placed_collection}}
 use Rattle.yq_places.specs.declared.places.flow_node.FlowHead.{FlowHead}
 use Rattle.yq_edit_rules.specs.FlowParts.{flow_more, flow_segments, takes_key}
-use Rattle.yq_edit_laws.specs.EditPlaces.{content_takes, edit_segments, moved_on, placed_takes}
-use Rattle.yq_edit_laws.{specs.PartPuts.{AreMore, IsEditPlace, more_edit}, specs.declared.append.MorePut.MorePut}
+use Rattle.yq_edit_laws.specs.EditPlaces.{content_takes, edit_segments, placed_takes}
+use Rattle.yq_edit_laws.{specs.PartPuts.{AreMore, IsEditPlace, PutsMoreIn, more_edit, place_after}, specs.declared.append.MorePut.MorePut}
 use Rattle.yq_edit_laws.{proofs.FlowAnswers.{CollFound, edit_lies, edit_moved, segments_at}, proofs.PutAnswers.no_collection}
 use Rattle.yq_edit_laws.{proofs.FlowAppendLaws.{bounds, there}, proofs.FlowHeads.{append_found, appended_within, whole_is}}
 use Rattle.yq_edit_laws.proofs.FlowLonger.{appending_more}
@@ -57,12 +57,18 @@ module _ (c : Cut) (n : ℕ) (steps : List Step) (key : Option (List ℕ)) (v : 
   pub takes_there : placed_takes q key ≡ true → takes_key f.coll.close key ≡ true
   takes_there takes = sym own_takes ∙ takes
 
-  pub more_placed : (r : EditPlace) → Some (edit_view r) ≡ append_place q → IsEditPlace (cut_text c) (more_edit key v f.coll) x r
+  pub more_placed : (r : EditPlace) → Some (edit_view r) ≡ append_place q → IsEditPlace (cut_text c) (more_edit key v f.coll) (place_after x.before r)
   more_placed r is =
       let same = ap edit (whole_is (cut_text c) f.coll x f.agrees) ∙ appending_more (flow_key key) (flow_of v) f.agrees.behind own in
       let moved = edit_moved c n steps x q f (edit f.coll) (edit own) (edit_view r) same (appended_within f.agrees.at f.agrees.stands (flow_key key) (flow_of v)) (same_Some _ _ (is ∙ place_is)) in
       let s = there c n steps key v f.coll f.read f.found in
       record { lies = edit_lies c n steps x q f (edit f.coll) (edit_view r) (bounds c n steps key v f.coll f.read f.found) moved; place_is = moved; before = s.before; text = s.text }
+
+  -- so what the code puts into the node is what is put into the collection
+  pub more_found : (o : Option MorePut) → PutsMoreIn q key v o → AreMore n steps key v c x.before o
+  more_found None (inl apart) = more_apart apart
+  more_found None (inr none) = absurd (none-some _ (sym none ∙ place_is))
+  more_found (Some p) h = (f.coll, f.found, (takes_there h.0, more_placed p.place (sym h.1), h.2))
 
 -- ---- where there is no collection
 
@@ -71,9 +77,9 @@ no_more t o x g agrees none = ap (λ (y : Option CollPieces). y >>= g) (no_colle
 
 -- ---- the segments
 
-pub more_written : (n : ℕ) (steps : List Step) (key : Option (List ℕ)) (v : Node) (c : Cut) (x : FlowHead) (p : MorePut) (whole : List ℕ) → whole ≡ cut_text c → AreMore n steps key v c x (Some p) →
-    (flow_collection n steps c >>= flow_more (cut_text c) key v) ≡ Some (edit_segments whole (moved_on x.before (edit_view p.place)) (string_bytes p.written))
-more_written n steps key v c x p whole all h =
+pub more_written : (n : ℕ) (steps : List Step) (key : Option (List ℕ)) (v : Node) (c : Cut) (before : ℕ) (p : MorePut) (whole : List ℕ) → whole ≡ cut_text c → AreMore n steps key v c before (Some p) →
+    (flow_collection n steps c >>= flow_more (cut_text c) key v) ≡ Some (edit_segments whole (place_after before p.place) (string_bytes p.written))
+more_written n steps key v c before p whole all h =
     let t : List ℕ = cut_text c in
     let place = h.2.1 in
     ap (λ (o : Option CollPieces). o >>= flow_more t key v) h.1

@@ -13,9 +13,10 @@ use Rattle.yq_row_table.specs.Rows.{Cut, cut_text}
 use Rattle.yq_places.{specs.FlowViews.{FlowAgrees, behind_anchor, collection_view, placed_collection}, specs.NodesAt.node_in}
 use Rattle.yq_places.{specs.Standings.{FlowPart, flow_standing, last_step}, specs.declared.places.flow_node.FlowHead.FlowHead}
 use Rattle.yq_edit_rules.{specs.FlowParts.flow_value, specs.Replacing.keeps_scalar, specs.WrittenValues.value_text}
-use Rattle.yq_edit_laws.specs.EditPlaces.{edit_segments, moved_on}
-use Rattle.yq_edit_laws.specs.PartPuts.{ArePuts, IsPlaceOf, IsWrittenPart, part_put, part_replaced, put_edit}
-use Rattle.yq_edit_laws.specs.declared.put.PartPut.{PartPut}
+use Rattle.yq_text.specs.Script.{keep}
+use Rattle.yq_edit_laws.specs.EditPlaces.{edit_segments}
+use Rattle.yq_edit_laws.specs.PartPuts.{ArePuts, IsPlaceOf, IsWrittenFor, IsWrittenPart, PutsInNode, part_put, part_replaced, place_after}
+use Rattle.yq_edit_laws.{specs.PartPuts.put_edit, specs.declared.put.PartPut.PartPut}
 use Rattle.yq_edit_laws.proofs.FlowAnswers.{CollFound, edit_lies, edit_moved, entry_found, part_in, segments_at, standing_is}
 use Rattle.yq_edit_laws.{proofs.FlowHeads.{replace_found, replaced_within, whole_is}, proofs.FlowLonger.{edit_more, entry_more}}
 use Rattle.yq_edit_laws.{proofs.FlowPartNodes.part_node, proofs.FlowPutLaws.{bounds, e, m, there}, proofs.FlowStandings.EntryAt}
@@ -130,7 +131,7 @@ module _ (c : Cut) (n : ℕ) (path init : List Step) (s : Step) (x : FlowHead) (
           ∙ (ap (λ (e : PlacedEntry). replace_place e.1) (part_found p some).placed_is
           ∙ subst (λ (l : List ℕ). replace_place (locate (length l) y.node y.rest) ≡ place_edit (length l) alone) (sym f.agrees.node_is) (replace_found f.agrees.at f.agrees.stands s y new (part_found p some).at))
 
-      pub place_found : IsPlaceOf (cut_text c) v z x r
+      pub place_found : IsPlaceOf (cut_text c) v z (place_after x.before r)
       place_found =
           let same : edit ≡ edit_more f.agrees.behind alone = ap (λ (w : CollPieces). replacing s (entry_more f.agrees.behind y) new w) (whole_is (cut_text c) f.coll x f.agrees) in
           let moved = edit_moved c n init x q f edit alone (edit_view r) same (replaced_within f.agrees.at f.agrees.stands s y new (part_found p some).at) own_place in
@@ -143,6 +144,14 @@ module _ (c : Cut) (n : ℕ) (path init : List Step) (s : Step) (x : FlowHead) (
           (λ i. value_text InFlow (drop (own_place i).start (take (own_place i).end row)) v)
           ∙ (ap (λ (l : List ℕ). value_text InFlow l v) (old_at row stood.before alone stood.text) ∙ value_is edit.old v)
 
+    -- so what the code puts there is what is put at the part
+    pub puts_found : (v : tree.Node) (r : PartPut) → PutsInNode row p.1 v r → ArePuts n path v c x.before (Some r)
+    puts_found v r h = (z, standing_there, place_found v r.place h.place, go r.written h.written)
+      where
+        go : (o : Option (String Global)) → IsWrittenFor (keeps_scalar (Some (placed_tree p.1)) v) (value_text InFlow (drop r.place.start (take r.place.end row)) v) o → IsWrittenPart (node_in n path c) v z o
+        go None kept = ap (λ (m : Option tree.Node). keeps_scalar m v) node_there ∙ kept
+        go (Some s) w = (ap (λ (m : Option tree.Node). keeps_scalar m v) node_there ∙ w.0, w.1 ∙ text_found v r.place h.place)
+
 -- ---- no collection
 
 pub no_collection : (t : List ℕ) (o : Option CollPieces) (x : FlowHead) → FlowAgrees t o (Some x) → None ≡ collection_view x → o ≡ None
@@ -154,11 +163,16 @@ no_collection t (Some w) x agrees none = absurd (none-some _ (none ∙ agrees.fo
 pub puts_none : (n : ℕ) (path : List Step) (v : tree.Node) (c : Cut) → flow_standing n c (last_step path) ≡ None → part_replaced n path v c ≡ None
 puts_none n path v c none = ap (option_map (part_put (cut_text c) (keeps_scalar (node_in n path c) v) v)) none
 
-pub puts_written : (n : ℕ) (path : List Step) (v : tree.Node) (c : Cut) (x : FlowHead) (p : PartPut) (written : String Global) (whole : List ℕ) → p.written ≡ Some written → whole ≡ cut_text c → ArePuts n path v c x (Some p) →
-    part_replaced n path v c ≡ Some (edit_segments whole (moved_on x.before (edit_view p.place)) (string_bytes written))
-puts_written n path v c x p written whole some all h =
+pub puts_written : (n : ℕ) (path : List Step) (v : tree.Node) (c : Cut) (before : ℕ) (p : PartPut) (written : String Global) (whole : List ℕ) → p.written ≡ Some written → whole ≡ cut_text c → ArePuts n path v c before (Some p) →
+    part_replaced n path v c ≡ Some (edit_segments whole (place_after before p.place) (string_bytes written))
+puts_written n path v c before p written whole some all h =
     let t : List ℕ = cut_text c in
     let w = h.2 in
     let k = subst (IsWrittenPart (node_in n path c) v h.0) some h.3 in
     (λ i. option_map (part_put t (k.0 i) v) (h.1 i))
     ∙ ap Some (sym (segments_at t w.before (put_edit v h.0) w.text) ∙ (λ i. edit_segments (sym all i) (sym w.place_is i) (sym k.1 i)))
+
+pub puts_kept : (n : ℕ) (path : List Step) (v : tree.Node) (c : Cut) (before : ℕ) (p : PartPut) → p.written ≡ None → ArePuts n path v c before (Some p) → part_replaced n path v c ≡ Some (keep (cut_text c) ∷ [])
+puts_kept n path v c before p none h =
+    let k = subst (IsWrittenPart (node_in n path c) v h.0) none h.3 in
+    λ i. option_map (part_put (cut_text c) (k i) v) (h.1 i)

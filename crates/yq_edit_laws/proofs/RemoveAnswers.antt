@@ -1,30 +1,18 @@
 -- What removing from a flow collection comes to, by what the code finds.
-use Rattle.std.proofs.Common.{◌≡◌, ℕ, ◌+◌, ◌-◌, ◌++◌, arith, length-append, List, [], length, Option, Some, None, option_map, sym, ap, ◌∙◌}
-use Rattle.std.{proofs.Common.{subst, refl}, proofs.lemmas.Option.{none-some, same_Some}}
-use Rattle.yq_core.{specs.Answers.◌>>=◌, specs.Paths.Step, specs.Collections.CollPieces, specs.Entries.end_of}
-use Rattle.yq_core.specs.Places.{Placed, locate, placed}
-use Rattle.yq_flow_edits.{specs.FlowEdits.FlowEdit, specs.FlowPlaces.{PlacedEdit, edit_view, place_edit, remove_place}}
-use Rattle.yq_flow_edits.{specs.Removals.removing, specs.declared.flow_place.EditPlace.EditPlace, proofs.RemoveTexts.removed_text}
+use Rattle.std.proofs.Common.{◌≡◌, ℕ, List, [], length, Option, Some, None, option_map, sym, ap, ◌∙◌, subst, refl}
+use Rattle.std.proofs.lemmas.Option.{none-some, same_Some}
+use Rattle.yq_core.{specs.Answers.◌>>=◌, specs.Paths.Step, specs.Collections.CollPieces, specs.Places.{Placed, placed}}
+use Rattle.yq_flow_edits.{specs.FlowEdits.FlowEdit, specs.FlowPlaces.{PlacedEdit, place_edit, remove_place}, specs.Removals.removing}
 use Rattle.yq_row_table.specs.Rows.{Cut, cut_text}
-use Rattle.yq_places.{specs.FlowViews.{FlowAgrees, behind_anchor, collection_view, placed_collection}, specs.Standings.last_step}
+use Rattle.yq_places.{specs.FlowViews.{behind_anchor, placed_collection}, specs.Standings.last_step}
 use Rattle.yq_places.specs.declared.places.flow_node.FlowHead.{FlowHead}
 use Rattle.yq_edit_rules.{specs.Edits.part_removed, specs.FlowParts.{flow_removed, flow_segments}}
-use Rattle.yq_text.specs.Script.{Segment}
-use Rattle.yq_edit_laws.{specs.EditPlaces.{edit_segments, moved_on}, specs.PartPuts.IsEditPlace}
-use Rattle.yq_edit_laws.{proofs.FlowAnswers.{CollFound, EditFound, edit_found, edit_lies, edit_moved}, proofs.PutAnswers.no_collection}
+use Rattle.yq_edit_laws.{specs.EditPlaces.{edit_segments, moved_on}, proofs.FlowAnswers.{CollFound, EditFound, edit_found}}
 use Rattle.yq_edit_laws.{proofs.FlowHeads.{remove_found, removed_within, whole_is}, proofs.FlowLonger.{edit_more, removing_more}}
 use Rattle.yq_edit_laws.proofs.FlowRemoveLaws.{bounds, bytes, texts}
 
 core_place : (t : List ℕ) (s : Step) (p : Placed) → remove_place t s (behind_anchor p) ≡ remove_place t s p
 core_place t s (placed a b c e f) = refl
-
--- where a collection ends
-core_end : (q : Placed) → end_of q ≡ end_of (behind_anchor q)
-core_end (placed a b c e f) = refl
-
-coll_ends : (total : ℕ) (w : CollPieces) → end_of (placed_collection total w) ≡ total - length w.rest
-unfolding locate
-coll_ends total w = refl
 
 -- The collection in which a path ends is found.
 module _ (c : Cut) (n : ℕ) (path init : List Step) (s : Step) (x : FlowHead) (q : Placed) (last : Some (init, s) ≡ last_step path) (f : CollFound c n init x q) where
@@ -71,50 +59,3 @@ module _ (c : Cut) (n : ℕ) (path init : List Step) (s : Step) (x : FlowHead) (
       go : (o : Option FlowEdit) → removing s own ≡ o → part_removed n c (last_step path) ≡ None
       go None at = part_is ∙ ap (option_map (flow_segments (cut_text c))) (all_is ∙ ap (option_map (edit_more f.agrees.behind)) at)
       go (Some e) at = absurd (none-some _ (is ∙ (place_is ∙ ap (option_map (place_edit (length row))) at)))
-
-  -- its place, and where the collection ends
-  pub gone_found : (p : EditPlace) (m : ℕ) → Some (edit_view p) ≡ remove_place row s q → m ≡ end_of q →
-      (e : FlowEdit) × (removing s f.coll ≡ Some e) × IsEditPlace (cut_text c) e x p × (x.before + m ≡ length (cut_text c) - length f.coll.rest)
-  gone_found p m is end = go (removing s own) refl
-    where
-      end_there : end_of q ≡ length row - length own.rest
-      end_there = core_end q ∙ (ap end_of f.node ∙ coll_ends (length row) own)
-
-      go : (o : Option FlowEdit) → removing s own ≡ o → (e : FlowEdit) × (removing s f.coll ≡ Some e) × IsEditPlace (cut_text c) e x p × (x.before + m ≡ length (cut_text c) - length f.coll.rest)
-      go None at = absurd (none-some _ (sym (is ∙ (place_is ∙ ap (option_map (place_edit (length row))) at))))
-      go (Some e) at =
-          let gone : removing s f.coll ≡ Some (edit_more f.agrees.behind e) = all_is ∙ ap (option_map (edit_more f.agrees.behind)) at in
-          let b = texts c n path init s f.coll (edit_more f.agrees.behind e) f.read (sym last) f.found gone in
-          let within = removed_within f.agrees.at f.agrees.stands s e at in
-          let moved = edit_moved c n init x q f (edit_more f.agrees.behind e) e (edit_view p) refl within (same_Some _ _ (is ∙ (place_is ∙ ap (option_map (place_edit (length row))) at))) in
-          let longer = (removed_text own.close own.rest s own.gap own.items e at).longer in (
-            edit_more f.agrees.behind e,
-            gone,
-            record {
-              lies = edit_lies c n init x q f (edit_more f.agrees.behind e) (edit_view p) (bounds c n path init s f.coll (edit_more f.agrees.behind e) f.read (sym last) f.found gone) moved;
-              place_is = moved;
-              before = b.before;
-              text = b.old;
-            },
-            omega (
-              arith,
-              end,
-              end_there,
-              f.agrees.before,
-              longer,
-              within,
-              length-append e.old e.behind,
-              ap length f.agrees.node_is,
-              ap length f.agrees.text,
-              length-append f.agrees.front (row ++ f.agrees.behind),
-              length-append row f.agrees.behind,
-              ap length f.agrees.rest_is,
-              length-append f.agrees.rest f.agrees.behind,
-              ap (λ (v : CollPieces). length v.rest) f.agrees.coll_is,
-            ),
-          )
-
--- ---- no collection
-
-pub none_gone : (t : List ℕ) (o : Option CollPieces) (x : FlowHead) (g : CollPieces → Option (List Segment)) → FlowAgrees t o (Some x) → None ≡ collection_view x → (o >>= g) ≡ None
-none_gone t o x g agrees none = ap (λ (y : Option CollPieces). y >>= g) (no_collection t o x agrees none)

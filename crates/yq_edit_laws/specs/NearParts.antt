@@ -49,6 +49,6 @@ IsPartAt found s node = option_map entry_view found ≡ flow_part_at (tree_step 
 abbrev pub IsCollectionFrom : Option (Bor Inline) → List declared.Step → Inline → Type 0
 IsCollectionFrom found steps node = option_map (λ n. behind_anchor (inline_view n.now)) found ≡ collection_along (map tree_step steps) (inline_view node)
 
--- the same from the node of a head on (own)
-abbrev pub IsCollectionIn : Option (Bor Inline) → FlowHead → Type 0
-IsCollectionIn found x = option_map (λ n. behind_anchor (inline_view n.now)) found ≡ collection_view x
+-- a head with the steps that lead on in it to another collection (own)
+abbrev pub head_with : FlowHead → Bor (List declared.Step) → FlowHead
+head_with x left = record x { left = left }

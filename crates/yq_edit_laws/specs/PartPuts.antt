@@ -1,20 +1,19 @@
 -- Values put in the place of contents in a flow collection, and items and entries put into one, where its row's head was read once (YAML 1.2.2, 7.4; own).
-use Rattle.std.specs.Prelude.{◌≡◌, ℕ, ◌+◌, ◌-◌, ◌<◌, ◌≤◌, List, [], ◌∷◌, ◌++◌, length, Option, Some, None, option_map, Bool, true, false}
-use Rattle.std.{specs.Prelude.{if◌then◌else◌, String, string_bytes}, specs.declared.alloc.Global.Global}
+use Rattle.std.specs.Prelude.{◌≡◌, ◌⊎◌, ℕ, ◌<◌, ◌≤◌, List, [], ◌∷◌, ◌++◌, drop, take, length, Option, Some, None, option_map, Bool, true}
+use Rattle.std.{specs.Prelude.{false, if◌then◌else◌, String, string_bytes}, specs.declared.alloc.Global.Global}
 use Rattle.yq_core.{specs.Answers.◌>>=◌, specs.Paths.Step, specs.Tree.Node, specs.Collections.CollPieces}
-use Rattle.yq_core.{specs.Entries.{EntryPieces, item_at}, specs.NodesWritten.{flow_key, flow_of}, specs.Values.value_node}
-use Rattle.yq_core.specs.declared.value.Value.{Value}
+use Rattle.yq_core.{specs.Entries.{EntryPieces, item_at}, specs.NodesWritten.{flow_key, flow_of, flow_text}, specs.Nodes.key_text}
+use Rattle.yq_core.{specs.Places.Placed, specs.Trees.placed_tree, specs.declared.style.Place.TheVariants.Flow as InFlow}
 use Rattle.yq_flow_edits.specs.FlowEdits.{FlowEdit, appending, behind_appended, is_none, replacing}
-use Rattle.yq_flow_edits.{specs.FlowPlaces.{edit_view, place_edit}, specs.Removals.removing, specs.declared.flow_place.EditPlace.EditPlace}
+use Rattle.yq_flow_edits.specs.FlowPlaces.{PlacedEdit, append_place, edit_view, place_edit, replace_place}
+use Rattle.yq_flow_edits.specs.declared.flow_place.EditPlace.{EditPlace}
 use Rattle.yq_row_table.specs.Rows.{Cut, cut_text}
-use Rattle.yq_documents.{specs.Located.steps_of, specs.Reading.cut_of, specs.declared.path.Path.Path}
-use Rattle.yq_places.{specs.FlowNodes.flow_collection, specs.FlowViews.FlowAgrees, specs.NodesAt.node_in}
-use Rattle.yq_places.{specs.Standings.{FlowPart, flow_standing, last_step}, specs.declared.places.flow_node.FlowHead.FlowHead}
+use Rattle.yq_places.{specs.FlowNodes.flow_collection, specs.NodesAt.node_in, specs.Standings.{FlowPart, flow_standing, last_step}}
 use Rattle.yq_text.specs.Script.{Segment, keep}
-use Rattle.yq_edit_rules.{specs.FlowParts.{content_written, flow_more, flow_put, flow_value, takes_key}, specs.Edits.part_removed}
-use Rattle.yq_edit_rules.specs.Replacing.{keeps_scalar}
-use Rattle.yq_edit_laws.{specs.EditPlaces.{LiesIn, moved_on}, specs.declared.append.MorePut.MorePut, specs.declared.put.PartPut.PartPut}
-use Rattle.yq_edit_laws.specs.declared.remove.PartGone.{PartGone}
+use Rattle.yq_edit_rules.{specs.FlowParts.{content_written, flow_more, flow_put, flow_value, takes_key}, specs.Replacing.keeps_scalar}
+use Rattle.yq_edit_rules.specs.WrittenValues.{value_text}
+use Rattle.yq_edit_laws.{specs.EditPlaces.{LiesIn, moved_on, placed_takes}, specs.declared.append.MorePut.MorePut}
+use Rattle.yq_edit_laws.specs.declared.put.PartPut.{PartPut}
 
 -- a value put in the place of the content of a part, unless that is kept
 abbrev pub part_put : List ℕ → (kept : Bool) → Node → FlowPart → List Segment
@@ -28,40 +27,41 @@ part_replaced n steps v c = option_map (part_put (cut_text c) (keeps_scalar (nod
 abbrev pub put_edit : Node → FlowPart → FlowEdit
 put_edit v x = replacing x.step x.part (flow_value (content_written x.part.node) v) x.collection
 
--- the head of a row is that in which the code looks for the collection to which steps lead
-abbrev pub IsHeadOf : ℕ → List Step → List ℕ → FlowHead → Type 0
-IsHeadOf n steps t x = FlowAgrees t (flow_collection n steps (cut_of t)) (Some x)
-
--- the same of the collection in which a path ends
-abbrev pub IsHeadOfPath : ℕ → Option (List Step × Step) → List ℕ → FlowHead → Type 0
-IsHeadOfPath n None t x = Unit {0}
-IsHeadOfPath n (Some y) t x = IsHeadOf n y.0 t x
-
--- A place after the bytes in front of a head is that of an edit.
-pub record IsEditPlace (t : List ℕ) (e : FlowEdit) (x : FlowHead) (place : EditPlace) : Type 0 where
-  pub lies : LiesIn t (moved_on x.before (edit_view place))
-  pub place_is : moved_on x.before (edit_view place) ≡ place_edit (length t) e
+-- A place in a text is that of an edit.
+pub record IsEditPlace (t : List ℕ) (e : FlowEdit) (place : PlacedEdit) : Type 0 where
+  pub lies : LiesIn t place
+  pub place_is : place ≡ place_edit (length t) e
   pub before : List ℕ
   pub text : t ≡ before ++ (e.old ++ e.behind)
 
 -- a place is that of the edit that puts a value at a part
-abbrev pub IsPlaceOf : List ℕ → Node → FlowPart → FlowHead → EditPlace → Type 0
-IsPlaceOf t v z x place = IsEditPlace t (put_edit v z) x place
+abbrev pub IsPlaceOf : List ℕ → Node → FlowPart → PlacedEdit → Type 0
+IsPlaceOf t v z place = IsEditPlace t (put_edit v z) place
+
+-- the place of an edit of the code in a text, before the head of which are so many bytes
+abbrev pub place_after : ℕ → EditPlace → PlacedEdit
+place_after before place = moved_on before (edit_view place)
 
 -- what is written of a value at a part: nothing, if it is the scalar there
 abbrev pub IsWrittenPart : Option Node → Node → FlowPart → Option (String Global) → Type 0
 IsWrittenPart old v z None = keeps_scalar old v ≡ true
 IsWrittenPart old v z (Some s) = (keeps_scalar old v ≡ false) × (string_bytes s ≡ (put_edit v z).written)
 
--- the edits that put a value at the part where steps lead in document n; none, where there is no part
-abbrev pub ArePuts : ℕ → List Step → Node → Cut → FlowHead → Option PartPut → Type 0
-ArePuts n steps v c x None = flow_standing n c (last_step steps) ≡ None
-ArePuts n steps v c x (Some p) =
-    (z : FlowPart) × (flow_standing n c (last_step steps) ≡ Some z) × IsPlaceOf (cut_text c) v z x p.place × IsWrittenPart (node_in n steps c) v z p.written
+-- the edits that put a value at the part where steps lead in document n, in a head after so many bytes; none, where there is no part
+abbrev pub ArePuts : ℕ → List Step → Node → Cut → ℕ → Option PartPut → Type 0
+ArePuts n steps v c before None = flow_standing n c (last_step steps) ≡ None
+ArePuts n steps v c before (Some p) =
+    (z : FlowPart) × (flow_standing n c (last_step steps) ≡ Some z) × IsPlaceOf (cut_text c) v z (place_after before p.place) × IsWrittenPart (node_in n steps c) v z p.written
 
--- the same where a path leads, of a value of the code
-abbrev pub PutsOf : Path → Value → List ℕ → FlowHead → Option PartPut → Type 0
-PutsOf p v t x o = ArePuts p.doc (steps_of p) (value_node v) (cut_of t) x o
+-- what is written in the place of a content: nothing, if it is kept
+abbrev pub IsWrittenFor : (kept : Bool) → List ℕ → Option (String Global) → Type 0
+IsWrittenFor kept new None = kept ≡ true
+IsWrittenFor kept new (Some s) = (kept ≡ false) × (string_bytes s ≡ new)
+
+-- The edit that puts a value in the place of the content of a node, with its places in a text.
+pub record PutsInNode (t : List ℕ) (q : Placed) (v : Node) (p : PartPut) : Type 0 where
+  pub place : edit_view p.place ≡ replace_place q
+  pub written : IsWrittenFor (keeps_scalar (Some (placed_tree q)) v) (value_text InFlow (drop p.place.start (take p.place.end t)) v) p.written
 
 -- a part is in document n of a cut, in the collection to which steps lead, at one more step (7.4; own)
 abbrev pub IsPartOf : Cut → ℕ → List Step → Step → EntryPieces → Type 0
@@ -74,30 +74,24 @@ abbrev pub more_edit : Option (List ℕ) → Node → CollPieces → FlowEdit
 more_edit key v w = appending (flow_key key) (flow_of v) w
 
 -- the edits that put one more item or entry into a collection that takes it
-abbrev pub IsMore : List ℕ → CollPieces → Option (List ℕ) → Node → FlowHead → MorePut → Type 0
-IsMore t w key v x p = (takes_key w.close key ≡ true) × IsEditPlace t (more_edit key v w) x p.place × (string_bytes p.written ≡ (more_edit key v w).written)
+abbrev pub IsMore : List ℕ → CollPieces → Option (List ℕ) → Node → ℕ → MorePut → Type 0
+IsMore t w key v before p =
+    (takes_key w.close key ≡ true) × IsEditPlace t (more_edit key v w) (place_after before p.place) × (string_bytes p.written ≡ (more_edit key v w).written)
 
--- the edits that put one more into the collection to which steps lead in document n; none, where there is no collection, or one that doesn't take it
-abbrev pub AreMore : ℕ → List Step → Option (List ℕ) → Node → Cut → FlowHead → Option MorePut → Type 0
-AreMore n steps key v c x None = (flow_collection n steps c >>= flow_more (cut_text c) key v) ≡ None
-AreMore n steps key v c x (Some p) =
-    (w : CollPieces) × (flow_collection n steps c ≡ Some w) × IsMore (cut_text c) w key v x p
+-- the edits that put one more into the collection to which steps lead in document n, in a head after so many bytes; none, where there is no collection, or
+-- one that doesn't take it
+abbrev pub AreMore : ℕ → List Step → Option (List ℕ) → Node → Cut → ℕ → Option MorePut → Type 0
+AreMore n steps key v c before None = (flow_collection n steps c >>= flow_more (cut_text c) key v) ≡ None
+AreMore n steps key v c before (Some p) =
+    (w : CollPieces) × (flow_collection n steps c ≡ Some w) × IsMore (cut_text c) w key v before p
 
--- the same where a path leads, of a value of the code
-abbrev pub MoreOf : Path → Option (List ℕ) → Value → List ℕ → FlowHead → Option MorePut → Type 0
-MoreOf p key v t x o = AreMore p.doc (steps_of p) key (value_node v) (cut_of t) x o
+-- the edit that puts one more into a node, if it is a collection that takes it
+abbrev pub PutsMoreIn : Placed → Option (List ℕ) → Node → Option MorePut → Type 0
+PutsMoreIn q key v None = (placed_takes q key ≡ false) ⊎ (append_place q ≡ None)
+PutsMoreIn q key v (Some p) =
+    (placed_takes q key ≡ true) × (append_place q ≡ Some (edit_view p.place)) × (string_bytes p.written ≡ key_text (flow_key key) (flow_text v))
 
--- ---- one less
-
--- the edit that takes out the item or entry of a collection at a step, and the end of that collection
-abbrev pub IsRemovalAt : List ℕ → CollPieces → Step → FlowHead → PartGone → Type 0
-IsRemovalAt t w s x p = (e : FlowEdit) × (removing s w ≡ Some e) × IsEditPlace t e x p.place × (x.before + p.end ≡ length t - length w.rest)
-
--- the edits that take out the item or entry to which steps lead in document n; none, where there is no such part, or it is a sole one
-abbrev pub AreRemovals : ℕ → List Step → Cut → FlowHead → Option PartGone → Type 0
-AreRemovals n steps c x None = part_removed n c (last_step steps) ≡ None
-AreRemovals n steps c x (Some p) =
-    (y : List Step × Step) × (last_step steps ≡ Some y) × (w : CollPieces) × (flow_collection n y.0 c ≡ Some w) × IsRemovalAt (cut_text c) w y.1 x p
+-- ---- ends of collections
 
 -- A collection ends as another one does: with the same bracket, and the same text after its last item or entry, or after its opening bracket if there is
 -- none, and it has some if that one has (7.4; own).

@@ -1,12 +1,10 @@
 //! Items and entries put into flow collections.
-ghost use Rattle.std.specs.Prelude.{◌≡◌, IfOk, Some, option_map, string_bytes};
+ghost use Rattle.std.specs.Prelude.{◌≡◌, IfOk, string_bytes};
 ghost use Rattle.yq_core.{specs.Nodes.key_text, specs.Values.value_node, specs.View.inline_view, specs.NodesWritten.{flow_key, flow_text}};
 ghost use Rattle.yq_outline.specs.Bodies.{borrowed};
 ghost use Rattle.yq_documents.{specs.Located.steps_of, specs.Reading.cut_of};
-ghost use Rattle.yq_places.specs.FlowViews.{behind_anchor, collection_view};
 ghost use Rattle.yq_edit_rules.specs.Answers.{GivesSegments};
 ghost use Rattle.yq_edit_laws.specs.EditPlaces as spec;
-ghost use Rattle.yq_edit_laws.specs.NearParts as parts;
 ghost use Rattle.yq_edit_laws.specs.PartPuts as puts;
 
 use crate::edit::{collection_in, edit_at};
@@ -15,7 +13,6 @@ use yq_core::{Form, Inline, Value};
 use yq_documents::Path;
 use yq_flow_edits::{EditPlace, append_place, write_entry, write_inline};
 use yq_lookup::CutText;
-use yq_places::FlowHead;
 use yq_text::Segments;
 
 /// Whether a node takes an entry of a key, or an item.
@@ -50,28 +47,19 @@ pub struct MorePut {
 }
 
 /// The edit that puts an item or entry after the last one of a flow collection, or right after its
-/// bracket, where the collection is in the head of a row that was read, and was found there; `None`
-/// where none is there, or one that takes no key, or no item.
+/// bracket; `None` where a node is none, or takes no key, or no item.
 ///
 /// # Errors
 /// [`AllocError`] where memory is refused.
-pub fn more_in_found(
+pub fn more_in_node(
     alloc: Global,
-    cut: &CutText<'_, '_>,
-    head: &FlowHead<'_, '_>,
-    found: Option<&Inline<'_>>,
-    path: &Path,
+    node: &Inline<'_>,
     key: Option<&str>,
     value: &Value,
 ) -> Result<Option<MorePut>, AllocError>
-    requires head { puts.IsHeadOf path.now.doc (steps_of path.now) cut.now head.now }
-    requires found { parts.IsCollectionIn found head.now }
-    ensures { IfOk result (puts.MoreOf path.now (borrowed key.entry) value.now cut.now head.now) }
+    ensures { IfOk result (puts.PutsMoreIn (inline_view node.now) (borrowed key.entry)
+        (value_node value.now)) }
 {
-    let _text = cut.text();
-    let Some(node) = found else {
-        return Ok(None);
-    };
     if !takes(node, key) {
         return Ok(None);
     }
@@ -80,24 +68,6 @@ pub fn more_in_found(
     };
     let written = entry_text(alloc, key, value)?;
     Ok(Some(MorePut { place, written }))
-}
-
-/// The same where the collection is looked for in the head.
-///
-/// # Errors
-/// [`AllocError`] where memory is refused.
-fn more_at_end(
-    alloc: Global,
-    cut: &CutText<'_, '_>,
-    head: &FlowHead<'_, '_>,
-    path: &Path,
-    key: Option<&str>,
-    value: &Value,
-) -> Result<Option<MorePut>, AllocError>
-    requires { puts.IsHeadOf path.now.doc (steps_of path.now) cut.now head.now }
-    ensures { IfOk result (puts.MoreOf path.now (borrowed key.entry) value.now cut.now head.now) }
-{
-    more_in_found(alloc, cut, head, collection_in(head), path, key, value)
 }
 
 /// An item or entry put after the last one of a flow collection, or right after its bracket;
@@ -119,8 +89,11 @@ pub fn append_in_flow<'d>(
     let Some(head) = found else {
         return Ok(None);
     };
+    let Some(node) = collection_in(&head) else {
+        return Ok(None);
+    };
     let text = cut.text();
-    let put = more_at_end(alloc, cut, &head, path, key, value)?;
+    let put = more_in_node(alloc, node, key, value)?;
     let Some(MorePut { place, written }) = put else {
         return Ok(None);
     };

@@ -17,12 +17,12 @@ mod sole;
 pub mod values;
 mod ways;
 
-pub use append::{MorePut, append_in_flow, more_in_found};
+pub use append::{MorePut, append_in_flow, more_in_node};
 pub use edit::{last_step, unchanged};
 pub use edit_error::EditError;
-pub use near::{collection_near, part_index};
+pub use near::{collection_near, part_index, part_near};
 pub use operands::{operand_holds, operands_hold};
-pub use put::{PartPut, put_in_flow, put_in_found};
-pub use remove::{PartGone, gone_at_part, remove_in_flow};
+pub use put::{PartPut, put_in_flow, put_in_node};
+pub use remove::remove_in_flow;
 pub use sole::{EmptyPut, emptying};
 pub use ways::on_the_way;

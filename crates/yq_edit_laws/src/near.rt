@@ -103,7 +103,7 @@ fn entry_near<'n, 't>(
 }
 
 /// The item or entry to which a step leads, looked for near an index, and then the index after it.
-pub(crate) fn part_near<'n, 't>(
+pub fn part_near<'n, 't>(
     node: &'n Inline<'t>,
     step: &Step,
     near: &mut usize,

@@ -1,11 +1,9 @@
 //! Values put in flow collections.
-ghost use Rattle.std.specs.Prelude.{◌≡◌, IfOk, Some, option_map};
+ghost use Rattle.std.specs.Prelude.{◌≡◌, IfOk, Some};
 ghost use Rattle.yq_core.{specs.Trees.placed_tree, specs.Values.value_node, specs.View.inline_view};
 ghost use Rattle.yq_documents.{specs.Located.steps_of, specs.Reading.cut_of};
-ghost use Rattle.yq_places.{specs.FlowViews.{behind_anchor, collection_view}, specs.NodesAt.scalar_in};
+ghost use Rattle.yq_places.specs.NodesAt.{scalar_in};
 ghost use Rattle.yq_edit_rules.{specs.Answers.GivesSegments, specs.Replacing.{are_same, keeps_scalar}};
-ghost use Rattle.yq_places.specs.Standings as standings;
-ghost use Rattle.yq_edit_laws.specs.NearParts as parts;
 ghost use Rattle.yq_edit_laws.specs.PartPuts as spec;
 
 use crate::edit::{bytes_at, collection_in, edit_at, last_step, unchanged};
@@ -16,7 +14,6 @@ use yq_documents::Path;
 use yq_edit_rules::value_text;
 use yq_flow_edits::{EditPlace, replace_place};
 use yq_lookup::CutText;
-use yq_places::FlowHead;
 use yq_text::Segments;
 
 /// The edit that puts a value in the place of a content.
@@ -53,68 +50,31 @@ fn is_same_node(node: &Inline<'_>, value: &Value) -> bool
     }
 }
 
-/// The edit that puts a value in the place of the content of an item or entry, after its anchor, where
-/// its collection is in the head of a row that was read, and was found there; `None` where no collection
-/// is there, or the path leads to no part of it. An entry is looked for near an index, which is the one
-/// after it then.
+/// The edit that puts a value in the place of the content of a node, after its anchor; the text begins with
+/// the node in the head in which that is.
 ///
 /// # Errors
 /// [`AllocError`] where memory is refused.
-pub fn put_in_found(
+pub fn put_in_node(
     alloc: Global,
-    cut: &CutText<'_, '_>,
-    head: &FlowHead<'_, '_>,
-    found: Option<&Inline<'_>>,
-    path: &Path,
+    text: &str,
+    node: &Inline<'_>,
     value: &Value,
-    near: &mut usize,
-) -> Result<Option<PartPut>, AllocError>
-    requires head { spec.IsHeadOfPath path.now.doc
-        (standings.last_step (steps_of path.now)) cut.now head.now }
-    requires found { parts.IsCollectionIn found head.now }
-    ensures { IfOk result (spec.PutsOf path.now value.now cut.now head.now) }
+) -> Result<PartPut, AllocError>
+    ensures { IfOk result (spec.PutsInNode text.now (inline_view node.now) (value_node value.now)) }
 {
-    let Some((_, last)) = last_step(&path.steps) else {
-        return Ok(None);
-    };
-    let _text = cut.text();
-    let Some(node) = found else {
-        return Ok(None);
-    };
-    let Some(entry) = part_near(node, last, near) else {
-        return Ok(None);
-    };
-    let place = replace_place(entry.node);
-    if is_same_node(entry.node, value) {
-        return Ok(Some(PartPut {
+    let place = replace_place(node);
+    if is_same_node(node, value) {
+        return Ok(PartPut {
             place,
             written: None,
-        }));
+        });
     }
-    let written = value_text(alloc, Place::Flow, bytes_at(head.text, place), value)?;
-    Ok(Some(PartPut {
+    let written = value_text(alloc, Place::Flow, bytes_at(text, place), value)?;
+    Ok(PartPut {
         place,
         written: Some(written),
-    }))
-}
-
-/// The same where the collection is looked for in the head.
-///
-/// # Errors
-/// [`AllocError`] where memory is refused.
-fn put_at_part(
-    alloc: Global,
-    cut: &CutText<'_, '_>,
-    head: &FlowHead<'_, '_>,
-    path: &Path,
-    value: &Value,
-    near: &mut usize,
-) -> Result<Option<PartPut>, AllocError>
-    requires { spec.IsHeadOfPath path.now.doc
-        (standings.last_step (steps_of path.now)) cut.now head.now }
-    ensures { IfOk result (spec.PutsOf path.now value.now cut.now head.now) }
-{
-    put_in_found(alloc, cut, head, collection_in(head), path, value, near)
+    })
 }
 
 /// A value put in the place of the content of an item or entry of a flow collection, after its
@@ -132,19 +92,23 @@ pub fn put_in_flow<'d>(
     ensures { GivesSegments result (spec.part_replaced path.now.doc (steps_of path.now)
         (value_node value.now) (cut_of cut.now)) }
 {
-    let Some((above, _)) = last_step(&path.steps) else {
+    let Some((above, last)) = last_step(&path.steps) else {
         return Ok(None);
     };
     let found = cut.flow_head(alloc, path.doc, above)?;
     let Some(head) = found else {
         return Ok(None);
     };
-    let text = cut.text();
-    let mut near = 0;
-    let put = put_at_part(alloc, cut, &head, path, value, &mut near)?;
-    let Some(PartPut { place, written }) = put else {
+    let Some(node) = collection_in(&head) else {
         return Ok(None);
     };
+    let text = cut.text();
+    let mut near = 0;
+    let Some(entry) = part_near(node, last, &mut near) else {
+        return Ok(None);
+    };
+    let put = put_in_node(alloc, head.text, entry.node, value)?;
+    let PartPut { place, written } = put;
     match written {
         Some(written) => edit_at(alloc, text, head.before, place, written),
         None => Ok(Some(unchanged(alloc, cut)?)),

@@ -8,37 +8,37 @@ use Rattle.yq_batch.proofs.in_rows.put_one.Goals as goal
 
 pub returns-in_default-written-clause-ok : goal.returns-in_default-written-clause-ok
 returns-in_default-written-clause-ok c =
-    let h = subst (λ (o : Option RowPut). IfSome o (PutsInRow (operation_of c.args.op.now) (cut_of c.args.cut.now))) c.in-Some.is c.in_ok-put.ensures.puts in
-    row_kept_on c.args.cut.now (whole c.text-text.result) (operation_of c.args.op.now) c.args.last c.args.run.now c.in-Some.put c.text-text.ensures.read c.text-text.ensures.text c.requires.run h
+    let h = subst (λ (o : Option RowPut). IfSome o (PutsInRow (operation_of c.args.op.now) (cut_of c.args.cut.now))) c.in-Some.is c.in_ok-found.ensures.puts in
+    row_kept_on c.args.cut.now (whole c.text-text.result) (operation_of c.args.op.now) c.args.last c.args.run.now c.in-Some.found c.text-text.ensures.read c.text-text.ensures.text c.requires.run h
     (c.is_behind.ensures c.if-not-is_behind.false) (omega (arith, c.if-start-run.false)) c.requires.fits c.in_default-written.is
 
-pub put_text-requires-clause-edge : goal.put_text-requires-clause-edge
-put_text-requires-clause-edge c = row_edge c.args.cut.now (whole c.text-text.result) c.text-text.ensures.read c.text-text.ensures.text c.args.last c.args.run.now c.requires.run
+pub put-requires-clause-edge : goal.put-requires-clause-edge
+put-requires-clause-edge c = row_edge c.args.cut.now (whole c.text-text.result) c.text-text.ensures.read c.text-text.ensures.text c.args.last c.args.run.now c.requires.run
 
-pub put_text-requires-clause-order : goal.put_text-requires-clause-order
-put_text-requires-clause-order c =
-    let h = subst (λ (o : Option RowPut). IfSome o (PutsInRow (operation_of c.args.op.now) (cut_of c.args.cut.now))) c.in-Some.is c.in_ok-put.ensures.puts in
-    row_order c.args.cut.now (whole c.text-text.result) c.text-text.ensures.read c.text-text.ensures.text (operation_of c.args.op.now) c.in-Some.put h
+pub put-requires-clause-order : goal.put-requires-clause-order
+put-requires-clause-order c =
+    let h = subst (λ (o : Option RowPut). IfSome o (PutsInRow (operation_of c.args.op.now) (cut_of c.args.cut.now))) c.in-Some.is c.in_ok-found.ensures.puts in
+    row_order c.args.cut.now (whole c.text-text.result) c.text-text.ensures.read c.text-text.ensures.text (operation_of c.args.op.now) c.in-Some.found h
 
-pub put_text-requires-clause-start : goal.put_text-requires-clause-start
-put_text-requires-clause-start c =
-    let h = subst (λ (o : Option RowPut). IfSome o (PutsInRow (operation_of c.args.op.now) (cut_of c.args.cut.now))) c.in-Some.is c.in_ok-put.ensures.puts in
-    row_starts c.args.cut.now (whole c.text-text.result) c.text-text.ensures.read c.text-text.ensures.text (operation_of c.args.op.now) c.in-Some.put h
+pub put-requires-clause-start : goal.put-requires-clause-start
+put-requires-clause-start c =
+    let h = subst (λ (o : Option RowPut). IfSome o (PutsInRow (operation_of c.args.op.now) (cut_of c.args.cut.now))) c.in-Some.is c.in_ok-found.ensures.puts in
+    row_starts c.args.cut.now (whole c.text-text.result) c.text-text.ensures.read c.text-text.ensures.text (operation_of c.args.op.now) c.in-Some.found h
 
-pub put_text-requires-clause-end : goal.put_text-requires-clause-end
-put_text-requires-clause-end c =
-    let h = subst (λ (o : Option RowPut). IfSome o (PutsInRow (operation_of c.args.op.now) (cut_of c.args.cut.now))) c.in-Some.is c.in_ok-put.ensures.puts in
-    row_ends c.args.cut.now (whole c.text-text.result) c.text-text.ensures.read c.text-text.ensures.text (operation_of c.args.op.now) c.in-Some.put h
+pub put-requires-clause-end : goal.put-requires-clause-end
+put-requires-clause-end c =
+    let h = subst (λ (o : Option RowPut). IfSome o (PutsInRow (operation_of c.args.op.now) (cut_of c.args.cut.now))) c.in-Some.is c.in_ok-found.ensures.puts in
+    row_ends c.args.cut.now (whole c.text-text.result) c.text-text.ensures.read c.text-text.ensures.text (operation_of c.args.op.now) c.in-Some.found h
 
-pub returns-in_err-put_text-clause-err : goal.returns-in_err-put_text-clause-err
-returns-in_err-put_text-clause-err c =
-    let h = subst (λ (o : Option RowPut). IfSome o (PutsInRow (operation_of c.args.op.now) (cut_of c.args.cut.now))) c.in-Some.is c.in_ok-put.ensures.puts in
-    let p = err_from_is_err_and c.from_residual-in_err-put_text.result c.from_residual-in_err-put_text.ensures.1 in
-    rw (p.1, p.2) (row_put_fails c.args.cut.now (whole c.text-text.result) (operation_of c.args.op.now) c.args.last c.args.run.now c.in-Some.put c.text-text.ensures.read c.text-text.ensures.text c.requires.run h
-    (c.is_behind.ensures c.if-not-is_behind.false) (omega (arith, c.if-start-run.false)) c.requires.fits c.in-Some-written.written c.in-Some-written.is c.in_err-put_text.field-0.0 c.in_err-put_text.ensures.err)
+pub returns-in_err-put-clause-err : goal.returns-in_err-put-clause-err
+returns-in_err-put-clause-err c =
+    let h = subst (λ (o : Option RowPut). IfSome o (PutsInRow (operation_of c.args.op.now) (cut_of c.args.cut.now))) c.in-Some.is c.in_ok-found.ensures.puts in
+    let p = err_from_is_err_and c.from_residual-in_err-put.result c.from_residual-in_err-put.ensures.1 in
+    rw (p.1, p.2) (row_put_fails c.args.cut.now (whole c.text-text.result) (operation_of c.args.op.now) c.args.last c.args.run.now c.in-Some.found c.text-text.ensures.read c.text-text.ensures.text c.requires.run h
+    (c.is_behind.ensures c.if-not-is_behind.false) (omega (arith, c.if-start-run.false)) c.requires.fits c.in-Some-written.written c.in-Some-written.is c.in_err-put.field-0.0 c.in_err-put.ensures.err)
 
 pub returns-clause-ok : goal.returns-clause-ok
 returns-clause-ok c =
-    let h = subst (λ (o : Option RowPut). IfSome o (PutsInRow (operation_of c.args.op.now) (cut_of c.args.cut.now))) c.in-Some.is c.in_ok-put.ensures.puts in
-    row_put_on c.args.cut.now (whole c.text-text.result) (operation_of c.args.op.now) c.args.last c.args.run.now c.in-Some.put c.text-text.ensures.read c.text-text.ensures.text c.requires.run h
-    (c.is_behind.ensures c.if-not-is_behind.false) (omega (arith, c.if-start-run.false)) c.requires.fits c.in-Some-written.written c.in-Some-written.is c.put_text.new.self c.in_ok-put_text.ensures.ok
+    let h = subst (λ (o : Option RowPut). IfSome o (PutsInRow (operation_of c.args.op.now) (cut_of c.args.cut.now))) c.in-Some.is c.in_ok-found.ensures.puts in
+    row_put_on c.args.cut.now (whole c.text-text.result) (operation_of c.args.op.now) c.args.last c.args.run.now c.in-Some.found c.text-text.ensures.read c.text-text.ensures.text c.requires.run h
+    (c.is_behind.ensures c.if-not-is_behind.false) (omega (arith, c.if-start-run.false)) c.requires.fits c.in-Some-written.written c.in-Some-written.is c.put.new.self c.in_ok-put.ensures.ok

@@ -1,37 +1,34 @@
-use Rattle.std.{proofs.Common.{◌≡◌, ◌∙◌, ℕ, List, Option, length, map, refl, sym, ap, subst}, specs.Prelude.IfSome}
+use Rattle.std.{proofs.Common.{◌≡◌, ◌∙◌, ℕ, List, Option, length, refl, sym, ap, subst}, specs.Prelude.IfSome}
 use Rattle.yq_text.specs.TextGapBuffer.{buffer_text}
-use Rattle.yq_core.specs.Entries.{tree_step}
 use Rattle.yq_semantics.specs.Operations.{operation_of, operations_of}
 use Rattle.yq_edit_laws.{specs.Carried.carry_all, specs.Edit.edit_after, specs.Valid.AreServed}
 use Rattle.yq_edit_laws.{proofs.OperationsLaws.{first_fits, others_come, others_served}, proofs.OrderLaws.behind_none}
-use Rattle.yq_documents.specs.Reading.{cut_of}
-use Rattle.yq_batch.{specs.RemovalRuns.RemovesOn, specs.declared.removals.LeftOf.LeftOf, proofs.RemovalAnswers.{ended_on, removals_begin}}
+use Rattle.yq_batch.{specs.Runs.{cut_with, stem_of}, specs.RemovalRuns.RemovesOn, specs.declared.removals.LeftOf.LeftOf}
+use Rattle.yq_batch.proofs.RemovalAnswers.{ended_on, removals_begin}
 use Rattle.yq_batch.proofs.removals.remove_each.Goals as goal
 
 pub operations-init : goal.operations-init
 operations-init c =
-    let t : List ℕ = c.args.cut.now in
+    let t : List ℕ = c.args.at.now.cut.now in
     let text : buffer_text c.in_ok-run.run'.text ≡ t = c.in_ok-run.ensures.text ∙ c.text.ensures.text in
     record {
-      head = c.requires.head;
       whole = (λ i. edit_after (c.in_ok-run.ensures.splices i) (carry_all (operations_of c.args.ops.now) (text i))) ∙ behind_none (carry_all (operations_of c.args.ops.now) t);
       serves = subst (AreServed (operations_of c.args.ops.now)) (sym text) c.requires.serves;
-      runs = removals_begin t c.args.doc (map tree_step c.args.stem.now) c.in_ok-run.run' c.text.ensures.read c.requires.head.leads text (c.in_ok-run.ensures.keep ∙ ap length c.text.ensures.text);
+      runs = removals_begin t c.args.at.now.doc (stem_of c.args.at.now) c.in_ok-run.run' c.requires.there.read c.requires.there.reports.leads text (c.in_ok-run.ensures.keep ∙ ap length c.text.ensures.text);
     }
 
 pub remove_one-requires-clause-fits : goal.remove_one-requires-clause-fits
 remove_one-requires-clause-fits c = first_fits c.operations.rest.now c.op-item.result (buffer_text c.operations.run.text) c.in-len1-up.len_at_least c.op-item.is c.operations.invariant.serves
 
 pub returns-clause-ok : goal.returns-clause-ok
-returns-clause-ok c = ended_on c.args.ops.now c.operations.rest.now c.args.cut.now c.operations.run c.operations.run refl c.operations.invariant.whole c.operations.invariant.serves c.ended-2.result c.ended-2.ensures
+returns-clause-ok c = ended_on c.args.ops.now c.operations.rest.now c.args.at.now.cut.now c.operations.run c.operations.run refl c.operations.invariant.whole c.operations.invariant.serves c.ended-2.result c.ended-2.ensures
 
 pub operations-preserved : goal.operations-preserved
 operations-preserved c =
     let t : List ℕ = buffer_text c.operations.run.text in
     let m : List ℕ = buffer_text c.remove_one.new.run.text in
-    let on = subst (λ (o : Option LeftOf). IfSome o (λ k. RemovesOn (operation_of c.op-item.result) (cut_of c.args.cut.now) c.args.doc (map tree_step c.args.stem.now) c.operations.run k c.remove_one.new.run)) c.in-Some.is c.in_ok-found.ensures.ok in
+    let on = subst (λ (o : Option LeftOf). IfSome o (λ k. RemovesOn (operation_of c.op-item.result) (cut_with c.args.at.now) c.args.at.now.doc (stem_of c.args.at.now) c.operations.run k c.remove_one.new.run)) c.in-Some.is c.in_ok-found.ensures.ok in
     record {
-      head = c.remove_one.ensures.head;
       whole =
           others_come c.operations.rest.now c.op-item.result t m c.operations.run.splices.items on.new_bytes c.remove_one.new.run.splices.items c.in-len1-up.len_at_least c.op-item.is on.comes on.splices
           ∙ c.operations.invariant.whole;

@@ -1,19 +1,15 @@
-use Rattle.std.proofs.Common.{◌≡◌, length, map}
+use Rattle.std.proofs.Common.{◌≡◌, length}
 use Rattle.yq_text.specs.TextGapBuffer.{buffer_text}
-use Rattle.yq_core.specs.Entries.{tree_step}
-use Rattle.yq_documents.specs.Reading.{cut_of}
-use Rattle.yq_places.specs.FlowViews.{ReportsHead}
 use Rattle.yq_semantics.specs.Operations.{operations_of}
 use Rattle.yq_edit_laws.{specs.Carried.carry_all, specs.Edit.edit_after, specs.Valid.AreServed}
-use Rattle.yq_batch.specs.RemovalRuns.{RemovesSo}
+use Rattle.yq_batch.{specs.RemovalRuns.RemovesSo, specs.Runs.{cut_with, stem_of}}
 use Rattle.yq_batch.proofs.removals.remove_each.Given as goal
 
 abbrev pub invariant-operations : goal.invariant-operations
 invariant-operations l = record {
-  head : ReportsHead l.fn.cut (cut_of l.fn.cut) l.fn.doc (map tree_step l.fn.stem) l.head;
-  whole : edit_after l.run.splices.items (carry_all (operations_of l.rest) (buffer_text l.run.text)) ≡ carry_all (operations_of l.fn.ops) l.fn.cut;
+  whole : edit_after l.run.splices.items (carry_all (operations_of l.rest) (buffer_text l.run.text)) ≡ carry_all (operations_of l.fn.ops) l.fn.at.cut.now;
   serves : AreServed (operations_of l.rest) (buffer_text l.run.text);
-  runs : RemovesSo (cut_of l.fn.cut) l.fn.doc (map tree_step l.fn.stem) l.known l.run;
+  runs : RemovesSo (cut_with l.fn.at) l.fn.at.doc (stem_of l.fn.at) l.known l.run;
 }
 
 abbrev pub decreases-operations : goal.decreases-operations

@@ -1,11 +1,14 @@
-use Rattle.std.{proofs.Common.{◌≡◌, ◌∙◌, ℕ, List, Option, length, map, slice_index_or, sym, ap, subst}, specs.Prelude.IfSome}
+use Rattle.std.proofs.Common.{◌≡◌, ◌∙◌, ℕ, List, Option, length, map, slice_index_or, sym, ap, subst}
+use Rattle.std.proofs.lemmas.Result.{err_from_is_err_and}
 use Rattle.yq_text.specs.TextGapBuffer.{buffer_text}
 use Rattle.yq_core.specs.Entries.{tree_step}
-use Rattle.yq_semantics.{specs.Operations.operations_of, specs.declared.op.Op.Op}
+use Rattle.yq_semantics.{specs.Operations.{Operation, operations_of}, specs.declared.op.Op.Op}
 use Rattle.yq_documents.specs.Reading.{cut_of}
-use Rattle.yq_edit_laws.{specs.Carried.carry_all, specs.Edit.edit_after, specs.Valid.AreServed, proofs.OrderLaws.behind_none}
-use Rattle.yq_edit_laws.proofs.OperationsLaws.{others_come, others_served}
-use Rattle.yq_batch.{specs.RowRemovals.{FirstRemoves, RemovesRows}, proofs.RowRunBegins.row_run_begins}
+use Rattle.yq_edit_laws.{specs.Carried.{carried, carry_all}, specs.Edit.edit_after, specs.Valid.AreServed, proofs.OrderLaws.behind_none}
+use Rattle.yq_edit_laws.{specs.Answers.EditFails, specs.Theorems.IsFitting}
+use Rattle.yq_edit_laws.proofs.OperationsLaws.{first_fails, first_fits, others_come, others_served}
+use Rattle.yq_batch.{specs.RowRemovals.{GoesOnWithout, RemovesBeside, RemovesRows}, proofs.RowRunBegins.row_run_begins}
+use Rattle.yq_batch.proofs.RowRemovalAnswers.{first_is, first_on, others_beside, run_there}
 use Rattle.yq_batch.proofs.row_removals.remove_rows.Goals as goal
 
 pub operations-init : goal.operations-init
@@ -19,17 +22,45 @@ operations-init c =
       runs = row_run_begins t c.args.doc (map tree_step c.args.above.now) c.in_ok-run.run' c.text.ensures.read text (c.in_ok-run.ensures.keep ∙ ap length c.text.ensures.text);
     }
 
+pub take_rows-requires-clause-run : goal.take_rows-requires-clause-run
+take_rows-requires-clause-run c =
+    subst (λ (v : List ℕ). RemovesBeside c.in-Some.path.now (cut_of v) c.operations.least c.operations.run) (sym c.operations.invariant.same)
+    (run_there c.operations.rest.now c.args.doc (map tree_step c.args.above.now) c.in-Some.path.now c.in-Some.ensures (cut_of c.args.cut.now) c.operations.least c.operations.run c.operations.invariant.runs)
+
+pub take_rows-requires-clause-others : goal.take_rows-requires-clause-others
+take_rows-requires-clause-others c =
+    others_beside c.operations.rest.now c.args.doc (map tree_step c.args.above.now) c.in-Some.path.now c.in-Some.ensures (buffer_text c.operations.run.text) c.operations.invariant.serves
+
+pub take_rows-requires-clause-fits : goal.take_rows-requires-clause-fits
+take_rows-requires-clause-fits c =
+    let h = c.in-Some.ensures in
+    let at : h.op ≡ slice_index_or c.operations.rest.now 0 h.op = ap (λ (os : List Op). slice_index_or os 0 h.op) (sym h.ops_are) in
+    subst (λ (o : Operation). IsFitting o (buffer_text c.operations.run.text)) (first_is c.operations.rest.now c.args.doc (map tree_step c.args.above.now) c.in-Some.path.now h)
+    (first_fits c.operations.rest.now h.op (buffer_text c.operations.run.text) c.in-len1-up.len_at_least at c.operations.invariant.serves)
+
+pub returns-in_err-next-clause-err : goal.returns-in_err-next-clause-err
+returns-in_err-next-clause-err c =
+    let h = c.in-Some.ensures in
+    let e = c.in_err-next.field-0.0 in
+    let at : h.op ≡ slice_index_or c.operations.rest.now 0 h.op = ap (λ (os : List Op). slice_index_or os 0 h.op) (sym h.ops_are) in
+    let p = err_from_is_err_and c.from_residual-in_err-next.result c.from_residual-in_err-next.ensures.1 in
+    let t : List ℕ = buffer_text c.operations.run.text in
+    let own = subst (λ (o : Operation). EditFails e (carried o t)) (sym (first_is c.operations.rest.now c.args.doc (map tree_step c.args.above.now) c.in-Some.path.now h)) c.in_err-next.ensures.err in
+    rw (p.1, p.2) (subst (EditFails e) c.operations.invariant.whole (first_fails c.operations.rest.now h.op t c.operations.run.splices.items e c.in-len1-up.len_at_least at own))
+
 pub operations-preserved : goal.operations-preserved
 operations-preserved c =
     let t : List ℕ = buffer_text c.operations.run.text in
-    let m : List ℕ = buffer_text c.remove_beside.new.run.text in
-    let h = subst (λ (o : Option (Option ℕ)). IfSome o (λ next. FirstRemoves c.operations.rest.now (cut_of c.operations.way) c.args.doc (map tree_step c.args.above.now) c.operations.run next c.remove_beside.new.run)) c.in-Some.is c.in_ok-next.ensures.ok in
+    let m : List ℕ = buffer_text c.take_rows.new.run.text in
+    let h = c.in-Some.ensures in
     let at : h.op ≡ slice_index_or c.operations.rest.now 0 h.op = ap (λ (os : List Op). slice_index_or os 0 h.op) (sym h.ops_are) in
+    let gone = subst (λ (o : Option (Option ℕ)). GoesOnWithout c.in-Some.path.now (cut_of c.operations.way) c.operations.run o c.take_rows.new.run) c.in-Some-2.is c.in_ok-next.ensures.ok in
+    let on = first_on c.operations.rest.now c.args.doc (map tree_step c.args.above.now) c.in-Some.path.now h (cut_of c.operations.way) c.operations.run c.in-Some-2.next c.take_rows.new.run gone in
     record {
-      same = c.remove_beside.ensures.same ∙ c.operations.invariant.same;
+      same = c.take_rows.ensures.same ∙ c.operations.invariant.same;
       whole =
-          others_come c.operations.rest.now h.op t m c.operations.run.splices.items h.on.new_bytes c.remove_beside.new.run.splices.items c.in-len1-up.len_at_least at h.on.comes h.on.splices
+          others_come c.operations.rest.now h.op t m c.operations.run.splices.items on.new_bytes c.take_rows.new.run.splices.items c.in-len1-up.len_at_least at on.comes on.splices
           ∙ c.operations.invariant.whole;
-      serves = others_served c.operations.rest.now h.op t m h.on.new_bytes c.in-len1-up.len_at_least at c.operations.invariant.serves h.on.applied;
-      runs = subst (λ (v : List ℕ). RemovesRows (cut_of v) c.args.doc (map tree_step c.args.above.now) c.in-Some.next c.remove_beside.new.run) c.operations.invariant.same h.on.run;
+      serves = others_served c.operations.rest.now h.op t m on.new_bytes c.in-len1-up.len_at_least at c.operations.invariant.serves on.applied;
+      runs = subst (λ (v : List ℕ). RemovesRows (cut_of v) c.args.doc (map tree_step c.args.above.now) c.in-Some-2.next c.take_rows.new.run) c.operations.invariant.same on.run;
     }

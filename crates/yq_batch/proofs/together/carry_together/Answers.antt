@@ -11,14 +11,12 @@ overflow_sub-steps c =
     let h = subst (λ (o : Option FlowHead). IfSome o (IsHeadFor c.args.cut.now (cut_of c.args.cut.now) c.in-Some.doc (map tree_step c.in-Some.steps.now))) c.in-Some-2.is c.in_ok-head.ensures.whole in
     omega (arith, ap length h.1, length-append h.0 (map tree_step c.in-Some-2.head.left.now), length-map c.in-Some.steps.now tree_step, length-map c.in-Some-2.head.left.now tree_step)
 
-pub put_all-requires-clause-head : goal.put_all-requires-clause-head
-put_all-requires-clause-head c =
+pub carry_in_head-requires-clause-there : goal.carry_in_head-requires-clause-there
+carry_in_head-requires-clause-there c =
     let h = subst (λ (o : Option FlowHead). IfSome o (IsHeadFor c.args.cut.now (cut_of c.args.cut.now) c.in-Some.doc (map tree_step c.in-Some.steps.now))) c.in-Some-2.is c.in_ok-head.ensures.whole in
-    subst (λ (ss : List Step). ReportsHead c.args.cut.now (cut_of c.args.cut.now) c.in-Some.doc ss c.in-Some-2.head)
-    (sym (ap (map tree_step) c.split_at.ensures.front ∙ stem_is c.in-Some.steps.now c.in-Some-2.head.left.now h.0 _ h.1 refl)) h.2
-
-pub remove_each-requires-clause-head : goal.remove_each-requires-clause-head
-remove_each-requires-clause-head c =
-    let h = subst (λ (o : Option FlowHead). IfSome o (IsHeadFor c.args.cut.now (cut_of c.args.cut.now) c.in-Some.doc (map tree_step c.in-Some.steps.now))) c.in-Some-2.is c.in_ok-head.ensures.whole in
-    subst (λ (ss : List Step). ReportsHead c.args.cut.now (cut_of c.args.cut.now) c.in-Some.doc ss c.in-Some-2.head)
-    (sym (ap (map tree_step) c.split_at.ensures.front ∙ stem_is c.in-Some.steps.now c.in-Some-2.head.left.now h.0 _ h.1 refl)) h.2
+    record {
+      read = c.text-text.ensures.read;
+      reports =
+          subst (λ (ss : List Step). ReportsHead c.args.cut.now (cut_of c.args.cut.now) c.in-Some.doc ss c.in-Some-2.head)
+          (sym (ap (map tree_step) c.split_at.ensures.front ∙ stem_is c.in-Some.steps.now c.in-Some-2.head.left.now h.0 _ h.1 refl)) h.2;
+    }

@@ -1,6 +1,6 @@
 use Rattle.std.{proofs.Common.{List, ◌++◌, map, ap, ◌∙◌}, proofs.lemmas.List.map-append}
 use Rattle.yq_core.{specs.Paths.Step, specs.Entries.tree_step}
-use Rattle.yq_batch.proofs.together.steps_on.Goals as goal
+use Rattle.yq_batch.proofs.change.steps_on.Goals as goal
 
 pub returns : goal.returns
 returns c =

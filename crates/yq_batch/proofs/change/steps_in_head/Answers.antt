@@ -3,7 +3,7 @@ use Rattle.yq_core.specs.Entries.{tree_step}
 use Rattle.yq_documents.specs.Located.{steps_of}
 use Rattle.yq_places.specs.Standings.{last_step}
 use Rattle.yq_batch.proofs.RunAnswers.{ends_there}
-use Rattle.yq_batch.proofs.together.steps_in_head.Goals as goal
+use Rattle.yq_batch.proofs.change.steps_in_head.Goals as goal
 
 pub returns : goal.returns
 returns c =
