@@ -1,6 +1,7 @@
 -- The rows of a text with its cut, and what is known of them.
-use Rattle.std.{proofs.Common.{◌≡◌, ℕ, ◌<◌, List, length, Option, Some, sym, ap, subst, arith}, proofs.lemmas.List.length-map}
-use Rattle.std.{specs.List.slice_get, specs.Prelude.IfSome}
+use Rattle.std.{proofs.Common.{◌≡◌, ℕ, ◌<◌, List, length, Option, None, Some, sym, ap, subst, arith}, proofs.lemmas.List.length-map}
+use Rattle.std.{specs.List.slice_get, specs.Prelude.{IfSome, option_copied}}
+use denote.Bor.{Bor}
 use Rattle.yq_core.specs.Answers.{◌>>=◌}
 use Rattle.yq_row_table.{specs.Rows.{Cut, Row}, specs.View.{RowsView, rows_of, rows_view, slices}}
 use Rattle.yq_documents.{specs.Documents.document_parts, specs.LinesInRows.document_row, specs.Reading.cut_of}
@@ -15,8 +16,13 @@ row_within t s i rows h = omega (arith, h, ap (λ (x : RowsView). length x.rows)
 pub items_known : (t : List ℕ) (s : RowsView) (ks : List KnownItem) → s ≡ rows_view (cut_of t) → AreKnown (rows_view (cut_of t)).rows ks → AreKnown s.rows ks
 items_known t s ks rows h = subst (λ (x : RowsView). AreKnown x.rows ks) (sym rows) h
 
-pub line_known : (t : List ℕ) (s : RowsView) (o : Option KnownLine) → s ≡ rows_view (cut_of t) → IfSome o (IsKnownLine (rows_view (cut_of t))) → IfSome o (IsKnownLine s)
-line_known t s o rows h = subst (λ (x : RowsView). IfSome o (IsKnownLine x)) (sym rows) h
+pub line_known : (t : List ℕ) (s : RowsView) (o : Option (Bor KnownLine)) → s ≡ rows_view (cut_of t) → IfSome o (λ k. IsKnownLine (rows_view (cut_of t)) k.now) → IfSome o (λ k. IsKnownLine s k.now)
+line_known t s o rows h = subst (λ (x : RowsView). IfSome o (λ k. IsKnownLine x k.now)) (sym rows) h
+
+-- a line that is borrowed
+pub line_borrowed : (s : RowsView) (o : Option KnownLine) (r : Option (Bor KnownLine)) → option_copied r ≡ o → IfSome o (IsKnownLine s) → IfSome r (λ k. IsKnownLine s k.now)
+line_borrowed s o None e h = tt
+line_borrowed s o (Some k) e h = subst (λ (x : Option KnownLine). IfSome x (IsKnownLine s)) (sym e) h
 
 pub documents_known : (t : List ℕ) (s : RowsView) (k : KnownDocuments) → s ≡ rows_view (cut_of t) → AreKnownDocuments (rows_view (cut_of t)).bounds k → AreKnownDocuments s.bounds k
 documents_known t s k rows h = subst (λ (x : RowsView). AreKnownDocuments x.bounds k) (sym rows) h

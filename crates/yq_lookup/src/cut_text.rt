@@ -191,10 +191,10 @@ impl<'d, 't> CutText<'d, 't> {
     }
 
     /// The line that is known.
-    pub(crate) fn line(&self) -> Option<KnownLine<'d>>
-        ensures { IfSome result (IsKnownLine (rows_view (cut_of self.now))) }
+    pub(crate) fn line(&self) -> Option<&KnownLine<'d>>
+        ensures { IfSome result (λ k. IsKnownLine (rows_view (cut_of self.now)) k.now) }
     {
-        self.line
+        self.line.as_ref()
     }
 
     /// The items that are known.

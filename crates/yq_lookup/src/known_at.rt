@@ -29,7 +29,7 @@ impl<'d, 't> CutText<'d, 't> {
         let Some(walk) = self.walk(path.doc) else {
             return;
         };
-        let _ = known_along(walk, known, &path.steps);
+        let _ = known_along(&walk, known, &path.steps);
     }
 
     /// The same, and gives the line to which the path leads, if none of its steps goes on in the head of one.
@@ -41,7 +41,7 @@ impl<'d, 't> CutText<'d, 't> {
     {
         let walk = self.walk(path.doc)?;
         let steps = path.steps.as_slice();
-        let (_, at) = known_along(walk, known, steps);
+        let (_, at) = known_along(&walk, known, steps);
         line_known(walk.document, steps, at)
     }
 
@@ -54,14 +54,14 @@ impl<'d, 't> CutText<'d, 't> {
     {
         let walk = self.walk(path.doc)?;
         let steps = path.steps.as_slice();
-        let (count, at) = known_along(walk, known, steps);
+        let (count, at) = known_along(&walk, known, steps);
         let line = line_known(walk.document, steps, at);
         let here = Walk {
             known: known.as_slice(),
-            line,
+            line: line.as_ref(),
             ..walk
         };
-        if let Some(end) = known_end(here, steps) {
+        if let Some(end) = known_end(&here, steps) {
             let _ = put_item(known, count, end);
         }
         line
@@ -123,7 +123,7 @@ impl<'d, 't> CutText<'d, 't> {
             (cut_of self.now)) }
     {
         let walk = self.walk(path.doc)?;
-        let (_, at) = known_along(walk, known, &path.steps);
+        let (_, at) = known_along(&walk, known, &path.steps);
         row_of_last(walk.rows, at?)
     }
 

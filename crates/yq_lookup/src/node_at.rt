@@ -12,7 +12,9 @@ use std::alloc::{AllocError, Global};
 use yq_core::{Kind, Step};
 use yq_documents::Path;
 use yq_outline::{Head, ScalarContent};
-use yq_places::{FlowHead, NodeAt, RowHead, block_node, head_node, node_place, place_line};
+use yq_places::{
+    FlowHead, NodeAt, RowHead, block_node, head_node, is_text, node_place, place_line,
+};
 use yq_row_heads::row_head;
 use yq_row_walk::head_place;
 
@@ -31,11 +33,11 @@ impl<'t> CutText<'_, 't> {
         let Some(walk) = self.walk(doc) else {
             return Ok(None);
         };
-        let Some((place, left)) = node_place(walk, steps) else {
+        let Some((place, left)) = node_place(&walk, steps) else {
             return Ok(None);
         };
-        let Some(at) = place_line(walk, place) else {
-            return Ok(block_node(walk, place));
+        let Some(at) = place_line(&walk, place) else {
+            return Ok(block_node(&walk, place));
         };
         let head = self.row_head(alloc, at.row)?;
         head_node(alloc, head.head, left)
@@ -83,13 +85,14 @@ impl<'t> CutText<'_, 't> {
         ensures whole { IfOk result (λ o. IfSome o (flows.IsHeadFor self.now (cut_of self.now) doc
             (map tree_step steps.now))) }
     {
+        is_text(self.text);
         let Some(walk) = self.walk(doc) else {
             return Ok(None);
         };
-        let Some((place, left)) = node_place(walk, steps) else {
+        let Some((place, left)) = node_place(&walk, steps) else {
             return Ok(None);
         };
-        let Some(at) = place_line(walk, place) else {
+        let Some(at) = place_line(&walk, place) else {
             return Ok(None);
         };
         let RowHead { head, text, before } = self.row_head(alloc, at.row)?;

@@ -18,7 +18,7 @@ impl<'t> CutText<'_, 't> {
             reading.mark_counts path.now.doc (steps_of path.now) (cut_of self.now) }
     {
         let walk = self.walk(path.doc)?;
-        own_rows(walk, &path.steps)
+        own_rows(&walk, &path.steps)
     }
 
     /// What is taken out of the text with the item or entry at a path: the lines of the comment above

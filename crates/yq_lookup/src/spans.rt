@@ -19,7 +19,7 @@ impl<'t> CutText<'_, 't> {
         ensures { option_map span result ≡ spec.line_entry_at path.now (cut_of self.now) }
     {
         let walk = self.walk(path.doc)?;
-        entry_of(walk, &path.steps)
+        entry_of(&walk, &path.steps)
     }
 
     /// The place of the content of the node at a path, unless it is in flow.
@@ -27,7 +27,7 @@ impl<'t> CutText<'_, 't> {
         ensures { option_map span result ≡ spec.line_content_at path.now (cut_of self.now) }
     {
         let walk = self.walk(path.doc)?;
-        content_of(walk, &path.steps)
+        content_of(&walk, &path.steps)
     }
 
     /// The place of the comment after the entry or item at a path, on the line of its key or dash.

@@ -77,7 +77,7 @@ impl<'t> CutText<'_, 't> {
             reading.numbers_at path.now.doc (steps_of path.now) (cut_of self.now) }
     {
         let walk = self.walk(path.doc)?;
-        entry_along(walk, &path.steps)
+        entry_along(&walk, &path.steps)
     }
 
     /// The key or dash of the item or entry at a path, with what it holds, if its line is the last one

@@ -1,5 +1,5 @@
 //! The rows of documents among those of a text, with what is known of them, lines of them at paths, and how deep their collections are.
-ghost use Rattle.std.{specs.Prelude.{◌≡◌, if◌then◌else◌, IfSome, option_map}, specs.Str.IsUtf8};
+ghost use Rattle.std.specs.Prelude.{◌≡◌, if◌then◌else◌, IfSome, option_map};
 ghost use Rattle.yq_documents.{specs.LinesInRows.{document_row, row_line_at}, specs.Reading.cut_of};
 ghost use Rattle.yq_lookup.specs.Knowledge.{AreSearches};
 ghost use Rattle.yq_outline.specs.RowWalk.{stretch_view};
@@ -13,7 +13,7 @@ use crate::knowledge::StepSearches;
 use crate::known_document::part_from;
 use yq_documents::{Path, rows_to};
 use yq_outline::Stretch;
-use yq_places::{RowLine, first_step, is_text, row_line_along, search_step};
+use yq_places::{RowLine, first_step, row_line_along, search_step};
 use yq_row_walk::Walk;
 
 impl<'t> CutText<'_, 't> {
@@ -39,9 +39,7 @@ impl<'t> CutText<'_, 't> {
         ensures place { option_map walked_rows result ≡ spec.document_row_range doc (cut_of self.now) }
         ensures cut { IfSome result (λ w. spec.HasCut self.now w.rows.now) }
         ensures walk { IfSome result IsWalk }
-        ensures utf8 { IsUtf8 self.now }
     {
-        is_text(self.text);
         let document = self.stretch(doc)?;
         Some(Walk {
             rows: self.rows(),
@@ -58,7 +56,7 @@ impl<'t> CutText<'_, 't> {
             (row_line_at path.now (cut_of self.now)) }
     {
         let walk = self.walk(path.doc)?;
-        row_line_along(walk, &path.steps)
+        row_line_along(&walk, &path.steps)
     }
 
     /// By how many columns the sequences, or mappings, of document `doc`, counted from 0, are deeper than
@@ -70,7 +68,7 @@ impl<'t> CutText<'_, 't> {
         let Some(walk) = self.walk(doc) else {
             return 2;
         };
-        first_step(walk, self.steps().of(dashes), dashes)
+        first_step(&walk, self.steps().of(dashes), dashes)
     }
 
     /// How far steps are searched once those of document `doc` were, up to the last row that is known.
@@ -83,8 +81,8 @@ impl<'t> CutText<'_, 't> {
         let steps = self.steps();
         let upto = walk.known.last().map_or(0, |item| item.row);
         StepSearches {
-            sequences: Some(search_step(walk, steps.of(true), true, upto)),
-            mappings: Some(search_step(walk, steps.of(false), false, upto)),
+            sequences: Some(search_step(&walk, steps.of(true), true, upto)),
+            mappings: Some(search_step(&walk, steps.of(false), false, upto)),
         }
     }
 

@@ -25,7 +25,7 @@ pub record IsWalk (w : Walk) : Type 0 where
   pub rows_view : IsRowsView w.rows.now
   pub document : HasDocument w.rows.now w.document
   pub known : AreKnown w.rows.now.rows w.known.now
-  pub line : IfSome w.line (IsKnownLine w.rows.now)
+  pub line : IfSome w.line (λ k. IsKnownLine w.rows.now k.now)
 
 -- ---- the words of yq_outline, of what is walked
 

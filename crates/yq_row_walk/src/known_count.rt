@@ -96,11 +96,11 @@ fn known_back(rows: &Rows<'_>, known: KnownItem, row: usize) -> Option<KnownItem
 /// The item of a row among the lines from one on that are deeper than a level, as one that is known.
 /// The rows are counted from the known item on or back to it, or from the first one on.
 #[inline(always)]
-pub fn known_to(walk: Walk<'_, '_>, under: Position, floor: usize, row: usize) -> Option<KnownItem>
-    requires walk { IsWalk walk }
+pub fn known_to(walk: &Walk<'_, '_>, under: Position, floor: usize, row: usize) -> Option<KnownItem>
+    requires walk { IsWalk walk.now }
     requires order { under.row < row }
-    requires within { row < length walk.rows.now.rows }
-    ensures known { IfSome result (IsKnown walk.entry.rows.now.rows) }
+    requires within { row < length walk.now.rows.now.rows }
+    ensures known { IfSome result (IsKnown walk.now.rows.now.rows) }
     ensures row { IfSome result (λ k. k.row ≡ row) }
 {
     if let Some(known) = known_among(walk, under, floor) {

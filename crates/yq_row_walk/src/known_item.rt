@@ -19,9 +19,9 @@ fn is_among(known: KnownItem, under: Position, floor: usize) -> bool
 
 /// The item that is known among the lines of a document from one on that are deeper than a level.
 #[inline(always)]
-pub fn known_among(walk: Walk<'_, '_>, under: Position, floor: usize) -> Option<KnownItem>
-    requires { IsWalk walk }
-    ensures { IfSome result (IsWalkItem walk.entry under floor) }
+pub fn known_among(walk: &Walk<'_, '_>, under: Position, floor: usize) -> Option<KnownItem>
+    requires { IsWalk walk.now }
+    ensures { IfSome result (IsWalkItem walk.now under floor) }
 {
     let mut rest = walk.known;
     'items: while let [item, others @ ..] = rest {
@@ -71,9 +71,9 @@ pub fn item_before(rows: &Rows<'_>, known: KnownItem) -> Option<KnownItem>
 
 /// The item that is known, or one before it, if the way to an item from there is no longer.
 #[inline(always)]
-fn known_for(walk: Walk<'_, '_>, under: Position, floor: usize, index: usize) -> Option<KnownItem>
-    requires { IsWalk walk }
-    ensures known { IfSome result (IsWalkItem walk.entry under floor) }
+fn known_for(walk: &Walk<'_, '_>, under: Position, floor: usize, index: usize) -> Option<KnownItem>
+    requires { IsWalk walk.now }
+    ensures known { IfSome result (IsWalkItem walk.now under floor) }
     ensures index { IfSome result (λ k. k.index ≤ index) }
 {
     let known = known_among(walk, under, floor)?;
@@ -90,15 +90,15 @@ fn known_for(walk: Walk<'_, '_>, under: Position, floor: usize, index: usize) ->
 /// index of the item from there on.
 #[inline(always)]
 pub fn walk_begin(
-    walk: Walk<'_, '_>,
+    walk: &Walk<'_, '_>,
     under: Position,
     floor: usize,
     index: usize,
 ) -> (Position, usize)
-    requires walk { IsWalk walk }
-    requires under { IsWalkPosition walk under }
-    ensures position { IsWalkPosition walk.entry result.0 }
-    ensures found { GoesOn walk.entry.rows.now walk.entry.document floor under index
+    requires walk { IsWalk walk.now }
+    requires under { IsWalkPosition walk.now under }
+    ensures position { IsWalkPosition walk.now result.0 }
+    ensures found { GoesOn walk.now.rows.now walk.now.document floor under index
         result.0 result.1 }
 {
     let Some(known) = known_for(walk, under, floor, index) else {

@@ -41,18 +41,18 @@ fn item_behind(rows: &Rows<'_>, known: KnownItem, end: usize) -> Option<KnownIte
 /// The line of an entry that is known among the lines of a document from one on that are deeper than a
 /// level, if its key is this one.
 fn keyed(
-    walk: Walk<'_, '_>,
+    walk: &Walk<'_, '_>,
     under: Position,
     floor: usize,
     known: KnownItem,
     key: &str,
 ) -> Option<Position>
-    requires walk { IsWalk walk }
-    requires under { IsWalkPosition walk under }
-    requires keys { HaveWalkKeys walk under floor }
-    requires known { IsWalkItem walk under floor known }
-    ensures within { IfSome result (IsWalkLine walk.entry) }
-    ensures found { IfSome result (λ q. WalkFinds walk.entry under floor (steps.To key.now) (Some q)) }
+    requires walk { IsWalk walk.now }
+    requires under { IsWalkPosition walk.now under }
+    requires keys { HaveWalkKeys walk.now under floor }
+    requires known { IsWalkItem walk.now under floor known }
+    ensures within { IfSome result (IsWalkLine walk.now) }
+    ensures found { IfSome result (λ q. WalkFinds walk.now under floor (steps.To key.now) (Some q)) }
 {
     let at = Position {
         row: known.row,
@@ -66,12 +66,12 @@ fn keyed(
 
 /// The line of a key's entry among the lines of a document from one on that are deeper than a level,
 /// where one of them is known: it is looked for one by one on both sides, the nearest ones first.
-pub fn key_near(walk: Walk<'_, '_>, under: Position, floor: usize, key: &str) -> Option<Position>
-    requires walk { IsWalk walk }
-    requires under { IsWalkPosition walk under }
-    requires keys { HaveWalkKeys walk under floor }
-    ensures within { IfSome result (IsWalkLine walk.entry) }
-    ensures found { IfSome result (λ q. WalkFinds walk.entry under floor (steps.To key.now) (Some q)) }
+pub fn key_near(walk: &Walk<'_, '_>, under: Position, floor: usize, key: &str) -> Option<Position>
+    requires walk { IsWalk walk.now }
+    requires under { IsWalkPosition walk.now under }
+    requires keys { HaveWalkKeys walk.now under floor }
+    ensures within { IfSome result (IsWalkLine walk.now) }
+    ensures found { IfSome result (λ q. WalkFinds walk.now under floor (steps.To key.now) (Some q)) }
 {
     let mut ahead = known_among(walk, under, floor);
     let mut back = ahead;

@@ -46,9 +46,9 @@ fn are_same(steps: &[Step], others: &[Step]) -> bool
 
 /// The line that is known, if it is that to which these steps lead.
 #[inline(always)]
-pub fn if_along(walk: Walk<'_, '_>, steps: &[Step]) -> Option<Position>
-    requires { IsWalk walk }
-    ensures { IfSome result (IsWalkLineAt walk.entry steps.now) }
+pub fn if_along(walk: &Walk<'_, '_>, steps: &[Step]) -> Option<Position>
+    requires { IsWalk walk.now }
+    ensures { IfSome result (IsWalkLineAt walk.now steps.now) }
 {
     let Some(found) = walk.line else {
         return None;

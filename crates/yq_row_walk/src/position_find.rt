@@ -13,11 +13,11 @@ use yq_core::Step;
 use yq_outline::Position;
 
 /// The line of a key's entry among the lines of a document from one on that are deeper than a level.
-pub fn find_key(walk: Walk<'_, '_>, under: Position, floor: usize, key: &str) -> Option<Position>
-    requires walk { IsWalk walk }
-    requires under { IsWalkPosition walk under }
-    ensures within { IfSome result (IsWalkLine walk.entry) }
-    ensures found { WalkFinds walk.entry under floor (steps.To key.now) result }
+pub fn find_key(walk: &Walk<'_, '_>, under: Position, floor: usize, key: &str) -> Option<Position>
+    requires walk { IsWalk walk.now }
+    requires under { IsWalkPosition walk.now under }
+    ensures within { IfSome result (IsWalkLine walk.now) }
+    ensures found { WalkFinds walk.now under floor (steps.To key.now) result }
 {
     let mut at = under;
     'lines: while is_deeper(walk.rows, walk.document, at, floor) {
@@ -30,12 +30,12 @@ pub fn find_key(walk: Walk<'_, '_>, under: Position, floor: usize, key: &str) ->
 }
 
 /// The same, where the entry is looked for near one that is known first.
-fn find_entry(walk: Walk<'_, '_>, under: Position, floor: usize, key: &str) -> Option<Position>
-    requires walk { IsWalk walk }
-    requires under { IsWalkPosition walk under }
-    requires keys { HaveWalkKeys walk under floor }
-    ensures within { IfSome result (IsWalkLine walk.entry) }
-    ensures found { WalkFinds walk.entry under floor (steps.To key.now) result }
+fn find_entry(walk: &Walk<'_, '_>, under: Position, floor: usize, key: &str) -> Option<Position>
+    requires walk { IsWalk walk.now }
+    requires under { IsWalkPosition walk.now under }
+    requires keys { HaveWalkKeys walk.now under floor }
+    ensures within { IfSome result (IsWalkLine walk.now) }
+    ensures found { WalkFinds walk.now under floor (steps.To key.now) result }
 {
     let near = key_near(walk, under, floor, key);
     if near.is_some() {
@@ -48,15 +48,15 @@ fn find_entry(walk: Walk<'_, '_>, under: Position, floor: usize, key: &str) -> O
 /// level.
 #[inline(always)]
 pub fn find_item(
-    walk: Walk<'_, '_>,
+    walk: &Walk<'_, '_>,
     under: Position,
     floor: usize,
     index: usize,
 ) -> Option<Position>
-    requires walk { IsWalk walk }
-    requires under { IsWalkPosition walk under }
-    ensures within { IfSome result (IsWalkLine walk.entry) }
-    ensures found { WalkFinds walk.entry under floor (steps.Nth index) result }
+    requires walk { IsWalk walk.now }
+    requires under { IsWalkPosition walk.now under }
+    ensures within { IfSome result (IsWalkLine walk.now) }
+    ensures found { WalkFinds walk.now under floor (steps.Nth index) result }
 {
     let begin = walk_begin(walk, under, floor, index);
     let mut at = begin.0;
@@ -73,12 +73,17 @@ pub fn find_item(
 
 /// The line to which a step leads among the lines of a document from one on that are deeper than a level.
 #[inline(always)]
-pub fn find_step(walk: Walk<'_, '_>, under: Position, floor: usize, step: &Step) -> Option<Position>
-    requires walk { IsWalk walk }
-    requires under { IsWalkPosition walk under }
-    requires keys { HaveWalkKeys walk under floor }
-    ensures within { IfSome result (IsWalkLine walk.entry) }
-    ensures found { WalkFinds walk.entry under floor (tree_step step.now) result }
+pub fn find_step(
+    walk: &Walk<'_, '_>,
+    under: Position,
+    floor: usize,
+    step: &Step,
+) -> Option<Position>
+    requires walk { IsWalk walk.now }
+    requires under { IsWalkPosition walk.now under }
+    requires keys { HaveWalkKeys walk.now under floor }
+    ensures within { IfSome result (IsWalkLine walk.now) }
+    ensures found { WalkFinds walk.now under floor (tree_step step.now) result }
 {
     match step {
         Step::Key(key) => find_entry(walk, under, floor, key.as_str()),

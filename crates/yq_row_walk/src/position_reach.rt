@@ -35,12 +35,12 @@ pub fn begins_with_node(rows: &Rows<'_>, document: Stretch, under: Position, flo
 
 /// Where a step leads among the lines from one on that are deeper than a level.
 #[inline(always)]
-fn next_in(walk: Walk<'_, '_>, under: Position, floor: usize, step: &Step) -> Option<Next>
-    requires walk { IsWalk walk }
-    requires under { IsWalkPosition walk under }
-    requires keys { HaveWalkKeys walk under floor }
-    ensures within { IfSome result (λ x. IsWalkLine walk.entry (spec.next_position x)) }
-    ensures found { LeadsTo walk.entry.rows.now walk.entry.document
+fn next_in(walk: &Walk<'_, '_>, under: Position, floor: usize, step: &Step) -> Option<Next>
+    requires walk { IsWalk walk.now }
+    requires under { IsWalkPosition walk.now under }
+    requires keys { HaveWalkKeys walk.now under floor }
+    ensures within { IfSome result (λ x. IsWalkLine walk.now (spec.next_position x)) }
+    ensures found { LeadsTo walk.now.rows.now walk.now.document
         (λ ls n ss. positions.reach_in ls (n under) floor (tree_step step.now) ss)
         (tree_step step.now) result }
 {
@@ -53,11 +53,11 @@ fn next_in(walk: Walk<'_, '_>, under: Position, floor: usize, step: &Step) -> Op
 
 /// Where a step leads from a line.
 #[inline(always)]
-fn next_from(walk: Walk<'_, '_>, at: Position, step: &Step) -> Option<Next>
-    requires walk { IsWalk walk }
-    requires at { IsWalkLine walk at }
-    ensures within { IfSome result (λ x. IsWalkLine walk.entry (spec.next_position x)) }
-    ensures found { WalkLeads walk.entry (Some at) step.now result }
+fn next_from(walk: &Walk<'_, '_>, at: Position, step: &Step) -> Option<Next>
+    requires walk { IsWalk walk.now }
+    requires at { IsWalkLine walk.now at }
+    ensures within { IfSome result (λ x. IsWalkLine walk.now (spec.next_position x)) }
+    ensures found { WalkLeads walk.now (Some at) step.now result }
 {
     if has_head(walk.rows, walk.document, at) {
         return Some(Next::Head(at));
@@ -68,11 +68,11 @@ fn next_from(walk: Walk<'_, '_>, at: Position, step: &Step) -> Option<Next>
 
 /// Where a step leads from a line, or from the root.
 #[inline(always)]
-pub fn next_at(walk: Walk<'_, '_>, from: Option<Position>, step: &Step) -> Option<Next>
-    requires walk { IsWalk walk }
-    requires from { IfSome from (IsWalkLine walk) }
-    ensures within { IfSome result (λ x. IsWalkLine walk.entry (spec.next_position x)) }
-    ensures found { WalkLeads walk.entry from step.now result }
+pub fn next_at(walk: &Walk<'_, '_>, from: Option<Position>, step: &Step) -> Option<Next>
+    requires walk { IsWalk walk.now }
+    requires from { IfSome from (IsWalkLine walk.now) }
+    ensures within { IfSome result (λ x. IsWalkLine walk.now (spec.next_position x)) }
+    ensures found { WalkLeads walk.now from step.now result }
 {
     match from {
         Some(at) => next_from(walk, at, step),
@@ -88,10 +88,10 @@ pub fn next_at(walk: Walk<'_, '_>, from: Option<Position>, step: &Step) -> Optio
 
 /// The line of a document to which steps lead, and the steps that go on in its head, from the root on.
 #[inline(always)]
-fn reach_by_steps<'s>(walk: Walk<'_, '_>, steps: &'s [Step]) -> Option<(Position, &'s [Step])>
-    requires { IsWalk walk }
-    ensures within { IfSome result (λ x. IsWalkLine walk.entry x.0) }
-    ensures found { OfWalkRows walk.entry (λ d rs. option_map (spec.reached_view d rs) result ≡
+fn reach_by_steps<'s>(walk: &Walk<'_, '_>, steps: &'s [Step]) -> Option<(Position, &'s [Step])>
+    requires { IsWalk walk.now }
+    ensures within { IfSome result (λ x. IsWalkLine walk.now x.0) }
+    ensures found { OfWalkRows walk.now (λ d rs. option_map (spec.reached_view d rs) result ≡
         reached (map tree_step steps.now) (lines_of_rows rs)) }
 {
     let mut found = None;
@@ -109,10 +109,10 @@ fn reach_by_steps<'s>(walk: Walk<'_, '_>, steps: &'s [Step]) -> Option<(Position
 
 /// The line of a document to which steps lead, and the steps that go on in its head.
 #[inline(always)]
-pub fn reach<'s>(walk: Walk<'_, '_>, steps: &'s [Step]) -> Option<(Position, &'s [Step])>
-    requires { IsWalk walk }
-    ensures within { IfSome result (λ x. IsWalkLine walk.entry x.0) }
-    ensures found { OfWalkRows walk.entry (λ d rs. option_map (spec.reached_view d rs) result ≡
+pub fn reach<'s>(walk: &Walk<'_, '_>, steps: &'s [Step]) -> Option<(Position, &'s [Step])>
+    requires { IsWalk walk.now }
+    ensures within { IfSome result (λ x. IsWalkLine walk.now x.0) }
+    ensures found { OfWalkRows walk.now (λ d rs. option_map (spec.reached_view d rs) result ≡
         reached (map tree_step steps.now) (lines_of_rows rs)) }
 {
     match if_along(walk, steps) {
@@ -123,10 +123,10 @@ pub fn reach<'s>(walk: Walk<'_, '_>, steps: &'s [Step]) -> Option<(Position, &'s
 
 /// The line of a document to which steps lead, where none go on in its head.
 #[inline(always)]
-pub fn line_at(walk: Walk<'_, '_>, steps: &[Step]) -> Option<Position>
-    requires { IsWalk walk }
-    ensures within { IfSome result (IsWalkLine walk.entry) }
-    ensures found { OfWalkRows walk.entry (λ d rs. option_map (line_number d rs) result ≡
+pub fn line_at(walk: &Walk<'_, '_>, steps: &[Step]) -> Option<Position>
+    requires { IsWalk walk.now }
+    ensures within { IfSome result (IsWalkLine walk.now) }
+    ensures found { OfWalkRows walk.now (λ d rs. option_map (line_number d rs) result ≡
         line_at_steps (map tree_step steps.now) (lines_of_rows rs)) }
 {
     let (at, left) = reach(walk, steps)?;

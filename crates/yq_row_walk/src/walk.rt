@@ -20,5 +20,5 @@ pub struct Walk<'a, 't> {
     /// Items that are known, if any, one for each collection.
     pub known: &'a [KnownItem],
     /// The line of a path, if it is known.
-    pub line: Option<KnownLine<'a>>,
+    pub line: Option<&'a KnownLine<'a>>,
 }

@@ -95,7 +95,7 @@ pub(crate) fn flow_entry<'d, 't>(
 {
     let cut = CutText::of(documents);
     let walk = cut.walk(path.doc)?;
-    let (at, left) = reach(walk, &path.steps)?;
+    let (at, left) = reach(&walk, &path.steps)?;
     if left.is_empty() {
         return None;
     }

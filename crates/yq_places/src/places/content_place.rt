@@ -17,10 +17,10 @@ use yq_outline::Position;
 use yq_row_walk::{Walk, is_bare, is_deeper};
 
 /// The place of the node that the lines mean, from one on, that are deeper than a level.
-fn lines_content(walk: Walk<'_, '_>, from: Position, floor: usize) -> Option<Span>
-    requires walk { IsWalk walk }
-    requires from { IsWalkPosition walk from }
-    ensures { InEach walk.entry (λ first c rs n. option_map span result ≡
+fn lines_content(walk: &Walk<'_, '_>, from: Position, floor: usize) -> Option<Span>
+    requires walk { IsWalk walk.now }
+    requires from { IsWalkPosition walk.now from }
+    ensures { InEach walk.now (λ first c rs n. option_map span result ≡
         spec.lines_content first c rs (n from) (lines_stop (n from) floor (lines_of_rows rs))) }
 {
     if !is_deeper(walk.rows, walk.document, from, floor) {
@@ -34,9 +34,9 @@ fn lines_content(walk: Walk<'_, '_>, from: Position, floor: usize) -> Option<Spa
 }
 
 /// The place of the node to which steps lead, unless they go on in a head.
-pub fn content_of(walk: Walk<'_, '_>, steps: &[Step]) -> Option<Span>
-    requires { IsWalk walk }
-    ensures { InEach walk.entry (λ first c rs n. option_map span result ≡
+pub fn content_of(walk: &Walk<'_, '_>, steps: &[Step]) -> Option<Span>
+    requires { IsWalk walk.now }
+    ensures { InEach walk.now (λ first c rs n. option_map span result ≡
         spec.line_content_of first c rs (map tree_step steps.now)) }
 {
     let (place, left) = node_place(walk, steps)?;

@@ -14,11 +14,11 @@ use yq_outline::Position;
 use yq_row_walk::{Walk, behind, line_at};
 
 /// The place from the beginning of a line of a document to the end of the last row before another one.
-pub fn lines_place(walk: Walk<'_, '_>, from: Position, to: Position) -> Span
-    requires walk { IsWalk walk }
-    requires lines { AreLinesTo walk.rows.now walk.document from to }
+pub fn lines_place(walk: &Walk<'_, '_>, from: Position, to: Position) -> Span
+    requires walk { IsWalk walk.now }
+    requires lines { AreLinesTo walk.now.rows.now walk.now.document from to }
     requires some { from.row < to.row }
-    ensures { InEach walk.entry (λ first c rs n. Some (span result) ≡
+    ensures { InEach walk.now (λ first c rs n. Some (span result) ≡
         spec.lines_place first c rs (n from) (n to - 1)) }
 {
     Span {
@@ -28,9 +28,9 @@ pub fn lines_place(walk: Walk<'_, '_>, from: Position, to: Position) -> Span
 }
 
 /// The place of the entry or item of the line to which steps lead.
-pub fn entry_of(walk: Walk<'_, '_>, steps: &[Step]) -> Option<Span>
-    requires { IsWalk walk }
-    ensures { InEach walk.entry (λ first c rs n. option_map span result ≡
+pub fn entry_of(walk: &Walk<'_, '_>, steps: &[Step]) -> Option<Span>
+    requires { IsWalk walk.now }
+    ensures { InEach walk.now (λ first c rs n. option_map span result ≡
         spec.line_entry_of first c rs (map tree_step steps.now)) }
 {
     let at = line_at(walk, steps)?;

@@ -38,11 +38,11 @@ pub fn put_item(known: &mut Vec<KnownItem>, count: usize, item: KnownItem) -> us
 /// The item or entry of a line under another one, or of the root, as one that is known, unless it
 /// begins in the row of the first one.
 #[inline(always)]
-fn known_by(walk: Walk<'_, '_>, from: Option<Position>, at: Position) -> Option<KnownItem>
-    requires walk { IsWalk walk }
-    requires from { IfSome from (IsWalkLine walk) }
-    requires at { IsWalkLine walk at }
-    ensures known { IfSome result (IsKnown walk.entry.rows.now.rows) }
+fn known_by(walk: &Walk<'_, '_>, from: Option<Position>, at: Position) -> Option<KnownItem>
+    requires walk { IsWalk walk.now }
+    requires from { IfSome from (IsWalkLine walk.now) }
+    requires at { IsWalkLine walk.now at }
+    ensures known { IfSome result (IsKnown walk.now.rows.now.rows) }
 {
     let (under, floor) = match from {
         Some(above) => {
@@ -68,14 +68,14 @@ fn known_by(walk: Walk<'_, '_>, from: Option<Position>, at: Position) -> Option<
 /// head of one.
 #[inline(always)]
 pub fn known_along(
-    walk: Walk<'_, '_>,
+    walk: &Walk<'_, '_>,
     known: &mut Vec<KnownItem>,
     steps: &[Step],
 ) -> (usize, Option<Position>)
-    requires walk { IsWalk walk }
-    requires known { AreKnown walk.rows.now.rows known.old.items }
-    ensures known { AreKnown walk.entry.rows.now.rows known.new.items }
-    ensures line { IfSome result.1 (IsWalkLineAt walk.entry steps.now) }
+    requires walk { IsWalk walk.now }
+    requires known { AreKnown walk.now.rows.now.rows known.old.items }
+    ensures known { AreKnown walk.now.rows.now.rows known.new.items }
+    ensures line { IfSome result.1 (IsWalkLineAt walk.now steps.now) }
 {
     let mut from = None;
     let mut count = 0;
@@ -83,12 +83,12 @@ pub fn known_along(
     'steps: while let [step, others @ ..] = left {
         let here = Walk {
             known: known.as_slice(),
-            ..walk
+            ..*walk
         };
-        let Some(Next::Line(at)) = next_at(here, from, step) else {
+        let Some(Next::Line(at)) = next_at(&here, from, step) else {
             return (count, None);
         };
-        if let Some(item) = known_by(here, from, at) {
+        if let Some(item) = known_by(&here, from, at) {
             count = put_item(known, count, item);
         }
         from = Some(at);

@@ -10,36 +10,36 @@ use yq_outline::{KnownItem, Position, Stretch};
 use yq_row_table::Rows;
 use yq_row_walk::{Walk, counted, first_known, known_among, level_at, rows_under};
 
-/// The row from which on the end is looked for, after a line, of lines that are deeper than a level, of which
-/// this is the first one: that of an item among them that is known, or the next one.
+/// The row after a line and those after it that are deeper than a level, of which this is the first one: it is
+/// looked for from an item among them that is known, or from the next row on.
 #[inline(always)]
-fn search_row(walk: Walk<'_, '_>, at: Position, first: Position, floor: usize) -> usize
-    requires walk { IsWalk walk }
-    requires at { IsWalkLine walk at }
+fn row_after(walk: &Walk<'_, '_>, at: Position, first: Position, floor: usize) -> usize
+    requires walk { IsWalk walk.now }
+    requires at { IsWalkLine walk.now at }
     requires first { (first.row ≡ at.row) ⊎ ((first.row ≡ at.row + 1) × (first.line ≡ 0)) }
     ensures later { at.row < result }
-    ensures within { result ≤ walk.entry.document.end }
-    ensures value { walk_end walk.entry floor result ≡ walk_end walk.entry floor (at.row + 1) }
+    ensures within { result ≤ walk.now.document.end }
+    ensures value { result ≡ walk_end walk.now floor (at.row + 1) }
 {
+    let end = walk.document.end;
     match known_among(walk, first, floor) {
-        Some(known) => known.row,
-        None => at.row + 1,
+        Some(known) => rows_under(walk.rows, known.row, end, floor),
+        None => rows_under(walk.rows, at.row + 1, end, floor),
     }
 }
 
 /// What is after the lines from one on that are deeper than a level, of which that is one.
-pub fn behind_all(walk: Walk<'_, '_>, from: Position, floor: usize) -> Position
-    requires walk { IsWalk walk }
-    requires from { IsWalkLine walk from }
-    requires deeper { OfLine walk.rows.now walk.document from (λ l. floor < level l) }
-    ensures number { OfWalkLines walk.entry (λ ls n. n result ≡ lines_stop (n from) floor ls) }
-    ensures position { IsWalkPosition walk.entry result }
+pub fn behind_all(walk: &Walk<'_, '_>, from: Position, floor: usize) -> Position
+    requires walk { IsWalk walk.now }
+    requires from { IsWalkLine walk.now from }
+    requires deeper { OfLine walk.now.rows.now walk.now.document from (λ l. floor < level l) }
+    ensures number { OfWalkLines walk.now (λ ls n. n result ≡ lines_stop (n from) floor ls) }
+    ensures position { IsWalkPosition walk.now result }
     ensures line { result.line ≡ 0 }
     ensures later { from.row < result.row }
 {
-    let begin = search_row(walk, from, from, floor);
     Position {
-        row: rows_under(walk.rows, begin, walk.document.end, floor),
+        row: row_after(walk, from, from, floor),
         line: 0,
     }
 }
@@ -67,14 +67,13 @@ fn line_behind(document: Stretch, at: Position, last: usize) -> Position
 /// The row after those of a line of a level, in whose row so many come before the last one, and of the
 /// lines under it.
 #[inline(always)]
-pub fn row_behind(walk: Walk<'_, '_>, at: Position, last: usize, floor: usize) -> usize
-    requires walk { IsWalk walk }
-    requires at { IsWalkLine walk at }
-    ensures { result ≡ walk_end walk.entry floor (at.row + 1) }
+pub fn row_behind(walk: &Walk<'_, '_>, at: Position, last: usize, floor: usize) -> usize
+    requires walk { IsWalk walk.now }
+    requires at { IsWalkLine walk.now at }
+    ensures { result ≡ walk_end walk.now floor (at.row + 1) }
 {
     let first = line_behind(walk.document, at, last);
-    let begin = search_row(walk, at, first, floor);
-    rows_under(walk.rows, begin, walk.document.end, floor)
+    row_after(walk, at, first, floor)
 }
 
 /// The last row of the collection of an item that is known, before that where a document ends, as an
@@ -106,9 +105,9 @@ fn known_last(rows: &Rows<'_>, known: KnownItem, end: usize) -> KnownItem
 }
 
 /// The last row of the collection to which steps lead, if it is one of rows, as an item that is known.
-pub fn known_end(walk: Walk<'_, '_>, steps: &[Step]) -> Option<KnownItem>
-    requires { IsWalk walk }
-    ensures { IfSome result (IsKnown walk.entry.rows.now.rows) }
+pub fn known_end(walk: &Walk<'_, '_>, steps: &[Step]) -> Option<KnownItem>
+    requires { IsWalk walk.now }
+    ensures { IfSome result (IsKnown walk.now.rows.now.rows) }
 {
     let (NodePlace::Lines(under, floor), _) = node_place(walk, steps)? else {
         return None;

@@ -94,10 +94,10 @@ pub fn head_node<'t>(
 
 /// What the node is that the lines mean, from one on, that are deeper than a level, where the
 /// first of them is no node itself.
-fn lines_node<'t>(walk: Walk<'_, '_>, under: Position, floor: usize) -> NodeAt<'t>
-    requires walk { IsWalk walk }
-    requires under { IsWalkPosition walk under }
-    ensures { OfWalkLines walk.entry (λ ls n.
+fn lines_node<'t>(walk: &Walk<'_, '_>, under: Position, floor: usize) -> NodeAt<'t>
+    requires walk { IsWalk walk.now }
+    requires under { IsWalkPosition walk.now under }
+    ensures { OfWalkLines walk.now (λ ls n.
         begins_with_node (part ls (n under) floor) ≡ false →
         spec.node_view result ≡ spec.node_summary (value (part ls (n under) floor))) }
 {
@@ -114,10 +114,10 @@ fn lines_node<'t>(walk: Walk<'_, '_>, under: Position, floor: usize) -> NodeAt<'
 }
 
 /// What the node is that is written in the head of no line.
-pub fn block_node<'t>(walk: Walk<'_, '_>, place: NodePlace) -> Option<NodeAt<'t>>
-    requires walk { IsWalk walk }
-    requires place { reading.IsPlace walk.rows.now walk.document place }
-    ensures { OfWalkLines walk.entry (λ ls n.
+pub fn block_node<'t>(walk: &Walk<'_, '_>, place: NodePlace) -> Option<NodeAt<'t>>
+    requires walk { IsWalk walk.now }
+    requires place { reading.IsPlace walk.now.rows.now walk.now.document place }
+    ensures { OfWalkLines walk.now (λ ls n.
         reading.place_line ls (reading.place_by n place) ≡ None →
         option_map spec.node_view result ≡
         reading.summary_of_lines ls (reading.place_by n place)) }

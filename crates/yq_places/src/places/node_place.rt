@@ -21,11 +21,11 @@ pub enum NodePlace {
 /// Where the node of a line is written: in its head, if it has one or steps go on there, else on the
 /// lines under it.
 #[inline(always)]
-fn line_place(walk: Walk<'_, '_>, at: Position, left: &[Step]) -> NodePlace
-    requires walk { IsWalk walk }
-    requires at { IsWalkLine walk at }
-    ensures within { spec.IsPlace walk.entry.rows.now walk.entry.document result }
-    ensures agrees { OfWalkLines walk.entry (λ ls n. (l : Line) →
+fn line_place(walk: &Walk<'_, '_>, at: Position, left: &[Step]) -> NodePlace
+    requires walk { IsWalk walk.now }
+    requires at { IsWalkLine walk.now at }
+    ensures within { spec.IsPlace walk.now.rows.now walk.now.document result }
+    ensures agrees { OfWalkLines walk.now (λ ls n. (l : Line) →
         slice_get ls (n at) ≡ Some l →
         spec.place_by n result ≡ spec.line_place (n at) (map tree_step left.now) l) }
 {
@@ -40,10 +40,10 @@ fn line_place(walk: Walk<'_, '_>, at: Position, left: &[Step]) -> NodePlace
 
 /// Where the node at a path is written, and the steps that go on there.
 #[inline(always)]
-pub fn node_place<'s>(walk: Walk<'_, '_>, steps: &'s [Step]) -> Option<(NodePlace, &'s [Step])>
-    requires { IsWalk walk }
-    ensures within { IfSome result (λ x. spec.IsPlace walk.entry.rows.now walk.entry.document x.0) }
-    ensures found { OfWalkRows walk.entry (λ d rs. option_map (spec.node_place_view d rs) result ≡
+pub fn node_place<'s>(walk: &Walk<'_, '_>, steps: &'s [Step]) -> Option<(NodePlace, &'s [Step])>
+    requires { IsWalk walk.now }
+    ensures within { IfSome result (λ x. spec.IsPlace walk.now.rows.now walk.now.document x.0) }
+    ensures found { OfWalkRows walk.now (λ d rs. option_map (spec.node_place_view d rs) result ≡
         spec.node_place (map tree_step steps.now) (lines_of_rows rs)) }
 {
     if steps.is_empty() {
@@ -59,11 +59,11 @@ pub fn node_place<'s>(walk: Walk<'_, '_>, steps: &'s [Step]) -> Option<(NodePlac
 
 /// The line in whose head a node is written, if it is in one.
 #[inline(always)]
-pub fn place_line(walk: Walk<'_, '_>, place: NodePlace) -> Option<Position>
-    requires walk { IsWalk walk }
-    requires place { spec.IsPlace walk.rows.now walk.document place }
-    ensures within { IfSome result (IsWalkLine walk.entry) }
-    ensures found { OfWalkLines walk.entry (λ ls n.
+pub fn place_line(walk: &Walk<'_, '_>, place: NodePlace) -> Option<Position>
+    requires walk { IsWalk walk.now }
+    requires place { spec.IsPlace walk.now.rows.now walk.now.document place }
+    ensures within { IfSome result (IsWalkLine walk.now) }
+    ensures found { OfWalkLines walk.now (λ ls n.
         option_map n result ≡ spec.place_line ls (spec.place_by n place)) }
 {
     match place {

@@ -71,9 +71,9 @@ fn holds_comment(gap: &str) -> bool
 
 /// Where the rows of the item or entry begin and end to which steps lead, after where those of its
 /// document begin, if its line is the first one of a row.
-pub fn own_rows(walk: Walk<'_, '_>, steps: &[Step]) -> Option<(usize, usize, usize)>
-    requires { IsWalk walk }
-    ensures { OfWalkRows walk.entry (λ d rs. option_map (λ m. (m.0, m.1, m.2)) result ≡
+pub fn own_rows(walk: &Walk<'_, '_>, steps: &[Step]) -> Option<(usize, usize, usize)>
+    requires { IsWalk walk.now }
+    ensures { OfWalkRows walk.now (λ d rs. option_map (λ m. (m.0, m.1, m.2)) result ≡
         option_map (reading.marks d.first)
         (spec.own_rows (map tree_step steps.now) rs)) }
 {

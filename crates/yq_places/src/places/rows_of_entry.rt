@@ -24,9 +24,9 @@ pub struct RowsOfEntry {
 
 /// The rows of the item or entry to which steps lead in a document.
 #[inline(always)]
-pub fn entry_along(walk: Walk<'_, '_>, steps: &[Step]) -> Option<RowsOfEntry>
-    requires { IsWalk walk }
-    ensures { OfWalkRows walk.entry (λ d rs. option_map reading.as_numbers result ≡
+pub fn entry_along(walk: &Walk<'_, '_>, steps: &[Step]) -> Option<RowsOfEntry>
+    requires { IsWalk walk.now }
+    ensures { OfWalkRows walk.now (λ d rs. option_map reading.as_numbers result ≡
         option_map (reading.numbers_of_entry d.first rs)
         (row_line_of (map tree_step steps.now) rs)) }
 {

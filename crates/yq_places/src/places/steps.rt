@@ -67,19 +67,19 @@ fn last_level(rows: &Rows<'_>, row: usize) -> usize
 /// Goes on searching the rows of a document for the first sequence, or mapping, that is under a key, up to one
 /// of them. Such a one begins a row, since a key ends one.
 pub fn search_step(
-    walk: Walk<'_, '_>,
+    walk: &Walk<'_, '_>,
     known: Option<StepSearch>,
     dashes: bool,
     upto: usize,
 ) -> StepSearch
-    requires walk { IsWalk walk }
-    requires known { IfSome known (reading.IsSearched dashes walk.rows.now.rows) }
-    ensures first { result.first ≡ walk.entry.document.first }
-    ensures order { walk.entry.document.first ≤ result.row }
-    ensures within { result.row ≤ walk.entry.document.end }
-    ensures searched { reading.IsSearched dashes walk.entry.rows.now.rows result }
-    ensures stops { reading.EndsSearch upto walk.entry.document.end dashes
-        walk.entry.rows.now.rows result }
+    requires walk { IsWalk walk.now }
+    requires known { IfSome known (reading.IsSearched dashes walk.now.rows.now.rows) }
+    ensures first { result.first ≡ walk.now.document.first }
+    ensures order { walk.now.document.first ≤ result.row }
+    ensures within { result.row ≤ walk.now.document.end }
+    ensures searched { reading.IsSearched dashes walk.now.rows.now.rows result }
+    ensures stops { reading.EndsSearch upto walk.now.document.end dashes
+        walk.now.rows.now.rows result }
 {
     let start = search_from(walk.document, known);
     let end = upto.min(walk.document.end).max(start.row);
@@ -104,10 +104,10 @@ pub fn search_step(
 
 /// By how many columns the first sequence, or mapping, that is under a key is deeper than that
 /// key; 2 where there is none. The search goes on from where another one ended.
-pub fn first_step(walk: Walk<'_, '_>, known: Option<StepSearch>, dashes: bool) -> usize
-    requires walk { IsWalk walk }
-    requires known { IfSome known (reading.IsSearched dashes walk.rows.now.rows) }
-    ensures { (h : HasRows walk.entry.rows.now walk.entry.document) →
+pub fn first_step(walk: &Walk<'_, '_>, known: Option<StepSearch>, dashes: bool) -> usize
+    requires walk { IsWalk walk.now }
+    requires known { IfSome known (reading.IsSearched dashes walk.now.rows.now.rows) }
+    ensures { (h : HasRows walk.now.rows.now walk.now.document) →
         result ≡ spec.first_step (spec.is_kind dashes) (lines_of_rows h.rows) }
 {
     let found = search_step(walk, known, dashes, walk.document.end);

@@ -20,9 +20,9 @@ pub struct RowLine {
 }
 
 /// The line of the entry or item to which steps lead in a document, if one of a row is.
-pub fn row_line_along(walk: Walk<'_, '_>, steps: &[Step]) -> Option<RowLine>
-    requires { IsWalk walk }
-    ensures { OfWalkRows walk.entry (λ d rs. option_map line_view result ≡
+pub fn row_line_along(walk: &Walk<'_, '_>, steps: &[Step]) -> Option<RowLine>
+    requires { IsWalk walk.now }
+    ensures { OfWalkRows walk.now (λ d rs. option_map line_view result ≡
         option_map (numbers d.first) (row_line_of (map tree_step steps.now) rs)) }
 {
     let position = line_at(walk, steps)?;

@@ -9,30 +9,30 @@ pub lines-init : goal.lines-init
 lines-init c = record { at = c.walk_begin-begin.ensures.position; found = c.walk_begin-begin.ensures.found }
 
 pub is_item_at-requires-clause-position : goal.is_item_at-requires-clause-position
-is_item_at-requires-clause-position c = position_line c.args.walk.rows.now c.args.walk.document c.lines.at c.lines.invariant.at (c.lines-test.ensures.some refl)
+is_item_at-requires-clause-position c = position_line c.args.walk.now.rows.now c.args.walk.now.document c.lines.at c.lines.invariant.at (c.lines-test.ensures.some refl)
 
 pub returns-then-is_item_at-clause-within : goal.returns-then-is_item_at-clause-within
-returns-then-is_item_at-clause-within c = position_line c.args.walk.rows.now c.args.walk.document c.lines.at c.lines.invariant.at (c.lines-test.ensures.some refl)
+returns-then-is_item_at-clause-within c = position_line c.args.walk.now.rows.now c.args.walk.now.document c.lines.at c.lines.invariant.at (c.lines-test.ensures.some refl)
 
 pub returns-then-is_item_at-clause-found : goal.returns-then-is_item_at-clause-found
 returns-then-is_item_at-clause-found c = λ h.
-    let k = located c.args.walk.rows.now c.args.walk.document h.stand c.lines.at (position_line c.args.walk.rows.now c.args.walk.document c.lines.at c.lines.invariant.at (c.lines-test.ensures.some refl)) in
+    let k = located c.args.walk.now.rows.now c.args.walk.now.document h.stand c.lines.at (position_line c.args.walk.now.rows.now c.args.walk.now.document c.lines.at c.lines.invariant.at (c.lines-test.ensures.some refl)) in
     c.lines.invariant.found h
-    ∙ position_here (lines_of_rows h.stand.rows) (line_number c.args.walk.document h.stand.rows c.lines.at) c.args.floor k.line k.is (c.lines-test.ensures.test h.stand) (Nth c.lines.left) (here_item c.lines.left k.line ∙ sym (c.if-is_item_at.ensures h.stand k.line k.is))
+    ∙ position_here (lines_of_rows h.stand.rows) (line_number c.args.walk.now.document h.stand.rows c.lines.at) c.args.floor k.line k.is (c.lines-test.ensures.test h.stand) (Nth c.lines.left) (here_item c.lines.left k.line ∙ sym (c.if-is_item_at.ensures h.stand k.line k.is))
 
 pub behind-at-requires-clause-position : goal.behind-at-requires-clause-position
-behind-at-requires-clause-position c = position_line c.args.walk.rows.now c.args.walk.document c.lines.at c.lines.invariant.at (c.lines-test.ensures.some refl)
+behind-at-requires-clause-position c = position_line c.args.walk.now.rows.now c.args.walk.now.document c.lines.at c.lines.invariant.at (c.lines-test.ensures.some refl)
 
 pub lines-preserved : goal.lines-preserved
 lines-preserved c = record {
   at = c.behind-at.ensures.position;
   found = λ h.
-      let k = located c.args.walk.rows.now c.args.walk.document h.stand c.lines.at (position_line c.args.walk.rows.now c.args.walk.document c.lines.at c.lines.invariant.at (c.lines-test.ensures.some refl)) in
-      let n = line_number c.args.walk.document h.stand.rows c.behind-at.result in
+      let k = located c.args.walk.now.rows.now c.args.walk.now.document h.stand c.lines.at (position_line c.args.walk.now.rows.now c.args.walk.now.document c.lines.at c.lines.invariant.at (c.lines-test.ensures.some refl)) in
+      let n = line_number c.args.walk.now.document h.stand.rows c.behind-at.result in
       c.lines.invariant.found h
-      ∙ (position_passed (lines_of_rows h.stand.rows) (line_number c.args.walk.document h.stand.rows c.lines.at) c.args.floor k.line k.is (c.lines-test.ensures.test h.stand) (Nth c.lines.left) n (c.behind-at.ensures.end h.stand) (here_item c.lines.left k.line ∙ sym (c.if-is_item_at.ensures h.stand k.line k.is))
+      ∙ (position_passed (lines_of_rows h.stand.rows) (line_number c.args.walk.now.document h.stand.rows c.lines.at) c.args.floor k.line k.is (c.lines-test.ensures.test h.stand) (Nth c.lines.left) n (c.behind-at.ensures.end h.stand) (here_item c.lines.left k.line ∙ sym (c.if-is_item_at.ensures h.stand k.line k.is))
       ∙ ap (λ s. position n (find_row s (part (lines_of_rows h.stand.rows) n c.args.floor))) (further_item c.lines.left ∙ ap Nth (sym c.saturating_sub-left.ensures)));
 }
 
 pub returns-clause-found : goal.returns-clause-found
-returns-clause-found c = λ h. c.lines.invariant.found h ∙ position_end (line_number c.args.walk.document h.stand.rows c.lines.at) _ _ (c.lines-test.ensures.test h.stand)
+returns-clause-found c = λ h. c.lines.invariant.found h ∙ position_end (line_number c.args.walk.now.document h.stand.rows c.lines.at) _ _ (c.lines-test.ensures.test h.stand)

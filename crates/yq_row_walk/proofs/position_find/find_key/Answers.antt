@@ -8,27 +8,27 @@ pub lines-init : goal.lines-init
 lines-init c = record { at = c.requires.under; found = λ h. refl }
 
 pub is_key-requires-clause-position : goal.is_key-requires-clause-position
-is_key-requires-clause-position c = position_line c.args.walk.rows.now c.args.walk.document c.lines.at c.lines.invariant.at (c.lines-test.ensures.some refl)
+is_key-requires-clause-position c = position_line c.args.walk.now.rows.now c.args.walk.now.document c.lines.at c.lines.invariant.at (c.lines-test.ensures.some refl)
 
 pub returns-then-is_key-clause-within : goal.returns-then-is_key-clause-within
-returns-then-is_key-clause-within c = position_line c.args.walk.rows.now c.args.walk.document c.lines.at c.lines.invariant.at (c.lines-test.ensures.some refl)
+returns-then-is_key-clause-within c = position_line c.args.walk.now.rows.now c.args.walk.now.document c.lines.at c.lines.invariant.at (c.lines-test.ensures.some refl)
 
 pub returns-then-is_key-clause-found : goal.returns-then-is_key-clause-found
 returns-then-is_key-clause-found c = λ h.
-    let k = located c.args.walk.rows.now c.args.walk.document h.stand c.lines.at (position_line c.args.walk.rows.now c.args.walk.document c.lines.at c.lines.invariant.at (c.lines-test.ensures.some refl)) in
-    c.lines.invariant.found h ∙ position_here (lines_of_rows h.stand.rows) (line_number c.args.walk.document h.stand.rows c.lines.at) c.args.floor k.line k.is (c.lines-test.ensures.test h.stand) (To c.args.key.now) (sym (c.if-is_key.ensures h.stand k.line k.is))
+    let k = located c.args.walk.now.rows.now c.args.walk.now.document h.stand c.lines.at (position_line c.args.walk.now.rows.now c.args.walk.now.document c.lines.at c.lines.invariant.at (c.lines-test.ensures.some refl)) in
+    c.lines.invariant.found h ∙ position_here (lines_of_rows h.stand.rows) (line_number c.args.walk.now.document h.stand.rows c.lines.at) c.args.floor k.line k.is (c.lines-test.ensures.test h.stand) (To c.args.key.now) (sym (c.if-is_key.ensures h.stand k.line k.is))
 
 pub behind-at-requires-clause-position : goal.behind-at-requires-clause-position
-behind-at-requires-clause-position c = position_line c.args.walk.rows.now c.args.walk.document c.lines.at c.lines.invariant.at (c.lines-test.ensures.some refl)
+behind-at-requires-clause-position c = position_line c.args.walk.now.rows.now c.args.walk.now.document c.lines.at c.lines.invariant.at (c.lines-test.ensures.some refl)
 
 pub lines-preserved : goal.lines-preserved
 lines-preserved c = record {
   at = c.behind-at.ensures.position;
   found = λ h.
-      let k = located c.args.walk.rows.now c.args.walk.document h.stand c.lines.at (position_line c.args.walk.rows.now c.args.walk.document c.lines.at c.lines.invariant.at (c.lines-test.ensures.some refl)) in
+      let k = located c.args.walk.now.rows.now c.args.walk.now.document h.stand c.lines.at (position_line c.args.walk.now.rows.now c.args.walk.now.document c.lines.at c.lines.invariant.at (c.lines-test.ensures.some refl)) in
       c.lines.invariant.found h
-      ∙ position_passed (lines_of_rows h.stand.rows) (line_number c.args.walk.document h.stand.rows c.lines.at) c.args.floor k.line k.is (c.lines-test.ensures.test h.stand) (To c.args.key.now) (line_number c.args.walk.document h.stand.rows c.behind-at.result) (c.behind-at.ensures.end h.stand) (sym (c.if-is_key.ensures h.stand k.line k.is));
+      ∙ position_passed (lines_of_rows h.stand.rows) (line_number c.args.walk.now.document h.stand.rows c.lines.at) c.args.floor k.line k.is (c.lines-test.ensures.test h.stand) (To c.args.key.now) (line_number c.args.walk.now.document h.stand.rows c.behind-at.result) (c.behind-at.ensures.end h.stand) (sym (c.if-is_key.ensures h.stand k.line k.is));
 }
 
 pub returns-clause-found : goal.returns-clause-found
-returns-clause-found c = λ h. c.lines.invariant.found h ∙ position_end (line_number c.args.walk.document h.stand.rows c.lines.at) _ _ (c.lines-test.ensures.test h.stand)
+returns-clause-found c = λ h. c.lines.invariant.found h ∙ position_end (line_number c.args.walk.now.document h.stand.rows c.lines.at) _ _ (c.lines-test.ensures.test h.stand)

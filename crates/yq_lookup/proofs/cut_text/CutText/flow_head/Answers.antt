@@ -1,4 +1,4 @@
-use Rattle.std.proofs.Common.{ℕ, List, length, map, Some, None, refl, sym, ap, ◌∙◌}
+use Rattle.std.{proofs.Common.{ℕ, List, length, map, Some, None, refl, sym, ap, ◌∙◌, subst}, specs.Str.IsUtf8}
 use Rattle.yq_core.{specs.Entries.tree_step, specs.Paths.Step}
 use Rattle.yq_outline.{specs.View.head_flow, specs.RowWalk.line_number, specs.Lines.lines_of_rows}
 use Rattle.yq_places.{specs.FlowNodes.flow_collection, specs.NodeReading.place_view}
@@ -76,6 +76,7 @@ returns-in-Scalar-clause-found c =
 pub returns-clause-whole : goal.returns-clause-whole
 returns-clause-whole c =
     let t : List ℕ = c.args.self.now in
+    let utf8 = subst IsUtf8 c.self.view_is c.is_text.ensures in
     let steps : List Step = map tree_step c.args.steps.now in
     let left : List Step = map tree_step c.in-Some-node_place.left.now in
     let rows = c.in-Some.walk.rows.now in
@@ -90,8 +91,8 @@ returns-clause-whole c =
     let there = row_in_cut rows d (cut_of t) k q at in
     let head = c.in_ok-head.ensures row there in
     head_for t rows (cut_of t) c.args.doc d cut c.in-Some.ensures.cut.rows f q at steps left (sym leads) _ refl
-    (row_text t (cut_of t) q.row row c.in_ok-head.field-0.before c.in-Some.ensures.utf8 cut there head.before c.in_ok-head.field-0.text.now head.text)
-    (row_start t (cut_of t) q.row row c.in_ok-head.field-0.before c.in-Some.ensures.utf8 cut there head.before)
+    (row_text t (cut_of t) q.row row c.in_ok-head.field-0.before utf8 cut there head.before c.in_ok-head.field-0.text.now head.text)
+    (row_start t (cut_of t) q.row row c.in_ok-head.field-0.before utf8 cut there head.before)
     head.text
     (ap head_flow (sym c.in-Inline.is) ∙ head.flow)
 

@@ -1,4 +1,3 @@
-use Rattle.std.{proofs.Common.subst, specs.Str.IsUtf8}
 use Rattle.yq_documents.specs.Reading.{cut_of}
 use Rattle.yq_places.{proofs.HeldLaws.cut_view, proofs.WalkDocuments.found_document}
 use Rattle.yq_lookup.proofs.CutRows.{items_known, line_known}
@@ -15,9 +14,3 @@ returns-clause-walk c =
       known = items_known t s c.known.result.now cut.rows c.known.ensures;
       line = line_known t s c.line.result cut.rows c.line.ensures;
     }
-
-pub returns-clause-utf8 : goal.returns-clause-utf8
-returns-clause-utf8 c = subst IsUtf8 c.self.view_is c.is_text.ensures
-
-pub returns-in_err-document-clause-utf8 : goal.returns-in_err-document-clause-utf8
-returns-in_err-document-clause-utf8 c = subst IsUtf8 c.self.view_is c.is_text.ensures

@@ -10,4 +10,4 @@ row_end-requires-clause-within c = omega (arith, c.requires.some, c.requires.lin
 
 pub returns : goal.returns
 returns c = λ cut k.
-    lines_view c.args.walk.rows.now c.args.walk.document cut k c.args.from c.args.to c.line_start.result c.row_end.result c.requires.lines c.requires.some c.line_start.ensures (λ r at. c.row_end.ensures cut k.rows r at)
+    lines_view c.args.walk.now.rows.now c.args.walk.now.document cut k c.args.from c.args.to c.line_start.result c.row_end.result c.requires.lines c.requires.some c.line_start.ensures (λ r at. c.row_end.ensures cut k.rows r at)

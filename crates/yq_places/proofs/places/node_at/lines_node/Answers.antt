@@ -6,8 +6,8 @@ use Rattle.yq_places.proofs.places.node_at.lines_node.Goals as goal
 
 pub returns-then-is_item_at : goal.returns-then-is_item_at
 returns-then-is_item_at c = λ h other.
-    let d = c.args.walk.document in
-    let k = located c.args.walk.rows.now d h c.args.under (position_line c.args.walk.rows.now d c.args.under c.requires.under (c.if-not-is_deeper.ensures.some refl)) in
+    let d = c.args.walk.now.document in
+    let k = located c.args.walk.now.rows.now d h c.args.under (position_line c.args.walk.now.rows.now d c.args.under c.requires.under (c.if-not-is_deeper.ensures.some refl)) in
     let several = not (has_no_lines (part (lines_of_rows h.rows) (line_number d h.rows c.behind-others.result) c.args.floor)) in
     ap list (c.is_deeper-several.ensures.test h)
     ∙ sym (collection_view (lines_of_rows h.rows) (line_number d h.rows c.args.under) c.args.floor (line_number d h.rows c.behind-others.result) k.line k.is (c.if-not-is_deeper.ensures.test h) other (c.behind-others.ensures.end h)
@@ -15,8 +15,8 @@ returns-then-is_item_at c = λ h other.
 
 pub returns-else-is_item_at : goal.returns-else-is_item_at
 returns-else-is_item_at c = λ h other.
-    let d = c.args.walk.document in
-    let k = located c.args.walk.rows.now d h c.args.under (position_line c.args.walk.rows.now d c.args.under c.requires.under (c.if-not-is_deeper.ensures.some refl)) in
+    let d = c.args.walk.now.document in
+    let k = located c.args.walk.now.rows.now d h c.args.under (position_line c.args.walk.now.rows.now d c.args.under c.requires.under (c.if-not-is_deeper.ensures.some refl)) in
     let several = not (has_no_lines (part (lines_of_rows h.rows) (line_number d h.rows c.behind-others.result) c.args.floor)) in
     ap mapping (c.is_deeper-several.ensures.test h)
     ∙ sym (collection_view (lines_of_rows h.rows) (line_number d h.rows c.args.under) c.args.floor (line_number d h.rows c.behind-others.result) k.line k.is (c.if-not-is_deeper.ensures.test h) other (c.behind-others.ensures.end h)
