@@ -26,3 +26,4 @@ pub mod FlowSound
 pub mod PassedLaws
 pub mod BorrowedHeads
 pub mod BorrowedDepths
+pub mod WordHeads

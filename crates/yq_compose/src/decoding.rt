@@ -1,10 +1,10 @@
 //! What rows spell, made where their text doesn't lend it.
 ghost use Rattle.std.specs.List.{list_any};
 ghost use Rattle.std.specs.Prelude.{◌≡◌, ◌<◌, ◌++◌, ◌==◌, if◌then◌else◌, length, option_and_then, option_map, string_bytes, true, IfErr};
-ghost use Rattle.std.specs.Prelude.{IfOk, IfSome};
-ghost use Rattle.yq_core.{specs.Answers.IsOfText, specs.Borrowed.borrows_text as is_borrowed_text, specs.Quoted.IsQuotedText};
-ghost use Rattle.yq_core.specs.Scalars.{is_quoted as is_in_quotes};
-ghost use Rattle.yq_row_table.specs.View.{rows_of};
+ghost use Rattle.std.specs.Prelude.{IfOk, IfSome, IsTrue, List, ℕ};
+ghost use Rattle.yq_core.{specs.Answers.IsOfText, specs.Text.front, specs.Borrowed.borrows_text as is_borrowed_text};
+ghost use Rattle.yq_core.{specs.Quoted.IsQuotedText, specs.Scalars.is_quoted as is_in_quotes};
+ghost use Rattle.yq_row_table.{specs.Reading.is_alphanumeric, specs.View.rows_of};
 ghost use Rattle.yq_documents.specs.Decoded.{IsDecodedBy, decoded_view, decoded_head_flow};
 ghost use Rattle.yq_documents.{specs.Reading.{content_is_fit, cut_of, have_fit_keys, mark_is_fit}, specs.RowReading.row_fits};
 ghost use Rattle.yq_compose.specs.Deciding.{Decides};
@@ -16,7 +16,7 @@ use crate::fit::key_fits;
 use crate::nested::{Flow, flow_decoded};
 use std::alloc::{AllocError, Global};
 use yq_core::fault_place::fault_at;
-use yq_core::{FaultKind, ReadError, first_is, is_quoted};
+use yq_core::{FaultKind, ReadError, Run, first_is, is_quoted, run_len};
 use yq_documents::{Decoded, DecodedHead, borrowed_text, node_refers};
 use yq_row_heads::read_head;
 use yq_row_table::Rows;
@@ -60,6 +60,23 @@ fn borrows_head(head: &str) -> bool
     ensures { result ≡ spec.borrows_head head.now }
 {
     !begins_tree(head.as_bytes()) && borrows_text(head)
+}
+
+/// Whether a letter or a digit is in front.
+fn begins_word(text: &[u8]) -> bool
+    ensures { result ≡ front is_alphanumeric text.now }
+{
+    matches!(text, [b'a'..=b'z' | b'A'..=b'Z' | b'0'..=b'9', ..])
+}
+
+/// Whether a head with which a text begins begins with a letter or a digit and is on one line: most often
+/// sixteen bytes tell it.
+#[inline(always)]
+fn is_word_head(head: &str, text: &str) -> bool
+    requires { (rest : List ℕ) × (text.now ≡ head.now ++ rest) }
+    ensures { IsTrue result → spec.borrows_head head.now ≡ true }
+{
+    begins_word(head.as_bytes()) && head.len() <= run_len(Run::Quoted(b'\n'), text.as_bytes())
 }
 
 /// The text of row `i`'s key that its text doesn't lend, where the key is fit.
@@ -109,6 +126,9 @@ fn decode_head<'t>(
         return Ok(None);
     }
     let head = rows.head(i);
+    if is_word_head(head, rows.from_head(i)) {
+        return Ok(None);
+    }
     if borrows_head(head) {
         return Ok(None);
     }

@@ -16,22 +16,22 @@ use yq_documents::{Decoded, DocumentRows, Documents};
 use yq_outline::Stretch;
 use yq_row_table::Rows;
 
-/// The documents of a text, each checked by its rows. Whether an alias may be in them is known.
+/// The documents of a text, each checked by its rows; whether an alias may be in them.
 fn check_documents<'t>(
     alloc: Global,
     text: &'t str,
     rows: &Rows<'t>,
     decoded: &[Decoded<'t>],
     documents: &[DocumentRows<'t>],
-    refers: bool,
-) -> Result<(), ReadError>
+) -> Result<bool, ReadError>
     requires cut { IsCutInto text.now rows.now }
     requires decoded { AreDecoded text.now decoded.now }
     requires places { AreLocated text.now documents.now }
-    requires refers { refers ≡ some_refer decoded.now }
     ensures sound { Decides result (all_sound (document_parts (cut_of text.now))) }
+    ensures refers { IfOk result (λ r. r ≡ some_refer decoded.now) }
     ensures fault { IfErr result IsOfText }
 {
+    let refers = some_refer(decoded);
     let mut at = 0;
     'documents: while at < documents.len() {
         let document = Stretch {
@@ -50,7 +50,7 @@ fn check_documents<'t>(
         }
         at += 1;
     }
-    Ok(())
+    Ok(refers)
 }
 
 /// The documents of a text that is cut into these rows.
@@ -69,10 +69,9 @@ pub fn read_rows<'t>(
         Err(e) => return Err(e),
     };
     let documents = document_rows(alloc, &rows)?;
-    let refers = some_refer(&decoded);
-    match check_documents(alloc, text, &rows, &decoded, &documents, refers) {
-        Ok(()) => {}
+    let refers = match check_documents(alloc, text, &rows, &decoded, &documents) {
+        Ok(refers) => refers,
         Err(e) => return Err(e),
-    }
+    };
     Ok(Documents::new(text, rows, documents, decoded, refers))
 }

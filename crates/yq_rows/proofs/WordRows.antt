@@ -1,11 +1,11 @@
 -- Rows whose keys and heads begin with words.
 use Rattle.std.proofs.Common.{◌≡◌, ℕ, ◌+◌, ◌≤◌, ◌<◌, cond, Bool, true, false, not, ◌&&◌, eqb, eqb-true, List, [], ◌∷◌, length, take, drop}
-use Rattle.std.proofs.Common.{Option, Some, None, refl, sym, ap, ◌∙◌, subst, arith, inl, inr, ℤ, zero, suc}
-use Rattle.std.{specs.Prelude.{nat_le, IsTrue}, specs.List.prefix_len, specs.Str.chars}
+use Rattle.std.{proofs.Common.{Option, Some, None, refl, sym, ap, ◌∙◌, subst, arith, inl, inr, ℤ}, specs.Prelude.{nat_le, IsTrue}}
+use Rattle.std.{specs.List.prefix_len, specs.Str.chars}
 use Rattle.std.proofs.lemmas.Bool.{false≢true, false_from_ne_true, and_parts, and_right, cases_Bool, leb-true}
 use Rattle.yq_core.{specs.Text.{cut, front, is_empty, is_space, is_white, no_space, no_white, separates, upto}, specs.Nodes.begins_with}
 use Rattle.yq_core.{specs.Plain.{begins_deep, ends_plain, ends_text}, specs.PlainReading.across, specs.Answers.more, specs.Runs.run_goes_on}
-use Rattle.yq_core.{specs.declared.runs.Run.TheVariants.Plain, specs.Scalars.is_quoted, specs.Reading.read_scalar}
+use Rattle.yq_core.{specs.declared.runs.Run.TheVariants.Plain, specs.Reading.read_scalar}
 use Rattle.yq_core.{proofs.Across.{across_here, across_line, go_run, plain_colon, plain_stop, spaces_white}, proofs.Bools.at_byte}
 use Rattle.yq_core.{proofs.PlainRuns.run_behind, proofs.SpaceLaws.prefix_drop}
 use Rattle.yq_row_table.{specs.Grammar.{is_entry, key_limit}, specs.Rows.{Dash, Key, parent_of}}
@@ -74,8 +74,8 @@ word_line t rest n run back h = no_key_line t (feed_first t (ap (λ (k : ℕ). b
 pub word_no_dash : (t : List ℕ) → front is_alphanumeric t ≡ true → is_dash t ≡ false
 word_no_dash t word = scalar_no_dash t (word_scalar t word)
 
-pub key_begun : (t key colon behind : List ℕ) → front is_alphanumeric t ≡ true → read_row_key t ≡ Some (key, colon, behind) → record { dashes = []; columns = 0; mark = Key key colon; rest = behind } ≡ begun (read_marks t)
-key_begun t key colon behind word h = sym (ap begun (marks_none t (word_no_dash t word) ∙ ap (λ o. undashed (key_mark t o)) h))
+pub key_begun : (t key colon behind : List ℕ) → is_dash t ≡ false → read_row_key t ≡ Some (key, colon, behind) → record { dashes = []; columns = 0; mark = Key key colon; rest = behind } ≡ begun (read_marks t)
+key_begun t key colon behind none h = sym (ap begun (marks_none t none ∙ ap (λ o. undashed (key_mark t o)) h))
 
 pub dash_begun : (t dash behind s next : List ℕ) → is_dash t ≡ true → dash ≡ take 1 t → behind ≡ drop 1 t → (s, next) ≡ cut no_space behind → front is_alphanumeric next ≡ true → read_row_key next ≡ None → record { dashes = dash; columns = 0; mark = Dash; rest = behind } ≡ begun (read_marks t)
 dash_begun t dash behind s next is one back e word none =
@@ -129,11 +129,6 @@ scalar_ends least (b ∷ bs) after rest n h one run back less none =
     let gone : across false (Some least) false (drop n bs) ≡ None = ap (across false (Some least) false) (sym behind) ∙ no_text least rest none in
     let stop : across false (Some least) true (b ∷ bs) ≡ None = first ∙ (ap (λ (d : Bool). more 1 (across false (Some least) d bs)) low ∙ (sym over ∙ ap (more (1 + n)) gone)) in
     plain_stop false (Some least) (b ∷ bs) (rw feed refl) stop
-
-pub unquoted : (t : List ℕ) (n : ℕ) → front is_alphanumeric t ≡ true → is_quoted (take n t) ≡ false
-unquoted t zero word = refl
-unquoted [] (suc n) word = refl
-unquoted (b ∷ bs) (suc n) word = rw (at_byte is_alphanumeric b 34 word refl, at_byte is_alphanumeric b 39 word refl) refl
 
 pub feed_content : (n : ℤ) (t tail rest : List ℕ) → begins_with 10 t ≡ true → tail ≡ take 1 t → rest ≡ drop 1 t → filled_at n t ≡ Some (record { space = []; anchor = []; apart = []; head = []; tail = tail; raw = []; plain = false; alone = false; rest = rest })
 unfolding upto

@@ -1,13 +1,14 @@
 -- What calls that read and keep rows answer (own; a reader of the contracts may skip it).
 use Rattle.std.specs.Borrow.{Bor}
 use Rattle.std.specs.Prelude.{◌≡◌, ◌-◌, ◌==◌, ◌&&◌, ◌||◌, ℕ, Bool, List, Option, Some, None, OnOk, Result, Vec, [], is_ok, length, nat_lt}
-use Rattle.std.{specs.Prelude.{not, option_map, if◌then◌else◌, IfSome}, specs.declared.alloc.Global.Global}
-use Rattle.yq_core.{specs.Answers.{Gives, ReadError}, specs.Text.{is_empty, is_marker}}
+use Rattle.std.{specs.Prelude.{not, option_map, if◌then◌else◌, IfSome, ℤ, true, false}, specs.declared.alloc.Global.Global}
+use Rattle.yq_core.{specs.Answers.{Gives, ReadError}, specs.Text.{is_empty, is_marker}, specs.Piece.deeper, specs.Reading.read_scalar}
+use Rattle.yq_core.specs.Scalars.{begins_scalar}
 use Rattle.yq_row_table.{specs.Grammar.allows, specs.Items.{Item, items_text, view_of_items}, specs.Kept.{kept_rows, rows_placed}}
 use Rattle.yq_row_table.{specs.Meter.{begins_line, count_after, line_count}, specs.Offsets.{offsets_of, rows_in, slices_in}}
 use Rattle.yq_row_table.{specs.Reading.read_row_key, specs.Regions.{IsReadAlone, region_items}, specs.Rows.Part}
-use Rattle.yq_row_table.{specs.Slicing.{SlicedRow, marked_sliced, row_of, rows_sliced}, specs.View.{RowsView, Slices}}
-use Rattle.yq_row_table.{specs.declared.offsets.Offsets.Offsets, specs.declared.places.Places.Places}
+use Rattle.yq_row_table.specs.Slicing.{SlicedRow, begins_other, inline_sliced, marked_sliced, row_of, rows_sliced}
+use Rattle.yq_row_table.{specs.View.{RowsView, Slices}, specs.declared.offsets.Offsets.Offsets, specs.declared.places.Places.Places}
 use Rattle.yq_text.specs.TextGapBuffer.{TextGapView, buffer_text}
 use Rattle.yq_rows.{specs.Exchanging.TextChange, specs.Following.{CountsWritten, Follows, exchanged}}
 use Rattle.yq_rows.{specs.ReadPieces.{begin_view, filling_view, limit_view, read_slices}, specs.Sides.both_sides}
@@ -32,6 +33,11 @@ GivesRow whole r read = Gives (λ x. (slices_in whole x.0, limit_view x.1, x.2.n
 -- a row that is found is that which reading gives, with what it asks of the next one, and what comes after it
 abbrev pub FindsRow : List ℕ → Option (Offsets × asked.Limit × Bor (List ℕ)) → Option SlicedRow → Type 0
 FindsRow whole found read = IfSome found (λ x. read ≡ Some (slices_in whole x.0, limit_view x.1, x.2.now))
+
+-- a scalar after white space and its tail are found as reading gives them
+abbrev pub FindsScalar : (space head behind : List ℕ) → Option Filling → Type 0
+FindsScalar space head behind found =
+    IfSome found (λ f. (n : ℤ) (t : List ℕ) → begins_other t ≡ false → begins_scalar false t ≡ true → read_scalar false (Some (deeper n)) t ≡ Some (head, behind) → inline_sliced n space t ≡ Some (filling_view f))
 
 -- where a row is that begins where this end of the whole text does, and how long its pieces are
 abbrev pub offsets_from : (whole text : List ℕ) → Slices → Offsets

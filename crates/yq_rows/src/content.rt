@@ -1,7 +1,6 @@
 //! What comes after a row's mark.
-ghost use Rattle.std.{specs.Option.option_map, specs.Prelude.{◌≡◌, ◌≢◌, ◌≤◌, ◌==◌, ◌||◌, ◌&&◌, not, length, true, false, IfErr}};
+ghost use Rattle.std.{specs.Option.option_map, specs.Prelude.{◌≡◌, ◌≤◌, ◌==◌, ◌||◌, ◌&&◌, not, length, true, false, IfErr}};
 ghost use Rattle.yq_core.{specs.Answers.{Gives, IsOfText}, specs.Text.{front, is_empty}};
-ghost use Rattle.yq_core.specs.declared.fault.FaultKind.TheVariants.{NotUtf8};
 ghost use Rattle.yq_rows.specs.ReadPieces.{is_plain_kind, filling_view};
 ghost use Rattle.yq_row_table.specs.Slicing.{filled_at};
 ghost use Rattle.yq_inline.specs.Measured as measured;
@@ -18,7 +17,7 @@ use yq_core::fault_place::fault;
 use yq_core::lines::split_line;
 use yq_core::text::{ends_line, split_white};
 use yq_core::{
-    DEPTH_LIMIT, FaultKind, Place, ReadError, ReadFault, first_is, further_spaces, is_quoted, strip,
+    DEPTH_LIMIT, FaultKind, Place, ReadError, first_is, further_spaces, is_quoted, strip,
 };
 use yq_inline::measuring::{Measured, MeasuredKind, measure_node};
 use yq_inline::pieces::{begins_scalar, name_len};
@@ -91,14 +90,14 @@ fn is_block_mark(text: &[u8]) -> bool
 
 /// Whether a block scalar begins here, perhaps after an anchor.
 #[tactic(auto, using(yq_row_table::proofs::BlockSlicing::block_begins))]
-fn begins_block(text: &str) -> bool
+pub(crate) fn begins_block(text: &str) -> bool
     ensures { result ≡ spec.begins_block text.now }
 {
     is_block_mark(split_apart(text).2.as_bytes())
 }
 
 /// Whether an anchor, an alias or a flow collection begins here.
-fn begins_other(text: &[u8]) -> bool
+pub(crate) fn begins_other(text: &[u8]) -> bool
     ensures { result ≡ slicing.begins_other text.now }
 {
     matches!(text, [b'&' | b'*' | b'[' | b'{', ..])
@@ -210,25 +209,6 @@ fn read_inline_content<'t>(
     }
 }
 
-/// The fault of a scalar after white space that no tail follows: that of its last line, where this is
-/// no further line of it, or else its own.
-fn scalar_fault(
-    whole: &str,
-    mark: RowMark<'_>,
-    spaces: Option<usize>,
-    space: &str,
-    text: &str,
-    head: &str,
-    behind: &str,
-) -> ReadFault
-    ensures { result.kind ≢ NotUtf8 }
-{
-    match no_further_line(mark, spaces, head, behind) {
-        Some(kind) => fault(kind, whole, behind),
-        None => fault(no_tail(mark, space, "", head, behind), whole, text),
-    }
-}
-
 /// A scalar without an anchor after white space, and its tail. Only its end is found.
 #[inline(always)]
 fn read_scalar_content<'t>(
@@ -260,7 +240,10 @@ fn read_scalar_content<'t>(
             alone: may_be_alone(space, false),
             rest,
         }),
-        None => Err(ReadError::Fault(scalar_fault(whole, mark, spaces, space, text, head, behind))),
+        None => Err(ReadError::Fault(match no_further_line(mark, spaces, head, behind) {
+            Some(kind) => fault(kind, whole, behind),
+            None => fault(no_tail(mark, space, "", head, behind), whole, text),
+        })),
     }
 }
 

@@ -107,7 +107,7 @@ pub(crate) fn has_key_room(key: &str, colon: &str) -> bool
 /// The key in front, what comes after it up to its `:`, and what follows.
 #[tactic(auto, unfolding(yq_row_table::specs::Reading::read_row_key))]
 #[inline(always)]
-fn find_key(text: &str) -> Option<(&str, &str, &str)>
+pub(crate) fn find_key(text: &str) -> Option<(&str, &str, &str)>
     ensures { option_map (λ x. (x.0.now, x.1.now, x.2.now)) result ≡ spec.read_row_key text.now }
 {
     let Ok((key, rest)) = read_front(None, text, text) else {

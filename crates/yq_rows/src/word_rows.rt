@@ -1,19 +1,21 @@
-//! Most rows: a plain key or one dash, and a plain head or none, all of which begin with a letter or a digit.
+//! Most rows: a key, or one dash before a word, and a scalar without an anchor or nothing.
 ghost use Rattle.std.{specs.List.prefix_len, specs.Prelude.{◌≡◌, ◌<◌, ◌≤◌, ◌++◌, ◌^◌, length, false, true, IfSome, IsTrue, None, Some}};
 ghost use Rattle.yq_core.{specs.Plain.ends_plain, specs.Text.{cut, front, upto}, specs.Runs.run_goes_on};
 ghost use Rattle.yq_core.specs.declared.runs.Run.TheVariants.{Plain};
 ghost use Rattle.yq_row_table.{specs.Reading.{is_alphanumeric, read_marks, read_row_key}, specs.Slicing.{begun, filled_at, row_sliced}};
 ghost use Rattle.yq_row_table.{specs.Grammar.is_entry, specs.Offsets.{Ends, IsCutIn, slices_in}};
-ghost use Rattle.yq_rows.{specs.ReadPieces.{begin_view, filling_view, limit_view, mark_view}, specs.RowAnswers.{FindsRow, offsets_from}};
+ghost use Rattle.yq_rows.specs.ReadPieces.{begin_view, filling_view, limit_view, mark_view};
+ghost use Rattle.yq_rows.specs.RowAnswers.{FindsRow, FindsScalar, offsets_from};
 
-use crate::content::{Filling, find_tail, may_be_alone};
+use crate::content::{Filling, begins_block, begins_other, find_tail, may_be_alone};
 use crate::lengths::offsets_of;
 use crate::limit::Limit;
-use crate::marks::{Begin, RowMark, has_key_room, is_colon, is_dash, parent_of};
+use crate::marks::{Begin, RowMark, find_key, has_key_room, is_colon, is_dash, parent_of};
 use crate::reading::may_stand;
 use crate::words::begins_word;
 use yq_core::text::{is_space, spaces_len, split_spaces, split_white};
-use yq_core::{Place, Run, first_is, further_spaces, run_len};
+use yq_core::{Place, Run, first_is, further_spaces, is_quoted, run_len};
+use yq_inline::pieces::{begins_scalar, read_scalar};
 use yq_row_table::Offsets;
 use yq_scalar_reader::plain::split_plain;
 
@@ -83,18 +85,31 @@ fn begin_behind(text: &str) -> Option<Begin<'_>>
     })
 }
 
-/// The word in front as a key, or what begins after a dash.
+/// The key in front, what comes after it up to its `:`, and what follows: most often a word.
+#[inline(always)]
+fn any_key(text: &str) -> Option<(&str, &str, &str)>
+    ensures { IfSome result (λ x. read_row_key text.now ≡ Some (x.0.now, x.1.now, x.2.now)) }
+{
+    if begins_word(text.as_bytes()) {
+        let n = run_len(Run::Plain, text.as_bytes());
+        if let Some(found) = word_key(text, n) {
+            return Some(found);
+        }
+    }
+    find_key(text)
+}
+
+/// The key in front as the mark, or what begins after a dash.
 #[inline(always)]
 fn find_begin(text: &str) -> Option<Begin<'_>>
     ensures read { IfSome result (λ b. begin_view b ≡ begun (read_marks text.now)) }
     ensures entry { IfSome result (λ b. is_entry (mark_view b.mark) ≡ true) }
     ensures within { IfSome result (λ b. b.columns ≤ length text.now) }
 {
-    if !begins_word(text.as_bytes()) {
+    if is_dash(text.as_bytes()) {
         return begin_behind(text);
     }
-    let n = run_len(Run::Plain, text.as_bytes());
-    let (key, colon, rest) = word_key(text, n)?;
+    let (key, colon, rest) = any_key(text)?;
     Some(Begin {
         dashes: "",
         columns: 0,
@@ -131,7 +146,26 @@ fn split_words(spaces: Option<usize>, text: &str) -> (&str, &str)
     split_plain(false, spaces, text)
 }
 
-/// A break, or a plain scalar that begins with a letter or a digit and its tail, after a mark and white space.
+/// A scalar after white space and the tail after it, if one is there.
+#[inline(always)]
+fn find_line<'t>(space: &'t str, head: &'t str, behind: &'t str) -> Option<Filling<'t>>
+    ensures { FindsScalar space.now head.now behind.now result }
+{
+    let (tail, rest) = find_tail(behind)?;
+    Some(Filling {
+        space,
+        anchor: "",
+        apart: "",
+        head,
+        tail,
+        raw: "",
+        plain: !is_quoted(head.as_bytes()),
+        alone: may_be_alone(space, false),
+        rest,
+    })
+}
+
+/// A break, or a scalar and its tail, after a mark and white space.
 #[inline(always)]
 fn find_content(parent: i64, text: &str) -> Option<Filling<'_>>
     ensures { IfSome result (λ f. filled_at parent text.now ≡ Some (filling_view f)) }
@@ -151,22 +185,24 @@ fn find_content(parent: i64, text: &str) -> Option<Filling<'_>>
         });
     }
     let (space, rest) = split_white(text);
-    if !begins_word(rest.as_bytes()) {
+    let spaces = further_spaces(Place::Block, parent);
+    if begins_word(rest.as_bytes()) {
+        let (head, behind) = split_words(spaces, rest);
+        return find_line(space, head, behind);
+    }
+    if begins_block(rest) {
         return None;
     }
-    let (head, behind) = split_words(further_spaces(Place::Block, parent), rest);
-    let (tail, rest) = find_tail(behind)?;
-    Some(Filling {
-        space,
-        anchor: "",
-        apart: "",
-        head,
-        tail,
-        raw: "",
-        plain: true,
-        alone: may_be_alone(space, false),
-        rest,
-    })
+    if begins_other(rest.as_bytes()) {
+        return None;
+    }
+    if !begins_scalar(false, rest.as_bytes()) {
+        return None;
+    }
+    match read_scalar(false, spaces, rest, rest) {
+        Ok((head, behind)) => find_line(space, head, behind),
+        Err(_) => None,
+    }
 }
 
 /// Where the row in front is, as `read_row` answers it, if it is one of those.

@@ -1,5 +1,5 @@
-use Rattle.std.{proofs.Common.{rules, ℕ, refl, sym, ap, ◌∙◌, SFits, w64}, proofs.lemmas.Bool.not-false, proofs.lemmas.Int.to_z-of_z}
-use Rattle.std.proofs.lemmas.Option.{same_Some}
+use Rattle.std.{proofs.Common.{rules, ℕ, List, ◌++◌, refl, sym, ap, ◌∙◌, SFits, w64}, proofs.lemmas.Bool.not-false}
+use Rattle.std.{proofs.lemmas.Int.to_z-of_z, proofs.lemmas.Option.same_Some}
 use Rattle.yq_core.specs.Text.{is_empty}
 use Rattle.yq_row_table.{specs.Rows.parent_indent, specs.View.{Slices, slices}}
 use Rattle.yq_documents.specs.Reading.{cut_of}
@@ -19,6 +19,26 @@ returns-then-not-has_head-clause-agrees c = λ r is.
     let k = c.requires.cut in
     let none = not-false (is_empty (slices r).head) (sym (c.has_head.ensures (slices r) (pieces_there c.args.text.now c.args.rows.now k c.args.i r is)) ∙ c.if-not-has_head.true) in
     none_decoded c.args.text.now c.args.rows.now k c.args.i r is (slices r).head refl (no_head (slices r).head none)
+
+pub is_word_head-requires : goal.is_word_head-requires
+is_word_head-requires c =
+    let k = c.requires.cut in
+    let r = row_at c.args.text.now c.args.rows.now k c.args.i c.requires.within in
+    let pieces = pieces_there c.args.text.now c.args.rows.now k c.args.i r.0 r.1 in
+    let s : Slices = slices r.0 in
+    (s.tail ++ s.raw, c.from_head.ensures s pieces ∙ ap (λ (h : List ℕ). h ++ (s.tail ++ s.raw)) (sym (c.head-head.ensures s pieces)))
+
+pub returns-then-is_word_head-clause-fits : goal.returns-then-is_word_head-clause-fits
+returns-then-is_word_head-clause-fits c = λ r is.
+    let k = c.requires.cut in
+    let head = c.head-head.ensures (slices r) (pieces_there c.args.text.now c.args.rows.now k c.args.i r is) in
+    borrowed_fit c.args.text.now c.args.rows.now k c.args.i r is c.head-head.result.now head (c.if-is_word_head.ensures refl)
+
+pub returns-then-is_word_head-clause-agrees : goal.returns-then-is_word_head-clause-agrees
+returns-then-is_word_head-clause-agrees c = λ r is.
+    let k = c.requires.cut in
+    let head = c.head-head.ensures (slices r) (pieces_there c.args.text.now c.args.rows.now k c.args.i r is) in
+    none_decoded c.args.text.now c.args.rows.now k c.args.i r is c.head-head.result.now head (c.if-is_word_head.ensures refl)
 
 pub borrows_head-requires : goal.borrows_head-requires
 borrows_head-requires c =

@@ -19,7 +19,7 @@ check_documents-requires-clause-cut c = cut_into c.args.text.now c.args.rows c.r
 pub check_documents-requires-clause-places : goal.check_documents-requires-clause-places
 check_documents-requires-clause-places c =
     let t = c.args.text.now in
-    subst (AreLocated t) (sym c.deref-3.ensures.value) (are_placed t c.args.rows c.in_ok-documents.documents.items (cut_into t c.args.rows c.requires.0 c.requires.1 c.requires.2) c.in_ok-documents.ensures)
+    subst (AreLocated t) (sym c.deref-2.ensures.value) (are_placed t c.args.rows c.in_ok-documents.documents.items (cut_into t c.args.rows c.requires.0 c.requires.1 c.requires.2) c.in_ok-documents.ensures)
 
 pub returns-in-Err-check_documents-clause-documents : goal.returns-in-Err-check_documents-clause-documents
 returns-in-Err-check_documents-clause-documents c = λ d h.
@@ -30,11 +30,11 @@ pub new-requires : goal.new-requires
 new-requires c =
     let t = c.args.text.now in
     let k = cut_into t c.args.rows c.requires.0 c.requires.1 c.requires.2 in
-    held t c.args.rows c.in-Ok.decoded.items c.in_ok-documents.documents.items k c.in-Ok.ensures.decoded (are_placed t c.args.rows c.in_ok-documents.documents.items k c.in_ok-documents.ensures) c.some_refer-refers.result
-    (c.some_refer-refers.ensures ∙ ap some_refer c.deref.ensures.value) (sym (all_split t (cut_of t) k.cut) ∙ (λ i. c.in-Ok.ensures.fits i && c.in-Ok-check_documents.ensures.sound i))
+    held t c.args.rows c.in-Ok.decoded.items c.in_ok-documents.documents.items k c.in-Ok.ensures.decoded (are_placed t c.args.rows c.in_ok-documents.documents.items k c.in_ok-documents.ensures) c.in-Ok-check_documents.refers
+    (c.in-Ok-check_documents.ensures.refers ∙ ap some_refer c.deref.ensures.value) (sym (all_split t (cut_of t) k.cut) ∙ (λ i. c.in-Ok.ensures.fits i && c.in-Ok-check_documents.ensures.sound i))
 
 pub returns-clause-documents : goal.returns-clause-documents
 returns-clause-documents c = λ d h. sym (all_split c.args.text.now d h) ∙ (λ i. c.in-Ok.ensures.fits i && c.in-Ok-check_documents.ensures.sound i)
 
 pub check_documents-requires-clause-decoded : goal.check_documents-requires-clause-decoded
-check_documents-requires-clause-decoded c = subst (AreDecoded c.args.text.now) (sym c.deref-2.ensures.value) c.in-Ok.ensures.decoded
+check_documents-requires-clause-decoded c = subst (AreDecoded c.args.text.now) (sym c.deref.ensures.value) c.in-Ok.ensures.decoded
