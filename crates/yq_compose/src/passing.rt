@@ -1,6 +1,7 @@
 //! Flow collections that the text lends, passed without their trees.
 ghost use Rattle.std.{specs.Prelude.{◌≡◌, ◌<◌, ◌≤◌, [], IfSome, IsTrue, length, nat_le, true}, specs.Str.chars};
 ghost use Rattle.yq_row_table.specs.Grammar.{key_limit};
+ghost use Rattle.yq_inline.specs.Short.{IsShortKey};
 ghost use Rattle.yq_compose.specs.Borrowing as spec;
 
 use crate::decoding::borrows_text;
@@ -11,6 +12,7 @@ use yq_core::{first_is, strip};
 use yq_documents::borrowed_text;
 use yq_inline::pieces::{begins_content, begins_scalar, read_key, read_scalar, read_sep};
 use yq_inline::read_gap;
+use yq_inline::short::{short_key, short_scalar};
 use yq_row_table::KEY_LIMIT;
 use yq_scalar_reader::are_distinct;
 
@@ -21,8 +23,17 @@ pub(crate) struct Passed<'t> {
     pub(crate) nested: usize,
 }
 
-/// What follows the scalar in front, where the text lends it.
+/// What follows the scalar in front, where it is as most often written.
 #[inline(always)]
+fn past_short(text: &str) -> Option<&str>
+    ensures shorter { IfSome result (λ r. length r.now < length text.now) }
+    ensures passed { IfSome result (λ r. spec.IsPassedContent 0 text.now r.now) }
+{
+    let (_, rest) = short_scalar(text)?;
+    Some(rest)
+}
+
+/// What follows the scalar in front, where the text lends it.
 fn past_scalar(text: &str) -> Option<&str>
     ensures shorter { IfSome result (λ r. length r.now < length text.now) }
     ensures passed { IfSome result (λ r. spec.IsPassedContent 0 text.now r.now) }
@@ -45,6 +56,25 @@ fn is_short(key: &str) -> bool
     key.len() <= KEY_LIMIT
 }
 
+/// The key in front as it is written, where the text lends it, and what follows its `:` and the gap after
+/// that.
+#[inline(always)]
+fn split_borrowed_key(text: &str) -> Option<(&str, &str)>
+    ensures shorter { IfSome result (λ x. length x.1.now < length text.now) }
+    ensures short { IfSome result (λ x. IsShortKey text.now x.0.now x.1.now) }
+{
+    if let Some(found) = short_key(text) {
+        return Some(found);
+    }
+    let Ok((key, rest)) = read_key(text, text, text) else {
+        return None;
+    };
+    if !borrows_text(key) {
+        return None;
+    }
+    Some((key, rest))
+}
+
 /// What the key in front means, where it is fit and the text lends it, and what follows its `:` and the gap
 /// after that.
 #[inline(always)]
@@ -52,18 +82,30 @@ fn pass_key(text: &str) -> Option<(&str, &str)>
     ensures shorter { IfSome result (λ x. length x.1.now < length text.now) }
     ensures passed { IfSome result (λ x. spec.IsPassedKey x.0.now text.now x.1.now) }
 {
-    let Ok((key, rest)) = read_key(text, text, text) else {
-        return None;
-    };
-    if !is_short(key) || !key_fits(key) || !borrows_text(key) {
+    let (key, rest) = split_borrowed_key(text)?;
+    if !is_short(key) || !key_fits(key) {
         return None;
     }
     Some((borrowed_text(key), rest))
 }
 
 /// A node that is something, in which at most so many collections are nested.
+#[inline(always)]
 #[cycle(passing)]
 fn pass_content<'t>(alloc: Global, depth: usize, text: &'t str) -> Option<Passed<'t>>
+    ensures shorter { IfSome result (λ p. length p.rest.now < length text.now) }
+    ensures nested { IfSome result (λ p. p.nested ≤ depth) }
+    ensures passed { IfSome result (λ p. spec.IsPassedContent p.nested text.now p.rest.now) }
+{
+    match past_short(text) {
+        Some(rest) => Some(Passed { rest, nested: 0 }),
+        None => pass_collection(alloc, depth, text),
+    }
+}
+
+/// The same, most often a collection.
+#[cycle(passing)]
+fn pass_collection<'t>(alloc: Global, depth: usize, text: &'t str) -> Option<Passed<'t>>
     ensures shorter { IfSome result (λ p. length p.rest.now < length text.now) }
     ensures nested { IfSome result (λ p. p.nested ≤ depth) }
     ensures passed { IfSome result (λ p. spec.IsPassedContent p.nested text.now p.rest.now) }
@@ -89,8 +131,11 @@ fn pass_node<'t>(alloc: Global, depth: usize, text: &'t str) -> Option<Passed<'t
     ensures nested { IfSome result (λ p. p.nested ≤ depth) }
     ensures passed { IfSome result (λ p. spec.IsPassedNode p.nested text.now p.rest.now) }
 {
+    if let Some(rest) = past_short(text) {
+        return Some(Passed { rest, nested: 0 });
+    }
     if begins_content(true, text.as_bytes()) {
-        return pass_content(alloc, depth, text);
+        return pass_collection(alloc, depth, text);
     }
     if first_is(b'&', text.as_bytes()) {
         return None;

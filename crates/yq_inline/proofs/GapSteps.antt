@@ -1,26 +1,22 @@
 -- Gaps of no byte, of one space, and of a break and spaces.
 use Rattle.std.proofs.Common.{◌≡◌, ◌⊎◌, ℕ, zero, suc, ◌+◌, ◌<◌, ◌≤◌, true, false, ◌||◌, eqb, List, [], ◌∷◌, drop, get_or, length, take}
-use Rattle.std.proofs.Common.{Some, refl, sym, ap, ◌∙◌, arith, eqb-true, inl, inr, subst, ⊎_elim}
-use Rattle.std.{proofs.lemmas.Bool.{cases_Bool, cases_lt, or_parts}, proofs.lemmas.List.Sums.prefix_len_passes}
+use Rattle.std.proofs.Common.{Some, refl, sym, ap, ◌∙◌, arith, eqb-true, leb, inl, inr, subst, ⊎_elim}
+use Rattle.std.{proofs.lemmas.Bool.{cases_Bool, cases_lt, false≢true}, proofs.lemmas.List.Sums.prefix_len_passes}
 use Rattle.std.{proofs.lemmas.Str.IsCharBoundary-after_ascii, specs.List.prefix_len, specs.Str.{IsCharBoundary, IsUtf8}}
 use Rattle.yq_core.{specs.Nodes.begins_with, specs.Reading.{flow_gap_len, gap_end, read_gap}, specs.Text.{is_space, no_space, unless, upto}}
 use Rattle.yq_core.{specs.declared.gap.GapPlace.GapPlace, proofs.NodesPieceLaws.front_is, proofs.Upto.{upto_le_length, upto_unless}}
-use Rattle.yq_core.specs.declared.gap.GapPlace.TheVariants.{White, Break}
+use Rattle.yq_core.{proofs.Bools.at_byte, specs.declared.gap.GapPlace.TheVariants.{White, Break}}
+use Rattle.yq_inline.specs.Short.{is_token}
 
 pub no_gap : (t : List ℕ) → is_space t ≡ false → read_gap t ≡ Some ([], t)
 unfolding read_gap flow_gap_len gap_end
 no_gap [] h = refl
 no_gap (b ∷ bs) h = rw h refl
 
-behind_space : (r : List ℕ) → is_space r ≡ false → begins_with 35 r ≡ false → read_gap (32 ∷ r) ≡ Some (32 ∷ [], r)
+pub behind_space : (r : List ℕ) → is_space r ≡ false → begins_with 35 r ≡ false → read_gap (32 ∷ r) ≡ Some (32 ∷ [], r)
 unfolding read_gap flow_gap_len gap_end
 behind_space [] h k = refl
 behind_space (b ∷ bs) h k = rw (h, k) refl
-
-pub one_space : (t r : List ℕ) → begins_with 32 t ≡ true → r ≡ drop 1 t → (is_space r || begins_with 35 r) ≡ false → read_gap t ≡ Some (32 ∷ [], r)
-one_space t r space is h =
-    let k = or_parts (is_space r) (begins_with 35 r) h in
-    ap read_gap (front_is 32 t space ∙ ap (λ (l : List ℕ). 32 ∷ l) (sym is)) ∙ behind_space r k.0 k.1
 
 -- white space after a break, up to what is no gap
 abbrev Spaced : GapPlace → List ℕ → Type 0
@@ -96,3 +92,18 @@ after_spaces t u (suc m) feed line count some utf8 =
   where
     spaces_within : (v : List ℕ) → prefix_len (λ b. eqb b 32) v ≤ length v
     spaces_within v = rw (← upto_unless) (upto_le_length (unless (λ b. eqb b 32)) v)
+
+-- a byte with which no gap and no comment begins, alone and after one space
+pub token_apart : (t : List ℕ) → is_token t ≡ true → (is_space t ≡ false) × (begins_with 35 t ≡ false)
+token_apart [] h = absurd (false≢true h)
+token_apart (b ∷ bs) h =
+    let other = at_byte (λ x. eqb x 34 || leb 36 x) b in
+    (rw (other 32 h refl, other 9 h refl, other 10 h refl, other 13 h refl) refl, other 35 h refl)
+
+pub token_gap : (t : List ℕ) → is_token t ≡ true → read_gap t ≡ Some ([], t)
+token_gap t h = no_gap t (token_apart t h).0
+
+pub token_after_space : (t r : List ℕ) → begins_with 32 t ≡ true → r ≡ drop 1 t → is_token r ≡ true → read_gap t ≡ Some (32 ∷ [], r)
+token_after_space t r space is h =
+    let apart = token_apart r h in
+    ap read_gap (front_is 32 t space ∙ ap (λ (l : List ℕ). 32 ∷ l) (sym is)) ∙ behind_space r apart.0 apart.1

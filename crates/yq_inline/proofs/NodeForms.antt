@@ -1,16 +1,16 @@
 -- What a node is that a text lends, by the byte with which it begins.
-use Rattle.std.proofs.Common.{◌≡◌, ℕ, zero, suc, ◌-◌, ◌<◌, ◌≤◌, Bool, true, false, cond, not, ◌||◌, eqb, List, ◌∷◌, ◌++◌, drop, length}
-use Rattle.std.proofs.Common.{Option, Some, None, refl, sym, ap, ◌∙◌, subst, arith, eq-eqb, eqb-true, ⊎_elim}
-use Rattle.std.{proofs.lemmas.Option.same_Some, proofs.lemmas.Bool.{false≢true, and_parts, or_cases, or_parts}}
-use Rattle.yq_core.specs.Borrowed.{borrows_text, borrows_node, borrows_items, IsBorrowed, is_borrowed, are_borrowed, node_in_front}
-use Rattle.yq_core.{specs.Borrowed.items_in_front, specs.Keys.{are_distinct, keys_of, has_unique_keys, each_has_unique_keys}}
-use Rattle.yq_core.{specs.Tree.Children, specs.Trees.{items_tree, placed_tree, parts_tree, scalar_node, tree_collection, tree_of}}
+use Rattle.std.proofs.Common.{◌≡◌, ℕ, zero, suc, ◌-◌, ◌<◌, Bool, true, false, cond, ◌||◌, eqb, List, ◌++◌, drop, length, Some, None, refl}
+use Rattle.std.{proofs.Common.{sym, ap, ◌∙◌, subst, arith, eq-eqb, eqb-true, ⊎_elim}, proofs.lemmas.Option.same_Some}
+use Rattle.std.proofs.lemmas.Bool.{false≢true, and_parts, or_cases, or_parts}
+use Rattle.yq_core.specs.Borrowed.{borrows_text, borrows_node, borrows_items, is_borrowed, are_borrowed, node_in_front, items_in_front}
+use Rattle.yq_core.{specs.Keys.{are_distinct, keys_of, has_unique_keys, each_has_unique_keys}, specs.Tree.Children}
+use Rattle.yq_core.specs.Trees.{items_tree, placed_tree, parts_tree, scalar_node, tree_collection, tree_of}
 use Rattle.yq_core.specs.Nodes.{FlowNode, empty, alias, scalar, coll, anchored, Items, node_text, flow_items_text, begins_with}
-use Rattle.yq_core.specs.Nodes.{begins_content, is_close, opening_bracket, IsFlowNode, AreFlowItems, Deeper}
-use Rattle.yq_core.{specs.Entries.{parts_of, start_of, end_of, content_place}, specs.Gaps.IsInlineGap, specs.Scalar.null}
-use Rattle.yq_core.specs.Places.{Placed, placed, CoreNode, nothing, sequence, mapping, Parts, end, holder, locate, locate_items}
-use Rattle.yq_core.{specs.Reading.{all_node, read_gap, read_scalar}, specs.Scalars.{begins_scalar, scalar_of, IsScalarAt}}
-use Rattle.yq_core.{proofs.GapLaws.gap_again, proofs.NodeLaws.all_again, proofs.NodesPieceLaws.{front_not, scalar_again, scalar_begins}}
+use Rattle.yq_core.specs.Nodes.{begins_content, is_close, opening_bracket, IsFlowNode}
+use Rattle.yq_core.{specs.Entries.{parts_of, start_of, end_of, content_place}, specs.Scalar.null}
+use Rattle.yq_core.specs.Places.{placed, sequence, mapping, Parts, end, holder, locate, locate_items}
+use Rattle.yq_core.{specs.Reading.{all_node, read_gap, read_scalar}, specs.Scalars.{begins_scalar, scalar_of}, proofs.GapLaws.gap_again}
+use Rattle.yq_core.{proofs.NodeLaws.all_again, proofs.NodesPieceLaws.{front_not, scalar_again, scalar_begins}}
 use Rattle.yq_core.proofs.BorrowedLaws.{borrowed_node, front_located, items_borrowed, items_located}
 use Rattle.yq_inline.specs.Measured.{past_node}
 use Rattle.yq_core.specs.Tree as tree

@@ -6,11 +6,10 @@ use Rattle.yq_core.{specs.Answers.◌>>=◌, specs.declared.piece.Piece.Piece}
 use Rattle.yq_core.specs.Nodes.{Key, bare, keyed, Sep, FlowNode, Items, none, item, key_text, sep_text, node_text, flow_items_text}
 use Rattle.yq_core.specs.Nodes.{begins_with, IsInlineKey, IsSep, is_keyed, is_empty_node, is_close, IsFlowNode, AreFlowItems}
 use Rattle.yq_core.specs.Places.{Placed, Parts, part, key_placed, key_here, locate, locate_items, end}
-use Rattle.yq_core.specs.PlacedReading.{key_piece, past_sep, split_key, placed_node}
-use Rattle.yq_core.{specs.Reading.{all_node, all_items, read_flow_key, sep_at}, specs.Keys.{has_unique_keys, each_has_unique_keys}}
-use Rattle.yq_core.specs.Trees.{tree_of, items_tree, unplaced_key}
-use Rattle.yq_core.specs.Borrowed.{borrows_text, borrows_key, borrows_node, borrows_items, AreBorrowed, is_borrowed, are_borrowed}
-use Rattle.yq_core.{specs.Borrowed.{node_in_front, items_in_front, located_or_end}, proofs.NodesPieceLaws.sep_again}
+use Rattle.yq_core.{specs.PlacedReading.{key_piece, past_sep, split_key, placed_node}, specs.Reading.{all_node, read_flow_key}}
+use Rattle.yq_core.{specs.Keys.{has_unique_keys, each_has_unique_keys}, specs.Trees.{tree_of, items_tree, unplaced_key}}
+use Rattle.yq_core.specs.Borrowed.{borrows_text, borrows_key, borrows_node, borrows_items, is_borrowed, are_borrowed, node_in_front}
+use Rattle.yq_core.{specs.Borrowed.{items_in_front, located_or_end}, proofs.NodesPieceLaws.sep_again}
 use Rattle.yq_core.{proofs.NodeLaws.{all_again, items_done}, proofs.NodeTakes.key_in}
 use Rattle.yq_core.proofs.NodeAgain.{key_in_again, item_longer, sep_longer}
 use Rattle.yq_core.proofs.BorrowedLaws.{borrowed_items, items_borrowed, items_located, front_located, node_borrowed}

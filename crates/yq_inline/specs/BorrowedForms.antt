@@ -1,5 +1,5 @@
 -- What nodes are that a text lends (own).
-use Rattle.std.specs.Prelude.{◌≡◌, Bool, false, true, List, None, Option, Some, ℕ, map}
+use Rattle.std.specs.Prelude.{◌≡◌, Bool, false, List, None, Option, Some, ℕ, map}
 use Rattle.yq_core.{specs.Entries.{PlacedEntry, flow_part_at, parts_of, placed_entry_at, tree_step}, specs.Borrowed.borrows_text}
 use Rattle.yq_core.{specs.Places.{Parts, end}, specs.Scalars.scalar_of, specs.Tree.{Node, scalar, list}}
 use Rattle.yq_core.{specs.Trees.{parts_tree, placed_tree, scalar_node, tree_collection}, specs.View.borrowed_view}

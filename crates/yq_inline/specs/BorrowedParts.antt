@@ -1,8 +1,7 @@
 -- The items and entries of nodes that a text lends (own).
 use Rattle.std.specs.Prelude.{◌≡◌, ℕ, ◌==◌, List, Option, Some, None, option_map, if◌then◌else◌}
-use Rattle.yq_core.{specs.Answers.◌>>=◌, specs.Borrowed.{borrows_text, items_in_front}, specs.Entries.PlacedEntry, specs.Nodes.{Key, bare}}
-use Rattle.yq_core.{specs.Places.{Parts, end, part, key_placed}, specs.Reading.read_flow_key, specs.Trees.parts_tree}
-use Rattle.yq_core.{specs.Tree.{Node, scalar, list, map}, specs.View.borrowed_view}
+use Rattle.yq_core.{specs.Borrowed.items_in_front, specs.Entries.PlacedEntry, specs.Nodes.{Key, bare}}
+use Rattle.yq_core.{specs.Places.{Parts, end, part, key_placed}, specs.Reading.read_flow_key, specs.View.borrowed_view}
 use Rattle.yq_inline.{specs.Measured.closing_byte, specs.declared.parts.BorrowedEntry.BorrowedEntry}
 use Rattle.yq_inline.specs.declared.parts.BorrowedParts.{BorrowedParts}
 

@@ -11,6 +11,7 @@ pub use Rattle.yq_core.specs.Writable
 pub mod Forms
 pub mod NodesWithin
 pub mod Measured
+pub mod Short
 pub mod BorrowedParts
 pub mod BorrowedForms
 pub mod InlineAnswers

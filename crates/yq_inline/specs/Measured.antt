@@ -1,8 +1,8 @@
 -- What is known of an inline node of which only the end is found (own).
-use Rattle.std.specs.Prelude.{ℕ, Bool, true, false, ◌||◌, ◌&&◌, not, List, Option, Some, None}
+use Rattle.std.specs.Prelude.{◌≡◌, ℕ, Bool, true, false, ◌||◌, ◌&&◌, not, List, Option, Some, None}
 use Rattle.yq_core.{specs.Answers.◌>>=◌, specs.Text.is_empty}
 use Rattle.yq_core.specs.Places.{Placed, placed, CoreNode, nothing, name, text, sequence, mapping}
-use Rattle.yq_core.{specs.PlacedReading.{placed_entry, placed_item}, specs.Reading.all_node, specs.declared.style.Style.Style}
+use Rattle.yq_core.{specs.PlacedReading.{placed_entry, placed_item, placed_node}, specs.Reading.all_node, specs.declared.style.Style.Style}
 use Rattle.yq_core.specs.declared.borrowed.BorrowedNode.{BorrowedNode}
 use Rattle.yq_inline.{specs.declared.measuring.MeasuredKind.MeasuredKind, specs.declared.measuring.Measured.Measured}
 use Rattle.yq_inline.specs.declared.measuring.MeasuredKind.TheVariants as kinds
@@ -40,6 +40,10 @@ measured o = o >>= λ x. Some (node_measure x.0, x.1)
 -- the same of the code (own)
 abbrev pub measured_view : Measured → (Bool × MeasuredKind) × List ℕ
 measured_view m = ((m.anchored, m.kind), m.rest.now)
+
+-- the node in front is measured so, however many collections may be nested (own)
+abbrev pub MeasuresScalar : List ℕ → Measured → Type 0
+MeasuresScalar t m = (d : ℕ) → measured (placed_node true (Some 0) 0 d t) ≡ Some (measured_view m)
 
 -- what follows what was read (own)
 abbrev pub past_node : {A : Type 0} → Option (A × List ℕ) → Option (List ℕ)

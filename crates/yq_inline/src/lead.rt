@@ -3,23 +3,32 @@ ghost use Rattle.std.specs.Prelude.{◌≡◌, ◌≢◌, ◌≤◌, IfErr, IfOk
 ghost use Rattle.yq_core.{specs.Answers.ReadsAs, specs.declared.fault.FaultKind.TheVariants.NotUtf8};
 ghost use Rattle.yq_inline.specs.Forms.{after_bracket};
 ghost use Rattle.yq_core.specs.Reading as reading;
+ghost use Rattle.yq_inline.specs.Short as spec;
 
 use yq_core::fault_place::fault;
-use yq_core::text::{is_marker, is_space, spaces_len};
-use yq_core::{FaultKind, ReadFault, first_is, gap_len, strip};
+use yq_core::text::{is_marker, spaces_len};
+use yq_core::{FaultKind, ReadFault, gap_len, strip};
+
+/// Whether a byte is in front with which no gap and no comment begins.
+#[inline(always)]
+pub(crate) fn is_token(text: &[u8]) -> bool
+    ensures { result ≡ spec.is_token text.now }
+{
+    matches!(text, [b'"' | b'$'..=255, ..])
+}
 
 /// The gap in front, and what follows it, where that gap is nothing or one space.
 #[inline(always)]
-#[tactic(auto, using(crate::proofs::GapSteps::no_gap, crate::proofs::GapSteps::one_space))]
+#[tactic(auto, using(crate::proofs::GapSteps::token_gap, crate::proofs::GapSteps::token_after_space))]
 fn short_gap(text: &str) -> Option<(&str, &str)>
     ensures read { IfSome result (λ x. reading.read_gap text.now ≡ Some (x.0.now, x.1.now)) }
     ensures shorter { IfSome result (λ x. length x.1.now ≤ length text.now) }
 {
-    if !is_space(text.as_bytes()) {
+    if is_token(text.as_bytes()) {
         return Some(("", text));
     }
     let rest = strip(b' ', text)?;
-    if is_space(rest.as_bytes()) || first_is(b'#', rest.as_bytes()) {
+    if !is_token(rest.as_bytes()) {
         return None;
     }
     Some((" ", rest))
@@ -36,7 +45,7 @@ fn line_gap(text: &str) -> Option<(&str, &str)>
         return None;
     }
     let (gap, after) = text.split_at(n + 1);
-    if is_space(after.as_bytes()) || first_is(b'#', after.as_bytes()) {
+    if !is_token(after.as_bytes()) {
         return None;
     }
     Some((gap, after))
@@ -57,6 +66,18 @@ fn long_gap<'t>(whole: &str, text: &'t str) -> Result<(&'t str, &'t str), ReadFa
     Ok((gap, rest))
 }
 
+/// The gap in front, and what follows it, where that gap is nothing, one space, or a break and spaces.
+#[inline(always)]
+pub(crate) fn near_gap(text: &str) -> Option<(&str, &str)>
+    ensures read { IfSome result (λ x. reading.read_gap text.now ≡ Some (x.0.now, x.1.now)) }
+    ensures shorter { IfSome result (λ x. length x.1.now ≤ length text.now) }
+{
+    if let Some(found) = short_gap(text) {
+        return Some(found);
+    }
+    line_gap(text)
+}
+
 /// The gap in front, and what follows it.
 #[inline(always)]
 pub fn read_gap<'t>(whole: &str, text: &'t str) -> Result<(&'t str, &'t str), ReadFault>
@@ -64,10 +85,7 @@ pub fn read_gap<'t>(whole: &str, text: &'t str) -> Result<(&'t str, &'t str), Re
     ensures shorter { IfOk result (λ x. length x.1.now ≤ length text.now) }
     ensures fault { IfErr result (λ f. f.kind ≢ NotUtf8) }
 {
-    if let Some(found) = short_gap(text) {
-        return Ok(found);
-    }
-    match line_gap(text) {
+    match near_gap(text) {
         Some(found) => Ok(found),
         None => long_gap(whole, text),
     }

@@ -14,6 +14,7 @@ pub mod pieces;
 mod read;
 pub mod reading;
 mod scalar;
+pub mod short;
 
 pub use borrowed_entries::entry_in;
 pub use forms::{BorrowedForm, form_of};

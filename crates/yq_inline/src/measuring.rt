@@ -1,5 +1,5 @@
 //! The ends of inline nodes, found without their trees.
-ghost use Rattle.std.specs.Prelude.{◌≡◌, ◌≢◌, ◌<◌, ◌≤◌, IfErr, IfOk, false, length};
+ghost use Rattle.std.specs.Prelude.{◌≡◌, ◌≢◌, ◌<◌, ◌≤◌, IfErr, IfOk, IfSome, Some, false, length, true};
 ghost use Rattle.yq_core.{specs.Answers.ReadsAs, specs.declared.fault.FaultKind.TheVariants.NotUtf8};
 ghost use Rattle.yq_core.specs.Scalars.{scalar_style as style_at};
 ghost use Rattle.yq_core.specs.PlacedReading.{placed_node, placed_content, placed_coll, placed_items};
@@ -12,6 +12,7 @@ use crate::lead::read_gap;
 use crate::pieces::{
     begins_content, no_node, read_key, read_lead, read_name, read_scalar, read_sep,
 };
+use crate::short::short_scalar;
 use yq_core::fault_place::fault;
 use yq_core::{FaultKind, ReadFault, strip};
 
@@ -75,6 +76,16 @@ fn unanchored(kind: MeasuredKind, rest: &str) -> Measured<'_>
         kind,
         rest,
     }
+}
+
+/// The node in front of an item or of a value, where it is a scalar as most often written.
+#[inline(always)]
+fn measure_scalar(text: &str) -> Option<Measured<'_>>
+    ensures read { IfSome result (spec.MeasuresScalar text.now) }
+    ensures shorter { IfSome result (λ m. length m.rest.now ≤ length text.now) }
+{
+    let (piece, rest) = short_scalar(text)?;
+    Some(unanchored(kind_of(piece), rest))
 }
 
 /// The node in front, with at most `depth` collections nested.
@@ -160,6 +171,20 @@ fn measure_collection<'t>(
     measure_parts(whole, depth - 1, keyed, text, rest)
 }
 
+/// The node in front of an item or of a value.
+#[inline(always)]
+#[cycle(ends)]
+fn measure_value<'t>(whole: &str, depth: usize, text: &'t str) -> Result<Measured<'t>, ReadFault>
+    ensures shorter { IfOk result (λ m. length m.rest.now ≤ length text.now) }
+    ensures read { MeasuresNode result (reading.placed_node true (Some 0) 0 depth text.now) }
+    ensures fault { IfErr result (λ f. f.kind ≢ NotUtf8) }
+{
+    match measure_scalar(text) {
+        Some(node) => Ok(node),
+        None => measure_node(true, Some(0), whole, depth, text),
+    }
+}
+
 /// What follows the entry, or item, in front and the `,` after it; after the `{` or `[` was `open`.
 #[cycle(ends)]
 #[tactic(auto, using(crate::proofs::MeasureSteps::item_none, crate::proofs::MeasureSteps::item_bare, crate::proofs::MeasureSteps::item_some, crate::proofs::MeasureSteps::entry_no_key, crate::proofs::MeasureSteps::entry_none, crate::proofs::MeasureSteps::entry_some))]
@@ -176,10 +201,10 @@ fn measure_part<'t>(
 {
     if keyed {
         let (_, rest) = read_key(whole, open, text)?;
-        let value = measure_node(true, Some(0), whole, depth, rest)?;
+        let value = measure_value(whole, depth, rest)?;
         return read_sep(b'}', whole, open, value.rest);
     }
-    let item = measure_node(true, Some(0), whole, depth, text)?;
+    let item = measure_value(whole, depth, text)?;
     if is_bare(item) {
         let kind = no_node(text.as_bytes(), FaultKind::BadFlow);
         return Err(flow_fault(kind, whole, open, text));

@@ -9,6 +9,7 @@ ghost use Rattle.yq_core.specs.Scalars as scalars;
 
 use crate::fault::flow_fault;
 use crate::lead::read_gap;
+use crate::short::{short_key, short_sep};
 use yq_core::fault_place::fault;
 use yq_core::text::{is_white, separates, split_white};
 use yq_core::{FaultKind, ReadFault, first_is, is_quoted, strip};
@@ -196,11 +197,9 @@ fn read_colon<'t>(piece: &str, whole: &str, open: &str, text: &'t str) -> Result
     }
 }
 
-/// What follows an item and the comma after it, if there is one; after the collection's bracket was
-/// `open`.
-#[inline(always)]
+/// What follows an item and the comma after it, if there is one, whatever gaps are round that.
 #[tactic(auto, unfolding(yq_core::specs::Reading::sep_at, yq_core::specs::Reading::sep_behind))]
-pub fn read_sep<'t>(close: u8, whole: &str, open: &str, text: &'t str) -> Result<&'t str, ReadFault>
+fn long_sep<'t>(close: u8, whole: &str, open: &str, text: &'t str) -> Result<&'t str, ReadFault>
     ensures read { ReadsAs (λ x. x.now) result (reading.past_sep close text.now) }
     ensures shorter { IfOk result (λ x. length x.now ≤ length text.now) }
     ensures fault { IfErr result (λ f. f.kind ≢ NotUtf8) }
@@ -218,10 +217,23 @@ pub fn read_sep<'t>(close: u8, whole: &str, open: &str, text: &'t str) -> Result
     }
 }
 
-/// A key with what quotes it, and what follows its `:` and the gap after it; after the mapping's `{`
-/// was `open`.
+/// What follows an item and the comma after it, if there is one; after the collection's bracket was
+/// `open`.
+#[inline(always)]
+pub fn read_sep<'t>(close: u8, whole: &str, open: &str, text: &'t str) -> Result<&'t str, ReadFault>
+    ensures read { ReadsAs (λ x. x.now) result (reading.past_sep close text.now) }
+    ensures shorter { IfOk result (λ x. length x.now ≤ length text.now) }
+    ensures fault { IfErr result (λ f. f.kind ≢ NotUtf8) }
+{
+    match short_sep(close, text) {
+        Some(rest) => Ok(rest),
+        None => long_sep(close, whole, open, text),
+    }
+}
+
+/// A key with what quotes it, and what follows its `:` and the gap after it, whatever gaps are round that.
 #[tactic(auto, unfolding(yq_core::specs::Reading::read_flow_key))]
-pub fn read_key<'t>(whole: &str, open: &str, text: &'t str) -> Result<(&'t str, &'t str), ReadFault>
+fn long_key<'t>(whole: &str, open: &str, text: &'t str) -> Result<(&'t str, &'t str), ReadFault>
     ensures read { ReadsAs (λ x. (x.0.now, x.1.now)) result (reading.split_key text.now) }
     ensures quoted { IfOk result (λ x. scalars.is_quoted x.0.now ≡ true → IsQuotedText x.0.now) }
     ensures shorter { IfOk result (λ x. length x.1.now < length text.now) }
@@ -235,4 +247,19 @@ pub fn read_key<'t>(whole: &str, open: &str, text: &'t str) -> Result<(&'t str, 
     let rest = read_colon(key, whole, open, rest)?;
     let (_, rest) = read_value_lead(whole, rest)?;
     Ok((key, rest))
+}
+
+/// A key with what quotes it, and what follows its `:` and the gap after it; after the mapping's `{`
+/// was `open`.
+#[inline(always)]
+pub fn read_key<'t>(whole: &str, open: &str, text: &'t str) -> Result<(&'t str, &'t str), ReadFault>
+    ensures read { ReadsAs (λ x. (x.0.now, x.1.now)) result (reading.split_key text.now) }
+    ensures quoted { IfOk result (λ x. scalars.is_quoted x.0.now ≡ true → IsQuotedText x.0.now) }
+    ensures shorter { IfOk result (λ x. length x.1.now < length text.now) }
+    ensures fault { IfErr result (λ f. f.kind ≢ NotUtf8) }
+{
+    match short_key(text) {
+        Some(found) => Ok(found),
+        None => long_key(whole, open, text),
+    }
 }

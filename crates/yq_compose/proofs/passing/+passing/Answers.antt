@@ -7,15 +7,18 @@ use Rattle.yq_compose.proofs.PassedLaws.{bracket_front, collection_passed, entry
 use Rattle.yq_compose.proofs.PassedLaws.{none_passed, nothing_passed, sequence_passed}
 use Rattle.yq_compose.proofs.passing.+passing.Goals as goal
 
-pub pass_content-returns-in-Some-clause-passed : goal.pass_content-returns-in-Some-clause-passed
-pass_content-returns-in-Some-clause-passed t c =
+pub pass_collection-returns-in-Some-clause-passed : goal.pass_collection-returns-in-Some-clause-passed
+pass_collection-returns-in-Some-clause-passed t c =
     let front = bracket_front 93 c.args.text.now c.in-Some.behind.now c.in-Some.ensures.0 c.in-Some.ensures.1 in
     IfSome_then c.pass_sequence.result c.pass_sequence.ensures.passed (λ p is. collection_passed 93 p.nested c.args.text.now c.in-Some.behind.now p.rest.now front is)
 
-pub pass_content-returns-in-Some-strip-clause-passed : goal.pass_content-returns-in-Some-strip-clause-passed
-pass_content-returns-in-Some-strip-clause-passed t c =
+pub pass_collection-returns-in-Some-strip-clause-passed : goal.pass_collection-returns-in-Some-strip-clause-passed
+pass_collection-returns-in-Some-strip-clause-passed t c =
     let front = bracket_front 125 c.args.text.now c.in-Some-strip.behind.now c.in-Some-strip.ensures.0 c.in-Some-strip.ensures.1 in
     IfSome_then c.pass_mapping.result c.pass_mapping.ensures.passed (λ p is. collection_passed 125 p.nested c.args.text.now c.in-Some-strip.behind.now p.rest.now front is)
+
+pub pass_node-returns-in-Some-clause-passed : goal.pass_node-returns-in-Some-clause-passed
+pass_node-returns-in-Some-clause-passed t c = c.in-Some.ensures.passed.passed
 
 pub pass_node-returns-clause-passed : goal.pass_node-returns-clause-passed
 pass_node-returns-clause-passed t c =

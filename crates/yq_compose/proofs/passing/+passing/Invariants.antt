@@ -8,17 +8,20 @@ decreases-pass_sequence l = 5 * l.depth
 abbrev pub decreases-pass_mapping : goal.decreases-pass_mapping
 decreases-pass_mapping l = 5 * l.depth
 
+abbrev pub decreases-pass_collection : goal.decreases-pass_collection
+decreases-pass_collection l = 5 * l.depth + 1
+
 abbrev pub decreases-pass_content : goal.decreases-pass_content
-decreases-pass_content l = 5 * l.depth + 1
+decreases-pass_content l = 5 * l.depth + 2
 
 abbrev pub decreases-pass_node : goal.decreases-pass_node
-decreases-pass_node l = 5 * l.depth + 2
+decreases-pass_node l = 5 * l.depth + 3
 
 abbrev pub decreases-pass_items : goal.decreases-pass_items
-decreases-pass_items l = 5 * l.depth + 3
+decreases-pass_items l = 5 * l.depth + 4
 
 abbrev pub decreases-pass_entries : goal.decreases-pass_entries
-decreases-pass_entries l = 5 * l.depth + 3
+decreases-pass_entries l = 5 * l.depth + 4
 
 abbrev pub decreases-pass_items-each : goal.decreases-pass_items-each
 decreases-pass_items-each l = length l.rest

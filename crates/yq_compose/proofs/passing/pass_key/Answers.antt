@@ -4,11 +4,11 @@ use Rattle.yq_compose.proofs.passing.pass_key.Goals as goal
 
 pub returns-clause-passed : goal.returns-clause-passed
 returns-clause-passed c =
-    let borrows = sym c.borrows_text.ensures ∙ c.if-not-borrows_text.false in
+    let short = c.in_ok-key.ensures.short in
     record {
-      key = c.in-Ok.key.now;
-      read = c.in-Ok.ensures.read;
-      borrowed = borrows;
+      key = c.in_ok-key.key.now;
+      read = short.read;
+      borrowed = short.borrows;
       fit = and_from _ _ (sym c.key_fits.ensures ∙ c.if-not-key_fits.false) (c.is_short.ensures c.if-not-is_short.false);
-      means = c.borrowed_text.ensures ∙ borrows_key c.in-Ok.key.now c.in-Ok.ensures.quoted borrows;
+      means = c.borrowed_text.ensures ∙ borrows_key c.in_ok-key.key.now short.quoted short.borrows;
     }

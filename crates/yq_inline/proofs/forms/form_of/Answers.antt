@@ -1,5 +1,5 @@
 use Rattle.std.{proofs.Common.{true, sym, ap, ◌∙◌}, proofs.lemmas.Option.same_Some}
-use Rattle.yq_core.{specs.Scalars.{begins_scalar as begins, scalar_of}, specs.Trees.scalar_node}
+use Rattle.yq_core.specs.Scalars.{begins_scalar as begins}
 use Rattle.yq_inline.{specs.BorrowedForms.{borrows_front, front_node}, proofs.NodeForms.{nothing_front, scalar_front}}
 use Rattle.yq_inline.proofs.forms.form_of.Goals as goal
 

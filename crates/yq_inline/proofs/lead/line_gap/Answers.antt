@@ -1,6 +1,5 @@
 use Rattle.std.{proofs.Common.{eqb, sym, ap, ◌∙◌}, specs.List.prefix_len}
-use Rattle.yq_core.{specs.Nodes.begins_with, specs.Text.is_space}
-use Rattle.yq_inline.proofs.GapSteps.{after_spaces, break_and_spaces}
+use Rattle.yq_inline.{specs.Short.is_token as token, proofs.GapSteps.{after_spaces, break_and_spaces, token_apart}}
 use Rattle.yq_inline.proofs.lead.line_gap.Goals as goal
 
 pub split_at-requires : goal.split_at-requires
@@ -9,6 +8,6 @@ split_at-requires c =
 
 pub returns-clause-read : goal.returns-clause-read
 returns-clause-read c =
+    let apart = token_apart c.split_at.result.1.now (ap token (sym c.as_bytes-2.ensures.value) ∙ (sym c.is_token.ensures ∙ c.if-not-is_token.false)) in
     break_and_spaces c.args.text.now c.in_ok-line.line.now c.split_at.result.0.now c.split_at.result.1.now c.spaces_len-n.result c.in_ok-line.ensures.0 c.in_ok-line.ensures.1
-    (c.spaces_len-n.ensures.value ∙ ap (prefix_len (λ b. eqb b 32)) c.as_bytes.ensures.value) c.if-n-eq0.false c.split_at.ensures.front c.split_at.ensures.back
-    (ap is_space (sym c.as_bytes-2.ensures.value) ∙ (sym c.is_space.ensures ∙ c.if-is_space.false)) (ap (begins_with 35) (sym c.as_bytes-else-is_space.ensures.value) ∙ (sym c.first_is.ensures ∙ c.if-first_is.false))
+    (c.spaces_len-n.ensures.value ∙ ap (prefix_len (λ b. eqb b 32)) c.as_bytes.ensures.value) c.if-n-eq0.false c.split_at.ensures.front c.split_at.ensures.back apart.0 apart.1

@@ -4,19 +4,22 @@ use Rattle.yq_core.specs.PlacedReading.{placed_items}
 use Rattle.yq_inline.proofs.measuring.+ends.Given as goal
 
 abbrev pub decreases-measure_node : goal.decreases-measure_node
-decreases-measure_node l = 5 * l.depth + 2
+decreases-measure_node l = 6 * l.depth + 2
 
 abbrev pub decreases-measure_content : goal.decreases-measure_content
-decreases-measure_content l = 5 * l.depth + 1
+decreases-measure_content l = 6 * l.depth + 1
 
 abbrev pub decreases-measure_collection : goal.decreases-measure_collection
-decreases-measure_collection l = 5 * l.depth
+decreases-measure_collection l = 6 * l.depth
+
+abbrev pub decreases-measure_value : goal.decreases-measure_value
+decreases-measure_value l = 6 * l.depth + 3
 
 abbrev pub decreases-measure_part : goal.decreases-measure_part
-decreases-measure_part l = 5 * l.depth + 3
+decreases-measure_part l = 6 * l.depth + 4
 
 abbrev pub decreases-measure_parts : goal.decreases-measure_parts
-decreases-measure_parts l = 5 * l.depth + 4
+decreases-measure_parts l = 6 * l.depth + 5
 
 abbrev pub decreases-measure_parts-each : goal.decreases-measure_parts-each
 decreases-measure_parts-each l = length l.rest

@@ -1,4 +1,3 @@
-use Rattle.std.proofs.Common.{◌∙◌, sym}
 use Rattle.yq_inline.{specs.Measured.closing_byte, proofs.PartSteps.{comma_there, none_left, parts_left, tested}}
 use Rattle.yq_inline.proofs.parts.BorrowedParts.split_first.Goals as goal
 
