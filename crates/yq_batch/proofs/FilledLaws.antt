@@ -16,6 +16,8 @@ use Rattle.yq_edit_laws.{proofs.HeadStandings.no_rows_more, proofs.LaterEnds.end
 use Rattle.yq_edit_laws.{specs.Edit.{by_reading, edit_of_segments, gives, refuses}, specs.Theorems.IsFitting}
 use Rattle.yq_batch.{specs.FilledRuns.IsFilledCollection, specs.Runs.{IsPutRun, text_with_run}}
 use Rattle.yq_batch.{proofs.PutComes.{made_text, new_is, segments_come, segments_large}, proofs.RunEdits.{fits_now, run_out, run_splices}}
+use Rattle.yq_batch.proofs.HeadRunLaws.{head_row_on}
+use Rattle.yq_edit_laws.proofs.FlowAppendLaws as more
 
 module _ (c : Cut) (n : ℕ) (stem left : List Step) (key : Option (List ℕ)) (v : Node) (out : List ℕ) (done : ℕ) (run : IsPutRun c n stem out done)
     (w : CollPieces) (takes : takes_key w.close key ≡ true) (f : IsFilledCollection w run.cut n (stem ++ left) (drop done (cut_text c))) (written : List ℕ) (is : written ≡ (more_edit key v w).written) where
@@ -105,6 +107,9 @@ module _ (c : Cut) (n : ℕ) (stem left : List Step) (key : Option (List ℕ)) (
               let d = run.ends ss u at_end after in
               let g = end_behind run.cut n path key v z read f.found stem left refl run.leads ss d.0 d.1 (omega (arith, after.0, size, ap length d.2.behind), λ none. omega (arith, after.1 (sym d.2.none ∙ none), size, ap length d.2.behind)) in
               (g.0, g.1, ends_on u d.0 g.0 d.2 g.2);
+          row =
+              let y : FlowEdit = more.e run.cut n path key v z read f.found in
+              head_row_on c run.cut n path z (more.at run.cut n path key v z read f.found) y.gap y.items stem left refl run.leads run.row;
         },
         record { coll = own.0; found = own.1; close = own.2.close ∙ f.close; some = own.2.none ∙ f.some; behind_is = own.2.behind ∙ f.behind_is },
       )

@@ -3,6 +3,10 @@ pub mod LeftItemLaws
 pub mod LeftPlaceLaws
 pub mod LeftLoops
 pub mod RunEdits
+pub mod RowRunLaws
+pub mod RowRunAnswers
+pub mod HeadRowLaws
+pub mod HeadRunLaws
 pub mod RunLaws
 pub mod CollectionLeft
 pub mod MoreRuns
@@ -13,8 +17,6 @@ pub mod FilledAnswers
 pub mod LeftRemovals
 pub mod RemovalRunLaws
 pub mod RemovalAnswers
-pub mod RowRunLaws
-pub mod RowRunAnswers
 pub mod RowPutLaws
 pub mod RowCommentLaws
 pub mod UptoLaws

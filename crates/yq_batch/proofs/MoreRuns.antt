@@ -17,6 +17,8 @@ use Rattle.yq_edit_laws.{specs.Edit.{by_reading, edit_of_segments, gives, refuse
 use Rattle.yq_batch.specs.Runs.{IsPutRun, text_with_run}
 use Rattle.yq_batch.proofs.RunEdits.{edit_large, edit_size, edit_there, fits_now, left_is, new_text_is, run_out, run_splices}
 use Rattle.yq_batch.{proofs.CollectionLeft.{behind_first, has_some, more_there, with_items}, specs.FilledRuns.IsFilledCollection}
+use Rattle.yq_batch.proofs.HeadRunLaws.{head_row_on}
+use Rattle.yq_edit_laws.proofs.FlowAppendLaws as more
 
 module _ (c : Cut) (n : ℕ) (stem left : List Step) (key : Option (List ℕ)) (v : Node) (out : List ℕ) (done : ℕ) (run : IsPutRun c n stem out done)
     (w : CollPieces) (found : flow_collection n (stem ++ left) c ≡ Some w) (takes : takes_key w.close key ≡ true) (place : PlacedEdit) (at : IsEditPlace (cut_text c) (more_edit key v w) place)
@@ -117,6 +119,9 @@ module _ (c : Cut) (n : ℕ) (stem left : List Step) (key : Option (List ℕ)) (
               let f = end_behind run.cut n path key v z read there.1 stem left refl run.leads ss d.0 d.1
               (omega (arith, after.0, finish_is, size, same, ap length d.2.behind), λ none. omega (arith, after.1 (sym d.2.none ∙ none), finish_is, size, same, ap length d.2.behind)) in
               (f.0, f.1, ends_on u d.0 f.0 d.2 f.2);
+          row =
+              let y : FlowEdit = more.e run.cut n path key v z read there.1 in
+              head_row_on c run.cut n path z (more.at run.cut n path key v z read there.1) y.gap y.items stem left refl run.leads run.row;
         },
         λ none. record {
           coll = with_items (more_edit key v z).gap (more_edit key v z).items z;

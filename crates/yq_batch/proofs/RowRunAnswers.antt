@@ -35,7 +35,7 @@ rows_begin t r read text done =
     }
 
 -- a row after the last one that was changed is after what was
-behind_last : (c : Cut) (o : Option (ℕ × ℕ)) (k n m i row : ℕ) → IsLast c o k n → Passed o m row → row ≡ document_row m c + i → IsBehind k n m i
+pub behind_last : (c : Cut) (o : Option (ℕ × ℕ)) (k n m i row : ℕ) → IsLast c o k n → Passed o m row → row ≡ document_row m c + i → IsBehind k n m i
 behind_last c None k n zero i row h p is = inr (h.0, omega (arith, h.1))
 behind_last c None k n (suc m) i row h p is = inl (omega (arith, h.0))
 behind_last c (Some x) k n m i row h (inl p) is = inl (omega (arith, p, h.0))

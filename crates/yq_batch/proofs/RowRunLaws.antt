@@ -20,13 +20,13 @@ use Rattle.yq_batch.{specs.RowRuns.{IsRowRun, PutsText, rows_still}, specs.Runs.
 use Rattle.yq_text.specs.Exchanging as exchange
 
 -- what is after one row after another is after that
-behind_both : (k n m i l j : ℕ) → IsBehind k n m i → IsBehind m (suc i) l j → IsBehind k n l j
+pub behind_both : (k n m i l j : ℕ) → IsBehind k n m i → IsBehind m (suc i) l j → IsBehind k n l j
 behind_both k n m i l j (inl a) (inl b) = inl (omega (arith, a, b))
 behind_both k n m i l j (inl a) (inr b) = inl (omega (arith, a, b.0))
 behind_both k n m i l j (inr a) (inl b) = inl (omega (arith, a.0, b))
 behind_both k n m i l j (inr a) (inr b) = inr (a.0 ∙ b.0, omega (arith, a.1, b.1))
 
-sized : (k n m i j : ℕ) → i ≡ j → IsBehind k n m i → IsBehind k n m j
+pub sized : (k n m i j : ℕ) → i ≡ j → IsBehind k n m i → IsBehind k n m j
 sized k n m i j e h = subst (λ (x : ℕ). IsBehind k n m x) e h
 
 module _ (c : Cut) (k n : ℕ) (out : List ℕ) (done : ℕ) (run : IsRowRun c k n out done) (op : Operation) (steps : List Step) (e : RowsOfEntry) (at : rows_of_entry (op_document op) steps c ≡ Some e) (later : IsBehind k n (op_document op) (length e.front)) where

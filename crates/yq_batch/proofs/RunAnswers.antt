@@ -36,6 +36,7 @@ run_begins t n stem read leads =
       leads = leads;
       stays = λ left s y there less begins. there;
       ends = λ left w found after. (w, found, ends_same w);
+      row = λ i x. (x, λ m steps e found later. record { start = e.start; front = e.front; found = found; size = refl });
     }
 
 -- the same of a run that the code begins

@@ -15,7 +15,9 @@ use Rattle.yq_edit_laws.{proofs.FlowPartNodes.part_node, proofs.FlowPutLaws.{end
 use Rattle.yq_edit_laws.{proofs.LaterEnds.ends_on, proofs.FlowStandings.{EntryAt, entry_found}, specs.Carried.carried}
 use Rattle.yq_edit_laws.{specs.Edit.{edit_of_segments, gives, refuses}, specs.Theorems.IsFitting}
 use Rattle.yq_batch.{specs.Runs.{EndsInCollection, IsPutRun, text_with_run}, proofs.PutComes.{kept_comes, put_comes}}
+use Rattle.yq_batch.proofs.HeadRunLaws.{head_row_on}
 use Rattle.yq_batch.proofs.RunEdits.{edit_large, edit_size, edit_there, fits_now, new_text_is, run_out, run_splices}
+use Rattle.yq_edit_laws.proofs.FlowPutLaws as puts
 
 -- A value is put at a part.
 module _ (c : Cut) (n : ℕ) (stem path : List Step) (v : Node) (out : List ℕ) (done : ℕ) (whole : read_at (cut_text c) ≡ Some c) (run : IsPutRun c n stem out done)
@@ -125,4 +127,7 @@ module _ (c : Cut) (n : ℕ) (stem path : List Step) (v : Node) (out : List ℕ)
               let d = run.ends ss w found (omega (arith, after.0, passes), λ none. omega (arith, after.1 none, passes)) in
               let f = end_behind run.cut n path v read a stem left refl run.leads ss d.0 d.1 (omega (arith, after.0, finish_is, size, ap length d.2.behind)) in
               (f.0, f.1, ends_on w d.0 f.0 d.2 f.2);
+          row =
+              let z : FlowEdit = puts.e run.cut n path v read a in
+              head_row_on c run.cut n a.init a.coll (puts.at run.cut n path v read a) z.gap z.items stem left refl run.leads run.row;
         }

@@ -1,6 +1,8 @@
+pub mod HeadRows
 pub mod Runs
 pub mod FilledRuns
 pub mod RowRuns
+pub mod HeadRuns
 pub mod RemovalRuns
 pub mod LeftItems
 pub mod LeftPlaces

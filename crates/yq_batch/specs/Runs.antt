@@ -13,7 +13,7 @@ use Rattle.yq_semantics.{specs.Operations.{Operation, append, replace}, specs.de
 use Rattle.yq_edit_rules.{specs.FlowParts.takes_key, specs.Operands.HasOperand}
 use Rattle.yq_edit_laws.specs.PartPuts.{EndsAfter, EndsAsIn, IsEditPlace, IsPartOf, IsPlaceOf, IsWrittenPart, more_edit}
 use Rattle.yq_edit_laws.{specs.Carried.carried, specs.Edit.gives, specs.Theorems.IsApplied, specs.declared.edit_error.EditError.EditError}
-use Rattle.yq_batch.{specs.declared.change.HeadChange.HeadChange, specs.declared.head.HeadInText.HeadInText}
+use Rattle.yq_batch.{specs.HeadRows.HeadRowStays, specs.declared.change.HeadChange.HeadChange, specs.declared.head.HeadInText.HeadInText}
 use Rattle.yq_batch.{specs.declared.run.PutRun.PutRun, specs.declared.slots.SlotPlace.SlotPlace}
 use Rattle.yq_edit_laws.specs.declared.edit_error.EditError.TheVariants as error
 
@@ -27,7 +27,7 @@ EndsStay c cut n stem kept = (left : List Step) (w : CollPieces) → flow_collec
 
 -- The first bytes of a cut's text were replaced by others, by values put at parts of the head to which steps lead, and items and entries put into its
 -- collections: the text reads, the steps lead to a head in it, and the parts whose contents are in the bytes that stay are there as they were, in whichever
--- collections, and so are the ends of collections (own).
+-- collections, and so are the ends of collections, and what comes after the head's row (own).
 pub record IsPutRun (c : Cut) (n : ℕ) (stem : List Step) (out : List ℕ) (done : ℕ) : Type 0 where
   pub within : done ≤ length (cut_text c)
   pub edge : IsCharBoundary (cut_text c) done
@@ -37,6 +37,7 @@ pub record IsPutRun (c : Cut) (n : ℕ) (stem : List Step) (out : List ℕ) (don
   pub stays : (left : List Step) (s : Step) (y : EntryPieces) → IsPartOf c n (stem ++ left) s y → length y.rest < length (cut_text c) - done →
       length (node_text (without_anchor y.node) y.rest) ≤ length (cut_text c) - done → IsPartOf cut n (stem ++ left) s y
   pub ends : EndsStay c cut n stem (length (cut_text c) - done)
+  pub row : HeadRowStays c cut n stem
 
 -- a path ends in the collection to which steps lead on in the head to which others lead (own)
 abbrev pub EndsAt : (stem left steps : List Step) → Type 0

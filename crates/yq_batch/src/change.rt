@@ -57,7 +57,7 @@ pub(crate) fn are_same_steps(some: &[Step], others: &[Step]) -> bool
 }
 
 /// The steps that go on in a head, if a path leads there by the steps that lead to the head.
-fn steps_on<'s>(steps: &'s [Step], stem: &[Step]) -> Option<&'s [Step]>
+pub(crate) fn steps_on<'s>(steps: &'s [Step], stem: &[Step]) -> Option<&'s [Step]>
     ensures { IfSome result (λ left. map tree_step steps.now ≡
         map tree_step stem.now ++ map tree_step left.now) }
 {

@@ -7,9 +7,9 @@ ghost use Rattle.yq_documents.{specs.Located.steps_of, specs.Reading.cut_of};
 ghost use Rattle.yq_places.{specs.NodesAt.node_in, specs.StandingViews.IsHeldRow};
 ghost use Rattle.yq_semantics.specs.Operations.{line_comment, operation_of, operations_of, replace};
 ghost use Rattle.yq_edit_rules.specs.Operands.{HasOperand};
-ghost use Rattle.yq_edit_laws.{specs.Answers.EditFails, specs.Carried.{carry_all, carried}, specs.Edit.gives, specs.Theorems.IsFitting};
+ghost use Rattle.yq_edit_laws.{specs.Answers.EditFails, specs.Carried.{carry_all, carried}, specs.Theorems.IsFitting};
 ghost use Rattle.yq_edit_laws.specs.Valid.{AreServed};
-ghost use Rattle.yq_batch.specs.Runs.{now_text};
+ghost use Rattle.yq_batch.{specs.HeadRuns.MayGive, specs.Runs.now_text};
 ghost use Rattle.yq_batch.specs.RowRuns as spec;
 
 use crate::run::PutRun;
@@ -152,7 +152,7 @@ fn row_put(alloc: Global, cut: &mut CutText<'_, '_>, op: &Op) -> Result<Option<R
 
 /// Whether a row of a document comes after another one, by its document and how many rows come before
 /// it, if there is that.
-fn is_behind(last: Option<(usize, usize)>, doc: usize, row: usize) -> bool
+pub(crate) fn is_behind(last: Option<(usize, usize)>, doc: usize, row: usize) -> bool
     ensures { result ≡ true → spec.Passed last doc row }
 {
     match last {
@@ -215,8 +215,7 @@ pub fn carry_in_rows<'d>(
     ops: &'d [Op],
 ) -> Result<Option<Edited>, EditError>
     requires { AreServed (operations_of ops.now) cut.now }
-    ensures ok { IfOk result (λ o. IfSome o (λ e. carry_all (operations_of ops.now) cut.now ≡
-        gives (string_bytes e.text) e.splices.items)) }
+    ensures ok { IfOk result (MayGive ops.now cut.now) }
     ensures err { IfErr result (λ e. EditFails e (carry_all (operations_of ops.now) cut.now)) }
 {
     let [first, _, ..] = ops else {

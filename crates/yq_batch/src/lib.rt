@@ -5,6 +5,7 @@ mod adding;
 mod any_order;
 mod change;
 mod head;
+mod heads;
 mod in_rows;
 mod left;
 mod near;
@@ -15,6 +16,7 @@ mod slots;
 mod together;
 mod unordered;
 
+pub use heads::carry_in_heads;
 pub use in_rows::carry_in_rows;
 pub use row_removals::carry_beside;
 pub use together::{Together, carry_together};

@@ -91,7 +91,7 @@ fn carry_in_head<'o>(
 
 /// The document and the steps of the collection that an operation may change in a head, if it is one that
 /// is carried out with others.
-fn changed_collection(op: &Op) -> Option<(usize, &[Step])> {
+pub(crate) fn changed_collection(op: &Op) -> Option<(usize, &[Step])> {
     match op {
         Op::Replace(path, _) | Op::Remove(path) => match last_step(&path.steps) {
             Some((above, _)) => Some((path.doc, above)),

@@ -1,13 +1,8 @@
 -- Operations carried out together on a text that was read once (own).
-use Rattle.std.specs.Prelude.{◌≡◌, ◌<◌, ℕ, List, length, Option, IfSome, string_bytes}
-use Rattle.yq_text.specs.declared.edited.Edited.{Edited}
-use Rattle.yq_semantics.{specs.Operations.operations_of, specs.declared.op.Op.Op}
-use Rattle.yq_edit_laws.{specs.Carried.carry_all, specs.Edit.gives, specs.Valid.AreServed}
+use Rattle.std.specs.Prelude.{◌≡◌, ◌<◌, length, string_bytes}
+use Rattle.yq_semantics.specs.Operations.{operations_of}
+use Rattle.yq_edit_laws.specs.Valid.{AreServed}
 use Rattle.yq_batch.{specs.RowRemovals.all_of, specs.declared.together.Together.Together}
-
--- where there is an edit, it is what operations give on a text (own)
-abbrev pub MayGive : List Op → List ℕ → (found : Option Edited) → Type 0
-MayGive ops t found = IfSome found (λ e. carry_all (operations_of ops) t ≡ gives (string_bytes e.text) e.splices.items)
 
 -- of operations of which the first ones were carried out, the others may follow on the text (own)
 abbrev pub LeftAreServed : Together → Type 0

@@ -3,13 +3,13 @@
 ghost use Rattle.std.specs.Prelude.{◌≤◌, length, IfErr, IfOk, IfSome, string_bytes};
 ghost use Rattle.yq_semantics.specs.Operations.{operations_of};
 ghost use Rattle.yq_edit_laws.{specs.Answers.{Edits, EditFails}, specs.Valid.AreServed};
-ghost use Rattle.yq_batch.specs.RowRemovals.{CarriesFirst, all_of};
+ghost use Rattle.yq_batch.{specs.HeadRuns.MayGive, specs.RowRemovals.{CarriesFirst, all_of}};
 ghost use Rattle.yq_splice.specs.ByLines as runs;
 ghost use Rattle.yq_edit_laws.specs.Carried as spec;
 
 use crate::carrying::{apply_op, carry_all, cut_again, edited_behind, with_last};
 use std::alloc::Global;
-use yq_batch::{Together, carry_beside, carry_in_rows};
+use yq_batch::{Together, carry_beside, carry_in_heads, carry_in_rows};
 use yq_edit_laws::EditError;
 use yq_lookup::CutText;
 use yq_semantics::Op;
@@ -126,7 +126,7 @@ pub(crate) fn carry_by_lines<'d>(
     ops: &'d [Op],
 ) -> Result<Option<Edited>, EditError>
     requires { AreServed (operations_of ops.now) cut.now }
-    ensures ok { IfOk result (λ o. runs.MayGive ops.now cut.now o) }
+    ensures ok { IfOk result (MayGive ops.now cut.now) }
     ensures err { IfErr result (λ e. EditFails e (spec.carry_all (operations_of ops.now)
         cut.now)) }
 {
@@ -135,5 +135,9 @@ pub(crate) fn carry_by_lines<'d>(
         let carried = with_others(alloc, ops.len(), together)?;
         return Ok(Some(carried));
     }
-    carry_in_rows(alloc, cut, ops)
+    let in_rows = carry_in_rows(alloc, cut, ops)?;
+    if let Some(edited) = in_rows {
+        return Ok(Some(edited));
+    }
+    carry_in_heads(alloc, cut, ops)
 }
