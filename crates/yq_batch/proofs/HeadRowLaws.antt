@@ -1,14 +1,13 @@
 -- The row in which a head is, and its flow collections, in a text and in one of which the rows in front are others.
-use Rattle.std.proofs.Common.{◌≡◌, ℕ, suc, ◌+◌, ◌≤◌, Bool, true, cond, List, [], ◌∷◌, ◌++◌, length, take, Option, Some, None, is_some}
+use Rattle.std.proofs.Common.{◌≡◌, ℕ, ◌+◌, ◌≤◌, Bool, true, cond, List, [], ◌∷◌, ◌++◌, length, take, Option, Some, None, is_some}
 use Rattle.std.proofs.Common.{option_map, option_and_then, refl, sym, ap, ◌∙◌, append-nil, arith, length-append}
 use Rattle.std.{proofs.Math.Seq.take-append_seam, proofs.lemmas.Option.{none-some, same_Some, slice_get_within}}
 use Rattle.std.{proofs.lemmas.List.length-take-le, specs.List.slice_get}
-use Rattle.yq_core.{specs.Answers.◌>>=◌, specs.Paths.Step, proofs.Bools.bind_some, specs.Collections.CollPieces}
+use Rattle.yq_core.{specs.Answers.◌>>=◌, specs.Paths.Step, proofs.Bools.bind_some}
 use Rattle.yq_outline.{specs.Ends.{found_line, line_at_steps}, specs.Group.group, specs.Outline.{Line, level}}
-use Rattle.yq_outline.{specs.Places.{FoundLine, find, lines_before}, specs.Comments.head_comment, specs.Lines.{head_of, lines_of_rows}}
+use Rattle.yq_outline.{specs.Places.{FoundLine, find}, specs.Comments.head_comment, specs.Lines.{head_of, lines_of_rows}}
 use Rattle.yq_row_table.{specs.Exchange.behind_row, specs.Rows.{Cut, Part, Row, cut_text, rows_text}}
-use Rattle.yq_documents.{specs.Documents.document_parts, specs.LinesInRows.{RowLine, document_row, row_line, row_line_of}}
-use Rattle.yq_documents.specs.Reading.{read_at}
+use Rattle.yq_documents.{specs.LinesInRows.{RowLine, document_row, row_line, row_line_of}, specs.Reading.read_at}
 use Rattle.yq_places.{specs.FlowNodes.{content_flow, flow_collection, line_collection}, specs.FlowViews.LeadsToHead}
 use Rattle.yq_places.specs.PlacedRows.{PlacedPart, placed_document}
 use Rattle.yq_places.specs.NodeReading.{at_head, at_lines, head_line_of, line_with_steps, place_line, with_steps}

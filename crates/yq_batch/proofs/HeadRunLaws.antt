@@ -1,18 +1,17 @@
 -- A run that changes the collections of a head begins after the row that was changed last, and the rows after the head's own stay.
-use Rattle.std.proofs.Common.{◌≡◌, inr, ℕ, suc, ◌+◌, ◌≤◌, true, List, [], ◌∷◌, ◌++◌, length, map, Option, Some, is_some, option_map, refl}
-use Rattle.std.{proofs.Common.{sym, ap, ◌∙◌, subst, arith, string_bytes}, specs.Prelude.IfSome, proofs.lemmas.Option.same_Some}
-use Rattle.std.specs.List.{slice_get}
+use Rattle.std.proofs.Common.{◌≡◌, ℕ, suc, ◌+◌, true, List, [], ◌∷◌, ◌++◌, length, Option, Some, is_some, option_map, refl, sym, ap, ◌∙◌}
+use Rattle.std.{proofs.Common.{subst, arith, string_bytes}, specs.Prelude.IfSome, proofs.lemmas.Option.same_Some}
 use Rattle.yq_core.{specs.Answers.◌>>=◌, specs.Paths.Step, specs.Collections.{CollPieces, collection_put}, specs.Entries.item_at}
 use Rattle.yq_core.specs.Nodes.{FlowNode, Items}
-use Rattle.yq_outline.{specs.Ends.line_at_steps, specs.Places.lines_before, specs.Lines.{head_of, lines_of_rows}}
+use Rattle.yq_outline.{specs.Ends.line_at_steps, specs.Lines.{head_of, lines_of_rows}}
 use Rattle.yq_row_table.{specs.Exchange.with_content, specs.Rows.{Content, Cut, Inline, Part, Row, cut_text, parent_indent, rows_text}}
 use Rattle.yq_row_table.proofs.splices.SpliceTexts.{own_gap}
-use Rattle.yq_documents.{specs.LinesInRows.{RowLine, row_line, row_line_of}, specs.Reading.{cut_of, read_at}}
-use Rattle.yq_places.{specs.FlowNodes.{content_flow, flow_collection}, specs.FlowViews.LeadsToHead, specs.NodeReading.head_line_of}
+use Rattle.yq_documents.{specs.LinesInRows.{RowLine, row_line}, specs.Reading.{cut_of, read_at}}
+use Rattle.yq_places.{specs.FlowNodes.flow_collection, specs.FlowViews.LeadsToHead, specs.NodeReading.head_line_of}
 use Rattle.yq_places.{specs.Standings.{RowsOfEntry, behind_entry, rows_of_entry}, specs.StandingViews.IsHeldRow}
 use Rattle.yq_places.{specs.declared.places.held_row.HeldRow.HeldRow, proofs.HeldRowLaws.no_root_rows}
 use Rattle.yq_places.proofs.FlowViewLaws.{head_found, numbered}
-use Rattle.yq_edit_rules.{specs.Changed.put_document, specs.FlowRows.{FlowAt, InlineRow, behind_node, with_node}, specs.Rooms.row_shape}
+use Rattle.yq_edit_rules.{specs.Changed.put_document, specs.FlowRows.{FlowAt, InlineRow, behind_node, with_node}}
 use Rattle.yq_edit_rules.{specs.RowStays.{IsBehind, StandsStill, StaysFrom}, proofs.FlowRowLaws.node_holds}
 use Rattle.yq_edit_rules.{proofs.RowStayLaws.{rows_stay_there, there_still}, proofs.ShapeLaws.line_by_shape, proofs.StandingMarks.row_there}
 use Rattle.yq_edit_rules.proofs.StandingRows.{rows_stand}

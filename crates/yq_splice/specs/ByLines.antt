@@ -1,6 +1,6 @@
 -- Operations carried out together on a text that was read once (own).
-use Rattle.std.specs.Prelude.{◌≡◌, ◌<◌, ℕ, List, length, string_bytes}
-use Rattle.yq_semantics.{specs.Operations.operations_of, specs.declared.op.Op.Op}
+use Rattle.std.specs.Prelude.{◌≡◌, ◌<◌, length, string_bytes}
+use Rattle.yq_semantics.specs.Operations.{operations_of}
 use Rattle.yq_edit_laws.specs.Valid.{AreServed}
 use Rattle.yq_batch.{specs.RowRemovals.all_of, specs.declared.together.Together.Together}
 

@@ -1,8 +1,7 @@
-use Rattle.std.proofs.Common.{◌≡◌, List, ℕ, Option, length, map, refl, sym, ap, ◌∙◌, subst, arith, length-append}
-use Rattle.std.{proofs.lemmas.List.length-map, specs.Prelude.IfSome}
+use Rattle.std.{proofs.Common.{◌≡◌, List, ℕ, length, map, refl, sym, ap, ◌∙◌, subst, arith, length-append}, proofs.lemmas.List.length-map}
 use Rattle.yq_core.{specs.Paths.Step, specs.Entries.tree_step}
 use Rattle.yq_documents.specs.Reading.{cut_of}
-use Rattle.yq_places.{specs.FlowViews.{IsHeadFor, ReportsHead}, specs.declared.places.flow_node.FlowHead.FlowHead}
+use Rattle.yq_places.specs.FlowViews.{IsHeadFor, ReportsHead}
 use Rattle.yq_batch.{specs.HeadRuns.IsRowAt, proofs.HeadRunLaws.some_is, proofs.RunAnswers.stem_is}
 use Rattle.yq_batch.proofs.heads.head_for.Goals as goal
 

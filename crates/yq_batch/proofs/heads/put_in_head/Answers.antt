@@ -1,4 +1,4 @@
-use Rattle.std.{proofs.Common.{◌≡◌, ◌∙◌, ℕ, List, refl, subst}, proofs.lemmas.Result.err_from_is_err_and}
+use Rattle.std.{proofs.Common.{◌∙◌, ℕ, List, refl, subst}, proofs.lemmas.Result.err_from_is_err_and}
 use Rattle.yq_edit_laws.{specs.Answers.EditFails, proofs.OperationsLaws.{first_fails, first_fits, others_come, others_served}}
 use Rattle.yq_batch.specs.FilledRuns.{filled_text}
 use Rattle.yq_batch.proofs.heads.put_in_head.Goals as goal
