@@ -1,9 +1,8 @@
 -- The effects of commands, from the contracts of the calls of which they are made.
 use Rattle.std.proofs.Common.{rules, ◌≡◌, ◌⊎◌, ℕ, Bool, true, false, ◌==◌, List, [], Option, Some, None, Result, Ok, Err, OnOk, OnErr}
 use Rattle.std.{proofs.Common.{IfErr, IsTrue, if◌then◌else◌, sym, ap, ◌∙◌, subst, refl}, specs.FinMap.get}
-use Rattle.yq_journal.{specs.declared.fault.JournalError.JournalError, specs.declared.fault.JournalFault.JournalFault}
-use Rattle.yq_journal.{specs.declared.moves.Move.Move, specs.Good.journal_beside, specs.Record.Record}
-use Rattle.yq_journal.specs.Refusals.{ErrorIs, Reports, no_way, way_fault, squash_fault}
+use Rattle.yq_journal.{specs.declared.fault.JournalError.JournalError, specs.declared.moves.Move.Move, specs.Good.journal_beside}
+use Rattle.yq_journal.{specs.Record.Record, specs.Refusals.{ErrorIs, Reports, no_way, way_fault, squash_fault}}
 use Rattle.yq_journal.specs.State.{State, journal_after, moved_text, with_move, settled_beside, squashed}
 use Rattle.yq_history.{specs.declared.fault.Fault.Fault, specs.declared.direction.Direction.Direction}
 use Rattle.yq_history.specs.Effects.{Effect, refuses, writes_nothing, writes_both, from_pair, from_journal, from_settled, goes_to}
@@ -11,9 +10,6 @@ use Rattle.yq_history.{specs.Effects.{move_effect, joins_to, squash_effect, IsCu
 use Rattle.yq_history.{specs.Output.{Output, bytes}, specs.Pair.IsJournal, specs.Causes.named, specs.Directions.walk_move}
 use Rattle.yq_history.proofs.MoveLaws.{IsMove}
 use Rattle.yq_store.specs.FileMap.{FileMap}
-use Rattle.yq_journal.specs.declared.fault.JournalError.TheVariants as error
-use Rattle.yq_journal.specs.declared.fault.JournalFault.TheVariants as journal
-use Rattle.yq_history.specs.declared.fault.Fault.TheVariants as fault
 
 pub on_ok : {T E P : Type 0} (r : Result T E) → P → OnOk r P
 on_ok r p = search rules

@@ -1,7 +1,7 @@
 -- What each write of a move leaves, and how a move ends.
 use Rattle.std.proofs.Common.{rules, ◌≡◌, ◌≢◌, ◌⊎◌, ℕ, true, false, List, Option, Some, None, Result, Err, OnOk, OnErr, IfErr, IsTrue}
-use Rattle.std.{proofs.Common.{IsNone, option_map, if◌then◌else◌, sym, ap, ◌∙◌, subst, refl}, specs.FinMap.{get, insert}}
-use Rattle.std.{specs.Str.bytes_eq, proofs.lemmas.Option.same_Some, proofs.lemmas.Slice.Eq.bytes_eq-Decides}
+use Rattle.std.{proofs.Common.{IsNone, option_map, sym, ap, ◌∙◌, subst, refl}, specs.FinMap.{get, insert}, specs.Str.bytes_eq}
+use Rattle.std.{proofs.lemmas.Option.same_Some, proofs.lemmas.Slice.Eq.bytes_eq-Decides}
 use Rattle.yq_journal.{specs.declared.fault.JournalError.JournalError, specs.declared.fault.JournalFault.JournalFault}
 use Rattle.yq_journal.{specs.declared.moves.Move.Move, specs.Good.{AtRest, Describes, after_move, journal_beside, step_fault}}
 use Rattle.yq_journal.{specs.Json.journal_text, specs.Record.Record, specs.History.History, specs.Refusals.{ErrorIs, no_way, way_fault}}
@@ -13,8 +13,6 @@ use Rattle.yq_history.specs.Faults.{is_outer_fault, of_fault, of_journal}
 use Rattle.yq_history.{specs.Pair.{Arrives, GoodIn, IsJournal, PairAtRest, PairStands, Writes}, specs.Steps.{move_cause, move_next}}
 use Rattle.yq_history.{specs.Directions.walk_move, specs.declared.direction.Direction.Direction}
 use Rattle.yq_store.specs.FileMap.{FileMap, get_written, get_other}
-use Rattle.yq_journal.specs.declared.fault.JournalError.TheVariants as error
-use Rattle.yq_journal.specs.declared.fault.JournalFault.TheVariants as journal
 
 moved_closed : (s : State) (step : Move) → (journal_after s step).pending ≡ None
 moved_closed s step = search rules
