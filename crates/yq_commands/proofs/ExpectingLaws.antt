@@ -1,5 +1,5 @@
 -- Whether an edit changes what it is asked to change, told of its outcome, its effect and its history.
-use Rattle.std.proofs.Common.{rules, ◌≡◌, ℕ, Bool, true, false, not, ◌&&◌, List, [], Option, Some, Result, Ok, OnOk, if◌then◌else◌, ap, ◌∙◌}
+use Rattle.std.proofs.Common.{rules, ◌≡◌, ℕ, Bool, true, false, not, ◌&&◌, List, [], Option, Some, Result, Ok, OnOk, if◌then◌else◌, ap}
 use Rattle.std.{proofs.lemmas.Option.same_Some, specs.FinMap.get, specs.Str.bytes_eq}
 use Rattle.yq_semantics.specs.Program.{Program}
 use Rattle.yq_journal.{specs.History.History, specs.State.State}

@@ -1,8 +1,8 @@
 -- Runs of commands.
-use Rattle.std.proofs.Common.{rules, ◌≡◌, ◌⊎◌, inl, inr, ℕ, ◌+◌, Bool, true, false, ◌&&◌, not, if◌then◌else◌, List, [], ◌∷◌, Option, Some}
-use Rattle.std.{proofs.Common.{None, Result, Ok, Err, OnOk, MatchBool, IfErr, sym, ap, ◌∙◌, subst, refl}, proofs.lemmas.Bool.and_parts}
+use Rattle.std.proofs.Common.{rules, ◌≡◌, ◌⊎◌, inl, inr, ℕ, Bool, true, false, ◌&&◌, not, if◌then◌else◌, List, [], ◌∷◌, Option, Some, None}
+use Rattle.std.{proofs.Common.{Result, Ok, Err, OnOk, MatchBool, IfErr, sym, ap, ◌∙◌, subst, refl}, proofs.lemmas.Bool.and_parts}
 use Rattle.std.specs.List.{list_all}
-use Rattle.yq_journal.{specs.declared.moves.Move.Move, specs.History.{History, after_edit}}
+use Rattle.yq_journal.specs.History.{History, after_edit}
 use Rattle.yq_commands.{specs.declared.answer.Answer.Answer, specs.declared.answer.Answer.TheVariants.{Done, NoMatch, Refused}}
 use Rattle.yq_commands.specs.Lists.{answer_by, Reply, answers_in, IsAnswer, CommandRefused, IsCarriedOut, RunsCommand, Goes, RunsAll}
 use Rattle.yq_commands.specs.Lists.{IsReply, StepsExactly, GoesExactly, RunExactly, reports_failure, reports_output, count_passing}
@@ -12,7 +12,6 @@ use Rattle.yq_args.specs.declared.command.Command.{Command}
 use Rattle.yq_history.{specs.declared.fault.Fault.Fault, specs.Causes.{Cause, IsFor, named}, specs.Faults.{is_outer_fault, is_output}}
 use Rattle.yq_history.{specs.Output.{Showing, Shows}, specs.Pair.{GoodIn, Arrives}, specs.Report.Report}
 use Rattle.yq_store.specs.FileMap.{FileMap}
-use Rattle.yq_journal.specs.declared.moves.Move.TheVariants as move
 use Rattle.yq_history.specs.declared.fault.Fault.TheVariants as fault
 
 module _ (e : FileMap) (f j : List ℕ) (c : Command) (h : Option History) where

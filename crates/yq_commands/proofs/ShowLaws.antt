@@ -18,7 +18,6 @@ use Rattle.yq_commands.{specs.Editing.{EditOutcome, edited, Refuses, program_edi
 use Rattle.yq_commands.specs.Evaluation.{of_file, IsShowing, show_edit, show_found, show_read, shows, cause_in, report_in, edit_output}
 use Rattle.yq_commands.{proofs.EditingLaws.unread_text, specs.Expecting.{change_output, changes_as_expected}}
 use Rattle.yq_text.specs.Splice.{Splice}
-use Rattle.yq_core.specs.declared.fault.ReadError.TheVariants as reading
 use Rattle.yq_history.specs.declared.report.Report as declared
 use Rattle.yq_semantics.specs.Judgement as judgement
 use Rattle.yq_semantics.specs.declared.expr_error.ExprError.TheVariants as matching
