@@ -14,7 +14,7 @@ const PLAIN: &str = "\x1b[0m";
 /// Whether what a command prints goes to a terminal as a diff in colours.
 pub fn has_colours(rt: &HostRuntime, command: &Command) -> bool {
     let is_diff = match command {
-        Command::Eval { options, .. } => options.diff,
+        Command::Eval { words, .. } => words.options.diff,
         Command::History { diffs, .. } => *diffs,
         _ => false,
     };

@@ -50,8 +50,8 @@ fn lines_of(
 ) -> Result<String, Fault> {
     let (file, _) = purpose_of(command);
     match (fault, command) {
-        (Some(Fault::Syntax | Fault::NotInProfile | Fault::Pattern), Command::Eval { expr, .. }) =>
-            Ok(expression_lines(rt.alloc(), expr.as_str(), code)?),
+        (Some(Fault::Syntax | Fault::NotInProfile | Fault::Pattern), Command::Eval { words, .. }) =>
+            Ok(expression_lines(rt.alloc(), words.expr.as_str(), code)?),
         (Some(Fault::Unreadable(place)), _) => {
             let bytes = bytes_of(rt, file);
             let mut text = place_lines(rt.alloc(), file, bytes.as_deref(), place)?;
@@ -62,8 +62,8 @@ fn lines_of(
             let mut text = String::from_str(rt.alloc(), "FILE: ")?;
             push_name(&mut text, file)?;
             text.push('\n')?;
-            if let (Some(Fault::Refused(why)), Command::Eval { expr, .. }) = (fault, command) {
-                push_value(rt, &mut text, file, expr.as_str(), why)?;
+            if let (Some(Fault::Refused(why)), Command::Eval { words, .. }) = (fault, command) {
+                push_value(rt, &mut text, file, words.expr.as_str(), why)?;
             }
             push_rows(&mut text, code, false)?;
             Ok(text)

@@ -60,7 +60,7 @@ fn is_started(
         return journal.start(step, text).is_ok();
     }
     match Vec::from_slice(alloc, text) {
-        Ok(text) => journal.start_with(step, text).is_ok(),
+        Ok(text) => journal.start_known(step, text, &led).is_ok(),
         Err(_) => false,
     }
 }

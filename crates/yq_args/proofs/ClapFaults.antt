@@ -1,8 +1,8 @@
 -- Words at which no step of clap's reading fails are words that clap takes.
-use Rattle.std.proofs.Common.{rules, ◌≡◌, ◌∙◌, ◌&&◌, ◌||◌, ◌==◌, not, subst, Result, Ok, Err, IfOk, ℕ, zero, suc, Bool, true, false, cond}
-use Rattle.std.proofs.Common.{List, [], ◌∷◌, length, drop, Option, Some, None, is_some, if◌then◌else◌, refl, ap, find, encode_utf8}
-use Rattle.std.{proofs.Common.{slice_get, ◌+◌}, proofs.lemmas.Bool.{and_from, and_parts}, specs.List.{list_all, list_any}}
-use Rattle.std.{specs.Option.option_map_or, specs.Str.{bytes_eq, chars}}
+use Rattle.std.proofs.Common.{rules, ◌≡◌, ◌∙◌, ◌&&◌, ◌||◌, not, subst, Result, Ok, Err, IfOk, ℕ, zero, suc, Bool, true, false, cond, List}
+use Rattle.std.proofs.Common.{[], ◌∷◌, length, drop, Option, Some, None, is_some, if◌then◌else◌, refl, ap, find, encode_utf8, slice_get}
+use Rattle.std.{proofs.lemmas.Bool.{and_from, and_parts}, specs.List.{list_all, list_any}, specs.Option.option_map_or}
+use Rattle.std.specs.Str.{bytes_eq, chars}
 use Rattle.clap.{specs.Lexer.{long_of, short_of}, specs.Facts.{explicit_source, parser_of_value}}
 use Rattle.clap.specs.Kinds.{FailsBy, Kinds, or_else, value_kinds}
 use Rattle.clap.specs.Simple.{App, HasMatchesOf, Shape, argument_words, built, entered, label_of, names_of, subcommand_of}

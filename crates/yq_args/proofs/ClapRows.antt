@@ -1,6 +1,6 @@
 -- Rows of clap's matches: each has a value, where each use of an argument passes.
-use Rattle.std.proofs.Common.{rules, if◌then◌else◌, ◌≡◌, ◌<◌, ◌+◌, ◌||◌, ◌⊎◌, not, ℕ, Bool, true, false, List, [], ◌∷◌, ◌++◌, length}
-use Rattle.std.proofs.Common.{nat_le, Some, is_some, slice_get, option_and_then, cond, refl, arith, length-append, find, fold}
+use Rattle.std.proofs.Common.{rules, if◌then◌else◌, ◌≡◌, ◌<◌, ◌||◌, ◌⊎◌, not, ℕ, Bool, true, false, List, [], ◌∷◌, ◌++◌, length, nat_le}
+use Rattle.std.proofs.Common.{Some, is_some, slice_get, option_and_then, cond, refl, arith, length-append, find, fold}
 use Rattle.std.{specs.Option.option_map_or, specs.Str.bytes_eq}
 use Rattle.clap.{specs.Facts.{unwrap_or_range, explicit_source}, specs.Matches.count_text, specs.Takes.{use_passes, is_given}}
 use Rattle.clap.specs.Values.{is_request}

@@ -1,6 +1,6 @@
 -- Texts of decimal digits.
-use Rattle.std.proofs.Common.{rules, ◌≡◌, ◌≢◌, ◌&&◌, ◌<◌, ◌^◌, ℕ, Bool, true, List, length, nat_lt, if◌then◌else◌, None, Result, ◌∙◌, arith}
-use Rattle.std.{proofs.Common.get_or, proofs.lemmas.Bool.and_from, specs.Result.result_ok, specs.Str.all_ascii_digits}
+use Rattle.std.proofs.Common.{rules, ◌≡◌, ◌≢◌, ◌&&◌, ◌<◌, ◌^◌, ℕ, Bool, true, List, length, nat_lt, None, Result, arith, get_or}
+use Rattle.std.{proofs.lemmas.Bool.and_from, specs.Result.result_ok, specs.Str.all_ascii_digits}
 use Rattle.std.specs.Str.Parse.{ParsesUnsigned, digits_value}
 use Rattle.std.proofs.lemmas.Str.Parse.{IsNumeralModel, numerals_by_value, tells_all_ascii_digits, parse_plain, not_in_digits}
 use Rattle.std.proofs.lemmas.Bool.Decides.{nat_tests}

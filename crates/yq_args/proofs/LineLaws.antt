@@ -5,7 +5,7 @@ use Rattle.clap.{specs.Words.{App, AddsArg, AddsSubcommand, app_of, rule_of}, sp
 use Rattle.clap.{specs.declared.builder.command.Command.Command, specs.declared.builder.command.Command.TheViews.out-Command as fields_of}
 use Rattle.yq_args.{specs.declared.line.Argument.Argument, specs.declared.line.Argument.TheVariants.Inplace}
 use Rattle.yq_args.{specs.declared.line.SubCommand.SubCommand, specs.declared.line.SubCommand.TheVariants.Eval}
-use Rattle.yq_args.specs.Parts.{argument_rule, command_app, with_arguments, with_commands}
+use Rattle.yq_args.specs.Line.{argument_rule, command_app, with_arguments, with_commands}
 
 -- what is left of the arguments, one argument more
 module _ (old : Command) (arg : Arg) (new : Command) (adds : AddsArg old arg new) (local : arg.global ≡ false) where

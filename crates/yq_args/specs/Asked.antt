@@ -6,6 +6,7 @@ use Rattle.std.{specs.Str.Parse.digits_value, specs.String.string_bytes}
 use Rattle.clap.specs.Words.{IsAmong, Row, Text, fault_of, first_of, one_of, subcommand_of, takes}
 use Rattle.clap.{specs.declared.error.kind.ErrorKind.ErrorKind, specs.declared.error.kind.ErrorKind.TheVariants.DisplayHelp}
 use Rattle.yq_args.{specs.declared.command.Command.Command, specs.declared.eval_options.EvalOptions.EvalOptions}
+use Rattle.yq_args.specs.declared.eval_words.EvalWords.{EvalWords}
 use Rattle.yq_args.specs.declared.command.Command.TheVariants.{Eval, Undo, Redo, History, Squash, Help}
 use Rattle.yq_args.{specs.declared.cause.UsageCause.UsageCause, specs.CommandWords.with_command, specs.Line.yq}
 use Rattle.yq_args.specs.Setting.{asked_expression}
@@ -89,19 +90,21 @@ pub record HasOptions (rows : List Row) (options : EvalOptions) : Type 0 where
   pub diff : IsSwitch (one_of (codes "diff") rows) options.diff
   pub expect_change : IsSwitch (one_of (codes "expect-change") rows) options.expect_change
 
+-- the texts and options of `eval` are those that clap finds; with `--text` its expression is the one that puts that text to the places of EXPR
+pub record AsksEval (rows : List Row) (words : EvalWords) : Type 0 where
+  pub expr_is : option_map (asked_expression (first_of (codes "text") rows)) (first_of (codes "expr") rows) ≡ Some (string_bytes words.expr)
+  pub names : HasNames rows (string_bytes words.file) (string_bytes words.journal)
+  pub options : HasOptions rows words.options
+
 -- the command's word is this one, and what comes after it has this property
 abbrev pub CommandIs : Text → (List Row → Type 0) → Option (Text × List Row) → Type 0
 CommandIs name holds None = ⊥
 CommandIs name holds (Some found) = (found.0 ≡ name) × holds found.1
 
--- the command is the one that clap finds, with its texts and switches; with `--text` its expression is the one that puts that text to the
--- places of EXPR; of help nothing is said
+-- the command is the one that clap finds, with its texts and switches; of help nothing is said
 abbrev pub IsAsked : Option (Text × List Row) → Command → Type 0
-IsAsked found (Eval expr file journal in_place options) = CommandIs (codes "eval") (λ rows.
-    (option_map (asked_expression (first_of (codes "text") rows)) (first_of (codes "expr") rows) ≡ Some (string_bytes expr))
-    × HasNames rows (string_bytes file) (string_bytes journal)
-    × IsSwitch (one_of (codes "inplace") rows) in_place
-    × HasOptions rows options) found
+IsAsked found (Eval words in_place) =
+    CommandIs (codes "eval") (λ rows. AsksEval rows words × IsSwitch (one_of (codes "inplace") rows) in_place) found
 IsAsked found (Undo file journal) = CommandIs (codes "undo") (λ rows. HasNames rows (string_bytes file) (string_bytes journal)) found
 IsAsked found (Redo file journal) = CommandIs (codes "redo") (λ rows. HasNames rows (string_bytes file) (string_bytes journal)) found
 IsAsked found (History file journal diffs) = CommandIs (codes "history") (λ rows.

@@ -2,7 +2,6 @@ pub mod Asked
 pub mod JournalNames
 pub mod OtherJournal
 pub mod Line
-pub mod Parts
 pub mod Setting
 pub mod CommandWords
 pub mod Named

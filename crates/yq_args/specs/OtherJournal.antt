@@ -7,7 +7,7 @@ use Rattle.yq_args.specs.declared.command.Command.TheVariants.{Eval, Undo, Redo,
 
 -- the same command, with this journal
 abbrev pub with_journal : Command → String Global → Command
-with_journal (Eval expr file old in_place options) journal = Eval expr file journal in_place options
+with_journal (Eval words in_place) journal = Eval (record words { journal = journal }) in_place
 with_journal (Undo file old) journal = Undo file journal
 with_journal (Redo file old) journal = Redo file journal
 with_journal (History file old diffs) journal = History file journal diffs
@@ -16,7 +16,7 @@ with_journal Help journal = Help
 
 -- the file of the command has this name
 abbrev pub names_file : Command → List ℕ → Bool
-names_file (Eval expr file journal in_place options) name = bytes_eq name (string_bytes file)
+names_file (Eval words in_place) name = bytes_eq name (string_bytes words.file)
 names_file (Undo file journal) name = bytes_eq name (string_bytes file)
 names_file (Redo file journal) name = bytes_eq name (string_bytes file)
 names_file (History file journal diffs) name = bytes_eq name (string_bytes file)

@@ -7,7 +7,7 @@ ghost use Rattle.yq_args.specs.Asked as spec;
 use crate::cause::WordsError;
 use crate::command::Command;
 use crate::setting::expression;
-use crate::{EvalOptions, UsageCause};
+use crate::{EvalOptions, EvalWords, UsageCause};
 use clap::ArgMatches;
 use std::alloc::{AllocError, Global};
 
@@ -94,11 +94,13 @@ fn eval_in(alloc: Global, matches: &ArgMatches) -> Result<Command, WordsError>
         return Err(WordsError::Fault(UsageCause::Words));
     };
     Ok(Command::Eval {
-        expr: expression(alloc, expr, text_of(matches, "text"))?,
-        file,
-        journal,
+        words: EvalWords {
+            expr: expression(alloc, expr, text_of(matches, "text"))?,
+            file,
+            journal,
+            options: options_of(matches),
+        },
         in_place: switch_of(matches, "inplace"),
-        options: options_of(matches),
     })
 }
 

@@ -2,18 +2,15 @@
 ghost use Rattle.std.specs.Prelude.{◌≡◌, IfOk, IfErr, string_bytes, false};
 ghost use Rattle.yq_args.specs.OtherJournal as spec;
 
-use crate::{EvalOptions, UsageCause};
+use crate::{EvalWords, UsageCause};
 
 /// What the words of a command line ask for. A command's journal has another name than its file.
 #[derive(Drop)]
 pub enum Command {
     /// Reads or edits a file by an expression.
     Eval {
-        expr: String,
-        file: String,
-        journal: String,
+        words: EvalWords,
         in_place: bool,
-        options: EvalOptions,
     },
     /// Takes the last edit of a file back.
     Undo {
@@ -48,8 +45,8 @@ impl Command {
         ensures { result ≡ spec.names_file self.now name.now }
     {
         match self {
-            Command::Eval { file, .. }
-            | Command::Undo { file, .. }
+            Command::Eval { words, .. } => name == words.file.as_str(),
+            Command::Undo { file, .. }
             | Command::Redo { file, .. }
             | Command::History { file, .. }
             | Command::Squash { file, .. } => name == file.as_str(),
@@ -67,18 +64,9 @@ impl Command {
             return Err(UsageCause::JournalIsFile);
         }
         match self {
-            Command::Eval {
-                expr,
-                file,
-                journal: _old,
+            Command::Eval { words, in_place } => Ok(Command::Eval {
+                words: EvalWords { journal, ..words },
                 in_place,
-                options,
-            } => Ok(Command::Eval {
-                expr,
-                file,
-                journal,
-                in_place,
-                options,
             }),
             Command::Undo {
                 file,

@@ -2,7 +2,7 @@
 ghost use Rattle.std.specs.Prelude.{◌≡◌, IfOk, IfErr, false, true, map};
 ghost use Rattle.clap.specs.Words.{app_of, rule_of, new_app, subcommand_rows_of, subcommand_of, takes, fault_of, FailsBy, kind_of};
 ghost use Rattle.clap.specs.declared.builder.command.Command.TheViews.{out-Command as fields_of};
-ghost use Rattle.yq_args.specs.Parts.{argument_rule, command_app, with_arguments};
+ghost use Rattle.yq_args.specs.Line.{argument_rule, command_app, with_arguments};
 ghost use Rattle.yq_args.specs.Line as spec;
 
 use clap::error::ErrorKind;

@@ -4,8 +4,7 @@ use Rattle.yq_semantics.specs.Program.{Program}
 use Rattle.yq_args.specs.declared.command.Command.{Command}
 use Rattle.yq_history.{specs.declared.fault.Fault.Fault, specs.Report.Report, specs.Calls.CallsOnPair, specs.Effects.Effect}
 use Rattle.yq_store.specs.Calls.{Call}
-use Rattle.yq_commands.{specs.declared.answer.Answer.Answer, specs.Lists.IsAnswer}
-use Rattle.yq_commands.specs.Calls.{CallsOf, CallsOfAll, CallsOfEvaluation, CallsOfUpdate, IfProgram}
+use Rattle.yq_commands.{specs.declared.answer.Answer.Answer, specs.Lists.IsAnswer, specs.Calls.{CallsOf, CallsOfAll, IfProgram}}
 use Rattle.yq_journal.specs.State.{State}
 
 module _ {S : Type 0} (leads : S → Call → S → Type 0) where
@@ -24,13 +23,6 @@ module _ {S : Type 0} (leads : S → Call → S → Type 0) where
   module _ {T : Type 0} (r : Result T Fault) where
     pub pair_calls : (x y f j : List ℕ) → x ≡ f → y ≡ j → (go : List ℕ → State → Effect) (s t : S) → CallsOnPair leads r x y go s t → CallsOnPair leads r f j go s t
     pair_calls x y f j file_is journal_is go s t k = subst (λ z. CallsOnPair leads r z j go s t) file_is (subst (λ z. CallsOnPair leads r x z go s t) journal_is k)
-
-    pub evaluation_calls : (x f e expr : List ℕ) → x ≡ f → e ≡ expr → (s t : S) → CallsOfEvaluation leads r e x s t → CallsOfEvaluation leads r expr f s t
-    evaluation_calls x f e expr file_is is s t k = subst (λ z. CallsOfEvaluation leads r expr z s t) file_is (subst (λ z. CallsOfEvaluation leads r z x s t) is k)
-
-    pub update_calls : (x y f j : List ℕ) → x ≡ f → y ≡ j → (e expr : List ℕ) → e ≡ expr → (s t : S) → CallsOfUpdate leads r e x y s t → CallsOfUpdate leads r expr f j s t
-    update_calls x y f j file_is journal_is e expr is s t k =
-        subst (λ z. CallsOfUpdate leads r expr z j s t) file_is (subst (λ z. CallsOfUpdate leads r expr x z s t) journal_is (subst (λ z. CallsOfUpdate leads r z x y s t) is k))
 
   -- one command more
   pub calls_more : (cs : List Command) (as' : List Answer) (c : Command) (r : Result (Unit {0}) Fault) (a : Answer) (o : Report) (s m t : S) →

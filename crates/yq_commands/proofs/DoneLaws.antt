@@ -1,9 +1,9 @@
 -- What a command does where a call within it failed, or its text stays equal.
 use Rattle.std.proofs.Common.{rules, ◌≡◌, ◌≢◌, ℕ, Bool, true, false, List, Option, None, Result, Ok, Err, OnOk, sym, ap, subst, refl}
-use Rattle.std.specs.FinMap.{get}
+use Rattle.std.{proofs.Common.string_bytes, specs.FinMap.get}
 use Rattle.yq_semantics.specs.Program.{Program}
 use Rattle.yq_journal.{specs.History.History, specs.State.State}
-use Rattle.yq_args.specs.declared.eval_options.EvalOptions.{EvalOptions}
+use Rattle.yq_args.{specs.declared.eval_options.EvalOptions.EvalOptions, specs.declared.eval_words.EvalWords.EvalWords}
 use Rattle.yq_store.{specs.FileMap.FileMap, specs.declared.store.FileReadError.FileReadError}
 use Rattle.yq_history.{specs.declared.fault.Fault.Fault, specs.Causes.{Cause, IsFor, named}, specs.Faults.{is_outer_fault, of_read}}
 use Rattle.yq_history.{specs.Effects.{Effect, from_names, refuses}, specs.Output.Showing, specs.Pair.{Arrives, GoodIn, Opens}}
@@ -77,3 +77,11 @@ module _ (options : EvalOptions) (expr f : List ℕ) (c : FileMap) {T : Type 0} 
   -- it is one
   pub parsed_shows : (p : Program) (d : FileMap) → program_in expr ≡ Ok p → Evaluates (of_file (shows options p)) f c d r s → Evaluates (evaluated options (program_in expr)) f c d r s
   parsed_shows p d is k = search rules
+
+-- ---- by the words of `eval`
+
+-- what holds of their bytes holds of them
+pub by_words : (w : EvalWords) (x f j : List ℕ) → x ≡ string_bytes w.expr → f ≡ string_bytes w.file → j ≡ string_bytes w.journal →
+    (P : List ℕ → List ℕ → List ℕ → Type 0) → P x f j → P (string_bytes w.expr) (string_bytes w.file) (string_bytes w.journal)
+by_words w x f j expr_is file_is journal_is P h =
+    subst (λ y. P y (string_bytes w.file) (string_bytes w.journal)) expr_is (subst (λ y. P x y (string_bytes w.journal)) file_is (subst (P x f) journal_is h))

@@ -11,8 +11,6 @@ use Rattle.yq_history.specs.Causes.{IsUnreadable}
 use Rattle.yq_commands.specs.Editing.{Refuses, program_edits, program_in, unreadable, edit_outcome}
 use Rattle.yq_commands.specs.CommandFaults.{of_edit, of_parse}
 use Rattle.yq_expr_parser.{specs.declared.error.ParseError.ParseError, specs.Outcome.AnswersError, specs.Parse.outcome}
-use Rattle.yq_edit_laws.specs.declared.edit_error.EditError.TheVariants as error
-use Rattle.yq_expr_parser.specs.declared.error.ParseError.TheVariants as parse
 
 -- bytes that are no UTF-8
 pub not_read : (t : List ℕ) → is_utf8 t ≡ false → read_at t ≡ None

@@ -1,14 +1,13 @@
 -- What a command comes to, by the contract of the call that carries it out.
-use Rattle.std.{proofs.Common.{rules, ap, ◌≡◌, ◌≢◌, ℕ, Bool, List, Option, Result, Ok, Err, OnOk, sym, ◌∙◌, subst}, specs.FinMap.get}
+use Rattle.std.{proofs.Common.{rules, ap, ◌≡◌, ◌≢◌, ℕ, Bool, List, Option, Result, Ok, Err, OnOk, refl, ◌∙◌, subst}, specs.FinMap.get}
 use Rattle.yq_journal.{specs.State.State, specs.History.History}
 use Rattle.yq_history.{specs.declared.fault.Fault.Fault, specs.Causes.Cause}
 use Rattle.yq_history.{specs.Effects.{Effect, Works, from_names, listing_effect, printed_by}, specs.Pair.{Arrives, GoodIn, OthersStay}}
 use Rattle.yq_history.{specs.Report.{Report, nothing}, specs.Output.{IsOutput, Shows, listing_output, showing, showing_nothing}}
 use Rattle.yq_args.specs.declared.eval_options.EvalOptions.{EvalOptions}
 use Rattle.yq_store.specs.FileMap.{FileMap}
-use Rattle.yq_commands.{specs.CommandEffects.{update_effect, output_by}, specs.CommandNames.Differs}
-use Rattle.yq_commands.{specs.CommandSteps.{update_cause, update_next}, specs.Editing.program_in}
-use Rattle.yq_commands.{specs.Evaluation.{cause_in, evaluated, report_in}, specs.FileEdits.{IsFileEdited, PrintsChange, PrintsUpdate}}
+use Rattle.yq_commands.{specs.CommandEffects.{update_effect, output_by}, specs.CommandNames.Differs, specs.Editing.program_in}
+use Rattle.yq_commands.{specs.Evaluation.{cause_in, evaluated, report_in}, specs.FileEdits.{IsFileEdited, PrintsChange}}
 use Rattle.yq_commands.specs.Expecting.{report_edit, works_as_expected}
 
 -- nothing is shown
@@ -34,43 +33,6 @@ module _ (s t f j : List ℕ) (file_is : s ≡ f) (journal_is : t ≡ j) where
   pub pair_others : (c d : FileMap) → OthersStay c d s t → (q : List ℕ) → Differs q f j → get d q ≡ get c q
   pair_others c d h q apart = h q (λ is. apart.0 (is ∙ file_is)) (λ is. apart.1 (is ∙ journal_is))
 
-  -- an edit in place, by the bytes of its expression
-  pub update_arrives : (c d : FileMap) {T : Type 0} (r : Result T Fault) (e x : List ℕ) → e ≡ x →
-      (s ≢ t → (h : Option History) → GoodIn c s t h → Arrives d s t (update_cause (program_in e) h) h (update_next e (program_in e) h) r) →
-      (file journal : List ℕ) → file ≢ journal → (f ≡ file) × (j ≡ journal) → (h : Option History) → GoodIn c file journal h → Arrives d file journal (update_cause (program_in x) h) h (update_next x (program_in x) h) r
-  update_arrives c d r e x is h = search rules
-
-  pub update_works : (c d : FileMap) {T : Type 0} (r : Result T Fault) (e x : List ℕ) → e ≡ x → (s ≢ t → Works (update_effect e (program_in e) (get c s) (get c t)) s t c d r) →
-      (file journal : List ℕ) → file ≢ journal → (f ≡ file) × (j ≡ journal) → Works (update_effect x (program_in x) (get c file) (get c journal)) file journal c d r
-  update_works c d r e x is h file journal apart on = search rules
-
-  pub update_edits : (c d : FileMap) {T : Type 0} (r : Result T Fault) (b : Bool) (o : List ℕ) (e x : List ℕ) → e ≡ x →
-      (s ≢ t → OnOk r (IsFileEdited e (get c s) (get d s) × PrintsChange b s (get c s) (get d s) o)) →
-      OnOk r (f ≢ j → IsFileEdited x (get c f) (get d f) × PrintsChange b f (get c f) (get d f) o)
-  update_edits c d (Ok v) b o e x is h = λ apart.
-      subst (λ y. IsFileEdited y (get c f) (get d f) × PrintsChange b f (get c f) (get d f) o) is
-      (subst (λ y. IsFileEdited e (get c y) (get d y) × PrintsChange b y (get c y) (get d y) o) file_is (h (λ same. apart (sym file_is ∙ same ∙ journal_is))))
-  update_edits c d (Err q) b o e x is h = tt
-
-  pub update_expects : (c : FileMap) {T : Type 0} (r : Result T Fault) (m b : Bool) (e x : List ℕ) → e ≡ x →
-      OnOk r (m ≡ works_as_expected b (update_effect e (program_in e) (get c s) (get c t))) →
-      (file journal : List ℕ) → (f ≡ file) × (j ≡ journal) → OnOk r (m ≡ works_as_expected b (update_effect x (program_in x) (get c file) (get c journal)))
-  update_expects c r m b e x is h file journal on = search rules
-
-  pub update_shows : (c : FileMap) {T : Type 0} (r : Result T Fault) (o : Report) (options : EvalOptions) (e x : List ℕ) → e ≡ x →
-      ((h : Option History) → GoodIn c s t h → OnOk r (Shows s (report_edit options (program_in e) h) o)) →
-      (file journal : List ℕ) → (f ≡ file) × (j ≡ journal) → (h : Option History) → GoodIn c file journal h → OnOk r (Shows f (report_edit options (program_in x) h) o)
-  update_shows c r o options e x is shows file journal on = search rules
-
-  pub update_lists : (c : FileMap) {T : Type 0} (r : Result T Fault) (o : List ℕ) (b : Bool) (e x : List ℕ) → e ≡ x →
-      (s ≢ t → OnOk r (IsOutput s (output_by b (get c s) (update_effect e (program_in e) (get c s) (get c t))) o)) →
-      (file journal : List ℕ) → (f ≡ file) × (j ≡ journal) → OnOk r (f ≢ j → IsOutput f (output_by b (get c file) (update_effect x (program_in x) (get c file) (get c journal))) o)
-  update_lists c (Ok v) o b e x is shows file journal on = λ apart.
-      by_names (λ u v. IsOutput f (output_by b (get c u) (update_effect x (program_in x) (get c u) (get c v))) o) file journal on
-      (subst (λ y. IsOutput y (output_by b (get c s) (update_effect x (program_in x) (get c s) (get c t))) o) file_is
-      (subst (λ y. IsOutput s (output_by b (get c s) (update_effect y (program_in y) (get c s) (get c t))) o) is (shows (λ same. apart (sym file_is ∙ same ∙ journal_is)))))
-  update_lists c (Err q) o b e x is shows file journal on = tt
-
   -- a listing
   pub listing_shows : (c : FileMap) {T : Type 0} (r : Result T Fault) (o : Report) (diffs : Bool) →
       ((h : Option History) → GoodIn c s t h → OnOk r (Shows s (showing (listing_output diffs h)) o)) →
@@ -82,18 +44,49 @@ module _ (s t f j : List ℕ) (file_is : s ≡ f) (journal_is : t ≡ j) where
       (file journal : List ℕ) → (f ≡ file) × (j ≡ journal) → OnOk r (IsOutput f (printed_by (from_names c file journal (listing_effect diffs))) o)
   listing_lists c r o diffs shows file journal on = search rules
 
--- ---- by the name of a file, and the bytes of an expression that isn't carried out in place
+-- ---- by the names of a file and a journal, and the bytes of an expression
 
-module _ (s f : List ℕ) (file_is : s ≡ f) (e x : List ℕ) (is : e ≡ x) (options : EvalOptions) where
+-- what a success gives under a condition
+on_ok_where : (P Q : Type 0) {T E : Type 0} (r : Result T E) → (P → OnOk r Q) → OnOk r (P → Q)
+on_ok_where P Q (Ok v) h = h
+on_ok_where P Q (Err e) h = tt
+
+-- an edit in place
+module _ (f j e : List ℕ) (c : FileMap) {T : Type 0} (r : Result T Fault) where
+  abbrev does : List ℕ → List ℕ → Effect
+  does x y = update_effect e (program_in e) (get c x) (get c y)
+
+  pub update_works : (d : FileMap) → (f ≢ j → Works (does f j) f j c d r) →
+      (file journal : List ℕ) → file ≢ journal → (f ≡ file) × (j ≡ journal) → Works (does file journal) file journal c d r
+  update_works d h file journal apart on = by_names f j f j refl refl (λ x y. x ≢ y → Works (does x y) x y c d r) file journal on h apart
+
+  pub update_edits : (d : FileMap) (o : List ℕ) (b : Bool) →
+      (f ≢ j → OnOk r (IsFileEdited e (get c f) (get d f) × PrintsChange b f (get c f) (get d f) o)) →
+      OnOk r (f ≢ j → IsFileEdited e (get c f) (get d f) × PrintsChange b f (get c f) (get d f) o)
+  update_edits d o b edits = on_ok_where (f ≢ j) (IsFileEdited e (get c f) (get d f) × PrintsChange b f (get c f) (get d f) o) r edits
+
+  pub update_expects : (m b : Bool) → OnOk r (m ≡ works_as_expected b (does f j)) →
+      (file journal : List ℕ) → (f ≡ file) × (j ≡ journal) → OnOk r (m ≡ works_as_expected b (does file journal))
+  update_expects m b h file journal on = by_names f j f j refl refl (λ x y. OnOk r (m ≡ works_as_expected b (does x y))) file journal on h
+
+  pub update_shows : (o : Report) (options : EvalOptions) → ((h : Option History) → GoodIn c f j h → OnOk r (Shows f (report_edit options (program_in e) h) o)) →
+      (file journal : List ℕ) → (f ≡ file) × (j ≡ journal) → (h : Option History) → GoodIn c file journal h → OnOk r (Shows f (report_edit options (program_in e) h) o)
+  update_shows o options shows file journal on =
+      by_names f j f j refl refl (λ x y. (h : Option History) → GoodIn c x y h → OnOk r (Shows f (report_edit options (program_in e) h) o)) file journal on shows
+
+  pub update_lists : (o : List ℕ) (b : Bool) → (f ≢ j → OnOk r (IsOutput f (output_by b (get c f) (does f j)) o)) →
+      (file journal : List ℕ) → (f ≡ file) × (j ≡ journal) → OnOk r (f ≢ j → IsOutput f (output_by b (get c file) (does file journal)) o)
+  update_lists o b lists file journal on =
+      by_names f j f j refl refl (λ x y. OnOk r (f ≢ j → IsOutput f (output_by b (get c x) (does x y)) o)) file journal on (on_ok_where (f ≢ j) (IsOutput f (output_by b (get c f) (does f j)) o) r lists)
+
+-- one that isn't carried out in place
+module _ (f e : List ℕ) (options : EvalOptions) where
   pub evaluate_arrives : (c d : FileMap) {T : Type 0} (r : Result T Fault) →
-      ((journal : List ℕ) (h : Option History) → GoodIn c s journal h → Arrives d s journal (cause_in (evaluated options (program_in e) h)) h h r) →
-      (file journal : List ℕ) → f ≡ file → (h : Option History) → GoodIn c file journal h → Arrives d file journal (cause_in (evaluated options (program_in x) h)) h h r
+      ((journal : List ℕ) (h : Option History) → GoodIn c f journal h → Arrives d f journal (cause_in (evaluated options (program_in e) h)) h h r) →
+      (file journal : List ℕ) → f ≡ file → (h : Option History) → GoodIn c file journal h → Arrives d file journal (cause_in (evaluated options (program_in e) h)) h h r
   evaluate_arrives c d r h file journal on = search rules
 
   pub evaluate_shows : (c : FileMap) {T : Type 0} (r : Result T Fault) (o : Report) →
-      ((journal : List ℕ) (h : Option History) → GoodIn c s journal h → OnOk r (Shows s (report_in (evaluated options (program_in e) h)) o)) →
-      (file journal : List ℕ) → f ≡ file → (h : Option History) → GoodIn c file journal h → OnOk r (Shows f (report_in (evaluated options (program_in x) h)) o)
+      ((journal : List ℕ) (h : Option History) → GoodIn c f journal h → OnOk r (Shows f (report_in (evaluated options (program_in e) h)) o)) →
+      (file journal : List ℕ) → f ≡ file → (h : Option History) → GoodIn c file journal h → OnOk r (Shows f (report_in (evaluated options (program_in e) h)) o)
   evaluate_shows c r o h file journal on = search rules
-
-  pub evaluate_edits : (c : FileMap) {T : Type 0} (r : Result T Fault) (b : Bool) (o : List ℕ) → OnOk r (PrintsUpdate b e s (get c s) o) → OnOk r (PrintsUpdate b x f (get c f) o)
-  evaluate_edits c r b o h = search rules

@@ -1,9 +1,9 @@
 -- What a command leaves of the store's names, and a list of them.
-use Rattle.std.proofs.Common.{rules, ◌&&◌, ◌≡◌, ◌≢◌, ◌⊎◌, inl, inr, ℕ, true, false, ◌||◌, ◌==◌, if◌then◌else◌, List, [], ◌∷◌, ◌++◌, Option}
-use Rattle.std.proofs.Common.{Some, Result, Ok, Err, OnOk, IfErr, sym, ap, ◌∙◌, subst, refl}
-use Rattle.std.{proofs.lemmas.List.Elements.{All-head, All-tail}, specs.FinMap.get, specs.String.string_bytes}
-use Rattle.yq_journal.{specs.declared.moves.Move.Move, specs.Good.Good, specs.History.History}
-use Rattle.yq_commands.{specs.declared.answer.Answer.Answer, specs.Editing.edited}
+use Rattle.std.proofs.Common.{rules, ◌≡◌, ◌≢◌, ◌⊎◌, inl, inr, ℕ, true, false, List, [], ◌∷◌, ◌++◌, Option, Some, Result, Ok, Err, OnOk}
+use Rattle.std.{proofs.Common.{IfErr, sym, ap, ◌∙◌, subst, refl}, proofs.lemmas.List.Elements.{All-head, All-tail}, specs.FinMap.get}
+use Rattle.std.specs.String.{string_bytes}
+use Rattle.yq_journal.{specs.Good.Good, specs.History.History}
+use Rattle.yq_commands.specs.declared.answer.Answer.{Answer}
 use Rattle.yq_commands.{specs.CommandEffects.{OfEffect, IsListing, IsUnparsed, expression_fault, output_by}, specs.FileEdits.HasEdited}
 use Rattle.yq_commands.{specs.CommandDone.{CarriesOut, IsSilent}, specs.CommandNames.{IsOn, file_of}}
 use Rattle.yq_commands.specs.Lists.{IsUnrelated, AllOnOrApart, Reply, IsAnswer, Goes, RunsAll, ReportsEffect, HasEffect, RunsTo, Keeps}
@@ -14,12 +14,10 @@ use Rattle.yq_args.{specs.declared.command.Command.Command, specs.declared.comma
 use Rattle.yq_history.{specs.declared.fault.Fault.Fault, specs.Effects.{Effect, Works}, specs.Faults.{is_outer_fault, is_output}}
 use Rattle.yq_history.{specs.Output.IsOutput, specs.Pair.GoodIn, specs.Report.Report, proofs.PairLaws.same_pair}
 use Rattle.yq_store.specs.FileMap.{FileMap}
-use Rattle.yq_journal.specs.declared.moves.Move.TheVariants as move
-use Rattle.yq_history.specs.declared.fault.Fault.TheVariants as fault
 
 -- an edit in place is of a file and a journal of two names
 abbrev HasTwoNames : Command → Type 0
-HasTwoNames (Eval expr f j true options) = string_bytes f ≢ string_bytes j
+HasTwoNames (Eval w true) = string_bytes w.file ≢ string_bytes w.journal
 HasTwoNames _ = Unit {0}
 
 two_names : (cmd : Command) (f j : List ℕ) → f ≢ j → IsOn f j cmd → HasTwoNames cmd

@@ -1,7 +1,7 @@
 -- How a command calls a store, by what that answers (own).
 use Rattle.std.{specs.Prelude.{◌≡◌, ◌⊎◌, ℕ, List, [], ◌∷◌, true, false, is_ok, Result, Ok, Err}, specs.String.string_bytes}
 use Rattle.yq_semantics.specs.Program.{Program}
-use Rattle.yq_args.specs.declared.command.Command.{Command}
+use Rattle.yq_args.{specs.declared.command.Command.Command, specs.declared.eval_words.EvalWords.EvalWords}
 use Rattle.yq_args.specs.declared.command.Command.TheVariants.{Eval, Undo, Redo, History as Lists, Squash, Help}
 use Rattle.yq_history.{specs.declared.fault.Fault.Fault, specs.Calls.{CallsOnPair, ReadsFile}, specs.Report.Report}
 use Rattle.yq_history.specs.Effects.{move_effect, squash_effect, listing_effect}
@@ -17,18 +17,26 @@ module _ {S T : Type 0} (leads : S → Call → S → Type 0) (r : Result T Faul
   IfProgram (Ok p) next s t = ((is_ok r ≡ false) × (t ≡ s)) ⊎ next p s t
 
   -- one that isn't carried out in place: the file is read, and nothing else
-  abbrev pub CallsOfEvaluation : List ℕ → List ℕ → S → S → Type 0
-  CallsOfEvaluation expr file s t = IfProgram (program_in expr) (λ p. ReadsFile leads r file (λ text u v. v ≡ u)) s t
+  abbrev pub CallsToShow : List ℕ → List ℕ → S → S → Type 0
+  CallsToShow expr file s t = IfProgram (program_in expr) (λ p. ReadsFile leads r file (λ text u v. v ≡ u)) s t
 
   -- one that is
-  abbrev pub CallsOfUpdate : List ℕ → List ℕ → List ℕ → S → S → Type 0
-  CallsOfUpdate expr file journal s t =
+  abbrev pub CallsToEdit : List ℕ → List ℕ → List ℕ → S → S → Type 0
+  CallsToEdit expr file journal s t =
       IfProgram (program_in expr) (λ p. CallsOnPair leads r file journal (λ text. edit_effect expr (program_edits p text) text)) s t
+
+  -- the first by the words of `eval`
+  abbrev pub CallsOfEvaluation : EvalWords → S → S → Type 0
+  CallsOfEvaluation w s t = CallsToShow (string_bytes w.expr) (string_bytes w.file) s t
+
+  -- and the second
+  abbrev pub CallsOfUpdate : EvalWords → S → S → Type 0
+  CallsOfUpdate w s t = CallsToEdit (string_bytes w.expr) (string_bytes w.file) (string_bytes w.journal) s t
 
   -- the calls of a command
   abbrev pub CallsOf : Command → S → S → Type 0
-  CallsOf (Eval expr f j true options) s t = CallsOfUpdate (string_bytes expr) (string_bytes f) (string_bytes j) s t
-  CallsOf (Eval expr f j false options) s t = CallsOfEvaluation (string_bytes expr) (string_bytes f) s t
+  CallsOf (Eval w true) s t = CallsOfUpdate w s t
+  CallsOf (Eval w false) s t = CallsOfEvaluation w s t
   CallsOf (Undo f j) s t = CallsOnPair leads r (string_bytes f) (string_bytes j) (move_effect move.Undo) s t
   CallsOf (Redo f j) s t = CallsOnPair leads r (string_bytes f) (string_bytes j) (move_effect move.Redo) s t
   CallsOf (Lists f j diffs) s t = CallsOnPair leads r (string_bytes f) (string_bytes j) (listing_effect diffs) s t

@@ -33,7 +33,7 @@ update_effect expr (Ok p) file journal = from_pair file journal (λ t s. edit_ef
 
 -- something holds of what a command does, by the bytes of its file and its journal; of what prints a file alone, and of help, nothing is said
 abbrev pub OfEffect : Command → Option (List ℕ) → Option (List ℕ) → (Effect → Type 0) → Type 0
-OfEffect (Eval expr f j true options) file journal holds = holds (update_effect (string_bytes expr) (program_in (string_bytes expr)) file journal)
+OfEffect (Eval w true) file journal holds = holds (update_effect (string_bytes w.expr) (program_in (string_bytes w.expr)) file journal)
 OfEffect (Undo f j) file journal holds = holds (from_pair file journal (move_effect move.Undo))
 OfEffect (Redo f j) file journal holds = holds (from_pair file journal (move_effect move.Redo))
 OfEffect (Lists f j diffs) file journal holds = holds (from_pair file journal (listing_effect diffs))
@@ -47,7 +47,7 @@ fault_of (Err f) = Some f
 
 -- the fault of a command's expression, if it is no program
 abbrev pub expression_fault : Command → Option Fault
-expression_fault (Eval expr f j in_place options) = fault_of (program_in (string_bytes expr))
+expression_fault (Eval w in_place) = fault_of (program_in (string_bytes w.expr))
 expression_fault _ = None
 
 -- a command is refused for such a fault, or for want of memory, and for nothing else
@@ -61,8 +61,8 @@ output_by _ held x = printed_by x
 
 -- the bytes are those that `history`, or an edit in place with `--diff`, prints by what a file and a journal hold; of other commands nothing is said
 abbrev pub IsListing : Command → Option (List ℕ) → Option (List ℕ) → List ℕ → Type 0
-IsListing (Eval expr f j true options) file journal printed =
-    string_bytes f ≢ string_bytes j →
-    IsOutput (string_bytes f) (output_by options.diff file (update_effect (string_bytes expr) (program_in (string_bytes expr)) file journal)) printed
+IsListing (Eval w true) file journal printed =
+    string_bytes w.file ≢ string_bytes w.journal →
+    IsOutput (string_bytes w.file) (output_by w.options.diff file (update_effect (string_bytes w.expr) (program_in (string_bytes w.expr)) file journal)) printed
 IsListing (Lists f j diffs) file journal printed = IsOutput (string_bytes f) (printed_by (from_pair file journal (listing_effect diffs))) printed
 IsListing _ file journal printed = Unit {0}

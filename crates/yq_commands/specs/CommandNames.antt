@@ -5,8 +5,8 @@ use Rattle.yq_args.specs.declared.command.Command.TheVariants.{Eval, Undo, Redo,
 
 -- the command works on this file with this journal; an expression that isn't carried out in place, with any
 abbrev pub IsOn : List ℕ → List ℕ → Command → Type 0
-IsOn file journal (Eval expr f j true options) = (string_bytes f ≡ file) × (string_bytes j ≡ journal)
-IsOn file journal (Eval expr f j false options) = string_bytes f ≡ file
+IsOn file journal (Eval w true) = (string_bytes w.file ≡ file) × (string_bytes w.journal ≡ journal)
+IsOn file journal (Eval w false) = string_bytes w.file ≡ file
 IsOn file journal (Undo f j) = (string_bytes f ≡ file) × (string_bytes j ≡ journal)
 IsOn file journal (Redo f j) = (string_bytes f ≡ file) × (string_bytes j ≡ journal)
 IsOn file journal (Lists f j diffs) = (string_bytes f ≡ file) × (string_bytes j ≡ journal)
@@ -19,8 +19,8 @@ Differs q file journal = (q ≢ file) × (q ≢ journal)
 
 -- the command doesn't name this name; an expression that isn't carried out in place needs no journal
 abbrev pub IsNotNamed : List ℕ → Command → Type 0
-IsNotNamed q (Eval expr f j true options) = Differs q (string_bytes f) (string_bytes j)
-IsNotNamed q (Eval expr f j false options) = q ≢ string_bytes f
+IsNotNamed q (Eval w true) = Differs q (string_bytes w.file) (string_bytes w.journal)
+IsNotNamed q (Eval w false) = q ≢ string_bytes w.file
 IsNotNamed q (Undo f j) = Differs q (string_bytes f) (string_bytes j)
 IsNotNamed q (Redo f j) = Differs q (string_bytes f) (string_bytes j)
 IsNotNamed q (Lists f j diffs) = Differs q (string_bytes f) (string_bytes j)
@@ -29,7 +29,7 @@ IsNotNamed q Help = Unit {0}
 
 -- the file that the command names; help names none
 abbrev pub file_of : Command → List ℕ
-file_of (Eval expr f j in_place options) = string_bytes f
+file_of (Eval w in_place) = string_bytes w.file
 file_of (Undo f j) = string_bytes f
 file_of (Redo f j) = string_bytes f
 file_of (Lists f j diffs) = string_bytes f

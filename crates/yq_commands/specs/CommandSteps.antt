@@ -48,8 +48,8 @@ update_next expr (Ok p) (Some h) = Some (edit_next h expr (program_edits p (text
 
 -- why a command is refused
 abbrev pub cause_of : Command → Option History → Option Cause
-cause_of (Eval expr file journal true options) h = update_cause (program_in (string_bytes expr)) h
-cause_of (Eval expr file journal false options) h = cause_in (evaluated options (program_in (string_bytes expr)) h)
+cause_of (Eval w true) h = update_cause (program_in (string_bytes w.expr)) h
+cause_of (Eval w false) h = cause_in (evaluated w.options (program_in (string_bytes w.expr)) h)
 cause_of (Undo file journal) h = move_cause move.Undo h
 cause_of (Redo file journal) h = move_cause move.Redo h
 cause_of (Lists file journal diffs) h = listing_cause h
@@ -58,7 +58,7 @@ cause_of Help h = None
 
 -- the history after a command
 abbrev pub next_of : Command → Option History → Option History
-next_of (Eval expr file journal true options) h = update_next (string_bytes expr) (program_in (string_bytes expr)) h
+next_of (Eval w true) h = update_next (string_bytes w.expr) (program_in (string_bytes w.expr)) h
 next_of (Undo file journal) h = move_next move.Undo h
 next_of (Redo file journal) h = move_next move.Redo h
 next_of (Squash n file journal) h = squash_next n h

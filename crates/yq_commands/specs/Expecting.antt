@@ -40,7 +40,7 @@ report_edit options (Ok p) (Some h) = showing_change options (text_at h) (progra
 
 -- a command is asked to change a byte
 abbrev pub expects_change : Command → Bool
-expects_change (Eval expr f j in_place options) = options.expect_change
+expects_change (Eval w in_place) = w.options.expect_change
 expects_change _ = false
 
 -- an effect is as expected: it writes something, where a change is expected

@@ -70,9 +70,9 @@ PrintsChange true file _ _ printed = ⊥
 
 -- the edited text: an edit in place leaves it in the file, any other update prints it, or with `--diff` a diff; nothing is said of other commands
 abbrev pub HasEdited : Command → FileMap → FileMap → List ℕ → Type 0
-HasEdited (Eval expr f j true options) old new printed =
-    string_bytes f ≢ string_bytes j → IsFileEdited (string_bytes expr) (get old (string_bytes f)) (get new (string_bytes f))
-    × PrintsChange options.diff (string_bytes f) (get old (string_bytes f)) (get new (string_bytes f)) printed
-HasEdited (Eval expr f j false options) old new printed =
-    PrintsUpdate options.diff (string_bytes expr) (string_bytes f) (get old (string_bytes f)) printed
+HasEdited (Eval w true) old new printed =
+    string_bytes w.file ≢ string_bytes w.journal → IsFileEdited (string_bytes w.expr) (get old (string_bytes w.file)) (get new (string_bytes w.file))
+    × PrintsChange w.options.diff (string_bytes w.file) (get old (string_bytes w.file)) (get new (string_bytes w.file)) printed
+HasEdited (Eval w false) old new printed =
+    PrintsUpdate w.options.diff (string_bytes w.expr) (string_bytes w.file) (get old (string_bytes w.file)) printed
 HasEdited _ old new printed = Unit {0}

@@ -8,8 +8,8 @@ use Rattle.yq_history.specs.Output.{Showing, listing_output, showing, showing_no
 
 -- what a command shows where it is carried out; of help nothing is said
 abbrev pub report_of : Command → Option History → Showing
-report_of (Eval expr file journal true options) h = report_edit options (program_in (string_bytes expr)) h
-report_of (Eval expr file journal false options) h = report_in (evaluated options (program_in (string_bytes expr)) h)
+report_of (Eval w true) h = report_edit w.options (program_in (string_bytes w.expr)) h
+report_of (Eval w false) h = report_in (evaluated w.options (program_in (string_bytes w.expr)) h)
 report_of (Undo file journal) h = showing_nothing
 report_of (Redo file journal) h = showing_nothing
 report_of (Lists file journal diffs) h = showing (listing_output diffs h)
@@ -18,20 +18,20 @@ report_of Help h = showing_nothing
 
 -- the command reads the journal of its file
 abbrev pub reads_journal : Command → Bool
-reads_journal (Eval expr file journal true options) = true
-reads_journal (Eval expr file journal false options) = false
+reads_journal (Eval w true) = true
+reads_journal (Eval w false) = false
 reads_journal Help = false
 reads_journal _ = true
 
 -- the command prints and writes no name
 abbrev pub prints : Command → Bool
-prints (Eval expr file journal true options) = false
-prints (Eval expr file journal false options) = true
+prints (Eval w true) = false
+prints (Eval w false) = true
 prints (Lists file journal diffs) = true
 prints Help = true
 prints _ = false
 
 -- the command writes what it changes to names, and prints it
 abbrev pub prints_change : Command → Bool
-prints_change (Eval expr file journal true options) = options.diff
+prints_change (Eval w true) = w.options.diff
 prints_change _ = false

@@ -2,9 +2,11 @@
 use Rattle.std.{specs.Prelude.{◌≡◌, ℕ, Bool, false, IfOk, IsTrue, List, Ok, OnOk, Option, Result, String, string_bytes}, specs.FinMap.get}
 use Rattle.std.specs.declared.alloc.Global.{Global}
 use Rattle.yq_args.{specs.declared.command.Command.Command, specs.declared.eval_options.EvalOptions.EvalOptions}
-use Rattle.yq_commands.{specs.declared.parsed.Parsed.Parsed, specs.CommandDone.{CarriesOut, EditsOpened, program_effect, showing_edit}}
-use Rattle.yq_commands.{specs.Editing.{EditOutcome, program_edits}, specs.Evaluation.shows, specs.Expecting.IsChangeOutput}
-use Rattle.yq_commands.{specs.FileEdits.{GivesEdit, PrintsHeldEdit}, specs.Reads.with_match}
+use Rattle.yq_args.specs.declared.eval_words.EvalWords.{EvalWords}
+use Rattle.yq_commands.specs.declared.parsed.Parsed.{Parsed}
+use Rattle.yq_commands.specs.CommandDone.{CarriesOut, EditsInPlace, EditsOpened, Evaluates, program_effect, showing_edit}
+use Rattle.yq_commands.{specs.Editing.{EditOutcome, program_edits, program_in}, specs.Evaluation.{evaluated, shows}}
+use Rattle.yq_commands.{specs.Expecting.IsChangeOutput, specs.FileEdits.{GivesEdit, PrintsHeldEdit, PrintsUpdate}, specs.Reads.with_match}
 use Rattle.yq_eval.specs.declared.matched.Match.{Match}
 use Rattle.yq_history.{specs.declared.fault.Fault.Fault, specs.declared.opened.OpenPair.OpenPair, specs.Causes.Cause, specs.Effects.Effect}
 use Rattle.yq_history.{specs.Output.{Showing, Shows, showing_by}, specs.Report.report_by}
@@ -55,6 +57,24 @@ PrintsParsed keeps content file e report r =
 abbrev pub EditsParsed : {S : Type 0} → Bool → (S → FileMap) → (old new : S) → OpenPair → Parsed → {T : Type 0} → Result T Fault → declared.Report → Type 0
 EditsParsed keeps content old new o e r report =
     IsTrue keeps → EditsOpened (program_of e.program.now) e.expr.now e.options.diff o (content old) (content new) r (report_by report)
+
+-- by whether the store keeps what is put into it, its files by their names, and the stores before and after a call
+module _ {S : Type 0} (keeps : Bool) (content : S → FileMap) (old new : S) (w : EvalWords) {T : Type 0} (r : Result T Fault) where
+  -- `eval` edits in place what its words name
+  abbrev pub Updates : declared.Report → Type 0
+  Updates report =
+      IsTrue keeps → EditsInPlace (string_bytes w.expr) w.options (string_bytes w.file) (string_bytes w.journal) (content old) (content new) r (report_by report)
+
+  -- it shows what they ask for
+  abbrev pub ShowsWords : declared.Report → Type 0
+  ShowsWords report =
+      IsTrue keeps →
+      Evaluates (evaluated w.options (program_in (string_bytes w.expr))) (string_bytes w.file) (content old) (content new) r (report_by report)
+
+  -- what it printed of an update is the edited text, or with `--diff` a diff
+  abbrev pub PrintsWords : declared.Report → Type 0
+  PrintsWords report =
+      IsTrue keeps → OnOk r (PrintsUpdate w.options.diff (string_bytes w.expr) (string_bytes w.file) (get (content old) (string_bytes w.file)) (string_bytes report.text))
 
 -- in a store that keeps what is put into it a command is carried out
 abbrev pub Executes : {S : Type 0} → Bool → (S → FileMap) → (old new : S) → Command → {T : Type 0} → Result T Fault → declared.Report → Type 0

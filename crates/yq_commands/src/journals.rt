@@ -56,8 +56,8 @@ fn names_of(command: &Command) -> Option<(&str, &str)> {
             ..
         }
         | Command::Help => None,
-        Command::Eval { file, journal, .. }
-        | Command::Undo { file, journal }
+        Command::Eval { words, .. } => Some((words.file.as_str(), words.journal.as_str())),
+        Command::Undo { file, journal }
         | Command::Redo { file, journal }
         | Command::History { file, journal, .. }
         | Command::Squash { file, journal, .. } => Some((file.as_str(), journal.as_str())),

@@ -7,12 +7,11 @@ use yq_store::Purpose;
 pub fn purpose_of(command: &Command) -> (&str, Purpose) {
     match command {
         Command::Eval {
-            file,
+            words,
             in_place: false,
-            ..
-        } => (file.as_str(), Purpose::Print),
+        } => (words.file.as_str(), Purpose::Print),
         Command::History { file, .. } => (file.as_str(), Purpose::List),
-        Command::Eval { file, .. } => (file.as_str(), Purpose::Edit),
+        Command::Eval { words, .. } => (words.file.as_str(), Purpose::Edit),
         Command::Undo { file, .. } | Command::Redo { file, .. } | Command::Squash { file, .. } => {
             (file.as_str(), Purpose::Replay)
         }

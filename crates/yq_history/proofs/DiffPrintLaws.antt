@@ -1,5 +1,5 @@
 -- What is printed part by part is the print of the hunks.
-use Rattle.std.proofs.Common.{rules, ◌≡◌, ℕ, ◌+◌, ◌-◌, List, [], ◌∷◌, ◌++◌, length, map, refl, sym, ap, ◌∙◌, arith}
+use Rattle.std.proofs.Common.{rules, ◌≡◌, ℕ, ◌+◌, List, [], ◌∷◌, ◌++◌, length, map, refl, sym, ap, ◌∙◌, arith}
 use Rattle.std.{proofs.lemmas.List.length-append, proofs.lemmas.List.Concat.flat_map-append, specs.List.flat_map, specs.Prelude.codes}
 use Rattle.yq_core.specs.Text.{text_lines}
 use Rattle.yq_history.specs.Hunks.{LineChange, unchanged, deleted, added, old_side, new_side}

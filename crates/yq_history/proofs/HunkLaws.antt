@@ -1,6 +1,6 @@
 -- Hunks of parts lead from one text to the other, and reversed they lead back.
 use Rattle.std.proofs.Common.{rules, ◌≡◌, ℕ, ◌+◌, List, [], ◌∷◌, ◌++◌, length, map, refl, sym, ap, ◌∙◌, subst, arith, append_assoc}
-use Rattle.std.{proofs.lemmas.Grind.common_steps, proofs.lemmas.List.length-append}
+use Rattle.std.proofs.lemmas.List.{length-append}
 use Rattle.yq_core.specs.Text.{text_lines}
 use Rattle.yq_history.specs.Hunks.{LineChange, unchanged, deleted, added, old_side, new_side, Hunk, Applies, reversed_change, reversed_hunk}
 use Rattle.yq_history.{specs.DiffParts.{old_parts, new_parts, closed_hunk, hunks_from}, specs.declared.diff.part.Part.Part}

@@ -1,6 +1,6 @@
 -- The texts around the records of a journal are those of its history, and lines of edits, one more.
 use Rattle.std.proofs.Common.{rules, ◌≡◌, ℕ, suc, ◌+◌, ◌≤◌, List, [], ◌∷◌, ◌++◌, length, map, take, drop, nat_lt, Option, Some, None, refl}
-use Rattle.std.proofs.Common.{sym, ap, ap₂, ◌∙◌, arith, append_assoc, subst, ◌-◌, ◌<◌, ◌⊎◌, false, ◌&&◌, Result, IfOk, slice_get}
+use Rattle.std.proofs.Common.{sym, ap, ap₂, ◌∙◌, arith, append_assoc, subst, ◌-◌, ◌<◌, ◌⊎◌, false, Result, IfOk, slice_get}
 use Rattle.std.{specs.Prelude.{option_and_then, String}, specs.String.string_bytes, specs.declared.alloc.Global.Global}
 use Rattle.std.{proofs.lemmas.List.append-nil, proofs.lemmas.Str.{is_utf8-from_IsUtf8, IsUtf8-from_is_utf8}}
 use Rattle.std.{proofs.lemmas.Bool.false_from_ne_true, specs.Str.{IsUtf8, is_utf8}}

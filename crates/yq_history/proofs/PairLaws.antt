@@ -1,5 +1,5 @@
 -- What reading a pair and writing to it leave.
-use Rattle.std.{proofs.Common.{rules, ◌≡◌, ℕ, List, Option, Some, Ok, Vec, option_map, sym, ◌∙◌, subst}, proofs.lemmas.Option.none-some}
+use Rattle.std.{proofs.Common.{rules, ◌≡◌, ℕ, List, Option, Some, Ok, Vec, option_map, sym, subst}, proofs.lemmas.Option.none-some}
 use Rattle.std.{specs.FinMap.get, specs.declared.alloc.Global.Global}
 use Rattle.yq_journal.{specs.Good.{Describes, journal_beside}, specs.History.{History, text_at}, specs.State.{State, settled_beside}}
 use Rattle.yq_journal.proofs.GoodLaws.{settles, settled_rests}

@@ -1,9 +1,8 @@
 -- Steps of the loop over parts.
-use Rattle.std.proofs.Common.{rules, ◌≡◌, ℕ, ◌+◌, ◌≤◌, ◌<◌, ◌^◌, Result, OnOk, List, ◌∷◌, ◌++◌, length, drop, get_or, drop-cons, ap, ◌∙◌}
-use Rattle.std.{proofs.Common.{arith, append_assoc}, proofs.lemmas.List.{drop_all, length-append}}
+use Rattle.std.proofs.Common.{rules, ◌≡◌, ℕ, ◌+◌, ◌≤◌, ◌<◌, ◌^◌, Result, OnOk, List, ◌∷◌, ◌++◌, length, drop, get_or, drop-cons, ap, arith}
+use Rattle.std.{proofs.Common.append_assoc, proofs.lemmas.List.{drop_all, length-append}}
 use Rattle.yq_history.specs.DiffParts.{new_part, new_parts, old_part, old_parts}
 use Rattle.yq_history.{specs.DiffPrinting.{Open, open_after, print_closed, print_ended, print_parts}, specs.declared.diff.part.Part.Part}
-use Rattle.yq_history.specs.declared.diff.part.Part.TheVariants as part
 
 -- what follows where a call was carried out
 pub on_ok : {T E P Q : Type 0} (r : Result T E) → OnOk r P → (P → Q) → OnOk r Q

@@ -6,7 +6,6 @@ use Rattle.yq_journal.{specs.Good.{Leads, AtRest}, specs.History.{History, Revis
 use Rattle.yq_store.specs.FileMap.{FileMap}
 use Rattle.yq_history.{specs.Pair.Opens, specs.Listing.{edit_line, listing_after, history_lines}}
 use Rattle.yq_history.{specs.Output.{listing_output, record_output}, proofs.ListedLaws.history_texts}
-use Rattle.yq_history.specs.Output as output
 
 -- the lines after n, of one record more
 lines_more_at : (n done m : ℕ) (rs : List Record) (i : ℕ) (r : Record) → m ≡ n + i → slice_get rs i ≡ Some r →

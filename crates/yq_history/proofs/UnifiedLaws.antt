@@ -1,5 +1,5 @@
 -- What is printed of the parts of two texts is a diff of these.
-use Rattle.std.{proofs.Common.{rules, ◌≡◌, ℕ, ◌<◌, ◌^◌, List, [], ◌∷◌, ◌++◌, length, sym, ap, ◌∙◌, arith}, specs.List.flat_map}
+use Rattle.std.{proofs.Common.{rules, ◌≡◌, ℕ, ◌<◌, ◌^◌, List, [], ◌++◌, length, sym, ap, ◌∙◌, arith}, specs.List.flat_map}
 use Rattle.yq_core.specs.Text.{text_lines}
 use Rattle.yq_history.{specs.Hunks.{Hunk, Applies, IsDiff}, specs.Unified.{IsPrintedDiff, print_diff, print_hunk, print_names}}
 use Rattle.yq_history.{specs.DiffParts.{ArePartsOf, hunks_of, new_parts, old_parts}, specs.DiffPrinting.{opened, print_parts}}

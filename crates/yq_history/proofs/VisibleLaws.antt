@@ -1,6 +1,6 @@
 -- A text of which JSON escapes no byte, and which has none from DEL on, is printed as it is.
-use Rattle.std.proofs.Common.{rules, ◌≡◌, ◌==◌, ◌||◌, ◌<◌, ℕ, zero, suc, List, [], ◌∷◌, ◌++◌, Bool, false, nat_lt, flat_map, if◌then◌else◌}
-use Rattle.std.{proofs.Common.{refl, ap, ap₂, ◌∙◌, arith}, specs.Prelude.⊤, specs.Bool.OnTrue, specs.Str.IsAscii}
+use Rattle.std.proofs.Common.{rules, ◌≡◌, ◌==◌, ◌||◌, ◌<◌, ℕ, zero, suc, List, [], ◌∷◌, ◌++◌, Bool, false, nat_lt, flat_map, refl, ap, ap₂}
+use Rattle.std.{proofs.Common.{◌∙◌, arith}, specs.Prelude.⊤, specs.Bool.OnTrue, specs.Str.IsAscii}
 use Rattle.std.{proofs.lemmas.Str.{chars-IsAscii, encode_ascii}, proofs.lemmas.Bool.{agree_below_at, leb-false, or_parts}}
 use Rattle.json.specs.Print.{quoted}
 use Rattle.yq_journal.{specs.Bare.{IsBare, is_special}, proofs.LaneLaws.bare_escapes}

@@ -42,7 +42,7 @@ pub fn carry_out<D: Store>(
         text,
         mut state,
     } = open;
-    state.start_with(step, text)?;
+    state.start_known(step, text, new)?;
     write_journal(alloc, store, pair.journal, &state)?;
     store.replace(pair.file, new)?;
     state.finish(new)?;

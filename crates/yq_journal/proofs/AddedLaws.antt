@@ -7,8 +7,7 @@ use Rattle.json.{specs.Print.{escape, escape_byte, quoted}, specs.Tree.ItemsHave
 use Rattle.serde_json.{specs.Data.{Data, array, item}, specs.Read.of_items, specs.Find.as_array}
 use Rattle.serde_json.specs.Written.{comma_if, compact_text, items_outline, items_text}
 use Rattle.yq_text.specs.Splice.{Splice}
-use Rattle.yq_journal.{specs.declared.moves.Move.Move, specs.declared.moves.Move.TheVariants.Edit}
-use Rattle.yq_journal.specs.Added.{Adds, IsReadBack, changes_data, records_data}
+use Rattle.yq_journal.{specs.declared.moves.Move.Move, specs.Added.{Adds, IsReadBack, changes_data, records_data}}
 use Rattle.yq_journal.specs.Json.{and_more, change_data, each_of, journal_data, kind_text, list_data, move_data, pending_data, record_data}
 use Rattle.yq_journal.specs.Json.{journal_of, move_of, pending_of, record_of, records_of, splice_of, splices_of}
 use Rattle.yq_journal.{specs.Record.{IsRecord, Record}, specs.Refusals.IsSound, specs.State.{Pending, State}}

@@ -98,9 +98,9 @@ MovesTo s step t u = moved_text s.records s.at step t ≡ Some u
 abbrev pub GivesMoved : {E : Type 0} → Result (Vec ℕ Global) E → State → Move → List ℕ → Type 0
 GivesMoved r s step t = IfOk r (λ v. MovesTo s step t v.items)
 
--- a move over records from a cursor leads from a text to no such text (own)
-abbrev pub LeadsElsewhere : List Record → ℕ → Move → List ℕ → List ℕ → Type 0
-LeadsElsewhere records at step from t = is_reached (moved_text records at step from) t ≡ false
+-- an open move leads to no such text, over records from a cursor (own)
+abbrev pub LeadsElsewhere : List Record → ℕ → Pending → List ℕ → Type 0
+LeadsElsewhere records at p t = is_reached (moved_text records at p.step p.from) t ≡ false
 
 -- the open move of a journal, if it has one, leads to a text (own)
 abbrev pub OpenLeads : State → List ℕ → Type 0

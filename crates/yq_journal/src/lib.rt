@@ -24,7 +24,7 @@ pub use laws::{
     faults_are_of_history, moves_go_on, open_moves_describe, settling_rests, squashes_go_on,
 };
 pub use lengths::leads;
-pub use moves::{MAX_RECORDS, Move, lead, leads_to, make};
+pub use moves::{MAX_RECORDS, Move, lead, make};
 pub use quoting::push_quoted;
 pub use record::{Record, record_inverts, redo_record, undo_record};
 pub use stands::{stands_after, stands_before};

@@ -1,7 +1,6 @@
 //! Moves over the records of a journal.
 ghost use Rattle.std.specs.Prelude.{◌≡◌, ◌≤◌, None, Some, OnOk, IfOk, IfErr, length};
-ghost use Rattle.yq_journal.specs.Refusals.{ErrorIs, no_way, UnsettledOnlyIf, lead_fault};
-ghost use Rattle.yq_journal.specs.State.{moved_text, settled_state, AreKept, LeadsElsewhere, moved_state};
+ghost use Rattle.yq_journal.{specs.Refusals.{ErrorIs, no_way, lead_fault}, specs.State.{moved_text, settled_state, AreKept, moved_state}};
 
 use crate::fault::{JournalError, JournalFault};
 use crate::record::{Record, redo_record, undo_record};
@@ -48,25 +47,6 @@ pub fn lead(
             Some(patch) => redo_record(alloc, patch, text),
             None => Err(fault),
         },
-    }
-}
-
-/// Whether a move that starts from one text leads to another one: refused as `Unsettled` where it doesn't.
-pub fn leads_to(
-    alloc: Global,
-    records: &[Record],
-    at: usize,
-    step: &Move,
-    from: &[u8],
-    text: &[u8],
-) -> Result<(), JournalError>
-    ensures ok { OnOk result (moved_text records.now at step.now from.now ≡ Some text.now) }
-    ensures err { UnsettledOnlyIf result (LeadsElsewhere records.now at step.now from.now text.now) }
-{
-    match lead(alloc, records, at, step, from) {
-        Ok(patched) if patched.as_slice() == text => Ok(()),
-        Err(JournalError::Memory) => Err(JournalError::Memory),
-        _ => Err(JournalError::Fault(JournalFault::Unsettled)),
     }
 }
 

@@ -1,12 +1,31 @@
 //! The open move of a journal: opened on a text, and settled beside it or the text to which it leads.
 ghost use Rattle.std.specs.Prelude.{◌≡◌, ◌≢◌, None, Some, IfErr, OnOk, OnErr, IsNone, IsOk};
 ghost use Rattle.yq_journal.specs.Refusals.{ErrorIs, move_fault, MemoryOnlyIf, UnsettledOnlyIf, MayBegin};
-ghost use Rattle.yq_journal.specs.State.{moved_text, with_move, settled_beside, OpenLeads};
+ghost use Rattle.yq_journal.specs.State.{moved_text, with_move, settled_beside, OpenLeads, LeadsElsewhere, MovesTo};
 ghost use Rattle.yq_failure.specs.declared.failure.Failure.TheVariants as failure;
 
 use crate::journal::{Journal, Open};
-use crate::ways::check_way;
-use crate::{JournalError, JournalFault, Move, leads_to, make};
+use crate::ways::{check_way, obstacle};
+use crate::{JournalError, JournalFault, Move, Record, lead, make};
+use std::alloc::Global;
+
+/// Whether an open move leads to this text: refused as `Unsettled` where it doesn't.
+fn leads_to(
+    alloc: Global,
+    records: &[Record],
+    at: usize,
+    open: &Open,
+    text: &[u8],
+) -> Result<(), JournalError>
+    ensures ok { OnOk result (moved_text records.now at open.now.step open.now.from ≡ Some text.now) }
+    ensures err { UnsettledOnlyIf result (LeadsElsewhere records.now at open.now text.now) }
+{
+    match lead(alloc, records, at, &open.step, &open.from) {
+        Ok(patched) if patched.as_slice() == text => Ok(()),
+        Err(JournalError::Memory) => Err(JournalError::Memory),
+        _ => Err(JournalError::Fault(JournalFault::Unsettled)),
+    }
+}
 
 impl Journal {
     /// The first fault of a move that is to be opened on a text. The text to which it leads is not kept.
@@ -45,19 +64,30 @@ impl Journal {
         }
     }
 
-    /// Opens a move as [`Journal::start`] does, and keeps the very text that
-    /// it is given, where that would copy it.
-    pub fn start_with(&mut self, step: Move, text: Vec<u8>) -> Result<(), JournalError>
-        requires { moved_text self.old.records self.old.at step text.items ≢ Some text.items }
+    /// Opens a move of which it is known that it leads to another text, as [`Journal::start`] does,
+    /// which makes that text once more and copies the one from which it starts.
+    pub fn start_known(
+        &mut self,
+        step: Move,
+        text: Vec<u8>,
+        _new: &[u8],
+    ) -> Result<(), JournalError>
+        requires moves { MovesTo self.old step text.items _new.now }
+        requires changes { _new.now ≢ text.items }
         ensures free { OnOk result (move_fault self.old step text.items ≡ None) }
         ensures ok { OnOk result (self.new ≡ with_move self.old step text.items) }
         ensures fault { IfErr result (λ e. ErrorIs e (move_fault self.old step text.items)) }
         ensures memory { MemoryOnlyIf result (MayBegin self.old step) }
         ensures err { OnErr result (self.new ≡ self.old) }
     {
-        self.check_start(&step, &text)?;
-        self.open = Some(Open { step, from: text });
-        Ok(())
+        match obstacle(&self.records, self.at, &step) {
+            _ if self.open.is_some() => Err(JournalError::Fault(JournalFault::Unsettled)),
+            Some(fault) => Err(JournalError::Fault(fault)),
+            None => {
+                self.open = Some(Open { step, from: text });
+                Ok(())
+            }
+        }
     }
 
     /// Settles an open move beside a text: drops it beside the text from
@@ -77,14 +107,7 @@ impl Journal {
             self.open = None;
             return Ok(());
         }
-        leads_to(
-            self.alloc,
-            &self.records,
-            self.at,
-            &held.step,
-            &held.from,
-            text,
-        )?;
+        leads_to(self.alloc, &self.records, self.at, held, text)?;
         self.finish(text)
     }
 

@@ -1,16 +1,15 @@
 //! Expressions that aren't carried out in place: what they show of a file.
-ghost use Rattle.std.{specs.Prelude.{◌≡◌, Some, IfErr, OnOk, IsTrue, false}, specs.String.string_bytes};
+ghost use Rattle.std.{specs.Prelude.{◌≡◌, Some, IfErr, IsTrue, false}, specs.String.string_bytes};
 ghost use Rattle.yq_semantics.{specs.Program.is_read, specs.View.program_of};
 ghost use Rattle.yq_history.{specs.Calls.ReadsFile, specs.Faults.{is_failure, is_output, failures_after}, specs.Report.report_by};
 ghost use Rattle.yq_commands.{specs.Calls.CallsOfEvaluation, specs.CommandDone.Evaluates, specs.Editing.program_in};
-ghost use Rattle.yq_commands.{specs.CommandEffects.{IsUnparsed, fault_of}, specs.FileEdits.{GivesEdit, PrintsUpdate}};
-ghost use Rattle.yq_commands.specs.Evaluation.{FailsFor, GivesShowing, evaluated, of_file, shows};
-ghost use Rattle.yq_commands.specs.ProgramAnswers.{GivesUpdate, PrintsParsed, parsed_showing};
-ghost use Rattle.std.specs.FinMap as map;
+ghost use Rattle.yq_commands.{specs.CommandEffects.{IsUnparsed, fault_of}, specs.FileEdits.GivesEdit};
+ghost use Rattle.yq_commands.specs.Evaluation.{FailsFor, GivesShowing, of_file, shows};
+ghost use Rattle.yq_commands.specs.ProgramAnswers.{GivesUpdate, PrintsParsed, PrintsWords, ShowsWords, parsed_showing};
 
 use crate::editing::{edit_text, is_as_expected};
 use std::alloc::Global;
-use yq_args::EvalOptions;
+use yq_args::{EvalOptions, EvalWords};
 use yq_commands::{Parsed, parse, show_read};
 use yq_history::{Fault, Report};
 use yq_semantics::Program;
@@ -91,26 +90,24 @@ fn evaluate_program<D: Store>(
 pub fn evaluate<D: Store>(
     alloc: Global,
     store: &mut D,
-    file: &str,
-    expr: &str,
-    options: EvalOptions,
+    words: &EvalWords,
     report: &mut Report,
 ) -> Result<(), Fault>
-    ensures done { IsTrue D.keeps → Evaluates (evaluated options (program_in expr.now))
-        file.now (D.content store.old) (D.content store.new) result (report_by report.new) }
-    ensures edited { IsTrue D.keeps →
-        OnOk result (PrintsUpdate options.diff expr.now file.now
-        (map.get (D.content store.old) file.now) (string_bytes report.new.text)) }
-    ensures unparsed { (f : Fault) → fault_of (program_in expr.now) ≡ Some f → IsUnparsed f result }
+    ensures done { ShowsWords D.keeps D.content store.old store.new words.now result report.new }
+    ensures edited { PrintsWords D.keeps D.content store.old store.new words.now result report.new }
+    ensures unparsed { (f : Fault) →
+        fault_of (program_in (string_bytes words.now.expr)) ≡ Some f → IsUnparsed f result }
     ensures no_output { IfErr result (λ e. is_output e ≡ false) }
     ensures count { D.failures store.new ≡ failures_after result (D.failures store.old) }
-    ensures calls { CallsOfEvaluation D.leads result expr.now file.now store.old store.new }
+    ensures calls { CallsOfEvaluation D.leads result words.now store.old store.new }
 {
+    let expr = words.expr.as_str();
+    let file = words.file.as_str();
     let program = parse(alloc, expr)?;
     let parsed = Parsed {
         program: &program,
         expr,
-        options,
+        options: words.options,
     };
     evaluate_program(alloc, store, file, &parsed, report)
 }

@@ -1,14 +1,14 @@
 //! One command, carried out over a store.
-ghost use Rattle.std.{specs.Prelude.{◌≡◌, [], Some, IfErr, IsTrue, false}, specs.String.string_bytes};
-ghost use Rattle.yq_commands.specs.CommandDone.{EditsInPlace, IsSilent, MatchesStill, MatchesUnasked};
+ghost use Rattle.std.{specs.Prelude.{◌≡◌, [], Some, IfErr, false}, specs.String.string_bytes};
+ghost use Rattle.yq_commands.specs.CommandDone.{IsSilent, MatchesStill, MatchesUnasked};
 ghost use Rattle.yq_commands.{specs.CommandEffects.{IsUnparsed, expression_fault, fault_of}, specs.Editing.program_in};
-ghost use Rattle.yq_commands.{specs.Calls.{CallsOf, CallsOfUpdate}, specs.Help.Helps, specs.ProgramAnswers.Executes};
+ghost use Rattle.yq_commands.{specs.Calls.{CallsOf, CallsOfUpdate}, specs.Help.Helps, specs.ProgramAnswers.{Executes, Updates}};
 ghost use Rattle.yq_history.{specs.Faults.{is_output, failures_after}, specs.Report.{nothing, report_by}};
 
 use crate::editing::edit_from;
 use crate::evaluating::evaluate;
 use std::alloc::Global;
-use yq_args::{Command, EvalOptions};
+use yq_args::{Command, EvalWords};
 use yq_commands::help::help;
 use yq_commands::{Parsed, parse};
 use yq_history::{Direction, Fault, OpenPair, Pair, Report, listing, move_file, open_pair, squash};
@@ -18,22 +18,22 @@ use yq_store::Store;
 fn update<D: Store>(
     alloc: Global,
     store: &mut D,
-    file: &str,
-    journal: &str,
-    expr: &str,
-    options: EvalOptions,
+    words: &EvalWords,
     report: &mut Report,
 ) -> Result<(), Fault>
     requires empty { string_bytes report.old.text ≡ [] }
-    ensures done { IsTrue D.keeps → EditsInPlace expr.now options file.now journal.now
-        (D.content store.old) (D.content store.new) result (report_by report.new) }
-    ensures unparsed { (f : Fault) → fault_of (program_in expr.now) ≡ Some f → IsUnparsed f result }
-    ensures silent { options.diff ≡ false → string_bytes report.new.text ≡ [] }
-    ensures unasked { MatchesStill options (report_by report.old) (report_by report.new) }
+    ensures done { Updates D.keeps D.content store.old store.new words.now result report.new }
+    ensures unparsed { (f : Fault) →
+        fault_of (program_in (string_bytes words.now.expr)) ≡ Some f → IsUnparsed f result }
+    ensures silent { words.now.options.diff ≡ false → string_bytes report.new.text ≡ [] }
+    ensures unasked { MatchesStill words.now.options (report_by report.old) (report_by report.new) }
     ensures no_output { IfErr result (λ e. is_output e ≡ false) }
     ensures count { D.failures store.new ≡ failures_after result (D.failures store.old) }
-    ensures calls { CallsOfUpdate D.leads result expr.now file.now journal.now store.old store.new }
+    ensures calls { CallsOfUpdate D.leads result words.now store.old store.new }
 {
+    let expr = words.expr.as_str();
+    let file = words.file.as_str();
+    let journal = words.journal.as_str();
     let program = parse(alloc, expr)?;
     let pair = Pair { file, journal };
     let (text, state) = open_pair(alloc, store, &pair)?;
@@ -41,7 +41,7 @@ fn update<D: Store>(
     let parsed = Parsed {
         program: &program,
         expr,
-        options,
+        options: words.options,
     };
     edit_from(alloc, store, open, &parsed, report)
 }
@@ -65,26 +65,10 @@ pub fn execute<D: Store>(
 {
     match command {
         Command::Eval {
-            expr,
-            file,
-            journal,
+            words,
             in_place: true,
-            options,
-        } => update(
-            alloc,
-            store,
-            file.as_str(),
-            journal.as_str(),
-            expr.as_str(),
-            *options,
-            report,
-        ),
-        Command::Eval {
-            expr,
-            file,
-            options,
-            ..
-        } => evaluate(alloc, store, file.as_str(), expr.as_str(), *options, report),
+        } => update(alloc, store, words, report),
+        Command::Eval { words, .. } => evaluate(alloc, store, words, report),
         Command::Undo { file, journal } => {
             let pair = Pair {
                 file: file.as_str(),

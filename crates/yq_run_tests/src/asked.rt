@@ -2,7 +2,7 @@
 
 use std::alloc::{AllocError, Global};
 use std::test::Fail;
-use yq_args::{Command, EvalOptions};
+use yq_args::{Command, EvalOptions, EvalWords};
 use yq_store::{MemoryStore, Store};
 
 /// What a command asks: an expression to be shown, with `-e`, or carried out in place, or another command.
@@ -38,16 +38,18 @@ fn command(alloc: Global, asked: Request) -> Result<Command, AllocError> {
         Request::Edit(expr) => (expr, true),
     };
     Ok(Command::Eval {
-        expr: String::from_str(alloc, expr)?,
-        file,
-        journal,
-        in_place,
-        options: EvalOptions {
-            exit_status: !in_place,
-            no_doc: false,
-            expect_change: false,
-            diff: false,
+        words: EvalWords {
+            expr: String::from_str(alloc, expr)?,
+            file,
+            journal,
+            options: EvalOptions {
+                exit_status: !in_place,
+                no_doc: false,
+                expect_change: false,
+                diff: false,
+            },
         },
+        in_place,
     })
 }
 

@@ -1,6 +1,6 @@
 use Rattle.std.proofs.Common.{◌∙◌, ap, codes, sym, Some}
 use Rattle.clap.specs.Words.{Rule, rule_of}
-use Rattle.yq_args.specs.Parts.{argument_rule}
+use Rattle.yq_args.specs.Line.{argument_rule}
 use Rattle.yq_args.proofs.line.arg_of.Goals as goal
 
 pub returns-in-Inplace-clause-rule : goal.returns-in-Inplace-clause-rule

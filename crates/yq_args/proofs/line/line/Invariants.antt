@@ -1,6 +1,6 @@
 use Rattle.std.proofs.Common.{◌≡◌, false, length}
 use Rattle.clap.{specs.Words.app_of, specs.declared.builder.command.Command.TheViews.out-Command as fields_of}
-use Rattle.yq_args.{specs.Line.yq, specs.Parts.with_commands}
+use Rattle.yq_args.specs.Line.{yq, with_commands}
 use Rattle.yq_args.proofs.line.line.Given as goal
 
 abbrev pub invariant-commands : goal.invariant-commands

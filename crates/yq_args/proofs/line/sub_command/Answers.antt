@@ -1,5 +1,5 @@
 use Rattle.std.proofs.Common.{ap, ◌∙◌, arith, length}
-use Rattle.yq_args.{proofs.LineLaws.{argument_local, arguments_done, arguments_more}, specs.Parts.with_arguments}
+use Rattle.yq_args.{proofs.LineLaws.{argument_local, arguments_done, arguments_more}, specs.Line.with_arguments}
 use Rattle.yq_args.proofs.line.sub_command.Goals as goal
 
 pub arguments-preserved : goal.arguments-preserved

@@ -1,6 +1,6 @@
 use Rattle.std.proofs.Common.{◌≡◌, false, length}
 use Rattle.clap.{specs.Words.app_of, specs.declared.builder.command.Command.TheViews.out-Command as fields_of}
-use Rattle.yq_args.specs.Parts.{command_app, with_arguments}
+use Rattle.yq_args.specs.Line.{command_app, with_arguments}
 use Rattle.yq_args.proofs.line.sub_command.Given as goal
 
 abbrev pub invariant-arguments : goal.invariant-arguments

@@ -10,30 +10,30 @@ use Rattle.yq_history.proofs.moves.carry_out.Goals as goal
 
 pub returns : goal.returns
 returns g c =
-    let free = way_there c.args.open.state c.args.step c.args.open.text.items _ c.args.open.at_rest c.requires.moves c.in_ok-start_with.ensures.free in
+    let free = way_there c.args.open.state c.args.step c.args.open.text.items _ c.args.open.at_rest c.requires.moves c.in_ok-start_known.ensures.free in
     record {
       ok = λ keeps apart h k.
           on_ok_map _ (c.write_journal-2.ensures.ok keeps)
-          (third_write _ _ apart _ _ _ _ _ _ _ k c.requires.moves _ _ _ _ c.requires.changes c.in_ok-start_with.ensures.ok (c.in_ok-replace.ensures.written keeps) c.in_ok-finish.ensures.ok);
+          (third_write _ _ apart _ _ _ _ _ _ _ k c.requires.moves _ _ _ _ c.requires.changes c.in_ok-start_known.ensures.ok (c.in_ok-replace.ensures.written keeps) c.in_ok-finish.ensures.ok);
       err = λ keeps apart h k.
           let put = c.in_ok-replace.ensures.written keeps in
           on_err_map _ (c.write_journal-2.ensures.err keeps)
           (λ x. inr (either x
-          (λ same. same_content _ _ _ _ _ same (second_write _ _ apart _ _ _ _ _ _ _ k c.requires.moves _ _ c.requires.changes c.in_ok-start_with.ensures.ok (c.in_ok-write_journal.ensures.ok keeps) put))
-          (third_write _ _ apart _ _ _ _ _ _ _ k c.requires.moves _ _ _ _ c.requires.changes c.in_ok-start_with.ensures.ok put c.in_ok-finish.ensures.ok)));
+          (λ same. same_content _ _ _ _ _ same (second_write _ _ apart _ _ _ _ _ _ _ k c.requires.moves _ _ c.requires.changes c.in_ok-start_known.ensures.ok (c.in_ok-write_journal.ensures.ok keeps) put))
+          (third_write _ _ apart _ _ _ _ _ _ _ k c.requires.moves _ _ _ _ c.requires.changes c.in_ok-start_known.ensures.ok put c.in_ok-finish.ensures.ok)));
       text = λ keeps apart.
           on_ok c.write_journal-2.result
           (c.write_journal-2.ensures.others keeps c.args.open.pair.file.now apart ∙ ap (λ m. get m c.args.open.pair.file.now) (c.in_ok-replace.ensures.written keeps) ∙ get_written _ c.args.open.pair.file.now _);
       moved = λ keeps. on_ok_map _ (c.write_journal-2.ensures.ok keeps)
-          (moved_journal _ c.args.open.state _ _ c.args.step _ _ _ _ c.requires.moves c.requires.changes c.in_ok-start_with.ensures.ok c.in_ok-finish.ensures.ok);
+          (moved_journal _ c.args.open.state _ _ c.args.step _ _ _ _ c.requires.moves c.requires.changes c.in_ok-start_known.ensures.ok c.in_ok-finish.ensures.ok);
       cut = λ keeps apart.
           let put = c.in_ok-replace.ensures.written keeps in
           let file = c.write_journal-2.ensures.others keeps c.args.open.pair.file.now apart ∙ ap (λ m. get m c.args.open.pair.file.now) put ∙ get_written _ c.args.open.pair.file.now _ in
           on_err_map _ (c.write_journal-2.ensures.err keeps)
           (λ x. either x
-          (λ same. cut_changed _ _ _ _ _ _ apart _ _ c.in_ok-start_with.ensures.ok (c.in_ok-write_journal.ensures.ok keeps) _ (same ∙ put))
+          (λ same. cut_changed _ _ _ _ _ _ apart _ _ c.in_ok-start_known.ensures.ok (c.in_ok-write_journal.ensures.ok keeps) _ (same ∙ put))
           (λ w. cut_settled _ _ _ _ _ _ _ file
-          (moved_journal _ c.args.open.state _ _ c.args.step _ _ _ _ c.requires.moves c.requires.changes c.in_ok-start_with.ensures.ok c.in_ok-finish.ensures.ok w)));
+          (moved_journal _ c.args.open.state _ _ c.args.step _ _ _ _ c.requires.moves c.requires.changes c.in_ok-start_known.ensures.ok c.in_ok-finish.ensures.ok w)));
       fault = all_outside _ c.write_journal-2.result c.write_journal-2.ensures.outside;
       refused = λ f why.
           absurd (none-some f (sym free ∙ why));
@@ -44,8 +44,8 @@ returns g c =
       no_output = c.write_journal-2.ensures.no_output;
       count = c.write_journal-2.ensures.count ∙ ap (failures_after c.write_journal-2.result) (c.in_ok-replace.ensures.count ∙ c.in_ok-write_journal.ensures.count);
       calls =
-          let first = was_put_as g.D.Store.leads tt c.args.open.pair.journal.now _ _ c.args.store.now c.write_journal.new.store c.in_ok-start_with.ensures.ok c.in_ok-write_journal.ensures.calls in
-          let settled = settled_is c.args.open.state _ _ c.args.step _ _ c.requires.moves c.requires.changes c.in_ok-start_with.ensures.ok c.in_ok-finish.ensures.ok in
+          let first = was_put_as g.D.Store.leads tt c.args.open.pair.journal.now _ _ c.args.store.now c.write_journal.new.store c.in_ok-start_known.ensures.ok c.in_ok-write_journal.ensures.calls in
+          let settled = settled_is c.args.open.state _ _ c.args.step _ _ c.requires.moves c.requires.changes c.in_ok-start_known.ensures.ok c.in_ok-finish.ensures.ok in
           let third = puts_as g.D.Store.leads c.write_journal-2.result c.args.open.pair.journal.now _ _ c.replace.new.self c.write_journal-2.new.store settled c.write_journal-2.ensures.calls in
           three_writes g.D.Store.leads c.write_journal-2.result c.args.open.pair.file.now c.args.open.pair.journal.now c.args.open.state c.args.step c.args.open.text.items c.args.store.now c.write_journal-2.new.store c.args.new.now free c.requires.moves c.requires.changes
           (inr (inr (c.write_journal.new.store, first, inr (inr (c.replace.new.self, c.in_ok-replace.ensures.call, third)))));
@@ -55,19 +55,19 @@ pub returns-in_err-write_journal-clause-err : goal.returns-in_err-write_journal-
 returns-in_err-write_journal-clause-err g c = λ keeps apart h k. on_err _ (inl
     (either (c.in_err-write_journal.ensures.err keeps)
     (λ same. same_content _ _ _ _ _ same k.stands)
-    (λ w. first_write _ _ apart _ _ _ _ _ _ _ k c.requires.moves _ c.requires.changes c.in_ok-start_with.ensures.ok w)))
+    (λ w. first_write _ _ apart _ _ _ _ _ _ _ k c.requires.moves _ c.requires.changes c.in_ok-start_known.ensures.ok w)))
 
 pub returns-in_err-replace-clause-err : goal.returns-in_err-replace-clause-err
 returns-in_err-replace-clause-err g c = λ keeps apart h k.
     let w = c.in_ok-write_journal.ensures.ok keeps in
     on_err _
     (either (c.in_err-replace.ensures.err keeps)
-    (λ same. inl (same_content _ _ _ _ _ same (first_write _ _ apart _ _ _ _ _ _ _ k c.requires.moves _ c.requires.changes c.in_ok-start_with.ensures.ok w)))
-    (λ put. inr (second_write _ _ apart _ _ _ _ _ _ _ k c.requires.moves _ _ c.requires.changes c.in_ok-start_with.ensures.ok w put)))
+    (λ same. inl (same_content _ _ _ _ _ same (first_write _ _ apart _ _ _ _ _ _ _ k c.requires.moves _ c.requires.changes c.in_ok-start_known.ensures.ok w)))
+    (λ put. inr (second_write _ _ apart _ _ _ _ _ _ _ k c.requires.moves _ _ c.requires.changes c.in_ok-start_known.ensures.ok w put)))
 
 pub returns-in_err-finish-clause-err : goal.returns-in_err-finish-clause-err
 returns-in_err-finish-clause-err g c = λ keeps apart h k.
-    on_err _ (inr (second_write _ _ apart _ _ _ _ _ _ _ k c.requires.moves _ _ c.requires.changes c.in_ok-start_with.ensures.ok
+    on_err _ (inr (second_write _ _ apart _ _ _ _ _ _ _ k c.requires.moves _ _ c.requires.changes c.in_ok-start_known.ensures.ok
     (c.in_ok-write_journal.ensures.ok keeps) (c.in_ok-replace.ensures.written keeps)))
 
 pub returns-in_err-write_journal-clause-cut : goal.returns-in_err-write_journal-clause-cut
@@ -75,47 +75,47 @@ returns-in_err-write_journal-clause-cut g c = λ keeps apart.
     on_err _
     (either (c.in_err-write_journal.ensures.err keeps)
     (cut_unwritten _ _ _ _ _ _ _)
-    (λ w. cut_opened _ _ _ _ _ _ apart _ _ c.in_ok-start_with.ensures.ok w _ refl))
+    (λ w. cut_opened _ _ _ _ _ _ apart _ _ c.in_ok-start_known.ensures.ok w _ refl))
 
 pub returns-in_err-replace-clause-cut : goal.returns-in_err-replace-clause-cut
 returns-in_err-replace-clause-cut g c = λ keeps apart.
     let w = c.in_ok-write_journal.ensures.ok keeps in
     on_err _
     (either (c.in_err-replace.ensures.err keeps)
-    (cut_opened _ _ _ _ _ _ apart _ _ c.in_ok-start_with.ensures.ok w _)
-    (cut_changed _ _ _ _ _ _ apart _ _ c.in_ok-start_with.ensures.ok w _))
+    (cut_opened _ _ _ _ _ _ apart _ _ c.in_ok-start_known.ensures.ok w _)
+    (cut_changed _ _ _ _ _ _ apart _ _ c.in_ok-start_known.ensures.ok w _))
 
 pub returns-in_err-finish-clause-cut : goal.returns-in_err-finish-clause-cut
 returns-in_err-finish-clause-cut g c = λ keeps apart.
-    on_err _ (cut_changed _ _ _ _ _ _ apart _ _ c.in_ok-start_with.ensures.ok (c.in_ok-write_journal.ensures.ok keeps) _ (c.in_ok-replace.ensures.written keeps))
+    on_err _ (cut_changed _ _ _ _ _ _ apart _ _ c.in_ok-start_known.ensures.ok (c.in_ok-write_journal.ensures.ok keeps) _ (c.in_ok-replace.ensures.written keeps))
 
-pub returns-in_err-start_with-clause-calls : goal.returns-in_err-start_with-clause-calls
-returns-in_err-start_with-clause-calls g c =
+pub returns-in_err-start_known-clause-calls : goal.returns-in_err-start_known-clause-calls
+returns-in_err-start_known-clause-calls g c =
     let p = err_from_is_err_and c.from_residual.result c.from_residual.ensures.1 in
     makes_none g.D.Store.leads c.from_residual.result c.args.open.pair.file.now c.args.open.pair.journal.now c.args.open.text.items (move_effect c.args.step c.args.open.text.items c.args.open.state) c.args.store.now (fails c.from_residual.result _ p.1)
 
 pub returns-in_err-write_journal-clause-calls : goal.returns-in_err-write_journal-clause-calls
 returns-in_err-write_journal-clause-calls g c =
-    let free = way_there c.args.open.state c.args.step c.args.open.text.items _ c.args.open.at_rest c.requires.moves c.in_ok-start_with.ensures.free in
+    let free = way_there c.args.open.state c.args.step c.args.open.text.items _ c.args.open.at_rest c.requires.moves c.in_ok-start_known.ensures.free in
     let p = err_from_is_err_and c.from_residual-in_err-write_journal.result c.from_residual-in_err-write_journal.ensures.1 in
     three_writes g.D.Store.leads c.from_residual-in_err-write_journal.result c.args.open.pair.file.now c.args.open.pair.journal.now c.args.open.state c.args.step c.args.open.text.items c.args.store.now c.write_journal.new.store c.args.new.now free c.requires.moves c.requires.changes
     (was_last g.D.Store.leads c.from_residual-in_err-write_journal.result _ _
     ((c.args.open.pair.file.now, c.args.new.now) ∷ (c.args.open.pair.journal.now, journal_text (journal_after c.args.open.state c.args.step)) ∷ []) c.args.store.now c.write_journal.new.store (p.1 ∙ ap Err p.2)
-    (puts_as g.D.Store.leads _ c.args.open.pair.journal.now _ _ c.args.store.now c.write_journal.new.store c.in_ok-start_with.ensures.ok c.in_err-write_journal.ensures.calls))
+    (puts_as g.D.Store.leads _ c.args.open.pair.journal.now _ _ c.args.store.now c.write_journal.new.store c.in_ok-start_known.ensures.ok c.in_err-write_journal.ensures.calls))
 
 pub returns-in_err-replace-clause-calls : goal.returns-in_err-replace-clause-calls
 returns-in_err-replace-clause-calls g c =
-    let free = way_there c.args.open.state c.args.step c.args.open.text.items _ c.args.open.at_rest c.requires.moves c.in_ok-start_with.ensures.free in
+    let free = way_there c.args.open.state c.args.step c.args.open.text.items _ c.args.open.at_rest c.requires.moves c.in_ok-start_known.ensures.free in
     let p = err_from_is_err_and c.from_residual-in_err-replace.result c.from_residual-in_err-replace.ensures.1 in
-    let first = was_put_as g.D.Store.leads tt c.args.open.pair.journal.now _ _ c.args.store.now c.write_journal.new.store c.in_ok-start_with.ensures.ok c.in_ok-write_journal.ensures.calls in
+    let first = was_put_as g.D.Store.leads tt c.args.open.pair.journal.now _ _ c.args.store.now c.write_journal.new.store c.in_ok-start_known.ensures.ok c.in_ok-write_journal.ensures.calls in
     three_writes g.D.Store.leads c.from_residual-in_err-replace.result c.args.open.pair.file.now c.args.open.pair.journal.now c.args.open.state c.args.step c.args.open.text.items c.args.store.now c.replace.new.self c.args.new.now free c.requires.moves c.requires.changes
     (inr (inr (c.write_journal.new.store, first, inr (inl (_, c.in_err-replace.ensures.call, p.1 ∙ ap Err p.2)))))
 
 pub returns-in_err-finish-clause-calls : goal.returns-in_err-finish-clause-calls
 returns-in_err-finish-clause-calls g c =
-    let free = way_there c.args.open.state c.args.step c.args.open.text.items _ c.args.open.at_rest c.requires.moves c.in_ok-start_with.ensures.free in
+    let free = way_there c.args.open.state c.args.step c.args.open.text.items _ c.args.open.at_rest c.requires.moves c.in_ok-start_known.ensures.free in
     let p = err_from_is_err_and c.from_residual-in_err-finish.result c.from_residual-in_err-finish.ensures.1 in
-    let first = was_put_as g.D.Store.leads tt c.args.open.pair.journal.now _ _ c.args.store.now c.write_journal.new.store c.in_ok-start_with.ensures.ok c.in_ok-write_journal.ensures.calls in
+    let first = was_put_as g.D.Store.leads tt c.args.open.pair.journal.now _ _ c.args.store.now c.write_journal.new.store c.in_ok-start_known.ensures.ok c.in_ok-write_journal.ensures.calls in
     three_writes g.D.Store.leads c.from_residual-in_err-finish.result c.args.open.pair.file.now c.args.open.pair.journal.now c.args.open.state c.args.step c.args.open.text.items c.args.store.now c.replace.new.self c.args.new.now free c.requires.moves c.requires.changes
     (inr (inr (c.write_journal.new.store, first, inr (inr (c.replace.new.self, c.in_ok-replace.ensures.call, inl (fails c.from_residual-in_err-finish.result _ p.1, refl))))))
 

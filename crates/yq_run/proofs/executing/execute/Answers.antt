@@ -7,11 +7,10 @@ use Rattle.yq_commands.{specs.CommandEffects.{expression_fault, fault_of}, specs
 use Rattle.yq_commands.{specs.Prints.{prints, reads_journal, prints_change}, specs.Expecting.expects_change}
 use Rattle.yq_commands.proofs.ExpectingLaws.{none_expected}
 use Rattle.yq_commands.specs.CommandDone.{ArrivesOn, EditsOn, ExpectsOn, ListsOn, OthersOn, ShowsOn, WorksOn}
-use Rattle.yq_commands.proofs.ExecuteLaws.{evaluate_arrives, evaluate_edits, evaluate_shows, pair_arrives, pair_others, pair_works}
-use Rattle.yq_commands.proofs.ExecuteLaws.{update_arrives, update_edits, update_expects, update_shows, update_works, empty_shows}
-use Rattle.yq_commands.{proofs.ExecuteLaws.{listing_lists, listing_shows, update_lists}, specs.Calls.CallsOf, specs.Help.Helps}
-use Rattle.yq_commands.proofs.CommandCalls.{evaluation_calls, pair_calls, update_calls}
-use Rattle.yq_commands.proofs.OutcomeLaws.{each_error, memory_counted, memory_no_output}
+use Rattle.yq_commands.proofs.ExecuteLaws.{evaluate_arrives, evaluate_shows, pair_arrives, pair_others, pair_works, empty_shows}
+use Rattle.yq_commands.proofs.ExecuteLaws.{update_edits, update_expects, update_shows, update_works, listing_lists, listing_shows}
+use Rattle.yq_commands.{proofs.ExecuteLaws.update_lists, specs.CommandSteps.{update_cause, update_next}, specs.Calls.CallsOf}
+use Rattle.yq_commands.{specs.Help.Helps, proofs.CommandCalls.pair_calls, proofs.OutcomeLaws.{each_error, memory_counted, memory_no_output}}
 use Rattle.yq_journal.specs.declared.moves.Move.TheVariants as move
 use Rattle.yq_run.proofs.executing.execute.Goals as goal
 
@@ -21,15 +20,15 @@ returns-in-Undo g c =
     let is = c.in-Undo.is in
     record {
       done = λ keeps. record {
-        arrives = subst (ArrivesOn _ _ c.move_file.result) (sym is) (pair_arrives _ _ _ _ c.as_str-in-Undo.ensures.value c.as_str-in-Undo-2.ensures.value _ _ c.move_file.result (move_cause move.Undo) (move_next move.Undo) (e.arrives keeps));
-        effect = subst (WorksOn _ _ c.move_file.result) (sym is) (pair_works _ _ _ _ c.as_str-in-Undo.ensures.value c.as_str-in-Undo-2.ensures.value _ _ c.move_file.result (move_effect move.Undo) (e.effect keeps));
+        arrives = subst (ArrivesOn _ _ c.move_file.result) (sym is) (pair_arrives _ _ _ _ c.as_str.ensures.value c.as_str-in-Undo.ensures.value _ _ c.move_file.result (move_cause move.Undo) (move_next move.Undo) (e.arrives keeps));
+        effect = subst (WorksOn _ _ c.move_file.result) (sym is) (pair_works _ _ _ _ c.as_str.ensures.value c.as_str-in-Undo.ensures.value _ _ c.move_file.result (move_effect move.Undo) (e.effect keeps));
         output = subst (ShowsOn _ c.move_file.result _) (sym is) (λ file journal on h good. on_ok c.move_file.result (empty_shows _ _ c.requires.empty));
         listed = subst (ListsOn _ c.move_file.result _) (sym is) (λ file journal on. on_ok c.move_file.result tt);
         edited = subst (EditsOn _ _ c.move_file.result _) (sym is) (on_ok c.move_file.result tt);
         expected = subst (ExpectsOn _ c.move_file.result _) (sym is) (λ file journal on. on_ok c.move_file.result (ap (λ (s : Report). s.is_match) c.requires.empty ∙ none_expected _));
         still = λ shown. absurd (false≢true (sym (ap prints is) ∙ shown));
         kept = e.kept keeps;
-        others = subst (OthersOn _ _) (sym is) (pair_others _ _ _ _ c.as_str-in-Undo.ensures.value c.as_str-in-Undo-2.ensures.value _ _ (e.others keeps));
+        others = subst (OthersOn _ _) (sym is) (pair_others _ _ _ _ c.as_str.ensures.value c.as_str-in-Undo.ensures.value _ _ (e.others keeps));
       };
       unparsed = λ f fault. absurd (none-some f (sym (ap expression_fault is) ∙ fault));
       silent = λ hidden still. ap (λ (s : Report). s.printed) c.requires.empty;
@@ -37,7 +36,7 @@ returns-in-Undo g c =
       helped = subst (λ x. Helps x c.move_file.result (report_by c.args.report.now)) (sym is) tt;
       no_output = e.no_output;
       count = e.count;
-      calls = subst (λ x. CallsOf g.D.Store.leads c.move_file.result x c.args.store.now c.move_file.new.store) (sym is) (pair_calls g.D.Store.leads _ _ _ _ _ c.as_str-in-Undo.ensures.value c.as_str-in-Undo-2.ensures.value (move_effect move.Undo) _ _ e.calls);
+      calls = subst (λ x. CallsOf g.D.Store.leads c.move_file.result x c.args.store.now c.move_file.new.store) (sym is) (pair_calls g.D.Store.leads _ _ _ _ _ c.as_str.ensures.value c.as_str-in-Undo.ensures.value (move_effect move.Undo) _ _ e.calls);
     }
 
 pub returns-in-Redo : goal.returns-in-Redo
@@ -147,56 +146,55 @@ returns-in-Eval g c =
     let e = c.evaluate.ensures in
     let a = c.in-Eval in
     let on : a.in_place ≡ false = cc (a.in_place-is, a.in_place-test) in
-    let is = a.is ∙ ap (λ (b : Bool). Eval a.expr a.file a.journal b a.options) on in
+    let is = a.is ∙ ap (Eval a.words) on in
     record {
       done = λ keeps. record {
-        arrives = subst (ArrivesOn _ _ c.evaluate.result) (sym is) (λ file journal apart. evaluate_arrives _ _ c.as_str-in-Eval.ensures.value _ _ c.as_str-in-Eval-2.ensures.value a.options _ _ c.evaluate.result (e.done keeps).arrives file journal);
+        arrives = subst (ArrivesOn _ _ c.evaluate.result) (sym is) (λ file journal apart. evaluate_arrives _ _ a.words.options _ _ c.evaluate.result (e.done keeps).arrives file journal);
         effect = subst (WorksOn _ _ c.evaluate.result) (sym is) (λ file journal apart on. tt);
-        output = subst (ShowsOn _ c.evaluate.result _) (sym is) (evaluate_shows _ _ c.as_str-in-Eval.ensures.value _ _ c.as_str-in-Eval-2.ensures.value a.options _ c.evaluate.result _ (e.done keeps).output);
+        output = subst (ShowsOn _ c.evaluate.result _) (sym is) (evaluate_shows _ _ a.words.options _ c.evaluate.result _ (e.done keeps).output);
         listed = subst (ListsOn _ c.evaluate.result _) (sym is) (λ file journal on. on_ok c.evaluate.result tt);
-        edited = subst (EditsOn _ _ c.evaluate.result _) (sym is) (evaluate_edits _ _ c.as_str-in-Eval.ensures.value _ _ c.as_str-in-Eval-2.ensures.value a.options _ c.evaluate.result a.options.diff _ (e.edited keeps));
+        edited = subst (EditsOn _ _ c.evaluate.result _) (sym is) (e.edited keeps);
         expected = subst (ExpectsOn _ c.evaluate.result _) (sym is) (λ file journal on. tt);
         still = λ shown. (e.done keeps).same;
         kept = each_error _ c.evaluate.result (λ x inside. (e.done keeps).same);
         others = λ q apart. ap (λ m. get m q) (e.done keeps).same;
       };
-      unparsed = λ f fault. e.unparsed f (ap (λ y. fault_of (program_in y)) c.as_str-in-Eval-2.ensures.value ∙ sym (ap expression_fault is) ∙ fault);
+      unparsed = λ f fault. e.unparsed f (sym (ap expression_fault is) ∙ fault);
       silent = λ hidden still. absurd (true≢false (sym (ap prints is) ∙ hidden));
       matched = λ reads free. absurd (false≢true (sym (ap reads_journal is) ∙ reads));
       helped = subst (λ x. Helps x c.evaluate.result (report_by c.evaluate.new.report)) (sym is) tt;
       no_output = e.no_output;
       count = e.count;
-      calls = subst (λ x. CallsOf g.D.Store.leads c.evaluate.result x c.args.store.now c.evaluate.new.store) (sym is) (evaluation_calls g.D.Store.leads _ _ _ _ _ c.as_str-in-Eval.ensures.value c.as_str-in-Eval-2.ensures.value _ _ e.calls);
+      calls = subst (λ x. CallsOf g.D.Store.leads c.evaluate.result x c.args.store.now c.evaluate.new.store) (sym is) e.calls;
     }
 
-pub returns-in-Eval-default-default-default-true-default : goal.returns-in-Eval-default-default-default-true-default
-returns-in-Eval-default-default-default-true-default g c =
+pub returns-in-Eval-default-true : goal.returns-in-Eval-default-true
+returns-in-Eval-default-true g c =
     let e = c.update.ensures in
-    let a = c.in-Eval-default-default-default-true-default in
+    let a = c.in-Eval-default-true in
+    let x = string_bytes a.words.expr in
     let on : a.in_place ≡ true = cc (a.in_place-is, a.in_place-test) in
-    let is = a.is ∙ ap (λ (b : Bool). Eval a.expr a.file a.journal b a.options) on in
+    let is = a.is ∙ ap (Eval a.words) on in
     record {
       done = λ keeps. record {
-        arrives = subst (ArrivesOn _ _ c.update.result) (sym is) (update_arrives _ _ _ _ c.as_str.ensures.value c.as_str-in-Eval-default-default-default-true-default.ensures.value _ _ c.update.result _ _ c.as_str-in-Eval-default-default-default-true-default-2.ensures.value (e.done keeps).arrives);
-        effect = subst (WorksOn _ _ c.update.result) (sym is) (update_works _ _ _ _ c.as_str.ensures.value c.as_str-in-Eval-default-default-default-true-default.ensures.value _ _ c.update.result _ _ c.as_str-in-Eval-default-default-default-true-default-2.ensures.value (e.done keeps).effect);
+        arrives = subst (ArrivesOn _ _ c.update.result) (sym is) (pair_arrives _ _ _ _ refl refl _ _ c.update.result (update_cause (program_in x)) (update_next x (program_in x)) (e.done keeps).arrives);
+        effect = subst (WorksOn _ _ c.update.result) (sym is) (update_works _ _ x _ c.update.result _ (e.done keeps).effect);
         output = subst (ShowsOn _ c.update.result _) (sym is)
-            (update_shows _ _ _ _ c.as_str.ensures.value c.as_str-in-Eval-default-default-default-true-default.ensures.value _ c.update.result (report_by c.update.new.report) a.options _ _ c.as_str-in-Eval-default-default-default-true-default-2.ensures.value (e.done keeps).output);
-        listed = subst (ListsOn _ c.update.result _) (sym is)
-            (update_lists _ _ _ _ c.as_str.ensures.value c.as_str-in-Eval-default-default-default-true-default.ensures.value _ c.update.result _ a.options.diff _ _ c.as_str-in-Eval-default-default-default-true-default-2.ensures.value (e.done keeps).listed);
-        edited = subst (EditsOn _ _ c.update.result _) (sym is) (update_edits _ _ _ _ c.as_str.ensures.value c.as_str-in-Eval-default-default-default-true-default.ensures.value _ _ c.update.result a.options.diff _ _ _ c.as_str-in-Eval-default-default-default-true-default-2.ensures.value (e.done keeps).edited);
-        expected = subst (ExpectsOn _ c.update.result _) (sym is)
-            (update_expects _ _ _ _ c.as_str.ensures.value c.as_str-in-Eval-default-default-default-true-default.ensures.value _ c.update.result _ a.options.expect_change _ _ c.as_str-in-Eval-default-default-default-true-default-2.ensures.value (e.done keeps).expected);
+            (update_shows _ _ x _ c.update.result (report_by c.update.new.report) a.words.options (e.done keeps).output);
+        listed = subst (ListsOn _ c.update.result _) (sym is) (update_lists _ _ x _ c.update.result _ a.words.options.diff (e.done keeps).listed);
+        edited = subst (EditsOn _ _ c.update.result _) (sym is) (update_edits _ _ x _ c.update.result _ _ a.words.options.diff (e.done keeps).edited);
+        expected = subst (ExpectsOn _ c.update.result _) (sym is) (update_expects _ _ x _ c.update.result _ a.words.options.expect_change (e.done keeps).expected);
         still = λ shown. absurd (false≢true (sym (ap prints is) ∙ shown));
         kept = (e.done keeps).kept;
-        others = subst (OthersOn _ _) (sym is) (pair_others _ _ _ _ c.as_str.ensures.value c.as_str-in-Eval-default-default-default-true-default.ensures.value _ _ (e.done keeps).others);
+        others = subst (OthersOn _ _) (sym is) (pair_others _ _ _ _ refl refl _ _ (e.done keeps).others);
       };
-      unparsed = λ f fault. e.unparsed f (ap (λ y. fault_of (program_in y)) c.as_str-in-Eval-default-default-default-true-default-2.ensures.value ∙ sym (ap expression_fault is) ∙ fault);
+      unparsed = λ f fault. e.unparsed f (sym (ap expression_fault is) ∙ fault);
       silent = λ hidden still. e.silent (sym (ap prints_change is) ∙ still);
       matched = λ reads free. e.unasked (sym (ap expects_change is) ∙ free) (ap (λ (s : Report). s.is_match) c.requires.empty);
       helped = subst (λ x. Helps x c.update.result (report_by c.update.new.report)) (sym is) tt;
       no_output = e.no_output;
       count = e.count;
-      calls = subst (λ x. CallsOf g.D.Store.leads c.update.result x c.args.store.now c.update.new.store) (sym is) (update_calls g.D.Store.leads _ _ _ _ _ c.as_str.ensures.value c.as_str-in-Eval-default-default-default-true-default.ensures.value _ _ c.as_str-in-Eval-default-default-default-true-default-2.ensures.value _ _ e.calls);
+      calls = subst (λ x. CallsOf g.D.Store.leads c.update.result x c.args.store.now c.update.new.store) (sym is) e.calls;
     }
 
 pub update-requires : goal.update-requires

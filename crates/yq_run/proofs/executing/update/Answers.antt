@@ -1,93 +1,111 @@
-use Rattle.std.{proofs.Common.{◌≡◌, ℕ, List, false, Ok, Err, IfErr, sym, ap, ◌∙◌, subst}, proofs.lemmas.Result.err_from_is_err_and}
+use Rattle.std.{proofs.Common.{◌≡◌, ℕ, List, false, Ok, Err, IfErr, Some, sym, ap, ◌∙◌, subst}, proofs.lemmas.Result.err_from_is_err_and}
 use Rattle.std.{specs.FinMap.get, specs.String.string_bytes}
 use Rattle.yq_journal.specs.State.{State}
 use Rattle.yq_semantics.specs.View.{program_of}
-use Rattle.yq_commands.{specs.Editing.program_edits, specs.CommandEffects.{edit_effect, update_effect, output_by}}
+use Rattle.yq_commands.specs.Editing.{program_edits, program_in}
+use Rattle.yq_commands.specs.CommandEffects.{edit_effect, update_effect, output_by, IsUnparsed, fault_of}
 use Rattle.yq_commands.{specs.Expecting.{report_edit, works_as_expected}, proofs.EditEffects.parsed_works}
 use Rattle.yq_commands.proofs.FileEditLaws.{file_comes, parsed_free, unparsed_fault, both_come, change_output_by}
 use Rattle.yq_commands.{specs.CommandSteps.{update_cause, update_next}, proofs.ExpectingLaws.{effect_expected, matched_as, history_showing}}
 use Rattle.yq_commands.{proofs.OutcomeLaws.{arrives_as, opened}, proofs.CommandCalls.{none_yet, parsed_calls}}
-use Rattle.yq_commands.proofs.DoneLaws.{unopened_edits, unparsed_edits}
-use Rattle.yq_history.{specs.Report.report_by, proofs.CallLaws.{fails, unopened_calls, opened_calls}, proofs.EffectLaws.from_opened}
-use Rattle.yq_history.{specs.Faults.{failures_after, is_outer_fault}, specs.Output.{IsOutput, Shows}, proofs.MoveLaws.on_ok_map}
+use Rattle.yq_commands.{proofs.DoneLaws.{by_words, unopened_edits, unparsed_edits}, specs.Calls.CallsToEdit, specs.CommandDone.EditsInPlace}
+use Rattle.yq_history.{specs.declared.fault.Fault.Fault, specs.Report.report_by, proofs.CallLaws.{fails, unopened_calls, opened_calls}}
+use Rattle.yq_history.{proofs.EffectLaws.from_opened, specs.Faults.{failures_after, is_outer_fault}, specs.Output.{IsOutput, Shows}}
+use Rattle.yq_history.proofs.MoveLaws.{on_ok_map}
 use Rattle.yq_run.proofs.executing.update.Goals as goal
 
 pub returns : goal.returns
 returns g c =
     let o = c.in_ok-text.ensures in
     let e = c.edit_from.ensures in
+    let w = c.args.words.now in
     record {
-      done = λ keeps. record {
-        arrives = λ apart h good.
-            arrives_as _ _ _ c.edit_from.result (λ q. update_cause q h) (λ q. update_next c.args.expr.now q h) h _ _ (sym c.in_ok-program.ensures.ok)
-            (opened (update_cause (Ok (program_of c.in_ok-program.program))) (update_next c.args.expr.now (Ok (program_of c.in_ok-program.program))) _ _ _ _ c.edit_from.result (c.in_ok-text.text, c.in_ok-text.state) h (o.opens keeps h good) ((e.done keeps).edit apart).arrives);
-        effect = λ apart.
-            let does = λ (t : List ℕ) (s : State). edit_effect c.args.expr.now (program_edits (program_of c.in_ok-program.program) t) t s in
-            parsed_works _ _ (g.D.Store.content c.args.store.now) _ c.args.expr.now (program_of c.in_ok-program.program) _ _ c.edit_from.result c.in_ok-program.ensures.ok
-            (from_opened _ _ does _ _ (g.D.Store.content c.args.store.now) _ _ c.in_ok-text.text.items c.in_ok-text.state c.edit_from.result (c.in_ok-text.ensures.same keeps)
-            (c.in_ok-text.ensures.found keeps does)
-            ((e.done keeps).edit apart).effect);
-        edited = λ apart.
-            let same = c.in_ok-text.ensures.same keeps in
-            let held = c.in_ok-text.ensures.text keeps in
-            let there = ap (λ m. get m c.args.file.now) same ∙ held in
-            both_come c.edit_from.result c.args.options.diff c.args.expr.now c.args.file.now c.in_ok-text.text.items _ _ _ held
-            (file_comes c.edit_from.result c.args.expr.now (program_of c.in_ok-program.program) c.in_ok-text.text.items _ _ c.in_ok-program.ensures.ok held (on_ok_map c.edit_from.result ((e.done keeps).held apart there) (λ x. x.edited)))
-            (on_ok_map c.edit_from.result ((e.done keeps).held apart there) (λ x. x.printed));
-        output = λ h good.
-            on_ok_map c.edit_from.result e.shows
-            (subst (λ due. Shows c.args.file.now due (report_by c.edit_from.new.report))
-            (history_showing c.args.options (program_of c.in_ok-program.program) _ c.args.file.now c.args.journal.now c.in_ok-text.text.items (c.in_ok-text.ensures.text keeps) h good
-            ∙ ap (λ q. report_edit c.args.options q h) (sym c.in_ok-program.ensures.ok)));
-        listed = λ apart.
-            let does = λ (t : List ℕ) (s : State). edit_effect c.args.expr.now (program_edits (program_of c.in_ok-program.program) t) t s in
-            let held = c.in_ok-text.ensures.text keeps in
-            let effect = c.in_ok-text.ensures.found keeps does in
-            let diffs = c.args.options.diff in
-            on_ok_map c.edit_from.result
-            (change_output_by diffs c.args.file.now c.args.file.now c.args.journal.now c.args.expr.now c.in_ok-text.text.items (program_edits (program_of c.in_ok-program.program) c.in_ok-text.text.items) c.in_ok-text.state _ _ c.edit_from.result _ ((e.done keeps).edit apart).effect (on_ok_map c.edit_from.result e.shows (λ s. s.output)))
-            (subst (λ x. IsOutput c.args.file.now x (string_bytes c.edit_from.new.report.text))
-            (ap (λ o. output_by diffs o (does c.in_ok-text.text.items c.in_ok-text.state)) (sym held)
-            ∙ ap (output_by diffs (get (g.D.Store.content c.args.store.now) c.args.file.now)) (sym effect)
-            ∙ ap (λ q. output_by diffs (get (g.D.Store.content c.args.store.now) c.args.file.now) (update_effect c.args.expr.now q (get (g.D.Store.content c.args.store.now) c.args.file.now) (get (g.D.Store.content c.args.store.now) c.args.journal.now))) (sym c.in_ok-program.ensures.ok)));
-        expected =
-            let does = λ (t : List ℕ) (s : State). edit_effect c.args.expr.now (program_edits (program_of c.in_ok-program.program) t) t s in
-            matched_as _ c.edit_from.result _ _ _ (on_ok_map c.edit_from.result e.shows (λ s. s.is_match))
-            (effect_expected c.args.options c.args.expr.now c.in_ok-text.text.items (program_edits (program_of c.in_ok-program.program) c.in_ok-text.text.items) c.in_ok-text.state
-            ∙ ap (works_as_expected c.args.options.expect_change) (sym (c.in_ok-text.ensures.found keeps does))
-            ∙ ap (λ q. works_as_expected c.args.options.expect_change (update_effect c.args.expr.now q (get (g.D.Store.content c.args.store.now) c.args.file.now) (get (g.D.Store.content c.args.store.now) c.args.journal.now))) (sym c.in_ok-program.ensures.ok));
-        kept = subst (λ m. IfErr c.edit_from.result (λ y. is_outer_fault y ≡ false → g.D.Store.content c.edit_from.new.store ≡ m)) (o.same keeps) (e.done keeps).kept;
-        others = λ q apart beside. (e.done keeps).others q apart beside ∙ ap (λ m. get m q) (o.same keeps);
-      };
+      done = λ keeps. by_words w _ _ _ c.as_str-expr.ensures.value c.as_str-file.ensures.value c.as_str-journal.ensures.value
+          (λ x f j. EditsInPlace x w.options f j (g.D.Store.content c.args.store.now) (g.D.Store.content c.edit_from.new.store) c.edit_from.result (report_by c.edit_from.new.report)) (record {
+            arrives = λ apart h good.
+                arrives_as _ _ _ c.edit_from.result (λ q. update_cause q h) (λ q. update_next c.as_str-expr.result.now q h) h _ _ (sym c.in_ok-program.ensures.ok)
+                (opened (update_cause (Ok (program_of c.in_ok-program.program))) (update_next c.as_str-expr.result.now (Ok (program_of c.in_ok-program.program))) _ _ _ _ c.edit_from.result (c.in_ok-text.text, c.in_ok-text.state) h (o.opens keeps h good) ((e.done keeps).edit apart).arrives);
+            effect = λ apart.
+                let does = λ (t : List ℕ) (s : State). edit_effect c.as_str-expr.result.now (program_edits (program_of c.in_ok-program.program) t) t s in
+                parsed_works _ _ (g.D.Store.content c.args.store.now) _ c.as_str-expr.result.now (program_of c.in_ok-program.program) _ _ c.edit_from.result c.in_ok-program.ensures.ok
+                (from_opened _ _ does _ _ (g.D.Store.content c.args.store.now) _ _ c.in_ok-text.text.items c.in_ok-text.state c.edit_from.result (c.in_ok-text.ensures.same keeps)
+                (c.in_ok-text.ensures.found keeps does)
+                ((e.done keeps).edit apart).effect);
+            edited = λ apart.
+                let same = c.in_ok-text.ensures.same keeps in
+                let held = c.in_ok-text.ensures.text keeps in
+                let there = ap (λ m. get m c.as_str-file.result.now) same ∙ held in
+                both_come c.edit_from.result c.args.words.now.options.diff c.as_str-expr.result.now c.as_str-file.result.now c.in_ok-text.text.items _ _ _ held
+                (file_comes c.edit_from.result c.as_str-expr.result.now (program_of c.in_ok-program.program) c.in_ok-text.text.items _ _ c.in_ok-program.ensures.ok held (on_ok_map c.edit_from.result ((e.done keeps).held apart there) (λ x. x.edited)))
+                (on_ok_map c.edit_from.result ((e.done keeps).held apart there) (λ x. x.printed));
+            output = λ h good.
+                on_ok_map c.edit_from.result e.shows
+                (subst (λ due. Shows c.as_str-file.result.now due (report_by c.edit_from.new.report))
+                (history_showing c.args.words.now.options (program_of c.in_ok-program.program) _ c.as_str-file.result.now c.as_str-journal.result.now c.in_ok-text.text.items (c.in_ok-text.ensures.text keeps) h good
+                ∙ ap (λ q. report_edit c.args.words.now.options q h) (sym c.in_ok-program.ensures.ok)));
+            listed = λ apart.
+                let does = λ (t : List ℕ) (s : State). edit_effect c.as_str-expr.result.now (program_edits (program_of c.in_ok-program.program) t) t s in
+                let held = c.in_ok-text.ensures.text keeps in
+                let effect = c.in_ok-text.ensures.found keeps does in
+                let diffs = c.args.words.now.options.diff in
+                on_ok_map c.edit_from.result
+                (change_output_by diffs c.as_str-file.result.now c.as_str-file.result.now c.as_str-journal.result.now c.as_str-expr.result.now c.in_ok-text.text.items (program_edits (program_of c.in_ok-program.program) c.in_ok-text.text.items) c.in_ok-text.state _ _ c.edit_from.result _ ((e.done keeps).edit apart).effect (on_ok_map c.edit_from.result e.shows (λ s. s.output)))
+                (subst (λ x. IsOutput c.as_str-file.result.now x (string_bytes c.edit_from.new.report.text))
+                (ap (λ o. output_by diffs o (does c.in_ok-text.text.items c.in_ok-text.state)) (sym held)
+                ∙ ap (output_by diffs (get (g.D.Store.content c.args.store.now) c.as_str-file.result.now)) (sym effect)
+                ∙ ap (λ q. output_by diffs (get (g.D.Store.content c.args.store.now) c.as_str-file.result.now) (update_effect c.as_str-expr.result.now q (get (g.D.Store.content c.args.store.now) c.as_str-file.result.now) (get (g.D.Store.content c.args.store.now) c.as_str-journal.result.now))) (sym c.in_ok-program.ensures.ok)));
+            expected =
+                let does = λ (t : List ℕ) (s : State). edit_effect c.as_str-expr.result.now (program_edits (program_of c.in_ok-program.program) t) t s in
+                matched_as _ c.edit_from.result _ _ _ (on_ok_map c.edit_from.result e.shows (λ s. s.is_match))
+                (effect_expected c.args.words.now.options c.as_str-expr.result.now c.in_ok-text.text.items (program_edits (program_of c.in_ok-program.program) c.in_ok-text.text.items) c.in_ok-text.state
+                ∙ ap (works_as_expected c.args.words.now.options.expect_change) (sym (c.in_ok-text.ensures.found keeps does))
+                ∙ ap (λ q. works_as_expected c.args.words.now.options.expect_change (update_effect c.as_str-expr.result.now q (get (g.D.Store.content c.args.store.now) c.as_str-file.result.now) (get (g.D.Store.content c.args.store.now) c.as_str-journal.result.now))) (sym c.in_ok-program.ensures.ok));
+            kept = subst (λ m. IfErr c.edit_from.result (λ y. is_outer_fault y ≡ false → g.D.Store.content c.edit_from.new.store ≡ m)) (o.same keeps) (e.done keeps).kept;
+            others = λ q apart beside. (e.done keeps).others q apart beside ∙ ap (λ m. get m q) (o.same keeps);
+          });
       silent = e.silent;
       unasked = e.unasked;
-      unparsed = parsed_free c.edit_from.result c.args.expr.now (program_of c.in_ok-program.program) c.in_ok-program.ensures.ok;
+      unparsed = subst (λ x. (f : Fault) → fault_of (program_in x) ≡ Some f → IsUnparsed f c.edit_from.result) c.as_str-expr.ensures.value
+          (parsed_free c.edit_from.result c.as_str-expr.result.now (program_of c.in_ok-program.program) c.in_ok-program.ensures.ok);
       no_output = e.no_output;
       count = e.count ∙ ap (failures_after c.edit_from.result) o.count;
-      calls = parsed_calls g.D.Store.leads c.edit_from.result _ c.args.store.now _ (program_of c.in_ok-program.program) _ c.in_ok-program.ensures.ok
-          (opened_calls g.D.Store.leads c.edit_from.result c.args.file.now c.args.journal.now (λ text. edit_effect c.args.expr.now (program_edits (program_of c.in_ok-program.program) text) text)
-          (c.in_ok-text.text, c.in_ok-text.state) c.open_pair.new.store c.edit_from.new.store e.calls c.args.store.now o.calls);
+      calls = by_words w _ _ _ c.as_str-expr.ensures.value c.as_str-file.ensures.value c.as_str-journal.ensures.value
+          (λ x f j. CallsToEdit g.D.Store.leads c.edit_from.result x f j c.args.store.now c.edit_from.new.store)
+          (parsed_calls g.D.Store.leads c.edit_from.result _ c.args.store.now _ (program_of c.in_ok-program.program) _ c.in_ok-program.ensures.ok
+          (opened_calls g.D.Store.leads c.edit_from.result c.as_str-file.result.now c.as_str-journal.result.now (λ text. edit_effect c.as_str-expr.result.now (program_edits (program_of c.in_ok-program.program) text) text)
+          (c.in_ok-text.text, c.in_ok-text.state) c.open_pair.new.store c.edit_from.new.store e.calls c.args.store.now o.calls));
     }
 
 pub returns-in_err-program-clause-done : goal.returns-in_err-program-clause-done
 returns-in_err-program-clause-done g c = λ keeps.
     let p = err_from_is_err_and c.from_residual.result c.from_residual.ensures.1 in
-    unparsed_edits c.args.expr.now c.args.options c.args.file.now c.args.journal.now (g.D.Store.content c.args.store.now) c.from_residual.result _ (p.1 ∙ ap Err p.2) (report_by c.args.report.now) c.in_err-program.ensures.err
+    let content = g.D.Store.content c.args.store.now in
+    let w = c.args.words.now in
+    by_words w _ _ _ c.as_str-expr.ensures.value c.as_str-file.ensures.value c.as_str-journal.ensures.value
+    (λ x f j. EditsInPlace x w.options f j content content c.from_residual.result (report_by c.args.report.now))
+    (unparsed_edits c.as_str-expr.result.now w.options c.as_str-file.result.now c.as_str-journal.result.now content c.from_residual.result _ (p.1 ∙ ap Err p.2) (report_by c.args.report.now) c.in_err-program.ensures.err)
 
 pub returns-in_err-text-clause-done : goal.returns-in_err-text-clause-done
 returns-in_err-text-clause-done g c = λ keeps.
     let p = err_from_is_err_and c.from_residual-in_err-text.result c.from_residual-in_err-text.ensures.1 in
     let e = c.in_err-text.ensures in
-    unopened_edits c.args.expr.now c.args.options c.args.file.now c.args.journal.now (g.D.Store.content c.args.store.now) c.from_residual-in_err-text.result _ (p.1 ∙ ap Err p.2) (report_by c.args.report.now)
-    (program_of c.in_ok-program.program) (g.D.Store.content c.open_pair.new.store) c.in_ok-program.ensures.ok (e.same keeps) (e.opens keeps) (e.missed keeps)
+    let content = g.D.Store.content c.args.store.now in
+    let w = c.args.words.now in
+    by_words w _ _ _ c.as_str-expr.ensures.value c.as_str-file.ensures.value c.as_str-journal.ensures.value
+    (λ x f j. EditsInPlace x w.options f j content (g.D.Store.content c.open_pair.new.store) c.from_residual-in_err-text.result (report_by c.args.report.now))
+    (unopened_edits c.as_str-expr.result.now w.options c.as_str-file.result.now c.as_str-journal.result.now content c.from_residual-in_err-text.result _ (p.1 ∙ ap Err p.2) (report_by c.args.report.now)
+    (program_of c.in_ok-program.program) (g.D.Store.content c.open_pair.new.store) c.in_ok-program.ensures.ok (e.same keeps) (e.opens keeps) (e.missed keeps))
 
 pub returns-in_err-program-clause-unparsed : goal.returns-in_err-program-clause-unparsed
 returns-in_err-program-clause-unparsed g c =
     let p = err_from_is_err_and c.from_residual.result c.from_residual.ensures.1 in
-    unparsed_fault c.from_residual.result c.args.expr.now _ (p.1 ∙ ap Err p.2) c.in_err-program.ensures.err
+    subst (λ x. (f : Fault) → fault_of (program_in x) ≡ Some f → IsUnparsed f c.from_residual.result) c.as_str-expr.ensures.value
+    (unparsed_fault c.from_residual.result c.as_str-expr.result.now _ (p.1 ∙ ap Err p.2) c.in_err-program.ensures.err)
 
 pub returns-in_err-text-clause-unparsed : goal.returns-in_err-text-clause-unparsed
-returns-in_err-text-clause-unparsed g c = parsed_free c.from_residual-in_err-text.result c.args.expr.now (program_of c.in_ok-program.program) c.in_ok-program.ensures.ok
+returns-in_err-text-clause-unparsed g c =
+    subst (λ x. (f : Fault) → fault_of (program_in x) ≡ Some f → IsUnparsed f c.from_residual-in_err-text.result) c.as_str-expr.ensures.value
+    (parsed_free c.from_residual-in_err-text.result c.as_str-expr.result.now (program_of c.in_ok-program.program) c.in_ok-program.ensures.ok)
 
 pub returns-in_err-program-clause-calls : goal.returns-in_err-program-clause-calls
 returns-in_err-program-clause-calls g c =
@@ -97,6 +115,9 @@ returns-in_err-program-clause-calls g c =
 pub returns-in_err-text-clause-calls : goal.returns-in_err-text-clause-calls
 returns-in_err-text-clause-calls g c =
     let p = err_from_is_err_and c.from_residual-in_err-text.result c.from_residual-in_err-text.ensures.1 in
-    parsed_calls g.D.Store.leads c.from_residual-in_err-text.result _ c.args.store.now _ (program_of c.in_ok-program.program) _ c.in_ok-program.ensures.ok
-    (unopened_calls g.D.Store.leads c.from_residual-in_err-text.result c.args.file.now c.args.journal.now (λ text. edit_effect c.args.expr.now (program_edits (program_of c.in_ok-program.program) text) text)
-    _ (p.1 ∙ ap Err p.2) c.args.store.now c.open_pair.new.store c.in_err-text.ensures.calls)
+    let r = c.from_residual-in_err-text.result in
+    by_words c.args.words.now _ _ _ c.as_str-expr.ensures.value c.as_str-file.ensures.value c.as_str-journal.ensures.value
+    (λ x f j. CallsToEdit g.D.Store.leads r x f j c.args.store.now c.open_pair.new.store)
+    (parsed_calls g.D.Store.leads r _ c.args.store.now _ (program_of c.in_ok-program.program) _ c.in_ok-program.ensures.ok
+    (unopened_calls g.D.Store.leads r c.as_str-file.result.now c.as_str-journal.result.now (λ text. edit_effect c.as_str-expr.result.now (program_edits (program_of c.in_ok-program.program) text) text)
+    _ (p.1 ∙ ap Err p.2) c.args.store.now c.open_pair.new.store c.in_err-text.ensures.calls))
