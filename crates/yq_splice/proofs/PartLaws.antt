@@ -1,8 +1,8 @@
 -- An update that is planned and carried out part by part.
 use Rattle.std.proofs.Common.{◌≡◌, ◌⊎◌, inl, inr, ℕ, ◌≤◌, List, [], ◌∷◌, ◌++◌, length, Some, refl, sym, ap, ◌∙◌, subst, append_assoc}
-use Rattle.std.{proofs.Common.append-nil, proofs.lemmas.Option.none-some}
+use Rattle.std.proofs.Common.{append-nil}
 use Rattle.yq_documents.{specs.Documents.{Document, ReadsDocuments}, specs.Reading.{cut_of, documents, documents_of, read_at}}
-use Rattle.yq_documents.{proofs.ReadLaws.{one_reading, parts_read, read_takes}, proofs.ReadyLaws.read_ready}
+use Rattle.yq_documents.{proofs.ReadLaws.{one_reading, read_takes}, proofs.ReadyLaws.read_ready}
 use Rattle.yq_outline.proofs.ShapeLaws.{shaped_by_lines, shaped_is_tree}
 use Rattle.yq_semantics.{specs.After.{after_op, all_after, op_document}, specs.Changes.Room, specs.Fits.AllFit, specs.Meaning.AreReady}
 use Rattle.yq_semantics.{specs.Judgement.{Judgement, MatchFails, gives, refuses}, specs.Operations.Operation, specs.Plans.plan}
@@ -13,12 +13,12 @@ use Rattle.yq_semantics.{proofs.updates.AlikeRooms.rest_follow, proofs.updates.R
 use Rattle.yq_eval.specs.PlaceView.{put_behind}
 use Rattle.yq_expr.{specs.Parts.{LeavesOps, rest_ops}, proofs.PartLaws.{nothing_left, whole_plan}}
 use Rattle.yq_text.specs.Splice.{Splice}
-use Rattle.yq_edit_laws.{specs.Answers.{EditFails, error_of_reading, of_planning}, specs.Carried.{carried, carry_all, carry_out, updated}}
+use Rattle.yq_edit_laws.{specs.Answers.{EditFails, of_planning}, specs.Carried.{carried, carry_all, carry_out, updated}}
 use Rattle.yq_edit_laws.specs.Edit.{Edit, by_reading, edit_after, edit_then, in_order, unreadable}
 use Rattle.yq_edit_laws.specs.Theorems.{IsApplied, IsFitting, IsLarge, Leading, StopsInOrder}
 use Rattle.yq_edit_laws.{specs.Valid.{AreServed, FailsAt, HaveOperands, IsStep, UpdateFails}, specs.declared.edit_error.EditError.EditError}
 use Rattle.yq_edit_laws.{proofs.ApplyLaws.applied_by, proofs.CutLaws.cut_same, proofs.MeaningLaws.{UpdateComes, plan_comes}}
-use Rattle.yq_edit_laws.{proofs.ServeLaws.{OperationsCome, all_come}, proofs.TextFaults.{FailsToRead, text_unread, text_utf8}}
+use Rattle.yq_edit_laws.proofs.ServeLaws.{OperationsCome, all_come}
 use Rattle.yq_edit_laws.proofs.OrderLaws.{behind_both, behind_none, fails_behind, fails_itself, fails_on}
 use Rattle.yq_core.specs.declared.fault.ReadError.{ReadError}
 use Rattle.yq_splice.specs.Parts.{Awaits, IsJudged}
@@ -279,13 +279,6 @@ module _ (u : Update) (t : List ℕ) (before : List Splice) (is : read_at t ≡ 
           },
           h.all,
         )
-
--- a text on which operations are served is read
-pub read_fails : (ops : List Operation) (bytes m : List ℕ) (e : ReadError) (r : Edit) → AreServed ops m → bytes ≡ m → FailsToRead e bytes → EditFails (error_of_reading e) r
-read_fails ops bytes m reading.Memory r s same h = tt
-read_fails ops bytes m (reading.Fault fault) r s same h =
-    let reads = (parts_read m s.0 s.1.read).0 in
-    absurd (none-some _ (sym (text_unread bytes m fault same (text_utf8 m s.1.read.parts reads) h).0 ∙ reads))
 
 -- memory that ran out where an update was weighed
 pub weighing_fails : (e : ExprError) (u : Update) (t : List ℕ) → e ≡ planning.Memory → FailsAt (of_planning e) u t
