@@ -1,10 +1,10 @@
 -- Nodes in front of a text that lends them.
-use Rattle.std.proofs.Common.{◌≡◌, ℕ, true, false, List, Option, Some, None, refl, sym, ap, ◌∙◌, arith}
+use Rattle.std.proofs.Common.{◌≡◌, ℕ, true, false, List, Option, Some, None, refl, ap, ◌∙◌, arith}
 use Rattle.std.proofs.lemmas.Bool.{and_parts, and_from}
 use Rattle.yq_core.{specs.Places.{locate, locate_items}, specs.Trees.{tree_of, items_tree}}
 use Rattle.yq_core.specs.Keys.{has_unique_keys, each_has_unique_keys}
 use Rattle.yq_core.specs.Nodes.{FlowNode, Items, node_text, flow_items_text, IsFlowNode, AreFlowItems, is_close}
-use Rattle.yq_core.{specs.Reading.{all_node, all_items, items_at}, proofs.NodeLaws.{all_takes, all_again}, proofs.NodeTakes.items_takes}
+use Rattle.yq_core.{specs.Reading.{all_node, all_items}, proofs.NodeLaws.{all_takes, all_again}, proofs.NodeTakes.items_takes}
 use Rattle.yq_core.proofs.NodeAgain.{items_again}
 use Rattle.yq_core.specs.Borrowed.{borrows_node, borrows_items, IsBorrowed, AreBorrowed, borrows_read, is_borrowed, borrows_all}
 use Rattle.yq_core.specs.Borrowed.{are_borrowed, located_or_nothing, node_in_front, located_or_end, items_in_front}

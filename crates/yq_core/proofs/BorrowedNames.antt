@@ -1,7 +1,7 @@
 -- No anchor and no alias is in a node that a text lends.
-use Rattle.std.proofs.Common.{◌≡◌, ℕ, Bool, true, false, ◌&&◌, cond, eqb, List, [], ◌++◌, Option, None, refl, sym, ap, ◌∙◌, subst}
+use Rattle.std.proofs.Common.{◌≡◌, ℕ, Bool, true, false, ◌&&◌, cond, eqb, List, [], ◌++◌, None, refl, sym, ap, ◌∙◌, subst}
 use Rattle.std.proofs.lemmas.Bool.{false≢true, and_parts}
-use Rattle.yq_core.{specs.Anchors.{Name, names_of, names_in}, specs.Places.{Placed, locate}, specs.Tree.Children}
+use Rattle.yq_core.{specs.Anchors.{names_of, names_in}, specs.Tree.Children}
 use Rattle.yq_core.specs.Nodes.{FlowNode, empty, alias, scalar, coll, anchored, Items, none, item}
 use Rattle.yq_core.specs.Borrowed.{borrows_key, borrows_node, borrows_items, is_borrowed, node_in_front}
 use Rattle.yq_core.{specs.Trees.{placed_tree, tree_of, items_tree, tree_collection}, proofs.BorrowedLaws.{borrowed_node, front_located}}
