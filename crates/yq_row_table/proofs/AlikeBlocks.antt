@@ -1,10 +1,11 @@
 -- A block scalar before one text is one before a text that is alike.
-use Rattle.std.proofs.Common.{◌≡◌, ℕ, Bool, false, cond, not, ◌&&◌, eqb, List, [], ◌∷◌, ◌++◌, refl, sym, ap, ◌∙◌, Some, rules}
-use Rattle.std.{proofs.Math.Bool.and-false, proofs.lemmas.Bool.{false≢true, not-true, cases_Bool, or_parts}}
-use Rattle.yq_core.{specs.Block.{is_empty_line, is_less_indented, ends_block}, specs.Lines.{spaces, behind_spaces}}
-use Rattle.yq_core.specs.Text.{front, is_feed, is_break, ends_line, text_lines, put_byte}
+use Rattle.std.proofs.Common.{◌≡◌, inl, inr, ℕ, suc, Bool, false, cond, not, ◌&&◌, eqb, List, [], ◌∷◌, ◌++◌, refl, sym, ap, ◌∙◌, Some}
+use Rattle.std.{proofs.Common.rules, proofs.Math.Bool.and-false, proofs.lemmas.Bool.{false≢true, not-true, cases_Bool, or_parts}}
+use Rattle.yq_core.specs.Block.{is_empty_line, is_less_indented, ends_block, IsBlock, BlockText, keeps}
+use Rattle.yq_core.specs.Lines.{spaces, behind_spaces, is_tab}
+use Rattle.yq_core.specs.Text.{front, is_white, is_feed, is_return, is_break, ends_line, text_lines, put_byte}
 use Rattle.yq_core.{specs.declared.block_lines.TextIndent.TextIndent, proofs.Bools.at_byte}
-use Rattle.yq_core.{proofs.SpaceLaws.{prefix_drop, prefix_next, prefix_none}, specs.Alike.{Alike, stop, colon, after}}
+use Rattle.yq_core.{proofs.SpaceLaws.{prefix_drop, prefix_next, prefix_none}, specs.Alike.{ends_lookahead, Alike, stop, colon, after}}
 use Rattle.yq_core.proofs.Alikes.{stop_break}
 use Rattle.yq_row_table.proofs.Fronts.{Starts}
 use Rattle.yq_core.specs.Alike as texts
@@ -29,24 +30,46 @@ pub record Put (b : ℕ) (t : List ℕ) : Type 0 where
 pub put_first : (b : ℕ) (t : List ℕ) → Put b t
 unfolding text_lines
 put_first b [] = record { line = []; lines = []; is = refl; front_is = refl }
-put_first b (c ∷ t) = search (rules, cases_Bool, put_first c t)
+put_first b (c ∷ t) = elim (cases_Bool (is_feed c)) [
+  | inl e ↦ record { line = c ∷ []; lines = text_lines t; is = rw e refl; front_is = refl }
+  | inr e ↦ (
+      let again = put_first c t in
+      record { line = c ∷ again.line; lines = again.lines; is = rw e (rw again.is refl); front_is = refl })
+]
 
 put_seam : (b c : ℕ) (t u : List ℕ) → is_break (b ∷ t) ≡ false → is_break (c ∷ u) ≡ false → eqb b 32 ≡ false → eqb c 32 ≡ false → eqb b 9 ≡ eqb c 9 → LinesAlike (put_byte b (text_lines t)) (put_byte c (text_lines u))
-put_seam b c t u x y s r tab = search (rules, put_first)
+put_seam b c t u x y s r tab =
+    let p = put_first b t in
+    let q = put_first c u in
+    let one : ends_line (b ∷ p.line) ≡ false = rw p.front_is x in
+    let two : ends_line (c ∷ q.line) ≡ false = rw q.front_is y in
+    rw (p.is, q.is) (here (byte {b = b} {c = c} {t = p.line} {u = q.line} one two s r tab))
 
 put_alike : (b : ℕ) (ls ms : List (List ℕ)) → is_feed b ≡ false → LinesAlike ls ms → LinesAlike (put_byte b ls) (put_byte b ms)
-put_alike b ls ms e h = search rules
+put_alike b _ _ e (here {l} {m} {ls} {ms} h) = here (after_byte e h)
+put_alike b _ _ e (behind {l} {ls} {ms} h) = behind h
 
 -- lines after the same text
 pub lines_after : (p t u : List ℕ) → LinesAlike (text_lines t) (text_lines u) → LinesAlike (text_lines (p ++ t)) (text_lines (p ++ u))
 unfolding text_lines
 lines_after [] t u h = h
-lines_after (b ∷ p) t u h = search (rules, cases_Bool, put_alike, lines_after p t u h)
+lines_after (b ∷ p) t u h = elim (cases_Bool (is_feed b)) [
+  | inl e ↦ rw e (behind (lines_after p t u h))
+  | inr e ↦ rw e (put_alike b (text_lines (p ++ t)) (text_lines (p ++ u)) e (lines_after p t u h))
+]
 
 pub lines_alike : (t u : List ℕ) → Alike (Some false) t u → LinesAlike (text_lines t) (text_lines u)
 unfolding text_lines
-lines_alike _ _ (texts.byte {b} {t} {u} v w x y) = search (rules, or_parts, put_seam)
-lines_alike _ _ (stop {b = b} {t = t} {u = u} x) = search (rules, at_byte, put_seam, stop_break)
+lines_alike _ _ (texts.byte {b} {t} {u} v w x y) =
+    let white = or_parts (is_white b) (is_break (b ∷ t)) v in
+    let other = or_parts (is_white b) (is_break (b ∷ u)) w in
+    let none : is_feed b ≡ false = (or_parts (is_feed b) (is_return b && front is_feed t) white.1).0 in
+    let space = (or_parts (eqb b 32) (eqb b 9) white.0).0 in
+    rw none (put_seam b b t u white.1 other.1 space space refl)
+lines_alike _ _ (stop {b = b} {t = t} {u = u} x) =
+    let none : is_feed b ≡ false = at_byte ends_lookahead b 10 x refl in
+    let space = at_byte ends_lookahead b 32 x refl in
+    rw none (put_seam b b t u (stop_break b t x) (stop_break b u x) space space refl)
 lines_alike _ _ (colon {t = t} {u = u} x y) = put_seam 58 58 t u refl refl refl refl refl
 lines_alike _ _ (after {f = f} {b = b} {t = t} {u = u} h) = lines_after (b ∷ []) t u (lines_alike t u h)
 
@@ -62,17 +85,42 @@ is_blank b = eqb b 32
 -- such lines begin with as many spaces, and with no break after these
 line_spaces : (l m : List ℕ) → LineAlike l m → (spaces l ≡ spaces m) × LineAlike (behind_spaces l) (behind_spaces m)
 line_spaces _ _ (byte {b} {c} {t} {u} x y s r tab) = (prefix_none is_blank b t s ∙ sym (prefix_none is_blank c u r), rw (prefix_drop is_blank b t, prefix_drop is_blank c u) (rw (s, r) (byte x y s r tab)))
-line_spaces _ _ (after_byte {b} {t} {u} e h) = search (rules, cases_Bool, prefix_next, prefix_drop, prefix_none, line_spaces t u h)
+line_spaces _ _ (after_byte {b} {t} {u} e h) =
+    let again = line_spaces t u h in
+    elim (cases_Bool (eqb b 32)) [
+      | inl s ↦ (prefix_next is_blank b t s ∙ (ap suc again.0 ∙ sym (prefix_next is_blank b u s)), rw (prefix_drop is_blank b t, prefix_drop is_blank b u) (rw s again.1))
+      | inr s ↦ (prefix_none is_blank b t s ∙ sym (prefix_none is_blank b u s), rw (prefix_drop is_blank b t, prefix_drop is_blank b u) (rw s (after_byte e h)))
+    ]
 
 no_feed : (l m : List ℕ) → LineAlike l m → (front is_feed l ≡ false) × (front is_feed m ≡ false)
-no_feed l m tab = search (rules, or_parts)
+no_feed _ _ (byte {b} {c} {t} {u} x y s r tab) = ((or_parts (is_feed b) (is_return b && front is_feed t) x).0, (or_parts (is_feed c) (is_return c && front is_feed u) y).0)
+no_feed _ _ (after_byte {b} {t} {u} e h) = (e, e)
+
+line_no_end : (l m : List ℕ) → LineAlike l m → (ends_line l ≡ false) × (ends_line m ≡ false)
+line_no_end _ _ (byte {b} {c} {t} {u} x y s r tab) = (x, y)
+line_no_end _ _ (after_byte {b} {t} {u} e h) = let n = no_feed t u h in (rw (e, n.0) (and-false (is_return b)), rw (e, n.1) (and-false (is_return b)))
+
+line_tab : (l m : List ℕ) → LineAlike l m → is_tab l ≡ is_tab m
+line_tab _ _ (byte {b} {c} {t} {u} x y s r tab) = tab
+line_tab _ _ (after_byte {b} {t} {u} e h) = refl
 
 line_less : (f : TextIndent) (l m : List ℕ) → LineAlike l m → (is_empty_line f l ≡ false) × (is_empty_line f m ≡ false) × (is_less_indented f l ≡ is_less_indented f m)
 line_less f l m h =
     let s = line_spaces l m h in
-    search (rules, no_feed, and-false)
+    let n = line_no_end (behind_spaces l) (behind_spaces m) s.1 in
+    (rw n.0 refl, rw n.1 refl, rw (n.0, n.1, line_tab (behind_spaces l) (behind_spaces m) s.1, s.0) refl)
 
 pub ends_alike : (keep : Bool) (f : TextIndent) (ls ms : List (List ℕ)) → LinesAlike ls ms → ends_block keep f ls ≡ ends_block keep f ms
 unfolding ends_block
 ends_alike keep f _ _ (here {l} {m} {ls} {ms} h) = let e = line_less f l m h in rw (e.0, e.1) e.2
 ends_alike keep f _ _ (behind {l} {ls} {ms} h) = ap (λ b. cond (is_empty_line f l) (not keep && b) (is_less_indented f l)) (ends_alike keep f ls ms h)
+
+pub block_alike : (least : ℕ) (b : BlockText) (t u : List ℕ) → Alike (Some false) t u → IsBlock least b t → IsBlock least b u
+block_alike least b t u h g = record {
+  indicators = g.indicators;
+  tail = g.tail;
+  indent = g.indent;
+  lines = g.lines;
+  ends = g.ends;
+  behind = sym (ends_alike (keeps b.chomping) b.indent (text_lines t) (text_lines u) (lines_alike t u h)) ∙ g.behind;
+}

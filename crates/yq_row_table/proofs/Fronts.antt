@@ -1,5 +1,5 @@
 -- What is in front of a node, of a tail and of a marker.
-use Rattle.std.proofs.Common.{◌≡◌, ℕ, true, false, ◌||◌, eqb, List, ◌∷◌, ◌++◌, ◌∙◌, ⊎_elim, eqb-true, rules}
+use Rattle.std.proofs.Common.{◌≡◌, ℕ, true, false, ◌||◌, eqb, List, ◌∷◌, ◌++◌, refl, ap, ◌∙◌, ⊎_elim, eqb-true, rules}
 use Rattle.std.proofs.lemmas.Bool.{false≢true, or_cases, false_from_ne_true, and_parts, cases_Bool}
 use Rattle.yq_core.{specs.Text.{cut, is_feed, front, is_break, ends_line, no_white, no_space, separates, is_empty}, specs.Lines.is_hash}
 use Rattle.yq_core.{specs.Nodes.{begins_with, begins_node}, specs.Scalars.begins_scalar, proofs.NodesPieceLaws.front_not}
@@ -16,14 +16,24 @@ pub record Starts (t : List ℕ) : Type 0 where
   pub joined : separates t ≡ false
 
 pub starts_by : (b : ℕ) (bs : List ℕ) → eqb b 32 ≡ false → eqb b 9 ≡ false → is_break (b ∷ bs) ≡ false → eqb b 35 ≡ false → Starts (b ∷ bs)
-starts_by b bs space tab break hash = search rules
+starts_by b bs space tab break hash = record {
+  no_white = rw (space, tab) refl;
+  no_end = break;
+  no_hash = hash;
+  no_space = rw space refl;
+  some = refl;
+  joined = rw (space, tab) break;
+}
 
 -- what begins with a CR and is a node begins with no break
 return_no_break : (bs : List ℕ) → begins_node false (13 ∷ bs) ≡ true → front is_feed bs ≡ false
 return_no_break bs h = search (rules, ⊎_elim, false≢true, cases_Bool)
 
+node_no_break : (b : ℕ) (bs : List ℕ) → begins_node false (b ∷ bs) ≡ true → is_break (b ∷ bs) ≡ false
+node_no_break b bs h = search (rules, false_from_ne_true, ⊎_elim, false≢true, front_not, and_parts, eqb-true, return_no_break, or_cases)
+
 pub node_starts : (t : List ℕ) → begins_node false t ≡ true → Starts t
-node_starts t h1 = search (rules, false≢true, front_not, starts_by, false_from_ne_true, ⊎_elim, and_parts, eqb-true, return_no_break, or_cases)
+node_starts t h1 = search (rules, false≢true, front_not, starts_by, node_no_break)
 
 -- A text that begins with a break, the end or `#`.
 pub record Stops (t : List ℕ) : Type 0 where
@@ -35,8 +45,11 @@ pub record Stops (t : List ℕ) : Type 0 where
   pub no_scalar : begins_scalar false t ≡ false
   pub no_space : no_space t ≡ true
 
+return_stops : (bs : List ℕ) → front is_feed bs ≡ true → Stops (13 ∷ bs)
+return_stops bs h = record { no_node = rw h refl; no_block = refl; no_anchor = refl; no_colon = refl; no_dash = refl; no_scalar = rw h refl; no_space = refl }
+
 pub stops_by : (t : List ℕ) → (ends_line t || is_hash t) ≡ true → Stops t
-stops_by t h1 = search (rules, ⊎_elim, eqb-true, and_parts, no_node, no_block, no_dash, no_scalar, or_cases)
+stops_by t h1 = search (rules, ⊎_elim, eqb-true, and_parts, return_stops, or_cases)
 
 -- A tail, by its white space and what comes after it.
 pub record TailFront (t : List ℕ) : Type 0 where
@@ -48,4 +61,6 @@ pub record TailFront (t : List ℕ) : Type 0 where
   pub stops : Stops behind
 
 pub tail_front : (tail rest : List ℕ) → IsTail tail rest → TailFront (tail ++ rest)
-tail_front tail rest h = search (rules, line_end_behind, white_again, stops_by)
+tail_front tail rest h =
+    let u = line_end_behind h.white h.comment tail rest h.line in
+    record { white = h.white; behind = u.0; is = u.1; blank = h.line.blank; past = ap (cut no_white) u.1 ∙ white_again h.white u.0 h.line.blank u.2; stops = stops_by u.0 u.3 }

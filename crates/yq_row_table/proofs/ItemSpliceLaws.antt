@@ -1,7 +1,8 @@
 -- Splices of a cut, by its items.
 use Rattle.std.proofs.Common.{◌≡◌, ℕ, zero, suc, ◌≤◌, List, [], ◌∷◌, ◌++◌, take, drop, refl, sym, ap, ◌∙◌, arith, append_assoc, rules}
-use Rattle.yq_row_table.{specs.Items.{Item, row_item, end_item, rows_items}, specs.ItemSplices.{first_item, regapped, SplicedItems}}
-use Rattle.yq_row_table.{specs.Rows.{Row, Cut, last, marked}, specs.Splices.{with_first_gap, end_gap}}
+use Rattle.yq_row_table.specs.Items.{Item, row_item, end_item, rows_items, items_of_cut}
+use Rattle.yq_row_table.{specs.ItemSplices.{items_before, first_item, regapped, SplicedItems}, specs.Rows.{Row, Cut, last, marked}}
+use Rattle.yq_row_table.specs.Splices.{with_first_gap, end_gap}
 
 -- the items after the first one of rows and of the end after them
 abbrev later_items : List Row → (gap marker : List ℕ) → List Item → List Item
@@ -22,20 +23,28 @@ rows_joined (r ∷ a) b xs = ap (λ l. row_item r ∷ l) (rows_joined a b xs)
 
 -- one part
 first_later : (rs : List Row) (gap marker : List ℕ) (xs : List Item) → rows_items rs (end_item gap marker ∷ xs) ≡ first_item rs gap marker ∷ later_items rs gap marker xs
-first_later rs gap marker xs = search rules
+first_later [] gap marker xs = refl
+first_later (r ∷ rs) gap marker xs = refl
 
 cut_rows : (i j : ℕ) (rs : List Row) (xs : List Item) → i ≤ j → rows_items rs xs ≡ rows_items (take i rs) (rows_items (drop i (take j rs)) (rows_items (drop j rs) xs))
+cut_rows zero zero rs xs le = refl
+cut_rows zero (suc j) [] xs le = refl
 cut_rows zero (suc j) (r ∷ rs) xs le = ap (λ l. row_item r ∷ l) (cut_rows zero j rs xs (omega arith))
 cut_rows (suc i) zero rs xs le = absurd (omega (arith, le))
+cut_rows (suc i) (suc j) [] xs le = refl
 cut_rows (suc i) (suc j) (r ∷ rs) xs le = ap (λ l. row_item r ∷ l) (cut_rows i j rs xs (omega (arith, le)))
-cut_rows _ _ _ xs le = refl
 
 part_old : (i j : ℕ) (rs : List Row) (gap marker : List ℕ) (xs : List Item) → i ≤ j →
     rows_items rs (end_item gap marker ∷ xs) ≡ rows_items (take i rs) [] ++ (rows_items (drop i (take j rs)) (first_item (drop j rs) gap marker ∷ []) ++ later_items (drop j rs) gap marker xs)
-part_old i j rs gap marker xs le = search (rules, cut_rows, first_later, rows_front, rows_then)
+part_old i j rs gap marker xs le =
+    cut_rows i j rs (end_item gap marker ∷ xs) le
+    ∙ (ap (λ l. rows_items (take i rs) (rows_items (drop i (take j rs)) l)) (first_later (drop j rs) gap marker xs)
+    ∙ (rows_front (take i rs) (rows_items (drop i (take j rs)) (first_item (drop j rs) gap marker ∷ later_items (drop j rs) gap marker xs))
+    ∙ ap (λ l. rows_items (take i rs) [] ++ l) (rows_then (drop i (take j rs)) (first_item (drop j rs) gap marker) (later_items (drop j rs) gap marker xs))))
 
 gap_later : (rs : List Row) (new_gap gap marker : List ℕ) (xs : List Item) → rows_items (with_first_gap new_gap rs) (end_item (end_gap new_gap rs gap) marker ∷ xs) ≡ regapped new_gap rs marker ∷ later_items rs gap marker xs
-gap_later rs new_gap gap marker xs = search rules
+gap_later [] new_gap gap marker xs = refl
+gap_later (r ∷ rs) new_gap gap marker xs = refl
 
 part_new : (i j : ℕ) (rs new : List Row) (new_gap gap marker : List ℕ) (xs : List Item) →
     rows_items (take i rs ++ (new ++ with_first_gap new_gap (drop j rs))) (end_item (end_gap new_gap (drop j rs) gap) marker ∷ xs) ≡ rows_items (take i rs) [] ++ (rows_items new (regapped new_gap (drop j rs) marker ∷ []) ++ later_items (drop j rs) gap marker xs)
@@ -46,6 +55,20 @@ behind_part : (rs : List Row) (gap marker : List ℕ) (a b : List Item) → rows
 behind_part rs gap marker a b = rows_then rs (end_item gap marker) (a ++ b) ∙ (sym (append_assoc (rows_items rs (end_item gap marker ∷ [])) a b) ∙ ap (λ l. l ++ b) (sym (rows_then rs (end_item gap marker) a)))
 
 pub spliced_items : (k i j : ℕ) (new : List Row) (gap : List ℕ) (c : Cut) → i ≤ j → SplicedItems k i j new gap c
-spliced_items k i j new gap (last p) le = search (rules, part_old, part_new)
-spliced_items zero i j new gap (marked p marker c) le = search (rules, part_old, part_new)
-spliced_items (suc k) i j new gap (marked p marker c) le = search (rules, behind_part, spliced_items k i j new gap c le)
+spliced_items k i j new gap (last p) le = record {
+  back = later_items (drop j p.rows) p.end [] [];
+  old = part_old i j p.rows p.end [] [] le;
+  new_items = part_new i j p.rows new gap p.end [] [];
+}
+spliced_items zero i j new gap (marked p marker c) le = record {
+  back = later_items (drop j p.rows) p.end marker (items_of_cut c);
+  old = part_old i j p.rows p.end marker (items_of_cut c) le;
+  new_items = part_new i j p.rows new gap p.end marker (items_of_cut c);
+}
+spliced_items (suc k) i j new gap (marked p marker c) le =
+    let more = spliced_items k i j new gap c le in
+    record {
+      back = more.back;
+      old = ap (λ l. rows_items p.rows (end_item p.end marker ∷ l)) more.old ∙ behind_part p.rows p.end marker (items_before k i c) _;
+      new_items = ap (λ l. rows_items p.rows (end_item p.end marker ∷ l)) more.new_items ∙ behind_part p.rows p.end marker (items_before k i c) _;
+    }

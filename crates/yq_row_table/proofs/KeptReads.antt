@@ -1,16 +1,20 @@
 -- Reads of places by an index among both sides.
-use Rattle.std.proofs.Common.{rules, ◌≡◌, ℕ, zero, suc, ◌+◌, ◌-◌, ◌<◌, ◌≤◌, List, [], ◌∷◌, ◌++◌, get_or, length, map, reverse, Some}
-use Rattle.std.proofs.Common.{slice_get, sym, ap, ◌∙◌, subst, arith, length-append}
+use Rattle.std.proofs.Common.{◌≡◌, ℕ, zero, suc, ◌+◌, ◌-◌, ◌<◌, ◌≤◌, List, [], ◌∷◌, ◌++◌, get_or, length, map, reverse, Some, slice_get}
+use Rattle.std.proofs.Common.{refl, sym, ap, ◌∙◌, subst, arith, length-append}
 use Rattle.std.{proofs.lemmas.List.{get_or-reverse, length-map, length-reverse}, proofs.lemmas.Option.{slice_get-map, slice_get_read}}
-use Rattle.std.specs.Vec.{vec_len}
+use Rattle.std.{specs.Option.option_map, specs.Vec.vec_len}
 use Rattle.yq_text.specs.declared.halves.Halves.{Halves}
-use Rattle.yq_row_table.{specs.Kept.{halves_view, kept_rows, placed_rows, row_from_end}, specs.View.RowsView}
-use Rattle.yq_row_table.specs.declared.places.Places.{Places}
+use Rattle.yq_row_table.{specs.Kept.{halves_view, kept_rows, placed_rows, slices_behind, row_from_end}, specs.Offsets.slices_in}
+use Rattle.yq_row_table.{specs.View.RowsView, specs.declared.places.Places.Places}
 use Rattle.yq_row_table.specs.declared.offsets.Offsets as declared
+
+both_long : {A B : Type 0} (f g : A → B) (xs ys : List A) → length (map f xs ++ map g ys) ≡ length (xs ++ ys)
+both_long f g xs ys = omega (arith, length-append (map f xs) (map g ys), length-append xs ys, length-map xs f, length-map ys g)
 
 -- how many rows and ends of parts a view of these places has
 pub rows_kept : (text : Halves) (p : Places) (v : RowsView) → halves_view text p ≡ v → length (kept_rows p) ≡ length v.rows
-rows_kept text p v is = search (rules, length-append, length-map)
+rows_kept text p v is =
+    sym (both_long (slices_in text.front.now) (slices_behind text.back.now) p.front.items (reverse p.behind.items)) ∙ ap (λ (w : RowsView). length w.rows) is
 
 -- a row of such a view is one of those that are kept
 pub kept_within : (text : Halves) (p : Places) (i : ℕ) (v : RowsView) → halves_view text p ≡ v → i < length v.rows → i < length (kept_rows p)
@@ -44,4 +48,23 @@ pub record IsBehind (p : Places) (i n m : ℕ) : Type 0 where
   pub placed : (len : ℕ) (a : declared.Offsets) → a ≡ get_or p.behind.items ((n - 1) - (i - m)) a → slice_get (placed_rows len p) i ≡ Some (row_from_end len a)
 
 pub is_behind : (p : Places) (i n m : ℕ) → i < length (kept_rows p) → vec_len p.front ≤ i → n ≡ vec_len p.behind → m ≡ vec_len p.front → IsBehind p i n m
-is_behind p i n m less more n_is m_is = search (rules, length-append, length-reverse, slice_get_read, get_or-reverse, second_at, slice_get-map)
+is_behind p i n m less more n_is m_is =
+    let front = p.front.ok.0 in
+    let behind = p.behind.ok.0 in
+    let all = length-append p.front.items (reverse p.behind.items) in
+    let turns = length-reverse p.behind.items in
+    let j = i - m in
+    let here : j < length p.behind.items = omega (arith, less, more, n_is, m_is, front, behind, all, turns) in
+    let back : length p.behind.items - 1 - j ≡ (n - 1) - j = omega (arith, n_is, behind) in
+    let at = λ (a : declared.Offsets) (is : a ≡ get_or p.behind.items ((n - 1) - j) a).
+    slice_get_read (reverse p.behind.items) (length (reverse p.behind.items)) j a refl (omega (arith, here, turns))
+    (is ∙ sym (get_or-reverse p.behind.items j a here ∙ ap (λ (k : ℕ). get_or p.behind.items k a) back)) in
+    let place : i ≡ length p.front.items + j = omega (arith, more, m_is, front) in
+    record {
+      some = omega (arith, here, n_is, behind);
+      place = omega (arith, here, n_is, behind);
+      within = omega (arith, here, n_is, behind);
+      kept = λ a is. second_at p.front.items (reverse p.behind.items) i j a place (at a is);
+      placed = λ len a is. second_at p.front.items (map (row_from_end len) (reverse p.behind.items)) i j (row_from_end len a) place
+          (slice_get-map (row_from_end len) (reverse p.behind.items) j ∙ ap (option_map (row_from_end len)) (at a is));
+    }

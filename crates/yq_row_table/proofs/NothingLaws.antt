@@ -1,12 +1,14 @@
 -- Gaps, tails, and what holds nothing but an anchor: before one text that isn't empty as before another.
-use Rattle.std.proofs.Common.{◌≡◌, inl, ℕ, Bool, true, false, ◌||◌, List, [], ◌∷◌, ◌++◌, length, sym, ap, ◌∙◌, ⊎_elim, length-append, rules}
-use Rattle.std.proofs.lemmas.Bool.{false≢true, false_from_ne_true, or_right, or_parts}
-use Rattle.yq_core.{specs.Text.{is_empty, unless, ends_line, separates, NoneIn}, specs.Nodes.{begins_content, begins_node, IsLead}}
+use Rattle.std.proofs.Common.{◌≡◌, inl, inr, ℕ, Bool, true, false, not, ◌||◌, List, [], ◌∷◌, ◌++◌, length, refl, sym, ap, ◌∙◌, ⊎_elim}
+use Rattle.std.{proofs.Common.{length-append, rules}, proofs.lemmas.Bool.{false≢true, false_from_ne_true, or_right, or_parts}}
+use Rattle.yq_core.specs.Text.{is_empty, is_white, is_break, unless, ends_line, separates, NoneIn, joined}
+use Rattle.yq_core.specs.Nodes.{begins_with, begins_content, begins_node, IsLead}
 use Rattle.yq_row_table.{specs.Gap.{IsWhite, IsBreak, IsLineEnd, AreGapLines, IsGap}, specs.Grammar.IsTail}
 use Rattle.yq_row_table.{proofs.Fronts.{node_starts, stops_by}, proofs.LineEnds.{none_in_white, line_end_behind}}
 
 pub some_behind : (p t : List ℕ) → is_empty t ≡ false → is_empty (p ++ t) ≡ false
-some_behind p t some = search rules
+some_behind [] t some = some
+some_behind (b ∷ p) t some = refl
 
 -- ends of lines
 break_other : (p t u : List ℕ) → is_empty t ≡ false → IsBreak p t → IsBreak p u
@@ -17,7 +19,10 @@ line_end_other white comment p t u some h = record { break = h.break; spelled = 
 
 lines_other : (lines : List (List ℕ)) (t u : List ℕ) → is_empty t ≡ false → AreGapLines lines t → AreGapLines lines u
 lines_other [] t u some h = tt
-lines_other (l ∷ ls) t u some h = search (rules, line_end_other, some_behind, lines_other ls t u some h.1)
+lines_other (l ∷ ls) t u some h = (
+  record { white = h.0.white; comment = h.0.comment; line = line_end_other h.0.white h.0.comment l (joined ls ++ t) (joined ls ++ u) (some_behind (joined ls) t some) h.0.line; some = h.0.some },
+  lines_other ls t u some h.1,
+)
 
 pub gap_other : (p t u : List ℕ) → is_empty t ≡ false → IsGap p t → IsGap p u
 gap_other p t u some h = record { lines = h.lines; spelled = h.spelled; each = lines_other h.lines t u some h.each }
@@ -31,10 +36,13 @@ no_tail t some h = search (rules, no_break, length-append)
 
 -- no node begins in front of a tail
 white_no_node : (white behind : List ℕ) → IsWhite white → begins_node false behind ≡ false → begins_node false (white ++ behind) ≡ false
-white_no_node white behind blank h3 = search (rules, false_from_ne_true, false≢true, node_starts)
+white_no_node [] behind blank none = none
+white_no_node (b ∷ white) behind blank none = search (rules, false_from_ne_true, false≢true, node_starts)
 
 pub tail_no_node : (tail rest : List ℕ) → IsTail tail rest → begins_node false (tail ++ rest) ≡ false
-tail_no_node tail rest h = search (rules, line_end_behind, white_no_node, stops_by)
+tail_no_node tail rest h =
+    let f = line_end_behind h.white h.comment tail rest h.line in
+    ap (begins_node false) f.1 ∙ white_no_node h.white f.0 h.line.blank (stops_by f.0 f.3).no_node
 
 -- an anchor before a tail
 pub name_again : (q : ℕ → Bool) (p t u : List ℕ) → NoneIn (unless q) p t → NoneIn (unless q) p u
@@ -42,11 +50,18 @@ name_again q [] t u h = tt
 name_again q (b ∷ p) t u h = (h.0, name_again q p t u h.1)
 
 pub tail_lead : (tail rest : List ℕ) → IsTail tail rest → IsLead false (begins_content false) [] (tail ++ rest)
-tail_lead tail rest h = search (rules, line_end_behind, or_parts, stops_by, none_in_white)
+tail_lead tail rest h =
+    let f = line_end_behind h.white h.comment tail rest h.line in
+    let none = or_parts (begins_with 38 f.0) _ (stops_by f.0 f.3).no_node in
+    inr (refl, (h.white, f.0, f.1, (none_in_white h.white f.0 h.line.blank, f.2), none.1))
 
 -- white space, a break or the end is in front of a tail
 line_apart : (t : List ℕ) → ends_line t ≡ true → separates t ≡ true
-line_apart t h = search (rules, or_right)
+line_apart [] h = refl
+line_apart (b ∷ t) h = or_right (is_white b) (is_break (b ∷ t)) h
+
+white_apart : (white behind comment : List ℕ) → IsWhite white → (is_empty comment || not (is_empty white)) ≡ true → ends_line behind ≡ is_empty comment → separates (white ++ behind) ≡ true
+white_apart white behind comment h1 h2 h3 = search (rules, line_apart, false≢true)
 
 pub tail_apart : (tail rest : List ℕ) → IsTail tail rest → separates (tail ++ rest) ≡ true
-tail_apart tail rest h = search (rules, line_end_behind, line_apart, false≢true)
+tail_apart tail rest h = search (rules, line_end_behind, white_apart)

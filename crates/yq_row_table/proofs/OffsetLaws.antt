@@ -1,9 +1,9 @@
 -- Rows by where they are in a text.
-use Rattle.std.proofs.Common.{rules, ◌≡◌, ◌<◌, ◌≤◌, ℕ, zero, suc, ◌-◌, if◌then◌else◌, List, [], ◌∷◌, ◌++◌, length, map, take, drop}
-use Rattle.std.{proofs.Common.{replicate, refl, sym, ap, ◌∙◌, arith, append_assoc, length-append}, proofs.Math.Seq.drop-append_seam}
+use Rattle.std.proofs.Common.{◌≡◌, ◌<◌, ◌≤◌, ℕ, zero, suc, ◌-◌, if◌then◌else◌, List, [], ◌∷◌, ◌++◌, length, map, take, drop, replicate}
+use Rattle.std.{proofs.Common.{refl, sym, ap, ◌∙◌, subst, arith, append_assoc, length-append}, proofs.Math.Seq.drop-append_seam}
 use Rattle.std.proofs.lemmas.List.{length-map, length-replicate, map-append, take-append-drop, take_at}
-use Rattle.std.{proofs.lemmas.Str.{IsUtf8-drop, IsUtf8-from_ascii}, proofs.lemmas.Str.Ascii.{IsAscii-nil, IsAscii-cons}}
-use Rattle.std.specs.Str.{IsAscii, IsUtf8}
+use Rattle.std.proofs.lemmas.Str.{IsCharBoundary-from_take, IsUtf8-drop, IsUtf8-from_ascii}
+use Rattle.std.{proofs.lemmas.Str.Ascii.{IsAscii-nil, IsAscii-cons}, specs.Str.{IsAscii, IsUtf8, IsCharBoundary}}
 use Rattle.yq_core.specs.Text.{is_empty}
 use Rattle.yq_row_table.specs.Offsets.{Ends, pieces_of, slices_in, rows_in, AreCuts, IsCutIn, AreTexts, ParentAgrees, offsets_of}
 use Rattle.yq_row_table.{specs.View.{Slices, slices_text}, proofs.FrontLaws.{front_drop, front_next, front_boundary}}
@@ -36,7 +36,11 @@ row_then s rest = pieces_then (pieces s) rest
 pub cuts : (ps : List (List ℕ)) (t rest : List ℕ) → t ≡ pieces_text ps rest → IsUtf8 t → AreAll ps → AreCuts t (map length ps)
 cuts [] t rest e whole each = tt
 cuts (p ∷ ps) t rest e whole each =
-    search (rules, take_at, drop-append_seam, length-append, cuts ps (drop (length p) t) rest behind (IsUtf8-drop t (length p) whole place) each.1)
+    let front : take (length p) t ≡ p = ap (take (length p)) e ∙ take_at p (pieces_text ps rest) (length p) refl in
+    let behind : drop (length p) t ≡ pieces_text ps rest = ap (drop (length p)) e ∙ drop-append_seam p (pieces_text ps rest) in
+    let long = ap length e in
+    let place : IsCharBoundary t (length p) = IsCharBoundary-from_take t (length p) whole (omega (arith, long, length-append p (pieces_text ps rest))) (subst IsUtf8 (sym front) each.0) in
+    (place, cuts ps (drop (length p) t) rest behind (IsUtf8-drop t (length p) whole place) each.1)
 
 pub spaces_ascii : (n : ℕ) → IsAscii (replicate n 32)
 spaces_ascii zero = IsAscii-nil
@@ -50,7 +54,14 @@ texts s h = (h.gap, (spaces_text s.column, (h.dashes, (h.key, (h.colon, (h.space
 
 -- where a row is that was read in front of the end of a text
 pub row_stands : (whole t rest : List ℕ) (s : Slices) → Ends t whole → IsUtf8 t → t ≡ slices_text s rest → AreTexts s → IsCutIn whole (offsets_of (length whole - length t) s)
-row_stands whole t rest s h text e each = search (rules, take-append-drop, front_boundary, length-replicate, cuts, texts)
+row_stands whole t rest s h text e each =
+    let start = length whole - length t in
+    let split : whole ≡ take start whole ++ t = sym (take-append-drop start whole) ∙ ap (λ l. take start whole ++ l) h in (
+      front_boundary whole (take start whole) t split text,
+      subst (λ (u : List ℕ). AreCuts u (length s.gap ∷ s.column ∷ length s.dashes ∷ length s.key ∷ length s.colon ∷ length s.space ∷ length s.anchor ∷ length s.apart ∷ length s.head ∷ length s.tail ∷ length s.raw ∷ [])) (sym h)
+          (subst (λ (n : ℕ). AreCuts t (length s.gap ∷ n ∷ length s.dashes ∷ length s.key ∷ length s.colon ∷ length s.space ∷ length s.anchor ∷ length s.apart ∷ length s.head ∷ length s.tail ∷ length s.raw ∷ [])) (length-replicate {A = ℕ} s.column 32)
+          (cuts (pieces s) t rest e text (texts s each))),
+    )
 
 -- and that row again
 piece : (t p rest : List ℕ) (n : ℕ) → length p ≡ n → t ≡ p ++ rest → (take n t ≡ p) × (drop n t ≡ rest)
@@ -58,7 +69,19 @@ piece t p rest n long e = (ap (take n) e ∙ take_at p rest n long, ap (drop n) 
 
 pub row_same : (whole t rest : List ℕ) (s : Slices) → Ends t whole → t ≡ slices_text s rest → ParentAgrees s → slices_in whole (offsets_of (length whole - length t) s) ≡ s
 unfolding pieces_of
-row_same whole t rest s h e parent = search (rules, piece, length-replicate)
+row_same whole t rest s h e parent =
+    let gap = piece _ s.gap _ (length s.gap) refl (h ∙ e) in
+    let indent = piece _ (replicate s.column 32) _ s.column (length-replicate {A = ℕ} s.column 32) gap.1 in
+    let dashes = piece _ s.dashes _ (length s.dashes) refl indent.1 in
+    let key = piece _ s.key _ (length s.key) refl dashes.1 in
+    let colon = piece _ s.colon _ (length s.colon) refl key.1 in
+    let space = piece _ s.space _ (length s.space) refl colon.1 in
+    let anchor = piece _ s.anchor _ (length s.anchor) refl space.1 in
+    let apart = piece _ s.apart _ (length s.apart) refl anchor.1 in
+    let head = piece _ s.head _ (length s.head) refl apart.1 in
+    let tail = piece _ s.tail _ (length s.tail) refl head.1 in
+    let raw = piece _ s.raw _ (length s.raw) refl tail.1 in
+    rw (gap.0, dashes.0, key.0, colon.0, space.0, anchor.0, apart.0, head.0, tail.0, raw.0, parent) refl
 
 -- several rows
 pub rows_push : (whole : List ℕ) (offsets items : List declared.Offsets) (o : declared.Offsets) (s : Slices) → items ≡ offsets ++ o ∷ [] → slices_in whole o ≡ s → rows_in whole items ≡ rows_in whole offsets ++ s ∷ []
@@ -69,7 +92,18 @@ rows_length whole offsets = sym (length-map offsets (slices_in whole))
 
 -- how deep a row begins, by its lengths
 marks_dash : (dashes colon : List ℕ) → 0 < length dashes → ◌≡◌ {A = ℕ} 3 (if is_empty dashes then (if is_empty colon then 1 else 2) else 3)
-marks_dash dashes colon less = search rules
+marks_dash [] colon less = absurd (omega (arith, less))
+marks_dash (d ∷ dashes) colon less = refl
+
+marks_key : (dashes colon : List ℕ) → length dashes ≤ 0 → 0 < length colon → ◌≡◌ {A = ℕ} 2 (if is_empty dashes then (if is_empty colon then 1 else 2) else 3)
+marks_key (d ∷ dashes) colon none less = absurd (omega (arith, none))
+marks_key [] [] none less = absurd (omega (arith, less))
+marks_key [] (k ∷ colon) none less = refl
+
+marks_bare : (dashes colon : List ℕ) → length dashes ≤ 0 → length colon ≤ 0 → ◌≡◌ {A = ℕ} 1 (if is_empty dashes then (if is_empty colon then 1 else 2) else 3)
+marks_bare (d ∷ dashes) colon none bare = absurd (omega (arith, none))
+marks_bare [] (k ∷ colon) none bare = absurd (omega (arith, bare))
+marks_bare [] [] none bare = refl
 
 -- The mark of a row by its lengths, as a number: a dash, a key, or a node itself.
 pub data MarkIs (o : declared.Offsets) (mark : ℕ) : Type 0 where
@@ -79,4 +113,8 @@ pub data MarkIs (o : declared.Offsets) (mark : ℕ) : Type 0 where
 
 marks : (o : declared.Offsets) (s : Slices) (mark : ℕ) → o ≡ offsets_of o.start s → MarkIs o mark
     → mark ≡ (if is_empty s.dashes then (if is_empty s.colon then 1 else 2) else 3)
-marks o s mark e is = search (rules, marks_dash)
+marks o s mark e (dash less is) = is ∙ marks_dash s.dashes s.colon (subst (λ (q : declared.Offsets). 0 < q.dashes) e less)
+marks o s mark e (key none less is) =
+    is ∙ marks_key s.dashes s.colon (subst (λ (q : declared.Offsets). q.dashes ≤ 0) e none) (subst (λ (q : declared.Offsets). 0 < q.colon) e less)
+marks o s mark e (bare none no_key is) =
+    is ∙ marks_bare s.dashes s.colon (subst (λ (q : declared.Offsets). q.dashes ≤ 0) e none) (subst (λ (q : declared.Offsets). q.colon ≤ 0) e no_key)

@@ -1,9 +1,10 @@
 -- A row after the dashes of another one.
-use Rattle.std.proofs.Common.{rules, ◌≡◌, ℕ, suc, ℤ, ◌+◌, ◌≤◌, true, false, List, [], ◌∷◌, ◌++◌, refl, sym, ap, ◌∙◌, replicate, Some}
-use Rattle.std.proofs.lemmas.Bool.{false≢true}
-use Rattle.yq_core.{specs.Text.{is_empty, separates}, specs.Alike.Alike}
-use Rattle.yq_row_table.specs.Grammar.{AreDashes, is_entry, IsRow, Limit, limit_after, limit_behind}
-use Rattle.yq_row_table.specs.Rows.{RowMark, dashes_text, behind_columns, mark_column, parent_of, Row, parent_indent, Dash, Content}
+use Rattle.std.proofs.Common.{◌≡◌, ℕ, zero, suc, ℤ, ◌+◌, ◌≤◌, true, false, List, [], ◌∷◌, ◌++◌, refl, sym, ap, ◌∙◌, subst, arith, replicate}
+use Rattle.std.{proofs.Common.Some, proofs.lemmas.Bool.false≢true}
+use Rattle.yq_core.{specs.Text.{is_empty, separates}, specs.Alike.{Alike, byte}}
+use Rattle.yq_row_table.specs.Grammar.{IsContent, IsMark, AreDashes, is_entry, IsRow, Limit, limit_after, limit_behind}
+use Rattle.yq_row_table.specs.Rows.{RowMark, dashes_text, behind_columns, mark_column, parent_of, Row, behind_dashes, behind_indent}
+use Rattle.yq_row_table.specs.Rows.{parent_indent, Dash, Content, content_text, mark_text}
 use Rattle.yq_row_table.{specs.Joined.{joined_row, Joins, dashed_row, DashFits, compact_row, CompactFits}, specs.Seams.TakesPlace}
 use Rattle.yq_row_table.{proofs.AlikeRows.dashes_text_alike, proofs.RowPlaces.takes_place}
 
@@ -20,16 +21,22 @@ dashes_joined [] ms old new e h k = k
 dashes_joined (n ∷ ns) ms old new e h k = (h.0, e, dashes_joined ns ms old new e h.2 k)
 
 pub space_apart : (n : ℕ) (t : List ℕ) → 1 ≤ n → separates (replicate n 32 ++ t) ≡ true
-space_apart n t h = search rules
+space_apart zero t h = absurd (omega (arith, h))
+space_apart (suc n) t h = refl
 
 dashes_alike : (ns t u : List ℕ) (mark : RowMark) → is_empty ns ≡ false → AreDashes ns mark → Alike (Some false) (dashes_text ns t) (dashes_text ns u)
-dashes_alike ns t u mark some h = search (rules, false≢true, space_apart)
+dashes_alike [] t u mark some h = absurd (false≢true (sym some))
+dashes_alike (n ∷ ns) t u mark some h = byte refl refl (space_apart n (dashes_text ns t) h.0) (space_apart n (dashes_text ns u) h.0)
 
 same_parent : (r q : Row) → q.column ≡ mark_column r → parent_indent (joined_row r q) ≡ parent_indent q
 same_parent r q e = ap (parent_of q.mark) (behind_columns-append r.column r.dashes q.dashes ∙ ap (λ n. behind_columns n q.dashes) (sym e))
 
 pub row_joined : (limit other : Limit) (r q : Row) (t u : List ℕ) → IsRow limit r t → IsRow other q u → Joins r q → TakesPlace limit r t (joined_row r q) u
-row_joined limit other r q t u h k f = search (rules, dashes_text-append, dashes_alike, same_parent, takes_place, dashes_joined)
+row_joined limit other r q t u h k f =
+    let text : behind_indent (joined_row r q) u ≡ dashes_text r.dashes (behind_indent q u) = dashes_text-append r.dashes q.dashes (behind_dashes q u) in
+    let indent : Alike (Some false) (behind_indent r t) (behind_indent (joined_row r q) u) = rw text (dashes_alike r.dashes (behind_dashes r t) (behind_indent q u) r.mark f.dashes h.dashes) in
+    let content : IsContent (parent_indent (joined_row r q)) q.content u = subst (λ (n : ℤ). IsContent n q.content u) (sym (same_parent r q f.column)) k.content in
+    takes_place limit r t (r.dashes ++ q.dashes) q.mark q.content u h indent (dashes_joined r.dashes q.dashes r.mark q.mark f.entry h.dashes k.dashes) k.mark content
 
 pub limit_joined : (r q : Row) → q.column ≡ mark_column r → limit_after (joined_row r q) ≡ limit_after q
 limit_joined r q e = ap (λ (n : ℤ). limit_behind n q.content) (same_parent r q e)
@@ -44,7 +51,23 @@ dashes_back [] ms old h = h
 dashes_back (n ∷ ns) ms old h = dashes_back ns ms old h.2
 
 pub row_dashed : (limit : Limit) (r : Row) (ns : List ℕ) (n : ℕ) (ms : List ℕ) (new : Content) (t u : List ℕ) → IsRow limit r t → DashFits r ns n ms new u → TakesPlace limit r t (dashed_row ns new r) u
-row_dashed limit r ns n ms new t u h f = search (rules, dashes_back, dashes_text-append, dashes_text_alike, space_apart, takes_place, dashes_front)
+row_dashed limit r ns n ms new t u h f =
+    let own : AreDashes (ns ++ (n ∷ ms)) r.mark = subst (λ (x : List ℕ). AreDashes x r.mark) f.dash h.dashes in
+    let one : 1 ≤ n = (dashes_back ns (n ∷ ms) r.mark own).0 in
+    let behind : List ℕ = dashes_text ms (behind_dashes r t) in
+    let text : behind_indent r t ≡ dashes_text ns (45 ∷ (replicate n 32 ++ behind)) = ap (λ (x : List ℕ). dashes_text x (behind_dashes r t)) f.dash ∙ dashes_text-append ns (n ∷ ms) (behind_dashes r t) in
+    let alike = dashes_text_alike ns _ _ (byte {b = 45} {t = replicate n 32 ++ behind} {u = content_text new u} refl refl (space_apart n behind one) f.apart) in
+    let indent : Alike (Some false) (behind_indent r t) (dashes_text ns (45 ∷ content_text new u)) = subst (λ (x : List ℕ). Alike (Some false) x (dashes_text ns (45 ∷ content_text new u))) (sym text) alike in
+    takes_place limit r t ns Dash new u h indent (dashes_front ns (n ∷ ms) r.mark own) f.apart f.content
 
 pub row_compact : (limit other : Limit) (n : ℕ) (r q : Row) (t u : List ℕ) → IsRow limit r t → IsRow other q u → CompactFits n r q → TakesPlace limit r t (compact_row n r q) u
-row_compact limit other n r q t u h k f = search (rules, dashes_text-append, dashes_text_alike, space_apart, dashes_joined, behind_columns-append, takes_place)
+row_compact limit other n r q t u h k f =
+    let x : List ℕ = content_text r.content t in
+    let apart : separates x ≡ true = subst (λ (m : RowMark). IsMark m r.content t) f.dash h.mark in
+    let old : behind_indent r t ≡ dashes_text r.dashes (45 ∷ x) = ap (λ (m : RowMark). dashes_text r.dashes (mark_text m x)) f.dash in
+    let new : dashes_text (r.dashes ++ (n ∷ q.dashes)) (behind_dashes q u) ≡ dashes_text r.dashes (45 ∷ (replicate n 32 ++ behind_indent q u)) = dashes_text-append r.dashes (n ∷ q.dashes) (behind_dashes q u) in
+    let indent : Alike (Some false) (behind_indent r t) (dashes_text (r.dashes ++ (n ∷ q.dashes)) (behind_dashes q u)) =
+    rw (old, new) (dashes_text_alike r.dashes _ _ (byte refl refl apart (space_apart n (behind_indent q u) f.space))) in
+    let dashes : AreDashes (r.dashes ++ (n ∷ q.dashes)) q.mark = dashes_joined r.dashes (n ∷ q.dashes) r.mark q.mark f.entry h.dashes (f.space, f.entry, k.dashes) in
+    let columns : behind_columns r.column (r.dashes ++ (n ∷ q.dashes)) ≡ mark_column q = behind_columns-append r.column r.dashes (n ∷ q.dashes) ∙ ap (λ c. behind_columns c q.dashes) (sym f.column) in
+    takes_place limit r t (r.dashes ++ (n ∷ q.dashes)) q.mark q.content u h indent dashes k.mark (subst (λ (c : ℕ). IsContent (parent_of q.mark c) q.content u) (sym columns) k.content)

@@ -1,9 +1,11 @@
-use Rattle.std.proofs.Common.{◌∙◌, arith, rules}
+use Rattle.std.proofs.Common.{◌∙◌, arith}
 use Rattle.yq_row_table.{specs.Offsets.pieces_of, proofs.PieceCuts.piece_at}
 use Rattle.yq_row_table.proofs.offsets.Offsets.anchor.Goals as goal
 
 pub piece-requires : goal.piece-requires
-piece-requires c = search (rules, piece_at)
+piece-requires c =
+    let p = piece_at c.args.self.now 5 c.args.text.now _ (omega arith) c.requires c.before_anchor.ensures in
+    record { before = p.before; behind = p.len }
 
 pub returns : goal.returns
 unfolding pieces_of

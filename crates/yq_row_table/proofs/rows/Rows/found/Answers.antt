@@ -1,27 +1,44 @@
-use Rattle.yq_row_table.{proofs.KeptReads.kept_within, proofs.KeptPlaces.{back_found, back_within, front_found, row_back, row_front}}
-use Rattle.std.proofs.Common.{rules, arith, ◌-◌, ◌∙◌}
+use Rattle.yq_row_table.{proofs.KeptReads.kept_within, specs.Offsets.{AreCuts, lengths, pieces_of}, specs.View.RowsView}
+use Rattle.yq_row_table.proofs.KeptPlaces.{back_found, back_within, front_found, row_back, row_front}
+use Rattle.std.{proofs.Common.{arith, ◌-◌, List, ℕ, Some, ap, drop, length, slice_get, subst, sym, ◌∙◌}, specs.Str.IsCharBoundary}
 use Rattle.yq_row_table.proofs.rows.Rows.found.Goals as goal
 
 pub split_at-requires : goal.split_at-requires
-split_at-requires c = search (rules, front_found)
+split_at-requires c =
+    let stands = front_found c.self.inside.text c.self.inside.places c.args.i c.kept-row.result.now c.self.invariant c.kept-row.ensures (omega (arith, c.self.inside.places.front.ok.0)) in
+    subst (IsCharBoundary c.self.inside.text.front.now) (sym c.start.ensures) stands.0
 
 pub returns-then-i-len-clause-cuts : goal.returns-then-i-len-clause-cuts
-returns-then-i-len-clause-cuts c = search (rules, front_found)
+returns-then-i-len-clause-cuts c =
+    let stands = front_found c.self.inside.text c.self.inside.places c.args.i c.kept-row.result.now c.self.invariant c.kept-row.ensures (omega (arith, c.self.inside.places.front.ok.0)) in
+    subst (λ (t : List ℕ). AreCuts t (lengths c.kept-row.result.now)) (ap (λ (n : ℕ). drop n c.self.inside.text.front.now) (sym c.start.ensures) ∙ sym c.split_at.ensures.back) stands.1
 
 pub returns-then-i-len-clause-row : goal.returns-then-i-len-clause-row
-returns-then-i-len-clause-row c = search (rules, row_front)
+returns-then-i-len-clause-row c =
+    ap (λ (v : RowsView). slice_get v.rows c.args.i) (sym c.self.view_is)
+    ∙ (row_front c.self.inside.text c.self.inside.places c.args.i c.kept-row.result.now c.kept-row.ensures (omega (arith, c.self.inside.places.front.ok.0))
+    ∙ ap (λ (t : List ℕ). Some (pieces_of t c.kept-row.result.now)) (ap (λ (n : ℕ). drop n c.self.inside.text.front.now) (sym c.start.ensures) ∙ sym c.split_at.ensures.back))
 
 pub overflow_sub-back : goal.overflow_sub-back
 overflow_sub-back c = rw c.start-2.ensures (back_within c.self.inside.text c.self.inside.places c.args.i c.kept-row.result.now c.self.invariant c.kept-row.ensures (omega (arith, c.self.inside.places.front.ok.0)))
 
 pub split_at-requires-2 : goal.split_at-requires-2
-split_at-requires-2 c = search (rules, back_found)
+split_at-requires-2 c =
+    let stands = back_found c.self.inside.text c.self.inside.places c.args.i c.kept-row.result.now c.self.invariant c.kept-row.ensures (omega (arith, c.self.inside.places.front.ok.0)) in
+    subst (λ (n : ℕ). IsCharBoundary c.self.inside.text.back.now (length c.self.inside.text.back.now - n)) (sym c.start-2.ensures) stands.0
 
 pub returns-clause-cuts : goal.returns-clause-cuts
-returns-clause-cuts c = search (rules, back_found)
+returns-clause-cuts c =
+    let back = c.self.inside.text.back.now in
+    let stands = back_found c.self.inside.text c.self.inside.places c.args.i c.kept-row.result.now c.self.invariant c.kept-row.ensures (omega (arith, c.self.inside.places.front.ok.0)) in
+    subst (λ (t : List ℕ). AreCuts t (lengths c.kept-row.result.now)) (ap (λ (n : ℕ). drop (length back - n) back) (sym c.start-2.ensures) ∙ sym c.split_at-2.ensures.back) stands.1
 
 pub returns-clause-row : goal.returns-clause-row
-returns-clause-row c = search (rules, row_back)
+returns-clause-row c =
+    let back = c.self.inside.text.back.now in
+    ap (λ (v : RowsView). slice_get v.rows c.args.i) (sym c.self.view_is)
+    ∙ (row_back c.self.inside.text c.self.inside.places c.args.i c.kept-row.result.now c.kept-row.ensures (omega (arith, c.self.inside.places.front.ok.0))
+    ∙ ap (λ (t : List ℕ). Some (pieces_of t c.kept-row.result.now)) (ap (λ (n : ℕ). drop (length back - n) back) (sym c.start-2.ensures) ∙ sym c.split_at-2.ensures.back))
 
 pub kept-row-requires : goal.kept-row-requires
 kept-row-requires c = kept_within c.self.inside.text c.self.inside.places c.args.i c.args.self.now c.self.view_is c.requires

@@ -1,9 +1,11 @@
-use Rattle.std.proofs.Common.{◌∙◌, rules}
-use Rattle.yq_row_table.{proofs.KeptPlaces.kept_lengths, proofs.KeptReads.kept_within}
+use Rattle.std.proofs.Common.{ap, slice_get, ◌∙◌}
+use Rattle.yq_row_table.{specs.View.RowsView, proofs.KeptPlaces.kept_lengths, proofs.KeptReads.kept_within}
 use Rattle.yq_row_table.proofs.rows.Rows.has_dashes.Goals as goal
 
 pub returns : goal.returns
-returns c s there = search (rules, kept_lengths)
+returns c s there =
+    let own = ap (λ (v : RowsView). slice_get v.rows c.args.i) c.self.view_is ∙ there in
+    c.has_dashes.ensures s (kept_lengths c.self.inside.text c.self.inside.places c.args.i c.kept.result.now s c.self.invariant own c.kept.ensures)
 
 pub kept-requires : goal.kept-requires
 kept-requires c = kept_within c.self.inside.text c.self.inside.places c.args.i c.args.self.now c.self.view_is c.requires
