@@ -1,6 +1,6 @@
 -- A piece of a node before one text is one before a text that is alike.
-use Rattle.std.proofs.Common.{◌≡◌, ◌⊎◌, inl, inr, ℕ, Bool, true, false, eqb, List, [], ◌∷◌, ◌++◌, Option, Some, None, refl, sym, ap, ◌∙◌}
-use Rattle.std.{proofs.Common.{not, ◌&&◌, ◌||◌, rules}, proofs.Math.Bool.and-false}
+use Rattle.std.proofs.Common.{◌≡◌, inl, inr, ℕ, Bool, true, false, eqb, List, [], ◌∷◌, ◌++◌, Option, Some, None, refl, sym, ap, ◌∙◌}
+use Rattle.std.{proofs.Common.{not, ◌&&◌, rules}, proofs.Math.Bool.and-false}
 use Rattle.yq_core.specs.Quoted.{Char, spell_chars, IsChar, AreChars, QuotedLines, last, line, spell_end, spell_lines, AreLines, IsQuoted}
 use Rattle.yq_core.{specs.Text.{NoneIn, front, unless, is_break}, specs.declared.gap.GapPlace.GapPlace}
 use Rattle.yq_core.{specs.Gaps.{goes, next_gap_place, AllGo, stops, IsInlineGap}, specs.Nodes.{in_name, IsName}}

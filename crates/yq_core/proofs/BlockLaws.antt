@@ -1,5 +1,5 @@
 -- A block scalar, both ways.
-use Rattle.std.{proofs.Common.{◌≡◌, ℕ, List, ◌∷◌, ◌++◌, Some, sym, ap, ◌∙◌, rules}, proofs.lemmas.List.append_cancel_left}
+use Rattle.std.{proofs.Common.{◌≡◌, ℕ, List, ◌++◌, Some, sym, ap, ◌∙◌, rules}, proofs.lemmas.List.append_cancel_left}
 use Rattle.std.proofs.lemmas.Option.{same_Some}
 use Rattle.yq_core.{proofs.Bools.bind_some, proofs.DetectedLaws.{indent_takes, indent_again}}
 use Rattle.yq_core.proofs.HeaderLaws.{style_takes, indicators_takes, tail_takes, tail_again, tail_no_indicator, indicators_again}

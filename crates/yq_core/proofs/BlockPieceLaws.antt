@@ -7,9 +7,8 @@ use Rattle.std.{specs.Str.{IsUtf8, IsCharBoundary}, proofs.lemmas.Str.IsCharBoun
 use Rattle.yq_core.{proofs.DetectedLaws.detect_back, proofs.HeaderLaws.{tail_no_indicator, indicators_again}, proofs.RawLaws.raw_lines}
 use Rattle.yq_core.specs.Block.{RawLines, AreRaw, style_indicator, is_tail, BlockText, block_text, IsBlock, IsBlockPiece}
 use Rattle.yq_core.{specs.BlockContent.block_content, specs.BlockReading.{indent_of, block_piece_content, indicators_at, values}}
-use Rattle.yq_core.{specs.Piece.deeper, specs.Text.{joined, is_line}, specs.declared.block_header.BlockStyle.BlockStyle}
+use Rattle.yq_core.{specs.Piece.deeper, specs.Text.{joined, is_line}}
 use Rattle.yq_core.{specs.declared.block_lines.TextIndent.TextIndent, specs.declared.piece.Piece.Piece, proofs.LineLaws.is_empty_is}
-use Rattle.yq_core.specs.declared.block_header.BlockStyle.TheVariants as styles
 
 -- a text that ends in LF
 abbrev pub IsLf : List ℕ → Type 0

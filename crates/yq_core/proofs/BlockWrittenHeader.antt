@@ -1,5 +1,5 @@
 -- The header that is written, and the loop that writes the lines.
-use Rattle.std.proofs.Common.{◌≡◌, ℕ, suc, ◌-◌, ◌<◌, ◌≤◌, Bool, false, eqb, List, [], ◌∷◌, ◌++◌, length, take, drop, sym, ap, ◌∙◌, ⊎_elim}
+use Rattle.std.proofs.Common.{◌≡◌, ℕ, suc, ◌-◌, ◌<◌, ◌≤◌, Bool, eqb, List, [], ◌∷◌, ◌++◌, length, take, drop, sym, ap, ◌∙◌, ⊎_elim}
 use Rattle.std.proofs.Common.{arith, eqb-true, append_assoc, append-nil, rules}
 use Rattle.std.{proofs.lemmas.Bool.{false≢true, false_from_ne_true, cases_Bool}, specs.List.ends_with, specs.Cmp.Lexicographic.pointwise}
 use Rattle.std.specs.Prelude.{nat_eq}

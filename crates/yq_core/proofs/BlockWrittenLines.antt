@@ -1,6 +1,6 @@
 -- A line that is written, and what it means.
 use Rattle.std.proofs.lemmas.Grind.{common_steps}
-use Rattle.std.proofs.Common.{◌≡◌, ℕ, suc, ◌+◌, true, false, eqb, min, List, [], ◌∷◌, ◌++◌, length, replicate, refl, sym, ap, ◌∙◌, subst}
+use Rattle.std.proofs.Common.{◌≡◌, ℕ, suc, true, false, eqb, min, List, [], ◌∷◌, ◌++◌, length, replicate, refl, sym, ap, ◌∙◌, subst}
 use Rattle.std.proofs.Common.{inr, ◌⊎◌, ⊎_elim, arith, eqb-true, append_assoc, rules}
 use Rattle.std.proofs.lemmas.Bool.{false≢true, cond_both, false_from_ne_true, leb-true, le-leb, and_from, and_parts}
 use Rattle.std.proofs.Math.Seq.{take-append_seam}
@@ -8,7 +8,6 @@ use Rattle.yq_core.{proofs.SpaceLaws.{spaces_front, drop_front}, specs.Block.{Ra
 use Rattle.yq_core.{specs.BlockContent.{text_of_line, part_of, optional_break}, specs.BlockWritten.{break_text, indented_text}}
 use Rattle.yq_core.{specs.Text.{ends_line, text_lines, put_byte, is_line, upto}, specs.declared.block_lines.TextIndent.TextIndent}
 use Rattle.yq_core.{specs.declared.block_types.Break.Break, proofs.BlockRepairText.line_spaces}
-use Rattle.yq_core.specs.declared.block_types.Break.TheVariants as breaks
 
 -- neither LF nor CR
 abbrev pub IsText : List ℕ → Type 0

@@ -1,6 +1,6 @@
 -- Keys and scalars that a text lends mean what is written, without its quotes.
-use Rattle.std.proofs.Common.{◌≡◌, ℕ, zero, suc, ◌-◌, eqb, Bool, true, false, cond, not, ◌||◌, List, [], ◌∷◌, drop, take, length, refl, sym}
-use Rattle.std.{proofs.Common.{ap, ◌∙◌, rules, ◌&&◌}, proofs.lemmas.Bool.{and_parts, cond-true, not-true, or_parts}, specs.List.list_any}
+use Rattle.std.proofs.Common.{◌≡◌, ℕ, zero, suc, ◌-◌, eqb, Bool, true, false, cond, ◌||◌, List, [], ◌∷◌, drop, take, length, refl, sym}
+use Rattle.std.{proofs.Common.{ap, ◌∙◌, rules}, proofs.lemmas.Bool.{cond-true, or_parts}, specs.List.list_any}
 use Rattle.yq_core.{specs.Borrowed.{borrows_text, holds_escape}, specs.ContentReading.quoted_content, specs.Plain.holds_break}
 use Rattle.yq_core.{specs.Quoted.IsQuotedText, specs.Scalar.{plain_of, string_of}, specs.Scalars.{is_quoted, scalar_content, scalar_of}}
 use Rattle.yq_core.{specs.Text.is_feed, proofs.OneLine.{kept, one_line, borrowed_quoted}}

@@ -1,6 +1,6 @@
 -- What is read as the content of a scalar is what its lines mean.
 use Rattle.std.proofs.lemmas.Grind.{common_steps}
-use Rattle.std.proofs.Common.{◌≡◌, ℕ, ◌+◌, ◌-◌, ◌<◌, Bool, true, false, cond, eqb, List, [], ◌∷◌, ◌++◌, length, take, drop, get_or, Option}
+use Rattle.std.proofs.Common.{◌≡◌, ℕ, ◌-◌, ◌<◌, Bool, true, false, cond, eqb, List, [], ◌∷◌, ◌++◌, length, take, drop, get_or, Option}
 use Rattle.std.proofs.Common.{Result, IfOk, refl, sym, inl, inr, ◌&&◌, ap, ◌∙◌, subst, arith, eqb-true, append_assoc, append-nil}
 use Rattle.std.{proofs.Common.{length-append, length-drop, rules}, proofs.lemmas.Bool.{false≢true, and_parts, cases_Bool, or_parts}}
 use Rattle.std.{proofs.Math.Seq.take-append_seam, proofs.Math.Utf8.encode, proofs.lemmas.Str.IsCharBoundary-after_ascii}

@@ -4,7 +4,7 @@ use Rattle.std.proofs.Common.{Some, refl, sym, ap, ◌∙◌, subst, inl, inr, �
 use Rattle.std.{proofs.lemmas.Grind.common_steps, proofs.lemmas.Bool.{false≢true, cond_both, not-true, lt-ltb, and_parts, le-ltb}}
 use Rattle.std.proofs.lemmas.Option.{same_Some}
 use Rattle.yq_core.{proofs.Bools.{chosen, bind_some}, proofs.LineLaws.AreLines, proofs.RawLaws.{joined_none, raw_takes, raw_lines}}
-use Rattle.yq_core.{proofs.SpaceLaws.{spaces_blank, char_not_blank}, specs.Answers.◌>>=◌}
+use Rattle.yq_core.{proofs.SpaceLaws.{spaces_blank, char_not_blank}}
 use Rattle.yq_core.specs.Block.{RawLines, is_empty_line, is_less_indented, ends_block, AreRaw, IsDetected, IsTextIndent}
 use Rattle.yq_core.specs.BlockReading.{is_empty_at, is_text_at, raw_at, detected_at, indent_at}
 use Rattle.yq_core.{specs.Lines.{spaces, behind_spaces, is_blank}, specs.Text.{is_empty, ends_line, text_lines, joined, is_line}}

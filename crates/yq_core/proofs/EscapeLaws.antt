@@ -1,6 +1,6 @@
 -- Escapes: how long they are, and that they are ASCII.
 use Rattle.std.proofs.lemmas.Grind.{common_steps}
-use Rattle.std.proofs.Common.{◌≡◌, ℕ, zero, suc, ◌+◌, ◌*◌, ◌<◌, ◌≤◌, true, false, ◌&&◌, eqb, ltb, eqb-true, List, [], ◌∷◌, length, drop}
+use Rattle.std.proofs.Common.{◌≡◌, ℕ, zero, suc, ◌+◌, ◌*◌, ◌<◌, ◌≤◌, true, false, eqb, ltb, eqb-true, List, [], ◌∷◌, length, drop}
 use Rattle.std.proofs.Common.{get_or, Option, Some, None, ◌⊎◌, sym, ap, ◌∙◌, inl, inr, arith, rules}
 use Rattle.std.{proofs.lemmas.Bool.{ltb-true, cases_lt, le-ltb, and_parts}, proofs.lemmas.Option.{cond_some, same_Some}}
 use Rattle.std.{specs.Char.digit_value, specs.List.list_all}

@@ -1,5 +1,5 @@
 -- The line of a place, counted by the LFs before it.
-use Rattle.std.{proofs.Common.{rules, ◌≡◌, ◌+◌, ◌-◌, ◌<◌, ◌^◌, ℕ, List, length, take, min, ◌∙◌}, proofs.lemmas.List.length-take}
+use Rattle.std.{proofs.Common.{rules, ◌≡◌, ◌+◌, ◌-◌, ◌<◌, ◌^◌, ℕ, List, length, take, min}, proofs.lemmas.List.length-take}
 use Rattle.std.proofs.lemmas.List.Sums.{count_by-le-length}
 use Rattle.memchr.{specs.Find.{is_byte, places}, proofs.lemmas.CallerLemmas.length-places}
 use Rattle.yq_core.specs.FaultPlace.{counted_line}

@@ -1,5 +1,5 @@
 -- The header of a block scalar, both ways.
-use Rattle.std.proofs.Common.{◌≡◌, ℕ, suc, ◌+◌, ◌≤◌, true, false, ◌&&◌, ◌||◌, List, [], ◌∷◌, ◌++◌, length, take, Option, Some, None, sym}
+use Rattle.std.proofs.Common.{◌≡◌, ℕ, suc, ◌+◌, ◌≤◌, true, ◌&&◌, ◌||◌, List, [], ◌∷◌, ◌++◌, length, take, Option, Some, None, sym}
 use Rattle.std.proofs.Common.{ap, ◌∙◌, subst, ⊎_elim, eqb-true, append_assoc, append-nil, length-append, rules}
 use Rattle.std.proofs.lemmas.Bool.{false≢true, cond_both, or_cases, leb-true, le-leb, and_parts, cases_Bool}
 use Rattle.std.{proofs.lemmas.List.take-append-drop, proofs.Math.Seq.{take-append_seam, drop-append_seam}, proofs.lemmas.Option.same_Some}
@@ -8,7 +8,6 @@ use Rattle.yq_core.specs.Block.{style_indicator, sign_text, IsIndicators, is_tai
 use Rattle.yq_core.specs.BlockReading.{read_style, digit_at, sign_at, Indicators, indicators_at, values, read_header_tail}
 use Rattle.yq_core.{specs.Lines.{is_hash, is_blank}, specs.Text.{is_white, front, past_white, line_len, is_line}}
 use Rattle.yq_core.{specs.declared.block_header.BlockStyle.BlockStyle, specs.declared.block_header.Chomping.Chomping}
-use Rattle.yq_core.specs.declared.block_header.BlockStyle.TheVariants as styles
 use Rattle.yq_core.specs.declared.block_header.Chomping.TheVariants as chompings
 
 -- the header's mark

@@ -1,6 +1,6 @@
 -- What the items of a scalar mean, and where a text may be cut.
 use Rattle.std.proofs.Common.{◌≡◌, ℕ, suc, ◌<◌, ◌≤◌, Bool, true, false, eqb, List, [], ◌∷◌, ◌++◌, length, take, drop, get_or, Some, None}
-use Rattle.std.proofs.Common.{refl, sym, inl, inr, ◌&&◌, ◌||◌, ap, ◌∙◌, arith, eqb-true, append-nil, length-drop, rules}
+use Rattle.std.proofs.Common.{refl, sym, inl, inr, ap, ◌∙◌, arith, eqb-true, append-nil, length-drop, rules}
 use Rattle.std.{proofs.lemmas.Bool.{false≢true, or_cases, cases_lt, and_parts, cases_Bool, or_parts}, proofs.lemmas.List.take-append-drop}
 use Rattle.std.{proofs.Math.Utf8.encode, specs.Str.{IsUtf8, IsCharBoundary}}
 use Rattle.yq_core.{specs.Text.{is_break, is_space, front, upto, NoneIn}, specs.Quoted.joined, specs.QuotedReading.leading_escape}

@@ -1,9 +1,9 @@
 -- The pieces of a node, read and spelled.
-use Rattle.std.proofs.Common.{◌≡◌, ℕ, ◌<◌, Bool, true, false, ◌&&◌, ◌||◌, eqb, List, [], ◌∷◌, ◌++◌, length, drop, Option, Some, None, refl}
+use Rattle.std.proofs.Common.{◌≡◌, ℕ, ◌<◌, Bool, true, false, ◌||◌, eqb, List, [], ◌∷◌, ◌++◌, length, drop, Option, Some, None, refl}
 use Rattle.std.{proofs.Common.{sym, ap, ◌∙◌, subst, inl, inr, ⊎_elim, arith, eqb-true, rules}, proofs.Math.Bool.and-false}
 use Rattle.std.{proofs.lemmas.Bool.{false≢true, cond_both, not-true, and_parts}, proofs.lemmas.Option.{cond_some, same_Some}}
 use Rattle.yq_core.{specs.Answers.◌>>=◌, specs.Plain.{begins_plain, ends_plain, ends_text}, specs.Quoted.spell_lines}
-use Rattle.yq_core.{specs.QuotedReading.quoted_at, specs.Text.{upto, cut, unless, is_space, no_white}, proofs.Bools.{bind_some, chosen}}
+use Rattle.yq_core.{specs.QuotedReading.quoted_at, specs.Text.{upto, unless, is_space, no_white}, proofs.Bools.{bind_some, chosen}}
 use Rattle.yq_core.{proofs.PlainLaws.{plain_takes, plain_again}, proofs.QuotedFound.{quoted_takes, quoted_again}}
 use Rattle.yq_core.{proofs.Upto.{upto_ends, none_in_cut, cut-append, cut_takes}, proofs.QuotedLaws.of_quotes, specs.Gaps.IsInlineGap}
 use Rattle.yq_core.specs.Nodes.{Key, Sep, key_text, sep_text, begins_with, in_name, begins_node, IsApart, IsLead, IsName, ends_key}

@@ -1,5 +1,5 @@
 -- What is written in flow style.
-use Rattle.std.proofs.Common.{◌≡◌, ℕ, true, false, cond, ◌&&◌, ◌||◌, List, [], ◌∷◌, ◌++◌, map, None, refl, sym, ap, ◌∙◌, append_assoc}
+use Rattle.std.proofs.Common.{◌≡◌, ℕ, true, false, cond, List, [], ◌∷◌, ◌++◌, map, None, refl, sym, ap, ◌∙◌, append_assoc}
 use Rattle.std.{proofs.Common.{rules, String, string_bytes, Result, is_ok, OnOk}, specs.declared.alloc.Global.Global, specs.Prelude.Vec}
 use Rattle.yq_core.{specs.declared.value.Value.Value, specs.declared.value.Value.TheFolds.the_lemmas, specs.declared.style.Place.Place}
 use Rattle.yq_core.{specs.Scalar.ScalarText, specs.Tree.plain_label, specs.Writable.{can_write, can_write_plain}}

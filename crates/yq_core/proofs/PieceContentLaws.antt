@@ -3,7 +3,7 @@ use Rattle.std.proofs.lemmas.Grind.{common_steps}
 use Rattle.std.proofs.Common.{◌≡◌, ℕ, ◌+◌, ◌-◌, ◌<◌, List, [], ◌∷◌, ◌++◌, length, drop, get_or, inl, inr, refl, sym, ap, ◌∙◌, subst, arith}
 use Rattle.std.{proofs.Common.{append_assoc, length-append, ℤ, rules}, proofs.Math.Seq.take-append_seam}
 use Rattle.std.{proofs.lemmas.Str.IsCharBoundary-after_ascii, specs.Str.{IsUtf8, IsCharBoundary}}
-use Rattle.yq_core.{proofs.BlockPieceLaws.content_is, specs.BlockContent.block_content, specs.declared.block_header.BlockStyle.BlockStyle}
+use Rattle.yq_core.{proofs.BlockPieceLaws.content_is, specs.BlockContent.block_content}
 use Rattle.yq_core.{specs.declared.piece.Piece.Piece, specs.declared.style.Place.Place}
 use Rattle.yq_core.{specs.Piece.{inline_piece, further_spaces, IsPlainPiece}, specs.Plain.ends_plain}
 use Rattle.yq_core.{specs.Quoted.{QuotedLines, spell_lines, IsQuoted, quoted_lines_content}, specs.PlainContent.IsPlainLines}
@@ -11,8 +11,6 @@ use Rattle.yq_core.{specs.QuotedPiece.IsQuotedPiece, specs.ScalarPiece.{IsInline
 use Rattle.yq_core.{specs.Writable.in_flow, proofs.ContentLaws.quoted_content_is, proofs.PlainContentLaws.plain_content_is}
 use Rattle.yq_core.{proofs.PlainLaws.boundary_plain, proofs.QuotedLaws.of_quotes, proofs.QuotedFound.at_seam, proofs.Upto.upto-append}
 use Rattle.yq_core.specs.Block as block
-use Rattle.yq_core.specs.BlockReading as blocks
-use Rattle.yq_core.specs.declared.block_header.BlockStyle.TheVariants as block_styles
 use Rattle.yq_core.specs.declared.style.Style.TheVariants as styles
 
 -- the scalar of a piece

@@ -1,5 +1,5 @@
 -- A plain scalar, read and spelled.
-use Rattle.std.proofs.Common.{◌≡◌, ℕ, ◌<◌, Bool, true, List, ◌∷◌, ◌++◌, Option, Some, refl, ⊎_elim, ◌||◌, ap, subst, eqb-true, rules}
+use Rattle.std.proofs.Common.{◌≡◌, ℕ, ◌<◌, Bool, true, List, ◌∷◌, ◌++◌, Option, Some, refl, ⊎_elim, ap, subst, eqb-true, rules}
 use Rattle.std.{proofs.lemmas.Bool.{or_cases, and_parts}, proofs.lemmas.List.take-append-drop, proofs.lemmas.Option.cond_some}
 use Rattle.std.specs.Str.{IsCharBoundary}
 use Rattle.yq_core.{specs.Text.{upto, cut}, specs.Plain.{ends_plain, is_flow_indicator, begins_plain, IsPlain, plain_at}}

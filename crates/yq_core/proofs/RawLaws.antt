@@ -1,5 +1,5 @@
 -- The raw lines of a block scalar, both ways.
-use Rattle.std.proofs.Common.{◌≡◌, ℕ, ◌<◌, Bool, true, false, not, ◌&&◌, List, [], ◌∷◌, ◌++◌, length, Some, refl, sym, ap, ◌∙◌, subst, inl}
+use Rattle.std.proofs.Common.{◌≡◌, ℕ, ◌<◌, Bool, true, false, not, List, [], ◌∷◌, ◌++◌, length, Some, refl, sym, ap, ◌∙◌, subst, inl}
 use Rattle.std.proofs.Common.{inr, ◌⊎◌, ⊎_elim, arith, append_assoc, append-nil, ltb-true, rules}
 use Rattle.std.proofs.lemmas.Bool.{false≢true, false_from_ne_true, leb-true, not-true, or_right, and_from, and_parts}
 use Rattle.std.proofs.lemmas.Option.{same_Some}

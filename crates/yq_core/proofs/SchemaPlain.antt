@@ -1,5 +1,5 @@
 -- The texts of null, bools, ints and floats may be written plain.
-use Rattle.std.proofs.Common.{◌≡◌, ℕ, ◌<◌, ◌≤◌, Bool, true, List, [], ◌∷◌, ◌++◌, refl, sym, inl, inr, ⊎_elim, ◌&&◌, ◌||◌, subst, arith}
+use Rattle.std.proofs.Common.{◌≡◌, ℕ, ◌<◌, ◌≤◌, Bool, true, List, [], ◌∷◌, ◌++◌, refl, sym, inl, inr, ⊎_elim, ◌&&◌, subst, arith}
 use Rattle.std.{proofs.Common.{append-nil, append_assoc, codes, rules}, proofs.lemmas.Bool.{lt-ltb, and_parts}}
 use Rattle.std.{proofs.lemmas.List.Folds.list_all-append, specs.Char.digit_value, specs.List.list_all}
 use Rattle.std.specs.Str.Parse.{AllDigits, IsNumeral}

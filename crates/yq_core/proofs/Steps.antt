@@ -3,7 +3,7 @@ use Rattle.std.proofs.Common.{◌≡◌, ℕ, zero, suc, ◌-◌, Bool, true, fa
 use Rattle.std.{proofs.Common.{Some, None, refl, sym, ap, ◌∙◌, subst, Result, rules}, proofs.lemmas.Bool.false≢true}
 use Rattle.std.proofs.lemmas.Option.{same_Some}
 use Rattle.yq_core.{specs.Answers.{ReadError, ◌>>=◌, ReadFails, Gives}, specs.declared.piece.Piece.Piece, specs.Text.is_empty}
-use Rattle.yq_core.specs.Nodes.{begins_with, Key, bare, keyed, FlowNode, anchored, Items, item, key_text, sep_text, node_text}
+use Rattle.yq_core.specs.Nodes.{begins_with, Key, bare, FlowNode, anchored, Items, item, key_text, sep_text, node_text}
 use Rattle.yq_core.specs.Nodes.{flow_items_text, begins_content, is_keyed, is_empty_node, takes_anchor, IsInlineKey}
 use Rattle.yq_core.specs.Places.{Placed, mapping, sequence, Parts, end, part, key_placed, key_here, locate, locate_items, placed_between}
 use Rattle.yq_core.specs.Places.{anchored_node, bare_in, bare_placed, holder}
