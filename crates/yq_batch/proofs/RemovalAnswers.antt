@@ -1,9 +1,8 @@
 -- Runs of items and entries that are taken out of the collections of one head, as the code makes them.
 use Rattle.std.proofs.Common.{◌≡◌, inl, inr, ℕ, ◌+◌, ◌-◌, ◌≤◌, ◌<◌, Bool, List, [], ◌++◌, length, take, drop, map, Option, Some, None, refl}
 use Rattle.std.{proofs.Common.{sym, ap, ◌∙◌, subst, append_assoc, append-nil, arith, length-append}, specs.Str.{IsCharBoundary, IsUtf8}}
-use Rattle.std.proofs.lemmas.List.{append_cancel_right, drop_all, drop-drop, length-drop, take_all, take-append-drop}
-use Rattle.std.{proofs.Math.Seq.drop-append-add, proofs.lemmas.Option.{same_Some, IfSome_then}}
-use Rattle.std.{proofs.lemmas.Str.{IsCharBoundary-from_drop, IsUtf8-drop}, specs.Prelude.{IfSome, ◌^◌, string_bytes}}
+use Rattle.std.{proofs.lemmas.List.{append_cancel_right, drop_all, drop-drop, take_all, take-append-drop}, proofs.Math.Seq.drop-append-add}
+use Rattle.std.{proofs.lemmas.Option.{same_Some, IfSome_then}, specs.Prelude.{IfSome, ◌^◌, string_bytes}}
 use Rattle.yq_text.{specs.Limit.text_limit, specs.Script.splice_at, specs.Splice.Splice, specs.TextGapBuffer.buffer_text}
 use Rattle.yq_core.{specs.Paths.Step, specs.Collections.CollPieces, specs.Entries.{end_of, parts_of, tree_step}, specs.Places.Placed}
 use Rattle.yq_core.{specs.Nodes.{Items, flow_items_text}, proofs.NodesWrittenLaws.items_append}
@@ -53,14 +52,6 @@ taken t front behind new left start end order front_is behind_is new_is left_is 
     let whole : start + (end - start) ≡ end = omega (arith, order) in
     let rest : left ≡ drop end t = left_is ∙ (ap (drop (end - start)) behind_is ∙ (drop-drop (end - start) start t ∙ ap (λ (k : ℕ). drop k t) whole)) in
     λ i. (new_is ∙ (append-nil front ∙ front_is)) i ++ rest i
-
--- a character's end in a text is one in the text after a place
-pub bound_after : (t : List ℕ) (start end : ℕ) → start ≤ end → IsUtf8 t → IsCharBoundary t end → IsCharBoundary (drop start t) (end - start)
-bound_after t start end order utf8 at =
-    let size = length-drop start t in
-    let whole : start + (end - start) ≡ end = omega (arith, order) in
-    let same : drop (end - start) (drop start t) ≡ drop end t = drop-drop (end - start) start t ∙ ap (λ (k : ℕ). drop k t) whole in
-    IsCharBoundary-from_drop (drop start t) (end - start) (omega (arith, size, at.0)) (subst IsUtf8 (sym same) (IsUtf8-drop t end utf8 at))
 
 -- The collection in which an operation takes one out is found in the head.
 module _ (c : Cut) (n : ℕ) (stem left path : List Step) (s : Step) (last : last_step path ≡ Some (stem ++ left, s)) (x : FlowHead) (q : Placed) (f : CollFound c n (stem ++ left) x q)

@@ -43,19 +43,6 @@ module _ (place : SlotPlace) (lead written : List ℕ) where
     at_is = omega (arith, is, h.at_is, olds_append l h.front, news_append l h.front);
   }
 
-  pub in_left : (l l2 r : List SlotView) (at was : ℕ) → IsPutIn l l2 place lead written at was → IsPutIn (l ++ r) (l2 ++ r) place lead written at was
-  in_left l l2 r at was h = record {
-    front = h.front;
-    slot = h.slot;
-    slot2 = h.slot2;
-    back = h.back ++ r;
-    own = h.own;
-    old_is = ap (λ (x : List SlotView). x ++ r) h.old_is ∙ append_assoc h.front (h.slot ∷ h.back) r;
-    new_is = ap (λ (x : List SlotView). x ++ r) h.new_is ∙ append_assoc h.front (h.slot2 ∷ h.back) r;
-    put = h.put;
-    at_is = h.at_is;
-  }
-
   pub counts_put : (l l2 : List SlotView) (at was : ℕ) → IsPutIn l l2 place lead written at was → (olds_of l2 ≡ olds_of l + was) × (news_of l2 ≡ news_of l + (length lead + length written))
   counts_put l l2 at was h = (
     omega (

@@ -1,6 +1,6 @@
 -- What was put at places is written, each after what comes before it in the text.
-use Rattle.std.proofs.Common.{◌≡◌, ℕ, ◌≤◌, List, [], ◌∷◌, ◌++◌, drop, take, length, Option, Some, None, sym, ap, ◌∙◌, subst, arith}
-use Rattle.std.{proofs.Common.{append_assoc, append-nil, length-append}, specs.Str.IsCharBoundary}
+use Rattle.std.proofs.Common.{◌≡◌, ℕ, ◌≤◌, List, [], ◌∷◌, ◌++◌, drop, length, Option, None, sym, ap, ◌∙◌, subst, arith, append_assoc}
+use Rattle.std.{proofs.Common.{append-nil, length-append}, specs.Str.IsCharBoundary}
 use Rattle.yq_batch.{specs.declared.slots.SlotPlace.SlotPlace, specs.declared.slots.Slots.Slots}
 use Rattle.yq_batch.specs.declared.slots.Slots.TheVariants.{One, Two'}
 use Rattle.yq_batch.specs.Slots.{AreInOrder, IsBeforeFirst, SlotView, passed, slots_of, slot_places, text_from}
@@ -46,16 +46,6 @@ module _ (t : List ℕ) where
     edge = edge;
     reached = λ after h. order_from s.place.end at (length t) (slot_places after) (omega (arith, h.0, h.1)) h.3;
     text = λ after. ap (λ (o : Option (List ℕ)). out ++ passed t at s.place.start (text_from t at after) (text_from t s.place.end after) o) (sym none);
-  }
-
-  pub written_one : (at : ℕ) (out w : List ℕ) (s : SlotView) → s.new ≡ Some w → IsCharBoundary t s.place.end → HasWritten t (s ∷ []) out at (out ++ (drop at (take s.place.start t) ++ w)) s.place.end
-  written_one at out w s some edge = record {
-    edge = edge;
-    reached = λ after h. h.3;
-    text = λ after.
-        append_assoc out (drop at (take s.place.start t) ++ w) (text_from t s.place.end after)
-        ∙ (ap (λ (l : List ℕ). out ++ l) (append_assoc (drop at (take s.place.start t)) w (text_from t s.place.end after))
-        ∙ ap (λ (o : Option (List ℕ)). out ++ passed t at s.place.start (text_from t at after) (text_from t s.place.end after) o) (sym some));
   }
 
   -- all of it, from the start on

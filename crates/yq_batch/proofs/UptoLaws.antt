@@ -207,12 +207,6 @@ more_there s t ts m o p f ih w found number =
             let same : line_index k ≡ z.0 = omega (arith, index, z.1) in
             subst (λ (n : ℕ). PathThere n (find t ts other.under)) (sym same) (ih z.0 g.under other.under k z.2 found same)
 
--- the mark of the first line of both
-first_mark : (m : ℕ) (o p : Outline) → Upto m o p → LineMark
-first_mark m o p (first l u v a b e) = l.mark
-first_mark m o p (within n l u v a b e w) = l.mark
-first_mark m o p (later n l u a b e w) = l.mark
-
 -- steps stay where no node alone is the first line
 marked_last : (k : LineMark) (f : FoundLine) (m : ℕ) (s : Step) (x y : Option (FoundLine × List Step)) (g h : FoundLine) → (x ≡ Some (f, []) → PathThere m y) →
     bare_or k (Some (g, s ∷ [])) x ≡ Some (f, []) → PathThere m (bare_or k (Some (h, s ∷ [])) y)

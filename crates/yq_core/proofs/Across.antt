@@ -1,4 +1,5 @@
 -- Over white space and breaks, to where a plain scalar goes on.
+use Rattle.std.proofs.lemmas.Grind.{common_steps}
 use Rattle.std.proofs.Common.{◌≡◌, ℕ, suc, ◌+◌, ◌-◌, ◌<◌, ◌≤◌, Bool, true, false, cond, not, eqb, List, [], ◌∷◌, ◌++◌, length, take, drop}
 use Rattle.std.proofs.Common.{get_or, Option, Some, None, refl, sym, inl, inr, ◌&&◌, ap, ◌∙◌, subst, arith, length-drop, rules}
 use Rattle.std.proofs.lemmas.Bool.{false≢true, false_from_ne_true, and_parts, cases_Bool}
@@ -45,10 +46,6 @@ across_return flow spaces deep b bs h e f = search rules
 go : (n : ℕ) (x y z : Option ℕ) → x ≡ more 1 y → more n x ≡ z → more (n + 1) y ≡ z
 go n x y z h e = more_more n 1 y ∙ (ap (more n) (sym h) ∙ e)
 
-more_suc : (k : ℕ) (o : Option ℕ) → more (suc k) o ≡ more 1 (more k o)
-more_suc k None = refl
-more_suc k (Some m) = ap Some (omega arith)
-
 abbrev AreWhite : (ℕ → Bool) → Type 0
 AreWhite test = (b : ℕ) → test b ≡ true → is_white b ≡ true
 
@@ -66,7 +63,7 @@ over_run test flow spaces deep (b ∷ bs) white = elim (cases_Bool (test b)) [
       let k = prefix_len test bs in
       let same : suc k ≡ prefix_len test (b ∷ bs) = rw w (omega arith) in
       subst (λ (n : ℕ). across flow spaces deep (b ∷ bs) ≡ more n (across flow spaces deep (drop n (b ∷ bs)))) same
-      (across_white flow spaces deep b bs (white b w) ∙ (ap (more 1) again ∙ sym (more_suc k (across flow spaces deep (drop k bs)))))
+      (across_white flow spaces deep b bs (white b w) ∙ (ap (more 1) again ∙ sym (search rules)))
   | inr w ↦
       let same : 0 ≡ prefix_len test (b ∷ bs) = rw w refl in
       subst (λ (n : ℕ). across flow spaces deep (b ∷ bs) ≡ more n (across flow spaces deep (drop n (b ∷ bs)))) same (sym (more_none (across flow spaces deep (b ∷ bs))))
@@ -83,10 +80,7 @@ go_run test flow spaces deep n k r z white is e = search (rules, more_more, over
 
 pub go_line : (flow : Bool) (spaces : Option ℕ) (deep next : Bool) (n : ℕ) (r : List ℕ) (z : Option ℕ) → 1 ≤ length r → is_white (get_or r 0 0) ≡ false → get_or r 0 0 ≡ 10 → next ≡ begins_deep spaces (rest_of r) →
     more n (across flow spaces deep r) ≡ z → more (n + 1) (across flow spaces next (rest_of r)) ≡ z
-go_line flow spaces deep next n [] z le w l d e = absurd (omega arith)
-go_line flow spaces deep next n (b ∷ bs) z le w l d e =
-    let d2 : next ≡ begins_deep spaces bs = d ∙ ap (begins_deep spaces) (rest_is b bs) in
-    rw (rest_is, d2) (go n _ _ z (across_line flow spaces deep b bs w (rw l refl)) e)
+go_line flow spaces deep next n r z le w l d e = grind (arith, common_steps, rest_is, go, across_line)
 
 pub go_return : (flow : Bool) (spaces : Option ℕ) (deep : Bool) (n : ℕ) (r : List ℕ) (z : Option ℕ) → 1 ≤ length r → is_white (get_or r 0 0) ≡ false → eqb (get_or r 0 0) 10 ≡ false → is_break r ≡ true →
     more n (across flow spaces deep r) ≡ z → more (n + 1) (across flow spaces deep (rest_of r)) ≡ z
@@ -124,27 +118,21 @@ gap_of t = (cut no_gap t).0
 abbrev past_gap : List ℕ → List ℕ
 past_gap t = (cut no_gap t).1
 
-more_one : (x : Bool) (k : ℕ) → more 1 (cond x (Some k) None) ≡ cond x (Some (suc k)) None
-more_one true k = ap Some (omega arith)
-more_one false k = refl
-
 over : (flow : Bool) (spaces : Option ℕ) (deep next : Bool) (b : ℕ) (bs : List ℕ) → is_space (b ∷ bs) ≡ true → across flow spaces deep (b ∷ bs) ≡ more 1 (across flow spaces next bs) →
     across flow spaces next bs ≡ cond (goes flow spaces next (gap_of bs) (past_gap bs)) (Some (upto no_gap bs)) None →
     stands deep spaces (last_line (b ∷ gap_of bs)) (past_gap bs) ≡ stands next spaces (last_line (gap_of bs)) (past_gap bs) →
     across flow spaces deep (b ∷ bs) ≡ cond (goes flow spaces deep (gap_of (b ∷ bs)) (past_gap (b ∷ bs))) (Some (upto no_gap (b ∷ bs))) None
 unfolding upto
-over flow spaces deep next b bs s e again same = search (rules, more_one)
+over flow spaces deep next b bs s e again same = search rules
 
 or_none : (o : Option (List ℕ)) → option_or o None ≡ o
-or_none None = refl
-or_none (Some l) = refl
+or_none o = search rules
 
 same_line : (deep : Bool) (spaces : Option ℕ) (b : ℕ) (gap text : List ℕ) → is_feed b ≡ false → stands deep spaces (last_line (b ∷ gap)) text ≡ stands deep spaces (last_line gap) text
 same_line deep spaces b gap text n = rw n (ap (λ o. stands deep spaces o text) (or_none (last_line gap)))
 
 next_line : (deep : Bool) (spaces : Option ℕ) (o : Option (List ℕ)) (gap text bs : List ℕ) → gap ++ text ≡ bs → stands deep spaces (option_or o (Some gap)) text ≡ stands (begins_deep spaces bs) spaces o text
-next_line deep spaces None gap text bs e = ap (begins_deep spaces) e
-next_line deep spaces (Some l) gap text bs e = refl
+next_line deep spaces o gap text bs e = search rules
 
 -- what across tells: whether text after the gap follows, and how long the gap is
 across_goes : (flow : Bool) (spaces : Option ℕ) (deep : Bool) (t : List ℕ) → across flow spaces deep t ≡ cond (goes flow spaces deep (gap_of t) (past_gap t)) (Some (upto no_gap t)) None
@@ -164,12 +152,10 @@ across_goes flow spaces deep (b ∷ bs) =
     ]
 
 may_stand : (spaces : Option ℕ) (o : Option (List ℕ)) (text : List ℕ) → plain_may_follow spaces o text ≡ stands true spaces o text
-may_stand spaces None text = refl
-may_stand spaces (Some l) text = refl
+may_stand spaces o text = search rules
 
 not_some : (x : Bool) (k : ℕ) → not x ≡ is_none (cond x (Some k) None)
-not_some true k = refl
-not_some false k = refl
+not_some x k = search rules
 
 -- at white space or a break
 pub ends_space : (flow : Bool) (spaces : Option ℕ) (t : List ℕ) → is_space t ≡ true → ends_plain flow spaces t ≡ is_none (across flow spaces true t)
@@ -190,10 +176,6 @@ deeper flow spaces (b ∷ bs) k h =
       ]
     ]
 
-pub across_deeper : (flow : Bool) (spaces : Option ℕ) (deep : Bool) (t : List ℕ) (k : ℕ) → across flow spaces deep t ≡ Some k → across flow spaces true t ≡ Some k
-across_deeper flow spaces true t k h = h
-across_deeper flow spaces false t k h = deeper flow spaces t k h
-
 across_end : (flow : Bool) (spaces : Option ℕ) (deep : Bool) → across flow spaces deep [] ≡ None
 unfolding across
 across_end flow spaces deep = refl
@@ -211,7 +193,7 @@ across_upto flow spaces (b ∷ bs) k h =
     elim (cases_Bool (is_space (b ∷ bs))) [
       | inl s ↦ (let next = across_space flow spaces true b bs s in
           let g = more_some 1 k _ (sym next.1 ∙ h) in
-          let again = across_upto flow spaces bs g.0 (across_deeper flow spaces next.0 bs g.0 g.1) in
+          let again = across_upto flow spaces bs g.0 (search (rules, deeper)) in
           let here : upto (ends_plain flow spaces) (b ∷ bs) ≡ suc (upto (ends_plain flow spaces) bs) = upto_space flow spaces b bs k s h in
           let same : suc g.0 ≡ k = omega (arith, g.2) in
           subst (λ (n : ℕ). upto (ends_plain flow spaces) (b ∷ bs) ≡ n + upto (ends_plain flow spaces) (drop n (b ∷ bs))) same (omega (arith, here, again)))
@@ -243,8 +225,7 @@ plain_stop flow spaces (b ∷ bs) s h = let e : ends_plain flow spaces (b ∷ bs
 
 pub plain_colon : (flow : Bool) (spaces : Option ℕ) (t : List ℕ) → is_space t ≡ false → ends_text flow t ≡ true → upto (ends_plain flow spaces) t ≡ 0
 unfolding upto
-plain_colon flow spaces [] s h = refl
-plain_colon flow spaces (b ∷ bs) s h = let e : ends_plain flow spaces (b ∷ bs) ≡ true = rw (s, h) refl in rw e refl
+plain_colon flow spaces t s h = search rules
 
 pub plain_next : (flow : Bool) (spaces : Option ℕ) (t : List ℕ) → 1 ≤ length t → is_space t ≡ false → ends_text flow t ≡ false → upto (ends_plain flow spaces) t ≡ 1 + upto (ends_plain flow spaces) (rest_of t)
 unfolding upto

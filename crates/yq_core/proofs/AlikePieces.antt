@@ -1,12 +1,11 @@
 -- A piece of a node before one text is one before a text that is alike.
-use Rattle.std.proofs.Common.{◌≡◌, ◌⊎◌, inl, inr, ℕ, Bool, true, false, eqb, List, [], ◌∷◌, ◌++◌, Option, Some, None, refl, sym, ap, ◌∙◌}
-use Rattle.std.{proofs.Common.{not, ◌&&◌, ◌||◌, rules}, proofs.Math.Bool.and-false}
+use Rattle.std.proofs.Common.{◌≡◌, inl, inr, ℕ, Bool, true, false, eqb, List, [], ◌∷◌, ◌++◌, Option, Some, None, refl, sym, ap, ◌∙◌, not}
+use Rattle.std.{proofs.Common.{◌&&◌, rules}, proofs.Math.Bool.and-false}
 use Rattle.yq_core.specs.Quoted.{Char, spell_chars, IsChar, AreChars, QuotedLines, last, line, spell_end, spell_lines, AreLines, IsQuoted}
 use Rattle.yq_core.{specs.Text.{NoneIn, front, unless, is_break}, specs.declared.gap.GapPlace.GapPlace}
-use Rattle.yq_core.specs.declared.gap.GapPlace.TheVariants.{Token, White, Break, Comment}
 use Rattle.yq_core.{specs.Gaps.{goes, next_gap_place, AllGo, stops, IsInlineGap}, specs.Nodes.{in_name, IsName}}
-use Rattle.yq_core.{specs.Alike.{ends_lookahead, Alike, stop, colon, any_colon, byte, after}, specs.Scalars.IsScalarAt}
-use Rattle.yq_core.proofs.Alikes.{alike_append, alike_front, alike_unless, stop_break, alike_break, alike_space, alike_marker, plain_alike}
+use Rattle.yq_core.{specs.Alike.{Alike, stop, colon, any_colon, byte, after}, specs.Scalars.IsScalarAt}
+use Rattle.yq_core.proofs.Alikes.{alike_append, alike_front, alike_unless, stop_break, alike_break, alike_marker, plain_alike}
 
 -- quoted scalars
 char_alike : (f : Option Bool) (q : ℕ) (c : Char) (t u : List ℕ) → Alike f t u → IsChar q c t → IsChar q c u
@@ -27,16 +26,12 @@ lines_alike f q (line cs escaped b ls) t u h g =
       lines_alike f q ls t u h g.3,
     )
 
-quote_stop : (q : ℕ) → (q ≡ 34) ⊎ (q ≡ 39) → ends_lookahead q ≡ true
-quote_stop q (inl e) = rw e refl
-quote_stop q (inr e) = rw e refl
-
 -- of what comes after a quoted scalar only its first byte is asked
 pub quoted_any : (q : ℕ) (ls : QuotedLines) (p t u : List ℕ) → front (λ b. eqb b 39) u ≡ false → IsQuoted q ls p t → IsQuoted q ls p u
 quoted_any q ls p t u h g = record {
   quotes = g.quotes;
   spelled = g.spelled;
-  lines = lines_alike None q ls (q ∷ t) (q ∷ u) (stop (quote_stop q g.quotes)) g.lines;
+  lines = lines_alike None q ls (q ∷ t) (q ∷ u) (stop (search rules)) g.lines;
   closed = rw h (and-false (eqb q 39));
 }
 
@@ -64,10 +59,7 @@ pub name_alike : (f : Option Bool) (p t u : List ℕ) → Alike f t u → IsName
 name_alike f p t u h g = name_by p t u (sym (alike_unless in_name f t u h) ∙ g.ends) g
 
 goes_alike : (f : Option Bool) (before : GapPlace) (b : ℕ) (t u : List ℕ) → Alike f t u → goes before b t ≡ goes before b u
-goes_alike f Token b t u h = alike_space f (b ∷ t) (b ∷ u) (after h)
-goes_alike f White b t u h = ap (λ x. x || eqb b 35) (alike_space f (b ∷ t) (b ∷ u) (after h))
-goes_alike f Break b t u h = ap (λ x. x || eqb b 35) (alike_space f (b ∷ t) (b ∷ u) (after h))
-goes_alike f Comment b t u h = refl
+goes_alike f before b t u h = search rules
 
 all_go_alike : (f : Option Bool) (before : GapPlace) (p t u : List ℕ) → Alike f t u → AllGo before p t → AllGo before p u
 all_go_alike f before [] t u h g = tt

@@ -1,9 +1,10 @@
 -- Two texts that are the same up to a byte after which nobody looks: the tests of what is in front.
-use Rattle.std.proofs.Common.{◌≡◌, inl, inr, ℕ, Bool, true, false, eqb, List, [], ◌∷◌, ◌++◌, Option, Some, None, refl, sym, ap, ◌∙◌, rules}
-use Rattle.std.{proofs.Math.Bool.and-false, proofs.lemmas.Bool.{cases_Bool, or_parts}, specs.List.prefix_len}
+use Rattle.std.proofs.Common.{arith, ◌≡◌, inl, inr, ℕ, Bool, true, false, eqb, List, [], ◌∷◌, ◌++◌, Option, Some, None, refl, sym, ap, ◌∙◌}
+use Rattle.std.{proofs.Common.rules, proofs.lemmas.Grind.common_steps, proofs.Math.Bool.and-false}
+use Rattle.std.{proofs.lemmas.Bool.{cases_Bool, or_parts}, specs.List.prefix_len}
 use Rattle.yq_core.specs.Plain.{begins_plain, ends_plain, ends_text, is_flow_indicator, is_safe, no_gap, last_line, begins_deep}
 use Rattle.yq_core.{specs.Plain.{plain_may_follow, follows, IsPlain}, specs.QuotedReading.is_quote}
-use Rattle.yq_core.specs.Text.{upto, cut, NoneIn, front, unless, is_empty, is_white, is_feed, is_break, is_space, separates, is_marker}
+use Rattle.yq_core.specs.Text.{upto, cut, NoneIn, front, unless, is_empty, is_white, is_break, is_space, separates, is_marker}
 use Rattle.yq_core.{proofs.Bools.at_byte, specs.Alike.{ends_lookahead, Alike, stop, colon, any_colon, byte, after}}
 use Rattle.yq_core.specs.Nodes.{begins_with, begins_content}
 
@@ -28,11 +29,7 @@ pub stop_break : (b : ℕ) (t : List ℕ) → ends_lookahead b ≡ true → is_b
 stop_break b t h = rw (at_byte ends_lookahead b 10 h refl, at_byte ends_lookahead b 13 h refl) refl
 
 pub alike_break : (f : Option Bool) (t u : List ℕ) → Alike f t u → is_break t ≡ is_break u
-alike_break _ _ _ (stop {f} {b} {t} {u} x) = stop_break b t x ∙ sym (stop_break b u x)
-alike_break _ _ _ (colon {flow} {t} {u} x y) = refl
-alike_break _ _ _ (any_colon {t} {u}) = refl
-alike_break _ _ _ (byte {f} {b} {t} {u} v w x y) = (or_parts (is_white b) (is_break (b ∷ t)) v).1 ∙ sym (or_parts (is_white b) (is_break (b ∷ u)) w).1
-alike_break _ _ _ (after {f} {b} {t} {u} h) = rw (alike_front is_feed f t u h) refl
+alike_break f t u x = grind (arith, common_steps)
 
 pub alike_space : (f : Option Bool) (t u : List ℕ) → Alike f t u → is_space t ≡ is_space u
 alike_space f t u h = rw (alike_front is_white f t u h, alike_break f t u h) refl
@@ -48,32 +45,27 @@ pub no_first : (b : ℕ) (t : List ℕ) → eqb b 45 ≡ false → eqb b 46 ≡ 
 no_first b t h1 h2 = search rules
 
 pub no_second : (a b : ℕ) (t : List ℕ) → eqb b 45 ≡ false → eqb b 46 ≡ false → is_marker (a ∷ (b ∷ t)) ≡ false
-no_second a b [] x y = refl
-no_second a b (d ∷ t) x y = rw (x, y) (simp and-false refl)
+no_second a b t x y = search rules
 
 pub no_third : (a b c : ℕ) (t : List ℕ) → eqb c 45 ≡ false → eqb c 46 ≡ false → is_marker (a ∷ (b ∷ (c ∷ t))) ≡ false
 no_third a b c t x y = rw (x, y) (simp and-false refl)
 
 pub sep_first : (a : ℕ) (t : List ℕ) → separates t ≡ true → is_marker (a ∷ t) ≡ false
-sep_first a [] h = refl
-sep_first a (b ∷ t) h = no_second a b t (at_byte (λ x. separates (x ∷ t)) b 45 h refl) (at_byte (λ x. separates (x ∷ t)) b 46 h refl)
+sep_first a t h = search rules
 
 sep_second : (a b : ℕ) (t : List ℕ) → separates t ≡ true → is_marker (a ∷ (b ∷ t)) ≡ false
-sep_second a b [] h = refl
-sep_second a b (c ∷ t) h = no_third a b c t (at_byte (λ x. separates (x ∷ t)) c 45 h refl) (at_byte (λ x. separates (x ∷ t)) c 46 h refl)
+sep_second a b t h = search rules
 
 pub alike_marker : (f : Option Bool) (t u : List ℕ) → Alike f t u → is_marker t ≡ is_marker u
 alike_marker _ _ _ (stop {f} {b} {t} {u} x) = search (rules, at_byte, no_first, sep_first, no_second, sep_second, no_third, alike_separates)
 alike_marker _ _ _ (colon {flow} {t} {u} x y) = no_first 58 t refl refl ∙ sym (no_first 58 u refl refl)
 alike_marker _ _ _ (any_colon {t} {u}) = no_first 58 t refl refl ∙ sym (no_first 58 u refl refl)
 alike_marker _ _ _ (byte {f} {b} {t} {u} v w x y) = sep_first b t x ∙ sym (sep_first b u y)
-alike_marker _ _ _ (after {b = a} (stop {f} {b} {t} {u} x)) =
-    let p = at_byte ends_lookahead b 45 x refl in let q = at_byte ends_lookahead b 46 x refl in no_second a b t p q ∙ sym (no_second a b u p q)
+alike_marker _ _ _ (after {b = a} (stop {f} {b} {t} {u} x)) = search (rules, at_byte, no_second)
 alike_marker _ _ _ (after {b = a} (colon {flow} {t} {u} x y)) = no_second a 58 t refl refl ∙ sym (no_second a 58 u refl refl)
 alike_marker _ _ _ (after {b = a} (any_colon {t} {u})) = no_second a 58 t refl refl ∙ sym (no_second a 58 u refl refl)
 alike_marker _ _ _ (after {b = a} (byte {f} {b} {t} {u} v w x y)) = sep_second a b t x ∙ sym (sep_second a b u y)
-alike_marker _ _ _ (after {b = a} (after {b = b} (stop {f} {b = c} {t} {u} x))) =
-    let p = at_byte ends_lookahead c 45 x refl in let q = at_byte ends_lookahead c 46 x refl in no_third a b c t p q ∙ sym (no_third a b c u p q)
+alike_marker _ _ _ (after {b = a} (after {b = b} (stop {f} {b = c} {t} {u} x))) = search (rules, at_byte, no_third)
 alike_marker _ _ _ (after {b = a} (after {b = b} (colon {flow} {t} {u} x y))) = no_third a b 58 t refl refl ∙ sym (no_third a b 58 u refl refl)
 alike_marker _ _ _ (after {b = a} (after {b = b} (any_colon {t} {u}))) = no_third a b 58 t refl refl ∙ sym (no_third a b 58 u refl refl)
 alike_marker _ _ _ (after {b = a} (after {b = b} (byte {f} {b = c} {t} {u} v w x y))) = rw (x, y) refl
@@ -81,10 +73,9 @@ alike_marker _ _ _ (after {b = a} (after {b = b} (after {f = f} {b = c} {t = t} 
 
 pub alike_spaces : (f : Option Bool) (t u : List ℕ) → Alike f t u → prefix_len (λ b. eqb b 32) t ≡ prefix_len (λ b. eqb b 32) u
 alike_spaces _ _ _ (stop {f} {b} {t} {u} x) = rw (at_byte ends_lookahead b 32 x refl) refl
-alike_spaces _ _ _ (colon {flow} {t} {u} x y) = refl
-alike_spaces _ _ _ (any_colon {t} {u}) = refl
 alike_spaces _ _ _ (byte {f} {b} {t} {u} v w x y) = search (rules, at_byte, or_parts)
 alike_spaces _ _ _ (after {f} {b} {t} {u} h) = rw (alike_spaces f t u h) refl
+alike_spaces _ _ _ _ = refl
 
 -- where plain scalars begin and end
 unsafe : (flow : Bool) (t : List ℕ) → separates t ≡ true → is_safe flow t ≡ false
@@ -103,8 +94,7 @@ alike_begins flow _ _ (byte {b = b} {t = t} {u = u} v w x y) = rw (v, w, unsafe 
 alike_begins flow _ _ (after {b = b} {t = t} {u = u} h) = rw (alike_space (Some flow) (b ∷ t) (b ∷ u) (after h), alike_safe flow (Some flow) t u h) refl
 
 alike_deep : (spaces : Option ℕ) (f : Option Bool) (t u : List ℕ) → Alike f t u → begins_deep spaces t ≡ begins_deep spaces u
-alike_deep None f t u h = refl
-alike_deep (Some n) f t u h = rw (alike_spaces f t u h, alike_marker f t u h) refl
+alike_deep spaces f t u h = search (rules, alike_spaces, alike_marker)
 
 alike_may : (spaces : Option ℕ) (line : Option (List ℕ)) (f : Option Bool) (t u : List ℕ) → Alike f t u → plain_may_follow spaces line t ≡ plain_may_follow spaces line u
 alike_may spaces None f t u h = refl

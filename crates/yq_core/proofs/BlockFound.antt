@@ -37,8 +37,7 @@ from_again n at text p h = search (rules, block_again)
 
 -- the public clauses
 pub found_by : {E : Type 0} (n : ℤ) (at : ℕ) (text : List ℕ) (r : Result Piece E) → ReadsAs (λ p. p) r (block_from n at text) → IfOk r (IsBlockPiece n at text)
-found_by n at text (Ok p) h = from_takes n at text p h
-found_by n at text (Err e) h = tt
+found_by n at text r h = search (rules, from_takes)
 
 pub only_by : {E : Type 0} (n : ℤ) (at : ℕ) (text : List ℕ) (r : Result Piece E) → ReadsAs (λ p. p) r (block_from n at text) → (p : Piece) → IsBlockPiece n at text p → r ≡ Ok p
 only_by n at text (Ok q) h p i = ap Ok (same_Some _ _ (sym h ∙ from_again n at text p i))

@@ -1,11 +1,10 @@
 -- A block scalar, both ways.
-use Rattle.std.{proofs.Common.{◌≡◌, ℕ, true, List, ◌∷◌, ◌++◌, Some, sym, ap, ◌∙◌, subst, rules}, proofs.lemmas.List.append_cancel_left}
+use Rattle.std.{proofs.Common.{◌≡◌, ℕ, List, ◌++◌, Some, sym, ap, ◌∙◌, rules}, proofs.lemmas.List.append_cancel_left}
 use Rattle.std.proofs.lemmas.Option.{same_Some}
 use Rattle.yq_core.{proofs.Bools.bind_some, proofs.DetectedLaws.{indent_takes, indent_again}}
-use Rattle.yq_core.proofs.HeaderLaws.{style_takes, style_again, indicators_takes, tail_takes, tail_again, tail_no_indicator}
-use Rattle.yq_core.{proofs.HeaderLaws.indicators_again, proofs.LineLaws.{joined_lines, lines_are, joined-append}}
-use Rattle.yq_core.proofs.RawLaws.{raw_split, IsRaw, raw_takes, raw_again, lines_raw}
-use Rattle.yq_core.specs.Block.{ends_block, style_indicator, keeps, BlockText, block_text, IsBlock}
+use Rattle.yq_core.proofs.HeaderLaws.{style_takes, indicators_takes, tail_takes, tail_again, tail_no_indicator, indicators_again}
+use Rattle.yq_core.proofs.LineLaws.{joined_lines, lines_are, joined-append}
+use Rattle.yq_core.{proofs.RawLaws.{raw_split, IsRaw, raw_takes, raw_again, lines_raw}, specs.Block.{keeps, BlockText, block_text, IsBlock}}
 use Rattle.yq_core.specs.BlockReading.{raw_at, indent_at, read_style, indicators_at, read_header_tail, block_behind, block_at}
 use Rattle.yq_core.specs.Text.{text_lines, joined}
 
@@ -26,24 +25,14 @@ block_takes least t x h =
     let behind : raw.0.1 ≡ text_lines (joined raw.0.1) = search (rules, append_cancel_left, lines_raw, are, raw, cut, text, indent) in
     let line = tail_takes m.3 tail.0 tail.1 in
     let indicators = indicators_takes s.0.1 in
-    subst (λ (y : BlockText × List ℕ). (t ≡ block_text y.0 y.1) × IsBlock least y.0 y.1) is (
-      style_takes t s.0 s.1 ∙ ap (λ u. style_indicator s.0.0 ∷ u) (indicators.0 ∙ ap (λ u. m.2 ++ u) (line.0 ∙ ap (λ u. tail.0.0 ++ u) text)),
-      record {
-        indicators = indicators.1;
-        tail = line.1;
-        indent = indent_takes least m.0 ls indent.0 (keeps m.1) raw.0 (lines_are tail.0.1) indent.1 raw.1;
-        lines = are.lines;
-        ends = are.ends;
-        behind = subst (λ m'. ends_block (keeps m.1) indent.0 m' ≡ true) behind are.behind;
-      },
-    )
+    search (rules, style_takes, indent_takes, lines_are)
 
 pub block_again : (least : ℕ) (b : BlockText) (rest : List ℕ) → IsBlock least b rest → block_at least (block_text b rest) ≡ Some (b, rest)
-unfolding block_at block_behind
+unfolding block_at block_behind read_style
 block_again least b rest h =
     let behind = joined b.raw ++ rest in
     let indicators = indicators_again b.digit b.chomping b.indicators (b.tail ++ behind) h.indicators (tail_no_indicator b.tail behind h.tail) in
-    search (rules, style_again, tail_again, joined_lines, lines_raw, indent_again, raw_again, indicators, behind)
+    search (rules, tail_again, joined_lines, lines_raw, indent_again, raw_again, indicators, behind)
 
 pub one_block : (least : ℕ) (a b : BlockText) (rest other : List ℕ) → block_text a rest ≡ block_text b other → IsBlock least a rest → IsBlock least b other → (a ≡ b) × (rest ≡ other)
 one_block least a b rest other e h k =

@@ -1,16 +1,14 @@
 -- Where a piece may be cut out of its text.
-use Rattle.std.proofs.Common.{◌≡◌, ℕ, suc, ◌+◌, ◌-◌, ◌<◌, ◌≤◌, true, eqb, List, [], ◌∷◌, ◌++◌, length, take, drop, get_or, Option, refl}
-use Rattle.std.proofs.Common.{sym, ap, ◌∙◌, subst, inl, ◌⊎◌, ⊎_elim, arith, eqb-true, append_assoc, append-nil, length-append, length-take}
+use Rattle.std.proofs.Common.{◌≡◌, ℕ, suc, ◌+◌, ◌-◌, ◌<◌, ◌≤◌, true, eqb, List, [], ◌∷◌, ◌++◌, length, take, drop, get_or, refl, sym, ap}
+use Rattle.std.proofs.Common.{◌∙◌, subst, inl, ◌⊎◌, ⊎_elim, arith, eqb-true, append_assoc, append-nil, length-append, length-take}
 use Rattle.std.{proofs.Common.{length-drop, min, ℤ, rules}, proofs.lemmas.Bool.{false≢true, and_parts, cases_Bool}}
 use Rattle.std.{proofs.lemmas.List.{take-append-drop, drop-drop}, proofs.Math.Seq.{take-append_seam, drop-append_seam}}
 use Rattle.std.{specs.Str.{IsUtf8, IsCharBoundary}, proofs.lemmas.Str.IsCharBoundary-after_ascii}
 use Rattle.yq_core.{proofs.DetectedLaws.detect_back, proofs.HeaderLaws.{tail_no_indicator, indicators_again}, proofs.RawLaws.raw_lines}
-use Rattle.yq_core.specs.Block.{RawLines, AreRaw, IsTextIndent, style_indicator, as_style, is_tail, BlockText, block_text, IsBlock}
-use Rattle.yq_core.{specs.Block.IsBlockPiece, specs.BlockContent.block_content}
-use Rattle.yq_core.{specs.BlockReading.{block_style, indent_of, block_piece_content, indicators_at, values}, specs.Piece.deeper}
-use Rattle.yq_core.{specs.Text.{text_lines, joined, is_line}, specs.declared.block_header.BlockStyle.BlockStyle}
-use Rattle.yq_core.{specs.declared.block_lines.TextIndent.TextIndent, specs.declared.piece.Piece.Piece, proofs.LineLaws.is_empty_is}
-use Rattle.yq_core.specs.declared.block_header.BlockStyle.TheVariants as styles
+use Rattle.yq_core.specs.Block.{RawLines, AreRaw, style_indicator, is_tail, BlockText, block_text, IsBlock, IsBlockPiece}
+use Rattle.yq_core.{specs.BlockContent.block_content, specs.BlockReading.{indent_of, block_piece_content, indicators_at, values}}
+use Rattle.yq_core.{specs.Piece.deeper, specs.Text.{joined, is_line}, specs.declared.block_lines.TextIndent.TextIndent}
+use Rattle.yq_core.{specs.declared.piece.Piece.Piece, proofs.LineLaws.is_empty_is}
 
 -- a text that ends in LF
 abbrev pub IsLf : List ℕ → Type 0
@@ -84,21 +82,13 @@ stands n text p u h =
     let to_end : text ≡ ((before ++ head) ++ raw) ++ h.rest = to_raw ∙ sym (append_assoc (before ++ head) raw h.rest) in
     search (rules, ⊎_elim, cut_lf, append_lf, raw_lf, head_lf, length-append, b, head, to_raw, before, to_end, raw)
 
-indent_same : (least : ℕ) (digit : Option ℕ) (f : TextIndent) (raw : RawLines) → IsTextIndent least digit f raw → AreRaw f raw → indent_of digit f.columns (text_lines (joined raw)) ≡ f
-unfolding indent_of
-indent_same least digit f raw h1 h2 = search (rules, detect_back)
-
-style_same : (s : BlockStyle) → block_style (as_style s) ≡ s
-style_same styles.Literal = refl
-style_same styles.Folded = refl
-
 -- what is read at the piece of a block scalar is what that means
 pub content_is : (n : ℤ) (text : List ℕ) (p : Piece) (h : IsBlockPiece n p.start text p) → block_piece_content text p ≡ block_content h.block
-unfolding block_piece_content
+unfolding block_piece_content indent_of
 content_is n text p h =
     let b = h.block in
     let least = deeper n in
     let raw_len_ : p.end - p.raw_start ≡ length (joined b.raw) = (let e = ap (λ (q : Piece). q.end) h.piece in let s = ap (λ (q : Piece). q.raw_start) h.piece in omega (arith, e, s)) in
     let header : drop (p.start + 1) text ≡ drop 1 (block_text b h.rest) = sym (drop-drop 1 p.start text) ∙ ap (drop 1) h.stands in
     let behind : drop p.raw_start text ≡ drop (1 + length b.indicators + length b.tail) (block_text b h.rest) = search (rules, drop-drop, b) in
-    search (rules, indicators_back, raw_back, raw_lines, style_same, indent_same, raw_len_, header, least, b, behind)
+    search (rules, indicators_back, raw_back, raw_lines, detect_back, raw_len_, header, least, b, behind)

@@ -14,11 +14,8 @@ use Rattle.yq_core.{specs.Text.{ends_line, past_white, upto}, specs.declared.blo
 no_spaces : (b : ℕ) (t : List ℕ) → eqb b 32 ≡ false → (spaces (b ∷ t) ≡ 0) × (behind_spaces (b ∷ t) ≡ b ∷ t)
 no_spaces b t h = let n = prefix_none (λ x. eqb x 32) b t h in (n, ap (λ k. drop k (b ∷ t)) n)
 
-short_empty : (f : TextIndent) (l : List ℕ) → is_short f.columns l ≡ true → is_empty_line f l ≡ true
-short_empty f l h = search (rules, and_parts, and_from, or_right)
-
 pub blank_empty : (f : TextIndent) (l : List ℕ) → is_blank l ≡ true → is_empty_line f (repaired_blank f.columns l) ≡ true
-blank_empty f l h = search (rules, or_right, le-leb, false_from_ne_true, eqb-true, false≢true, no_spaces, and_from, cond_both, short_empty)
+blank_empty f l h = search (rules, or_right, le-leb, false_from_ne_true, eqb-true, false≢true, no_spaces, and_from, cond_both, and_parts)
 
 -- a comment line that is moved
 moved : (f : TextIndent) (column : ℕ) (t : List ℕ) → column < f.columns → is_hash t ≡ true → is_less_indented f (replicate column 32 ++ t) ≡ true
@@ -30,8 +27,7 @@ ends_less keep f l ls h = rw (next_not_empty f l h) h
 
 pub ends_behind : (keep : Bool) (f : TextIndent) (rest : RawLines) → is_behind f rest ≡ true → ends_block keep f rest ≡ true
 unfolding ends_block
-ends_behind keep f [] h = refl
-ends_behind keep f (l ∷ ls) h = ends_less keep f l ls h
+ends_behind keep f rest h = search rules
 
 pub comment_less : (f : TextIndent) (column : ℕ) (l : List ℕ) → is_blank l ≡ false → (is_blank l || is_hash (past_white l)) ≡ true → column < f.columns → is_less_indented f (repaired_comment f.columns column l) ≡ true
 comment_less f column l n h lt = search (rules, and_parts, false_from_ne_true, false≢true, spaces_blank, and_from, ⊎_elim, or_cases, cond_both, moved)
@@ -45,10 +41,8 @@ pub repair_ends : (keep : Bool) (f : TextIndent) (column : ℕ) (gap rest : RawL
 unfolding repair
 repair_ends keep f column [] rest h e lt = ends_behind keep f rest e
 repair_ends true f column (l ∷ ls) rest h e lt = search (rules, ⊎_elim, first_comment, cases_Bool, repair_ends true f column ls rest h.1 e lt)
-repair_ends false f column (l ∷ ls) rest h e lt = ⊎_elim {0, 0, 0}
-    (λ b. rw b (ends_blank f (repaired_blank f.columns l) (repair false f.columns column ls ++ rest) (blank_empty f l b) (repair_ends false f column ls rest h.1 e lt)))
-    (λ b. rw b (first_comment false f column l (ls ++ rest) b h.0 lt))
-    (cases_Bool (is_blank l))
+repair_ends false f column (l ∷ ls) rest h e lt =
+    search (rules, ends_blank, blank_empty, first_comment, cases_Bool, repair_ends false f column ls rest h.1 e lt)
 
 -- the comments stay
 end_blank : (t : List ℕ) → ends_line t ≡ true → is_blank t ≡ true
@@ -59,22 +53,12 @@ pub white_front : (n : ℕ) (t : List ℕ) → past_white (replicate n 32 ++ t) 
 white_front zero t = refl
 white_front (suc n) t = white_drop 32 (replicate n 32 ++ t) ∙ white_front n t
 
-past_hash : (t : List ℕ) → is_hash t ≡ true → past_white t ≡ t
-unfolding upto
-past_hash [] h = refl
-past_hash (b ∷ t) h = let is : b ≡ 35 = eqb-true b 35 h in white_drop b t ∙ rw is refl
-
-hash_end : (t : List ℕ) → is_hash t ≡ true → ends_line t ≡ false
-hash_end [] h = absurd (false≢true h)
-hash_end (b ∷ t) h = let is : b ≡ 35 = eqb-true b 35 h in rw is refl
-
 abbrev SameComment : List ℕ → List ℕ → Type 0
 SameComment l x = (is_blank x ≡ false) × (past_white x ≡ past_white l)
 
 moved_same : (column : ℕ) (l : List ℕ) → is_hash (past_white l) ≡ true → SameComment l (replicate column 32 ++ past_white l)
-moved_same column l h =
-    let same : past_white (replicate column 32 ++ past_white l) ≡ past_white l = white_front column (past_white l) ∙ past_hash (past_white l) h in
-    (ap ends_line same ∙ hash_end (past_white l) h, same)
+unfolding upto
+moved_same column l h = search (rules, white_front)
 
 comment_same : (f : TextIndent) (column : ℕ) (l : List ℕ) → is_blank l ≡ false → (is_blank l || is_hash (past_white l)) ≡ true → SameComment l (repaired_comment f.columns column l)
 comment_same f column l n h =

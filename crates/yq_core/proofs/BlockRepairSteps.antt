@@ -1,21 +1,17 @@
 -- Steps of the loop that repairs a gap.
-use Rattle.std.proofs.Common.{◌≡◌, ℕ, Bool, true, false, cond, List, [], ◌∷◌, ◌++◌, refl, sym, ap, ◌∙◌, append_assoc, append-nil, rules}
-use Rattle.yq_core.{proofs.LineLaws.joined_lines, specs.Block.RawLines, specs.BlockRepair.{repaired_blank, repaired_comment, repair}}
-use Rattle.yq_core.{specs.Lines.is_blank, specs.Text.{text_lines, joined}}
+use Rattle.std.proofs.Common.{◌≡◌, ℕ, Bool, true, false, cond, List, [], ◌∷◌, ◌++◌, sym, ap, ◌∙◌, append_assoc, append-nil, rules}
+use Rattle.yq_core.{proofs.LineLaws.joined_lines, specs.BlockRepair.{repaired_blank, repaired_comment, repair}, specs.Lines.is_blank}
+use Rattle.yq_core.specs.Text.{text_lines, joined}
 
 -- what is written for a blank line
 abbrev written_blank : Bool → ℕ → List ℕ → List ℕ
 written_blank keep m l = cond keep [] (repaired_blank m l)
 
-blank_joined : (keep : Bool) (m column : ℕ) (l : List ℕ) (ls : RawLines) → is_blank l ≡ true → joined (repair keep m column (l ∷ ls)) ≡ written_blank keep m l ++ joined (repair keep m column ls)
-unfolding repair
-blank_joined true m column l ls blank = rw blank refl
-blank_joined false m column l ls blank = rw blank refl
-
 -- a blank line, which goes or stays
 pub blank_step : (keep : Bool) (m column : ℕ) (t l a out mid all : List ℕ) (b : Bool) → text_lines t ≡ l ∷ text_lines a → b ≡ is_blank l → b ≡ true →
     mid ≡ out ++ written_blank keep m l → out ++ joined (repair keep m column (text_lines t)) ≡ all → mid ++ joined (repair keep m column (text_lines a)) ≡ all
-blank_step keep m column t l a out mid all b e is blank on so_far = search (rules, blank_joined, append_assoc)
+unfolding repair
+blank_step keep m column t l a out mid all b e is blank on so_far = search (rules, append_assoc)
 
 -- the first comment line, and all that follows it
 pub comment_step : (keep : Bool) (m column : ℕ) (t l a out mid end all : List ℕ) (b : Bool) → text_lines t ≡ l ∷ text_lines a → b ≡ is_blank l → b ≡ false →

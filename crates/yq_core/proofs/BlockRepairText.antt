@@ -1,9 +1,9 @@
 -- A repaired gap in front of a text.
-use Rattle.std.proofs.Common.{◌≡◌, ℕ, zero, suc, ◌<◌, Bool, true, false, cond, ◌||◌, eqb, List, [], ◌∷◌, ◌++◌, replicate, ◌⊎◌, inl, inr}
-use Rattle.std.{proofs.Common.{refl, sym, ap, ◌∙◌, ⊎_elim, append_assoc, append-nil, rules}, proofs.lemmas.Bool.{cond_both, cases_Bool}}
+use Rattle.std.proofs.Common.{◌≡◌, ℕ, zero, suc, ◌<◌, Bool, true, false, ◌||◌, eqb, List, [], ◌∷◌, ◌++◌, replicate, ◌⊎◌, inl, inr, refl}
+use Rattle.std.{proofs.Common.{sym, ap, ◌∙◌, ⊎_elim, append_assoc, append-nil, rules}, proofs.lemmas.Bool.{cond_both, cases_Bool}}
 use Rattle.yq_core.{proofs.BlockRepairLaws.{comment_less, blank_empty, ends_less, ends_behind}, proofs.Bools.at_byte}
 use Rattle.yq_core.{proofs.LineLaws.{lines_again, joined_lines}, proofs.SpaceLaws.white_drop}
-use Rattle.yq_core.specs.Block.{RawLines, no_lines, keeps, ends_block, BlockText, IsBlock}
+use Rattle.yq_core.specs.Block.{RawLines, keeps, ends_block, BlockText, IsBlock}
 use Rattle.yq_core.specs.BlockRepair.{AreGap, is_short, is_outdented_comment, repaired_blank, repaired_comment, repair, is_behind}
 use Rattle.yq_core.{specs.BlockWritten.ends_with_break, specs.Lines.{is_blank, is_hash}}
 use Rattle.yq_core.specs.Text.{is_white, past_white, upto, text_lines, put_byte, joined, is_line}
@@ -32,18 +32,15 @@ line_next b l e = rw e refl
 
 closed_tail : (l : List ℕ) (ls : RawLines) → ends_with_break (l ∷ ls) ≡ true → ends_with_break ls ≡ true
 unfolding ends_with_break
-closed_tail l [] h = refl
-closed_tail l (m ∷ ls) h = h
+closed_tail l ls h = search rules
 
 closed_back : (b : ℕ) (ls : RawLines) → eqb b 10 ≡ false → ends_with_break (put_byte b ls) ≡ true → ends_with_break ls ≡ true
 unfolding ends_with_break
-closed_back b [] e h = refl
-closed_back b (l ∷ ls) e h = ap (λ x. cond (no_lines ls) x (ends_with_break ls)) (sym (line_next b l e)) ∙ h
+closed_back b ls e h = search (rules, line_next)
 
 cut_put : (b : ℕ) (ls : RawLines) (rest : List ℕ) → eqb b 10 ≡ false → Closed (put_byte b ls) rest → AreCut ls rest → AreCut (put_byte b ls) rest
 unfolding ends_with_break
-cut_put b [] rest e c h = (⊎_elim {0, 0, 0} (λ is. inl is) (λ none. inr ((e, tt), refl, none)) c, tt)
-cut_put b (l ∷ ls) rest e c h = (⊎_elim {0, 0, 0} (λ is. inl (line_next b l e ∙ is)) (λ last. inr ((e, last.0), last.1, last.2)) h.0, h.1)
+cut_put b ls rest e c h = search (rules, line_next)
 
 lines_cut : (t rest : List ℕ) → Closed (text_lines t) rest → AreCut (text_lines t) rest
 unfolding text_lines is_line
@@ -70,10 +67,7 @@ line_past (b ∷ l) h = ⊎_elim {0, 0, 0}
 open_past : (l : List ℕ) → NoFeed l → NoFeed (past_white l)
 unfolding upto
 open_past [] h = tt
-open_past (b ∷ l) h = ⊎_elim {0, 0, 0}
-    (λ e. rw (white_drop b l) (rw e (open_past l h.1)))
-    (λ e. rw (white_drop b l) (rw e h))
-    (cases_Bool (is_white b))
+open_past (b ∷ l) h = search (rules, white_drop, cases_Bool, open_past l h.1)
 
 pub line_spaces : (n : ℕ) (t : List ℕ) → is_line t ≡ true → is_line (replicate n 32 ++ t) ≡ true
 line_spaces zero t h = h
@@ -109,12 +103,7 @@ Ends keep f t = ends_block keep f (text_lines t) ≡ true
 cut_front : (keep : Bool) (f : TextIndent) (x : List ℕ) (ls : RawLines) (j rest : List ℕ) → IsCut x ls rest → (ls ≡ [] → j ≡ []) →
     ends_block keep f (x ∷ text_lines (j ++ rest)) ≡ true → ends_block keep f (x ∷ []) ≡ true → Ends keep f ((x ++ j) ++ rest)
 unfolding ends_block
-cut_front keep f x ls j rest cut none whole one = ⊎_elim {0, 0, 0}
-    (λ is. ap (ends_block keep f) (ap text_lines (append_assoc x j rest) ∙ lines_again x (j ++ rest) is) ∙ whole)
-    (λ last.
-    let alone : (x ++ j) ++ rest ≡ x = rw (none last.1, last.2) (append-nil (x ++ []) ∙ append-nil x) in
-    ap (λ t. ends_block keep f (text_lines t)) alone ∙ ⊎_elim {0, 0, 0} (λ e. ap (ends_block keep f) e) (λ e. ap (ends_block keep f) e ∙ one) (open_lines x last.0))
-    cut
+cut_front keep f x ls j rest cut h7 whole one = search (rules, append_assoc, lines_again, append-nil, open_lines)
 
 no_joined : (ls : RawLines) → ls ≡ [] → joined ls ≡ []
 no_joined ls e = ap joined e
@@ -135,10 +124,7 @@ gap_ends : (keep : Bool) (f : TextIndent) (column : ℕ) (gap : RawLines) (rest 
     Ends keep f (joined (repair keep f.columns column gap) ++ rest)
 unfolding repair ends_block
 gap_ends keep f column [] rest cut are behind lt = ends_behind keep f (text_lines rest) behind
-gap_ends true f column (l ∷ ls) rest cut are behind lt = ⊎_elim {0, 0, 0}
-    (λ b. rw b (gap_ends true f column ls rest cut.1 are.1 behind lt))
-    (λ b. rw b (ends_comment true f column l ls rest cut.0 b are.0 lt))
-    (cases_Bool (is_blank l))
+gap_ends true f column (l ∷ ls) rest cut are behind lt = search (rules, ends_comment, cases_Bool, gap_ends true f column ls rest cut.1 are.1 behind lt)
 gap_ends false f column (l ∷ ls) rest cut are behind lt = ⊎_elim {0, 0, 0}
     (λ b.
     let x = repaired_blank f.columns l in

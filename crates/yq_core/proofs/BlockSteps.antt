@@ -1,7 +1,7 @@
 -- Steps of the loops over lines.
-use Rattle.std.proofs.Common.{◌≡◌, ℕ, zero, suc, ◌+◌, ◌<◌, ◌≤◌, Bool, true, false, cond, eqb, ltb, List, [], ◌∷◌, length, take, drop}
-use Rattle.std.proofs.Common.{Option, Some, None, refl, sym, ap, ◌∙◌, ⊎_elim, arith, eqb-true, length-append, length-take, length-drop}
-use Rattle.std.{proofs.Common.rules, proofs.lemmas.Bool.{false≢true, lt-ltb, false_from_ne_true, cases_Bool, le-ltb}}
+use Rattle.std.proofs.Common.{◌≡◌, ℕ, suc, ◌+◌, ◌<◌, ◌≤◌, Bool, true, false, cond, eqb, ltb, List, [], ◌∷◌, length, take, drop, Option}
+use Rattle.std.proofs.Common.{Some, None, refl, sym, ap, ◌∙◌, ⊎_elim, arith, eqb-true, length-append, length-take, length-drop, rules}
+use Rattle.std.proofs.lemmas.Bool.{false≢true, lt-ltb, cases_Bool, le-ltb}
 use Rattle.yq_core.{proofs.LineLaws.{line_step, line_len_some, line_len_within}, specs.Answers.◌>>=◌}
 use Rattle.yq_core.specs.Block.{RawLines, is_less_indented}
 use Rattle.yq_core.specs.BlockReading.{is_empty_at, is_text_at, raw_with_line, with_empty, raw_at, raw_len, len_at, raw_length, detected_at}
@@ -25,8 +25,7 @@ at_end [] e is h = refl
 at_end (x ∷ t) e is h = absurd (omega (arith, eqb-true (suc (length t)) 0 (sym is ∙ h)))
 
 pub some_left : (t : List ℕ) (e : Bool) → e ≡ eqb (length t) 0 → e ≡ false → 0 < length t
-some_left [] e is h = absurd (false≢true (sym h ∙ is))
-some_left (x ∷ t) e is h = omega arith
+some_left t e is h = search rules
 
 -- The loop for the indent.
 pub detect_blank : (least most i b : ℕ) (t l a : List ℕ) → text_lines t ≡ l ∷ text_lines a → is_blank l ≡ true → i ≡ spaces l → b ≡ cond (ltb most i) i most → detected_at least b (text_lines a) ≡ detected_at least most (text_lines t)
@@ -55,49 +54,26 @@ pub detect_end : (least most : ℕ) (t : List ℕ) → t ≡ [] → detected_at 
 unfolding detected_at text_lines
 detect_end least most t h = rw h refl
 
--- the length of what is after a step
-some_not_zero : (n : ℕ) → 0 < n → eqb n 0 ≡ false
-some_not_zero zero h = absurd (omega arith)
-some_not_zero (suc n) h = false_from_ne_true (eqb (suc n) 0) (λ e. absurd (omega (arith, eqb-true (suc n) 0 e)))
-
 front_some : (w s k n : ℕ) → 0 < k → raw_length w s (Some (k + n)) ≡ raw_length (s + k) (s + k) (Some n)
-front_some w s k zero h = rw (some_not_zero (k + 0) (omega arith)) (ap Some (omega arith))
-front_some w s k (suc n) h = rw (some_not_zero (k + suc n) (omega arith), some_not_zero (suc n) (omega arith)) (ap Some (omega arith))
+front_some w s k n h = search rules
 
 pub len_text : (l : List ℕ) (w s : ℕ) (o : Option (RawLines × RawLines)) → 0 < length l → raw_length w s (raw_len (o >>= raw_with_line l)) ≡ raw_length (s + length l) (s + length l) (raw_len o)
-len_text l w s None some = refl
-len_text l w s (Some x) some = ap (λ n. raw_length w s (Some n)) (length-append l (joined x.0)) ∙ front_some w s (length l) (length (joined x.0)) some
-
--- an empty line that is not kept
-nil_length : (j : List ℕ) → is_empty j ≡ true → length j ≡ 0
-nil_length [] h = refl
-nil_length (b ∷ j) h = absurd (false≢true h)
+len_text l w s o some = search (rules, length-append, front_some)
 
 some_length : (j : List ℕ) → is_empty j ≡ false → 0 < length j
-some_length [] h = absurd (false≢true (sym h))
-some_length (b ∷ j) h = omega arith
+some_length j h = search rules
 
 loose : (l : List ℕ) (ls : RawLines) (w s : ℕ) (x : RawLines × RawLines) → 0 < length l → raw_length w s (raw_len (with_empty false l ls x)) ≡ raw_length w (s + length l) (Some (length (joined x.0)))
-loose l ls w s x some = search (rules, some_not_zero, ⊎_elim, nil_length, length-append, some_length, cases_Bool)
-
-pub len_kept : (l : List ℕ) (ls : RawLines) (w s : ℕ) (o : Option (RawLines × RawLines)) → 0 < length l → raw_length w s (raw_len (o >>= with_empty true l ls)) ≡ raw_length (s + length l) (s + length l) (raw_len o)
-len_kept l ls w s None some = refl
-len_kept l ls w s (Some x) some = len_text l w s (Some x) some
-
-pub len_loose : (l : List ℕ) (ls : RawLines) (w s : ℕ) (o : Option (RawLines × RawLines)) → 0 < length l → raw_length w s (raw_len (o >>= with_empty false l ls)) ≡ raw_length w (s + length l) (raw_len o)
-len_loose l ls w s None some = refl
-len_loose l ls w s (Some x) some = loose l ls w s x some
+loose l ls w s x some = search (rules, ⊎_elim, length-append, some_length, cases_Bool)
 
 -- The loop over the raw lines.
 pub raw_kept : (keep : Bool) (f : TextIndent) (w s n : ℕ) (t l a : List ℕ) → (text_lines t ≡ l ∷ text_lines a) × (0 < n) × (length l ≡ n) → is_empty_at keep f l ≡ true → keep ≡ true → raw_length (s + n) (s + n) (len_at keep f a) ≡ raw_length w s (len_at keep f t)
 unfolding raw_at
-raw_kept true f w s n t l a e h k = rw (e.0, h, ← e.2) (sym (len_kept l (text_lines a) w s (raw_at true f (text_lines a)) (omega (arith, e.1, e.2))))
-raw_kept false f w s n t l a e h k = absurd (false≢true k)
+raw_kept keep f w s n t l a e h k = search (rules, len_text, false≢true)
 
 pub raw_loose : (keep : Bool) (f : TextIndent) (w s n : ℕ) (t l a : List ℕ) → (text_lines t ≡ l ∷ text_lines a) × (0 < n) × (length l ≡ n) → is_empty_at keep f l ≡ true → keep ≡ false → raw_length w (s + n) (len_at keep f a) ≡ raw_length w s (len_at keep f t)
 unfolding raw_at
-raw_loose true f w s n t l a e h k = absurd (false≢true (sym k))
-raw_loose false f w s n t l a e h k = rw (e.0, h, ← e.2) (sym (len_loose l (text_lines a) w s (raw_at false f (text_lines a)) (omega (arith, e.1, e.2))))
+raw_loose keep f w s n t l a e h k = search (rules, false≢true, loose)
 
 pub raw_text : (keep : Bool) (f : TextIndent) (w s n : ℕ) (t l a : List ℕ) → (text_lines t ≡ l ∷ text_lines a) × (0 < n) × (length l ≡ n) → is_empty_at keep f l ≡ false → is_text_at f l ≡ true → raw_length (s + n) (s + n) (len_at keep f a) ≡ raw_length w s (len_at keep f t)
 unfolding raw_at

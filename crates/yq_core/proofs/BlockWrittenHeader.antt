@@ -1,8 +1,7 @@
 -- The header that is written, and the loop that writes the lines.
-use Rattle.std.proofs.Common.{◌≡◌, ℕ, suc, ◌-◌, ◌<◌, ◌≤◌, Bool, false, eqb, List, [], ◌∷◌, ◌++◌, length, take, drop, refl, sym, ap, ◌∙◌}
-use Rattle.std.proofs.Common.{⊎_elim, arith, eqb-true, append_assoc, append-nil, rules}
-use Rattle.std.{proofs.lemmas.Bool.{false≢true, false_from_ne_true, cases_Bool}, specs.List.ends_with, specs.Cmp.Lexicographic.pointwise}
-use Rattle.std.specs.Prelude.{nat_eq}
+use Rattle.std.proofs.Common.{◌≡◌, ℕ, suc, ◌-◌, ◌<◌, ◌≤◌, Bool, eqb, List, [], ◌∷◌, ◌++◌, length, take, drop, sym, ap, ◌∙◌, ⊎_elim, arith}
+use Rattle.std.{proofs.Common.{eqb-true, append_assoc, append-nil, rules}, proofs.lemmas.Bool.{false≢true, false_from_ne_true, cases_Bool}}
+use Rattle.std.{specs.List.ends_with, specs.Cmp.Lexicographic.pointwise, specs.Prelude.nat_eq}
 use Rattle.yq_core.{proofs.LineLaws.line_step, specs.Block.RawLines, specs.BlockContent.text_of_line}
 use Rattle.yq_core.specs.BlockWritten.{indented_text, raw_written, ends_with_break, chomping_by, chomping_of, ends_in_feed}
 use Rattle.yq_core.specs.Text.{line_len, text_lines, joined, is_line}
@@ -20,10 +19,6 @@ write_end m br t out all h so_far = sym (append-nil out) ∙ (ap (λ x. out ++ j
 pub some_lines : (t : List ℕ) → 0 < length t → (l : List ℕ) × (ls : RawLines) × (text_lines t ≡ l ∷ ls)
 some_lines t h = (take (line_len t) t, text_lines (drop (line_len t) t), line_step t h)
 
-closed_put : (b : ℕ) (l : List ℕ) (ls : RawLines) → eqb b 10 ≡ false → ends_with_break ((b ∷ l) ∷ ls) ≡ ends_with_break (l ∷ ls)
-unfolding ends_with_break is_line
-closed_put b l ls e = search rules
-
 swap : (b k : ℕ) → eqb k b ≡ eqb b k
 swap b k = search (rules, ⊎_elim, eqb-true, false_from_ne_true, false≢true, cases_Bool)
 
@@ -37,9 +32,8 @@ closed_is b [] = search (rules, ⊎_elim, swap, cases_Bool)
 closed_is b (c ∷ s) =
     let again = closed_is c s ∙ sym (ends_next b (c ∷ s) (10 ∷ []) (omega arith)) in
     let f = some_lines (c ∷ s) (omega arith) in
-    search (rules, ⊎_elim, closed_put, cases_Bool, again, f)
+    search (rules, ⊎_elim, cases_Bool, again, f)
 
 pub chomping_is : (s : List ℕ) (c : Bool) → c ≡ ends_in_feed s → chomping_of (text_lines s) ≡ chomping_by c
 unfolding text_lines ends_with_break
-chomping_is [] c h = rw h refl
-chomping_is (b ∷ s) c h = ap chomping_by (closed_is b s ∙ sym h)
+chomping_is s c h = search (rules, closed_is)

@@ -8,7 +8,7 @@ use Rattle.yq_core.proofs.SpaceLaws.{char_not_blank, prefix_none, spaces_front, 
 use Rattle.yq_core.specs.Block.{RawLines, is_text_line, ends_block, AreRaw, no_lines, ends_in_text, IsDetected, keeps, is_tail, IsBlock}
 use Rattle.yq_core.specs.BlockContent.{text_of_line, optional_break, literal, strips, block_content}
 use Rattle.yq_core.specs.BlockWritten.{break_text, indented_text, raw_written, ends_with_break, chomping_by, written_block}
-use Rattle.yq_core.{specs.Lines.spaces, specs.Text.{is_white, text_lines, put_byte, joined}, specs.declared.block_types.Break.Break}
+use Rattle.yq_core.{specs.Text.{is_white, text_lines, put_byte, joined}, specs.declared.block_types.Break.Break}
 
 -- the text of the last line is not empty
 unfoldable pub ends_some : RawLines → Bool
@@ -43,12 +43,10 @@ written_ends m br (l ∷ []) h e = text_some m (text_of_line l) br h.0.0 e
 written_ends m br (l ∷ k ∷ ls) h e = written_ends m br (k ∷ ls) h.1 e
 
 twice : (b : Bool) → optional_break (not (not b && true)) ≡ optional_break b
-twice true = refl
-twice false = refl
+twice b = search rules
 
 never : (b : Bool) → optional_break (not (b && false)) ≡ optional_break true
-never true = refl
-never false = refl
+never b = search rules
 
 written_says : (m : ℕ) (br : List ℕ) (ls : RawLines) → IsBreak br → Good ls → AreLines ls → literal (not (ends_with_break ls)) (explicit_indent m) (raw_written m br ls) ≡ joined ls
 unfolding raw_written literal ends_with_break
@@ -61,9 +59,6 @@ put_first : (b : ℕ) (ls : RawLines) → (l : List ℕ) × (rest : RawLines) ×
 put_first b [] = ([], [], refl)
 put_first b (l ∷ ls) = (l, ls, refl)
 
-white_parts : (b : ℕ) → is_white b ≡ false → (eqb b 32 ≡ false) × (eqb b 9 ≡ false)
-white_parts b h = or_parts (eqb b 32) (eqb b 9) h
-
 first_line : (b : ℕ) (s : List ℕ) → eqb b 10 ≡ false → (l : List ℕ) × (ls : RawLines) × (text_lines (b ∷ s) ≡ (b ∷ l) ∷ ls)
 unfolding text_lines
 first_line b s e = let f = put_first b (text_lines s) in (f.0, f.1, rw e f.2)
@@ -71,11 +66,7 @@ first_line b s e = let f = put_first b (text_lines s) in (f.0, f.1, rw e f.2)
 written_detected : (least m b : ℕ) (br l : List ℕ) (ls : RawLines) → least ≤ m → is_white b ≡ false → eqb b 10 ≡ false → eqb b 13 ≡ false → IsDetected least (explicit_indent m) (raw_written m br ((b ∷ l) ∷ ls))
 unfolding raw_written
 written_detected least m b br l ls le white e n =
-    let p = text_of_line l in
-    let t : List ℕ = (b ∷ p) ++ br in
-    let parts = white_parts b white in
-    let none : spaces t ≡ 0 = prefix_none (λ x. eqb x 32) b (p ++ br) parts.0 in
-    search (rules, explicit_indent, text_next, indented_some, line_regroup, spaces_front, drop_front, char_not_blank, not_end, t, parts, none, p)
+    search (rules, or_parts, prefix_none, explicit_indent, text_next, indented_some, line_regroup, spaces_front, drop_front, char_not_blank, not_end)
 
 written_indent : (least m : ℕ) (br s : List ℕ) → least ≤ m → begins_char s ≡ true → NoCr s → IsDetected least (explicit_indent m) (raw_written m br (text_lines s))
 written_indent least m br [] le h n = absurd (false≢true h)
@@ -86,8 +77,7 @@ written_indent least m br (b ∷ s) le h n =
     subst (λ ls. IsDetected least (explicit_indent m) (raw_written m br ls)) (sym f.2) (written_detected least m b br f.0 f.1 le (not-true (is_white b) parts.0) lf n.0)
 
 clips : (c : Bool) → (keeps (chomping_by c) ≡ false) × (strips (chomping_by c) ≡ not c)
-clips true = (refl, refl)
-clips false = (refl, refl)
+clips c = search rules
 
 pub written_is : (least m : ℕ) (b : Break) (s tail rest : List ℕ) → CanWrite s → least ≤ m → is_tail tail ≡ true → ends_block false (explicit_indent m) (text_lines rest) ≡ true → IsBlock least (written_block s m (break_text b) tail) rest
 written_is least m b s tail rest can le line seam = search (rules, written_indent, written_raw, break_is, written_ends, clips, lines_good)

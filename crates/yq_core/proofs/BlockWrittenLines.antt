@@ -1,14 +1,13 @@
 -- A line that is written, and what it means.
-use Rattle.std.proofs.Common.{◌≡◌, ℕ, suc, ◌+◌, true, false, eqb, min, List, [], ◌∷◌, ◌++◌, length, take, drop, replicate, refl, sym, ap}
-use Rattle.std.proofs.Common.{◌∙◌, subst, inl, inr, ◌⊎◌, ⊎_elim, arith, eqb-true, append_assoc, rules}
+use Rattle.std.proofs.lemmas.Grind.{common_steps}
+use Rattle.std.proofs.Common.{◌≡◌, ℕ, suc, true, false, eqb, min, List, [], ◌∷◌, ◌++◌, length, replicate, refl, sym, ap, ◌∙◌, subst, inr}
+use Rattle.std.proofs.Common.{◌⊎◌, ⊎_elim, arith, eqb-true, append_assoc, rules}
 use Rattle.std.proofs.lemmas.Bool.{false≢true, cond_both, false_from_ne_true, leb-true, le-leb, and_from, and_parts}
 use Rattle.std.proofs.Math.Seq.{take-append_seam}
 use Rattle.yq_core.{proofs.SpaceLaws.{spaces_front, drop_front}, specs.Block.{RawLines, is_text_line, IsRawLine}}
 use Rattle.yq_core.{specs.BlockContent.{text_of_line, part_of, optional_break}, specs.BlockWritten.{break_text, indented_text}}
-use Rattle.yq_core.{specs.Lines.spaces, specs.Text.{ends_line, text_lines, put_byte, is_line, upto}}
-use Rattle.yq_core.{specs.declared.block_lines.TextIndent.TextIndent, specs.declared.block_types.Break.Break}
-use Rattle.yq_core.proofs.BlockRepairText.{line_spaces}
-use Rattle.yq_core.specs.declared.block_types.Break.TheVariants as breaks
+use Rattle.yq_core.{specs.Text.{ends_line, text_lines, put_byte, is_line, upto}, specs.declared.block_lines.TextIndent.TextIndent}
+use Rattle.yq_core.{specs.declared.block_types.Break.Break, proofs.BlockRepairText.line_spaces}
 
 -- neither LF nor CR
 abbrev pub IsText : List ℕ → Type 0
@@ -20,8 +19,7 @@ abbrev pub IsBreak : List ℕ → Type 0
 IsBreak br = (br ≡ 10 ∷ []) ⊎ (br ≡ 13 ∷ 10 ∷ [])
 
 pub break_is : (b : Break) → IsBreak (break_text b)
-break_is breaks.Lf = inl refl
-break_is breaks.CrLf = inr refl
+break_is b = search rules
 
 break_line : (br : List ℕ) → IsBreak br → is_line br ≡ true
 unfolding is_line
@@ -63,18 +61,9 @@ indented_raw m (x ∷ p) br h b =
 min_zero : (m : ℕ) → min m 0 ≡ 0
 min_zero m = omega arith
 
-part_lf : (m : ℕ) → part_of (explicit_indent m) (10 ∷ []) ≡ []
-unfolding upto
-part_lf m = ap (λ k. take (upto ends_line (drop k (10 ∷ []))) (drop k (10 ∷ []))) (min_zero m)
-
 pub indented_part : (m : ℕ) (p br : List ℕ) → IsText p → IsBreak br → part_of (explicit_indent m) (indented_text m p ++ br) ≡ p
 unfolding upto
-indented_part m [] br h b = search (rules, min_zero, ⊎_elim, part_lf)
-indented_part m (x ∷ p) br h b =
-    let t : List ℕ = (x ∷ p) ++ br in
-    let n : spaces (replicate m 32 ++ t) ≡ m + spaces t = spaces_front m t in
-    let least : min m (spaces (replicate m 32 ++ t)) ≡ m + 0 = omega arith in
-    simp (indented_some, line_regroup, drop_front, body_text, take-append_seam, t, least)
+indented_part m p br h b = grind (arith, common_steps, min_zero, spaces_front, indented_some, line_regroup, drop_front, body_text, take-append_seam)
 
 -- no CR is in it
 abbrev pub NoCr : List ℕ → Type 0
@@ -93,21 +82,13 @@ pub text_next : (b : ℕ) (l : List ℕ) → eqb b 10 ≡ false → eqb b 13 ≡
 unfolding upto
 text_next b l e n = rw (e, n) refl
 
-good_next : (b : ℕ) (l : List ℕ) → eqb b 10 ≡ false → eqb b 13 ≡ false → IsGood l → IsGood (b ∷ l)
-unfolding is_line
-good_next b l e n h = (rw (text_next b l e n) (e, n, h.0), rw (text_next b l e n) (rw e (ap (λ x. b ∷ x) h.1)))
-
-good_none : IsGood []
-unfolding upto is_line
-good_none = (tt, refl)
-
 good_break : (b : ℕ) → eqb b 10 ≡ true → IsGood (b ∷ [])
 unfolding upto is_line
 good_break b e = let is : b ≡ 10 = eqb-true b 10 e in rw is (tt, refl)
 
 good_put : (b : ℕ) (ls : RawLines) → eqb b 10 ≡ false → eqb b 13 ≡ false → Good ls → Good (put_byte b ls)
-good_put b [] e n h = (good_next b [] e n good_none, tt)
-good_put b (l ∷ ls) e n h = (good_next b l e n h.0, h.1)
+unfolding is_line upto
+good_put b ls e n h = search (rules, text_next)
 
 pub lines_good : (s : List ℕ) → NoCr s → Good (text_lines s)
 unfolding text_lines

@@ -1,35 +1,29 @@
 -- Tests, options and the steps of readers.
-use Rattle.std.proofs.Common.{◌≡◌, ◌⊎◌, ℕ, ◌+◌, ◌<◌, Bool, true, false, cond, ◌||◌, not, eqb, Option, Some, None, refl, sym, ap, ◌∙◌, inl}
-use Rattle.std.{proofs.Common.{inr, arith, eqb-true, rules}, proofs.lemmas.Bool.{false≢true, false_from_ne_true}}
+use Rattle.std.proofs.Common.{◌≡◌, ◌⊎◌, ℕ, ◌+◌, ◌<◌, Bool, true, false, cond, ◌||◌, not, eqb, Option, Some, None, sym, ap, ◌∙◌, arith}
+use Rattle.std.{proofs.Common.{eqb-true, rules}, proofs.lemmas.Bool.{false≢true, false_from_ne_true}}
 use Rattle.yq_core.specs.Answers.{◌>>=◌, more}
 
 -- which way a test went
 pub chosen : {A : Type 0} {x y z : A} (b : Bool) → cond b x y ≡ z → ((b ≡ true) × (x ≡ z)) ⊎ ((b ≡ false) × (y ≡ z))
-chosen true h = inl (refl, h)
-chosen false h = inr (refl, h)
+chosen b h = search rules
 
 pub guard_then : {A : Type 0} {x : Option A} {y : A} (b : Bool) → cond b x None ≡ Some y → (b ≡ true) × (x ≡ Some y)
-guard_then true h = (refl, h)
-guard_then false h = cc
+guard_then b h = search rules
 
 pub bind_some : {A B : Type 0} {f : A → Option B} {y : B} (r : Option A) → (r >>= f) ≡ Some y → (x : A) × (r ≡ Some x) × (f x ≡ Some y)
-bind_some (Some x) h = (x, refl, h)
-bind_some None h = cc
+bind_some r h = search rules
 
 pub more_more : (n k : ℕ) (o : Option ℕ) → more (n + k) o ≡ more n (more k o)
-more_more n k None = refl
-more_more n k (Some m) = ap Some (omega arith)
+more_more n k o = search rules
 
 pub more_none : (o : Option ℕ) → more 0 o ≡ o
-more_none None = refl
-more_none (Some m) = ap Some (omega arith)
+more_none o = search rules
 
 pub more_zero : (n : ℕ) → more n (Some 0) ≡ Some n
 more_zero n = ap Some (omega arith)
 
 pub more_some : (n k : ℕ) (o : Option ℕ) → more n o ≡ Some k → (j : ℕ) × (o ≡ Some j) × (n + j ≡ k)
-more_some n k None h = cc
-more_some n k (Some j) h = (j, refl, cc)
+more_some n k o h = search rules
 
 -- a byte that passes a test is none that fails it
 pub at_byte : (test : ℕ → Bool) (b k : ℕ) → test b ≡ true → test k ≡ false → eqb b k ≡ false

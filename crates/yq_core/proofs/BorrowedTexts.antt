@@ -1,6 +1,6 @@
 -- Keys and scalars that a text lends mean what is written, without its quotes.
-use Rattle.std.proofs.Common.{◌≡◌, ℕ, zero, suc, ◌-◌, eqb, Bool, true, false, cond, not, ◌||◌, List, [], ◌∷◌, drop, take, length, refl, sym}
-use Rattle.std.{proofs.Common.{ap, ◌∙◌}, proofs.lemmas.Bool.{and_parts, cond-true, not-true, or_parts}, specs.List.list_any}
+use Rattle.std.proofs.Common.{◌≡◌, ℕ, zero, suc, ◌-◌, eqb, Bool, true, false, cond, ◌||◌, List, [], ◌∷◌, drop, take, length, refl, sym, ap}
+use Rattle.std.{proofs.Common.{◌∙◌, rules}, proofs.lemmas.Bool.{cond-true, or_parts}, specs.List.list_any}
 use Rattle.yq_core.{specs.Borrowed.{borrows_text, holds_escape}, specs.ContentReading.quoted_content, specs.Plain.holds_break}
 use Rattle.yq_core.{specs.Quoted.IsQuotedText, specs.Scalar.{plain_of, string_of}, specs.Scalars.{is_quoted, scalar_content, scalar_of}}
 use Rattle.yq_core.{specs.Text.is_feed, proofs.OneLine.{kept, one_line, borrowed_quoted}}
@@ -11,18 +11,15 @@ any_drop f (suc n) [] e = refl
 any_drop f (suc n) (b ∷ bs) e = any_drop f n bs (or_parts (f b) (list_any f bs) e).1
 
 pub any_take : (f : ℕ → Bool) (n : ℕ) (t : List ℕ) → list_any f t ≡ false → list_any f (take n t) ≡ false
-any_take f zero t e = refl
-any_take f (suc n) [] e = refl
 any_take f (suc n) (b ∷ bs) e =
     let p = or_parts (f b) (list_any f bs) e in
     let rest : list_any f (take n bs) ≡ false = any_take f n bs p.1 in
     (λ i. p.0 i || rest i)
+any_take f _ _ e = refl
 
 -- it is on one line, and has no escapes
 pub borrows_parts : (t : List ℕ) → borrows_text t ≡ true → (holds_break t ≡ false) × (holds_escape t ≡ false)
-borrows_parts t e =
-    let p = and_parts (not (holds_break t)) (not (holds_escape t)) e in
-    (not-true (holds_break t) p.0, not-true (holds_escape t) p.1)
+borrows_parts t e = search rules
 
 -- between its quotes
 pub inner_means : (t : List ℕ) → is_quoted t ≡ true → IsQuotedText t → borrows_text t ≡ true → take (length t - 2) (drop 1 t) ≡ quoted_content t

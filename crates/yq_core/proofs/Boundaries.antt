@@ -1,6 +1,6 @@
 -- Where a text may be cut.
-use Rattle.std.proofs.Common.{◌≡◌, ℕ, zero, suc, ◌+◌, ◌<◌, ◌≤◌, Bool, true, ◌&&◌, eqb, min, List, [], ◌∷◌, length, drop, get_or, refl}
-use Rattle.std.{proofs.Common.{⊎_elim, subst, arith, eqb-true, drop-cons}, proofs.lemmas.Bool.{or_cases, cases_lt, and_parts}}
+use Rattle.std.proofs.Common.{rules, ◌≡◌, ℕ, zero, suc, ◌+◌, ◌<◌, ◌≤◌, Bool, true, ◌&&◌, eqb, min, List, [], ◌∷◌, length, drop, get_or}
+use Rattle.std.{proofs.Common.{refl, ⊎_elim, subst, arith, eqb-true, drop-cons}, proofs.lemmas.Bool.{or_cases, cases_lt, and_parts}}
 use Rattle.std.proofs.lemmas.List.Sums.{prefix_len_passes}
 use Rattle.std.{proofs.lemmas.Str.{IsCharBoundary-start, IsCharBoundary-end, IsCharBoundary-after_ascii}, specs.List.prefix_len}
 use Rattle.std.specs.Str.{IsUtf8, IsCharBoundary}
@@ -20,14 +20,7 @@ boundary_unless p t u ascii = boundary_behind t (upto (unless p) t) u (upto_le_l
 
 -- before an ASCII byte
 pub boundary_ends : (ends : List ℕ → Bool) (t : List ℕ) → ((b : ℕ) (bs : List ℕ) → ends (b ∷ bs) ≡ true → b < 128) → ends [] ≡ true → IsCharBoundary t (upto ends t)
-boundary_ends ends t ascii e =
-    let n = upto ends t in (
-      upto_le_length ends t,
-      λ lt big.
-          let at_end : ends (drop n t) ≡ true = upto_ends ends t e in
-          let low : get_or t n 0 < 128 = ascii (get_or t n 0) (drop (suc n) t) (rw (drop-cons t n 0 lt) at at_end) in
-          absurd (omega arith),
-    )
+boundary_ends ends t ascii e = search (rules, upto_le_length, upto_ends, drop-cons)
 
 pub white_ascii : (b : ℕ) → is_white b ≡ true → b < 128
 white_ascii b h = ⊎_elim (λ e. omega (arith, eqb-true b 32 e)) (λ e. omega (arith, eqb-true b 9 e)) (or_cases (eqb b 32) (eqb b 9) h)
@@ -42,9 +35,7 @@ pub boundary_spaces : (t : List ℕ) (n : ℕ) → n ≡ prefix_len (λ b. eqb b
 boundary_spaces t n e u = rw e (rw (← upto_unless) (boundary_unless (λ b. eqb b 32) t u (λ b h. omega (arith, eqb-true b 32 h))))
 
 pub boundary_in_spaces : (t : List ℕ) (n : ℕ) → n ≤ prefix_len (λ b. eqb b 32) t → IsUtf8 t → IsCharBoundary t n
-boundary_in_spaces t n few u =
-    let within : prefix_len (λ b. eqb b 32) t ≤ length t = rw (← upto_unless) (upto_le_length (unless (λ b. eqb b 32)) t) in
-    boundary_behind t n u (omega arith) (λ k below. let is : get_or t k 0 ≡ 32 = eqb-true (get_or t k 0) 32 (prefix_len_passes (λ b. eqb b 32) t k 0 (omega arith)) in omega arith)
+boundary_in_spaces t n few u = search (rules, upto_unless, upto_le_length, boundary_behind, prefix_len_passes)
 
 pub boundary_white : (t : List ℕ) (n : ℕ) → n ≡ prefix_len is_white t → IsUtf8 t → IsCharBoundary t n
 boundary_white t n e u = rw e (rw (← upto_unless) (boundary_unless is_white t u white_ascii))

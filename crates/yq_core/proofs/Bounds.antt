@@ -1,11 +1,11 @@
 -- Where a text may be cut.
-use Rattle.std.proofs.Common.{◌≡◌, ◌⊎◌, ℕ, suc, ◌+◌, ◌<◌, true, false, cond, not, ◌||◌, eqb, List, [], ◌∷◌, length, take, get_or, refl, sym}
-use Rattle.std.proofs.Common.{ap, subst, inl, inr, ⊎_elim, arith, eqb-true, rules}
+use Rattle.std.proofs.Common.{◌≡◌, ◌⊎◌, ℕ, suc, ◌+◌, ◌<◌, true, false, eqb, List, [], ◌∷◌, length, take, get_or, refl, ap, subst, inl, inr}
+use Rattle.std.proofs.Common.{⊎_elim, arith, eqb-true, rules}
 use Rattle.std.proofs.lemmas.Bool.{false≢true, cond_both, or_cases, cases_lt, false_from_ne_true}
 use Rattle.std.{proofs.lemmas.Str.{IsCharBoundary-start, IsCharBoundary-end, IsCharBoundary-after_ascii}, specs.List.prefix_len}
 use Rattle.std.specs.Str.{IsUtf8, IsCharBoundary}
 use Rattle.yq_core.{specs.Quoted.IsQuotedText, specs.Text.unless, proofs.Boundaries.{boundary_ends, space_ascii}, proofs.Upto.upto_unless}
-use Rattle.yq_core.{specs.declared.gap.GapPlace.GapPlace, specs.declared.gap.GapPlace.TheVariants.{Token, White, Break, Comment}}
+use Rattle.yq_core.{specs.declared.gap.GapPlace.GapPlace, specs.declared.gap.GapPlace.TheVariants.{Token, Comment}}
 use Rattle.yq_core.{specs.Gaps.{goes, next_gap_place, in_comment}, specs.Nodes.{begins_with, in_name}, specs.Reading.flow_gap_len}
 use Rattle.yq_core.specs.Scalars.{is_quoted}
 
@@ -17,12 +17,6 @@ data Ends (t : List ℕ) (n : ℕ) : Type 0 where
 
 goes_ascii : (s : GapPlace) (b : ℕ) (bs : List ℕ) → goes s b bs ≡ true → (in_comment s ≡ true) ⊎ (b < 128)
 goes_ascii s b bs h1 = search (rules, ⊎_elim, space_ascii, eqb-true, or_cases)
-
-after_comment : (s : GapPlace) (b : ℕ) → in_comment s ≡ true → (b < 128) ⊎ (next_gap_place s b ≡ Comment)
-after_comment s b h = elim (eqb b 10) as (λ c. eqb b 10 ≡ c → (b < 128) ⊎ (cond c Break (cond (eqb b 35 || in_comment s) Comment White) ≡ Comment)) [
-  | true ↦ (λ e. inl (omega (arith, eqb-true b 10 e)))
-  | false ↦ (λ e. inr (rw h (elim (eqb b 35) as (λ c. cond (c || true) Comment White ≡ Comment) [ true ↦ refl | false ↦ refl ])))
-] refl
 
 comment_end : (t : List ℕ) → flow_gap_len Comment t ≡ 0 → t ≡ []
 unfolding flow_gap_len
@@ -40,7 +34,7 @@ gap_ends s [] = at_start refl
 gap_ends s (b ∷ bs) = let again = gap_ends (next_gap_place s b) bs in
     cond_both (goes s b bs) (suc (flow_gap_len (next_gap_place s b) bs)) 0 (λ n. Ends (b ∷ bs) n)
     (λ h. one_more b bs (flow_gap_len (next_gap_place s b) bs) (λ none. ⊎_elim {0, 0, 0}
-    (λ r. ⊎_elim {0, 0, 0} (λ low. inl low) (λ is. inr (comment_end bs (subst (λ (x : GapPlace). flow_gap_len x bs ≡ 0) is none))) (after_comment s b r))
+    (λ r. ⊎_elim {0, 0, 0} (λ low. inl low) (λ is. inr (comment_end bs (subst (λ (x : GapPlace). flow_gap_len x bs ≡ 0) is none))) (search rules))
     (λ low. inl low) (goes_ascii s b bs h)) again)
     (λ h. at_start refl)
 
@@ -60,8 +54,7 @@ pub boundary_name : (t : List ℕ) (n : ℕ) → n ≡ prefix_len in_name t → 
 boundary_name t n e = search (rules, ⊎_elim, false_from_ne_true, eqb-true, false≢true, cases_lt, upto_unless, boundary_ends)
 
 pub name_none : (t : List ℕ) → unless in_name t ≡ eqb (prefix_len in_name t) 0
-name_none [] = refl
-name_none (b ∷ t) = elim (in_name b) as (λ c. not c ≡ eqb (cond c (1 + prefix_len in_name t) 0) 0) [ true ↦ sym (false_from_ne_true (eqb (1 + prefix_len in_name t) 0) (λ e. absurd (omega (arith, eqb-true (1 + prefix_len in_name t) 0 e)))) | false ↦ refl ]
+name_none t = search rules
 
 -- a cut of a text without a quote in front has none
 pub plain_unquoted : (t : List ℕ) (n : ℕ) → is_quoted t ≡ false → is_quoted (take n t) ≡ true → IsQuotedText (take n t)

@@ -1,7 +1,7 @@
 -- What a search for the next LF tells of breaks.
 use Rattle.std.proofs.Common.{◌≡◌, ℕ, suc, ◌+◌, ◌<◌, ◌≤◌, false, min, eqb, eqb-true, List, [], ◌∷◌, length, Option, Some, None, refl, sym}
 use Rattle.std.{proofs.Common.{ap, ◌∙◌, arith, rules}, proofs.lemmas.Bool.false_from_ne_true, proofs.lemmas.List.Sums.position_or_len_is}
-use Rattle.std.{specs.List.position_or_len, specs.Option.unwrap_or, proofs.Math.Dec.{eqb-suc-suc, eqb-zero-suc}}
+use Rattle.std.{specs.List.position_or_len, specs.Option.unwrap_or, proofs.Math.Dec.eqb-suc-suc}
 use Rattle.memchr.specs.Find.{IsFirstByte, is_byte}
 use Rattle.yq_core.{specs.Text.{upto, at_feed, line_len, is_break, is_line, is_empty, ends_line}, proofs.Upto.upto_le_length}
 
@@ -30,12 +30,10 @@ line_len_last t n e h = omega (arith, line_len-feed t, upto_le_length at_feed t)
 
 -- where the end is not in front, a line ends at a break
 pub ends_line_is : (t : List ℕ) → 1 ≤ length t → ends_line t ≡ is_break t
-ends_line_is [] le = absurd (omega arith)
-ends_line_is (b ∷ bs) le = refl
+ends_line_is t le = search rules
 
 empty-length : (t : List ℕ) → is_empty t ≡ eqb 0 (length t)
-empty-length [] = refl
-empty-length (b ∷ t) = sym (eqb-zero-suc (length t))
+empty-length t = search rules
 
 -- a line with its break ends after its first LF
 is_line-feed : (t : List ℕ) → is_line t ≡ eqb (suc (upto at_feed t)) (length t)

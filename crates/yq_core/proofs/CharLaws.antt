@@ -1,13 +1,12 @@
 -- The characters of quoted scalars: what is read is what is written.
-use Rattle.std.proofs.Common.{◌≡◌, ℕ, zero, suc, ◌+◌, ◌*◌, true, false, eqb, eqb-true, List, [], ◌∷◌, ◌++◌, length, take, drop, Option}
-use Rattle.std.proofs.Common.{Some, None, refl, sym, ap, ◌∙◌, subst, inl, inr, ◌⊎◌, arith, rules}
-use Rattle.std.{proofs.lemmas.Bool.{ltb-true, lt-ltb, cases_Bool}, proofs.Math.Utf8.encode, proofs.lemmas.Option.cond_some}
-use Rattle.std.{specs.Char.digit_value, specs.Str.Parse.{AllDigits, digits_value, digits_value_after}}
+use Rattle.std.proofs.Common.{◌≡◌, ℕ, zero, suc, ◌+◌, ◌*◌, true, false, eqb, eqb-true, List, [], ◌∷◌, ◌++◌, length, take, drop, Some, None}
+use Rattle.std.{proofs.Common.{refl, sym, ap, ◌∙◌, subst, ◌⊎◌, arith, rules}, proofs.lemmas.Bool.{ltb-true, lt-ltb, cases_Bool}}
+use Rattle.std.{proofs.Math.Utf8.encode, proofs.lemmas.Option.cond_some, specs.Char.digit_value}
+use Rattle.std.specs.Str.Parse.{AllDigits, digits_value, digits_value_after}
 use Rattle.yq_core.specs.Text.{is_break}
 use Rattle.yq_core.specs.Quoted.{letters, beside, digit_counts, is_unicode, Char, escape as letter_escape, code, spell_char, char_text}
-use Rattle.yq_core.{specs.Quoted.{bytes_of, IsChar}, specs.SchemaReading.is_digit}
-use Rattle.yq_core.{specs.QuotedReading.{hex, hex_digit, leading_escape, coded, lettered}, proofs.Bools.{chosen, bind_some}}
-use Rattle.yq_core.proofs.EscapeLaws.{escape_cases, none_escaped}
+use Rattle.yq_core.{specs.Quoted.{bytes_of, IsChar}, specs.QuotedReading.{hex, hex_digit, leading_escape, coded, lettered}}
+use Rattle.yq_core.{proofs.Bools.bind_some, proofs.EscapeLaws.{escape_cases, none_escaped}}
 
 -- digits in front are read as the number that they write
 pub hex_again : (v : ℕ) (digits rest : List ℕ) → AllDigits 16 digits → hex (length digits) v (digits ++ rest) ≡ Some (digits_value_after 16 v digits)
@@ -28,34 +27,15 @@ hex_takes zero v w t h = record { all = tt; many = refl; cut = refl; value = let
 hex_takes (suc n) v w [] h = absurd (let e : None ≡ Some w = h in cc)
 hex_takes (suc n) v w (b ∷ bs) h =
     let x = bind_some (hex_digit b) h in
-    let digit = cond_some (is_digit 16 b) _ _ x.1 in
-    let rest = hex_takes n (v * 16 + x.0) w bs x.2 in
-    record {
-      all = (ltb-true _ _ digit.0, rest.all);
-      many = ap suc rest.many;
-      cut = ap (λ l. b ∷ l) rest.cut;
-      value = ap (λ d. digits_value_after 16 (v * 16 + d) (take n bs)) digit.1 ∙ rest.value;
-    }
+    search (rules, cond_some, ltb-true, hex_takes n (v * 16 + x.0) w bs x.2)
 
 -- a letter of the table isn't one that digits follow, and begins no break
 letter_not : (letter c k : ℕ) → beside letter letters ≡ Some c → beside k letters ≡ None → eqb letter k ≡ false
 letter_not letter c k h none = search (rules, cases_Bool, eqb-true)
 
-letter_line : (letter c : ℕ) (rest : List ℕ) → beside letter letters ≡ Some c → is_break (letter ∷ rest) ≡ false
-letter_line letter c rest h = rw (letter_not letter c 10 h refl, letter_not letter c 13 h refl) refl
-
 -- the letters that digits follow
 counted : (letter n : ℕ) → beside letter digit_counts ≡ Some n → ((letter ≡ 120) × (n ≡ 2)) ⊎ (((letter ≡ 117) × (n ≡ 4)) ⊎ ((letter ≡ 85) × (n ≡ 8)))
-counted letter n h = elim (chosen (eqb letter 120) h) [
-  | inl x ↦ inl (eqb-true letter 120 x.0, let e : Some 2 ≡ Some n = x.1 in cc)
-  | inr x ↦ elim (chosen (eqb letter 117) x.1) [
-    | inl y ↦ inr (inl (eqb-true letter 117 y.0, let e : Some 4 ≡ Some n = y.1 in cc))
-    | inr y ↦ elim (chosen (eqb letter 85) y.1) [
-      | inl z ↦ inr (inr (eqb-true letter 85 z.0, let e : Some 8 ≡ Some n = z.1 in cc))
-      | inr z ↦ absurd (let e : None ≡ Some n = z.1 in cc)
-    ]
-  ]
-]
+counted letter n h = search rules
 
 -- what an escape is after its backslash
 pub record IsEscape (c : ℕ) (e : List ℕ) : Type 0 where
@@ -70,7 +50,7 @@ code_escape letter digits h all is = search (rules, hex_again, counted)
 -- a letter of the table is an escape
 pub letter_is_escape : (letter c : ℕ) → beside letter letters ≡ Some c → IsEscape c (letter ∷ [])
 unfolding leading_escape
-letter_is_escape letter c h = search (rules, letter_not, letter_line)
+letter_is_escape letter c h = search (rules, letter_not)
 
 -- a character that was read after a backslash
 pub record Escaped (c k : ℕ) (t : List ℕ) : Type 0 where
@@ -95,21 +75,12 @@ by_digits letter n c k v t count read h =
       text = ap encode (d.value ∙ same);
     }
 
-coded_some : (n c k : ℕ) (o : Option ℕ) → coded n o ≡ Some (c, k) → (v : ℕ) × (o ≡ Some v)
-coded_some n c k (Some v) h = (v, refl)
-coded_some n c k None h = absurd (let e : None ≡ Some (c, k) = h in cc)
-
 by_count : (letter n c k : ℕ) (t : List ℕ) → beside letter digit_counts ≡ Some n → coded n (hex n 0 t) ≡ Some (c, k) → Escaped c k (letter ∷ t)
-by_count letter n c k t count h =
-    let v = coded_some n c k (hex n 0 t) h in
-    by_digits letter n c k v.0 t count v.1 (subst (λ (o : Option ℕ). coded n o ≡ Some (c, k)) v.1 h)
-
-lettered_some : (c k : ℕ) (o : Option ℕ) → lettered o ≡ Some (c, k) → (o ≡ Some c) × (1 ≡ k)
-lettered_some c k o h1 = search rules
+by_count letter n c k t count h = search (rules, by_digits)
 
 by_letter : (letter c k : ℕ) (t : List ℕ) → lettered (beside letter letters) ≡ Some (c, k) → Escaped c k (letter ∷ t)
 by_letter letter c k t h =
-    let e = lettered_some c k (beside letter letters) h in
+    let e : ((beside letter letters) ≡ Some c) × (1 ≡ k) = search rules in
     record {
       char = letter_escape letter;
       spelled = ap (λ j. 92 ∷ letter ∷ drop j (letter ∷ t)) e.1;
@@ -120,7 +91,4 @@ by_letter letter c k t h =
 
 pub escape_takes : (t : List ℕ) (c k : ℕ) → leading_escape t ≡ Some (c, k) → Escaped c k t
 escape_takes [] c k h = absurd (none_escaped c k h)
-escape_takes (b ∷ bs) c k h = elim (escape_cases b c k bs h) [
-  | inl x ↦ by_count b x.0 c k bs x.1 x.2
-  | inr x ↦ by_letter b c k bs x
-]
+escape_takes (b ∷ bs) c k h = search (rules, escape_cases, by_count, by_letter)

@@ -1,13 +1,11 @@
 -- Digits in front of a text.
-use Rattle.std.proofs.Common.{◌≡◌, ℕ, ◌≤◌, true, false, List, [], ◌∷◌, ◌++◌, length, take, refl, ◌∙◌, arith, one-add, inl, inr, rules}
+use Rattle.std.proofs.Common.{◌≡◌, ℕ, ◌≤◌, true, false, List, [], ◌∷◌, ◌++◌, length, take, refl, ◌∙◌, one-add, inl, inr, rules}
 use Rattle.std.{specs.List.prefix_len, specs.Str.Parse.{AllDigits, IsNumeral}}
 use Rattle.std.proofs.lemmas.Bool.{false≢true, cases_Bool, ltb-true, lt-ltb}
 use Rattle.yq_core.{specs.Text.{is_empty, front}, specs.SchemaReading.{is_digit, past_digits, are_digits, has_base}}
 
 pub has_two : (letter : ℕ) (t : List ℕ) → has_base letter t ≡ true → 2 ≤ length t
-has_two letter [] h = absurd (false≢true h)
-has_two letter (a ∷ []) h = absurd (false≢true h)
-has_two letter (a ∷ b ∷ t) h = omega arith
+has_two letter t h = search rules
 
 pub past_digit : (base b : ℕ) (bs : List ℕ) → is_digit base b ≡ true → past_digits base (b ∷ bs) ≡ past_digits base bs
 past_digit base b bs h = rw (h, one-add) refl
@@ -51,9 +49,7 @@ all_digits base (b ∷ bs) h = elim (cases_Bool (is_digit base b)) [
 ]
 
 pub digits_takes : (base : ℕ) (t : List ℕ) → are_digits base t ≡ true → IsNumeral base t
-digits_takes base [] h = absurd (false≢true h)
-digits_takes base (b ∷ bs) h = (omega arith, all_digits base (b ∷ bs) h)
+digits_takes base t h = search (rules, false≢true, all_digits)
 
 pub digits_again : (base : ℕ) (t : List ℕ) → IsNumeral base t → are_digits base t ≡ true
-digits_again base [] h = absurd (omega (arith, h.0))
-digits_again base (b ∷ bs) h = rw (past_all base (b ∷ bs) h.1) refl
+digits_again base t h = search (rules, past_all)

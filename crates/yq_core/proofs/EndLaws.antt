@@ -2,23 +2,17 @@
 use Rattle.std.proofs.Common.{◌≡◌, ◌⊎◌, inl, inr, ⊎_elim, ℕ, Bool, true, false, not, ◌&&◌, ◌||◌, eqb, List, [], ◌∷◌, ◌++◌, Option, Some}
 use Rattle.std.proofs.Common.{None, refl, sym, ap, ◌∙◌, subst, cond, arith, eqb-true, rules}
 use Rattle.std.proofs.lemmas.Bool.{false≢true, or_cases, or_right, not-false, not-true, false_from_ne_true, and_from, le-leb, and_parts}
-use Rattle.std.{proofs.lemmas.Bool.cases_Bool, proofs.lemmas.Option.cond_some, specs.Option.option_or}
+use Rattle.std.{proofs.lemmas.Bool.cases_Bool, proofs.lemmas.Option.cond_some}
 use Rattle.yq_core.specs.Plain.{begins_plain, ends_plain, ends_text, is_safe, no_gap, last_line, plain_may_follow, follows, IsPlain}
 use Rattle.yq_core.{specs.Text.{upto, cut, NoneIn, front, unless, is_empty, is_feed, is_space}, proofs.Bools.at_byte}
 use Rattle.yq_core.{specs.declared.gap.GapPlace.GapPlace, specs.declared.gap.GapPlace.TheVariants.{White, Break}}
-use Rattle.yq_core.{specs.Alike.{EndsItem, fresh, KeepsApart}, specs.Gaps.{goes, next_gap_place, in_comment, AllGo, IsInlineGap}}
+use Rattle.yq_core.{specs.Alike.{EndsItem, fresh, KeepsApart}, specs.Gaps.{next_gap_place, in_comment, AllGo, IsInlineGap}}
 use Rattle.yq_core.{specs.Nodes.{in_name, begins_node, is_close}, specs.Scalars.IsScalarAt, proofs.Alikes.no_first}
 use Rattle.yq_core.{proofs.AlikePieces.quoted_any, proofs.NodesPieceLaws.{front_not, scalar_some}}
 
 -- a comma or a closing bracket
 pub by_close : (P : ℕ → Type 0) (k c : ℕ) → is_close k ≡ true → (eqb c 44 || eqb c k) ≡ true → P 44 → P 93 → P 125 → P c
-by_close P k c h e p q r = ⊎_elim {0, 0, 0}
-    (λ x. subst P (sym (eqb-true c 44 x)) p)
-    (λ x. ⊎_elim {0, 0, 0}
-    (λ y. subst P (sym (eqb-true c k x ∙ eqb-true k 93 y)) q)
-    (λ y. subst P (sym (eqb-true c k x ∙ eqb-true k 125 y)) r)
-    (or_cases (eqb k 93) (eqb k 125) h))
-    (or_cases (eqb c 44) (eqb c k) e)
+by_close P k c h e p q r = search rules
 
 -- what is in front of that which comes after an item
 pub ends_by : (P : List ℕ → Type 0) (k : ℕ) (t : List ℕ) → is_close k ≡ true → EndsItem k t → ((r : List ℕ) → P (44 ∷ r)) → ((r : List ℕ) → P (93 ∷ r)) → ((r : List ℕ) → P (125 ∷ r)) → ((b : ℕ) (r : List ℕ) → is_space (b ∷ r) ≡ true → P (b ∷ r)) → P t
@@ -56,15 +50,12 @@ not_follow spaces gap t h = search (rules, false≢true)
 next_comment : (s : GapPlace) (b : ℕ) (x : List ℕ) → in_comment s ≡ false → is_space (b ∷ x) ≡ true → in_comment (next_gap_place s b) ≡ false
 next_comment s b x none h = rw (at_byte (λ y. is_space (y ∷ x)) b 35 h refl, none) (elim (is_feed b) as (λ c. in_comment (cond c Break White) ≡ false) [ true ↦ refl | false ↦ refl ])
 
-goes_hash : (s : GapPlace) (b : ℕ) (x : List ℕ) → in_comment s ≡ false → goes s b x ≡ true → is_space (b ∷ x) ≡ false → eqb b 35 ≡ true
-goes_hash s b x h1 h2 h3 = search (rules, false≢true)
-
 dead_gap : (s : GapPlace) (g : List ℕ) (c : ℕ) (r : List ℕ) → in_comment s ≡ false → AllGo s g (c ∷ r) → is_space (c ∷ r) ≡ false → ends_text true (c ∷ r) ≡ true → dead (cut no_gap (g ++ (c ∷ r))).1 ≡ true
 unfolding upto
 dead_gap s [] c r none all h e = rw h (or_right (eqb c 35) (ends_text true (c ∷ r)) e)
 dead_gap s (b ∷ g) c r none all h e = elim (cases_Bool (is_space (b ∷ (g ++ (c ∷ r))))) [
   | inl x ↦ rw x (dead_gap (next_gap_place s b) g c r (next_comment s b (g ++ (c ∷ r)) none x) all.1 h e)
-  | inr x ↦ (let hash : eqb b 35 ≡ true = goes_hash s b (g ++ (c ∷ r)) none all.0 x in rw x (rw hash refl))
+  | inr x ↦ (let hash : eqb b 35 ≡ true = search (rules, false≢true) in rw x (rw hash refl))
 ]
 
 dead_ends : (k : ℕ) (t : List ℕ) → is_close k ≡ true → EndsItem k t → dead (cut no_gap t).1 ≡ true
@@ -141,16 +132,11 @@ follow k f (b ∷ p) t u h e none keeps = elim (cases_Bool (is_space (b ∷ (p +
 -- the line on which it goes on
 last_fresh : (f : Bool) (gap : List ℕ) → last_line gap ≡ Some [] → fresh f gap ≡ true
 last_fresh f [] h = cc
-last_fresh f (b ∷ gap) h = go (last_line gap) refl (last_fresh (is_feed b) gap) h where
-  go : (o : Option (List ℕ)) → last_line gap ≡ o → (last_line gap ≡ Some [] → fresh (is_feed b) gap ≡ true) → option_or o (cond (is_feed b) (Some gap) None) ≡ Some [] → fresh (is_feed b) gap ≡ true
-  go o h1 h2 h3 = search (rules, cond_some)
+last_fresh f (b ∷ gap) h = search (rules, cond_some, last_fresh (is_feed b) gap)
 
 last_mark : (gap : List ℕ) (c : ℕ) (l : List ℕ) → NoMark gap → last_line gap ≡ Some (c ∷ l) → (eqb c 45 ≡ false) × (eqb c 46 ≡ false)
 last_mark [] c l w h = cc
-last_mark (b ∷ gap) c l w h = go (last_line gap) refl (last_mark gap c l w.2) h where
-  go : (o : Option (List ℕ)) → last_line gap ≡ o → (last_line gap ≡ Some (c ∷ l) → (eqb c 45 ≡ false) × (eqb c 46 ≡ false)) → option_or o (cond (is_feed b) (Some gap) None) ≡ Some (c ∷ l) → (eqb c 45 ≡ false) × (eqb c 46 ≡ false)
-  go None is again e = let x = cond_some (is_feed b) gap (c ∷ l) e in let y : NoMark (c ∷ l) = subst NoMark x.1 w.2 in (y.0, y.1)
-  go (Some m) is again e = again (is ∙ e)
+last_mark (b ∷ gap) c l w h = search (rules, cond_some, last_mark gap c l w.2)
 
 may_same : (f : Bool) (gap : List ℕ) (b : ℕ) (p t u : List ℕ) → NoMark gap → KeepsApart (fresh f gap) (b ∷ p) t u → plain_may_follow (Some 0) (last_line gap) (b ∷ (p ++ t)) ≡ true → plain_may_follow (Some 0) (last_line gap) (b ∷ (p ++ u)) ≡ true
 may_same f gap b p t u w keeps h = go (last_line gap) refl h where

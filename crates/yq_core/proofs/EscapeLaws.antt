@@ -1,32 +1,20 @@
 -- Escapes: how long they are, and that they are ASCII.
-use Rattle.std.proofs.Common.{◌≡◌, ℕ, zero, suc, ◌+◌, ◌*◌, ◌<◌, ◌≤◌, Bool, true, false, ◌&&◌, not, eqb, ltb, eqb-true, List, [], ◌∷◌}
-use Rattle.std.proofs.Common.{length, drop, get_or, Option, Some, None, ◌⊎◌, refl, sym, ap, ◌∙◌, inl, inr, arith, rules}
-use Rattle.std.{proofs.lemmas.Bool.{false≢true, ltb-true, cases_lt, le-ltb, and_parts}, proofs.lemmas.Option.{cond_some, same_Some}}
+use Rattle.std.proofs.lemmas.Grind.{common_steps}
+use Rattle.std.proofs.Common.{◌≡◌, ℕ, zero, suc, ◌+◌, ◌*◌, ◌<◌, ◌≤◌, true, false, eqb, ltb, eqb-true, List, [], ◌∷◌, length, drop, get_or}
+use Rattle.std.proofs.Common.{Option, Some, None, ◌⊎◌, sym, ap, ◌∙◌, inl, inr, arith, rules}
+use Rattle.std.{proofs.lemmas.Bool.{ltb-true, cases_lt, le-ltb, and_parts}, proofs.lemmas.Option.{cond_some, same_Some}}
 use Rattle.std.{specs.Char.digit_value, specs.List.list_all}
-use Rattle.yq_core.{specs.Answers.{◌>>=◌, more}, specs.Text.{is_feed, is_break, is_marker}}
-use Rattle.yq_core.{specs.Quoted.{letters, beside, digit_counts, is_unicode}, specs.SchemaReading.is_digit}
+use Rattle.yq_core.{specs.Answers.{◌>>=◌, more}, specs.Quoted.{letters, beside, digit_counts}, specs.SchemaReading.is_digit}
 use Rattle.yq_core.specs.QuotedReading.{hex, hex_digit, leading_escape, escape_len, closes, coded, lettered, length_of, quoted_len}
 use Rattle.yq_core.{proofs.Bools.{chosen, bind_some, more_more, more_none}, proofs.Across.{rest_of, rest_is}}
 
-quote_only : (b : Bool) → (true && not (b && false)) ≡ true
-quote_only true = refl
-quote_only false = refl
-
 no_second : (r : Option ℕ) (f : ℕ → Option ℕ) → (r >>= (λ d. None)) ≡ ((r >>= (λ d. None)) >>= f)
-no_second (Some d) f = refl
-no_second None f = refl
-
-both_digits : (r s : Option ℕ) (v : ℕ) (f : ℕ → Option ℕ) → (r >>= (λ d. s >>= (λ e. f ((v * 16 + d) * 16 + e)))) ≡ ((r >>= (λ d. s >>= (λ e. Some ((v * 16 + d) * 16 + e)))) >>= f)
-both_digits (Some d) (Some e) v f = refl
-both_digits (Some d) None v f = refl
-both_digits None s v f = refl
+no_second r f = search rules
 
 -- the first two digits, and the others
 pub hex_split : (m v : ℕ) (t : List ℕ) → hex (suc (suc m)) v t ≡ (hex 2 v t >>= (λ w. hex m w (drop 2 t)))
 unfolding hex
-hex_split m v [] = refl
-hex_split m v (b ∷ []) = no_second (hex_digit b) (λ w. hex m w [])
-hex_split m v (b ∷ c ∷ bs) = both_digits (hex_digit b) (hex_digit c) v (λ w. hex m w bs)
+hex_split m v t = search rules
 
 pub hex_none : (m v : ℕ) (t : List ℕ) → hex 2 v t ≡ None → hex (suc (suc m)) v t ≡ None
 hex_none m v t h = hex_split m v t ∙ ap (λ o. o >>= (λ w. hex m w (drop 2 t))) h
@@ -45,26 +33,15 @@ hex_within (suc n) v w [] h = absurd (let e = h in cc)
 hex_within (suc n) v w (b ∷ t) h = let x = bind_some (hex_digit b) h in let again = hex_within n (v * 16 + x.0) w t x.2 in omega arith
 
 scalar_len : (n c k : ℕ) (o : Option ℕ) → coded n o ≡ Some (c, k) → (v : ℕ) × (o ≡ Some v) × (suc n ≡ k)
-scalar_len n c k None h = absurd (let e = h in cc)
-scalar_len n c k (Some v) h = let g = cond_some (is_unicode v) _ _ h in (v, refl, ap (λ p. p.1) g.1)
+scalar_len n c k o h = search rules
 
 letter_len : (c k : ℕ) (o : Option ℕ) → lettered o ≡ Some (c, k) → 1 ≡ k
-letter_len c k None h = absurd (let e = h in cc)
-letter_len c k (Some v) h = ap (λ p. p.1) (same_Some (v, 1) (c, k) h)
+letter_len c k o h = search rules
 
 -- what is read as an escape: a letter that digits follow, and these, or a letter alone
 pub escape_cases : (b c k : ℕ) (bs : List ℕ) → leading_escape (b ∷ bs) ≡ Some (c, k) → ((n : ℕ) × (beside b digit_counts ≡ Some n) × (coded n (hex n 0 bs) ≡ Some (c, k))) ⊎ (lettered (beside b letters) ≡ Some (c, k))
 unfolding leading_escape
-escape_cases b c k bs h = elim (chosen (eqb b 120) h) [
-  | inl x ↦ inl (2, rw x.0 refl, x.1)
-  | inr x ↦ elim (chosen (eqb b 117) x.1) [
-    | inl y ↦ inl (4, rw (x.0, y.0) refl, y.1)
-    | inr y ↦ elim (chosen (eqb b 85) y.1) [
-      | inl z ↦ inl (8, rw (x.0, y.0, z.0) refl, z.1)
-      | inr z ↦ inr z.1
-    ]
-  ]
-]
+escape_cases b c k bs h = search rules
 
 pub none_escaped : (c k : ℕ) → leading_escape [] ≡ Some (c, k) → ⊥
 unfolding leading_escape
@@ -72,14 +49,7 @@ none_escaped c k h = cc
 
 pub escape_within : (t : List ℕ) (c k : ℕ) → leading_escape t ≡ Some (c, k) → k ≤ length t
 escape_within [] c k h = absurd (none_escaped c k h)
-escape_within (b ∷ bs) c k h = elim (escape_cases b c k bs h) [
-  | inl x ↦ let v = scalar_len x.0 c k (hex x.0 0 bs) x.2 in omega (arith, hex_within x.0 0 v.0 bs v.1, v.2)
-  | inr x ↦ omega (arith, letter_len c k (beside b letters) x)
-]
-
-next_quote : (q b : ℕ) (bs : List ℕ) → closes q (b ∷ bs) ≡ false → eqb b q ≡ true → 1 ≤ length bs
-next_quote q b [] opened e = let no : (eqb b q && not (eqb q 39 && false)) ≡ false = opened in absurd (false≢true (sym (rw e at no) ∙ quote_only (eqb q 39)))
-next_quote q b (c ∷ bs) opened e = omega arith
+escape_within (b ∷ bs) c k h = search (rules, escape_cases, scalar_len, hex_within, letter_len)
 
 pub length_of_some : (o : Option (ℕ × ℕ)) (k : ℕ) → length_of o ≡ Some k → (c : ℕ) × (o ≡ Some (c, k))
 length_of_some None k h = absurd (let e = h in cc)
@@ -87,19 +57,7 @@ length_of_some (Some e) k h = (e.0, let same : e.1 ≡ k = cc in ap (λ (x : ℕ
 
 -- what belongs to a byte comes after it, unless the byte is a quote that closes
 pub behind_within : (q b k : ℕ) (bs : List ℕ) → closes q (b ∷ bs) ≡ false → escape_len q b bs ≡ Some k → k ≤ length bs
-behind_within q b k bs opened h = elim (chosen (is_feed b && is_marker bs) h) [
-  | inl x ↦ absurd (let e : None ≡ Some k = x.1 in cc)
-  | inr x ↦ elim (chosen (eqb q 34 && eqb b 92) x.1) [
-    | inl y ↦ elim (chosen (is_break bs) y.1) [
-      | inl z ↦ omega (arith, same_Some 0 k z.1)
-      | inr z ↦ let e = length_of_some (leading_escape bs) k z.1 in escape_within bs e.0 k e.1
-    ]
-    | inr y ↦ elim (chosen (eqb b q) y.1) [
-      | inl z ↦ omega (arith, next_quote q b bs opened z.0, same_Some 1 k z.1)
-      | inr z ↦ omega (arith, same_Some 0 k z.1)
-    ]
-  ]
-]
+behind_within q b k bs opened h = grind (arith, common_steps, chosen, same_Some, length_of_some, escape_within, rules)
 
 -- how far it is after bytes that are passed over
 pub length_skip : (q k : ℕ) (t : List ℕ) → k ≤ length t → quoted_len q k t ≡ more k (quoted_len q 0 (drop k t))
@@ -142,16 +100,9 @@ letter_ascii b c (e ∷ es) low h =
     ]
 
 letter_some : (c k : ℕ) (o : Option ℕ) → lettered o ≡ Some (c, k) → (v : ℕ) × (o ≡ Some v)
-letter_some c k None h = absurd (let e = h in cc)
-letter_some c k (Some v) h = (v, refl)
+letter_some c k o h = search rules
 
 pub escape_ascii : (t : List ℕ) (c k : ℕ) → leading_escape t ≡ Some (c, k) → (j : ℕ) → j < k → get_or t j 0 < 128
 escape_ascii [] c k h j lt = absurd (none_escaped c k h)
-escape_ascii (b ∷ bs) c k h zero lt = elim (escape_cases b c k bs h) [
-  | inl x ↦ letter_ascii b x.0 digit_counts refl x.1
-  | inr x ↦ let v = letter_some c k (beside b letters) x in letter_ascii b v.0 letters refl v.1
-]
-escape_ascii (b ∷ bs) c k h (suc j) lt = elim (escape_cases b c k bs h) [
-  | inl x ↦ let v = scalar_len x.0 c k (hex x.0 0 bs) x.2 in hex_ascii x.0 0 v.0 bs v.1 j (omega (arith, lt, v.2))
-  | inr x ↦ absurd (omega (arith, lt, letter_len c k (beside b letters) x))
-]
+escape_ascii (b ∷ bs) c k h zero lt = search (rules, escape_cases, letter_ascii, letter_some)
+escape_ascii (b ∷ bs) c k h (suc j) lt = search (rules, escape_cases, scalar_len, hex_ascii, letter_len)

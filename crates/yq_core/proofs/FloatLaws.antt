@@ -3,10 +3,10 @@ use Rattle.std.proofs.Common.{◌≡◌, ℕ, Bool, true, false, eqb, ◌||◌, 
 use Rattle.std.{proofs.Common.{eqb-true, append_assoc, rules}, specs.Str.Parse.IsNumeral}
 use Rattle.std.proofs.lemmas.Bool.{false≢true, cases_Bool, and_parts, or_cases, or_left, or_right, lt-ltb}
 use Rattle.yq_core.specs.Numbers.{spell_sign, Mantissa, fraction, whole, pointed, spell_mantissa, IsMantissa, Exponent, absent, lower}
-use Rattle.yq_core.{specs.Numbers.{upper, spell_exponent, IsExponent}, specs.Schema.{infinity_words, nan_words, IsOneOf, IsFloat}}
+use Rattle.yq_core.{specs.Numbers.{upper, spell_exponent, IsExponent}, specs.Schema.{infinity_words, nan_words, IsFloat}}
 use Rattle.yq_core.specs.SchemaReading.{past_digits, past_sign, sign_of, are_digits, is_exponent, front_digit, ends_number, is_number}
 use Rattle.yq_core.{specs.SchemaReading.{is_one_of, is_float}, proofs.WordLaws.{word_takes, word_again, word_among}}
-use Rattle.yq_core.proofs.DigitLaws.{digits_in, digits_digit, digits_none, digits_cut, digits_all, past_append, digits_takes, digits_again}
+use Rattle.yq_core.proofs.DigitLaws.{digits_in, digits_digit, digits_cut, digits_all, past_append, digits_takes, digits_again}
 use Rattle.yq_core.proofs.NumberLaws.{not_digit, past_spelled, sign_cut}
 
 -- the text is a mantissa and an exponent
@@ -31,12 +31,10 @@ exponent_again : (e : Exponent) → IsExponent e → is_exponent (spell_exponent
 exponent_again e h1 = search (rules, past_spelled, digits_again)
 
 front_numeral : (t : List ℕ) → front_digit t ≡ true → IsNumeral 10 (digits_in 10 t)
-front_numeral [] h = absurd (false≢true h)
-front_numeral (b ∷ bs) h = (rw (digits_digit 10 b bs h) (omega arith), digits_all 10 (b ∷ bs))
+front_numeral t h = search (rules, false≢true, digits_digit, digits_all)
 
 front_empty : (t : List ℕ) → front_digit t ≡ false → digits_in 10 t ≡ []
-front_empty [] h = refl
-front_empty (b ∷ bs) h = digits_none 10 b bs h
+front_empty t h = search rules
 
 numeral_front : (digits rest : List ℕ) → IsNumeral 10 digits → front_digit (digits ++ rest) ≡ true
 numeral_front [] rest h = absurd (omega (arith, h.0))
@@ -89,22 +87,12 @@ number_takes t h =
     let took = ends_takes (digits_in 10 t) (past_digits 10 t) (front_digit t) (front_numeral t) (front_empty t) h in
     subst (λ (u : List ℕ). IsUnsigned u) (sym (digits_cut 10 t)) took
 
-ends_exponent : (e : Exponent) → IsExponent e → ends_number true (spell_exponent e) ≡ true
-ends_exponent e h1 = search (rules, exponent_again)
-
 pub number_again : (m : Mantissa) (e : Exponent) → IsMantissa m → IsExponent e → is_number (spell_mantissa m ++ spell_exponent e) ≡ true
-number_again m e h1 h2 = search (rules, numeral_front, past_append, exponent_again, ends_exponent, append_assoc)
+number_again m e h1 h2 = search (rules, numeral_front, past_append, exponent_again, append_assoc)
 
 no_sign_before : (digits rest : List ℕ) → IsNumeral 10 digits → past_sign (digits ++ rest) ≡ digits ++ rest
 no_sign_before [] rest h = absurd (omega (arith, h.0))
 no_sign_before (d ∷ ds) rest h = rw (not_digit d 43 h.1.0 refl, not_digit d 45 h.1.0 refl) refl
-
--- a mantissa has no sign in front
-mantissa_no_sign : (m : Mantissa) (t : List ℕ) → IsMantissa m → past_sign (spell_mantissa m ++ t) ≡ spell_mantissa m ++ t
-mantissa_no_sign m t h1 = search (rules, no_sign_before, append_assoc)
-
-words_no_sign : (word : List ℕ) → IsOneOf infinity_words word → past_sign word ≡ word
-words_no_sign word h = word_among (λ w. past_sign w ≡ w) infinity_words word (refl, (refl, (refl, tt))) h
 
 pub float_takes : (t : List ℕ) → is_float t ≡ true → IsFloat t
 unfolding is_float
@@ -120,4 +108,4 @@ float_takes t h = elim (or_cases (is_number (past_sign t) || is_one_of infinity_
 
 pub float_again : (t : List ℕ) → IsFloat t → is_float t ≡ true
 unfolding is_float
-float_again t h1 = search (rules, mantissa_no_sign, or_left, number_again, words_no_sign, or_right, word_again)
+float_again t h1 = search (rules, no_sign_before, append_assoc, or_left, number_again, word_among, or_right, word_again)

@@ -1,10 +1,10 @@
 -- What white space and breaks mean.
-use Rattle.std.proofs.Common.{◌≡◌, ℕ, zero, suc, ◌+◌, Bool, true, false, cond, not, List, [], ◌∷◌, ◌++◌, take, drop, replicate, refl, sym}
-use Rattle.std.{proofs.Common.{inl, inr, ◌&&◌, ap, ◌∙◌, arith, append_assoc, append-nil, rules}, proofs.Math.Bool.or-true}
+use Rattle.std.proofs.Common.{◌≡◌, ℕ, zero, suc, ◌+◌, Bool, true, false, cond, not, List, [], ◌∷◌, ◌++◌, take, drop, refl, sym, inl, inr}
+use Rattle.std.{proofs.Common.{◌&&◌, ap, ◌∙◌, arith, append_assoc, append-nil, rules}, proofs.Math.Bool.or-true}
 use Rattle.std.{proofs.lemmas.Bool.{false≢true, not-false, and_parts, cases_Bool, or_parts}, proofs.lemmas.List.take-append-drop}
-use Rattle.yq_core.{specs.Text.{is_white, is_feed, is_return, is_space, front, upto, cut, NoneIn}, specs.Quoted.{folded, joined, gap_text}}
-use Rattle.yq_core.specs.ContentReading.{BlankBefore, within, after, item_with_blanks, one_break_more, content_on, breaks, folded_space}
-use Rattle.yq_core.{specs.ContentReading.{space_text, before_of}, specs.Plain.no_gap, proofs.Bools.at_byte, proofs.Upto.none_in_cut}
+use Rattle.yq_core.{specs.Text.{is_white, is_feed, is_return, is_space, front, upto, cut, NoneIn}, specs.Quoted.{folded, joined}}
+use Rattle.yq_core.specs.ContentReading.{BlankBefore, within, after, item_with_blanks, one_break_more, content_on, breaks, space_text}
+use Rattle.yq_core.{specs.ContentReading.before_of, specs.Plain.no_gap, proofs.Bools.at_byte, proofs.Upto.none_in_cut}
 
 -- the gap after k further breaks
 abbrev times : ℕ → BlankBefore → BlankBefore
@@ -22,15 +22,8 @@ is_spaced b t h = not-false (is_space (b ∷ t)) h
 over_space : (q : ℕ) (g : BlankBefore) (w s r : List ℕ) → NoneIn no_gap s r → content_on q 0 g w (s ++ r) ≡ content_on q 0 (times (breaks s) g) (since w s) r
 unfolding content_on breaks
 over_space q g w [] r h = refl
-over_space q g w (b ∷ s) r h = elim (cases_Bool (is_white b)) [
-  | inl y ↦ rw (y, at_byte is_white b 10 y refl) (over_space q g (w ++ b ∷ []) s r h.1)
-  | inr y ↦ elim (cases_Bool (is_feed b)) [
-    | inl e ↦ rw (y, e) (over_space q (one_break_more g) [] s r h.1)
-    | inr e ↦ (let k : is_space (b ∷ (s ++ r)) ≡ true = is_spaced b (s ++ r) h.0 in
-        let x : (is_return b && front is_feed (s ++ r)) ≡ true = rw (y, e) at k in
-        rw (y, e, x) (over_space q g w s r h.1))
-  ]
-]
+over_space q g w (b ∷ s) r h =
+    search (rules, cases_Bool, at_byte, is_spaced, over_space q g (w ++ b ∷ []) s r h.1, over_space q (one_break_more g) [] s r h.1, over_space q g w s r h.1)
 
 times_joined : (k n : ℕ) → times k (after (joined n)) ≡ after (joined (n + k))
 times_joined zero n = ap (λ (i : ℕ). after (joined i)) (omega arith)
@@ -61,13 +54,8 @@ since_all w (b ∷ s) r h e n = elim (cases_Bool (is_white b)) [
   ]
 ]
 
-spaced_is : (n : ℕ) (s r : List ℕ) → NoneIn no_gap s r → is_space r ≡ false → breaks s ≡ n → item_with_blanks (times n within) (since [] s) ≡ folded_space n s
-spaced_is zero s r h e n = since_all [] s r h e n
-spaced_is (suc k) s r h e n = ap (λ g. item_with_blanks g (since [] s)) (times_folded k 0) ∙ ap (λ (i : ℕ). gap_text (folded i)) (omega arith)
-
 filled_is : (j : Bool) (s r : List ℕ) → NoneIn no_gap s r → is_space r ≡ false → item_with_blanks (times (breaks s) (before_of j)) (since [] s) ≡ space_text j s
-filled_is true s r h e = ap (λ g. item_with_blanks g (since [] s)) (times_joined (breaks s) 0) ∙ ap (λ n. replicate n 10) (omega arith)
-filled_is false s r h e = spaced_is (breaks s) s r h e refl
+filled_is j s r h e = search (rules, times_joined, since_all, times_folded)
 
 pub content_space : (q : ℕ) (j : Bool) (s r : List ℕ) → NoneIn no_gap s r → is_space r ≡ false → content_on q 0 (before_of j) [] (s ++ r) ≡ space_text j s ++ content_on q 0 within [] r
 unfolding content_on

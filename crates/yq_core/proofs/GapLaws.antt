@@ -1,5 +1,5 @@
 -- A gap, read and spelled.
-use Rattle.std.proofs.Common.{◌≡◌, ℕ, suc, true, false, ◌&&◌, List, [], ◌∷◌, ◌++◌, length, take, drop, Some, refl, sym, ap, subst, rules}
+use Rattle.std.proofs.Common.{◌≡◌, ℕ, suc, true, ◌&&◌, List, [], ◌∷◌, ◌++◌, length, take, drop, Some, refl, ap, rules}
 use Rattle.std.{proofs.lemmas.Bool.{cond_both, not-true}, proofs.lemmas.List.take-append-drop}
 use Rattle.std.{proofs.Math.Seq.{take-append_seam, drop-append_seam}, proofs.lemmas.Option.same_Some}
 use Rattle.yq_core.{specs.Text.is_marker, specs.declared.gap.GapPlace.GapPlace, specs.declared.gap.GapPlace.TheVariants.Token}
@@ -23,8 +23,7 @@ gap_takes t x h =
     let n = flow_gap_len Token t in
     let c = gap_cut Token t in
     let g = not_then (at_line_start (gap_end Token t) && is_marker (drop n t)) h in
-    subst (λ (y : List ℕ × List ℕ). (t ≡ y.0 ++ y.1) × IsInlineGap y.0 y.1) (same_Some _ _ g.1)
-    (sym (take-append-drop n t), record { inside = c.0; ends = c.1; unmarked = subst (λ (s : GapPlace). (at_line_start s && is_marker (drop n t)) ≡ false) c.2 g.0 })
+    search (rules, same_Some, take-append-drop)
 
 pub gap_append : (s : GapPlace) (p rest : List ℕ) → AllGo s p rest → stops (gap_place_after s p) rest ≡ true → (flow_gap_len s (p ++ rest) ≡ length p) × (gap_end s (p ++ rest) ≡ gap_place_after s p)
 unfolding flow_gap_len gap_end

@@ -1,14 +1,13 @@
 -- The header of a block scalar, both ways.
-use Rattle.std.proofs.Common.{◌≡◌, ℕ, suc, ◌+◌, ◌≤◌, true, false, ◌&&◌, ◌||◌, eqb, leb, List, [], ◌∷◌, ◌++◌, length, take, Option, Some}
-use Rattle.std.proofs.Common.{None, refl, sym, ap, ◌∙◌, subst, ⊎_elim, arith, eqb-true, append_assoc, append-nil, length-append, rules}
-use Rattle.std.proofs.lemmas.Bool.{false≢true, cond_both, or_cases, false_from_ne_true, leb-true, le-leb, and_parts, cases_Bool}
+use Rattle.std.proofs.Common.{◌≡◌, ℕ, suc, ◌+◌, ◌≤◌, true, ◌&&◌, ◌||◌, List, [], ◌∷◌, ◌++◌, length, take, Option, Some, None, sym, ap, ◌∙◌}
+use Rattle.std.proofs.Common.{subst, ⊎_elim, eqb-true, append_assoc, append-nil, length-append, rules}
+use Rattle.std.proofs.lemmas.Bool.{false≢true, cond_both, or_cases, leb-true, le-leb, and_parts, cases_Bool}
 use Rattle.std.{proofs.lemmas.List.take-append-drop, proofs.Math.Seq.{take-append_seam, drop-append_seam}, proofs.lemmas.Option.same_Some}
 use Rattle.yq_core.{proofs.Bools.chosen, proofs.LineLaws.line_cut, proofs.SpaceLaws.white_drop}
-use Rattle.yq_core.specs.Block.{style_indicator, IsDigit, digit_text, sign_text, IsIndicators, is_tail}
+use Rattle.yq_core.specs.Block.{style_indicator, sign_text, IsIndicators, is_tail}
 use Rattle.yq_core.specs.BlockReading.{read_style, digit_at, sign_at, Indicators, indicators_at, values, read_header_tail}
 use Rattle.yq_core.{specs.Lines.{is_hash, is_blank}, specs.Text.{is_white, front, past_white, line_len, is_line}}
 use Rattle.yq_core.{specs.declared.block_header.BlockStyle.BlockStyle, specs.declared.block_header.Chomping.Chomping}
-use Rattle.yq_core.specs.declared.block_header.BlockStyle.TheVariants as styles
 use Rattle.yq_core.specs.declared.block_header.Chomping.TheVariants as chompings
 
 -- the header's mark
@@ -16,27 +15,12 @@ pub style_takes : (t : List ℕ) (x : BlockStyle × List ℕ) → read_style t �
 unfolding read_style
 style_takes t x h1 = search (rules, ⊎_elim, same_Some, eqb-true, chosen)
 
-pub style_again : (s : BlockStyle) (t : List ℕ) → read_style (style_indicator s ∷ t) ≡ Some (s, t)
-unfolding read_style
-style_again styles.Literal t = refl
-style_again styles.Folded t = refl
-
--- digit and sign
-abbrev IsDigitCut : List ℕ → Option ℕ × List ℕ → Type 0
-IsDigitCut t x = (t ≡ digit_text x.0 ++ x.1) × IsDigit x.0
-
-digit_takes : (t : List ℕ) → IsDigitCut t (digit_at t)
-digit_takes t = search (rules, cond_both, and_parts, leb-true)
-
-sign_takes : (t : List ℕ) → t ≡ sign_text (sign_at t).0 ++ (sign_at t).1
-sign_takes t = search (rules, cond_both, eqb-true)
-
 abbrev pub IsIndicatorsCut : List ℕ → Indicators → Type 0
 IsIndicatorsCut t m = (t ≡ m.2 ++ m.3) × IsIndicators m.0 m.1 m.2
 
 pub indicators_takes : (t : List ℕ) → IsIndicatorsCut t (indicators_at t)
 unfolding indicators_at
-indicators_takes t = search (rules, digit_takes, sign_takes, append_assoc)
+indicators_takes t = search (rules, cond_both, and_parts, leb-true, eqb-true, append_assoc)
 
 pub indicators_length : (t : List ℕ) → length t ≡ length (indicators_at t).2 + length (indicators_at t).3
 indicators_length t = ap length (indicators_takes t).0 ∙ length-append (indicators_at t).2 (indicators_at t).3
@@ -62,17 +46,9 @@ tail_low b l h = search (rules, ⊎_elim, eqb-true, or_cases, white_drop, and_pa
 abbrev pub NoIndicator : List ℕ → Type 0
 NoIndicator t = (digit_at t ≡ (None, t)) × (sign_at t ≡ (chompings.Clip, t))
 
-low_no_indicator : (b : ℕ) (t : List ℕ) → b ≤ 32 → NoIndicator (b ∷ t)
-low_no_indicator b t h =
-    let digit : (leb 49 b && leb b 57) ≡ false = false_from_ne_true _ (λ e. let k : 49 ≤ b = leb-true 49 b (and_parts (leb 49 b) (leb b 57) e).0 in absurd (omega arith)) in
-    let minus : eqb b 45 ≡ false = false_from_ne_true _ (λ e. let k : b ≡ 45 = eqb-true b 45 e in absurd (omega arith)) in
-    let plus : eqb b 43 ≡ false = false_from_ne_true _ (λ e. let k : b ≡ 43 = eqb-true b 43 e in absurd (omega arith)) in
-    (rw digit refl, rw (minus, plus) refl)
-
 pub tail_no_indicator : (p t : List ℕ) → is_tail p ≡ true → NoIndicator (p ++ t)
 unfolding is_line
-tail_no_indicator [] t h = absurd (false≢true (and_parts false true h).0)
-tail_no_indicator (b ∷ p) t h = low_no_indicator b (p ++ t) (tail_low b p (and_parts (is_line (b ∷ p)) (is_blank (b ∷ p) || (front is_white (b ∷ p) && is_hash (past_white (b ∷ p)))) h).1)
+tail_no_indicator p t h = search (rules, false≢true, and_parts, tail_low)
 
 -- digit and sign
 digit_again : (d : ℕ) (t : List ℕ) → 1 ≤ d → d ≤ 9 → digit_at ((48 + d) ∷ t) ≡ (Some d, t)

@@ -1,5 +1,5 @@
 -- The inline node at an offset, read and spelled.
-use Rattle.std.proofs.Common.{◌≡◌, ℕ, ◌-◌, not, List, length, drop, Some, subst, ℤ, Result, Ok, Err, IfOk, rules}
+use Rattle.std.proofs.Common.{◌≡◌, ℕ, ◌-◌, not, List, length, drop, Some, subst, ℤ, Result, IfOk, rules}
 use Rattle.std.proofs.lemmas.Option.{cond_some, same_Some}
 use Rattle.yq_core.{specs.Answers.{ReadError, Gives}, specs.declared.style.Place.Place, specs.Piece.further_spaces, specs.Writable.in_flow}
 use Rattle.yq_core.{proofs.Bools.bind_some, specs.Inline.{depth_limit, IsInlineAt, inline_at}, specs.Places.{Placed, bare_placed}}
@@ -21,8 +21,7 @@ pub inline_again : (place : Place) (n : ℤ) (depth at : ℕ) (text : List ℕ) 
 inline_again place n depth at text p h = search (rules, all_again, bare_locate)
 
 pub found_by : {X : Type 0} (v : X → Placed) (place : Place) (n : ℤ) (depth at : ℕ) (text : List ℕ) (r : Result X ReadError) → Gives v r (inline_at place n depth at text) → IfOk r (λ x. IsInlineAt place n depth at text (v x))
-found_by v place n depth at text (Ok x) h = inline_takes place n depth at text (v x) h
-found_by v place n depth at text (Err e) h = tt
+found_by v place n depth at text r h = search (rules, inline_takes)
 
 pub only_by : {X : Type 0} (v : X → Placed) (place : Place) (n : ℤ) (depth at : ℕ) (text : List ℕ) (r : Result X ReadError) → Gives v r (inline_at place n depth at text) → (p : Placed) → IsInlineAt place n depth at text p → Gives v r (Some p)
 only_by v place n depth at text r h p a = subst (Gives v r) (inline_again place n depth at text p a) h

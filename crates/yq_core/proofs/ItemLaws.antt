@@ -1,23 +1,17 @@
 -- What the items of a scalar mean, and where a text may be cut.
-use Rattle.std.proofs.Common.{◌≡◌, ℕ, zero, suc, ◌<◌, ◌≤◌, Bool, true, false, eqb, List, [], ◌∷◌, ◌++◌, length, take, drop, get_or, Some}
-use Rattle.std.proofs.Common.{None, refl, sym, inl, inr, ◌&&◌, ◌||◌, ap, ◌∙◌, subst, arith, eqb-true, append-nil, length-drop, rules}
+use Rattle.std.proofs.Common.{◌≡◌, ℕ, suc, ◌<◌, ◌≤◌, Bool, true, false, eqb, List, [], ◌∷◌, ◌++◌, length, take, drop, get_or, Some, None}
+use Rattle.std.proofs.Common.{refl, sym, inl, inr, ap, ◌∙◌, arith, eqb-true, append-nil, length-drop, rules}
 use Rattle.std.{proofs.lemmas.Bool.{false≢true, or_cases, cases_lt, and_parts, cases_Bool, or_parts}, proofs.lemmas.List.take-append-drop}
 use Rattle.std.{proofs.Math.Utf8.encode, specs.Str.{IsUtf8, IsCharBoundary}}
-use Rattle.yq_core.{specs.Text.{is_white, is_break, is_feed, is_return, is_space, front, upto, NoneIn}, specs.Quoted.joined}
-use Rattle.yq_core.specs.QuotedReading.{leading_escape}
-use Rattle.yq_core.specs.ContentReading.{BlankBefore, within, after, item_with_blanks, content_on, break_len, before_of, is_pair, is_slash}
-use Rattle.yq_core.{specs.ContentReading.ends_run, specs.Plain.no_gap, proofs.Upto.{upto_le_length, none_in_cut}}
+use Rattle.yq_core.{specs.Text.{is_break, is_space, front, upto, NoneIn}, specs.Quoted.joined, specs.QuotedReading.leading_escape}
+use Rattle.yq_core.specs.ContentReading.{BlankBefore, within, after, content_on, break_len, before_of, is_pair, is_slash, ends_run}
+use Rattle.yq_core.{specs.Plain.no_gap, proofs.Upto.{upto_le_length, none_in_cut}}
 use Rattle.yq_core.proofs.Boundaries.{boundary_ends, space_ascii, break_ascii, boundary_behind}
 use Rattle.yq_core.proofs.EscapeLaws.{escape_ascii, escape_within}
 
 -- bytes that are all ASCII
 low_at : (b : ℕ) (bs : List ℕ) (n k : ℕ) → b < 128 → ((j : ℕ) → j < n → get_or bs j 0 < 128) → k < suc n → get_or (b ∷ bs) k 0 < 128
-low_at b bs n zero low rest lt = low
-low_at b bs n (suc k) low rest lt = rest k (omega arith)
-
-first_low : (b : ℕ) (bs : List ℕ) (k : ℕ) → b < 128 → k < 1 → get_or (b ∷ bs) k 0 < 128
-first_low b bs zero low lt = low
-first_low b bs (suc k) low lt = absurd (omega arith)
+low_at b bs n k low rest lt = search rules
 
 space_low : (t : List ℕ) (k : ℕ) → k < upto no_gap t → get_or t k 0 < 128
 unfolding upto
@@ -39,9 +33,8 @@ boundary_run q t n e = rw e (boundary_ends (ends_run q) t (run_ascii q) refl)
 -- bytes that are passed over
 content_skip : (q k : ℕ) (g : BlankBefore) (w t : List ℕ) → content_on q k g w t ≡ content_on q 0 g w (drop k t)
 unfolding content_on
-content_skip q zero g w t = refl
-content_skip q (suc k) g w [] = refl
 content_skip q (suc k) g w (b ∷ t) = content_skip q k g w t
+content_skip q _ g w _ = refl
 
 at_break : (bs : List ℕ) → is_break bs ≡ true → content_on 34 0 within [] (92 ∷ bs) ≡ content_on 34 0 (after (joined 0)) [] (drop (break_len bs) bs)
 unfolding content_on
@@ -51,27 +44,20 @@ at_none : (bs : List ℕ) → is_break bs ≡ false → leading_escape bs ≡ No
 unfolding content_on
 at_none bs e n = rw (e, n) refl
 
-at_some : (bs : List ℕ) (c k : ℕ) → is_break bs ≡ false → leading_escape bs ≡ Some (c, k) → content_on 34 0 within [] (92 ∷ bs) ≡ encode c ++ content_on 34 0 within [] (drop k bs)
-unfolding content_on
-at_some bs c k e n = rw (e, n) (ap (λ l. encode c ++ l) (content_skip 34 k within [] bs))
-
 -- an escape in front
 pub escape_break : (t : List ℕ) → front (λ b. eqb b 92) t ≡ true → is_break (drop 1 t) ≡ true → content_on 34 0 within [] t ≡ content_on 34 0 (after (joined 0)) [] (drop (break_len (drop 1 t)) (drop 1 t))
-escape_break [] h e = absurd (false≢true h)
-escape_break (b ∷ bs) h e = subst (λ (x : ℕ). content_on 34 0 within [] (x ∷ bs) ≡ content_on 34 0 (after (joined 0)) [] (drop (break_len bs) bs)) (sym (eqb-true b 92 h)) (at_break bs e)
+escape_break t h e = search (rules, false≢true, at_break)
 
 pub escape_none : (t : List ℕ) → front (λ b. eqb b 92) t ≡ true → is_break (drop 1 t) ≡ false → leading_escape (drop 1 t) ≡ None → content_on 34 0 within [] t ≡ content_on 34 0 within [] (drop 1 t)
-escape_none [] h e n = absurd (false≢true h)
-escape_none (b ∷ bs) h e n = subst (λ (x : ℕ). content_on 34 0 within [] (x ∷ bs) ≡ content_on 34 0 within [] bs) (sym (eqb-true b 92 h)) (at_none bs e n)
+escape_none t h e n = search (rules, false≢true, at_none)
 
 pub escape_some : (t : List ℕ) (c k : ℕ) → front (λ b. eqb b 92) t ≡ true → is_break (drop 1 t) ≡ false → leading_escape (drop 1 t) ≡ Some (c, k) → content_on 34 0 within [] t ≡ encode c ++ content_on 34 0 within [] (drop k (drop 1 t))
-escape_some [] c k h e n = absurd (false≢true h)
-escape_some (b ∷ bs) c k h e n = subst (λ (x : ℕ). content_on 34 0 within [] (x ∷ bs) ≡ encode c ++ content_on 34 0 within [] (drop k bs)) (sym (eqb-true b 92 h)) (at_some bs c k e n)
+unfolding content_on
+escape_some t c k h e n = search (rules, false≢true, encode, content_skip)
 
 -- where it may be cut
 pub boundary_slash : (t : List ℕ) → front (λ b. eqb b 92) t ≡ true → IsUtf8 t → IsCharBoundary t 1
-boundary_slash [] h u = absurd (false≢true h)
-boundary_slash (b ∷ bs) h u = boundary_behind (b ∷ bs) 1 u (omega arith) (λ k lt. first_low b bs k (omega (arith, eqb-true b 92 h)) lt)
+boundary_slash t h u = search (rules, false≢true, boundary_behind)
 
 break_within : (t : List ℕ) → is_break t ≡ true → break_len t ≤ length t
 break_within t h1 = search (rules, false≢true, cases_Bool, and_parts)
@@ -89,29 +75,17 @@ boundary_escape t c k h u = boundary_behind t k u (escape_within t c k h) (escap
 pub content_itself : (q : ℕ) (p rest : List ℕ) → NoneIn (ends_run q) p rest → content_on q 0 within [] (p ++ rest) ≡ p ++ content_on q 0 within [] rest
 unfolding content_on
 content_itself q [] rest h = refl
-content_itself q (b ∷ p) rest h =
-    let x = or_parts (is_space (b ∷ (p ++ rest)) || is_pair q (b ∷ (p ++ rest))) (is_slash q (b ∷ (p ++ rest))) h.0 in
-    let y = or_parts (is_space (b ∷ (p ++ rest))) (is_pair q (b ∷ (p ++ rest))) x.0 in
-    let z = or_parts (is_white b) (is_break (b ∷ (p ++ rest))) y.0 in
-    let n = or_parts (is_feed b) (is_return b && front is_feed (p ++ rest)) z.1 in
-    rw (z.0, n.0, n.1, x.1, y.1) (ap (λ l. b ∷ l) (content_itself q p rest h.1))
-
--- two single quotes
-pair_front : (before : BlankBefore) (w bs : List ℕ) → content_on 39 0 before w (39 ∷ 39 ∷ bs) ≡ item_with_blanks before w ++ (39 ∷ content_on 39 0 within [] bs)
-unfolding content_on
-pair_front before w bs = refl
+content_itself q (b ∷ p) rest h = search (rules, or_parts, content_itself q p rest h.1)
 
 pub content_pair : (q : ℕ) (t : List ℕ) → is_pair q t ≡ true → content_on q 0 within [] t ≡ 39 ∷ content_on q 0 within [] (drop 2 t)
-content_pair q t h1 = search (rules, false≢true, and_parts, eqb-true, pair_front)
+unfolding content_on
+content_pair q t h1 = search (rules, false≢true, and_parts, eqb-true)
 
 pair_low : (q : ℕ) (t : List ℕ) → is_pair q t ≡ true → (k : ℕ) → k < 2 → get_or t k 0 < 128
 pair_low q t h1 k h2 = search (rules, false≢true, and_parts, eqb-true)
 
-pair_within : (q : ℕ) (t : List ℕ) → is_pair q t ≡ true → 2 ≤ length t
-pair_within q t h1 = search (rules, false≢true, and_parts)
-
 pub boundary_pair : (q : ℕ) (t : List ℕ) → is_pair q t ≡ true → IsUtf8 t → IsCharBoundary t 2
-boundary_pair q t h u = boundary_behind t 2 u (pair_within q t h) (pair_low q t h)
+boundary_pair q t h u = boundary_behind t 2 u (search (rules, false≢true, and_parts)) (pair_low q t h)
 
 pub content_run : (q : ℕ) (t : List ℕ) → content_on q 0 within [] t ≡ take (upto (ends_run q) t) t ++ content_on q 0 within [] (drop (upto (ends_run q) t) t)
 content_run q t = ap (content_on q 0 within []) (sym (take-append-drop (upto (ends_run q) t) t)) ∙ content_itself q (take (upto (ends_run q) t) t) (drop (upto (ends_run q) t) t) (none_in_cut (ends_run q) t)
@@ -127,8 +101,7 @@ cut_shorter ends (b ∷ bs) r e some h = search (rules, length-drop)
 
 -- a run begins where neither white space, a break, two quotes nor a backslash is in front
 pub runs_on : (q : ℕ) (t : List ℕ) → 0 < length t → is_space t ≡ false → is_pair q t ≡ false → is_slash q t ≡ false → ends_run q t ≡ false
-runs_on q [] some space pair slash = absurd (omega (arith, some))
-runs_on q (b ∷ bs) some space pair slash = rw (space, pair, slash) refl
+runs_on q t some space pair slash = search rules
 
 -- what is shorter than a text that is no longer
 pub shorter_still : (x next all : ℕ) → next ≤ all → x ≤ next → (0 < next → x < next) → 0 < all → x < all

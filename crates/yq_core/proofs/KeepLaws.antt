@@ -1,9 +1,10 @@
 -- Bytes that keep apart from the text after them: gaps, and nodes that are something.
-use Rattle.std.proofs.Common.{◌≡◌, inl, inr, ℕ, Bool, true, false, List, [], ◌∷◌, ◌++◌, Some, refl, sym, ◌∙◌, subst, arith, Option, rules}
+use Rattle.std.proofs.lemmas.Grind.{common_steps}
+use Rattle.std.proofs.Common.{◌≡◌, inl, inr, ℕ, Bool, true, false, List, [], ◌∷◌, ◌++◌, Some, refl, sym, ◌∙◌, arith, Option, rules}
 use Rattle.std.{proofs.Math.Bool.and-false, proofs.lemmas.Bool.{false≢true, or_right, not-true, cond_both, cases_Bool, or_parts}}
-use Rattle.yq_core.{specs.Text.{front, is_feed, is_space, is_marker}, specs.declared.gap.GapPlace.GapPlace}
+use Rattle.yq_core.{specs.Text.{front, is_feed, is_marker}, specs.declared.gap.GapPlace.GapPlace}
 use Rattle.yq_core.{specs.declared.gap.GapPlace.TheVariants.Token, specs.Alike.{Alike, after, fresh, KeepsApart}}
-use Rattle.yq_core.specs.Gaps.{goes, next_gap_place, gap_place_after, at_line_start as at_break, AllGo, stops, IsInlineGap}
+use Rattle.yq_core.specs.Gaps.{goes, next_gap_place, gap_place_after, at_line_start as at_break, AllGo, IsInlineGap}
 use Rattle.yq_core.specs.Nodes.{FlowNode, empty, alias, scalar, coll, anchored, node_text, flow_items_text, opening_bracket, begins_content}
 use Rattle.yq_core.{specs.Nodes.{begins_node, is_empty_node, takes_anchor, IsFlowNode}, specs.Scalars.IsScalarAt}
 use Rattle.yq_core.{proofs.Alikes.{alike_append, alike_space, alike_marker}, proofs.NodesPieceLaws.{scalar_begins, scalar_some}}
@@ -34,13 +35,10 @@ pub go_front : (s : GapPlace) (g x y : List ℕ) → front is_feed x ≡ front i
 go_front s [] x y h a = tt
 go_front s (b ∷ g) x y h a = (sym (goes_front s b (g ++ x) (g ++ y) (front_append g x y h)) ∙ a.0, go_front (next_gap_place s b) g x y h a.1)
 
-stops_keeps : (s : GapPlace) (b : ℕ) (x y : List ℕ) → (is_space (b ∷ x) ≡ false → is_space (b ∷ y) ≡ false) → stops s (b ∷ x) ≡ true → stops s (b ∷ y) ≡ true
-stops_keeps s b x y h1 h2 = search (rules, not-true, or_parts, false≢true)
-
 pub gap_keeps : (g : List ℕ) (b : ℕ) (p t u : List ℕ) → KeepsApart (fresh false g) (b ∷ p) t u → IsInlineGap g (b ∷ (p ++ t)) → IsInlineGap g (b ∷ (p ++ u))
 gap_keeps g b p t u keeps h = record {
   inside = go_front Token g (b ∷ (p ++ t)) (b ∷ (p ++ u)) refl h.inside;
-  ends = stops_keeps (gap_place_after Token g) b (p ++ t) (p ++ u) keeps.0 h.ends;
+  ends = search (rules, not-true, or_parts, false≢true);
   unmarked = elim (cases_Bool (at_break (gap_place_after Token g))) [
     | inl e ↦ (let m : is_marker (b ∷ (p ++ t)) ≡ false = rw e at h.unmarked in rw (keeps.1 (sym (behind_fresh Token g) ∙ e) m) (and-false (at_break (gap_place_after Token g))))
     | inr e ↦ rw e refl
@@ -78,10 +76,7 @@ some_text d (anchored n g node) rest e h = (38, (n ++ (g ++ node_text node []), 
 
 -- a gap before a text that isn't empty
 pub gap_some : (g x t u : List ℕ) → NotEmpty x → KeepsApart (fresh false g) x t u → IsInlineGap g (x ++ t) → IsInlineGap g (x ++ u)
-gap_some g x t u s keeps h =
-    let k : KeepsApart (fresh false g) (s.0 ∷ s.1.0) t u = subst (λ (l : List ℕ). KeepsApart (fresh false g) l t u) s.1.1 keeps in
-    let old : IsInlineGap g (s.0 ∷ (s.1.0 ++ t)) = subst (λ (l : List ℕ). IsInlineGap g (l ++ t)) s.1.1 h in
-    subst (λ (l : List ℕ). IsInlineGap g (l ++ u)) (sym s.1.1) (gap_keeps g s.0 s.1.0 t u k old)
+gap_some g x t u s keeps h = grind (arith, common_steps, gap_keeps)
 
 pub gap_node : (g : List ℕ) (d : ℕ) (n : FlowNode) (t u : List ℕ) → is_empty_node n ≡ false → IsFlowNode true (Some 0) d n t → KeepsApart (fresh false g) (node_text n []) t u → IsInlineGap g (node_text n t) → IsInlineGap g (node_text n u)
 gap_node g d n t u some h keeps gap = search (rules, node_then, gap_some, some_text)

@@ -15,12 +15,10 @@ begun begins x [] r is gap nope b n = false≢true (sym nope ∙ subst (λ (l : 
 begun begins x (c ∷ g) r is gap nope b n = false≢true (sym (node_no_space c (g ++ r) (subst (λ (l : List ℕ). begins_node true l ≡ true) is n)) ∙ gap.inside.0)
 
 pub lead_gap : (begins : List ℕ → Bool) (g x : List ℕ) → begins x ≡ true → begins_node true x ≡ true → IsLead true begins g x → IsInlineGap g x
-lead_gap begins g x b n (inl h) = h.0
-lead_gap begins g x b n (inr h) = absurd (begun begins x h.1.0 h.1.1 h.1.2 h.1.3 h.1.4 b n)
+lead_gap begins g x b n h = search rules
 
 pub lead_none : (begins : List ℕ → Bool) (g x : List ℕ) → begins x ≡ false → IsLead true begins g x → g ≡ []
-lead_none begins g x b (inl h) = absurd (false≢true (sym b ∙ h.1))
-lead_none begins g x b (inr h) = h.0
+lead_none begins g x b h = search rules
 
 -- keys
 no_quote : (p r : List ℕ) → is_quoted p ≡ true → begins_plain true (p ++ r) ≡ false
@@ -35,12 +33,10 @@ quoted_key p b x y q gap (inl h) = absurd (false≢true (sym (no_quote p (b ++ (
 quoted_key p b x y q gap (inr h) = inr ((h.0.0, (h.0.1.0, quoted_any h.0.0 h.0.1.0 p (b ++ (58 ∷ x)) (b ++ (58 ∷ y)) (gap_quote b x y gap) h.0.1.1)), h.1)
 
 no_separates : (x : List ℕ) → begins_node true x ≡ true → (separates x || (begins_with 44 x || begins_with 125 x)) ≡ false
-no_separates [] h = absurd (false≢true h)
-no_separates (b ∷ x) h = rw (node_no_space b x h, front_not (begins_node true) 44 (λ cs. refl) (b ∷ x) h, front_not (begins_node true) 125 (λ cs. refl) (b ∷ x) h) refl
+no_separates x h = search rules
 
 pub or_left_true : (a b : Bool) → b ≡ false → (a || b) ≡ true → a ≡ true
-or_left_true true b h e = refl
-or_left_true false b h e = absurd (false≢true (sym h ∙ e))
+or_left_true a b h e = search rules
 
 -- a key comes before another node that may come after its gap
 pub key_front : (k : ℕ) (p b g x y : List ℕ) → begins_node true x ≡ true → begins_node true y ≡ true → IsInlineGap g y → IsInlineKey k (keyed p b g) x → IsInlineKey k (keyed p b g) y

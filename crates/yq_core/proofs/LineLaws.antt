@@ -1,6 +1,6 @@
 -- The lines of a text.
-use Rattle.std.proofs.Common.{◌≡◌, ℕ, suc, ◌<◌, ◌≤◌, true, false, List, [], ◌∷◌, ◌++◌, length, take, drop, refl, sym, ap, ◌∙◌, inl, inr}
-use Rattle.std.{proofs.Common.{◌⊎◌, ⊎_elim, arith, append_assoc, rules}, proofs.lemmas.Bool.{false≢true, cond_both, cases_Bool}}
+use Rattle.std.proofs.Common.{◌≡◌, ℕ, suc, ◌<◌, ◌≤◌, true, false, List, [], ◌∷◌, ◌++◌, length, take, drop, refl, sym, ap, ◌∙◌, inl, ◌⊎◌}
+use Rattle.std.{proofs.Common.{⊎_elim, arith, append_assoc, rules}, proofs.lemmas.Bool.{false≢true, cond_both, cases_Bool}}
 use Rattle.yq_core.specs.Text.{line_len, text_lines, put_byte, joined, is_line, is_empty, is_feed}
 
 pub line_first : (b : ℕ) (bs : List ℕ) → text_lines (b ∷ bs) ≡ take (line_len (b ∷ bs)) (b ∷ bs) ∷ text_lines (drop (line_len (b ∷ bs)) (b ∷ bs))
@@ -22,14 +22,10 @@ unfolding line_len
 line_len_within [] = omega arith
 line_len_within (b ∷ bs) = let again = line_len_within bs in cond_both (is_feed b) 1 (suc (line_len bs)) (λ n. n ≤ length (b ∷ bs)) (λ _. omega arith) (λ _. omega arith)
 
-joined_put : (b : ℕ) (ls : List (List ℕ)) → joined (put_byte b ls) ≡ b ∷ joined ls
-joined_put b [] = refl
-joined_put b (l ∷ ls) = refl
-
 pub joined_lines : (t : List ℕ) → joined (text_lines t) ≡ t
 unfolding text_lines
 joined_lines [] = refl
-joined_lines (b ∷ bs) = search (rules, ⊎_elim, joined_put, cases_Bool, joined_lines bs)
+joined_lines (b ∷ bs) = search (rules, ⊎_elim, cases_Bool, joined_lines bs)
 
 -- each line but the last has a break
 abbrev pub AreLines : List (List ℕ) → Type 0
@@ -38,8 +34,7 @@ AreLines (l ∷ ls) = ((is_line l ≡ true) ⊎ (ls ≡ [])) × AreLines ls
 
 are_put : (b : ℕ) (ls : List (List ℕ)) → is_feed b ≡ false → AreLines ls → AreLines (put_byte b ls)
 unfolding is_line
-are_put b [] n h = (inr refl, tt)
-are_put b (l ∷ ls) n h = (⊎_elim {0, 0, 0} (λ e. inl (rw n e)) (λ e. inr e) h.0, h.1)
+are_put b ls n h = search rules
 
 pub lines_are : (t : List ℕ) → AreLines (text_lines t)
 unfolding text_lines is_line
@@ -47,8 +42,7 @@ lines_are [] = tt
 lines_are (b ∷ bs) = cond_both (is_feed b) ((b ∷ []) ∷ text_lines bs) (put_byte b (text_lines bs)) AreLines (λ h. (inl (rw h refl), lines_are bs)) (λ h. are_put b (text_lines bs) h (lines_are bs))
 
 pub is_empty_is : (t : List ℕ) → is_empty t ≡ true → t ≡ []
-is_empty_is [] h = refl
-is_empty_is (b ∷ t) h = absurd (false≢true h)
+is_empty_is t h = search rules
 
 pub lines_again : (l t : List ℕ) → is_line l ≡ true → text_lines (l ++ t) ≡ l ∷ text_lines t
 unfolding text_lines is_line

@@ -1,7 +1,7 @@
 -- A node outside flow collections before one text is one before a text that is alike.
 use Rattle.std.proofs.Common.{◌≡◌, inl, inr, ℕ, zero, suc, true, false, not, List, [], ◌∷◌, ◌++◌, Option, Some, refl, sym, ap, ◌∙◌, subst}
 use Rattle.std.{proofs.Common.rules, proofs.lemmas.Bool.{false≢true, not-false, or_parts}}
-use Rattle.yq_core.{specs.Text.{is_white, is_break}, proofs.Bools.at_byte, specs.Alike.{ends_lookahead, Alike, stop, colon, byte, after}}
+use Rattle.yq_core.{specs.Text.{is_white, is_break}, proofs.Bools.at_byte, specs.Alike.{Alike, stop, colon, byte, after}}
 use Rattle.yq_core.specs.Nodes.{FlowNode, empty, alias, scalar, coll, anchored, node_text, flow_items_text, begins_content, IsApart, IsLead}
 use Rattle.yq_core.{specs.Nodes.IsFlowNode, proofs.Alikes.{alike_append, alike_unless, alike_first, alike_content, alike_none}}
 use Rattle.yq_core.proofs.AlikePieces.{scalar_alike, name_alike, gap_alike}
@@ -20,9 +20,7 @@ black b c is none h = false≢true (sym none ∙ subst (λ (k : ℕ). is_white k
 
 none_kept : (t u : List ℕ) → Alike (Some false) t u → (g r : List ℕ) → t ≡ g ++ r → IsApart false g r → begins_content false r ≡ false → HasNone u
 none_kept t u h [] r e a none_here = search (rules, alike_unless, alike_content)
-none_kept _ _ (stop {b = c} x) (b ∷ g) r e a none_here =
-    let none : is_white c ≡ false = rw (at_byte ends_lookahead c 32 x refl, at_byte ends_lookahead c 9 x refl) refl in
-    absurd (black b c (cc) none a.0.0)
+none_kept _ _ (stop {b = c} x) (b ∷ g) r e a none_here = search (rules, at_byte, black)
 none_kept _ _ (colon {t = t} {u = u} x y) (b ∷ g) r e a none_here = absurd (black b 58 (cc) refl a.0.0)
 none_kept _ _ (byte {b = c} {t = t} {u = u} v w x y) (b ∷ g) r e a none_here = absurd (black b c (cc) (or_parts (is_white c) (is_break (c ∷ t)) v).0 a.0.0)
 none_kept _ _ (after {b = c} {t = t} {u = u} h) (b ∷ g) r e a none_here =

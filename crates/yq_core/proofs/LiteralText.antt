@@ -1,8 +1,7 @@
 -- What a literal scalar holds as it is can be written so.
-use Rattle.std.proofs.Common.{◌≡◌, ℕ, Bool, true, false, not, ◌&&◌, eqb, List, [], ◌∷◌, length, refl, sym, ap, ◌∙◌, inl, inr, ◌⊎◌, ⊎_elim}
-use Rattle.std.proofs.Common.{arith, eqb-true, rules, ◌≤◌}
-use Rattle.std.{proofs.lemmas.Bool.{false≢true, false_from_ne_true, not-true, and_parts, cases_Bool}, specs.Str.{IsUtf8, chars}}
-use Rattle.std.{specs.List.{ends_with, list_all}, specs.Prelude.nat_eq, proofs.Math.Dec.eqb-suc-zero}
+use Rattle.std.proofs.Common.{◌≡◌, ℕ, Bool, true, false, not, ◌&&◌, eqb, List, [], ◌∷◌, length, refl, sym, ap, ◌∙◌, inr, ◌⊎◌, ⊎_elim, arith}
+use Rattle.std.{proofs.Common.{eqb-true, rules, ◌≤◌}, proofs.lemmas.Bool.{false≢true, false_from_ne_true, not-true, and_parts, cases_Bool}}
+use Rattle.std.{specs.Str.{IsUtf8, chars}, specs.List.{ends_with, list_all}, specs.Prelude.nat_eq, proofs.Math.Dec.eqb-suc-zero}
 use Rattle.yq_core.proofs.BlockWrittenHeader.{some_lines, ends_next}
 use Rattle.yq_core.{proofs.BlockWrittenLaws.{ends_some, CanWrite, written_is, written_content}, proofs.BlockWrittenLines.{NoCr, text_next}}
 use Rattle.yq_core.{proofs.Bools.{at_byte, not_byte}, proofs.Bytes.{Each, each_byte}}
@@ -18,13 +17,11 @@ byte_some b l e n = rw (text_next b l e n) (rw (eqb-suc-zero (length (text_of_li
 
 put_some : (b : ℕ) (l : List ℕ) (ls : RawLines) → eqb b 10 ≡ false → eqb b 13 ≡ false → (no_lines ls ≡ false → ends_some (l ∷ ls) ≡ true) → ends_some (put_byte b (l ∷ ls)) ≡ true
 unfolding ends_some
-put_some b l [] e n h = byte_some b l e n
-put_some b l (k ∷ ls) e n h = h refl
+put_some b l ls e n h = search (rules, byte_some)
 
 more_lines : (c : ℕ) (t l : List ℕ) (ls : RawLines) → text_lines (c ∷ t) ≡ l ∷ ls → no_lines ls ≡ false → is_empty t ≡ false
 unfolding text_lines
-more_lines c [] l ls e k = search (rules, ⊎_elim, cases_Bool, false≢true)
-more_lines c (x ∷ t) l ls e k = refl
+more_lines c t l ls e k = search rules
 
 -- two LFs at the end
 abbrev feeds : List ℕ
@@ -63,11 +60,7 @@ literal_can (b ∷ s) u h =
     let p = and_parts (white && feed_ && not (ends_with nat_eq (b ∷ s) feeds)) (list_all is_literal_char (chars (b ∷ s))) h in
     let q = and_parts (white && feed_) (not (ends_with nat_eq (b ∷ s) feeds)) p.0 in
     let plain = literal_cr (b ∷ s) u p.1 in
-    record {
-      begins = q.0;
-      ends = ends_is b s plain (not-true (ends_with nat_eq (b ∷ s) feeds) q.1) (inl (not-true (eqb b 10) (and_parts white feed_ q.0).1));
-      plain = plain;
-    }
+    search (rules, ends_is, not-true, and_parts)
 
 can_text : (s : ScalarText) → can_write s styles.Literal places.Block ≡ true → is_literal_text s.text ≡ true
 can_text s h = (and_parts (is_string s.kind && true) (is_literal_text s.text) h).1

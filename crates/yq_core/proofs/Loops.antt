@@ -37,8 +37,7 @@ entries_push [] e rest = refl
 entries_push (y ∷ es) e rest = ap (part (Some (string_bytes y.0, y.1)) (inline_view y.2)) (entries_push es e rest)
 
 behind_entry : (es : List Entry) (e : Entry) (o : Option (Parts × List ℕ)) → behind_entries (es ++ e ∷ []) o ≡ behind_entries es (o >>= λ y. Some (part (Some (string_bytes e.0, e.1)) (inline_view e.2) y.0, y.1))
-behind_entry es e (Some y) = ap (λ s. Some (s, y.1)) (entries_push es e y.0)
-behind_entry es e None = refl
+behind_entry es e o = search (rules, entries_push)
 
 -- one entry more
 pub entries_on : (total d : ℕ) (es entries : List Entry) (e : Entry) (t s : List ℕ) (all : Option (Parts × List ℕ)) → begins_with 125 t ≡ false → placed_entry total d t ≡ Some (((string_bytes e.0, e.1), inline_view e.2), s) →

@@ -3,9 +3,9 @@ use Rattle.std.proofs.Common.{◌≡◌, ℕ, zero, suc, ◌≤◌, ◌<◌, Boo
 use Rattle.std.proofs.Common.{None, refl, sym, ap, ◌∙◌, ⊎_elim, arith, length-append, eqb-true, eq-eqb, rules}
 use Rattle.std.proofs.lemmas.Bool.{false≢true, cond_both, not-true, or_cases}
 use Rattle.yq_core.{specs.Text.is_empty, specs.Answers.◌>>=◌, specs.Gaps.IsInlineGap, specs.Scalars.{IsScalarAt, begins_scalar}}
-use Rattle.yq_core.specs.Nodes.{begins_with, Key, bare, keyed, Sep, last, comma, FlowNode, empty, alias, scalar, coll, anchored, Items}
-use Rattle.yq_core.specs.Nodes.{none, item, key_text, sep_text, node_text, flow_items_text, begins_content, IsLead, IsName, IsInlineKey}
-use Rattle.yq_core.specs.Nodes.{is_keyed, is_empty_node, takes_anchor, IsFlowNode, AreFlowItems, is_close, opening_bracket}
+use Rattle.yq_core.specs.Nodes.{begins_with, Key, Sep, FlowNode, empty, alias, scalar, coll, anchored, Items, none, item, key_text}
+use Rattle.yq_core.specs.Nodes.{sep_text, node_text, flow_items_text, begins_content, IsLead, IsName, IsInlineKey, is_keyed, is_empty_node}
+use Rattle.yq_core.specs.Nodes.{takes_anchor, IsFlowNode, AreFlowItems, is_close, opening_bracket}
 use Rattle.yq_core.{specs.Reading.{sep_at, Kids, read_collection, read_core, read_node, one_level_less, items_at}, proofs.GapLaws.gap_again}
 use Rattle.yq_core.proofs.NodesPieceLaws.{scalar_begins, scalar_again, name_again, lead_again, key_again, sep_again, front_not, scalar_some}
 use Rattle.yq_core.proofs.NodeTakes.{key_in}
@@ -51,16 +51,10 @@ anchored_node flow spaces kids n g node rest name lead apart takes h = search (r
 
 -- what follows is shorter
 pub sep_longer : (s : Sep) (rest : List ℕ) → length rest ≤ length (sep_text s rest)
-sep_longer (last b) rest = omega (arith, length-append b rest)
-sep_longer (comma b g) rest = omega (arith, length-append b (44 ∷ (g ++ rest)), length-append g rest)
+sep_longer s rest = search (rules, length-append)
 
 pub key_longer : (key : Key) (rest : List ℕ) → length rest ≤ length (key_text key rest)
-key_longer bare rest = omega arith
-key_longer (keyed t b g) rest = omega (arith, length-append t (b ++ (58 ∷ (g ++ rest))), length-append b (58 ∷ (g ++ rest)), length-append g rest)
-
-keyed_longer : (key : Key) (rest : List ℕ) → is_keyed key ≡ true → length rest < length (key_text key rest)
-keyed_longer bare rest h = absurd (false≢true h)
-keyed_longer (keyed t b g) rest h = omega (arith, length-append t (b ++ (58 ∷ (g ++ rest))), length-append b (58 ∷ (g ++ rest)), length-append g rest)
+key_longer key rest = search (rules, length-append)
 
 mutual
   unfolding node_text flow_items_text
@@ -77,36 +71,23 @@ mutual
   items_longer k (item key n s is) rest =
       omega (arith, items_longer k is rest, sep_longer s (flow_items_text k is rest), node_longer n (sep_text s (flow_items_text k is rest)), key_longer key (node_text n (sep_text s (flow_items_text k is rest))))
 
-some_longer : (flow : Bool) (spaces : Option ℕ) (d : ℕ) (node : FlowNode) (rest : List ℕ) → is_empty_node node ≡ false → IsFlowNode flow spaces d node rest → length rest < length (node_text node rest)
-unfolding node_text IsFlowNode
-some_longer flow spaces d empty rest e h = absurd (false≢true (sym e))
-some_longer flow spaces d (alias n) rest e h = omega (arith, length-append n rest)
-some_longer flow spaces d (scalar p) rest e h = omega (arith, length-append p rest, scalar_some flow spaces p rest h)
-some_longer flow spaces d (coll k g is) rest e h = omega (arith, length-append g (flow_items_text k is rest), items_longer k is rest)
-some_longer flow spaces d (anchored n g node) rest e h = omega (arith, length-append n (g ++ node_text node rest), length-append g (node_text node rest), node_longer node rest)
-
 pub item_longer : (flow : Bool) (spaces : Option ℕ) (d : ℕ) (key : Key) (node : FlowNode) (rest : List ℕ) → (is_keyed key || not (is_empty_node node)) ≡ true → IsFlowNode flow spaces d node rest → length rest < length (key_text key (node_text node rest))
-item_longer flow spaces d key node rest e h = ⊎_elim
-    (λ k. omega (arith, keyed_longer key (node_text node rest) k, node_longer node rest))
-    (λ b. omega (arith, key_longer key (node_text node rest), some_longer flow spaces d node rest (not-true (is_empty_node node) b) h))
-    (or_cases (is_keyed key) (not (is_empty_node node)) e)
+unfolding node_text IsFlowNode
+item_longer flow spaces d key node rest e h = search (rules, false≢true, length-append, node_longer, key_longer, scalar_some, items_longer, not-true, or_cases)
 
 -- what an item doesn't begin with
 close_letter : (k : ℕ) → is_close k ≡ true → ((flow : Bool) (bs : List ℕ) → begins_scalar flow (k ∷ bs) ≡ false) × (eqb k 44 ≡ false) × (eqb 42 k ≡ false) × (eqb 38 k ≡ false) × (eqb 91 k ≡ false) × (eqb 123 k ≡ false)
-close_letter k h = ⊎_elim (λ e. let same : k ≡ 93 = eqb-true k 93 e in rw same ((λ flow bs. refl), refl, refl, refl, refl, refl))
-    (λ e. let same : k ≡ 125 = eqb-true k 125 e in rw same ((λ flow bs. refl), refl, refl, refl, refl, refl)) (or_cases (eqb k 93) (eqb k 125) h)
+close_letter k h = search rules
 
 open_close : (j k : ℕ) → is_close k ≡ true → eqb (opening_bracket j) k ≡ false
 open_close j k h = let c = close_letter k h in cond_both (eqb j 125) 123 91 (λ x. eqb x k ≡ false) (λ _. c.5) (λ _. c.4)
 
 pub item_front : (flow : Bool) (spaces : Option ℕ) (d k : ℕ) (key : Key) (node : FlowNode) (rest : List ℕ) → is_close k ≡ true → (is_keyed key || not (is_empty_node node)) ≡ true → IsInlineKey k key (node_text node rest) → IsFlowNode flow spaces d node rest → begins_with k (key_text key (node_text node rest)) ≡ false
 unfolding node_text IsFlowNode
-item_front flow spaces d k bare node rest c e a h = search (rules, false≢true, close_letter, letter_front, scalar_begins, open_close, not-true)
-item_front flow spaces d k (keyed t b g) node rest c e a h = letter_front true k (t ++ (b ++ (58 ∷ (g ++ node_text node rest)))) ((close_letter k c).0 true) (scalar_begins true None t (b ++ (58 ∷ (g ++ node_text node rest))) a.1)
+item_front flow spaces d k key node rest c e a h = search (rules, false≢true, close_letter, letter_front, scalar_begins, open_close, not-true)
 
 pub key_in_again : (k : ℕ) (key : Key) (rest : List ℕ) → IsInlineKey k key rest → key_in k (key_text key rest) ≡ Some (key, rest)
-key_in_again k bare rest h = rw h refl
-key_in_again k (keyed t b g) rest h = rw h.0 (key_again (keyed t b g) rest refl (refl, h.1, h.2, h.3, h.4))
+key_in_again k key rest h = search (rules, key_again)
 
 -- how many steps are allowed makes no difference, if there are enough
 abbrev pub kids_by : ℕ → ℕ → Kids

@@ -38,9 +38,7 @@ items_text_alike k none t u c = ⊎_elim {0, 0, 0}
     (λ e. rw (eqb-true k 93 e) (stop refl))
     (λ e. rw (eqb-true k 125 e) (stop refl))
     (or_cases (eqb k 93) (eqb k 125) c)
-items_text_alike k (item key n s is) t u c =
-    let sep = sep_text_alike s (flow_items_text k is t) (flow_items_text k is u) (items_text_alike k is t u c) in
-    key_text_alike key (node_text n (sep_text s (flow_items_text k is t))) (node_text n (sep_text s (flow_items_text k is u))) (node_text_alike (Some true) n (sep_text s (flow_items_text k is t)) (sep_text s (flow_items_text k is u)) sep)
+items_text_alike k (item key n s is) t u c = search (rules, sep_text_alike, key_text_alike, node_text_alike, items_text_alike k is t u c)
 
 name_fresh : (f : Bool) (n r : List ℕ) → NoneIn (unless in_name) n r → f ≡ false → fresh f n ≡ false
 name_fresh f [] r h e = e

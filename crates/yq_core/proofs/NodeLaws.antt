@@ -1,5 +1,5 @@
 -- How many steps are allowed makes no difference.
-use Rattle.std.proofs.Common.{◌≡◌, ℕ, zero, suc, ◌≤◌, ◌<◌, Bool, true, false, cond, not, ◌&&◌, ◌||◌, eqb, List, [], ◌∷◌, ◌++◌, length, drop}
+use Rattle.std.proofs.Common.{◌≡◌, ℕ, suc, ◌≤◌, ◌<◌, Bool, true, false, cond, not, ◌&&◌, ◌||◌, eqb, List, [], ◌∷◌, ◌++◌, length, drop}
 use Rattle.std.{proofs.Common.{Option, Some, None, refl, sym, ap, ◌∙◌, arith, length-append, rules}, proofs.lemmas.Option.same_Some}
 use Rattle.yq_core.{specs.Text.is_empty, specs.Answers.◌>>=◌, proofs.Bools.guard_then}
 use Rattle.yq_core.specs.Nodes.{begins_with, Key, Sep, FlowNode, coll, anchored, Items, none, item, node_text, begins_content, is_keyed}
@@ -62,17 +62,13 @@ left n d k t key node sep a b c =
     let y = node_takes true (Some 0) (kids_by n d) d key.1 node (kids_take n d (items_takes n)) b in
     let z = sep_takes k node.1 sep some.1 in
     let less = item_longer true (Some 0) d key.0 node.0 node.1 some.0 y.1 in
-    let more : length sep.1 ≤ length node.1 = rw z.0 (sep_longer sep.0 sep.1) in
-    search (rules, y, x)
+    search (rules, sep_longer)
 
 deeper_same : {A : Type 0} (d : ℕ) (f g : ℕ → Option A) → ((e : ℕ) → f e ≡ g e) → one_level_less d f ≡ one_level_less d g
-deeper_same zero f g h = refl
-deeper_same (suc d) f g h = h d
+deeper_same d f g h = search rules
 
 pub items_fuel : (n m d k : ℕ) (t : List ℕ) → length t < n → length t < m → items_at n d k t ≡ items_at m d k t
 unfolding items_at
-items_fuel zero m d k t a b = absurd (omega arith)
-items_fuel (suc n) zero d k t a b = absurd (omega arith)
 items_fuel (suc n) (suc m) d k t a b =
     ap (λ o. cond (begins_with k t) (Some (none, drop 1 t)) o)
     (bind_same (behind_key n d k) (behind_key m d k) (key_in k t) (λ key e.
@@ -83,6 +79,7 @@ items_fuel (suc n) (suc m) d k t a b =
     bind_same (behind_sep n d k key.0 node.0) (behind_sep m d k key.0 node.0) (cond (is_keyed key.0 || not (is_empty_node node.0)) (sep_at k node.1) None) (λ sep g.
     let less = left m d k t key node sep e f g in
     ap (λ o. o >>= λ rest. Some (item key.0 node.0 sep.0 rest.0, rest.1)) (items_fuel n m d k sep.1 (omega arith) (omega arith))))))
+items_fuel _ _ d k t a b = absurd (omega arith)
 
 -- reading with as many steps as the text is long
 pub kids_enough : (flow : Bool) (spaces : Option ℕ) (n d : ℕ) (t : List ℕ) → length t ≤ n → read_node flow spaces (kids_by n d) t ≡ all_node flow spaces d t
@@ -123,6 +120,4 @@ pub all_again : (flow : Bool) (spaces : Option ℕ) (d : ℕ) (node : FlowNode) 
 all_again flow spaces d node rest h = let t = node_text node rest in sym (kids_enough flow spaces (length t) d t (omega arith)) ∙ node_again flow spaces node (length t) d rest h (omega arith)
 
 pub one_node : (flow : Bool) (spaces : Option ℕ) (d : ℕ) (t : List ℕ) (a b : FlowNode) (r s : List ℕ) → t ≡ node_text a r → IsFlowNode flow spaces d a r → t ≡ node_text b s → IsFlowNode flow spaces d b s → (a ≡ b) × (r ≡ s)
-one_node flow spaces d t a b r s p x q y =
-    let e = sym (ap (all_node flow spaces d) p ∙ all_again flow spaces d a r x) ∙ (ap (all_node flow spaces d) q ∙ all_again flow spaces d b s y) in
-    (ap (λ y. y.0) (same_Some _ _ e), ap (λ y. y.1) (same_Some _ _ e))
+one_node flow spaces d t a b r s p x q y = search (rules, all_again, same_Some)

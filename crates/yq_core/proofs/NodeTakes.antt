@@ -1,14 +1,14 @@
 -- What is read is a node.
 use Rattle.std.proofs.Common.{◌≡◌, ℕ, zero, suc, Bool, true, false, cond, not, ◌&&◌, ◌||◌, eqb, List, ◌∷◌, ◌++◌, drop, Option, Some, None}
-use Rattle.std.{proofs.Common.{refl, ap, ◌∙◌, subst, inl, inr, ◌⊎◌, ⊎_elim, eqb-true, rules}, proofs.lemmas.Bool.{false≢true, and_parts}}
+use Rattle.std.{proofs.Common.{refl, ap, ◌∙◌, subst, inl, inr, ◌⊎◌, ⊎_elim, eqb-true, rules}, proofs.lemmas.Bool.and_parts}
 use Rattle.std.proofs.lemmas.Option.{cond_some, same_Some}
-use Rattle.yq_core.{specs.Text.{unless, is_empty}, proofs.Bools.{bind_some, chosen, guard_then}, specs.Gaps.IsInlineGap}
-use Rattle.yq_core.specs.Nodes.{begins_with, in_name, opening_bracket, is_close, Key, bare, FlowNode, Items, key_text, sep_text, node_text}
+use Rattle.yq_core.{specs.Text.{unless, is_empty}, proofs.Bools.{bind_some, chosen, guard_then}}
+use Rattle.yq_core.specs.Nodes.{begins_with, in_name, opening_bracket, Key, bare, FlowNode, Items, key_text, sep_text, node_text}
 use Rattle.yq_core.specs.Nodes.{flow_items_text, begins_content, IsLead, IsName, IsInlineKey, IsSep, is_keyed, is_empty_node, takes_anchor}
 use Rattle.yq_core.specs.Nodes.{Deeper, IsFlowNode, AreFlowItems}
 use Rattle.yq_core.specs.Reading.{read_gap, read_scalar, name_at, lead_at, read_flow_key, sep_at, Kids, read_collection, read_core}
 use Rattle.yq_core.{specs.Reading.{read_node, one_level_less, items_at}, proofs.GapLaws.gap_takes}
-use Rattle.yq_core.proofs.NodesPieceLaws.{scalar_takes, name_takes, lead_takes, key_takes, sep_takes, front_is, front_not}
+use Rattle.yq_core.proofs.NodesPieceLaws.{scalar_takes, name_takes, lead_takes, key_takes, sep_takes, front_is}
 
 abbrev pub Nodal : Bool → Option ℕ → ℕ → List ℕ → FlowNode × List ℕ → Type 0
 Nodal flow spaces d t y = (t ≡ node_text y.0 y.1) × IsFlowNode flow spaces d y.0 y.1
@@ -25,10 +25,7 @@ coll_takes flow spaces kids d k t s x take_kids close is h =
     let gap = bind_some (read_gap t) h in
     let items = bind_some (kids k gap.0.1) gap.2 in
     let a = gap_takes t gap.0 gap.1 in
-    let b = take_kids k gap.0.1 items.0 items.1 in
-    let closes : is_close k ≡ true = ⊎_elim {0, 0, 0} (λ e. rw e refl) (λ e. rw e refl) close in
-    subst (Nodal flow spaces d s) (same_Some _ _ items.2)
-    (is ∙ ap (λ l. opening_bracket k ∷ l) (a.0 ∙ ap (λ l. gap.0.0 ++ l) b.0), (closes, subst (IsInlineGap gap.0.0) b.0 a.1, b.1))
+    search (rules, same_Some)
 
 pub content_takes : (flow : Bool) (spaces : Option ℕ) (kids : Kids) (d : ℕ) (t : List ℕ) (x : FlowNode × List ℕ) → KidsTake kids d → begins_with 38 t ≡ false → read_core flow spaces kids t ≡ Some x → Nodal flow spaces d t x
 unfolding read_core node_text IsFlowNode
@@ -50,12 +47,8 @@ content_takes flow spaces kids d t x take_kids amp h = ⊎_elim {0, 0, 0}
     (chosen (begins_with 91 t) e.1))
     (chosen (begins_with 42 t) h)
 
-content_no_amp : (flow : Bool) (t : List ℕ) → begins_content flow t ≡ true → begins_with 38 t ≡ false
-content_no_amp flow t h = front_not (begins_content flow) 38 (λ bs. refl) t h
-
 pub lead_amp : (flow : Bool) (t g r : List ℕ) → unless in_name t ≡ true → t ≡ g ++ r → IsLead flow (begins_content flow) g r → begins_with 38 r ≡ false
-lead_amp flow t g r ends is (inl e) = content_no_amp flow r e.1
-lead_amp flow t g r ends is (inr e) = search (rules, eqb-true, false≢true)
+lead_amp flow t g r ends is e = search rules
 
 pub node_takes : (flow : Bool) (spaces : Option ℕ) (kids : Kids) (d : ℕ) (t : List ℕ) (x : FlowNode × List ℕ) → KidsTake kids d → read_node flow spaces kids t ≡ Some x → Nodal flow spaces d t x
 unfolding read_node node_text IsFlowNode

@@ -1,27 +1,23 @@
 -- The pieces of a node, read and spelled.
-use Rattle.std.proofs.Common.{◌≡◌, ℕ, ◌<◌, Bool, true, false, ◌&&◌, ◌||◌, eqb, List, [], ◌∷◌, ◌++◌, length, drop, Option, Some, None, refl}
-use Rattle.std.{proofs.Common.{sym, ap, ◌∙◌, subst, inl, inr, ⊎_elim, arith, eqb-true, rules}, proofs.Math.Bool.and-false}
-use Rattle.std.proofs.lemmas.Bool.{false≢true, cond_both, not-true, false_from_ne_true, and_parts}
-use Rattle.std.proofs.lemmas.Option.{cond_some, same_Some}
+use Rattle.std.proofs.Common.{◌≡◌, ℕ, ◌<◌, Bool, true, false, ◌||◌, eqb, List, [], ◌∷◌, ◌++◌, length, drop, Option, Some, None, refl, sym}
+use Rattle.std.{proofs.Common.{ap, ◌∙◌, subst, inl, inr, ⊎_elim, arith, eqb-true, rules}, proofs.Math.Bool.and-false}
+use Rattle.std.{proofs.lemmas.Bool.{false≢true, cond_both, not-true, and_parts}, proofs.lemmas.Option.{cond_some, same_Some}}
 use Rattle.yq_core.{specs.Answers.◌>>=◌, specs.Plain.{begins_plain, ends_plain, ends_text}, specs.Quoted.spell_lines}
-use Rattle.yq_core.{specs.QuotedReading.quoted_at, specs.Text.{upto, cut, unless, is_empty, is_space, no_white}}
-use Rattle.yq_core.{proofs.Bools.{bind_some, chosen}, proofs.PlainLaws.{plain_takes, plain_again}}
-use Rattle.yq_core.{proofs.QuotedFound.{quoted_takes, quoted_again}, proofs.Upto.{upto_ends, none_in_cut, cut-append, cut_takes}}
-use Rattle.yq_core.{proofs.QuotedLaws.of_quotes, specs.Gaps.IsInlineGap}
-use Rattle.yq_core.specs.Nodes.{Key, Sep, last, comma, key_text, sep_text, begins_with, in_name, begins_node, IsApart, IsLead, IsName}
-use Rattle.yq_core.specs.Nodes.{ends_key, IsInlineKey, IsSep, is_keyed}
+use Rattle.yq_core.{specs.QuotedReading.quoted_at, specs.Text.{upto, unless, is_space, no_white}, proofs.Bools.{bind_some, chosen}}
+use Rattle.yq_core.{proofs.PlainLaws.{plain_takes, plain_again}, proofs.QuotedFound.{quoted_takes, quoted_again}}
+use Rattle.yq_core.{proofs.Upto.{upto_ends, none_in_cut, cut-append, cut_takes}, proofs.QuotedLaws.of_quotes, specs.Gaps.IsInlineGap}
+use Rattle.yq_core.specs.Nodes.{Key, Sep, key_text, sep_text, begins_with, in_name, begins_node, IsApart, IsLead, IsName, ends_key}
+use Rattle.yq_core.specs.Nodes.{IsInlineKey, IsSep, is_keyed}
 use Rattle.yq_core.specs.Reading.{read_gap, read_scalar, with_its_lines, name_at, apart_at, lead_at, after_colon, read_flow_key, sep_at}
 use Rattle.yq_core.{specs.Reading.sep_behind, specs.Scalars.{is_quoted, has_its_lines, IsScalarAt, begins_scalar}, proofs.Binds.not_then}
 use Rattle.yq_core.proofs.GapLaws.{gap_takes, gap_again}
 
 -- a text that passes a test begins with no byte after which each text fails it
 pub front_not : (P : List ℕ → Bool) (k : ℕ) → ((bs : List ℕ) → P (k ∷ bs) ≡ false) → (t : List ℕ) → P t ≡ true → begins_with k t ≡ false
-front_not P k never [] h = refl
-front_not P k never (b ∷ t) h = false_from_ne_true (eqb b k) (λ e. false≢true (sym (never t) ∙ subst (λ (x : ℕ). P (x ∷ t) ≡ true) (eqb-true b k e) h))
+front_not P k never t h = search rules
 
 pub front_is : (k : ℕ) (t : List ℕ) → begins_with k t ≡ true → t ≡ k ∷ drop 1 t
-front_is k [] h = absurd (false≢true h)
-front_is k (b ∷ t) h = ap (λ x. x ∷ t) (eqb-true b k h)
+front_is k t h = search rules
 
 goes_on : (flow : Bool) (b : ℕ) (bs : List ℕ) → begins_plain flow (b ∷ bs) ≡ true → ends_text flow (b ∷ bs) ≡ false
 goes_on flow b bs h = search (rules, front_not, eqb-true, and-false)
@@ -30,8 +26,7 @@ pub no_space : (flow : Bool) (b : ℕ) (bs : List ℕ) → begins_plain flow (b 
 no_space flow b bs h = not-true (is_space (b ∷ bs)) (and_parts _ _ h).0
 
 plain_no_end : (flow : Bool) (spaces : Option ℕ) (t : List ℕ) → begins_plain flow t ≡ true → ends_plain flow spaces t ≡ false
-plain_no_end flow spaces [] h = absurd (false≢true h)
-plain_no_end flow spaces (b ∷ bs) h = rw (no_space flow b bs h) (goes_on flow b bs h)
+plain_no_end flow spaces t h = search rules
 
 -- scalars
 pub scalar_begins : (flow : Bool) (spaces : Option ℕ) (p rest : List ℕ) → IsScalarAt flow spaces p rest → begins_scalar flow (p ++ rest) ≡ true
@@ -64,22 +59,12 @@ pub scalar_again : (flow : Bool) (spaces : Option ℕ) (p rest : List ℕ) → I
 unfolding read_scalar
 scalar_again flow spaces p rest h1 = search (rules, plain_no_quote, plain_again, of_quotes, quoted_again)
 
--- names
-name_some : (t : List ℕ) → unless in_name t ≡ false → is_empty (cut (unless in_name) t).0 ≡ false
-unfolding upto
-name_some [] h = absurd (false≢true (sym h))
-name_some (b ∷ t) h = rw h refl
-
 name_begins : (p rest : List ℕ) → IsName p rest → unless in_name (p ++ rest) ≡ false
-name_begins [] rest h = absurd (false≢true (sym h.some))
-name_begins (b ∷ p) rest h = h.inside.0
+name_begins p rest h = search rules
 
 pub name_takes : (t : List ℕ) (x : List ℕ × List ℕ) → name_at t ≡ Some x → (t ≡ x.0 ++ x.1) × IsName x.0 x.1
-unfolding name_at
-name_takes t x h =
-    let g = not_then (unless in_name t) h in
-    subst (λ (y : List ℕ × List ℕ). (t ≡ y.0 ++ y.1) × IsName y.0 y.1) (same_Some _ _ g.1)
-    (cut_takes (unless in_name) t, record { some = name_some t g.0; inside = none_in_cut (unless in_name) t; ends = upto_ends (unless in_name) t refl })
+unfolding name_at upto
+name_takes t x h = search (rules, not_then, same_Some, cut_takes, none_in_cut, upto_ends)
 
 pub name_again : (p rest : List ℕ) → IsName p rest → name_at (p ++ rest) ≡ Some (p, rest)
 unfolding name_at
@@ -93,34 +78,21 @@ pub apart_takes : (flow : Bool) (t : List ℕ) (x : List ℕ × List ℕ) → ap
 apart_takes true t x h = gap_takes t x h
 apart_takes false t x h = subst (Apart false t) (same_Some _ _ h) (cut_takes no_white t, (none_in_cut no_white t, upto_ends no_white t refl))
 
-pub apart_again : (flow : Bool) (p rest : List ℕ) → IsApart flow p rest → apart_at flow (p ++ rest) ≡ Some (p, rest)
-apart_again true p rest h = gap_again p rest h
-apart_again false p rest h = ap Some (cut-append no_white p rest h.0 h.1)
-
-abbrev Lead : Bool → (List ℕ → Bool) → List ℕ → List ℕ × List ℕ → Type 0
-Lead flow begins t y = (t ≡ y.0 ++ y.1) × IsLead flow begins y.0 y.1
-
 pub lead_takes : (flow : Bool) (begins : List ℕ → Bool) (t : List ℕ) (x : List ℕ × List ℕ) → lead_at flow begins t ≡ Some x → (t ≡ x.0 ++ x.1) × IsLead flow begins x.0 x.1
 unfolding lead_at
 lead_takes flow begins t x h =
     let g = bind_some (apart_at flow t) h in
     let gap = apart_takes flow t g.0 g.1 in
-    subst (Lead flow begins t) (same_Some _ _ g.2)
-    (cond_both (begins g.0.1) g.0 ([], t) (Lead flow begins t)
-    (λ e. (gap.0, inl (gap.1, e)))
-    (λ e. (refl, inr (refl, (g.0.0, g.0.1, gap.0, gap.1, e)))))
+    search (rules, same_Some, cond_both)
 
 pub lead_again : (flow : Bool) (begins : List ℕ → Bool) (p rest : List ℕ) → IsLead flow begins p rest → lead_at flow begins (p ++ rest) ≡ Some (p, rest)
 unfolding lead_at
-lead_again flow begins p rest h = search (rules, ⊎_elim, apart_again)
+lead_again flow begins p rest h = search (rules, ⊎_elim, gap_again, cut-append)
 
 -- the `:` of a key
 colon_takes : (p t r : List ℕ) → after_colon p t ≡ Some r → (t ≡ 58 ∷ r) × (ends_key p r ≡ true)
 unfolding after_colon
-colon_takes p t r h =
-    let g = cond_some (begins_with 58 t && ends_key p (drop 1 t)) _ _ h in
-    let tests = and_parts (begins_with 58 t) (ends_key p (drop 1 t)) g.0 in
-    subst (λ (y : List ℕ). (t ≡ 58 ∷ y) × (ends_key p y ≡ true)) g.1 (front_is 58 t tests.0, tests.1)
+colon_takes p t r h = search rules
 
 -- keys
 pub key_takes : (t : List ℕ) (x : Key × List ℕ) → read_flow_key t ≡ Some x → (t ≡ key_text x.0 x.1) × IsInlineKey 125 x.0 x.1
@@ -165,11 +137,6 @@ sep_takes k t x h =
     let gap = gap_takes t g.0 g.1 in
     sep_by k t g.0 x gap.0 gap.1 g.2
 
-close_no_comma : (k : ℕ) (t : List ℕ) → eqb k 44 ≡ false → begins_with k t ≡ true → begins_with 44 t ≡ false
-close_no_comma k [] e h = refl
-close_no_comma k (b ∷ t) e h = rw (eqb-true b k h) e
-
 pub sep_again : (k : ℕ) (s : Sep) (rest : List ℕ) → eqb k 44 ≡ false → IsSep k s rest → sep_at k (sep_text s rest) ≡ Some (s, rest)
 unfolding sep_at sep_behind
-sep_again k (last b) rest e h = rw (gap_again b rest h.0) (rw (close_no_comma k rest e h.1, h.1) refl)
-sep_again k (comma b g) rest e h = rw (gap_again b (44 ∷ (g ++ rest)) h.0) (rw (gap_again g rest h.1) refl)
+sep_again k s rest e h = search (rules, gap_again)

@@ -1,10 +1,8 @@
 -- What is written in flow style.
-use Rattle.std.proofs.Common.{◌≡◌, ℕ, Bool, true, false, cond, not, ◌&&◌, ◌||◌, List, [], ◌∷◌, ◌++◌, map, None, refl, sym, ap, ◌∙◌}
-use Rattle.std.{proofs.Common.{append_assoc, rules, String, string_bytes, Result, is_ok, OnOk}, specs.declared.alloc.Global.Global}
-use Rattle.std.{specs.Prelude.Vec, proofs.lemmas.Bool.false≢true}
+use Rattle.std.proofs.Common.{◌≡◌, ℕ, true, false, cond, List, [], ◌∷◌, ◌++◌, map, None, refl, sym, ap, ◌∙◌, append_assoc, rules, String}
+use Rattle.std.{proofs.Common.{string_bytes, Result, is_ok, OnOk}, specs.declared.alloc.Global.Global, specs.Prelude.Vec}
 use Rattle.yq_core.{specs.declared.value.Value.Value, specs.declared.value.Value.TheFolds.the_lemmas, specs.declared.style.Place.Place}
-use Rattle.yq_core.{specs.PlainText.is_plain_text, specs.Scalar.ScalarText, specs.SchemaReading.resolve, specs.Tree.plain_label}
-use Rattle.yq_core.specs.Writable.{can_write, can_write_plain, in_flow, is_string}
+use Rattle.yq_core.{specs.Scalar.ScalarText, specs.Tree.plain_label, specs.Writable.{can_write, can_write_plain}}
 use Rattle.yq_core.specs.Nodes.{Key, Sep, FlowNode, empty, alias, scalar, coll, anchored, Items, none, item, key_text, sep_text, node_text}
 use Rattle.yq_core.{specs.Nodes.{flow_items_text, opening_bracket}, specs.Values.{value_node, items, entries, entry}}
 use Rattle.yq_core.specs.NodesWritten.{flow_of, flow_items, flow_sep, flow_key, flow_text, comma_separated, entry_text}
@@ -13,15 +11,10 @@ use Rattle.yq_core.specs.declared.kind.Kind.TheVariants as kinds
 use Rattle.yq_core.specs.declared.style.Style.TheVariants as styles
 use Rattle.yq_core.specs.Tree as tree
 
--- the style of a scalar can write it
-double_can : (string resolved plain : Bool) → (not string || (resolved && plain)) ≡ false → string ≡ true
-double_can true resolved plain h = refl
-double_can false resolved plain h = absurd (false≢true (sym h))
-
 -- what isn't plain is a string
 pub double_when : (s : ScalarText) (place : Place) → can_write s styles.Plain place ≡ false → can_write s styles.Double place ≡ true
 unfolding can_write_plain
-double_when s place h = double_can (is_string s.kind) (is_string (resolve s.text)) (is_plain_text (in_flow place) s.text) h
+double_when s place h = search rules
 
 -- what is no string is plain
 pub other_plain : (s : ScalarText) (place : Place) → (s.kind ≡ kinds.Text → ⊥) → can_write s styles.Plain place ≡ true
@@ -62,8 +55,7 @@ between tree.none = []
 between (tree.child label n cs) = 44 ∷ 32 ∷ []
 
 sep_is : (cs : tree.Children) (r : List ℕ) → sep_text (flow_sep cs) r ≡ between cs ++ r
-sep_is tree.none r = refl
-sep_is (tree.child label n cs) r = refl
+sep_is cs r = search rules
 
 -- what is written after a collection's bracket, for these items or entries
 abbrev pub rest_text : ℕ → tree.Children → List ℕ

@@ -1,7 +1,6 @@
 -- The ints of the core schema: what is read is what is written.
-use Rattle.std.proofs.Common.{◌≡◌, ℕ, ◌<◌, Bool, true, false, cond, eqb, ltb, List, [], ◌∷◌, ◌++◌, drop, Some, None, is_some, ℤ, pos, refl}
-use Rattle.std.{proofs.Common.{sym, ◌∙◌, subst, inl, inr, eqb-true, rules}, specs.Char.digit_value}
-use Rattle.std.specs.Str.Parse.{IsNumeral, digits_value}
+use Rattle.std.proofs.Common.{◌≡◌, ℕ, ◌<◌, true, false, eqb, ltb, List, ◌∷◌, ◌++◌, drop, Some, None, is_some, ℤ, pos, sym, ◌∙◌, subst, inl}
+use Rattle.std.{proofs.Common.{inr, eqb-true, rules}, specs.Char.digit_value, specs.Str.Parse.{IsNumeral, digits_value}}
 use Rattle.std.proofs.lemmas.Bool.{false≢true, cases_Bool, and_parts, and_right, ne_eqb, lt-ltb}
 use Rattle.yq_core.{specs.Numbers.{Sign, spell_sign, decimal, octal, hexadecimal, signed}, specs.Schema.IsIntOf}
 use Rattle.yq_core.specs.SchemaReading.{has_base, past_sign, sign_of, are_digits, based_number, decimal_number, int_number, is_int}
@@ -15,19 +14,8 @@ not_digit b k h e = ne_eqb b k (λ p. let q : ltb (digit_value k) 10 ≡ true = 
 base_cut : (letter : ℕ) (t : List ℕ) → has_base letter t ≡ true → t ≡ 48 ∷ letter ∷ drop 2 t
 base_cut letter t h1 = search (rules, false≢true, and_parts, eqb-true)
 
-no_signed_base : (letter : ℕ) (sign : Sign) (digits : List ℕ) → ltb (digit_value letter) 10 ≡ false → IsNumeral 10 digits → has_base letter (spell_sign sign ++ digits) ≡ false
-no_signed_base letter sign digits h1 h2 = search (rules, and_right, not_digit)
-
--- digits have no sign in front
-pub past_no_sign : (digits : List ℕ) → IsNumeral 10 digits → past_sign digits ≡ digits
-past_no_sign [] h = refl
-past_no_sign (d ∷ ds) h = rw (not_digit d 43 h.1.0 refl, not_digit d 45 h.1.0 refl) refl
-
 pub past_spelled : (sign : Sign) (digits : List ℕ) → IsNumeral 10 digits → past_sign (spell_sign sign ++ digits) ≡ digits
-past_spelled sign digits h1 = search (rules, past_no_sign)
-
-pub sign_spelled : (sign : Sign) (digits : List ℕ) → IsNumeral 10 digits → sign_of (spell_sign sign ++ digits) ≡ sign
-sign_spelled sign digits h1 = search (rules, not_digit)
+past_spelled sign digits h1 = search rules
 
 -- a text is its sign and what is after it
 pub sign_cut : (t : List ℕ) → t ≡ spell_sign (sign_of t) ++ past_sign t
@@ -42,13 +30,6 @@ decimal_takes t n h = elim (cases_Bool (are_digits 10 (past_sign t))) [
 based_takes : (base : ℕ) (digits : List ℕ) (n : ℤ) → based_number base digits ≡ Some n → IsNumeral base digits × (n ≡ pos (digits_value base digits))
 based_takes base digits n h = search (rules, cases_Bool, digits_takes, pos)
 
-based_again : (base : ℕ) (digits : List ℕ) → IsNumeral base digits → based_number base digits ≡ Some (pos (digits_value base digits))
-based_again base digits h = rw (digits_again base digits h) refl
-
-some_agrees : {A : Type 0} (b : Bool) (x : A) → b ≡ is_some (cond b (Some x) None)
-some_agrees true x = refl
-some_agrees false x = refl
-
 pub int_takes : (t : List ℕ) (n : ℤ) → int_number t ≡ Some n → IsIntOf t n
 unfolding int_number
 int_takes t n h = elim (cases_Bool (has_base 111 t)) [
@@ -61,9 +42,9 @@ int_takes t n h = elim (cases_Bool (has_base 111 t)) [
 
 pub int_again : (t : List ℕ) (n : ℤ) → IsIntOf t n → int_number t ≡ Some n
 unfolding int_number
-int_again t n (i, spelled, is, value) = search (rules, no_signed_base, past_spelled, sign_spelled, digits_again, based_again)
+int_again t n (i, spelled, is, value) = search (rules, and_right, not_digit, past_spelled, digits_again)
 
 -- the test says whether there is a number
 pub int_has_number : (t : List ℕ) → is_int t ≡ is_some (int_number t)
 unfolding int_number is_int
-int_has_number t = search (rules, cases_Bool, some_agrees)
+int_has_number t = search (rules, cases_Bool)

@@ -1,9 +1,9 @@
 -- A plain scalar on one line means itself, and a quoted one without escapes for what is between its quotes.
-use Rattle.std.proofs.Common.{◌≡◌, ℕ, Bool, true, false, ◌&&◌, cond, eqb, ◌⊎◌, List, [], ◌∷◌, ◌++◌, refl, sym, ap, ◌∙◌, ⊎_elim}
-use Rattle.std.proofs.Common.{append_assoc, append-nil, subst, ◌-◌, length, take, drop, slice_index, rules}
-use Rattle.std.{proofs.lemmas.Bool.{cases_Bool, or_parts}, specs.List.list_any}
+use Rattle.std.proofs.Common.{◌≡◌, ℕ, Bool, false, ◌&&◌, cond, eqb, ◌⊎◌, List, [], ◌∷◌, ◌++◌, refl, sym, ap, ◌∙◌, ⊎_elim, append_assoc}
+use Rattle.std.{proofs.Common.{append-nil, subst, ◌-◌, length, take, drop, slice_index, rules}, proofs.lemmas.Bool.{cases_Bool, or_parts}}
+use Rattle.std.specs.List.{list_any}
 use Rattle.yq_core.specs.ContentReading.{within, quoted_item, item_len, item_before, content_on, plain_content, quoted_content}
-use Rattle.yq_core.{specs.Plain.holds_break, specs.Quoted.IsQuotedText, specs.Text.{is_white, is_feed, is_return, front}}
+use Rattle.yq_core.{specs.Plain.holds_break, specs.Quoted.IsQuotedText, specs.Text.{is_feed, is_return, front}}
 use Rattle.yq_core.specs.Scalars.{is_quoted, scalar_content}
 
 -- no break is in front of a text without an LF
@@ -24,11 +24,7 @@ unfolds quote test keeps white [] h g = sym (append-nil white)
 unfolds quote test keeps white (b ∷ bs) h g =
     let f = or_parts (is_feed b) (holds_break bs) h in
     let t = or_parts (test b) (list_any test bs) g in
-    let i = keeps b bs t.0 in
-    ⊎_elim {0, 0, 0}
-    (λ (e : is_white b ≡ true). rw e (unfolds quote test keeps (white ++ b ∷ []) bs f.1 t.1 ∙ append_assoc white (b ∷ []) bs))
-    (λ (e : is_white b ≡ false). rw (e, f.0, no_break b bs f.1, i.0, i.1.0, i.1.1) (ap (λ l. white ++ (b ∷ l)) (unfolds quote test keeps [] bs f.1 t.1)))
-    (cases_Bool (is_white b))
+    search (rules, keeps, append_assoc, no_break, cases_Bool, unfolds quote test keeps (white ++ b ∷ []) bs f.1 t.1, unfolds quote test keeps [] bs f.1 t.1)
 
 no_test : (t : List ℕ) → list_any (λ b. false) t ≡ false
 no_test [] = refl
@@ -41,14 +37,8 @@ one_line t h = unfolds 0 (λ b. false) (λ b bs e. (refl, (refl, refl))) [] t h 
 abbrev sign : ℕ → ℕ
 sign quote = cond (eqb quote 34) 92 39
 
-keeps_double : Keeps 34 (λ b. eqb b 92)
-keeps_double b bs h = (rw h refl, (rw h refl, rw h refl))
-
-keeps_single : Keeps 39 (λ b. eqb b 39)
-keeps_single b bs h = (refl, (rw h refl, refl))
-
 keeps : (quote : ℕ) → (quote ≡ 34) ⊎ (quote ≡ 39) → Keeps quote (λ b. eqb b (sign quote))
-keeps quote h1 = search (rules, keeps_double, keeps_single)
+keeps quote h1 = search rules
 
 -- a quoted scalar on one line without escapes means what is between its quotes
 in_quotes : (quote : ℕ) → (quote ≡ 34) ⊎ (quote ≡ 39) → (t : List ℕ) → holds_break t ≡ false → list_any (λ b. eqb b (cond (eqb quote 34) 92 39)) t ≡ false → content_on quote 0 within [] t ≡ t

@@ -1,9 +1,9 @@
 -- What follows a piece of a text begins with a whole character.
-use Rattle.std.proofs.Common.{◌≡◌, ◌⊎◌, ℕ, zero, suc, ◌+◌, ◌<◌, Bool, true, false, eqb, List, [], ◌∷◌, ◌++◌, length, get_or, Option, Some}
+use Rattle.std.proofs.Common.{rules, ◌≡◌, ℕ, zero, suc, ◌+◌, ◌<◌, Bool, true, false, eqb, List, [], ◌∷◌, ◌++◌, length, get_or, Option, Some}
 use Rattle.std.proofs.Common.{None, sym, ap, ◌∙◌, subst, inl, inr, ⊎_elim, append_assoc, arith, length-append, eqb-true}
 use Rattle.std.{proofs.Math.Seq.{drop-append_seam, get_or-append_seam}, proofs.lemmas.Bool.{cond_both, or_cases}}
 use Rattle.std.{proofs.lemmas.Str.{IsUtf8-drop, IsCharBoundary-after_ascii}, specs.Str.{IsUtf8, IsCharBoundary}}
-use Rattle.yq_core.{specs.Plain.{IsPlain, ends_plain}, specs.Quoted.spell_lines, specs.Text.{unless, is_white, no_white}}
+use Rattle.yq_core.{specs.Plain.ends_plain, specs.Quoted.spell_lines, specs.Text.{unless, is_white, no_white}}
 use Rattle.yq_core.{proofs.Boundaries.{boundary_unless, white_ascii}, proofs.PlainLaws.boundary_plain}
 use Rattle.yq_core.{proofs.Upto.{upto-append, upto_unless}, specs.declared.gap.GapPlace.TheVariants.Token, specs.Gaps.IsInlineGap}
 use Rattle.yq_core.specs.Nodes.{Key, bare, keyed, Sep, last, comma, FlowNode, empty, alias, scalar, coll, anchored, Items, none, item}
@@ -32,18 +32,12 @@ gap_past g r h u = past g r u (boundary_gap (g ++ r) (length g) (sym (gap_append
 pub name_past : (n r : List ℕ) → IsName n r → IsUtf8 (n ++ r) → IsUtf8 r
 name_past n r h u = past n r u (boundary_name (n ++ r) (length n) (sym (upto-append (unless in_name) n r h.inside h.ends) ∙ upto_unless in_name (n ++ r)))
 
-plain_past : (flow : Bool) (spaces : Option ℕ) (p r : List ℕ) → IsPlain flow spaces p r → IsUtf8 (p ++ r) → IsUtf8 r
-plain_past flow spaces p r h u = past p r u (boundary_plain flow spaces (p ++ r) (length p) (sym (upto-append (ends_plain flow spaces) p r h.inside h.ends)))
-
-quote_low : (q : ℕ) → (q ≡ 34) ⊎ (q ≡ 39) → q < 128
-quote_low q (inl e) = omega (arith, e)
-quote_low q (inr e) = omega (arith, e)
-
 pub scalar_past : (flow : Bool) (spaces : Option ℕ) (p r : List ℕ) → IsScalarAt flow spaces p r → IsUtf8 (p ++ r) → IsUtf8 r
-scalar_past flow spaces p r (inl h) u = plain_past flow spaces p r h u
+scalar_past flow spaces p r (inl h) u =
+    past p r u (boundary_plain flow spaces (p ++ r) (length p) (sym (upto-append (ends_plain flow spaces) p r h.inside h.ends)))
 scalar_past flow spaces p r (inr h) u =
     let q = h.0.1.1 in
-    ends_ascii (h.0.0 ∷ spell_lines h.0.1.0) h.0.0 r (quote_low h.0.0 q.quotes) (subst (λ (l : List ℕ). IsUtf8 (l ++ r)) q.spelled u)
+    ends_ascii (h.0.0 ∷ spell_lines h.0.1.0) h.0.0 r (search rules) (subst (λ (l : List ℕ). IsUtf8 (l ++ r)) q.spelled u)
 
 apart_past : (flow : Bool) (g r : List ℕ) → IsApart flow g r → IsUtf8 (g ++ r) → IsUtf8 r
 apart_past true g r h u = gap_past g r h u
@@ -52,8 +46,7 @@ apart_past false g r h u =
     past g r u white
 
 pub lead_past : (flow : Bool) (begins : List ℕ → Bool) (g r : List ℕ) → IsLead flow begins g r → IsUtf8 (g ++ r) → IsUtf8 r
-lead_past flow begins g r (inl h) u = apart_past flow g r h.0 u
-lead_past flow begins g r (inr h) u = subst (λ (l : List ℕ). IsUtf8 (l ++ r)) h.0 u
+lead_past flow begins g r h u = search (rules, apart_past)
 
 pub key_past : (k : ℕ) (key : Key) (r : List ℕ) → IsInlineKey k key r → IsUtf8 (key_text key r) → IsUtf8 r
 key_past k bare r h u = u

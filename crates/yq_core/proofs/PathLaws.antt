@@ -1,13 +1,13 @@
 -- Where a path leads in a node, in its tree, and in its text.
-use Rattle.std.proofs.Common.{arith, ◌+◌, length, eqb, ◌≡◌, ℕ, zero, suc, Bool, true, false, cond, List, [], ◌∷◌, ◌++◌, Option, Some, None}
+use Rattle.std.proofs.Common.{arith, ◌+◌, length, eqb, ◌≡◌, ℕ, zero, suc, Bool, true, false, cond, List, [], ◌∷◌, ◌++◌, Option, Some}
 use Rattle.std.{proofs.Common.{option_map, option_and_then, refl, sym, ap, ◌∙◌, subst, append_assoc, rules}, proofs.lemmas.Option.same_Some}
 use Rattle.yq_core.{specs.Paths.{Step, is_here, further, child_at, node_at}, specs.Tree.{children_of, key_label}}
-use Rattle.yq_core.specs.Nodes.{FlowNode, empty, alias, scalar, coll, anchored, Items, none, item, key_text, sep_text, node_text}
-use Rattle.yq_core.specs.Nodes.{flow_items_text, opening_bracket, IsFlowNode, AreFlowItems}
+use Rattle.yq_core.specs.Nodes.{FlowNode, coll, anchored, Items, none, item, node_text, flow_items_text, opening_bracket, IsFlowNode}
+use Rattle.yq_core.specs.Nodes.{AreFlowItems}
 use Rattle.yq_core.specs.Entries.{PlacedEntry, EntryPieces, StandsIn, parts_in, parts_of, flow_part_at, placed_entry_at, pieces_text}
 use Rattle.yq_core.specs.Entries.{locate_entry, item_at, path_inside, entry_pieces_at}
 use Rattle.yq_core.specs.Places.{Placed, placed, sequence, mapping, holder, anchored_node, Parts, end, part, locate, locate_items}
-use Rattle.yq_core.{specs.Trees.{with_anchor_name, key_content, unplaced_key, placed_tree, parts_tree}, proofs.TreeLaws.key_tree}
+use Rattle.yq_core.{specs.Trees.{with_anchor_name, unplaced_key, placed_tree, parts_tree}, proofs.TreeLaws.key_tree}
 use Rattle.yq_core.proofs.NodesWrittenLaws.{key_append, sep_append, node_append}
 use Rattle.yq_core.specs.Tree as tree
 
@@ -22,16 +22,14 @@ abbrev pub entry_tree : PlacedEntry → tree.Node
 entry_tree x = placed_tree x.1
 
 map_first : {A B : Type 0} {p : Option B} (f : A → B) (c : Bool) (x : A) (o : Option A) → option_map f o ≡ p → option_map f (cond c (Some x) o) ≡ cond c (Some (f x)) p
-map_first f true x o h = refl
-map_first f false x o h = h
+map_first f c x o h = search rules
 
 part_tree : (s : Step) (parts : Parts) → option_map entry_tree (flow_part_at s parts) ≡ child_at s (parts_tree parts)
 part_tree s end = refl
 part_tree s (part key n parts) = map_first entry_tree (is_here s (key_label (unplaced_key key))) (key, n) (flow_part_at (further s) parts) (part_tree (further s) parts)
 
 then_map : {A B C D : Type 0} (f : A → Option B) (g : C → Option D) (u : A → C) (v : B → D) → ((x : A) → option_map v (f x) ≡ g (u x)) → (o : Option A) → option_map v (option_and_then f o) ≡ option_and_then g (option_map u o)
-then_map f g u v h None = refl
-then_map f g u v h (Some x) = h x
+then_map f g u v h o = search rules
 
 -- a path exists in a node where it exists in the node's tree
 pub path_tree : (ss : List Step) (x : PlacedEntry) → option_map entry_tree (placed_entry_at ss x) ≡ node_at ss (placed_tree x.1)
@@ -43,10 +41,7 @@ path_tree (s ∷ ss) x =
 items_place : (total k : ℕ) (s : Step) (is : Items) (rest : List ℕ) → flow_part_at s (locate_items total k is rest) ≡ option_map (locate_entry total) (item_at k s is rest)
 unfolding locate_items
 items_place total k s none rest = refl
-items_place total k s (item key n sep is) rest =
-    let here : EntryPieces = record { key = key; node = n; rest = sep_text sep (flow_items_text k is rest) } in
-    ap (λ (label : Option (List ℕ)). cond (is_here s (key_label label)) (Some (locate_entry total here)) (flow_part_at (further s) (locate_items total k is rest))) (key_tree total (key_text key (node_text n (sep_text sep (flow_items_text k is rest)))) key)
-    ∙ sym (map_first (locate_entry total) (is_here s (key_label (key_content key))) here (item_at k (further s) is rest) (sym (items_place total k (further s) is rest)))
+items_place total k s (item key n sep is) rest = search (rules, key_tree, map_first, items_place total k (further s) is rest)
 
 held : (k : ℕ) (parts : Parts) → parts_in (holder k parts) ≡ parts
 held k parts = go (eqb k 125) where
@@ -59,22 +54,17 @@ parts_anchored n at (placed a s c e what) = refl
 
 inside_place : (total : ℕ) (s : Step) (node : FlowNode) (rest : List ℕ) → flow_part_at s (parts_of (locate total node rest)) ≡ option_map (locate_entry total) (path_inside s node rest)
 unfolding locate
-inside_place total s empty rest = refl
-inside_place total s (alias n) rest = refl
-inside_place total s (scalar p) rest = refl
 inside_place total s (coll k g is) rest = ap (flow_part_at s) (held k (locate_items total k is rest)) ∙ items_place total k s is rest
 inside_place total s (anchored n g node) rest = ap (flow_part_at s) (parts_anchored n _ (locate total node rest)) ∙ inside_place total s node rest
+inside_place total s _ rest = refl
 
 then_places : {A B : Type 0} (f : A → Option A) (g : B → Option B) (v : A → B) → ((x : A) → g (v x) ≡ option_map v (f x)) → (o : Option A) → option_and_then g (option_map v o) ≡ option_map v (option_and_then f o)
-then_places f g v h None = refl
-then_places f g v h (Some x) = h x
+then_places f g v h o = search rules
 
 -- where a path leads is at its place
 pub path_places : (total : ℕ) (ss : List Step) (x : EntryPieces) → placed_entry_at ss (locate_entry total x) ≡ option_map (locate_entry total) (entry_pieces_at ss x)
 path_places total [] x = refl
-path_places total (s ∷ ss) x =
-    ap (option_and_then (placed_entry_at ss)) (inside_place total s x.node x.rest)
-    ∙ then_places (entry_pieces_at ss) (placed_entry_at ss) (locate_entry total) (path_places total ss) (path_inside s x.node x.rest)
+path_places total (s ∷ ss) x = search (rules, inside_place, then_places, path_places total ss)
 
 -- in the text
 behind : (t u p : List ℕ) (x : EntryPieces) → t ≡ p ++ u → StandsIn u x → StandsIn t x
@@ -83,78 +73,44 @@ behind t u p x is h = record { before = p ++ h.before; text = is ∙ (ap (λ l. 
 items_stand : (k : ℕ) (s : Step) (is : Items) (rest : List ℕ) (x : EntryPieces) → item_at k s is rest ≡ Some x → StandsIn (flow_items_text k is rest) x
 unfolding flow_items_text
 items_stand k s none rest x h = cc
-items_stand k s (item key n sep is) rest x h = go (is_here s (key_label (key_content key))) (items_stand k (further s) is rest x) h where
-  tail : List ℕ
-  tail = flow_items_text k is rest
-
-  here : EntryPieces
-  here = record { key = key; node = n; rest = sep_text sep tail }
-
-  front : List ℕ
-  front = key_text key (node_text n (sep_text sep []))
-
-  cut : key_text key (node_text n (sep_text sep tail)) ≡ front ++ tail
-  cut =
-      ap (λ l. key_text key (node_text n l)) (sep_append sep [] tail)
-      ∙ (ap (key_text key) (node_append n (sep_text sep []) tail) ∙ key_append key (node_text n (sep_text sep [])) tail)
-
-  go : (c : Bool) → (item_at k (further s) is rest ≡ Some x → StandsIn tail x) → cond c (Some here) (item_at k (further s) is rest) ≡ Some x → StandsIn (key_text key (node_text n (sep_text sep tail))) x
-  go true h1 h2 = subst (StandsIn (pieces_text here)) (same_Some here x h2) (record { before = []; text = refl })
-  go false h1 h2 = behind (pieces_text here) tail front x cut (h1 h2)
+items_stand k s (item key n sep is) rest x h = search (rules, sep_append, node_append, key_append, same_Some, behind, items_stand k (further s) is rest x)
 
 inside_stands : (s : Step) (node : FlowNode) (rest : List ℕ) (x : EntryPieces) → path_inside s node rest ≡ Some x → StandsIn (node_text node rest) x
 unfolding node_text
-inside_stands s empty rest x h = cc
-inside_stands s (alias n) rest x h = cc
-inside_stands s (scalar p) rest x h = cc
 inside_stands s (coll k g is) rest x h = behind (opening_bracket k ∷ (g ++ flow_items_text k is rest)) (flow_items_text k is rest) (opening_bracket k ∷ g) x refl (items_stand k s is rest x h)
 inside_stands s (anchored n g node) rest x h =
     behind (38 ∷ (n ++ (g ++ node_text node rest))) (node_text node rest) (38 ∷ (n ++ g)) x (ap (λ l. 38 ∷ l) (sym (append_assoc n g (node_text node rest)))) (inside_stands s node rest x h)
+inside_stands s _ rest x h = cc
 
 pub then_some : {A B : Type 0} {f : A → Option B} {y : B} (o : Option A) → option_and_then f o ≡ Some y → (x : A) × (o ≡ Some x) × (f x ≡ Some y)
-then_some None h = cc
-then_some (Some x) h = (x, refl, h)
+then_some o h = search rules
 
 pub path_stands : (ss : List Step) (x y : EntryPieces) → entry_pieces_at ss x ≡ Some y → StandsIn (pieces_text x) y
 path_stands [] x y h = record { before = []; text = ap pieces_text (same_Some _ _ h) }
 path_stands (s ∷ ss) x y h =
     let z = then_some (path_inside s x.node x.rest) h in
     let first = inside_stands s x.node x.rest z.0 z.1 in
-    let inside_it = behind (node_text x.node x.rest) (pieces_text z.0) first.before y first.text (path_stands ss z.0 y z.2) in
-    behind (pieces_text x) (node_text x.node x.rest) (key_text x.key []) y (key_append x.key [] (node_text x.node x.rest)) inside_it
+    search (rules, behind, key_append, path_stands ss z.0 y z.2)
 
 -- and is a node there
 pub items_hold : (d k : ℕ) (s : Step) (is : Items) (rest : List ℕ) (x : EntryPieces) → AreFlowItems d k is rest → item_at k s is rest ≡ Some x → IsFlowNode true (Some 0) d x.node x.rest
 unfolding AreFlowItems
 items_hold d k s none rest x a h = cc
-items_hold d k s (item key n sep is) rest x a h = go (is_here s (key_label (key_content key))) (items_hold d k (further s) is rest x a.4) h where
-  here : EntryPieces
-  here = record { key = key; node = n; rest = sep_text sep (flow_items_text k is rest) }
-
-  go : (c : Bool) → (item_at k (further s) is rest ≡ Some x → IsFlowNode true (Some 0) d x.node x.rest) → cond c (Some here) (item_at k (further s) is rest) ≡ Some x → IsFlowNode true (Some 0) d x.node x.rest
-  go true h1 h2 = subst (λ (w : EntryPieces). IsFlowNode true (Some 0) d w.node w.rest) (same_Some here x h2) a.2
-  go false h1 h2 = h1 h2
+items_hold d k s (item key n sep is) rest x a h = search (rules, same_Some, items_hold d k (further s) is rest x a.4)
 
 inside_holds : (flow : Bool) (spaces : Option ℕ) (d : ℕ) (s : Step) (node : FlowNode) (rest : List ℕ) (x : EntryPieces) → IsFlowNode flow spaces d node rest → path_inside s node rest ≡ Some x → (e : ℕ) × (d ≡ suc e) × IsFlowNode true (Some 0) e x.node x.rest
 unfolding IsFlowNode
-inside_holds flow spaces d s empty rest x a h = cc
-inside_holds flow spaces d s (alias n) rest x a h = cc
-inside_holds flow spaces d s (scalar p) rest x a h = cc
 inside_holds flow spaces zero s (coll k g is) rest x a h = absurd a.2
 inside_holds flow spaces (suc d) s (coll k g is) rest x a h = (d, refl, items_hold d k s is rest x a.2 h)
 inside_holds flow spaces d s (anchored n g node) rest x a h = inside_holds flow spaces d s node rest x a.4 h
+inside_holds flow spaces d s _ rest x a h = cc
 
 further_holds : (ss : List Step) (z y : EntryPieces) (e : ℕ) → IsFlowNode true (Some 0) e z.node z.rest → entry_pieces_at ss z ≡ Some y → (d : ℕ) × (e ≡ length ss + d) × IsFlowNode true (Some 0) d y.node y.rest
 further_holds [] z y e a h = subst (λ (w : EntryPieces). (d : ℕ) × (e ≡ 0 + d) × IsFlowNode true (Some 0) d w.node w.rest) (same_Some _ _ h) (e, omega arith, a)
 further_holds (s ∷ ss) z y e a h =
     let w = then_some (path_inside s z.node z.rest) h in
     let b = inside_holds true (Some 0) e s z.node z.rest w.0 a w.1 in
-    let c = further_holds ss w.0 y b.0 b.2 w.2 in
-    (c.0, omega (arith, b.1, c.1), c.2)
+    search (rules, further_holds ss w.0 y b.0 b.2 w.2)
 
 pub path_holds : (flow : Bool) (spaces : Option ℕ) (d : ℕ) (s : Step) (ss : List Step) (x y : EntryPieces) → IsFlowNode flow spaces d x.node x.rest → entry_pieces_at (s ∷ ss) x ≡ Some y → (e : ℕ) × (d ≡ length (s ∷ ss) + e) × IsFlowNode true (Some 0) e y.node y.rest
-path_holds flow spaces d s ss x y a h =
-    let z = then_some (path_inside s x.node x.rest) h in
-    let b = inside_holds flow spaces d s x.node x.rest z.0 a z.1 in
-    let c = further_holds ss z.0 y b.0 b.2 z.2 in
-    (c.0, omega (arith, b.1, c.1), c.2)
+path_holds flow spaces d s ss x y a h = search (rules, then_some, inside_holds, further_holds)

@@ -1,6 +1,6 @@
 -- The items and entries of the code, one after the other.
-use Rattle.std.proofs.Common.{◌≡◌, ℕ, zero, suc, ◌+◌, ◌<◌, ◌≤◌, true, false, ltb, List, [], ◌∷◌, length, drop, get_or, Option, Some, None}
-use Rattle.std.proofs.Common.{option_map, refl, sym, ap, ◌∙◌, inl, inr, arith, String, string_bytes}
+use Rattle.std.proofs.Common.{rules, ◌≡◌, ℕ, zero, suc, ◌+◌, ◌<◌, ◌≤◌, true, false, ltb, List, [], ◌∷◌, length, drop, get_or, Option, Some}
+use Rattle.std.proofs.Common.{None, option_map, refl, sym, ap, ◌∙◌, arith, String, string_bytes}
 use Rattle.std.{proofs.lemmas.Bool.{false≢true, ltb-true, lt-ltb, cases_lt}, proofs.lemmas.List.{drop_more, drop_all}}
 use Rattle.std.{specs.declared.alloc.Global.Global, specs.Str.bytes_eq}
 use Rattle.yq_core.{specs.declared.piece.Piece.Piece, specs.Paths.{Step, To, Nth, node_at}, specs.declared.inline.Inline.Inline}
@@ -14,19 +14,15 @@ item_part (x ∷ is) zero d lt = refl
 item_part (x ∷ is) (suc i) d lt = item_part is i d (omega (arith, lt))
 
 no_item : (is : List Inline) (i : ℕ) → length is ≤ i → flow_part_at (Nth i) (items_end is) ≡ None
-no_item [] zero h = refl
-no_item [] (suc i) h = refl
 no_item (x ∷ is) zero h = absurd (omega (arith, h))
 no_item (x ∷ is) (suc i) h = no_item is i (omega (arith, h))
+no_item [] _ h = refl
 
 pub item_found : (is all : List Inline) (i : ℕ) (x d : Inline) → is ≡ all → true ≡ ltb i (length is) → x ≡ get_or is i d → Some (None, inline_view x) ≡ flow_part_at (Nth i) (items_end all)
 item_found is all i x d same lt at = ap (λ (y : Inline). Some (None, inline_view y)) at ∙ (sym (item_part is i d (ltb-true i (length is) (sym lt))) ∙ ap (λ (l : List Inline). flow_part_at (Nth i) (items_end l)) same)
 
 pub item_missing : (is all : List Inline) (i : ℕ) → is ≡ all → false ≡ ltb i (length is) → None ≡ flow_part_at (Nth i) (items_end all)
-item_missing is all i same ge = elim (cases_lt i (length is)) [
-  | inl lt ↦ absurd (false≢true (ge ∙ lt-ltb i (length is) lt))
-  | inr le ↦ sym (no_item is i le) ∙ ap (λ (l : List Inline). flow_part_at (Nth i) (items_end l)) same
-]
+item_missing is all i same ge = search (rules, cases_lt, false≢true, lt-ltb, no_item)
 
 abbrev pub Field : Type 0
 Field = String Global × Piece × Inline
@@ -58,10 +54,9 @@ no_key key [] = refl
 no_key key (x ∷ is) = no_key key is
 
 no_index : (i : ℕ) (es : List Field) → flow_part_at (Nth i) (entries_end es) ≡ None
-no_index zero [] = refl
-no_index (suc i) [] = refl
 no_index zero (e ∷ es) = no_index zero es
 no_index (suc i) (e ∷ es) = no_index i es
+no_index _ [] = refl
 
 pub key_in_items : (is : List Inline) (k : String Global) (s : declared.Step) → s ≡ declared.TheVariants.Key k → None ≡ flow_part_at (tree_step s) (items_end is)
 key_in_items is k s same = sym (ap (λ (t : declared.Step). flow_part_at (tree_step t) (items_end is)) same ∙ no_key (string_bytes k) is)

@@ -1,17 +1,15 @@
 -- The scalar of a piece, and where it may be cut off the text.
-use Rattle.std.proofs.Common.{◌≡◌, ℕ, ◌+◌, ◌-◌, ◌<◌, List, [], ◌∷◌, ◌++◌, length, take, drop, get_or, inl, inr, refl, sym, ap, ◌∙◌, subst}
-use Rattle.std.{proofs.Common.{arith, append_assoc, length-append, ℤ, rules}, proofs.Math.Seq.take-append_seam}
+use Rattle.std.proofs.lemmas.Grind.{common_steps}
+use Rattle.std.proofs.Common.{◌≡◌, ℕ, ◌+◌, ◌-◌, ◌<◌, List, [], ◌∷◌, ◌++◌, length, drop, get_or, inl, inr, refl, sym, ap, ◌∙◌, subst, arith}
+use Rattle.std.{proofs.Common.{append_assoc, length-append, ℤ, rules}, proofs.Math.Seq.take-append_seam}
 use Rattle.std.{proofs.lemmas.Str.IsCharBoundary-after_ascii, specs.Str.{IsUtf8, IsCharBoundary}}
-use Rattle.yq_core.{proofs.BlockPieceLaws.content_is, specs.BlockContent.block_content, specs.declared.block_header.BlockStyle.BlockStyle}
-use Rattle.yq_core.{specs.declared.piece.Piece.Piece, specs.declared.style.Place.Place}
-use Rattle.yq_core.{specs.Piece.{inline_piece, further_spaces, IsPlainPiece}, specs.Plain.ends_plain}
+use Rattle.yq_core.{proofs.BlockPieceLaws.content_is, specs.BlockContent.block_content, specs.declared.piece.Piece.Piece}
+use Rattle.yq_core.{specs.declared.style.Place.Place, specs.Piece.{inline_piece, further_spaces, IsPlainPiece}, specs.Plain.ends_plain}
 use Rattle.yq_core.{specs.Quoted.{QuotedLines, spell_lines, IsQuoted, quoted_lines_content}, specs.PlainContent.IsPlainLines}
-use Rattle.yq_core.{specs.QuotedPiece.{quoted_style, IsQuotedPiece}, specs.ScalarPiece.{IsInlineScalar, piece_string, piece_content}}
+use Rattle.yq_core.{specs.QuotedPiece.IsQuotedPiece, specs.ScalarPiece.{IsInlineScalar, piece_string, piece_content}}
 use Rattle.yq_core.{specs.Writable.in_flow, proofs.ContentLaws.quoted_content_is, proofs.PlainContentLaws.plain_content_is}
 use Rattle.yq_core.{proofs.PlainLaws.boundary_plain, proofs.QuotedLaws.of_quotes, proofs.QuotedFound.at_seam, proofs.Upto.upto-append}
 use Rattle.yq_core.specs.Block as block
-use Rattle.yq_core.specs.BlockReading as blocks
-use Rattle.yq_core.specs.declared.block_header.BlockStyle.TheVariants as block_styles
 use Rattle.yq_core.specs.declared.style.Style.TheVariants as styles
 
 -- the scalar of a piece
@@ -45,15 +43,7 @@ behind_quote q ls piece rest is u =
     subst (λ (k : ℕ). IsCharBoundary (piece ++ rest) k) (sym size) (IsCharBoundary-after_ascii (piece ++ rest) (length front) u within (omega (arith, here, low)))
 
 quoted_scalar : (at : ℕ) (text : List ℕ) (p : Piece) → IsQuotedPiece at text p → Scalar text p
-quoted_scalar at text p h =
-    let whole : Scalar text (inline_piece (quoted_style h.quote) at (at + length h.scalar)) = record {
-      scalar = h.scalar;
-      rest = h.rest;
-      stands = h.stands;
-      size = refl;
-      cut = λ u. behind_quote h.quote h.ls h.scalar h.rest h.quoted u;
-    } in
-    subst (λ (q : Piece). Scalar text q) (sym h.piece) whole
+quoted_scalar at text p h = search (rules, behind_quote)
 
 pub scalar_of : (text : List ℕ) (p : Piece) → IsInlineScalar text p → Scalar text p
 scalar_of text p h = elim h.piece [
@@ -65,23 +55,11 @@ pub boundary_end : (text rest : List ℕ) (p : Piece) (s : Scalar text p) → re
 boundary_end text rest p s e u = search rules
 
 pub quoted_piece_content : (at : ℕ) (text : List ℕ) (p : Piece) (h : IsQuotedPiece at text p) → piece_content text p ≡ quoted_lines_content h.ls
-quoted_piece_content at text p h =
-    let n = at + length h.scalar in
-    let size : n - at ≡ length h.scalar = omega arith in
-    let cut : take (n - at) (drop at text) ≡ h.scalar = rw (h.stands, size, take-append_seam) refl in
-    search (rules, of_quotes, quoted_content_is, cut, n)
+quoted_piece_content at text p h = grind (arith, common_steps, take-append_seam, of_quotes, quoted_content_is)
 
 pub plain_piece_content : (place : Place) (n : ℤ) (at : ℕ) (text : List ℕ) (p : Piece) (h : IsPlainPiece place n at text p) (ls : QuotedLines) → IsPlainLines ls h.scalar → piece_content text p ≡ quoted_lines_content ls
-plain_piece_content place n at text p h ls is =
-    let k = at + length h.scalar in
-    let size : k - at ≡ length h.scalar = omega arith in
-    search (rules, plain_content_is, take-append_seam, size)
-
--- what the piece of a block scalar means
-block_style_content : (s : BlockStyle) (text : List ℕ) (p : Piece) → piece_string (block.as_style s) text p ≡ blocks.block_piece_content text p
-block_style_content block_styles.Literal text p = refl
-block_style_content block_styles.Folded text p = refl
+plain_piece_content place n at text p h ls is = grind (arith, common_steps, plain_content_is, take-append_seam)
 
 pub block_piece_content : (n : ℤ) (text : List ℕ) (p : Piece) (h : block.IsBlockPiece n p.start text p) → piece_content text p ≡ block_content h.block
 block_piece_content n text p h =
-    ap (λ (q : Piece). piece_string q.style text p) h.piece ∙ (block_style_content h.block.style text p ∙ content_is n text p h)
+    ap (λ (q : Piece). piece_string q.style text p) h.piece ∙ ((search rules) ∙ content_is n text p h)

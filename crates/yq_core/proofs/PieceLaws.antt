@@ -16,8 +16,7 @@ unfolding plain_from
 piece_again place n at text p h = search (rules, plain_again)
 
 pub found_by : {E : Type 0} (place : Place) (n : ℤ) (at : ℕ) (text : List ℕ) (r : Result Piece E) → ReadsAs (λ p. p) r (plain_from place n at text) → IfOk r (IsPlainPiece place n at text)
-found_by place n at text (Ok p) h = piece_takes place n at text p h
-found_by place n at text (Err e) h = tt
+found_by place n at text r h = search (rules, piece_takes)
 
 pub only_by : {E : Type 0} (place : Place) (n : ℤ) (at : ℕ) (text : List ℕ) (r : Result Piece E) → ReadsAs (λ p. p) r (plain_from place n at text) → (p : Piece) → IsPlainPiece place n at text p → r ≡ Ok p
 only_by place n at text (Ok q) h p i = ap Ok (same_Some _ _ (sym h ∙ piece_again place n at text p i))

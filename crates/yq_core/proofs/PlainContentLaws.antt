@@ -1,18 +1,15 @@
 -- What is read as the content of a plain scalar is what its lines mean.
-use Rattle.std.proofs.Common.{◌≡◌, ℕ, true, false, List, [], ◌∷◌, ◌++◌, refl, sym, inl, inr, ◌&&◌, ap, ◌∙◌, subst, eqb-true, append-nil}
-use Rattle.std.{proofs.Common.rules, proofs.lemmas.Bool.{false≢true, and_parts, cases_Bool}, proofs.Math.Bool.and-false}
+use Rattle.std.proofs.Common.{◌≡◌, ℕ, true, false, List, [], ◌∷◌, ◌++◌, refl, sym, inl, inr, ◌&&◌, ap, ◌∙◌, eqb-true, append-nil, rules}
+use Rattle.std.{proofs.lemmas.Bool.{false≢true, and_parts, cases_Bool}, proofs.Math.Bool.and-false}
 use Rattle.yq_core.specs.Text.{is_break, is_feed, is_return}
-use Rattle.yq_core.specs.Quoted.{Char, itself, doubled, escape as letter_escape, code, spell_chars, Break, line_feed, return_feed}
-use Rattle.yq_core.specs.Quoted.{spell_break, QuotedLines, last, line, spell_lines, quoted_lines_content}
-use Rattle.yq_core.{specs.PlainContent.{ArePlain, ArePlainLines, IsPlainLines}, specs.ContentReading.plain_content}
-use Rattle.yq_core.proofs.ContentLaws.{AllMean, LinesMean, itself_means, content_is}
+use Rattle.yq_core.specs.Quoted.{Char, itself, spell_chars, Break, line_feed, return_feed, spell_break, QuotedLines, last, line}
+use Rattle.yq_core.{specs.Quoted.{spell_lines, quoted_lines_content}, specs.PlainContent.{ArePlain, ArePlainLines, IsPlainLines}}
+use Rattle.yq_core.{specs.ContentReading.plain_content, proofs.ContentLaws.{AllMean, LinesMean, itself_means, content_is}}
 
 plain_chars_mean : (cs : List Char) (t : List ℕ) → ArePlain cs t → AllMean 0 cs t
 plain_chars_mean [] t h = tt
 plain_chars_mean (itself b ∷ cs) t h = (itself_means 0 b (spell_chars cs ++ t) h.0 refl refl, plain_chars_mean cs t h.1)
-plain_chars_mean (doubled ∷ cs) t h = absurd h
-plain_chars_mean (letter_escape letter ∷ cs) t h = absurd h
-plain_chars_mean (code letter digits ∷ cs) t h = absurd h
+plain_chars_mean _ t h = absurd h
 
 plain_lines_mean : (ls : QuotedLines) → ArePlainLines ls → LinesMean 0 ls
 plain_lines_mean (last cs) h = plain_chars_mean cs [] h
@@ -29,19 +26,15 @@ push b (line cs escaped k ls) = line (itself b ∷ cs) escaped k ls
 
 push_spelled : (b : ℕ) (ls : QuotedLines) → b ∷ spell_lines ls ≡ spell_lines (push b ls)
 unfolding push
-push_spelled b (last cs) = refl
-push_spelled b (line cs escaped k ls) = refl
-
-push_plain : (b : ℕ) (ls : QuotedLines) → is_break (b ∷ spell_lines ls) ≡ false → ArePlainLines ls → ArePlainLines (push b ls)
-unfolding push
-push_plain b ls h1 h2 = search (rules, append-nil, false≢true)
+push_spelled b ls = search rules
 
 pushed : (b : ℕ) (t : List ℕ) → is_break (b ∷ t) ≡ false → ((ls : QuotedLines) × IsPlainLines ls t) → (ls : QuotedLines) × IsPlainLines ls (b ∷ t)
+unfolding push
 pushed b t brk (ls, is) = (
   push b ls,
   record {
     spelled = ap (λ l. b ∷ l) is.spelled ∙ push_spelled b ls;
-    lines = push_plain b ls (subst (λ (u : List ℕ). is_break (b ∷ u) ≡ false) is.spelled brk) is.lines;
+    lines = search (rules, append-nil, false≢true);
   },
 )
 

@@ -1,22 +1,16 @@
 -- A plain scalar, read and spelled.
-use Rattle.std.proofs.Common.{◌≡◌, ℕ, ◌<◌, Bool, true, eqb, List, ◌∷◌, ◌++◌, Option, Some, refl, ⊎_elim, ◌||◌, ap, subst, arith, eqb-true}
-use Rattle.std.{proofs.Common.rules, proofs.lemmas.Bool.{or_cases, and_parts}, proofs.lemmas.List.take-append-drop}
-use Rattle.std.{proofs.lemmas.Option.cond_some, specs.Str.IsCharBoundary}
-use Rattle.yq_core.{specs.Text.{upto, cut}, specs.Plain.{ends_plain, ends_text, is_flow_indicator, begins_plain, IsPlain, plain_at}}
+use Rattle.std.proofs.Common.{◌≡◌, ℕ, ◌<◌, Bool, true, List, ◌∷◌, ◌++◌, Option, Some, refl, ⊎_elim, ap, subst, eqb-true, rules}
+use Rattle.std.{proofs.lemmas.Bool.{or_cases, and_parts}, proofs.lemmas.List.take-append-drop, proofs.lemmas.Option.cond_some}
+use Rattle.std.specs.Str.{IsCharBoundary}
+use Rattle.yq_core.{specs.Text.{upto, cut}, specs.Plain.{ends_plain, is_flow_indicator, begins_plain, IsPlain, plain_at}}
 use Rattle.yq_core.{proofs.Bools.chosen, proofs.Boundaries.{boundary_ends, space_ascii}}
 use Rattle.yq_core.proofs.Upto.{cut-append, cut_takes, none_in_cut, upto_ends}
 
-pub byte_or : (b k : ℕ) (more : Bool) → k < 128 → (more ≡ true → b < 128) → (more || eqb b k) ≡ true → b < 128
-byte_or b k more low f h = ⊎_elim f (λ e. omega (arith, eqb-true b k e)) (or_cases more (eqb b k) h)
-
 pub flow_ascii : (b : ℕ) → is_flow_indicator b ≡ true → b < 128
-flow_ascii b = search (rules, byte_or, eqb-true)
-
-pub text_ascii : (flow : Bool) (b : ℕ) (bs : List ℕ) → ends_text flow (b ∷ bs) ≡ true → b < 128
-text_ascii flow b bs h = search (rules, ⊎_elim, eqb-true, and_parts, flow_ascii, or_cases)
+flow_ascii b = search (rules, or_cases, eqb-true)
 
 pub plain_ascii : (flow : Bool) (spaces : Option ℕ) (b : ℕ) (bs : List ℕ) → ends_plain flow spaces (b ∷ bs) ≡ true → b < 128
-plain_ascii flow spaces b bs h = ⊎_elim (λ w. space_ascii b bs w.0) (λ w. text_ascii flow b bs w.1) (chosen _ h)
+plain_ascii flow spaces b bs h = ⊎_elim (λ w. space_ascii b bs w.0) (λ w. (search (rules, ⊎_elim, eqb-true, and_parts, flow_ascii, or_cases))) (chosen _ h)
 
 pub boundary_plain : (flow : Bool) (spaces : Option ℕ) (t : List ℕ) (n : ℕ) → n ≡ upto (ends_plain flow spaces) t → IsCharBoundary t n
 boundary_plain flow spaces t n e = rw e (boundary_ends (ends_plain flow spaces) t (plain_ascii flow spaces) refl)

@@ -39,8 +39,7 @@ pub plain_is_text : (flow : Bool) (t : List ℕ) → IsUtf8 t → is_plain_text 
 plain_is_text flow t u h = let p = plain_text_parts flow t h in rw (text_chars (chars t) p.0, no_controls_pairs t (no_controls t u p.0)) refl
 
 pub plain_some : (flow : Bool) (t : List ℕ) → is_plain_text flow t ≡ true → is_empty t ≡ false
-plain_some flow [] h = absurd (false≢true ((plain_text_parts flow [] h).1))
-plain_some flow (b ∷ t) h = refl
+plain_some flow t h = search rules
 
 -- it begins with no indicator but a `-`
 pub plain_opens : (test : ℕ → Bool) (t : List ℕ) → ((b : ℕ) → test b ≡ true → is_indicator b ≡ true) → test 45 ≡ false → begins_plainly t ≡ true → front test t ≡ false
@@ -65,10 +64,8 @@ writable_text kinds.Text t flow i h = (and_parts (is_string (resolve t)) (is_pla
 pub writable_same : (kind : Kind) (t : List ℕ) (flow : Bool) → IsScalar kind t → can_write_plain (record { kind = kind; text = t }) flow ≡ true → plain_of t ≡ record { kind = kind; text = t }
 unfolding can_write_plain
 writable_same kinds.Null t flow i h = rw i (ap (λ k. of_kind k (codes "null")) (resolve_again (codes "null") kinds.Null (inl refl)))
-writable_same kinds.Bool t flow i h = ap (λ k. of_kind k t) i
-writable_same kinds.Int t flow i h = ap (λ k. of_kind k t) i
-writable_same kinds.Float t flow i h = ap (λ k. of_kind k t) i
 writable_same kinds.Text t flow i h = ap (λ k. of_kind k t) (string_kind (resolve t) (and_parts (is_string (resolve t)) (is_plain_text flow t) h).0)
+writable_same _ t flow i h = ap (λ k. of_kind k t) i
 
 pub writable_piece : (s : ScalarText) (flow : Bool) (spaces : Option ℕ) (rest : List ℕ) → IsUtf8 s.text → IsScalar s.kind s.text → can_write_plain s flow ≡ true → ends_plain flow spaces rest ≡ true → IsPlain flow spaces s.text rest
 writable_piece s flow spaces rest u i h e = plain_written flow spaces s.text rest u (writable_text s.kind s.text flow i h) e

@@ -1,11 +1,12 @@
 -- Quoted scalars: the two laws, and where one may be cut off.
-use Rattle.std.proofs.Common.{◌≡◌, ℕ, suc, ◌+◌, ◌<◌, true, eqb, eqb-true, List, [], ◌∷◌, ◌++◌, length, get_or, Option, Some, None, refl}
-use Rattle.std.{proofs.Common.{sym, ap, ◌∙◌, subst, inl, inr, ◌⊎◌, arith, append_assoc, length-append, rules}, proofs.lemmas.Bool.or_cases}
-use Rattle.std.{proofs.Math.Seq.{take-append_seam, drop-append_seam}, proofs.lemmas.Option.same_Some}
-use Rattle.std.{proofs.lemmas.Str.IsCharBoundary-after_ascii, specs.Str.{IsUtf8, IsCharBoundary}}
+use Rattle.yq_core.proofs.QuotedLaws.{lines_again, closed_here, of_quotes}
 use Rattle.yq_core.specs.Quoted.{QuotedLines, spell_lines, IsQuoted, IsQuotedText}
 use Rattle.yq_core.{specs.QuotedReading.{quoted_len, scalar_len, cut_at, quoted_at, is_quote}, proofs.Bools.{guard_then, more_some}}
-use Rattle.yq_core.{proofs.QuotedRead.{lines_takes, lines_are_read}, proofs.QuotedLaws.of_quotes}
+use Rattle.yq_core.proofs.QuotedRead.{lines_takes}
+use Rattle.std.proofs.Common.{◌≡◌, ℕ, suc, ◌+◌, ◌<◌, true, eqb, eqb-true, List, [], ◌∷◌, ◌++◌, length, get_or, Some, None, refl, sym, ap}
+use Rattle.std.{proofs.Common.{◌∙◌, subst, inl, inr, ◌⊎◌, arith, append_assoc, length-append, rules}, proofs.lemmas.Bool.or_cases}
+use Rattle.std.{proofs.Math.Seq.{take-append_seam, drop-append_seam}, proofs.lemmas.Option.same_Some}
+use Rattle.std.{proofs.lemmas.Str.IsCharBoundary-after_ascii, specs.Str.{IsUtf8, IsCharBoundary}}
 
 -- a quote in front
 quote_is : (b : ℕ) → is_quote b ≡ true → (b ≡ 34) ⊎ (b ≡ 39)
@@ -27,24 +28,13 @@ found b n bs x quote read h =
     let r = lines_takes (length bs) b n bs (omega arith) quotes read in
     let piece : List ℕ = b ∷ (spell_lines r.ls ++ b ∷ []) in
     let cut : b ∷ bs ≡ piece ++ r.rest = ap (λ l. b ∷ l) (r.cut ∙ sym (append_assoc (spell_lines r.ls) (b ∷ []) r.rest)) in
-    let size : 2 + n ≡ length piece = omega (arith, r.long, length-append (spell_lines r.ls) (b ∷ [])) in
-    let same : ◌≡◌ {A = List ℕ × List ℕ} (piece, r.rest) x = same_Some _ _ (sym (cut_is (b ∷ bs) piece r.rest (2 + n) cut size) ∙ h) in
-    subst (λ (y : List ℕ × List ℕ). Found (b ∷ bs) y.0 y.1) same (record {
-      quote = b;
-      ls = r.ls;
-      cut = cut;
-      is = record { quotes = quotes; spelled = refl; lines = r.are; closed = r.closed };
-    })
-
-by_len : (b : ℕ) (bs : List ℕ) (x : List ℕ × List ℕ) (o : Option ℕ) → scalar_len (b ∷ bs) ≡ o → cut_at (b ∷ bs) o ≡ Some x → Found (b ∷ bs) x.0 x.1
-by_len b bs x o h1 h2 = search (rules, guard_then, more_some, found)
+    search (rules, length-append, same_Some, cut_is)
 
 pub quoted_takes : (t : List ℕ) (x : List ℕ × List ℕ) → quoted_at t ≡ Some x → Found t x.0 x.1
-quoted_takes [] x h = absurd (let e : None ≡ Some x = h in cc)
-quoted_takes (b ∷ bs) x h = by_len b bs x (scalar_len (b ∷ bs)) refl h
+quoted_takes t x h = search (rules, guard_then, more_some, found)
 
 pub quoted_again : (q : ℕ) (ls : QuotedLines) (piece rest : List ℕ) → IsQuoted q ls piece rest → quoted_at (piece ++ rest) ≡ Some (piece, rest)
-quoted_again q ls piece rest is = search (rules, of_quotes, append_assoc, lines_are_read, cut_is, length-append)
+quoted_again q ls piece rest is = search (rules, of_quotes, append_assoc, lines_again, closed_here, cut_is, length-append)
 
 -- a text begins with one quoted scalar at most
 pub quoted_one : (q r : ℕ) (ls ms : QuotedLines) (p rest o other : List ℕ) → p ++ rest ≡ o ++ other → IsQuoted q ls p rest → IsQuoted r ms o other → (p ≡ o) × (rest ≡ other)

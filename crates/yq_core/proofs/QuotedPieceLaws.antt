@@ -20,8 +20,7 @@ unfolding quoted_from
 piece_again at text p h = search (rules, quoted_again, first_is)
 
 pub found_by : {E : Type 0} (at : ℕ) (text : List ℕ) (r : Result Piece E) → ReadsAs (λ p. p) r (quoted_from at text) → IfOk r (IsQuotedPiece at text)
-found_by at text (Ok p) h = piece_takes at text p h
-found_by at text (Err e) h = tt
+found_by at text r h = search (rules, piece_takes)
 
 pub only_by : {E : Type 0} (at : ℕ) (text : List ℕ) (r : Result Piece E) → ReadsAs (λ p. p) r (quoted_from at text) → (p : Piece) → IsQuotedPiece at text p → r ≡ Ok p
 only_by at text (Ok q) h p i = ap Ok (same_Some _ _ (sym h ∙ piece_again at text p i))

@@ -1,12 +1,13 @@
 -- Quoted scalars: the lines that are read.
-use Rattle.std.proofs.Common.{◌≡◌, ℕ, zero, suc, ◌+◌, ◌<◌, ◌≤◌, Bool, true, false, ◌&&◌, not, eqb, eqb-true, List, [], ◌∷◌, ◌++◌, length}
-use Rattle.std.proofs.Common.{drop, Some, None, refl, sym, ap, ◌∙◌, subst, inl, inr, ◌⊎◌, arith, length-append, length-drop, rules}
+use Rattle.std.proofs.lemmas.Grind.{common_steps}
+use Rattle.std.proofs.Common.{◌≡◌, ℕ, zero, suc, ◌+◌, ◌<◌, ◌≤◌, true, false, ◌&&◌, not, eqb, eqb-true, List, [], ◌∷◌, ◌++◌, length, drop}
+use Rattle.std.proofs.Common.{Some, None, refl, sym, ap, ◌∙◌, inl, inr, ◌⊎◌, arith, length-append, length-drop, rules}
 use Rattle.std.proofs.lemmas.Bool.{false≢true, or_cases, not-true, not-false, and_parts, cases_Bool, or_parts}
-use Rattle.yq_core.specs.Text.{is_break, is_feed, is_return, is_marker, front}
-use Rattle.yq_core.specs.Quoted.{itself, doubled, IsChar, Break, line_feed, return_feed, spell_break, QuotedLines, last, spell_lines}
-use Rattle.yq_core.{specs.Quoted.AreLines, specs.QuotedReading.{leading_escape, escape_len, closes, quoted_len}}
-use Rattle.yq_core.{proofs.Bools.{bind_some, more_some}, proofs.EscapeLaws.{length_item, length_of_some}, proofs.CharLaws.escape_takes}
-use Rattle.yq_core.proofs.QuotedLaws.{Read, of_quotes, read_char, read_line, lines_again, closed_here}
+use Rattle.yq_core.specs.Text.{is_break, is_marker, front}
+use Rattle.yq_core.specs.Quoted.{itself, doubled, IsChar, Break, line_feed, return_feed, spell_break, last}
+use Rattle.yq_core.{specs.QuotedReading.{leading_escape, escape_len, closes, quoted_len}, proofs.Bools.{bind_some, more_some}}
+use Rattle.yq_core.{proofs.EscapeLaws.{length_item, length_of_some}, proofs.CharLaws.escape_takes}
+use Rattle.yq_core.proofs.QuotedLaws.{Read, of_quotes, read_char, read_line}
 
 -- one step of the reading
 record ReadStep (q b : ℕ) (bs : List ℕ) (n : ℕ) : Type 0 where
@@ -99,10 +100,6 @@ read_close q b n bs e h =
 Reads : ℕ → ℕ → Type 0
 Reads q most = (m : ℕ) (t : List ℕ) → length t ≤ most → quoted_len q 0 t ≡ Some m → Read q t m
 
-only_quote : (x : Bool) → not (x && false) ≡ false → ⊥
-only_quote true h = false≢true (sym h)
-only_quote false h = false≢true (sym h)
-
 step_len : (q b n k : ℕ) (bs : List ℕ) (st : ReadStep q b bs n) → escape_len q b bs ≡ Some k → st.k ≡ k
 step_len q b n k bs st h = let e : Some st.k ≡ Some k = sym st.belongs ∙ h in cc
 
@@ -112,7 +109,7 @@ shorter k bs = omega (arith, length-drop k bs)
 -- two single quotes
 read_doubled : (q b n : ℕ) (bs : List ℕ) → closes q (b ∷ bs) ≡ false → eqb b q ≡ true → ReadStep q b bs n → escape_len q b bs ≡ Some 1 → Reads q (length bs) → Read q (b ∷ bs) n
 unfolding Reads
-read_doubled q b n [] opened same st one reads = absurd (only_quote (eqb q 39) (rw same at opened))
+read_doubled q b n [] opened same st one reads = absurd (search rules)
 read_doubled q b n (c ∷ cs) opened same st one reads =
     let pair = and_parts (eqb q 39) (eqb c 39) (not-false (eqb q 39 && eqb c 39) (rw same at opened)) in
     let long : st.k ≡ 1 = step_len q b n 1 (c ∷ cs) st one in
@@ -147,10 +144,6 @@ read_joined n bs st brk reads =
     let less : length x.rest ≤ length bs = omega (arith, ap length x.cut, length-append (spell_break x.kind) x.rest) in
     read_line 34 x.m n true x.kind x.rest (92 ∷ bs) (ap (λ l. 92 ∷ l) x.cut) (λ _. refl) x.begins (reads x.m x.rest less x.read) (omega (arith, st.size, long, x.size))
 
-break_some : (b : Break) → 0 < length (spell_break b)
-break_some line_feed = omega arith
-break_some return_feed = omega arith
-
 no_way : {A : Type 0} → false ≡ true → A
 no_way h = absurd (false≢true h)
 
@@ -159,37 +152,14 @@ read_break : (q n : ℕ) (t : List ℕ) (most : ℕ) → length t ≤ most + 1 �
 unfolding Reads
 read_break q n t most le quotes brk h reads =
     let x = break_back q n t quotes brk h in
-    let some : 0 < length (spell_break x.kind) = break_some x.kind in
+    let some : 0 < length (spell_break x.kind) = search rules in
     let less : length x.rest ≤ most = omega (arith, ap length x.cut, length-append (spell_break x.kind) x.rest) in
     read_line q x.m n false x.kind x.rest t x.cut (λ e. no_way e) x.begins (reads x.m x.rest less x.read) x.size
 
-read_slash : (n : ℕ) (bs : List ℕ) → ReadStep 34 92 bs n → Reads 34 (length bs) → Read 34 (92 ∷ bs) n
-read_slash n bs st reads = elim (cases_Bool (is_break bs)) [
-  | inl brk ↦ read_joined n bs st brk reads
-  | inr no_break ↦ read_escape n bs st no_break reads
-]
-
 -- whatever is in front
 read_front : (q b n : ℕ) (bs : List ℕ) → (q ≡ 34) ⊎ (q ≡ 39) → closes q (b ∷ bs) ≡ false → quoted_len q 0 (b ∷ bs) ≡ Some n → Reads q (length bs) → Read q (b ∷ bs) n
-read_front q b n bs quotes opened h reads = elim (cases_Bool (is_break (b ∷ bs))) [
-  | inl brk ↦ read_break q n (b ∷ bs) (length bs) (omega arith) quotes brk h reads
-  | inr no_break ↦
-      let st = step_back q b n bs opened h in
-      let no_feed = or_parts (is_feed b) (is_return b && front is_feed bs) no_break in
-      elim (cases_Bool (eqb q 34 && eqb b 92)) [
-        | inl slash ↦
-            let p = and_parts (eqb q 34) (eqb b 92) slash in
-            let here : ReadStep q b bs n → Reads q (length bs) → Read q (b ∷ bs) n =
-            subst (λ (x : ℕ). ReadStep x b bs n → Reads x (length bs) → Read x (b ∷ bs) n) (sym (eqb-true q 34 p.0))
-            (subst (λ (y : ℕ). ReadStep 34 y bs n → Reads 34 (length bs) → Read 34 (y ∷ bs) n) (sym (eqb-true b 92 p.1))
-            (read_slash n bs)) in
-            here st reads
-        | inr no_slash ↦ elim (cases_Bool (eqb b q)) [
-          | inl same ↦ read_doubled q b n bs opened same st (rw (no_feed.0, no_slash, same) refl) reads
-          | inr other ↦ read_itself q b n bs (other, no_break, no_slash) st (rw (no_feed.0, no_slash, other) refl) reads
-        ]
-      ]
-]
+read_front q b n bs quotes opened h reads =
+    grind (arith, common_steps, cases_Bool, read_break, step_back, or_parts, and_parts, rules, read_joined, read_escape, read_doubled, read_itself)
 
 pub lines_takes : (fuel q n : ℕ) (t : List ℕ) → length t ≤ fuel → (q ≡ 34) ⊎ (q ≡ 39) → quoted_len q 0 t ≡ Some n → Read q t n
 unfolding quoted_len Reads
@@ -199,6 +169,3 @@ lines_takes (suc fuel) q n (b ∷ bs) le quotes h = elim (cases_Bool (closes q (
   | inl e ↦ read_close q b n bs e h
   | inr opened ↦ read_front q b n bs quotes opened h (λ m t less read. lines_takes fuel q m t (omega arith) quotes read)
 ]
-
-pub lines_are_read : (q : ℕ) (ls : QuotedLines) (rest : List ℕ) → (q ≡ 34) ⊎ (q ≡ 39) → AreLines q ls (q ∷ rest) → (eqb q 39 && front (λ b. eqb b 39) rest) ≡ false → quoted_len q 0 (spell_lines ls ++ (q ∷ rest)) ≡ Some (length (spell_lines ls))
-lines_are_read q ls rest quotes are closed = search (rules, lines_again, closed_here)

@@ -1,6 +1,6 @@
 -- The raw lines of a block scalar, both ways.
-use Rattle.std.proofs.Common.{◌≡◌, ℕ, ◌<◌, Bool, true, false, not, ◌&&◌, List, [], ◌∷◌, ◌++◌, length, Some, refl, sym, ap, ◌∙◌, subst, inl}
-use Rattle.std.proofs.Common.{inr, ◌⊎◌, ⊎_elim, arith, append_assoc, append-nil, ltb-true, rules}
+use Rattle.std.proofs.Common.{◌≡◌, ℕ, ◌<◌, Bool, true, false, not, List, [], ◌∷◌, ◌++◌, length, Some, refl, sym, ap, ◌∙◌, subst, inl, inr}
+use Rattle.std.proofs.Common.{◌⊎◌, ⊎_elim, arith, append_assoc, append-nil, ltb-true, rules}
 use Rattle.std.proofs.lemmas.Bool.{false≢true, false_from_ne_true, leb-true, not-true, or_right, and_from, and_parts}
 use Rattle.std.proofs.lemmas.Option.{same_Some}
 use Rattle.yq_core.{proofs.Bools.{chosen, bind_some}, proofs.LineLaws.{lines_again, AreLines, line_some}}
@@ -13,10 +13,7 @@ abbrev pub Cut : RawLines → RawLines × RawLines → Type 0
 Cut ls x = ls ≡ x.0 ++ x.1
 
 cut_empty : (keep : Bool) (l : List ℕ) (ls : RawLines) (x y : RawLines × RawLines) → Cut ls x → with_empty keep l ls x ≡ Some y → Cut (l ∷ ls) y
-cut_empty keep l ls x y h e = ⊎_elim {0, 0, 0}
-    (λ w. subst (Cut (l ∷ ls)) (same_Some _ _ w.1) refl)
-    (λ w. subst (Cut (l ∷ ls)) (same_Some _ _ w.1) (ap (λ m. l ∷ m) h))
-    (chosen (not keep && is_empty (joined x.0)) e)
+cut_empty keep l ls x y h e = search rules
 
 pub raw_split : (keep : Bool) (f : TextIndent) (ls : RawLines) (x : RawLines × RawLines) → raw_at keep f ls ≡ Some x → Cut ls x
 unfolding raw_at
@@ -44,8 +41,7 @@ joined_none f [] a h = refl
 joined_none f (l ∷ ls) a h = absurd (false≢true (sym (some_nil l (joined ls) (line_some l a.0.0)) ∙ h))
 
 joined_some : (f : TextIndent) (ls : RawLines) → AreRaw f ls → no_lines ls ≡ false → is_empty (joined ls) ≡ false
-joined_some f [] a h = absurd (false≢true (sym h))
-joined_some f (l ∷ ls) a h = some_nil l (joined ls) (line_some l a.0.0)
+joined_some f ls a h = search (rules, false≢true, some_nil, line_some)
 
 -- a line is of one kind
 pub next_not_empty : (f : TextIndent) (l : List ℕ) → is_less_indented f l ≡ true → is_empty_line f l ≡ false
@@ -54,48 +50,25 @@ next_not_empty f l h = search (rules, and_parts, not-true)
 next_not_text : (f : TextIndent) (l : List ℕ) → is_less_indented f l ≡ true → is_text_line f l ≡ false
 next_not_text f l h = search (rules, and_parts, ltb-true, false_from_ne_true, leb-true)
 
-text_not_empty : (f : TextIndent) (l : List ℕ) → is_text_line f l ≡ true → is_empty_line f l ≡ false
-text_not_empty f l h = search (rules, and_parts, not-true)
-
 -- reading gives such lines
 ends_more : (f : TextIndent) (l : List ℕ) (ls : RawLines) → no_lines ls ≡ false → ends_in_text f ls ≡ true → ends_in_text f (l ∷ ls) ≡ true
 ends_more f l ls some h = rw some h
 
 ends_text : (f : TextIndent) (l : List ℕ) (ls : RawLines) → is_text_line f l ≡ true → ends_in_text f ls ≡ true → ends_in_text f (l ∷ ls) ≡ true
-ends_text f l [] is h = is
-ends_text f l (k ∷ ls) is h = h
+ends_text f l ls is h = search rules
 
 some_lines : (ls : RawLines) → is_empty (joined ls) ≡ false → no_lines ls ≡ false
-some_lines [] h = absurd (false≢true (sym h))
-some_lines (l ∷ ls) h = refl
-
-none_split : (a b : RawLines) → [] ≡ a ++ b → no_lines a ≡ false → ⊥
-none_split [] b h some = false≢true (sym some)
-none_split (l ∷ a) b h some = cc
+some_lines ls h = search rules
 
 no_more : (ls : RawLines) (x : RawLines × RawLines) → ls ≡ [] → Cut ls x → no_lines x.0 ≡ false → ⊥
-no_more ls x none cut some = none_split x.0 x.1 (sym none ∙ cut) some
+no_more ls x none cut some = search rules
 
 pub ends_blank : (f : TextIndent) (l : List ℕ) (ls : RawLines) → is_empty_line f l ≡ true → ends_block false f ls ≡ true → ends_block false f (l ∷ ls) ≡ true
 unfolding ends_block
 ends_blank f l ls is h = rw is h
 
 takes_empty : (keep : Bool) (f : TextIndent) (l : List ℕ) (ls : RawLines) (x y : RawLines × RawLines) → is_empty_at keep f l ≡ true → (is_line l ≡ true) ⊎ (ls ≡ []) → Cut ls x → IsRaw keep f x → with_empty keep l ls x ≡ Some y → IsRaw keep f y
-takes_empty true f l ls x y is line cut h e = search (rules, same_Some, and_parts)
-takes_empty false f l ls x y is line cut h e =
-    let parts = and_parts (is_empty_line f l) true is in
-    ⊎_elim {0, 0, 0}
-    (λ w. let none : x.0 ≡ [] = joined_none f x.0 h.lines w.0 in
-    let behind : ls ≡ x.1 = cut ∙ ap (λ m. m ++ x.1) none in
-    subst (IsRaw false f) (same_Some _ _ w.1) (record { lines = tt; ends = inr refl; behind = ends_blank f l ls parts.0 (subst (λ m. ends_block false f m ≡ true) (sym behind) h.behind) }))
-    (λ w. let some = some_lines x.0 w.0 in
-    let broken : is_line l ≡ true = ⊎_elim {0, 0, 0} (λ b. b) (λ none. absurd (no_more ls x none cut some)) line in
-    subst (IsRaw false f) (same_Some _ _ w.1) (record {
-      lines = ((broken, inl parts.0), h.lines);
-      ends = inr (ends_more f l x.0 some (⊎_elim {0, 0, 0} (λ k. absurd (false≢true k)) (λ k. k) h.ends));
-      behind = h.behind;
-    }))
-    (chosen (is_empty (joined x.0)) e)
+takes_empty keep f l ls x y is line cut h e = search (rules, same_Some, and_parts, joined_none, ends_blank, some_lines, no_more, ends_more, false≢true, chosen)
 
 pub raw_takes : (keep : Bool) (f : TextIndent) (ls : RawLines) (x : RawLines × RawLines) → AreLines ls → raw_at keep f ls ≡ Some x → IsRaw keep f x
 unfolding raw_at ends_block
@@ -127,15 +100,14 @@ raw_none keep f (l ∷ ls) h = ⊎_elim {0, 0, 0}
     (chosen (is_empty_line f l) h)
 
 ends_behind : (keep : Bool) (f : TextIndent) (l : List ℕ) (ls : RawLines) → (keep ≡ true) ⊎ (ends_in_text f (l ∷ ls) ≡ true) → (keep ≡ true) ⊎ (ends_in_text f ls ≡ true)
-ends_behind keep f l [] e = inr refl
-ends_behind keep f l (k ∷ ls) e = e
+ends_behind keep f l ls e = search rules
 
 pub raw_again : (keep : Bool) (f : TextIndent) (raw rest : RawLines) → AreRaw f raw → (keep ≡ true) ⊎ (ends_in_text f raw ≡ true) → ends_block keep f rest ≡ true → raw_at keep f (raw ++ rest) ≡ Some (raw, rest)
 unfolding raw_at
 raw_again keep f [] rest a e h = raw_none keep f rest h
 raw_again keep f (l ∷ ls) rest a e h =
     let again = raw_again keep f ls rest a.1 (ends_behind keep f l ls e) h in
-    search (rules, ⊎_elim, false≢true, text_not_empty, joined_some, and_from, or_right, again)
+    search (rules, ⊎_elim, false≢true, and_parts, not-true, joined_some, and_from, or_right, again)
 
 -- lines and their text
 pub lines_raw : (f : TextIndent) (raw : RawLines) (t : List ℕ) → AreRaw f raw → text_lines (joined raw ++ t) ≡ raw ++ text_lines t

@@ -1,6 +1,6 @@
 -- Runs of bytes: what lanes tell.
-use Rattle.std.proofs.Common.{◌≡◌, ℕ, ◌+◌, ◌%◌, ◌^◌, ◌<◌, ◌≤◌, Bool, true, false, cond, ◌||◌, not, eqb, List, [], ◌∷◌, map, length, drop}
-use Rattle.std.{proofs.Common.{Fits, w8, refl, ap, ap₂, ◌∙◌, arith}, proofs.lemmas.Bool.{agree_below, agree_below_at, eq-eqb, ne_eqb}}
+use Rattle.std.proofs.Common.{rules, ◌≡◌, ℕ, ◌+◌, ◌%◌, ◌^◌, ◌<◌, ◌≤◌, Bool, true, cond, ◌||◌, eqb, List, [], ◌∷◌, map, length, drop, Fits}
+use Rattle.std.{proofs.Common.{w8, refl, ap, ap₂, ◌∙◌, arith}, proofs.lemmas.Bool.{agree_below, agree_below_at, eq-eqb}}
 use Rattle.std.{proofs.lemmas.List.length-map, proofs.lemmas.List.Folds.prefix_len-append, proofs.lemmas.List.Sums.prefix_len-le-length}
 use Rattle.std.{proofs.lemmas.Simd.{chunk-drop, length-chunk, mask_l-mod}, specs.List.prefix_len}
 use lib.Bits.{bit_or}
@@ -19,27 +19,14 @@ each_byte f p all (x ∷ xs) fits = ap₂ (λ a b. a ∷ b) (agree_below_at (λ 
 abbrev pub lane : Bool → ℕ
 lane b = cond b 255 0
 
-three_lanes : (p q r : Bool) → top 7 (bit_or (bit_or (lane p) (lane q)) (lane r)) ≡ (p || q || r)
-three_lanes true true true = refl
-three_lanes true true false = refl
-three_lanes true false true = refl
-three_lanes true false false = refl
-three_lanes false true true = refl
-three_lanes false true false = refl
-three_lanes false false true = refl
-three_lanes false false false = refl
-
 -- lanes that are any of three bytes
 pub any_byte : (a b c : ℕ) (v : List ℕ) → map (top 7) (map (λ x. bit_or (bit_or (lane (eqb x a)) (lane (eqb x b))) (lane (eqb x c))) v) ≡ map (λ x. eqb x a || eqb x b || eqb x c) v
 any_byte a b c [] = refl
-any_byte a b c (x ∷ xs) = ap₂ (λ h t. h ∷ t) (three_lanes (eqb x a) (eqb x b) (eqb x c)) (any_byte a b c xs)
+any_byte a b c (x ∷ xs) = ap₂ (λ h t. h ∷ t) (search rules) (any_byte a b c xs)
 
 -- a run that ends in sixteen bytes, and one that goes over them
 pub run_ends : (q : ℕ → Bool) (d : List ℕ) (i : ℕ) → i + 16 ≤ length d → prefix_len q (chunk i 16 d) < 16 → prefix_len q (drop i d) ≡ prefix_len q (chunk i 16 d)
-run_ends q d i room short =
-    let c = chunk i 16 d in
-    let some : eqb (prefix_len q c) (length c) ≡ false = ne_eqb _ _ (λ e. absurd (omega (arith, e, short, length-chunk i 16 d room))) in
-    ap (prefix_len q) (chunk-drop i 16 d) ∙ prefix_len-append q c (drop (i + 16) d) ∙ rw some refl
+run_ends q d i room short = search rules
 
 pub run_over : (q : ℕ → Bool) (d : List ℕ) (i : ℕ) → i + 16 ≤ length d → 16 ≤ prefix_len q (chunk i 16 d) → prefix_len q (drop i d) ≡ 16 + prefix_len q (drop (i + 16) d)
 run_over q d i room whole =
@@ -48,11 +35,7 @@ run_over q d i room whole =
     let all : eqb (prefix_len q c) (length c) ≡ true = eq-eqb _ _ (omega (arith, whole, long, prefix_len-le-length q c)) in
     ap (prefix_len q) (chunk-drop i 16 d) ∙ prefix_len-append q c (drop (i + 16) d) ∙ rw (all, long) refl
 
-not_not : (b : Bool) → not (not b) ≡ b
-not_not true = refl
-not_not false = refl
-
 -- a run of spaces
 pub spaces_run : (t : List ℕ) → prefix_len (run_goes_on Spaces) t ≡ prefix_len (λ b. eqb b 32) t
 spaces_run [] = refl
-spaces_run (b ∷ bs) = ap₂ (λ c n. cond c (1 + n) 0) (not_not (eqb b 32)) (spaces_run bs)
+spaces_run (b ∷ bs) = ap₂ (λ c n. cond c (1 + n) 0) (search rules) (spaces_run bs)

@@ -1,7 +1,7 @@
 -- What the readers give is given for the text.
-use Rattle.std.{proofs.Common.{ℕ, List, inl, inr, sym, ap, subst, Result, Ok, Err, IfOk, ℤ}, specs.Str.IsCharBoundary}
-use Rattle.yq_core.{proofs.BlockFound.from_takes, specs.Answers.ReadsAs, specs.Block.IsBlockPiece, specs.BlockReading.block_from}
-use Rattle.yq_core.{specs.ScalarPiece.IsReadPiece, specs.Piece.plain_from, specs.QuotedPiece.quoted_from, specs.declared.piece.Piece.Piece}
+use Rattle.std.{proofs.Common.{rules, ℕ, List, inl, inr, sym, ap, subst, Result, Ok, Err, IfOk, ℤ}, specs.Str.IsCharBoundary}
+use Rattle.yq_core.{proofs.BlockFound.from_takes, specs.Answers.ReadsAs, specs.BlockReading.block_from, specs.ScalarPiece.IsReadPiece}
+use Rattle.yq_core.{specs.Piece.plain_from, specs.QuotedPiece.quoted_from, specs.declared.piece.Piece.Piece}
 use Rattle.yq_core.specs.declared.style.Place.{Place}
 use Rattle.yq_core.proofs.PieceLaws as plain
 use Rattle.yq_core.proofs.QuotedPieceLaws as quoted
@@ -21,6 +21,5 @@ quoted_is_piece at text (Err e) b h = tt
 pub block_is_piece : {E : Type 0} (n : ℤ) (at : ℕ) (text : List ℕ) (r : Result Piece E) → IsCharBoundary text at → ReadsAs (λ p. p) r (block_from n at text) → IfOk r (IsReadPiece text)
 block_is_piece n at text (Ok p) b h =
     let is = from_takes n at text p h in
-    let from = sym (ap (λ (q : Piece). q.start) is.piece) in
-    record { begins = subst (IsCharBoundary text) from b; piece = inr (inr (n, subst (λ k. IsBlockPiece n k text p) from is)) }
+    search rules
 block_is_piece n at text (Err e) b h = tt

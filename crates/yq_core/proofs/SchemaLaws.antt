@@ -1,5 +1,5 @@
 -- The table of the core schema: the kind that is read is the one that the table gives.
-use Rattle.std.proofs.Common.{◌≡◌, ℕ, Bool, true, false, cond, List, Option, Some, None, is_some, refl, sym, ap, ◌∙◌}
+use Rattle.std.proofs.Common.{rules, ◌≡◌, ℕ, Bool, true, false, cond, List, Option, Some, is_some, refl, sym, ap, ◌∙◌}
 use Rattle.std.{proofs.lemmas.Bool.{false≢true, false_from_ne_true}, specs.List.list_any}
 use Rattle.yq_core.{specs.declared.kind.Kind.Kind, specs.Schema.{null_words, bool_words, IsInt, Resolves}}
 use Rattle.yq_core.specs.SchemaReading.{is_one_of, int_number, is_int, is_float, resolve}
@@ -8,8 +8,7 @@ use Rattle.yq_core.proofs.FloatLaws.{float_takes, float_again}
 use Rattle.yq_core.specs.declared.kind.Kind.TheVariants as kinds
 
 some_of : {A : Type 0} (x : Option A) → is_some x ≡ true → (a : A) × (x ≡ Some a)
-some_of (Some a) h = (a, refl)
-some_of None h = absurd (false≢true h)
+some_of x h = search rules
 
 pub is_int_takes : (t : List ℕ) → is_int t ≡ true → IsInt t
 is_int_takes t h = let x = some_of (int_number t) (sym (int_has_number t) ∙ h) in (x.0, int_takes t x.0 x.1)
@@ -24,11 +23,7 @@ fails b again e h = false≢true (sym e ∙ again h)
 -- what the first of the four rows gives that a text fits, or else the last one
 first_row : (P : Kind → Type 0) (a b c d : Bool) → (a ≡ true → P kinds.Null) → (b ≡ true → P kinds.Bool) → (c ≡ true → P kinds.Int) → (c ≡ false → d ≡ true → P kinds.Float) →
     (a ≡ false → b ≡ false → c ≡ false → d ≡ false → P kinds.Text) → P (cond a kinds.Null (cond b kinds.Bool (cond c kinds.Int (cond d kinds.Float kinds.Text))))
-first_row P true b c d nulls bools ints floats texts = nulls refl
-first_row P false true c d nulls bools ints floats texts = bools refl
-first_row P false false true d nulls bools ints floats texts = ints refl
-first_row P false false false true nulls bools ints floats texts = floats refl refl
-first_row P false false false false nulls bools ints floats texts = texts refl refl refl refl
+first_row P a b c d nulls bools ints floats texts = search rules
 
 pub resolve_takes : (t : List ℕ) → Resolves t (resolve t)
 unfolding resolve
@@ -61,11 +56,5 @@ not_so b takes no_such = false_from_ne_true b (λ e. no_such (takes e))
 
 pub resolve_again : (t : List ℕ) (k : Kind) → Resolves t k → resolve t ≡ k
 unfolding resolve
-resolve_again t kinds.Null h = rw (word_again null_words t h) refl
-resolve_again t kinds.Bool h = rw (word_fails (is_one_of null_words) bool_words t refl h, word_again bool_words t h) refl
-resolve_again t kinds.Int h = let e = is_int_again t h in rw (null_is_no_int t e, bool_is_no_int t e, e) refl
-resolve_again t kinds.Float h =
-    let e = float_again t h.0 in
-    rw (null_is_no_float t e, bool_is_no_float t e, not_so (is_int t) (is_int_takes t) h.1, e) refl
-resolve_again t kinds.Text h =
-    rw (not_so _ (word_takes null_words t) h.0, not_so _ (word_takes bool_words t) h.1, not_so _ (is_int_takes t) h.2, not_so _ (float_takes t) h.3) refl
+resolve_again t k h =
+    search (rules, word_again, word_fails, is_int_again, null_is_no_int, bool_is_no_int, float_again, null_is_no_float, bool_is_no_float, not_so, is_int_takes, word_takes, float_takes)

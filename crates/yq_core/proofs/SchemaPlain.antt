@@ -1,10 +1,10 @@
 -- The texts of null, bools, ints and floats may be written plain.
-use Rattle.std.proofs.Common.{◌≡◌, ℕ, ◌<◌, ◌≤◌, Bool, true, eqb, List, [], ◌∷◌, ◌++◌, refl, sym, inl, inr, ⊎_elim, ◌&&◌, ◌||◌, ap, subst}
-use Rattle.std.{proofs.Common.{arith, append-nil, append_assoc, codes, rules}, proofs.lemmas.Bool.{lt-ltb, and_parts}}
+use Rattle.std.proofs.Common.{◌≡◌, ℕ, ◌<◌, ◌≤◌, Bool, true, List, [], ◌∷◌, ◌++◌, refl, sym, inl, inr, ⊎_elim, ◌&&◌, subst, arith}
+use Rattle.std.{proofs.Common.{append-nil, append_assoc, codes, rules}, proofs.lemmas.Bool.{lt-ltb, and_parts}}
 use Rattle.std.{proofs.lemmas.List.Folds.list_all-append, specs.Char.digit_value, specs.List.list_all}
 use Rattle.std.specs.Str.Parse.{AllDigits, IsNumeral}
 use Rattle.yq_core.specs.Numbers.{Sign, spell_sign, Integer, decimal, octal, hexadecimal, spell_integer, IsInteger, Mantissa}
-use Rattle.yq_core.specs.Numbers.{spell_mantissa, IsMantissa, Exponent, spell_exponent, IsExponent, Number, spell_number, IsNumber}
+use Rattle.yq_core.specs.Numbers.{spell_mantissa, IsMantissa, Exponent, spell_exponent, IsExponent}
 use Rattle.yq_core.{specs.Schema.{bool_words, infinity_words, nan_words, IsOneOf, IsInt, IsFloat}, specs.Text.front}
 use Rattle.yq_core.{specs.PlainText.is_plain_text, proofs.WordPlain.{is_letter, is_word, begins_unsigned, begins_signed, word_plain}}
 
@@ -37,8 +37,7 @@ digits_begin base [] rest le h = absurd (omega (arith, h.0))
 digits_begin base (d ∷ ds) rest le h = digit_letter base d le h.1.0
 
 letter_begins : (t : List ℕ) → front is_letter t ≡ true → begins_unsigned t ≡ true
-letter_begins [] h = h
-letter_begins (b ∷ t) h = ap (λ x. x || (eqb b 46 && front is_letter t)) h
+letter_begins t h = search rules
 
 sign_words : (s : Sign) (t : List ℕ) → list_all is_word t ≡ true → list_all is_word (spell_sign s ++ t) ≡ true
 sign_words s t h1 = search rules
@@ -64,9 +63,6 @@ mantissa_begins m rest h1 = search (rules, digits_begin, letter_begins, append_a
 exponent_words : (e : Exponent) → IsExponent e → list_all is_word (spell_exponent e) ≡ true
 exponent_words e h1 = search (rules, sign_words, digits_words)
 
-number_plain : (flow : Bool) (d : Number) → IsNumber d → is_plain_text flow (spell_number d) ≡ true
-number_plain flow d h = search (rules, word_plain, sign_words, both_words, mantissa_words, exponent_words, sign_begins, mantissa_begins)
-
 infinity_plain : (flow : Bool) (s : Sign) (word : List ℕ) → IsOneOf infinity_words word → is_plain_text flow (spell_sign s ++ word) ≡ true
 infinity_plain flow s word h =
     word_plain flow (spell_sign s ++ word) (sign_words s word (among (λ w. list_all is_word w) infinity_words word refl h)) (sign_begins s word (among begins_unsigned infinity_words word refl h))
@@ -75,6 +71,6 @@ pub int_plain : (flow : Bool) (t : List ℕ) → IsInt t → is_plain_text flow 
 int_plain flow t h = rw h.1.1 (integer_plain flow h.1.0 h.1.2)
 
 pub float_plain : (flow : Bool) (t : List ℕ) → IsFloat t → is_plain_text flow t ≡ true
-float_plain flow t (inl h) = rw h.1 (number_plain flow h.0 h.2)
+float_plain flow t (inl h) = rw h.1 (search (rules, word_plain, sign_words, both_words, mantissa_words, exponent_words, sign_begins, mantissa_begins))
 float_plain flow t (inr (inl h)) = rw h.2 (infinity_plain flow h.0 h.1 h.3)
 float_plain flow t (inr (inr h)) = spelling_plain flow t (among is_spelling nan_words t refl h)

@@ -47,13 +47,10 @@ anchor_spans t n start (placed a s c e f) first h = (first, h.1, h.2)
 
 content_from : (total : ℕ) (node : FlowNode) (rest : List ℕ) → total - length (node_text node rest) ≤ content_of (locate total node rest)
 unfolding locate node_text
-content_from total empty rest = omega arith
-content_from total (alias n) rest = omega arith
-content_from total (scalar p) rest = omega arith
-content_from total (coll k g is) rest = omega arith
 content_from total (anchored n g node) rest =
     let a : List ℕ = 38 ∷ (n ++ (g ++ node_text node rest)) in
     search (rules, length-append, a, content_from total node rest)
+content_from total _ rest = omega arith
 
 content_ends : (t : List ℕ) (p : Placed) → HasSpans t p → IsCharBoundary t (content_of p)
 content_ends t (placed a s c e f) h = h.0.ends

@@ -3,8 +3,8 @@ use Rattle.std.proofs.Common.{◌≡◌, ℕ, zero, suc, ◌-◌, Bool, true, fa
 use Rattle.std.{proofs.Common.{Some, None, refl, sym, ap, ◌∙◌, subst, Result, rules}, proofs.lemmas.Bool.false≢true}
 use Rattle.std.proofs.lemmas.Option.{same_Some}
 use Rattle.yq_core.{specs.Answers.{ReadError, ◌>>=◌, ReadFails, Gives}, specs.declared.piece.Piece.Piece, specs.Text.is_empty}
-use Rattle.yq_core.specs.Nodes.{begins_with, Key, bare, keyed, FlowNode, anchored, Items, item, key_text, sep_text, node_text}
-use Rattle.yq_core.specs.Nodes.{flow_items_text, begins_content, is_keyed, is_empty_node, takes_anchor, IsInlineKey}
+use Rattle.yq_core.specs.Nodes.{begins_with, Key, bare, FlowNode, anchored, Items, item, key_text, sep_text, node_text, flow_items_text}
+use Rattle.yq_core.specs.Nodes.{begins_content, is_keyed, is_empty_node, takes_anchor, IsInlineKey}
 use Rattle.yq_core.specs.Places.{Placed, mapping, sequence, Parts, end, part, key_placed, key_here, locate, locate_items, placed_between}
 use Rattle.yq_core.specs.Places.{anchored_node, bare_in, bare_placed, holder}
 use Rattle.yq_core.specs.PlacedReading.{key_piece, core_between, placed_node, placed_items, placed_content, placed_key, past_sep}
@@ -98,8 +98,7 @@ items_more total d t h = search (rules, items_by_node, bind_same, bind_bind, one
 
 -- a key's place
 keyed_place : (total : ℕ) (t : List ℕ) (key : Key) → is_keyed key ≡ true → key_placed total t key ≡ Some (key_here total t (key_piece key))
-keyed_place total t bare h = absurd (false≢true h)
-keyed_place total t (keyed p b g) h = refl
+keyed_place total t key h = search rules
 
 key_bind : {A : Type 0} (total : ℕ) (t : List ℕ) (f : (List ℕ × Piece) × List ℕ → Option A) → (placed_key total t >>= f) ≡ (read_flow_key t >>= λ key. f (key_here total t (key_piece key.0), key.1))
 key_bind total t f = go (read_flow_key t) where
@@ -147,18 +146,14 @@ node_plain flow spaces total d t h = rw h
     (bind_same (λ x. Some (locate total x.0 x.1, x.1)) (λ x. Some (placed_between total t x.1 (core_between total t x.0 x.1), x.1)) (read_core flow spaces (kids_of d) t)
     (λ x e. ap (λ s. Some (s, x.1)) (locate_content total x.0 x.1 t (not_anchored flow spaces (kids_of d) t x e) (content_takes flow spaces (kids_of d) d t x (kids_all d 0) h e).0)))
 
-locate_anchored : (total d : ℕ) (t n r g s : List ℕ) (x : FlowNode × List ℕ) → t ≡ 38 ∷ (n ++ r) → r ≡ g ++ s → s ≡ node_text x.0 x.1 → is_anchored x.0 ≡ false →
-    locate total (anchored n g x.0) x.1 ≡ anchored_node n (total - length t) (placed_between total s x.1 (core_between total s x.0 x.1))
-unfolding locate node_text
-locate_anchored total d t n r g s x e f h a = search (rules, locate_content)
-
 anchored_step : (total d : ℕ) (t n r g s : List ℕ) (x : FlowNode × List ℕ) → t ≡ 38 ∷ (n ++ r) → r ≡ g ++ s → s ≡ node_text x.0 x.1 → is_anchored x.0 ≡ false →
     (◌>>=◌ {A = FlowNode × List ℕ} {B = Placed × List ℕ} (cond ((is_empty_node x.0 || not (is_empty g)) && takes_anchor x.0) (Some (anchored n g x.0, x.1)) None) (λ x. Some (locate total x.0 x.1, x.1))) ≡ then_anchored total t n g (placed_between total s x.1 (core_between total s x.0 x.1), x.1)
+unfolding locate node_text
 anchored_step total d t n r g s x e f h a =
     let same = bare_in_place total x.0 x.1 s a in
     rw (same.0, same.1) (go ((is_empty_node x.0 || not (is_empty g)) && takes_anchor x.0)) where
       go : (b : Bool) → (◌>>=◌ {A = FlowNode × List ℕ} {B = Placed × List ℕ} (cond b (Some (anchored n g x.0, x.1)) None) (λ x. Some (locate total x.0 x.1, x.1))) ≡ cond b (Some (anchored_node n (total - length t) (placed_between total s x.1 (core_between total s x.0 x.1)), x.1)) None
-      go true = ap (λ s. Some (s, x.1)) (locate_anchored total d t n r g s x e f h a)
+      go true = ap (λ s. Some (s, x.1)) (search (rules, locate_content))
       go false = refl
 
 pub node_anchored : (flow : Bool) (spaces : Option ℕ) (total d : ℕ) (t n r g s : List ℕ) → begins_with 38 t ≡ true → name_at (drop 1 t) ≡ Some (n, r) → lead_at flow (begins_content flow) r ≡ Some (g, s) → placed_node flow spaces total d t ≡ (placed_content flow spaces total d s >>= then_anchored total t n g)

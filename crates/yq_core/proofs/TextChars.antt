@@ -1,9 +1,9 @@
 -- What bytes tell of characters, and what a search for the next CR tells.
 use Rattle.std.proofs.Common.{◌≡◌, ◌&&◌, ◌||◌, ℕ, zero, suc, ◌+◌, ◌*◌, ◌%◌, ◌<◌, ◌≤◌, ◌/◌, Bool, true, false, eqb, leb, List, [], ◌∷◌, ◌++◌}
-use Rattle.std.proofs.Common.{one-add, not, eqb-true, length, drop, get_or, Some, None, refl, sym, ap, ap₂, ◌∙◌, inl, inr, arith, rules}
-use Rattle.std.proofs.lemmas.Bool.{lt-ltb, le-ltb, lt-leb, le-leb, leb-true, leb-false, eq-eqb, ne_eqb, not-true, cases_lt, cases_Bool}
-use Rattle.std.{proofs.lemmas.Bool.{and_parts, and_from, false_from_ne_true}, proofs.Math.Bool.or-true}
-use Rattle.std.{proofs.lemmas.Str.{scalars-chars, encodes-chars}, specs.List.{list_all, list_any, prefix_len}, specs.Str.{chars, IsUtf8}}
+use Rattle.std.proofs.Common.{one-add, not, length, drop, get_or, Some, None, refl, sym, ap, ap₂, ◌∙◌, inl, inr, arith, rules}
+use Rattle.std.proofs.lemmas.Bool.{lt-ltb, le-ltb, not-true, cases_lt, cases_Bool, and_parts, false_from_ne_true}
+use Rattle.std.{proofs.Math.Bool.or-true, proofs.lemmas.Str.{scalars-chars, encodes-chars}, specs.List.{list_all, list_any, prefix_len}}
+use Rattle.std.specs.Str.{chars, IsUtf8}
 use lib.Utf8.{scalar, scalars, encode, encodes}
 use Rattle.memchr.specs.Find.{IsFirstByte, is_byte}
 use Rattle.yq_core.{specs.Runs.run_goes_on, specs.declared.runs.Run.TheVariants.Text, proofs.Across.{rest_of, rest_is}}
@@ -20,86 +20,19 @@ further b t l m = rw (text_further b l m) refl
 
 -- what the first byte of a character tells, with those after it
 whole : (y : Bool) → (y || false || false) ≡ ((y || false || false || false || false) && true)
-whole true = refl
-whole false = refl
-
-lead_one : (c : ℕ) (t : List ℕ) → c < 128 → (is_text_byte c || begins_text_char (c ∷ t)) ≡ is_text_char c
-lead_one c t l = rw (
-  ne_eqb c 194 (λ e. omega (arith, e, l)),
-  ne_eqb c 239 (λ e. omega (arith, e, l)),
-  ne_eqb c 133 (λ e. omega (arith, e, l)),
-  ne_eqb c 65279 (λ e. omega (arith, e, l)),
-  lt-leb 128 c l,
-  lt-leb 160 c (omega (arith, l)),
-  lt-leb 57344 c (omega (arith, l)),
-  lt-leb 65536 c (omega (arith, l)),
-) (whole _)
-
-lead_latin : (c l x : ℕ) (t : List ℕ) → l ≡ 194 → x ≡ c → 128 ≤ c → c < 192 → (is_text_byte l || begins_text_char (l ∷ x ∷ t)) ≡ is_text_char c
-lead_latin c l x t e f a b = rw (e, f) (grind arith)
+whole y = search rules
 
 lead_true : (l : ℕ) (t : List ℕ) (b : Bool) → is_text_byte l ≡ true → b ≡ true → (is_text_byte l || begins_text_char (l ∷ t)) ≡ b
 lead_true l t b h e = rw (h, e) refl
 
-two_true : (l : ℕ) → 195 ≤ l → l < 224 → is_text_byte l ≡ true
-two_true l a b = grind arith
-
-char_two : (c : ℕ) → 192 ≤ c → c < 2048 → is_text_char c ≡ true
-char_two c a b = grind arith
-
-three_true : (l : ℕ) → 224 ≤ l → l < 239 → is_text_byte l ≡ true
-three_true l a b = grind arith
-
-char_three : (c : ℕ) → scalar c ≡ true → 2048 ≤ c → c < 61440 → is_text_char c ≡ true
-char_three c s a b = grind arith
-
 same_bool : (a b : Bool) → (a ≡ true → b ≡ true) → (b ≡ true → a ≡ true) → a ≡ b
-same_bool true b f g = sym (f refl)
-same_bool false true f g = g refl
-same_bool false false f g = refl
+same_bool a b f g = search rules
 
 swap : (m l : Bool) → (not m && not (not l)) ≡ ((l || false) && not m)
-swap true true = refl
-swap true false = refl
-swap false true = refl
-swap false false = refl
-
--- the byte order mark, and the last two, by their bytes
-mark_is : (c x y : ℕ) → c + 8320 ≡ 61440 + 64 * x + y → x < 192 → 128 ≤ y → y < 192 → (eqb x 187 && eqb y 191) ≡ eqb c 65279
-mark_is c x y e a b d = same_bool (eqb x 187 && eqb y 191) (eqb c 65279)
-    (λ h. let p = and_parts (eqb x 187) (eqb y 191) h in eq-eqb c 65279 (omega (arith, e, eqb-true x 187 p.0, eqb-true y 191 p.1)))
-    (λ h. and_from (eqb x 187) (eqb y 191) (eq-eqb x 187 (omega (arith, e, a, b, d, eqb-true c 65279 h)))
-    (eq-eqb y 191 (omega (arith, e, a, b, d, eqb-true c 65279 h))))
+swap m l = search rules
 
 last_is : (c x y : ℕ) → c + 8320 ≡ 61440 + 64 * x + y → x < 192 → 128 ≤ y → y < 192 → (eqb x 191 && leb 190 y) ≡ not (leb c 65533)
-last_is c x y e a b d = same_bool (eqb x 191 && leb 190 y) (not (leb c 65533))
-    (λ h. let p = and_parts (eqb x 191) (leb 190 y) h in ap not (lt-leb c 65533 (omega (arith, e, eqb-true x 191 p.0, leb-true 190 y p.1))))
-    (λ h. let big : 65533 < c = leb-false c 65533 (not-true (leb c 65533) h) in
-    and_from (eqb x 191) (leb 190 y) (eq-eqb x 191 (omega (arith, e, a, b, d, big))) (le-leb 190 y (omega (arith, e, a, b, d, big))))
-
-char_last : (c : ℕ) → 61440 ≤ c → c < 65536 → is_text_char c ≡ ((leb c 65533 || false) && not (eqb c 65279))
-char_last c a b = rw (
-  ne_eqb c 9 (λ e. omega (arith, e, a)),
-  ne_eqb c 10 (λ e. omega (arith, e, a)),
-  ne_eqb c 13 (λ e. omega (arith, e, a)),
-  le-leb 32 c (omega (arith, a)),
-  lt-leb c 126 (omega (arith, a)),
-  ne_eqb c 133 (λ e. omega (arith, e, a)),
-  le-leb 160 c (omega (arith, a)),
-  lt-leb c 55295 (omega (arith, a)),
-  le-leb 57344 c (omega (arith, a)),
-  lt-leb 65536 c b,
-) refl
-
-lead_last : (c l x y : ℕ) (t : List ℕ) → l ≡ 239 → 61440 ≤ c → c < 65536 → c + 8320 ≡ 61440 + 64 * x + y → x < 192 → 128 ≤ y → y < 192 →
-    (is_text_byte l || begins_text_char (l ∷ x ∷ y ∷ t)) ≡ is_text_char c
-lead_last c l x y t is low high e a b d =
-    ap (λ (m : ℕ). is_text_byte m || begins_text_char (m ∷ x ∷ y ∷ t)) is
-    ∙ (ap₂ (λ (p q : Bool). not p && not q) (mark_is c x y e a b d) (last_is c x y e a b d)
-    ∙ (swap (eqb c 65279) (leb c 65533) ∙ sym (char_last c low high)))
-
-four_true : (l : ℕ) → 240 ≤ l → is_text_byte l ≡ true
-four_true l a = grind arith
+last_is c x y e a b d = search rules
 
 char_four : (c : ℕ) → scalar c ≡ true → 65536 ≤ c → is_text_char c ≡ true
 char_four c s a = grind arith
@@ -121,21 +54,14 @@ unfolding encode
 four_bytes c a = rw (le-ltb c 128 (omega arith), le-ltb c 2048 (omega arith), le-ltb c 65536 a) refl
 
 lead_two : (c : ℕ) (t : List ℕ) → 128 ≤ c → c < 2048 → (is_text_byte (192 + c / 64) || begins_text_char ((192 + c / 64) ∷ (128 + c % 64) ∷ t)) ≡ is_text_char c
-lead_two c t a b = elim (cases_lt c 192) [
-  | inl d ↦ lead_latin c (192 + c / 64) (128 + c % 64) t (omega arith) (omega arith) a d
-  | inr d ↦ lead_true (192 + c / 64) ((128 + c % 64) ∷ t) (is_text_char c) (two_true (192 + c / 64) (omega arith) (omega arith)) (char_two c d b)
-]
+lead_two c t a b = search rules
 
 lead_three : (c : ℕ) (t : List ℕ) → scalar c ≡ true → 2048 ≤ c → c < 65536 →
     (is_text_byte (224 + c / 4096) || begins_text_char ((224 + c / 4096) ∷ (128 + c / 64 % 64) ∷ (128 + c % 64) ∷ t)) ≡ is_text_char c
-lead_three c t s a b = elim (cases_lt c 61440) [
-  | inl d ↦ lead_true (224 + c / 4096) ((128 + c / 64 % 64) ∷ (128 + c % 64) ∷ t) (is_text_char c)
-      (three_true (224 + c / 4096) (omega arith) (omega arith)) (char_three c s a d)
-  | inr d ↦ lead_last c (224 + c / 4096) (128 + c / 64 % 64) (128 + c % 64) t (omega arith) d b (omega arith) (omega arith) (omega arith) (omega arith)
-]
+lead_three c t s a b = search rules
 
 lead_four : (c : ℕ) (t : List ℕ) → scalar c ≡ true → 65536 ≤ c → (is_text_byte (240 + c / 262144) || begins_text_char ((240 + c / 262144) ∷ t)) ≡ is_text_char c
-lead_four c t s a = lead_true (240 + c / 262144) t (is_text_char c) (four_true (240 + c / 262144) (omega arith)) (char_four c s a)
+lead_four c t s a = lead_true (240 + c / 262144) t (is_text_char c) (grind arith) (char_four c s a)
 
 next_in : (b : ℕ) (t : List ℕ) → are_in_text ((128 + b % 64) ∷ t) ≡ are_in_text t
 next_in b t = further (128 + b % 64) t (omega arith) (omega arith)
@@ -148,7 +74,7 @@ lead_in b t rest fits e f = ap₂ (λ (x y : Bool). x && y) e f
 
 char_in : (c : ℕ) (t : List ℕ) → scalar c ≡ true → are_in_text (encode c ++ t) ≡ (is_text_char c && are_in_text t)
 char_in c t s = elim (cases_lt c 128) [
-  | inl a ↦ ap (λ (e : List ℕ). are_in_text (e ++ t)) (one_byte c a) ∙ lead_in c t t _ (lead_one c t a) refl
+  | inl a ↦ ap (λ (e : List ℕ). are_in_text (e ++ t)) (one_byte c a) ∙ lead_in c t t _ (search rules) refl
   | inr a ↦ elim (cases_lt c 2048) [
     | inl b ↦ ap (λ (e : List ℕ). are_in_text (e ++ t)) (two_bytes c a b) ∙ lead_in _ _ t _ (lead_two c t a b) (next_in c t)
     | inr b ↦ elim (cases_lt c 65536) [
@@ -189,8 +115,7 @@ run_stops (b ∷ bs) = elim (cases_Bool (is_text_byte b)) [
 -- a byte at which a run stops
 pub stop_fails : (t : List ℕ) → 1 ≤ length t → unless is_text_byte t ≡ true → begins_text_char t ≡ false → are_in_text t ≡ false
 unfolding are_in_text
-stop_fails [] l u h = absurd (omega (arith, l))
-stop_fails (b ∷ bs) l u h = rw (not-true (is_text_byte b) u, h) refl
+stop_fails t l u h = search (rules, not-true)
 
 pub stop_fits : (t : List ℕ) → 1 ≤ length t → begins_text_char t ≡ true → are_in_text (rest_of t) ≡ are_in_text t
 unfolding are_in_text

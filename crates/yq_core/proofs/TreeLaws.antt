@@ -1,8 +1,8 @@
 -- The tree of a node with its places is that of its pieces.
 use Rattle.std.proofs.Common.{◌≡◌, ℕ, true, false, cond, eqb, List, None, refl, ap, ◌∙◌, rules}
 use Rattle.yq_core.specs.Tree.{key_label}
-use Rattle.yq_core.specs.Nodes.{Key, bare, keyed, FlowNode, empty, alias, scalar, coll, anchored, Items, none, item, key_text, sep_text}
-use Rattle.yq_core.specs.Nodes.{node_text, flow_items_text}
+use Rattle.yq_core.specs.Nodes.{Key, FlowNode, empty, alias, scalar, coll, anchored, Items, none, item, key_text, sep_text, node_text}
+use Rattle.yq_core.specs.Nodes.{flow_items_text}
 use Rattle.yq_core.specs.Places.{Placed, placed, sequence, mapping, Parts, holder, key_placed, locate, locate_items, anchored_node}
 use Rattle.yq_core.specs.Trees.{tree_collection, with_name, key_content, tree_of, items_tree, unplaced_key, placed_tree, content_tree}
 use Rattle.yq_core.specs.Trees.{parts_tree}
@@ -15,8 +15,7 @@ anchor_tree : (n : List ℕ) (start : ℕ) (p : Placed) → placed_tree (anchore
 anchor_tree n start (placed a s c e what) = search rules
 
 pub key_tree : (total : ℕ) (t : List ℕ) (key : Key) → unplaced_key (key_placed total t key) ≡ key_content key
-key_tree total t bare = refl
-key_tree total t (keyed p b g) = refl
+key_tree total t key = search rules
 
 mutual
   unfolding locate locate_items tree_of items_tree

@@ -18,8 +18,7 @@ upto_ends ends (b ∷ bs) e = search (rules, cond_both, upto_ends ends bs e)
 pub none_in_cut : (ends : List ℕ → Bool) (t : List ℕ) → NoneIn ends (take (upto ends t) t) (drop (upto ends t) t)
 unfolding upto
 none_in_cut ends [] = tt
-none_in_cut ends (b ∷ bs) =
-    cond_both (ends (b ∷ bs)) 0 (suc (upto ends bs)) (λ n. NoneIn ends (take n (b ∷ bs)) (drop n (b ∷ bs))) (λ _. tt) (λ h. (rw (take-append-drop (upto ends bs) bs) h, none_in_cut ends bs))
+none_in_cut ends (b ∷ bs) = search (rules, cond_both, take-append-drop, none_in_cut ends bs)
 
 pub upto-append : (ends : List ℕ → Bool) (p rest : List ℕ) → NoneIn ends p rest → ends rest ≡ true → upto ends (p ++ rest) ≡ length p
 unfolding upto

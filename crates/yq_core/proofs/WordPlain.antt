@@ -1,9 +1,10 @@
 -- A text of digits and letters that begins as a number or a word may be written plain.
-use Rattle.std.proofs.Common.{◌≡◌, ℕ, zero, suc, ◌<◌, ◌≤◌, Bool, true, false, not, eqb, nat_lt, List, [], ◌∷◌, refl, sym, ⊎_elim, ◌&&◌}
-use Rattle.std.{proofs.Common.{◌||◌, subst, arith, eqb-true, rules}, proofs.Math.Bool.and-false}
+use Rattle.std.proofs.lemmas.Grind.{common_steps}
+use Rattle.std.proofs.Common.{◌≡◌, ℕ, zero, suc, ◌<◌, ◌≤◌, Bool, true, false, eqb, nat_lt, List, [], ◌∷◌, refl, ⊎_elim, ◌&&◌, ◌||◌, arith}
+use Rattle.std.{proofs.Common.{eqb-true, rules}, proofs.Math.Bool.and-false}
 use Rattle.std.proofs.lemmas.Bool.{false≢true, false_from_ne_true, cases_lt, lt-ltb, ltb-true, le-leb, or_cases, and_parts}
 use Rattle.std.{proofs.lemmas.Str.chars-IsAscii, specs.Char.digit_value, specs.List.list_all, specs.Str.IsAscii}
-use Rattle.yq_core.{specs.Text.front, specs.Plain.{is_flow_indicator, is_indicator}}
+use Rattle.yq_core.{specs.Text.front, specs.Plain.is_flow_indicator}
 use Rattle.yq_core.specs.PlainText.{is_plain_char, begins_plainly, needs_quotes, no_rest, is_plain_text, is_merge, begins_marker}
 use Rattle.yq_core.proofs.Bools.{at_byte}
 
@@ -28,9 +29,6 @@ begins_signed (b ∷ bs) = begins_unsigned (b ∷ bs) || eqb b 43 || (eqb b 45 &
 not_less : (a b : ℕ) → b ≤ a → nat_lt a b ≡ false
 not_less a b le = false_from_ne_true (nat_lt a b) (λ e. let f = ltb-true a b e in absurd (omega (arith, f)))
 
-word_low : (b : ℕ) → is_word b ≡ true → 43 ≤ b
-word_low b h = search (rules, ⊎_elim, lt-ltb, false≢true, cases_lt, eqb-true, or_cases)
-
 word_high : (b : ℕ) → is_word b ≡ true → b < 123
 word_high b h = search (rules, ⊎_elim, false≢true, not_less, cases_lt, eqb-true, or_cases)
 
@@ -40,15 +38,14 @@ word_ascii (b ∷ t) h zero = let p = and_parts (is_word b) (list_all is_word t)
 word_ascii (b ∷ t) h (suc i) = let p = and_parts (is_word b) (list_all is_word t) h in word_ascii t p.1 i
 
 plain_char : (b : ℕ) → is_word b ≡ true → is_plain_char b ≡ true
-plain_char b h = search (rules, le-leb, word_low, word_high, at_byte)
+plain_char b h = search (rules, le-leb, ⊎_elim, lt-ltb, false≢true, cases_lt, eqb-true, or_cases, word_high, at_byte)
 
 plain_chars : (t : List ℕ) → list_all is_word t ≡ true → list_all is_plain_char t ≡ true
 plain_chars [] h = refl
 plain_chars (b ∷ t) h = let p = and_parts (is_word b) (list_all is_word t) h in rw (plain_char b p.0, plain_chars t p.1) refl
 
 no_flow : (flow : Bool) (b : ℕ) → is_word b ≡ true → (flow && is_flow_indicator b) ≡ false
-no_flow false b h = refl
-no_flow true b h = rw (at_byte is_word b 44 h refl, at_byte is_word b 91 h refl, at_byte is_word b 93 h refl, at_byte is_word b 123 h refl, at_byte is_word b 125 h refl) refl
+no_flow flow b h = search rules
 
 no_quotes : (flow : Bool) (t : List ℕ) → list_all is_word t ≡ true → no_rest (needs_quotes flow) t ≡ true
 no_quotes flow [] h = refl
@@ -59,37 +56,11 @@ no_quotes flow (b ∷ t) h =
 no_merge : (t : List ℕ) → list_all is_word t ≡ true → is_merge t ≡ false
 no_merge t h1 = search (rules, and_parts, at_byte)
 
-letter_free : (b : ℕ) → is_letter b ≡ true → is_indicator b ≡ false
-letter_free b h = search (rules, at_byte)
-
--- after a `-`
-unsigned_safe : (t : List ℕ) → begins_unsigned t ≡ true → front (λ c. not (eqb c 32)) t ≡ true
-unsigned_safe t h1 = search (rules, ⊎_elim, at_byte, and_parts, or_cases)
-
-plainly_as : (b k : ℕ) (t : List ℕ) → eqb b k ≡ true → begins_plainly (k ∷ t) ≡ true → begins_plainly (b ∷ t) ≡ true
-plainly_as b k t e h = let is : b ≡ k = eqb-true b k e in subst (λ (x : ℕ). begins_plainly (x ∷ t) ≡ true) (sym is) h
-
 plainly : (t : List ℕ) → begins_signed t ≡ true → begins_plainly t ≡ true
-plainly [] h = h
-plainly (b ∷ t) h = ⊎_elim
-    (λ w. ⊎_elim
-    (λ u. ⊎_elim (λ l. rw (at_byte is_letter b 32 l refl, letter_free b l) refl) (λ d. plainly_as b 46 t (and_parts (eqb b 46) (front is_letter t) d).0 refl) (or_cases (is_letter b) (eqb b 46 && front is_letter t) u))
-    (λ e. plainly_as b 43 t e refl)
-    (or_cases (begins_unsigned (b ∷ t)) (eqb b 43) w))
-    (λ m. let p = and_parts (eqb b 45) (begins_unsigned t) m in plainly_as b 45 t p.0 (rw (unsigned_safe t p.1) refl))
-    (or_cases (begins_unsigned (b ∷ t) || eqb b 43) (eqb b 45 && begins_unsigned t) h)
-
-marker_free : (test : ℕ → Bool) (b : ℕ) (t : List ℕ) → test b ≡ true → test 45 ≡ false → test 46 ≡ false → begins_marker (b ∷ t) ≡ false
-marker_free test b t h1 h2 h3 = search (rules, at_byte)
-
-dot_marker : (b : ℕ) (t : List ℕ) → eqb b 46 ≡ true → front is_letter t ≡ true → begins_marker (b ∷ t) ≡ false
-dot_marker b t h1 h2 = search (rules, at_byte, and-false)
-
-unsigned_dash : (c : ℕ) (t : List ℕ) → begins_unsigned (c ∷ t) ≡ true → eqb c 45 ≡ false
-unsigned_dash c t h = search (rules, ⊎_elim, at_byte, and_parts, or_cases)
+plainly t h = grind (arith, common_steps)
 
 no_marker : (t : List ℕ) → begins_signed t ≡ true → begins_marker t ≡ false
-no_marker t h1 = search (rules, at_byte, unsigned_dash, and-false, false≢true, ⊎_elim, marker_free, and_parts, dot_marker, or_cases)
+no_marker t h1 = search (rules, at_byte, and-false, false≢true, ⊎_elim, and_parts, or_cases)
 
 -- a text of such characters that begins so
 pub word_plain : (flow : Bool) (t : List ℕ) → list_all is_word t ≡ true → begins_signed t ≡ true → is_plain_text flow t ≡ true

@@ -58,16 +58,13 @@ is_ordinary q b = not (eqb b q) && not (is_feed b) && not (is_return b) && not (
 ordinary_parts : (w x y z : Bool) → (not w && not x && not y && not z) ≡ true → (w ≡ false) × (x ≡ false) × (y ≡ false) × (z ≡ false)
 ordinary_parts w x y z h1 = search (rules, false≢true)
 
-ordinary_is : (q b : ℕ) (rest : List ℕ) → is_ordinary q b ≡ true → IsChar q (itself b) rest
-ordinary_is q b rest h = search (rules, ordinary_parts)
-
 bytes_stand : (q : ℕ) (t : List ℕ) → Each (is_ordinary q) t → Stands q t t
 bytes_stand q [] h = none_stands q
-bytes_stand q (b ∷ t) h = both q (b ∷ []) t (b ∷ []) t (one_char q (itself b) (b ∷ []) (b ∷ []) refl refl (λ rest. ordinary_is q b rest h.0)) (bytes_stand q t h.1)
+bytes_stand q (b ∷ t) h =
+    both q (b ∷ []) t (b ∷ []) t (one_char q (itself b) (b ∷ []) (b ∷ []) refl refl (λ rest. (search (rules, ordinary_parts)))) (bytes_stand q t h.1)
 
 not_both : (b : Bool) → not (b && false) ≡ true
-not_both true = refl
-not_both false = refl
+not_both b = search rules
 
 high_ordinary : (q b : ℕ) → q < 128 → 128 ≤ b → is_ordinary q b ≡ true
 high_ordinary q b low high = rw (not_byte b q (omega arith), not_byte b 10 (omega arith), not_byte b 13 (omega arith), not_byte b 92 (omega arith)) (not_both (eqb q 34))
@@ -117,26 +114,19 @@ code_stands c h s = elim (cases_Bool (ltb c 256)) [
       (λ rest. (refl, refl, (digit_at (c / 4096 % 16) (omega arith), (digit_at (c / 256 % 16) (omega arith), (digit_at (c / 16 % 16) (omega arith), (digit_at (c % 16) (omega arith), tt)))), ap is_unicode (four_value c h) ∙ s)))
 ]
 
-high_text : (c : ℕ) → 65536 ≤ c → c < 1114112 → is_text_char c ≡ true
-high_text c ge lt = search (rules, and_from, le-leb, or_right, not_from_false, ne_eqb)
-
 -- a character that no text may hold is one of the first 65,536
 below : (c : ℕ) → is_text_char c ≡ false → is_unicode c ≡ true → c < 65536
-below c h s = search (rules, or_cases, ltb-true, and_parts, cases_lt, false≢true, high_text)
-
-double_ordinary : (c : ℕ) → letter_of c written_letters ≡ None → is_ordinary 34 c ≡ true
-double_ordinary c h = search (rules, is_none, at_byte)
+below c h s = search (rules, or_cases, ltb-true, and_parts, cases_lt, false≢true, and_from, le-leb, or_right, not_from_false, ne_eqb)
 
 double_as : (c : ℕ) (o : Option ℕ) → letter_of c written_letters ≡ o → is_unicode c ≡ true → Stands 34 (encode c) (double_by o c)
 double_as c (Some l) h s = letter_stands c l h
 double_as c None h s = elim (cases_Bool (is_text_char c)) [
-  | inl p ↦ rw p (itself_stands 34 c (omega arith) (λ low. double_ordinary c h))
+  | inl p ↦ rw p (itself_stands 34 c (omega arith) (λ low. (search (rules, is_none, at_byte))))
   | inr p ↦ rw p (code_stands c (below c p s) s)
 ]
 
 same_scalar : (x y : Bool) → cond x true y ≡ true → (x || y) ≡ true
-same_scalar true y h = refl
-same_scalar false y h = h
+same_scalar x y h = search rules
 
 double_stands : (cs : List ℕ) → scalars cs ≡ true → Stands 34 (encodes cs) (flat_map in_double cs)
 double_stands [] h = none_stands 34
@@ -144,13 +134,10 @@ double_stands (c ∷ cs) h =
     let p = and_parts (scalar c) (scalars cs) h in
     both 34 (encode c) (encodes cs) (in_double c) (flat_map in_double cs) (double_as c (letter_of c written_letters) refl (same_scalar (ltb c 55296) (leb 57344 c && ltb c 1114112) p.0)) (double_stands cs p.1)
 
-single_ordinary : (c : ℕ) → is_single_char c ≡ true → eqb c 39 ≡ false → is_ordinary 39 c ≡ true
-single_ordinary c h n = rw (n, at_byte is_single_char c 10 h refl, at_byte is_single_char c 13 h refl) refl
-
 single_as : (c : ℕ) → is_single_char c ≡ true → Stands 39 (encode c) (in_single c)
 single_as c h = elim (cases_Bool (eqb c 39)) [
   | inl e ↦ (let is : c ≡ 39 = eqb-true c 39 e in subst (λ (x : ℕ). Stands 39 (encode x) (in_single x)) (sym is) (one_char 39 doubled (encode 39) (39 ∷ 39 ∷ []) refl (sym (encode_ascii 39 (omega arith))) (λ rest. refl)))
-  | inr n ↦ rw n (itself_stands 39 c (omega arith) (λ low. single_ordinary c h n))
+  | inr n ↦ rw n (itself_stands 39 c (omega arith) (λ low. (rw (n, at_byte is_single_char c 10 h refl, at_byte is_single_char c 13 h refl) refl)))
 ]
 
 single_stands : (cs : List ℕ) → list_all is_single_char cs ≡ true → Stands 39 (encodes cs) (flat_map in_single cs)
@@ -168,17 +155,9 @@ pub record Spells (q : ℕ) (t piece rest : List ℕ) : Type 0 where
 pub double_spells : (t rest : List ℕ) → IsUtf8 t → Spells 34 t (double t) rest
 double_spells t rest u =
     let s = double_stands (chars t) (scalars-chars t u) in
-    record {
-      chars = s.items;
-      is = record { quotes = inl refl; spelled = ap (λ l. 34 ∷ (l ++ 34 ∷ [])) (sym s.spelled); lines = s.are (34 ∷ rest); closed = refl };
-      same = s.means ∙ encodes-chars t u;
-    }
+    search (rules, encodes-chars)
 
 pub single_spells : (t rest : List ℕ) → IsUtf8 t → list_all is_single_char (chars t) ≡ true → front (λ b. eqb b 39) rest ≡ false → Spells 39 t (single t) rest
 single_spells t rest u all open_ =
     let s = single_stands (chars t) all in
-    record {
-      chars = s.items;
-      is = record { quotes = inr refl; spelled = ap (λ l. 39 ∷ (l ++ 39 ∷ [])) (sym s.spelled); lines = s.are (39 ∷ rest); closed = open_ };
-      same = s.means ∙ encodes-chars t u;
-    }
+    search (rules, encodes-chars)

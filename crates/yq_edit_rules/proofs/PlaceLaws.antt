@@ -1,4 +1,8 @@
 -- Rows that are written after a key or dash of a text.
+use Rattle.yq_edit_rules.{proofs.FirstReplaceLaws.rows_after, proofs.AppendEntryLaws.none_uncommented}
+use Rattle.yq_edit_rules.specs.BlockPlaces.{compact_rows, IsUpto, at_mark, at_dash, IsAbove, Replaces, BeginsUpto}
+use Rattle.yq_edit_rules.{specs.BlockRows.item_column, proofs.LaidRows.{AreLaid, IsLaid, rows_append}}
+use Rattle.yq_edit_rules.proofs.BlockLineLaws.{BeginAt, no_head}
 use Rattle.std.proofs.Common.{◌≡◌, ℤ, ℕ, suc, ◌+◌, true, false, not, ◌&&◌, eqb, List, [], ◌∷◌, ◌++◌, None, refl, sym, ap, ◌∙◌, subst, arith}
 use Rattle.std.{proofs.Common.{append_assoc, replicate, Some, rules}, proofs.lemmas.Bool.false≢true}
 use Rattle.yq_core.{specs.Text.{separates, upto}, specs.Alike.{Alike, byte}, proofs.Alikes.{alike_append, alike_marker}}
@@ -12,9 +16,6 @@ use Rattle.yq_row_table.{proofs.AlikeRows.{row_gap_alike, dashes_text_alike}, pr
 use Rattle.yq_row_table.{proofs.NodeExchange.mark_apart, specs.Joined.{dashed_row, compact_row}}
 use Rattle.yq_row_table.proofs.seams.JoinLaws.{space_apart, dashes_text-append, behind_columns-append}
 use Rattle.yq_row_table.proofs.seams.SeamLaws.{rows_text-append}
-use Rattle.yq_edit_rules.specs.BlockPlaces.{compact_rows, IsUpto, at_mark, at_dash, IsAbove, Replaces, BeginsUpto}
-use Rattle.yq_edit_rules.{specs.BlockRows.item_column, proofs.LaidRows.{AreLaid, IsLaid, rows_append}}
-use Rattle.yq_edit_rules.proofs.BlockLineLaws.{BeginAt, no_head}
 use Rattle.yq_core.specs.Nodes as inline
 use Rattle.yq_outline.specs.Outline as outline
 
@@ -113,29 +114,19 @@ pub behind_laid : (limit : Limit) (r s : Row) (old : List ℕ) (rs : List Row) (
 behind_laid limit r s old [] rest h upto last laid = absurd laid
 behind_laid limit r s old (q ∷ rs) rest h upto last laid = upto_line q rs rest h upto last laid
 
--- their lines
-no_comment : line_comment [] ≡ None
-unfolding upto
-no_comment = refl
-
 lines_behind : (above : List (List ℕ)) (column : ℕ) (ns ms : List ℕ) (m : RowMark) (c : Content) →
     lines_from above column (ns ++ 1 ∷ ms) m c ≡ lines_from above column ns Dash (Nothing []) ++ lines_from [] (item_column (behind_columns column ns)) ms m c
-lines_behind above column [] ms m c = λ i. record { column = column; mark = outline.Dash; anchor = None; head = None; head_comment = above; line_comment = sym no_comment i } ∷ lines_from [] (suc (column + 1)) ms m c
+lines_behind above column [] ms m c = λ i. record { column = column; mark = outline.Dash; anchor = None; head = None; head_comment = above; line_comment = sym none_uncommented i } ∷ lines_from [] (suc (column + 1)) ms m c
 lines_behind above column (n ∷ ns) ms m c = ap (λ ls. dash_line above column ∷ ls) (lines_behind [] (suc (column + n)) ns ms m c)
 
 pub compact_lines : (s : Row) (rs : List Row) → BeginAt (item_column (mark_column s)) rs → lines_of_rows (compact_rows s rs) ≡ row_lines (dashed_row s.dashes (Nothing []) s) ++ lines_of_rows rs
 compact_lines s rs h1 = search (rules, lines_behind, append_assoc, no_head)
 
--- rows in the place of a row and those under it
-rows_split : (limit : Limit) (xs ys : List Row) (end rest : List ℕ) → AreRows limit (xs ++ ys) end rest → AreRows (asked_behind limit xs) ys end rest
-rows_split limit [] ys end rest h = h
-rows_split limit (x ∷ xs) ys end rest h = rows_split (limit_after x) xs ys end rest h.1
-
 pub rows_replaced : (limit : Limit) (column : ℕ) (before under after new : List Row) (r : Row) (end rest : List ℕ) → AreRows limit (before ++ (r ∷ (under ++ after))) end rest → BeginsUpto column after →
     Replaces (asked_behind limit before) column r (rows_text (under ++ after) (end ++ rest)) new (rows_text after (end ++ rest)) → AreRows limit (before ++ (new ++ after)) end rest
 rows_replaced limit column before under after new r end rest h upto by =
     let asked : Limit = asked_behind limit before in
-    let tail : AreRows (limit_after r) (under ++ after) end rest = (rows_split limit before (r ∷ (under ++ after)) end rest h).1 in
-    let left : AreRows (asked_behind (limit_after r) under) after end rest = rows_split (limit_after r) under after end rest tail in
+    let tail : AreRows (limit_after r) (under ++ after) end rest = (rows_after limit before (r ∷ (under ++ after)) end rest h).1 in
+    let left : AreRows (asked_behind (limit_after r) under) after end rest = rows_after (limit_after r) under after end rest tail in
     let again : AreRows (asked_behind asked new) after end rest = relimit _ (asked_behind asked new) after end rest (search (rules, by.follow, upto)) left in
     search (rules, rows_text-append, chain, rows_append, asked, again)

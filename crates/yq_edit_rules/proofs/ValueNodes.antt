@@ -1,7 +1,8 @@
 -- The inline nodes of values: scalars in a style of one line, and collections in flow style.
+use Rattle.yq_edit_rules.{proofs.CommentPieceLaws.nothing, specs.InlineRows.IsValueNode, specs.TextPieces.IsPiece}
+use Rattle.yq_edit_rules.{proofs.TextPieceLaws.pieces_joined, proofs.FlowWritten.flow_fits}
 use Rattle.std.proofs.Common.{◌≡◌, ℕ, ◌≤◌, eqb, not, cond, List, [], ◌∷◌, ◌++◌, Option, Some, Bool, true, false, refl, sym, ap, ◌∙◌, subst}
-use Rattle.std.{proofs.Common.{append-nil, rules}, proofs.lemmas.Bool.{false≢true, not-true, and_parts}, proofs.lemmas.Str.IsUtf8-nil}
-use Rattle.std.specs.Str.{chars, IsUtf8}
+use Rattle.std.{proofs.Common.{append-nil, rules}, proofs.lemmas.Bool.{false≢true, not-true, and_parts}, specs.Str.{chars, IsUtf8}}
 use lib.Utf8.{encode}
 use Rattle.yq_core.{specs.Characters.pairs_returns, specs.Keys.depth, specs.Piece.deeper, specs.PlainText.begins_marker}
 use Rattle.yq_core.{specs.Plain.holds_break, specs.Scalar.{ScalarText, string_of}, specs.Text.{is_marker, separates}, specs.Tree.Children}
@@ -13,8 +14,6 @@ use Rattle.yq_core.specs.NodesWritten.{scalar_text, flow_key, flow_sep, flow_of,
 use Rattle.yq_core.{proofs.Alikes.{no_first, no_second, no_third}, proofs.NodesPieceLaws.front_not}
 use Rattle.yq_flow_edits.specs.Valued.{IsValid, IsLabel, IsValueTree, AreValueTrees, SpellsScalar}
 use Rattle.yq_flow_edits.{proofs.SpelledLaws.{written_node, written_tree}, proofs.StyledScalars.styled_spells}
-use Rattle.yq_edit_rules.{specs.InlineRows.IsValueNode, specs.TextPieces.IsPiece, proofs.TextPieceLaws.pieces_joined}
-use Rattle.yq_edit_rules.proofs.FlowWritten.{flow_fits}
 use Rattle.yq_semantics.specs.Changes.{has_long_key}
 use Rattle.yq_core.specs.Tree as tree
 use Rattle.yq_core.specs.declared.style.Place.TheVariants as places
@@ -57,10 +56,6 @@ scalar_is a kind t style h i can =
     )
 
 -- ---- collections in flow style
-
-nothing_piece : IsPiece []
-unfolding chars pairs_returns encode
-nothing_piece = record { utf8 = IsUtf8-nil; characters = refl }
 
 colon_piece : IsPiece (58 ∷ 32 ∷ [])
 unfolding chars pairs_returns encode
@@ -124,7 +119,7 @@ mutual
       (node_piece n (sep_text (flow_sep cs) (flow_items_text k (flow_items cs) rest)) h.1 (sep_piece cs (flow_items_text k (flow_items cs) rest) (items_piece cs k keyed rest close h.2 p)))
 
 pub flow_piece : (v : tree.Node) → IsValueTree v → IsPiece (flow_text v)
-flow_piece v h = node_piece v [] h nothing_piece
+flow_piece v h = node_piece v [] h nothing
 
 pub list_is : (a : Option (List ℕ)) (cs : Children) → IsValueTree (tree.list a cs) → depth (tree.list a cs) ≤ depth_limit → has_long_key (tree.list a cs) ≡ false → IsValueNode (tree.list a cs) (flow_of (tree.list a cs))
 unfolding flow_of node_text

@@ -13,7 +13,7 @@ use Rattle.yq_core.{specs.Borrowed.{items_in_front, located_or_end}, proofs.Node
 use Rattle.yq_core.{proofs.NodeLaws.{all_again, items_done}, proofs.NodeTakes.key_in}
 use Rattle.yq_core.proofs.NodeAgain.{key_in_again, item_longer, sep_longer}
 use Rattle.yq_core.proofs.BorrowedLaws.{borrowed_items, items_borrowed, items_located, front_located, node_borrowed}
-use Rattle.yq_core.{specs.Entries.{entry_start, flow_part_at, start_of}, specs.View.borrowed_view, specs.Paths.{Nth, To, is_item, key_is}}
+use Rattle.yq_core.{specs.Entries.{entry_start, flow_part_at, start_of}, specs.View.borrowed_view, specs.Paths.{Nth, is_item, key_is}}
 use Rattle.yq_inline.{specs.BorrowedParts.{IsFirstEntry, borrowed_entry, parts_view}, specs.Measured.{closing_byte, measured, past_node}}
 use Rattle.yq_inline.{specs.declared.parts.BorrowedEntry.BorrowedEntry, specs.declared.parts.BorrowedParts.BorrowedParts}
 
@@ -221,17 +221,6 @@ parts_left p e r s j before is passed same sep =
 -- the test of the code
 pub tested : (j k : ℕ) (t u : List ℕ) (b v : Bool) → j ≡ k → u ≡ t → b ≡ begins_with j u → b ≡ v → begins_with k t ≡ v
 tested j k t u b v same text test is = (λ i. begins_with (sym same i) (sym text i)) ∙ (sym test ∙ is)
-
--- where a step leads
-pub key_here_first : (k : List ℕ) (x : Option (List ℕ × Piece)) (n : Placed) (ps : Parts) → key_is k (unplaced_key x) ≡ true → flow_part_at (To k) (part x n ps) ≡ Some (x, n)
-key_here_first k x n ps h = rw h refl
-
-pub key_further : (k : List ℕ) (x : Option (List ℕ × Piece)) (n : Placed) (ps : Parts) → key_is k (unplaced_key x) ≡ false → flow_part_at (To k) (part x n ps) ≡ flow_part_at (To k) ps
-key_further k x n ps h = rw h refl
-
-pub item_here_first : (i : ℕ) (x : Option (List ℕ × Piece)) (n : Placed) (ps : Parts) → (eqb i 0 && is_item (unplaced_key x)) ≡ true → flow_part_at (Nth i) (part x n ps) ≡ Some (x, n)
-item_here_first zero x n ps h = rw h refl
-item_here_first (suc i) x n ps h = absurd (omega (arith, eqb-true (suc i) 0 (and_parts (eqb (suc i) 0) (is_item (unplaced_key x)) h).0))
 
 pub item_further : (i : ℕ) (x : Option (List ℕ × Piece)) (n : Placed) (ps : Parts) → (eqb i 0 && is_item (unplaced_key x)) ≡ false → flow_part_at (Nth i) (part x n ps) ≡ flow_part_at (Nth (i - 1)) ps
 item_further zero x n ps h = rw h refl

@@ -1,14 +1,11 @@
 -- The search for a document that goes on from one whose part is known.
 use Rattle.std.proofs.Common.{◌≡◌, ℕ, zero, suc, ◌+◌, ◌-◌, ◌≤◌, Bool, true, false, cond, ◌||◌, not, List, [], ◌∷◌, length, drop, Some, None}
-use Rattle.std.{proofs.Common.{option_map, refl, sym, ap, ◌∙◌, arith}, proofs.lemmas.List.{drop_all, length-map}}
-use Rattle.std.{proofs.lemmas.Option.same_Some, specs.List.slice_get}
-use Rattle.yq_outline.{proofs.EndsLaws.drop_at, specs.RowWalk.stretch_view, specs.declared.line_position.Stretch.Stretch}
-use Rattle.yq_row_table.{specs.Grammar.begins_document, specs.Rows.{Cut, Part, Row}, specs.View.{Bound, RowsView, rows_view}}
+use Rattle.std.{proofs.Common.{refl, sym, ap, ◌∙◌, arith}, proofs.lemmas.List.drop_all, proofs.lemmas.Option.same_Some}
+use Rattle.std.specs.List.{slice_get}
+use Rattle.yq_outline.proofs.EndsLaws.{drop_at}
+use Rattle.yq_row_table.{specs.Grammar.begins_document, specs.Rows.Cut, specs.View.{Bound, RowsView, rows_view}}
 use Rattle.yq_documents.{specs.PartReading.{first_rows, number_in, some_begin}, specs.PartNumbers.document_part}
-use Rattle.yq_documents.{proofs.PartNumberLaws.document_told, specs.Documents.document_parts, specs.LinesInRows.document_row}
-use Rattle.yq_documents.{specs.Reading.{cut_of, part_document}, specs.Stretches.{HasText, part_rows, rows_of_document}}
-use Rattle.yq_documents.proofs.PartRows.{has_part}
-use Rattle.yq_places.specs.RowWalk.{document_row_range}
+use Rattle.yq_documents.proofs.PartNumberLaws.{document_told}
 use Rattle.yq_lookup.specs.KnownDocuments.{NumbersGoOn, IsKnownDocument, part_by_number}
 use Rattle.yq_lookup.specs.declared.known_document.KnownDocument.{KnownDocument}
 
@@ -41,9 +38,6 @@ goes_on_known bs k known n =
     let index : k.part - 0 ≡ k.part = omega arith in
     found_on (first_rows bs || not (some_begin bs)) k.doc n 0 k.part bs known ∙ ap (λ (m : ℕ). number_in true n k.part (drop m bs)) index
 
-pub goes_on_first : (bs : List Bound) (is : Bool) → is ≡ (first_rows bs || not (some_begin bs)) → NumbersGoOn bs 0 0 is
-goes_on_first bs is e n = let count : 0 + n ≡ n = omega arith in ap (λ (m : ℕ). part_by_number m bs) count ∙ ap (λ (b : Bool). number_in b n 0 bs) (sym e)
-
 -- after one part more
 pub goes_on_next : (bs : List Bound) (part before : ℕ) (is : Bool) (b : Bound) → slice_get bs part ≡ Some b → NumbersGoOn bs part before is → NumbersGoOn bs (part + 1) (cond is (before + 1) before) (begins_document b.marker)
 goes_on_next bs part before true b at h n =
@@ -70,13 +64,3 @@ goes_on_none bs part before doc is end order h =
 -- the part of a document, by its cut
 pub part_told : (c : Cut) (s : RowsView) (n : ℕ) → s ≡ rows_view c → part_by_number n s.bounds ≡ document_part n c
 part_told c s n is = document_told c s n is
-
--- the rows of a document, as they are kept
-pub stretch_told : (t : List ℕ) (n : ℕ) (s : RowsView) (d : Stretch) → HasText t n s d → Some (stretch_view d) ≡ document_row_range n (cut_of t)
-stretch_told t n s d x =
-    let c : Cut = cut_of t in
-    let p = has_part (document_parts c) n (omega (arith, x.there, length-map (document_parts c) part_document)) in
-    let is : rows_of_document n t ≡ p.0.rows = ap part_rows p.1 in
-    ap (λ (e : Stretch). Some (stretch_view e)) x.place
-    ∙ (ap (λ (rs : List Row). Some (document_row n c, document_row n c + length rs)) is
-    ∙ sym (ap (option_map (λ (q : Part). (document_row n c, document_row n c + length q.rows))) p.1))

@@ -1,12 +1,12 @@
 -- What a row spells, by what is written: its colon, its key and its lines.
-use Rattle.std.proofs.Common.{◌≡◌, ℕ, ℤ, suc, ◌+◌, true, false, List, [], ◌∷◌, ◌++◌, length, Option, Some, refl, ap, rules, zero, ◌<◌, ◌≤◌}
-use Rattle.std.proofs.Common.{None, arith, ◌-◌, eqb, Bool, cond, ◌||◌, drop, take, ◌∙◌, replicate, not}
-use Rattle.std.{proofs.lemmas.Bool.{false≢true, cases_lt, or_parts, cond-false}, proofs.lemmas.Option.same_Some}
-use Rattle.std.{specs.List.{slice_get, list_any}, proofs.lemmas.List.Sums.sum_by-cons}
-use Rattle.yq_core.{specs.Piece.deeper, specs.Plain.{begins_plain, holds_break}, specs.Quoted.IsQuotedText}
-use Rattle.yq_core.{specs.Text.{is_empty, text_lines, is_feed}, specs.Scalars.{IsScalarAt, is_quoted}}
+use Rattle.yq_core.{proofs.BorrowedTexts.{any_take, any_drop}, specs.Piece.deeper, specs.Plain.{begins_plain, holds_break}}
+use Rattle.yq_core.{specs.Quoted.IsQuotedText, specs.Text.{is_empty, text_lines, is_feed}, specs.Scalars.{IsScalarAt, is_quoted}}
 use Rattle.yq_core.{proofs.NodesPieceLaws.{front_not, scalar_some}, specs.ContentReading.quoted_content, specs.Nodes.begins_with}
 use Rattle.yq_core.proofs.OneLine.{borrowed_quoted}
+use Rattle.std.proofs.Common.{◌≡◌, ℕ, ℤ, suc, ◌+◌, true, false, List, [], ◌∷◌, ◌++◌, length, Option, Some, refl, ap, rules, zero, ◌<◌, ◌≤◌}
+use Rattle.std.proofs.Common.{None, arith, ◌-◌, eqb, cond, ◌||◌, drop, take, ◌∙◌, replicate, not}
+use Rattle.std.{proofs.lemmas.Bool.{false≢true, cases_lt, cond-false}, proofs.lemmas.Option.same_Some, specs.List.{slice_get, list_any}}
+use Rattle.std.proofs.lemmas.List.Sums.{sum_by-cons}
 use Rattle.yq_outline.{specs.Comments.head_comment, specs.Outline.Line, specs.Lines.{lines_from, content_anchor, tail_of}}
 use Rattle.yq_outline.specs.Extents.{dash_count, lines_before_mark}
 use Rattle.yq_row_table.{specs.Grammar.{IsMark, AreDashes}, specs.Rows.{Content, RowMark, Bare, Dash, Key, dashes_text}}
@@ -64,19 +64,6 @@ beside_in above column (n ∷ ns) m c (suc k) l h e =
     search (rules, cases_lt, x)
 
 -- ---- a quoted key or scalar on one line without escapes means what is between its quotes
-
-any_drop : (f : ℕ → Bool) (n : ℕ) (t : List ℕ) → list_any f t ≡ false → list_any f (drop n t) ≡ false
-any_drop f zero t e = e
-any_drop f (suc n) [] e = refl
-any_drop f (suc n) (b ∷ bs) e = any_drop f n bs (or_parts (f b) (list_any f bs) e).1
-
-any_take : (f : ℕ → Bool) (n : ℕ) (t : List ℕ) → list_any f t ≡ false → list_any f (take n t) ≡ false
-any_take f zero t e = refl
-any_take f (suc n) [] e = refl
-any_take f (suc n) (b ∷ bs) e =
-    let p = or_parts (f b) (list_any f bs) e in
-    let rest : list_any f (take n bs) ≡ false = any_take f n bs p.1 in
-    (λ i. p.0 i || rest i)
 
 pub quoted_lent : (piece inner : List ℕ) → IsQuotedText piece → holds_break piece ≡ false → inner ≡ take (length piece - 2) (drop 1 piece) → list_any (λ b. eqb b (cond (begins_with 34 piece) 92 39)) inner ≡ false → inner ≡ quoted_content piece
 quoted_lent [] inner q broken is none = borrowed_quoted [] inner [] q refl is (ap holds_break is) (ap (list_any (λ b. eqb b 39)) is)

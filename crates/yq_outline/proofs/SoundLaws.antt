@@ -1,13 +1,14 @@
 -- What is asked of the items or entries of a collection, line by line.
+use Rattle.yq_outline.proofs.Values.{same_rank}
+use Rattle.yq_outline.specs.Outline.{LineMark, Bare, Dash, rank, Line, level, Outline, end, row, anchored, head_or, key_of, children, value}
+use Rattle.yq_outline.{specs.Group.{deeper_lines, shallow, is_open, is_whole, level_or, is_even, is_fine}, specs.Ends.has_no_lines}
+use Rattle.yq_outline.specs.Sound.{is_sound_outline, head_is_sound, line_is_sound, is_entry_line}
 use Rattle.std.proofs.Common.{◌≡◌, ℕ, suc, ◌+◌, ◌<◌, ◌≤◌, max, leb, ltb, eqb, List, [], ◌++◌, Option, Some, None, is_some, Bool, true}
 use Rattle.std.proofs.Common.{false, ◌&&◌, ◌⊎◌, inl, inr, refl, sym, ap, ◌∙◌, arith, append_assoc, rules}
 use Rattle.std.proofs.lemmas.Bool.{lt-ltb, eq-eqb, ne_eqb, leb-true, le-leb, cases_eq, and_parts, false_from_ne_true, false≢true}
 use Rattle.std.proofs.Math.Bool.{and-false, and-true, and_comm}
 use Rattle.yq_core.{specs.Tree.Node, specs.Keys.{keys_of, depth, deepest, are_distinct, has_unique_keys, each_has_unique_keys}}
 use Rattle.yq_core.specs.Text.{with_first}
-use Rattle.yq_outline.specs.Outline.{LineMark, Bare, Dash, rank, Line, level, Outline, end, row, anchored, head_or, key_of, children, value}
-use Rattle.yq_outline.{specs.Group.{deeper_lines, shallow, is_open, is_whole, level_or, is_even, is_fine}, specs.Ends.has_no_lines}
-use Rattle.yq_outline.specs.Sound.{is_sound_outline, head_is_sound, line_is_sound, is_entry_line}
 
 -- what is asked of the items or entries from one on, where these keys come before it
 abbrev pub asked : ℕ → ℕ → List (List ℕ) → Outline → Bool
@@ -102,11 +103,6 @@ asked_line d n keys l u a entries deep = go (cases_eq (level l) n)
     go : (level l ≡ n) ⊎ (level l ≡ n → ⊥) → asked d n keys (row l u a) ≡ (line_is_sound d n l u && next)
     go (inl lev) = opened (is_open l.head u) lev refl ∙ sym (ap (λ b. (b && (is_open l.head u && head_is_sound d l.head)) && next) (eq-eqb (level l) n lev))
     go (inr other) = not_level d n keys l u a other ∙ sym (ap (λ b. (b && (is_open l.head u && head_is_sound d l.head)) && next) (ne_eqb (level l) n other))
-
--- lines at one level begin in one way
-same_rank : (l m : Line) → level l ≡ level m → rank l.mark ≡ rank m.mark
-unfolding level
-same_rank l m e = search rules
 
 entry_by_rank : (a b : LineMark) → rank a ≡ rank b → is_entry_line b ≡ true → is_entry_line a ≡ true
 entry_by_rank a b h1 h2 = search (rules, false≢true)

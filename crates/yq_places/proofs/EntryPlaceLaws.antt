@@ -5,12 +5,11 @@ use Rattle.std.{proofs.lemmas.Bool.{ltb-false, eq-eqb, eqb-true, false≢true}, 
 use Rattle.yq_core.{specs.Answers.◌>>=◌, specs.Paths.Step, specs.Entries.{PlacedEntry, entry_place, content_place}, specs.Places.Placed}
 use Rattle.yq_row_table.{specs.Exchange.behind_row, specs.Rows.{Row, Cut, cut_text}, specs.View.{rows_of, Bound}}
 use Rattle.yq_documents.{specs.FlowReading.row_flow, specs.declared.path.Path.Path}
-use Rattle.yq_documents.specs.LinesInRows.{RowLine, behind_one, row_line, row_line_of, row_line_at}
-use Rattle.yq_outline.{specs.Group.group, specs.Places.{lines_before, FoundLine, find}, specs.Lines.lines_of_rows}
-use Rattle.yq_outline.{specs.Ends.{found_line, reached}, proofs.Values.If, proofs.KnownLaws.{get_dropped, get_front}}
-use Rattle.yq_places.specs.EntryReading.{line_entry, line_content, entry_from, content_from, entry_of, node_place_of, entry_at}
-use Rattle.yq_places.specs.EntryReading.{content_row_place, entry_within, line_entry_of, line_content_of, flow_entry_from, flow_entry_of}
-use Rattle.yq_places.{specs.EntryReading.{line_entry_at, line_content_at, flow_entry_at}, specs.RowLineReading.{LineCounts, numbers}}
+use Rattle.yq_documents.specs.LinesInRows.{RowLine, behind_one, row_line, row_line_at}
+use Rattle.yq_outline.{specs.Places.{lines_before, FoundLine}, specs.Lines.lines_of_rows, specs.Ends.reached, proofs.Values.If}
+use Rattle.yq_outline.proofs.KnownLaws.{get_dropped, get_front}
+use Rattle.yq_places.specs.EntryReading.{entry_at, content_row_place, entry_within, flow_entry_from, flow_entry_of, line_entry_at}
+use Rattle.yq_places.{specs.EntryReading.{line_content_at, flow_entry_at}, specs.RowLineReading.{LineCounts, numbers}}
 use Rattle.yq_places.proofs.FlowPlaceLaws.{flow_agrees}
 
 -- a line is one of its row, and that is one of the rows
@@ -61,33 +60,11 @@ or_none x = search rules
 abbrev pub by_line : Option (FoundLine × List Step) → Option (ℕ × List Step)
 by_line o = option_map (λ x. (length (lines_before x.0.place), x.1)) o
 
-entry_parts : (k : ℕ) (c : Cut) (rs : List Row) (steps : List Step) → entry_of k c rs steps ≡ or_flow (line_entry_of k c rs steps) (option_map entry_place (flow_entry_of k c rs steps))
-entry_parts k c rs [] = refl
-entry_parts k c rs (s ∷ ss) = go (find s ss (group (lines_of_rows rs)))
-  where
-    go : (o : Option (FoundLine × List Step)) → (by_line o >>= λ x. entry_from k c rs x.0 x.1) ≡
-        or_flow (option_and_then (λ (x : FoundLine × List Step). found_line x.0 x.1) o >>= line_entry k c rs) (option_map entry_place (by_line o >>= λ x. flow_entry_from k c rs x.0 x.1))
-    go o = search (rules, or_none)
-
-content_parts : (k : ℕ) (c : Cut) (rs : List Row) (steps : List Step) → node_place_of k c rs steps ≡ or_flow (line_content_of k c rs steps) (option_and_then (λ (e : PlacedEntry). content_place e.1) (flow_entry_of k c rs steps))
-content_parts k c rs [] = or_none _
-content_parts k c rs (s ∷ ss) = go (find s ss (group (lines_of_rows rs)))
-  where
-    go : (o : Option (FoundLine × List Step)) → (by_line o >>= λ x. content_from k c rs x.0 x.1) ≡
-        or_flow (option_and_then (λ (x : FoundLine × List Step). found_line x.0 x.1) o >>= line_content k c rs)
-        (option_and_then (λ (e : PlacedEntry). content_place e.1) (by_line o >>= λ x. flow_entry_from k c rs x.0 x.1))
-    go o = search (rules, or_none)
-
 pub entry_either : (p : Path) (c : Cut) → entry_at p c ≡ or_flow (line_entry_at p c) (option_map entry_place (flow_entry_at p c))
 entry_either p c = search rules
 
 pub content_either : (p : Path) (c : Cut) → content_row_place p c ≡ or_flow (line_content_at p c) (option_and_then (λ (e : PlacedEntry). content_place e.1) (flow_entry_at p c))
 content_either p c = search rules
-
--- the place of the entry or item of a line at a path
-line_entry_is : (k : ℕ) (c : Cut) (rs : List Row) (steps : List Step) (first : ℕ) (x : LineCounts) → Some x ≡ option_map (numbers first) (row_line_of steps rs) → line_entry_of k c rs steps ≡ entry_of k c rs steps
-line_entry_is k c rs [] first x e = absurd (cc)
-line_entry_is k c rs (s ∷ ss) first x e = search rules
 
 pub row_line_entry : (p : Path) (c : Cut) (first : ℕ) (x : LineCounts) → Some x ≡ option_map (numbers first) (row_line_at p c) → line_entry_at p c ≡ entry_at p c
 row_line_entry p c first x e = search rules

@@ -1,12 +1,12 @@
 -- The items and entries to which steps lead in a head are those of its row.
 use Rattle.std.proofs.Common.{◌≡◌, ◌⊎◌, ℕ, ◌+◌, List, [], ◌∷◌, ◌++◌, length, Option, Some, None, option_map, option_and_then, true, refl}
-use Rattle.std.{proofs.Common.rules, proofs.lemmas.Bool.{cases_lt, false≢true}, specs.List.slice_get, specs.Prelude.is_some}
+use Rattle.std.{proofs.Common.rules, proofs.lemmas.Bool.cases_lt, specs.List.slice_get, specs.Prelude.is_some}
 use Rattle.yq_core.{specs.Paths.Step, specs.Entries.{parts_of, placed_entry_at}, specs.Nodes.{FlowNode, without_anchor}}
 use Rattle.yq_core.specs.Places.{Placed, locate}
 use Rattle.yq_row_table.{specs.Exchange.behind_row, specs.Rows.{Content, Row, Cut, cut_text}}
 use Rattle.yq_places.{specs.EntryReading.{inline_node, flow_entry, entry_within}, proofs.DashLineLaws.row_line_found}
 use Rattle.yq_documents.{specs.FlowReading.{alias_or_collection, content_core, row_flow}, specs.LinesInRows.{RowLine, row_line}}
-use Rattle.yq_outline.{specs.Lines.{tail_of, lines_of_rows}, specs.Outline.{LineMark, Dash, Line, Outline, end, row}}
+use Rattle.yq_outline.{specs.Lines.{tail_of, lines_of_rows}, specs.Outline.{LineMark, Line, Outline, end, row}}
 use Rattle.yq_outline.{specs.Places.{here, FoundLine, find_row, place_inside, bare_or, in_head, find}, specs.Positions.has_no_mark}
 use Rattle.yq_outline.proofs.Values.{If}
 use Rattle.yq_core.specs.Tree as tree
@@ -43,9 +43,6 @@ takes_left s (t ∷ ts) (row k v a) = go (λ u. takes_left t ts u) k.mark refl (
 -- line n of rows is that of the mark of its row
 abbrev pub MarkRowLine : List Row → ℕ → Type 0
 MarkRowLine rs n = (q : RowLine) × (row_line n rs ≡ Some q) × (q.line ≡ length q.row.dashes)
-
-dash_takes_none : (l : Line) → (l.mark ≡ Dash) × (l.head ≡ None) → TakesSteps l → ⊥
-dash_takes_none l h1 h2 = search (rules, false≢true)
 
 pub mark_row_line : (rs : List Row) (n : ℕ) (l : Line) → slice_get (lines_of_rows rs) n ≡ Some l → TakesSteps l → MarkRowLine rs n
 mark_row_line rs n l e takes = search (rules, row_line_found, cases_lt)

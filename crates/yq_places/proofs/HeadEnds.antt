@@ -1,14 +1,14 @@
 -- Where the head of a row ends, by its pieces.
-use Rattle.std.proofs.Common.{◌≡◌, ℕ, ℤ, ◌+◌, eqb, true, false, cond, List, [], ◌∷◌, length, Some, option_map, ◌≤◌, refl, sym, ap, ◌∙◌}
-use Rattle.std.{proofs.Common.{arith, append-nil, rules}, proofs.lemmas.Option.{slice_get-map, same_Some}}
-use Rattle.std.{proofs.lemmas.Bool.{false≢true, cond_both, cond-false}, specs.List.slice_get}
+use Rattle.yq_documents.{proofs.HeadLaws.{opens, block_marks}, specs.RowReading.is_block_head}
+use Rattle.std.proofs.Common.{◌≡◌, ℕ, ℤ, ◌+◌, true, false, cond, List, [], ◌∷◌, length, Some, option_map, ◌≤◌, sym, ap, ◌∙◌, arith}
+use Rattle.std.{proofs.Common.{append-nil, rules}, proofs.lemmas.Option.{slice_get-map, same_Some}}
+use Rattle.std.{proofs.lemmas.Bool.{false≢true, cond-false}, specs.List.slice_get}
 use Rattle.yq_text.specs.Limit.{text_limit}
 use Rattle.yq_core.{specs.Piece.deeper, specs.Inline.depth_limit, specs.Nodes.{FlowNode, node_text, takes_anchor, IsFlowNode}}
 use Rattle.yq_core.{specs.Scalars.IsScalarAt, proofs.NodesPieceLaws.{front_not, scalar_begins}}
 use Rattle.yq_row_table.{specs.Exchange.behind_row, specs.Grammar.{IsContent, IsCut}, specs.Rows.{Content, Row, parent_indent, Cut}}
 use Rattle.yq_row_table.{specs.View.{Slices, slices, anchor_cut, content_cut, rows_of, RowsView, rows_view}, proofs.PlaceLaws.row_in}
 use Rattle.yq_outline.{specs.Extents.{row_start, front_length, head_place, IsRowsView}, proofs.LengthLaws.{row_fits, view_small}}
-use Rattle.yq_documents.{specs.RowReading.is_block_head, proofs.HeadLaws.block_marks}
 use Rattle.yq_places.specs.EntryReading.{row_ending, head_end, head_extent, through_row, head_finish}
 use Rattle.yq_places.proofs.RowStarts.{head_is, row_ends}
 
@@ -25,9 +25,6 @@ scalar_begins_none n p rest h1 = search (rules, scalar_begins, front_not)
 
 abbrev Opens : ℕ → Type 0
 Opens b = (t : List ℕ) → is_block_head (b ∷ t) ≡ false
-
-opens : (k : ℕ) → Opens (cond (eqb k 125) 123 91)
-opens k = cond_both (eqb k 125) 123 91 Opens (λ _ t. refl) (λ _ t. refl)
 
 behind_anchor : (n : ℤ) (node : FlowNode) (rest : List ℕ) → takes_anchor node ≡ true → IsFlowNode false (Some (deeper n)) depth_limit node rest → is_block_head (node_text node []) ≡ false
 unfolding node_text IsFlowNode

@@ -1,18 +1,13 @@
 -- The break that ends a text, and what comes after the last line of a content.
 use Rattle.std.proofs.Common.{◌≡◌, ◌⊎◌, ℕ, true, false, cond, List, [], ◌∷◌, ◌++◌, length, drop, refl, ap, ◌∙◌, rules}
-use Rattle.std.proofs.lemmas.Bool.{eqb-true}
-use Rattle.yq_core.{specs.Block.AreRaw, specs.Text.{is_empty, is_feed, is_return, is_line, joined}}
-use Rattle.yq_core.{specs.declared.block_lines.TextIndent.TextIndent, proofs.BlockPieceLaws.{IsLf, line_lf, raw_lf}}
+use Rattle.yq_core.{specs.Block.AreRaw, specs.Text.{is_empty, is_feed, is_line, joined}, specs.declared.block_lines.TextIndent.TextIndent}
+use Rattle.yq_core.proofs.BlockPieceLaws.{IsLf, line_lf, raw_lf}
 use Rattle.yq_places.specs.PrintedLines.{less_break, last_break}
 
 -- no byte of a text is an LF
 abbrev pub HasNoFeed : List ℕ → Type 0
 HasNoFeed [] = Unit {0}
 HasNoFeed (b ∷ bs) = (is_feed b ≡ false) × HasNoFeed bs
-
--- where an LF ends a text, its last break is a line
-return_no_feed : (b : ℕ) → is_return b ≡ true → is_feed b ≡ false
-return_no_feed b e = ap is_feed (eqb-true b 13 e)
 
 last_behind : (f : List ℕ) → is_line (last_break (f ++ (10 ∷ []))) ≡ true
 unfolding less_break is_line

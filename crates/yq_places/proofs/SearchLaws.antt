@@ -1,12 +1,11 @@
 -- Searches for the step of a document, row by row.
+use Rattle.yq_outline.{proofs.WalkRows.{rows_length, rows_agree}, specs.Lines.lines_of_rows, specs.RowWalk.{HasRows, line_level}}
+use Rattle.yq_outline.{specs.declared.line_position.Stretch.Stretch, proofs.KnownLaws.{one_there, taken_more}, proofs.WalkLevels.RowsAgree}
 use Rattle.std.proofs.Common.{◌≡◌, ℕ, zero, suc, ◌+◌, ◌-◌, ◌/◌, ◌%◌, ◌<◌, ◌≤◌, eqb, ltb, ◌&&◌, Bool, true, false, cond, List, [], ◌∷◌, ◌++◌}
 use Rattle.std.proofs.Common.{length, map, take, drop, Some, refl, sym, ap, ◌∙◌, subst, arith, drop_of_length-le, take-take}
-use Rattle.std.specs.List.{slice_get}
-use Rattle.std.proofs.lemmas.List.{drop-take, drop-append-le, length-drop, length-map, length-take, length-take-le, take-append-drop}
-use Rattle.std.{proofs.lemmas.List.take-map, proofs.lemmas.Bool.ltb-true, proofs.lemmas.Option.slice_get_within}
+use Rattle.std.{specs.List.slice_get, proofs.lemmas.List.{drop-take, drop-append-le, length-take-le, take-append-drop, take-map}}
+use Rattle.std.{proofs.lemmas.Bool.ltb-true, proofs.lemmas.Option.slice_get_within}
 use Rattle.yq_row_table.{specs.Rows.{Row, Cut}, specs.RowStarts.row_start, specs.View.{Slices, slices, RowsView, rows_view}}
-use Rattle.yq_outline.{specs.Lines.lines_of_rows, specs.RowWalk.{HasRows, line_level}, specs.declared.line_position.Stretch.Stretch}
-use Rattle.yq_outline.{proofs.KnownLaws.{one_there, taken_more}, proofs.WalkLevels.RowsAgree, proofs.WalkRows.rows_agree}
 use Rattle.yq_places.specs.StepReading.{begins_under_level, end_level, last_level, NoneBegins, searched_rows, IsSearched, BeginsThere}
 use Rattle.yq_places.{specs.StepReading.StaysSearched, specs.Steps.{first_step, is_kind}, proofs.KnownFronts.rows_stay}
 use Rattle.yq_places.{proofs.StepLaws.{step_behind, step_here, steps_agrees, row_step}, specs.declared.places.steps.StepSearch.StepSearch}
@@ -115,14 +114,10 @@ searched_step s d h dashes k first order within searched =
     ∙ (none_step dashes 0 (take m h.rows) (drop m h.rows) (agree_front m h.rows (rows_agree h.limit h.rows h.end h.rest h.valid)) (subst (NoneBegins dashes 0) passed searched.none)
     ∙ ap (λ (a : ℕ). step_behind dashes a (lines_of_rows (drop m h.rows))) (sym (ap (last_level 0) passed) ∙ sym searched.above)))
 
-rows_number : (s : RowsView) (d : Stretch) (h : HasRows s d) → length h.rows ≡ d.end - d.first
-rows_number s d h =
-    omega (arith, h.order, h.within, ap length h.pieces, length-map h.rows slices, length-take (d.end - d.first) (drop d.first s.rows), length-drop d.first s.rows)
-
 -- none was found
 pub none_found : (s : RowsView) (d : Stretch) (h : HasRows s d) (dashes : Bool) (k : StepSearch) → k.first ≡ d.first → k.row ≡ d.end → IsSearched dashes s.rows k → 2 ≡ first_step (is_kind dashes) (lines_of_rows h.rows)
 none_found s d h dashes k first end searched =
-    let none : drop (k.row - d.first) h.rows ≡ [] = drop_of_length-le h.rows (omega (arith, end, rows_number s d h)) in
+    let none : drop (k.row - d.first) h.rows ≡ [] = drop_of_length-le h.rows (omega (arith, end, rows_length s d h)) in
     sym (searched_step s d h dashes k first (omega (arith, h.order, end)) (omega (arith, end)) searched ∙ ap (λ (rs : List Row). step_behind dashes k.above (lines_of_rows rs)) none)
 
 -- one was found

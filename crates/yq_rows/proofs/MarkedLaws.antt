@@ -71,9 +71,6 @@ chosen : (es : List EndPlace) (front old : Side) (at : ℕ) (o : Option EndPlace
 chosen es front old at o h is = rw (lt-leb old.ends front.ends h, is) refl
 
 module _ (es : List EndPlace) (front old : Side) (at : ℕ) (some : front.ends < old.ends) where
-  pub none_marked : slice_get es (old.ends - 1) ≡ None → None ≡ marked_end es front old at
-  none_marked h = sym (chosen es front old at None some h)
-
   pub marked_is : (e : EndPlace) → slice_get es (old.ends - 1) ≡ Some e → true ≡ keeps_marker e old.rows at → Some e ≡ marked_end es front old at
   marked_is e h keeps = sym (chosen es front old at (Some e) some h ∙ cond-true (keeps_marker e old.rows at) (Some e) None (sym keeps))
 

@@ -1,7 +1,7 @@
 -- What is read of a region, and the places that come of it.
 use Rattle.std.proofs.Common.{◌≡◌, ℕ, ◌+◌, ◌-◌, ◌≤◌, Bool, true, false, not, List, [], ◌∷◌, ◌++◌, length, take, drop_at, get_or, slice_set}
 use Rattle.std.proofs.Common.{Option, Some, None, IfSome, if◌then◌else◌, ⊎_elim, take_all, refl, sym, ap, ◌∙◌, subst, arith, append-nil}
-use Rattle.std.{proofs.Common.{append_assoc, length-append, length-take, rules}, proofs.lemmas.Bool.{cases_Bool, cond-false, cond-true}}
+use Rattle.std.{proofs.Common.{append_assoc, length-append, length-take, rules}, proofs.lemmas.Bool.{cases_Bool, cond-false}}
 use Rattle.std.{proofs.lemmas.Option.same_Some, proofs.lemmas.List.{drop_all, drop_more, set_split, take_at}}
 use Rattle.std.{proofs.lemmas.Str.IsCharBoundary-at_seam, specs.Str.IsCharBoundary}
 use Rattle.yq_core.{specs.Answers.{ReadFails, ReadError}, specs.declared.fault.ReadFault.ReadFault, specs.Text.front}
@@ -150,9 +150,6 @@ unread_is w e d is = go (begins_line w (length w - e.marker)) refl is
 module _ (t : List ℕ) (marked : Option EndPlace) (e : EndPlace) (at m : ℕ) (is : marked ≡ Some e) (at_is : at ≡ length t - m) (m_is : m ≡ e.marker) where
   same_line : begins_line t (length t - e.marker) ≡ begins_line t at
   same_line = ap (begins_line t) (sym (at_is ∙ ap (λ (n : ℕ). length t - n) m_is))
-
-  pub unread_there : begins_line t at ≡ true → Some e ≡ unread_end t marked
-  unread_there h = sym (ap (unread_end t) is ∙ cond-true (begins_line t (length t - e.marker)) (Some e) None (same_line ∙ h))
 
   pub read_there : begins_line t at ≡ false → None ≡ unread_end t marked
   read_there h = sym (ap (unread_end t) is ∙ cond-false (begins_line t (length t - e.marker)) (Some e) None (same_line ∙ h))

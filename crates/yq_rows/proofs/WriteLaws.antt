@@ -14,11 +14,6 @@ boundary_behind t a n less h =
     )
 
 module _ (t : List ℕ) (front back gone : ℕ) (within : front + back ≤ length t) (gone_is : gone ≡ (length t - back) - front) where
-  pub gone_ends : (b : List ℕ) → b ≡ drop front t → IsCharBoundary t (length t - back) → IsCharBoundary b gone
-  gone_ends b is h =
-      subst (λ (l : List ℕ). IsCharBoundary l gone) (sym is)
-      (subst (IsCharBoundary (drop front t)) (sym gone_is) (boundary_behind t front (length t - back) (omega (arith, within)) h))
-
   -- what is then there
   pub written : (new f b f2 b2 : List ℕ) → f ≡ take front t → b ≡ drop front t → f2 ≡ f ++ new → b2 ≡ drop gone b →
       f2 ++ b2 ≡ take front t ++ (new ++ drop (length t - back) t)
@@ -38,12 +33,6 @@ module _ (t new front back : List ℕ) (x : Touched) (kept : Kept) (n : ℕ) (fr
 
   long : length front + (length new + length back) ≡ length (region_text t x kept new)
   long = sym (length-append front (new ++ back) ∙ ap (λ (m : ℕ). length front + m) (length-append new back)) ∙ ap length pieces
-
-  pub front_small : length (region_text t x kept new) < 2 ^ 32 → length front < 2 ^ 64
-  front_small small = omega (arith, long, small)
-
-  pub back_small : length (region_text t x kept new) < 2 ^ 32 → length back < 2 ^ 64
-  back_small small = omega (arith, long, small)
 
   pub two_fit : length (region_text t x kept new) < 2 ^ 32 → (a : ℕ) → a ≡ length front → Fits w64 (a + length new)
   two_fit small a a_is = omega (arith, long, small, a_is)

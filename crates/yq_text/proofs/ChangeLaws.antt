@@ -1,10 +1,9 @@
 -- What segments change of their text.
-use Rattle.std.proofs.Common.{◌≡◌, ℕ, ◌+◌, ◌-◌, ◌^◌, ◌<◌, true, false, List, [], ◌++◌, length, take, drop, nat_le, Some, sym, ap, ◌∙◌}
-use Rattle.std.{proofs.Common.{subst, arith, append_assoc, length-append, rules}, proofs.Math.Seq.{drop-append_seam, take-append_seam}}
+use Rattle.std.proofs.Common.{◌≡◌, ℕ, ◌+◌, ◌-◌, ◌^◌, ◌<◌, true, false, List, ◌++◌, length, take, drop, nat_le, Some, sym, ap, ◌∙◌, subst}
+use Rattle.std.{proofs.Common.{arith, append_assoc, length-append, rules}, proofs.Math.Seq.{drop-append_seam, take-append_seam}}
 use Rattle.std.{proofs.lemmas.Bool.leb-true, proofs.lemmas.Str.{IsCharBoundary-from_drop, IsCharBoundary-from_take}}
 use Rattle.std.{specs.Str.{IsCharBoundary, IsUtf8}, specs.String.string_bytes}
-use Rattle.yq_text.{specs.Limit.text_limit, specs.Changing.IsChange, specs.Exchanging.{Exchange, gives, too_large, within_limit}}
-use Rattle.yq_text.specs.Splice.{Splice}
+use Rattle.yq_text.{specs.Limit.text_limit, specs.Changing.IsChange, specs.Exchanging.{gives, within_limit}}
 use Rattle.yq_text.specs.Script.{Segment, old_text, new_text, changes, changes_behind, are_kept, kept_front, kept_back, from_first, to_last}
 use Rattle.yq_text.specs.declared.changed.ChangedMiddle.{ChangedMiddle}
 use Rattle.yq_text.proofs.BetweenLaws.{back_first, old_first, changes_first, changes_last, new_first, new_last}
@@ -13,15 +12,6 @@ use Rattle.yq_text.proofs.KeptSegments.{behind, between}
 -- a new text that may be so long
 limit_kept : (ss : List Segment) (n : ℕ) → within_limit (length (new_text ss)) ≡ Some n → nat_le (length (new_text ss)) text_limit ≡ true
 limit_kept ss n is = search rules
-
--- what an exchange gives
-abbrev exchange_text : Exchange → List ℕ
-exchange_text too_large = []
-exchange_text (gives t cs) = t
-
-abbrev exchange_splices : Exchange → List Splice
-exchange_splices too_large = []
-exchange_splices (gives t cs) = cs
 
 module _ (ss : List Segment) where
   abbrev inner : List Segment

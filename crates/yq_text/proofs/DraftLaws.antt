@@ -1,8 +1,7 @@
 -- Bytes and splices that are added to what is made so far.
-use Rattle.std.proofs.Common.{◌≡◌, ℕ, Bool, true, false, cond, Err, List, [], ◌∷◌, ◌++◌, length, nat_eq, Ok, Result, sym, ap, ◌∙◌}
-use Rattle.std.{proofs.Common.{append_assoc, append-nil}, proofs.lemmas.Bool.eqb-true, proofs.lemmas.Result.on_ok_weaker, specs.Result.OnOk}
-use Rattle.std.specs.Str.{bytes_eq}
-use Rattle.yq_text.{specs.Script.splice_at, specs.Splice.Splice, proofs.FirstSegment.none_long}
+use Rattle.std.proofs.Common.{◌≡◌, ℕ, Bool, true, Err, List, ◌∷◌, ◌++◌, length, nat_eq, Ok, Result, sym, ap, ◌∙◌, append_assoc, append-nil}
+use Rattle.std.{proofs.lemmas.Bool.eqb-true, proofs.lemmas.Result.on_ok_weaker, specs.Result.OnOk, specs.Str.bytes_eq}
+use Rattle.yq_text.{specs.Splice.Splice, proofs.FirstSegment.none_long}
 
 -- what holds however it ends holds where it ends well
 pub on_ok : {T E P : Type 0} (r : Result T E) → P → OnOk r P
@@ -21,10 +20,3 @@ in_halves r x a b t u t2 u2 is first second = on_ok_weaker r (λ h. h ∙ ((λ i
 module _ (ss : List Splice) (n : ℕ) (o w x y : List ℕ) (b : Bool) (compared : b ≡ bytes_eq x y) (old : x ≡ o) (new : y ≡ w) where
   told : bytes_eq o w ≡ b
   told = (λ i. bytes_eq (sym old i) (sym new i)) ∙ sym compared
-
-  pub none_added : b ≡ true → ss ≡ ss ++ splice_at n o w
-  none_added same =
-      sym (ap (λ c. ss ++ cond c [] (record { at = n; old = o; new = w } ∷ [])) (told ∙ same) ∙ append-nil ss)
-
-  pub one_added : b ≡ false → ss ++ (record { at = n; old = o; new = w } ∷ []) ≡ ss ++ splice_at n o w
-  one_added differ = sym (ap (λ c. ss ++ cond c [] (record { at = n; old = o; new = w } ∷ [])) (told ∙ differ))

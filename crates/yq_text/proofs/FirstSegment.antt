@@ -1,7 +1,7 @@
 -- The first segment and those after it, as a loop over them takes it apart.
 use Rattle.std.proofs.Common.{◌≡◌, ℕ, ◌+◌, ◌-◌, ◌<◌, ◌≤◌, List, [], ◌∷◌, ◌++◌, length, take, drop, get_or, false, nat_eq, refl, sym, ap}
-use Rattle.std.proofs.Common.{◌∙◌, arith, append-nil, length-append, length-drop, length-take-le, String, Global}
-use Rattle.std.{proofs.lemmas.List.take_rest, specs.String.string_bytes}
+use Rattle.std.{proofs.Common.{◌∙◌, arith, append-nil, length-drop, length-take-le, String, Global}, proofs.lemmas.List.take_rest}
+use Rattle.std.specs.String.{string_bytes}
 use Rattle.yq_text.{specs.Halves.whole, specs.declared.halves.Halves.Halves, specs.Exchanging.gives}
 use Rattle.yq_text.specs.Script.{Segment, keep, put, new_text, put_before, merged, splice_at, splices_at}
 use Rattle.yq_text.{specs.Segments.{segment_of, segments_of}, specs.Splice.Splice, specs.declared.segment.Segment.Segment as Held}
@@ -35,19 +35,6 @@ module _ (xs : List Held) (x : Held) (some : 1 ≤ length xs) (is : x ≡ get_or
 
   pub puts_first : (o : Halves) (w : String Global) → x ≡ held.Put o w → segments_of xs ≡ put (whole o) (string_bytes w) ∷ segments_of (later xs)
   puts_first o w puts = first_apart ∙ ap (λ y. segment_of y ∷ segments_of (later xs)) puts
-
-  -- the new text with one segment more
-  pub new_longer : (new : Halves) → ((ss : List Segment) → new_text (segment_of x ∷ ss) ≡ whole new ++ new_text ss) →
-      length (new_text (segments_of xs)) ≡ length new.front.now + length new.back.now + length (new_text (segments_of (later xs)))
-  new_longer new more =
-      let us = segments_of (later xs) in
-      omega (
-        arith,
-        ap (λ ss. length (new_text ss)) first_apart,
-        ap length (more us),
-        length-append (whole new) (new_text us),
-        length-append new.front.now new.back.now,
-      )
 
 -- what is kept, where the segment is looked at twice
 pub kept_once : (x : Held) (t u : Halves) → x ≡ held.Keep t → x ≡ held.Keep u → whole t ≡ whole u

@@ -1,6 +1,6 @@
 -- Where the split of a text may end up, in bytes, and what room there is.
 use Rattle.std.proofs.Common.{◌≡◌, ℕ, ◌+◌, ◌-◌, ◌≤◌, List, ◌++◌, Fits, Vec, w64, drop, length, take, arith, length-append, length-drop}
-use Rattle.std.{proofs.Common.{length-take, refl, vec_len}, specs.Global.Global, specs.Str.IsCharBoundary}
+use Rattle.std.{proofs.Common.{length-take, vec_len}, specs.Global.Global, specs.Str.IsCharBoundary}
 use Rattle.yq_text.{specs.TextGapBuffer.IsKept, proofs.SplitLaws.reaches}
 
 -- how long a text is that is kept so
@@ -35,19 +35,3 @@ pub record IsOn (v : Vec ℕ Global) (at f b : ℕ) : Type 0 where
   pub within : b + (at - f) ≤ vec_len v
   pub place : f + ((b + (at - f)) - b) ≤ vec_len v
   pub room : (b + (at - f)) - at ≡ b - f
-
-pub is_on : (v : Vec ℕ Global) (at f b : ℕ) → IsKept v.items f b → IsCharBoundary (take f v.items ++ drop b v.items) at → f ≤ at → IsOn v at f b
-is_on v at f b k i le =
-    let order = k.order in
-    let in_bytes = k.within in
-    let first = v.ok.0 in
-    let second = v.ok.1 in
-    let small = v.small in
-    let all = kept_length v.items f b (length v.items) k refl in
-    let reach : at ≤ f + (length v.items - b) = omega (arith, i.0, all) in
-    record {
-      fits = omega (arith, reach, order, in_bytes, first, second, small, le);
-      within = omega (arith, reach, order, in_bytes, first, le);
-      place = omega (arith, reach, order, in_bytes, first, le);
-      room = omega (arith, order, le);
-    }
