@@ -1,18 +1,36 @@
 -- What is borrowed as it is written is what it spells.
-use Rattle.yq_core.{proofs.BorrowedTexts.{borrows_parts, any_take, any_drop}, specs.ContentReading.quoted_content, specs.Plain.holds_break}
-use Rattle.yq_core.{specs.Quoted.IsQuotedText, specs.Text.{is_empty, is_feed}, specs.Nodes.begins_with}
-use Rattle.yq_core.{specs.Scalars.{scalar_content, is_quoted}, proofs.OneLine.{kept, borrowed_quoted}}
-use Rattle.yq_core.specs.Borrowed.{holds_escape, borrows_text}
-use Rattle.std.proofs.Common.{◌≡◌, ℕ, ℤ, ◌-◌, eqb, Bool, true, false, cond, not, ◌||◌, ◌&&◌, List, [], ◌∷◌, drop, take, length, Some, None}
-use Rattle.std.{proofs.Common.{refl, sym, ap, ◌∙◌}, proofs.lemmas.Bool.{and_parts, cond-false, cond-true, not-true, or_parts}}
+use Rattle.std.proofs.Common.{◌≡◌, ℕ, ℤ, zero, suc, ◌-◌, eqb, Bool, true, false, cond, not, ◌||◌, ◌&&◌, List, [], ◌∷◌, drop, take, length}
+use Rattle.std.{proofs.Common.{Some, None, refl, sym, ap, ◌∙◌}, proofs.lemmas.Bool.{and_parts, cond-false, cond-true, not-true, or_parts}}
 use Rattle.std.specs.List.{list_any}
+use Rattle.yq_core.{specs.ContentReading.quoted_content, specs.Plain.holds_break, specs.Quoted.IsQuotedText, specs.Text.{is_empty, is_feed}}
+use Rattle.yq_core.{specs.Nodes.begins_with, specs.Scalars.{scalar_content, is_quoted}, proofs.OneLine.{kept, borrowed_quoted}}
+use Rattle.yq_core.specs.Borrowed.{holds_escape, borrows_text}
 use Rattle.yq_documents.{specs.FlowReading.head_flow_at, specs.Decoded.{borrowed_head, borrowed_text}}
 use Rattle.yq_documents.specs.RowReading.{is_block_head, read_head, is_short_plain, string_head}
 use Rattle.yq_compose.specs.Checking.{begins_tree, borrows_head}
 
+any_drop : (f : ℕ → Bool) (n : ℕ) (t : List ℕ) → list_any f t ≡ false → list_any f (drop n t) ≡ false
+any_drop f zero t e = e
+any_drop f (suc n) [] e = refl
+any_drop f (suc n) (b ∷ bs) e = any_drop f n bs (or_parts (f b) (list_any f bs) e).1
+
+any_take : (f : ℕ → Bool) (n : ℕ) (t : List ℕ) → list_any f t ≡ false → list_any f (take n t) ≡ false
+any_take f zero t e = refl
+any_take f (suc n) [] e = refl
+any_take f (suc n) (b ∷ bs) e =
+    let p = or_parts (f b) (list_any f bs) e in
+    let rest : list_any f (take n bs) ≡ false = any_take f n bs p.1 in
+    (λ i. p.0 i || rest i)
+
 pub quoted_is : (t : List ℕ) → is_quoted t ≡ true → scalar_content t ≡ quoted_content t
 unfolding scalar_content
 quoted_is t q = rw q refl
+
+-- it is on one line, and has no escapes
+borrows_parts : (t : List ℕ) → borrows_text t ≡ true → (holds_break t ≡ false) × (holds_escape t ≡ false)
+borrows_parts t e =
+    let p = and_parts (not (holds_break t)) (not (holds_escape t)) e in
+    (not-true (holds_break t) p.0, not-true (holds_escape t) p.1)
 
 -- a key or scalar that its text lends is borrowed as what it means
 pub borrows_key : (t : List ℕ) → (is_quoted t ≡ true → IsQuotedText t) → borrows_text t ≡ true → borrowed_text t ≡ scalar_content t

@@ -1,8 +1,7 @@
 -- What is asked of rows, by their pieces.
-use Rattle.yq_documents.{proofs.HeadLaws.opens, specs.Documents.{has_lines, is_long_plain}, specs.Reading.has_short_root}
-use Rattle.std.proofs.Common.{◌≡◌, ℕ, ℤ, ◌-◌, ◌<◌, ◌≤◌, Bool, true, false, not, ◌||◌, ◌&&◌, eqb, List, [], ◌∷◌, ◌++◌, length, Some, refl}
-use Rattle.std.{proofs.Common.{sym, ap, ◌∙◌, arith, append-nil}, proofs.lemmas.Bool.false≢true, proofs.lemmas.List.Folds.list_any-append}
-use Rattle.std.{proofs.lemmas.Option.same_Some, specs.List.slice_get}
+use Rattle.std.proofs.Common.{◌≡◌, ℕ, ℤ, ◌-◌, ◌<◌, ◌≤◌, Bool, true, false, cond, not, ◌||◌, ◌&&◌, eqb, List, [], ◌∷◌, ◌++◌, length, Some}
+use Rattle.std.{proofs.Common.{refl, sym, ap, ◌∙◌, arith, append-nil}, proofs.lemmas.Bool.{false≢true, cond_both}}
+use Rattle.std.{proofs.lemmas.List.Folds.list_any-append, proofs.lemmas.Option.same_Some, specs.List.slice_get}
 use Rattle.yq_core.{specs.declared.block_header.BlockStyle.BlockStyle, specs.Block.style_indicator, specs.Piece.deeper}
 use Rattle.yq_core.{specs.Plain.holds_break, specs.Text.{is_empty, is_feed}, specs.Inline.depth_limit}
 use Rattle.yq_core.specs.Nodes.{FlowNode, empty, alias, scalar, coll, anchored, node_text, flow_items_text, IsFlowNode}
@@ -11,6 +10,7 @@ use Rattle.yq_core.proofs.NodesPieceLaws.{front_not, scalar_begins, scalar_some}
 use Rattle.yq_row_table.specs.Grammar.{Limit, AreRows, IsRow, IsMark, IsContent, AreDashes, is_plain_content}
 use Rattle.yq_row_table.specs.Rows.{Content, Nothing, Inline, Block, Row, dashes_text}
 use Rattle.yq_row_table.specs.View.{Slices, last_dash, colon_of, anchor_cut, content_cut, slices, RowsView}
+use Rattle.yq_documents.{specs.Documents.{has_lines, is_long_plain}, specs.Reading.has_short_root}
 use Rattle.yq_compose.specs.FitReading.{is_plain_head, is_multiline_plain}
 use Rattle.yq_outline.{specs.RowWalk.HasRows, specs.declared.line_position.Stretch.Stretch, proofs.RowLaws.colon_some}
 use Rattle.yq_outline.proofs.WalkRows.{row_of, rows_length}
@@ -31,6 +31,9 @@ scalar_plain n (b ∷ bs) rest h =
 
 abbrev Opens : ℕ → Type 0
 Opens b = (t : List ℕ) → is_plain_head (b ∷ t) ≡ false
+
+opens : (k : ℕ) → Opens (cond (eqb k 125) 123 91)
+opens k = cond_both (eqb k 125) 123 91 Opens (λ _ t. refl) (λ _ t. refl)
 
 unnamed_plain : (n : ℤ) (node : FlowNode) (rest : List ℕ) → is_anchored node ≡ false → IsFlowNode false (Some (deeper n)) depth_limit node rest → is_plain_head (node_text node []) ≡ is_plain_content node
 unfolding node_text IsFlowNode

@@ -1,7 +1,7 @@
 -- Whether items and entries in flow nodes are sound, as loops reach them.
 use Rattle.std.proofs.Common.{◌≡◌, ℕ, ◌+◌, ◌<◌, Bool, true, false, ◌&&◌, leb, List, [], ◌∷◌, ◌++◌, Some, length, drop, get_or, max, inl}
 use Rattle.std.proofs.Common.{inr, refl, sym, ap, ◌∙◌, append_assoc, arith, String, string_bytes}
-use Rattle.std.{proofs.lemmas.Bool.{and_parts, cases_lt, le-leb, leb-true, lt-leb}, proofs.lemmas.List.drop_more}
+use Rattle.std.{proofs.lemmas.Bool.{and_parts, cases_lt, le-leb, leb-false, leb-true, lt-leb}, proofs.lemmas.List.drop_more}
 use Rattle.std.specs.declared.alloc.Global.{Global}
 use Rattle.yq_core.specs.declared.piece.Piece.{Piece}
 use Rattle.yq_core.specs.Keys.{are_distinct, deepest, depth, keys_of, each_has_unique_keys, has_unique_keys}
@@ -23,6 +23,9 @@ max_fits a b d h = elim (cases_lt d b) [
   | inr le ↦ le-leb (max a b) d (omega (arith, le, leb-true a d h)) ∙ sym (le-leb b d le)
 ]
 
+max_fails : (a b d : ℕ) → leb a d ≡ false → leb (max a b) d ≡ false
+max_fails a b d h = lt-leb (max a b) d (omega (arith, leb-false a d h))
+
 sound_more : (d : ℕ) (label : Label) (n : Node) (cs : Children) → head_is_sound d (Some n) ≡ true → are_sound d (child label n cs) ≡ are_sound d cs
 sound_more d label n cs h =
     let parts = and_parts (leb (depth n) d) (has_unique_keys n) h in
@@ -37,6 +40,10 @@ unsound : (a u : Bool) (m r : Bool) → (a ≡ false → m ≡ false) → (a && 
 unsound true u m r f h = both_false m (u && r) (ap (λ b. b && r) h)
 unsound false u m r f h = ap (λ b. b && (u && r)) (f refl)
 
+sound_fails : (d : ℕ) (label : Label) (n : Node) (cs : Children) → head_is_sound d (Some n) ≡ false → are_sound d (child label n cs) ≡ false
+sound_fails d label n cs h =
+    unsound (leb (depth n) d) (has_unique_keys n) (leb (max (depth n) (deepest cs)) d) (each_has_unique_keys cs) (max_fails (depth n) (deepest cs) d) h
+
 -- ---- items
 
 module _ (d : ℕ) (is : List Inline) (i : ℕ) (x : Inline) (all : Bool) (within : i < length is) (at : x ≡ get_or is i x)
@@ -46,6 +53,9 @@ module _ (d : ℕ) (is : List Inline) (i : ℕ) (x : Inline) (all : Bool) (withi
 
   pub items_more : head_is_sound d (Some (placed_tree (inline_view x))) ≡ true → all ≡ are_sound d (parts_tree (items_end (drop (i + 1) is)))
   items_more h = items_from ∙ sound_more d plain_label (placed_tree (inline_view x)) (parts_tree (items_end (drop (i + 1) is))) h
+
+  pub items_fail : head_is_sound d (Some (placed_tree (inline_view x))) ≡ false → all ≡ false
+  items_fail h = items_from ∙ sound_fails d plain_label (placed_tree (inline_view x)) (parts_tree (items_end (drop (i + 1) is))) h
 
 -- ---- entries, with the keys of those before
 
@@ -66,3 +76,8 @@ module _ (d : ℕ) (es : List Field) (i : ℕ) (e : Field) (keys : List (List �
       entries_from
       ∙ (ap (λ b. b && are_distinct (keys ++ (string_bytes e.0 ∷ keys_of rest))) (sound_more d plain_label (placed_tree (inline_view e.2)) rest h)
       ∙ ap (λ ks. are_sound d rest && are_distinct ks) behind)
+
+  pub entries_fail : head_is_sound d (Some (placed_tree (inline_view e.2))) ≡ false → all ≡ false
+  entries_fail h =
+      let rest = parts_tree (entries_end (drop (i + 1) es)) in
+      entries_from ∙ ap (λ b. b && are_distinct (keys ++ (string_bytes e.0 ∷ keys_of rest))) (sound_fails d plain_label (placed_tree (inline_view e.2)) rest h)

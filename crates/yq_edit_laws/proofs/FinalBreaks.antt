@@ -1,10 +1,4 @@
 -- Whether a text of rows ends in a break: by what comes after the mark of the last one.
-use Rattle.yq_row_table.{proofs.seams.FrontSeams.row_some, specs.Exchange.row_front, specs.Gap.IsWhite}
-use Rattle.yq_row_table.specs.Grammar.{IsContent, IsKey, IsMark, IsRow, Limit, is_entry}
-use Rattle.yq_row_table.specs.Rows.{Content, Nothing, Inline, Block, Row, behind_indent, content_text, dashes_text, mark_text}
-use Rattle.yq_row_table.{specs.Rows.{parent_indent, print_row}, specs.View.content_cut, proofs.NothingLaws.some_behind}
-use Rattle.yq_row_table.{proofs.PlaceLaws.row_front-append, proofs.RowAgain.row_starts, proofs.SliceLaws.content_slices}
-use Rattle.yq_row_table.proofs.seams.ScalarSeams.{last_no_space}
 use Rattle.std.proofs.Common.{inl, inr, ⊎_elim, ◌⊎◌, ◌≡◌, ℕ, zero, suc, ℤ, Bool, true, false, cond, ◌&&◌, not, List, [], ◌∷◌, ◌++◌}
 use Rattle.std.proofs.Common.{replicate, Option, refl, sym, ap, ◌∙◌, subst, append_assoc, append-nil}
 use Rattle.std.proofs.lemmas.Bool.{false≢true, false_from_ne_true, or_parts, and_parts, eqb-true}
@@ -13,6 +7,11 @@ use Rattle.yq_core.specs.Text.{front, joined, is_break, is_white, is_feed, is_re
 use Rattle.yq_core.{proofs.Bools.at_byte, proofs.BlockPieceLaws.{IsLf, append_lf, line_lf, raw_lf}}
 use Rattle.yq_core.specs.Nodes.{FlowNode, empty, alias, scalar, coll, anchored, in_name, is_close, flow_items_text, node_text}
 use Rattle.yq_core.{specs.Nodes.{opening_bracket, IsFlowNode}, specs.Scalars.IsInQuotes, proofs.NodesWrittenLaws.node_append}
+use Rattle.yq_row_table.{specs.Exchange.row_front, specs.Gap.IsWhite, specs.Grammar.{IsContent, IsKey, IsMark, IsRow, Limit, is_entry}}
+use Rattle.yq_row_table.specs.Rows.{Content, Nothing, Inline, Block, Row, behind_indent, content_text, dashes_text, mark_text}
+use Rattle.yq_row_table.{specs.Rows.{parent_indent, print_row}, specs.View.content_cut, proofs.NothingLaws.some_behind}
+use Rattle.yq_row_table.{proofs.PlaceLaws.row_front-append, proofs.RowAgain.row_starts, proofs.SliceLaws.content_slices}
+use Rattle.yq_row_table.proofs.seams.ScalarSeams.{last_no_space}
 use Rattle.yq_places.{specs.CollectionEnds.is_broken, specs.Standings.is_alone, specs.PrintedLines.{end_break, last_break, less_break}}
 use Rattle.yq_places.{proofs.ContentEndLaws.{Ends, content_ends, tail_ends}, proofs.LastBreakLaws.lf_last, proofs.PrintedTexts.less_is}
 use Rattle.yq_outline.{specs.Lines.line_mark, specs.Positions.has_no_mark}
@@ -195,6 +194,9 @@ content_lf n c rest h broken =
 
 row_lf : (limit : Limit) (r : Row) (rest : List ℕ) → IsRow limit r rest → is_broken r.content ≡ true → IsLf (print_row r [])
 row_lf limit r rest h broken = subst IsLf (sym (row_front-append r [])) (append_lf (row_front r) (content_text r.content []) (content_lf (parent_indent r) r.content rest h.content broken))
+
+row_some : (limit : Limit) (r : Row) (rest : List ℕ) → IsRow limit r rest → is_empty (print_row r rest) ≡ false
+row_some limit r rest h = some_behind r.gap (replicate r.column 32 ++ behind_indent r rest) (some_behind (replicate r.column 32) (behind_indent r rest) (row_starts limit r rest h).some)
 
 -- A text that rows end has a last break, if what comes after the mark of the last one has.
 pub broken_is : (limit : Limit) (r : Row) (rest : List ℕ) → IsRow limit r rest → (front a t : List ℕ) → front ++ print_row r [] ≡ a ++ t → is_empty t ≡ false → not (is_empty (last_break t)) ≡ is_broken r.content

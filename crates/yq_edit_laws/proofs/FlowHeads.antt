@@ -1,9 +1,9 @@
 -- What the code finds in the head of a row, and what of that the text has.
-use Rattle.yq_core.{proofs.NodeLaws.behind, specs.Paths.Step, specs.Collections.{CollAt, CollPieces, IsCollAt}}
-use Rattle.yq_core.{specs.Entries.{EntryPieces, item_at}, specs.Nodes.{Key, FlowNode, coll, node_text, flow_items_text, IsFlowNode}}
-use Rattle.yq_core.{specs.Places.{Placed, locate}, proofs.PathLaws.items_hold}
 use Rattle.std.proofs.Common.{◌≡◌, ℕ, ◌+◌, ◌≤◌, true, List, [], ◌++◌, length, Option, Some, None, option_map, refl, sym, ap, ◌∙◌, subst}
-use Rattle.std.{proofs.Common.arith, proofs.lemmas.Option.{none-some, same_Some}}
+use Rattle.std.{proofs.Common.{arith, length-append}, proofs.lemmas.Option.{none-some, same_Some}}
+use Rattle.yq_core.{specs.Paths.Step, specs.Collections.{CollAt, CollPieces, IsCollAt}, specs.Entries.{EntryPieces, item_at}}
+use Rattle.yq_core.{specs.Nodes.{Key, FlowNode, coll, node_text, flow_items_text, IsFlowNode}, specs.Places.{Placed, locate}}
+use Rattle.yq_core.proofs.PathLaws.{items_hold}
 use Rattle.yq_flow_edits.specs.FlowEdits.{FlowEdit, appending, replacing}
 use Rattle.yq_flow_edits.{specs.FlowPlaces.{append_place, place_edit, remove_place, replace_place}, specs.Removals.removing}
 use Rattle.yq_flow_edits.{proofs.EditLaws.{Around, around_is}, proofs.PlacedEdits.{append_placed, replace_placed}}
@@ -15,8 +15,11 @@ use Rattle.yq_edit_laws.proofs.FlowWholeLaws.{StandsBefore, appended_stands, rep
 
 -- ---- lengths
 
+longer_behind : (t before all : List ℕ) → t ≡ before ++ all → length all ≤ length t
+longer_behind t before all is = omega (arith, ap length is, length-append before all)
+
 stands_within : (t all : List ℕ) → StandsBefore t all → length all ≤ length t
-stands_within t all h = behind t h.before all h.text
+stands_within t all h = longer_behind t h.before all h.text
 
 -- ---- a collection in the node of a row alone
 
@@ -45,7 +48,7 @@ module _ (z : CollAt) (is : IsCollAt z) where
   replaced_within s y m at = stands_within t _ (replaced_stands z [] is s y at)
 
   pub append_found : (key : Key) (m : FlowNode) → append_place (placed_collection (length t) w) ≡ Some (place_edit (length t) (appending key m w))
-  append_found key m = append_placed (length t) (coll w.close w.gap w.items) w.rest w key m (behind t around.before _ whole) refl
+  append_found key m = append_placed (length t) (coll w.close w.gap w.items) w.rest w key m (longer_behind t around.before _ whole) refl
 
   pub replace_found : (s : Step) (y : EntryPieces) (m : FlowNode) → item_at w.close s w.items w.rest ≡ Some y → replace_place (locate (length t) y.node y.rest) ≡ place_edit (length t) (replacing s y m w)
   replace_found s y m at = replace_placed true (Some 0) around.inner_depth (length t) s y m w (items_hold around.inner_depth w.close s w.items w.rest y around.items at)
@@ -56,7 +59,7 @@ module _ (z : CollAt) (is : IsCollAt z) where
   pub removed_within : (s : Step) (e : FlowEdit) → removing s w ≡ Some e → length (e.old ++ e.behind) ≤ length t
   removed_within s e at =
       let h = (removed_text w.close w.rest s w.gap w.items e at).text in
-      omega (arith, behind (w.gap ++ flow_items_text w.close w.items w.rest) h.before (e.old ++ e.behind) h.was, behind t around.before _ around.text)
+      omega (arith, longer_behind (w.gap ++ flow_items_text w.close w.items w.rest) h.before (e.old ++ e.behind) h.was, longer_behind t around.before _ around.text)
 
 -- ---- the collection in the text
 

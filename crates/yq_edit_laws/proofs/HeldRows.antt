@@ -8,12 +8,12 @@ use Rattle.yq_outline.{specs.Places.content_under, specs.Lines.{content_anchor, 
 use Rattle.yq_row_table.{specs.Exchange.asked_behind, specs.Gap.IsBreak, specs.Grammar.{IsContent, IsRow, IsTail, unlimited}}
 use Rattle.yq_row_table.{specs.Rows.{Content, Cut, Row, cut_text, parent_indent, rows_text}, specs.View.{Slices, content_cut, slices}}
 use Rattle.yq_row_table.proofs.CharacterLaws.{pairs_back}
-use Rattle.yq_documents.specs.Reading.{read_at}
+use Rattle.yq_documents.specs.Reading.{part_outline, read_at}
 use Rattle.yq_places.{specs.CommentPlaces.{LineEnd, end_in_line, text_to_line_end}, specs.PrintedLines.last_break}
 use Rattle.yq_places.{specs.Standings.{RowsOfEntry, before_entry, behind_entry, held, rows_of_entry}, proofs.CommentPieceLaws.Ended}
 use Rattle.yq_places.{proofs.LastBreakLaws.lf_last, proofs.LineEndLaws.line_tail, proofs.RunSpans.rows_then}
 use Rattle.yq_edit_rules.{specs.Siblings.HasEntries, specs.StandingLaws.StandsThere, specs.TextPieces.IsPiece}
-use Rattle.yq_edit_rules.{proofs.ContentLaws.content_named, proofs.LineLaws.row_count}
+use Rattle.yq_edit_rules.{proofs.ContentLaws.content_named, proofs.LineLaws.row_count, proofs.NodeLineLaws.under_even}
 use Rattle.yq_edit_rules.{proofs.StandingMarks.{even_there, row_there, under_it}, proofs.TextPieceLaws.{piece_back, text_is_piece}}
 use Rattle.yq_edit_rules.{proofs.UnderLaws.{line_is, under_is}, proofs.BreakLaws.{IsLfOrCrLf, last_is}}
 use Rattle.yq_edit_rules.{proofs.BrokenTails.{other_comment, other_tail, uncommented_tail}, proofs.CommentReadLaws.break_is}
@@ -83,6 +83,9 @@ module _ (n : ℕ) (s : Step) (ss : List Step) (c : Cut) (e : RowsOfEntry) (ther
       go : (b : List ℕ) → (is_empty b ≡ false → Ended b (behind_entry e)) → IsBreak mark_tail.line.break (b ++ behind_entry e) → IsBreak (cond (is_empty b) mark_tail.line.break (last_break b)) (behind_entry e)
       go [] ended h = h
       go (x ∷ xs) ended h = last_ends (x ∷ xs) (behind_entry e) (ended refl)
+
+  open' : IsOpen there.found.line.head there.found.under
+  open' = (under_even _ (part_outline there.part) s ss there.found (even_there n s ss c e there last) there.is).1.1
 
   line_there : Rattle.yq_edit_rules.proofs.UnderLaws.line_with e.row e.row.content ≡ there.found.line
   line_there = line_is there.part s ss e.front e.row e.under e.back (under_it n s ss c e there last) (even_there n s ss c e there last)

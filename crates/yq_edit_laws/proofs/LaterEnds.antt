@@ -143,6 +143,10 @@ last_longer k gap none rest = omega (arith, length-append gap (k ∷ rest))
 last_longer k gap (item j n sep none) rest = omega (arith, sep_longer sep (k ∷ rest))
 last_longer k gap (item j n sep (item j2 n2 sep2 is)) rest = last_longer k gap (item j2 n2 sep2 is) rest
 
+-- the text after a collection is shorter than each node that holds it
+pub rest_shorter : (p : List Step) (u : EntryPieces) (w : CollPieces) → coll_along p u.node u.rest ≡ Some w → length w.rest < length (node_text u.node u.rest)
+rest_shorter p u w e = omega (arith, last_longer w.close w.gap w.items w.rest, end_within p u w e, content_within u.node u.rest)
+
 -- ---- a collection with other items or entries
 
 coll_put : (gap : List ℕ) (is : Items) (node : FlowNode) (rest : List ℕ) (w : CollPieces) → coll_in node rest ≡ Some w → coll_in (put_coll gap is node) rest ≡ Some (record w { gap = gap; items = is })

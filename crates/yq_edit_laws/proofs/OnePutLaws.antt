@@ -1,11 +1,10 @@
 -- Segments that put one text in the place of another: a value on one line, or a line comment.
-use Rattle.yq_text.proofs.BetweenLaws.{behind_nothing}
-use Rattle.yq_text.{specs.Script.{Segment, changes, keep, keep_before, merged, put, put_before, splice_at, splices_at}, specs.Splice.Splice}
-use Rattle.yq_text.proofs.TouchLaws.{put_twice}
 use Rattle.std.proofs.Common.{◌≡◌, ℕ, ◌+◌, Bool, true, false, cond, List, [], ◌∷◌, ◌++◌, length, refl, sym, ap, ◌∙◌, arith, append-nil}
 use Rattle.std.{proofs.Common.{append_assoc, length-append}, specs.Prelude.⊤}
 use Rattle.yq_core.{specs.Text.is_empty, specs.Tree.Node, specs.declared.style.Place.TheVariants.Block as InBlock}
 use Rattle.yq_places.specs.Standings.{Held}
+use Rattle.yq_text.{specs.Script.{Segment, changes, keep, keep_before, merged, put, put_before, splice_at, splices_at}, specs.Splice.Splice}
+use Rattle.yq_text.proofs.TouchLaws.{put_twice}
 use Rattle.yq_edit_rules.{specs.CommentEdits.comment_written, specs.ReplaceEdits.spaced_text}
 use Rattle.yq_edit_rules.specs.RowChanges.{CommentPutsOne, InlinePutsOne, PutsOne, inline_put, takes_white}
 use Rattle.yq_edit_rules.specs.WrittenValues.{value_text}
@@ -26,10 +25,15 @@ after_keep n (b ∷ t) (put o w ∷ ss) = refl
 first_keep : (t : List ℕ) (ss : List Segment) → splices_at 0 (keep_before t ss) ≡ splices_at (length t) ss
 first_keep t ss = let same : 0 + length t ≡ length t = omega arith in after_keep 0 t ss ∙ ap (λ (m : ℕ). splices_at m ss) same
 
+put_nothing : (n : ℕ) (ss : List Segment) → splices_at n (put_before [] [] ss) ≡ splices_at n ss
+put_nothing n [] = refl
+put_nothing n (keep t ∷ ss) = let same : n + 0 ≡ n = omega arith in ap (λ (m : ℕ). splices_at m (keep t ∷ ss)) same
+put_nothing n (put o w ∷ ss) = refl
+
 quiet_splices : (n : ℕ) (ss : List Segment) → AreQuiet ss → splices_at n (merged ss) ≡ []
 quiet_splices n [] h = refl
 quiet_splices n (keep t ∷ ss) h = after_keep n t (merged ss) ∙ quiet_splices (n + length t) ss h
-quiet_splices n (put o w ∷ ss) h = (λ i. splices_at n (put_before (h.0 i) (h.1 i) (merged ss))) ∙ (behind_nothing n (merged ss) ∙ quiet_splices n ss h.2)
+quiet_splices n (put o w ∷ ss) h = (λ i. splices_at n (put_before (h.0 i) (h.1 i) (merged ss))) ∙ (put_nothing n (merged ss) ∙ quiet_splices n ss h.2)
 
 put_keep : (o w : List ℕ) (b : ℕ) (t : List ℕ) (ss : List Segment) → put_before o w (keep_before (b ∷ t) ss) ≡ put o w ∷ keep_before (b ∷ t) ss
 put_keep o w b t [] = refl

@@ -1,17 +1,20 @@
 -- Each item that segments write is touched by what they put, where that is near.
-use Rattle.yq_edit_laws.proofs.CutLaws.{cut_read}
-use Rattle.yq_edit_laws.specs.TouchedRanges.{AreTouched, IsLocalEdit, IsTouched, LiesInOne, NearAreTouched, put_ranges}
-use Rattle.yq_edit_laws.{proofs.ItemEnds.{back_stop, front_stop, items_ended}, proofs.RangeLaws.{at_first, at_last, from_front}}
-use Rattle.yq_edit_laws.proofs.TouchLaws.{size_joined, size_one}
 use Rattle.std.proofs.Common.{◌≡◌, ◌⊎◌, inl, inr, ℕ, ◌+◌, ◌≤◌, true, false, List, [], ◌∷◌, ◌++◌, length, Some, sym, ap, ◌∙◌, subst}
-use Rattle.std.{proofs.Common.{append_assoc, arith}, proofs.lemmas.List.length-append}
+use Rattle.std.{proofs.Common.{append_assoc, arith}, proofs.lemmas.List.length-append, specs.Str.is_utf8}
 use mathlib.Core.List.{head-eq_of_cons-eq, tail-eq_of_cons-eq}
-use Rattle.yq_core.{specs.Text.is_empty, proofs.BlockPieceLaws.IsLf}
+use Rattle.yq_core.{specs.Text.is_empty, proofs.BlockPieceLaws.IsLf, proofs.Bools.guard_then}
 use Rattle.yq_row_table.{specs.Grammar.IsCut, specs.Items.{Item, AreRowItems, items_of_cut, items_text, nothing_asked}, specs.Rows.Cut}
 use Rattle.yq_row_table.{specs.Touched.{in_back, in_front, item_text}, proofs.ItemLaws.{items_of_text, items_text-append, parts_are_items}}
 use Rattle.yq_row_table.proofs.KeptLaws.{items_apart}
-use Rattle.yq_documents.specs.Reading.{read_at}
+use Rattle.yq_documents.{specs.Reading.read_at, proofs.ReadLaws.text_takes}
 use Rattle.yq_text.specs.Script.{Segment, are_kept, kept_back, kept_front, new_text}
+use Rattle.yq_edit_laws.specs.TouchedRanges.{AreTouched, IsLocalEdit, IsTouched, LiesInOne, NearAreTouched, put_ranges}
+use Rattle.yq_edit_laws.{proofs.ItemEnds.{back_stop, front_stop, items_ended}, proofs.RangeLaws.{at_first, at_last, from_front}}
+use Rattle.yq_edit_laws.proofs.TouchLaws.{size_joined, size_one}
+
+text_cut : (t : List ℕ) (c : Cut) → read_at t ≡ Some c → IsCut t c
+unfolding read_at
+text_cut t c h = (text_takes t c (guard_then (is_utf8 t) h).1).0
 
 -- items of a list that is cut at another place too: they are in front of that, or after it
 apart : (done front : List Item) (w own : Item) (ws back : List Item) → done ++ (w ∷ ws) ≡ front ++ (own ∷ back) →
@@ -32,7 +35,7 @@ apart (x ∷ done) (y ∷ front) w own ws back e = go (apart done front w own ws
 
 module _ (ss : List Segment) (new : Cut) (near : IsLocalEdit ss) (kept : are_kept ss ≡ false) (read : read_at (new_text ss) ≡ Some new) where
   cut : IsCut (new_text ss) new
-  cut = cut_read (new_text ss) new read
+  cut = text_cut (new_text ss) new read
 
   items : AreRowItems nothing_asked (items_of_cut new) []
   items = parts_are_items new true cut.parts
