@@ -84,29 +84,22 @@ fn is_refused_first(
     false
 }
 
-/// Whether an operation is refused first and then applied, by itself and to a session, which comes to have a
-/// text, and counts so many lines at most.
-fn is_applied(
-    alloc: Global,
-    session: &mut Session,
-    text: &str,
-    op: &Op,
-    edited: &str,
-    most: u64,
-) -> bool
+/// Whether an operation is refused first and then applied, by itself and to a session.
+fn is_applied(alloc: Global, session: &mut Session, text: &str, op: &Op) -> bool
     requires by_itself { IsFitting (operation_of op.now) text.now }
     requires fits { IsFitting (operation_of op.now) session.old.text }
 {
-    if !is_refused_first(alloc, session, text, op, true)
-        || !is_refused_first(alloc, session, text, op, false)
-    {
-        return false;
-    }
-    let halves = session.text();
-    session.scanned() <= most && edited.strip_prefix(halves.front) == Some(halves.back)
+    is_refused_first(alloc, session, text, op, true)
+        && is_refused_first(alloc, session, text, op, false)
 }
 
-/// Whether that is so of the first operation that is planned for a program.
+/// Whether a session has a text, and has counted so many lines at most.
+fn has_text(session: &Session, text: &str, most: u64) -> bool {
+    let halves = session.text();
+    session.scanned() <= most && text.strip_prefix(halves.front) == Some(halves.back)
+}
+
+/// Whether that is so of the first operation that is planned for a program, and the session has that text then.
 fn is_carried_out(alloc: Global, text: &str, program: &Program, edited: &str, most: u64) -> bool
     requires { 0 < update_count (program_of program.now) }
 {
@@ -117,7 +110,9 @@ fn is_carried_out(alloc: Global, text: &str, program: &Program, edited: &str, mo
         return false;
     };
     match Session::open(alloc, text) {
-        Ok(mut session) => is_applied(alloc, &mut session, text, op, edited, most),
+        Ok(mut session) => {
+            is_applied(alloc, &mut session, text, op) && has_text(&session, edited, most)
+        }
         Err(_) => false,
     }
 }
