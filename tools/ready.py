@@ -5,9 +5,9 @@
 - names that have a better word in the glossary, and names of crates that crates.txt doesn't list
 - lines that say memory ran out where none was asked for (tools/memory.py)
 - sentences of the pages with more than 35 words, and words that have a plainer one (tools/plain.py)
-- clauses that are too wide, more functions of many parameters, wrong bodies of both tiers that can't be applied, versions that differ,
-  options that help, man page or a completion says otherwise than the table, rows of codes that are other than the manual's, and links of
-  pages that lead nowhere
+- lines of definitions and proofs, and clauses, that are too wide, more functions of many parameters, wrong bodies of both tiers that
+  can't be applied, versions that differ, options that help, man page or a completion says otherwise than the table, rows of codes that
+  are other than the manual's, and links of pages that lead nowhere
 
 usage: ready.py
 
@@ -33,6 +33,7 @@ from options import retold
 from parameters import too_many
 from plain import not_plain
 from version import other_versions
+from widths import wide_lines
 
 sys.path.append(os.path.join(ROOT, "tests", "cli"))
 
@@ -176,7 +177,7 @@ def main(words):
         shutil.copytree(ROOT, copy, symlinks=True, ignore=LEFT)
         of_copy = (misplaced, badly_laid, misformed, faulty_definitions, coined, unasked, unknown_crates, not_plain)
         found = [it for look in of_copy for it in look(copy)]
-        found += [*too_wide(), *too_many(), *not_applied(), *other_versions(), *otherwise_told(), *other_codes(), *lost_links()]
+        found += [*wide_lines(), *too_wide(), *too_many(), *not_applied(), *other_versions(), *otherwise_told(), *other_codes(), *lost_links()]
     finally:
         shutil.rmtree(room, ignore_errors=True)
     for it in found:
