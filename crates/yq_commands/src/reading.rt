@@ -22,7 +22,7 @@ pub fn parse(alloc: Global, expr: &str) -> Result<Program, Fault>
 {
     match parse_expr(alloc, expr) {
         Ok(program) => Ok(program),
-        Err(fault) => Err(parse_fault(fault.error)),
+        Err(error) => Err(parse_fault(error)),
     }
 }
 
