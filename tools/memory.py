@@ -21,7 +21,6 @@ GROWTHS = {
     "crates/yq_journal/src/journal.rt": {"Err(Move::Edit(back)) => Err((back, JournalError::Memory)),": 1},
     "crates/yq_journal/src/opening.rt": {"Err(_) => Err((step, JournalError::Memory)),": 1, "return Err(JournalError::Memory);": 1},
     "crates/yq_store/src/disk/links.rt": {"return Err(io::Error::from(ErrorKind::OutOfMemory));": 1},
-    "crates/yq_store/src/memory.rt": {"return Err(FileWriteError::OutOfMemory);": 3, "Err(_) => Err(FileReadError::OutOfMemory),": 1},
 }
 
 

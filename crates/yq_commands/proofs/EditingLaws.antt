@@ -10,7 +10,7 @@ use Rattle.yq_history.{specs.declared.fault.Fault.Fault, specs.declared.fault.Fa
 use Rattle.yq_history.specs.Causes.{IsUnreadable}
 use Rattle.yq_commands.specs.Editing.{Refuses, program_edits, program_in, unreadable, edit_outcome}
 use Rattle.yq_commands.specs.CommandFaults.{of_edit, of_parse}
-use Rattle.yq_expr_parser.{specs.declared.error.ParseError.ParseError, specs.Outcome.AnswersError, specs.Parse.outcome}
+use Rattle.yq_expr_parser.{specs.Outcome.{AnswersError, ParseError}, specs.Parse.outcome}
 
 -- bytes that are no UTF-8
 pub not_read : (t : List ℕ) → is_utf8 t ≡ false → read_at t ≡ None

@@ -4,7 +4,7 @@ ghost use Rattle.yq_history.specs.Faults.{is_failure, is_output};
 ghost use Rattle.yq_commands.specs.CommandFaults.{of_edit, of_matching, of_parse};
 
 use yq_edit_laws::EditError;
-use yq_expr_parser::ParseError;
+use yq_expr_parser::{ParseError, ParseKind};
 use yq_history::Fault;
 use yq_semantics::ExprError;
 
@@ -15,10 +15,12 @@ pub fn parse_fault(error: ParseError) -> Fault
     ensures no_output { is_output result ≡ false }
 {
     match error {
-        ParseError::Syntax => Fault::Syntax,
-        ParseError::NotInProfile => Fault::NotInProfile,
-        ParseError::Pattern => Fault::Pattern,
         ParseError::Memory => Fault::OutOfMemory,
+        ParseError::Fault(fault) => match fault.kind {
+            ParseKind::Syntax => Fault::Syntax,
+            ParseKind::NotInProfile => Fault::NotInProfile,
+            ParseKind::Pattern => Fault::Pattern,
+        },
     }
 }
 

@@ -22,7 +22,7 @@ pub fn parse(alloc: Global, expr: &str) -> Result<Program, Fault>
 {
     match parse_expr(alloc, expr) {
         Ok(program) => Ok(program),
-        Err(fault) => Err(parse_fault(fault.error)),
+        Err(error) => Err(parse_fault(error)),
     }
 }
 
@@ -35,5 +35,8 @@ pub fn utf8_text(bytes: &[u8]) -> Result<&str, Fault>
     ensures inside { IfErr result (λ e. is_failure e ≡ false) }
     ensures no_output { IfErr result (λ e. is_output e ≡ false) }
 {
-    Ok(text_of(bytes)?)
+    match text_of(bytes) {
+        Ok(text) => Ok(text),
+        Err(fault) => Err(Fault::Unreadable(fault)),
+    }
 }

@@ -5,7 +5,7 @@ use crate::caret::{push_caret, push_name};
 use crate::expected::push_expected;
 use crate::rows::push_rows;
 use std::alloc::{AllocError, Global};
-use yq_expr_parser::{ParseFault, parse_expr};
+use yq_expr_parser::{ParseError, ParseFault, parse_expr};
 
 /// Adds what can be done about an expression that is refused; where neither that nor what was expected
 /// is known, what the code means.
@@ -35,10 +35,10 @@ fn push_advice(
 pub fn expression_lines(alloc: Global, expr: &str, code: &str) -> Result<String, AllocError> {
     let mut out = String::new(alloc);
     match parse_expr(alloc, expr) {
-        Ok(_) => {
+        Ok(_) | Err(ParseError::Memory) => {
             push_rows(&mut out, code, false)?;
         }
-        Err(fault) => {
+        Err(ParseError::Fault(fault)) => {
             push_caret(&mut out, expr, fault.at(expr))?;
             push_expected(&mut out, fault.expected)?;
             push_advice(alloc, &mut out, expr, fault, code)?;

@@ -1,6 +1,6 @@
 -- Keys that differ, as a test.
-use Rattle.std.proofs.Common.{rules, ◌≡◌, ◌≢◌, ℕ, zero, suc, not, Bool, true, false, List, [], ◌∷◌, get_or, refl, ap, ◌∙◌, arith, map}
-use Rattle.std.{proofs.Common.{IsTrue, ◌↔◌}, specs.Str.bytes_eq, specs.List.{list_any, All}}
+use Rattle.std.proofs.Common.{rules, ◌≡◌, ◌≢◌, ℕ, zero, suc, not, Bool, true, false, List, [], ◌∷◌, get_or, refl, ap, arith, map, IsTrue}
+use Rattle.std.{proofs.Common.◌↔◌, specs.Str.bytes_eq, specs.List.{list_any, All}}
 use Rattle.std.proofs.lemmas.Bool.{and_from, not-true, false≢true, false_from_ne_true, and_parts}
 use Rattle.std.{proofs.lemmas.List.Folds.{list_any_at, list_any_none}, proofs.lemmas.List.Kept.AllPairs-cons}
 use Rattle.std.{proofs.lemmas.Slice.Eq.bytes_eq-Decides, specs.Prelude.{string_bytes, String}, specs.declared.alloc.Global.Global}

@@ -1,5 +1,5 @@
 -- Where tokens end, and that the tokens of a text are those in front and those of what follows.
-use Rattle.std.proofs.Common.{◌≡◌, ◌⊎◌, ℕ, suc, ◌+◌, ◌<◌, ◌≤◌, Bool, true, false, cond, ◌&&◌, ◌||◌, ◌==◌, List, [], ◌∷◌, length, take, drop}
+use Rattle.std.proofs.Common.{◌≡◌, ◌⊎◌, ℕ, suc, ◌+◌, ◌<◌, ◌≤◌, Bool, true, false, cond, ◌&&◌, ◌==◌, List, [], ◌∷◌, length, take, drop}
 use Rattle.std.proofs.Common.{get_or, Option, Some, is_some, refl, sym, ap, ◌∙◌, subst, inl, inr, arith, add-one, eqb-true, length-drop}
 use Rattle.std.{proofs.Common.rules, proofs.lemmas.Bool.{and_parts, cases_Bool}, proofs.lemmas.List.get_or-drop}
 use Rattle.std.{proofs.lemmas.List.Sums.{prefix_len_passes, prefix_len-le-length}, proofs.lemmas.Option.same_Some}

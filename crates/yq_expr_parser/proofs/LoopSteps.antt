@@ -3,8 +3,8 @@ use Rattle.std.proofs.Common.{rules, ◌≡◌, ℕ, List, [], ◌∷◌, ◌++�
 use Rattle.std.{proofs.Common.{◌∙◌, append_assoc, append-nil, Result, Err}, proofs.lemmas.List.map_push, specs.Borrow.Bor}
 use Rattle.std.specs.Prelude.{codes}
 use Rattle.yq_core.specs.Answers.{◌>>=◌}
-use Rattle.yq_expr_parser.{specs.declared.error.ParseError.ParseError, specs.declared.error.ParseFault.ParseFault}
-use Rattle.yq_expr_parser.{specs.ReadAnswers.{ParseFails, GivesForm, with_tokens, IsShorter}, specs.Lexing.{tokens, after}}
+use Rattle.yq_expr_parser.{specs.Outcome.ParseError, specs.ReadAnswers.{ParseFails, GivesForm, with_tokens, IsShorter}}
+use Rattle.yq_expr_parser.specs.Lexing.{tokens, after}
 use Rattle.yq_expr_parser.specs.Parse.{Parse, either, with_front, many, step_at, after_mark, parted_at, literal_at, field_at, stage_at}
 use Rattle.yq_expr_parser.specs.Parse.{term_at, parse_update}
 use Rattle.yq_expr_parser.proofs.Readers.{Lessens, many_next, Takes, Shortens, behind_takes, behind_shortens}
@@ -13,7 +13,7 @@ use Rattle.yq_expr_parser.proofs.LiteralTakes.{literal_takes, literal_shortens, 
 use Rattle.yq_expr_parser.proofs.PipeTakes.{stage_takes, stage_shortens}
 use Rattle.yq_expr_parser.proofs.UpdateTakes.{term_takes, term_shortens, update_takes, update_shortens}
 use Rattle.yq_semantics.{specs.Tokens.Token, specs.Grammar.{Production, IsLiteral, IsField, IsStage, IsTerm, IsUpdate, literal_depth}}
-use Rattle.yq_expr_parser.specs.declared.error.ParseError.TheVariants as error
+use Rattle.yq_failure.specs.declared.failure.Failure.TheVariants as failure
 
 -- the forms read so far before those to come
 abbrev pub onto : {A : Type 0} → List A → Option (List A × List Token) → Option (List A × List Token)
@@ -40,9 +40,8 @@ loop_end next less xs ts w h e = sym (turned next less xs ts w h (Some None) e) 
 -- a form is refused
 pub loop_fails : {A : Type 0} (next : List Token → Option (Option (A × List Token))) → Lessens next → (xs : List A) (ts : List Token) (w : Option (List A × List Token))
     → onto xs (many next ts) ≡ w → (e : ParseError) → ParseFails e (next ts) → ParseFails e w
-loop_fails next less xs ts w h error.Syntax f = sym (turned next less xs ts w h None f)
-loop_fails next less xs ts w h error.Memory f = tt
-loop_fails next less xs ts w h _ f = f
+loop_fails next less xs ts w h failure.Memory f = tt
+loop_fails next less xs ts w h (failure.Fault x) f = (f.0, sym (turned next less xs ts w h None f.1))
 
 -- ---- the same of loops of the code
 
@@ -59,7 +58,7 @@ pub step_end : {X Y : Type 0} (v : X → Y) (next : List Token → Option (Optio
 step_end v next less xs rest w h o e is = loop_end next less (map v xs) (tokens rest) w h (e ∙ ap (λ o. Some (option_map (with_tokens v) o)) is)
 
 -- an error that is passed on
-pub failed : {Z Y : Type 0} (view : Z → Y) (r : Result Z ParseFault) (f : ParseFault) (w : Option Y) → ((x : ParseFault) × (r ≡ Err x) × (x ≡ f)) → ParseFails f.error w → GivesForm view r w
+pub failed : {Z Y : Type 0} (view : Z → Y) (r : Result Z ParseError) (f : ParseError) (w : Option Y) → ((x : ParseError) × (r ≡ Err x) × (x ≡ f)) → ParseFails f w → GivesForm view r w
 failed view r f w p h = rw (p.1, p.2) h
 
 pub before_some : {X : Type 0} (text : List ℕ) (o : Option (X × Bor (List ℕ))) (x : X) (b : Bor (List ℕ)) → IsShorter text o → o ≡ Some (x, b) → length b.now < length text

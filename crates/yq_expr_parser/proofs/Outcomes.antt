@@ -3,16 +3,16 @@ use Rattle.std.proofs.Common.{◌≡◌, ◌⊎◌, ℕ, zero, suc, ◌+◌, ◌
 use Rattle.std.proofs.Common.{Result, Ok, Err, refl, sym, ap, ◌∙◌, subst, inl, inr, arith, ltb-true, rules}
 use Rattle.std.{proofs.lemmas.Bool.{false≢true, or_cases, lt-ltb, or_parts}, proofs.lemmas.Option.none-some, specs.Prelude.{IfOk, IfErr}}
 use Rattle.yq_core.proofs.Bools.{chosen}
-use Rattle.yq_expr_parser.{specs.declared.error.ParseError.ParseError, specs.declared.error.ParseFault.ParseFault}
+use Rattle.yq_expr_parser.specs.declared.error.ParseKind.{ParseKind}
+use Rattle.yq_expr_parser.specs.Outcome.{ParseError, parsed, refused, count_if, is_opening, is_closing, opening_count, closing_count}
+use Rattle.yq_expr_parser.specs.Outcome.{IsTooDeep, HasForeign, has_pattern, Derives, IsAtFault, ExprRefused, Answers, AnswersError}
 use Rattle.yq_expr_parser.specs.Lexing.{tokens, AreRead}
-use Rattle.yq_expr_parser.specs.Outcome.{parsed, refused, count_if, is_opening, is_closing, opening_count, closing_count, IsTooDeep}
-use Rattle.yq_expr_parser.specs.Outcome.{HasForeign, has_pattern, Derives, ExprRefused, Answers, AnswersError}
 use Rattle.yq_expr_parser.specs.Parse.{is_unread, is_foreign_token, surveyed, program_at, unless_pattern, parse_outcome, outcome}
 use Rattle.yq_expr_parser.{proofs.TextTokens.{tokens_take, tokens_again}, proofs.UpdateTakes.program_takes}
 use Rattle.yq_expr_parser.proofs.ProgramAgain.{program_again}
 use Rattle.yq_semantics.{specs.Tokens.{Token, foreign, unread, AreTokens}, specs.Program.{Program, LiteralsHold}}
 use Rattle.yq_semantics.{specs.Grammar.literal_depth, proofs.Literals.literals_hold}
-use Rattle.yq_expr_parser.specs.declared.error.ParseError.TheVariants as error
+use Rattle.yq_expr_parser.specs.declared.error.ParseKind.TheVariants as kind
 
 unread_is : (t : Token) → is_unread t ≡ true → t ≡ unread
 unread_is t h1 = search rules
@@ -119,7 +119,7 @@ none_in (t ∷ ts) o a b h shallow = elim (chosen (is_unread t) h) [
 too_deep : (ts : List Token) (n : ℕ) → DeepFrom 0 0 ts n → IsTooDeep ts
 too_deep ts n d = (n, omega arith)
 
-pub survey_refuses : (text : List ℕ) → surveyed false 0 0 (tokens text) ≡ Some true → ExprRefused error.NotInProfile text
+pub survey_refuses : (text : List ℕ) → surveyed false 0 0 (tokens text) ≡ Some true → IsAtFault kind.NotInProfile text
 survey_refuses text h = (tokens text, tokens_take text (all_read (tokens text) false 0 0 true h), found)
   where
     found : HasForeign (tokens text) ⊎ IsTooDeep (tokens text)
@@ -155,23 +155,23 @@ pub outcome_parsed : (text : List ℕ) (p : Program) → outcome text ≡ parsed
 unfolding outcome
 outcome_parsed text p h = search (rules, chosen, derives_in)
 
-pub outcome_refused : (text : List ℕ) (e : ParseError) → outcome text ≡ refused e → ExprRefused e text
+pub outcome_refused : (text : List ℕ) (e : ParseKind) → outcome text ≡ refused e → IsAtFault e text
 unfolding outcome
 outcome_refused text e h = go (surveyed false 0 0 (tokens text)) refl h
   where
-    last : (o : Option Program) → program_at literal_depth (tokens text) ≡ o → surveyed false 0 0 (tokens text) ≡ Some false → unless_pattern o ≡ refused e → ExprRefused e text
+    last : (o : Option Program) → program_at literal_depth (tokens text) ≡ o → surveyed false 0 0 (tokens text) ≡ Some false → unless_pattern o ≡ refused e → IsAtFault e text
     last None r s k =
         let passes = survey_passes text s in
-        let is : error.Syntax ≡ e = cc in
-        subst (λ (x : ParseError). ExprRefused x text) is (inr (tokens text, passes.0, passes.1, passes.2, λ p k. none-some _ (sym r ∙ program_again p (tokens text) k)))
+        let is : kind.Syntax ≡ e = cc in
+        subst (λ (x : ParseKind). IsAtFault x text) is (inr (tokens text, passes.0, passes.1, passes.2, λ p k. none-some _ (sym r ∙ program_again p (tokens text) k)))
     last (Some q) r s k = elim (chosen (has_pattern q) k) [
-      | inl pattern ↦ let is : error.Pattern ≡ e = cc in subst (λ (x : ParseError). ExprRefused x text) is (q, derives_in text q s r, pattern.0)
+      | inl pattern ↦ let is : kind.Pattern ≡ e = cc in subst (λ (x : ParseKind). IsAtFault x text) is (q, derives_in text q s r, pattern.0)
       | inr none ↦ cc
     ]
 
-    go : (o : Option Bool) → surveyed false 0 0 (tokens text) ≡ o → parse_outcome o (program_at literal_depth (tokens text)) ≡ refused e → ExprRefused e text
-    go None s k = let is : error.Syntax ≡ e = cc in subst (λ (x : ParseError). ExprRefused x text) is (inl (survey_fails text s))
-    go (Some true) s k = let is : error.NotInProfile ≡ e = cc in subst (λ (x : ParseError). ExprRefused x text) is (survey_refuses text s)
+    go : (o : Option Bool) → surveyed false 0 0 (tokens text) ≡ o → parse_outcome o (program_at literal_depth (tokens text)) ≡ refused e → IsAtFault e text
+    go None s k = let is : kind.Syntax ≡ e = cc in subst (λ (x : ParseKind). IsAtFault x text) is (inl (survey_fails text s))
+    go (Some true) s k = let is : kind.NotInProfile ≡ e = cc in subst (λ (x : ParseKind). IsAtFault x text) is (survey_refuses text s)
     go (Some false) s k = last (program_at literal_depth (tokens text)) refl s k
 
 pub outcome_again : (text : List ℕ) (p : Program) → Derives text p → has_pattern p ≡ false → outcome text ≡ parsed p
@@ -180,19 +180,19 @@ outcome_again text p h none = let again = derives_again text p h in rw (again.0,
 
 -- ---- clauses
 
-pub found_by : {X : Type 0} (view : X → Program) (text : List ℕ) (r : Result X ParseFault) → Answers view r (outcome text) → IfOk r (λ x. Derives text (view x) × (has_pattern (view x) ≡ false))
+pub found_by : {X : Type 0} (view : X → Program) (text : List ℕ) (r : Result X ParseError) → Answers view r (outcome text) → IfOk r (λ x. Derives text (view x) × (has_pattern (view x) ≡ false))
 found_by view text r h = search (rules, outcome_parsed)
 
 error_refused : (text : List ℕ) (e : ParseError) → AnswersError e (outcome text) → ExprRefused e text
 error_refused text e h1 = search (rules, outcome_refused)
 
-pub refused_by : {X : Type 0} (view : X → Program) (text : List ℕ) (r : Result X ParseFault) → Answers view r (outcome text) → IfErr r (λ e. ExprRefused e.error text)
+pub refused_by : {X : Type 0} (view : X → Program) (text : List ℕ) (r : Result X ParseError) → Answers view r (outcome text) → IfErr r (λ e. ExprRefused e text)
 refused_by view text r h = search (rules, error_refused)
 
-pub only_by : {X : Type 0} (view : X → Program) (text : List ℕ) (r : Result X ParseFault) → Answers view r (outcome text)
+pub only_by : {X : Type 0} (view : X → Program) (text : List ℕ) (r : Result X ParseError) → Answers view r (outcome text)
     → (p : Program) → Derives text p → has_pattern p ≡ false → Answers view r (parsed p)
 only_by view text r h p d none = subst (Answers view r) (outcome_again text p d none) h
 
-pub values_by : {X : Type 0} (view : X → Program) (text : List ℕ) (r : Result X ParseFault) → Answers view r (outcome text) → IfOk r (λ x. LiteralsHold (view x))
+pub values_by : {X : Type 0} (view : X → Program) (text : List ℕ) (r : Result X ParseError) → Answers view r (outcome text) → IfOk r (λ x. LiteralsHold (view x))
 values_by view text (Ok x) h = let d = (outcome_parsed text (view x) h).0 in literals_hold (view x) d.0 d.4
 values_by view text (Err e) h = tt

@@ -1,5 +1,5 @@
 -- The steps and paths that are read are those of the grammar, and each has a token at least.
-use Rattle.std.{proofs.Common.{◌≡◌, false, List, ◌∷◌, Some, is_some, inl, inr, rules}, proofs.lemmas.Option.same_Some, specs.Prelude.codes}
+use Rattle.std.{proofs.Common.{◌≡◌, false, List, Some, is_some, inl, inr, rules}, proofs.lemmas.Option.same_Some, specs.Prelude.codes}
 use Rattle.yq_core.proofs.Bools.{bind_some, chosen}
 use Rattle.yq_semantics.{specs.Program.PathStep, specs.Tokens.Token}
 use Rattle.yq_semantics.specs.Grammar.{Production, HasSymbol, IsBracket, IsFirst, IsNext, Are, IsPath}

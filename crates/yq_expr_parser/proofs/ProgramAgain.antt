@@ -9,7 +9,6 @@ use Rattle.yq_semantics.specs.Grammar.{IsUpdate, IsProgram}
 use Rattle.yq_expr_parser.{specs.Parse.{pipe_at, whole_form, updates_at, program_at}, proofs.Readers.second, proofs.UpdateTakes.whole_takes}
 use Rattle.yq_expr_parser.{proofs.PipeTakes.pipe_takes, proofs.FormsAgain.Ends, proofs.PathAgain.{BeginsPath, path_begins, path_again}}
 use Rattle.yq_expr_parser.{proofs.PipeAgain.pipe_again, proofs.UpdateAgain.updates_again}
-use Rattle.yq_semantics.specs.declared.program.CommentPlace.TheVariants as place
 
 -- what follows the first stage of a pipe that is all
 pipe_goes_on : (stages : List Stage) (ts : List Token) → Are (Behind (codes "|") IsStage) stages ts [] → (ts ≡ []) ⊎ ((r : List Token) × HasSymbol (codes "|") ts r)

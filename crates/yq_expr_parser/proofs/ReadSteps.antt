@@ -3,13 +3,12 @@ use Rattle.std.proofs.Common.{rules, ◌≡◌, ℕ, suc, ◌-◌, ◌<◌, leng
 use Rattle.std.{proofs.Common.{sym, ap, ◌∙◌, subst, map, option_map, Result}, specs.Borrow.Bor}
 use Rattle.std.specs.Prelude.{if◌then◌else◌, ◌==◌, is_some, codes}
 use Rattle.yq_core.{specs.Answers.◌>>=◌, specs.Values.items}
-use Rattle.yq_expr_parser.{specs.declared.error.ParseError.ParseError, specs.declared.error.ParseFault.ParseFault}
-use Rattle.yq_expr_parser.{specs.ReadAnswers.{ParseFails, GivesForm, ReadsForm, with_tokens}, specs.Lexing.{tokens, after}}
+use Rattle.yq_expr_parser.{specs.Outcome.ParseError, specs.ReadAnswers.{ParseFails, GivesForm, ReadsForm, with_tokens}}
+use Rattle.yq_expr_parser.specs.Lexing.{tokens, after}
 use Rattle.yq_expr_parser.specs.Parse.{either, many, listed_at, field_at, literal_at, scalar_node_at, mapping_of, written_path}
 use Rattle.yq_expr_parser.{proofs.Readers.Lessens, proofs.LoopSteps.{onto, step_more}}
 use Rattle.yq_semantics.{specs.Program.PathStep, specs.Tokens.Token}
 use Rattle.yq_core.specs.Tree as tree
-use Rattle.yq_expr_parser.specs.declared.error.ParseError.TheVariants as error
 
 -- a step gave something, and so does the next one
 pub bind_gives : {A B : Type 0} (f : A → Option B) (o : Option A) (x : A) (z : Option B) → o ≡ Some x → f x ≡ z → (o >>= f) ≡ z
@@ -32,11 +31,11 @@ bind_fails f o e h = search rules
 pub fails_as : {A : Type 0} (e : ParseError) (o z : Option A) → o ≡ z → ParseFails e z → ParseFails e o
 fails_as e o z is h = subst (ParseFails e) (sym is) h
 
-pub gives_as : {X Y : Type 0} (view : X → Y) (r : Result X ParseFault) (o z : Option Y) → o ≡ z → GivesForm view r z → GivesForm view r o
+pub gives_as : {X Y : Type 0} (view : X → Y) (r : Result X ParseError) (o z : Option Y) → o ≡ z → GivesForm view r z → GivesForm view r o
 gives_as view r o z is h = subst (GivesForm view r) (sym is) h
 
 -- a form that a mark closes, as it is seen
-pub closed_reads : {X Y : Type 0} (view : X → Y) (r : Result (X × Bor (List ℕ)) ParseFault) (x : X) (o : Option (List Token))
+pub closed_reads : {X Y : Type 0} (view : X → Y) (r : Result (X × Bor (List ℕ)) ParseError) (x : X) (o : Option (List Token))
     → ReadsForm (λ x. x) r (option_map (λ q. (x, q)) o) → ReadsForm view r (o >>= λ q. Some (view x, q))
 closed_reads view r x o h = search rules
 

@@ -1,6 +1,6 @@
 -- Runs of bytes, and strings, as they are measured and spelled.
 use Rattle.std.proofs.Common.{rules, ◌≡◌, ℕ, suc, ◌+◌, Bool, true, false, cond, ◌||◌, ◌==◌, List, [], ◌∷◌, ◌++◌, length, take, drop, Option}
-use Rattle.std.proofs.Common.{Some, is_some, refl, sym, ap, ◌∙◌, subst, inl, inr, arith, eqb-true}
+use Rattle.std.proofs.Common.{Some, is_some, refl, sym, ap, subst, inl, inr, arith, eqb-true}
 use Rattle.std.{proofs.lemmas.Bool.{not-true, and_parts, cases_Bool, or_parts}, proofs.lemmas.Option.same_Some}
 use Rattle.std.specs.List.{prefix_len, list_all}
 use Rattle.yq_core.{specs.Text.{front, unless}, proofs.Bools.{chosen, guard_then}}

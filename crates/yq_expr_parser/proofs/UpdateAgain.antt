@@ -7,7 +7,6 @@ use Rattle.yq_expr_parser.{specs.Lexing.after, specs.Parse.{parted_at, term_at, 
 use Rattle.yq_expr_parser.{proofs.LoopSteps.{term_lessens, update_lessens}, proofs.FormsAgain.{Again, parted_again, Ends}}
 use Rattle.yq_expr_parser.proofs.LiteralAgain.{literal_begins, literal_again}
 use Rattle.yq_expr_parser.proofs.PipeAgain.{EndsPipe, parenthesized_pipe, left_again, left_begins}
-use Rattle.yq_semantics.specs.declared.program.CommentPlace.TheVariants as place
 
 term_again : Again (term_at literal_depth) IsTerm Ends
 unfolding term_at

@@ -4,20 +4,20 @@ use Rattle.std.specs.declared.alloc.Global.{Global}
 use Rattle.yq_core.{specs.declared.value.Value.Value, specs.Tree.Node}
 use Rattle.yq_semantics.{specs.Grammar.literal_depth, specs.Program.{Program, Update}, specs.Tokens.Token, specs.View.stage_of}
 use Rattle.yq_semantics.specs.declared.program.Stage.{Stage}
-use Rattle.yq_expr_parser.{specs.Lexing.{after, as_step, taken, tokens}, specs.Outcome.{Answers, Derives, has_pattern, parsed}}
+use Rattle.yq_expr_parser.{specs.Lexing.{after, as_step, taken, tokens}, specs.Outcome.{Answers, Derives, has_pattern, parsed, ParseError}}
 use Rattle.yq_expr_parser.specs.Parse.{Parse, action_at, field_at, listed_at, literal_at, parse_update, parted_at}
-use Rattle.yq_expr_parser.{specs.ReadAnswers.{GivesForm, ReadsForm, Succeeds, with_tokens}, specs.declared.error.ParseFault.ParseFault}
+use Rattle.yq_expr_parser.specs.ReadAnswers.{GivesForm, ReadsForm, Succeeds, with_tokens}
 
 -- the answer is the form that is read of a text and what comes after it, unless memory ran out
-abbrev pub ReadsOf : {X Y : Type 0} → (X → Y) → Result (X × Bor (List ℕ)) ParseFault → Parse Y → List ℕ → Type 0
+abbrev pub ReadsOf : {X Y : Type 0} → (X → Y) → Result (X × Bor (List ℕ)) ParseError → Parse Y → List ℕ → Type 0
 ReadsOf view r form text = ReadsForm view r (form (tokens text))
 
 -- the same of several forms
-abbrev pub ReadsAll : {X Y : Type 0} → (X → Y) → Result (Vec X Global × Bor (List ℕ)) ParseFault → Parse (List Y) → List ℕ → Type 0
+abbrev pub ReadsAll : {X Y : Type 0} → (X → Y) → Result (Vec X Global × Bor (List ℕ)) ParseError → Parse (List Y) → List ℕ → Type 0
 ReadsAll view r forms text = ReadsForm (λ v. map view v.items) r (forms (tokens text))
 
 -- the answer is the forms that reading gives, unless memory ran out
-abbrev pub GivesAll : {X Y : Type 0} → (X → Y) → Result (Vec X Global) ParseFault → Option (List Y) → Type 0
+abbrev pub GivesAll : {X Y : Type 0} → (X → Y) → Result (Vec X Global) ParseError → Option (List Y) → Type 0
 GivesAll view r read = GivesForm (λ v. map view v.items) r read
 
 -- the tokens of a text after this symbol, if that is in front
@@ -53,7 +53,7 @@ abbrev pub IsProgramOf : List ℕ → Program → Type 0
 IsProgramOf text p = Derives text p × (has_pattern p ≡ false)
 
 -- whatever program without a pattern a text derives is the answer, unless memory ran out
-abbrev pub AnswersEach : {X : Type 0} → (X → Program) → Result X ParseFault → List ℕ → Type 0
+abbrev pub AnswersEach : {X : Type 0} → (X → Program) → Result X ParseError → List ℕ → Type 0
 AnswersEach view r text = (p : Program) → Derives text p → has_pattern p ≡ false → Answers view r (parsed p)
 
 -- a form, and the tokens after a mark that has to be after it
@@ -65,5 +65,5 @@ abbrev pub action_on : Vec Stage Global → Parse Update
 action_on left = action_at literal_depth (map stage_of left.items)
 
 -- the answer is the step that a text begins with, if one is there, and what comes after it, unless memory ran out
-abbrev pub TakesKey : Result (Option (String Global × Bor (List ℕ))) ParseFault → List ℕ → Type 0
+abbrev pub TakesKey : Result (Option (String Global × Bor (List ℕ))) ParseError → List ℕ → Type 0
 TakesKey r text = Succeeds (option_map (with_tokens string_bytes)) r (taken_from as_step text)

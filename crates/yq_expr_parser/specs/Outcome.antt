@@ -1,11 +1,17 @@
 -- What comes of a text: its program, or the first refusal in order.
-use Rattle.std.specs.Prelude.{◌≡◌, ◌≢◌, ℕ, ◌+◌, ◌<◌, ◌⊎◌, Bool, true, false, ◌||◌, ◌==◌, List, [], ◌∷◌, take, codes, Result, Ok, Err}
+use Rattle.std.specs.Prelude.{◌≡◌, ℕ, ◌+◌, ◌<◌, ◌⊎◌, Bool, true, false, ◌||◌, ◌==◌, List, [], ◌∷◌, take, codes, Result, Ok, Err}
 use Rattle.std.specs.List.{list_any}
-use Rattle.yq_expr_parser.{specs.declared.error.ParseError.ParseError, specs.declared.error.ParseFault.ParseFault}
+use Rattle.yq_expr_parser.{specs.declared.error.ParseKind.ParseKind, specs.declared.error.ParseFault.ParseFault}
 use Rattle.yq_semantics.specs.Program.{PathStep, key, index, each, Operand, value_at, document_index, Condition, compares, has, Stage, path}
 use Rattle.yq_semantics.specs.Program.{select, Term, literal, found, Update, assign, delete, comment, Program, read, updates}
 use Rattle.yq_semantics.{specs.Tokens.{Token, foreign, is_symbol, AreTokens}, specs.Grammar.IsProgram}
-use Rattle.yq_expr_parser.specs.declared.error.ParseError.TheVariants as error
+use Rattle.yq_failure.specs.declared.failure.Failure.{Failure}
+use Rattle.yq_failure.specs.declared.failure.Failure.TheVariants as failure
+use Rattle.yq_expr_parser.specs.declared.error.ParseKind.TheVariants as kind
+
+-- why a text is not a program (own)
+abbrev pub ParseError : Type 0
+ParseError = Failure ParseFault
 
 -- a text with `*` or `?` (own)
 abbrev pub is_pattern : List ℕ → Bool
@@ -94,34 +100,36 @@ abbrev pub Derives : List ℕ → Program → Type 0
 Derives text p = (ts : List Token) × AreTokens ts text × ¬ HasForeign ts × ¬ IsTooDeep ts × IsProgram p ts
 
 -- When each refusal comes, the first one in this order: a text without tokens; a token of other expressions or
--- too many open brackets; no derivation; a pattern. Want of memory says nothing (own).
-abbrev pub ExprRefused : ParseError → List ℕ → Type 0
-ExprRefused error.Syntax text =
+-- too many open brackets; no derivation; a pattern (own).
+abbrev pub IsAtFault : ParseKind → List ℕ → Type 0
+IsAtFault kind.Syntax text =
     ((ts : List Token) → ¬ AreTokens ts text)
     ⊎ ((ts : List Token) × AreTokens ts text × ¬ HasForeign ts × ¬ IsTooDeep ts × ((p : Program) → ¬ IsProgram p ts))
-ExprRefused error.NotInProfile text = (ts : List Token) × AreTokens ts text × (HasForeign ts ⊎ IsTooDeep ts)
-ExprRefused error.Pattern text = (p : Program) × Derives text p × (has_pattern p ≡ true)
-ExprRefused error.Memory text = Unit {0}
+IsAtFault kind.NotInProfile text = (ts : List Token) × AreTokens ts text × (HasForeign ts ⊎ IsTooDeep ts)
+IsAtFault kind.Pattern text = (p : Program) × Derives text p × (has_pattern p ≡ true)
+
+-- a text has the cause of its refusal; want of memory says nothing (own)
+abbrev pub ExprRefused : ParseError → List ℕ → Type 0
+ExprRefused failure.Memory text = Unit {0}
+ExprRefused (failure.Fault f) text = IsAtFault f.kind text
 
 -- what comes of a text: a program, or a refusal (own)
 pub data Outcome : Type 0 where
   parsed : Program → Outcome
-  refused : ParseError → Outcome
+  refused : ParseKind → Outcome
 
 -- What a text comes to by the grammar: a program that it derives and that has no pattern, or a refusal whose cause
--- it has. It comes to no want of memory (own).
+-- it has (own).
 abbrev pub ComesTo : List ℕ → Outcome → Type 0
 ComesTo text (parsed p) = Derives text p × (has_pattern p ≡ false)
-ComesTo text (refused e) = (e ≢ error.Memory) × ExprRefused e text
+ComesTo text (refused k) = IsAtFault k text
 
 -- An error is that refusal; want of memory says nothing (own).
 abbrev pub AnswersError : ParseError → Outcome → Type 0
-AnswersError error.Syntax o = o ≡ refused error.Syntax
-AnswersError error.NotInProfile o = o ≡ refused error.NotInProfile
-AnswersError error.Pattern o = o ≡ refused error.Pattern
-AnswersError error.Memory o = Unit {0}
+AnswersError failure.Memory o = Unit {0}
+AnswersError (failure.Fault f) o = o ≡ refused f.kind
 
 -- An answer is that program or that refusal; want of memory says nothing (own).
-abbrev pub Answers : {X : Type 0} → (X → Program) → Result X ParseFault → Outcome → Type 0
+abbrev pub Answers : {X : Type 0} → (X → Program) → Result X ParseError → Outcome → Type 0
 Answers view (Ok x) o = o ≡ parsed (view x)
-Answers view (Err e) o = AnswersError e.error o
+Answers view (Err e) o = AnswersError e o

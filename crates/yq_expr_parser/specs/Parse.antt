@@ -12,7 +12,7 @@ use Rattle.yq_expr_parser.specs.Lexing.{tokens, after, taken, as_number, as_stri
 use Rattle.yq_core.specs.Tree as tree
 use Rattle.yq_semantics.specs.declared.program.Operator.TheVariants as operator
 use Rattle.yq_semantics.specs.declared.program.CommentPlace.TheVariants as place
-use Rattle.yq_expr_parser.specs.declared.error.ParseError.TheVariants as error
+use Rattle.yq_expr_parser.specs.declared.error.ParseKind.TheVariants as kind
 
 -- a reading function: the form in front and the tokens that follow, or nothing (own)
 abbrev pub Parse : Type 0 → Type 0
@@ -248,13 +248,13 @@ surveyed other opened closed (t ∷ ts) =
 
 -- a program that is read, unless it has a pattern (own)
 abbrev pub unless_pattern : Option Program → Outcome
-unless_pattern None = refused error.Syntax
-unless_pattern (Some p) = if has_pattern p then refused error.Pattern else parsed p
+unless_pattern None = refused kind.Syntax
+unless_pattern (Some p) = if has_pattern p then refused kind.Pattern else parsed p
 
 -- a text's outcome, from what was found of its tokens (own)
 abbrev pub parse_outcome : Option Bool → Option Program → Outcome
-parse_outcome None p = refused error.Syntax
-parse_outcome (Some true) p = refused error.NotInProfile
+parse_outcome None p = refused kind.Syntax
+parse_outcome (Some true) p = refused kind.NotInProfile
 parse_outcome (Some false) p = unless_pattern p
 
 -- what comes of a text (own)

@@ -4,7 +4,7 @@ ghost use Rattle.yq_expr_parser.specs.ReadAnswers.{GivesForm, ReadsForm, Shorten
 ghost use Rattle.yq_expr_parser.specs.FormAnswers.{tokens_after, taken_from, closed_form, TakesKey};
 ghost use Rattle.yq_expr_parser.specs.Lexing as spec;
 
-use crate::error::{ParseError, ParseFault};
+use crate::error::{ParseError, ParseFault, ParseKind};
 use crate::token::{left_of, split_token};
 use std::alloc::Global;
 
@@ -35,15 +35,15 @@ pub(crate) fn after<'t>(text: &'t str, symbol: &str) -> Option<&'t str>
 }
 
 /// What follows the mark or word, which has to be in front.
-pub(crate) fn expect<'t>(text: &'t str, symbol: &'static str) -> Result<&'t str, ParseFault>
+pub(crate) fn expect<'t>(text: &'t str, symbol: &'static str) -> Result<&'t str, ParseError>
     ensures value { GivesForm (λ r. spec.tokens r.now) result (tokens_after symbol.now text.now) }
     ensures shorter { IfOk result (λ r. length r.now < length text.now) }
 {
-    after(text, symbol).ok_or(ParseFault {
-        error: ParseError::Syntax,
+    after(text, symbol).ok_or(ParseError::Fault(ParseFault {
+        kind: ParseKind::Syntax,
         left: left_of(text),
         expected: symbol,
-    })
+    }))
 }
 
 /// A form and what follows the mark, which has to be after the form.
@@ -51,7 +51,7 @@ pub(crate) fn closed<'t, T: Drop>(
     form: T,
     text: &'t str,
     mark: &'static str,
-) -> Result<(T, &'t str), ParseFault>
+) -> Result<(T, &'t str), ParseError>
     ensures value { ReadsForm (λ x. x) result (closed_form form mark.now text.now) }
     ensures shorter { Shortens text.now result }
 {
@@ -81,30 +81,30 @@ pub(crate) fn string<'t>(
     alloc: Global,
     text: &'t str,
     expected: &'static str,
-) -> Result<(String, &'t str), ParseFault>
+) -> Result<(String, &'t str), ParseError>
     ensures value { ReadsForm string_bytes result (spec.taken spec.as_string (spec.tokens text.now)) }
     ensures shorter { Shortens text.now result }
 {
     match split_token(text) {
         Some((token, rest)) => match token.string(alloc)? {
             Some(content) => Ok((content, rest)),
-            None => Err(ParseFault {
-                error: ParseError::Syntax,
+            None => Err(ParseError::Fault(ParseFault {
+                kind: ParseKind::Syntax,
                 left: left_of(text),
                 expected: expected,
-            }),
+            })),
         },
-        None => Err(ParseFault {
-            error: ParseError::Syntax,
+        None => Err(ParseError::Fault(ParseFault {
+            kind: ParseKind::Syntax,
             left: 0,
             expected: expected,
-        }),
+        })),
     }
 }
 
 /// The key of the named step in front and what follows it, if one is there.
 #[tactic(auto, using(crate::proofs::Lexing::tokens_next))]
-pub(crate) fn key(alloc: Global, text: &str) -> Result<Option<(String, &str)>, ParseFault>
+pub(crate) fn key(alloc: Global, text: &str) -> Result<Option<(String, &str)>, ParseError>
     ensures value { TakesKey result text.now }
     ensures shorter { IfOk result (λ o. IsShorter text.now o) }
 {

@@ -10,7 +10,7 @@ mod path;
 mod pipe;
 mod update;
 
-use crate::error::{ParseError, ParseFault};
+use crate::error::{ParseError, ParseFault, ParseKind};
 use crate::front::is_end;
 use crate::pattern::{has_pattern, pattern_left};
 use crate::survey::survey;
@@ -21,17 +21,17 @@ use yq_semantics::{Program, Stage, Syntax, Update};
 /// The program that a text says. Refusals come in this order: a token that can't be read, then a
 /// token of other expressions or more than 64 open brackets, then what is no program, then a
 /// pattern.
-pub fn parse_expr(alloc: Global, text: &str) -> Result<Program, ParseFault>
+pub fn parse_expr(alloc: Global, text: &str) -> Result<Program, ParseError>
     ensures exact { Answers program_of result (spec.outcome text.now) }
     ensures found { IfOk result (λ p. IsProgramOf text.now (program_of p)) }
     ensures only { AnswersEach program_of result text.now }
-    ensures refused { IfErr result (λ e. ExprRefused e.error text.now) }
+    ensures refused { IfErr result (λ e. ExprRefused e text.now) }
 {
     parse(alloc, text)
 }
 
 /// The program of a text.
-fn parse(alloc: Global, text: &str) -> Result<Program, ParseFault>
+fn parse(alloc: Global, text: &str) -> Result<Program, ParseError>
     ensures { Answers program_of result (spec.outcome text.now) }
 {
     let syntax = syntax(alloc, text)?;
@@ -40,58 +40,58 @@ fn parse(alloc: Global, text: &str) -> Result<Program, ParseFault>
 
 /// The syntax tree of the program of a text.
 #[tactic(auto, unfolding(crate::specs::Parse::outcome))]
-fn syntax(alloc: Global, text: &str) -> Result<Syntax, ParseFault>
+fn syntax(alloc: Global, text: &str) -> Result<Syntax, ParseError>
     ensures { Answers program_of result (spec.outcome text.now) }
 {
     let (is_other, left) = survey(text)?;
     if is_other {
-        return Err(ParseFault {
-            error: ParseError::NotInProfile,
+        return Err(ParseError::Fault(ParseFault {
+            kind: ParseKind::NotInProfile,
             left,
             expected: "",
-        });
+        }));
     }
     let syntax = program(alloc, text)?;
     if has_pattern(&syntax) {
-        return Err(ParseFault {
-            error: ParseError::Pattern,
+        return Err(ParseError::Fault(ParseFault {
+            kind: ParseKind::Pattern,
             left: pattern_left(text),
             expected: "",
-        });
+        }));
     }
     Ok(syntax)
 }
 
 /// A pipe, and no more.
-fn read(alloc: Global, text: &str) -> Result<Vec<Stage>, ParseFault>
+fn read(alloc: Global, text: &str) -> Result<Vec<Stage>, ParseError>
     ensures { GivesAll stage_of result (spec.whole_form spec.pipe_at (tokens text.now)) }
 {
     let (stages, rest) = pipe::pipe(alloc, text)?;
     if is_end(rest) {
         Ok(stages)
     } else {
-        Err(ParseFault {
-            error: ParseError::Syntax,
+        Err(ParseError::Fault(ParseFault {
+            kind: ParseKind::Syntax,
             left: left_of(rest),
             expected: "end",
-        })
+        }))
     }
 }
 
 /// Updates, and no more.
 #[tactic(auto, unfolding(crate::specs::Parse::updates_at))]
-fn updates(alloc: Global, text: &str) -> Result<Syntax, ParseFault>
+fn updates(alloc: Global, text: &str) -> Result<Syntax, ParseError>
     ensures { GivesForm program_of result (spec.updates_at literal_depth (tokens text.now)) }
 {
     let (updates, rest) = update::updates(alloc, text)?;
     if is_end(rest) {
         Ok(Syntax::Updates(updates))
     } else {
-        Err(ParseFault {
-            error: ParseError::Syntax,
+        Err(ParseError::Fault(ParseFault {
+            kind: ParseKind::Syntax,
             left: left_of(rest),
             expected: "end",
-        })
+        }))
     }
 }
 
@@ -106,24 +106,23 @@ fn further(fault: ParseFault, other: ParseFault) -> ParseFault {
 
 /// A program: a pipe if the text is one, and else updates.
 #[tactic(auto, unfolding(crate::specs::Parse::program_at))]
-fn program(alloc: Global, text: &str) -> Result<Syntax, ParseFault>
+fn program(alloc: Global, text: &str) -> Result<Syntax, ParseError>
     ensures { GivesForm program_of result (spec.program_at literal_depth (tokens text.now)) }
 {
     match read(alloc, text) {
         Ok(stages) => Ok(Syntax::Read(stages)),
-        Err(first) => match first.error {
-            ParseError::Syntax => match updates(alloc, text) {
-                Ok(syntax) => Ok(syntax),
-                Err(fault) => {
-                    let place = further(first, fault);
-                    Err(ParseFault {
-                        error: fault.error,
-                        left: place.left,
-                        expected: place.expected,
-                    })
-                }
-            },
-            ParseError::NotInProfile | ParseError::Pattern | ParseError::Memory => Err(first),
+        Err(ParseError::Memory) => Err(ParseError::Memory),
+        Err(ParseError::Fault(first)) => match updates(alloc, text) {
+            Ok(syntax) => Ok(syntax),
+            Err(ParseError::Memory) => Err(ParseError::Memory),
+            Err(ParseError::Fault(fault)) => {
+                let place = further(first, fault);
+                Err(ParseError::Fault(ParseFault {
+                    kind: fault.kind,
+                    left: place.left,
+                    expected: place.expected,
+                }))
+            }
         },
     }
 }

@@ -4,7 +4,7 @@ ghost use Rattle.yq_expr_parser.{specs.ReadAnswers.GivesForm, specs.Lexing.token
 ghost use Rattle.yq_expr_parser.specs.Outcome as grammar;
 ghost use Rattle.yq_expr_parser.specs.Parse as spec;
 
-use crate::error::{ParseError, ParseFault};
+use crate::error::{ParseError, ParseFault, ParseKind};
 use crate::token::{Token, left_of, split_token};
 
 /// How many brackets may be open at one place.
@@ -37,7 +37,7 @@ fn first_left(is_found: bool, left: usize, rest: &str) -> usize {
 /// Whether the text has a token that only other expressions have, or too many open brackets, and how
 /// much is left from the first such token on.
 #[tactic(auto, using(crate::proofs::Lexing::tokens_next), unfolding(crate::specs::Parse::surveyed))]
-pub(crate) fn survey(text: &str) -> Result<(bool, usize), ParseFault>
+pub(crate) fn survey(text: &str) -> Result<(bool, usize), ParseError>
     ensures { GivesForm (λ x. x.0) result (spec.surveyed false 0 0 (tokens text.now)) }
 {
     let mut other = false;
@@ -50,11 +50,11 @@ pub(crate) fn survey(text: &str) -> Result<(bool, usize), ParseFault>
             return Ok((other, left));
         };
         if token.is_unread() {
-            return Err(ParseFault {
-                error: ParseError::Syntax,
+            return Err(ParseError::Fault(ParseFault {
+                kind: ParseKind::Syntax,
                 left: left_of(rest),
                 expected: "",
-            });
+            }));
         }
         opened = counted(is_opening(token), opened);
         closed = counted(is_closing(token), closed);

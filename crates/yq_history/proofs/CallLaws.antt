@@ -4,13 +4,14 @@ use Rattle.std.{proofs.Common.{is_ok, if◌then◌else◌, sym, ap, ◌∙◌, s
 use Rattle.yq_journal.{specs.declared.moves.Move.Move, specs.Good.journal_beside, specs.Json.journal_text}
 use Rattle.yq_journal.specs.Refusals.{no_way, squash_fault, way_fault}
 use Rattle.yq_journal.specs.State.{State, journal_after, moved_text, settled_beside, squashed, with_move}
-use Rattle.yq_store.{specs.Calls.{Call, writes}, specs.declared.store.FileReadError.FileReadError}
-use Rattle.yq_history.{specs.declared.fault.Fault.Fault, specs.Faults.of_read, specs.PairAnswers.IsReadFrom}
+use Rattle.yq_store.{specs.Calls.{Call, writes}, specs.Count.FileError}
+use Rattle.yq_history.{specs.declared.fault.Fault.Fault, specs.PairAnswers.IsReadFrom}
 use Rattle.yq_history.specs.Calls.{AfterFile, AfterJournal, CallsOnPair, IsOpened, Makes, Puts, PutsJournal, ReadsJournal, ReadsPair}
 use Rattle.yq_history.{specs.Calls.writes_of, specs.Output.bytes}
 use Rattle.yq_history.specs.Effects.{Effect, writes_nothing, writes_both, from_pair, goes_to, leads_to, move_effect, joins_to}
 use Rattle.yq_history.{specs.Effects.squash_effect, proofs.EffectLaws.settles, proofs.MoveLaws.{bytes_differ, bytes_same, no_way_free}}
-use Rattle.yq_store.specs.declared.store.FileReadError.TheVariants as read
+use Rattle.yq_failure.specs.declared.failure.Failure.TheVariants as failure
+use Rattle.yq_store.specs.declared.store.FileFault.TheVariants as file
 
 -- equal errors
 pub same_err : {T : Type 0} (r : Result T Fault) (e x : Fault) → r ≡ Err e → r ≡ Err x → e ≡ x
@@ -102,22 +103,24 @@ module _ {S : Type 0} (leads : S → Call → S → Type 0) where
     opens : (b : Option (List ℕ)) (s t : S) → IsRead b s t → IsOpened pair v.items b s t
     opens b s t k = (k.0, refl, (λ go. settles (Some v.items) b v.items refl z k.1 y settled go))
 
-    opens_after : (a : Result (List ℕ) FileReadError) (s t : S) → AfterJournal {T = State} leads (Ok z) IsRead a s t → AfterJournal leads pair (IsOpened pair v.items) a s t
+    opens_after : (a : Result (List ℕ) FileError) (s t : S) → AfterJournal {T = State} leads (Ok z) IsRead a s t → AfterJournal leads pair (IsOpened pair v.items) a s t
     opens_after (Ok b) s t k = opens (Some b) s t k
-    opens_after (Err read.NotThere) s t k = opens None s t k
-    opens_after (Err read.ReadFailed) s t k = absurd (true≢false (ap is_ok k.0))
-    opens_after (Err read.OutOfMemory) s t k = absurd (true≢false (ap is_ok k.0))
+    opens_after (Err (failure.Fault file.NotThere)) s t k = opens None s t k
+    opens_after (Err (failure.Fault file.ReadFailed)) s t k = absurd (true≢false (ap is_ok k.0))
+    opens_after (Err (failure.Fault file.WriteFailed)) s t k = absurd k
+    opens_after (Err failure.Memory) s t k = absurd (true≢false (ap is_ok k.0))
 
     pub opens_journal : (j : List ℕ) (s t : S) → ReadsJournal {T = State} leads (Ok z) j IsRead s t → ReadsJournal leads pair j (IsOpened pair v.items) s t
     opens_journal j s t k = (k.0, k.1, k.2, opens_after k.0 k.1 t k.3)
 
   -- a journal that was read, with a fault after that
   module _ (z : State) (text : List ℕ) (e : Fault) where
-    misses_after : (a : Result (List ℕ) FileReadError) (s t : S) → AfterJournal {T = State} leads (Ok z) (IsReadFrom {E = Fault} (Ok z)) a s t → AfterJournal {T = Vec ℕ Global × State} leads (Err e) (IsOpened (Err e) text) a s t
+    misses_after : (a : Result (List ℕ) FileError) (s t : S) → AfterJournal {T = State} leads (Ok z) (IsReadFrom {E = Fault} (Ok z)) a s t → AfterJournal {T = Vec ℕ Global × State} leads (Err e) (IsOpened (Err e) text) a s t
     misses_after (Ok b) s t k = k.0
-    misses_after (Err read.NotThere) s t k = k.0
-    misses_after (Err read.ReadFailed) s t k = absurd (true≢false (ap is_ok k.0))
-    misses_after (Err read.OutOfMemory) s t k = absurd (true≢false (ap is_ok k.0))
+    misses_after (Err (failure.Fault file.NotThere)) s t k = k.0
+    misses_after (Err (failure.Fault file.ReadFailed)) s t k = absurd (true≢false (ap is_ok k.0))
+    misses_after (Err (failure.Fault file.WriteFailed)) s t k = absurd k
+    misses_after (Err failure.Memory) s t k = absurd (true≢false (ap is_ok k.0))
 
     pub misses_pair : (r : Result (Vec ℕ Global × State) Fault) → r ≡ Err e → (j : List ℕ) (s t : S) → ReadsJournal {T = State} leads (Ok z) j (IsReadFrom {E = Fault} (Ok z)) s t → ReadsJournal leads r j (IsOpened r text) s t
     misses_pair r is j s t k = subst (λ q. ReadsJournal leads q j (IsOpened q text) s t) (sym is) (k.0, k.1, k.2, misses_after k.0 k.1 t k.3)
@@ -137,16 +140,17 @@ module _ {S : Type 0} (leads : S → Call → S → Type 0) where
       none_then : (text : List ℕ) (b : Option (List ℕ)) (s t : S) → t ≡ s → Goes text b s t
       none_then text b s t same = subst (Goes text b s) (sym same) (makes_none r f j text (from_pair (Some text) b go) s (fails r e is))
 
-      unopened_journal : (text : List ℕ) (a : Result (List ℕ) FileReadError) (s t : S) → AfterJournal leads refusal (IsOpened refusal text) a s t → AfterJournal leads r (Goes text) a s t
+      unopened_journal : (text : List ℕ) (a : Result (List ℕ) FileError) (s t : S) → AfterJournal leads refusal (IsOpened refusal text) a s t → AfterJournal leads r (Goes text) a s t
       unopened_journal text (Ok b) s t k = none_then text (Some b) s t k
-      unopened_journal text (Err read.NotThere) s t k = none_then text None s t k
-      unopened_journal text (Err read.ReadFailed) s t k = (same_refusal (of_read read.ReadFailed) k.0, k.1)
-      unopened_journal text (Err read.OutOfMemory) s t k = (same_refusal (of_read read.OutOfMemory) k.0, k.1)
+      unopened_journal text (Err (failure.Fault file.NotThere)) s t k = none_then text None s t k
+      unopened_journal text (Err (failure.Fault file.ReadFailed)) s t k = (same_refusal _ k.0, k.1)
+      unopened_journal text (Err (failure.Fault file.WriteFailed)) s t k = absurd k
+      unopened_journal text (Err failure.Memory) s t k = (same_refusal _ k.0, k.1)
 
-      unopened_file : (a : Result (List ℕ) FileReadError) (s t : S) →
+      unopened_file : (a : Result (List ℕ) FileError) (s t : S) →
           AfterFile leads refusal (λ text. ReadsJournal leads refusal j (IsOpened refusal text)) a s t → AfterFile leads r (λ text. ReadsJournal leads r j (Goes text)) a s t
       unopened_file (Ok text) s t k = (k.0, k.1, k.2, unopened_journal text k.0 k.1 t k.3)
-      unopened_file (Err x) s t k = (same_refusal (of_read x) k.0, k.1)
+      unopened_file (Err x) s t k = (k.0, same_refusal _ k.1, k.2)
 
       -- a pair that was not opened
       pub unopened_calls : (s t : S) → ReadsPair leads refusal f j (IsOpened refusal) s t → CallsOnPair leads r f j go s t
@@ -162,16 +166,17 @@ module _ {S : Type 0} (leads : S → Call → S → Type 0) where
           (subst (λ (y : List ℕ). Makes leads r f j y (go y p.1) s t) k.1
           (subst (λ x. Makes leads r f j p.0.items (go p.0.items p.1) x t) k.0 makes))
 
-      opened_journal : (text : List ℕ) (a : Result (List ℕ) FileReadError) (s : S) → AfterJournal leads success (IsOpened success text) a s n → AfterJournal leads r (Goes text) a s t
+      opened_journal : (text : List ℕ) (a : Result (List ℕ) FileError) (s : S) → AfterJournal leads success (IsOpened success text) a s n → AfterJournal leads r (Goes text) a s t
       opened_journal text (Ok b) s k = goes_then text (Some b) s k
-      opened_journal text (Err read.NotThere) s k = goes_then text None s k
-      opened_journal text (Err read.ReadFailed) s k = absurd (true≢false (ap is_ok k.0))
-      opened_journal text (Err read.OutOfMemory) s k = absurd (true≢false (ap is_ok k.0))
+      opened_journal text (Err (failure.Fault file.NotThere)) s k = goes_then text None s k
+      opened_journal text (Err (failure.Fault file.ReadFailed)) s k = absurd (true≢false (ap is_ok k.0))
+      opened_journal text (Err (failure.Fault file.WriteFailed)) s k = absurd k
+      opened_journal text (Err failure.Memory) s k = absurd (true≢false (ap is_ok k.0))
 
-      opened_file : (a : Result (List ℕ) FileReadError) (s : S) →
+      opened_file : (a : Result (List ℕ) FileError) (s : S) →
           AfterFile leads success (λ text. ReadsJournal leads success j (IsOpened success text)) a s n → AfterFile leads r (λ text. ReadsJournal leads r j (Goes text)) a s t
       opened_file (Ok text) s k = (k.0, k.1, k.2, opened_journal text k.0 k.1 k.3)
-      opened_file (Err x) s k = absurd (true≢false (ap is_ok k.0))
+      opened_file (Err x) s k = absurd (true≢false (ap is_ok k.1))
 
       -- one that was, and what went on from it
       pub opened_calls : (s : S) → ReadsPair leads success f j (IsOpened success) s n → CallsOnPair leads r f j go s t

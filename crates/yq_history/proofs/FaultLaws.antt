@@ -2,11 +2,12 @@
 use Rattle.std.proofs.Common.{rules, ◌≡◌, ℕ, false, List, Some, None, Result, Err, OnOk, IfErr, IsTrue, IsNone, is_some, if◌then◌else◌, sym}
 use Rattle.std.proofs.Common.{ap, ◌∙◌, subst}
 use Rattle.yq_journal.{specs.Refusals.{move_fault, no_way, way_fault}, specs.declared.moves.Move.Move, specs.State.{State, moved_text}}
-use Rattle.yq_store.{specs.Count.after_write, specs.declared.store.FileWriteError.FileWriteError}
-use Rattle.yq_history.{specs.declared.fault.Fault.Fault, specs.Faults.{failures_after, is_outer_fault, of_write}}
+use Rattle.yq_store.specs.Count.{after_call, FileError}
+use Rattle.yq_history.{specs.declared.fault.Fault.Fault, specs.Faults.{failures_after, is_outer_fault, of_store}}
 use Rattle.yq_history.proofs.MoveLaws.{no_way_free, none_of}
 use Rattle.yq_journal.specs.declared.fault.JournalFault.TheVariants as journal
-use Rattle.yq_store.specs.declared.store.FileWriteError.TheVariants as write
+use Rattle.yq_failure.specs.declared.failure.Failure.TheVariants as failure
+use Rattle.yq_store.specs.declared.store.FileFault.TheVariants as file
 
 -- what is known of an error
 pub told : {T : Type 0} (P : Fault → Type 0) (r : Result T Fault) (e : Fault) → r ≡ Err e → P e → IfErr r P
@@ -22,9 +23,11 @@ all_outside P r out = search rules
 -- ---- writes
 
 -- what is counted of a write that failed
-pub failed_write : {T : Type 0} (r : Result T Fault) (e : FileWriteError) (n : ℕ) → r ≡ Err (of_write e) → after_write {T = Unit {0}} (Err e) n ≡ failures_after r n
-failed_write r write.WriteFailed n is = sym (ap (λ q. failures_after q n) is)
-failed_write r write.OutOfMemory n is = sym (ap (λ q. failures_after q n) is)
+pub failed_write : {T : Type 0} (r : Result T Fault) (e : FileError) (n : ℕ) → r ≡ Err (of_store e) → after_call {T = Unit {0}} (Err e) n ≡ failures_after r n
+failed_write r failure.Memory n is = sym (ap (λ q. failures_after q n) is)
+failed_write r (failure.Fault file.NotThere) n is = sym (ap (λ q. failures_after q n) is)
+failed_write r (failure.Fault file.ReadFailed) n is = sym (ap (λ q. failures_after q n) is)
+failed_write r (failure.Fault file.WriteFailed) n is = sym (ap (λ q. failures_after q n) is)
 
 -- ---- the journal
 

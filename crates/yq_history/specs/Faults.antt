@@ -5,22 +5,16 @@ use Rattle.yq_journal.specs.Refusals.{JournalError}
 use Rattle.yq_history.specs.declared.fault.Fault.{Fault}
 use Rattle.yq_history.specs.declared.fault.Fault.TheVariants.{NotThere, ReadFailed, WriteFailed, OutFailed, Journal, Unreadable}
 use Rattle.yq_history.specs.declared.fault.Fault.TheVariants.{OutOfMemory}
-use Rattle.yq_store.{specs.declared.store.FileReadError.FileReadError, specs.declared.store.FileWriteError.FileWriteError}
-use Rattle.yq_store.specs.Count.{count_plus_one}
+use Rattle.yq_store.specs.Count.{count_plus_one, FileError}
 use Rattle.yq_failure.specs.declared.failure.Failure.TheVariants as failure
-use Rattle.yq_store.specs.declared.store.FileReadError.TheVariants as read
-use Rattle.yq_store.specs.declared.store.FileWriteError.TheVariants as write
+use Rattle.yq_store.specs.declared.store.FileFault.TheVariants as file
 
--- why a file was not read
-abbrev pub of_read : FileReadError → Fault
-of_read read.NotThere = NotThere
-of_read read.ReadFailed = ReadFailed
-of_read read.OutOfMemory = OutOfMemory
-
--- why a file was not written
-abbrev pub of_write : FileWriteError → Fault
-of_write write.WriteFailed = WriteFailed
-of_write write.OutOfMemory = OutOfMemory
+-- why a file was not read or written
+abbrev pub of_store : FileError → Fault
+of_store failure.Memory = OutOfMemory
+of_store (failure.Fault file.NotThere) = NotThere
+of_store (failure.Fault file.ReadFailed) = ReadFailed
+of_store (failure.Fault file.WriteFailed) = WriteFailed
 
 -- why a call of a journal failed
 abbrev pub of_journal : JournalError → Fault

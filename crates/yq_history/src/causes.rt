@@ -1,10 +1,10 @@
 //! The fault of a command for each cause that stores, journals and readings tell.
 
 use crate::fault::Fault;
-use std::alloc::{AllocError, AllocFailed};
-use yq_core::{ReadError, ReadFault};
+use std::alloc::AllocError;
+use yq_core::ReadError;
 use yq_journal::JournalError;
-use yq_store::{FileReadError, FileWriteError};
+use yq_store::{FileError, FileFault};
 
 impl From<AllocError> for Fault {
     ghost use Rattle.std.specs.Prelude.{◌≡◌};
@@ -17,42 +17,18 @@ impl From<AllocError> for Fault {
     }
 }
 
-impl<T: Drop> From<AllocFailed<T>> for Fault {
+impl From<FileError> for Fault {
     ghost use Rattle.std.specs.Prelude.{◌≡◌};
-    ghost use Rattle.yq_history.specs.declared.fault.Fault.TheVariants.{OutOfMemory};
+    ghost use Rattle.yq_history.specs.Faults.{of_store};
 
-    ghost from_gives = { λ _ e. e ≡ OutOfMemory };
+    ghost from_gives = { λ x e. e ≡ of_store x };
 
-    fn from(_refused: AllocFailed<T>) -> Fault {
-        Fault::OutOfMemory
-    }
-}
-
-impl From<FileReadError> for Fault {
-    ghost use Rattle.std.specs.Prelude.{◌≡◌};
-    ghost use Rattle.yq_history.specs.Faults.{of_read};
-
-    ghost from_gives = { λ x e. e ≡ of_read x };
-
-    fn from(error: FileReadError) -> Fault {
+    fn from(error: FileError) -> Fault {
         match error {
-            FileReadError::NotThere => Fault::NotThere,
-            FileReadError::ReadFailed => Fault::ReadFailed,
-            FileReadError::OutOfMemory => Fault::OutOfMemory,
-        }
-    }
-}
-
-impl From<FileWriteError> for Fault {
-    ghost use Rattle.std.specs.Prelude.{◌≡◌};
-    ghost use Rattle.yq_history.specs.Faults.{of_write};
-
-    ghost from_gives = { λ x e. e ≡ of_write x };
-
-    fn from(error: FileWriteError) -> Fault {
-        match error {
-            FileWriteError::WriteFailed => Fault::WriteFailed,
-            FileWriteError::OutOfMemory => Fault::OutOfMemory,
+            FileError::Memory => Fault::OutOfMemory,
+            FileError::Fault(FileFault::NotThere) => Fault::NotThere,
+            FileError::Fault(FileFault::ReadFailed) => Fault::ReadFailed,
+            FileError::Fault(FileFault::WriteFailed) => Fault::WriteFailed,
         }
     }
 }
@@ -68,17 +44,6 @@ impl From<JournalError> for Fault {
             JournalError::Memory => Fault::OutOfMemory,
             JournalError::Fault(fault) => Fault::Journal(fault),
         }
-    }
-}
-
-impl From<ReadFault> for Fault {
-    ghost use Rattle.std.specs.Prelude.{◌≡◌};
-    ghost use Rattle.yq_history.specs.declared.fault.Fault.TheVariants.{Unreadable};
-
-    ghost from_gives = { λ x e. e ≡ Unreadable x };
-
-    fn from(fault: ReadFault) -> Fault {
-        Fault::Unreadable(fault)
     }
 }
 

@@ -9,7 +9,7 @@ ghost use Rattle.std.specs.Prelude.{◌≡◌, false, IfOk, IfErr, IsTrue, IsNon
 use crate::{Fault, Pair};
 use std::alloc::Global;
 use yq_journal::Journal;
-use yq_store::{FileReadError, Store};
+use yq_store::{FileError, FileFault, Store};
 
 /// Reads a journal; one that isn't there is that of a file that was never edited.
 fn read_journal<D: Store>(alloc: Global, store: &mut D, journal: &str) -> Result<Journal, Fault>
@@ -22,7 +22,7 @@ fn read_journal<D: Store>(alloc: Global, store: &mut D, journal: &str) -> Result
 {
     match store.read(alloc, journal) {
         Ok(bytes) => Ok(Journal::from_json(alloc, &bytes)?),
-        Err(FileReadError::NotThere) => Ok(Journal::new(alloc)),
+        Err(FileError::Fault(FileFault::NotThere)) => Ok(Journal::new(alloc)),
         Err(error) => Err(Fault::from(error)),
     }
 }

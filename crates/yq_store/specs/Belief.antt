@@ -1,8 +1,8 @@
 -- Which journals are believed, by what the system reports of them and of the links to them (own).
 use Rattle.std.specs.Prelude.{ℕ, ◌==◌, ◌&&◌, List, [], ◌∷◌, Bool, true, if◌then◌else◌, Option, Some, None}
+use Rattle.std.{specs.declared.io.ErrorKind.ErrorKind, specs.declared.io.ErrorKind.TheVariants.{InvalidInput, PermissionDenied}}
 use Rattle.yq_store.{specs.declared.disk.found.FoundFile.FoundFile, specs.declared.disk.state.FileState.FileState}
 use Rattle.yq_store.{specs.Trust.{believes, covers, with_file}, specs.declared.disk.trust.Trust.Trust}
-use Rattle.yq_store.{specs.declared.disk.belief.Disbelief.Disbelief, specs.declared.disk.belief.Disbelief.TheVariants.{SameFile, Untrusted}}
 
 -- the device and the inode are the same
 abbrev pub is_same_file : FileState → FileState → Bool
@@ -20,7 +20,7 @@ is_trusted journal links t =
     cover_links t (with_file t journal.writers) links && believes t journal.writers journal.links
 
 -- why a journal isn't read: it is the file, or isn't trusted
-abbrev pub unbelieved : FoundFile → List (ℕ × ℕ) → Trust → FileState → Option Disbelief
+abbrev pub unbelieved : FoundFile → List (ℕ × ℕ) → Trust → FileState → Option ErrorKind
 unbelieved journal links t file =
-    if is_same_file file journal.state then Some SameFile
-    else if is_trusted journal links t then None else Some Untrusted
+    if is_same_file file journal.state then Some InvalidInput
+    else if is_trusted journal links t then None else Some PermissionDenied

@@ -1,15 +1,14 @@
 -- Calls of a store, with what it answered (own).
 use Rattle.std.{specs.Prelude.{ℕ, List, Result, Ok, Err, Vec}, specs.declared.alloc.Global.Global}
-use Rattle.yq_store.{specs.Count.count_plus_one, specs.declared.store.FileReadError.FileReadError}
-use Rattle.yq_store.specs.declared.store.FileWriteError.{FileWriteError}
+use Rattle.yq_store.specs.Count.{count_plus_one, FileError}
 
 -- a name was read, or bytes were put under it
 pub data Call : Type 0 where
-  reads : List ℕ → Result (List ℕ) FileReadError → Call
-  writes : List ℕ → List ℕ → Result (Unit {0}) FileWriteError → Call
+  reads : List ℕ → Result (List ℕ) FileError → Call
+  writes : List ℕ → List ℕ → Result (Unit {0}) FileError → Call
 
 -- what was read
-abbrev pub bytes_read : Result (Vec ℕ Global) FileReadError → Result (List ℕ) FileReadError
+abbrev pub bytes_read : Result (Vec ℕ Global) FileError → Result (List ℕ) FileError
 bytes_read (Ok v) = Ok v.items
 bytes_read (Err e) = Err e
 

@@ -1,11 +1,10 @@
 -- Owner, group and mode of the file that replaces another one, or of a journal (own).
 use Rattle.std.specs.Prelude.{ℕ, ◌≡◌, ◌*◌, ◌==◌, ◌||◌, List, [], ◌∷◌, Bool, bit_and, bit_or, if◌then◌else◌, Option, Some, None, Result, Ok}
-use Rattle.std.{specs.Prelude.Err, specs.Fs.metadata_mode, specs.declared.fs.attrs.Metadata.Metadata}
+use Rattle.std.{specs.Prelude.Err, specs.Fs.metadata_mode, specs.declared.fs.attrs.Metadata.Metadata, specs.declared.io.ErrorKind.ErrorKind}
+use Rattle.std.specs.declared.io.ErrorKind.TheVariants.{InvalidInput, NotFound, PermissionDenied}
 use Rattle.yq_store.{specs.Belief.is_trusted, specs.declared.disk.found.FoundFile.FoundFile, specs.declared.disk.ownership.Had.Had}
 use Rattle.yq_store.{specs.declared.disk.ownership.Had.TheVariants.{All, Group, Nothing}, specs.declared.disk.ownership.Rights.Rights}
-use Rattle.yq_store.{specs.declared.disk.trust.Trust.Trust, specs.declared.disk.belief.Disbelief.Disbelief}
-use Rattle.yq_store.specs.declared.disk.belief.Disbelief.TheVariants.{Dangling, Irregular, Untrusted}
-use Rattle.yq_store.specs.declared.disk.trust.Writers.{Writers}
+use Rattle.yq_store.{specs.declared.disk.trust.Trust.Trust, specs.declared.disk.trust.Writers.Writers}
 
 -- the bits of a mode that say who may read, write and run
 abbrev pub read_write_run : ℕ → ℕ
@@ -36,13 +35,13 @@ rights_of_old_journal j f beside =
     else record { owner = Some j.owner; group = j.group; mode = mode_in_another_group (mode_within j.mode f.mode) }
 
 -- of the journal that replaces an old one or is new; a journal that is no regular file or isn't trusted is refused, and so is a link to nothing
-abbrev pub rights_of_written : Option FoundFile → List (ℕ × ℕ) → Trust → Writers → Bool → Result Rights Disbelief
+abbrev pub rights_of_written : Option FoundFile → List (ℕ × ℕ) → Trust → Writers → Bool → Result Rights ErrorKind
 rights_of_written None [] t f beside = Ok (rights_of_new_journal f beside)
-rights_of_written None (link ∷ rest) t f beside = Err Dangling
+rights_of_written None (link ∷ rest) t f beside = Err NotFound
 rights_of_written (Some j) links t f beside =
     if j.is_file
-    then (if is_trusted j links t then Ok (rights_of_old_journal j.writers f beside) else Err Untrusted)
-    else Err Irregular
+    then (if is_trusted j links t then Ok (rights_of_old_journal j.writers f beside) else Err PermissionDenied)
+    else Err InvalidInput
 
 -- this is what the system reports of a file where it found one
 abbrev pub IsFound : Option Metadata → Option FoundFile → Type 0

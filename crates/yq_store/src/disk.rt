@@ -30,7 +30,7 @@ use crate::disk::links::is_absence;
 use crate::disk::locking::LockRequest;
 use crate::disk::purpose::Purpose;
 use crate::disk::reading::read_text;
-use crate::store::{FileReadError, FileWriteError, Store};
+use crate::store::{FileError, FileFault, Store};
 use std::alloc::Global;
 use std::fs::File;
 use std::io::{Eprint, ErrorKind};
@@ -158,27 +158,27 @@ impl<
     ghost leads = { λ s c t. (t.reads ≡ reads_after c s.reads) ×
         (t.writes ≡ writes_after c s.writes) };
 
-    fn read(&mut self, alloc: Global, name: &str) -> Result<Vec<u8>, FileReadError> {
+    fn read(&mut self, alloc: Global, name: &str) -> Result<Vec<u8>, FileError> {
         self.reads = self.reads.saturating_add(1);
         match self.bytes_of(alloc, name) {
             Ok(Some(bytes)) => Ok(bytes),
-            Ok(None) => Err(FileReadError::NotThere),
-            Err(e) if e.kind() == ErrorKind::OutOfMemory => Err(FileReadError::OutOfMemory),
+            Ok(None) => Err(FileError::Fault(FileFault::NotThere)),
+            Err(e) if e.kind() == ErrorKind::OutOfMemory => Err(FileError::Memory),
             Err(_) => {
                 self.failures = self.failures.saturating_add(1);
-                Err(FileReadError::ReadFailed)
+                Err(FileError::Fault(FileFault::ReadFailed))
             }
         }
     }
 
-    fn replace(&mut self, name: &str, bytes: &[u8]) -> Result<(), FileWriteError> {
+    fn replace(&mut self, name: &str, bytes: &[u8]) -> Result<(), FileError> {
         self.writes = self.writes.saturating_add(1);
         match self.put(name, bytes) {
             Ok(()) => Ok(()),
-            Err(e) if e.kind() == ErrorKind::OutOfMemory => Err(FileWriteError::OutOfMemory),
+            Err(e) if e.kind() == ErrorKind::OutOfMemory => Err(FileError::Memory),
             Err(_) => {
                 self.failures = self.failures.saturating_add(1);
-                Err(FileWriteError::WriteFailed)
+                Err(FileError::Fault(FileFault::WriteFailed))
             }
         }
     }

@@ -1,10 +1,10 @@
 //! A store in memory, which can be made to fail.
-ghost use Rattle.std.{specs.Prelude.{◌≡◌, true, [], IfOk, OnErr, option_map}, specs.String.string_bytes};
+ghost use Rattle.std.{specs.Prelude.{◌≡◌, true, [], IfOk, option_map}, specs.String.string_bytes};
 ghost use Rattle.yq_store.{specs.Calls.{reads_after, writes_after}, specs.FileMap.file_bytes};
 ghost use Rattle.std.specs.FinMap as map;
 
-use crate::store::{FileReadError, FileWriteError, Store};
-use std::alloc::Global;
+use crate::store::{FileError, FileFault, Store};
+use std::alloc::{AllocError, Global};
 use std::collections::VecDeque;
 
 /// What a write that fails leaves.
@@ -121,17 +121,11 @@ fn find_bytes<'a>(log: &'a VecDeque<(String, Vec<u8>)>, name: &str) -> Option<&'
 }
 
 /// An entry of the log.
-fn entry(alloc: Global, name: &str, bytes: &[u8]) -> Result<(String, Vec<u8>), FileWriteError>
+fn entry(alloc: Global, name: &str, bytes: &[u8]) -> Result<(String, Vec<u8>), AllocError>
     ensures ok { IfOk result (λ e. (string_bytes e.0 ≡ name.now) × (e.1.items ≡ bytes.now)) }
-    ensures memory { OnErr result (result ≡ Err FileWriteError.OutOfMemory) }
 {
-    let Ok(name) = String::from_str(alloc, name) else {
-        return Err(FileWriteError::OutOfMemory);
-    };
-    let Ok(bytes) = bytes.to_vec(alloc) else {
-        return Err(FileWriteError::OutOfMemory);
-    };
-    Ok((name, bytes))
+    let name = String::from_str(alloc, name)?;
+    Ok((name, bytes.to_vec(alloc)?))
 }
 
 impl Store for MemoryStore {
@@ -144,36 +138,31 @@ impl Store for MemoryStore {
     ghost leads = { λ s c t. (t.reads ≡ reads_after c s.reads) ×
         (t.writes ≡ writes_after c s.writes) };
 
-    fn read(&mut self, alloc: Global, name: &str) -> Result<Vec<u8>, FileReadError> {
+    fn read(&mut self, alloc: Global, name: &str) -> Result<Vec<u8>, FileError> {
         self.reads = self.reads.saturating_add(1);
         if self.next_call().is_some() {
             self.failures = self.failures.saturating_add(1);
-            return Err(FileReadError::ReadFailed);
+            return Err(FileError::Fault(FileFault::ReadFailed));
         }
         match find_bytes(&self.log, name) {
-            None => Err(FileReadError::NotThere),
-            Some(bytes) => match bytes.as_slice().to_vec(alloc) {
-                Ok(copy) => Ok(copy),
-                Err(_) => Err(FileReadError::OutOfMemory),
-            },
+            None => Err(FileError::Fault(FileFault::NotThere)),
+            Some(bytes) => Ok(bytes.as_slice().to_vec(alloc)?),
         }
     }
 
     #[tactic(auto, using(crate::specs::FileMap::get_other))]
-    fn replace(&mut self, name: &str, bytes: &[u8]) -> Result<(), FileWriteError> {
+    fn replace(&mut self, name: &str, bytes: &[u8]) -> Result<(), FileError> {
         self.writes = self.writes.saturating_add(1);
         let next_call = self.next_call();
         if next_call == Some(Left::OldBytes) {
             self.failures = self.failures.saturating_add(1);
-            return Err(FileWriteError::WriteFailed);
+            return Err(FileError::Fault(FileFault::WriteFailed));
         }
         let entry = entry(self.alloc, name, bytes)?;
-        if self.log.push_front(entry).is_err() {
-            return Err(FileWriteError::OutOfMemory);
-        }
+        self.log.push_front(entry)?;
         if next_call == Some(Left::NewBytes) {
             self.failures = self.failures.saturating_add(1);
-            return Err(FileWriteError::WriteFailed);
+            return Err(FileError::Fault(FileFault::WriteFailed));
         }
         Ok(())
     }

@@ -5,7 +5,7 @@ ghost use Rattle.yq_expr_parser.specs.FormAnswers.{ReadsOf, ReadsAll, literal_it
 ghost use Rattle.yq_core.{specs.Values.{value_node, field_of}, specs.Keys.are_distinct};
 ghost use Rattle.yq_expr_parser.specs.Parse as spec;
 
-use crate::error::{ParseError, ParseFault};
+use crate::error::{ParseError, ParseFault, ParseKind};
 use crate::front::{after, closed, expect, number, string};
 use crate::token::left_of;
 use std::alloc::{AllocError, Global};
@@ -31,7 +31,7 @@ fn word(text: &str) -> Option<(&'static str, &str)>
 
 /// A scalar.
 #[tactic(auto, unfolding(crate::specs::Parse::parse_scalar))]
-pub(super) fn scalar(alloc: Global, text: &str) -> Result<(Scalar, &str), ParseFault>
+pub(super) fn scalar(alloc: Global, text: &str) -> Result<(Scalar, &str), ParseError>
     ensures value { ReadsForm (λ s. s) result (spec.parse_scalar (tokens text.now)) }
     ensures shorter { Shortens text.now result }
 {
@@ -66,7 +66,7 @@ fn keys_differ(alloc: Global, fields: &Vec<(String, Value)>) -> Result<bool, All
 }
 
 /// A scalar as a value.
-fn scalar_value(alloc: Global, text: &str) -> Result<(Value, &str), ParseFault>
+fn scalar_value(alloc: Global, text: &str) -> Result<(Value, &str), ParseError>
     ensures value { ReadsForm value_node result (spec.scalar_node_at (tokens text.now)) }
     ensures shorter { Shortens text.now result }
 {
@@ -76,7 +76,7 @@ fn scalar_value(alloc: Global, text: &str) -> Result<(Value, &str), ParseFault>
 /// A literal in which `depth` collections are nested at most.
 #[cycle(literal)]
 #[tactic(auto, unfolding(crate::specs::Parse::literal_at))]
-pub(super) fn literal(alloc: Global, text: &str, depth: usize) -> Result<(Value, &str), ParseFault>
+pub(super) fn literal(alloc: Global, text: &str, depth: usize) -> Result<(Value, &str), ParseError>
     ensures value { ReadsForm value_node result (spec.literal_at depth (tokens text.now)) }
     ensures shorter { Shortens text.now result }
 {
@@ -92,18 +92,18 @@ pub(super) fn literal(alloc: Global, text: &str, depth: usize) -> Result<(Value,
         if keys_differ(alloc, &fields)? {
             return Ok((Value::Map(fields), rest));
         }
-        return Err(ParseFault {
-            error: ParseError::Syntax,
+        return Err(ParseError::Fault(ParseFault {
+            kind: ParseKind::Syntax,
             left: left_of(text),
             expected: "other keys",
-        });
+        }));
     }
     scalar_value(alloc, text)
 }
 
 /// The items of a list, from after its opening bracket.
 #[cycle(literal)]
-fn list(alloc: Global, text: &str, depth: usize) -> Result<(Vec<Value>, &str), ParseFault>
+fn list(alloc: Global, text: &str, depth: usize) -> Result<(Vec<Value>, &str), ParseError>
     ensures value { ReadsAll value_node result (literal_items depth) text.now }
     ensures shorter { Shortens text.now result }
 {
@@ -128,7 +128,7 @@ fn mapping(
     alloc: Global,
     text: &str,
     depth: usize,
-) -> Result<(Vec<(String, Value)>, &str), ParseFault>
+) -> Result<(Vec<(String, Value)>, &str), ParseError>
     ensures value { ReadsAll field_of result (literal_fields depth) text.now }
     ensures shorter { Shortens text.now result }
 {
@@ -149,7 +149,7 @@ fn mapping(
 
 /// A string, `:` and a literal.
 #[cycle(literal)]
-fn field(alloc: Global, text: &str, depth: usize) -> Result<((String, Value), &str), ParseFault>
+fn field(alloc: Global, text: &str, depth: usize) -> Result<((String, Value), &str), ParseError>
     ensures value { ReadsOf field_of result (spec.field_at (spec.literal_at depth)) text.now }
     ensures shorter { Shortens text.now result }
 {

@@ -5,7 +5,7 @@ ghost use Rattle.yq_expr_parser.specs.FormAnswers.{ReadsAll};
 ghost use Rattle.yq_semantics.specs.View.{program_step};
 ghost use Rattle.yq_expr_parser.specs.Parse as spec;
 
-use crate::error::{ParseError, ParseFault};
+use crate::error::{ParseError, ParseFault, ParseKind};
 use crate::front::{after, closed, key, number, string};
 use crate::token::left_of;
 use std::alloc::Global;
@@ -14,7 +14,7 @@ use yq_semantics::PathStep;
 
 /// A step in brackets, from after the opening one.
 #[tactic(auto, unfolding(crate::specs::Parse::bracketed_at))]
-fn bracketed(alloc: Global, text: &str) -> Result<(PathStep, &str), ParseFault>
+fn bracketed(alloc: Global, text: &str) -> Result<(PathStep, &str), ParseError>
     ensures value { ReadsForm program_step result (spec.bracketed_at (tokens text.now)) }
     ensures shorter { Shortens text.now result }
 {
@@ -22,11 +22,11 @@ fn bracketed(alloc: Global, text: &str) -> Result<(PathStep, &str), ParseFault>
         return Ok((PathStep::Each, rest));
     }
     if let Some((digits, rest)) = number(text) {
-        let index = int_value(digits).ok_or(ParseFault {
-            error: ParseError::Syntax,
+        let index = int_value(digits).ok_or(ParseError::Fault(ParseFault {
+            kind: ParseKind::Syntax,
             left: left_of(text),
             expected: "step",
-        })?;
+        }))?;
         return closed(PathStep::Index(index), rest, "]");
     }
     let (key, rest) = string(alloc, text, "step")?;
@@ -34,7 +34,7 @@ fn bracketed(alloc: Global, text: &str) -> Result<(PathStep, &str), ParseFault>
 }
 
 /// A step in brackets, if an opening one is in front.
-fn bracket(alloc: Global, text: &str) -> Result<Option<(PathStep, &str)>, ParseFault>
+fn bracket(alloc: Global, text: &str) -> Result<Option<(PathStep, &str)>, ParseError>
     ensures value { ReadsMaybe program_step result (spec.bracket_at (tokens text.now)) }
     ensures shorter { IfOk result (λ o. IsShorter text.now o) }
 {
@@ -46,7 +46,7 @@ fn bracket(alloc: Global, text: &str) -> Result<Option<(PathStep, &str)>, ParseF
 
 /// A step of a path, if one is in front.
 #[tactic(auto, unfolding(crate::specs::Parse::step_at))]
-fn next_step(alloc: Global, text: &str) -> Result<Option<(PathStep, &str)>, ParseFault>
+fn next_step(alloc: Global, text: &str) -> Result<Option<(PathStep, &str)>, ParseError>
     ensures value { ReadsMaybe program_step result (spec.step_at (tokens text.now)) }
     ensures shorter { IfOk result (λ o. IsShorter text.now o) }
 {
@@ -60,7 +60,7 @@ fn next_step(alloc: Global, text: &str) -> Result<Option<(PathStep, &str)>, Pars
 }
 
 /// The steps in front, all of them.
-fn steps(alloc: Global, text: &str) -> Result<(Vec<PathStep>, &str), ParseFault>
+fn steps(alloc: Global, text: &str) -> Result<(Vec<PathStep>, &str), ParseError>
     ensures value { ReadsAll program_step result (spec.many spec.step_at) text.now }
     ensures within { IfOk result (λ x. length x.1.now ≤ length text.now) }
     ensures shorter { IfOk result (λ x. 0 < vec_len x.0 → length x.1.now < length text.now) }
@@ -80,17 +80,17 @@ fn steps(alloc: Global, text: &str) -> Result<(Vec<PathStep>, &str), ParseFault>
 
 /// A path: its steps, none for `.`.
 #[tactic(auto, unfolding(crate::specs::Parse::path_at))]
-pub(super) fn path(alloc: Global, text: &str) -> Result<(Vec<PathStep>, &str), ParseFault>
+pub(super) fn path(alloc: Global, text: &str) -> Result<(Vec<PathStep>, &str), ParseError>
     ensures value { ReadsForm (λ v. map program_step v.items) result
         (spec.path_at (tokens text.now)) }
     ensures shorter { Shortens text.now result }
 {
     if after(text, "[").is_some() {
-        return Err(ParseFault {
-            error: ParseError::Syntax,
+        return Err(ParseError::Fault(ParseFault {
+            kind: ParseKind::Syntax,
             left: left_of(text),
             expected: ".",
-        });
+        }));
     }
     let (steps, rest) = steps(alloc, text)?;
     if steps.is_empty() {

@@ -6,7 +6,7 @@ ghost use Rattle.yq_expr_parser.specs.Parse as spec;
 
 use super::literal::scalar;
 use super::path::path;
-use crate::error::{ParseError, ParseFault};
+use crate::error::{ParseError, ParseFault, ParseKind};
 use crate::front::{after, closed, expect, string};
 use crate::token::left_of;
 use std::alloc::Global;
@@ -14,7 +14,7 @@ use yq_semantics::{Comparison, Condition, Operand, Stage, is_simple};
 
 /// What is compared.
 #[tactic(auto, using(yq_semantics::proofs::Lists::list_all_map), unfolding(crate::specs::Parse::operand_at))]
-fn operand(alloc: Global, text: &str) -> Result<(Operand, &str), ParseFault>
+fn operand(alloc: Global, text: &str) -> Result<(Operand, &str), ParseError>
     ensures value { ReadsForm operand_of result (spec.operand_at (tokens text.now)) }
     ensures shorter { Shortens text.now result }
 {
@@ -28,15 +28,15 @@ fn operand(alloc: Global, text: &str) -> Result<(Operand, &str), ParseFault>
     if is_simple(&steps) {
         return Ok((Operand::Path(steps), rest));
     }
-    Err(ParseFault {
-        error: ParseError::Syntax,
+    Err(ParseError::Fault(ParseFault {
+        kind: ParseKind::Syntax,
         left: left_of(text),
         expected: "one value",
-    })
+    }))
 }
 
 /// `==`, which is true, or `!=`.
-fn comparison(text: &str) -> Result<(bool, &str), ParseFault>
+fn comparison(text: &str) -> Result<(bool, &str), ParseError>
     ensures value { ReadsForm (λ b. b) result (spec.comparison_at (tokens text.now)) }
     ensures shorter { Shortens text.now result }
 {
@@ -48,7 +48,7 @@ fn comparison(text: &str) -> Result<(bool, &str), ParseFault>
 
 /// A condition.
 #[tactic(auto, unfolding(crate::specs::Parse::condition_at))]
-fn condition(alloc: Global, text: &str) -> Result<(Condition, &str), ParseFault>
+fn condition(alloc: Global, text: &str) -> Result<(Condition, &str), ParseError>
     ensures value { ReadsForm condition_of result (spec.condition_at (tokens text.now)) }
     ensures shorter { Shortens text.now result }
 {
@@ -70,7 +70,7 @@ fn condition(alloc: Global, text: &str) -> Result<(Condition, &str), ParseFault>
 
 /// A stage of a pipe.
 #[tactic(auto, unfolding(crate::specs::Parse::stage_at))]
-fn stage(alloc: Global, text: &str) -> Result<(Stage, &str), ParseFault>
+fn stage(alloc: Global, text: &str) -> Result<(Stage, &str), ParseError>
     ensures value { ReadsForm stage_of result (spec.stage_at (tokens text.now)) }
     ensures shorter { Shortens text.now result }
 {
@@ -83,7 +83,7 @@ fn stage(alloc: Global, text: &str) -> Result<(Stage, &str), ParseFault>
 
 /// A pipe: its stages.
 #[tactic(auto, unfolding(crate::specs::Parse::pipe_at))]
-pub(super) fn pipe(alloc: Global, text: &str) -> Result<(Vec<Stage>, &str), ParseFault>
+pub(super) fn pipe(alloc: Global, text: &str) -> Result<(Vec<Stage>, &str), ParseError>
     ensures value { ReadsForm (λ v. map stage_of v.items) result (spec.pipe_at (tokens text.now)) }
     ensures shorter { Shortens text.now result }
 {
@@ -101,7 +101,7 @@ pub(super) fn pipe(alloc: Global, text: &str) -> Result<(Vec<Stage>, &str), Pars
 
 /// The left side of an update: a path, or a pipe in parentheses.
 #[tactic(auto, unfolding(crate::specs::Parse::left_at))]
-pub(super) fn left(alloc: Global, text: &str) -> Result<(Vec<Stage>, &str), ParseFault>
+pub(super) fn left(alloc: Global, text: &str) -> Result<(Vec<Stage>, &str), ParseError>
     ensures value { ReadsForm (λ v. map stage_of v.items) result (spec.left_at (tokens text.now)) }
     ensures shorter { Shortens text.now result }
 {

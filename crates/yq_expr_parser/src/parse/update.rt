@@ -7,7 +7,7 @@ ghost use Rattle.yq_expr_parser.specs.Parse as spec;
 
 use super::literal::literal;
 use super::pipe::{left, pipe};
-use crate::error::ParseFault;
+use crate::error::{ParseError, ParseFault};
 use crate::front::{after, begins_step, closed, expect, string};
 use std::alloc::Global;
 use yq_semantics::{Assignment, Comment, CommentPlace, Operator, Stage, Term, Update};
@@ -31,7 +31,7 @@ fn begins_left(text: &str) -> bool
 
 /// A term of a sum.
 #[tactic(auto, unfolding(crate::specs::Parse::term_at))]
-fn term(alloc: Global, text: &str) -> Result<(Term, &str), ParseFault>
+fn term(alloc: Global, text: &str) -> Result<(Term, &str), ParseError>
     ensures value { ReadsForm term_of result (spec.term_at literal_depth (tokens text.now)) }
     ensures shorter { Shortens text.now result }
 {
@@ -43,7 +43,7 @@ fn term(alloc: Global, text: &str) -> Result<(Term, &str), ParseFault>
 
 /// A sum: its terms.
 #[tactic(auto, unfolding(crate::specs::Parse::right_at))]
-fn right(alloc: Global, text: &str) -> Result<(Vec<Term>, &str), ParseFault>
+fn right(alloc: Global, text: &str) -> Result<(Vec<Term>, &str), ParseError>
     ensures value { ReadsAll term_of result (spec.right_at literal_depth) text.now }
     ensures shorter { Shortens text.now result }
 {
@@ -74,7 +74,7 @@ fn operator(text: &str) -> Option<(Operator, &str)>
 }
 
 /// The place of a comment.
-fn place(text: &str) -> Result<(CommentPlace, &str), ParseFault>
+fn place(text: &str) -> Result<(CommentPlace, &str), ParseError>
     ensures value { ReadsForm (λ p. p) result (spec.place_at (tokens text.now)) }
     ensures shorter { Shortens text.now result }
 {
@@ -86,7 +86,7 @@ fn place(text: &str) -> Result<(CommentPlace, &str), ParseFault>
 
 /// What is done with what `left` finds.
 #[tactic(auto, unfolding(crate::specs::Parse::action_at))]
-fn action(alloc: Global, left: Vec<Stage>, text: &str) -> Result<(Update, &str), ParseFault>
+fn action(alloc: Global, left: Vec<Stage>, text: &str) -> Result<(Update, &str), ParseError>
     ensures value { ReadsOf update_of result (action_on left) text.now }
     ensures shorter { Shortens text.now result }
 {
@@ -108,7 +108,7 @@ fn action(alloc: Global, left: Vec<Stage>, text: &str) -> Result<(Update, &str),
 
 /// An update.
 #[tactic(auto, unfolding(crate::specs::Parse::parse_update))]
-fn update(alloc: Global, text: &str) -> Result<(Update, &str), ParseFault>
+fn update(alloc: Global, text: &str) -> Result<(Update, &str), ParseError>
     ensures value { ReadsForm update_of result (spec.parse_update literal_depth (tokens text.now)) }
     ensures shorter { Shortens text.now result }
 {
@@ -121,7 +121,7 @@ fn update(alloc: Global, text: &str) -> Result<(Update, &str), ParseFault>
 }
 
 /// Updates, one after the other.
-pub(super) fn updates(alloc: Global, text: &str) -> Result<(Vec<Update>, &str), ParseFault>
+pub(super) fn updates(alloc: Global, text: &str) -> Result<(Vec<Update>, &str), ParseError>
     ensures value { ReadsAll update_of result all_updates text.now }
     ensures shorter { Shortens text.now result }
 {

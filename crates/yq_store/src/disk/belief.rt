@@ -26,44 +26,21 @@ pub fn is_trusted(journal: &FoundFile, links: &[Maker], trust: Trust) -> bool
     trust.believes(journal.writers, journal.links)
 }
 
-/// Why a journal is neither read nor written.
-#[derive(Clone, Copy, PartialEq, Eq)]
-pub enum Disbelief {
-    /// It is the file itself.
-    SameFile,
-    /// It isn't trusted.
-    Untrusted,
-    /// It is no regular file.
-    Irregular,
-    /// A link in its place leads to nothing.
-    Dangling,
-}
-
-impl From<Disbelief> for io::Error {
-    fn from(why: Disbelief) -> io::Error {
-        io::Error::from(match why {
-            Disbelief::SameFile | Disbelief::Irregular => ErrorKind::InvalidInput,
-            Disbelief::Untrusted => ErrorKind::PermissionDenied,
-            Disbelief::Dangling => ErrorKind::NotFound,
-        })
-    }
-}
-
-/// Why a journal, to which these links lead, isn't read, if so.
+/// Why a journal, to which these links lead, isn't read, if so: it is the file itself, or isn't trusted.
 pub fn unbelieved(
     journal: &FoundFile,
     links: &[Maker],
     trust: Trust,
     file: FileState,
-) -> Option<Disbelief>
+) -> Option<ErrorKind>
     ensures { result ≡ spec.unbelieved journal.now links.now trust file }
 {
     if file.is_same(journal.state) {
-        Some(Disbelief::SameFile)
+        Some(ErrorKind::InvalidInput)
     } else if is_trusted(journal, links, trust) {
         None
     } else {
-        Some(Disbelief::Untrusted)
+        Some(ErrorKind::PermissionDenied)
     }
 }
 

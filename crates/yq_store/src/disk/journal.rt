@@ -3,7 +3,7 @@ ghost use Rattle.std.specs.Prelude.{◌≡◌, None, IfOk, IfSome};
 ghost use Rattle.yq_store.specs.Belief as spec;
 ghost use Rattle.yq_store.specs.Rights as rights;
 
-use crate::disk::belief::{BelievedJournal, Disbelief, OpenJournal, is_trusted, unbelieved};
+use crate::disk::belief::{BelievedJournal, OpenJournal, is_trusted, unbelieved};
 use crate::disk::found::FoundFile;
 use crate::disk::journal_limit::most_read;
 use crate::disk::links::{Target, folder_of, is_absence, target_of};
@@ -58,24 +58,24 @@ pub fn read_journal<R: Files<File = File> + Env + Alloc<A = Global>>(
 }
 
 /// The rights of the journal that is to be written in the place of an old one, if any, to which these
-/// links lead. A link to nothing, and a journal that isn't believed, are errors.
+/// links lead. What is no regular file, a journal that isn't trusted, and a link to nothing are errors.
 fn rights_of_written(
     old: Option<FoundFile>,
     links: &[Maker],
     trust: Trust,
     file: Writers,
     is_beside: bool,
-) -> Result<Rights, Disbelief>
+) -> Result<Rights, ErrorKind>
     ensures { result ≡ rights.rights_of_written old links.now trust file is_beside }
 {
     match old {
-        Some(old) if !old.is_file => Err(Disbelief::Irregular),
+        Some(old) if !old.is_file => Err(ErrorKind::InvalidInput),
         Some(old) if is_trusted(&old, links, trust) => {
             Ok(Rights::of_old_journal(old.writers, file, is_beside))
         }
-        Some(_) => Err(Disbelief::Untrusted),
+        Some(_) => Err(ErrorKind::PermissionDenied),
         None if links.is_empty() => Ok(Rights::of_new_journal(file, is_beside)),
-        None => Err(Disbelief::Dangling),
+        None => Err(ErrorKind::NotFound),
     }
 }
 

@@ -109,7 +109,7 @@ returns-in_err-replace-clause-calls g c =
     let p = err_from_is_err_and c.from_residual-in_err-replace.result c.from_residual-in_err-replace.ensures.1 in
     let first = was_put_as g.D.Store.leads tt c.args.open.pair.journal.now _ _ c.args.store.now c.write_journal.new.store c.in_ok-start_known.ensures.ok c.in_ok-write_journal.ensures.calls in
     three_writes g.D.Store.leads c.from_residual-in_err-replace.result c.args.open.pair.file.now c.args.open.pair.journal.now c.args.open.state c.args.step c.args.open.text.items c.args.store.now c.replace.new.self c.args.new.now free c.requires.moves c.requires.changes
-    (inr (inr (c.write_journal.new.store, first, inr (inl (_, c.in_err-replace.ensures.call, p.1 ∙ ap Err p.2)))))
+    (inr (inr (c.write_journal.new.store, first, inr (inl (_, c.in_err-replace.ensures.fault, c.in_err-replace.ensures.call, p.1 ∙ ap Err p.2)))))
 
 pub returns-in_err-finish-clause-calls : goal.returns-in_err-finish-clause-calls
 returns-in_err-finish-clause-calls g c =
