@@ -3,18 +3,18 @@ ghost use Rattle.std.specs.List.{list_any};
 ghost use Rattle.std.specs.Prelude.{◌≡◌, ◌<◌, ◌++◌, ◌==◌, if◌then◌else◌, length, option_and_then, option_map, string_bytes, true, IfErr};
 ghost use Rattle.std.specs.Prelude.{IfOk, IfSome, IsTrue, List, ℕ};
 ghost use Rattle.yq_core.{specs.Answers.IsOfText, specs.Text.front, specs.Borrowed.borrows_text as is_borrowed_text};
-ghost use Rattle.yq_core.{specs.Quoted.IsQuotedText, specs.Scalars.is_quoted as is_in_quotes};
-ghost use Rattle.yq_row_table.{specs.Reading.is_alphanumeric, specs.View.rows_of};
+ghost use Rattle.yq_core.{specs.Nodes.begins_with, specs.Quoted.IsQuotedText, specs.QuotedReading.is_quote};
+ghost use Rattle.yq_core.specs.Scalars.{is_quoted as is_in_quotes};
+ghost use Rattle.yq_row_table.specs.Reading.{is_alphanumeric};
 ghost use Rattle.yq_documents.specs.Decoded.{IsDecodedBy, decoded_view, decoded_head_flow};
-ghost use Rattle.yq_documents.{specs.Reading.{content_is_fit, cut_of, have_fit_keys, mark_is_fit}, specs.RowReading.row_fits};
-ghost use Rattle.yq_compose.specs.Deciding.{Decides};
-ghost use Rattle.yq_compose.specs.Decoding.{AreDecoded, IsCutInto, IsHeadDecoded, IsKeyDecoded, OfRow, list_of_option};
+ghost use Rattle.yq_documents.{specs.Reading.{content_is_fit, cut_of, mark_is_fit}, specs.RowReading.row_fits};
+ghost use Rattle.yq_compose.{specs.Deciding.Decides, specs.Decoding.{IsCutInto, IsHeadDecoded, IsKeyDecoded, OfRow}};
 ghost use Rattle.yq_compose.specs.Checking as spec;
 
 use crate::borrowing::borrow_head;
 use crate::fit::key_fits;
 use crate::nested::{Flow, flow_decoded};
-use std::alloc::{AllocError, Global};
+use std::alloc::Global;
 use yq_core::fault_place::fault_at;
 use yq_core::{FaultKind, ReadError, Run, first_is, is_quoted, run_len};
 use yq_documents::{Decoded, DecodedHead, borrowed_text, node_refers};
@@ -32,11 +32,40 @@ fn holds_escape(is_double: bool, inner: &str) -> bool
     inner.as_bytes().iter().any(|b| *b == sign)
 }
 
+/// Whether the quote in front, one on the same line and no quote, LF or backslash between them are the text.
+#[inline(always)]
+fn is_quoted_run(quote: u8, text: &[u8]) -> bool
+    requires quote { is_quote quote ≡ true }
+    requires front { begins_with quote text.now ≡ true }
+    ensures { IsTrue result → is_borrowed_text text.now ≡ true }
+{
+    let rest = text.split_at(1).1;
+    let n = run_len(Run::Quoted(quote), rest);
+    n + 2 == text.len() && first_is(quote, rest.split_at(n).1)
+}
+
+/// Whether a key or scalar is in quotes on one line, and has no escapes, as sixteen bytes at a time tell.
+#[inline(always)]
+fn is_quoted_line(piece: &[u8]) -> bool
+    ensures { IsTrue result → is_borrowed_text piece.now ≡ true }
+{
+    if first_is(b'"', piece) {
+        return is_quoted_run(b'"', piece);
+    }
+    if first_is(b'\'', piece) {
+        return is_quoted_run(b'\'', piece);
+    }
+    false
+}
+
 /// Whether the text lends what a key or scalar means: it is on one line, and has no escapes.
 pub(crate) fn borrows_text(piece: &str) -> bool
     requires { is_in_quotes piece.now ≡ true → IsQuotedText piece.now }
     ensures { result ≡ is_borrowed_text piece.now }
 {
+    if is_quoted_line(piece.as_bytes()) {
+        return true;
+    }
     if holds_break(piece) {
         return false;
     }
@@ -165,7 +194,7 @@ fn decoded_row<'t>(
 }
 
 /// What is made of row `i`, where its keys are fit; nothing where its text lends all it spells.
-fn decoded_of<'t>(
+pub(crate) fn decoded_of<'t>(
     alloc: Global,
     text: &'t str,
     rows: &Rows<'t>,
@@ -187,48 +216,6 @@ fn decoded_of<'t>(
         Ok(head) => Ok(decoded_row(i, key, head)),
         Err(e) => Err(e),
     }
-}
-
-/// Adds what is made of one more row, if anything is.
-fn push_decoded<'t>(
-    decoded: Vec<Decoded<'t>>,
-    row: Option<Decoded<'t>>,
-) -> Result<Vec<Decoded<'t>>, AllocError>
-    ensures { IfOk result (λ ms. ms.items ≡ decoded.entry.items ++ list_of_option row.entry) }
-{
-    let mut decoded = decoded;
-    match row {
-        Some(found) => {
-            decoded.push(found)?;
-            Ok(decoded)
-        }
-        None => Ok(decoded),
-    }
-}
-
-/// What is made of the rows of a text, where the keys of each are fit.
-pub(crate) fn decode_rows<'t>(
-    alloc: Global,
-    text: &'t str,
-    rows: &Rows<'t>,
-) -> Result<Vec<Decoded<'t>>, ReadError>
-    requires cut { IsCutInto text.now rows.now }
-    ensures fits { Decides result (have_fit_keys (rows_of (cut_of text.now))) }
-    ensures decoded { IfOk result (λ ms. AreDecoded text.now ms.items) }
-    ensures fault { IfErr result IsOfText }
-{
-    let mut decoded = Vec::new(alloc);
-    let mut at = 0;
-    'rows: while at < rows.len() {
-        let row = match decoded_of(alloc, text, rows, at) {
-            Ok(row) => row,
-            Err(e) => return Err(e),
-        };
-        decoded = push_decoded(decoded, row)?;
-        at += 1;
-    }
-    decoded.shrink_to_fit();
-    Ok(decoded)
 }
 
 /// Whether an alias is in what is made of a row.

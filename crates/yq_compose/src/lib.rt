@@ -18,6 +18,7 @@ mod parts;
 mod passing;
 mod reached;
 mod reading;
+mod row_decoding;
 mod sound;
 
 pub use reading::read_rows;

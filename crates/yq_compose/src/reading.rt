@@ -7,9 +7,10 @@ ghost use Rattle.yq_compose.{specs.Checking.some_refer, specs.Deciding.Decides, 
 ghost use Rattle.yq_compose.specs.Places.{AreLocated, all_sound};
 
 use crate::checked::Checked;
-use crate::decoding::{decode_rows, some_refer};
+use crate::decoding::some_refer;
 use crate::document::check_document;
 use crate::parts::document_rows;
+use crate::row_decoding::decode_rows;
 use std::alloc::Global;
 use yq_core::ReadError;
 use yq_documents::{Decoded, DocumentRows, Documents};

@@ -1,6 +1,6 @@
 use Rattle.std.proofs.Common.{◌≤◌, ◌-◌, length}
 use Rattle.yq_compose.proofs.DecodedRows.{DecodedUpto}
-use Rattle.yq_compose.proofs.decoding.decode_rows.Given as goal
+use Rattle.yq_compose.proofs.row_decoding.decode_rows.Given as goal
 
 abbrev pub decreases-rows : goal.decreases-rows
 decreases-rows l = length l.rows.rows - l.at

@@ -3,7 +3,7 @@ use Rattle.yq_row_table.specs.View.{rows_of}
 use Rattle.yq_documents.{specs.Reading.{cut_of, have_fit_keys}, specs.RowReading.row_fits}
 use Rattle.yq_compose.{proofs.AllOf.all_fails, proofs.DecidingLaws.denies_as}
 use Rattle.yq_compose.{proofs.DecodedRows.{are_decoded, decoded_done, decoded_start, row_step}, proofs.RowsRead.{row_at, rows_count}}
-use Rattle.yq_compose.proofs.decoding.decode_rows.Goals as goal
+use Rattle.yq_compose.proofs.row_decoding.decode_rows.Goals as goal
 
 pub rows-init : goal.rows-init
 rows-init c = record { within = omega arith; so_far = decoded_start c.args.text.now c.new-decoded.result.items c.new-decoded.ensures.items }

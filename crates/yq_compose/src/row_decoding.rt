@@ -1,0 +1,54 @@
+//! What rows spell, made one after the other where their text doesn't lend it.
+ghost use Rattle.std.specs.Prelude.{◌≡◌, ◌++◌, IfErr, IfOk};
+ghost use Rattle.yq_core.specs.Answers.{IsOfText};
+ghost use Rattle.yq_row_table.specs.View.{rows_of};
+ghost use Rattle.yq_documents.specs.Reading.{cut_of, have_fit_keys};
+ghost use Rattle.yq_compose.{specs.Deciding.Decides, specs.Decoding.{AreDecoded, IsCutInto, list_of_option}};
+
+use crate::decoding::decoded_of;
+use std::alloc::{AllocError, Global};
+use yq_core::ReadError;
+use yq_documents::Decoded;
+use yq_row_table::Rows;
+
+/// Adds what is made of one more row, if anything is.
+fn push_decoded<'t>(
+    decoded: Vec<Decoded<'t>>,
+    row: Option<Decoded<'t>>,
+) -> Result<Vec<Decoded<'t>>, AllocError>
+    ensures { IfOk result (λ ms. ms.items ≡ decoded.entry.items ++ list_of_option row.entry) }
+{
+    let mut decoded = decoded;
+    match row {
+        Some(found) => {
+            decoded.push(found)?;
+            Ok(decoded)
+        }
+        None => Ok(decoded),
+    }
+}
+
+/// What is made of the rows of a text, where the keys of each are fit.
+pub(crate) fn decode_rows<'t>(
+    alloc: Global,
+    text: &'t str,
+    rows: &Rows<'t>,
+) -> Result<Vec<Decoded<'t>>, ReadError>
+    requires cut { IsCutInto text.now rows.now }
+    ensures fits { Decides result (have_fit_keys (rows_of (cut_of text.now))) }
+    ensures decoded { IfOk result (λ ms. AreDecoded text.now ms.items) }
+    ensures fault { IfErr result IsOfText }
+{
+    let mut decoded = Vec::new(alloc);
+    let mut at = 0;
+    'rows: while at < rows.len() {
+        let row = match decoded_of(alloc, text, rows, at) {
+            Ok(row) => row,
+            Err(e) => return Err(e),
+        };
+        decoded = push_decoded(decoded, row)?;
+        at += 1;
+    }
+    decoded.shrink_to_fit();
+    Ok(decoded)
+}
