@@ -19,6 +19,8 @@ pub mod RemovalRunLaws
 pub mod RemovalAnswers
 pub mod RowPutLaws
 pub mod RowCommentLaws
+pub mod RowBreakLaws
+pub mod RowHeadLaws
 pub mod UptoLaws
 pub mod OwnRowsStay
 pub mod EntryRemains

@@ -115,7 +115,7 @@ comment_puts_there t n (s ∷ ss) text white comment x put read is operand white
       finish = stop;
       starts = subst (IsCharBoundary (cut_text c)) (sym place) (comment_starts n s ss text c e again is.found is.last);
       ends = subst (IsCharBoundary (cut_text c)) (sym stop) (comment_ends n s ss text c e again is.found is.last);
-      there = λ d there still. subst (PutsSo (line_comment n (s ∷ ss) text) d (rows_still e still) (comment_old text w) (w.break ++ (w.lines ++ (w.last ++ w.behind)))) (sym new) (comment_comes n s ss text c e again is.found is.last d there still);
+      there = λ d there breaks still. subst (PutsSo (line_comment n (s ∷ ss) text) d (rows_still e still) (comment_old text w) (w.break ++ (w.lines ++ (w.last ++ w.behind)))) (sym new) (comment_comes n s ss text c e again is.found is.last d there still);
     }
   where
     taken : (b : Bool) (u v : List ℕ) → length (cond b [] u) + length (cond b u [] ++ v) ≡ length u + length v

@@ -145,7 +145,7 @@ value_puts t n (s ∷ ss) v x put read is inline plain operand doc row start fin
       finish = stop;
       starts = subst (IsCharBoundary (cut_text c)) (sym place) (value_starts n s ss v c e again is.found h plain);
       ends = subst (IsCharBoundary (cut_text c)) (sym stop) (value_ends n s ss v c e again is.found h plain);
-      there = λ d there still. there_so d there still again h (bytes_in string_bytes put.written) (subst (λ (y : List ℕ). IsWrittenSo (node_in n (s ∷ ss) c) v y (bytes_in string_bytes put.written)) is.head written);
+      there = λ d there breaks still. there_so d there still again h (bytes_in string_bytes put.written) (subst (λ (y : List ℕ). IsWrittenSo (node_in n (s ∷ ss) c) v y (bytes_in string_bytes put.written)) is.head written);
     }
   where
     there_so : (d : Cut) → read_at (cut_text d) ≡ Some d → (still : StandsStill is.entry n (s ∷ ss) d) → read_at (cut_text (cut_of t)) ≡ Some (cut_of t) → (h : HoldsInline is.entry) (w : Option (List ℕ)) → IsWrittenSo (node_in n (s ∷ ss) (cut_of t)) v (held is.entry).head w →

@@ -10,10 +10,10 @@ use Rattle.yq_text.{specs.Script.splice_at, specs.Splice.Splice}
 use Rattle.yq_edit_laws.{proofs.CutLaws.text_read, proofs.FlowAnswers.whole_text, specs.Answers.EditFails, specs.Carried.carried}
 use Rattle.yq_edit_laws.{specs.Edit.{gives, refuses}, specs.Theorems.IsFitting, specs.declared.edit_error.EditError.EditError}
 use Rattle.yq_edit_laws.{proofs.ApplyLaws.applied_by, proofs.TextFaults.text_utf8}
-use Rattle.yq_batch.specs.RowRuns.{IsLast, IsRowRun, IsRowsRun, Passed, PutsInRow, PutsSo, PutsText, RowsGoOn, bytes_in, rows_still}
-use Rattle.yq_batch.{specs.Runs.{HasPut, PutFails, now_text, run_front, text_with_run}, specs.declared.in_rows.RowPut.RowPut}
-use Rattle.yq_batch.specs.declared.run.PutRun.{PutRun}
-use Rattle.yq_batch.proofs.RowRunLaws.{old_is, read_now, row_goes_on, row_put_comes, row_put_large, row_stays}
+use Rattle.yq_batch.specs.RowRuns.{IsLast, IsRowRun, IsRowsRun, Passed, PutsInRow, PutsSo, PutsText, RowsGoOn, WritesSameBreak, bytes_in}
+use Rattle.yq_batch.{specs.RowRuns.rows_still, specs.Runs.{HasPut, PutFails, now_text, run_front, text_with_run}}
+use Rattle.yq_batch.{specs.declared.in_rows.RowPut.RowPut, specs.declared.run.PutRun.PutRun}
+use Rattle.yq_batch.proofs.RowRunLaws.{old_is, read_now, row_goes_on, row_put_comes, row_put_large, row_stays, text_now}
 use Rattle.yq_edit_laws.specs.declared.edit_error.EditError.TheVariants as error
 
 -- nothing was changed yet
@@ -60,7 +60,8 @@ module _ (t u : List ℕ) (read : read_at t ≡ Some (cut_of t)) (all : u ≡ t)
   pub row_order : (op : Operation) (x : RowPut) → PutsInRow op (cut_of t) x → x.start ≤ x.end
   row_order op x h = omega (arith, h.start, h.finish)
 
-module _ (t u : List ℕ) (op : Operation) (o : Option (ℕ × ℕ)) (before : PutRun) (x : RowPut) (read : read_at t ≡ Some (cut_of t)) (all : u ≡ t) (run : IsRowsRun (cut_of t) o before) (h : PutsInRow op (cut_of t) x) (passed : Passed o x.doc x.row) (ordered : before.done ≤ x.start) (fitting : IsFitting op (now_text (cut_of t) before)) where
+module _ (t u : List ℕ) (op : Operation) (o : Option (ℕ × ℕ)) (before : PutRun) (x : RowPut) (read : read_at t ≡ Some (cut_of t)) (all : u ≡ t) (run : IsRowsRun (cut_of t) o before) (h : PutsInRow op (cut_of t) x) (passed : Passed o x.doc x.row) (ordered : before.done ≤ x.start) (fitting : IsFitting op (now_text (cut_of t) before))
+    (same : WritesSameBreak op (cut_text (cut_of t)) (now_text (cut_of t) before)) where
   abbrev c : Cut
   c = cut_of t
 
@@ -73,8 +74,12 @@ module _ (t u : List ℕ) (op : Operation) (o : Option (ℕ × ℕ)) (before : P
   abbrev there : StandsStill h.entry m h.steps run.run.cut
   there = run.run.stays m h.steps h.entry h.found later
 
+  same_there : WritesSameBreak op (cut_text c) (cut_text run.run.cut)
+  same_there =
+      subst (WritesSameBreak op (cut_text c)) (sym (text_now c run.document run.row (string_bytes before.text) before.done run.run op h.steps h.entry h.found later)) same
+
   so : PutsSo op run.run.cut (rows_still h.entry there) h.old h.behind (bytes_in string_bytes x.written)
-  so = h.there run.run.cut (read_now c run.document run.row (string_bytes before.text) before.done run.run op h.steps h.entry h.found later) there
+  so = h.there run.run.cut (read_now c run.document run.row (string_bytes before.text) before.done run.run op h.steps h.entry h.found later) same_there there
 
   -- all bytes stay
   pub row_kept_on : x.written ≡ None → RowsGoOn op c before o before

@@ -4,11 +4,13 @@ use Rattle.std.{specs.Prelude.{true, false, string_bytes}, specs.Str.IsCharBound
 use Rattle.yq_text.{specs.Limit.text_limit, specs.Script.{Segment, keep, new_text, old_text}, specs.Splice.Splice}
 use Rattle.yq_core.{specs.Paths.Step, specs.Text.is_empty, specs.Tree.Node, specs.declared.style.Place.TheVariants.Block as InBlock}
 use Rattle.yq_row_table.specs.Rows.{Cut, cut_text}
-use Rattle.yq_documents.{specs.LinesInRows.document_row, specs.Reading.{documents, read_at}}
-use Rattle.yq_places.specs.Standings.{RowsOfEntry, rows_of_entry}
+use Rattle.yq_documents.{specs.declared.path.Path.Path, specs.LinesInRows.document_row, specs.Located.steps_of}
+use Rattle.yq_documents.specs.Reading.{cut_of, documents, read_at}
+use Rattle.yq_places.{specs.FirstBreak.first_break, specs.Standings.{RowsOfEntry, rows_of_entry}}
 use Rattle.yq_edit_rules.{specs.RowStays.{IsBehind, StandsStill}, specs.Edits.op_edits, specs.Operands.HasOperand}
 use Rattle.yq_edit_rules.{specs.Replacing.keeps_scalar, specs.RowChanges.{ChangesRow, PutsOne}, specs.WrittenValues.value_text}
-use Rattle.yq_semantics.{specs.After.op_document, specs.Fits.Fits, specs.Operations.Operation, specs.Rooms.room_of}
+use Rattle.yq_semantics.{specs.After.op_document, specs.Fits.Fits, specs.Rooms.room_of}
+use Rattle.yq_semantics.specs.Operations.{Operation, append, head_comment, line_comment, remove, replace}
 use Rattle.yq_edit_laws.{specs.Carried.carried, specs.Edit.gives, specs.Theorems.IsApplied}
 use Rattle.yq_batch.{specs.Runs.{now_text, text_with_run}, specs.declared.in_rows.RowPut.RowPut, specs.declared.run.PutRun.PutRun}
 
@@ -78,10 +80,23 @@ IsWrittenSo old v head (Some w) = (keeps_scalar old v ≡ false) × (w ≡ value
 abbrev pub white_left : (text white comment : List ℕ) → List ℕ
 white_left text white comment = if is_empty text && not (is_empty comment) then [] else white
 
--- an operation puts a text, or leaves all bytes alone, wherever the item or entry is still (own)
-abbrev pub PutsWhereStill : Operation → RowsOfEntry → List Step → (old behind : List ℕ) → Option (List ℕ) → Type 0
-PutsWhereStill op e steps old behind new =
-    (d : Cut) → read_at (cut_text d) ≡ Some d → (s : StandsStill e (op_document op) steps d) → PutsSo op d (rows_still e s) old behind new
+-- an operation ends the lines that it writes by the same break in two texts: those of a head comment by the first one (5.4; own)
+abbrev pub WritesSameBreak : Operation → (t u : List ℕ) → Type 0
+WritesSameBreak (replace n steps v) t u = ⊤
+WritesSameBreak (append n steps key v) t u = ⊤
+WritesSameBreak (remove n steps) t u = ⊤
+WritesSameBreak (line_comment n steps text) t u = ⊤
+WritesSameBreak (head_comment n steps text) t u = first_break u ≡ first_break t
+
+-- the same of a text that was read, and of that with what a run made of it (own)
+abbrev pub KeepsBreak : Operation → Cut → PutRun → Type 0
+KeepsBreak op c r = WritesSameBreak op (cut_text c) (now_text c r)
+
+-- an operation puts a text, or leaves all bytes alone, wherever the item or entry is still and lines end by the same break (own)
+abbrev pub PutsWhereStill : Operation → List ℕ → RowsOfEntry → List Step → (old behind : List ℕ) → Option (List ℕ) → Type 0
+PutsWhereStill op t e steps old behind new =
+    (d : Cut) → read_at (cut_text d) ≡ Some d → WritesSameBreak op t (cut_text d) → (s : StandsStill e (op_document op) steps d) →
+    PutsSo op d (rows_still e s) old behind new
 
 -- An operation puts a text in a row, or leaves it alone, wherever the item or entry is still (own).
 pub record PutsInRow (op : Operation) (c : Cut) (x : RowPut) : Type 0 where
@@ -99,7 +114,11 @@ pub record PutsInRow (op : Operation) (c : Cut) (x : RowPut) : Type 0 where
   pub finish : x.end ≡ length before + length old
   pub starts : IsCharBoundary (cut_text c) x.start
   pub ends : IsCharBoundary (cut_text c) x.end
-  pub there : PutsWhereStill op entry steps old behind (bytes_in string_bytes x.written)
+  pub there : PutsWhereStill op (cut_text c) entry steps old behind (bytes_in string_bytes x.written)
+
+-- a head comment with a text is put above the row to which a path leads in a text, wherever the item or entry is still (own)
+abbrev pub PutsAbove : Path → (text t : List ℕ) → RowPut → Type 0
+PutsAbove p text t x = PutsInRow (head_comment p.doc (steps_of p) text) (cut_of t) x
 
 -- An operation is carried out on the text of a run, which goes on after it, and after the row that was changed last then (own).
 pub record RowsGoOn (op : Operation) (c : Cut) (before : PutRun) (last : Option (ℕ × ℕ)) (after : PutRun) : Type 0 where

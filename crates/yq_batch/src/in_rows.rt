@@ -1,11 +1,11 @@
 //! Operations of an update that each change one row: they are carried out together, on the rows as they
 //! were read.
-ghost use Rattle.std.specs.Prelude.{◌≡◌, ◌+◌, ◌≤◌, length, true, IfErr, IfOk, IfSome, string_bytes};
+ghost use Rattle.std.specs.Prelude.{◌≡◌, ◌+◌, ◌≤◌, ◌++◌, ℕ, List, length, true, IfErr, IfOk, IfSome, IsTrue, string_bytes};
 ghost use Rattle.yq_text.specs.Limit.{text_limit};
 ghost use Rattle.yq_core.specs.Values.{value_node};
 ghost use Rattle.yq_documents.{specs.Located.steps_of, specs.Reading.cut_of};
-ghost use Rattle.yq_places.{specs.NodesAt.node_in, specs.StandingViews.IsHeldRow};
-ghost use Rattle.yq_semantics.specs.Operations.{line_comment, operation_of, operations_of, replace};
+ghost use Rattle.yq_places.{specs.FirstBreak.first_break, specs.NodesAt.node_in, specs.StandingViews.IsHeldRow};
+ghost use Rattle.yq_semantics.specs.Operations.{head_comment, line_comment, operation_of, operations_of, replace};
 ghost use Rattle.yq_edit_rules.specs.Operands.{HasOperand};
 ghost use Rattle.yq_edit_laws.{specs.Answers.EditFails, specs.Carried.{carry_all, carried}, specs.Theorems.IsFitting};
 ghost use Rattle.yq_edit_laws.specs.Valid.{AreServed};
@@ -14,15 +14,19 @@ ghost use Rattle.yq_batch.specs.RowRuns as spec;
 
 use crate::run::PutRun;
 use std::alloc::{AllocError, Global};
-use yq_block_edits::{comment_written, is_kept_in_row};
-use yq_core::{Place, Value};
+use yq_block_edits::{comment_written, head_comment_written, is_kept_in_row};
+use yq_core::lines::text_len;
+use yq_core::{Break, Place, Value, first_is};
 use yq_documents::Path;
 use yq_edit_laws::{EditError, operand_holds};
 use yq_edit_rules::{is_filled, value_text};
 use yq_lookup::CutText;
-use yq_places::HeldRow;
+use yq_places::{HeldRow, is_text};
 use yq_semantics::Op;
-use yq_text::Edited;
+use yq_text::{Edited, Halves};
+
+/// Among how many of the first bytes of a text its first break is looked for.
+const NEAR_BREAK: usize = 1024;
 
 /// A text that an operation puts in a row, in the place of what is between two places.
 #[derive(Drop)]
@@ -129,6 +133,37 @@ fn comment_in_row(
     }))
 }
 
+/// A head comment in the place of another one, or of none, above a row.
+fn comment_above_row(
+    alloc: Global,
+    cut: &CutText<'_, '_>,
+    path: &Path,
+    text: &str,
+) -> Result<Option<RowPut>, AllocError>
+    requires operand { HasOperand (head_comment path.now.doc (steps_of path.now) text.now) }
+    ensures { IfOk result (λ o. IfSome o (spec.PutsAbove path.now text.now cut.now)) }
+{
+    let Some(at) = cut.row_line(path) else {
+        return Ok(None);
+    };
+    let Some(above) = cut.lines_above(path) else {
+        return Ok(None);
+    };
+    let _text = cut.text();
+    let run = Halves::of(above.run);
+    is_text(run);
+    is_text(above.behind);
+    let start = above.before.len();
+    let written = head_comment_written(alloc, cut, above.column, text)?;
+    Ok(Some(RowPut {
+        doc: path.doc,
+        row: at.row,
+        start,
+        end: start + above.run.len(),
+        written: Some(written),
+    }))
+}
+
 /// What an operation puts in a row, if it does no more than that. From then on it is known what is on
 /// its way.
 fn row_put(alloc: Global, cut: &mut CutText<'_, '_>, op: &Op) -> Result<Option<RowPut>, AllocError>
@@ -146,7 +181,42 @@ fn row_put(alloc: Global, cut: &mut CutText<'_, '_>, op: &Op) -> Result<Option<R
             Some(at) => comment_in_row(alloc, cut, path, &at, text),
             None => Ok(None),
         },
-        Op::Append(_, _, _) | Op::Remove(_) | Op::HeadComment(_, _) => Ok(None),
+        Op::HeadComment(path, text) => {
+            cut.go_along(alloc, path);
+            comment_above_row(alloc, cut, path, text)
+        }
+        Op::Append(_, _, _) | Op::Remove(_) => Ok(None),
+    }
+}
+
+/// The break that ends the first line of a text, if it is near.
+fn near_break(text: &[u8]) -> Option<Break>
+    ensures { IfSome result (λ b. (more : List ℕ) → first_break (text.now ++ more) ≡ b) }
+{
+    let near = text.split_at(text.len().min(NEAR_BREAK)).0;
+    let end = text_len(near);
+    if end >= near.len() {
+        return None;
+    }
+    if first_is(b'\r', near.split_at(end).1) {
+        return Some(Break::CrLf);
+    }
+    Some(Break::Lf)
+}
+
+/// Whether an operation ends lines by the same break in the text of a run as in the text that was read.
+fn writes_same_break(cut: &CutText<'_, '_>, op: &Op, run: &PutRun) -> bool
+    ensures { IsTrue result → spec.KeepsBreak (operation_of op.now) (cut_of cut.now) run.now }
+{
+    let Op::HeadComment(_, _) = op else {
+        return true;
+    };
+    if run.text.is_empty() && run.done == 0 {
+        return true;
+    }
+    match (near_break(run.text.as_bytes()), cut.first_break()) {
+        (Some(Break::Lf), Break::Lf) | (Some(Break::CrLf), Break::CrLf) => true,
+        _ => false,
     }
 }
 
@@ -179,6 +249,9 @@ fn put_one(
         (now_text (cut_of cut.old) run.old))) }
 {
     let text = cut.text();
+    if !writes_same_break(cut, op, run) {
+        return Ok(None);
+    }
     let Some(found) = row_put(alloc, cut, op)? else {
         return Ok(None);
     };
@@ -202,8 +275,8 @@ fn put_one(
 /// Whether an operation may be one that changes one row.
 fn may_change_row(op: &Op) -> bool {
     match op {
-        Op::Replace(_, _) | Op::LineComment(_, _) => true,
-        Op::Append(_, _, _) | Op::Remove(_) | Op::HeadComment(_, _) => false,
+        Op::Replace(_, _) | Op::LineComment(_, _) | Op::HeadComment(_, _) => true,
+        Op::Append(_, _, _) | Op::Remove(_) => false,
     }
 }
 

@@ -4,12 +4,14 @@ use Rattle.yq_core.{specs.BlockWritten.break_text, specs.Paths.Step, specs.Scala
 use Rattle.yq_core.specs.declared.value.Value.{Value}
 use Rattle.yq_documents.{specs.Located.steps_of, specs.Reading.cut_of, specs.declared.path.Path.Path}
 use Rattle.yq_outline.specs.Bodies.{borrowed}
-use Rattle.yq_places.specs.NodesAt.{node_in, scalar_in}
-use Rattle.yq_row_table.specs.Rows.{Cut}
+use Rattle.yq_places.{specs.FirstBreak.first_break, specs.NodesAt.{node_in, scalar_in}}
+use Rattle.yq_row_table.specs.Rows.{Cut, cut_text}
+use Rattle.yq_semantics.specs.Meaning.{head_comment_lines}
 use Rattle.yq_text.{specs.Halves.whole, specs.declared.halves.Halves.Halves}
 use Rattle.yq_edit_rules.{specs.declared.entry.Child.Child, specs.declared.layout.Layout.Layout, specs.BlockText.block_value}
-use Rattle.yq_edit_rules.{specs.ClosedTexts.{is_closed_text, lines_put_behind}, specs.EntryEdits.{entry_lines, more_lines}}
-use Rattle.yq_edit_rules.{specs.Layouts.layout_of, specs.ReplaceEdits.has_text, specs.Replacing.{are_same, keeps_scalar}}
+use Rattle.yq_edit_rules.{specs.CommentEdits.head_lines, specs.ClosedTexts.{is_closed_text, lines_put_behind}}
+use Rattle.yq_edit_rules.{specs.EntryEdits.{entry_lines, more_lines}, specs.Layouts.layout_of, specs.ReplaceEdits.has_text}
+use Rattle.yq_edit_rules.specs.Replacing.{are_same, keeps_scalar}
 
 -- what a definition says of a path in the cut of a text
 abbrev pub at_path : {A : Type 0} → (ℕ → List Step → Cut → A) → Path → List ℕ → A
@@ -26,6 +28,10 @@ child_lines l column c = entry_lines l column (borrowed c.key) (value_node c.val
 -- those of one more item or entry after a last line, which ends in this break or in none
 abbrev pub more_text : Layout → Child → ℕ → List ℕ → List ℕ
 more_text l c column last = more_lines l (borrowed c.key) (value_node c.value.now) column last
+
+-- the lines of a head comment with a text in a column, which end with the first break of the text that they are put in (6.6)
+abbrev pub head_comment_written : (column : ℕ) (t text : List ℕ) → List ℕ
+head_comment_written column t text = head_lines column (break_text (first_break (cut_text (cut_of t)))) (head_comment_lines text)
 
 -- a value on lines of its own after a text
 abbrev pub lines_put_after : Halves → Layout → Value → List ℕ

@@ -1,9 +1,13 @@
 //! HeadComment: comments on lines above a key or dash.
+ghost use Rattle.yq_core.{specs.BlockWritten.break_text, specs.Strings.{AddsText, GivesText}};
+ghost use Rattle.yq_row_table.specs.Rows.{cut_text};
+ghost use Rattle.yq_documents.specs.Reading.{cut_of};
+ghost use Rattle.yq_places.specs.FirstBreak.{first_break};
 ghost use Rattle.yq_semantics.specs.Meaning.{head_comment_lines};
 ghost use Rattle.yq_edit_rules.specs.Answers.{GivesSegments};
 ghost use Rattle.yq_block_edits.specs.TextsPut.{at_path};
-ghost use Rattle.yq_core.specs.Strings.{AddsText, GivesText};
 ghost use Rattle.yq_edit_rules.specs.CommentEdits as spec;
+ghost use Rattle.yq_block_edits.specs.TextsPut as written;
 
 use std::alloc::{AllocError, Global};
 use yq_documents::Path;
@@ -42,6 +46,21 @@ fn head_lines(alloc: Global, column: usize, br: &str, text: &str) -> Result<Stri
     Ok(out)
 }
 
+/// The lines of a head comment with a text, in a column; they end with the first break of the text.
+///
+/// # Errors
+/// [`AllocError`] where memory is refused.
+pub fn head_comment_written(
+    alloc: Global,
+    cut: &CutText<'_, '_>,
+    column: usize,
+    text: &str,
+) -> Result<String, AllocError>
+    ensures { GivesText result (written.head_comment_written column cut.now text.now) }
+{
+    head_lines(alloc, column, break_text(cut.first_break()), text)
+}
+
 /// A head comment set at a path; `None` where no item or entry outside flow collections is there, or
 /// its line isn't the first one of its row.
 ///
@@ -58,8 +77,7 @@ pub fn head_comment_at<'t>(
     let Some(above) = cut.lines_above(path) else {
         return Ok(None);
     };
-    let br = break_text(cut.first_break());
-    let new = head_lines(alloc, above.column, br, text)?;
+    let new = head_comment_written(alloc, cut, above.column, text)?;
     let segments = vec![in alloc;
         Segment::Keep(above.before),
         Segment::Put(Halves::of(above.run), new),

@@ -14,7 +14,7 @@ mod replace;
 mod space;
 
 pub use append::more_at;
-pub use head_comment::head_comment_at;
+pub use head_comment::{head_comment_at, head_comment_written};
 pub use kept::{is_kept, is_kept_in_row};
 pub use line_comment::{comment_written, line_comment_at};
 pub use lone::{lone_put, no_rows_put, root_put};

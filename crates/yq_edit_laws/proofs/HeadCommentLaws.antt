@@ -25,8 +25,9 @@ use Rattle.yq_edit_rules.{proofs.TextPieceLaws.text_is_piece, specs.CommentEdits
 use Rattle.yq_edit_rules.{proofs.CommentPieceLaws.{AreParts, head_parts, lines_piece}, proofs.StandingMarks.{row_there, under_there}}
 use Rattle.yq_edit_rules.{proofs.StandingRows.rows_stand, proofs.CommentReadLaws.{lines_agree, lines_gap, lines_stand}}
 use Rattle.yq_edit_rules.proofs.CommentRowLaws.{IsEntryRow, cut_spelled, entry_found, row_line_is_block, some_steps}
+use Rattle.yq_edit_rules.specs.RowChanges.{ChangesRow, HeadCommentsChangeRows}
 use Rattle.yq_semantics.{specs.Changes.can_be_comment, specs.Meaning.head_comment_lines, specs.Operations.{Operation, head_comment}}
-use Rattle.yq_edit_laws.proofs.OneRows.{MakesRow, PutsRow, at_last, first_row, row_carried, shape_keeps, text_now}
+use Rattle.yq_edit_laws.proofs.OneRows.{MakesRow, PutsRow, at_last, first_row, row_carried, row_made, shape_keeps, text_now}
 use Rattle.yq_core.specs.Text as text
 use Rattle.yq_semantics.specs.declared.program.CommentPlace.TheVariants as comments
 
@@ -169,6 +170,20 @@ module _ (n : ℕ) (s : Step) (ss : List Step) (text : List ℕ) (br : Break) (c
     pub carried : length (new_text us) ≤ text_limit → CarriedOut (head_comment n (s ∷ ss) text) c us
     carried = row_carried op c (first_row n s ss c e there) new us puts change makes
 
+    pub changes_row : length (new_text us) ≤ text_limit → ChangesRow n c e us
+    changes_row size = record {
+      part = there.part;
+      there = there.old.there;
+      front = e.front;
+      row = e.row;
+      new = new;
+      back = back;
+      rows_are = there.rows_are;
+      front_size = refl;
+      shape = refl;
+      read = row_made op c (first_row n s ss c e there) new us puts change makes size;
+    }
+
 pub head_comment_is_put : HeadCommentIsPut
 head_comment_is_put n [] text c e ss read is so = absurd (no_root_rows n c e is)
 head_comment_is_put n (s ∷ st) text c e ss read is so =
@@ -176,3 +191,7 @@ head_comment_is_put n (s ∷ st) text c e ss read is so =
     let br : Break = first_break (cut_text c) in
     subst (IsEdit (head_comment n (s ∷ st) text) c) (same_Some _ _ g.1)
     (record { old = old_is n s st text br c e read is; carried = λ utf8 fits size. carried n s st text br c e read is (eqb-true e.line 0 g.0) utf8 fits.2.1 size })
+
+pub head_comments_change_rows : HeadCommentsChangeRows
+head_comments_change_rows n [] text br c e read is first operand fits size = absurd (no_root_rows n c e is)
+head_comments_change_rows n (s ∷ ss) text br c e read is first operand fits size = changes_row n s ss text br c e read is first operand fits.2.1 size

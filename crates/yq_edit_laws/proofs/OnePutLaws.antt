@@ -1,13 +1,14 @@
--- Segments that put one text in the place of another: a value on one line, or a line comment.
+-- Segments that put one text in the place of another: a value on one line, a line comment or a head comment.
 use Rattle.std.proofs.Common.{◌≡◌, ℕ, ◌+◌, Bool, true, false, cond, List, [], ◌∷◌, ◌++◌, length, refl, sym, ap, ◌∙◌, arith, append-nil}
 use Rattle.std.{proofs.Common.{append_assoc, length-append}, specs.Prelude.⊤}
 use Rattle.yq_core.{specs.Text.is_empty, specs.Tree.Node, specs.declared.style.Place.TheVariants.Block as InBlock}
 use Rattle.yq_places.specs.Standings.{Held}
 use Rattle.yq_text.{specs.Script.{Segment, changes, keep, keep_before, merged, put, put_before, splice_at, splices_at}, specs.Splice.Splice}
 use Rattle.yq_text.proofs.TouchLaws.{put_twice}
-use Rattle.yq_edit_rules.{specs.CommentEdits.comment_written, specs.ReplaceEdits.spaced_text}
-use Rattle.yq_edit_rules.specs.RowChanges.{CommentPutsOne, InlinePutsOne, PutsOne, inline_put, takes_white}
+use Rattle.yq_edit_rules.{specs.CommentEdits.{comment_written, head_lines}, specs.ReplaceEdits.spaced_text}
+use Rattle.yq_edit_rules.specs.RowChanges.{CommentPutsOne, HeadCommentPutsOne, InlinePutsOne, PutsOne, inline_put, takes_white}
 use Rattle.yq_edit_rules.specs.WrittenValues.{value_text}
+use Rattle.yq_semantics.specs.Meaning.{head_comment_lines}
 
 -- ---- segments that exchange no bytes
 
@@ -123,3 +124,15 @@ module _ (h : Held) (text : List ℕ) where
 
 pub comment_puts : CommentPutsOne
 comment_puts text h = by_white h text (takes_white text h)
+
+-- ---- a head comment
+
+pub head_comment_puts : HeadCommentPutsOne
+unfolding changes
+head_comment_puts br text w =
+    let new : List ℕ = head_lines w.column br (head_comment_lines text) in
+    record {
+      old_is = ap (λ (t : List ℕ). w.before ++ (w.run ++ t)) (append-nil w.behind);
+      new_is = ap (λ (t : List ℕ). w.before ++ (new ++ t)) (append-nil w.behind);
+      changes_are = first_keep w.before (merged (put w.run new ∷ (keep w.behind ∷ []))) ∙ put_quiet (length w.before) w.run new (keep w.behind ∷ []) tt;
+    }

@@ -1,18 +1,19 @@
 -- What operations exchange that change one row.
-use Rattle.std.proofs.Common.{◌≡◌, Bool, true, cond, eqb, eq-eqb, List, [], ◌∷◌, length, Option, Some, None, option_map, refl, sym, ap, ◌∙◌}
-use Rattle.std.{proofs.lemmas.Bool.false≢true, specs.Option.option_or}
+use Rattle.std.proofs.Common.{◌≡◌, Bool, true, cond, eqb, eq-eqb, ℕ, List, [], ◌∷◌, length, Option, Some, None, option_map, refl, sym, ap}
+use Rattle.std.{proofs.Common.◌∙◌, proofs.lemmas.Bool.false≢true, specs.Option.option_or}
 use Rattle.yq_core.{specs.Answers.◌>>=◌, specs.Text.is_empty, specs.declared.style.Place.TheVariants.Block as InBlock}
 use Rattle.yq_core.specs.BlockWritten.{break_text}
 use Rattle.yq_row_table.{specs.Rows.{Content, Nothing, Inline, Block, cut_text}, specs.Seams.is_block, specs.View.content_cut}
-use Rattle.yq_places.specs.NodesAt.{node_in}
+use Rattle.yq_places.{specs.FirstBreak.first_break, specs.NodesAt.node_in}
 use Rattle.yq_places.specs.Standings.{RowsOfEntry, behind_mark, below, beside, compact, compact_in, entry_standing, flow_standing, held}
 use Rattle.yq_places.specs.Standings.{last_step, standing_at}
 use Rattle.yq_text.specs.Script.{Segment, keep}
-use Rattle.yq_edit_rules.{specs.CommentEdits.{comment_put, line_comment_put}, specs.FlowParts.flow_put, specs.Layouts.layout_of}
+use Rattle.yq_edit_rules.specs.CommentEdits.{above_rows, comment_put, head_comment_put, head_comment_segments, line_comment_put}
+use Rattle.yq_edit_rules.{specs.FlowParts.flow_put, specs.Layouts.layout_of}
 use Rattle.yq_edit_rules.{specs.ReplaceEdits.{has_text, held_put, value_put, value_put_at}, specs.Replacing.keeps_scalar}
-use Rattle.yq_edit_rules.specs.RowChanges.{CommentEdits, HoldsInline, InlineEdits, RowEdits, inline_put}
+use Rattle.yq_edit_rules.specs.RowChanges.{CommentEdits, HeadCommentEdits, HoldsInline, InlineEdits, RowEdits, inline_put}
 use Rattle.yq_edit_rules.specs.WrittenValues.{collection_at, inline, value_text}
-use Rattle.yq_edit_laws.proofs.OnePutLaws.{comment_puts, inline_puts}
+use Rattle.yq_edit_laws.proofs.OnePutLaws.{comment_puts, head_comment_puts, inline_puts}
 
 -- an inline node is beside its key or dash
 beside_there : (e : RowsOfEntry) → HoldsInline e → entry_standing e ≡ beside (held e)
@@ -39,5 +40,18 @@ comment_edits n steps text c e at last =
     ap (λ (o : Option RowsOfEntry). o >>= line_comment_put text) at
     ∙ ap (λ (b : Bool). cond b (Some (comment_put text (held e))) None) (eq-eqb e.line (length e.row.dashes) last)
 
+head_comment_edits : HeadCommentEdits
+head_comment_edits n steps text c e at first =
+    let br : List ℕ = break_text (first_break (cut_text c)) in
+    ap (λ (o : Option RowsOfEntry). o >>= head_comment_put br text) at
+    ∙ ap (λ (b : Bool). cond b (Some (head_comment_segments br text (above_rows e))) None) (eq-eqb e.line 0 first)
+
 pub row_edits : RowEdits
-row_edits = record { inline = inline_edits; comment = comment_edits; inline_puts = inline_puts; comment_puts = comment_puts }
+row_edits = record {
+  inline = inline_edits;
+  comment = comment_edits;
+  head_comment = head_comment_edits;
+  inline_puts = inline_puts;
+  comment_puts = comment_puts;
+  head_comment_puts = head_comment_puts;
+}

@@ -1,6 +1,6 @@
 //! Laws on what operations exchange.
 ghost use Rattle.yq_edit_rules.{specs.StandingLaws.HeldSpells, specs.Local.LocalTouches};
-ghost use Rattle.yq_edit_rules.specs.RowChanges.{LineCommentsChangeRows, RowEdits};
+ghost use Rattle.yq_edit_rules.specs.RowChanges.{HeadCommentsChangeRows, LineCommentsChangeRows, RowEdits};
 ghost use Rattle.yq_edit_laws.specs.TouchedRanges.{EditsAreNear, NearAreTouched};
 ghost use Rattle.yq_edit_rules.specs.EditLaws as laws;
 
@@ -54,4 +54,9 @@ pub fn row_edits_are()
 /// A line comment changes one row, and leaves its shape.
 pub fn line_comments_change_rows()
     ensures { LineCommentsChangeRows }
+{}
+
+/// A head comment changes one row, and leaves its shape.
+pub fn head_comments_change_rows()
+    ensures { HeadCommentsChangeRows }
 {}

@@ -2,13 +2,17 @@
 use Rattle.std.specs.Prelude.{◌≡◌, ℕ, ◌≤◌, ◌&&◌, not, Bool, List, [], ◌∷◌, ◌++◌, length, slice_get, Some, false, if◌then◌else◌}
 use Rattle.yq_text.{specs.Limit.text_limit, specs.Script.{Segment, changes, keep, new_text, old_text, splice_at}}
 use Rattle.yq_core.{specs.Paths.Step, specs.Text.is_empty, specs.Tree.Node, specs.declared.style.Place.TheVariants.Block as InBlock}
+use Rattle.yq_core.{specs.BlockWritten.break_text, specs.declared.block_types.Break.Break}
 use Rattle.yq_row_table.{specs.Rows.{Cut, Part, Row, cut_text}, specs.Seams.is_block, specs.View.slices}
 use Rattle.yq_documents.{specs.Documents.document_parts, specs.Reading.{documents, read_at}}
-use Rattle.yq_places.{specs.Standings.{Held, RowsOfEntry, held, rows_of_entry}, specs.NodesAt.node_in}
+use Rattle.yq_places.{specs.Standings.{Held, RowsOfEntry, held, rows_of_entry}, specs.NodesAt.node_in, specs.CommentPlaces.LinesAbove}
+use Rattle.yq_places.specs.FirstBreak.{first_break}
 use Rattle.yq_edit_rules.{specs.Appends.inserted, specs.Changed.put_document, specs.Rooms.row_shape, specs.BlockReading.is_filled}
-use Rattle.yq_edit_rules.{specs.CommentEdits.{comment_put, comment_written}, specs.Edits.op_edits, specs.Operands.HasOperand}
-use Rattle.yq_edit_rules.{specs.ReplaceEdits.held_put, specs.Replacing.keeps_scalar, specs.WrittenValues.{inline, value_text}}
-use Rattle.yq_semantics.{specs.Fits.Fits, specs.Operations.{line_comment, replace}, specs.Rooms.room_of}
+use Rattle.yq_edit_rules.specs.CommentEdits.{above_rows, comment_put, comment_written, head_comment_segments, head_lines}
+use Rattle.yq_edit_rules.{specs.Edits.op_edits, specs.Operands.HasOperand, specs.ReplaceEdits.held_put, specs.Replacing.keeps_scalar}
+use Rattle.yq_edit_rules.specs.WrittenValues.{inline, value_text}
+use Rattle.yq_semantics.{specs.Fits.Fits, specs.Meaning.head_comment_lines, specs.Operations.{head_comment, line_comment, replace}}
+use Rattle.yq_semantics.specs.Rooms.{room_of}
 
 -- In the cut of the text that segments make, the row of an item or entry of document n has given way to another one of its shape (own).
 pub record ChangesRow (n : ℕ) (c : Cut) (e : RowsOfEntry) (ss : List Segment) : Type 0 where
@@ -55,6 +59,15 @@ LineCommentsChangeRows =
     HasOperand (line_comment n steps text) → Fits (room_of (cut_text c)) (line_comment n steps text) (documents c) →
     length (new_text (comment_put text (held e))) ≤ text_limit → ChangesRow n c e (comment_put text (held e))
 
+-- HeadComment changes the row that the key or dash of an item or entry begins, whichever break ends its lines.
+abbrev pub HeadCommentsChangeRows : Type 0
+HeadCommentsChangeRows =
+    (n : ℕ) (steps : List Step) (text : List ℕ) (br : Break) (c : Cut) (e : RowsOfEntry) → read_at (cut_text c) ≡ Some c →
+    rows_of_entry n steps c ≡ Some e → e.line ≡ 0 →
+    HasOperand (head_comment n steps text) → Fits (room_of (cut_text c)) (head_comment n steps text) (documents c) →
+    length (new_text (head_comment_segments (break_text br) text (above_rows e))) ≤ text_limit →
+    ChangesRow n c e (head_comment_segments (break_text br) text (above_rows e))
+
 -- what a Replace exchanges there, by whether its value is the scalar that is there
 abbrev pub InlineEdits : Type 0
 InlineEdits =
@@ -68,6 +81,12 @@ abbrev pub CommentEdits : Type 0
 CommentEdits =
     (n : ℕ) (steps : List Step) (text : List ℕ) (c : Cut) (e : RowsOfEntry) → rows_of_entry n steps c ≡ Some e → e.line ≡ length e.row.dashes →
     op_edits (line_comment n steps text) c ≡ Some (comment_put text (held e))
+
+-- what a HeadComment exchanges, with lines that end with the first break of the text
+abbrev pub HeadCommentEdits : Type 0
+HeadCommentEdits =
+    (n : ℕ) (steps : List Step) (text : List ℕ) (c : Cut) (e : RowsOfEntry) → rows_of_entry n steps c ≡ Some e → e.line ≡ 0 →
+    op_edits (head_comment n steps text) c ≡ Some (head_comment_segments (break_text (first_break (cut_text c))) text (above_rows e))
 
 -- A value so put is one text in the place of the head, where no lines are below.
 abbrev pub InlinePutsOne : Type 0
@@ -93,9 +112,17 @@ CommentPutsOne =
     (text : List ℕ) (h : Held) →
     PutsOne (comment_put text h) (comment_front text h) (comment_old text h) (comment_written text h.comment) (h.break ++ (h.lines ++ (h.last ++ h.behind)))
 
+-- A head comment is its lines in the place of those of another one, or of none.
+abbrev pub HeadCommentPutsOne : Type 0
+HeadCommentPutsOne =
+    (br text : List ℕ) (w : LinesAbove) →
+    PutsOne (head_comment_segments br text w) w.before w.run (head_lines w.column br (head_comment_lines text)) w.behind
+
 -- These laws together (own).
 pub record RowEdits : Type 0 where
   pub inline : InlineEdits
   pub comment : CommentEdits
+  pub head_comment : HeadCommentEdits
   pub inline_puts : InlinePutsOne
   pub comment_puts : CommentPutsOne
+  pub head_comment_puts : HeadCommentPutsOne

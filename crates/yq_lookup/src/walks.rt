@@ -50,7 +50,7 @@ impl<'t> CutText<'_, 't> {
     }
 
     /// The line of the entry or item at a path, if one of a row is.
-    pub(crate) fn row_line(&self, path: &Path) -> Option<RowLine>
+    pub fn row_line(&self, path: &Path) -> Option<RowLine>
         ensures { option_map line_view result ≡
             option_map (numbers (document_row path.now.doc (cut_of self.now)))
             (row_line_at path.now (cut_of self.now)) }
