@@ -1,11 +1,10 @@
 -- A block scalar before one text is one before a text that is alike.
 use Rattle.std.proofs.Common.{◌≡◌, inl, inr, ℕ, suc, Bool, false, cond, not, ◌&&◌, eqb, List, [], ◌∷◌, ◌++◌, refl, sym, ap, ◌∙◌, Some}
 use Rattle.std.{proofs.Common.rules, proofs.Math.Bool.and-false, proofs.lemmas.Bool.{false≢true, not-true, cases_Bool, or_parts}}
-use Rattle.yq_core.specs.Block.{is_empty_line, is_less_indented, ends_block, IsBlock, BlockText, keeps}
-use Rattle.yq_core.specs.Lines.{spaces, behind_spaces, is_tab}
-use Rattle.yq_core.specs.Text.{front, is_white, is_feed, is_return, is_break, ends_line, text_lines, put_byte}
+use Rattle.yq_core.{specs.Block.{is_empty_line, is_less_indented, ends_block}, specs.Lines.{spaces, behind_spaces, is_tab}}
+use Rattle.yq_core.specs.Text.{front, is_feed, is_return, is_break, ends_line, text_lines, put_byte}
 use Rattle.yq_core.{specs.declared.block_lines.TextIndent.TextIndent, proofs.Bools.at_byte}
-use Rattle.yq_core.{proofs.SpaceLaws.{prefix_drop, prefix_next, prefix_none}, specs.Alike.{ends_lookahead, Alike, stop, colon, after}}
+use Rattle.yq_core.{proofs.SpaceLaws.{prefix_drop, prefix_next, prefix_none}, specs.Alike.{Alike, stop, colon, after}}
 use Rattle.yq_core.proofs.Alikes.{stop_break}
 use Rattle.yq_row_table.proofs.Fronts.{Starts}
 use Rattle.yq_core.specs.Alike as texts
@@ -60,16 +59,8 @@ lines_after (b ∷ p) t u h = elim (cases_Bool (is_feed b)) [
 
 pub lines_alike : (t u : List ℕ) → Alike (Some false) t u → LinesAlike (text_lines t) (text_lines u)
 unfolding text_lines
-lines_alike _ _ (texts.byte {b} {t} {u} v w x y) =
-    let white = or_parts (is_white b) (is_break (b ∷ t)) v in
-    let other = or_parts (is_white b) (is_break (b ∷ u)) w in
-    let none : is_feed b ≡ false = (or_parts (is_feed b) (is_return b && front is_feed t) white.1).0 in
-    let space = (or_parts (eqb b 32) (eqb b 9) white.0).0 in
-    rw none (put_seam b b t u white.1 other.1 space space refl)
-lines_alike _ _ (stop {b = b} {t = t} {u = u} x) =
-    let none : is_feed b ≡ false = at_byte ends_lookahead b 10 x refl in
-    let space = at_byte ends_lookahead b 32 x refl in
-    rw none (put_seam b b t u (stop_break b t x) (stop_break b u x) space space refl)
+lines_alike _ _ (texts.byte {b} {t} {u} v w x y) = search (rules, or_parts, put_seam)
+lines_alike _ _ (stop {b = b} {t = t} {u = u} x) = search (rules, at_byte, put_seam, stop_break)
 lines_alike _ _ (colon {t = t} {u = u} x y) = put_seam 58 58 t u refl refl refl refl refl
 lines_alike _ _ (after {f = f} {b = b} {t = t} {u = u} h) = lines_after (b ∷ []) t u (lines_alike t u h)
 
@@ -93,8 +84,7 @@ line_spaces _ _ (after_byte {b} {t} {u} e h) =
     ]
 
 no_feed : (l m : List ℕ) → LineAlike l m → (front is_feed l ≡ false) × (front is_feed m ≡ false)
-no_feed _ _ (byte {b} {c} {t} {u} x y s r tab) = ((or_parts (is_feed b) (is_return b && front is_feed t) x).0, (or_parts (is_feed c) (is_return c && front is_feed u) y).0)
-no_feed _ _ (after_byte {b} {t} {u} e h) = (e, e)
+no_feed l m tab = search (rules, or_parts)
 
 line_no_end : (l m : List ℕ) → LineAlike l m → (ends_line l ≡ false) × (ends_line m ≡ false)
 line_no_end _ _ (byte {b} {c} {t} {u} x y s r tab) = (x, y)
@@ -114,13 +104,3 @@ pub ends_alike : (keep : Bool) (f : TextIndent) (ls ms : List (List ℕ)) → Li
 unfolding ends_block
 ends_alike keep f _ _ (here {l} {m} {ls} {ms} h) = let e = line_less f l m h in rw (e.0, e.1) e.2
 ends_alike keep f _ _ (behind {l} {ls} {ms} h) = ap (λ b. cond (is_empty_line f l) (not keep && b) (is_less_indented f l)) (ends_alike keep f ls ms h)
-
-pub block_alike : (least : ℕ) (b : BlockText) (t u : List ℕ) → Alike (Some false) t u → IsBlock least b t → IsBlock least b u
-block_alike least b t u h g = record {
-  indicators = g.indicators;
-  tail = g.tail;
-  indent = g.indent;
-  lines = g.lines;
-  ends = g.ends;
-  behind = sym (ends_alike (keeps b.chomping) b.indent (text_lines t) (text_lines u) (lines_alike t u h)) ∙ g.behind;
-}

@@ -1,22 +1,17 @@
 -- A row, and rows, before one text are rows before a text that is alike.
-use Rattle.std.proofs.Common.{inl, ℕ, ℤ, Bool, false, ◌&&◌, eqb, List, [], ◌∷◌, ◌++◌, Option, Some, None, drop, sym, ap, ◌∙◌, ⊎_elim}
-use Rattle.std.proofs.Common.{replicate, ◌≡◌, rules}
-use Rattle.yq_core.{specs.Block.{BlockText, block_text}, specs.Piece.deeper, specs.Text.joined, specs.Inline.depth_limit}
-use Rattle.yq_core.{specs.Alike.{Alike, after}, proofs.Alikes.{alike_append, alike_separates, alike_marker}}
-use Rattle.yq_core.{proofs.LineNodes.line_node_alike, proofs.NodeKeeps.node_text_alike, proofs.AlikePieces.{scalar_alike, name_alike}}
-use Rattle.yq_row_table.specs.Gap.{IsBreak, IsLineEnd, AreGapLines, IsGap}
+use Rattle.yq_row_table.{proofs.AlikeBlocks.{ends_alike, lines_alike}, specs.Gap.{IsBreak, IsLineEnd, AreGapLines, IsGap}}
 use Rattle.yq_row_table.specs.Grammar.{IsColon, IsKey, IsTail, IsAnchor, IsContent, IsMark, IsRow, Limit, limit_after, AreRows, IsPart}
 use Rattle.yq_row_table.specs.Grammar.{IsMarkerLine}
 use Rattle.yq_row_table.specs.Rows.{RowMark, Bare, Dash, Key, Anchor, Content, Nothing, Inline, Block, dashes_text, mark_text, anchor_text}
 use Rattle.yq_row_table.specs.Rows.{content_text, Row, behind_indent, behind_gap, parent_indent, print_row, rows_text, Part, part_text}
-use Rattle.yq_row_table.proofs.AlikeBlocks.{block_alike}
-
--- ends of lines and gaps
-alike_some : (t u : List ℕ) → Alike (Some false) t u → t ≡ [] → ⊥
-alike_some t u h1 h2 = search rules
+use Rattle.std.proofs.Common.{inl, ℕ, ℤ, Bool, false, ◌&&◌, eqb, List, [], ◌∷◌, ◌++◌, Option, Some, None, drop, sym, ap, ◌∙◌, ⊎_elim}
+use Rattle.std.proofs.Common.{replicate, rules}
+use Rattle.yq_core.{specs.Block.{BlockText, block_text}, specs.Text.joined, specs.Alike.{Alike, after}}
+use Rattle.yq_core.{proofs.Alikes.{alike_append, alike_separates, alike_marker}, proofs.LineNodes.line_node_alike}
+use Rattle.yq_core.{proofs.NodeKeeps.node_text_alike, proofs.AlikePieces.{scalar_alike, name_alike}}
 
 break_alike : (p t u : List ℕ) → Alike (Some false) t u → IsBreak p t → IsBreak p u
-break_alike p t u h g = ⊎_elim {0, 0, 0} (λ e. inl e) (λ e. absurd (alike_some t u h e.1)) g
+break_alike p t u h g = ⊎_elim {0, 0, 0} (λ e. inl e) (λ e. absurd (search rules)) g
 
 line_end_alike : (white comment p t u : List ℕ) → Alike (Some false) t u → IsLineEnd white comment p t → IsLineEnd white comment p u
 line_end_alike white comment p t u h g = record { break = g.break; spelled = g.spelled; blank = g.blank; as_comment = g.as_comment; ends = break_alike g.break t u h g.ends }
@@ -51,10 +46,9 @@ content_text_alike c t u h1 = search (rules, alike_append, node_text_alike, anch
 
 content_alike : (n : ℤ) (c : Content) (t u : List ℕ) → Alike (Some false) t u → IsContent n c t → IsContent n c u
 content_alike n (Nothing tail) t u h g = tail_alike tail t u h g
-content_alike n (Inline space node tail) t u h g =
-    let valid = line_node_alike (Some (deeper n)) node depth_limit (tail ++ t) (tail ++ u) (alike_append (Some false) tail t u h) g.1.valid in
-    (g.0, record { valid = valid; something = g.1.something }, tail_alike tail t u h g.2)
-content_alike n (Block space anchor block) t u h g = (g.0, anchor_alike anchor (block_text block t) (block_text block u) (block_text_alike block t u h) g.1, block_alike (deeper n) block t u h g.2)
+content_alike n (Inline space node tail) t u h g = search (rules, line_node_alike, alike_append, tail_alike)
+content_alike n (Block space anchor block) t u h g =
+    (g.0, anchor_alike anchor (block_text block t) (block_text block u) (block_text_alike block t u h) g.1, (search (rules, ends_alike, lines_alike)))
 
 -- marks
 colon_alike : (p t u : List ℕ) → Alike (Some false) t u → IsColon p t → IsColon p u
@@ -100,10 +94,7 @@ rows_text_alike (r ∷ rs) t u h = row_text_alike r (rows_text rs t) (rows_text 
 
 pub rows_alike : (rs : List Row) (limit : Limit) (end t u : List ℕ) → Alike (Some false) t u → AreRows limit rs end t → AreRows limit rs end u
 rows_alike [] limit end t u h g = row_gap_alike end t u h g
-rows_alike (r ∷ rs) limit end t u h g = (
-  row_alike limit r (rows_text rs (end ++ t)) (rows_text rs (end ++ u)) (rows_text_alike rs (end ++ t) (end ++ u) (alike_append (Some false) end t u h)) g.0,
-  rows_alike rs (limit_after r) end t u h g.1,
-)
+rows_alike (r ∷ rs) limit end t u h g = search (rules, row_alike, rows_text_alike, alike_append, rows_alike rs (limit_after r) end t u h g.1)
 
 -- parts and markers
 pub part_alike : (started : Bool) (p : Part) (t u : List ℕ) → Alike (Some false) t u → IsPart started p t → IsPart started p u

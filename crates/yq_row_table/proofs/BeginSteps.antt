@@ -1,10 +1,10 @@
 -- Dashes and the mark after them, as the code reads them.
-use Rattle.std.proofs.Common.{◌≡◌, ℕ, suc, ◌+◌, ◌-◌, ◌<◌, ◌≤◌, true, false, not, ◌&&◌, List, [], ◌∷◌, ◌++◌, length, take, drop, Option}
-use Rattle.std.proofs.Common.{Some, None, refl, sym, ap, ◌∙◌, subst, arith, append_assoc, append-nil, length-append, replicate}
+use Rattle.std.proofs.Common.{rules, ◌≡◌, ℕ, suc, ◌+◌, ◌-◌, ◌<◌, ◌≤◌, true, false, not, ◌&&◌, List, [], ◌∷◌, ◌++◌, length, take, drop}
+use Rattle.std.proofs.Common.{Option, Some, None, refl, sym, ap, ◌∙◌, subst, arith, append_assoc, append-nil, length-append, replicate}
 use Rattle.std.{proofs.lemmas.List.length-replicate, specs.Str.{IsUtf8, IsCharBoundary}}
 use Rattle.yq_core.{specs.Text.{cut, no_space, is_empty}, proofs.Upto.cut_takes}
 use Rattle.yq_row_table.specs.Slicing.{Begun, begun, with_dashes}
-use Rattle.yq_row_table.specs.Reading.{Marks, read_row_key, begins_entry, is_dash, key_mark, mark_at, undashed, with_dash, read_marks}
+use Rattle.yq_row_table.specs.Reading.{Marks, read_row_key, begins_entry, is_dash, key_mark, mark_at, with_dash, read_marks}
 use Rattle.yq_row_table.{specs.Rows.{RowMark, Dash, behind_columns}, specs.View.last_dash}
 use Rattle.yq_row_table.{proofs.MarkLaws.{dash_is, marks_more, marks_dash, marks_none, spaces_are}, proofs.PieceLaws.key_takes}
 use Rattle.yq_row_table.proofs.FrontLaws.{front_take, front_drop, front_boundary, front_join, front_next}
@@ -14,20 +14,14 @@ columns_from c [] = omega arith
 columns_from c (n ∷ ns) = omega (arith, columns_from (suc (c + n)) ns, columns_from (suc (0 + n)) ns)
 
 begun_more : (n : ℕ) (m : Marks) → begun (with_dash n m) ≡ with_dashes (45 ∷ replicate n 32) (begun m)
-begun_more n m =
-    let columns : behind_columns 0 (n ∷ m.0) ≡ length (45 ∷ replicate n 32) + behind_columns 0 m.0 = omega (arith, columns_from (suc (0 + n)) m.0, length-replicate {A = ℕ} n 32) in
-    ap (λ (k : ℕ). record { dashes = (begun (with_dash n m)).dashes; columns = k; mark = m.1; rest = m.2 }) columns
+begun_more n m = search (rules, columns_from, length-replicate)
 
 front_twice : (p q : List ℕ) (b : Begun) → with_dashes p (with_dashes q b) ≡ with_dashes (p ++ q) b
-front_twice p q b =
-    let columns : length p + (length q + b.columns) ≡ length (p ++ q) + b.columns = omega (arith, length-append p q) in
-    ap (λ (k : ℕ). record { dashes = p ++ (q ++ b.dashes); columns = k; mark = b.mark; rest = b.rest }) columns
-    ∙ ap (λ (l : List ℕ). record { dashes = l; columns = length (p ++ q) + b.columns; mark = b.mark; rest = b.rest }) (sym (append_assoc p q b.dashes))
+front_twice p q b = search (rules, length-append, append_assoc)
 
 -- a dash and the spaces after it
 dash_text : (rest s next : List ℕ) → is_dash rest ≡ true → (s, next) ≡ cut no_space (drop 1 rest) → rest ≡ (45 ∷ s) ++ next
-dash_text rest s next dash e =
-    (dash_is rest dash).0 ∙ ap (λ l. 45 ∷ l) (cut_takes no_space (drop 1 rest) ∙ ap (λ (y : List ℕ × List ℕ). y.0 ++ y.1) (sym e))
+dash_text rest s next dash e = search (rules, dash_is, cut_takes)
 
 -- the loop's step
 pub record Further (text rest next : List ℕ) : Type 0 where
@@ -78,30 +72,14 @@ dash_last text rest behind s next stands short so_far dash one e ends =
     let front : List ℕ = take (length text - length rest) text in
     let join : text ≡ front ++ rest = front_join text rest stands in
     let whole : text ≡ (front ++ (45 ∷ [])) ++ behind = front_next text rest (45 ∷ []) behind stands is in
-    let neither : (not (is_empty (cut no_space (drop 1 rest)).0) && begins_entry (cut no_space (drop 1 rest)).1) ≡ false = subst (λ (y : List ℕ × List ℕ). (not (is_empty y.0) && begins_entry y.1) ≡ false) cut_is ends in
-    let step : read_marks rest ≡ ([], Dash, behind) = marks_dash rest dash neither ∙ ap (λ (l : List ℕ). ([], Dash, l)) (sym one) in
-    let all : length text ≡ length front + length rest = ap length join ∙ length-append front rest in
-    let long : length text - length rest ≡ length front + 0 = omega (arith, all) in
-    ap (λ (l : List ℕ). record { dashes = l; columns = length text - length rest; mark = Dash; rest = behind }) (front_take text (front ++ (45 ∷ [])) behind whole)
-    ∙ (ap (λ (k : ℕ). record { dashes = front ++ (45 ∷ []); columns = k; mark = Dash; rest = behind }) long
-    ∙ (ap (λ (m : Marks). with_dashes front (begun m)) (sym step) ∙ so_far))
+    search (rules, marks_dash, length-append, front_take)
 
 mark_no_dash : (t : List ℕ) (o : Option (List ℕ × List ℕ × List ℕ)) → last_dash (key_mark t o).0 ≡ []
-mark_no_dash t None = refl
-mark_no_dash t (Some k) = refl
+mark_no_dash t o = search rules
 
 -- no dash
 pub no_dash : (text rest behind : List ℕ) (mark : RowMark) → drop (length text - length rest) text ≡ rest → length rest ≤ length text →
     with_dashes (take (length text - length rest) text) (begun (read_marks rest)) ≡ begun (read_marks text) →
     is_dash rest ≡ false → (mark, behind) ≡ mark_at rest →
     record { dashes = take (length text - length rest) text; columns = length text - length rest; mark = mark; rest = behind } ≡ begun (read_marks text)
-no_dash text rest behind mark stands short so_far none e =
-    let front : List ℕ = take (length text - length rest) text in
-    let join : text ≡ front ++ rest = front_join text rest stands in
-    let all : length text ≡ length front + length rest = ap length join ∙ length-append front rest in
-    let long : length text - length rest ≡ length front + 0 = omega (arith, all) in
-    let step : read_marks rest ≡ ([], mark, behind) = marks_none rest none ∙ ap undashed (sym e) in
-    let bare : last_dash mark ≡ [] = ap (λ (y : RowMark × List ℕ). last_dash y.0) e ∙ mark_no_dash rest (read_row_key rest) in
-    ap (λ (k : ℕ). record { dashes = front; columns = k; mark = mark; rest = behind }) long
-    ∙ (ap (λ (l : List ℕ). record { dashes = l; columns = length front + 0; mark = mark; rest = behind }) (sym (ap (λ (l : List ℕ). front ++ l) bare ∙ append-nil front))
-    ∙ (ap (λ (m : Marks). with_dashes front (begun m)) (sym step) ∙ so_far))
+no_dash text rest behind mark stands short so_far h7 e = search (rules, front_join, length-append, marks_none, mark_no_dash, append-nil)

@@ -1,25 +1,17 @@
 -- What a gap after a block scalar asks of it, by the pieces of its row.
-use Rattle.std.proofs.Common.{◌≡◌, ℕ, ℤ, true, false, eqb, cond, List, [], ◌∷◌, ◌++◌, Some, None, refl, sym, ap, ◌∙◌, append-nil}
+use Rattle.std.proofs.Common.{rules, ◌≡◌, ℕ, ℤ, true, false, eqb, cond, List, [], ◌∷◌, ◌++◌, Some, None, refl, sym, ap, ◌∙◌, append-nil}
 use Rattle.std.{proofs.Common.option_map, proofs.lemmas.Bool.{cond_both, false≢true}}
 use Rattle.yq_core.{specs.Block.{BlockText, IsBlock, ends_block, style_indicator}, specs.BlockReading.{indent_at, indicators_at}}
 use Rattle.yq_core.{specs.Piece.deeper, specs.Text.{front, joined, text_lines}, specs.declared.block_header.BlockStyle.BlockStyle}
 use Rattle.yq_core.{proofs.DetectedLaws.indent_again, proofs.HeaderLaws.indicators_again, proofs.RawLaws.raw_lines}
-use Rattle.yq_core.specs.Inline.{depth_limit}
-use Rattle.yq_core.specs.Nodes.{FlowNode, empty, alias, scalar, coll, anchored, node_text, flow_items_text, takes_anchor, IsFlowNode}
-use Rattle.yq_core.{specs.Scalars.{IsScalarAt, begins_scalar}, proofs.NodesPieceLaws.{front_not, scalar_begins}}
+use Rattle.yq_core.{specs.Inline.depth_limit, specs.Nodes.{FlowNode, node_text, takes_anchor, IsFlowNode}, specs.Scalars.IsScalarAt}
+use Rattle.yq_core.proofs.NodesPieceLaws.{front_not, scalar_begins}
 use Rattle.yq_row_table.{specs.BlockNumbers.block_numbers_of, specs.Grammar.IsContent, specs.Removal.{block_numbers, block_of}}
-use Rattle.yq_row_table.{specs.Rows.{Content, Nothing, Inline, Block}, specs.View.{anchor_cut, content_cut}}
-use Rattle.yq_row_table.proofs.NodeFronts.{is_block_mark}
-use Rattle.yq_core.specs.declared.block_header.BlockStyle.TheVariants as styles
+use Rattle.yq_row_table.{specs.Rows.Content, specs.View.{anchor_cut, content_cut}, proofs.NodeFronts.is_block_mark}
 
 -- no inline node begins as a block scalar does
 scalar_no_mark : (n : ℤ) (p rest : List ℕ) → IsScalarAt false (Some (deeper n)) p rest → front is_block_mark p ≡ false
-scalar_no_mark n [] rest h = refl
-scalar_no_mark n (b ∷ bs) rest h =
-    let begins = scalar_begins false (Some (deeper n)) (b ∷ bs) rest h in
-    let bar : eqb b 124 ≡ false = front_not (begins_scalar false) 124 (λ cs. refl) (b ∷ (bs ++ rest)) begins in
-    let more : eqb b 62 ≡ false = front_not (begins_scalar false) 62 (λ cs. refl) (b ∷ (bs ++ rest)) begins in
-    rw (bar, more) refl
+scalar_no_mark n p rest h = search (rules, scalar_begins, front_not)
 
 abbrev Opens : ℕ → Type 0
 Opens b = (t : List ℕ) → front is_block_mark (b ∷ t) ≡ false
@@ -29,28 +21,18 @@ opens k = cond_both (eqb k 125) 123 91 Opens (λ _ t. refl) (λ _ t. refl)
 
 behind_anchor : (n : ℤ) (node : FlowNode) (rest : List ℕ) → takes_anchor node ≡ true → IsFlowNode false (Some (deeper n)) depth_limit node rest → front is_block_mark (node_text node []) ≡ false
 unfolding node_text IsFlowNode
-behind_anchor n empty rest a h = refl
-behind_anchor n (alias m) rest a h = refl
-behind_anchor n (scalar p) rest a h = ap (front is_block_mark) (append-nil p) ∙ scalar_no_mark n p rest h
-behind_anchor n (coll k g is) rest a h = opens k (g ++ flow_items_text k is [])
-behind_anchor n (anchored m g node) rest a h = absurd (false≢true a)
+behind_anchor n node rest a h = search (rules, is_block_mark, append-nil, scalar_no_mark, opens, false≢true)
 
 pub head_no_mark : (n : ℤ) (node : FlowNode) (rest : List ℕ) → IsFlowNode false (Some (deeper n)) depth_limit node rest → front is_block_mark (anchor_cut node).2 ≡ false
 unfolding node_text IsFlowNode
-head_no_mark n empty rest h = refl
-head_no_mark n (alias m) rest h = refl
-head_no_mark n (scalar p) rest h = ap (front is_block_mark) (append-nil p) ∙ scalar_no_mark n p rest h
-head_no_mark n (coll k g is) rest h = opens k (g ++ flow_items_text k is [])
-head_no_mark n (anchored m g node) rest h = behind_anchor n node rest h.3 h.4
+head_no_mark n node rest h = search (rules, is_block_mark, append-nil, scalar_no_mark, opens, behind_anchor)
 
 -- the numbers of a block scalar, by its header and its raw lines
 no_block : (n : ℤ) (head raw : List ℕ) → front is_block_mark head ≡ false → block_numbers_of n head raw ≡ None
-no_block n [] raw h = refl
-no_block n (b ∷ head) raw h = rw h refl
+no_block n head raw h = search rules
 
 block_mark : (style : BlockStyle) → is_block_mark (style_indicator style) ≡ true
-block_mark styles.Literal = refl
-block_mark styles.Folded = refl
+block_mark style = search rules
 
 numbers_agrees : (n : ℤ) (b : BlockText) (rest : List ℕ) → IsBlock (deeper n) b rest → block_numbers_of n (style_indicator b.style ∷ b.indicators) (joined b.raw) ≡ Some (block_numbers b)
 unfolding ends_block
@@ -61,6 +43,4 @@ numbers_agrees n b rest h =
     rw (block_mark b.style, own, indent) refl
 
 pub block_by_pieces : (n : ℤ) (c : Content) (rest : List ℕ) → IsContent n c rest → block_numbers_of n (content_cut c).3 (content_cut c).5 ≡ option_map block_numbers (block_of c)
-block_by_pieces n (Nothing tail) rest h = refl
-block_by_pieces n (Inline space node tail) rest h = no_block n (anchor_cut node).2 [] (head_no_mark n node (tail ++ rest) h.1.valid)
-block_by_pieces n (Block space anchor block) rest h = numbers_agrees n block rest h.2
+block_by_pieces n c rest h = search (rules, no_block, head_no_mark, numbers_agrees)

@@ -2,16 +2,14 @@
 use Rattle.std.proofs.Common.{inl, inr, ◌≡◌, ℕ, Bool, true, false, ◌&&◌, List, [], ◌∷◌, ◌++◌, refl, sym, ap, ◌∙◌, append_assoc, rules}
 use Rattle.std.{proofs.lemmas.Bool.{false≢true, and_from, and_parts, cases_Bool}, proofs.lemmas.List.Folds.list_all-append}
 use Rattle.std.{proofs.lemmas.Str.chars-append, specs.List.list_all, specs.Str.{chars, IsUtf8}}
-use Rattle.yq_core.{specs.Characters.{is_text, is_text_char, pairs_returns}, specs.Text.{front, is_feed, is_return}}
+use Rattle.yq_core.{specs.Characters.{is_text_char, pairs_returns}, specs.Text.{front, is_feed, is_return}}
 
 -- an LF after each CR, in pieces
 front_more : (a b : List ℕ) → front is_feed a ≡ true → front is_feed (a ++ b) ≡ true
-front_more [] b h = absurd (false≢true h)
-front_more (x ∷ a) b h = h
+front_more a b h = search (rules, false≢true)
 
 front_less : (a b : List ℕ) → front is_feed b ≡ false → front is_feed (a ++ b) ≡ true → front is_feed a ≡ true
-front_less [] b n h = absurd (false≢true (sym n ∙ h))
-front_less (x ∷ a) b n h = h
+front_less a b n h = search (rules, false≢true)
 
 pub pairs_join : (a b : List ℕ) → pairs_returns a ≡ true → pairs_returns b ≡ true → pairs_returns (a ++ b) ≡ true
 unfolding pairs_returns
@@ -42,10 +40,6 @@ all_text t = list_all is_text_char (chars t)
 
 pub all_join : (a b : List ℕ) → IsUtf8 a → all_text (a ++ b) ≡ (all_text a && all_text b)
 all_join a b u = ap (list_all is_text_char) (chars-append a b u) ∙ list_all-append is_text_char (chars a) (chars b)
-
--- a piece that no LF begins is exchanged
-pub text_exchanged : (before old new behind : List ℕ) → IsUtf8 before → IsUtf8 old → IsUtf8 new → front is_feed (old ++ behind) ≡ false → is_text (before ++ (old ++ behind)) ≡ true → is_text new ≡ true → is_text (before ++ (new ++ behind)) ≡ true
-text_exchanged before old new behind u v w n h g = search (rules, and_parts, all_join, and_from, pairs_back, pairs_join, pairs_front)
 
 -- A text that ends in a byte, and that is no CR.
 pub record EndsBlack (p : List ℕ) : Type 0 where

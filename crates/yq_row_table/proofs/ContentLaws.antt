@@ -1,12 +1,11 @@
 -- What comes after a mark, read and spelled.
-use Rattle.std.proofs.Common.{◌≡◌, ℕ, ℤ, true, false, cond, not, List, ◌∷◌, ◌++◌, drop, Option, Some, refl, sym, ap, ◌∙◌, subst, ⊎_elim}
+use Rattle.std.proofs.Common.{◌≡◌, ℕ, ℤ, true, false, cond, List, ◌∷◌, ◌++◌, drop, Option, Some, refl, sym, ap, ◌∙◌, subst, ⊎_elim}
 use Rattle.std.{proofs.Common.{eqb-true, rules}, proofs.lemmas.Bool.{false≢true, or_cases}, proofs.lemmas.Option.same_Some}
 use Rattle.yq_core.{specs.Answers.◌>>=◌, specs.Block.{IsBlock, BlockText, block_text}, specs.BlockReading.block_at, specs.Piece.deeper}
-use Rattle.yq_core.{specs.Text.{cut, unless, front, is_empty, no_white, past_white}, proofs.BlockLaws.{block_takes, block_again}}
+use Rattle.yq_core.{specs.Text.{cut, unless, front, is_empty, no_white}, proofs.BlockLaws.{block_takes, block_again}}
 use Rattle.yq_core.{proofs.Bools.{bind_some, chosen}, proofs.Upto.cut_takes, specs.Inline.{depth_limit, IsInline}}
-use Rattle.yq_core.specs.Nodes.{FlowNode, node_text, begins_with, in_name, begins_node, IsName, is_empty_node}
-use Rattle.yq_core.{specs.Reading.{name_at, all_node}, proofs.NodeLaws.{all_takes, all_again}}
-use Rattle.yq_core.proofs.NodesPieceLaws.{front_is, name_takes, name_again}
+use Rattle.yq_core.{specs.Nodes.{FlowNode, node_text, begins_with, in_name, begins_node, IsName}, specs.Reading.{name_at, all_node}}
+use Rattle.yq_core.{proofs.NodeLaws.{all_takes, all_again}, proofs.NodesPieceLaws.{front_is, name_takes, name_again}}
 use Rattle.yq_row_table.{specs.Gap.IsWhite, specs.Grammar.{IsTail, IsAnchor, IsContent}}
 use Rattle.yq_row_table.specs.Reading.{begins_block, anchor_at, block_content_at, inline_content_at, read_content, read_tail}
 use Rattle.yq_row_table.specs.Rows.{Anchor, Content, Nothing, Inline, Block, anchor_text, content_text}
@@ -50,8 +49,7 @@ block_takes_here n space t x blank h =
     let b = block_takes (deeper n) anchor.0.1 block.0 block.1 in
     let mark : front is_block_mark anchor.0.1 ≡ true = rw b.0 (block_front block.0.0 block.0.1).mark in
     let a = anchor_takes t anchor.0 anchor.1 mark in
-    subst (ContentCut n (space ++ t)) (same_Some _ _ block.2)
-    (ap (λ l. space ++ l) (a.0 ∙ ap (anchor_text anchor.0.0) b.0), (blank, subst (λ (s : List ℕ). IsAnchor anchor.0.0 s) b.0 a.1, b.1))
+    search (rules, same_Some)
 
 inline_takes_here : (n : ℤ) (space t : List ℕ) (x : Content × List ℕ) → IsWhite space → begins_node false t ≡ true → inline_content_at n space t ≡ Some x → ContentCut n (space ++ t) x
 unfolding inline_content_at
@@ -59,11 +57,7 @@ inline_takes_here n space t x blank begins h =
     let node = bind_some (all_node false (Some (deeper n)) depth_limit t) h in
     let tail = bind_some (read_tail node.0.1) node.2 in
     let a = all_takes false (Some (deeper n)) depth_limit t node.0 node.1 in
-    let b = tail_takes node.0.1 tail.0 tail.1 in
-    let some : not (is_empty_node node.0.0) ≡ true = bare_node (Some (deeper n)) depth_limit node.0.0 node.0.1 a.1 (subst (λ (s : List ℕ). begins_node false s ≡ true) a.0 begins) in
-    let inline : IsInline places.Block n 0 node.0.0 node.0.1 = record { valid = a.1; something = some } in
-    subst (ContentCut n (space ++ t)) (same_Some _ _ tail.2)
-    (ap (λ l. space ++ l) (a.0 ∙ ap (node_text node.0.0) b.0), (blank, subst (λ (s : List ℕ). IsInline places.Block n 0 node.0.0 s) b.0 inline, b.1))
+    search (rules, tail_takes, bare_node, same_Some)
 
 pub content_takes : (n : ℤ) (t : List ℕ) (x : Content × List ℕ) → read_content n t ≡ Some x → ContentCut n t x
 unfolding read_content
@@ -89,8 +83,7 @@ nothing_again : (n : ℤ) (tail rest : List ℕ) → IsTail tail rest → read_c
 unfolding read_content
 nothing_again n tail rest h =
     let f = tail_front tail rest h in
-    let no : begins_block f.behind ≡ false = no_block_here f.behind f.stops.no_anchor f.stops.no_block in
-    ap (content_from n (tail ++ rest)) f.past ∙ rw (no, f.stops.no_node) (rw (tail_again tail rest h) refl)
+    search (rules, no_block_here, tail_again)
 
 inline_again_here : (n : ℤ) (space : List ℕ) (node : FlowNode) (tail rest : List ℕ) → IsWhite space → IsInline places.Block n 0 node (tail ++ rest) → IsTail tail rest → read_content n (content_text (Inline space node tail) rest) ≡ Some (Inline space node tail, rest)
 unfolding read_content inline_content_at
@@ -98,10 +91,7 @@ inline_again_here n space node tail rest blank h t =
     let u = node_text node (tail ++ rest) in
     let begins : begins_node false u ≡ true = node_begins (Some (deeper n)) depth_limit node (tail ++ rest) h.valid h.something in
     let f = tail_front tail rest t in
-    let past : past_white (tail ++ rest) ≡ f.behind = ap (λ (y : List ℕ × List ℕ). y.1) f.past in
-    let no : begins_block u ≡ false = node_no_block (Some (deeper n)) depth_limit node (tail ++ rest) h.valid h.something (rw past f.stops.no_block) in
-    ap (content_from n (space ++ u)) (white_again space u blank (node_starts u begins).no_white)
-    ∙ rw (no, begins) (rw (all_again false (Some (deeper n)) depth_limit node (tail ++ rest) h.valid, tail_again tail rest t) refl)
+    search (rules, node_no_block, white_again, node_starts, all_again, tail_again)
 
 block_again_here : (n : ℤ) (space : List ℕ) (anchor : Option Anchor) (block : BlockText) (rest : List ℕ) → IsWhite space → IsAnchor anchor (block_text block rest) → IsBlock (deeper n) block rest → read_content n (content_text (Block space anchor block) rest) ≡ Some (Block space anchor block, rest)
 unfolding read_content block_content_at anchor_at

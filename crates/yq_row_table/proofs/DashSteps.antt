@@ -1,29 +1,19 @@
 -- A dash after which a further one is, or a key, or neither.
-use Rattle.std.proofs.Common.{◌≡◌, ℕ, ◌-◌, ◌≤◌, Bool, true, false, cond, not, ◌&&◌, ◌||◌, List, ◌++◌, length, take, drop, Option, Some}
-use Rattle.std.{proofs.Common.{None, refl, sym, ap, arith}, proofs.lemmas.Bool.false≢true}
+use Rattle.std.proofs.Common.{rules, ◌≡◌, ℕ, ◌-◌, ◌≤◌, true, false, cond, not, ◌&&◌, List, ◌++◌, length, take, drop, Option, Some, None}
+use Rattle.std.{proofs.Common.{sym, ap, arith}, proofs.lemmas.Bool.false≢true}
 use Rattle.yq_core.specs.Text.{cut, no_space, is_empty}
-use Rattle.yq_row_table.specs.Slicing.{begun, with_dashes}
-use Rattle.yq_row_table.{specs.Reading.{read_row_key, begins_entry, is_dash, is_some, key_mark, read_marks}, specs.Rows.Key}
-use Rattle.yq_row_table.{proofs.BeginSteps.{dash_further, no_dash, mark_within}, proofs.FrontLaws.front_join}
+use Rattle.yq_row_table.{specs.Slicing.{begun, with_dashes}, specs.Reading.{read_row_key, begins_entry, is_dash, key_mark, read_marks}}
+use Rattle.yq_row_table.{specs.Rows.Key, proofs.BeginSteps.{dash_further, no_dash, mark_within}, proofs.FrontLaws.front_join}
 
 -- the key after spaces, if there are any
 abbrev pub KeyBehind : List ℕ → List ℕ → Option (List ℕ × List ℕ × List ℕ)
 KeyBehind s next = cond (is_empty s) None (read_row_key next)
 
 pub dash_goes : (s next : List ℕ) → (not (is_empty s) && is_dash next) ≡ true → (not (is_empty s) && begins_entry next) ≡ true
-dash_goes s next h = go (is_empty s) (is_dash next) (is_some (read_row_key next)) h where
-  go : (a b c : Bool) → (not a && b) ≡ true → (not a && (b || c)) ≡ true
-  go false true c h = refl
-  go false false c h = absurd (false≢true h)
-  go true b c h = absurd (false≢true h)
+dash_goes s next h = search (rules, false≢true)
 
 pub none_goes : (s next : List ℕ) → (not (is_empty s) && is_dash next) ≡ false → KeyBehind s next ≡ None → (not (is_empty s) && begins_entry next) ≡ false
-none_goes s next h k = go (is_empty s) (is_dash next) (read_row_key next) h k where
-  go : (a b : Bool) (o : Option (List ℕ × List ℕ × List ℕ)) → (not a && b) ≡ false → cond a None o ≡ None → (not a && (b || is_some o)) ≡ false
-  go true b o h k = refl
-  go false true o h k = absurd (false≢true (sym h))
-  go false false None h k = refl
-  go false false (Some x) h k = cc
+none_goes s next h k = search (rules, false≢true)
 
 -- a key after a dash and spaces
 pub record HasKey (s next : List ℕ) (k : List ℕ × List ℕ × List ℕ) : Type 0 where
@@ -32,12 +22,7 @@ pub record HasKey (s next : List ℕ) (k : List ℕ × List ℕ × List ℕ) : T
   pub goes : (not (is_empty s) && begins_entry next) ≡ true
 
 pub key_goes : (s next : List ℕ) (k : List ℕ × List ℕ × List ℕ) → (not (is_empty s) && is_dash next) ≡ false → KeyBehind s next ≡ Some k → HasKey s next k
-key_goes s next k h e = let x = go (is_empty s) (is_dash next) (read_row_key next) h e in record { key = x.0; none = x.1; goes = x.2 } where
-  go : (a b : Bool) (o : Option (List ℕ × List ℕ × List ℕ)) → (not a && b) ≡ false → cond a None o ≡ Some k → (o ≡ Some k) × (b ≡ false) × ((not a && (b || is_some o)) ≡ true)
-  go true b o h e = cc
-  go false true o h e = absurd (false≢true (sym h))
-  go false false None h e = cc
-  go false false (Some x) h e = (e, refl, refl)
+key_goes s next k h e = search (rules, false≢true)
 
 -- what was read up to that key
 pub record Keyed (text next behind key colon : List ℕ) : Type 0 where

@@ -1,5 +1,5 @@
 -- Ends of parts by where they are in a text.
-use Rattle.std.proofs.Common.{◌≡◌, ℕ, Fits, w32, ◌-◌, ◌<◌, ◌≤◌, ◌^◌, List, [], ◌∷◌, ◌++◌, length, take, drop, refl, sym, ap, ◌∙◌, subst}
+use Rattle.std.proofs.Common.{rules, ◌≡◌, ℕ, Fits, w32, ◌-◌, ◌<◌, ◌≤◌, ◌^◌, List, [], ◌∷◌, ◌++◌, length, take, refl, sym, ap, ◌∙◌, subst}
 use Rattle.std.{proofs.Common.{arith, length-append, length-drop}, proofs.Math.Seq.drop-append_seam}
 use Rattle.std.{proofs.lemmas.List.{take-append-drop, take_at}, proofs.lemmas.Str.IsUtf8-append, specs.Str.IsUtf8}
 use Rattle.yq_row_table.{specs.Ends.{bound_in, EndStands, end_at}, specs.Offsets.{Ends, AreCuts}, proofs.FrontLaws.front_boundary}
@@ -16,12 +16,7 @@ end_stands whole end marker rest k h e m u =
     )
 
 pub end_same : (whole end marker rest : List ℕ) (k : ℕ) → Ends (end ++ (marker ++ rest)) whole → bound_in whole (end_at (length whole - length (end ++ (marker ++ rest))) k end marker) ≡ record { rows = k; end = end; marker = marker }
-end_same whole end marker rest k h =
-    let t = end ++ (marker ++ rest) in
-    let gap : take (length end) (drop (length whole - length t) whole) ≡ end = ap (take (length end)) h ∙ take_at end (marker ++ rest) (length end) refl in
-    let behind : drop (length end) (drop (length whole - length t) whole) ≡ marker ++ rest = ap (drop (length end)) h ∙ drop-append_seam end (marker ++ rest) in
-    let line : take (length marker) (drop (length end) (drop (length whole - length t) whole)) ≡ marker = ap (take (length marker)) behind ∙ take_at marker rest (length marker) refl in
-    rw (gap, line) refl
+end_same whole end marker rest k h = search (rules, take_at, drop-append_seam)
 
 pub start_is : (whole end marker rest : List ℕ) (n : ℕ) → n ≡ ((length whole - length rest) - length marker) - length end → n ≡ length whole - length (end ++ (marker ++ rest))
 start_is whole end marker rest n e = omega (arith, e, length-append end (marker ++ rest), length-append marker rest)
@@ -35,16 +30,4 @@ pub record EndFits (whole end marker rest : List ℕ) : Type 0 where
   pub end_fits : Fits w32 (length end)
 
 pub end_lengths : (whole end marker rest : List ℕ) → length whole < 2 ^ 32 → Ends (end ++ (marker ++ rest)) whole → EndFits whole end marker rest
-end_lengths whole end marker rest small h =
-    let all = length-append end (marker ++ rest) in
-    let behind = length-append marker rest in
-    let same = ap length h in
-    let cut = length-drop (length whole - length (end ++ (marker ++ rest))) whole in
-    let le : length (end ++ (marker ++ rest)) ≤ length whole = omega (arith, same, cut) in
-    record {
-      rest_le = omega (arith, le, all, behind);
-      marker_le = omega (arith, le, all, behind);
-      end_le = omega (arith, le, all, behind);
-      marker_fits = omega (arith, le, all, behind, small);
-      end_fits = omega (arith, le, all, behind, small);
-    }
+end_lengths whole end marker rest small h = search (rules, length-append, length-drop)

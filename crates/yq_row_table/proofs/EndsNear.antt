@@ -1,10 +1,10 @@
 -- Ends of parts at their distance from the beginning of a text, as they are read, and each by its index.
-use Rattle.std.proofs.Common.{◌≡◌, ℕ, zero, suc, ◌+◌, ◌-◌, ◌≤◌, Bool, true, List, [], ◌∷◌, ◌++◌, length, take, get_or, Option, Some, None}
-use Rattle.std.{proofs.Common.{refl, sym, ap, ◌∙◌, arith, append_assoc, length-append}, proofs.lemmas.List.Sums.sum_by-cons}
+use Rattle.std.proofs.Common.{rules, ◌≡◌, ℕ, zero, suc, ◌+◌, ◌-◌, ◌≤◌, Bool, true, List, [], ◌∷◌, ◌++◌, length, take, get_or, Option, Some}
+use Rattle.std.{proofs.Common.{sym, ap, ◌∙◌, arith, append_assoc, length-append}, proofs.lemmas.List.Sums.sum_by-cons}
 use Rattle.std.{proofs.lemmas.Option.{same_Some, slice_get_read, slice_get_within}, specs.List.{slice_get, sum_by}}
 use Rattle.yq_core.{specs.Answers.◌>>=◌, specs.Text.is_empty}
 use Rattle.yq_row_table.{specs.Ends.end_at, specs.Grammar.begins_document}
-use Rattle.yq_row_table.specs.Items.{Item, row_item, end_item, rows_items, items_of_cut, rows_in_items, bounds_in_items, view_of_items}
+use Rattle.yq_row_table.specs.Items.{Item, row_item, end_item, rows_items, rows_in_items, bounds_in_items, view_of_items}
 use Rattle.yq_row_table.{specs.Kept.{ends_near, ends_placed}, specs.Offsets.{Ends, row_length}, specs.RowStarts.{bound_length, part_end}}
 use Rattle.yq_row_table.{specs.View.{Bound, slices}, specs.Reading.{read_cut_part, all_parts}}
 use Rattle.yq_row_table.{specs.Rows.{Row, print_row, rows_text, Part, Cut, marked}, specs.declared.ends.EndPlace.EndPlace}
@@ -15,26 +15,14 @@ use Rattle.yq_row_table.proofs.splices.SpliceTexts.{nil_before}
 -- the end of a part, after its rows
 ends_part : (n k : ℕ) (rs : List Row) (end marker : List ℕ) (xs : List Item) →
     ends_near n k (rows_items rs (end_item end marker ∷ xs)) ≡ end_at (n + length (rows_text rs [])) (k + length rs) end marker ∷ ends_near (n + length (rows_text rs (end ++ marker))) (k + length rs) xs
-ends_part n k [] end marker xs =
-    let bytes : n ≡ n + length (rows_text [] []) = omega arith in
-    let rows : k ≡ k + length {A = Row} [] = omega arith in
-    ap (λ (i : ℕ). end_at i k end marker ∷ ends_near (n + length (end ++ marker)) k xs) bytes ∙ ap (λ (i : ℕ). end_at (n + length (rows_text [] [])) i end marker ∷ ends_near (n + length (end ++ marker)) i xs) rows
+ends_part n k [] end marker xs = search rules
 ends_part n k (r ∷ rs) end marker xs =
     let own = length (print_row r []) in
-    let first : (n + own) + length (rows_text rs []) ≡ n + length (print_row r (rows_text rs [])) = omega (arith, ap length (print_then r (rows_text rs [])), length-append (print_row r []) (rows_text rs [])) in
-    let all : (n + own) + length (rows_text rs (end ++ marker)) ≡ n + length (print_row r (rows_text rs (end ++ marker))) = omega (arith, ap length (print_then r (rows_text rs (end ++ marker))), length-append (print_row r []) (rows_text rs (end ++ marker))) in
-    let rows : (k + 1) + length rs ≡ k + suc (length rs) = omega arith in
-    ends_part (n + own) (k + 1) rs end marker xs
-    ∙ (ap (λ (i : ℕ). end_at i ((k + 1) + length rs) end marker ∷ ends_near ((n + own) + length (rows_text rs (end ++ marker))) ((k + 1) + length rs) xs) first
-    ∙ (ap (λ (i : ℕ). end_at (n + length (print_row r (rows_text rs []))) ((k + 1) + length rs) end marker ∷ ends_near i ((k + 1) + length rs) xs) all
-    ∙ ap (λ (i : ℕ). end_at (n + length (print_row r (rows_text rs []))) i end marker ∷ ends_near (n + length (print_row r (rows_text rs (end ++ marker)))) i xs) rows))
+    search (rules, print_then, length-append, ends_part (n + own) (k + 1) rs end marker xs)
 
 marked_ends : (es : List EndPlace) (n k : ℕ) (p : Part) (marker : List ℕ) (o : Option Cut) →
     ends_placed es n k (o >>= λ c. Some (marked p marker c)) ≡ ends_placed (es ++ end_at (n + length (rows_text p.rows [])) (k + length p.rows) p.end marker ∷ []) (n + length (rows_text p.rows (p.end ++ marker))) (k + length p.rows) o
-marked_ends es n k p marker None = refl
-marked_ends es n k p marker (Some c) =
-    let e = end_at (n + length (rows_text p.rows [])) (k + length p.rows) p.end marker in
-    ap (λ l. Some (es ++ l)) (ends_part n k p.rows p.end marker (items_of_cut c)) ∙ ap Some (sym (append_assoc es (e ∷ []) (ends_near (n + length (rows_text p.rows (p.end ++ marker))) (k + length p.rows) (items_of_cut c))))
+marked_ends es n k p marker o = search (rules, ends_part, append_assoc)
 
 -- where the end of a part begins
 end_place : (whole t : List ℕ) (p : Part) (after : List ℕ) → Ends t whole → t ≡ rows_text p.rows (p.end ++ after) → length whole - length (p.end ++ after) ≡ (length whole - length t) + length (rows_text p.rows [])
@@ -59,9 +47,7 @@ kept_part started whole t after marker rest end rows count p e ends read end_is 
 }
 
 kept_end : (whole t after marker rest : List ℕ) (rows : ℕ) (p : Part) (e : EndPlace) → IsKeptEnd whole t after marker rest rows p e → e ≡ end_at ((length whole - length t) + length (rows_text p.rows [])) (rows + length p.rows) p.end marker
-kept_end whole t after marker rest rows p e h =
-    let place : length whole - length (p.end ++ (marker ++ rest)) ≡ (length whole - length t) + length (rows_text p.rows []) = ap (λ (l : List ℕ). length whole - length (p.end ++ l)) (sym h.after_is) ∙ end_place whole t p after h.ends h.text in
-    h.place ∙ ap (λ (n : ℕ). end_at n (rows + length p.rows) p.end marker) place
+kept_end whole t after marker rest rows p e h = search (rules, end_place)
 
 pub ends_placed_end : (es items : List EndPlace) (e : EndPlace) (whole t after : List ℕ) (k : ℕ) (started : Bool) (p : Part) (all : Option (List EndPlace)) → read_cut_part started t ≡ Some (p, after) → is_empty after ≡ true → IsKeptEnd whole t after [] after k p e →
     items ≡ es ++ e ∷ [] → ends_placed es (length whole - length t) k (all_parts started t) ≡ all → all ≡ Some items
@@ -102,22 +88,13 @@ ends_at (row_item r ∷ xs) n k i b h =
     let index : b.rows - k ≡ suc (b.rows - (k + 1)) = omega (arith, bound_least xs (k + 1) i b h) in
     let rows = ap (λ (j : ℕ). sum_by row_length (take j (slices r ∷ rows_in_items xs))) index in
     let first = sum_by-cons row_length (slices r) (take (b.rows - (k + 1)) (rows_in_items xs)) in
-    let place : end_in (n + length (print_row r [])) (k + 1) i b xs ≡ end_in n k i b (row_item r ∷ xs) = omega (arith, print-length r [], first, rows) in
-    ends_at xs (n + length (print_row r [])) (k + 1) i b h ∙ ap (λ (m : ℕ). Some (end_at m b.rows b.end b.marker)) place
-ends_at (end_item gap marker ∷ xs) n k zero b h =
-    let same : record { rows = k; end = gap; marker = marker } ≡ b = same_Some _ _ h in
-    let none : b.rows - k ≡ 0 = omega (arith, ap (λ (x : Bound). x.rows) same) in
-    let place : n ≡ end_in n k 0 b (end_item gap marker ∷ xs) = omega (arith, ap (λ (j : ℕ). sum_by row_length (take j (rows_in_items xs))) none) in
-    ap (λ (x : Bound). Some (end_at n x.rows x.end x.marker)) same ∙ ap (λ (m : ℕ). Some (end_at m b.rows b.end b.marker)) place
+    search (rules, print-length, ends_at xs (n + length (print_row r [])) (k + 1) i b h)
+ends_at (end_item gap marker ∷ xs) n k zero b h = search (rules, same_Some)
 ends_at (end_item gap marker ∷ xs) n k (suc i) b h =
     let first = sum_by-cons bound_length (record { rows = k; end = gap; marker = marker }) (take i (bounds_in_items k xs)) in
-    let place : end_in (n + length (gap ++ marker)) k i b xs ≡ end_in n k (suc i) b (end_item gap marker ∷ xs) = omega (arith, first, length-append gap marker) in
-    ends_at xs (n + length (gap ++ marker)) k i b h ∙ ap (λ (m : ℕ). Some (end_at m b.rows b.end b.marker)) place
+    search (rules, length-append, ends_at xs (n + length (gap ++ marker)) k i b h)
 
 pub part_ends : (xs : List Item) (i : ℕ) (b : Bound) (e : EndPlace) → slice_get (bounds_in_items 0 xs) i ≡ Some b → e ≡ get_or (ends_near 0 0 xs) i e → e.start + e.gap ≡ part_end i b (view_of_items xs)
 part_ends xs i b e there is =
     let near : slice_get (ends_near 0 0 xs) i ≡ Some (end_at (end_in 0 0 i b xs) b.rows b.end b.marker) = ends_at xs 0 0 i b there in
-    let own : e ≡ end_at (end_in 0 0 i b xs) b.rows b.end b.marker = same_Some _ _ (sym (slice_get_read (ends_near 0 0 xs) (length (ends_near 0 0 xs)) i e refl (slice_get_within (ends_near 0 0 xs) i _ near) is) ∙ near) in
-    let none : b.rows - 0 ≡ b.rows = omega arith in
-    let place : end_in 0 0 i b xs + length b.end ≡ part_end i b (view_of_items xs) = omega (arith, ap (λ (j : ℕ). sum_by row_length (take j (rows_in_items xs))) none) in
-    ap (λ (x : EndPlace). x.start + x.gap) own ∙ place
+    search (rules, same_Some, slice_get_read, slice_get_within)

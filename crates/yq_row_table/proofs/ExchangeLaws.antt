@@ -1,6 +1,6 @@
 -- What comes after the mark of a row, exchanged for something else.
-use Rattle.std.proofs.Common.{◌≡◌, ℕ, zero, suc, ◌-◌, ◌<◌, ◌≤◌, Bool, true, false, List, [], ◌∷◌, ◌++◌, length, Some, None, refl, arith}
-use Rattle.std.{proofs.Common.append_assoc, proofs.lemmas.Bool.false≢true, specs.List.slice_get}
+use Rattle.std.proofs.Common.{rules, ◌≡◌, ℕ, zero, suc, ◌-◌, ◌<◌, ◌≤◌, Bool, true, false, List, [], ◌∷◌, ◌++◌, length, Some, None, refl}
+use Rattle.std.{proofs.Common.{arith, append_assoc}, proofs.lemmas.Bool.false≢true, specs.List.slice_get}
 use Rattle.yq_core.{specs.Text.separates, specs.Alike.{Alike, byte}, proofs.Alikes.alike_append, proofs.AlikePieces.scalar_alike}
 use Rattle.yq_row_table.specs.Exchange.{with_content, allows_first, asked_behind}
 use Rattle.yq_row_table.specs.Grammar.{IsContent, IsMark, is_entry, IsRow, Limit, limit_after, AreRows, begins_document, AreParts}
@@ -32,22 +32,17 @@ mark_kept (Key key sign) c new rest other e m s =
 
 -- a row with another content, after a dash or a key
 pub one_row : (limit : Limit) (r : Row) (new : Content) (rest other : List ℕ) → IsRow limit r rest → is_entry r.mark ≡ true → IsContent (parent_indent r) new other → separates (content_text new other) ≡ true → TakesPlace limit r rest (with_content new r) other
-one_row limit r new rest other h entry c s =
-    takes_place limit r rest r.dashes r.mark new other h (dashes_text_alike r.dashes _ _ (mark_seam r.mark r.content rest (content_text new other) entry h.mark s)) h.dashes (mark_kept r.mark r.content new rest other entry h.mark s) c
+one_row limit r new rest other h entry c s = search (rules, takes_place, dashes_text_alike, mark_seam, mark_kept)
 
 -- another limit before rows
 pub relimit : (limit other : Limit) (rs : List Row) (end rest : List ℕ) → allows_first other rs ≡ true → AreRows limit rs end rest → AreRows other rs end rest
-relimit limit other [] end rest a h = h
-relimit limit other (r ∷ rs) end rest a h = (record { gap = h.0.gap; allowed = a; unmarked = h.0.unmarked; dashes = h.0.dashes; mark = h.0.mark; content = h.0.content }, h.1)
+relimit limit other rs end rest a h = search rules
 
 -- rows before other rows: what neighbours ask of each other is the limit after and how the text in front begins
 pub chain : (front rows new : List Row) (limit : Limit) (end rest other_end other : List ℕ) → AreRows limit (front ++ rows) end rest → AreRows (asked_behind limit front) new other_end other → Alike (Some false) (rows_text rows (end ++ rest)) (rows_text new (other_end ++ other)) → AreRows limit (front ++ new) other_end other × Alike (Some false) (rows_text (front ++ rows) (end ++ rest)) (rows_text (front ++ new) (other_end ++ other))
 chain [] rows new limit end rest other_end other h n a = (n, a)
 chain (r ∷ front) rows new limit end rest other_end other h n a =
-    let again = chain front rows new (limit_after r) end rest other_end other h.1 n a in
-    let t = rows_text (front ++ rows) (end ++ rest) in
-    let u = rows_text (front ++ new) (other_end ++ other) in
-    ((row_alike limit r t u again.1 h.0, again.0), row_text_alike r t u again.1)
+    search (rules, row_alike, row_text_alike, chain front rows new (limit_after r) end rest other_end other h.1 n a)
 
 -- row i, counted through all parts
 pub slice_front : (a b : List Row) (i : ℕ) (r : Row) → i < length a → slice_get (a ++ b) i ≡ Some r → slice_get a i ≡ Some r
@@ -64,6 +59,4 @@ abbrev pub CutExchanged : Bool → Cut → Cut → Type 0
 CutExchanged started c d = AreParts started d × Alike (Some false) (cut_text c) (cut_text d)
 
 pub marked_behind : (started : Bool) (p : Part) (marker : List ℕ) (c d : Cut) → AreParts started (marked p marker c) → CutExchanged (begins_document marker) c d → CutExchanged started (marked p marker c) (marked p marker d)
-marked_behind started p marker c d h more =
-    let text = alike_append (Some false) marker (cut_text c) (cut_text d) more.1 in
-    ((part_alike started p (marker ++ cut_text c) (marker ++ cut_text d) text h.0, marker_line_alike marker (cut_text c) (cut_text d) more.1 h.1, more.0), part_text_alike p (marker ++ cut_text c) (marker ++ cut_text d) text)
+marked_behind started p marker c d h more = search (rules, alike_append, part_alike, marker_line_alike, part_text_alike)

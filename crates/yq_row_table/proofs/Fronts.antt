@@ -16,24 +16,14 @@ pub record Starts (t : List ℕ) : Type 0 where
   pub joined : separates t ≡ false
 
 pub starts_by : (b : ℕ) (bs : List ℕ) → eqb b 32 ≡ false → eqb b 9 ≡ false → is_break (b ∷ bs) ≡ false → eqb b 35 ≡ false → Starts (b ∷ bs)
-starts_by b bs space tab break hash = record {
-  no_white = rw (space, tab) refl;
-  no_end = break;
-  no_hash = hash;
-  no_space = rw space refl;
-  some = refl;
-  joined = rw (space, tab) break;
-}
+starts_by b bs space tab break hash = search rules
 
 -- what begins with a CR and is a node begins with no break
 return_no_break : (bs : List ℕ) → begins_node false (13 ∷ bs) ≡ true → front is_feed bs ≡ false
 return_no_break bs h = search (rules, ⊎_elim, false≢true, cases_Bool)
 
-node_no_break : (b : ℕ) (bs : List ℕ) → begins_node false (b ∷ bs) ≡ true → is_break (b ∷ bs) ≡ false
-node_no_break b bs h = search (rules, false_from_ne_true, ⊎_elim, false≢true, front_not, and_parts, eqb-true, return_no_break, or_cases)
-
 pub node_starts : (t : List ℕ) → begins_node false t ≡ true → Starts t
-node_starts t h1 = search (rules, false≢true, front_not, starts_by, node_no_break)
+node_starts t h1 = search (rules, false≢true, front_not, starts_by, false_from_ne_true, ⊎_elim, and_parts, eqb-true, return_no_break, or_cases)
 
 -- A text that begins with a break, the end or `#`.
 pub record Stops (t : List ℕ) : Type 0 where

@@ -4,15 +4,14 @@ use Rattle.std.proofs.Common.{sym, ap, ◌∙◌, subst, arith, append_assoc, le
 use Rattle.std.{proofs.lemmas.Bool.{false≢true, cond_both, not-true, and_parts}, proofs.lemmas.List.{take-append-drop, drop-drop}}
 use Rattle.std.proofs.Math.Seq.{take-append_seam, drop-append_seam, take-add}
 use Rattle.std.{proofs.lemmas.Str.{IsCharBoundary-start, IsCharBoundary-from_rest, IsUtf8-drop}, specs.Str.{IsUtf8, IsCharBoundary}}
-use Rattle.yq_core.specs.Text.{upto, cut, no_white, is_feed, ends_line, is_empty, past_white, line_len, cut_line, joined}
+use Rattle.yq_core.specs.Text.{upto, cut, no_white, ends_line, is_empty, past_white, line_len, cut_line, joined}
 use Rattle.yq_core.{proofs.Boundaries.boundary_line, proofs.LineLaws.{line_len_some, line_len_within}, specs.Lines.is_hash}
 use Rattle.yq_row_table.{specs.Gap.{IsGapLine, AreGapLines, IsGap}, specs.Reading.{begins_gap, gap_lines, gap_len, cut_gap}}
 use Rattle.yq_row_table.proofs.LineEnds.{white_cut, white_again, line_end_takes, line_end_behind, line_end_line, line_again}
 
 some_line : (t : List ℕ) → is_empty t ≡ false → is_empty (cut_line t).0 ≡ false
 unfolding line_len
-some_line [] h = h
-some_line (b ∷ bs) h = cond_both (is_feed b) 1 (suc (line_len bs)) (λ n. is_empty (take n (b ∷ bs)) ≡ false) (λ _. refl) (λ _. refl)
+some_line t h = search (rules, cond_both)
 
 -- a line of a gap
 gap_line_takes : (t : List ℕ) → begins_gap t ≡ true → IsGapLine (cut_line t).0 (cut_line t).1
@@ -26,8 +25,7 @@ gap_line_takes t h =
     subst (λ (s : List ℕ). IsGapLine (cut_line s).0 (cut_line s).1) join line
 
 pub some_more : (l rest : List ℕ) → is_empty l ≡ false → is_empty (l ++ rest) ≡ false
-some_more [] rest h = absurd (false≢true (sym h))
-some_more (b ∷ l) rest h = refl
+some_more l rest h = search (rules, false≢true)
 
 gap_line_again : (l rest : List ℕ) → IsGapLine l rest → (begins_gap (l ++ rest) ≡ true) × (cut_line (l ++ rest) ≡ (l, rest))
 gap_line_again l rest h =
@@ -59,8 +57,7 @@ gap_step t h1 = search (rules, false≢true, length-drop, line_len_pos, gap_fuel
 
 pub gap_stop : (t : List ℕ) → begins_gap t ≡ false → gap_len t ≡ 0
 unfolding gap_lines
-gap_stop [] h = refl
-gap_stop (x ∷ t) h = rw h refl
+gap_stop t h = search rules
 
 -- a gap
 abbrev pub IsGapCut : List ℕ → List ℕ → Type 0
@@ -93,14 +90,7 @@ gap_takes t = gap_lines_take (length t) t (omega arith)
 gap_len-lines : (lines : List (List ℕ)) (rest : List ℕ) → AreGapLines lines rest → begins_gap rest ≡ false → gap_len (joined lines ++ rest) ≡ length (joined lines)
 gap_len-lines [] rest h stop = gap_stop rest stop
 gap_len-lines (l ∷ ls) rest h stop =
-    let t : List ℕ = l ++ (joined ls ++ rest) in
-    let regroup : (l ++ joined ls) ++ rest ≡ t = append_assoc l (joined ls) rest in
-    let one = gap_line_again l (joined ls ++ rest) h.0 in
-    let again = gap_len-lines ls rest h.1 stop in
-    let front : take (line_len t) t ≡ l = ap (λ (y : List ℕ × List ℕ). y.0) one.1 in
-    let behind : drop (line_len t) t ≡ joined ls ++ rest = ap (λ (y : List ℕ × List ℕ). y.1) one.1 in
-    let long : line_len t ≡ length l = omega (arith, ap length front, length-take (line_len t) t, line_len_within t) in
-    rw regroup (gap_step t one.0 ∙ (rw behind (omega (arith, long, again, length-append l (joined ls)))))
+    search (rules, append_assoc, gap_line_again, length-take, line_len_within, gap_step, length-append, gap_len-lines ls rest h.1 stop)
 
 pub gap_again : (p rest : List ℕ) → IsGapCut p rest → cut_gap (p ++ rest) ≡ (p, rest)
 gap_again p rest h = search (rules, gap_len-lines, take-append_seam, drop-append_seam)

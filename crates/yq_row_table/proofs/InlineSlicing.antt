@@ -1,10 +1,9 @@
 -- Inline nodes after a mark, as the code lends them.
-use Rattle.std.proofs.Common.{◌≡◌, inl, inr, ℕ, ◌+◌, ◌-◌, ◌<◌, ◌≤◌, Bool, true, false, cond, not, ◌&&◌, ◌||◌, eqb, List, [], ◌∷◌, ◌++◌}
-use Rattle.std.proofs.Common.{length, take, drop, Option, Some, None, refl, sym, ap, ◌∙◌, subst, arith, ℤ}
-use Rattle.std.{proofs.lemmas.Bool.{false≢true, cond_both}, proofs.Math.Seq.{take-append_seam, drop-append_seam}}
-use Rattle.std.{proofs.lemmas.Option.same_Some, proofs.lemmas.Str.IsCharBoundary-from_rest, specs.List.prefix_len}
+use Rattle.std.proofs.Common.{rules, ◌≡◌, ℕ, ◌+◌, ◌-◌, ◌<◌, ◌≤◌, Bool, true, false, cond, not, ◌&&◌, ◌||◌, eqb, List, [], ◌∷◌, ◌++◌, length}
+use Rattle.std.{proofs.Common.{take, drop, Option, Some, None, refl, sym, ap, ◌∙◌, subst, ℤ}, proofs.lemmas.Bool.{false≢true, cond_both}}
+use Rattle.std.{proofs.Math.Seq.{take-append_seam, drop-append_seam}, proofs.lemmas.Option.same_Some, specs.List.prefix_len}
 use Rattle.std.specs.Str.{IsUtf8, IsCharBoundary}
-use Rattle.yq_core.{specs.Answers.◌>>=◌, specs.Piece.deeper, specs.Text.{cut, upto, unless, no_white, is_empty}, proofs.Bools.bind_some}
+use Rattle.yq_core.{specs.Answers.◌>>=◌, specs.Piece.deeper, specs.Text.{cut, no_white, is_empty}, proofs.Bools.bind_some}
 use Rattle.yq_core.{proofs.Upto.{cut-append, upto-append, upto_here, upto_unless, upto_le_length}, specs.Inline.depth_limit}
 use Rattle.yq_core.specs.Nodes.{FlowNode, empty, alias, scalar, coll, anchored, node_text, flow_items_text, begins_with, in_name}
 use Rattle.yq_core.specs.Nodes.{begins_content, is_empty_node, takes_anchor, IsFlowNode, IsLead}
@@ -13,31 +12,24 @@ use Rattle.yq_core.{specs.PlacedReading.placed_node, specs.Reading.all_node, spe
 use Rattle.yq_core.{proofs.Bounds.boundary_name, proofs.NodeLaws.all_takes, proofs.NodesPieceLaws.{front_not, scalar_begins}}
 use Rattle.yq_core.proofs.NodesWrittenLaws.{node_then}
 use Rattle.yq_row_table.specs.Grammar.{is_more, is_plain_content}
-use Rattle.yq_row_table.specs.Slicing.{cut_anchor, anchor_len, cut_lead, nothing_placed, is_plain_style, plain_placed, inline_sliced}
+use Rattle.yq_row_table.specs.Slicing.{cut_anchor, cut_lead, nothing_placed, is_plain_style, plain_placed, inline_sliced}
 use Rattle.yq_row_table.{specs.Reading.{read_tail, inline_content_at}, specs.View.anchor_cut, proofs.Fronts.node_starts}
 use Rattle.yq_row_table.{proofs.MarkAgain.scalar_node, proofs.FrontLaws.{front_take, front_boundary, front_le}, proofs.NodeFronts.bare_or}
-use Rattle.yq_core.specs.declared.style.Style.TheVariants as styles
 
 -- the anchor in front
 pub anchor_some : (t : List ℕ) (n : ℕ) → begins_with 38 t ≡ true → n ≡ prefix_len in_name (drop 1 t) → (take (n + 1) t, drop (n + 1) t) ≡ cut_anchor t
-anchor_some t n h e =
-    let len : n + 1 ≡ anchor_len t = rw h (let u = upto_unless in_name (drop 1 t) in omega arith) in
-    ap (λ k. (take k t, drop k t)) len
+anchor_some t n h e = search (rules, upto_unless)
 
 pub anchor_none : (t : List ℕ) → begins_with 38 t ≡ false → ([], t) ≡ cut_anchor t
 anchor_none t h = rw h refl
 
 pub anchor_within : (t u : List ℕ) (n : ℕ) → u ≡ drop 1 t → length u < length t → n ≡ prefix_len in_name u → n + 1 ≤ length t
-anchor_within t u n one short e =
-    let le : upto (unless in_name) u ≤ length u = upto_le_length (unless in_name) u in
-    let same : upto (unless in_name) u ≡ n = upto_unless in_name u ∙ sym e in
-    omega arith
+anchor_within t u n one short e = search (rules, upto_le_length, upto_unless)
 
 pub anchor_boundary : (t u : List ℕ) (n : ℕ) → u ≡ drop 1 t → length u < length t → n ≡ prefix_len in_name u → IsCharBoundary t (n + 1)
 anchor_boundary t u n one short e =
     let at_name : IsCharBoundary (drop 1 t) n = subst (λ (x : List ℕ). IsCharBoundary x n) one (boundary_name u n e) in
-    let same : 1 + n ≡ n + 1 = omega arith in
-    subst (IsCharBoundary t) same (IsCharBoundary-from_rest t 1 n (omega arith) at_name)
+    search rules
 
 -- nothing, perhaps after an anchor
 abbrev pub is_nothing : FlowNode → Bool
@@ -48,11 +40,7 @@ is_nothing (coll k g is) = false
 is_nothing (anchored n g node) = is_empty_node node
 
 nothing_more : (node : FlowNode) → is_more node ≡ not (is_nothing node)
-nothing_more empty = refl
-nothing_more (alias n) = refl
-nothing_more (scalar p) = refl
-nothing_more (coll k g is) = refl
-nothing_more (anchored n g node) = refl
+nothing_more node = search rules
 
 nothing_with : (n : List ℕ) (start : ℕ) (s : Placed) → nothing_placed (anchored_node n start s) ≡ nothing_placed s
 nothing_with n start (placed a b c e f) = refl
@@ -65,34 +53,21 @@ holder_is total k t rest s = elim (eqb k 125) as (λ d. (nothing_placed (placed_
 
 nothing_inner : (total : ℕ) (node : FlowNode) (rest : List ℕ) → takes_anchor node ≡ true → nothing_placed (locate total node rest) ≡ is_empty_node node
 unfolding locate
-nothing_inner total empty rest h = refl
-nothing_inner total (alias n) rest h = refl
-nothing_inner total (scalar p) rest h = refl
-nothing_inner total (coll k g is) rest h = (holder_is total k (node_text (coll k g is) rest) rest (locate_items total k is rest)).0
-nothing_inner total (anchored n g node) rest h = absurd (false≢true h)
+nothing_inner total node rest h = search (rules, holder_is, false≢true)
 
 nothing_locate : (spaces : Option ℕ) (d total : ℕ) (node : FlowNode) (rest : List ℕ) → IsFlowNode false spaces d node rest → nothing_placed (locate total node rest) ≡ is_nothing node
 unfolding locate IsFlowNode
-nothing_locate spaces d total empty rest h = refl
-nothing_locate spaces d total (alias n) rest h = refl
-nothing_locate spaces d total (scalar p) rest h = refl
-nothing_locate spaces d total (coll k g is) rest h = (holder_is total k (node_text (coll k g is) rest) rest (locate_items total k is rest)).0
-nothing_locate spaces d total (anchored n g node) rest h = nothing_with n _ (locate total node rest) ∙ nothing_inner total node rest h.3
+nothing_locate spaces d total node rest h = search (rules, holder_is, nothing_with, nothing_inner)
 
 style_plain : (p : List ℕ) → is_plain_style (scalar_style p) ≡ not (is_quoted p)
-style_plain [] = refl
-style_plain (b ∷ p) = elim (eqb b 39) as (λ c. is_plain_style (cond c styles.Single (cond (eqb b 34) styles.Double styles.Plain)) ≡ not (eqb b 34 || c)) [
-  | true ↦ elim (eqb b 34) as (λ c. false ≡ not (c || true)) [ true ↦ refl | false ↦ refl ]
-  | false ↦ elim (eqb b 34) as (λ c. is_plain_style (cond c styles.Double styles.Plain) ≡ not (c || false)) [ true ↦ refl | false ↦ refl ]
-]
+style_plain p = search rules
 
 plain_locate : (total : ℕ) (node : FlowNode) (rest : List ℕ) → plain_placed (locate total node rest) ≡ is_plain_content node
 unfolding locate
-plain_locate total empty rest = refl
-plain_locate total (alias n) rest = refl
 plain_locate total (scalar p) rest = style_plain p
 plain_locate total (coll k g is) rest = (holder_is total k (node_text (coll k g is) rest) rest (locate_items total k is rest)).1
 plain_locate total (anchored n g node) rest = plain_with n _ (locate total node rest) ∙ plain_locate total node rest
+plain_locate total _ rest = refl
 
 -- The pieces of a node in front of a text.
 pub record InFront (node : FlowNode) (t rest : List ℕ) : Type 0 where
@@ -104,37 +79,20 @@ no_white_cut : (t : List ℕ) → no_white t ≡ true → cut no_white t ≡ ([]
 no_white_cut t h = rw (upto_here no_white t h) refl
 
 unanchored : (node : FlowNode) (rest : List ℕ) → begins_with 38 (node_text node rest) ≡ false → no_white (node_text node rest) ≡ true → is_nothing node ≡ false → anchor_cut node ≡ ([], [], node_text node []) → InFront node (node_text node rest) rest
-unanchored node rest amp white some is =
-    let none : cut_anchor (node_text node rest) ≡ ([], node_text node rest) = sym (anchor_none (node_text node rest) amp) in
-    let lead : cut_lead (is_nothing node) (cut_anchor (node_text node rest)).1 ≡ ([], node_text node rest) = rw some (ap (λ (y : List ℕ × List ℕ). cut no_white y.1) none ∙ no_white_cut (node_text node rest) white) in
-    record {
-      anchor = ap (λ (y : List ℕ × List ℕ). y.0) none ∙ sym (ap (λ (y : List ℕ × List ℕ × List ℕ). y.0) is);
-      apart = ap (λ (y : List ℕ × List ℕ). y.0) lead ∙ sym (ap (λ (y : List ℕ × List ℕ × List ℕ). y.1) is);
-      head = ap (λ (y : List ℕ × List ℕ). y.1) lead ∙ (node_then node rest ∙ sym (ap (λ (y : List ℕ × List ℕ × List ℕ). y.2 ++ rest) is));
-    }
+unanchored node rest amp white some is = search (rules, anchor_none, no_white_cut, node_then)
 
 -- a content is something
 content_some : (spaces : Option ℕ) (d : ℕ) (node : FlowNode) (rest : List ℕ) → IsFlowNode false spaces d node rest → begins_content false (node_text node rest) ≡ true → is_empty_node node ≡ false
 unfolding node_text IsFlowNode
-content_some spaces d empty rest h begins = absurd (false≢true (sym h.0 ∙ begins))
-content_some spaces d (alias n) rest h begins = refl
-content_some spaces d (scalar p) rest h begins = refl
-content_some spaces d (coll k g is) rest h begins = refl
-content_some spaces d (anchored n g node) rest h begins = refl
+content_some spaces d node rest h begins = search (rules, false≢true)
 
 -- what is after an anchor
 lead_front : (spaces : Option ℕ) (d : ℕ) (g : List ℕ) (node : FlowNode) (rest : List ℕ) → IsFlowNode false spaces d node rest → IsLead false (begins_content false) g (node_text node rest) → (is_empty_node node || not (is_empty g)) ≡ true → cut_lead (is_empty_node node) (g ++ node_text node rest) ≡ (g, node_text node rest)
-lead_front spaces d g node rest h (inl l) some =
-    let there : is_empty_node node ≡ false = content_some spaces d node rest h l.1 in
-    rw there (cut-append no_white g (node_text node rest) l.0.0 l.0.1)
-lead_front spaces d g node rest h (inr l) some =
-    let behind = node_text node rest in rw (bare_or node g some l.0) (ap (λ (x : List ℕ). ([], x ++ behind)) l.0 ∙ ap (λ (x : List ℕ). (x, behind)) (sym l.0))
+lead_front spaces d g node rest h l some = search (rules, content_some, cut-append, bare_or)
 
 pub in_front : (spaces : Option ℕ) (d : ℕ) (node : FlowNode) (rest : List ℕ) → IsFlowNode false spaces d node rest → InFront node (node_text node rest) rest
 unfolding node_text IsFlowNode
-in_front spaces d empty rest h =
-    let none : cut_anchor rest ≡ ([], rest) = sym (anchor_none rest h.1) in
-    record { anchor = ap (λ (y : List ℕ × List ℕ). y.0) none; apart = refl; head = ap (λ (y : List ℕ × List ℕ). y.1) none }
+in_front spaces d empty rest h = search (rules, anchor_none)
 in_front spaces d (alias n) rest h = unanchored (alias n) rest refl refl refl refl
 in_front spaces d (scalar p) rest h =
     let begins = scalar_begins false spaces p rest h in
@@ -142,17 +100,7 @@ in_front spaces d (scalar p) rest h =
 in_front spaces d (coll k g is) rest h =
     let front : (begins_with 38 (node_text (coll k g is) rest) ≡ false) × (no_white (node_text (coll k g is) rest) ≡ true) = cond_both (eqb k 125) 123 91 (λ (b : ℕ). (begins_with 38 (b ∷ (g ++ flow_items_text k is rest)) ≡ false) × (no_white (b ∷ (g ++ flow_items_text k is rest)) ≡ true)) (λ _. (refl, refl)) (λ _. (refl, refl)) in
     unanchored (coll k g is) rest front.0 front.1 refl refl
-in_front spaces d (anchored n g node) rest h =
-    let behind : List ℕ = g ++ node_text node rest in
-    let t : List ℕ = 38 ∷ (n ++ behind) in
-    let name : upto (unless in_name) (n ++ behind) ≡ length n = upto-append (unless in_name) n behind h.0.inside h.0.ends in
-    let anchor : cut_anchor t ≡ (38 ∷ n, behind) = rw name (ap (λ (l : List ℕ). (38 ∷ l, drop (length n) (n ++ behind))) (take-append_seam n behind) ∙ ap (λ (l : List ℕ). (38 ∷ n, l)) (drop-append_seam n behind)) in
-    let lead : cut_lead (is_empty_node node) (cut_anchor t).1 ≡ (g, node_text node rest) = ap (λ (y : List ℕ × List ℕ). cut_lead (is_empty_node node) y.1) anchor ∙ lead_front spaces d g node rest h.4 h.1 h.2 in
-    record {
-      anchor = ap (λ (y : List ℕ × List ℕ). y.0) anchor;
-      apart = ap (λ (y : List ℕ × List ℕ). y.0) lead;
-      head = ap (λ (y : List ℕ × List ℕ). y.1) lead ∙ node_then node rest;
-    }
+in_front spaces d (anchored n g node) rest h = search (rules, upto-append, take-append_seam, drop-append_seam, lead_front, node_then)
 
 -- What the code knows of a node in front of a text.
 pub record Read (spaces : Option ℕ) (t rest : List ℕ) (s : Placed) : Type 0 where
@@ -198,21 +146,13 @@ pub inline_some : (n : ℤ) (space t a r g u behind tail rest : List ℕ) (s : P
     plain ≡ plain_placed s → some ≡ (is_empty space && not (nothing_placed s)) →
     inline_sliced n space t ≡ Some (record { space = space; anchor = a; apart = g; head = take (length u - length behind) u; tail = tail; raw = []; plain = plain; alone = some; rest = rest })
 unfolding inline_content_at
-inline_some n space t a r g u behind tail rest s some plain h anchor lead_is ends plain_is some_is =
-    let a_is : a ≡ (anchor_cut h.node).0 = ap (λ (y : List ℕ × List ℕ). y.0) anchor ∙ h.anchor in
-    let g_is : g ≡ (anchor_cut h.node).1 = ap (λ (y : List ℕ × List ℕ). y.0) lead_is ∙ h.apart in
-    let u_is : u ≡ (anchor_cut h.node).2 ++ behind = ap (λ (y : List ℕ × List ℕ). y.1) lead_is ∙ h.head in
-    let head : take (length u - length behind) u ≡ (anchor_cut h.node).2 = front_take u (anchor_cut h.node).2 behind u_is in
-    let p_is : plain ≡ is_plain_content h.node = plain_is ∙ sym h.plain in
-    let alone : some ≡ (is_empty space && is_more h.node) = some_is ∙ ap (λ (b : Bool). is_empty space && b) (sym h.more) in
-    rw (h.read, ends) (rw (a_is, g_is, head, p_is, alone) refl)
+inline_some n space t a r g u behind tail rest s some plain h anchor lead_is ends plain_is some_is = search (rules, front_take)
 
 abbrev located : ℕ → FlowNode × List ℕ → Option (Placed × List ℕ)
 located total x = Some (locate total x.0 x.1, x.1)
 
 no_node : (total : ℕ) (o : Option (FlowNode × List ℕ)) → (o >>= located total) ≡ None → o ≡ None
-no_node total None h = refl
-no_node total (Some x) h = cc
+no_node total o h = search rules
 
 pub inline_no_node : (n : ℤ) (space t : List ℕ) (total : ℕ) → placed_node false (Some (deeper n)) total depth_limit t ≡ None → inline_sliced n space t ≡ None
 unfolding inline_content_at

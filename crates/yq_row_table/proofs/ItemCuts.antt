@@ -1,13 +1,12 @@
 -- The cut of items.
 use Rattle.std.proofs.Common.{◌≡◌, ◌⊎◌, inl, inr, ℕ, Bool, true, false, ◌||◌, List, [], ◌∷◌, ◌++◌, Some, if◌then◌else◌, refl, sym, ap, ◌∙◌}
-use Rattle.std.{proofs.Common.{subst, ⊎_elim, arith, rules}, proofs.lemmas.Bool.{false≢true, or_right}}
+use Rattle.std.{proofs.Common.{subst, ⊎_elim, rules}, proofs.lemmas.Bool.{false≢true, or_right}}
 use Rattle.yq_core.specs.Text.{is_empty}
 use Rattle.yq_row_table.{specs.Exchange.allows_first, specs.Gap.IsGap}
 use Rattle.yq_row_table.specs.Grammar.{Limit, unlimited, IsRow, AreRows, no_rows, IsMarkerLine, begins_document, AreParts}
 use Rattle.yq_row_table.specs.Items.{Item, row_item, end_item, rows_items, items_of_cut, items_text, Asked, asked_by, IsPartEnd}
 use Rattle.yq_row_table.{specs.Items.AreRowItems, specs.Regions.{no_items, ended}, specs.Reading.all_parts}
-use Rattle.yq_row_table.{specs.Rows.{Row, print_row, Part, Cut, last, marked, cut_text}, proofs.ExchangeLaws.relimit}
-use Rattle.yq_row_table.proofs.ScanLaws.{parts_again}
+use Rattle.yq_row_table.{specs.Rows.{Row, Part, Cut, last, marked, cut_text}, proofs.ExchangeLaws.relimit, proofs.ScanLaws.parts_again}
 
 pub no_last : (xs : List Item) (z : Item) (zs : List Item) (rest : List ℕ) (A : Type 0) → (xs ++ (z ∷ zs)) ≡ [] → A
 no_last [] z zs rest A e = absurd (cc)
@@ -41,44 +40,26 @@ AreBehind limit started (last p) = AreRows limit p.rows p.end [] × ((started ||
 AreBehind limit started (marked p marker c) = AreRows limit p.rows p.end (marker ++ cut_text c) × ((started || no_rows p.rows) ≡ true) × IsMarkerLine marker (cut_text c) × AreParts (begins_document marker) c
 
 behind_parts : (started : Bool) (c : Cut) → AreBehind unlimited started c → AreParts started c
-behind_parts started (last p) h = record { rows = h.0; inside = h.1 }
-behind_parts started (marked p marker c) h = (record { rows = h.0; inside = h.1 }, h.2, h.3)
+behind_parts started c h = search rules
 
 any_first : (rs : List Row) → allows_first unlimited rs ≡ true
-any_first [] = refl
-any_first (r ∷ rs) = refl
+any_first rs = search rules
 
 -- a limit and a document that isn't open only refuse
 unasked : (limit : Limit) (started : Bool) (c : Cut) → AreBehind limit started c → AreParts true c
-unasked limit started (last p) h = record { rows = relimit limit unlimited p.rows p.end [] (any_first p.rows) h.0; inside = refl }
-unasked limit started (marked p marker c) h = (record { rows = relimit limit unlimited p.rows p.end (marker ++ cut_text c) (any_first p.rows) h.0; inside = refl }, h.2, h.3)
+unasked limit started c h = search (rules, relimit, any_first)
 
 abbrev IsCutOf : Asked → List Item → Cut → Type 0
 IsCutOf asked xs c = AreBehind asked.limit asked.started c × (cut_text c ≡ items_text xs [])
 
 cut_of_row : (asked : Asked) (r : Row) (xs : List Item) (c : Cut) → asked.started ≡ true → IsRow asked.limit r (items_text xs []) → IsCutOf (asked_by asked (row_item r)) xs c → IsCutOf asked (row_item r ∷ xs) (row_before r c)
-cut_of_row asked r xs (last p) s h m = (((subst (IsRow asked.limit r) (sym m.1) h, m.0.0), rw s refl), ap (print_row r) m.1)
-cut_of_row asked r xs (marked p marker c) s h m = (((subst (IsRow asked.limit r) (sym m.1) h, m.0.0), rw s refl, m.0.2, m.0.3), ap (print_row r) m.1)
+cut_of_row asked r xs c s h m = search rules
 
 pub no_marker : (marker t : List ℕ) → IsMarkerLine marker t → is_empty marker ≡ false
-no_marker [] t h = absurd (let l = h.long in omega (arith, l))
-no_marker (b ∷ marker) t h = refl
+no_marker marker t h = search rules
 
 cut_of_end : (asked : Asked) (gap marker : List ℕ) (xs : List Item) (c : Cut) → IsGap gap (marker ++ items_text xs []) → IsPartEnd marker xs [] → IsCutOf (asked_by asked (end_item gap marker)) xs c → IsCutOf asked (end_item gap marker ∷ xs) (end_before gap marker c)
-cut_of_end asked gap marker xs c g e m = ⊎_elim {0, 0, 0}
-    (λ line.
-    let p : Part = record { rows = []; end = gap } in
-    let text : marker ++ items_text xs [] ≡ marker ++ cut_text c = ap (λ t. marker ++ t) (sym m.1) in
-    let more : AreParts (begins_document marker) c = behind_parts (begins_document marker) c m.0 in
-    let cut_is : IsCutOf asked (end_item gap marker ∷ xs) (marked p marker c) = ((subst (IsGap gap) text g, or_right asked.started true refl, subst (IsMarkerLine marker) (sym m.1) line, more), ap (λ t. gap ++ t) (sym text)) in
-    rw (no_marker marker (items_text xs []) line) cut_is)
-    (λ none.
-    let p : Part = record { rows = []; end = gap } in
-    let text : marker ++ items_text xs [] ≡ [] = rw (none.0, none.1) refl in
-    let cut_is : IsCutOf asked (end_item gap marker ∷ xs) (last p) = ((subst (IsGap gap) text g, or_right asked.started true refl), ap (λ t. gap ++ t) (sym text)) in
-    let empty : is_empty marker ≡ true = rw none.0 refl in
-    rw empty cut_is)
-    e
+cut_of_end asked gap marker xs c g e m = search (rules, behind_parts, or_right, no_marker)
 
 pub cut_of_items : (xs : List Item) (asked : Asked) → AreRowItems asked xs [] → IsCutOf asked xs (cut_of xs)
 cut_of_items [] asked h = ((no_gap, or_right asked.started true refl), refl)
@@ -91,8 +72,7 @@ alone_read xs asked h = search (rules, cut_of_items, parts_again, unasked)
 
 -- the items of that cut
 row_items : (r : Row) (c : Cut) → items_of_cut (row_before r c) ≡ row_item r ∷ items_of_cut c
-row_items r (last p) = refl
-row_items r (marked p marker c) = refl
+row_items r c = search rules
 
 pub inner_items : (xs : List Item) (z : Item) (zs : List Item) (asked : Asked) (rest : List ℕ) → AreRowItems asked (xs ++ (z ∷ zs)) rest → items_of_cut (cut_of xs) ≡ ended xs [] []
 inner_items [] z zs asked rest h = refl

@@ -1,7 +1,7 @@
 -- A cut and its items.
-use Rattle.std.proofs.Common.{◌≡◌, inl, inr, ℕ, ◌+◌, Bool, true, false, ◌||◌, List, [], ◌∷◌, ◌++◌, length, map, refl, sym, ap, ◌∙◌, subst}
+use Rattle.std.proofs.Common.{rules, ◌≡◌, inr, ℕ, ◌+◌, Bool, true, false, ◌||◌, List, [], ◌∷◌, ◌++◌, length, map, refl, sym, ap, ◌∙◌, subst}
 use Rattle.std.{proofs.Common.{arith, append-nil}, proofs.lemmas.List.map-append}
-use Rattle.yq_row_table.specs.Grammar.{unlimited, limit_after, IsRow, AreRows, no_rows, IsMarkerLine, begins_document, AreParts}
+use Rattle.yq_row_table.specs.Grammar.{unlimited, limit_after, IsRow, AreRows, no_rows, begins_document, AreParts}
 use Rattle.yq_row_table.specs.Items.{Item, row_item, end_item, rows_items, items_of_cut, items_text, Asked, asked_by, asked_of, IsPartEnd}
 use Rattle.yq_row_table.specs.Items.{AreRowItems, rows_in_items, bounds_in_items, view_of_items}
 use Rattle.yq_row_table.specs.Rows.{Row, print_row, rows_text, Cut, last, marked, cut_text}
@@ -14,9 +14,7 @@ rows_items_text (r ∷ rs) xs rest = ap (print_row r) (rows_items_text rs xs res
 
 pub items_of_text : (c : Cut) → items_text (items_of_cut c) [] ≡ cut_text c
 items_of_text (last p) = rows_items_text p.rows (end_item p.end [] ∷ []) []
-items_of_text (marked p marker c) =
-    rows_items_text p.rows (end_item p.end marker ∷ items_of_cut c) []
-    ∙ ap (λ t. rows_text p.rows (p.end ++ (marker ++ t))) (items_of_text c)
+items_of_text (marked p marker c) = search (rules, rows_items_text, items_of_text c)
 
 pub items_text-append : (xs ys : List Item) (rest : List ℕ) → items_text (xs ++ ys) rest ≡ items_text xs (items_text ys rest)
 items_text-append [] ys rest = refl
@@ -34,14 +32,11 @@ rows_items_bounds (r ∷ rs) n xs = rows_items_bounds rs (n + 1) xs ∙ ap (λ k
 
 items_rows : (c : Cut) → rows_in_items (items_of_cut c) ≡ map slices (rows_of c)
 items_rows (last p) = rows_items_rows p.rows (end_item p.end [] ∷ []) ∙ append-nil (map slices p.rows)
-items_rows (marked p marker c) =
-    rows_items_rows p.rows (end_item p.end marker ∷ items_of_cut c) ∙ (ap (λ l. map slices p.rows ++ l) (items_rows c) ∙ sym (map-append slices p.rows (rows_of c)))
+items_rows (marked p marker c) = search (rules, rows_items_rows, map-append, items_rows c)
 
 items_bounds : (c : Cut) (n : ℕ) → bounds_in_items n (items_of_cut c) ≡ bounds_from n c
 items_bounds (last p) n = rows_items_bounds p.rows n (end_item p.end [] ∷ [])
-items_bounds (marked p marker c) n =
-    rows_items_bounds p.rows n (end_item p.end marker ∷ items_of_cut c)
-    ∙ ap (λ l. record { rows = n + length p.rows; end = p.end; marker = marker } ∷ l) (items_bounds c (n + length p.rows))
+items_bounds (marked p marker c) n = search (rules, rows_items_bounds, items_bounds c (n + length p.rows))
 
 pub items_view_is : (c : Cut) → view_of_items (items_of_cut c) ≡ rows_view c
 items_view_is c = ap (λ (l : List Slices). record { rows = l; bounds = bounds_in_items 0 (items_of_cut c) }) (items_rows c) ∙ ap (λ (l : List Bound). record { rows = map slices (rows_of c); bounds = l }) (items_bounds c 0)
@@ -53,8 +48,7 @@ items_joined (x ∷ xs) ys asked rest h = items_joined xs ys (asked_by asked x) 
 
 -- the grammar of a cut, by its items
 or_false : (b : Bool) → (b || false) ≡ b
-or_false true = refl
-or_false false = refl
+or_false b = search rules
 
 rows_are_items : (rs : List Row) (asked : Asked) (gap marker : List ℕ) (xs : List Item) → (asked.started || no_rows rs) ≡ true → AreRows asked.limit rs gap (marker ++ items_text xs []) → IsPartEnd marker xs [] →
     AreRowItems (record { limit = unlimited; started = begins_document marker }) xs [] → AreRowItems asked (rows_items rs (end_item gap marker ∷ xs)) []
@@ -69,7 +63,4 @@ rows_are_items (r ∷ rs) asked gap marker xs o h e more =
 
 pub parts_are_items : (c : Cut) (started : Bool) → AreParts started c → AreRowItems (record { limit = unlimited; started = started }) (items_of_cut c) []
 parts_are_items (last p) started h = rows_are_items p.rows (record { limit = unlimited; started = started }) p.end [] [] h.inside h.rows (inr (refl, refl, refl)) tt
-parts_are_items (marked p marker c) started h =
-    let text : marker ++ cut_text c ≡ marker ++ items_text (items_of_cut c) [] = ap (λ t. marker ++ t) (sym (items_of_text c)) in
-    let line = subst (IsMarkerLine marker) (sym (items_of_text c)) h.1 in
-    rows_are_items p.rows (record { limit = unlimited; started = started }) p.end marker (items_of_cut c) h.0.inside (subst (AreRows unlimited p.rows p.end) text h.0.rows) (inl line) (parts_are_items c (begins_document marker) h.2)
+parts_are_items (marked p marker c) started h = search (rules, items_of_text, rows_are_items, parts_are_items c (begins_document marker) h.2)

@@ -23,16 +23,13 @@ rows_joined (r ∷ a) b xs = ap (λ l. row_item r ∷ l) (rows_joined a b xs)
 
 -- one part
 first_later : (rs : List Row) (gap marker : List ℕ) (xs : List Item) → rows_items rs (end_item gap marker ∷ xs) ≡ first_item rs gap marker ∷ later_items rs gap marker xs
-first_later [] gap marker xs = refl
-first_later (r ∷ rs) gap marker xs = refl
+first_later rs gap marker xs = search rules
 
 cut_rows : (i j : ℕ) (rs : List Row) (xs : List Item) → i ≤ j → rows_items rs xs ≡ rows_items (take i rs) (rows_items (drop i (take j rs)) (rows_items (drop j rs) xs))
-cut_rows zero zero rs xs le = refl
-cut_rows zero (suc j) [] xs le = refl
 cut_rows zero (suc j) (r ∷ rs) xs le = ap (λ l. row_item r ∷ l) (cut_rows zero j rs xs (omega arith))
 cut_rows (suc i) zero rs xs le = absurd (omega (arith, le))
-cut_rows (suc i) (suc j) [] xs le = refl
 cut_rows (suc i) (suc j) (r ∷ rs) xs le = ap (λ l. row_item r ∷ l) (cut_rows i j rs xs (omega (arith, le)))
+cut_rows _ _ _ xs le = refl
 
 part_old : (i j : ℕ) (rs : List Row) (gap marker : List ℕ) (xs : List Item) → i ≤ j →
     rows_items rs (end_item gap marker ∷ xs) ≡ rows_items (take i rs) [] ++ (rows_items (drop i (take j rs)) (first_item (drop j rs) gap marker ∷ []) ++ later_items (drop j rs) gap marker xs)
@@ -43,8 +40,7 @@ part_old i j rs gap marker xs le =
     ∙ ap (λ l. rows_items (take i rs) [] ++ l) (rows_then (drop i (take j rs)) (first_item (drop j rs) gap marker) (later_items (drop j rs) gap marker xs))))
 
 gap_later : (rs : List Row) (new_gap gap marker : List ℕ) (xs : List Item) → rows_items (with_first_gap new_gap rs) (end_item (end_gap new_gap rs gap) marker ∷ xs) ≡ regapped new_gap rs marker ∷ later_items rs gap marker xs
-gap_later [] new_gap gap marker xs = refl
-gap_later (r ∷ rs) new_gap gap marker xs = refl
+gap_later rs new_gap gap marker xs = search rules
 
 part_new : (i j : ℕ) (rs new : List Row) (new_gap gap marker : List ℕ) (xs : List Item) →
     rows_items (take i rs ++ (new ++ with_first_gap new_gap (drop j rs))) (end_item (end_gap new_gap (drop j rs) gap) marker ∷ xs) ≡ rows_items (take i rs) [] ++ (rows_items new (regapped new_gap (drop j rs) marker ∷ []) ++ later_items (drop j rs) gap marker xs)

@@ -1,7 +1,8 @@
 -- Rows kept by their distance from the beginning of a text, or from its end.
-use Rattle.std.proofs.Common.{◌≡◌, ℕ, ◌+◌, ◌-◌, Some, List, [], ◌∷◌, ◌++◌, length, map, refl, sym, ap, ◌∙◌, subst, arith, append_assoc}
-use Rattle.std.{proofs.Common.length-append, proofs.lemmas.Option.{get_or_from_slice_get, slice_get_within}, specs.List.slice_get}
-use Rattle.std.{proofs.lemmas.List.Elements.{All-get_or, All-nil, All-cons}, proofs.lemmas.Str.IsUtf8-append, specs.Str.IsUtf8}
+use Rattle.std.proofs.Common.{rules, ◌≡◌, ℕ, ◌+◌, ◌-◌, Some, List, [], ◌∷◌, ◌++◌, length, map, refl, sym, ap, ◌∙◌, subst, arith}
+use Rattle.std.{proofs.Common.{append_assoc, length-append}, proofs.lemmas.Option.{get_or_from_slice_get, slice_get_within}}
+use Rattle.std.{specs.List.slice_get, proofs.lemmas.List.Elements.{All-get_or, All-nil, All-cons}, proofs.lemmas.Str.IsUtf8-append}
+use Rattle.std.specs.Str.{IsUtf8}
 use Rattle.yq_row_table.{specs.Items.{Item, row_item, end_item, items_text, rows_in_items}, specs.Kept.{near, far, row_from_end, TextsIn}}
 use Rattle.yq_row_table.{specs.Offsets.{Ends, IsCutIn, Stand, slices_in, rows_in, AreTexts, offsets_of}, specs.Rows.{Row, print_row}}
 use Rattle.yq_row_table.{specs.View.{Slices, slices, slices_text}, proofs.FrontLaws.{front_drop, front_length}}
@@ -89,12 +90,8 @@ far_near (end_item gap marker ∷ xs) pre whole e =
 -- Items after others.
 pub near_joined : (n : ℕ) (xs ys : List Item) → near n (xs ++ ys) ≡ near n xs ++ near (n + length (items_text xs [])) ys
 near_joined n [] ys = ap (λ (k : ℕ). near k ys) (omega arith)
-near_joined n (row_item r ∷ xs) ys =
-    let size : (n + length (print_row r [])) + length (items_text xs []) ≡ n + length (print_row r (items_text xs [])) = omega (arith, ap length (print_then r (items_text xs [])), length-append (print_row r []) (items_text xs [])) in
-    ap (λ l. offsets_of n (slices r) ∷ l) (near_joined (n + length (print_row r [])) xs ys ∙ ap (λ (k : ℕ). near (n + length (print_row r [])) xs ++ near k ys) size)
-near_joined n (end_item gap marker ∷ xs) ys =
-    let size : (n + length (gap ++ marker)) + length (items_text xs []) ≡ n + length (gap ++ (marker ++ items_text xs [])) = omega (arith, ap length (append_assoc gap marker (items_text xs [])), length-append (gap ++ marker) (items_text xs [])) in
-    near_joined (n + length (gap ++ marker)) xs ys ∙ ap (λ (k : ℕ). near (n + length (gap ++ marker)) xs ++ near k ys) size
+near_joined n (row_item r ∷ xs) ys = search (rules, print_then, length-append, near_joined (n + length (print_row r [])) xs ys)
+near_joined n (end_item gap marker ∷ xs) ys = search (rules, append_assoc, length-append, near_joined (n + length (gap ++ marker)) xs ys)
 
 pub texts_joined : (xs ys : List Item) → TextsIn xs → TextsIn ys → TextsIn (xs ++ ys)
 texts_joined [] ys h k = k

@@ -1,15 +1,15 @@
 -- Rows and ends of parts by their index, where they are kept and in the halves of their text.
-use Rattle.std.proofs.Common.{◌≡◌, ℕ, zero, suc, ⊎_elim, ◌+◌, ◌-◌, ◌<◌, ◌≤◌, ◌^◌, List, [], ◌∷◌, ◌++◌, length, map, reverse, Some}
+use Rattle.std.proofs.Common.{rules, ◌≡◌, ℕ, zero, suc, ⊎_elim, ◌-◌, ◌<◌, ◌≤◌, ◌^◌, List, [], ◌∷◌, ◌++◌, length, map, reverse, Some}
 use Rattle.std.proofs.Common.{slice_get, refl, sym, ap, ◌∙◌, subst, arith, drop, length-append}
 use Rattle.std.{proofs.lemmas.Bool.{cases_lt, le-ltb, lt-ltb}, proofs.lemmas.List.{length-map, map-id}}
-use Rattle.std.proofs.lemmas.List.Elements.{All-cons, All-get_or, All-nil}
+use Rattle.std.proofs.lemmas.List.Elements.{All-get_or, All-nil}
 use Rattle.std.{proofs.lemmas.Option.{get_or_from_slice_get, same_Some, slice_get-map, slice_get_within}, specs.List.All}
 use Rattle.std.{specs.Option.option_map, specs.Str.IsCharBoundary}
 use Rattle.yq_text.{specs.Halves.whole, specs.declared.halves.Halves.Halves}
 use Rattle.yq_row_table.{specs.Ends.{EndStands, bound_at, bound_in_half}, specs.Items.{Item, row_item, end_item, items_text}}
 use Rattle.yq_row_table.specs.Kept.{HavePlaces, far, kept_rows, near, placed_rows, halves_view, slices_behind, row_from_end}
-use Rattle.yq_row_table.{specs.Offsets.{AreCuts, IsCutIn, offsets_of, slices_in}, specs.RowStarts.row_start}
-use Rattle.yq_row_table.{specs.View.{RowsView, Slices, slices}, specs.declared.ends.EndPlace.EndPlace, specs.declared.places.Places.Places}
+use Rattle.yq_row_table.{specs.Offsets.{AreCuts, IsCutIn, offsets_of, slices_in}, specs.RowStarts.row_start, specs.View.{RowsView, Slices}}
+use Rattle.yq_row_table.{specs.declared.ends.EndPlace.EndPlace, specs.declared.places.Places.Places}
 use Rattle.yq_row_table.{proofs.HalfLaws.{InHalf, back_rows, front_rows, half_ends, have_view}, proofs.ItemLaws.items_text-append}
 use Rattle.yq_row_table.{proofs.KeptLaws.{far_near, items_apart, near_joined, stands_at}, proofs.NearLaws.{row_near, some_row}}
 use Rattle.yq_row_table.proofs.SliceLaws.{print-length}
@@ -21,9 +21,7 @@ placed_near text p h =
     let front = text.front.now in
     let last : map (row_from_end (length (whole text))) (reverse p.behind.items) ≡ near (length front) h.behind =
     ap (map (row_from_end (length (whole text)))) h.placed.behind_are ∙ far_near h.behind front (whole text) (ap (λ l. front ++ l) h.back_is) in
-    let place : length front ≡ 0 + length (items_text h.before []) = omega (arith, ap length h.front_is) in
-    ap (λ (l : List declared.Offsets). l ++ map (row_from_end (length (whole text))) (reverse p.behind.items)) h.placed.front_are
-    ∙ (ap (λ (l : List declared.Offsets). near 0 h.before ++ l) (last ∙ ap (λ (m : ℕ). near m h.behind) place) ∙ sym (near_joined 0 h.before h.behind))
+    search (rules, near_joined)
 
 -- the row at an index, by its side
 at_front : {A B : Type 0} (f g : A → B) (xs ys : List A) (i : ℕ) (a : A) → slice_get (xs ++ ys) i ≡ Some a → i < length xs → slice_get (map f xs ++ map g ys) i ≡ Some (f a)
@@ -54,8 +52,7 @@ row_place text p i q s h there own =
     let near_is : slice_get (placed_rows n p) i ≡ Some (offsets_of (row_start i (halves_view text p)) s) =
     ap (λ (l : List declared.Offsets). slice_get l i) (placed_near text p h)
     ∙ (row_near (h.before ++ h.behind) i s (sym (ap (λ (v : RowsView). slice_get v.rows i) same) ∙ there) ∙ ap (λ (v : RowsView). Some (offsets_of (row_start i v) s)) (sym same)) in
-    let mine : slice_get (placed_rows n p) i ≡ Some q = ap (λ (l : List declared.Offsets). slice_get (l ++ map (row_from_end n) (reverse p.behind.items)) i) (sym (map-id p.front.items)) ∙ own in
-    same_Some _ _ (sym mine ∙ near_is)
+    search (rules, map-id, same_Some)
 
 place_front : (text : Halves) (p : Places) (i : ℕ) (o : declared.Offsets) (s : Slices) → HavePlaces text p → slice_get (halves_view text p).rows i ≡ Some s → slice_get (kept_rows p) i ≡ Some o → i < length p.front.items → o ≡ offsets_of (row_start i (halves_view text p)) s
 place_front text p i o s h there kept less = row_place text p i o s h there (at_front (λ x. x) (row_from_end (length (whole text))) p.front.items (reverse p.behind.items) i o kept less)
@@ -88,8 +85,7 @@ back_found text p i o h kept more =
 
 far_within : (xs : List Item) (n : ℕ) → length (items_text xs []) ≤ n → All (λ o. o.start ≤ n) (far xs)
 far_within [] n le = All-nil (λ o. o.start ≤ n)
-far_within (row_item r ∷ xs) n le =
-    All-cons (λ (o : declared.Offsets). o.start ≤ n) (offsets_of (length (items_text (row_item r ∷ xs) [])) (slices r)) (far xs) le (far_within xs n (omega (arith, le, print-length r (items_text xs []))))
+far_within (row_item r ∷ xs) n le = search (rules, print-length, far_within xs n (omega (arith, le, print-length r (items_text xs []))))
 far_within (end_item gap marker ∷ xs) n le = far_within xs n (omega (arith, le, length-append gap (marker ++ items_text xs []), length-append marker (items_text xs [])))
 
 pub back_within : (text : Halves) (p : Places) (i : ℕ) (o : declared.Offsets) → HavePlaces text p → slice_get (kept_rows p) i ≡ Some o → length p.front.items ≤ i → o.start ≤ length text.back.now
@@ -97,8 +93,7 @@ back_within text p i o h kept more =
     let at = sides_out p.front.items (reverse p.behind.items) i o kept more in
     let n = length text.back.now in
     let all : All (λ o. o.start ≤ n) (reverse p.behind.items) = subst (All (λ o. o.start ≤ n)) (sym h.placed.behind_are) (far_within h.behind n (omega (arith, ap length h.back_is))) in
-    subst (λ (q : declared.Offsets). q.start ≤ n) (get_or_from_slice_get (reverse p.behind.items) at.0 o o at.1)
-    (All-get_or (λ o. o.start ≤ n) (reverse p.behind.items) at.0 o (slice_get_within (reverse p.behind.items) at.0 o at.1) all)
+    search (rules, get_or_from_slice_get, slice_get_within)
 
 pub row_front : (text : Halves) (p : Places) (i : ℕ) (o : declared.Offsets) → slice_get (kept_rows p) i ≡ Some o → i < length p.front.items → slice_get (halves_view text p).rows i ≡ Some (slices_in text.front.now o)
 row_front text p i o kept less = at_front (slices_in text.front.now) (slices_behind text.back.now) p.front.items (reverse p.behind.items) i o kept less
@@ -128,7 +123,4 @@ pub from_back : (text : Halves) (e : EndPlace) → length text.front.now ≤ e.s
 from_back text e more = rw (le-ltb e.start (length text.front.now) more) refl
 
 pub halves_small : (text : Halves) (p : Places) → (h : HavePlaces text p) → length (whole text) < 2 ^ 32
-halves_small text p h =
-    let all : whole text ≡ items_text (h.before ++ h.behind) [] =
-    ap (λ l. l ++ text.back.now) h.front_is ∙ (ap (λ l. items_text h.before [] ++ l) h.back_is ∙ (sym (items_apart h.before (items_text h.behind [])) ∙ sym (items_text-append h.before h.behind []))) in
-    subst (λ (l : List ℕ). length l < 2 ^ 32) (sym all) h.placed.small
+halves_small text p h = search (rules, items_apart, items_text-append)

@@ -1,20 +1,16 @@
 -- Reads of places by an index among both sides.
-use Rattle.std.proofs.Common.{◌≡◌, ℕ, zero, suc, ◌+◌, ◌-◌, ◌<◌, ◌≤◌, List, [], ◌∷◌, ◌++◌, get_or, length, map, reverse, Some, slice_get}
-use Rattle.std.proofs.Common.{refl, sym, ap, ◌∙◌, subst, arith, length-append}
+use Rattle.std.proofs.Common.{rules, ◌≡◌, ℕ, zero, suc, ◌+◌, ◌-◌, ◌<◌, ◌≤◌, List, [], ◌∷◌, ◌++◌, get_or, length, map, reverse, Some}
+use Rattle.std.proofs.Common.{slice_get, refl, sym, ap, ◌∙◌, subst, arith, length-append}
 use Rattle.std.{proofs.lemmas.List.{get_or-reverse, length-map, length-reverse}, proofs.lemmas.Option.{slice_get-map, slice_get_read}}
 use Rattle.std.{specs.Option.option_map, specs.Vec.vec_len}
 use Rattle.yq_text.specs.declared.halves.Halves.{Halves}
-use Rattle.yq_row_table.{specs.Kept.{halves_view, kept_rows, placed_rows, slices_behind, row_from_end}, specs.Offsets.slices_in}
-use Rattle.yq_row_table.{specs.View.RowsView, specs.declared.places.Places.Places}
+use Rattle.yq_row_table.{specs.Kept.{halves_view, kept_rows, placed_rows, row_from_end}, specs.View.RowsView}
+use Rattle.yq_row_table.specs.declared.places.Places.{Places}
 use Rattle.yq_row_table.specs.declared.offsets.Offsets as declared
-
-both_long : {A B : Type 0} (f g : A → B) (xs ys : List A) → length (map f xs ++ map g ys) ≡ length (xs ++ ys)
-both_long f g xs ys = omega (arith, length-append (map f xs) (map g ys), length-append xs ys, length-map xs f, length-map ys g)
 
 -- how many rows and ends of parts a view of these places has
 pub rows_kept : (text : Halves) (p : Places) (v : RowsView) → halves_view text p ≡ v → length (kept_rows p) ≡ length v.rows
-rows_kept text p v is =
-    sym (both_long (slices_in text.front.now) (slices_behind text.back.now) p.front.items (reverse p.behind.items)) ∙ ap (λ (w : RowsView). length w.rows) is
+rows_kept text p v is = search (rules, length-append, length-map)
 
 -- a row of such a view is one of those that are kept
 pub kept_within : (text : Halves) (p : Places) (i : ℕ) (v : RowsView) → halves_view text p ≡ v → i < length v.rows → i < length (kept_rows p)

@@ -1,44 +1,28 @@
 -- A key has one line, so that its `:` is in front of the end of the line.
-use Rattle.std.proofs.Common.{◌≡◌, inl, inr, ℕ, suc, ◌+◌, Bool, true, false, not, ◌&&◌, eqb, eqb-true, List, [], ◌∷◌, ◌++◌, Option, Some}
-use Rattle.std.proofs.Common.{None, refl, sym, ap, ◌∙◌, subst, arith, append_assoc, drop}
-use Rattle.std.{proofs.lemmas.Bool.{cases_Bool, false≢true, not-true, or_parts}, specs.List.prefix_len, specs.Option.option_or}
-use Rattle.yq_core.specs.Plain.{ends_plain, ends_text, holds_break, last_line, plain_may_follow, no_gap}
-use Rattle.yq_core.{specs.Text.{NoneIn, cut, front, is_empty, is_feed, is_white, upto}, proofs.Bools.at_byte, specs.Nodes.begins_with}
-use Rattle.yq_core.specs.Scalars.{IsScalarAt}
+use Rattle.std.proofs.Common.{rules, ◌≡◌, inl, inr, ℕ, suc, ◌+◌, Bool, true, false, not, ◌&&◌, eqb, List, [], ◌∷◌, ◌++◌, Option, Some, None}
+use Rattle.std.{proofs.Common.{refl, ap, ◌∙◌, arith, append_assoc, drop}, proofs.lemmas.Bool.{cases_Bool, false≢true, not-true, or_parts}}
+use Rattle.std.{specs.List.prefix_len, specs.Option.option_or}
+use Rattle.yq_core.{specs.Plain.{ends_plain, holds_break, plain_may_follow}, specs.Text.{NoneIn, is_feed, is_white, upto}}
+use Rattle.yq_core.{proofs.Bools.at_byte, specs.Nodes.begins_with, specs.Scalars.IsScalarAt}
 use Rattle.yq_row_table.{specs.Gap.IsWhite, specs.Reading.{holds_colon, read_row_key}, proofs.PieceLaws.key_takes}
 
 -- a plain scalar that may have no further line ends before an LF
 last_false : (a b c d : Bool) → d ≡ false → (a && b && c && d) ≡ false
-last_false a b c d e = rw e (go a b c) where
-  go : (a b c : Bool) → (a && b && c && false) ≡ false
-  go true true true = refl
-  go true true false = refl
-  go true false c = refl
-  go false b c = refl
+last_false a b c d e = search rules
 
 none_deep : (o : Option (List ℕ)) (line text : List ℕ) → plain_may_follow None (option_or o (Some line)) text ≡ false
-none_deep None line text = refl
-none_deep (Some x) line text = refl
-
-feed_ends : (t : List ℕ) → ends_plain false None (10 ∷ t) ≡ true
-unfolding upto
-feed_ends t =
-    let g = (cut no_gap t).1 in
-    ap not (last_false (not (is_empty g)) (not (front (λ b. eqb b 35) g)) (not (ends_text false g)) _ (none_deep (last_line (cut no_gap t).0) (cut no_gap t).0 (cut no_gap t).1))
+none_deep o line text = search rules
 
 no_feed : (b : ℕ) (t : List ℕ) → ends_plain false None (b ∷ t) ≡ false → is_feed b ≡ false
-no_feed b t h = elim (cases_Bool (is_feed b)) [
-  | inl e ↦ absurd (false≢true (sym h ∙ subst (λ (x : ℕ). ends_plain false None (x ∷ t) ≡ true) (sym (eqb-true b 10 e)) (feed_ends t)))
-  | inr e ↦ e
-]
+unfolding upto
+no_feed b t h = search (rules, cases_Bool, false≢true, last_false, none_deep)
 
 plain_line : (p rest : List ℕ) → NoneIn (ends_plain false None) p rest → holds_break p ≡ false
 plain_line [] rest h = refl
 plain_line (b ∷ p) rest h = rw (no_feed b (p ++ rest) h.0, plain_line p rest h.1) refl
 
 pub key_line : (p rest : List ℕ) → IsScalarAt false None p rest → holds_break p ≡ false
-key_line p rest (inl h) = plain_line p rest h.inside
-key_line p rest (inr h) = not-true (holds_break p) h.1
+key_line p rest h = search (rules, plain_line, not-true)
 
 white_line : (w : List ℕ) → IsWhite w → holds_break w ≡ false
 white_line [] h = refl
@@ -67,7 +51,4 @@ key_colon t k h =
     rw whole (colon_behind k.0 (colon.white ++ (58 ∷ k.2)) (key_line k.0 (k.1 ++ k.2) x.1.scalar) (colon_behind colon.white (58 ∷ k.2) (white_line colon.white colon.blank) refl))
 
 pub no_key_line : (t : List ℕ) → holds_colon t ≡ false → read_row_key t ≡ None
-no_key_line t h = go (read_row_key t) refl where
-  go : (o : Option (List ℕ × List ℕ × List ℕ)) → read_row_key t ≡ o → o ≡ None
-  go None e = refl
-  go (Some k) e = absurd (false≢true (sym h ∙ key_colon t k e))
+no_key_line t h = search (rules, false≢true, key_colon)

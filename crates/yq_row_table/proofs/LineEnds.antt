@@ -1,11 +1,10 @@
 -- Ends of lines, read and spelled.
-use Rattle.std.proofs.Common.{◌≡◌, ℕ, suc, ◌+◌, true, false, not, ◌&&◌, ◌||◌, List, [], ◌∷◌, ◌++◌, length, take, drop, refl, sym, ap, ◌∙◌}
-use Rattle.std.proofs.Common.{subst, inl, inr, ⊎_elim, arith, eqb-true, append_assoc, append-nil, rules}
+use Rattle.std.proofs.Common.{◌≡◌, ℕ, suc, ◌+◌, true, false, ◌&&◌, ◌||◌, List, [], ◌∷◌, ◌++◌, length, take, drop, refl, sym, ap, ◌∙◌, subst}
+use Rattle.std.proofs.Common.{inl, inr, ⊎_elim, arith, eqb-true, append_assoc, append-nil, rules}
 use Rattle.std.proofs.lemmas.Bool.{false≢true, cond_both, or_cases, not-false, and_parts, cases_Bool, or_parts}
 use Rattle.std.{proofs.Math.Bool.and-false, proofs.Math.Seq.{take-append_seam, drop-append_seam, take-append-add, drop-append-add}}
-use Rattle.yq_core.specs.Text.{upto, cut, NoneIn, no_white, is_white, is_feed, is_return, front, is_break, ends_line, is_empty, is_line}
-use Rattle.yq_core.{specs.Text.{line_len, cut_line}, proofs.Bools.at_byte, proofs.LineLaws.line_cut, proofs.Upto.cut-append}
-use Rattle.yq_core.specs.Lines.{is_hash}
+use Rattle.yq_core.specs.Text.{upto, cut, NoneIn, no_white, is_white, is_feed, is_return, front, ends_line, is_empty, is_line, line_len}
+use Rattle.yq_core.{specs.Text.cut_line, proofs.Bools.at_byte, proofs.LineLaws.line_cut, proofs.Upto.cut-append, specs.Lines.is_hash}
 use Rattle.yq_row_table.specs.Gap.{IsWhite, IsBreak, IsComment, IsLineEnd}
 
 -- white space
@@ -16,8 +15,7 @@ none_in_white (b ∷ w) rest h = (rw h.0 refl, none_in_white w rest h.1)
 pub white_cut : (t : List ℕ) → IsWhite (cut no_white t).0
 unfolding upto
 white_cut [] = tt
-white_cut (b ∷ bs) = let again = white_cut bs in
-    cond_both (not (is_white b)) 0 (suc (upto no_white bs)) (λ n. IsWhite (take n (b ∷ bs))) (λ _. tt) (λ h. (not-false (is_white b) h, again))
+white_cut (b ∷ bs) = search (rules, cond_both, not-false, white_cut bs)
 
 pub white_again : (w rest : List ℕ) → IsWhite w → no_white rest ≡ true → cut no_white (w ++ rest) ≡ (w, rest)
 white_again w rest h here = cut-append no_white w rest (none_in_white w rest h) here
@@ -36,10 +34,7 @@ feed_is b h = eqb-true b 10 h
 -- the break in front of a line has a CR before it, or there is one more byte before the line
 return_before : (b : ℕ) (break rest : List ℕ) → is_feed b ≡ false → (is_return b && front is_feed break) ≡ true → IsBreak break rest → IsBreak (b ∷ break) rest
 unfolding is_line
-return_before b break rest n r h = ⊎_elim {0, 0, 0}
-    (λ e. inl (rw (n, r) (and_parts (is_break break) (is_line break) e).1))
-    (λ e. absurd (false≢true (sym (and-false (is_return b)) ∙ (ap (λ (p : List ℕ). is_return b && front is_feed p) (sym e.0) ∙ r))))
-    h
+return_before b break rest n r h = search (rules, and_parts, false≢true, and-false)
 
 line_more : (b : ℕ) (text break l rest : List ℕ) → is_feed b ≡ false → l ≡ text ++ break → NoneIn ends_line text break → IsBreak break rest → IsLine (b ∷ l) rest
 line_more b [] break l rest n s inside ends = ⊎_elim {0, 0, 0}
@@ -62,22 +57,15 @@ line_takes (b ∷ bs) = let again = line_takes bs in
 pub text_line : (text break : List ℕ) → NoneIn ends_line text break → is_line (text ++ break) ≡ is_line break
 unfolding is_line
 text_line [] break h = refl
-text_line (b ∷ text) break h =
-    let f = or_parts (is_feed b) (is_return b && front is_feed (text ++ break)) h.0 in
-    rw f.0 (text_line text break h.1)
+text_line (b ∷ text) break h = search (rules, or_parts, text_line text break h.1)
 
 text_len : (text : List ℕ) → NoneIn ends_line text [] → line_len text ≡ length text
 unfolding line_len
 text_len [] h = refl
-text_len (b ∷ text) h =
-    let f = or_parts (is_feed b) (is_return b && front is_feed (text ++ [])) h.0 in
-    rw f.0 (ap suc (text_len text h.1))
-
-line_len-line : (text break rest : List ℕ) → NoneIn ends_line text break → IsBreak break rest → line_len ((text ++ break) ++ rest) ≡ length (text ++ break)
-line_len-line text break rest inside ends = search (rules, ⊎_elim, line_cut, text_line, and_parts, append-nil, text_len)
+text_len (b ∷ text) h = search (rules, or_parts, text_len text h.1)
 
 pub line_again : (l rest : List ℕ) → IsLine l rest → cut_line (l ++ rest) ≡ (l, rest)
-line_again l rest h = search (rules, line_len-line, take-append_seam, drop-append_seam)
+line_again l rest h = search (rules, ⊎_elim, line_cut, text_line, and_parts, append-nil, text_len, take-append_seam, drop-append_seam)
 
 -- bytes that are no LF, before a text
 abbrev NoFeed : List ℕ → Type 0
@@ -92,9 +80,6 @@ line_len-append : (w t : List ℕ) → NoFeed w → line_len (w ++ t) ≡ length
 unfolding line_len
 line_len-append [] t h = omega arith
 line_len-append (b ∷ w) t h = rw h.0 (let again = line_len-append w t h.1 in omega arith)
-
-line_cut-append : (w t : List ℕ) → IsWhite w → cut_line (w ++ t) ≡ (w ++ (cut_line t).0, (cut_line t).1)
-line_cut-append w t h = rw (line_len-append w t (white_no_feed w h)) (rw (take-append-add, drop-append-add) refl)
 
 pub white_none : (w c break : List ℕ) → IsWhite w → NoneIn ends_line c break → NoneIn ends_line (w ++ c) break
 white_none [] c break h n = n
@@ -125,22 +110,18 @@ line_end_takes_at w u blank h = ⊎_elim {0, 0, 0}
     (or_cases (ends_line u) (is_hash u) h)
 
 pub line_end_takes : (w u : List ℕ) → IsWhite w → (ends_line u || is_hash u) ≡ true → EndsLine w u (cut_line (w ++ u))
-line_end_takes w u blank h = subst (EndsLine w u) (sym (line_cut-append w u blank)) (line_end_takes_at w u blank h)
+line_end_takes w u blank h =
+    subst (EndsLine w u) (sym (rw (line_len-append w u (white_no_feed w blank)) (rw (take-append-add, drop-append-add) refl))) (line_end_takes_at w u blank h)
 
 -- its parts again
 pub one_feed : (b : ℕ) → (is_feed b || (is_return b && false)) ≡ true → is_feed b ≡ true
 one_feed b h = ⊎_elim {0, 0, 0} (λ e. e) (λ e. absurd (false≢true (sym (and-false (is_return b)) ∙ e))) (or_cases (is_feed b) (is_return b && false) h)
 
-break_front : (break rest : List ℕ) → IsBreak break rest → (no_white (break ++ rest) ≡ true) × (ends_line (break ++ rest) ≡ true)
-break_front break rest h1 = search (rules, ⊎_elim, false≢true, one_feed, and_parts, feed_is, eqb-true, or_cases)
-
 pub behind_comment : (c break rest : List ℕ) → IsComment c break → IsBreak break rest → (no_white (c ++ (break ++ rest)) ≡ true) × ((ends_line (c ++ (break ++ rest)) || is_hash (c ++ (break ++ rest))) ≡ true) × (ends_line (c ++ (break ++ rest)) ≡ is_empty c)
-behind_comment [] break rest h e = let f = break_front break rest e in (f.0, rw f.1 refl, f.1)
-behind_comment (b ∷ c) break rest h e = rw h.0 (refl, refl, refl)
+behind_comment c break rest h e = search (rules, ⊎_elim, false≢true, one_feed, and_parts, feed_is, eqb-true, or_cases)
 
 pub comment_none : (c break : List ℕ) → IsComment c break → NoneIn ends_line c break
-comment_none [] break h = tt
-comment_none (b ∷ c) break h = (rw h.0 refl, h.1)
+comment_none c break h = search rules
 
 pub line_end_line : (w c p rest : List ℕ) → IsLineEnd w c p rest → IsLine p rest
 line_end_line w c p rest h = record { text = w ++ c; break = h.break; spelled = h.spelled ∙ sym (append_assoc w c h.break); inside = white_none w c h.break h.blank (comment_none c h.break h.as_comment); ends = h.ends }

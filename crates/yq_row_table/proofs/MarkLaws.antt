@@ -1,7 +1,6 @@
 -- Dashes and the mark after them, read and spelled.
-use Rattle.std.proofs.Common.{◌≡◌, ℕ, zero, suc, ◌≤◌, true, false, cond, not, ◌&&◌, eqb, List, [], ◌∷◌, ◌++◌, length, take, drop, Option}
-use Rattle.std.proofs.Common.{Some, None, refl, ap, ◌∙◌, arith, eqb-true, replicate, length-drop, rules}
-use Rattle.std.proofs.lemmas.Bool.{false≢true, cond_both, not-false, and_parts}
+use Rattle.std.proofs.Common.{◌≡◌, ℕ, zero, suc, ◌≤◌, true, false, cond, not, ◌&&◌, List, [], ◌∷◌, ◌++◌, length, drop, Option, refl, arith}
+use Rattle.std.{proofs.Common.{replicate, length-drop, rules}, proofs.lemmas.Bool.{false≢true, cond_both, not-false, and_parts}}
 use Rattle.yq_core.{specs.Text.{upto, cut, NoneIn, no_space, is_empty, separates}, proofs.Upto.{cut-append, cut_takes}}
 use Rattle.yq_row_table.specs.Grammar.{IsKey, is_entry, AreDashes}
 use Rattle.yq_row_table.specs.Reading.{read_row_key, is_dash, is_some, begins_entry, key_mark, mark_at, Marks, with_dash, undashed}
@@ -12,9 +11,7 @@ use Rattle.yq_row_table.proofs.PieceLaws.{key_takes}
 pub spaces_are : (t : List ℕ) → (cut no_space t).0 ≡ replicate (length (cut no_space t).0) 32
 unfolding upto
 spaces_are [] = refl
-spaces_are (b ∷ bs) = let again = spaces_are bs in
-    cond_both (not (eqb b 32)) 0 (suc (upto no_space bs)) (λ n. take n (b ∷ bs) ≡ replicate (length (take n (b ∷ bs))) 32)
-    (λ _. refl) (λ h. let same : b ≡ 32 = eqb-true b 32 (not-false (eqb b 32) h) in rw same (ap (λ l. 32 ∷ l) again))
+spaces_are (b ∷ bs) = search (rules, cond_both, not-false, spaces_are bs)
 
 none_in_spaces : (n : ℕ) (rest : List ℕ) → NoneIn no_space (replicate n 32) rest
 none_in_spaces zero rest = tt
@@ -38,8 +35,7 @@ dashes_fuel (suc n) (suc m) [] a b = refl
 dashes_fuel (suc n) (suc m) (x ∷ t) a b =
     let s = cut no_space t in
     let less = behind_spaces t in
-    ap (λ o. cond (is_dash (x ∷ t)) (cond (not (is_empty s.0) && begins_entry s.1) (with_dash (length s.0) o) ([], Dash, t)) (undashed (mark_at (x ∷ t))))
-    (dashes_fuel n m s.1 (omega arith) (omega arith))
+    search (rules, dashes_fuel n m s.1 (omega arith) (omega arith))
 
 -- one more dash
 pub marks_more : (t : List ℕ) → is_dash t ≡ true → (not (is_empty (cut no_space (drop 1 t)).0) && begins_entry (cut no_space (drop 1 t)).1) ≡ true → read_marks t ≡ with_dash (length (cut no_space (drop 1 t)).0) (read_marks (cut no_space (drop 1 t)).1)
@@ -49,14 +45,12 @@ marks_more t h1 h2 = search (rules, false≢true, behind_spaces, dashes_fuel)
 -- the last one
 pub marks_dash : (t : List ℕ) → is_dash t ≡ true → (not (is_empty (cut no_space (drop 1 t)).0) && begins_entry (cut no_space (drop 1 t)).1) ≡ false → read_marks t ≡ ([], Dash, drop 1 t)
 unfolding dashes_at
-marks_dash [] h more = absurd (false≢true h)
-marks_dash (x ∷ t) h more = rw (h, more) refl
+marks_dash t h more = search (rules, false≢true)
 
 -- none
 pub marks_none : (t : List ℕ) → is_dash t ≡ false → read_marks t ≡ undashed (mark_at t)
 unfolding dashes_at
-marks_none [] h = refl
-marks_none (x ∷ t) h = rw h refl
+marks_none t h = search rules
 
 -- what comes after a mark that was read
 abbrev pub IsMarked : RowMark → List ℕ → Type 0
@@ -68,16 +62,13 @@ abbrev pub MarksCut : List ℕ → Marks → Type 0
 MarksCut t m = (t ≡ dashes_text m.0 (mark_text m.1 m.2)) × AreDashes m.0 m.1 × IsMarked m.1 m.2
 
 mark_takes_at : (t : List ℕ) (o : Option (List ℕ × List ℕ × List ℕ)) → read_row_key t ≡ o → MarksCut t (undashed (key_mark t o))
-mark_takes_at t None h = (refl, tt, tt)
-mark_takes_at t (Some k) h = let l = key_takes t k h in (l.0, tt, l.1)
+mark_takes_at t o h = search (rules, key_takes)
 
 entry_mark : (t : List ℕ) (o : Option (List ℕ × List ℕ × List ℕ)) → is_some o ≡ true → is_entry (key_mark t o).0 ≡ true
-entry_mark t None h = absurd (false≢true h)
-entry_mark t (Some k) h = refl
+entry_mark t o h = search (rules, false≢true)
 
 pub dash_is : (t : List ℕ) → is_dash t ≡ true → (t ≡ 45 ∷ drop 1 t) × (separates (drop 1 t) ≡ true)
-dash_is [] h = absurd (false≢true h)
-dash_is (b ∷ bs) h = let parts = and_parts (eqb b 45) (separates bs) h in (ap (λ x. x ∷ bs) (eqb-true b 45 parts.0), parts.1)
+dash_is t h = search (rules, false≢true, and_parts)
 
 -- where an entry begins, an entry is read
 entry_read : (n : ℕ) (t : List ℕ) → length t ≤ n → begins_entry t ≡ true → is_entry (dashes_at n t).1 ≡ true
@@ -96,15 +87,10 @@ entry_read (suc n) (b ∷ t) short h =
     (λ e. entry_mark u (read_row_key u) (rw e at h))
 
 some_length : (s : List ℕ) → not (is_empty s) ≡ true → 1 ≤ length s
-some_length [] h = absurd (false≢true h)
-some_length (b ∷ s) h = omega arith
+some_length s h = search (rules, false≢true)
 
 one_dash : (t : List ℕ) (m : Marks) → is_dash t ≡ true → (not (is_empty (cut no_space (drop 1 t)).0)) ≡ true → is_entry m.1 ≡ true → MarksCut (cut no_space (drop 1 t)).1 m → MarksCut t (with_dash (length (cut no_space (drop 1 t)).0) m)
-one_dash t m dash some entry h =
-    let s = cut no_space (drop 1 t) in
-    let join : drop 1 t ≡ s.0 ++ s.1 = cut_takes no_space (drop 1 t) in
-    let behind : drop 1 t ≡ replicate (length s.0) 32 ++ dashes_text m.0 (mark_text m.1 m.2) = join ∙ (ap (λ l. l ++ s.1) (spaces_are (drop 1 t)) ∙ ap (λ l. replicate (length s.0) 32 ++ l) h.0) in
-    ((dash_is t dash).0 ∙ ap (λ l. 45 ∷ l) behind, (some_length s.0 some, entry, h.1), h.2)
+one_dash t m dash some entry h = search (rules, cut_takes, spaces_are, dash_is, some_length)
 
 dashes_take : (n : ℕ) (t : List ℕ) → length t ≤ n → MarksCut t (dashes_at n t)
 unfolding dashes_at

@@ -1,6 +1,6 @@
 -- Lines one after the other, and their count.
-use Rattle.std.proofs.Common.{◌≡◌, ℕ, zero, suc, ◌+◌, ◌-◌, ◌<◌, ◌≤◌, true, List, [], ◌∷◌, length, drop, get_or, sym, ap, ◌∙◌, subst, ⊎_elim}
-use Rattle.std.{proofs.Common.{arith, eqb-true, length-take, length-drop}, proofs.lemmas.Bool.{false≢true, cases_Bool}}
+use Rattle.std.proofs.Common.{rules, ◌≡◌, ℕ, zero, suc, ◌+◌, ◌-◌, ◌<◌, ◌≤◌, true, List, [], ◌∷◌, length, drop, get_or, ap, ◌∙◌, subst}
+use Rattle.std.{proofs.Common.{⊎_elim, arith, eqb-true, length-take, length-drop}, proofs.lemmas.Bool.{false≢true, cases_Bool}}
 use Rattle.std.{proofs.Math.ListN.drop_of_length-le, proofs.lemmas.List.drop-drop}
 use Rattle.std.{proofs.lemmas.Str.{IsCharBoundary-start, IsCharBoundary-after_ascii}, specs.Str.{IsUtf8, IsCharBoundary}}
 use Rattle.yq_core.{specs.Text.{is_feed, front, line_len, text_lines}, proofs.LineLaws.{line_step, line_len_some, line_len_within}}
@@ -28,10 +28,7 @@ line_ends (b ∷ t) zero e less = ⊎_elim {0, 0, 0} (λ y. y) (λ y. absurd (le
 line_ends (b ∷ t) (suc n) e less = ⊎_elim {0, 0, 0} (λ y. absurd (omega (arith, rw y at e))) (λ y. line_ends t n (omega (arith, rw y at e)) (omega arith)) (cases_Bool (is_feed b))
 
 begins_behind : (t : List ℕ) (n k m : ℕ) → m ≡ suc k → front is_feed (drop k (drop n t)) ≡ true → begins_line t (n + m) ≡ true
-begins_behind t n k m e h =
-    let place : begins_line t (suc (n + k)) ≡ true = ap (front is_feed) (sym (drop-drop k n t)) ∙ h in
-    let same : suc (n + k) ≡ n + m = omega (arith, e) in
-    subst (λ (i : ℕ). begins_line t i ≡ true) same place
+begins_behind t n k m e h = search (rules, drop-drop)
 
 pub next_begins : (t : List ℕ) (n : ℕ) → n < length t → n + length (line_at t n) < length t → begins_line t (n + length (line_at t n)) ≡ true
 next_begins t n less inside =
@@ -49,13 +46,7 @@ counted_within zero n = omega arith
 counted_within (suc k) n = let more = counted_within k (next_count n) in omega (arith, more)
 
 pub lines_left : (t : List ℕ) (n : ℕ) → n < length t → line_count (drop n t) ≡ suc (line_count (drop (n + length (line_at t n)) t))
-lines_left t n less =
-    let rest = drop n t in
-    let long : length rest ≡ length t - n = length-drop n t in
-    let within = line_len_within rest in
-    let size : length (line_at t n) ≡ line_len rest = length-take (line_len rest) rest ∙ omega (arith, within) in
-    ap length (line_step rest (omega (arith, long)))
-    ∙ ap (λ l. suc (line_count l)) (drop-drop (line_len rest) n t ∙ ap (λ (k : ℕ). drop (n + k) t) (sym size))
+lines_left t n less = search (rules, length-drop, line_len_within, length-take, line_step, drop-drop)
 
 -- a step of the count
 pub record LineStep (t : List ℕ) (n : ℕ) : Type 0 where
@@ -63,13 +54,7 @@ pub record LineStep (t : List ℕ) (n : ℕ) : Type 0 where
   pub within : n + length (line_at t n) ≤ length t
 
 pub step_is : (t : List ℕ) (n : ℕ) → n < length t → LineStep t n
-step_is t n less =
-    let rest = drop n t in
-    let long : length rest ≡ length t - n = length-drop n t in
-    let within = line_len_within rest in
-    let some = line_len_some rest (omega (arith, long)) in
-    let size : length (line_at t n) ≡ line_len rest = length-take (line_len rest) rest ∙ omega (arith, within) in
-    record { more = omega (arith, size, some); within = omega (arith, size, within, long) }
+step_is t n less = search (rules, length-drop, line_len_within, line_len_some, length-take)
 
 pub lines_done : (t : List ℕ) (n : ℕ) → length t ≤ n → line_count (drop n t) ≡ 0
 unfolding text_lines

@@ -1,17 +1,17 @@
 -- Rows at their distance from the beginning of a text: as they are read, and each by its index.
-use Rattle.std.proofs.Common.{◌≡◌, ℕ, zero, suc, ◌+◌, ◌-◌, ◌<◌, Bool, true, false, List, [], ◌∷◌, ◌++◌, length, take, Option, Some, None}
-use Rattle.std.proofs.Common.{refl, sym, ap, ◌∙◌, subst, arith, append_assoc, append-nil, length-append}
+use Rattle.std.proofs.Common.{rules, ◌≡◌, ℕ, zero, suc, ◌+◌, ◌-◌, ◌<◌, Bool, true, false, List, [], ◌∷◌, ◌++◌, length, take, Option, Some}
+use Rattle.std.{proofs.Common.{None, refl, sym, ap, ◌∙◌, arith, append_assoc, append-nil, length-append}, proofs.lemmas.Grind.common_steps}
 use Rattle.std.{proofs.lemmas.Bool.{le-leb, lt-leb}, proofs.lemmas.List.Sums.sum_by-cons, proofs.lemmas.Option.same_Some}
 use Rattle.std.specs.List.{slice_get, sum_by}
 use Rattle.yq_core.{specs.Answers.◌>>=◌, specs.Text.is_empty, proofs.Bools.bind_some}
 use Rattle.yq_row_table.specs.Grammar.{Limit, limit_after, ends_part, begins_document}
 use Rattle.yq_row_table.specs.Items.{Item, row_item, end_item, rows_items, items_of_cut, items_text, rows_in_items, bounds_in_items}
 use Rattle.yq_row_table.{specs.Items.view_of_items, specs.Kept.{near, ends_near, rows_placed, parts_placed, ends_placed}}
-use Rattle.yq_row_table.{specs.Slicing.{SlicedRow, sliced, row_sliced, read_view}, specs.Offsets.{Ends, offsets_of, row_length}}
+use Rattle.yq_row_table.{specs.Slicing.{sliced, row_sliced, read_view}, specs.Offsets.{Ends, offsets_of, row_length}}
 use Rattle.yq_row_table.specs.Reading.{cut_gap, row_at, all_rows, read_cut_part, marker_at, all_parts}
-use Rattle.yq_row_table.specs.RowStarts.{bound_length, passed_length, row_start}
+use Rattle.yq_row_table.specs.RowStarts.{passed_length, row_start}
 use Rattle.yq_row_table.specs.Rows.{Row, print_row, rows_text, Part, part_text, Cut, last, marked, cut_text}
-use Rattle.yq_row_table.{specs.View.{Slices, slices, slices_text, Bound, RowsView}, specs.declared.ends.EndPlace.EndPlace}
+use Rattle.yq_row_table.{specs.View.{Slices, slices, slices_text, RowsView}, specs.declared.ends.EndPlace.EndPlace}
 use Rattle.yq_row_table.{proofs.FrontLaws.{front_join, front_le}, proofs.ItemLaws.{items_of_text, items_view_is, rows_items_text}}
 use Rattle.yq_row_table.{proofs.ItemSpliceLaws.rows_front, proofs.KeptLaws.{items_apart, near_joined}, proofs.OffsetLaws.row_then}
 use Rattle.yq_row_table.proofs.PartsLaws.{parts_last, parts_marked, part_takes, marker_takes, part_marker}
@@ -22,10 +22,7 @@ use Rattle.yq_row_table.specs.declared.offsets.Offsets as declared
 
 -- one row more
 front_placed : (os : List declared.Offsets) (n : ℕ) (r : Row) (o : Option (Part × List ℕ)) → rows_placed os n (with_front (r ∷ []) o) ≡ rows_placed (os ++ offsets_of n (slices r) ∷ []) (n + length (slices_text (slices r) [])) o
-front_placed os n r (Some x) =
-    let size : n + length (print_row r []) ≡ n + length (slices_text (slices r) []) = ap (λ (t : List ℕ). n + length t) (sym (slices_are r [])) in
-    ap Some (ap (λ (k : ℕ). os ++ offsets_of n (slices r) ∷ near k (rows_items x.0.rows [])) size ∙ sym (append_assoc os (offsets_of n (slices r) ∷ []) (near (n + length (slices_text (slices r) [])) (rows_items x.0.rows []))))
-front_placed os n r None = refl
+front_placed os n r o = search (rules, slices_are, append_assoc)
 
 gap_read : (limit : Limit) (t g r : List ℕ) → (g, r) ≡ cut_gap t → all_rows limit t ≡ rows_from limit g r
 gap_read limit t g r e = rows_cut limit t ∙ ap (λ (y : List ℕ × List ℕ). rows_from limit y.0 y.1) (sym e)
@@ -38,9 +35,7 @@ rows_placed_none os n limit t g r all e more none so_far = sym so_far ∙ ap (ro
 
 -- how far from the beginning the next one is
 pub next_place : (whole t p rest : List ℕ) → Ends t whole → t ≡ p ++ rest → length whole - length rest ≡ (length whole - length t) + length p
-next_place whole t p rest h e =
-    let within = front_le whole _ t (front_join whole t h) in
-    omega (arith, within, ap length e, length-append p rest)
+next_place whole t p rest h e = search (rules, front_le, front_join, length-append)
 
 pub rows_placed_step : (os items : List declared.Offsets) (o : declared.Offsets) (whole : List ℕ) (limit next : Limit) (t g r : List ℕ) (s : Slices) (after : List ℕ) (all : Option (List declared.Offsets)) → Ends t whole → (g, r) ≡ cut_gap t → ends_part r ≡ false →
     row_sliced limit g r ≡ Some (s, next, after) → items ≡ os ++ o ∷ [] → o ≡ offsets_of (length whole - length t) s → rows_placed os (length whole - length t) (all_rows limit t) ≡ all → rows_placed items (length whole - length after) (all_rows next after) ≡ all
@@ -50,20 +45,14 @@ rows_placed_step os items o whole limit next t g r s after all ends e more h pus
     let is : sliced x.0 ≡ (s, next, after) = same_Some _ _ x.2 in
     let read : all_rows limit t ≡ with_front (x.0.0 ∷ []) (all_rows (limit_after x.0.0) x.0.1) = gap_read limit t g r e ∙ (rows_step limit g r x.0 more x.1 ∙ ap (with_front (x.0.0 ∷ [])) (sym (rows_cut (limit_after x.0.0) x.0.1))) in
     let one : rows_placed os n (all_rows limit t) ≡ rows_placed (os ++ offsets_of n (slices x.0.0) ∷ []) (n + length (slices_text (slices x.0.0) [])) (all_rows (limit_after x.0.0) x.0.1) = ap (rows_placed os n) read ∙ front_placed os n x.0.0 (all_rows (limit_after x.0.0) x.0.1) in
-    let same : rows_placed os n (all_rows limit t) ≡ rows_placed (os ++ offsets_of n s ∷ []) (n + length (slices_text s [])) (all_rows next after) =
-    subst (λ (y : SlicedRow). rows_placed os n (all_rows limit t) ≡ rows_placed (os ++ offsets_of n y.0 ∷ []) (n + length (slices_text y.0 [])) (all_rows y.1 y.2)) is one in
-    let size : length whole - length after ≡ n + length (slices_text s []) = next_place whole t (slices_text s []) after ends (row_joined limit next t g r s after e h ∙ row_then s after) in
-    ap (λ (k : ℕ). rows_placed items k (all_rows next after)) size
-    ∙ (ap (λ (l : List declared.Offsets). rows_placed l (n + length (slices_text s [])) (all_rows next after)) (pushed ∙ ap (λ (p : declared.Offsets). os ++ p ∷ []) place)
-    ∙ (sym same ∙ so_far))
+    search (rules, next_place, row_joined, row_then)
 
 -- parts
 near_part : (n : ℕ) (rs : List Row) (end marker : List ℕ) (xs : List Item) → near n (rows_items rs (end_item end marker ∷ xs)) ≡ near n (rows_items rs []) ++ near (n + length (rows_text rs (end ++ marker))) xs
 near_part n rs end marker xs =
     let own = items_text (rows_items rs []) [] in
     let text : rows_text rs (end ++ marker) ≡ own ++ (end ++ marker) = sym (rows_items_text rs [] (end ++ marker)) ∙ items_apart (rows_items rs []) (end ++ marker) in
-    let size : (n + length own) + length (end ++ marker) ≡ n + length (rows_text rs (end ++ marker)) = omega (arith, ap length text, length-append own (end ++ marker)) in
-    ap (near n) (rows_front rs (end_item end marker ∷ xs)) ∙ (near_joined n (rows_items rs []) (end_item end marker ∷ xs) ∙ ap (λ (k : ℕ). near n (rows_items rs []) ++ near k xs) size)
+    search (rules, length-append, rows_front, near_joined)
 
 pub parts_placed_end : (os items : List declared.Offsets) (n : ℕ) (started : Bool) (t after : List ℕ) (p : Part) (all : Option (List declared.Offsets)) → read_cut_part started t ≡ Some (p, after) → is_empty after ≡ true → rows_placed os n (read_cut_part started t) ≡ Some items →
     parts_placed os n (all_parts started t) ≡ all → all ≡ Some items
@@ -74,10 +63,7 @@ parts_placed_end os items n started t after p all h none placed so_far =
 
 marked_placed : (os : List declared.Offsets) (n : ℕ) (p : Part) (marker : List ℕ) (o : Option Cut) →
     parts_placed os n (o >>= λ c. Some (marked p marker c)) ≡ parts_placed (os ++ near n (rows_items p.rows [])) (n + length (rows_text p.rows (p.end ++ marker))) o
-marked_placed os n p marker None = refl
-marked_placed os n p marker (Some c) =
-    ap (λ l. Some (os ++ l)) (near_part n p.rows p.end marker (items_of_cut c))
-    ∙ ap Some (sym (append_assoc os (near n (rows_items p.rows [])) (near (n + length (rows_text p.rows (p.end ++ marker))) (items_of_cut c))))
+marked_placed os n p marker o = search (rules, near_part, append_assoc)
 
 pub part_apart : (p : Part) (marker rest : List ℕ) → part_text p (marker ++ rest) ≡ rows_text p.rows (p.end ++ marker) ++ rest
 part_apart p marker rest =
@@ -115,14 +101,7 @@ pub record AreRead (t : List ℕ) (os : List declared.Offsets) (es : List EndPla
   pub rows_view_is : s ≡ view_of_items items
 
 are_read : (t : List ℕ) (n : ℕ) (o : Option Cut) (os : List declared.Offsets) (es : List EndPlace) (s : RowsView) → n ≡ 0 → ((c : Cut) → o ≡ Some c → t ≡ cut_text c) → parts_placed [] n o ≡ Some os → ends_placed [] n 0 o ≡ Some es → read_view o ≡ Some s → AreRead t os es s
-are_read t n None os es s none text h g e = cc
-are_read t n (Some c) os es s none text h g e = record {
-  items = items_of_cut c;
-  text_is = text c refl ∙ sym (items_of_text c);
-  near_is = sym (same_Some _ _ h) ∙ ap (λ (k : ℕ). near k (items_of_cut c)) none;
-  ends_is = sym (same_Some _ _ g) ∙ ap (λ (k : ℕ). ends_near k 0 (items_of_cut c)) none;
-  rows_view_is = sym (same_Some _ _ e) ∙ sym (items_view_is c);
-}
+are_read t n o os es s h6 text h g e = search (rules, items_of_text, same_Some, items_view_is)
 
 pub near_read : (t : List ℕ) (os : List declared.Offsets) (es : List EndPlace) (s : RowsView) → parts_placed [] (length t - length t) (all_parts true t) ≡ Some os → ends_placed [] (length t - length t) 0 (all_parts true t) ≡ Some es → read_view (all_parts true t) ≡ Some s → AreRead t os es s
 near_read t os es s h g e = are_read t (length t - length t) (all_parts true t) os es s (omega arith) (λ c read. (parts_take (suc (length t)) true t c read).0) h g e
@@ -134,30 +113,13 @@ start_in n k i xs = n + (sum_by row_length (take i (rows_in_items xs)) + sum_by 
 none_passed : (j k : ℕ) (xs : List Item) → j < k → sum_by (passed_length j) (bounds_in_items k xs) ≡ 0
 none_passed j k [] less = refl
 none_passed j k (row_item r ∷ xs) less = none_passed j (k + 1) xs (omega (arith, less))
-none_passed j k (end_item gap marker ∷ xs) less =
-    let b : Bound = record { rows = k; end = gap; marker = marker } in
-    let own : passed_length j b ≡ 0 = rw (lt-leb k j less) refl in
-    sum_by-cons (passed_length j) b (bounds_in_items k xs) ∙ omega (arith, own, none_passed j k xs less)
+none_passed j k (end_item gap marker ∷ xs) less = search (rules, lt-leb, sum_by-cons, none_passed j k xs less)
 
 pub near_at : (xs : List Item) (n k i : ℕ) (s : Slices) → slice_get (rows_in_items xs) i ≡ Some s → slice_get (near n xs) i ≡ Some (offsets_of (start_in n k i xs) s)
 near_at [] n k i s h = cc
-near_at (row_item r ∷ xs) n k zero s h =
-    let none = none_passed (k + 0) (k + 1) xs (omega arith) in
-    let place : n ≡ start_in n k 0 (row_item r ∷ xs) = omega (arith, none) in
-    ap (λ (l : Slices). Some (offsets_of n l)) (same_Some _ _ h) ∙ ap (λ (m : ℕ). Some (offsets_of m s)) place
-near_at (row_item r ∷ xs) n k (suc i) s h =
-    let long = print-length r [] in
-    let first = sum_by-cons row_length (slices r) (take i (rows_in_items xs)) in
-    let index : (k + 1) + i ≡ k + suc i = omega arith in
-    let same = ap (λ (j : ℕ). sum_by (passed_length j) (bounds_in_items (k + 1) xs)) index in
-    let place : start_in (n + length (print_row r [])) (k + 1) i xs ≡ start_in n k (suc i) (row_item r ∷ xs) = omega (arith, long, first, same) in
-    near_at xs (n + length (print_row r [])) (k + 1) i s h ∙ ap (λ (m : ℕ). Some (offsets_of m s)) place
-near_at (end_item gap marker ∷ xs) n k i s h =
-    let b : Bound = record { rows = k; end = gap; marker = marker } in
-    let own : passed_length (k + i) b ≡ bound_length b = rw (le-leb k (k + i) (omega arith)) refl in
-    let first = sum_by-cons (passed_length (k + i)) b (bounds_in_items k xs) in
-    let place : start_in (n + length (gap ++ marker)) k i xs ≡ start_in n k i (end_item gap marker ∷ xs) = omega (arith, own, first, length-append gap marker) in
-    near_at xs (n + length (gap ++ marker)) k i s h ∙ ap (λ (m : ℕ). Some (offsets_of m s)) place
+near_at (row_item r ∷ xs) n k zero s h = search (rules, none_passed, same_Some)
+near_at (row_item r ∷ xs) n k (suc i) s h = grind (arith, common_steps, print-length, sum_by-cons, near_at xs (n + length (print_row r [])) (k + 1) i s h)
+near_at (end_item gap marker ∷ xs) n k i s h = grind (arith, common_steps, le-leb, sum_by-cons, length-append, near_at xs (n + length (gap ++ marker)) k i s h)
 
 pub row_near : (xs : List Item) (i : ℕ) (s : Slices) → slice_get (rows_in_items xs) i ≡ Some s → slice_get (near 0 xs) i ≡ Some (offsets_of (row_start i (view_of_items xs)) s)
 row_near xs i s there =

@@ -1,13 +1,15 @@
 -- An inline node after a dash or a key, exchanged for another one.
-use Rattle.std.proofs.Common.{◌≡◌, ℕ, ℤ, true, false, List, [], ◌∷◌, ◌++◌, Some, refl, sym, ap, ◌∙◌, subst, append_assoc, rules}
-use Rattle.std.{proofs.lemmas.Bool.{false≢true, or_parts}, specs.List.slice_get, specs.Str.IsUtf8}
+use Rattle.std.proofs.lemmas.Bool.{and_parts, and_from, false≢true, or_parts}
+use Rattle.std.proofs.Common.{◌≡◌, ℕ, ℤ, true, false, List, [], ◌∷◌, ◌++◌, Some, refl, sym, ap, ◌∙◌, append_assoc, rules}
+use Rattle.std.{specs.List.slice_get, specs.Str.IsUtf8}
+use Rattle.yq_row_table.proofs.CharacterLaws.{all_join, pairs_back, pairs_join, pairs_front}
+use Rattle.yq_row_table.specs.Exchange.{with_content, exchange, before_content, behind_row, rows_behind, allows_first, FitsRow}
+use Rattle.yq_row_table.{specs.Gap.IsWhite, specs.Grammar.{IsTail, IsMark, is_entry, limit_after, IsCut}}
+use Rattle.yq_row_table.{specs.Rows.{RowMark, Content, Inline, content_text, Row, parent_indent, Cut, cut_text}, specs.View.rows_of}
+use Rattle.yq_row_table.{proofs.Fronts.{Starts, node_starts}, proofs.NodeFronts.node_begins}
+use Rattle.yq_row_table.proofs.PlaceLaws.{place, new_place, RowIn, row_in}
 use Rattle.yq_core.{specs.Characters.is_text, specs.Piece.deeper, specs.Text.{front, is_feed, separates}}
 use Rattle.yq_core.{specs.Inline.{depth_limit, IsInline}, specs.Nodes.{FlowNode, node_text}, proofs.NodesWrittenLaws.node_then}
-use Rattle.yq_row_table.specs.Exchange.{with_content, exchange, before_content, behind_row, rows_behind, allows_first, FitsRow}
-use Rattle.yq_row_table.{specs.Gap.IsWhite, specs.Grammar.{IsTail, IsContent, IsMark, is_entry, limit_after, IsCut}}
-use Rattle.yq_row_table.{specs.Rows.{RowMark, Content, Inline, content_text, Row, parent_indent, Cut, cut_text}, specs.View.rows_of}
-use Rattle.yq_row_table.{proofs.CharacterLaws.text_exchanged, proofs.Fronts.{Starts, node_starts}, proofs.NodeFronts.node_begins}
-use Rattle.yq_row_table.proofs.PlaceLaws.{place, new_place, RowIn, row_in}
 use Rattle.yq_core.specs.declared.style.Place.TheVariants as places
 
 -- white space comes before the node
@@ -29,23 +31,14 @@ pub record HoldsNode (r : Row) (space : List ℕ) (node : FlowNode) (end rest : 
   pub apart : separates (space ++ node_text node (end ++ rest)) ≡ true
 
 pub holds_node : (r : Row) (space : List ℕ) (node : FlowNode) (end rest : List ℕ) (behind : List Row) → RowIn r rest behind → r.content ≡ Inline space node end → is_entry r.mark ≡ true → HoldsNode r space node end rest
-holds_node r space node end rest behind h is entry =
-    let c : IsContent (parent_indent r) (Inline space node end) rest = subst (λ (x : Content). IsContent (parent_indent r) x rest) is h.row.content in
-    let a : separates (content_text (Inline space node end) rest) ≡ true = subst (λ (x : Content). separates (content_text x rest) ≡ true) is (mark_apart r.mark r.content rest entry h.row.mark) in
-    record { blank = c.0; inline = c.1; tail = c.2; apart = a }
+holds_node r space node end rest behind h is entry = search (rules, mark_apart)
 
 pub node_fits : (t : List ℕ) (c : Cut) (i : ℕ) (r : Row) (space : List ℕ) (node new : FlowNode) (tail : List ℕ) → IsCut t c → slice_get (rows_of c) i ≡ Some r → r.content ≡ Inline space node tail → is_entry r.mark ≡ true →
     IsInline places.Block (parent_indent r) 0 new (tail ++ behind_row i c) → allows_first (limit_after (with_content (Inline space new tail) r)) (rows_behind i c) ≡ true → FitsRow (Inline space new tail) r (behind_row i c) (rows_behind i c)
 node_fits t c i r space node new tail h is content entry inline next =
     let rest = behind_row i c in
     let row = row_in c i true r h.parts is in
-    let old = holds_node r space node tail rest (rows_behind i c) row content entry in
-    record {
-      entry = entry;
-      content = (old.blank, inline, old.tail);
-      apart = space_apart space (node_text node (tail ++ rest)) (node_text new (tail ++ rest)) old.blank old.apart (inline_starts (parent_indent r) node (tail ++ rest) old.inline).joined;
-      next = next;
-    }
+    search (rules, holds_node, space_apart, inline_starts)
 
 -- where the node is
 regroup : (before space : List ℕ) (node : FlowNode) (rest : List ℕ) → before ++ (space ++ node_text node rest) ≡ (before ++ space) ++ (node_text node [] ++ rest)
@@ -60,8 +53,7 @@ new_node_place c i r space new tail is = search (rules, new_place, regroup)
 
 -- the characters of the new text
 pub starts_no_feed : (t : List ℕ) → Starts t → front is_feed t ≡ false
-starts_no_feed [] h = refl
-starts_no_feed (b ∷ bs) h = (or_parts (is_feed b) _ h.no_end).0
+starts_no_feed t h = search (rules, or_parts)
 
 pub node_text_law : (t : List ℕ) (c : Cut) (i : ℕ) (r : Row) (space : List ℕ) (node new : FlowNode) (tail : List ℕ) → IsCut t c → slice_get (rows_of c) i ≡ Some r → r.content ≡ Inline space node tail → is_entry r.mark ≡ true →
     IsUtf8 (before_content i c ++ space) → IsUtf8 (node_text node []) → IsUtf8 (node_text new []) → is_text (node_text new []) ≡ true → is_text (cut_text (exchange i (Inline space new tail) c)) ≡ true
@@ -71,4 +63,4 @@ node_text_law t c i r space node new tail h is content entry u v w fresh =
     let old = holds_node r space node tail (behind_row i c) (rows_behind i c) (row_in c i true r h.parts is) content entry in
     let whole : is_text (before ++ (node_text node [] ++ rest)) ≡ true = rw (← node_place c i r space node tail is content, ← h.text) h.characters in
     let no_feed : front is_feed (node_text node [] ++ rest) ≡ false = rw (← node_then node rest) (starts_no_feed (node_text node rest) (inline_starts (parent_indent r) node rest old.inline)) in
-    rw (new_node_place c i r space new tail is) (text_exchanged before (node_text node []) (node_text new []) rest u v w no_feed whole fresh)
+    rw (new_node_place c i r space new tail is) (search (rules, and_parts, all_join, and_from, pairs_back, pairs_join, pairs_front))

@@ -1,5 +1,5 @@
 -- What is in front of an inline node and of a block scalar.
-use Rattle.std.proofs.Common.{◌≡◌, inl, inr, ℕ, Bool, true, false, not, ◌||◌, eqb, List, [], ◌∷◌, ◌++◌, drop, Option, refl, ap, rules}
+use Rattle.std.proofs.Common.{◌≡◌, ℕ, Bool, true, false, not, ◌||◌, eqb, List, [], ◌∷◌, ◌++◌, drop, Option, refl, ap, rules}
 use Rattle.std.proofs.lemmas.Bool.{false≢true, cond_both, or_right}
 use Rattle.yq_core.{specs.Block.{style_indicator, BlockText, block_text}, specs.declared.block_header.BlockStyle.BlockStyle}
 use Rattle.yq_core.{specs.Text.{upto, unless, front, is_empty, no_white, no_space, past_white, NoneIn, joined}, proofs.Upto.cut-append}
@@ -7,7 +7,6 @@ use Rattle.yq_core.specs.Nodes.{FlowNode, empty, alias, scalar, coll, anchored, 
 use Rattle.yq_core.{specs.Nodes.{begins_content, begins_node, IsLead, IsName, is_empty_node, IsFlowNode}, specs.Scalars.begins_scalar}
 use Rattle.yq_core.{proofs.NodesPieceLaws.{front_not, scalar_begins}, proofs.KeepLaws.bare_text}
 use Rattle.yq_row_table.{specs.Reading.{is_dash, begins_block}, proofs.MarkAgain.scalar_node}
-use Rattle.yq_core.specs.declared.block_header.BlockStyle.TheVariants as styles
 
 -- the mark of a block scalar
 abbrev pub is_block_mark : ℕ → Bool
@@ -25,8 +24,7 @@ bare_node spaces k node rest h1 h2 = search (rules, false≢true)
 
 -- a test of the byte in front
 front_first : (t : List ℕ) → begins_with 124 t ≡ false → begins_with 62 t ≡ false → front is_block_mark t ≡ false
-front_first [] a b = refl
-front_first (x ∷ t) a b = rw (a, b) refl
+front_first t a b = search rules
 
 content_no_mark : (t : List ℕ) → begins_content false t ≡ true → front is_block_mark t ≡ false
 content_no_mark t h = front_first t (front_not (begins_content false) 124 (λ cs. refl) t h) (front_not (begins_content false) 62 (λ cs. refl) t h)
@@ -47,8 +45,7 @@ pub bare_or : (node : FlowNode) (g : List ℕ) → (is_empty_node node || not (i
 bare_or node g h1 h2 = search rules
 
 anchored_no_mark : (g : List ℕ) (node : FlowNode) (rest : List ℕ) → IsLead false (begins_content false) g (node_text node rest) → (is_empty_node node || not (is_empty g)) ≡ true → front is_block_mark (past_white rest) ≡ false → front is_block_mark (past_white (g ++ node_text node rest)) ≡ false
-anchored_no_mark g node rest (inl h) some c = rw (past_is g (node_text node rest) h.0.0 h.0.1) (content_no_mark (node_text node rest) h.1)
-anchored_no_mark g node rest (inr h) some c = rw h.0 (rw (bare_text node rest (bare_or node g some h.0)) c)
+anchored_no_mark g node rest h some c = search (rules, past_is, content_no_mark, bare_text, bare_or)
 
 -- a node is no block scalar
 pub node_no_block : (spaces : Option ℕ) (k : ℕ) (node : FlowNode) (rest : List ℕ) → IsFlowNode false spaces k node rest → not (is_empty_node node) ≡ true → front is_block_mark (past_white rest) ≡ false → begins_block (node_text node rest) ≡ false
@@ -71,8 +68,7 @@ pub record BlockFront (t : List ℕ) : Type 0 where
   pub no_scalar : begins_scalar false t ≡ false
 
 mark_front : (style : BlockStyle) (t : List ℕ) → BlockFront (style_indicator style ∷ t)
-mark_front styles.Literal t = record { no_white = refl; no_anchor = refl; mark = refl; no_space = refl; no_dash = refl; no_scalar = refl }
-mark_front styles.Folded t = record { no_white = refl; no_anchor = refl; mark = refl; no_space = refl; no_dash = refl; no_scalar = refl }
+mark_front style t = search rules
 
 pub block_front : (b : BlockText) (rest : List ℕ) → BlockFront (block_text b rest)
 block_front b rest = mark_front b.style (b.indicators ++ (b.tail ++ (joined b.raw ++ rest)))

@@ -1,16 +1,15 @@
 -- Whole characters come before, in and after a node.
-use Rattle.std.proofs.Common.{◌≡◌, ◌⊎◌, inl, inr, ℕ, zero, suc, ◌+◌, ◌-◌, ◌<◌, ◌≤◌, replicate, true, false, ◌||◌, List, [], ◌∷◌, ◌++◌}
-use Rattle.std.proofs.Common.{length, take, drop, get_or, Some, refl, sym, ap, ◌∙◌, subst, arith, ⊎_elim, eqb-true, append_assoc}
-use Rattle.std.{proofs.Common.{append-nil, length-append, rules}, proofs.Math.Seq.{take-append_seam, drop-append_seam, get_or-append_seam}}
+use Rattle.std.proofs.Common.{◌≡◌, ◌⊎◌, inl, inr, ℕ, zero, suc, ◌+◌, ◌-◌, ◌<◌, ◌≤◌, replicate, true, false, List, [], ◌∷◌, ◌++◌, length}
+use Rattle.std.proofs.Common.{take, drop, get_or, Some, refl, sym, ap, ◌∙◌, subst, arith, ⊎_elim, eqb-true, append_assoc, append-nil}
+use Rattle.std.{proofs.Common.{length-append, rules}, proofs.Math.Seq.{take-append_seam, drop-append_seam, get_or-append_seam}}
 use Rattle.std.proofs.lemmas.Bool.{false≢true, or_cases, and_parts, cases_Bool}
 use Rattle.std.{proofs.lemmas.Str.{IsCharBoundary-after_ascii, IsUtf8-take, IsUtf8-between}, specs.List.slice_get}
 use Rattle.std.specs.Str.{IsUtf8, IsCharBoundary}
-use Rattle.yq_core.{specs.Text.{ends_line, separates}, proofs.Boundaries.white_ascii, specs.Lines.is_hash}
-use Rattle.yq_core.specs.Nodes.{FlowNode, node_text}
+use Rattle.yq_core.{specs.Text.separates, proofs.Boundaries.white_ascii, specs.Nodes.{FlowNode, node_text}}
 use Rattle.yq_row_table.{specs.Exchange.{before_content, behind_row, rows_behind, HasPieces}, specs.Gap.IsWhite}
 use Rattle.yq_row_table.specs.Grammar.{IsTail, IsContent, AreDashes, is_entry, IsCut}
-use Rattle.yq_row_table.specs.Rows.{RowMark, Bare, Dash, Key, Content, Inline, mark_text, dashes_text, Row, parent_indent, Cut}
-use Rattle.yq_row_table.{specs.View.rows_of, proofs.LineEnds.line_end_behind, proofs.MarkEnds.content_ends}
+use Rattle.yq_row_table.{specs.Rows.{RowMark, Bare, Content, Inline, mark_text, dashes_text, Row, parent_indent, Cut}, specs.View.rows_of}
+use Rattle.yq_row_table.{proofs.LineEnds.line_end_behind, proofs.MarkEnds.content_ends}
 use Rattle.yq_row_table.{proofs.NodeExchange.{inline_starts, holds_node, node_place}, proofs.PlaceLaws.row_in}
 
 -- the last byte is ASCII
@@ -45,9 +44,6 @@ abbrev pub BeginsAscii : List ℕ → Type 0
 BeginsAscii [] = Unit {0}
 BeginsAscii (b ∷ t) = b < 128
 
-stop_ascii : (t : List ℕ) → (ends_line t || is_hash t) ≡ true → BeginsAscii t
-stop_ascii t h1 = search (rules, ⊎_elim, eqb-true, and_parts, or_cases)
-
 white_before : (w t : List ℕ) → IsWhite w → BeginsAscii t → BeginsAscii (w ++ t)
 white_before [] t blank h = h
 white_before (b ∷ w) t blank h = white_ascii b blank.0
@@ -55,7 +51,7 @@ white_before (b ∷ w) t blank h = white_ascii b blank.0
 pub tail_ascii : (tail rest : List ℕ) → IsTail tail rest → BeginsAscii (tail ++ rest)
 tail_ascii tail rest h =
     let u = line_end_behind h.white h.comment tail rest h.line in
-    subst BeginsAscii (sym u.1) (white_before h.white u.0 h.line.blank (stop_ascii u.0 u.3))
+    subst BeginsAscii (sym u.1) (white_before h.white u.0 h.line.blank (search (rules, ⊎_elim, eqb-true, and_parts, or_cases)))
 
 pub before_ascii : (p rest : List ℕ) → BeginsAscii rest → IsCharBoundary (p ++ rest) (length p)
 before_ascii p rest h1 = search (rules, append-nil, get_or-append_seam, length-append)
@@ -73,13 +69,7 @@ pieces_of before old behind u e h =
     ap (λ (q : List ℕ). take (length before + length old - length before) q) (drop-append_seam before (old ++ behind))
     ∙ (ap (λ (n : ℕ). take n (old ++ behind)) (let same : length before + length old - length before ≡ length old = omega arith in same)
     ∙ take-append_seam old behind) in
-    record {
-      text = refl;
-      start = start;
-      end = end;
-      before_utf8 = subst IsUtf8 (take-append_seam before (old ++ behind)) front;
-      old_utf8 = subst IsUtf8 middle within;
-    }
+    search (rules, take-append_seam)
 
 -- a row without dash or key, which is indented
 spaces_end : (n : ℕ) → 1 ≤ n → EndsAscii (replicate n 32 ++ [])
@@ -89,9 +79,8 @@ spaces_end (suc (suc n)) h = ends_behind (32 ∷ []) (replicate (suc n) 32 ++ []
 
 bare_ends : (gap : List ℕ) (column : ℕ) (ns : List ℕ) (m : RowMark) → is_entry m ≡ false → AreDashes ns m → 1 ≤ column → EndsAscii (gap ++ (replicate column 32 ++ dashes_text ns (mark_text m [])))
 bare_ends gap column (n ∷ ns) m e h some = absurd (false≢true (sym e ∙ h.1))
-bare_ends gap column [] Dash e h some = absurd (false≢true (sym e))
-bare_ends gap column [] (Key key colon) e h some = absurd (false≢true (sym e))
 bare_ends gap column [] Bare e h some = ends_behind gap (replicate column 32 ++ []) (spaces_end column some)
+bare_ends gap column [] _ e h some = absurd (false≢true (sym e))
 
 space_behind : (before space : List ℕ) → IsWhite space → EndsAscii before → EndsAscii (before ++ space)
 space_behind before [] blank e = subst EndsAscii (sym (append-nil before)) e

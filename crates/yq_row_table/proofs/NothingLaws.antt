@@ -1,7 +1,7 @@
 -- Gaps, tails, and what holds nothing but an anchor: before one text that isn't empty as before another.
-use Rattle.std.proofs.Common.{◌≡◌, inl, inr, ℕ, Bool, true, false, not, ◌||◌, List, [], ◌∷◌, ◌++◌, length, refl, sym, ap, ◌∙◌, ⊎_elim}
-use Rattle.std.{proofs.Common.{length-append, rules}, proofs.lemmas.Bool.{false≢true, false_from_ne_true, or_right, or_parts}}
-use Rattle.yq_core.specs.Text.{is_empty, is_white, is_break, unless, ends_line, separates, NoneIn, joined}
+use Rattle.std.proofs.Common.{◌≡◌, inl, inr, ℕ, Bool, true, false, List, [], ◌∷◌, ◌++◌, length, refl, sym, ap, ◌∙◌, ⊎_elim, length-append}
+use Rattle.std.{proofs.Common.rules, proofs.lemmas.Bool.{false≢true, false_from_ne_true, or_right, or_parts}}
+use Rattle.yq_core.specs.Text.{is_empty, unless, ends_line, separates, NoneIn}
 use Rattle.yq_core.specs.Nodes.{begins_with, begins_content, begins_node, IsLead}
 use Rattle.yq_row_table.{specs.Gap.{IsWhite, IsBreak, IsLineEnd, AreGapLines, IsGap}, specs.Grammar.IsTail}
 use Rattle.yq_row_table.{proofs.Fronts.{node_starts, stops_by}, proofs.LineEnds.{none_in_white, line_end_behind}}
@@ -19,10 +19,7 @@ line_end_other white comment p t u some h = record { break = h.break; spelled = 
 
 lines_other : (lines : List (List ℕ)) (t u : List ℕ) → is_empty t ≡ false → AreGapLines lines t → AreGapLines lines u
 lines_other [] t u some h = tt
-lines_other (l ∷ ls) t u some h = (
-  record { white = h.0.white; comment = h.0.comment; line = line_end_other h.0.white h.0.comment l (joined ls ++ t) (joined ls ++ u) (some_behind (joined ls) t some) h.0.line; some = h.0.some },
-  lines_other ls t u some h.1,
-)
+lines_other (l ∷ ls) t u some h = search (rules, line_end_other, some_behind, lines_other ls t u some h.1)
 
 pub gap_other : (p t u : List ℕ) → is_empty t ≡ false → IsGap p t → IsGap p u
 gap_other p t u some h = record { lines = h.lines; spelled = h.spelled; each = lines_other h.lines t u some h.each }
@@ -57,11 +54,7 @@ tail_lead tail rest h =
 
 -- white space, a break or the end is in front of a tail
 line_apart : (t : List ℕ) → ends_line t ≡ true → separates t ≡ true
-line_apart [] h = refl
-line_apart (b ∷ t) h = or_right (is_white b) (is_break (b ∷ t)) h
-
-white_apart : (white behind comment : List ℕ) → IsWhite white → (is_empty comment || not (is_empty white)) ≡ true → ends_line behind ≡ is_empty comment → separates (white ++ behind) ≡ true
-white_apart white behind comment h1 h2 h3 = search (rules, line_apart, false≢true)
+line_apart t h = search (rules, or_right)
 
 pub tail_apart : (tail rest : List ℕ) → IsTail tail rest → separates (tail ++ rest) ≡ true
-tail_apart tail rest h = search (rules, line_end_behind, white_apart)
+tail_apart tail rest h = search (rules, line_end_behind, line_apart, false≢true)

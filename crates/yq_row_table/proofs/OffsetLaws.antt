@@ -1,6 +1,6 @@
 -- Rows by where they are in a text.
-use Rattle.std.proofs.Common.{◌≡◌, ◌<◌, ◌≤◌, ℕ, zero, suc, ◌-◌, if◌then◌else◌, List, [], ◌∷◌, ◌++◌, length, map, take, drop, replicate}
-use Rattle.std.{proofs.Common.{refl, sym, ap, ◌∙◌, subst, arith, append_assoc, length-append}, proofs.Math.Seq.drop-append_seam}
+use Rattle.std.proofs.Common.{rules, ◌≡◌, ◌<◌, ◌≤◌, ℕ, zero, suc, ◌-◌, if◌then◌else◌, List, [], ◌∷◌, ◌++◌, length, map, take, drop}
+use Rattle.std.{proofs.Common.{replicate, refl, sym, ap, ◌∙◌, subst, arith, append_assoc, length-append}, proofs.Math.Seq.drop-append_seam}
 use Rattle.std.proofs.lemmas.List.{length-map, length-replicate, map-append, take-append-drop, take_at}
 use Rattle.std.proofs.lemmas.Str.{IsCharBoundary-from_take, IsUtf8-drop, IsUtf8-from_ascii}
 use Rattle.std.{proofs.lemmas.Str.Ascii.{IsAscii-nil, IsAscii-cons}, specs.Str.{IsAscii, IsUtf8, IsCharBoundary}}
@@ -92,18 +92,7 @@ rows_length whole offsets = sym (length-map offsets (slices_in whole))
 
 -- how deep a row begins, by its lengths
 marks_dash : (dashes colon : List ℕ) → 0 < length dashes → ◌≡◌ {A = ℕ} 3 (if is_empty dashes then (if is_empty colon then 1 else 2) else 3)
-marks_dash [] colon less = absurd (omega (arith, less))
-marks_dash (d ∷ dashes) colon less = refl
-
-marks_key : (dashes colon : List ℕ) → length dashes ≤ 0 → 0 < length colon → ◌≡◌ {A = ℕ} 2 (if is_empty dashes then (if is_empty colon then 1 else 2) else 3)
-marks_key (d ∷ dashes) colon none less = absurd (omega (arith, none))
-marks_key [] [] none less = absurd (omega (arith, less))
-marks_key [] (k ∷ colon) none less = refl
-
-marks_bare : (dashes colon : List ℕ) → length dashes ≤ 0 → length colon ≤ 0 → ◌≡◌ {A = ℕ} 1 (if is_empty dashes then (if is_empty colon then 1 else 2) else 3)
-marks_bare (d ∷ dashes) colon none bare = absurd (omega (arith, none))
-marks_bare [] (k ∷ colon) none bare = absurd (omega (arith, bare))
-marks_bare [] [] none bare = refl
+marks_dash dashes colon less = search rules
 
 -- The mark of a row by its lengths, as a number: a dash, a key, or a node itself.
 pub data MarkIs (o : declared.Offsets) (mark : ℕ) : Type 0 where
@@ -113,8 +102,4 @@ pub data MarkIs (o : declared.Offsets) (mark : ℕ) : Type 0 where
 
 marks : (o : declared.Offsets) (s : Slices) (mark : ℕ) → o ≡ offsets_of o.start s → MarkIs o mark
     → mark ≡ (if is_empty s.dashes then (if is_empty s.colon then 1 else 2) else 3)
-marks o s mark e (dash less is) = is ∙ marks_dash s.dashes s.colon (subst (λ (q : declared.Offsets). 0 < q.dashes) e less)
-marks o s mark e (key none less is) =
-    is ∙ marks_key s.dashes s.colon (subst (λ (q : declared.Offsets). q.dashes ≤ 0) e none) (subst (λ (q : declared.Offsets). 0 < q.colon) e less)
-marks o s mark e (bare none no_key is) =
-    is ∙ marks_bare s.dashes s.colon (subst (λ (q : declared.Offsets). q.dashes ≤ 0) e none) (subst (λ (q : declared.Offsets). q.colon ≤ 0) e no_key)
+marks o s mark e is = search (rules, marks_dash)

@@ -1,6 +1,7 @@
 -- The ends of parts on both sides of a split, and how they are shifted.
-use Rattle.std.proofs.Common.{◌≡◌, ℕ, suc, ◌+◌, ◌-◌, ◌<◌, ◌≤◌, ◌^◌, ◌%◌, Some, List, [], ◌∷◌, ◌++◌, length, map, reverse, take, drop}
-use Rattle.std.proofs.Common.{drop_at, get_or, slice_get, slice_set, refl, sym, ap, ◌∙◌, subst, arith, append_assoc, length-append}
+use Rattle.std.proofs.Common.{rules, ◌≡◌, ℕ, ◌+◌, ◌-◌, ◌<◌, ◌≤◌, ◌^◌, ◌%◌, Some, List, [], ◌∷◌, ◌++◌, length, map, reverse, take, drop}
+use Rattle.std.proofs.Common.{drop_at, slice_get, slice_set, refl, sym, ap, ◌∙◌, arith, append_assoc, length-append}
+use Rattle.std.proofs.lemmas.Grind.{common_steps}
 use Rattle.std.proofs.lemmas.List.{drop_all, drop-drop, drop-map, length-take-le, length-map, length-reverse, map-append, reverse-append}
 use Rattle.std.{proofs.lemmas.List.{set_split, take_at, take-append-drop}, proofs.lemmas.Option.{get_or_from_slice_get, slice_get_within}}
 use Rattle.std.{specs.List.AllWithin, specs.List.Sorted.IsNonDecreasingBy}
@@ -15,9 +16,6 @@ back_rows n by h k = omega (arith, h, k)
 back_bytes : (n by : ℕ) → n < 2 ^ 32 → by < 2 ^ 32 → ((n + (0 + (2 ^ 32 - by)) % 2 ^ 32) % 2 ^ 32 + by) % 2 ^ 32 ≡ n
 back_bytes n by h k = omega (arith, h, k)
 
-both_rows : (n a b : ℕ) → (n + (a + b) % 2 ^ 64) % 2 ^ 64 ≡ ((n + a) % 2 ^ 64 + b) % 2 ^ 64
-both_rows n a b = omega arith
-
 both_bytes : (n a b : ℕ) → (n + (a + b) % 2 ^ 32) % 2 ^ 32 ≡ ((n + a) % 2 ^ 32 + b) % 2 ^ 32
 both_bytes n a b = omega arith
 
@@ -31,69 +29,41 @@ pub record AreSmall (by : Shift) (e : EndPlace) : Type 0 where
   pub by_bytes : by.bytes < 2 ^ 32
 
 pub shifted_back : (by : Shift) (e : EndPlace) → AreSmall by e → shifted by (shifted (shift_between by.rows by.bytes 0 0) e) ≡ e
-shifted_back by e h =
-    let rows = back_rows e.rows by.rows h.rows h.by_rows in
-    let bytes = back_bytes e.start by.bytes h.bytes h.by_bytes in
-    λ i. record e { rows = rows i; start = bytes i }
+shifted_back by e h = search (rules, back_rows, back_bytes)
 
 pub shifted_twice : (a b : Shift) (es : List EndPlace) → map (shifted (both_shifts a b)) es ≡ map (shifted b) (map (shifted a) es)
 shifted_twice a b [] = refl
 shifted_twice a b (e ∷ es) =
-    let rows = both_rows e.rows a.rows b.rows in
+    let rows : (e.rows + (a.rows + b.rows) % 2 ^ 64) % 2 ^ 64 ≡ ((e.rows + a.rows) % 2 ^ 64 + b.rows) % 2 ^ 64 = omega arith in
     let bytes = both_bytes e.start a.bytes b.bytes in
     λ i. record e { rows = rows i; start = bytes i } ∷ shifted_twice a b es i
 
 -- ---- both sides
 
 both_length : (by : Shift) (front behind : List EndPlace) → length (both_ends by front behind) ≡ length front + length behind
-both_length by front behind =
-    length-append front (map (shifted by) (reverse behind)) ∙ ap (λ (n : ℕ). length front + n)
-    (length-map (reverse behind) (shifted by) ∙ length-reverse behind)
+both_length by front behind = search (rules, length-append, length-map, length-reverse)
 
 -- ---- binary search
 
 pub ends_passed : (by : Measure) (most middle : ℕ) (es : List EndPlace) (e : EndPlace) → slice_get es middle ≡ Some e → measure_of by e ≤ most →
     IsNonDecreasingBy (measure_of by) es →
     AllWithin (λ x. measure_of by x ≤ most) es 0 (middle + 1)
-ends_passed by most middle es e at small rise = λ k d low less.
-    let within = slice_get_within es middle e at in
-    let own : measure_of by (get_or es middle d) ≤ most =
-    subst (λ (x : EndPlace). measure_of by x ≤ most) (sym (get_or_from_slice_get es middle e d at)) small in
-    omega (arith, own, rise k middle d (omega (arith, less)) within)
+ends_passed by most middle es e at small rise = search (rules, slice_get_within, get_or_from_slice_get)
 
 pub ends_failed : (by : Measure) (most middle : ℕ) (es : List EndPlace) (e : EndPlace) → slice_get es middle ≡ Some e → most < measure_of by e →
     IsNonDecreasingBy (measure_of by) es →
     AllWithin (λ x. most < measure_of by x) es middle (length es)
-ends_failed by most middle es e at large rise = λ k d low less.
-    let own : most < measure_of by (get_or es middle d) =
-    subst (λ (x : EndPlace). most < measure_of by x) (sym (get_or_from_slice_get es middle e d at)) large in
-    omega (arith, own, rise middle k d low less)
+ends_failed by most middle es e at large rise = search (rules, get_or_from_slice_get)
 
 -- ---- the last one
 
 behind_more : (by : Shift) (front behind : List EndPlace) (b : EndPlace) → both_ends by front (b ∷ behind) ≡ both_ends by front behind ++ shifted by b ∷ []
-behind_more by front behind b =
-    ap (λ (l : List EndPlace). front ++ map (shifted by) l) (reverse-append (b ∷ []) behind)
-    ∙ (ap (λ (l : List EndPlace). front ++ l) (map-append (shifted by) (reverse behind) (b ∷ []))
-    ∙ sym (append_assoc front (map (shifted by) (reverse behind)) (shifted by b ∷ [])))
-
-set_at_end : (es : List EndPlace) (e d : EndPlace) (n : ℕ) → n ≡ length (es ++ e ∷ []) → slice_set (es ++ e ∷ []) (n - 1) d ≡ es ++ d ∷ []
-set_at_end es e d n long =
-    let size = length-append es (e ∷ []) in
-    let place : n - 1 ≡ length es = omega (arith, long, size) in
-    let last : drop (suc (n - 1)) (es ++ e ∷ []) ≡ [] = drop_all (suc (n - 1)) (es ++ e ∷ []) (omega (arith, long, size)) in
-    set_split (es ++ e ∷ []) (n - 1) d (omega (arith, long, size))
-    ∙ (λ i. take_at es (e ∷ []) (n - 1) (sym place) i ++ d ∷ last i)
+behind_more by front behind b = grind (arith, common_steps, reverse-append, map-append, append_assoc)
 
 pub last_set_behind : (by : Shift) (front behind : List EndPlace) (e back : EndPlace) → 0 < length behind → shifted by back ≡ e →
     both_ends by front (slice_set behind 0 back) ≡ slice_set (both_ends by front behind) (length (both_ends by front behind) - 1) e
 last_set_behind by front [] e back some is = absurd (omega (arith, some))
-last_set_behind by front (b ∷ behind) e back some is =
-    let first = both_ends by front behind in
-    behind_more by front behind back
-    ∙ (ap (λ (x : EndPlace). first ++ x ∷ []) is
-    ∙ (sym (set_at_end first (shifted by b) e (length (first ++ shifted by b ∷ [])) refl)
-    ∙ ap (λ (l : List EndPlace). slice_set l (length l - 1) e) (sym (behind_more by front behind b))))
+last_set_behind by front (b ∷ behind) e back some is = search (rules, behind_more, length-append, drop_all, set_split, take_at)
 
 -- ---- ends that are replaced
 

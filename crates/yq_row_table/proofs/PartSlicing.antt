@@ -1,13 +1,12 @@
 -- Parts and markers, as the code lends them.
-use Rattle.std.proofs.lemmas.Bool.{eqb-true, false_from_ne_true}
-use Rattle.std.proofs.Common.{◌≡◌, ℕ, suc, ◌+◌, ◌-◌, ◌<◌, ◌≤◌, Bool, true, false, eqb, List, [], ◌∷◌, ◌++◌, length, map, take, drop, Option}
-use Rattle.std.proofs.Common.{Some, None, refl, sym, ap, ◌∙◌, arith, append_assoc, length-append}
-use Rattle.std.{proofs.lemmas.List.{take-append-drop, length-map, map-append}, proofs.lemmas.Option.same_Some}
-use Rattle.std.specs.Str.{IsUtf8, IsCharBoundary}
+use Rattle.std.proofs.Common.{rules, ◌≡◌, ℕ, ◌+◌, ◌-◌, ◌<◌, ◌≤◌, Bool, true, false, eqb, List, [], ◌∷◌, ◌++◌, length, map, take, drop}
+use Rattle.std.proofs.Common.{Option, Some, None, refl, sym, ap, ◌∙◌, append_assoc, length-append}
+use Rattle.std.{proofs.lemmas.Bool.{eqb-true, false_from_ne_true}, proofs.lemmas.List.{take-append-drop, length-map, map-append}}
+use Rattle.std.{proofs.lemmas.Option.same_Some, specs.Str.{IsUtf8, IsCharBoundary}}
 use Rattle.yq_core.{specs.Answers.◌>>=◌, specs.Text.{is_empty, is_marker}, proofs.Bools.bind_some}
-use Rattle.yq_row_table.{specs.Grammar.begins_document, specs.Slicing.{SlicedPart, part_behind, rows_sliced, behind_parts, parts_sliced}}
+use Rattle.yq_row_table.{specs.Grammar.begins_document, specs.Slicing.{rows_sliced, behind_parts, parts_sliced}}
 use Rattle.yq_row_table.{specs.Reading.{read_tail, marker_at, read_cut_part, all_parts}, specs.Rows.{rows_text, Part, Cut, last, marked}}
-use Rattle.yq_row_table.{specs.View.{Slices, slices, Bound, RowsView, rows_of, bounds_from}, specs.Ends.{bound_in, bounds_in}}
+use Rattle.yq_row_table.{specs.View.{Slices, slices, Bound, RowsView}, specs.Ends.{bound_in, bounds_in}}
 use Rattle.yq_row_table.{specs.Items.{items_text, rows_items}, specs.Offsets.Ends}
 use Rattle.yq_row_table.proofs.PartsLaws.{parts_refused, parts_last, parts_no_marker, parts_marked, part_marker, parts_smaller, part_takes}
 use Rattle.yq_row_table.{proofs.ItemLaws.rows_items_text, proofs.KeptLaws.items_apart, proofs.OffsetLaws.ends_next}
@@ -41,18 +40,7 @@ pub record OnePart (rows : List Slices) (started : Bool) (t : List ℕ) (found :
   pub count : length found ≡ length rows + length part.rows
 
 pub one_part : (rows : List Slices) (started : Bool) (t : List ℕ) (found : List Slices) (end after : List ℕ) → rows_sliced rows (read_cut_part started t) ≡ Some (found, end, after) → OnePart rows started t found end after
-one_part rows started t found end after h =
-    let x = bind_some (read_cut_part started t) h in
-    let is : part_behind rows x.0 ≡ (found, end, after) = same_Some _ _ x.2 in
-    let behind : x.0.1 ≡ after = ap (λ (y : SlicedPart). y.2) is in
-    let rows_here : found ≡ rows ++ map slices x.0.0.rows = ap (λ (y : SlicedPart). y.0) (sym is) in
-    record {
-      part = x.0.0;
-      read = x.1 ∙ ap (λ (r : List ℕ). Some (x.0.0, r)) behind;
-      rows_is = rows_here;
-      end_is = ap (λ (y : SlicedPart). y.1) (sym is);
-      count = ap length rows_here ∙ (length-append rows (map slices x.0.0.rows) ∙ ap (λ n. length rows + n) (length-map x.0.0.rows slices));
-    }
+one_part rows started t found end after h = search (rules, bind_some, same_Some, length-append, length-map)
 
 pub part_is_marker : (rows : List Slices) (started : Bool) (t : List ℕ) (found : List Slices) (end after : List ℕ) → rows_sliced rows (read_cut_part started t) ≡ Some (found, end, after) → is_empty after ≡ false → is_marker after ≡ true
 part_is_marker rows started t found end after h some = let p = one_part rows started t found end after h in part_marker started t (p.part, after) p.read some
@@ -61,8 +49,7 @@ pub part_smaller : (rows : List Slices) (started : Bool) (t : List ℕ) (found :
 part_smaller rows started t found end after marker next h some m = let p = one_part rows started t found end after h in parts_smaller started t (p.part, after) (marker, next) p.read some m
 
 no_part : (rows : List Slices) (o : Option (Part × List ℕ)) → rows_sliced rows o ≡ None → o ≡ None
-no_part rows None h = refl
-no_part rows (Some x) h = cc
+no_part rows o h = search rules
 
 pub parts_none : (rows : List Slices) (bounds : List Bound) (started : Bool) (t : List ℕ) → rows_sliced rows (read_cut_part started t) ≡ None → parts_sliced rows bounds (all_parts started t) ≡ None
 parts_none rows bounds started t h = ap (parts_sliced rows bounds) (parts_refused started t (no_part rows (read_cut_part started t) h))
@@ -85,14 +72,7 @@ parts_done rows bounds started t found end after k h none e =
 -- a part with a marker after it
 more_view : (rows : List Slices) (bounds : List Bound) (p : Part) (found : List Slices) (end marker : List ℕ) (k : ℕ) (o : Option Cut) → k ≡ length rows + length p.rows → found ≡ rows ++ map slices p.rows → end ≡ p.end → k ≡ length found →
     parts_sliced rows bounds (o >>= λ c. Some (marked p marker c)) ≡ parts_sliced found (bounds ++ record { rows = k; end = end; marker = marker } ∷ []) o
-more_view rows bounds p found end marker k None count rows_is end_is e = refl
-more_view rows bounds p found end marker k (Some c) count rows_is end_is e =
-    let b : Bound = record { rows = k; end = end; marker = marker } in
-    let rows_here : rows ++ map slices (p.rows ++ rows_of c) ≡ found ++ map slices (rows_of c) = ap (λ l. rows ++ l) (map-append slices p.rows (rows_of c)) ∙ (sym (append_assoc rows (map slices p.rows) (map slices (rows_of c))) ∙ ap (λ l. l ++ map slices (rows_of c)) (sym rows_is)) in
-    let one : bounds_from (length rows) (marked p marker c) ≡ b ∷ bounds_from (length found) c = ap (λ (n : ℕ). record { rows = n; end = p.end; marker = marker } ∷ bounds_from n c) (sym count) ∙ (ap (λ (l : List ℕ). record { rows = k; end = l; marker = marker } ∷ bounds_from k c) (sym end_is) ∙ ap (λ (n : ℕ). b ∷ bounds_from n c) e) in
-    let bounds_here : bounds ++ bounds_from (length rows) (marked p marker c) ≡ (bounds ++ b ∷ []) ++ bounds_from (length found) c = ap (λ l. bounds ++ l) one ∙ sym (append_assoc bounds (b ∷ []) (bounds_from (length found) c)) in
-    ap (λ (l : List Slices). Some (record { rows = l; bounds = bounds ++ bounds_from (length rows) (marked p marker c) })) rows_here
-    ∙ ap (λ (l : List Bound). Some (record { rows = found ++ map slices (rows_of c); bounds = l })) bounds_here
+more_view rows bounds p found end marker k o count rows_is end_is e = search (rules, map-append, append_assoc)
 
 pub parts_more : (rows : List Slices) (bounds : List Bound) (started : Bool) (t : List ℕ) (found : List Slices) (end after marker next : List ℕ) (k : ℕ) → rows_sliced rows (read_cut_part started t) ≡ Some (found, end, after) → is_empty after ≡ false → marker_at after ≡ Some (marker, next) → k ≡ length found →
     parts_sliced rows bounds (all_parts started t) ≡ parts_sliced found (bounds ++ record { rows = k; end = end; marker = marker } ∷ []) (all_parts (begins_document marker) next)
@@ -106,8 +86,7 @@ bounds_push t old items e b pushed same = ap (bounds_in t) pushed ∙ (map-appen
 
 pub parts_end : (rows found : List Slices) (bounds items : List Bound) (started : Bool) (t after end : List ℕ) (k : ℕ) (all : Option RowsView) → rows_sliced rows (read_cut_part started t) ≡ Some (found, end, after) → is_empty after ≡ true → k ≡ length found →
     items ≡ bounds ++ record { rows = k; end = end; marker = [] } ∷ [] → parts_sliced rows bounds (all_parts started t) ≡ all → all ≡ Some (record { rows = found; bounds = items })
-parts_end rows found bounds items started t after end k all h none count pushed so_far =
-    sym so_far ∙ (parts_done rows bounds started t found end after k h none count ∙ ap (λ (l : List Bound). Some (record { rows = found; bounds = l })) (sym pushed))
+parts_end rows found bounds items started t after end k all h h11 count pushed so_far = search (rules, parts_done)
 
 -- what follows the rows of a part is an end of the text, as the part is
 pub end_ends : (whole t end after : List ℕ) (started : Bool) (p : Part) → Ends t whole → read_cut_part started t ≡ Some (p, after) → end ≡ p.end → Ends (end ++ after) whole
@@ -117,5 +96,4 @@ end_ends whole t end after started p h read e =
     ends_next whole t (items_text (rows_items p.rows []) []) (end ++ after) h front
 
 pub empty_by : (t : List ℕ) (b c : Bool) → b ≡ eqb (length t) 0 → b ≡ c → is_empty t ≡ c
-empty_by [] b c e f = sym e ∙ f
-empty_by (x ∷ t) b c e f = sym (false_from_ne_true (eqb (suc (length t)) 0) (λ h. absurd (omega (arith, eqb-true (suc (length t)) 0 h)))) ∙ (sym e ∙ f)
+empty_by t b c e f = search (rules, false_from_ne_true, eqb-true)

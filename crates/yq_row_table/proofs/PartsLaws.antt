@@ -1,13 +1,12 @@
 -- The parts of a text and the markers between them, read and spelled.
-use Rattle.std.proofs.Common.{◌≡◌, ℕ, zero, suc, ◌<◌, ◌≤◌, Bool, true, false, cond, ◌||◌, List, [], ◌∷◌, ◌++◌, length, Option, Some, None}
-use Rattle.std.{proofs.Common.{refl, sym, ap, ◌∙◌, subst, arith, rules}, proofs.lemmas.Bool.{false≢true, cases_Bool}}
+use Rattle.std.proofs.Common.{◌≡◌, ℕ, suc, ◌<◌, ◌≤◌, Bool, true, false, cond, ◌||◌, List, [], ◌∷◌, ◌++◌, length, Option, Some, None, refl}
+use Rattle.std.{proofs.Common.{ap, ◌∙◌, subst, arith, rules}, proofs.lemmas.Bool.{false≢true, cases_Bool}}
 use Rattle.std.proofs.lemmas.Option.{cond_some, same_Some}
 use Rattle.yq_core.{specs.Answers.◌>>=◌, specs.Text.{is_empty, is_marker}, proofs.Bools.bind_some, proofs.Binds.bind_same}
 use Rattle.yq_row_table.specs.Grammar.{Limit, unlimited, limit_after, AreRows, no_rows, IsPart, IsMarkerLine, begins_document, ends_part}
 use Rattle.yq_row_table.specs.Reading.{read_tail, all_rows, read_cut_part, marker_at, parts_at, all_parts}
-use Rattle.yq_row_table.specs.Rows.{Row, behind_gap, Part, part_text, rows_text, Cut, last, marked}
-use Rattle.yq_row_table.{proofs.PieceLaws.{tail_takes, tail_again}, proofs.RowLaws.{row_longer, suffix_le}}
-use Rattle.yq_row_table.proofs.RowsRead.{rows_takes, rows_again}
+use Rattle.yq_row_table.{specs.Rows.{Row, Part, part_text, rows_text, Cut, last, marked}, proofs.PieceLaws.{tail_takes, tail_again}}
+use Rattle.yq_row_table.{proofs.RowLaws.{row_longer, suffix_le}, proofs.RowsRead.{rows_takes, rows_again}}
 
 -- a part
 pub record PartCut (started : Bool) (t : List ℕ) (x : Part × List ℕ) : Type 0 where
@@ -33,15 +32,13 @@ MarkerCut t x = (t ≡ x.0 ++ x.1) × IsMarkerLine x.0 x.1
 
 pub marker_takes : (t : List ℕ) (x : List ℕ × List ℕ) → is_marker t ≡ true → marker_at t ≡ Some x → MarkerCut t x
 unfolding marker_at
-marker_takes [] x is h = absurd (false≢true is)
-marker_takes (a ∷ []) x is h = absurd (false≢true is)
-marker_takes (a ∷ (b ∷ [])) x is h = absurd (false≢true is)
 marker_takes (a ∷ (b ∷ (c ∷ t))) x is h =
     let front : List ℕ → List ℕ = λ l. a ∷ (b ∷ (c ∷ l)) in
     let tail = bind_some (read_tail t) h in
     let law = tail_takes t tail.0 tail.1 in
     subst (MarkerCut (front t)) (same_Some _ _ tail.2)
     (ap front law.0, record { marker = subst (λ (s : List ℕ). is_marker (front s) ≡ true) law.0 is; long = omega arith; tail = law.1 })
+marker_takes _ x is h = absurd (false≢true is)
 
 pub marker_again : (p rest : List ℕ) → IsMarkerLine p rest → (marker_at (p ++ rest) ≡ Some (p, rest)) × (length rest < length (p ++ rest))
 unfolding marker_at
@@ -53,20 +50,14 @@ marker_shorter t x is h =
     rw l.0 (marker_again x.0 x.1 l.1).1
 
 pub marker_ends : (t : List ℕ) → is_marker t ≡ true → (is_empty t ≡ false) × (ends_part t ≡ true)
-marker_ends [] h = absurd (false≢true h)
-marker_ends (b ∷ t) h = (refl, h)
+marker_ends t h = search (rules, false≢true)
 
 pub ends_marker : (t : List ℕ) → ends_part t ≡ true → is_empty t ≡ false → is_marker t ≡ true
-ends_marker [] h some = absurd (false≢true (sym some))
-ends_marker (b ∷ t) h some = h
+ends_marker t h some = search (rules, false≢true)
 
 rows_le : (rs : List Row) (limit : Limit) (end rest : List ℕ) → AreRows limit rs end rest → length (end ++ rest) ≤ length (rows_text rs (end ++ rest))
 rows_le [] limit end rest h = omega arith
-rows_le (r ∷ rs) limit end rest h =
-    let less = rows_le rs (limit_after r) end rest h.1 in
-    let t = rows_text rs (end ++ rest) in
-    let longer = row_longer r t h.0.mark h.0.content in
-    omega (arith, suffix_le r.gap (behind_gap r t))
+rows_le (r ∷ rs) limit end rest h = search (rules, row_longer, suffix_le, rows_le rs (limit_after r) end rest h.1)
 
 pub part_longer : (started : Bool) (p : Part) (rest : List ℕ) → IsPart started p rest → length rest ≤ length (part_text p rest)
 part_longer started p rest h = let less = rows_le p.rows unlimited p.end rest h.rows in omega (arith, suffix_le p.end rest)
@@ -83,30 +74,25 @@ abbrev parts_by : ℕ → Part × List ℕ → Option Cut
 parts_by n part = cond (is_empty part.1) (Some (last part.0)) (marker_at part.1 >>= λ marker. then_cut part.0 marker.0 (parts_at n (begins_document marker.0) marker.1))
 
 cond_alike : {A : Type 0} (b : Bool) (x y z : A) → (b ≡ false → y ≡ z) → cond b x y ≡ cond b x z
-cond_alike true x y z h = refl
-cond_alike false x y z h = h refl
+cond_alike b x y z h = search rules
 
 -- a part and those after its marker, read in two ways that agree there
 marked_same : (f g : List ℕ × List ℕ → Option Cut) (part : Part × List ℕ) → ends_part part.1 ≡ true
     → ((marker : List ℕ × List ℕ) → length marker.1 < length part.1 → f marker ≡ g marker)
     → cond (is_empty part.1) (Some (last part.0)) (marker_at part.1 >>= λ marker. then_cut part.0 marker.0 (f marker))
     ≡ cond (is_empty part.1) (Some (last part.0)) (marker_at part.1 >>= λ marker. then_cut part.0 marker.0 (g marker))
-marked_same f g part ends h =
-    cond_alike (is_empty part.1) (Some (last part.0)) _ _ (λ some.
-    bind_same (λ marker. then_cut part.0 marker.0 (f marker)) (λ marker. then_cut part.0 marker.0 (g marker)) (marker_at part.1) (λ marker is.
-    ap (then_cut part.0 marker.0) (h marker (marker_shorter part.1 marker (ends_marker part.1 ends some) is))))
+marked_same f g part ends h = search (rules, cond_alike, bind_same, marker_shorter, ends_marker)
 
 marked_fuel : (n m : ℕ) (part : Part × List ℕ) → ends_part part.1 ≡ true → ((marker : List ℕ × List ℕ) → length marker.1 < length part.1 → parts_at n (begins_document marker.0) marker.1 ≡ parts_at m (begins_document marker.0) marker.1) → parts_by n part ≡ parts_by m part
 marked_fuel n m part ends h = search (rules, cases_Bool, bind_same, marker_shorter, ends_marker)
 
 parts_fuel : (n m : ℕ) (started : Bool) (t : List ℕ) → length t < n → length t < m → parts_at n started t ≡ parts_at m started t
 unfolding parts_at
-parts_fuel zero m started t a b = absurd (omega arith)
-parts_fuel (suc n) zero started t a b = absurd (omega arith)
 parts_fuel (suc n) (suc m) started t a b =
     bind_same (parts_by n) (parts_by m) (read_cut_part started t) (λ part e.
     let less = part_le started t part e in
     marked_fuel n m part (part_takes started t part e).ends (λ marker short. parts_fuel n m (begins_document marker.0) marker.1 (omega arith) (omega arith)))
+parts_fuel _ _ started t a b = absurd (omega arith)
 
 -- a part and those after it
 abbrev pub parts_behind : Part × List ℕ → Option Cut
@@ -141,5 +127,4 @@ part_marker started t part h some = ends_marker part.1 (part_takes started t par
 pub parts_smaller : (started : Bool) (t : List ℕ) (part : Part × List ℕ) (marker : List ℕ × List ℕ) → read_cut_part started t ≡ Some part → is_empty part.1 ≡ false → marker_at part.1 ≡ Some marker → length marker.1 < length t
 parts_smaller started t part marker h some is =
     let less = part_le started t part h in
-    let short = marker_shorter part.1 marker (part_marker started t part h some) is in
-    omega arith
+    search (rules, marker_shorter, part_marker)

@@ -1,7 +1,7 @@
 -- The pieces of a row, each after the lengths of those before it.
-use Rattle.std.proofs.Common.{◌≡◌, ◌<◌, ◌≤◌, ℕ, zero, suc, ◌+◌, List, [], ◌∷◌, ◌++◌, length, get_or, take, drop, refl, sym, ap, ◌∙◌, subst}
-use Rattle.std.{proofs.Common.{arith, append_assoc, take-add}, proofs.lemmas.List.drop-drop, proofs.lemmas.Str.IsCharBoundary-from_rest}
-use Rattle.std.specs.Str.{IsCharBoundary}
+use Rattle.std.proofs.Common.{rules, ◌≡◌, ◌<◌, ◌≤◌, ℕ, zero, suc, ◌+◌, List, [], ◌∷◌, ◌++◌, length, get_or, take, drop, refl, sym, ap, ◌∙◌}
+use Rattle.std.{proofs.Common.{subst, arith, append_assoc, take-add}, proofs.lemmas.List.drop-drop}
+use Rattle.std.{proofs.lemmas.Str.IsCharBoundary-from_rest, specs.Str.IsCharBoundary}
 use Rattle.yq_row_table.{specs.Offsets.{AreCuts, lengths, parent_by, pieces_of}, specs.View.Slices}
 use Rattle.yq_row_table.specs.declared.offsets.Offsets as declared
 
@@ -18,9 +18,8 @@ behind (suc i) [] t = t
 behind (suc i) (n ∷ ls) t = behind i ls (drop n t)
 
 behind_sum : (k i : ℕ) (ls t : List ℕ) → behind i ls (drop k t) ≡ drop (sum_of k i ls) t
-behind_sum k zero ls t = refl
-behind_sum k (suc i) [] t = refl
 behind_sum k (suc i) (n ∷ ls) t = ap (behind i ls) (drop-drop n k t) ∙ behind_sum (k + n) i ls t
+behind_sum k _ _ t = refl
 
 sum_boundary : (k i : ℕ) (ls t : List ℕ) → i < length ls → IsCharBoundary t k → AreCuts (drop k t) ls → IsCharBoundary t (sum_of k i ls) × IsCharBoundary (drop (sum_of k i ls) t) (get_or ls i 0)
 sum_boundary k i [] t less at h = absurd (omega (arith, less))
@@ -111,20 +110,4 @@ pub row_cut : (o : declared.Offsets) (t : List ℕ) (s : Slices) (indent dashes 
     → s.space ≡ take o.space space → s.anchor ≡ take o.anchor anchor → s.apart ≡ take o.apart apart → s.head ≡ take o.head head
     → s.tail ≡ take o.tail tail → s.raw ≡ take o.raw raw → s.parent ≡ parent_by (o.column + o.dashes) o.colon → s ≡ pieces_of t o
 unfolding pieces_of
-row_cut o t s indent dashes key colon space anchor apart head tail raw h g c d k l p a f e b w n =
-    let us = indent ∷ dashes ∷ key ∷ colon ∷ space ∷ anchor ∷ apart ∷ head ∷ tail ∷ raw ∷ [] in
-    let at = λ (k : ℕ). λ (less : k ≤ 10). behind_is k (lengths o) t us less h in
-    λ i. record {
-      gap = g i;
-      column = c i;
-      dashes = (d ∙ ap (take o.dashes) (at 2 (omega arith))) i;
-      key = (k ∙ ap (take o.key) (at 3 (omega arith))) i;
-      colon = (l ∙ ap (take o.colon) (at 4 (omega arith))) i;
-      space = (p ∙ ap (take o.space) (at 5 (omega arith))) i;
-      anchor = (a ∙ ap (take o.anchor) (at 6 (omega arith))) i;
-      apart = (f ∙ ap (take o.apart) (at 7 (omega arith))) i;
-      head = (e ∙ ap (take o.head) (at 8 (omega arith))) i;
-      tail = (b ∙ ap (take o.tail) (at 9 (omega arith))) i;
-      raw = (w ∙ ap (take o.raw) (at 10 (omega arith))) i;
-      parent = n i;
-    }
+row_cut o t s indent dashes key colon space anchor apart head tail raw h g c d k l p a f e b w n = search (rules, behind_is)

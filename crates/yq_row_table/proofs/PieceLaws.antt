@@ -1,14 +1,14 @@
 -- Keys and tails, read and spelled.
-use Rattle.std.proofs.Common.{◌≡◌, ℕ, zero, suc, ◌+◌, Bool, true, false, cond, not, ◌&&◌, ◌||◌, eqb, leb, List, [], ◌∷◌, ◌++◌, length, take}
-use Rattle.std.proofs.Common.{drop, Option, Some, None, refl, sym, ap, ◌∙◌, subst, ⊎_elim, eqb-true, append_assoc, rules}
+use Rattle.std.proofs.Common.{◌≡◌, ℕ, zero, suc, ◌+◌, Bool, true, false, cond, not, ◌&&◌, ◌||◌, leb, List, [], ◌∷◌, ◌++◌, length, take}
+use Rattle.std.proofs.Common.{drop, Option, Some, None, refl, ap, ◌∙◌, subst, ⊎_elim, append_assoc, rules}
 use Rattle.std.proofs.lemmas.Bool.{false≢true, or_cases, leb-true, le-leb, or_right, and_from, and_parts}
 use Rattle.std.{proofs.lemmas.List.take-append-drop, proofs.Math.Seq.{take-append_seam, drop-append_seam}, proofs.lemmas.Option.cond_some}
 use Rattle.std.specs.Str.{chars}
-use Rattle.yq_core.{specs.Text.{upto, cut, no_white, ends_line, separates, is_empty, cut_line, line_len}, proofs.Bools.bind_some}
-use Rattle.yq_core.{proofs.Upto.upto-append, specs.Lines.is_hash, specs.Reading.read_scalar, specs.Scalars.IsScalarAt}
+use Rattle.yq_core.{specs.Text.{cut, no_white, ends_line, separates, is_empty, cut_line}, proofs.Bools.bind_some, proofs.Upto.upto-append}
+use Rattle.yq_core.{specs.Lines.is_hash, specs.Reading.read_scalar, specs.Scalars.IsScalarAt}
 use Rattle.yq_core.proofs.NodesPieceLaws.{scalar_takes, scalar_again}
 use Rattle.yq_row_table.{specs.Gap.IsWhite, specs.Grammar.{IsColon, IsKey, IsTail, key_limit}}
-use Rattle.yq_row_table.specs.Reading.{is_colon, read_colon, read_row_key, read_tail}
+use Rattle.yq_row_table.specs.Reading.{read_colon, read_row_key, read_tail}
 use Rattle.yq_row_table.proofs.LineEnds.{none_in_white, white_cut, white_again, line_end_takes, line_end_behind, line_end_line, line_again}
 
 -- the `:` of a key
@@ -18,26 +18,13 @@ byte_at [] r (suc n) b h = cc
 byte_at (x ∷ t) r zero b h = (cc, cc)
 byte_at (x ∷ t) r (suc n) b h = let again = byte_at t r n b h in (ap (λ l. x ∷ l) again.0, again.1)
 
-colon_in_front : (t : List ℕ) → is_colon t ≡ true → (r : List ℕ) × (t ≡ 58 ∷ r) × (separates r ≡ true)
-colon_in_front [] h = absurd (false≢true h)
-colon_in_front (b ∷ bs) h = let parts = and_parts (eqb b 58) (separates bs) h in let same : b ≡ 58 = eqb-true b 58 parts.0 in (bs, rw same refl, parts.1)
-
 colon_takes : (t : List ℕ) (x : List ℕ × List ℕ) → read_colon t ≡ Some x → (t ≡ x.0 ++ x.1) × IsColon x.0 x.1
 unfolding read_colon
-colon_takes t x h =
-    let n = upto no_white t in
-    let g = cond_some (is_colon (drop n t)) _ _ h in
-    let front = colon_in_front (drop n t) g.0 in
-    let parts = byte_at t front.0 n 58 front.1 in
-    subst (λ (y : List ℕ × List ℕ). (t ≡ y.0 ++ y.1) × IsColon y.0 y.1) g.1
-    (sym (take-append-drop (suc n) t), record { white = take n t; spelled = parts.0; blank = white_cut t; separated = rw parts.1 front.2 })
+colon_takes t x h = search (rules, cond_some, false≢true, and_parts, byte_at, take-append-drop, white_cut)
 
 colon_behind : (w rest : List ℕ) → IsWhite w → separates rest ≡ true → read_colon (w ++ (58 ∷ rest)) ≡ Some (w ++ 58 ∷ [], rest)
 unfolding read_colon
 colon_behind w rest blank sep = search (rules, upto-append, none_in_white, byte_at, drop-append_seam, take-append_seam)
-
-colon_again : (p rest : List ℕ) → IsColon p rest → read_colon (p ++ rest) ≡ Some (p, rest)
-colon_again p rest h = search (rules, append_assoc, colon_behind)
 
 -- a key, with its `:`
 pub key_takes : (t : List ℕ) (x : List ℕ × List ℕ × List ℕ) → read_row_key t ≡ Some x → (t ≡ x.0 ++ (x.1 ++ x.2)) × IsKey x.0 x.1 x.2
@@ -53,7 +40,7 @@ key_takes t x h =
 
 pub key_again : (key colon rest : List ℕ) → IsKey key colon rest → read_row_key (key ++ (colon ++ rest)) ≡ Some (key, colon, rest)
 unfolding read_row_key
-key_again key colon rest h = search (rules, scalar_again, colon_again, le-leb)
+key_again key colon rest h = search (rules, scalar_again, append_assoc, colon_behind, le-leb)
 
 -- a tail, by how the text is cut after its white space and after its line
 abbrev ends_tail : List ℕ × List ℕ → Bool
@@ -62,25 +49,12 @@ ends_tail c = ends_line c.1 || (not (is_empty c.0) && is_hash c.1)
 abbrev tail_from : List ℕ × List ℕ → List ℕ × List ℕ → Option (List ℕ × List ℕ)
 tail_from c l = cond (ends_tail c) (Some l) None
 
-tail_cases : (w u : List ℕ) → ends_tail (w, u) ≡ true → ((ends_line u || is_hash u) ≡ true) × ((ends_line u || not (is_empty w)) ≡ true)
-tail_cases w u h = ⊎_elim {0, 0, 0} (λ e. (rw e refl, rw e refl))
-    (λ e. let parts = and_parts (not (is_empty w)) (is_hash u) e in (or_right (ends_line u) (is_hash u) parts.1, or_right (ends_line u) (not (is_empty w)) parts.0))
-    (or_cases (ends_line u) (not (is_empty w) && is_hash u) h)
-
 tail_test : (w u : List ℕ) → ((ends_line u || is_hash u) ≡ true) → ((ends_line u || not (is_empty w)) ≡ true) → ends_tail (w, u) ≡ true
 tail_test w u h apart = search (rules, ⊎_elim, or_right, and_from, or_cases)
 
 pub tail_takes : (t : List ℕ) (x : List ℕ × List ℕ) → read_tail t ≡ Some x → (t ≡ x.0 ++ x.1) × IsTail x.0 x.1
 unfolding read_tail
-tail_takes t x h =
-    let c = cut no_white t in
-    let g = cond_some (ends_tail c) _ _ h in
-    let join : c.0 ++ c.1 ≡ t = take-append-drop (upto no_white t) t in
-    let parts = tail_cases c.0 c.1 g.0 in
-    let e = line_end_takes c.0 c.1 (white_cut t) parts.0 in
-    let tail : IsTail (cut_line (c.0 ++ c.1)).0 (cut_line (c.0 ++ c.1)).1 = record { white = c.0; comment = e.0; line = e.1; apart = rw e.2 parts.1 } in
-    subst (λ (y : List ℕ × List ℕ). (t ≡ y.0 ++ y.1) × IsTail y.0 y.1) g.1
-    (sym (take-append-drop (line_len t) t), subst (λ (s : List ℕ). IsTail (cut_line s).0 (cut_line s).1) join tail)
+tail_takes t x h = search (rules, cond_some, take-append-drop, and_parts, or_right, or_cases, line_end_takes, white_cut)
 
 pub tail_again : (p rest : List ℕ) → IsTail p rest → read_tail (p ++ rest) ≡ Some (p, rest)
 unfolding read_tail

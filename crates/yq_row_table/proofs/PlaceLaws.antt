@@ -1,7 +1,7 @@
 -- Where the content of a row is in a text.
 use Rattle.std.proofs.Common.{◌≡◌, inl, inr, ℕ, zero, suc, ◌-◌, Bool, true, List, [], ◌∷◌, ◌++◌, length, drop, Some, refl, sym, ap, ◌∙◌}
-use Rattle.std.{proofs.Common.{subst, append_assoc, replicate, rules}, proofs.Math.Dec.ltb}
-use Rattle.std.{proofs.lemmas.Bool.{ltb-true, ltb-false, cases_Bool}, specs.List.slice_get}
+use Rattle.std.{proofs.Common.{append_assoc, replicate, rules}, proofs.Math.Dec.ltb, proofs.lemmas.Bool.{ltb-true, ltb-false, cases_Bool}}
+use Rattle.std.specs.List.{slice_get}
 use Rattle.yq_core.proofs.NodesWrittenLaws.{node_append}
 use Rattle.yq_row_table.specs.Exchange.{with_content, with_content_at, exchange, row_front, before_at, text_after_row, before_content}
 use Rattle.yq_row_table.specs.Exchange.{behind_row, rows_behind, allows_first}
@@ -41,14 +41,12 @@ part_then p t u = ap (rows_text p.rows) (sym (append_assoc p.end t u)) ∙ rows_
 place_at : (rows : List Row) (i : ℕ) (r : Row) (rest : List ℕ) → slice_get rows i ≡ Some r → rows_text rows rest ≡ before_at i rows ++ content_text r.content (text_after_row i rows rest)
 place_at [] i r rest h = cc
 place_at (x ∷ rows) zero r rest h = search (rules, row_front-append, row_then)
-place_at (x ∷ rows) (suc i) r rest h =
-    ap (print_row x) (place_at rows i r rest h) ∙ row_then x (before_at i rows) (content_text r.content (text_after_row i rows rest))
+place_at (x ∷ rows) (suc i) r rest h = search (rules, row_then, place_at rows i r rest h)
 
 new_place_at : (rows : List Row) (i : ℕ) (r : Row) (new : Content) (rest : List ℕ) → slice_get rows i ≡ Some r → rows_text (with_content_at i new rows) rest ≡ before_at i rows ++ content_text new (text_after_row i rows rest)
 new_place_at [] i r new rest h = cc
 new_place_at (x ∷ rows) zero r new rest h = row_front-append (with_content new x) (rows_text rows rest)
-new_place_at (x ∷ rows) (suc i) r new rest h =
-    ap (print_row x) (new_place_at rows i r new rest h) ∙ row_then x (before_at i rows) (content_text new (text_after_row i rows rest))
+new_place_at (x ∷ rows) (suc i) r new rest h = search (rules, row_then, new_place_at rows i r new rest h)
 
 part_place : (p : Part) (marker before text rest : List ℕ) → rest ≡ before ++ text → part_text p (marker ++ rest) ≡ part_text p (marker ++ before) ++ text
 part_place p marker before text rest h = ap (λ l. part_text p (marker ++ l)) h ∙ (ap (part_text p) (sym (append_assoc marker before text)) ∙ part_then p (marker ++ before) text)
@@ -74,14 +72,11 @@ pub record RowIn (r : Row) (rest : List ℕ) (behind : List Row) : Type 0 where
   pub next : allows_first (limit_after r) behind ≡ true
 
 pub first_allowed : (limit : Limit) (rs : List Row) (end rest : List ℕ) → AreRows limit rs end rest → allows_first limit rs ≡ true
-first_allowed limit [] end rest h = refl
-first_allowed limit (r ∷ rs) end rest h = h.0.allowed
+first_allowed limit rs end rest h = search rules
 
 row_in_at : (rows : List Row) (i : ℕ) (limit : Limit) (r : Row) (end rest : List ℕ) → AreRows limit rows end rest → slice_get rows i ≡ Some r → RowIn r (text_after_row i rows (end ++ rest)) (drop (suc i) rows)
 row_in_at [] i limit r end rest h is = cc
-row_in_at (x ∷ rows) zero limit r end rest h is =
-    let same : x ≡ r = cc in
-    subst (λ (y : Row). RowIn y (rows_text rows (end ++ rest)) rows) same (record { limit = limit; row = h.0; next = first_allowed (limit_after x) rows end rest h.1 })
+row_in_at (x ∷ rows) zero limit r end rest h is = search (rules, first_allowed)
 row_in_at (x ∷ rows) (suc i) limit r end rest h is = row_in_at rows i (limit_after x) r end rest h.1 is
 
 pub row_in : (c : Cut) (i : ℕ) (started : Bool) (r : Row) → AreParts started c → slice_get (rows_of c) i ≡ Some r → RowIn r (behind_row i c) (rows_behind i c)

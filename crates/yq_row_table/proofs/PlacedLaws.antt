@@ -1,25 +1,20 @@
 -- Rows and ends of parts that are kept by their places alone, borrowed in their text again.
-use Rattle.std.proofs.Common.{◌≡◌, ℕ, ◌+◌, ◌≤◌, List, [], ◌∷◌, ◌++◌, length, take, take_at, reverse, ◌<◌, ◌^◌, append-nil, refl, sym, ap}
-use Rattle.std.{proofs.Common.{◌∙◌, subst, arith}, proofs.lemmas.List.{append_cancel_left, length-take-le}}
+use Rattle.std.proofs.Common.{rules, ◌≡◌, ℕ, ◌+◌, ◌≤◌, List, [], ◌∷◌, ◌++◌, length, take, take_at, ◌<◌, ◌^◌, append-nil, refl, sym, ap, ◌∙◌}
+use Rattle.std.{proofs.Common.{subst, arith}, proofs.lemmas.List.{append_cancel_left, length-take-le}}
 use Rattle.std.proofs.lemmas.List.Elements.{All-head, All-map, All-tail, All-weaker}
 use Rattle.std.{proofs.lemmas.Str.{IsCharBoundary-at_seam, IsUtf8-drop, IsUtf8-nil, IsUtf8-take}, specs.List.All}
 use Rattle.std.specs.Str.{IsCharBoundary, IsUtf8}
 use mathlib.Core.List.{head-eq_of_cons-eq, tail-eq_of_cons-eq}
 use Rattle.yq_text.{specs.Halves.whole, specs.declared.halves.Halves.Halves}
-use Rattle.yq_row_table.{specs.Ends.{EndStands, EndsStand, bound_in, bounds_in, end_at}, specs.Grammar.IsCut}
+use Rattle.yq_row_table.{specs.Ends.{EndStands, EndsStand, bound_in, bounds_in}, specs.Grammar.IsCut}
 use Rattle.yq_row_table.specs.Items.{Item, row_item, end_item, items_of_cut, items_text, rows_in_items, bounds_in_items, view_of_items}
 use Rattle.yq_row_table.specs.Kept.{HavePlaces, IsPlaced, TextsIn, ends_near, near, halves_view}
-use Rattle.yq_row_table.specs.Offsets.{AreTexts, Stand, IsCutIn, offsets_of, parent_by, pieces_of, rows_in, slices_in}
-use Rattle.yq_row_table.{specs.Rows.{Row, Cut, print_row}, specs.View.{Bound, RowsView, rows_view, slices, slices_text}}
-use Rattle.yq_row_table.{specs.declared.ends.EndPlace.EndPlace, specs.declared.places.Places.Places}
-use Rattle.yq_row_table.{proofs.HalfLaws.{have_view, texts_parts}, proofs.ItemLaws.{items_of_text, items_view_is, items_text-append}}
-use Rattle.yq_row_table.{proofs.KeptLaws.{items_apart, items_texts}, proofs.NearLaws.AreRead, proofs.ScanLaws.one_cut}
-use Rattle.yq_row_table.proofs.SliceLaws.{slices_are}
+use Rattle.yq_row_table.{specs.Offsets.{AreTexts, Stand, IsCutIn, pieces_of, rows_in, slices_in}, specs.Rows.{Row, Cut, print_row}}
+use Rattle.yq_row_table.{specs.View.{Bound, RowsView, rows_view, slices, slices_text}, specs.declared.ends.EndPlace.EndPlace}
+use Rattle.yq_row_table.{specs.declared.places.Places.Places, proofs.HalfLaws.{have_view, texts_parts}}
+use Rattle.yq_row_table.{proofs.ItemLaws.{items_of_text, items_view_is, items_text-append}, proofs.KeptLaws.{items_apart, items_texts}}
+use Rattle.yq_row_table.{proofs.NearLaws.AreRead, proofs.ScanLaws.one_cut, proofs.SliceLaws.slices_are}
 use Rattle.yq_row_table.specs.declared.offsets.Offsets as declared
-
--- the lengths of pieces that were cut again
-agrees_again : (column m n : ℕ) (dashes colon : List ℕ) → IsCharBoundary dashes m → IsCharBoundary colon n → parent_by (column + length (take m dashes)) (length (take n colon)) ≡ parent_by (column + m) n
-agrees_again column m n dashes colon h k = rw (length-take-le m dashes h.0, length-take-le n colon k.0) refl
 
 -- what is in a text that is characters is characters
 pub row_texts_in : (t : List ℕ) (o : declared.Offsets) → IsUtf8 t → IsCutIn t o → AreTexts (slices_in t o)
@@ -47,7 +42,7 @@ row_texts_in t o u h =
       head = IsUtf8-take _ o.head head h.1.1.1.1.1.1.1.1.1.0;
       tail = IsUtf8-take _ o.tail tail h.1.1.1.1.1.1.1.1.1.1.0;
       raw = IsUtf8-take _ o.raw raw h.1.1.1.1.1.1.1.1.1.1.1.0;
-      parent = sym (agrees_again o.column o.dashes o.colon _ _ h.1.1.1.0 h.1.1.1.1.1.0);
+      parent = sym (rw (length-take-le o.dashes _ h.1.1.1.0.0, length-take-le o.colon _ h.1.1.1.1.1.0.0) refl);
     }
 
 abbrev AreEndTexts : Bound → Type 0
@@ -90,24 +85,10 @@ pub record SameItems (n k : ℕ) (rest : List ℕ) (xs ys : List Item) : Type 0 
 row_alike : (r q : Row) (xs ys : List Item) (n k : ℕ) (rest : List ℕ) → slices r ≡ slices q → SameItems (n + length (print_row r [])) (k + 1) rest xs ys → SameItems n k rest (row_item r ∷ xs) (row_item q ∷ ys)
 row_alike r q xs ys n k rest own more =
     let spelled : (t : List ℕ) → print_row r t ≡ print_row q t = λ t. sym (slices_are r t) ∙ (ap (λ s. slices_text s t) own ∙ slices_are q t) in
-    record {
-      text = spelled (items_text xs rest) ∙ ap (print_row q) more.text;
-      near = ap (λ s. offsets_of n s ∷ near (n + length (print_row r [])) xs) own ∙ ap (λ l. offsets_of n (slices q) ∷ l) (more.near ∙ ap (λ (t : List ℕ). near (n + length t) ys) (spelled []));
-      ends = more.ends ∙ ap (λ (t : List ℕ). ends_near (n + length t) (k + 1) ys) (spelled []);
-      texts = λ h. (subst AreTexts own h.0, more.texts h.1);
-    }
+    search rules
 
 end_alike : (gap marker g m : List ℕ) (xs ys : List Item) (n k : ℕ) (rest : List ℕ) → gap ≡ g → marker ≡ m → SameItems (n + length (gap ++ marker)) k rest xs ys → SameItems n k rest (end_item gap marker ∷ xs) (end_item g m ∷ ys)
-end_alike gap marker g m xs ys n k rest first second more =
-    let long : gap ++ marker ≡ g ++ m = ap (λ l. l ++ marker) first ∙ ap (λ l. g ++ l) second in
-    let spelled : (t : List ℕ) → gap ++ (marker ++ t) ≡ g ++ (m ++ t) = λ t. ap (λ l. l ++ (marker ++ t)) first ∙ ap (λ l. g ++ (l ++ t)) second in
-    let own : end_at n k gap marker ≡ end_at n k g m = ap (λ l. end_at n k l marker) first ∙ ap (λ l. end_at n k g l) second in
-    record {
-      text = spelled (items_text xs rest) ∙ ap (λ t. g ++ (m ++ t)) more.text;
-      near = more.near ∙ ap (λ (t : List ℕ). near (n + length t) ys) long;
-      ends = ap (λ e. e ∷ ends_near (n + length (gap ++ marker)) k xs) own ∙ ap (λ l. end_at n k g m ∷ l) (more.ends ∙ ap (λ (t : List ℕ). ends_near (n + length t) k ys) long);
-      texts = λ h. (subst IsUtf8 first h.0, subst IsUtf8 second h.1, more.texts h.2);
-    }
+end_alike gap marker g m xs ys n k rest first second more = search rules
 
 no_cons : {A : Type 0} (x : A) (xs : List A) → [] ≡ x ∷ xs → ⊥
 no_cons x xs h = cc
@@ -128,8 +109,7 @@ same_from (end_item gap marker ∷ xs) (end_item g m ∷ ys) n k rest rows ends 
     let b : Bound = record { rows = k; end = gap; marker = marker } in
     let d : Bound = record { rows = k; end = g; marker = m } in
     let behind : bounds_in_items k xs ≡ bounds_in_items k ys = tail-eq_of_cons-eq ends in
-    let own : b ≡ d = head-eq_of_cons-eq ends in
-    end_alike gap marker g m xs ys n k rest (ap (λ (b : Bound). b.end) own) (ap (λ (b : Bound). b.marker) own) (same_from xs ys (n + length (gap ++ marker)) k rest rows behind)
+    search (rules, end_alike, same_from xs ys (n + length (gap ++ marker)) k rest rows behind)
 
 pub same_view : (xs ys : List Item) (n : ℕ) (rest : List ℕ) → view_of_items xs ≡ view_of_items ys → SameItems n 0 rest xs ys
 same_view xs ys n rest e = same_from xs ys n 0 rest (ap (λ (s : RowsView). s.rows) e) (ap (λ (s : RowsView). s.bounds) e)
@@ -178,24 +158,7 @@ pub record Scanned (t : List ℕ) (text : Halves) (p : Places) : Type 0 where
   pub small : length t < 2 ^ 32
 
 pub scanned_places : (t : List ℕ) (text : Halves) (p : Places) → Scanned t text p → HavePlaces text p
-scanned_places t text p h =
-    let items = h.read.items in
-    let all : items ++ [] ≡ items = append-nil items in
-    let texts = texts_stand t p.front.items p.ends items h.characters h.rows_stand h.ends_stand (ap (λ (s : RowsView). s.rows) h.read.rows_view_is) (ap (λ (s : RowsView). s.bounds) h.read.rows_view_is) in
-    record {
-      before = items;
-      behind = [];
-      placed = record {
-        split_is = h.split_is ∙ ap length h.read.text_is;
-        front_are = h.read.near_is;
-        behind_are = ap reverse h.none_behind;
-        ends_are = h.read.ends_is ∙ ap (ends_near 0 0) (sym all);
-        texts = subst TextsIn (sym all) texts;
-        small = subst (λ (l : List ℕ). length l < 2 ^ 32) (h.read.text_is ∙ ap (λ (xs : List Item). items_text xs []) (sym all)) h.small;
-      };
-      front_is = h.front_is ∙ h.read.text_is;
-      back_is = h.back_is;
-    }
+scanned_places t text p h = search (rules, append-nil, texts_stand)
 
 pub scanned_view : (t : List ℕ) (text : Halves) (p : Places) → Scanned t text p → halves_view text p ≡ record { rows = rows_in t p.front.items; bounds = bounds_in t p.ends }
 unfolding scanned_places

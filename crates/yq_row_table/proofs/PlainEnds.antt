@@ -1,16 +1,16 @@
 -- A plain scalar ends after a row, where the next row of the part is no deeper.
-use Rattle.std.proofs.Common.{◌≡◌, inl, inr, ⊎_elim, ℕ, zero, suc, ◌+◌, ◌-◌, ◌<◌, Bool, true, false, not, ◌&&◌, ◌||◌, eqb, List, [], ◌∷◌}
-use Rattle.std.proofs.Common.{◌++◌, length, drop, Option, Some, None, refl, sym, ap, ◌∙◌, subst, arith, append_assoc, append-nil, replicate}
-use Rattle.std.{proofs.Common.{eqb-true, rules}, proofs.Math.Dec.ltb, proofs.Math.Bool.and-false}
+use Rattle.std.proofs.Common.{◌≡◌, inl, inr, ⊎_elim, ℕ, zero, suc, ◌-◌, ◌<◌, Bool, true, false, not, ◌&&◌, ◌||◌, eqb, List, [], ◌∷◌, ◌++◌}
+use Rattle.std.proofs.Common.{length, drop, Option, Some, None, refl, sym, ap, ◌∙◌, subst, append_assoc, append-nil, replicate, eqb-true}
+use Rattle.std.{proofs.Common.rules, proofs.Math.Dec.ltb, proofs.Math.Bool.and-false}
 use Rattle.std.proofs.lemmas.Bool.{false≢true, ltb-true, ltb-false, not-false, or_cases, and_parts, cases_Bool, not-true}
 use Rattle.std.{specs.List.slice_get, specs.Prelude.nat_le}
 use Rattle.yq_core.{specs.Lines.spaces, specs.Plain.{no_gap, last_line, begins_deep, follows, ends_plain}}
-use Rattle.yq_core.specs.Text.{cut, NoneIn, is_space, is_feed, is_return, is_break, is_line, is_empty, front, is_marker, joined}
+use Rattle.yq_core.specs.Text.{cut, NoneIn, is_feed, is_return, is_break, is_line, is_empty, front, is_marker, joined}
 use Rattle.yq_core.{proofs.SpaceLaws.{spaces_front, prefix_none}, proofs.Upto.cut-append}
 use Rattle.yq_row_table.specs.Exchange.{text_after_row, behind_row, rows_behind, allows_first}
 use Rattle.yq_row_table.specs.Gap.{IsWhite, IsLineEnd, AreGapLines, IsGap}
 use Rattle.yq_row_table.specs.Grammar.{IsTail, IsRow, Limit, unlimited, limit_after, AreRows, begins_document, AreParts, IsCut}
-use Rattle.yq_row_table.{specs.Rows.{Row, behind_indent, behind_gap, rows_text, Cut, last, marked, cut_text}, specs.View.rows_of}
+use Rattle.yq_row_table.{specs.Rows.{Row, behind_gap, rows_text, Cut, last, marked, cut_text}, specs.View.rows_of}
 use Rattle.yq_row_table.{proofs.ExchangeLaws.{slice_front, slice_back}, proofs.Fronts.Starts, proofs.LineEnds.{one_feed, feed_is}}
 use Rattle.yq_row_table.{proofs.RowAgain.row_starts, proofs.EmptyTexts.empty_is}
 
@@ -55,12 +55,10 @@ last_behind (x ∷ a) w = rw (last_behind a w) refl
 
 -- a row
 starts_gap : (t : List ℕ) → Starts t → no_gap t ≡ true
-starts_gap [] h = absurd (false≢true (sym h.some))
-starts_gap (b ∷ bs) h = rw h.joined refl
+starts_gap t h = search (rules, false≢true)
 
 starts_spaces : (t : List ℕ) → Starts t → spaces t ≡ 0
-starts_spaces [] h = refl
-starts_spaces (b ∷ bs) h = prefix_none (λ x. eqb x 32) b bs (not-true (eqb b 32) h.no_space)
+starts_spaces t h = search (rules, prefix_none, not-true)
 
 not_deep : (d n : ℕ) (x : Bool) → n < d → not (nat_le d n && x) ≡ true
 not_deep d n x h = search rules
@@ -69,35 +67,14 @@ last_or : (a b : Bool) → (a || (b || true)) ≡ true
 last_or a b = search rules
 
 pub row_at_line : (d : ℕ) (limit : Limit) (r : Row) (rest : List ℕ) → IsRow limit r rest → r.column < d → AtLine d (behind_gap r rest)
-row_at_line d limit r rest h less =
-    let t : List ℕ = behind_indent r rest in
-    let starts : Starts t = row_starts limit r rest h in
-    let none : spaces t ≡ 0 = starts_spaces t starts in
-    let all : spaces (replicate r.column 32 ++ t) ≡ r.column + spaces t = spaces_front r.column t in
-    let few : spaces (replicate r.column 32 ++ t) < d = omega (arith, none, all, less) in
-    let deep : not (begins_deep (Some d) (replicate r.column 32 ++ t)) ≡ true = not_deep d (spaces (replicate r.column 32 ++ t)) (not (is_marker (replicate r.column 32 ++ t))) few in
-    record {
-      white = replicate r.column 32;
-      text = t;
-      spelled = refl;
-      inside = none_spaces r.column t;
-      here = starts_gap t starts;
-      stop = rw (no_last r.column, deep) (last_or (is_empty t) (front (λ b. eqb b 35) t));
-    }
+row_at_line d limit r rest h less = search (rules, row_starts, starts_spaces, spaces_front, not_deep, none_spaces, starts_gap, no_last, last_or)
 
 -- a marker, or the end
 marker_front : (t : List ℕ) → is_marker t ≡ true → no_gap t ≡ true
 marker_front t h1 = search (rules, false≢true, and_parts, ⊎_elim, eqb-true, or_cases)
 
 pub marker_line : (d : ℕ) (t : List ℕ) → is_marker t ≡ true → AtLine d t
-marker_line d t h = record {
-  white = [];
-  text = t;
-  spelled = refl;
-  inside = tt;
-  here = marker_front t h;
-  stop = rw (h, and-false (nat_le d (spaces t))) (last_or (is_empty t) (front (λ b. eqb b 35) t));
-}
+marker_line d t h = search (rules, marker_front, and-false, last_or)
 
 pub end_line : (d : ℕ) → AtLine d []
 end_line d = record { white = []; text = []; spelled = refl; inside = tt; here = refl; stop = refl }
@@ -141,15 +118,7 @@ broken : (d : ℕ) (white p rest : List ℕ) → IsWhite white → Breaks p → 
 broken d white p rest blank b a =
     let w : List ℕ = white ++ b.before in
     let join : (white ++ p) ++ rest ≡ (w ++ 10 ∷ a.white) ++ a.text = search (rules, append_assoc, w) in
-    record {
-      before = w;
-      behind = a.white;
-      text = a.text;
-      spelled = join;
-      inside = none_append no_gap w (10 ∷ a.white) a.text (none_append no_gap white b.before ((10 ∷ a.white) ++ a.text) (none_white white (b.before ++ ((10 ∷ a.white) ++ a.text)) blank) (b.inside (a.white ++ a.text))) (refl, a.inside);
-      here = a.here;
-      stop = a.stop;
-    }
+    search (rules, none_append, none_white)
 
 -- one line that ends, before a line
 hash_stops : (d : ℕ) (w : List ℕ) (b : ℕ) (u : List ℕ) → eqb b 35 ≡ true → stops d w (b ∷ u) ≡ true
@@ -159,14 +128,7 @@ hash_here : (b : ℕ) (u : List ℕ) → eqb b 35 ≡ true → no_gap (b ∷ u) 
 hash_here b u h = let is : b ≡ 35 = eqb-true b 35 h in rw is refl
 
 comment_line : (d : ℕ) (white break rest : List ℕ) (b : ℕ) (c : List ℕ) → IsWhite white → eqb b 35 ≡ true → AtLine d ((white ++ ((b ∷ c) ++ break)) ++ rest)
-comment_line d white break rest b c blank h = record {
-  white = white;
-  text = ((b ∷ c) ++ break) ++ rest;
-  spelled = append_assoc white ((b ∷ c) ++ break) rest;
-  inside = none_white white (((b ∷ c) ++ break) ++ rest) blank;
-  here = hash_here b ((c ++ break) ++ rest) h;
-  stop = hash_stops d white b ((c ++ break) ++ rest) h;
-}
+comment_line d white break rest b c blank h = search (rules, append_assoc, none_white, hash_here, hash_stops)
 
 blank_end : (d : ℕ) (white : List ℕ) → IsWhite white → AtLine d white
 blank_end d white blank = record { white = white; text = []; spelled = sym (append-nil white); inside = none_white white [] blank; here = refl; stop = refl }
@@ -221,12 +183,10 @@ not_follow a b c x h1 = search (rules, false≢true)
 ends_by : (d b : ℕ) (w u : List ℕ) → NoneIn no_gap (b ∷ w) u → no_gap u ≡ true → follows false (Some d) (b ∷ w) u ≡ false → ends_plain false (Some d) ((b ∷ w) ++ u) ≡ true
 ends_by d b w u none here f =
     let parts : cut no_gap ((b ∷ w) ++ u) ≡ (b ∷ w, u) = cut-append no_gap (b ∷ w) u none here in
-    let ends : not (follows false (Some d) (cut no_gap ((b ∷ w) ++ u)).0 (cut no_gap ((b ∷ w) ++ u)).1) ≡ true = search (rules, parts) in
-    rw (not-false (is_space (b ∷ (w ++ u))) none.0) ends
+    search (rules, not-false)
 
 ends_behind : (d : ℕ) (w u : List ℕ) → is_empty w ≡ false → NoneIn no_gap w u → no_gap u ≡ true → follows false (Some d) w u ≡ false → ends_plain false (Some d) (w ++ u) ≡ true
-ends_behind d [] u some none here f = absurd (false≢true (sym some))
-ends_behind d (b ∷ w) u some none here f = ends_by d b w u none here f
+ends_behind d w u some h4 here f = search (rules, false≢true, ends_by)
 
 some_white : (before behind : List ℕ) → is_empty (before ++ 10 ∷ behind) ≡ false
 some_white [] behind = refl
@@ -251,10 +211,7 @@ tail_ends d white [] p rest e apart a = ⊎_elim {0, 0, 0}
     (ends_behind d (b.before ++ 10 ∷ b.behind) b.text (some_white b.before b.behind) b.inside b.here (line_follows d b.before b.behind b.text b.stop))))
     (λ h. subst (λ (l : List ℕ). ends_plain false (Some d) l ≡ true) (sym (ap (λ l. l ++ rest) e.spelled ∙ (ap (λ l. (white ++ l) ++ rest) h.0 ∙ (ap (λ l. (white ++ []) ++ l) h.1 ∙ (append-nil (white ++ []) ∙ append-nil white))))) (white_ends d white e.blank))
     e.ends
-tail_ends d white (b ∷ c) p rest e apart a =
-    let some : is_empty white ≡ false = not-true (is_empty white) apart in
-    subst (λ (l : List ℕ). ends_plain false (Some d) (l ++ rest) ≡ true) (sym e.spelled)
-    (subst (λ (l : List ℕ). ends_plain false (Some d) l ≡ true) (sym (append_assoc white ((b ∷ c) ++ e.break) rest)) (comment_ends d white b ((c ++ e.break) ++ rest) e.blank some (ap (λ (x : ℕ). eqb x 35) e.as_comment.0)))
+tail_ends d white (b ∷ c) p rest e apart a = search (rules, not-true, append_assoc, comment_ends)
 
 pub plain_ends : (t : List ℕ) (c : Cut) (i : ℕ) (r : Row) (tail : List ℕ) (d : ℕ) → IsCut t c → slice_get (rows_of c) i ≡ Some r → IsTail tail (behind_row i c) → allows_first (record { column = Some d }) (rows_behind i c) ≡ true → ends_plain false (Some d) (tail ++ behind_row i c) ≡ true
 plain_ends t c i r tail d h is end next = tail_ends d end.white end.comment tail (behind_row i c) end.line end.apart (line_behind d c i true r h.parts is next)

@@ -1,5 +1,5 @@
 -- The law of regions where one ends in front of a marker: the marker's line isn't read.
-use Rattle.std.proofs.Common.{◌≡◌, inl, inr, ℕ, ℤ, Bool, true, false, not, List, [], ◌∷◌, ◌++◌, Some, refl, sym, ap, ◌∙◌, subst, ⊎_elim}
+use Rattle.std.proofs.Common.{◌≡◌, inl, inr, ℕ, ℤ, Bool, true, false, not, List, [], ◌∷◌, ◌++◌, Some, refl, ap, ◌∙◌, subst, ⊎_elim}
 use Rattle.std.{proofs.Common.{append-nil, append_assoc, rules}, proofs.lemmas.Bool.{false≢true, and_parts, cases_Bool}}
 use Rattle.yq_core.{specs.Block.{ends_block, is_empty_line}, specs.declared.block_lines.TextIndent.TextIndent, specs.Text.is_empty}
 use Rattle.yq_core.{specs.Alike.Alike, proofs.Alikes.alike_append}
@@ -48,10 +48,7 @@ pub record Before (gap marker : List ℕ) (back : List Item) : Type 0 where
 row_ended : (asked : Asked) (r : Row) (xs : List Item) (gap marker : List ℕ) (back : List Item) → Before gap marker back → IsRow asked.limit r (items_text (xs ++ (end_item gap marker ∷ back)) []) → LikeBefore xs (items_text (xs ++ (end_item gap marker ∷ back)) []) (items_text (xs ++ cut_end gap) []) →
     TakesPlace asked.limit r (items_text (xs ++ (end_item gap marker ∷ back)) []) r (items_text (xs ++ cut_end gap) [])
 row_ended asked r [] gap marker back b h a = row_cut asked.limit r gap (marker ++ items_text back []) b.some b.was b.last h
-row_ended asked r (x ∷ xs) gap marker back b h a =
-    let t = items_text ((x ∷ xs) ++ (end_item gap marker ∷ back)) [] in
-    let u = items_text ((x ∷ xs) ++ cut_end gap) [] in
-    record { row = row_alike asked.limit r t u a h; alike = row_text_alike r t u a }
+row_ended asked r (x ∷ xs) gap marker back b h a = search (rules, row_alike, row_text_alike)
 
 abbrev LineEnded : List ℕ → List ℕ → List ℕ → Type 0
 LineEnded line t u = IsMarkerLine line u × Alike (Some false) (line ++ t) (line ++ u)
@@ -61,10 +58,7 @@ line_ended : (line : List ℕ) (xs : List Item) (gap marker : List ℕ) (back : 
 line_ended line [] gap marker back b h a =
     let t = gap ++ (marker ++ items_text back []) in
     marker_seam line t (gap ++ []) h (closed_line line (gap ++ []) (marker_line_is line t h (some_behind gap (marker ++ items_text back []) b.some)))
-line_ended line (x ∷ xs) gap marker back b h a =
-    let t = items_text ((x ∷ xs) ++ (end_item gap marker ∷ back)) [] in
-    let u = items_text ((x ∷ xs) ++ cut_end gap) [] in
-    (marker_line_alike line t u a h, alike_append (Some false) line t u a)
+line_ended line (x ∷ xs) gap marker back b h a = search (rules, marker_line_alike, alike_append)
 
 pub cut_items : (xs : List Item) (asked : Asked) (gap marker : List ℕ) (back : List Item) → Before gap marker back → AreRowItems asked (xs ++ (end_item gap marker ∷ back)) [] → CutEnd asked xs gap marker back
 cut_items [] asked gap marker back b h = (((b.last, inr (refl, refl, refl)), tt), tt)
@@ -93,8 +87,7 @@ end_ended (row_item r ∷ xs) gap = end_ended xs gap
 end_ended (end_item g line ∷ xs) gap = inr (end_ended xs gap)
 
 some_marker : (marker t : List ℕ) → IsMarkerLine marker t → is_empty (marker ++ t) ≡ false
-some_marker [] t h = absurd (false≢true (sym (no_marker [] t h)))
-some_marker (b ∷ marker) t h = refl
+some_marker marker t h = search (rules, false≢true, no_marker)
 
 -- Items and the end of their part, without the line of its marker, read alone.
 pub region_end : (xs back : List Item) (gap marker : List ℕ) → StandIn (ended xs gap marker) back → IsReadAlone (ended xs gap []) []

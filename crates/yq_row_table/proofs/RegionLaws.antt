@@ -1,17 +1,17 @@
 -- The law of regions: items between others, read alone.
-use Rattle.std.proofs.Common.{◌≡◌, inl, ℕ, Bool, true, false, List, [], ◌∷◌, ◌++◌, Option, Some, Result, refl, sym, ap, ◌∙◌, subst, ⊎_elim}
-use Rattle.std.{proofs.Common.{append-nil, rules}, proofs.lemmas.Bool.or_right}
+use Rattle.std.proofs.Common.{◌≡◌, inl, ℕ, Bool, true, false, List, [], ◌∷◌, ◌++◌, Some, Result, refl, subst, ⊎_elim, append-nil, rules}
+use Rattle.std.proofs.lemmas.Bool.{or_right}
 use Rattle.yq_core.{specs.Answers.{Gives, ReadError}, specs.Block.ends_block, specs.declared.block_lines.TextIndent.TextIndent}
 use Rattle.yq_core.{specs.Text.{is_line, text_lines}, specs.Alike.Alike, proofs.Alikes.alike_append}
 use Rattle.yq_row_table.specs.Grammar.{Limit, IsRow, IsMarkerLine}
 use Rattle.yq_row_table.specs.Items.{Item, row_item, end_item, items_text, Asked, nothing_asked, asked_by, asked_of, AreRowItems}
 use Rattle.yq_row_table.{specs.Items.view_of_items, specs.Regions.{StandIn, region_items, IsReadAlone}, specs.Slicing.read_view}
-use Rattle.yq_row_table.{specs.Reading.all_parts, specs.Rows.{Content, Row, parent_indent}, specs.View.{RowsView, rows_view}}
+use Rattle.yq_row_table.{specs.Reading.all_parts, specs.Rows.{Content, Row, parent_indent}, specs.View.RowsView}
 use Rattle.yq_row_table.specs.Seams.{is_closed, is_seam, TakesPlace}
 use Rattle.yq_row_table.proofs.AlikeRows.{row_alike, row_gap_alike, row_text_alike, marker_line_alike}
-use Rattle.yq_row_table.proofs.ItemCuts.{no_last, no_gap, cut_of, cut_of_items, alone_read, inner_items, Ended, last_items, cut_ended}
-use Rattle.yq_row_table.{proofs.ItemCuts.back_ended, proofs.ItemLaws.{items_joined, items_view_is, parts_are_items}}
-use Rattle.yq_row_table.{proofs.seams.MarkerSeams.marker_seam, proofs.seams.SeamLaws.{row_seam, plain_before}}
+use Rattle.yq_row_table.proofs.ItemCuts.{no_last, no_gap, cut_of, cut_of_items, alone_read, inner_items, last_items, cut_ended, back_ended}
+use Rattle.yq_row_table.{proofs.ItemLaws.{items_joined, items_view_is, parts_are_items}, proofs.seams.MarkerSeams.marker_seam}
+use Rattle.yq_row_table.proofs.seams.SeamLaws.{row_seam, plain_before}
 
 -- a row at the end of a text
 none_ends : (keep : Bool) (f : TextIndent) → ends_block keep f (text_lines []) ≡ true
@@ -43,8 +43,7 @@ abbrev MarkerShort : List ℕ → List ℕ → List ℕ → Type 0
 MarkerShort marker t u = IsMarkerLine marker u × Alike (Some false) (marker ++ t) (marker ++ u)
 
 marker_short : (marker : List ℕ) (xs : List Item) (t : List ℕ) → IsMarkerLine marker t → BeginsLike t xs → MarkerShort marker t (items_text xs [])
-marker_short marker [] t h a = marker_seam marker t [] h (closed_end marker)
-marker_short marker (x ∷ xs) t h a = (marker_line_alike marker t (items_text (x ∷ xs) []) a h, alike_append (Some false) marker t (items_text (x ∷ xs) []) a)
+marker_short marker xs t h a = search (rules, marker_seam, closed_end, marker_line_alike, alike_append)
 
 -- Items in front of others, alone.
 pub shortened : (xs : List Item) (z : Item) (zs : List Item) (asked : Asked) (rest : List ℕ) → AreRowItems asked (xs ++ (z ∷ zs)) rest → Shortened asked xs (items_text (xs ++ (z ∷ zs)) rest)
@@ -70,17 +69,12 @@ region xs [] s =
     let own : xs ++ [] ≡ xs = append-nil xs in
     let asked = asked_of nothing_asked s.front in
     let mine : AreRowItems asked xs [] = subst (λ (l : List Item). AreRowItems asked l []) own (items_joined s.front (xs ++ []) nothing_asked [] all) in
-    let last : Ended xs = subst Ended own (back_ended s.front (xs ++ []) s.some (subst Ended s.items (cut_ended s.cut))) in
-    record { cut = cut_of xs; read = alone_read xs asked mine; text = (cut_of_items xs asked mine).1; items = last_items xs asked mine last }
+    search (rules, back_ended, cut_ended, cut_of, alone_read, cut_of_items, last_items)
 region xs (z ∷ zs) s =
     let all : AreRowItems nothing_asked (s.front ++ (xs ++ (z ∷ zs))) [] = subst (λ (l : List Item). AreRowItems nothing_asked l []) s.items (parts_are_items s.cut true s.is_cut.parts) in
     let asked = asked_of nothing_asked s.front in
     let behind : AreRowItems asked (xs ++ (z ∷ zs)) [] = items_joined s.front (xs ++ (z ∷ zs)) nothing_asked [] all in
-    let mine : AreRowItems asked xs [] = (shortened xs z zs asked [] behind).0 in
-    record { cut = cut_of xs; read = alone_read xs asked mine; text = (cut_of_items xs asked mine).1; items = inner_items xs z zs asked [] behind }
+    search (rules, shortened, cut_of, alone_read, cut_of_items, inner_items)
 
 pub read_alone : {X : Type 0} (v : X → RowsView) (t : List ℕ) (xs back : List Item) (r : Result X ReadError) → IsReadAlone xs back → t ≡ items_text xs [] → Gives v r (read_view (all_parts true t)) → Gives v r (Some (view_of_items (region_items xs back)))
-read_alone v t xs back r law e g =
-    let read : all_parts true t ≡ Some law.cut = ap (all_parts true) e ∙ law.read in
-    let sliced : rows_view law.cut ≡ view_of_items (region_items xs back) = sym (items_view_is law.cut) ∙ ap view_of_items law.items in
-    subst (λ (o : Option RowsView). Gives v r o) (ap read_view read ∙ ap Some sliced) g
+read_alone v t xs back r law e g = search (rules, items_view_is)

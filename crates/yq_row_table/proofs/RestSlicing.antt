@@ -1,6 +1,6 @@
 -- The ends of parts directly before a row.
-use Rattle.std.proofs.Common.{◌≡◌, ⊎_elim, ℕ, zero, suc, ◌+◌, ◌-◌, ◌<◌, ◌≤◌, List, [], ◌∷◌, ◌++◌, length, take, drop, slice_index_or, sym}
-use Rattle.std.{proofs.Common.{refl, ap, ◌∙◌, subst, arith, eq-eqb, ne_eqb}, proofs.lemmas.Bool.cases_lt, specs.List.AllWithin}
+use Rattle.std.proofs.Common.{rules, ◌≡◌, ⊎_elim, ℕ, zero, suc, ◌+◌, ◌-◌, ◌<◌, ◌≤◌, List, [], ◌∷◌, ◌++◌, length, take, drop, slice_index_or}
+use Rattle.std.{proofs.Common.{sym, refl, ap, ◌∙◌, subst, arith, ne_eqb}, proofs.lemmas.Bool.cases_lt, specs.List.AllWithin}
 use Rattle.std.{specs.List.Sorted.IsNonDecreasingBy, proofs.lemmas.List.{get_or-drop, length-drop, take-map, drop-map}}
 use Rattle.yq_text.specs.declared.halves.Halves.{Halves}
 use Rattle.yq_row_table.{specs.Ends.{bound_in_half, bounds_in_halves}, specs.Items.{Item, row_item, end_item}, specs.Kept.ends_near}
@@ -15,12 +15,11 @@ ends_above (end_item gap marker ∷ xs) n k zero d lt = omega arith
 ends_above (end_item gap marker ∷ xs) n k (suc j) d lt = ends_above xs (n + length (gap ++ marker)) k j d (omega arith)
 
 pub ends_rise : (xs : List Item) (n k : ℕ) → IsNonDecreasingBy (λ e. e.rows) (ends_near n k xs)
-ends_rise [] n k i j d le lt = absurd (omega arith)
 ends_rise (row_item r ∷ xs) n k i j d le lt = ends_rise xs (n + length (print_row r [])) (k + 1) i j d le lt
 ends_rise (end_item gap marker ∷ xs) n k zero zero d le lt = omega arith
-ends_rise (end_item gap marker ∷ xs) n k (suc i) zero d le lt = absurd (omega arith)
 ends_rise (end_item gap marker ∷ xs) n k zero (suc j) d le lt = ends_above xs (n + length (gap ++ marker)) k j d (omega arith)
 ends_rise (end_item gap marker ∷ xs) n k (suc i) (suc j) d le lt = ends_rise xs (n + length (gap ++ marker)) k i j d (omega arith) (omega arith)
+ends_rise _ n k _ _ d le lt = absurd (omega arith)
 
 starts_above : (xs : List Item) (n k j : ℕ) (d : ends.EndPlace) → j < length (ends_near n k xs) → n ≤ (slice_index_or (ends_near n k xs) j d).start
 starts_above [] n k j d lt = absurd (omega arith)
@@ -30,12 +29,11 @@ starts_above (end_item gap marker ∷ xs) n k (suc j) d lt = let above = starts_
 
 -- nor do their beginnings
 pub starts_rise : (xs : List Item) (n k : ℕ) → IsNonDecreasingBy (λ e. e.start) (ends_near n k xs)
-starts_rise [] n k i j d le lt = absurd (omega arith)
 starts_rise (row_item r ∷ xs) n k i j d le lt = starts_rise xs (n + length (print_row r [])) (k + 1) i j d le lt
 starts_rise (end_item gap marker ∷ xs) n k zero zero d le lt = omega arith
-starts_rise (end_item gap marker ∷ xs) n k (suc i) zero d le lt = absurd (omega arith)
 starts_rise (end_item gap marker ∷ xs) n k zero (suc j) d le lt = let above = starts_above xs (n + length (gap ++ marker)) k j d (omega arith) in omega arith
 starts_rise (end_item gap marker ∷ xs) n k (suc i) (suc j) d le lt = starts_rise xs (n + length (gap ++ marker)) k i j d (omega arith) (omega arith)
+starts_rise _ n k _ _ d le lt = absurd (omega arith)
 
 -- the ends that come before row i are skipped, and those at row i are taken
 skipped : (t : Halves) (i n : ℕ) (bounds : List ends.EndPlace) → n ≤ length bounds → AllWithin (λ b. b.rows < i) bounds 0 n → bounds_at i (bounds_in_halves t bounds) ≡ bounds_at i (bounds_in_halves t (drop n bounds))
@@ -58,8 +56,7 @@ taken t i (suc n) [] le from here after = absurd (omega arith)
 taken t i (suc n) (b ∷ bounds) le from here after =
     let low : i ≤ b.rows = from 0 b (omega arith) (omega arith) in
     let high : b.rows ≤ i = here 0 b (omega arith) (omega arith) in
-    rw (eq-eqb i b.rows (omega arith))
-    (ap (λ l. bound_in_half t b ∷ l) (taken t i n bounds (omega arith) (λ k d w lt. from (suc k) d (omega arith) (omega arith)) (λ k d w lt. here (suc k) d (omega arith) (omega arith)) (λ k d w lt. after (suc k) d (omega arith) (omega arith))))
+    search (rules, taken t i n bounds (omega arith) (λ k d w lt. from (suc k) d (omega arith) (omega arith)) (λ k d w lt. here (suc k) d (omega arith) (omega arith)) (λ k d w lt. after (suc k) d (omega arith) (omega arith)))
 
 -- What binary search finds of ends of which none has fewer rows in front of it than the one before it: those at row i.
 pub record AtRow (i from to : ℕ) (own : List ends.EndPlace) : Type 0 where

@@ -40,8 +40,7 @@ space_no_marker : (t : List ℕ) → is_marker (32 ∷ t) ≡ false
 space_no_marker t = search rules
 
 no_end : (n : ℕ) (t : List ℕ) → (eqb n 0 && is_marker t) ≡ false → is_empty t ≡ false → ends_part (replicate n 32 ++ t) ≡ false
-no_end zero t h some = rw (some, h) refl
-no_end (suc n) t h some = space_no_marker (replicate n 32 ++ t)
+no_end n t h some = search (rules, space_no_marker)
 
 pub row_no_end : (limit : Limit) (r : Row) (rest : List ℕ) → IsRow limit r rest → ends_part (behind_gap r rest) ≡ false
 row_no_end limit r rest h = no_end r.column (behind_indent r rest) h.unmarked (row_starts limit r rest h).some
@@ -50,14 +49,10 @@ row_no_end limit r rest h = no_end r.column (behind_indent r rest) h.unmarked (r
 mark_fits : (mark : RowMark) (c : Content) (rest : List ℕ) → IsMark mark c rest → fits mark c ≡ true
 mark_fits mark c rest h1 = search rules
 
-marked_again : (limit : Limit) (r : Row) (rest : List ℕ) → IsRow limit r rest → marked_row_at r.gap r.column (read_marks (behind_indent r rest)) ≡ Some (r, rest)
-unfolding marked_row_at
-marked_again limit r rest h = search (rules, marks_again, mark_ended, content_again, mark_fits)
-
 pub row_again : (limit : Limit) (r : Row) (rest : List ℕ) → IsRow limit r rest → row_at limit r.gap (behind_gap r rest) ≡ Some (r, rest)
-unfolding row_at
+unfolding row_at marked_row_at
 row_again limit r rest h =
     let t : List ℕ = behind_indent r rest in
     let indent = spaces_again r.column t (row_starts limit r rest h).no_space in
     ap (λ (i : List ℕ × List ℕ). cond (allows limit (length i.0) && not (eqb (length i.0) 0 && is_marker i.1)) (marked_row_at r.gap (length i.0) (read_marks i.1)) None) indent
-    ∙ rw (length-replicate {A = ℕ} r.column 32) (rw (h.allowed, h.unmarked) (marked_again limit r rest h))
+    ∙ rw (length-replicate {A = ℕ} r.column 32) (rw (h.allowed, h.unmarked) (search (rules, marks_again, mark_ended, content_again, mark_fits)))

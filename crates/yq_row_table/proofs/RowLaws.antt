@@ -1,12 +1,11 @@
 -- A row, read and spelled.
-use Rattle.std.proofs.Common.{◌≡◌, ℕ, ℤ, ◌<◌, ◌≤◌, true, false, not, ◌&&◌, eqb, List, [], ◌∷◌, ◌++◌, length, Option, Some, None, refl, ap}
-use Rattle.std.{proofs.Common.{◌∙◌, subst, arith, replicate, length-append, rules}, proofs.lemmas.Bool.{not-true, and_parts}}
-use Rattle.std.proofs.lemmas.Option.{cond_some}
+use Rattle.std.proofs.Common.{◌≡◌, ℕ, ℤ, ◌<◌, ◌≤◌, true, false, not, ◌&&◌, eqb, List, [], ◌∷◌, ◌++◌, length, Option, Some, arith, replicate}
+use Rattle.std.{proofs.Common.{length-append, rules}, proofs.lemmas.Bool.{not-true, and_parts}, proofs.lemmas.Option.cond_some}
 use Rattle.yq_core.{specs.Piece.deeper, specs.Text.{cut, no_space, is_marker}, proofs.Bools.{guard_then, bind_some}, proofs.Upto.cut_takes}
 use Rattle.yq_core.{specs.Inline.depth_limit, specs.Nodes.{bare, node_text}, proofs.NodeAgain.item_longer}
 use Rattle.yq_row_table.{specs.Gap.IsGap, specs.Grammar.{IsRow, IsContent, IsMark, AreDashes, may_be_alone, Limit, allows}}
 use Rattle.yq_row_table.specs.Reading.{read_marks, read_content, fits, marked_row_at, row_at}
-use Rattle.yq_row_table.specs.Rows.{RowMark, Anchor, Content, Inline, dashes_text, mark_text, anchor_text, content_text, Row, behind_indent}
+use Rattle.yq_row_table.specs.Rows.{RowMark, Anchor, Content, Inline, dashes_text, anchor_text, content_text, Row, behind_indent}
 use Rattle.yq_row_table.{specs.Rows.{behind_gap, behind_columns, parent_of, parent_indent}, proofs.ContentLaws.content_takes}
 use Rattle.yq_row_table.proofs.MarkLaws.{spaces_are, IsMarked, marks_take}
 
@@ -31,16 +30,7 @@ marked_takes gap column t x h =
     let g = cond_some (fits m.1 content.0.0) _ _ content.2 in
     let marks = marks_take t in
     let c = content_takes n m.2 content.0 content.1 in
-    let row : Row = record { gap = gap; column = column; dashes = m.0; mark = m.1; content = content.0.0 } in
-    let is : (row, content.0.1) ≡ x = g.1 in
-    subst (λ (y : Row × List ℕ). Marked gap column t y.0 y.1) is (record {
-      gap_is = refl;
-      column_is = refl;
-      text = marks.0 ∙ ap (λ l. dashes_text m.0 (mark_text m.1 l)) c.0;
-      dashes = marks.1;
-      mark = mark_holds m.1 content.0.0 m.2 content.0.1 c.0 marks.2 g.0;
-      content = c.1;
-    })
+    search (rules, mark_holds)
 
 -- A row that was read after its gap, before a rest.
 pub record RowCut (limit : Limit) (gap t : List ℕ) (r : Row) (rest : List ℕ) : Type 0 where
@@ -52,14 +42,7 @@ pub record RowCut (limit : Limit) (gap t : List ℕ) (r : Row) (rest : List ℕ)
   pub row : IsGap gap t → IsRow limit r rest
 
 row_parts : (limit : Limit) (gap : List ℕ) (column : ℕ) (t : List ℕ) (r : Row) (rest : List ℕ) → allows limit column ≡ true → (eqb column 0 && is_marker t) ≡ false → Marked gap column t r rest → IsGap r.gap (behind_gap r rest) → IsRow limit r rest
-row_parts limit gap column t r rest a u m g = record {
-  gap = g;
-  allowed = rw m.column_is a;
-  unmarked = rw (m.column_is, ← m.text) u;
-  dashes = m.dashes;
-  mark = m.mark;
-  content = m.content;
-}
+row_parts limit gap column t r rest a u m g = search rules
 
 pub row_takes : (limit : Limit) (gap t : List ℕ) (x : Row × List ℕ) → row_at limit gap t ≡ Some x → RowCut limit gap t x.0 x.1
 unfolding row_at
@@ -69,25 +52,14 @@ row_takes limit gap t x h =
     let g = guard_then (allows limit column && not (eqb column 0 && is_marker indent.1)) h in
     let tests = and_parts (allows limit column) (not (eqb column 0 && is_marker indent.1)) g.0 in
     let m = marked_takes gap column indent.1 x g.1 in
-    let join : t ≡ indent.0 ++ indent.1 = cut_takes no_space t in
-    let spaces : indent.0 ≡ replicate column 32 = spaces_are t in
-    let behind : t ≡ behind_gap x.0 x.1 = rw (m.column_is, ← m.text, ← spaces) join in
-    record {
-      gap_is = m.gap_is;
-      text = behind;
-      dashes = m.dashes;
-      mark = m.mark;
-      content = m.content;
-      row = λ gap_law. row_parts limit gap column indent.1 x.0 x.1 tests.0 (not-true _ tests.1) m (rw m.gap_is (subst (λ (s : List ℕ). IsGap gap s) behind gap_law));
-    }
+    search (rules, cut_takes, spaces_are, row_parts, not-true)
 
 -- what follows a row is shorter
 pub suffix_le : (a b : List ℕ) → length b ≤ length (a ++ b)
 suffix_le a b = omega (arith, length-append a b)
 
 anchor_le : (anchor : Option Anchor) (t : List ℕ) → length t ≤ length (anchor_text anchor t)
-anchor_le None t = omega arith
-anchor_le (Some a) t = omega (arith, suffix_le a.name (a.gap ++ t), suffix_le a.gap t)
+anchor_le anchor t = search (rules, suffix_le)
 
 inline_longer : (n : ℤ) (space : List ℕ) (node : _) (tail rest : List ℕ) → IsContent n (Inline space node tail) rest → length rest < length (content_text (Inline space node tail) rest)
 inline_longer n space node tail rest h =
@@ -100,15 +72,12 @@ content_le n c rest h1 = search (rules, suffix_le, inline_longer, anchor_le)
 alone_longer : (n : ℤ) (c : Content) (rest : List ℕ) → may_be_alone c ≡ true → IsContent n c rest → length rest < length (content_text c rest)
 alone_longer n c rest h1 h2 = search (rules, inline_longer)
 
-mark_longer : (mark : RowMark) (n : ℤ) (c : Content) (rest : List ℕ) → IsMark mark c rest → IsContent n c rest → length rest < length (mark_text mark (content_text c rest))
-mark_longer mark n c rest h1 h2 = search (rules, alone_longer, content_le, length-append, suffix_le)
-
 dashes_le : (ns t : List ℕ) → length t ≤ length (dashes_text ns t)
 dashes_le [] t = omega arith
 dashes_le (n ∷ ns) t = let less = dashes_le ns t in omega (arith, suffix_le (replicate n 32) (dashes_text ns t))
 
 pub row_longer : (r : Row) (rest : List ℕ) → IsMark r.mark r.content rest → IsContent (parent_indent r) r.content rest → length rest < length (behind_gap r rest)
-row_longer r rest m h = search (rules, mark_longer, dashes_le, suffix_le)
+row_longer r rest m h = search (rules, alone_longer, content_le, length-append, dashes_le, suffix_le)
 
 pub row_shorter : (limit : Limit) (gap t : List ℕ) (x : Row × List ℕ) → row_at limit gap t ≡ Some x → length x.1 < length t
 row_shorter limit gap t x h = let l = row_takes limit gap t x h in rw l.text (row_longer x.0 x.1 l.mark l.content)

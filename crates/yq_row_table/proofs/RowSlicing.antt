@@ -1,16 +1,14 @@
 -- Rows, as the code lends them.
-use Rattle.std.proofs.Common.{if◌then◌else◌, ◌≡◌, ℕ, ◌+◌, ◌<◌, ◌≤◌, Bool, true, false, cond, not, ◌&&◌, ◌||◌, eqb, List, [], ◌∷◌, ◌++◌}
-use Rattle.std.proofs.Common.{length, map, Option, Some, None, refl, sym, ap, ◌∙◌, subst, arith, append_assoc, append-nil, ℤ}
+use Rattle.std.proofs.Common.{rules, if◌then◌else◌, ◌≡◌, ℕ, ◌<◌, ◌≤◌, Bool, true, false, cond, not, ◌&&◌, ◌||◌, eqb, List, [], ◌∷◌, ◌++◌}
+use Rattle.std.proofs.Common.{length, Option, Some, None, sym, ap, ◌∙◌, subst, arith, append_assoc, append-nil, ℤ}
 use Rattle.std.{proofs.lemmas.Bool.false≢true, proofs.lemmas.List.take-append-drop, proofs.lemmas.Option.same_Some}
 use Rattle.yq_core.{specs.Answers.◌>>=◌, specs.Text.{cut, no_space, no_white, is_marker}, proofs.Bools.bind_some, specs.Nodes.begins_node}
-use Rattle.yq_row_table.specs.Grammar.{Limit, unlimited, allows, limit_after, limit_behind, is_entry, no_rows, ends_part}
+use Rattle.yq_row_table.specs.Grammar.{Limit, unlimited, allows, limit_behind, no_rows, ends_part}
 use Rattle.yq_row_table.specs.Slicing.{Begun, begun, borrowed_content, filled_at, holds_plain, limit_by, SlicedRow, sliced, row_of}
 use Rattle.yq_row_table.specs.Slicing.{marked_sliced, row_sliced, rows_sliced, inline_sliced, block_sliced}
-use Rattle.yq_row_table.specs.Reading.{Marks, read_marks, read_content, begins_block, read_tail, fits, marked_row_at, row_at, gap_len}
-use Rattle.yq_row_table.specs.Reading.{cut_gap, all_rows, read_cut_part}
-use Rattle.yq_row_table.specs.Rows.{Content, Nothing, Inline, Block, Row, behind_columns, parent_of, dashes_text, Part}
-use Rattle.yq_row_table.{specs.View.{Slices, slices, slices_text, last_dash, key_of_mark, colon_of}, proofs.BeginSteps.columns_from}
-use Rattle.yq_row_table.proofs.RowLaws.{row_takes, row_shorter}
+use Rattle.yq_row_table.specs.Reading.{Marks, read_marks, read_content, begins_block, read_tail, marked_row_at, row_at, gap_len, cut_gap}
+use Rattle.yq_row_table.{specs.Reading.{all_rows, read_cut_part}, specs.Rows.{Content, Nothing, Row, Part}}
+use Rattle.yq_row_table.{specs.View.{Slices, slices, slices_text}, proofs.BeginSteps.columns_from, proofs.RowLaws.{row_takes, row_shorter}}
 use Rattle.yq_row_table.proofs.RowsLaws.{behind_le, with_front, no_more, rows_from, rows_cut, rows_step, rows_refused, rows_done}
 use Rattle.yq_row_table.proofs.SliceLaws.{slices_are}
 
@@ -21,84 +19,34 @@ content_block n t s u e begins = rw (subst (λ (y : List ℕ × List ℕ). begin
 
 pub content_inline : (n : ℤ) (t s u : List ℕ) → (s, u) ≡ cut no_white t → begins_block u ≡ false → begins_node false u ≡ true → filled_at n t ≡ inline_sliced n s u
 unfolding read_content
-content_inline n t s u e block begins =
-    rw (subst (λ (y : List ℕ × List ℕ). begins_block y.1 ≡ false) e block, subst (λ (y : List ℕ × List ℕ). begins_node false y.1 ≡ true) e begins)
-    (ap (λ (y : List ℕ × List ℕ). inline_sliced n y.0 y.1) (sym e))
+content_inline n t s u e block begins = search rules
 
 pub content_nothing : (n : ℤ) (t s u : List ℕ) (read : Option (List ℕ × List ℕ)) → (s, u) ≡ cut no_white t → begins_block u ≡ false → begins_node false u ≡ false → read_tail t ≡ read → filled_at n t ≡ (read >>= λ x. Some (borrowed_content (Nothing x.0, x.1)))
 unfolding read_content
-content_nothing n t s u read e block begins h =
-    rw (subst (λ (y : List ℕ × List ℕ). begins_block y.1 ≡ false) e block, subst (λ (y : List ℕ × List ℕ). begins_node false y.1 ≡ false) e begins) (nothing (read_tail t) h)
-  where
-    nothing : (o : Option (List ℕ × List ℕ)) → o ≡ read → ((o >>= λ x. Some (Nothing x.0, x.1)) >>= λ x. Some (borrowed_content x)) ≡ (read >>= λ x. Some (borrowed_content (Nothing x.0, x.1)))
-    nothing (Some x) e = ap (λ (r : Option (List ℕ × List ℕ)). r >>= λ x. Some (borrowed_content (Nothing x.0, x.1))) e
-    nothing None e = ap (λ (r : Option (List ℕ × List ℕ)). r >>= λ x. Some (borrowed_content (Nothing x.0, x.1))) e
+content_nothing n t s u read e block begins h = search rules
 
 -- what a row asks of the next one
 limit_is : (n : ℤ) (c : Content) → limit_behind n c ≡ limit_by n (holds_plain c)
-limit_is n (Nothing tail) = refl
-limit_is n (Inline space node tail) = refl
-limit_is n (Block space anchor block) = refl
-
--- a row whose marks were read
-abbrev row_by : List ℕ → ℕ → Marks → Content × List ℕ → ℕ → SlicedRow
-row_by gap column m x k = let f = borrowed_content x in (
-  record {
-    gap = gap;
-    column = column;
-    dashes = dashes_text m.0 (last_dash m.1);
-    key = key_of_mark m.1;
-    colon = colon_of m.1;
-    space = f.space;
-    anchor = f.anchor;
-    apart = f.apart;
-    head = f.head;
-    tail = f.tail;
-    raw = f.raw;
-    parent = parent_of m.1 k;
-  },
-  limit_by (parent_of m.1 k) f.plain,
-  f.rest,
-)
+limit_is n c = search rules
 
 row_is : (gap : List ℕ) (column : ℕ) (m : Marks) (x : Content × List ℕ) → sliced (record { gap = gap; column = column; dashes = m.0; mark = m.1; content = x.0 }, x.1) ≡ row_of gap column (begun m) (borrowed_content x)
-row_is gap column m x =
-    let k = behind_columns column m.0 in
-    ap (λ (l : Limit). (slices (record { gap = gap; column = column; dashes = m.0; mark = m.1; content = x.0 }), l, x.1)) (limit_is (parent_of m.1 k) x.0)
-    ∙ ap (row_by gap column m x) (columns_from column m.0)
+row_is gap column m x = search (rules, limit_is, columns_from)
 
 pub marked_slicing : (gap : List ℕ) (column : ℕ) (m : Marks) → (marked_row_at gap column m >>= λ x. Some (sliced x)) ≡ marked_sliced gap column (begun m)
 unfolding marked_row_at
-marked_slicing gap column m =
-    ap (λ (k : ℕ). (read_content (parent_of m.1 k) m.2 >>= then_row) >>= λ x. Some (sliced x)) (columns_from column m.0) ∙ go (read_content (parent_of m.1 (column + behind_columns 0 m.0)) m.2)
-  where
-    then_row : Content × List ℕ → Option (Row × List ℕ)
-    then_row x = if fits m.1 x.0 then Some (record { gap = gap; column = column; dashes = m.0; mark = m.1; content = x.0 }, x.1) else None
-
-    kept : (b : Bool) (x : Content × List ℕ) → ((if b then Some (record { gap = gap; column = column; dashes = m.0; mark = m.1; content = x.0 }, x.1) else None) >>= λ y. Some (sliced y)) ≡ (if b then Some (row_of gap column (begun m) (borrowed_content x)) else None)
-    kept true x = ap Some (row_is gap column m x)
-    kept false x = refl
-
-    go : (o : Option (Content × List ℕ)) → ((o >>= then_row) >>= λ x. Some (sliced x)) ≡ ((o >>= λ x. Some (borrowed_content x)) >>= λ f. if is_entry m.1 || f.alone then Some (row_of gap column (begun m) f) else None)
-    go (Some x) = kept (fits m.1 x.0) x
-    go None = refl
+marked_slicing gap column m = search (rules, columns_from, row_is)
 
 row_slicing : (limit : Limit) (gap t indent rest : List ℕ) → (indent, rest) ≡ cut no_space t → (allows limit (length indent) && not (eqb (length indent) 0 && is_marker rest)) ≡ true → row_sliced limit gap t ≡ marked_sliced gap (length indent) (begun (read_marks rest))
 unfolding row_at
-row_slicing limit gap t indent rest e ok =
-    rw (subst (λ (y : List ℕ × List ℕ). (allows limit (length y.0) && not (eqb (length y.0) 0 && is_marker y.1)) ≡ true) e ok)
-    (ap (λ (y : List ℕ × List ℕ). marked_row_at gap (length y.0) (read_marks y.1) >>= λ x. Some (sliced x)) (sym e) ∙ marked_slicing gap (length indent) (read_marks rest))
+row_slicing limit gap t indent rest e ok = search (rules, marked_slicing)
 
 pub row_as : (limit : Limit) (gap t indent rest bytes : List ℕ) (stands : Bool) (b : Begun) (o : Option SlicedRow) → (indent, rest) ≡ cut no_space t → bytes ≡ rest → stands ≡ (allows limit (length indent) && not (eqb (length indent) 0 && is_marker bytes)) → stands ≡ true →
     b ≡ begun (read_marks rest) → marked_sliced gap (length indent) b ≡ o → row_sliced limit gap t ≡ o
-row_as limit gap t indent rest bytes stands b o e same may is marks read =
-    let ok = ap (λ (u : List ℕ). allows limit (length indent) && not (eqb (length indent) 0 && is_marker u)) (sym same) ∙ (sym may ∙ is) in
-    row_slicing limit gap t indent rest e ok ∙ (ap (marked_sliced gap (length indent)) (sym marks) ∙ read)
+row_as limit gap t indent rest bytes stands b o e same may is marks read = search (rules, row_slicing)
 
 -- rows after others
 sliced_front : (front : List Slices) (r : Row) (o : Option (Part × List ℕ)) → rows_sliced front (with_front (r ∷ []) o) ≡ rows_sliced (front ++ slices r ∷ []) o
-sliced_front front r (Some x) = ap (λ (l : List Slices). Some (l, x.0.end, x.1)) (sym (append_assoc front (slices r ∷ []) (map slices x.0.rows)))
-sliced_front front r None = refl
+sliced_front front r o = search (rules, append_assoc)
 
 -- A row that was read, among those of a part.
 pub record OneRow (front : List Slices) (limit : Limit) (gap t : List ℕ) (s : Slices) (l : Limit) (after : List ℕ) : Type 0 where
@@ -110,14 +58,10 @@ one_row front limit gap t s l after more h =
     let x = bind_some (row_at limit gap t) h in
     let is : sliced x.0 ≡ (s, l, after) = same_Some _ _ x.2 in
     let step = rows_step limit gap t x.0 more x.1 in
-    subst (λ (y : SlicedRow). OneRow front limit gap t y.0 y.1 y.2) is (record {
-      shorter = row_shorter limit gap t x.0 x.1;
-      step = ap (rows_sliced front) step ∙ sliced_front front x.0.0 _;
-    })
+    search (rules, row_shorter, sliced_front)
 
 pub not_read : (o : Option (Row × List ℕ)) → (o >>= λ x. Some (sliced x)) ≡ None → o ≡ None
-not_read None h = refl
-not_read (Some x) h = cc
+not_read o h = search rules
 
 pub no_row : (front : List Slices) (limit : Limit) (gap t : List ℕ) → ends_part t ≡ false → row_sliced limit gap t ≡ None → rows_sliced front (rows_from limit gap t) ≡ None
 no_row front limit gap t more h = ap (rows_sliced front) (rows_refused limit gap t more (not_read (row_at limit gap t) h))
@@ -131,8 +75,7 @@ row_spelled limit gap t s l after h =
     let x = bind_some (row_at limit gap t) h in
     let is : sliced x.0 ≡ (s, l, after) = same_Some _ _ x.2 in
     let cut = row_takes limit gap t x.0 x.1 in
-    subst (λ (y : SlicedRow). gap ++ t ≡ slices_text y.0 y.2) is
-    (ap (λ (g : List ℕ). g ++ t) (sym cut.gap_is) ∙ (ap (λ (l : List ℕ). x.0.0.gap ++ l) cut.text ∙ sym (slices_are x.0.0 x.0.1)))
+    search (rules, slices_are)
 
 -- the loop over the rows of a part
 pub at_gap : (front : List Slices) (limit : Limit) (t g r : List ℕ) → (g, r) ≡ cut_gap t → rows_sliced front (all_rows limit t) ≡ rows_sliced front (rows_from limit g r)
@@ -158,43 +101,29 @@ pub loop_step : (front items : List Slices) (limit next : Limit) (t g r : List �
     rows_sliced front (all_rows limit t) ≡ all → rows_sliced items (all_rows next after) ≡ all
 loop_step front items limit next t g r s after all e more h is so_far =
     let step = (one_row front limit g r s next after more h).step in
-    ap (λ (l : List Slices). rows_sliced l (all_rows next after)) is
-    ∙ (ap (rows_sliced (front ++ s ∷ [])) (rows_cut next after) ∙ (sym step ∙ (sym (at_gap front limit t g r e) ∙ so_far)))
+    search (rules, rows_cut, at_gap)
 
 -- a part where a document is open, or without rows
 guard_true : (o : Option (Part × List ℕ)) → (o >>= λ part. if true || no_rows part.0.rows then Some part else None) ≡ o
-guard_true (Some x) = refl
-guard_true None = refl
+guard_true o = search rules
 
 pub part_open : (t : List ℕ) → read_cut_part true t ≡ all_rows unlimited t
 unfolding read_cut_part
 part_open t = guard_true (all_rows unlimited t)
 
 or_none : (started : Bool) (gap : List ℕ × List ℕ) → cond (started || true) (no_more gap) None ≡ no_more gap
-or_none true gap = refl
-or_none false gap = refl
+or_none started gap = search rules
 
 pub part_empty : (started : Bool) (t : List ℕ) → ends_part (cut_gap t).1 ≡ true → read_cut_part started t ≡ all_rows unlimited t
 unfolding read_cut_part
-part_empty started t none =
-    let read = rows_cut unlimited t ∙ rows_done unlimited (cut_gap t).0 (cut_gap t).1 none in
-    rw read (or_none started (cut_gap t))
+part_empty started t h2 = search (rules, rows_cut, rows_done, or_none)
 
 pub part_same : (started : Bool) (t : List ℕ) → (started || ends_part (cut_gap t).1) ≡ true → read_cut_part started t ≡ all_rows unlimited t
-part_same true t h = part_open t
-part_same false t h = part_empty false t h
+part_same started t h = search (rules, part_open, part_empty)
 
 pub part_refused : (t : List ℕ) → ends_part (cut_gap t).1 ≡ false → read_cut_part false t ≡ None
 unfolding read_cut_part rows_from
-part_refused t some = rw (rows_cut unlimited t, some) (rows (row_at unlimited (cut_gap t).0 (cut_gap t).1)) where
-  more : (r : Row) (o : Option (Part × List ℕ)) → (with_front (r ∷ []) o >>= λ part. if false || no_rows part.0.rows then Some part else None) ≡ None
-  more r (Some x) = refl
-  more r None = refl
-
-  rows : (o : Option (Row × List ℕ)) → ((o >>= λ row. with_front (row.0 ∷ []) (all_rows (limit_after row.0) row.1)) >>= λ part. if false || no_rows part.0.rows then Some part else None) ≡ None
-  rows (Some row) = more row.0 (all_rows (limit_after row.0) row.1)
-  rows None = refl
+part_refused t some = search (rules, rows_cut, with_front)
 
 pub part_shut : (started : Bool) (t : List ℕ) → (started || ends_part (cut_gap t).1) ≡ false → read_cut_part started t ≡ None
-part_shut true t h = absurd (false≢true (sym h))
-part_shut false t h = part_refused t h
+part_shut started t h = search (rules, false≢true, part_refused)

@@ -1,6 +1,6 @@
 -- The rows of a part: steps of reading them.
-use Rattle.std.proofs.Common.{if◌then◌else◌, ◌≡◌, ℕ, zero, suc, ◌<◌, ◌≤◌, true, false, cond, List, [], ◌∷◌, length, Option, Some, None}
-use Rattle.std.proofs.Common.{refl, ap, arith, length-drop}
+use Rattle.std.proofs.Common.{if◌then◌else◌, ◌≡◌, ℕ, suc, ◌<◌, ◌≤◌, true, false, cond, List, [], ◌∷◌, length, Option, Some, None, refl, ap}
+use Rattle.std.proofs.Common.{arith, length-drop}
 use Rattle.yq_core.{specs.Answers.◌>>=◌, proofs.Binds.bind_same}
 use Rattle.yq_row_table.specs.Grammar.{Limit, limit_after, ends_part}
 use Rattle.yq_row_table.{specs.Reading.{gap_len, cut_gap, row_at, with_rows, rows_at, all_rows}, specs.Rows.{Row, Part}}
@@ -23,14 +23,13 @@ no_more gap = Some (record { rows = []; end = gap.0 }, gap.1)
 -- how many rows are allowed makes no difference
 rows_fuel : (n m : ℕ) (limit : Limit) (t : List ℕ) → length t < n → length t < m → rows_at n limit t ≡ rows_at m limit t
 unfolding rows_at
-rows_fuel zero m limit t a b = absurd (omega arith)
-rows_fuel (suc n) zero limit t a b = absurd (omega arith)
 rows_fuel (suc n) (suc m) limit t a b =
     ap (λ o. cond (ends_part (cut_gap t).1) (no_more (cut_gap t)) o)
     (bind_same (then_rows n) (then_rows m) (row_at limit (cut_gap t).0 (cut_gap t).1) (λ x e.
     let short = row_shorter limit (cut_gap t).0 (cut_gap t).1 x e in
     let less = behind_le t in
     ap (with_front (x.0 ∷ [])) (rows_fuel n m (limit_after x.0) x.1 (omega arith) (omega arith))))
+rows_fuel _ _ limit t a b = absurd (omega arith)
 
 -- the rows of a text whose first gap is cut
 unfoldable pub rows_from : Limit → List ℕ → List ℕ → Option (Part × List ℕ)

@@ -1,13 +1,12 @@
 -- The rows of a part, read and spelled.
-use Rattle.std.proofs.Common.{◌≡◌, ℕ, zero, suc, ◌<◌, true, false, cond, List, [], ◌∷◌, ◌++◌, length, Option, Some, refl, sym, ⊎_elim, ap}
-use Rattle.std.{proofs.Common.{◌∙◌, subst, arith, rules}, proofs.lemmas.Bool.false≢true, proofs.lemmas.List.take-append-drop}
-use Rattle.std.proofs.lemmas.Option.{same_Some}
-use Rattle.yq_core.{specs.Answers.◌>>=◌, specs.Text.is_marker, proofs.Bools.{at_byte, bind_some, chosen}}
-use Rattle.yq_row_table.{specs.Gap.IsGap, specs.Grammar.{IsRow, Limit, limit_after, AreRows, ends_part}}
+use Rattle.std.proofs.Common.{◌≡◌, ℕ, zero, suc, ◌<◌, true, false, List, [], ◌∷◌, ◌++◌, length, Some, refl, sym, ⊎_elim, subst, arith}
+use Rattle.std.{proofs.Common.rules, proofs.lemmas.Bool.false≢true, proofs.lemmas.List.take-append-drop, proofs.lemmas.Option.same_Some}
+use Rattle.yq_core.{specs.Text.is_marker, proofs.Bools.{at_byte, bind_some, chosen}}
+use Rattle.yq_row_table.{specs.Gap.IsGap, specs.Grammar.{Limit, limit_after, AreRows, ends_part}}
 use Rattle.yq_row_table.specs.Reading.{gap_len, cut_gap, begins_gap, row_at, rows_at}
 use Rattle.yq_row_table.{specs.Rows.{Row, Part, part_text, behind_gap, print_row, rows_text}, proofs.Fronts.{Starts, starts_by}}
 use Rattle.yq_row_table.{proofs.GapLaws.{gap_takes, gap_again}, proofs.RowAgain.{no_gap_line, row_no_gap, row_no_end, row_again}}
-use Rattle.yq_row_table.{proofs.RowLaws.{row_takes, row_longer, suffix_le}, proofs.RowsLaws.{then_rows, no_more}}
+use Rattle.yq_row_table.{proofs.RowLaws.{row_takes, row_longer, suffix_le}, proofs.RowsLaws.no_more}
 
 -- what a marker begins with
 pub marker_starts : (t : List ℕ) → is_marker t ≡ true → Starts t
@@ -33,13 +32,7 @@ pub record RowsCut (limit : Limit) (t : List ℕ) (x : Part × List ℕ) : Type 
 one_more : (limit : Limit) (t : List ℕ) (row : Row × List ℕ) (x : Part × List ℕ) → row_at limit (cut_gap t).0 (cut_gap t).1 ≡ Some row → RowsCut (limit_after row.0) row.1 x → RowsCut limit t (record { rows = row.0 ∷ x.0.rows; end = x.0.end }, x.1)
 one_more limit t row x e more =
     let one = row_takes limit (cut_gap t).0 (cut_gap t).1 row e in
-    let law : IsRow limit row.0 row.1 = one.row (gap_law t) in
-    let text : t ≡ print_row row.0 row.1 = rw (one.gap_is, ← one.text) (sym (gap_join t)) in
-    record {
-      text = text ∙ ap (print_row row.0) more.text;
-      rows = (subst (λ (s : List ℕ). IsRow limit row.0 s) more.text law, more.rows);
-      ends = more.ends;
-    }
+    search (rules, gap_law, gap_join)
 
 pub rows_takes : (n : ℕ) (limit : Limit) (t : List ℕ) (x : Part × List ℕ) → rows_at n limit t ≡ Some x → RowsCut limit t x
 unfolding rows_at
@@ -53,10 +46,6 @@ rows_takes (suc n) limit t x h = ⊎_elim {0, 0, 0}
     subst (RowsCut limit t) (same_Some _ _ rest.2) (one_more limit t row.0 rest.0 row.1 (rows_takes n (limit_after row.0.0) row.0.1 rest.0 rest.1)))
     (chosen (ends_part (cut_gap t).1) h)
 
--- and read again
-abbrev rows_by : ℕ → Limit → List ℕ × List ℕ → Option (Part × List ℕ)
-rows_by n limit g = cond (ends_part g.1) (no_more g) (row_at limit g.0 g.1 >>= then_rows n)
-
 pub rows_again : (rs : List Row) (limit : Limit) (end rest : List ℕ) (n : ℕ) → AreRows limit rs end rest → ends_part rest ≡ true → length (rows_text rs (end ++ rest)) < n → rows_at n limit (rows_text rs (end ++ rest)) ≡ Some (record { rows = rs; end = end }, rest)
 unfolding rows_at
 rows_again rs limit end rest zero h ends short = absurd (omega arith)
@@ -66,5 +55,4 @@ rows_again (r ∷ rs) limit end rest (suc n) h ends short =
     let gap : cut_gap (print_row r t) ≡ (r.gap, behind_gap r t) = gap_again r.gap (behind_gap r t) (h.0.gap, row_no_gap limit r t h.0) in
     let longer = row_longer r t h.0.mark h.0.content in
     let less = suffix_le r.gap (behind_gap r t) in
-    ap (rows_by n limit) gap
-    ∙ rw (row_no_end limit r t h.0, row_again limit r t h.0, rows_again rs (limit_after r) end rest n h.1 ends (omega arith)) refl
+    search (rules, row_no_end, row_again, rows_again rs (limit_after r) end rest n h.1 ends (omega arith))

@@ -1,5 +1,5 @@
 -- A scalar without an anchor after a mark, as the code lends it.
-use Rattle.std.proofs.Common.{◌≡◌, ℕ, Bool, true, false, not, ◌&&◌, ◌||◌, eqb, List, [], ◌∷◌, Option, Some, None, refl, sym, ℤ}
+use Rattle.std.proofs.Common.{rules, ◌≡◌, ℕ, Bool, true, false, not, ◌&&◌, ◌||◌, eqb, List, [], Option, Some, None, refl, ℤ}
 use Rattle.std.{proofs.lemmas.Bool.{false≢true, or_from}, proofs.lemmas.List.append-nil}
 use Rattle.yq_core.{specs.Answers.◌>>=◌, specs.Piece.deeper, specs.Text.is_empty, specs.Inline.depth_limit}
 use Rattle.yq_core.{specs.Nodes.{scalar, node_text, begins_node}, specs.Reading.{read_scalar, read_core, read_node, all_node}}
@@ -8,14 +8,7 @@ use Rattle.yq_row_table.{specs.Slicing.{begins_other, inline_sliced}, specs.Read
 
 -- what begins here, by its first byte
 pub other_node : (t : List ℕ) → begins_other t ≡ true → begins_node false t ≡ true
-other_node [] h = absurd (false≢true h)
-other_node (b ∷ bs) h = go (eqb b 38) (eqb b 42) (eqb b 91) (eqb b 123) (begins_scalar false (b ∷ bs)) h where
-  go : (a x s m c : Bool) → (a || x || s || m) ≡ true → (a || (x || (s || (m || c)))) ≡ true
-  go true x s m c h = refl
-  go false true s m c h = refl
-  go false false true m c h = refl
-  go false false false true c h = refl
-  go false false false false c h = absurd (false≢true h)
+other_node t h = search (rules, false≢true)
 
 -- none of the bytes before other nodes than scalars is in front
 pub record Others (b : ℕ) : Type 0 where
@@ -25,22 +18,14 @@ pub record Others (b : ℕ) : Type 0 where
   pub mapping : eqb b 123 ≡ false
 
 no_others : (b : ℕ) → (eqb b 38 || eqb b 42 || eqb b 91 || eqb b 123) ≡ false → Others b
-no_others b h = let x = go (eqb b 38) (eqb b 42) (eqb b 91) (eqb b 123) h in record { anchor = x.0; alias = x.1; sequence = x.2; mapping = x.3 } where
-  go : (a x s m : Bool) → (a || x || s || m) ≡ false → (a ≡ false) × (x ≡ false) × (s ≡ false) × (m ≡ false)
-  go true x s m h = absurd (false≢true (sym h))
-  go false true s m h = absurd (false≢true (sym h))
-  go false false true m h = absurd (false≢true (sym h))
-  go false false false true h = absurd (false≢true (sym h))
-  go false false false false h = (refl, refl, refl, refl)
+no_others b h = search (rules, false≢true)
 
 pub no_node : (t : List ℕ) → begins_other t ≡ false → begins_scalar false t ≡ false → begins_node false t ≡ false
-no_node [] h s = refl
-no_node (b ∷ bs) h s = let o = no_others b h in or_from _ _ o.anchor (or_from _ _ o.alias (or_from _ _ o.sequence (or_from _ _ o.mapping s)))
+no_node t h s = search (rules, no_others, or_from)
 
 node_scalar : (spaces : Option ℕ) (d : ℕ) (t : List ℕ) → begins_other t ≡ false → begins_scalar false t ≡ true → all_node false spaces d t ≡ (read_scalar false spaces t >>= λ x. Some (scalar x.0, x.1))
 unfolding read_node read_core
-node_scalar spaces d [] h s = absurd (false≢true s)
-node_scalar spaces d (b ∷ bs) h s = let o = no_others b h in rw s (rw (o.anchor, o.alias, o.sequence, o.mapping) refl)
+node_scalar spaces d t h s = search (rules, false≢true, no_others)
 
 pub scalar_none : (n : ℤ) (space t : List ℕ) → begins_other t ≡ false → begins_scalar false t ≡ true → read_scalar false (Some (deeper n)) t ≡ None → inline_sliced n space t ≡ None
 unfolding inline_content_at

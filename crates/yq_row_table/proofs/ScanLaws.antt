@@ -1,6 +1,6 @@
 -- A whole text, cut into its rows and markers and read again.
 use Rattle.std.proofs.Common.{◌≡◌, ℕ, zero, suc, ◌<◌, Bool, true, false, ◌&&◌, leb, List, [], ◌++◌, length, Option, Some, Result, Ok, Err}
-use Rattle.std.{proofs.Common.{IfOk, refl, sym, ⊎_elim, ap, ◌∙◌, subst, arith, rules}, proofs.lemmas.Bool.{leb-true, le-leb, and_parts}}
+use Rattle.std.{proofs.Common.{IfOk, refl, sym, ⊎_elim, ◌∙◌, subst, arith, rules}, proofs.lemmas.Bool.{leb-true, le-leb, and_parts}}
 use Rattle.std.proofs.lemmas.Option.{same_Some}
 use Rattle.yq_core.{specs.Answers.{◌>>=◌, Gives, ReadError}, specs.Characters.is_text, specs.Text.is_empty}
 use Rattle.yq_core.proofs.Bools.{bind_some, chosen, guard_then}
@@ -17,15 +17,12 @@ abbrev pub PartsCut : Bool → List ℕ → Cut → Type 0
 PartsCut started t c = (t ≡ cut_text c) × AreParts started c
 
 parts_last_cut : (started : Bool) (t : List ℕ) (part : Part × List ℕ) → PartCut started t part → is_empty part.1 ≡ true → PartsCut started t (last part.0)
-parts_last_cut started t part p none =
-    let end : part.1 ≡ [] = empty_is part.1 none in
-    (p.text ∙ ap (part_text part.0) end, subst (IsPart started part.0) end p.part)
+parts_last_cut started t part p h4 = search (rules, empty_is)
 
 parts_marked_cut : (started : Bool) (t : List ℕ) (part : Part × List ℕ) (marker : List ℕ × List ℕ) (c : Cut) → PartCut started t part → is_empty part.1 ≡ false → marker_at part.1 ≡ Some marker → PartsCut (begins_document marker.0) marker.1 c → PartsCut started t (marked part.0 marker.0 c)
 parts_marked_cut started t part marker c p some h more =
     let m = marker_takes part.1 marker (ends_marker part.1 p.ends some) h in
-    let behind : part.1 ≡ marker.0 ++ cut_text c = m.0 ∙ ap (λ l. marker.0 ++ l) more.0 in
-    (p.text ∙ ap (part_text part.0) behind, (subst (IsPart started part.0) behind p.part, subst (IsMarkerLine marker.0) more.0 m.1, more.1))
+    search rules
 
 pub parts_take : (n : ℕ) (started : Bool) (t : List ℕ) (c : Cut) → parts_at n started t ≡ Some c → PartsCut started t c
 unfolding parts_at

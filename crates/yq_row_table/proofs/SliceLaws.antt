@@ -1,17 +1,14 @@
 -- The pieces of a row, one after the other, are the row.
 use Rattle.std.proofs.Common.{◌≡◌, ℕ, ◌+◌, List, [], ◌∷◌, ◌++◌, length, refl, sym, ap, ◌∙◌, append_assoc, length-append, replicate, rules}
 use Rattle.std.proofs.lemmas.List.{length-replicate}
-use Rattle.yq_core.{specs.Nodes.{FlowNode, node_text}, proofs.NodesWrittenLaws.node_then}
+use Rattle.yq_core.{specs.Nodes.node_text, proofs.NodesWrittenLaws.node_then}
 use Rattle.yq_row_table.specs.Offsets.{row_length}
 use Rattle.yq_row_table.specs.Rows.{RowMark, Bare, Dash, Key, Content, dashes_text, mark_text, content_text, Row, print_row}
-use Rattle.yq_row_table.specs.View.{Slices, last_dash, key_of_mark, colon_of, anchor_cut, content_cut, slices, slices_text}
-
-anchor_slices : (node : FlowNode) (rest : List ℕ) → (anchor_cut node).0 ++ ((anchor_cut node).1 ++ ((anchor_cut node).2 ++ rest)) ≡ node_text node rest
-unfolding node_text
-anchor_slices node rest = search (rules, node_then)
+use Rattle.yq_row_table.specs.View.{Slices, last_dash, key_of_mark, colon_of, content_cut, slices, slices_text}
 
 pub content_slices : (c : Content) (rest : List ℕ) → (content_cut c).0 ++ ((content_cut c).1 ++ ((content_cut c).2 ++ ((content_cut c).3 ++ ((content_cut c).4 ++ ((content_cut c).5 ++ rest))))) ≡ content_text c rest
-content_slices c rest = search (rules, anchor_slices)
+unfolding node_text
+content_slices c rest = search (rules, node_then)
 
 mark_slices : (ns : List ℕ) (mark : RowMark) (t : List ℕ) → dashes_text ns (last_dash mark) ++ (key_of_mark mark ++ (colon_of mark ++ t)) ≡ dashes_text ns (mark_text mark t)
 mark_slices [] Bare t = refl

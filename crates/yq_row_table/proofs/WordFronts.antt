@@ -1,7 +1,7 @@
 -- What a letter, a digit or an LF in front tells.
-use Rattle.std.proofs.Common.{◌≡◌, ℕ, Bool, true, false, ◌||◌, ◌&&◌, not, eqb, eqb-true, Option, Some, List, [], ◌∷◌, take, drop, refl, sym}
-use Rattle.std.{proofs.Common.{ap, ◌∙◌, inl, inr}, proofs.lemmas.Bool.{false≢true, or_cases, and_right, cases_Bool}, specs.List.prefix_len}
-use Rattle.yq_core.{specs.Lines.is_hash, specs.Text.{upto, cut, front, line_len, is_empty, ends_line, past_white}}
+use Rattle.std.proofs.Common.{rules, ◌≡◌, ℕ, Bool, true, false, ◌||◌, eqb, Option, Some, List, [], ◌∷◌, take, drop, refl, sym, ap, ◌∙◌, inl}
+use Rattle.std.{proofs.Common.inr, proofs.lemmas.Bool.{false≢true, or_cases, and_right, cases_Bool}, specs.List.prefix_len}
+use Rattle.yq_core.{specs.Lines.is_hash, specs.Text.{upto, cut, front, line_len, ends_line, past_white}}
 use Rattle.yq_core.{specs.Plain.{begins_plain, ends_plain, plain_at}, proofs.Bools.at_byte, proofs.SpaceLaws.{prefix_drop, white_drop}}
 use Rattle.yq_core.{specs.Nodes.begins_with, specs.Reading.read_scalar, specs.Scalars.{is_quoted, begins_scalar}}
 use Rattle.yq_row_table.{specs.Slicing.begins_other, specs.Reading.{is_alphanumeric, begins_gap, begins_block, read_tail}}
@@ -10,37 +10,10 @@ isnt : (b k : ℕ) → is_alphanumeric b ≡ true → is_alphanumeric k ≡ fals
 isnt b k h there = at_byte is_alphanumeric b k h there
 
 pub word_unquoted : (t : List ℕ) → front is_alphanumeric t ≡ true → is_quoted t ≡ false
-word_unquoted [] h = refl
-word_unquoted (b ∷ bs) h = rw (isnt b 34 h refl, isnt b 39 h refl) refl
+word_unquoted t h = search (rules, isnt)
 
 pub word_plain : (t : List ℕ) → front is_alphanumeric t ≡ true → begins_plain false t ≡ true
-word_plain [] h = absurd (false≢true h)
-word_plain (b ∷ bs) h =
-    rw (
-      isnt b 32 h refl,
-      isnt b 9 h refl,
-      isnt b 10 h refl,
-      isnt b 13 h refl,
-      isnt b 45 h refl,
-      isnt b 63 h refl,
-      isnt b 58 h refl,
-      isnt b 44 h refl,
-      isnt b 91 h refl,
-      isnt b 93 h refl,
-      isnt b 123 h refl,
-      isnt b 125 h refl,
-      isnt b 35 h refl,
-      isnt b 38 h refl,
-      isnt b 42 h refl,
-      isnt b 33 h refl,
-      isnt b 124 h refl,
-      isnt b 62 h refl,
-      isnt b 39 h refl,
-      isnt b 34 h refl,
-      isnt b 37 h refl,
-      isnt b 64 h refl,
-      isnt b 96 h refl,
-    ) refl
+word_plain t h = search (rules, false≢true, isnt)
 
 pub word_scalar : (t : List ℕ) → front is_alphanumeric t ≡ true → begins_scalar false t ≡ true
 word_scalar t h = rw (word_unquoted t h) (word_plain t h)
@@ -50,29 +23,18 @@ unfolding read_scalar plain_at
 word_at spaces t h = rw (word_unquoted t h) (rw (word_plain t h) refl)
 
 pub word_other : (t : List ℕ) → front is_alphanumeric t ≡ true → begins_other t ≡ false
-word_other [] h = refl
-word_other (b ∷ bs) h = rw (isnt b 38 h refl, isnt b 42 h refl, isnt b 91 h refl, isnt b 123 h refl) refl
+word_other t h = search (rules, isnt)
 
 pub word_block : (t : List ℕ) → front is_alphanumeric t ≡ true → begins_block t ≡ false
-word_block [] h = absurd (false≢true h)
-word_block (b ∷ bs) h = rw (isnt b 38 h refl) (rw (isnt b 124 h refl, isnt b 62 h refl) refl)
-
-pub word_gap : (t : List ℕ) → front is_alphanumeric t ≡ true → begins_gap t ≡ false
-unfolding upto
-word_gap [] h = refl
-word_gap (b ∷ bs) h = rw (isnt b 32 h refl, isnt b 9 h refl) (rw (isnt b 10 h refl, isnt b 13 h refl, isnt b 35 h refl) refl)
-
-pub dash_gap : (t : List ℕ) → begins_with 45 t ≡ true → begins_gap t ≡ false
-unfolding upto
-dash_gap [] h = refl
-dash_gap (b ∷ bs) h = rw (eqb-true b 45 h) refl
+word_block t h = search (rules, false≢true, isnt)
 
 -- a letter, a digit or a dash is in front (own)
 abbrev pub row_front : List ℕ → Bool
 row_front t = front is_alphanumeric t || begins_with 45 t
 
 pub row_gap : (t : List ℕ) → row_front t ≡ true → begins_gap t ≡ false
-row_gap t h = elim (or_cases (front is_alphanumeric t) (begins_with 45 t) h) [ inl w ↦ word_gap t w | inr d ↦ dash_gap t d ]
+unfolding upto
+row_gap t h = elim (or_cases (front is_alphanumeric t) (begins_with 45 t) h) [ inl w ↦ (search (rules, isnt)) | inr d ↦ (search rules) ]
 
 -- past the spaces in front, and past the white space after them
 past_behind : (t : List ℕ) → past_white (drop (prefix_len (λ b. eqb b 32) t) t) ≡ past_white t
@@ -90,10 +52,8 @@ row_past [] h = absurd (false≢true h)
 row_past (b ∷ bs) h = row_gap (b ∷ bs) h
 
 pub indented_gap : (t u : List ℕ) (n : ℕ) → n ≡ prefix_len (λ b. eqb b 32) t → u ≡ drop n t → row_front u ≡ true → begins_gap t ≡ false
-indented_gap t u n e back h =
-    ap (λ w. not (is_empty t) && (ends_line w || is_hash w)) (behind_spaces t u n e back) ∙ and_right (not (is_empty t)) (ends_line (past_white u) || is_hash (past_white u)) (row_past u h)
+indented_gap t u n e back h = search (rules, behind_spaces, and_right, row_past)
 
 pub feed_tail : (t : List ℕ) → begins_with 10 t ≡ true → read_tail t ≡ Some (take 1 t, drop 1 t)
 unfolding read_tail upto line_len
-feed_tail [] h = absurd (false≢true h)
-feed_tail (b ∷ bs) h = rw (eqb-true b 10 h) refl
+feed_tail t h = search (rules, false≢true)

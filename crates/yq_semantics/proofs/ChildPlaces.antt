@@ -1,14 +1,13 @@
 -- From a place to a child, and to all of them.
-use Rattle.std.proofs.Common.{◌≡◌, ◌≢◌, ℕ, suc, ◌+◌, ◌<◌, ◌⊎◌, Bool, true, false, cond, List, [], ◌∷◌, ◌++◌, map, Option, Some, None}
-use Rattle.std.proofs.Common.{option_and_then, refl, sym, ap, subst, ◌∙◌, inl, inr, arith, append-nil}
-use Rattle.std.{proofs.lemmas.Bool.{cond-false, cond-true}, proofs.lemmas.Option.{none-some, same_Some}}
-use Rattle.yq_core.specs.Tree.{Node, alias, scalar, list, Children, none, child, children_of}
-use Rattle.yq_core.{specs.Paths.{To, Nth, key_is, is_item, is_here, further, child_at, node_at}, specs.PathOrder.Diverge}
+use Rattle.std.proofs.Common.{rules, ◌≡◌, ℕ, suc, ◌+◌, ◌<◌, ◌⊎◌, true, List, [], ◌∷◌, ◌++◌, map, Option, Some, None, option_and_then, refl}
+use Rattle.std.{proofs.Common.{sym, ap, subst, ◌∙◌, inl, inr, arith, append-nil}, proofs.lemmas.Bool.{cond-false, cond-true}}
+use Rattle.std.proofs.lemmas.Option.{none-some, same_Some}
+use Rattle.yq_core.specs.Tree.{Node, Children, none, child, children_of}
+use Rattle.yq_core.{specs.Paths.{To, Nth, key_is, is_item, further, child_at, node_at}, specs.PathOrder.Diverge}
 use Rattle.yq_core.specs.Shapes.{IsNew, AreItems, AreEntries, IsTree, AreTrees}
-use Rattle.yq_semantics.{specs.Program.{PathStep, key, index, each}, specs.Places.{step_by, FoundPlace, child_place, miss, stepped}}
+use Rattle.yq_semantics.{specs.Program.PathStep, specs.Places.{step_by, FoundPlace, child_place, miss, stepped}}
 use Rattle.yq_semantics.{specs.PlacesApart.{IsBeforeAll, AreApart, IsIn}, proofs.PathLaws.{bytes_refl, bytes_differ, before_in}}
 use Rattle.yq_semantics.proofs.GoodPlaces.{LieIn, AreSound, LeadsInto}
-use Rattle.yq_core.specs.Tree as tree
 use Rattle.yq_core.specs.Paths as paths
 
 -- no place
@@ -17,51 +16,29 @@ leads_none root p = record { inside = tt; apart = tt; sound = tt }
 
 -- the place itself, but for what is missing
 pub leads_self : (root : Node) (p q : FoundPlace) → q.path ≡ p.path → q.node ≡ p.node → IsTree p.node → IsIn root p → LeadsInto root p (q ∷ [])
-leads_self root p q same node tree at = record {
-  inside = ((([], same ∙ sym (append-nil p.path)), tt));
-  apart = (tt, tt);
-  sound = ((subst IsTree (sym node) tree, ap (λ (x : List paths.Step). node_at x root) same ∙ (at ∙ ap Some (sym node))), tt);
-}
+leads_self root p q same node tree at = search (rules, append-nil)
 
 pub leads_missing : (root : Node) (p : FoundPlace) (s : PathStep) → IsTree p.node → IsIn root p → LeadsInto root p (miss s p)
-leads_missing root p (key k) tree at = leads_self root p (record p { missing = p.missing ++ key k ∷ [] }) refl refl tree at
-leads_missing root p (index i) tree at = leads_self root p (record p { missing = p.missing ++ index i ∷ [] }) refl refl tree at
-leads_missing root p each tree at = leads_none root p
+leads_missing root p s tree at = search (rules, leads_self, leads_none)
 
 pub node_further : (p : List paths.Step) (s : paths.Step) (root n : Node) → node_at p root ≡ Some n → node_at (p ++ s ∷ []) root ≡ child_at s (children_of n)
-node_further [] s root n h = same_of (child_at s (children_of root)) ∙ ap (λ (m : Node). child_at s (children_of m)) (same_Some _ _ h)
-  where
-    same_of : (o : Option Node) → option_and_then (node_at []) o ≡ o
-    same_of None = refl
-    same_of (Some m) = refl
+node_further [] s root n h = search (rules, same_Some)
 node_further (t ∷ p) s root n h = go (child_at t (children_of root)) (λ m. node_further p s m n) h
   where
     go : (o : Option Node) → ((m : Node) → node_at p m ≡ Some n → node_at (p ++ s ∷ []) m ≡ child_at s (children_of n)) →
         option_and_then (node_at p) o ≡ Some n → option_and_then (node_at (p ++ s ∷ [])) o ≡ child_at s (children_of n)
-    go None ih e = absurd (none-some _ e)
-    go (Some m) ih e = ih m e
+    go o ih e = search (rules, none-some)
 
 pub child_tree : (s : paths.Step) (cs : Children) (n : Node) → AreTrees cs → child_at s cs ≡ Some n → IsTree n
 child_tree s none n trees h = absurd (none-some _ h)
-child_tree s (child label m cs) n trees h = go (is_here s label) (child_tree (further s) cs n trees.1) h
-  where
-    go : (b : Bool) → (child_at (further s) cs ≡ Some n → IsTree n) → cond b (Some m) (child_at (further s) cs) ≡ Some n → IsTree n
-    go true rest e = subst IsTree (same_Some _ _ e) trees.0
-    go false rest e = rest e
+child_tree s (child label m cs) n trees h = search (rules, same_Some, child_tree (further s) cs n trees.1)
 
 pub children_tree : (n : Node) → IsTree n → AreTrees (children_of n)
-children_tree (alias name) tree = tt
-children_tree (scalar anchor kind text) tree = tt
-children_tree (list anchor cs) tree = tree.1
-children_tree (tree.map anchor cs) tree = tree.1
+children_tree n tree = search rules
 
 -- a child
 pub leads_child : (root : Node) (p : FoundPlace) (s : paths.Step) (n : Node) → IsTree p.node → IsIn root p → child_at s (children_of p.node) ≡ Some n → LeadsInto root p (child_place p (s, n) ∷ [])
-leads_child root p s n tree at is = record {
-  inside = (((s ∷ []), refl), tt);
-  apart = (tt, tt);
-  sound = ((child_tree s (children_of p.node) n (children_tree p.node tree) is, node_further p.path s root p.node at ∙ is), tt);
-}
+leads_child root p s n tree at is = search (rules, child_tree, children_tree, node_further)
 
 -- ---- all items or entries
 
@@ -71,11 +48,7 @@ EachIs Q (x ∷ xs) = Q x.0 x.1 × EachIs Q xs
 
 pub absent : (k : List ℕ) (cs : Children) → IsNew k cs → child_at (To k) cs ≡ None
 absent k none h = refl
-absent k (child label n cs) h = cond-false (key_is k label.key) _ _ (go label.key h.0) ∙ absent k cs h.1
-  where
-    go : (o : Option (List ℕ)) → o ≢ Some k → key_is k o ≡ false
-    go None d = refl
-    go (Some j) d = bytes_differ j k (λ e. d (ap Some e))
+absent k (child label n cs) h = search (rules, cond-false, bytes_differ, absent k cs h.1)
 
 entries_at : (Q : paths.Step → Node → Type 0) (i : ℕ) (cs : Children) → AreEntries cs → ((k : List ℕ) (n : Node) → child_at (To k) cs ≡ Some n → Q (To k) n) → EachIs Q (stepped i cs)
 entries_at Q i none h q = tt
@@ -111,8 +84,7 @@ entry_before k i (child label n cs) new h =
 
 pub entries_apart : (i : ℕ) (cs : Children) → AreEntries cs → StepsApart (stepped i cs)
 entries_apart i none h = tt
-entries_apart i (child label n cs) h =
-    (subst (λ (o : Option (List ℕ)). StepsBefore (step_by i o) (stepped (suc i) cs)) (sym h.0.1) (entry_before h.0.0 (suc i) cs h.0.2 h.1), entries_apart (suc i) cs h.1)
+entries_apart i (child label n cs) h = search (rules, entry_before, entries_apart (suc i) cs h.1)
 
 item_before : (m i : ℕ) (cs : Children) → m < i → AreItems cs → StepsBefore (Nth m) (stepped i cs)
 item_before m i none lt h = tt
@@ -147,8 +119,7 @@ leads_children root p cs tree at is kind = record {
 }
   where
     apart : AreItems cs ⊎ AreEntries cs → StepsApart (stepped 0 cs)
-    apart (inl h) = items_apart 0 cs h
-    apart (inr h) = entries_apart 0 cs h
+    apart h = search (rules, items_apart, entries_apart)
 
     found : AreItems cs ⊎ AreEntries cs → EachIs (λ s n. child_at s (children_of p.node) ≡ Some n) (stepped 0 cs)
     found (inl h) = items_at (λ s n. child_at s (children_of p.node) ≡ Some n) 0 cs h (λ r n e. let same : 0 + r ≡ r = omega arith in ap (λ (j : ℕ). child_at (Nth j) (children_of p.node)) same ∙ (ap (child_at (Nth r)) is ∙ e))

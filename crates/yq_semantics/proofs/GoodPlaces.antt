@@ -1,9 +1,9 @@
 -- Places that are apart, and what leads from each of them.
-use Rattle.std.proofs.Common.{◌≡◌, List, [], ◌∷◌, ◌++◌, sym, subst}
-use Rattle.yq_core.{specs.Tree.Node, specs.PathOrder.Before, specs.Shapes.IsTree}
-use Rattle.yq_semantics.{specs.Judgement.{Judgement, and_then, gives}, specs.Places.{FoundPlace, for_each}}
-use Rattle.yq_semantics.{specs.PlacesApart.{IsBeforeAll, AreApart, IsIn}, proofs.JudgementLaws.{then_gives, gives_same}}
-use Rattle.yq_semantics.proofs.PathLaws.{before_right, before_left}
+use Rattle.std.proofs.Common.{rules, append-nil, ◌≡◌, List, [], ◌∷◌, ◌++◌, sym, subst}
+use Rattle.yq_core.{specs.Paths.Step, specs.Tree.Node, specs.PathOrder.Before, specs.Shapes.IsTree}
+use Rattle.yq_semantics.{proofs.PathLaws.{before_more, before_left}, specs.Judgement.{Judgement, and_then, gives}}
+use Rattle.yq_semantics.{specs.Places.{FoundPlace, for_each}, specs.PlacesApart.{IsBeforeAll, AreApart, IsIn}}
+use Rattle.yq_semantics.proofs.JudgementLaws.{then_gives, gives_same}
 use Rattle.yq_core.specs.Paths as paths
 
 -- a place is at another one, or lies in it
@@ -21,7 +21,8 @@ AreSound root (p ∷ ps) = (IsTree p.node × IsIn root p) × AreSound root ps
 
 pub before_lying : (x p : List paths.Step) (qs : List FoundPlace) → Before x p → LieIn p qs → IsBeforeAll x qs
 before_lying x p [] h l = tt
-before_lying x p (q ∷ qs) h l = (subst (Before x) (sym l.0.1) (before_right x p l.0.0 h), before_lying x p qs h l.1)
+before_lying x p (q ∷ qs) h l =
+    (subst (Before x) (sym l.0.1) (subst (λ (r : List Step). Before r (p ++ l.0.0)) (append-nil x) (before_more x p [] l.0.0 h)), before_lying x p qs h l.1)
 
 pub before_join : (x : List paths.Step) (ps qs : List FoundPlace) → IsBeforeAll x ps → IsBeforeAll x qs → IsBeforeAll x (ps ++ qs)
 before_join x [] qs h k = k
@@ -38,8 +39,7 @@ lying_before x p (q ∷ qs) r e h = (subst (λ (y : List paths.Step). Before y q
 
 apart_join : (p : List paths.Step) (ps qs : List FoundPlace) → LieIn p ps → IsBeforeAll p qs → AreApart ps → AreApart qs → AreApart (ps ++ qs)
 apart_join p [] qs l b h k = k
-apart_join p (x ∷ xs) qs l b h k =
-    (before_join x.path xs qs h.0 (lying_before x.path p qs l.0.0 l.0.1 b), apart_join p xs qs l.1 b h.1 k)
+apart_join p (x ∷ xs) qs l b h k = search (rules, before_join, lying_before, apart_join p xs qs l.1 b h.1 k)
 
 -- places into which something leads from one place
 pub record LeadsInto (root : Node) (p : FoundPlace) (qs : List FoundPlace) : Type 0 where
@@ -61,8 +61,7 @@ each_before root f so x [] qs b s h = subst (IsBeforeAll x) (gives_same h) tt
 each_before root f so x (p ∷ ps) qs b s h =
     let one = then_gives (λ first. and_then (λ others. gives (first ++ others)) (for_each f ps)) (f p) qs h in
     let two = then_gives (λ (others : List FoundPlace). gives (one.0 ++ others)) (for_each f ps) qs one.2 in
-    subst (IsBeforeAll x) (gives_same two.2)
-    (before_join x one.0 two.0 (before_lying x p.path one.0 b.0 (so p one.0 s.0.0 s.0.1 one.1).inside) (each_before root f so x ps two.0 b.1 s.1 two.1))
+    search (rules, gives_same, before_join, before_lying, each_before root f so x ps two.0 b.1 s.1 two.1)
 
 pub each_good : (root : Node) (f : FoundPlace → Judgement (List FoundPlace)) → LeadsSo root f → (ps qs : List FoundPlace) → AreGood root ps → for_each f ps ≡ gives qs → AreGood root qs
 each_good root f so [] qs good h = subst (AreGood root) (gives_same h) good
@@ -72,5 +71,4 @@ each_good root f so (p ∷ ps) qs good h =
     let led = so p one.0 good.sound.0.0 good.sound.0.1 one.1 in
     let rest : AreGood root two.0 = each_good root f so ps two.0 (record { apart = good.apart.1; sound = good.sound.1 }) two.1 in
     let first : AreApart (one.0 ++ two.0) = apart_join p.path one.0 two.0 led.inside (each_before root f so p.path ps two.0 good.apart.0 good.sound.1 two.1) led.apart rest.apart in
-    let second : AreSound root (one.0 ++ two.0) = sound_join root one.0 two.0 led.sound rest.sound in
-    subst (AreGood root) (gives_same two.2) (record { apart = first; sound = second })
+    search (rules, sound_join, gives_same)

@@ -1,13 +1,12 @@
 -- Literals are trees without anchors and aliases, which nest so far and no further.
-use Rattle.std.proofs.Common.{◌≡◌, ◌≢◌, ℕ, zero, suc, ◌≤◌, List, [], ◌∷◌, ◌++◌, map, None, refl, subst, sym, inl, inr, arith, rules}
+use Rattle.std.proofs.Common.{◌≡◌, ◌≢◌, ℕ, zero, suc, ◌≤◌, List, [], ◌∷◌, map, None, refl, subst, sym, inl, inr, arith, rules}
 use Rattle.std.{proofs.lemmas.Option.same_Some, specs.List.All, specs.Prelude.{⊤, codes}}
 use Rattle.yq_core.{specs.Keys.{AreDistinct, depth, deepest}, specs.Shapes.{IsNew, AreItems, AreEntries, IsTree, AreTrees}}
-use Rattle.yq_core.{specs.Tree.{Label, Node, list, Children, none, child}, specs.Anchors.{names_of, names_in}}
-use Rattle.yq_core.specs.Values.{items, entries}
-use Rattle.yq_semantics.specs.Program.{Term, literal, found, Update, assign, delete, comment, Program, read, updates, IsValue, SumHolds}
-use Rattle.yq_semantics.{specs.Program.{UpdatesHold, LiteralsHold}, specs.Tokens.Token}
-use Rattle.yq_semantics.specs.Grammar.{Production, Are, Behind, AreParted, AreListed, IsField, IsScalarNode, IsLiteral, literal_depth}
-use Rattle.yq_semantics.specs.Grammar.{IsTerm, IsUpdate, IsProgram}
+use Rattle.yq_core.{specs.Tree.{Label, Node, list, Children, child}, specs.Anchors.{names_of, names_in}, specs.Values.{items, entries}}
+use Rattle.yq_semantics.specs.Program.{Term, literal, found, Update, assign, delete, comment, Program, IsValue, SumHolds, UpdatesHold}
+use Rattle.yq_semantics.{specs.Program.LiteralsHold, specs.Tokens.Token}
+use Rattle.yq_semantics.specs.Grammar.{Production, Are, Behind, AreParted, AreListed, IsField, IsLiteral, literal_depth, IsTerm, IsUpdate}
+use Rattle.yq_semantics.specs.Grammar.{IsProgram}
 use Rattle.yq_core.specs.Tree as tree
 
 -- a fact of each element
@@ -20,8 +19,7 @@ each_behind P s Is holds [] ts rest h = tt
 each_behind P s Is holds (x ∷ xs) ts rest h = (holds x h.1.0 h.0 h.1.2, each_behind P s Is holds xs h.0 rest h.2)
 
 each_parted : {A : Type 0} (P : A → Type 0) (s : List ℕ) (Is : Production A) → ((x : A) (ts rest : List Token) → Is x ts rest → P x) → (xs : List A) (ts rest : List Token) → AreParted s Is xs ts rest → Each P xs
-each_parted P s Is holds [] ts rest h = absurd h
-each_parted P s Is holds (x ∷ xs) ts rest h = (holds x ts h.0 h.1, each_behind P s Is holds xs h.0 rest h.2)
+each_parted P s Is holds xs ts rest h = search (rules, each_behind)
 
 each_listed : {A : Type 0} (P : A → Type 0) (opening closing : List ℕ) (Is : Production A) → ((x : A) (ts rest : List Token) → Is x ts rest → P x) → (xs : List A) (ts rest : List Token) → AreListed opening closing Is xs ts rest → Each P xs
 each_listed P opening closing Is holds [] ts rest h = tt
@@ -39,21 +37,15 @@ record AllNest (d : ℕ) (cs : Children) : Type 0 where
   unnamed : names_in cs ≡ []
   nested : deepest cs ≤ d
 
-none_nest : (d : ℕ) → AllNest d none
-none_nest d = record { trees = tt; unnamed = refl; nested = omega arith }
-
 child_nests : (d : ℕ) (label : Label) (n : Node) (cs : Children) → Nests d n → AllNest d cs → AllNest d (child label n cs)
-child_nests d label n cs h k =
-    let here = h.nested in
-    let others = k.nested in
-    record { trees = (h.tree, k.trees); unnamed = λ i. h.unnamed i ++ k.unnamed i; nested = omega arith }
+child_nests d label n cs h k = search rules
 
 items_nest : (d : ℕ) (ns : List Node) → Each (Nests d) ns → AllNest d (items ns)
-items_nest d [] h = none_nest d
+items_nest d [] h = record { trees = tt; unnamed = refl; nested = omega arith }
 items_nest d (n ∷ ns) h = child_nests d _ n (items ns) h.0 (items_nest d ns h.1)
 
 entries_nest : (d : ℕ) (es : List (List ℕ × Node)) → Each (λ e. Nests d e.1) es → AllNest d (entries es)
-entries_nest d [] h = none_nest d
+entries_nest d [] h = record { trees = tt; unnamed = refl; nested = omega arith }
 entries_nest d (e ∷ es) h = child_nests d _ e.1 (entries es) h.0 (entries_nest d es h.1)
 
 are_items : (ns : List Node) → AreItems (items ns)
@@ -70,9 +62,6 @@ are_entries [] h = tt
 are_entries (e ∷ es) h =
     ((e.0, refl, is_new e.0 es (λ j d within. h zero (suc j) d (omega arith) (omega arith))), are_entries es (λ i j d lt within. h (suc i) (suc j) d (omega arith) (omega arith)))
 
-scalar_nests : (d : ℕ) (n : Node) (ts rest : List Token) → IsScalarNode n ts rest → Nests d n
-scalar_nests d n ts rest h = subst (Nests d) (sym h.1) (record { tree = tt; unnamed = refl; nested = omega arith })
-
 list_nests : (d : ℕ) (cs : Children) → AreItems cs → AllNest d cs → Nests (suc d) (list None cs)
 list_nests d cs are h = let deep = h.nested in record { tree = (are, h.trees); unnamed = h.unnamed; nested = omega arith }
 
@@ -81,8 +70,8 @@ map_nests d cs are h = let deep = h.nested in record { tree = (are, h.trees); un
 
 nests : (d : ℕ) (n : Node) (ts rest : List Token) → IsLiteral d n ts rest → Nests d n
 unfolding IsLiteral
-nests zero n ts rest h = scalar_nests zero n ts rest h
-nests (suc d) n ts rest (inl h) = scalar_nests (suc d) n ts rest h
+nests zero n ts rest h = subst (Nests zero) (sym h.1) (record { tree = tt; unnamed = refl; nested = omega arith })
+nests (suc d) n ts rest (inl h) = subst (Nests (suc d)) (sym h.1) (record { tree = tt; unnamed = refl; nested = omega arith })
 nests (suc d) n ts rest (inr (inl h)) =
     let all = items_nest d h.0 (each_listed (Nests d) (codes "[") (codes "]") (IsLiteral d) (nests d) h.0 ts rest h.2) in subst (Nests (suc d)) (sym h.1) (list_nests d (items h.0) (are_items h.0) all)
 nests (suc d) n ts rest (inr (inr h)) =
@@ -96,8 +85,7 @@ TermHolds (found stages) = ⊤
 
 term_holds : (t : Term) (ts rest : List Token) → IsTerm t ts rest → TermHolds t
 unfolding literal_depth
-term_holds (literal n) ts rest h = let k = nests 64 n ts rest h in record { tree = k.tree; unnamed = k.unnamed; nested = k.nested }
-term_holds (found stages) ts rest h = tt
+term_holds t ts rest h = search (rules, nests)
 
 sum_holds : (terms : List Term) → Each TermHolds terms → SumHolds terms
 sum_holds [] h = tt
@@ -120,5 +108,4 @@ updates_hold (delete stages ∷ us) h = updates_hold us h.1
 updates_hold (comment left place text ∷ us) h = updates_hold us h.1
 
 pub literals_hold : (p : Program) (ts : List Token) → IsProgram p ts → LiteralsHold p
-literals_hold (read stages) ts h = tt
-literals_hold (updates us) ts h = updates_hold us (each_parted UpdateHolds (codes "|") IsUpdate update_holds us ts [] h)
+literals_hold p ts h = search (rules, updates_hold, each_parted, update_holds)

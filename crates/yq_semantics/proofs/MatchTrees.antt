@@ -1,14 +1,14 @@
 -- Matches of documents that are ready: trees with no more collections nested than in these.
-use Rattle.std.proofs.Common.{◌≡◌, ◌≤◌, ℕ, suc, Bool, true, false, cond, List, [], ◌∷◌, ◌++◌, max, Option, Some, None, option_and_then}
-use Rattle.std.{proofs.Common.{Result, Ok, Err, IfOk, slice_get, refl, subst, arith, rules}, proofs.lemmas.Option.{none-some, same_Some}}
-use Rattle.yq_core.{specs.Keys.{depth, deepest}, specs.Paths.{is_here, further, child_at, node_at}, specs.Shapes.IsTree}
+use Rattle.std.proofs.Common.{◌≡◌, ◌≤◌, ℕ, suc, List, [], ◌∷◌, ◌++◌, max, Option, Some, None, option_and_then, Result, IfOk, slice_get}
+use Rattle.std.{proofs.Common.{refl, subst, arith, rules}, proofs.lemmas.Option.{none-some, same_Some}}
+use Rattle.yq_core.{specs.Keys.{depth, deepest}, specs.Paths.{further, child_at, node_at}}
 use Rattle.yq_core.{specs.Tree.{Node, alias, scalar, list, Children, none, child, children_of}, specs.Values.{items, entries}}
 use Rattle.yq_documents.specs.Documents.{Document}
 use Rattle.yq_semantics.specs.Copies.{and_others, keyed, copy, item_copies, entry_copies, match_at, matches_in, matches_from, matches}
 use Rattle.yq_semantics.{specs.Judgement.{Judges, gives, ExprError}, specs.MatchTrees.{IsMatch, AreMatches}, specs.Pipes.places}
-use Rattle.yq_semantics.{specs.Places.{FoundPlace, for_each}, specs.PlacesApart.IsIn, specs.Program.{Stage, PathStep}}
-use Rattle.yq_semantics.{proofs.JudgementLaws.{then_gives, gives_same}, proofs.GoodPlaces.AreSound, proofs.updates.PipePlaces.places_apart}
-use Rattle.yq_semantics.{proofs.updates.Pure.copy_pure, proofs.updates.Each.joined_gives}
+use Rattle.yq_semantics.{specs.Places.{FoundPlace, for_each}, specs.Program.Stage, proofs.JudgementLaws.{then_gives, gives_same}}
+use Rattle.yq_semantics.{proofs.GoodPlaces.AreSound, proofs.updates.PipePlaces.places_apart, proofs.updates.Pure.copy_pure}
+use Rattle.yq_semantics.proofs.updates.Each.{joined_gives}
 use Rattle.yq_core.specs.Paths as paths
 use Rattle.yq_core.specs.Tree as tree
 
@@ -19,10 +19,7 @@ children_depth n = search rules
 
 child_depth : (s : paths.Step) (cs : Children) (n : Node) → child_at s cs ≡ Some n → depth n ≤ deepest cs
 child_depth s none n h = absurd (none-some _ h)
-child_depth s (child label m cs) n h = go (is_here s label) (child_depth (further s) cs n) h where
-  go : (b : Bool) → (child_at (further s) cs ≡ Some n → depth n ≤ deepest cs) → cond b (Some m) (child_at (further s) cs) ≡ Some n → depth n ≤ max (depth m) (deepest cs)
-  go true rest e = subst (λ (x : Node). depth x ≤ max (depth m) (deepest cs)) (same_Some _ _ e) (omega arith)
-  go false rest e = omega (arith, rest e)
+child_depth s (child label m cs) n h = search (rules, same_Some, child_depth (further s) cs n)
 
 node_depth : (p : List paths.Step) (root n : Node) → node_at p root ≡ Some n → depth n ≤ depth root
 node_depth [] root n h = subst (λ (x : Node). depth x ≤ depth root) (same_Some _ _ h) (omega arith)
@@ -75,14 +72,11 @@ join : (ms ns : List (ℕ × Node)) → AreMatches ms → AreMatches ns → AreM
 join [] ns h k = k
 join (m ∷ ms) ns h k = (h.0, join ms ns h.1 k)
 
-place_matches : (doc : ℕ) (root : Node) (p : FoundPlace) (ms : List (ℕ × Node)) → IsMatch root → IsTree p.node → IsIn root p → match_at doc p ≡ gives ms → AreMatches ms
-place_matches doc root p ms is tree at h = search (rules, then_gives, gives_same, copy_matches, node_depth)
-
 each_matches : (doc : ℕ) (root : Node) (ps : List FoundPlace) (ms : List (ℕ × Node)) → IsMatch root → AreSound root ps → for_each (match_at doc) ps ≡ gives ms → AreMatches ms
 each_matches doc root [] ms is sound h = subst AreMatches (gives_same h) tt
 each_matches doc root (p ∷ ps) ms is sound h =
     let w = joined_gives (match_at doc p) (for_each (match_at doc) ps) ms h in
-    subst AreMatches w.4 (join w.0 w.1 (place_matches doc root p w.0 is sound.0.0 sound.0.1 w.2) (each_matches doc root ps w.1 is sound.1 w.3))
+    subst AreMatches w.4 (join w.0 w.1 (search (rules, then_gives, gives_same, copy_matches, node_depth)) (each_matches doc root ps w.1 is sound.1 w.3))
 
 document_matches : (doc : ℕ) (pipe : List Stage) (root : Node) (ms : List (ℕ × Node)) → IsMatch root → matches_in doc pipe root ≡ gives ms → AreMatches ms
 document_matches doc pipe root ms is h =
@@ -104,5 +98,4 @@ from_matches doc pipe (d ∷ ds) ms ready h =
 -- the answer to a read
 pub answer_matches : {X : Type 0} (view : X → List (ℕ × Node)) (r : Result X ExprError) (pipe : List Stage) (docs : List Document) → MayMatch docs → Judges view r (matches pipe docs) → IfOk r (λ v. AreMatches (view v))
 unfolding matches
-answer_matches view (Ok v) pipe docs ready h = from_matches 0 pipe docs (view v) ready h
-answer_matches view (Err e) pipe docs ready h = tt
+answer_matches view r pipe docs ready h = search (rules, from_matches)

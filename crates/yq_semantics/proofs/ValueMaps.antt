@@ -1,5 +1,5 @@
 -- A mapping of values, as a node.
-use Rattle.std.{proofs.Common.{◌≡◌, ℕ, List, [], ◌∷◌, refl, ap, ◌∙◌, rules, map, ◌-◌, None}, specs.Prelude.{string_bytes, String, Vec}}
+use Rattle.std.{proofs.Common.{◌≡◌, ℕ, List, [], ◌∷◌, refl, ap, ◌∙◌, rules, map, None}, specs.Prelude.{string_bytes, String, Vec}}
 use Rattle.std.specs.declared.alloc.Global.{Global}
 use Rattle.yq_core.{specs.Tree.Node, specs.declared.value.Value.{Value, Map as MapValue, the_lemmas}}
 use Rattle.yq_core.specs.Values.{value_node, field_of, entries}

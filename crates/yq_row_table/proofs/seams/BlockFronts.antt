@@ -1,23 +1,19 @@
 -- A gap that comes after a block scalar in the place of another one, repaired.
-use Rattle.std.proofs.Common.{◌≡◌, ◌⊎◌, ℕ, ◌<◌, true, false, List, [], ◌∷◌, ◌++◌, Option, Some, None, refl, sym, ap, ◌∙◌, subst, ⊎_elim}
-use Rattle.std.{proofs.Common.{append_assoc, rules}, proofs.lemmas.Bool.{cond_both, cases_Bool}}
+use Rattle.std.proofs.Common.{◌≡◌, ◌⊎◌, ℕ, ◌<◌, true, false, List, [], ◌∷◌, ◌++◌, Some, None, refl, sym, ap, ◌∙◌, subst, append_assoc}
+use Rattle.std.{proofs.Common.rules, proofs.lemmas.Bool.cases_Bool}
 use Rattle.yq_core.{specs.Block.{RawLines, BlockText, IsBlock, ends_block, keeps}, specs.BlockRepair.{AreGap, repair, is_behind}}
-use Rattle.yq_core.{specs.BlockWritten.ends_with_break, specs.Piece.deeper, specs.Text.{is_empty, text_lines, joined}}
-use Rattle.yq_core.{proofs.BlockRepairText.repair_stands, proofs.LineLaws.joined-append}
-use Rattle.yq_row_table.{specs.Gap.{IsGapLine, AreGapLines, IsGap}, specs.Grammar.{IsContent, Limit, limit_after, AreRows}}
+use Rattle.yq_core.{specs.BlockWritten.ends_with_break, specs.Text.{is_empty, text_lines, joined}, proofs.BlockRepairText.repair_stands}
+use Rattle.yq_core.proofs.LineLaws.{joined-append}
+use Rattle.yq_row_table.{specs.Gap.{AreGapLines, IsGap}, specs.Grammar.{IsContent, Limit, limit_after, AreRows}}
 use Rattle.yq_row_table.specs.Rows.{Content, Nothing, Inline, Block, Row, parent_indent, rows_text}
-use Rattle.yq_row_table.specs.Removal.{block_of, last_block, hold_comment, seam_gap}
-use Rattle.yq_row_table.specs.Seams.{is_seam, are_seamed, ends_in_block, is_block}
+use Rattle.yq_row_table.{specs.Removal.{block_of, last_block, seam_gap}, specs.Seams.{are_seamed, ends_in_block}}
 use Rattle.yq_row_table.proofs.seams.GapSeams.{gap_kinds, gap_lines_of, lines_before, gap_closed}
-use Rattle.yq_row_table.proofs.seams.GapFronts.{gap_joined, gap_lines, gap_repaired, ends_blank, ends_comment}
+use Rattle.yq_row_table.proofs.seams.GapFronts.{gap_lines, ends_blank, ends_comment}
 
 -- the lines in front of a gap
 lines_front : (ks run : RawLines) (x : List ℕ) → AreGapLines (ks ++ run) x → AreGapLines ks (joined run ++ x)
 lines_front [] run x h = tt
-lines_front (l ∷ ks) run x h = (
-  subst (IsGapLine l) (ap (λ t. t ++ x) (joined-append ks run) ∙ append_assoc (joined ks) (joined run) x) h.0,
-  lines_front ks run x h.1,
-)
+lines_front (l ∷ ks) run x h = search (rules, joined-append, append_assoc, lines_front ks run x h.1)
 
 pub gap_front : (gap x : List ℕ) (ks run : RawLines) → IsGap gap x → text_lines gap ≡ ks ++ run → AreGapLines ks (joined run ++ x)
 gap_front gap x ks run h is =
@@ -36,18 +32,7 @@ block_seam least column b ks x next rest h k some n less behind =
     let shut : (ends_with_break (text_lines next) ≡ true) ⊎ (rest ≡ []) = subst (λ (ls : RawLines). (ends_with_break ls ≡ true) ⊎ (rest ≡ [])) (sym lines) (gap_closed n.lines rest n.each) in
     let mended : List ℕ = joined (repair keep b.indent.columns column (text_lines next)) in
     let stands = repair_stands least column b (joined ks ++ x) next rest h kinds shut behind less in
-    let text : (g : List ℕ) → text_lines ((joined ks ++ g) ++ rest) ≡ ks ++ text_lines (g ++ rest) = λ g. ap text_lines (append_assoc (joined ks) g rest) ∙ lines_before ks x (g ++ rest) some k in
-    ⊎_elim {0, 0, 0}
-    (λ e.
-    let with_comment : hold_comment (text_lines (joined ks)) ≡ true = ap hold_comment own ∙ e in
-    rw with_comment (ap (ends_block keep b.indent) (text next) ∙ ends_comment keep b.indent ks (text_lines x) (text_lines (next ++ rest)) e was))
-    (λ e.
-    let without : hold_comment (text_lines (joined ks)) ≡ false = ap hold_comment own ∙ e in
-    rw without (ap (ends_block keep b.indent) (text mended) ∙ ends_blank keep b.indent ks (text_lines x) (text_lines (mended ++ rest)) e was stands.behind))
-    (cases_Bool (hold_comment ks))
-
-pub seam_gap_is : (o : Option BlockText) (column : ℕ) (ks : RawLines) (x next rest : List ℕ) → AreGapLines ks x → is_empty x ≡ false → IsGap next rest → IsGap (seam_gap o column (joined ks) next) rest
-seam_gap_is o column ks x next rest h1 h2 h3 = search (rules, gap_joined, gap_repaired, cond_both)
+    search (rules, append_assoc, lines_before, ends_comment, ends_blank, cases_Bool)
 
 -- the block scalar before it
 pub record LastBlock (front : List Row) (b : BlockText) (t : List ℕ) : Type 0 where
@@ -58,13 +43,7 @@ pub record LastBlock (front : List Row) (b : BlockText) (t : List ℕ) : Type 0 
 content_block : (c : Content) (b : BlockText) (r : Row) (t : List ℕ) → r.content ≡ c → block_of c ≡ Some b → IsContent (parent_indent r) c t → LastBlock (r ∷ []) b t
 content_block (Nothing tail) b r t is e h = absurd (cc)
 content_block (Inline space node tail) b r t is e h = absurd (cc)
-content_block (Block space anchor block) b r t is e h =
-    let same : block ≡ b = cc in
-    record {
-      least = deeper (parent_indent r);
-      block = subst (λ (x : BlockText). IsBlock (deeper (parent_indent r)) x t) same h.2;
-      seam = λ u k. ap (λ (x : Content). is_seam x u) is ∙ subst (λ (x : BlockText). ends_block (keeps x.chomping) x.indent (text_lines u) ≡ true) (sym same) k;
-    }
+content_block (Block space anchor block) b r t is e h = search rules
 
 pub last_is_block : (front rows : List Row) (limit : Limit) (end rest : List ℕ) (b : BlockText) → AreRows limit (front ++ rows) end rest → last_block front ≡ Some b → LastBlock front b (rows_text rows (end ++ rest))
 last_is_block [] rows limit end rest b h e = absurd (cc)
@@ -73,10 +52,7 @@ last_is_block (r ∷ (q ∷ front)) rows limit end rest b h e =
     let more = last_is_block (q ∷ front) rows (limit_after r) end rest b h.1 e in
     record { least = more.least; block = more.block; seam = more.seam }
 
-pub content_none : (c : Content) → block_of c ≡ None → is_block c ≡ false
-content_none c h1 = search rules
-
 pub last_none : (front : List Row) → last_block front ≡ None → ends_in_block front ≡ false
 last_none [] e = refl
-last_none (r ∷ []) e = content_none r.content e
+last_none (r ∷ []) e = search rules
 last_none (r ∷ (q ∷ front)) e = last_none (q ∷ front) e

@@ -10,18 +10,11 @@ use Rattle.yq_row_table.proofs.seams.GapSeams.{gap_lines_of, lines_before, repai
 -- gaps one after the other
 lines_joined : (ls ms : List (List ℕ)) (x y : List ℕ) → is_empty x ≡ false → AreGapLines ls x → AreGapLines ms y → AreGapLines (ls ++ ms) y
 lines_joined [] ms x y some h k = k
-lines_joined (l ∷ ls) ms x y some h k = (
-  record { white = h.0.white; comment = h.0.comment; line = line_end_other h.0.white h.0.comment l (joined ls ++ x) (joined (ls ++ ms) ++ y) (some_behind (joined ls) x some) h.0.line; some = h.0.some },
-  lines_joined ls ms x y some h.1 k,
-)
+lines_joined (l ∷ ls) ms x y some h k = search (rules, line_end_other, some_behind, lines_joined ls ms x y some h.1 k)
 
 -- A gap before a text that isn't empty, and a gap after it.
 pub gap_joined : (g h x y : List ℕ) → is_empty x ≡ false → IsGap g x → IsGap h y → IsGap (g ++ h) y
-gap_joined g h x y some a b = record {
-  lines = a.lines ++ b.lines;
-  spelled = ap (λ l. l ++ h) a.spelled ∙ (ap (λ l. joined a.lines ++ l) b.spelled ∙ sym (joined-append a.lines b.lines));
-  each = lines_joined a.lines b.lines x y some a.each b.each;
-}
+gap_joined g h x y some a b = search (rules, joined-append, lines_joined)
 
 pub gap_lines : (gap rest : List ℕ) (h : IsGap gap rest) → text_lines gap ≡ h.lines
 gap_lines gap rest h = ap text_lines h.spelled ∙ gap_lines_of h.lines rest h.each
@@ -31,10 +24,6 @@ lines_joined_of kept next x some h = ap (λ g. text_lines (g ++ next)) h.spelled
 
 pub gap_repaired : (keep : Bool) (m column : ℕ) (gap rest : List ℕ) → IsGap gap rest → IsGap (joined (repair keep m column (text_lines gap))) rest
 gap_repaired keep m column gap rest h = subst (λ (ls : RawLines). IsGap (joined (repair keep m column ls)) rest) (sym (gap_lines gap rest h)) (repaired_gap keep m column h.lines rest h.each)
-
--- what stays in front
-blank_not_less : (f : TextIndent) (l : List ℕ) → is_blank l ≡ true → is_less_indented f l ≡ true → ⊥
-blank_not_less f l b h = search (rules, and_parts, false≢true, char_not_blank, not-true)
 
 pub ends_blank : (keep : Bool) (f : TextIndent) (ls old new : RawLines) → hold_comment ls ≡ false → ends_block keep f (ls ++ old) ≡ true → ends_block keep f new ≡ true → ends_block keep f (ls ++ new) ≡ true
 unfolding ends_block
@@ -47,7 +36,7 @@ ends_blank keep f (l ∷ ls) old new c h k =
     let more = and_parts (not keep) (ends_block keep f (ls ++ old)) (rw e at h) in
     let again = ends_blank keep f ls old new parts.1 more.1 k in
     rw (more.0, again) (rw e refl))
-    (λ e. absurd (blank_not_less f l blank (rw e at h)))
+    (λ e. absurd (search (rules, and_parts, false≢true, char_not_blank, not-true)))
     (cases_Bool (is_empty_line f l))
 
 pub ends_comment : (keep : Bool) (f : TextIndent) (ls old new : RawLines) → hold_comment ls ≡ true → ends_block keep f (ls ++ old) ≡ true → ends_block keep f (ls ++ new) ≡ true

@@ -46,8 +46,7 @@ one_line b [] h = rw (or_parts (is_feed b) (is_return b && false) h.0).0 refl
 one_line b (c ∷ p) h = rw (or_parts (is_feed b) (is_return b && front is_feed (c ∷ (p ++ []))) h.0).0 (ap (put_byte b) (one_line c p h.1))
 
 some_line : (l : List ℕ) → is_empty l ≡ false → NoneIn ends_line l [] → text_lines (l ++ []) ≡ l ∷ []
-some_line [] some h = absurd (false≢true (sym some))
-some_line (b ∷ p) some h = ap text_lines (append-nil (b ∷ p)) ∙ one_line b p h
+some_line l some h = search (rules, false≢true, append-nil, one_line)
 
 pub gap_lines_of : (ls : RawLines) (rest : List ℕ) → AreGapLines ls rest → text_lines (joined ls) ≡ ls
 unfolding text_lines

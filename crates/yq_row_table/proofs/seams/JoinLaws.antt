@@ -1,6 +1,6 @@
 -- A row after the dashes of another one.
-use Rattle.std.proofs.Common.{◌≡◌, ℕ, zero, suc, ℤ, ◌+◌, ◌≤◌, true, false, List, [], ◌∷◌, ◌++◌, refl, sym, ap, ◌∙◌, subst, arith, replicate}
-use Rattle.std.{proofs.Common.Some, proofs.lemmas.Bool.false≢true}
+use Rattle.std.proofs.Common.{rules, ◌≡◌, ℕ, suc, ℤ, ◌+◌, ◌≤◌, true, false, List, [], ◌∷◌, ◌++◌, refl, sym, ap, ◌∙◌, subst, replicate, Some}
+use Rattle.std.proofs.lemmas.Bool.{false≢true}
 use Rattle.yq_core.{specs.Text.{is_empty, separates}, specs.Alike.{Alike, byte}}
 use Rattle.yq_row_table.specs.Grammar.{IsContent, IsMark, AreDashes, is_entry, IsRow, Limit, limit_after, limit_behind}
 use Rattle.yq_row_table.specs.Rows.{RowMark, dashes_text, behind_columns, mark_column, parent_of, Row, behind_dashes, behind_indent}
@@ -21,8 +21,7 @@ dashes_joined [] ms old new e h k = k
 dashes_joined (n ∷ ns) ms old new e h k = (h.0, e, dashes_joined ns ms old new e h.2 k)
 
 pub space_apart : (n : ℕ) (t : List ℕ) → 1 ≤ n → separates (replicate n 32 ++ t) ≡ true
-space_apart zero t h = absurd (omega (arith, h))
-space_apart (suc n) t h = refl
+space_apart n t h = search rules
 
 dashes_alike : (ns t u : List ℕ) (mark : RowMark) → is_empty ns ≡ false → AreDashes ns mark → Alike (Some false) (dashes_text ns t) (dashes_text ns u)
 dashes_alike [] t u mark some h = absurd (false≢true (sym some))
@@ -32,11 +31,7 @@ same_parent : (r q : Row) → q.column ≡ mark_column r → parent_indent (join
 same_parent r q e = ap (parent_of q.mark) (behind_columns-append r.column r.dashes q.dashes ∙ ap (λ n. behind_columns n q.dashes) (sym e))
 
 pub row_joined : (limit other : Limit) (r q : Row) (t u : List ℕ) → IsRow limit r t → IsRow other q u → Joins r q → TakesPlace limit r t (joined_row r q) u
-row_joined limit other r q t u h k f =
-    let text : behind_indent (joined_row r q) u ≡ dashes_text r.dashes (behind_indent q u) = dashes_text-append r.dashes q.dashes (behind_dashes q u) in
-    let indent : Alike (Some false) (behind_indent r t) (behind_indent (joined_row r q) u) = rw text (dashes_alike r.dashes (behind_dashes r t) (behind_indent q u) r.mark f.dashes h.dashes) in
-    let content : IsContent (parent_indent (joined_row r q)) q.content u = subst (λ (n : ℤ). IsContent n q.content u) (sym (same_parent r q f.column)) k.content in
-    takes_place limit r t (r.dashes ++ q.dashes) q.mark q.content u h indent (dashes_joined r.dashes q.dashes r.mark q.mark f.entry h.dashes k.dashes) k.mark content
+row_joined limit other r q t u h k f = search (rules, dashes_text-append, dashes_alike, same_parent, takes_place, dashes_joined)
 
 pub limit_joined : (r q : Row) → q.column ≡ mark_column r → limit_after (joined_row r q) ≡ limit_after q
 limit_joined r q e = ap (λ (n : ℤ). limit_behind n q.content) (same_parent r q e)

@@ -1,7 +1,6 @@
 -- An inline node before a text is one before another text, where white space, a break or the end is in front of both.
-use Rattle.std.proofs.Common.{◌≡◌, inl, inr, ℕ, zero, suc, true, false, not, ◌||◌, eqb, List, [], ◌∷◌, ◌++◌, Option, refl, sym, ap, ◌∙◌}
-use Rattle.std.proofs.Common.{subst, ⊎_elim, eqb-true, Some, rules}
-use Rattle.std.proofs.lemmas.Bool.{false≢true, not-true, or_cases, cases_Bool, or_parts}
+use Rattle.std.proofs.Common.{◌≡◌, inl, inr, ℕ, zero, suc, true, false, not, eqb, List, [], ◌∷◌, ◌++◌, Option, refl, sym, ap, subst, ⊎_elim}
+use Rattle.std.{proofs.Common.{eqb-true, Some, rules}, proofs.lemmas.Bool.{false≢true, not-true, or_cases, cases_Bool, or_parts}}
 use Rattle.yq_core.{specs.Plain.ends_plain, specs.Text.{is_empty, is_white, is_space, separates, unless, NoneIn, no_white}}
 use Rattle.yq_core.specs.Nodes.{Key, bare, keyed, Sep, last, comma, FlowNode, empty, alias, scalar, coll, anchored, Items, none, item}
 use Rattle.yq_core.specs.Nodes.{key_text, sep_text, node_text, flow_items_text, begins_with, is_close, in_name, begins_content, IsLead}
@@ -57,9 +56,7 @@ sep_seam (comma b s) t u h = alike_append (Some false) b _ _ (after (alike_appen
 items_seam : (k : ℕ) (is : Items) (t u : List ℕ) → is_close k ≡ true → separates t ≡ true → separates u ≡ true → Alike (Some false) (flow_items_text k is t) (flow_items_text k is u)
 unfolding flow_items_text
 items_seam k none t u c x y = byte (close_no_space k t c) (close_no_space k u c) x y
-items_seam k (item key n s is) t u c x y =
-    let more = items_seam k is t u c x y in
-    key_seam key _ _ (node_text_alike (Some false) n _ _ (sep_seam s (flow_items_text k is t) (flow_items_text k is u) more))
+items_seam k (item key n s is) t u c x y = search (rules, key_seam, node_text_alike, sep_seam, items_seam k is t u c x y)
 
 -- anchors
 bare_is : (node : FlowNode) → is_empty_node node ≡ true → node ≡ empty
@@ -69,21 +66,13 @@ no_content : (t : List ℕ) → separates t ≡ true → begins_content false t 
 no_content t h = (or_parts (begins_with 38 t) (begins_content false t) (apart_no_node t h)).1
 
 bare_gap : (gap t : List ℕ) → separates t ≡ true → IsLead false (begins_content false) gap t → gap ≡ []
-bare_gap gap t x (inl h) = absurd (false≢true (sym (no_content t x) ∙ h.1))
-bare_gap gap t x (inr h) = h.0
+bare_gap gap t x h = search (rules, false≢true, no_content)
 
 white_again : (gap t u : List ℕ) → NoneIn no_white gap t → NoneIn no_white gap u
 white_again gap t u h = name_again is_white gap t u h
 
 pub name_front : (gap t u : List ℕ) → is_empty gap ≡ false → unless in_name (gap ++ t) ≡ true → unless in_name (gap ++ u) ≡ true
-name_front [] t u some h = absurd (false≢true (sym some))
-name_front (b ∷ gap) t u some h = h
-
-some_gap : (gap : List ℕ) (node : FlowNode) → is_empty_node node ≡ false → (is_empty_node node || not (is_empty gap)) ≡ true → is_empty gap ≡ false
-some_gap gap node e h = search (rules, not-true)
-
-lead_seam : (gap t u : List ℕ) → is_empty gap ≡ false → begins_content false u ≡ true → IsLead false (begins_content false) gap t → IsLead false (begins_content false) gap u
-lead_seam gap t u h1 h2 h3 = search (rules, node_starts, white_again, false≢true)
+name_front gap t u some h = search (rules, false≢true)
 
 bare_seam : (spaces : Option ℕ) (d : ℕ) (name gap t u : List ℕ) → Behind spaces (anchored name gap empty) t u → IsFlowNode false spaces d (anchored name gap empty) t → Kept spaces d (anchored name gap empty) t u
 unfolding node_text IsFlowNode
@@ -114,11 +103,11 @@ node_seam spaces (anchored n s node) d t u h g = elim (cases_Bool (is_empty_node
   | inl e ↦ node_bare node spaces d n s t u e h g
   | inr e ↦ (
       let again = node_seam spaces node d t u (record { was = h.was; apart = h.apart; lead = h.lead; ends = h.ends; joint = h.joint }) g.4 in
-      let some = some_gap s node e g.2 in
+      let some : is_empty s ≡ false = search (rules, not-true) in
       let begins : begins_content false (node_text node u) ≡ true = taken_begins false spaces d node u e g.3 again.0 in (
         (
           record { some = g.0.some; inside = name_again in_name n (s ++ node_text node t) (s ++ node_text node u) g.0.inside; ends = name_front s (node_text node t) (node_text node u) some g.0.ends },
-          lead_seam s (node_text node t) (node_text node u) some begins g.1,
+          search (rules, node_starts, white_again, false≢true),
           g.2,
           g.3,
           again.0,

@@ -1,9 +1,9 @@
 -- A row before one text is a row before another one.
-use Rattle.std.proofs.Common.{◌≡◌, inl, inr, ℕ, ℤ, Bool, true, false, not, ◌||◌, List, [], ◌∷◌, ◌++◌, Option, Some, None, refl, rules}
+use Rattle.std.proofs.Common.{◌≡◌, inl, inr, ℕ, ℤ, Bool, true, false, not, ◌||◌, List, [], ◌∷◌, ◌++◌, Option, Some, None, rules}
 use Rattle.std.proofs.lemmas.Bool.{false≢true, cases_Bool}
 use Rattle.yq_core.specs.Block.{BlockText, block_text, style_indicator, IsBlock, ends_block, keeps}
-use Rattle.yq_core.{specs.declared.block_header.BlockStyle.BlockStyle, specs.Piece.deeper, specs.Text.{text_lines, joined, separates}}
-use Rattle.yq_core.{specs.Inline.depth_limit, specs.Nodes.{FlowNode, node_text, in_name, is_empty_node}, specs.Alike.Alike}
+use Rattle.yq_core.{specs.declared.block_header.BlockStyle.BlockStyle, specs.Piece.deeper, specs.Text.{text_lines, separates}}
+use Rattle.yq_core.{specs.Inline.depth_limit, specs.Nodes.{FlowNode, node_text, is_empty_node}, specs.Alike.Alike}
 use Rattle.yq_core.proofs.Alikes.{alike_append}
 use Rattle.yq_row_table.specs.Grammar.{IsAnchor, IsContent, IsMark, may_be_alone, is_entry, IsRow, Limit}
 use Rattle.yq_row_table.specs.Rows.{RowMark, Anchor, Content, Nothing, Inline, Block, anchor_text, mark_text, content_text, Row}
@@ -12,7 +12,6 @@ use Rattle.yq_row_table.{proofs.AlikeRows.dashes_text_alike, proofs.ExchangeLaws
 use Rattle.yq_row_table.proofs.NodeExchange.{mark_apart, space_apart, inline_starts}
 use Rattle.yq_row_table.proofs.NothingLaws.{name_again, tail_lead, tail_apart}
 use Rattle.yq_row_table.{proofs.seams.NodeSeams.{plain_text, Behind, node_seam, name_front}, proofs.seams.ScalarSeams.Joint}
-use Rattle.yq_core.specs.declared.block_header.BlockStyle.TheVariants as styles
 
 -- the plain scalar of a content, if it is one
 abbrev pub plain_of : Content → List ℕ
@@ -35,8 +34,7 @@ abbrev NodeKept : ℤ → List ℕ → FlowNode → List ℕ → List ℕ → Li
 NodeKept n space node tail t new u = IsContent n (Inline space node new) u × Alike (Some false) (node_text node (tail ++ t)) (node_text node (new ++ u))
 
 something : (b : Bool) → (false || not b) ≡ true → b ≡ false
-something false h = refl
-something true h = absurd (false≢true h)
+something b h = search (rules, false≢true)
 
 pub inline_seam : (n : ℤ) (space : List ℕ) (node : FlowNode) (tail t new u : List ℕ) → IsContent n (Inline space node tail) t → TailFits n new (Inline space node tail) u → Joined (Inline space node tail) t new u → NodeKept n space node tail t new u
 inline_seam n space node tail t new u h f j =
@@ -47,22 +45,16 @@ inline_seam n space node tail t new u h f j =
 -- block scalars
 anchor_seam : (anchor : Option Anchor) (t u : List ℕ) → IsAnchor anchor t → IsAnchor anchor u
 anchor_seam None t u h = h
-anchor_seam (Some a) t u h = (
-  record { some = h.0.some; inside = name_again in_name a.name (a.gap ++ t) (a.gap ++ u) h.0.inside; ends = name_front a.gap t u h.2 h.0.ends },
-  h.1,
-  h.2,
-)
+anchor_seam (Some a) t u h = search (rules, name_again, name_front)
 
 block_seam : (least : ℕ) (b : BlockText) (t u : List ℕ) → ends_block (keeps b.chomping) b.indent (text_lines u) ≡ true → IsBlock least b t → IsBlock least b u
 block_seam least b t u e h = record { indicators = h.indicators; tail = h.tail; indent = h.indent; lines = h.lines; ends = h.ends; behind = e }
 
 pub style_no_space : (s : BlockStyle) (t : List ℕ) → separates (style_indicator s ∷ t) ≡ false
-style_no_space styles.Literal t = refl
-style_no_space styles.Folded t = refl
+style_no_space s t = search rules
 
 pub block_no_space : (anchor : Option Anchor) (block : BlockText) (t : List ℕ) → separates (anchor_text anchor (block_text block t)) ≡ false
-block_no_space None block t = style_no_space block.style (block.indicators ++ (block.tail ++ (joined block.raw ++ t)))
-block_no_space (Some a) block t = refl
+block_no_space anchor block t = search (rules, style_no_space)
 
 -- contents
 pub content_seam : (n : ℤ) (c : Content) (t new u : List ℕ) → IsContent n c t → TailFits n new c u → Joined c t new u → IsContent n (with_tail new c) u
@@ -80,22 +72,18 @@ alone_tail c new h1 = search rules
 bare_mark : (m : RowMark) (c : Content) (t : List ℕ) (new : Content) (u : List ℕ) → is_entry m ≡ false → IsMark m c t → (may_be_alone c ≡ true → may_be_alone new ≡ true) → IsMark m new u
 bare_mark m c t new u h1 h2 h3 = search (rules, false≢true)
 
-bare_alone : (m : RowMark) (c : Content) (t : List ℕ) → is_entry m ≡ false → IsMark m c t → may_be_alone c ≡ true
-bare_alone m c t h1 h2 = search (rules, false≢true)
-
 bare_text : (m : RowMark) (t u : List ℕ) → is_entry m ≡ false → Alike (Some false) t u → Alike (Some false) (mark_text m t) (mark_text m u)
 bare_text m t u h1 h2 = search (rules, false≢true)
 
 -- the texts of what is alone on its line
 alone_text : (n : ℤ) (c : Content) (t new u : List ℕ) → may_be_alone c ≡ true → IsContent n c t → TailFits n new c u → Joined c t new u → Alike (Some false) (content_text c t) (content_text (with_tail new c) u)
-alone_text n (Nothing tail) t new u a h f j = absurd (false≢true a)
 alone_text n (Inline space node tail) t new u a h f j = alike_append (Some false) space _ _ (inline_seam n space node tail t new u h f j).1
-alone_text n (Block space anchor block) t new u a h f j = absurd (false≢true a)
+alone_text n _ t new u a h f j = absurd (false≢true a)
 
 bare_row : (limit : Limit) (r : Row) (t new u : List ℕ) → is_entry r.mark ≡ false → IsRow limit r t → TailFits (parent_indent r) new r.content u → Joined r.content t new u → TakesPlace limit r t (retail new r) u
 bare_row limit r t new u e h f j =
     let n = parent_indent r in
-    let text = alone_text n r.content t new u (bare_alone r.mark r.content t e h.mark) h.content f j in
+    let text = alone_text n r.content t new u (search (rules, false≢true)) h.content f j in
     takes_place limit r t r.dashes r.mark (with_tail new r.content) u h (dashes_text_alike r.dashes _ _ (bare_text r.mark _ _ e text)) h.dashes (bare_mark r.mark r.content t (with_tail new r.content) u e h.mark (alone_tail r.content new)) (content_seam n r.content t new u h.content f j)
 
 -- a row with another tail, before another text

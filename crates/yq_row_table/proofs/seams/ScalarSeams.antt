@@ -1,6 +1,7 @@
 -- Names and scalars before a text are such before another one, where white space, a break or the end is in front of both.
-use Rattle.std.proofs.Common.{◌≡◌, ◌⊎◌, inl, inr, ℕ, Bool, true, false, not, ◌&&◌, ◌||◌, eqb, if◌then◌else◌, List, [], ◌∷◌, ◌++◌, Option}
-use Rattle.std.proofs.Common.{Some, None, refl, sym, ap, ◌∙◌, ⊎_elim, eqb-true, append_assoc, rules}
+use Rattle.std.proofs.Common.{arith, ◌≡◌, ◌⊎◌, inl, inr, ℕ, Bool, true, false, not, ◌&&◌, ◌||◌, eqb, if◌then◌else◌, List, [], ◌∷◌, ◌++◌}
+use Rattle.std.proofs.Common.{Option, Some, None, refl, sym, ap, ◌∙◌, ⊎_elim, eqb-true, append_assoc, rules}
+use Rattle.std.proofs.lemmas.Grind.{common_steps}
 use Rattle.std.proofs.lemmas.Bool.{false≢true, not-false, false_from_ne_true, or_cases, or_right, and_parts, cases_Bool, or_parts}
 use Rattle.std.{proofs.Math.Bool.and-false, specs.Option.option_or}
 use Rattle.yq_core.specs.Plain.{begins_plain, ends_plain, ends_text, no_gap, last_line, plain_may_follow, follows, IsPlain}
@@ -16,19 +17,15 @@ use Rattle.yq_core.specs.Quoted as quotes
 pub apart_no_node : (t : List ℕ) → separates t ≡ true → begins_node false t ≡ false
 apart_no_node t h = false_from_ne_true (begins_node false t) (λ e. false≢true (sym (node_starts t e).joined ∙ h))
 
-pub apart_unnamed : (t : List ℕ) → separates t ≡ true → unless in_name t ≡ true
-apart_unnamed t h1 = search (rules, ⊎_elim, eqb-true, and_parts, or_cases)
-
 pub apart_no_quote : (t : List ℕ) → separates t ≡ true → front (λ b. eqb b 39) t ≡ false
-apart_no_quote [] h = refl
-apart_no_quote (b ∷ t) h = at_byte (λ x. separates (x ∷ t)) b 39 h refl
+apart_no_quote t h = search (rules, at_byte)
 
 -- names
 name_no_space : (b : ℕ) (t : List ℕ) → in_name b ≡ true → is_space (b ∷ t) ≡ false
 name_no_space b t h = search (rules, at_byte)
 
 pub name_seam : (p t u : List ℕ) → separates u ≡ true → IsName p t → IsName p u
-name_seam p t u y h = record { some = h.some; inside = name_again in_name p t u h.inside; ends = apart_unnamed u y }
+name_seam p t u y h = record { some = h.some; inside = name_again in_name p t u h.inside; ends = (search (rules, ⊎_elim, eqb-true, and_parts, or_cases)) }
 
 pub name_alike : (p t u : List ℕ) → is_empty p ≡ false → separates t ≡ true → separates u ≡ true → NoneIn (unless in_name) p t → Alike (Some false) (p ++ t) (p ++ u)
 name_alike [] t u some x y h = absurd (false≢true (sym some))
@@ -62,8 +59,7 @@ Joint p t u = (front is_feed t ≡ front is_feed u) ⊎ (ends_return p ≡ false
 
 -- plain scalars end with no white space
 may_more : (spaces : Option ℕ) (o : Option (List ℕ)) (y x : List ℕ) (f : Bool) → plain_may_follow spaces (option_or o (if f then Some y else None)) x ≡ true → plain_may_follow spaces o x ≡ true
-may_more spaces None y x f h = refl
-may_more spaces (Some l) y x f h = h
+may_more spaces o y x f h = search rules
 
 follow_more : (a b c m n : Bool) → (m ≡ true → n ≡ true) → (not a && not b && not c && m) ≡ true → (not a && not b && not c && n) ≡ true
 follow_more a b c m n h1 h2 = search (rules, false≢true)
@@ -71,15 +67,9 @@ follow_more a b c m n h1 h2 = search (rules, false≢true)
 follow_ended : (a b c m : Bool) → (a || c) ≡ true → (not a && not b && not c && m) ≡ false
 follow_ended a b c m h1 = search (rules, false≢true)
 
--- after one byte more that is white space or a break
-cut_more : (b : ℕ) (t : List ℕ) → is_space (b ∷ t) ≡ true → cut no_gap (b ∷ t) ≡ (b ∷ (cut no_gap t).0, (cut no_gap t).1)
-unfolding upto
-cut_more b t e = rw e refl
-
 cut_none : (t : List ℕ) → is_space t ≡ false → cut no_gap t ≡ ([], t)
 unfolding upto
-cut_none [] e = refl
-cut_none (b ∷ t) e = rw e refl
+cut_none t e = search rules
 
 not_followed : (spaces : Option ℕ) (b : ℕ) (t : List ℕ) → ends_plain false spaces t ≡ true → follows false spaces (b ∷ (cut no_gap t).0) (cut no_gap t).1 ≡ false
 not_followed spaces b t h = elim (cases_Bool (is_space t)) [
@@ -97,20 +87,14 @@ not_followed spaces b t h = elim (cases_Bool (is_space t)) [
 ]
 
 pub last_no_space : (spaces : Option ℕ) (b : ℕ) (t : List ℕ) → ends_plain false spaces (b ∷ t) ≡ false → ends_plain false spaces t ≡ true → is_space (b ∷ t) ≡ false
-last_no_space spaces b t some h = false_from_ne_true (is_space (b ∷ t)) (λ e.
-    let here : not (follows false spaces (cut no_gap (b ∷ t)).0 (cut no_gap (b ∷ t)).1) ≡ false = rw e at some in
-    let parts = cut_more b t e in
-    let there : not (follows false spaces (b ∷ (cut no_gap t).0) (cut no_gap t).1) ≡ false = ap (λ (x : List ℕ × List ℕ). not (follows false spaces x.0 x.1)) (sym parts) ∙ here in
-    false≢true (sym there ∙ ap not (not_followed spaces b t h)))
-
-joint_no_space : (b : ℕ) (t u : List ℕ) → Joint (b ∷ []) t u → is_space (b ∷ t) ≡ false → is_space (b ∷ u) ≡ false
-joint_no_space b t u h1 h2 = search (rules, or_parts)
+unfolding upto
+last_no_space spaces b t some h = grind (arith, common_steps, false_from_ne_true, false≢true, not_followed)
 
 plain_inside : (spaces : Option ℕ) (b : ℕ) (p t u : List ℕ) → NoneIn (ends_plain false spaces) (b ∷ p) t → ends_plain false spaces t ≡ true → separates t ≡ true → separates u ≡ true → Joint (b ∷ p) t u →
     NoneIn (ends_plain false spaces) (b ∷ p) u × Alike (Some false) (b ∷ (p ++ t)) (b ∷ (p ++ u))
 plain_inside spaces b [] t u h e x y j =
     let here = last_no_space spaces b t h.0 e in
-    let alike : Alike (Some false) (b ∷ t) (b ∷ u) = byte here (joint_no_space b t u j here) x y in
+    let alike : Alike (Some false) (b ∷ t) (b ∷ u) = byte here (search (rules, or_parts)) x y in
     ((sym (alike_ends spaces false (b ∷ t) (b ∷ u) alike) ∙ h.0, tt), alike)
 plain_inside spaces b (c ∷ p) t u h e x y j =
     let again = plain_inside spaces c p t u h.1 e x y j in

@@ -1,6 +1,6 @@
 -- Rows before rows that are in the place of others.
-use Rattle.std.proofs.Common.{◌≡◌, ◌⊎◌, inl, inr, ℕ, zero, suc, ℤ, Bool, true, false, ◌||◌, if◌then◌else◌, List, [], ◌∷◌, ◌++◌, Some, take}
-use Rattle.std.proofs.Common.{drop, refl, sym, ap, ◌∙◌, subst, ⊎_elim, append_assoc, rules}
+use Rattle.std.proofs.Common.{◌≡◌, ◌⊎◌, inl, inr, ℕ, suc, ℤ, Bool, true, false, ◌||◌, if◌then◌else◌, List, [], ◌∷◌, ◌++◌, Some, take, drop}
+use Rattle.std.proofs.Common.{refl, sym, ap, ◌∙◌, subst, ⊎_elim, append_assoc, rules}
 use Rattle.std.{proofs.lemmas.Bool.{false≢true, or_cases, and_parts}, proofs.lemmas.List.take-append-drop}
 use Rattle.yq_core.{specs.Piece.deeper, specs.Plain.ends_plain, specs.Text.{is_empty, front, is_break, is_line, is_marker}}
 use Rattle.yq_core.specs.Alike.{Alike}
@@ -8,12 +8,12 @@ use Rattle.yq_row_table.{specs.Exchange.{allows_first, asked_behind, with_conten
 use Rattle.yq_row_table.specs.Grammar.{IsTail, IsContent, is_plain_content, IsRow, Limit, unlimited, limit_after, limit_behind, AreRows}
 use Rattle.yq_row_table.specs.Grammar.{no_rows, ends_part}
 use Rattle.yq_row_table.specs.Rows.{Content, Nothing, Inline, Block, Row, parent_indent, print_row, rows_text}
-use Rattle.yq_row_table.specs.Seams.{is_closed, is_seam, MayFollowRows, TakesPlace, with_tail, tail_behind, TailFits}
+use Rattle.yq_row_table.specs.Seams.{is_closed, is_seam, MayFollowRows, TakesPlace, tail_behind, TailFits}
 use Rattle.yq_row_table.{specs.Splices.{with_first_gap, end_gap, behind_first}, proofs.AlikeRows.{row_alike, row_text_alike}}
 use Rattle.yq_row_table.{proofs.EmptyTexts.{empty_is, empty_or}, proofs.LineEnds.{text_line, white_none, comment_none}}
 use Rattle.yq_row_table.{proofs.NothingLaws.no_tail, proofs.PlaceLaws.first_allowed}
 use Rattle.yq_row_table.{proofs.PlainEnds.{AtLine, tail_ends, rows_line, marker_line, end_line}, proofs.seams.NodeSeams.plain_text}
-use Rattle.yq_row_table.{proofs.seams.ScalarSeams.Joint, proofs.seams.RowSeams.{Joined, row_tail}}
+use Rattle.yq_row_table.{proofs.seams.ScalarSeams.Joint, proofs.seams.RowSeams.row_tail}
 
 -- tails
 no_line : is_line [] ≡ false
@@ -36,8 +36,7 @@ tail_no_line : (tail t : List ℕ) (h : IsTail tail t) → h.line.break ≡ [] �
 tail_no_line tail t h e = line_by_break h.white h.comment tail t h.line ∙ (ap is_line e ∙ no_line)
 
 closed_end : (b : Bool) (u : List ℕ) → (b || is_empty u) ≡ true → b ≡ false → u ≡ []
-closed_end true u h e = absurd (false≢true (sym e))
-closed_end false u h e = empty_is u h
+closed_end b u h e = search (rules, false≢true, empty_is)
 
 pub tail_kept : (tail t u : List ℕ) → is_closed tail u ≡ true → IsTail tail t → IsTail tail u
 tail_kept tail t u c h =
@@ -58,32 +57,25 @@ own_fits n (Nothing tail) t u h s e = tail_kept tail t u s h
 own_fits n (Inline space node tail) t u h s e = let kept = tail_kept tail t u s h.2 in (kept, λ plain. e plain kept)
 own_fits n (Block space anchor block) t u h s e = s
 
-own_joined : (n : ℤ) (c : Content) (t u : List ℕ) → IsContent n c t → is_seam c u ≡ true → Joined c t (tail_behind c) u
-own_joined n c t u h1 h2 = search (rules, joint_tail, plain_text)
-
-own_tail : (c : Content) → with_tail (tail_behind c) c ≡ c
-own_tail c = search rules
-
 -- a row before another text
 pub row_seam : (limit : Limit) (r : Row) (t u : List ℕ) → IsRow limit r t → is_seam r.content u ≡ true → PlainEnds (parent_indent r) r.content u → TakesPlace limit r t r u
 row_seam limit r t u h s e =
     let n = parent_indent r in
-    let kept = row_tail limit r t (tail_behind r.content) u h (own_fits n r.content t u h.content s e) (own_joined n r.content t u h.content s) in
-    subst (λ (c : Content). TakesPlace limit r t (with_content c r) u) (own_tail r.content) kept
+    let kept = row_tail limit r t (tail_behind r.content) u h (own_fits n r.content t u h.content s e) (search (rules, joint_tail, plain_text)) in
+    subst (λ (c : Content). TakesPlace limit r t (with_content c r) u) (search rules) kept
 
 -- where the next row is
 pub part_line : (d : ℕ) (t : List ℕ) → ends_part t ≡ true → AtLine d t
 part_line d t h = ⊎_elim {0, 0, 0} (λ e. subst (AtLine d) (sym (empty_is t e)) (end_line d)) (λ e. marker_line d t e) (or_cases (is_empty t) (is_marker t) h)
 
 pub plain_before : (n : ℤ) (c : Content) (rs : List Row) (end rest : List ℕ) → AreRows (limit_behind n c) rs end rest → ends_part rest ≡ true → PlainEnds n c (rows_text rs (end ++ rest))
-plain_before n (Nothing tail) rs end rest h e = tt
-plain_before n (Block space anchor block) rs end rest h e = tt
 plain_before n (Inline space node tail) rs end rest h e = λ plain last.
     let d = deeper n in
     let asked : Limit = if is_plain_content node then record { column = Some d } else unlimited in
     let allowed : allows_first asked rs ≡ true = first_allowed asked rs end rest h in
     let next : allows_first (record { column = Some d }) rs ≡ true = rw plain at allowed in
     tail_ends d last.white last.comment tail (rows_text rs (end ++ rest)) last.line last.apart (rows_line d rs asked end rest h next (part_line d rest e))
+plain_before n _ rs end rest h e = tt
 
 -- The text after rows and the rows before it.
 abbrev pub RowsKept : Limit → List Row → List Row → List Row → List ℕ → List ℕ → List ℕ → List ℕ → Type 0
@@ -112,8 +104,7 @@ rows_text-append [] b t = refl
 rows_text-append (r ∷ a) b t = ap (print_row r) (rows_text-append a b t)
 
 pub gap_text : (gap : List ℕ) (rs : List Row) (end rest : List ℕ) → rows_text (with_first_gap gap rs) (end_gap gap rs end ++ rest) ≡ gap ++ behind_first rs end rest
-gap_text gap [] end rest = refl
-gap_text gap (r ∷ rs) end rest = refl
+gap_text gap rs end rest = search rules
 
 pub spliced_text : (new : List Row) (gap : List ℕ) (rs : List Row) (end rest : List ℕ) → rows_text (new ++ with_first_gap gap rs) (end_gap gap rs end ++ rest) ≡ rows_text new (gap ++ behind_first rs end rest)
 spliced_text new gap rs end rest = rows_text-append new (with_first_gap gap rs) (end_gap gap rs end ++ rest) ∙ ap (rows_text new) (gap_text gap rs end rest)
@@ -121,15 +112,11 @@ spliced_text new gap rs end rest = rows_text-append new (with_first_gap gap rs) 
 pub rows_join : (new : List Row) (limit was : Limit) (gap : List ℕ) (rs : List Row) (end rest : List ℕ) → AreRows limit new gap (behind_first rs end rest) → AreRows was rs end rest → allows_first (asked_behind limit new) rs ≡ true → AreRows limit (new ++ with_first_gap gap rs) (end_gap gap rs end) rest
 rows_join [] limit was gap [] end rest h k a = h
 rows_join [] limit was gap (r ∷ rs) end rest h k a = (record { gap = h; allowed = a; unmarked = k.0.unmarked; dashes = k.0.dashes; mark = k.0.mark; content = k.0.content }, k.1)
-rows_join (x ∷ new) limit was gap rs end rest h k a = (
-  subst (IsRow limit x) (sym (spliced_text new gap rs end rest)) h.0,
-  rows_join new (limit_after x) was gap rs end rest h.1 k a,
-)
+rows_join (x ∷ new) limit was gap rs end rest h k a = search (rules, spliced_text, rows_join new (limit_after x) was gap rs end rest h.1 k a)
 
 pub rows_drop : (j : ℕ) (rs : List Row) (limit : Limit) (end rest : List ℕ) → AreRows limit rs end rest → AreRows (asked_behind limit (take j rs)) (drop j rs) end rest
-rows_drop zero rs limit end rest h = h
-rows_drop (suc j) [] limit end rest h = h
 rows_drop (suc j) (r ∷ rs) limit end rest h = rows_drop j rs (limit_after r) end rest h.1
+rows_drop _ _ limit end rest h = h
 
 -- rows, cut in two
 pub rows_parted : (i : ℕ) (rs : List Row) (limit : Limit) (end rest : List ℕ) → AreRows limit rs end rest → AreRows limit (take i rs ++ drop i rs) end rest

@@ -1,5 +1,5 @@
 -- Another tail after a row's content, in a text in which an LF comes after each CR.
-use Rattle.std.proofs.Common.{◌≡◌, ◌⊎◌, inl, inr, ℕ, ℤ, true, false, ◌&&◌, List, [], ◌∷◌, ◌++◌, Option, refl, sym, ap, ◌∙◌, subst, ⊎_elim}
+use Rattle.std.proofs.Common.{◌≡◌, ◌⊎◌, inl, inr, ℕ, ℤ, true, false, List, [], ◌∷◌, ◌++◌, Option, refl, sym, ap, ◌∙◌, subst, ⊎_elim}
 use Rattle.std.proofs.Common.{append_assoc, append-nil, length, take, rules}
 use Rattle.std.proofs.lemmas.Bool.{false≢true, false_from_ne_true, or_right, and_parts, or_parts}
 use Rattle.std.proofs.Math.Seq.{take-append_seam, drop-append_seam}
@@ -33,9 +33,8 @@ plain_no_return spaces (b ∷ []) t h e pairs = false_from_ne_true (is_return b)
 plain_no_return spaces (b ∷ (c ∷ p)) t h e pairs = plain_no_return spaces (c ∷ p) t h.1 e (pairs_back (b ∷ []) (c ∷ (p ++ t)) pairs)
 
 last_return : (p : List ℕ) (q : ℕ) → ends_return (p ++ q ∷ []) ≡ is_return q
-last_return [] q = refl
-last_return (b ∷ []) q = refl
 last_return (b ∷ (c ∷ p)) q = last_return (c ∷ p) q
+last_return _ q = refl
 
 quote_no_return : (q : ℕ) (p : List ℕ) → (q ≡ 34) ⊎ (q ≡ 39) → ends_return (q ∷ (p ++ q ∷ [])) ≡ false
 quote_no_return q p h = last_return (q ∷ p) q ∙ ⊎_elim {0, 0, 0} (λ e. rw e refl) (λ e. rw e refl) h
@@ -60,9 +59,7 @@ row_retailed limit r t new u h pairs f =
 
 -- a tail that gets a break
 none_closed : (b : ℕ) (p break : List ℕ) → NoneIn ends_line (b ∷ p) [] → (ends_return (b ∷ p) ≡ false) → NoneIn ends_line (b ∷ p) break
-none_closed b [] break h e =
-    let f = or_parts (is_feed b) (is_return b && false) h.0 in
-    (rw (f.0, e) refl, tt)
+none_closed b [] break h e = search (rules, or_parts)
 none_closed b (c ∷ p) break h e = (h.0, none_closed c p break h.1 e)
 
 pub comment_closed : (c break : List ℕ) → IsComment c [] → ends_return c ≡ false → IsComment c break
@@ -108,8 +105,7 @@ pub row_closed : (limit : Limit) (r : Row) (break : List ℕ) (new : List Row) (
 row_closed limit r break new end rest h f pairs n e =
     let text : pairs_returns (content_text r.content []) ≡ true = pairs_back (row_front r) (content_text r.content []) (ap pairs_returns (sym (row_front-append r [])) ∙ pairs) in
     let tail : pairs_returns (tail_behind r.content) ≡ true = ap pairs_returns (sym (append-nil (tail_behind r.content))) ∙ tail_pairs r.content [] f.inline text in
-    let closed : IsTail (tail_behind r.content ++ break) (rows_text new (end ++ rest)) = tail_closed (tail_behind r.content) break (rows_text new (end ++ rest)) f.break_is f.bare tail (content_tail (parent_indent r) r.content [] f.inline h.content) in
-    row_retailed limit r [] (tail_behind r.content ++ break) (rows_text new (end ++ rest)) h pairs (fits_by (parent_indent r) r.content (tail_behind r.content ++ break) new end rest f.inline closed n e)
+    search (rules, tail_closed, content_tail, row_retailed, fits_by)
 
 pub limit_tail : (n : ℤ) (c : Content) (new : List ℕ) → limit_behind n (with_tail new c) ≡ limit_behind n c
 limit_tail n c new = search rules

@@ -1,7 +1,6 @@
 -- Rows after the last one of a text without a final break, in a cut.
-use Rattle.std.proofs.Common.{◌≡◌, ℕ, suc, true, false, List, [], ◌∷◌, ◌++◌, length, refl, sym, ap, ◌∙◌, subst, Some}
-use Rattle.yq_core.{specs.Characters.pairs_returns, specs.Alike.Alike}
-use Rattle.yq_row_table.{specs.Exchange.{allows_first, asked_behind}, specs.Grammar.{Limit, limit_after, AreRows, no_rows, IsCut}}
+use Rattle.std.proofs.Common.{rules, ◌≡◌, ℕ, suc, true, List, [], ◌∷◌, ◌++◌, length, ap, ◌∙◌}
+use Rattle.yq_row_table.{specs.Exchange.allows_first, specs.Grammar.{Limit, limit_after, AreRows, IsCut}}
 use Rattle.yq_row_table.{specs.Rows.{Row, print_row, rows_text, Cut}, specs.Appending.{closed_by, TakesBreak, IsLastRow}}
 use Rattle.yq_row_table.specs.Splices.{behind_first, nth_part, behind_part, back_rows, asked_at, behind_rows, replace_row, CutsItsText}
 use Rattle.yq_row_table.{proofs.splices.PartPlaces.{row_stands, rows_after, rows_from}, proofs.splices.SpliceCases.replaced}
@@ -30,14 +29,4 @@ end_appended t c k front r break new gap h f takes n =
     let nothing : behind_rows k (suc i) c ≡ [] = nothing_behind (back_rows k (suc i) c) p.end rest none f.nothing in
     let text : rows_text (back_rows k i c) (p.end ++ rest) ≡ print_row r [] = last_text (back_rows k i c) r p.end rest last f.end f.nothing in
     let own : AreRows asked (r ∷ []) p.end rest = row_stands t c k front r [] h f.row in
-    let row : AreRows asked (r ∷ []) [] [] = subst (AreRows asked (r ∷ []) []) f.nothing (subst (λ (x : List ℕ). AreRows asked (r ∷ []) x rest) f.end own) in
-    let pairs : pairs_returns (print_row r []) ≡ true = ap pairs_returns (sym text) ∙ row_pairs t c k i h in
-    let kept = row_closed asked r break new gap [] row.0 takes pairs n refl in
-    let follows : AreRows (limit_after (closed_by break r)) new gap [] = subst (λ (l : Limit). AreRows l new gap []) (sym (limit_closed break r)) n in
-    let alike : Alike (Some false) (print_row r []) (rows_text all (gap ++ behind_rows k (suc i) c)) = subst (λ (x : List ℕ). Alike (Some false) (print_row r []) (rows_text all (gap ++ x))) (sym nothing) kept.alike in
-    replaced t c k i (suc i) all gap h (record {
-      some = ap no_rows last;
-      rows = subst (AreRows asked all gap) (sym nothing) (kept.row, follows);
-      next = no_bound (asked_behind asked all) (back_rows k (suc i) c) none;
-      alike = subst (λ (x : List ℕ). Alike (Some false) x (rows_text all (gap ++ behind_rows k (suc i) c))) (sym text) alike;
-    })
+    search (rules, row_pairs, row_closed, limit_closed, replaced, no_bound)

@@ -1,13 +1,12 @@
 -- A row counted through all parts is in one of them, and there its content is exchanged.
-use Rattle.std.proofs.Common.{◌≡◌, inl, inr, ℕ, zero, suc, ◌-◌, true, List, [], ◌∷◌, ◌++◌, length, take, drop, Some, refl, sym, ap, ◌∙◌}
-use Rattle.std.{proofs.Common.{subst, false, rules}, proofs.Math.Dec.ltb, proofs.lemmas.Bool.{false≢true, ltb-true, ltb-false, cases_Bool}}
-use Rattle.std.specs.List.{slice_get}
+use Rattle.std.proofs.Common.{◌≡◌, inl, inr, ℕ, zero, suc, ◌-◌, true, List, [], ◌∷◌, ◌++◌, length, take, drop, Some, refl, ap, false, rules}
+use Rattle.std.{proofs.Math.Dec.ltb, proofs.lemmas.Bool.{false≢true, ltb-true, ltb-false, cases_Bool}, specs.List.slice_get}
 use Rattle.yq_row_table.specs.Counted.{RowPlace}
 use Rattle.yq_row_table.specs.Exchange.{with_content, with_content_at, with_content_in, exchange, text_after_row, behind_row, rows_behind}
 use Rattle.yq_row_table.specs.Exchange.{allows_first, FitsRow}
 use Rattle.yq_row_table.specs.Grammar.{IsMark, may_be_alone, is_entry, IsRow, Limit, limit_after, IsCut}
-use Rattle.yq_row_table.specs.Rows.{RowMark, Content, Row, behind_gap, rows_text, Part, Cut, last, marked, cut_text}
-use Rattle.yq_row_table.{specs.Splices.{first_gap, splice_part, asked_at, rest_behind, CutsItsText}, specs.View.rows_of}
+use Rattle.yq_row_table.specs.Rows.{RowMark, Content, Row, rows_text, Part, Cut, last, marked, cut_text}
+use Rattle.yq_row_table.{specs.Splices.{first_gap, splice_part, CutsItsText}, specs.View.rows_of}
 use Rattle.yq_row_table.{proofs.ExchangeLaws.{one_row, slice_front, slice_back}, proofs.splices.PartPlaces.row_stands}
 use Rattle.yq_row_table.{proofs.splices.RowReplaced.row_exchanged, proofs.NothingLaws.gap_other, proofs.seams.FrontSeams.behind_row_some}
 use Rattle.yq_row_table.{specs.Alone.FitsAlone, proofs.splices.SpliceTexts.{own_gap, own_end}}
@@ -29,24 +28,15 @@ content_around (x ∷ rows) zero r new h = let is : x ≡ r = cc in ap (λ (y : 
 content_around (x ∷ rows) (suc i) r new h = ap (λ l. x ∷ l) (content_around rows i r new h)
 
 behind_is : (rows : List Row) (i : ℕ) (rest : List ℕ) → text_after_row i rows rest ≡ rows_text (drop (suc i) rows) rest
-behind_is [] i rest = refl
-behind_is (x ∷ rows) zero rest = refl
 behind_is (x ∷ rows) (suc i) rest = behind_is rows i rest
+behind_is _ _ rest = refl
 
 part_content : (p : Part) (i : ℕ) (r : Row) (new : Content) → slice_get p.rows i ≡ Some r →
     with_content_in i new p ≡ splice_part (length (take i p.rows)) (suc (length (take i p.rows))) (with_content new r ∷ []) (first_gap (drop (suc i) p.rows) p.end) p
 part_content p i r new h = search (rules, content_around, own_gap, own_end, count_front)
 
 pub row_placed : (c : Cut) (i : ℕ) (r : Row) → slice_get (rows_of c) i ≡ Some r → RowPlace i r c
-row_placed (last p) i r h = record {
-  part = 0;
-  front = take i p.rows;
-  back = drop (suc i) p.rows;
-  stands = rows_around p.rows i r h;
-  rows = refl;
-  behind = behind_is p.rows i (p.end ++ []);
-  exchanged = λ new. ap last (part_content p i r new h);
-}
+row_placed (last p) i r h = search (rules, rows_around, behind_is, part_content)
 row_placed (marked p marker c) i r h = elim (cases_Bool (ltb i (length p.rows))) [
   | inl e ↦ (
       let is = slice_front p.rows (rows_of c) i r (ltb-true i (length p.rows) e) h in
@@ -77,12 +67,7 @@ exchanged_by : (t : List ℕ) (c : Cut) (i : ℕ) (r : Row) (new : Content) → 
     allows_first (limit_after (with_content new r)) (rows_behind i c) ≡ true → CutsItsText (exchange i new c)
 exchanged_by t c i r new h is row next =
     let p = row_placed c i r is in
-    let asked = asked_at p.part (length p.front) c in
-    let own = row_stands t c p.part p.front r p.back h p.stands in
-    let s : Row = with_content new r in
-    let there : IsRow asked s (rest_behind p.part p.back c) = subst (IsRow asked s) p.behind (row asked (subst (IsRow asked r) (sym p.behind) own.0)) in
-    let allowed : allows_first (limit_after s) p.back ≡ true = ap (allows_first (limit_after s)) (sym p.rows) ∙ next in
-    subst CutsItsText (sym (p.exchanged new)) (row_exchanged t c p.part p.front r p.back s h p.stands (record { gap = refl; column = refl; row = there; next = allowed }))
+    search (rules, row_stands, row_exchanged)
 
 pub content_exchanged : (t : List ℕ) (c : Cut) (i : ℕ) (r : Row) (new : Content) → IsCut t c → slice_get (rows_of c) i ≡ Some r → FitsRow new r (behind_row i c) (rows_behind i c) → CutsItsText (exchange i new c)
 content_exchanged t c i r new h is f = exchanged_by t c i r new h is (λ limit row. (one_row limit r new (behind_row i c) (behind_row i c) row f.entry f.content f.apart).row) f.next
@@ -92,14 +77,7 @@ bare_mark : (m : RowMark) (new : Content) (rest : List ℕ) → is_entry m ≡ f
 bare_mark m new rest h1 h2 = search (rules, false≢true)
 
 bare_row : (limit : Limit) (r : Row) (new : Content) (rest : List ℕ) (behind : List Row) → IsRow limit r rest → FitsAlone new r rest behind → IsRow limit (with_content new r) rest
-bare_row limit r new rest behind h f = record {
-  gap = gap_other r.gap (behind_gap r rest) (behind_gap (with_content new r) rest) (behind_row_some limit r rest h) h.gap;
-  allowed = h.allowed;
-  unmarked = f.unmarked;
-  dashes = h.dashes;
-  mark = bare_mark r.mark new rest f.bare f.alone;
-  content = f.content;
-}
+bare_row limit r new rest behind h f = search (rules, gap_other, behind_row_some, bare_mark)
 
 pub alone_exchanged : (t : List ℕ) (c : Cut) (i : ℕ) (r : Row) (new : Content) → IsCut t c → slice_get (rows_of c) i ≡ Some r → FitsAlone new r (behind_row i c) (rows_behind i c) → CutsItsText (exchange i new c)
 alone_exchanged t c i r new h is f = exchanged_by t c i r new h is (λ limit row. bare_row limit r new (behind_row i c) (rows_behind i c) row f) f.next

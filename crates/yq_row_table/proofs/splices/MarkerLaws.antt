@@ -1,8 +1,8 @@
 -- Rows after the last marker of a text, which has no break.
-use Rattle.std.proofs.Common.{◌≡◌, ℕ, Bool, true, false, List, [], ◌∷◌, ◌++◌, refl, sym, ap, ◌∙◌, subst, ⊎_elim, arith, append-nil, Some}
-use Rattle.std.{proofs.lemmas.Bool.{false≢true, and_parts}, specs.List.list_all, specs.Str.chars}
-use Rattle.yq_core.{specs.Characters.{is_text_char, pairs_returns}, specs.Text.{is_empty, is_feed, is_space, is_line}}
-use Rattle.yq_core.{specs.Alike.{Alike, byte, after}, proofs.Alikes.alike_marker}
+use Rattle.std.proofs.Common.{rules, ◌≡◌, ℕ, Bool, true, false, List, [], ◌∷◌, ◌++◌, refl, sym, ap, ◌∙◌, subst, ⊎_elim, arith, append-nil}
+use Rattle.std.{proofs.Common.Some, proofs.lemmas.Bool.{false≢true, and_parts}}
+use Rattle.yq_core.{specs.Characters.pairs_returns, specs.Text.{is_empty, is_feed, is_space, is_line}, specs.Alike.{Alike, byte, after}}
+use Rattle.yq_core.proofs.Alikes.{alike_marker}
 use Rattle.yq_row_table.specs.Grammar.{IsPart, IsMarkerLine, begins_document, AreParts, IsCut}
 use Rattle.yq_row_table.specs.Rows.{Part, part_text, Cut, last, marked, cut_text}
 use Rattle.yq_row_table.{specs.Appending.{is_one_break, last_marker, with_last_part, PartFits}, specs.Splices.CutsItsText}
@@ -23,19 +23,14 @@ three_closed a b c p break u x y z black h bare is pairs =
     (record { marker = sym (alike_marker (Some false) (a ∷ (b ∷ (c ∷ (p ++ [])))) (a ∷ (b ∷ (c ∷ ((p ++ break) ++ u)))) alike) ∙ h.marker; long = omega arith; tail = tail }, alike)
 
 pub marker_closed : (p break u : List ℕ) → IsMarkerLine p [] → is_line p ≡ false → is_one_break break ≡ true → pairs_returns p ≡ true → MarkerClosed p break u
-marker_closed [] break u h bare is pairs = absurd (let l = h.long in omega (arith, l))
-marker_closed (a ∷ []) break u h bare is pairs = absurd (let l = h.long in omega (arith, l))
-marker_closed (a ∷ (b ∷ [])) break u h bare is pairs = absurd (let l = h.long in omega (arith, l))
 marker_closed (a ∷ (b ∷ (c ∷ p))) break u h bare is pairs = ⊎_elim {0, 0, 0}
     (λ e. three_closed a b c p break u (rw e.0 refl) (rw e.1 refl) (rw e.2 refl) (λ r. rw e.2 refl) h bare is pairs)
     (λ e. three_closed a b c p break u (rw e.0 refl) (rw e.1 refl) (rw e.2 refl) (λ r. rw e.2 refl) h bare is pairs)
     (marker_byte a b c (p ++ []) h.marker)
+marker_closed _ break u h bare is pairs = absurd (let l = h.long in omega (arith, l))
 
 -- after a marker without a break is nothing
 marker_end : (p t : List ℕ) → IsMarkerLine p t → is_line p ≡ false → t ≡ []
-marker_end [] t h bare = absurd (let l = h.long in omega (arith, l))
-marker_end (a ∷ []) t h bare = absurd (let l = h.long in omega (arith, l))
-marker_end (a ∷ (b ∷ [])) t h bare = absurd (let l = h.long in omega (arith, l))
 marker_end (a ∷ (b ∷ (c ∷ p))) t h bare = ⊎_elim {0, 0, 0}
     (λ line. absurd (false≢true (sym bare ∙ ⊎_elim {0, 0, 0}
     (λ e. three_lines a b c p (rw e.0 refl) (rw e.1 refl) (rw e.2 refl) ∙ line)
@@ -43,10 +38,10 @@ marker_end (a ∷ (b ∷ (c ∷ p))) t h bare = ⊎_elim {0, 0, 0}
     (marker_byte a b c (p ++ t) h.marker))))
     (λ e. e)
     (tail_line p t h.tail)
+marker_end _ t h bare = absurd (let l = h.long in omega (arith, l))
 
 begins_same : (p break : List ℕ) → is_empty p ≡ false → begins_document (p ++ break) ≡ begins_document p
-begins_same [] break h = absurd (false≢true (sym h))
-begins_same (b ∷ p) break h = refl
+begins_same p break h = search (rules, false≢true)
 
 -- cuts
 one_closed : (started : Bool) (p : Part) (marker : List ℕ) (q new : Part) (break : List ℕ) → AreParts started (marked p marker (last q)) → is_line marker ≡ false → is_one_break break ≡ true → pairs_returns (cut_text (marked p marker (last q))) ≡ true →
@@ -59,9 +54,7 @@ one_closed started p marker q new break h bare is pairs n =
     ap (λ (x : List ℕ). part_text p (marker ++ x)) none ∙ (ap (part_text p) (append-nil marker) ∙ part_then p [] marker) in
     let own : pairs_returns marker ≡ true = pairs_back (part_text p []) marker (ap pairs_returns (sym texts) ∙ pairs) in
     let closed = marker_closed marker break u line bare is own in
-    let alike : Alike (Some false) (marker ++ part_text q []) ((marker ++ break) ++ u) = subst (λ (x : List ℕ). Alike (Some false) (marker ++ x) ((marker ++ break) ++ u)) (sym none) closed.1 in
-    let part : IsPart (begins_document (marker ++ break)) new [] = subst (λ (b : Bool). IsPart b new []) (sym (begins_same marker break (no_marker marker [] line))) n in
-    ((part_alike started p (marker ++ part_text q []) ((marker ++ break) ++ u) alike h.0, closed.0, part), part_text_alike p (marker ++ part_text q []) ((marker ++ break) ++ u) alike)
+    search (rules, begins_same, no_marker, part_alike, part_text_alike)
 
 parts_closed : (c : Cut) (started : Bool) (p : Part) (marker : List ℕ) (new : Part) (break : List ℕ) → AreParts started (marked p marker c) → is_line (last_marker (marked p marker c)) ≡ false → is_one_break break ≡ true → pairs_returns (cut_text (marked p marker c)) ≡ true →
     IsPart (begins_document (last_marker (marked p marker c))) new [] → CutExchanged started (marked p marker c) (with_last_part break new (marked p marker c))
@@ -73,6 +66,4 @@ parts_closed (marked q other c) started p marker new break h bare is pairs n =
 
 pub marker_appended : (t : List ℕ) (c : Cut) (break : List ℕ) (new : Part) → IsCut t c → PartFits break new c → CutsItsText (with_last_part break new c)
 marker_appended t (last p) break new h f = absurd (false≢true (sym f.some))
-marker_appended t (marked p marker c) break new h f = λ characters size.
-    let pairs : pairs_returns (cut_text (marked p marker c)) ≡ true = ap pairs_returns (sym h.text) ∙ (and_parts (list_all is_text_char (chars t)) (pairs_returns t) h.characters).1 in
-    record { text = refl; parts = (parts_closed c true p marker new break h.parts f.bare f.break_is pairs f.part).0; characters = characters; size = size }
+marker_appended t (marked p marker c) break new h f = search (rules, and_parts, parts_closed)

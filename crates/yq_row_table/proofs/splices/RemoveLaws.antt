@@ -1,22 +1,21 @@
 -- Rows taken away, with the gap after them repaired.
-use Rattle.std.proofs.Common.{◌≡◌, ℕ, ◌<◌, true, false, List, [], ◌∷◌, ◌++◌, Option, Some, None, take, refl, sym, ap, ◌∙◌, subst}
-use Rattle.std.{proofs.Common.append_assoc, proofs.lemmas.Bool.false≢true}
-use Rattle.yq_core.{specs.Block.{RawLines, BlockText, IsBlock}, specs.BlockRepair.is_behind, specs.Text.{is_empty, text_lines, joined}}
-use Rattle.yq_core.{proofs.LineLaws.{joined-append, joined_lines}, specs.declared.block_lines.TextIndent.TextIndent}
-use Rattle.yq_row_table.{specs.Exchange.asked_behind, specs.Gap.{AreGapLines, IsGap}}
+use Rattle.std.proofs.Common.{rules, ◌≡◌, ℕ, ◌<◌, true, false, List, ◌++◌, Option, Some, None, take, refl, sym, ap, ◌∙◌, append_assoc}
+use Rattle.std.proofs.lemmas.Bool.{cond_both, false≢true}
+use Rattle.yq_row_table.{proofs.seams.GapFronts.{gap_joined, gap_repaired}, specs.Exchange.asked_behind, specs.Gap.{AreGapLines, IsGap}}
 use Rattle.yq_row_table.{specs.Grammar.{Limit, unlimited, AreRows, no_rows, IsCut}, specs.Rows.{Row, rows_text, Cut}}
 use Rattle.yq_row_table.specs.Removal.{last_block, seam_gap, next_column, StandsLess, removed_gap, without_rows, RepairFits}
 use Rattle.yq_row_table.specs.Seams.{are_seamed, ends_in_block}
 use Rattle.yq_row_table.specs.Splices.{first_gap, behind_first, nth_part, behind_part, behind_rows, front_rows, back_rows, CutsItsText}
-use Rattle.yq_row_table.proofs.seams.BlockFronts.{gap_front, block_seam, seam_gap_is, last_is_block, last_none}
-use Rattle.yq_row_table.{proofs.seams.LessLaws.behind_less, proofs.NothingLaws.some_behind, proofs.seams.SeamLaws.{rows_drop, rows_parted}}
+use Rattle.yq_row_table.{proofs.seams.BlockFronts.{gap_front, block_seam, last_is_block, last_none}, proofs.seams.LessLaws.behind_less}
+use Rattle.yq_row_table.{proofs.NothingLaws.some_behind, proofs.seams.SeamLaws.{rows_drop, rows_parted}}
 use Rattle.yq_row_table.{proofs.seams.FrontSeams.behind_row_some, proofs.splices.PartPlaces.{part_in, part_ends}}
 use Rattle.yq_row_table.{proofs.splices.SpliceCases.removed, proofs.splices.SpliceTexts.{first_text, first_is}}
+use Rattle.yq_core.{specs.Block.{RawLines, BlockText}, specs.BlockRepair.is_behind, specs.Text.{is_empty, text_lines, joined}}
+use Rattle.yq_core.{proofs.LineLaws.{joined-append, joined_lines}, specs.declared.block_lines.TextIndent.TextIndent}
 
 -- what is where rows are taken away
 pub behind_some : (limit : Limit) (rs : List Row) (end rest : List ℕ) → no_rows rs ≡ false → AreRows limit rs end rest → is_empty (behind_first rs end rest) ≡ false
-behind_some limit [] end rest n h = absurd (false≢true (sym n))
-behind_some limit (r ∷ rs) end rest n h = behind_row_some limit r (rows_text rs (end ++ rest)) h.0
+behind_some limit rs end rest n h = search (rules, false≢true, behind_row_some)
 
 kept_text : (gap : List ℕ) (ks run : RawLines) → text_lines gap ≡ ks ++ run → gap ≡ joined ks ++ joined run
 kept_text gap ks run h = sym (joined_lines gap) ∙ (ap joined h ∙ joined-append ks run)
@@ -27,8 +26,7 @@ by_block : (front back : List Row) (end rest : List ℕ) (column : ℕ) (ks : Ra
 by_block front back end rest column ks x next u None is e less lower whole old kept some follows = absurd (false≢true (sym (last_none front is) ∙ e))
 by_block front back end rest column ks x next u (Some b) is e less lower whole old kept some follows =
     let last = last_is_block front back unlimited end rest b whole is in
-    let block : IsBlock last.least b (joined ks ++ x) = subst (IsBlock last.least b) old last.block in
-    last.seam (seam_gap (Some b) column (joined ks) next ++ u) (block_seam last.least column b ks x next u block kept some follows less (lower b.indent less))
+    search (rules, block_seam)
 
 -- Rows are taken away, and the gap in their place is repaired after a block scalar.
 pub removed_repaired : (t : List ℕ) (c : Cut) (k i j : ℕ) (ks run : RawLines) → IsCut t c → RepairFits k i j ks run c → CutsItsText (without_rows k i j ks c)
@@ -50,7 +48,7 @@ removed_repaired t c k i j ks run h f =
     let x_some : is_empty x ≡ false = some_behind (joined run) (behind_first back p.end rest) (behind_some (asked_behind unlimited front) back p.end rest f.some own) in
     let kept : AreGapLines ks x = gap_front (first_gap back p.end) (behind_first back p.end rest) ks run (first_is (asked_behind unlimited front) back p.end rest own) f.lines in
     let follows : IsGap next u = first_is (asked_behind unlimited (take j p.rows)) more p.end rest other in
-    let new : IsGap gap u = seam_gap_is (last_block front) column ks x next u kept x_some follows in
+    let new : IsGap gap u = search (rules, gap_joined, gap_repaired, cond_both) in
     let lines = kept_text (first_gap back p.end) ks run f.lines in
     let old : rows_text back (p.end ++ rest) ≡ joined ks ++ x = first_text back p.end rest ∙ (ap (λ g. g ++ behind_first back p.end rest) lines ∙ append_assoc (joined ks) (joined run) (behind_first back p.end rest)) in
     let lower : (m : TextIndent) → column < m.columns → is_behind m (text_lines u) ≡ true = λ m l. behind_less m (asked_behind unlimited (take j p.rows)) more p.end rest other (part_ends c k true h.parts) l in

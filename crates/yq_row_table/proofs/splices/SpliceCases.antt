@@ -1,5 +1,5 @@
 -- Rows put in, taken away, or exchanged for others that begin like them.
-use Rattle.std.proofs.Common.{◌≡◌, ℕ, Bool, true, false, not, ◌||◌, List, [], ◌++◌, take, drop, refl, sym, ap, ◌∙◌, ⊎_elim, rules}
+use Rattle.std.proofs.Common.{◌≡◌, ℕ, Bool, true, false, not, ◌||◌, List, [], ◌++◌, take, drop, refl, ⊎_elim, rules}
 use Rattle.std.proofs.lemmas.Bool.{false≢true, or_right, cases_Bool}
 use Rattle.yq_row_table.{specs.Exchange.{allows_first, asked_behind}, specs.Grammar.{unlimited, no_rows, IsPart, IsCut, AreRows}}
 use Rattle.yq_row_table.{specs.Rows.{Row, rows_text, Part, Cut}, specs.Seams.{are_seamed, ends_in_block}}
@@ -17,19 +17,14 @@ more_front i rs h1 = search (rules, false≢true)
 
 -- where rows are, a document is open
 pub open_part : (started b : Bool) → (started || b) ≡ true → b ≡ false → started ≡ true
-open_part true b h n = refl
-open_part false b h n = absurd (false≢true (sym n ∙ h))
+open_part started b h n = search (rules, false≢true)
 
 part_started : (started : Bool) (p : Part) (rest : List ℕ) → IsPart started p rest → no_rows p.rows ≡ false → started ≡ true
 part_started started p rest h n = open_part started (no_rows p.rows) h.inside n
 
 -- rows put in
 pub inserted : (t : List ℕ) (c : Cut) (k i : ℕ) (new : List Row) (gap : List ℕ) → IsCut t c → InsertFits k i new gap c → CutsItsText (splice k i i new gap c)
-inserted t c k i new gap h f =
-    let p = nth_part k c in
-    let begun : is_started true k c ≡ true = part_started (is_started true k c) p (behind_part k c) (part_in c k true h.parts) (more_front i p.rows f.front) in
-    let first : not (no_rows (front_rows k i c)) ≡ true = ap not f.front in
-    spliced t c k i i new gap h (record { rows = f.rows; next = f.next; seam = f.seam; start = rw first refl; inside = rw begun refl })
+inserted t c k i new gap h f = search (rules, part_started, part_in, more_front, spliced)
 
 -- Before a part with rows a text may be as far as the marker goes.
 starts : (t : List ℕ) (c : Cut) (k i : ℕ) (u : List ℕ) → IsCut t c → no_rows (back_rows k i c) ≡ false → (not (no_rows (front_rows k i c)) || is_after (marker_before [] k c) u) ≡ true
@@ -46,15 +41,10 @@ placed t c k i j new gap h some rows next keeps =
     let u = rows_text new (gap ++ behind_rows k j c) in
     let part = part_in c k true h.parts in
     let was = seams_were front back unlimited p.end rest (rows_parted i p.rows unlimited p.end rest part.rows) in
-    let begun : is_started true k c ≡ true = part_started (is_started true k c) p rest part (more_of i p.rows some) in
-    spliced t c k i j new gap h (record { rows = rows; next = next; seam = keeps front was; start = starts t c k i u h some; inside = rw begun refl })
+    search (rules, part_started, more_of, spliced, starts)
 
 pub replaced : (t : List ℕ) (c : Cut) (k i j : ℕ) (new : List Row) (gap : List ℕ) → IsCut t c → ReplaceFits k i j new gap c → CutsItsText (splice k i j new gap c)
 replaced t c k i j new gap h f = placed t c k i j new gap h f.some f.rows f.next (λ fs. seams_alike fs (rows_text (back_rows k i c) ((nth_part k c).end ++ behind_part k c)) (rows_text new (gap ++ behind_rows k j c)) f.alike)
-
--- rows taken away
-block_or : (front : List Row) (u : List ℕ) → (ends_in_block front ≡ false → are_seamed front u ≡ true) → (ends_in_block front ≡ true → are_seamed front u ≡ true) → are_seamed front u ≡ true
-block_or front u f g = ⊎_elim {0, 0, 0} (λ e. g e) (λ e. f e) (cases_Bool (ends_in_block front))
 
 pub removed : (t : List ℕ) (c : Cut) (k i j : ℕ) (gap : List ℕ) → IsCut t c → RemoveFits k i j gap c → CutsItsText (splice k i j [] gap c)
 removed t c k i j gap h f =
@@ -63,5 +53,6 @@ removed t c k i j gap h f =
     let front = front_rows k i c in
     let u = gap ++ behind_rows k j c in
     let whole = rows_parted i p.rows unlimited p.end rest (part_in c k true h.parts).rows in
-    let seam : are_seamed front u ≡ true = block_or front u (seams_any front (back_rows k i c) unlimited p.end rest u whole f.some) f.seam in
+    let seam : are_seamed front u ≡ true =
+    ⊎_elim {0, 0, 0} (λ e. f.seam e) (λ e. (seams_any front (back_rows k i c) unlimited p.end rest u whole f.some) e) (cases_Bool (ends_in_block front)) in
     spliced t c k i j [] gap h (record { rows = f.is_gap; next = f.next; seam = seam; start = starts t c k i u h f.some; inside = or_right (is_started true k c) true refl })

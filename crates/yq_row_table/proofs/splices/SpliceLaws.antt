@@ -1,7 +1,6 @@
 -- Rows in the place of others, in a part and in a cut.
-use Rattle.std.proofs.Common.{◌≡◌, ◌⊎◌, inl, inr, ℕ, zero, suc, Bool, true, false, not, ◌||◌, List, [], ◌∷◌, ◌++◌, take, drop, refl, ap}
-use Rattle.std.{proofs.Common.{◌∙◌, subst, ⊎_elim, arith, Some, rules}, proofs.lemmas.Bool.{false≢true, or_right}}
-use Rattle.std.proofs.lemmas.List.{take-append-drop}
+use Rattle.std.proofs.Common.{◌≡◌, ◌⊎◌, inl, ℕ, zero, suc, Bool, true, false, not, ◌||◌, List, [], ◌++◌, take, drop, refl, ap, ◌∙◌, ⊎_elim}
+use Rattle.std.{proofs.Common.{Some, rules}, proofs.lemmas.Bool.{false≢true, or_right}, proofs.lemmas.List.take-append-drop}
 use Rattle.yq_core.{specs.Text.{is_empty, is_marker}, specs.Alike.Alike}
 use Rattle.yq_row_table.specs.Exchange.{asked_behind}
 use Rattle.yq_row_table.specs.Grammar.{unlimited, AreRows, no_rows, IsPart, IsMarkerLine, begins_document, AreParts, IsCut, ends_part}
@@ -27,19 +26,16 @@ no_drop : (gap : List ℕ) (j : ℕ) (rs : List Row) → no_rows rs ≡ true →
 no_drop gap j rs h1 = search (rules, false≢true)
 
 part_open : (started : Bool) (i j : ℕ) (new : List Row) (gap : List ℕ) (rs : List Row) → (started || no_rows rs) ≡ true → (started || no_rows new) ≡ true → (started || no_rows (take i rs ++ (new ++ with_first_gap gap (drop j rs)))) ≡ true
-part_open true i j new gap rs h k = refl
-part_open false i j new gap rs h k = no_more (take i rs) new (with_first_gap gap (drop j rs)) (no_take i rs h) k (no_drop gap j rs h)
+part_open started i j new gap rs h k = search (rules, no_more, no_take, no_drop)
 
 abbrev PartSpliced : List ℕ → Bool → Part → Part → List ℕ → Type 0
 PartSpliced marker started p q rest = IsPart started q rest × Fronts marker (part_text p rest) (part_text q rest)
 
 or_not : (a b : Bool) → (not a || b) ≡ true → a ≡ true → b ≡ true
-or_not true b h e = h
-or_not false b h e = absurd (false≢true e)
+or_not a b h e = search (rules, false≢true)
 
 none_front : (a b : List Row) (t : List ℕ) → no_rows a ≡ true → rows_text (a ++ b) t ≡ rows_text b t
-none_front [] b t h = refl
-none_front (r ∷ a) b t h = absurd (false≢true h)
+none_front a b t h = search (rules, false≢true)
 
 part_spliced : (marker : List ℕ) (started : Bool) (i j : ℕ) (new : List Row) (gap : List ℕ) (p : Part) (rest : List ℕ) → ends_part rest ≡ true → IsPart started p rest → SpliceFits marker started i j new gap p rest → PartSpliced marker started p (splice_part i j new gap p) rest
 part_spliced marker started i j new gap p rest e h f =
@@ -53,21 +49,14 @@ part_spliced marker started i j new gap p rest e h f =
     let rows : AreRows (asked_behind unlimited front) inner end rest = rows_join new (asked_behind unlimited front) (asked_behind unlimited (take j p.rows)) gap back p.end rest f.rows behind f.next in
     let seam : are_seamed front (rows_text inner (end ++ rest)) ≡ true = ap (are_seamed front) text ∙ f.seam in
     let kept = rows_seam front (drop i p.rows) inner unlimited p.end rest end rest whole (record { rows = rows; seam = seam; ends = e }) in
-    let q : Part = splice_part i j new gap p in
-    let old : rows_text (front ++ drop i p.rows) (p.end ++ rest) ≡ part_text p rest = ap (λ (rs : List Row). rows_text rs (p.end ++ rest)) (take-append-drop i p.rows) in
-    let fronts : Fronts marker (part_text p rest) (part_text q rest) = ⊎_elim {0, 0, 0}
-    (λ none. inr (ap (is_after marker) (none_front front inner (end ++ rest) none ∙ text) ∙ or_not (no_rows front) _ f.start none))
-    (λ alike. inl (subst (λ (t : List ℕ). Alike (Some false) t (part_text q rest)) old alike))
-    kept.1 in
-    (record { rows = kept.0; inside = part_open started i j new gap p.rows h.inside f.inside }, fronts)
+    search (rules, take-append-drop, none_front, or_not, part_open)
 
 -- cuts
 abbrev CutSpliced : List ℕ → Bool → Cut → Cut → Type 0
 CutSpliced marker started c d = AreParts started d × Fronts marker (cut_text c) (cut_text d)
 
 after_closed : (p t u : List ℕ) → IsMarkerLine p t → is_after p u ≡ true → is_closed p u ≡ true
-after_closed [] t u h c = absurd (let l = h.long in omega (arith, l))
-after_closed (b ∷ p) t u h c = c
+after_closed p t u h c = search rules
 
 marked_spliced : (before : List ℕ) (started : Bool) (p : Part) (marker : List ℕ) (c d : Cut) → AreParts started (marked p marker c) → CutSpliced marker (begins_document marker) c d → CutSpliced before started (marked p marker c) (marked p marker d)
 marked_spliced before started p marker c d h more = ⊎_elim {0, 0, 0}

@@ -20,25 +20,19 @@ rows_place i j new gap p rest = search (rules, rows_text-append, spliced_text, n
 pub new_text : (c : Cut) (k i j : ℕ) (new : List Row) (gap : List ℕ) → cut_text (splice k i j new gap c) ≡ before_rows k i c ++ rows_text new (gap ++ behind_rows k j c)
 new_text (last p) k i j new gap = rows_place i j new gap p []
 new_text (marked p marker c) zero i j new gap = rows_place i j new gap p (marker ++ cut_text c)
-new_text (marked p marker c) (suc k) i j new gap =
-    let more = rows_text new (gap ++ behind_rows k j c) in
-    ap (λ l. part_text p (marker ++ l)) (new_text c k i j new gap)
-    ∙ (ap (part_text p) (sym (append_assoc marker (before_rows k i c) more)) ∙ part_then p (marker ++ before_rows k i c) more)
+new_text (marked p marker c) (suc k) i j new gap = search (rules, append_assoc, part_then, new_text c k i j new gap)
 
 -- the same rows in their own place
 take_take : (i j : ℕ) (rs : List Row) → i ≤ j → take i rs ++ drop i (take j rs) ≡ take j rs
-take_take zero j rs h = refl
 take_take (suc i) zero rs h = absurd (omega (arith, h))
-take_take (suc i) (suc j) [] h = refl
 take_take (suc i) (suc j) (r ∷ rs) h = ap (λ l. r ∷ l) (take_take i j rs (omega (arith, h)))
+take_take _ _ _ h = refl
 
 pub own_gap : (rs : List Row) (end : List ℕ) → with_first_gap (first_gap rs end) rs ≡ rs
-own_gap [] end = refl
-own_gap (r ∷ rs) end = refl
+own_gap rs end = search rules
 
 pub own_end : (rs : List Row) (end : List ℕ) → end_gap (first_gap rs end) rs end ≡ end
-own_end [] end = refl
-own_end (r ∷ rs) end = refl
+own_end rs end = search rules
 
 own_part : (i j : ℕ) (p : Part) → i ≤ j → splice_part i j (drop i (take j p.rows)) (first_gap (drop j p.rows) p.end) p ≡ p
 own_part i j p h =
@@ -59,17 +53,14 @@ old_text c k i j h = ap cut_text (sym (own_splice c k i j h)) ∙ new_text c k i
 
 -- the text of a cut at a row
 pub first_text : (rs : List Row) (end rest : List ℕ) → rows_text rs (end ++ rest) ≡ first_gap rs end ++ behind_first rs end rest
-first_text [] end rest = refl
-first_text (r ∷ rs) end rest = refl
+first_text rs end rest = search rules
 
 pub first_is : (limit : Limit) (rs : List Row) (end rest : List ℕ) → AreRows limit rs end rest → IsGap (first_gap rs end) (behind_first rs end rest)
-first_is limit [] end rest h = h
-first_is limit (r ∷ rs) end rest h = h.0.gap
+first_is limit rs end rest h = search rules
 
 none_between : (n : ℕ) (rs : List Row) → drop n (take n rs) ≡ []
-none_between zero rs = refl
-none_between (suc n) [] = refl
 none_between (suc n) (q ∷ rs) = none_between n rs
+none_between _ _ = refl
 
 pub front_text : (c : Cut) (k i : ℕ) → cut_text c ≡ before_rows k i c ++ rows_text (back_rows k i c) ((nth_part k c).end ++ behind_part k c)
 front_text c k i =

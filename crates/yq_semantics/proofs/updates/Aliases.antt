@@ -1,8 +1,7 @@
 -- No change brings an alias that was not there.
-use Rattle.std.proofs.Common.{◌≡◌, ℕ, suc, ◌⊎◌, Bool, true, false, cond, List, [], ◌∷◌, map, Option, Some, None, refl, subst, inl, inr}
-use Rattle.std.{proofs.Common.rules, proofs.lemmas.Bool.cond_both, proofs.lemmas.Option.{none-some, same_Some}}
-use Rattle.yq_core.specs.Tree.{Label, Node, list, Children, none, child}
-use Rattle.yq_core.specs.Paths.{Step, is_here, further, change_child, append_child, within}
+use Rattle.std.proofs.Common.{◌≡◌, ℕ, suc, ◌⊎◌, Bool, List, [], ◌∷◌, map, Option, Some, None, refl, subst, inl, inr, rules}
+use Rattle.std.{proofs.lemmas.Bool.cond_both, proofs.lemmas.Option.{none-some, same_Some}}
+use Rattle.yq_core.{specs.Tree.{Label, Node, list, Children, none, child}, specs.Paths.{Step, further, change_child, append_child, within}}
 use Rattle.yq_semantics.specs.Changes.{Addition, Change, replaces, adds, Changed, value_in}
 use Rattle.yq_semantics.specs.NodeEdits.{NodeEdit, becomes, NodeEdits, step_to, under, done_at, child_by, node_edit_inside, each_at_once}
 use Rattle.yq_semantics.{specs.NodeEdits.{at_once, same_path, done_by}, specs.Meaning.{add_to, add_all, placed_edit, node_edit_of}}
@@ -21,8 +20,7 @@ BringNone f = (q : List Step) (x : NodeEdit) → f q ≡ Some x → BringsNone x
 
 child_no_more : (a : List ℕ) (d : Option NodeEdit) (label : Label) (m n : Node) (rest cs : Children) → (Mentions a m → Mentions a n) → (AnyMentions a rest → AnyMentions a cs) → AnyMentions a (child_by d label m rest) →
     AnyMentions a (child label n cs)
-child_no_more a d label m n rest cs f g =
-    child_kept_or_gone (λ k. AnyMentions a (k rest) → AnyMentions a (child label n cs)) d label m (λ hd ld h. elim h [ inl e ↦ inl (f e) | inr e ↦ inr (g e) ]) (λ gone h. inr (g h))
+child_no_more a d label m n rest cs f g = search (rules, child_kept_or_gone)
 
 done_no_more : (a : List ℕ) (d : Option NodeEdit) → ((x : NodeEdit) → d ≡ Some x → BringsNone x) → (n m : Node) → (Mentions a m → Mentions a n) → Mentions a (done_at d n m) → Mentions a n
 done_no_more a None b n m f h = f h
@@ -62,14 +60,7 @@ append_mentions a label v (child first n cs) (inr h) = elim (append_mentions a l
 
 change_mentions : (a : List ℕ) (s : Step) (v : Node) (cs : Children) → AnyMentions a (change_child s (replaced_node v) cs) → Mentions a v ⊎ AnyMentions a cs
 change_mentions a s v none h = inr h
-change_mentions a s v (child label n cs) h = go (is_here s label) (change_mentions a (further s) v cs) h
-  where
-    go : (b : Bool) → (AnyMentions a (change_child (further s) (replaced_node v) cs) → Mentions a v ⊎ AnyMentions a cs) →
-        AnyMentions a (cond b (child label (replaced_node v n) cs) (child label n (change_child (further s) (replaced_node v) cs))) → Mentions a v ⊎ AnyMentions a (child label n cs)
-    go true ih (inl e) = inl (replaced_mentions a v n e)
-    go true ih (inr e) = inr (inr e)
-    go false ih (inl e) = inr (inl e)
-    go false ih (inr e) = elim (ih e) [ inl k ↦ inl k | inr k ↦ inr (inr k) ]
+change_mentions a s v (child label n cs) h = search (rules, replaced_mentions, change_mentions a (further s) v cs)
 
 added_mentions : (a : List ℕ) (x : Addition) (n : Node) → Mentions a (within (add_to x) n) → Mentions a (value_in x) ⊎ Mentions a n
 added_mentions a x n h1 = search (rules, append_mentions, change_mentions)

@@ -1,21 +1,16 @@
 -- Rooms that are alike for operations say the same of them.
 use Rattle.std.proofs.lemmas.Bool.{cases_Bool, eqb-true, eqb-false}
-use Rattle.std.proofs.Common.{◌≡◌, ◌⊎◌, ℕ, zero, suc, Bool, List, [], ◌∷◌, refl, sym, ap, subst, ◌∙◌, inl, inr, Some, option_map, rules}
-use Rattle.std.specs.List.{slice_get}
-use Rattle.yq_core.specs.Tree.{Node}
+use Rattle.std.{proofs.Common.{◌≡◌, ◌⊎◌, ℕ, zero, suc, Bool, List, [], ◌∷◌, refl, ap, ◌∙◌, Some, option_map, rules}, specs.List.slice_get}
 use Rattle.yq_documents.{specs.Documents.Document, specs.TreeEdits.change_nth}
-use Rattle.yq_semantics.{specs.After.{op_document, done_to, after_op, all_after}, specs.Changes.Room, specs.Fits.{FitsRoot, Fits, AllFit}}
+use Rattle.yq_semantics.{specs.After.{op_document, done_to, after_op, all_after}, specs.Changes.Room, specs.Fits.{Fits, AllFit}}
 use Rattle.yq_semantics.specs.Operations.{Operation}
 use Rattle.yq_semantics.specs.RoomsKept.{KeepsBlockIn, SetsComment, NoneOn, BlockLasts, SetComments, SetNoComment, MayFollow, SameRoom}
 use Rattle.yq_semantics.specs.RoomsKept.{LeavesRooms, AlikeFor, AreAlike}
 
-root_alike : (old new : Room) (op : Operation) (root : Node) → AlikeFor op old new → FitsRoot old op root → FitsRoot new op root
-root_alike old new op root h1 h2 = search rules
-
 module _ (old new : ℕ → Room) where
   -- an operation fits by either
   pub fits_alike : (op : Operation) (docs : List Document) → AlikeFor op (old (op_document op)) (new (op_document op)) → Fits old op docs → Fits new op docs
-  fits_alike op docs a h = (h.0, h.1, root_alike (old (op_document op)) (new (op_document op)) op h.0.root a h.2)
+  fits_alike op docs a h = (h.0, h.1, search rules)
 
   -- it makes the same of documents
   pub after_alike : (op : Operation) (docs : List Document) → AlikeFor op (old (op_document op)) (new (op_document op)) → after_op new op docs ≡ after_op old op docs
@@ -29,14 +24,11 @@ module _ (old new : ℕ → Room) where
   -- which fit by either
   pub all_fit_alike : (ops : List Operation) (docs : List Document) → AreAlike old new ops → AllFit old ops docs → AllFit new ops docs
   all_fit_alike [] docs a h = tt
-  all_fit_alike (op ∷ ops) docs a h =
-      (fits_alike op docs a.0 h.0, subst (AllFit new ops) (sym (after_alike op docs a.0)) (all_fit_alike ops (after_op old op docs) a.1 h.1))
+  all_fit_alike (op ∷ ops) docs a h = search (rules, fits_alike, after_alike, all_fit_alike ops (after_op old op docs) a.1 h.1)
 
   lasts_alike : (ops : List Operation) (docs : List Document) → AreAlike old new ops → BlockLasts old ops docs → BlockLasts new ops docs
   lasts_alike [] docs a h = tt
-  lasts_alike (op ∷ ops) docs a h =
-      subst (λ (after : List Document). (KeepsBlockIn op after ⊎ NoneOn (op_document op) ops) × BlockLasts new ops after) (sym (after_alike op docs a.0))
-      (h.0, lasts_alike ops (after_op old op docs) a.1 h.1)
+  lasts_alike (op ∷ ops) docs a h = search (rules, after_alike, lasts_alike ops (after_op old op docs) a.1 h.1)
 
 -- ---- the rooms after an operation
 
@@ -74,17 +66,13 @@ module _ (op : Operation) (old new : ℕ → Room) (docs : List Document) (left 
 next_alike : (op : Operation) (ops : List Operation) (old new : ℕ → Room) (after : List Document) → LeavesRooms op old new after → ((d : Document) × (slice_get after (op_document op) ≡ Some d)) → (KeepsBlockIn op after ⊎ NoneOn (op_document op) ops) → SetComments (op ∷ ops) ⊎ SetNoComment (op ∷ ops) → AreAlike old new ops
 next_alike op ops old new after h1 h2 h3 h4 = search (rules, all_same, same_block, same_others)
 
-rest_comments : (op : Operation) (ops : List Operation) → SetComments (op ∷ ops) ⊎ SetNoComment (op ∷ ops) → SetComments ops ⊎ SetNoComment ops
-rest_comments op ops (inl h) = inl h.1
-rest_comments op ops (inr h) = inr h.1
-
 module _ (op : Operation) (ops : List Operation) (old new : ℕ → Room) (docs : List Document) (left : LeavesRooms op old new (after_op old op docs)) (h : MayFollow old (op ∷ ops) docs) where
   alike : AreAlike old new ops
   alike = next_alike op ops old new (after_op old op docs) left (there_after old op docs h.fit.0) h.last.block.0 h.last.comments
 
   -- the later operations may follow, by the rooms that the first one leaves
   pub rest_follow : MayFollow new ops (after_op old op docs)
-  rest_follow = search (rules, alike, rest_comments, all_fit_alike, lasts_alike)
+  rest_follow = search (rules, alike, all_fit_alike, lasts_alike)
 
   -- and make the same of documents
   pub rest_after : all_after new ops (after_op old op docs) ≡ all_after old (op ∷ ops) docs

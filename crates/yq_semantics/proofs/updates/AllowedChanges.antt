@@ -1,11 +1,11 @@
 -- What is allowed may be done.
-use Rattle.std.proofs.Common.{◌≡◌, ◌≢◌, ℕ, suc, Bool, true, false, cond, ◌||◌, List, [], ◌∷◌, ◌++◌, length, map, Option, Some, None}
-use Rattle.std.{proofs.Common.{is_some, refl, sym, ap, subst, ◌∙◌, rules}, specs.List.list_any}
+use Rattle.std.proofs.Common.{◌≡◌, ◌≢◌, ℕ, suc, true, false, cond, ◌||◌, List, [], ◌∷◌, ◌++◌, length, map, Option, Some, None, is_some}
+use Rattle.std.{proofs.Common.{refl, sym, ap, subst, ◌∙◌, rules}, specs.List.list_any}
 use Rattle.std.{proofs.lemmas.Bool.{false≢true, cond-false, or_parts}, proofs.lemmas.Option.none-some}
 use Rattle.yq_core.specs.Tree.{Node, list, Children, none, child, key_label}
 use Rattle.yq_core.{specs.Paths.{To, key_is, child_at, node_at, change_child, append_child}, specs.Anchors.names_of}
 use Rattle.yq_core.specs.Shapes.{IsNew, AreItems, AreEntries, IsTree, AreTrees}
-use Rattle.yq_semantics.{specs.Judgement.{Judgement, gives}, specs.Matching.key_step}
+use Rattle.yq_semantics.specs.Judgement.{Judgement, gives}
 use Rattle.yq_semantics.specs.Changes.{Addition, appends, overwrites, addition, additions, is_overlong_key, has_long_key, writes_long_key}
 use Rattle.yq_semantics.{specs.Changes.{value_in, is_deep, is_used_inside, overwrites_used}, specs.Meaning.add_to}
 use Rattle.yq_semantics.specs.Pipes.{places, select_on}
@@ -43,14 +43,11 @@ children_missed : (p : FoundPlace) (xs : List (paths.Step × Node)) → AreMisse
 children_missed p [] = tt
 children_missed p (x ∷ xs) = (tt, children_missed p xs)
 
-key_lacks : (k : List ℕ) (n : Node) → key_step k n ≡ gives None → Lacks (key k) n
-key_lacks k n h1 = search (rules, gives_same, none-some)
-
 miss_missed : (s : PathStep) (p : FoundPlace) → IsMissed p.missing p.node → (p.missing ≡ [] → Lacks s p.node) → AreMissed (miss s p)
 miss_missed s p h1 h2 = search rules
 
 there_missed : (s : PathStep) → Keeps (step_there s)
-there_missed s = search (rules, then_gives, gives_same, miss_missed, key_lacks, children_missed)
+there_missed s = search (rules, then_gives, gives_same, miss_missed, none-some, children_missed)
 
 step_missed : (s : PathStep) → Keeps (step_on s)
 step_missed s p qs m h = step_keeps AreMissed s p qs (there_missed s p qs m) (λ x xs is. miss_missed s p m (λ there. absurd (cons≢nil (sym is ∙ there)))) h
@@ -87,18 +84,11 @@ other_append j k v none d = cond-false (key_is k (Some j)) (Some v) None (bytes_
 other_append j k v (child label n es) d = ap (λ (o : Option Node). cond (key_is k label.key) (Some n) o) (other_append j k v es d)
 
 key_same : (j : List ℕ) (o : Option (List ℕ)) → key_is j o ≡ true → o ≡ Some j
-key_same j None h = absurd (false≢true h)
-key_same j (Some i) h = ap Some (bytes_same i j h)
+key_same j o h = search (rules, false≢true, bytes_same)
 
 other_change : (j k : List ℕ) (f : Node → Node) (es : Children) → j ≢ k → child_at (To k) (change_child (To j) f es) ≡ child_at (To k) es
 other_change j k f none d = refl
-other_change j k f (child label n es) d = go (key_is j label.key) refl (other_change j k f es d)
-  where
-    go : (b : Bool) → key_is j label.key ≡ b → child_at (To k) (change_child (To j) f es) ≡ child_at (To k) es → child_at (To k) (cond b (child label (f n) es) (child label n (change_child (To j) f es))) ≡ child_at (To k) (child label n es)
-    go true is ih =
-        let other : key_is k label.key ≡ false = ap (key_is k) (key_same j label.key is) ∙ bytes_differ j k d in
-        cond-false (key_is k label.key) (Some (f n)) (child_at (To k) es) other ∙ sym (cond-false (key_is k label.key) (Some n) (child_at (To k) es) other)
-    go false is ih = ap (λ (o : Option Node). cond (key_is k label.key) (Some n) o) ih
+other_change j k f (child label n es) d = search (rules, key_same, bytes_differ, cond-false, other_change j k f es d)
 
 other_add : (cs : Children) (j k : List ℕ) (v : Node) (es : Children) → j ≢ k → child_at (To k) (add_to (addition cs (Some j) v) es) ≡ child_at (To k) es
 other_add cs j k v es d = search (rules, other_change, other_append)

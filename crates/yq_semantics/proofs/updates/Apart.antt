@@ -1,7 +1,7 @@
 -- What is done at one place leaves the node of another as it is, and two such changes may be made in either order.
 use Rattle.std.proofs.Common.{◌≡◌, ◌≢◌, ℕ, zero, suc, ◌+◌, ◌<◌, Bool, true, false, cond, List, [], ◌∷◌, Option, Some, None, option_map}
-use Rattle.std.proofs.Common.{option_and_then, refl, sym, ap, subst, ◌∙◌, inl, inr, arith, rules}
-use Rattle.std.{proofs.lemmas.Bool.{cases_Bool, cond-false, cond-true, cond_both}, specs.Str.bytes_eq}
+use Rattle.std.proofs.Common.{option_and_then, refl, sym, ap, subst, ◌∙◌, arith, rules}
+use Rattle.std.proofs.lemmas.Bool.{cases_Bool, cond-false, cond-true, cond_both}
 use Rattle.yq_core.specs.Tree.{Label, Node, Children, none, child, children_of}
 use Rattle.yq_core.{specs.Paths.{Step, To, Nth, key_is, is_item, child_at, node_at, changed_at}, specs.PathOrder.{Before, Apart}}
 use Rattle.yq_core.specs.Shapes.{AreItems, AreEntries, IsTree}
@@ -11,7 +11,6 @@ use Rattle.yq_semantics.{proofs.ChildPlaces.{child_tree, children_tree}, proofs.
 use Rattle.yq_semantics.proofs.updates.Spares.{IsSpared, Spares, spares_root, spares_under, spares_behind, nothing, idle, child_done}
 use Rattle.yq_semantics.proofs.updates.Spares.{node_edits_same, child_kept_or_gone}
 use Rattle.yq_semantics.{proofs.updates.Folds.{path_same, apart_irrefl, apart_sym}, proofs.updates.OneAt.one_becomes}
-use Rattle.yq_core.specs.Tree as tree
 
 -- ---- the child to which a step leads
 
@@ -46,29 +45,8 @@ done_child s f o = option_map (at_once (under s f)) o
 
 find_key : (k : List ℕ) (f : NodeEdits) → f (To k ∷ []) ≡ None → (i : ℕ) (cs : Children) → child_at (To k) (each_at_once f i cs) ≡ done_child (To k) f (child_at (To k) cs)
 find_key k f free i none = refl
-find_key k f free i (child label n cs) = go label.key label.head_comment label.line_comment (find_key k f free (suc i) cs)
-  where
-    there : (hc : List (List ℕ)) (lc : Option (List ℕ)) → child_at (To k) (child_done (under (To k) f)
-        (record { key = Some k; head_comment = hc; line_comment = lc }) n (each_at_once f (suc i) cs)) ≡ done_child (To k) f (cond (key_is k (Some k)) (Some n) (child_at (To k) cs))
-    there hc lc =
-        ap (λ (d : Option NodeEdit). child_at (To k) (first_by d (Some k) hc lc (at_once (under (To k) f) n) (each_at_once f (suc i) cs))) free
-        ∙ (cond-true (key_is k (Some k)) (Some (at_once (under (To k) f) n)) (child_at (To k) (each_at_once f (suc i) cs)) (bytes_refl k)
-        ∙ sym (ap (λ (o : Option Node). done_child (To k) f o) (cond-true (key_is k (Some k)) (Some n) (child_at (To k) cs) (bytes_refl k))))
-
-    other : (o : Option (List ℕ)) (hc : List (List ℕ)) (lc : Option (List ℕ)) → key_is k o ≡ false → child_at (To k) (each_at_once f (suc i) cs) ≡ done_child (To k) f (child_at (To k) cs) →
-        child_at (To k) (child_done (under (step_by i o) f) (record { key = o; head_comment = hc; line_comment = lc }) n (each_at_once f (suc i) cs)) ≡ done_child (To k) f (cond (key_is k o) (Some n) (child_at (To k) cs))
-    other o hc lc e ih =
-        find_past_key k o hc lc e (f (step_by i o ∷ [])) (at_once (under (step_by i o) f) n) (each_at_once f (suc i) cs)
-        ∙ (ih ∙ sym (ap (λ (x : Option Node). done_child (To k) f x) (cond-false (key_is k o) (Some n) (child_at (To k) cs) e)))
-
-    go : (o : Option (List ℕ)) (hc : List (List ℕ)) (lc : Option (List ℕ)) → child_at (To k) (each_at_once f (suc i) cs) ≡ done_child (To k) f (child_at (To k) cs) →
-        child_at (To k) (child_done (under (step_by i o) f) (record { key = o; head_comment = hc; line_comment = lc }) n (each_at_once f (suc i) cs)) ≡ done_child (To k) f (cond (key_is k o) (Some n) (child_at (To k) cs))
-    go None hc lc ih = other None hc lc refl ih
-    go (Some j) hc lc ih = elim (cases_Bool (bytes_eq j k)) [
-      | inl same ↦ subst (λ (c : List ℕ). child_at (To k) (child_done (under (To c) f) (record { key = Some c; head_comment = hc; line_comment = lc }) n (each_at_once f (suc i) cs)) ≡
-          done_child (To k) f (cond (key_is k (Some c)) (Some n) (child_at (To k) cs))) (sym (bytes_same j k same)) (there hc lc)
-      | inr differs ↦ other (Some j) hc lc differs ih
-    ]
+find_key k f free i (child label n cs) =
+    search (rules, child_done, cond-true, bytes_refl, find_past_key, cond-false, cases_Bool, bytes_same, find_key k f free (suc i) cs)
 
 find_item : (r m : ℕ) (f : NodeEdits) → f (Nth m ∷ []) ≡ None → ((i : ℕ) → f (Nth i ∷ []) ≡ Some goes → m < i) → (i : ℕ) → i + r ≡ m → (cs : Children) → AreItems cs → child_at (Nth r)
     (each_at_once f i cs) ≡ done_child (Nth m) f (child_at (Nth r) cs)
@@ -76,11 +54,7 @@ find_item r m f free behind i is none items = refl
 find_item zero m f free behind i is (child label n cs) items = search (rules, child_done, find_past_item)
 find_item (suc r) m f free behind i is (child label n cs) items =
     let next : suc i + r ≡ m = omega (arith, is) in
-    subst (λ (o : Option (List ℕ)). child_at (Nth (suc r)) (child_done (under (step_by i o) f)
-    (record { key = o; head_comment = label.head_comment; line_comment = label.line_comment }) n (each_at_once f (suc i) cs)) ≡ done_child (Nth m) f (child_at (Nth r) cs)) (sym items.0)
-    (find_past_item r (f (Nth i ∷ [])) (λ e. let later : m < i = behind i e in absurd (omega (arith, is, later))) (record { key = None; head_comment = label.head_comment; line_comment = label.line_comment })
-    (at_once (under (Nth i) f) n) (each_at_once f (suc i) cs)
-    ∙ find_item r m f free behind (suc i) next cs items.1)
+    search (rules, child_done, find_past_item, find_item r m f free behind (suc i) next cs items.1)
 
 find_inside : (s : Step) (f : NodeEdits) → f (s ∷ []) ≡ None → ((m i : ℕ) → s ≡ Nth m → f (Nth i ∷ []) ≡ Some goes → m < i) → (n : Node) → IsTree n → child_at s (children_of (node_edit_inside f n)) ≡ done_child s f (child_at s (children_of n))
 find_inside s f h1 h2 n h3 = search (rules, find_key, find_item, no_entry_done, no_entry)
@@ -97,8 +71,7 @@ node_spared (s ∷ p) f n tree spared =
     ∙ go (child_at s (children_of n)) (λ m is. node_spared p (under s f) m (child_tree s (children_of n) m (children_tree n tree) is) below))
   where
     go : (o : Option Node) → ((m : Node) → o ≡ Some m → node_at p (at_once (under s f) m) ≡ node_at p m) → option_and_then (node_at p) (done_child s f o) ≡ option_and_then (node_at p) o
-    go None ih = refl
-    go (Some m) ih = ih m refl
+    go o ih = search rules
 
 -- ---- two changes
 
@@ -128,6 +101,4 @@ changes_commute p q f g n tree h =
   where
     go : (r : List Step) (a b : Bool) → same_path p r ≡ a → same_path q r ≡ b → cond a (Some (becomes f)) (cond b (Some (becomes g)) None) ≡ cond b (Some (becomes g)) (cond a (Some (becomes f)) None)
     go r true true x y = absurd (apart_irrefl p (subst (Apart p) (path_same q r y ∙ sym (path_same p r x)) h))
-    go r true false x y = refl
-    go r false true x y = refl
-    go r false false x y = refl
+    go r _ _ x y = refl

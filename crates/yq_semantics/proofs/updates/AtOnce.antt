@@ -1,13 +1,13 @@
 -- What is done at once is one thing more done to what the rest makes.
+use Rattle.std.{proofs.lemmas.Bool.{false≢true, cases_Bool, cond-false, cond-true}, proofs.lemmas.Slice.Eq.bytes_eq-Decides}
 use Rattle.std.proofs.Common.{◌≡◌, ◌≢◌, ℕ, suc, ◌+◌, ◌<◌, ◌⊎◌, Bool, true, false, cond, List, [], ◌∷◌, Option, Some, None, refl, sym, ap}
-use Rattle.std.{proofs.Common.{subst, ◌∙◌, inl, inr, arith, zero, ◌&&◌, rules}, proofs.lemmas.Bool.{cases_Bool, cond-false, cond-true}}
-use Rattle.std.proofs.lemmas.Option.{none-some, same_Some}
+use Rattle.std.{proofs.Common.{subst, ◌∙◌, inl, inr, arith, zero, ◌&&◌, rules}, proofs.lemmas.Option.{none-some, same_Some}}
 use Rattle.yq_core.specs.Tree.{Label, Node, list, Children, none, child, map}
 use Rattle.yq_core.{specs.Paths.{To, Nth, key_is, is_here, further, Step, within}, specs.PathOrder.Before}
 use Rattle.yq_core.specs.Shapes.{IsNew, AreItems, AreEntries, IsTree, AreTrees}
 use Rattle.yq_semantics.specs.NodeEdits.{step_to, NodeEdit, goes, NodeEdits, under, done_at, child_by, node_edit_inside, each_at_once}
 use Rattle.yq_semantics.{specs.NodeEdits.{at_once, same_path, and_at, at_child, here, one_at}, specs.Places.step_by}
-use Rattle.yq_semantics.proofs.PathLaws.{bytes_refl, bytes_same, bytes_other, to_nth, step_refl, step_other, apart_root}
+use Rattle.yq_semantics.proofs.PathLaws.{bytes_refl, bytes_same, to_nth, step_refl, step_other, apart_root}
 use Rattle.yq_semantics.proofs.updates.Spares.{node_edits_same, IsSpared, Spares, spares_under, nothing, spares_root, spares_behind}
 use Rattle.yq_semantics.proofs.updates.Spares.{child_done, idle, child_kept_or_gone}
 
@@ -22,9 +22,7 @@ Agree s f g = (t : Step) → t ≢ s → (q : List Step) → f (t ∷ q) ≡ g (
 
 each_same : (s : Step) (f g : NodeEdits) → Agree s f g → (i : ℕ) (cs : Children) → HasNone s i cs → each_at_once f i cs ≡ each_at_once g i cs
 each_same s f g same i none h = refl
-each_same s f g same i (child label n cs) h =
-    ap (λ (k : NodeEdits). child_done k label n (each_at_once f (suc i) cs)) (node_edits_same (under (step_to i label) f) (under (step_to i label) g) (same (step_to i label) h.0))
-    ∙ ap (child_done (under (step_to i label) g) label n) (each_same s f g same (suc i) cs h.1)
+each_same s f g same i (child label n cs) h = search (rules, child_done, node_edits_same, each_same s f g same (suc i) cs h.1)
 
 -- what is done at a child, and at what a step leads to after it
 abbrev at_rest : Step → (Label → Node → Children → Children) → Option NodeEdit → Label → Node → Children → Type 0
@@ -33,13 +31,11 @@ at_rest s h d label m rest = at_child s h (child_by d label m rest) ≡ child_by
 -- a step to a key leads past others
 past_key : (k : List ℕ) (h : Label → Node → Children → Children) (o : Option (List ℕ)) (hc : List (List ℕ)) (lc : Option (List ℕ)) → key_is k o ≡ false → (d : Option NodeEdit) (m : Node) (rest : Children) →
     at_rest (To k) h d (record { key = o; head_comment = hc; line_comment = lc }) m rest
-past_key k h o hc lc e d m rest =
-    child_kept_or_gone (λ f. at_child (To k) h (f rest) ≡ f (at_child (To k) h rest)) d (record { key = o; head_comment = hc; line_comment = lc }) m (λ hd ld. cond-false (key_is k o) _ _ e) (λ gone. refl)
+past_key k h o hc lc e d m rest = search (rules, child_kept_or_gone, cond-false)
 
 -- a step to a later item leads past one that stays
 past_item : (r : ℕ) (h : Label → Node → Children → Children) (d : Option NodeEdit) → d ≢ Some goes → (label : Label) (m : Node) (rest : Children) → at_rest (Nth (suc r)) h d label m rest
-past_item r h d stays label m rest =
-    child_kept_or_gone (λ f. at_child (Nth (suc r)) h (f rest) ≡ f (at_child (Nth r) h rest)) d label m (λ hd ld. refl) (λ gone. absurd (stays gone))
+past_item r h d stays label m rest = search (rules, child_kept_or_gone)
 
 -- a step to an item leads past what has a key
 past_entry : (r : ℕ) (h : Label → Node → Children → Children) (k : List ℕ) (hc : List (List ℕ)) (lc : Option (List ℕ)) (d : Option NodeEdit) (m : Node) (rest : Children) →
@@ -68,16 +64,14 @@ new_none k i none h = tt
 new_none k i (child label n cs) h = (go label.key h.0, new_none k (suc i) cs h.1)
   where
     go : (o : Option (List ℕ)) → o ≢ Some k → step_by i o ≢ To k
-    go None d e = cc
-    go (Some j) d e = d (let same : j ≡ k = cc in ap Some same)
+    go o d e = search rules
 
 later_none : (m i : ℕ) (cs : Children) → m < i → HasNone (Nth m) i cs
 later_none m i none h = tt
 later_none m i (child label n cs) h = (go label.key, later_none m (suc i) cs (omega arith))
   where
     go : (o : Option (List ℕ)) → step_by i o ≢ Nth m
-    go None e = let same : i ≡ m = cc in absurd (omega (arith, h, same))
-    go (Some j) e = cc
+    go o e = search rules
 
 -- keys of entries differ
 abbrev pub AreDistinct : Children → Type 0
@@ -111,7 +105,7 @@ module _ (x : NodeEdit) (p : List Step) (f g : NodeEdits) (i : ℕ) (n : Node) (
   key_once : (k : List ℕ) → More (To k) x p f g → each_at_once f (suc i) cs ≡ at_child (To k) (there x p) (each_at_once g (suc i) cs) →
       (o : Option (List ℕ)) (hc : List (List ℕ)) (lc : Option (List ℕ)) → ((j : List ℕ) → o ≡ Some j → IsNew j cs) →
       first_done f i o hc lc n (each_at_once f (suc i) cs) ≡ at_child (To k) (there x p) (first_done g i o hc lc n (each_at_once g (suc i) cs))
-  key_once k h1 h2 o hc lc h3 = search (rules, key_other, to_nth, cases_Bool, bytes_same, key_this, bytes_other)
+  key_once k h1 h2 o hc lc h3 = search (rules, key_other, to_nth, cases_Bool, bytes_same, key_this, false≢true, bytes_eq-Decides)
 
   -- the step is to this item
   item_this : More (Nth i) x p f g → (hc : List (List ℕ)) (lc : Option (List ℕ)) →
@@ -172,15 +166,11 @@ more_each (Nth m) x p f g more cs (inr entries) trees = search (rules, more_key,
 done_one : (x : NodeEdit) (n m : Node) → done_at (Some x) n m ≡ done_at (Some x) n n
 done_one x n m = search rules
 
-and_other : (s t : Step) (p q : List Step) (x : NodeEdit) (f : NodeEdits) → t ≢ s → and_at (s ∷ p) x f (t ∷ q) ≡ f (t ∷ q)
-and_other s t p q x f d = ap (λ (b : Bool). cond (b && same_path p q) (Some x) (f (t ∷ q))) (step_other s t (λ e. d (sym e)))
-
 and_under : (s : Step) (p : List Step) (x : NodeEdit) (f : NodeEdits) → under s (and_at (s ∷ p) x f) ≡ and_at p x (under s f)
 and_under s p x f = node_edits_same (under s (and_at (s ∷ p) x f)) (and_at p x (under s f)) (λ q. ap (λ (b : Bool). cond (b && same_path p q) (Some x) (f (s ∷ q))) (step_refl s))
 
 and_here : (p : List Step) (x : NodeEdit) (f : NodeEdits) → f [] ≡ None → and_at p x f [] ≡ here x p
-and_here [] x f h = refl
-and_here (s ∷ p) x f h = h
+and_here p x f h = search rules
 
 in_tree : (s : Step) (x : NodeEdit) (p : List Step) (f g : NodeEdits) → More s x p f g → (n : Node) → IsTree n → node_edit_inside f n ≡ within (at_child s (there x p)) (node_edit_inside g n)
 in_tree s x p f g more (list anchor cs) tree = ap (list anchor) (more_each s x p f g more cs (inl tree.0) tree.1)
@@ -195,7 +185,7 @@ one_more (s ∷ p) x f n tree spared =
     let free : f [] ≡ None = spares_root f (s ∷ p) spared in
     let below : Spares (under s f) p = spares_under f s p spared in
     let more : More s x p (and_at (s ∷ p) x f) f = record {
-      agree = λ t d q. and_other s t p q x f d;
+      agree = λ t d q. (ap (λ (b : Bool). cond (b && same_path p q) (Some x) (f (t ∷ q))) (step_other s t (λ e. d (sym e))));
       at = ap (λ (k : NodeEdits). k []) (and_under s p x f) ∙ and_here p x (under s f) (spares_root (under s f) p below);
       free = spares_root (under s f) p below;
       within_it = λ m is. ap (λ (k : NodeEdits). at_once k m) (and_under s p x f) ∙ one_more p x (under s f) m is below;

@@ -1,15 +1,13 @@
 -- Of the places to which a pipe leads, none but the first one is at the first item or entry of the root.
 use Rattle.std.proofs.Common.{◌≡◌, ◌≢◌, ℕ, ◌⊎◌, List, [], ◌∷◌, ◌++◌, map, refl, sym, ap, subst, ◌∙◌, inl, inr, rules}
 use Rattle.std.proofs.lemmas.Option.{same_Some}
-use mathlib.Core.List.{head-eq_of_cons-eq, tail-eq_of_cons-eq}
 use Rattle.yq_core.{specs.Tree.{Label, Node, alias, scalar, list, Children, none, child, children_of}, specs.Paths.node_at}
 use Rattle.yq_core.{specs.PathOrder.Before, specs.Shapes.{AreItems, AreEntries, IsTree}}
-use Rattle.yq_semantics.{specs.Judgement.{Judgement, and_then, gives}, specs.Matching.{ChildFound, key_step, index_step}}
-use Rattle.yq_semantics.{specs.Program.{PathStep, key, index, each, Condition, Stage}, specs.NodeEdits.step_to}
-use Rattle.yq_semantics.specs.Pipes.{select_on, places}
-use Rattle.yq_semantics.specs.Places.{FoundPlace, root_place, child_place, for_each, miss, found_place, stepped, all_steps, step_there}
-use Rattle.yq_semantics.{specs.Places.step_on, specs.PlacesApart.{IsBeforeAll, IsIn}, proofs.JudgementLaws.{then_gives, gives_same}}
-use Rattle.yq_semantics.{proofs.PathLaws.parts_differ, proofs.GoodPlaces.{LieIn, AreSound, LeadsSo, AreGood, each_good}}
+use Rattle.yq_semantics.{specs.Judgement.{Judgement, and_then, gives}, specs.Matching.ChildFound}
+use Rattle.yq_semantics.{specs.Program.{PathStep, Condition, Stage}, specs.NodeEdits.step_to, specs.Pipes.{select_on, places}}
+use Rattle.yq_semantics.specs.Places.{FoundPlace, root_place, child_place, for_each, miss, found_place, stepped, all_steps, step_on}
+use Rattle.yq_semantics.{specs.PlacesApart.{IsBeforeAll, IsIn}, proofs.JudgementLaws.{then_gives, gives_same}, proofs.PathLaws.parts_differ}
+use Rattle.yq_semantics.proofs.GoodPlaces.{LieIn, AreSound, LeadsSo, AreGood, each_good}
 use Rattle.yq_semantics.proofs.ChildPlaces.{StepsBefore, StepsApart, items_apart, entries_apart}
 use Rattle.yq_semantics.proofs.updates.StepPlaces.{leads_step, step_keeps}
 use Rattle.yq_semantics.proofs.updates.PipePlaces.{leads_select, pipe_keeps, select_keeps}
@@ -43,8 +41,7 @@ front_nil (s ∷ p) r e = absurd (cc)
 
 -- what lies below a place that isn't there, and isn't the root, isn't there
 lying_other : (s : paths.Step) (x p : List paths.Step) (r : List paths.Step) → Before x p → p ≢ s ∷ [] → p ++ r ≢ s ∷ []
-lying_other s (y ∷ x) (t ∷ p) r b d e =
-    d (ap (λ (u : paths.Step). u ∷ p) (head-eq_of_cons-eq e) ∙ ap (λ (q : List paths.Step). s ∷ q) (front_nil p r (tail-eq_of_cons-eq e)))
+lying_other s (y ∷ x) (t ∷ p) r b d e = search (rules, front_nil)
 lying_other s _ _ r b d e = b
 
 lying_none : (s : paths.Step) (x p : List paths.Step) (qs : List FoundPlace) → Before x p → p ≢ s ∷ [] → LieIn p qs → NoPlaceAt s qs
@@ -66,14 +63,12 @@ each_first root f h1 s h2 ps qs h3 h4 h5 = search (rules, gives_same, joined_giv
 -- of the children of the root, the first one is first
 root_children : (s : paths.Step) (p : FoundPlace) (xs : List (paths.Step × Node)) → p.path ≡ [] → StepsBefore s xs → NoPlaceAt s (map (child_place p) xs)
 root_children s p [] is h = tt
-root_children s p (x ∷ xs) is h =
-    ((λ e. parts_differ s x.0 h.0 (head-eq_of_cons-eq (ap (λ (q : List paths.Step). q ++ x.0 ∷ []) (sym is) ∙ e))), root_children s p xs is h.1)
+root_children s p (x ∷ xs) is h = search (rules, parts_differ, root_children s p xs is h.1)
 
 -- of those of another node none is there
 other_children : (s t : paths.Step) (r : List paths.Step) (p : FoundPlace) (xs : List (paths.Step × Node)) → p.path ≡ t ∷ r → NoPlaceAt s (map (child_place p) xs)
 other_children s t r p [] is = tt
-other_children s t r p (x ∷ xs) is =
-    ((λ e. no_nil r x.0 (tail-eq_of_cons-eq (ap (λ (q : List paths.Step). q ++ x.0 ∷ []) (sym is) ∙ e))), other_children s t r p xs is)
+other_children s t r p (x ∷ xs) is = search (rules, no_nil, other_children s t r p xs is)
 
 first_children : (root : Node) (s : paths.Step) → IsFirstStep root s → (p : FoundPlace) → IsIn root p → (cs : Children) → children_of p.node ≡ cs → AreItems cs ⊎ AreEntries cs → NoPlaceLater s (map (child_place p) (stepped 0 cs))
 first_children root s first p at none is kind = tt
@@ -110,12 +105,7 @@ all_later root s first p (tree.map anchor cs) is tree at qs h =
     subst (NoPlaceLater s) (gives_same h) (first_children root s first p at cs (ap children_of is) (inr (subst IsTree is tree).0))
 
 step_first : (root : Node) (s : paths.Step) → IsFirstStep root s → (step : PathStep) → LeadsFirst root s (step_on step)
-step_first root s first step p qs tree at h = step_keeps (NoPlaceLater s) step p qs (there step) (λ m ms is. miss_later s step p) h
-  where
-    there : (step : PathStep) → step_there step p ≡ gives qs → NoPlaceLater s qs
-    there (key k) e = found_later s (key k) p (key_step k p.node) qs e
-    there (index i) e = found_later s (index i) p (index_step i p.node) qs e
-    there each e = all_later root s first p p.node refl tree at qs e
+step_first root s first step p qs tree at h = search (rules, step_keeps, miss_later, found_later, all_later)
 
 select_first : (root : Node) (s : paths.Step) (doc : ℕ) (c : Condition) → LeadsFirst root s (select_on doc c)
 select_first root s doc c p qs tree at h = select_keeps (NoPlaceLater s) doc c p qs tt tt h

@@ -1,15 +1,13 @@
 -- Each operation of a plan fits at its turn.
 use Rattle.std.proofs.lemmas.Bool.{cases_Bool, and_parts, or_parts}
-use Rattle.std.proofs.Common.{◌≡◌, ℕ, Bool, true, false, cond, List, [], ◌∷◌, length, Option, Some, None, refl, sym, ap, subst, ◌∙◌, inl}
-use Rattle.std.proofs.Common.{inr, rules}
+use Rattle.std.proofs.Common.{◌≡◌, ℕ, Bool, true, false, cond, List, [], ◌∷◌, length, Option, refl, sym, ap, subst, ◌∙◌, inl, inr, rules}
 use Rattle.yq_core.{specs.Tree.{Node, scalar, list, Children, none, child}, specs.Anchors.names_of, specs.Shapes.IsTree}
 use Rattle.yq_semantics.{specs.declared.program.CommentPlace.CommentPlace, specs.Judgement.{Judgement, and_then, gives}}
-use Rattle.yq_semantics.specs.Changes.{Change, replaces, Changed, Room, nested, created, put_with_path, addition, additions, added}
-use Rattle.yq_semantics.specs.Changes.{add_below, add_at, remove_at, comment_at, is_too_long, is_too_deep, is_used_inside, takes_used}
-use Rattle.yq_semantics.specs.Changes.{allowed, all_allowed, at_each, with_value, changes_at, left_pipe, changes_in, can_be_comment}
-use Rattle.yq_semantics.{specs.Changes.{has_comment, value_in}, proofs.updates.Mentions.{HasNoAlias, IsPure}, specs.Pipes.places}
-use Rattle.yq_semantics.{specs.Places.{FoundPlace, root_place}, specs.PlacesApart.IsIn}
-use Rattle.yq_semantics.specs.RightValues.{is_null, as_items, sum, right_value}
+use Rattle.yq_semantics.specs.Changes.{Change, replaces, Changed, Room, nested, put_with_path, addition, additions, added, add_below}
+use Rattle.yq_semantics.specs.Changes.{add_at, remove_at, comment_at, is_too_long, is_too_deep, is_used_inside, takes_used, allowed}
+use Rattle.yq_semantics.specs.Changes.{all_allowed, at_each, with_value, changes_at, left_pipe, changes_in, can_be_comment, has_comment}
+use Rattle.yq_semantics.{specs.Changes.value_in, proofs.updates.Mentions.{HasNoAlias, IsPure}, specs.Pipes.places}
+use Rattle.yq_semantics.{specs.Places.{FoundPlace, root_place}, specs.PlacesApart.IsIn, specs.RightValues.{is_null, right_value}}
 use Rattle.yq_semantics.specs.Program.{SumHolds, UpdatesHold, PathStep, key, Term, Update, assign, delete, comment}
 use Rattle.yq_semantics.proofs.updates.Aliases.{AddNone, WritesNone}
 use Rattle.yq_semantics.proofs.updates.AllowedChanges.{IsMissed, AreMissed, places_missed, list_fits, entries_fit}
@@ -32,9 +30,6 @@ IfFree room root c = WritesNone c.1 × (IsFree root c → MayChange room root c)
 abbrev EachIfFree : Room → Node → List Changed → Type 0
 EachIfFree room root cs = Each (IfFree room root) cs
 
-allowed_free : (root : Node) (c d : Changed) → allowed root c ≡ gives d → (c ≡ d) × IsFree root c
-allowed_free root c d h = search (rules, gives_same)
-
 all_free : (room : Room) (root : Node) (cs ds : List Changed) → EachIfFree room root cs → all_allowed root cs ≡ gives ds → AreFit room root ds
 all_free room root cs ds f h =
     each_given (EachIfFree room root) (λ (c : Changed). MayChange room root c × WritesNone c.1) (λ c. and_then (λ d. gives (d ∷ [])) (allowed root c)) (λ c more free. (one c free.0, free.1)) cs ds f h
@@ -42,7 +37,7 @@ all_free room root cs ds f h =
     one : (c : Changed) → IfFree room root c → (es : List Changed) → and_then (λ d. gives (d ∷ [])) (allowed root c) ≡ gives es → AreFit room root es
     one c free es h =
         let first = then_gives (λ (d : Changed). gives (d ∷ [])) (allowed root c) es h in
-        let same = allowed_free root c first.0 first.1 in
+        let same : (c ≡ first.0) × IsFree root c = search (rules, gives_same) in
         subst (AreFit room root) (ap (λ (d : Changed). d ∷ []) same.0 ∙ gives_same first.2) ((free.1 same.1, free.0), tt)
 
 -- what is changed at a place may be made
@@ -72,11 +67,8 @@ nested_tree [] v h = h
 nested_tree (key k ∷ ms) v h = (((k, refl, tt), tt), (nested_tree ms v h, tt))
 nested_tree (_ ∷ ms) v h = nested_tree ms v h
 
-nested_pure : (ms : List PathStep) (v : Node) → IsPure v → IsPure (nested ms v)
-nested_pure ms v h = (nested_tree ms v h.0, nested_free ms v h.1)
-
 put_fits : (room : Room) (root : Node) (v : Node) → IsPure v → SoFits room root (λ p. put_with_path p v)
-put_fits room root v pure p cs tree at miss h = search (rules, then_gives, gives_same, puts_fit, nested_pure, nested_free, or_parts, nested_tree, cases_Bool)
+put_fits room root v pure p cs tree at miss h = search (rules, then_gives, gives_same, puts_fit, nested_free, or_parts, nested_tree, cases_Bool)
 
 addition_value : (cs : Children) (o : Option (List ℕ)) (v : Node) → value_in (addition cs o v) ≡ v
 addition_value cs o v = search rules
@@ -86,15 +78,9 @@ adds_none cs none free = tt
 adds_none cs (child label v ds) free = (subst HasNoAlias (sym (addition_value cs label.key v)) (λ a m. free a (inl m)), adds_none cs ds (λ a m. free a (inr m)))
 
 added_fit : (room : Room) (root : Node) (p : FoundPlace) (v : Node) (n : Node) → p.node ≡ n → IsIn root p → IsPure v → (c : Change) → added n v ≡ gives c → IfFree room root (p.path, c)
-added_fit room root p v (scalar anchor kind text) is at pure c h =
-    let x = then_gives (λ (w : Node). gives (replaces w)) (sum (scalar None kind text) v) c h in
-    subst (λ (d : Change). IfFree room root (p.path, d)) (gives_same x.2) (puts_fit room root p x.0 at (sum_pure (scalar None kind text) v x.0 (tt, λ a m. m) pure x.1))
-added_fit room root p v (list anchor cs) is at pure c h =
-    subst (λ (d : Change). IfFree room root (p.path, d)) (gives_same h)
-    (adds_none none (as_items v) (items_free v pure).1, λ f. (list anchor cs, at ∙ ap Some is, list_fits root p.path anchor cs (as_items v) (items_items v pure) (items_free v pure).0 f))
-added_fit room root p (tree.map a ds) (tree.map anchor cs) is at pure c h =
-    subst (λ (d : Change). IfFree room root (p.path, d)) (gives_same h)
-    (adds_none cs ds (λ b m. pure.1 b m), λ f. (tree.map anchor cs, at ∙ ap Some is, entries_fit root p.path anchor anchor cs (at ∙ ap Some is) ds cs pure.0.0 pure.0.1 (λ k not_new. refl) f))
+added_fit room root p v (scalar anchor kind text) is at pure c h = search (rules, then_gives, gives_same, puts_fit, sum_pure)
+added_fit room root p v (list anchor cs) is at pure c h = search (rules, gives_same, adds_none, items_free, list_fits, items_items)
+added_fit room root p (tree.map a ds) (tree.map anchor cs) is at pure c h = search (rules, gives_same, adds_none, entries_fit)
 added_fit room root p _ _ is at pure c h = absurd (cc)
 
 add_fits : (room : Room) (root : Node) (v : Node) → IsPure v → SoFits room root (λ p. add_at p v)

@@ -1,10 +1,10 @@
 -- Each operation of changes that are allowed fits at its turn.
-use Rattle.std.proofs.Common.{◌≡◌, ℕ, suc, Bool, true, false, cond, List, [], ◌∷◌, ◌++◌, length, map, reverse, Option, Some, None}
-use Rattle.std.proofs.Common.{option_and_then, refl, sym, ap, subst, ◌∙◌, inl, inr, append-nil, arith, length-append, rules}
-use Rattle.std.{proofs.lemmas.List.reverse-reverse, proofs.lemmas.Option.same_Some}
-use Rattle.yq_core.specs.Tree.{Node, alias, list, Children, none, child, children_of}
+use Rattle.std.proofs.Common.{◌≡◌, ℕ, suc, Bool, false, cond, List, [], ◌∷◌, ◌++◌, length, map, reverse, Option, Some, option_and_then}
+use Rattle.std.{proofs.Common.{refl, sym, ap, subst, ◌∙◌, append-nil, arith, length-append, rules}, proofs.lemmas.List.reverse-reverse}
+use Rattle.std.proofs.lemmas.Option.{same_Some}
+use Rattle.yq_core.specs.Tree.{Node, list, Children, none, child, children_of}
 use Rattle.yq_core.{specs.Paths.{Step, To, is_here, further, child_at, node_at, change_child, within, changed_at}, specs.Anchors.names_of}
-use Rattle.yq_core.{specs.PathOrder.{Before, Apart}, specs.Shapes.IsTree}
+use Rattle.yq_core.{specs.PathOrder.Before, specs.Shapes.IsTree}
 use Rattle.yq_semantics.specs.After.{root_after}
 use Rattle.yq_semantics.specs.Changes.{Addition, appends, overwrites, replaces, adds, sets_comment, Changed, Room, is_overlong_key}
 use Rattle.yq_semantics.{specs.Changes.{is_used_inside, is_used_in}, specs.NodeEdits.at_once}
@@ -14,9 +14,8 @@ use Rattle.yq_semantics.{specs.Operations.Operation, specs.Plans.{add_op, change
 use Rattle.yq_semantics.proofs.updates.Aliases.{AddNone, one_no_more, WritesNone, all_bring, at_once_no_more}
 use Rattle.yq_semantics.proofs.updates.Apart.{node_spared}
 use Rattle.yq_semantics.proofs.updates.Folds.{InPairs, MayFold, AreSpared, node_edits_of, ops_join, fold_back, spared_in_order}
-use Rattle.yq_semantics.proofs.updates.Folds.{spared_apart, pairs_apart, pairs_reverse, apart_sym, IsKept}
-use Rattle.yq_semantics.{proofs.ChildPlaces.node_further, proofs.updates.OneAt.{roots_after, add_after}}
-use Rattle.yq_semantics.proofs.updates.Each.{Each, each_reverse, each_weaker, reverse-cons}
+use Rattle.yq_semantics.{proofs.updates.Folds.{spared_apart, pairs_apart, pairs_reverse, apart_sym}, proofs.ChildPlaces.node_further}
+use Rattle.yq_semantics.{proofs.updates.OneAt.{roots_after, add_after}, proofs.updates.Each.{Each, each_reverse, each_weaker, reverse-cons}}
 use Rattle.yq_core.specs.Tree as tree
 use Rattle.yq_semantics.specs.declared.program.CommentPlace.TheVariants as comments
 use Rattle.yq_semantics.specs.Changes as changes
@@ -53,12 +52,7 @@ AreFit room root cs = Each (λ (c : Changed). MayChange room root c × WritesNon
 
 child_changed : (s : Step) (f : Node → Node) (cs : Children) (n : Node) → child_at s cs ≡ Some n → child_at s (change_child s f cs) ≡ Some (f n)
 child_changed s f none n h = absurd (cc)
-child_changed s f (child label m cs) n h = go (is_here s label) refl (child_changed (further s) f cs n) h
-  where
-    go : (b : Bool) → is_here s label ≡ b → (child_at (further s) cs ≡ Some n → child_at (further s) (change_child (further s) f cs) ≡ Some (f n)) → cond b (Some m) (child_at (further s) cs) ≡ Some n →
-        child_at s (cond b (child label (f m) cs) (child label m (change_child (further s) f cs))) ≡ Some (f n)
-    go true is ih e = ap (λ (b : Bool). cond b (Some (f m)) (child_at (further s) cs)) is ∙ ap (λ (x : Node). Some (f x)) (same_Some _ _ e)
-    go false is ih e = ap (λ (b : Bool). cond b (Some m) (child_at (further s) (change_child (further s) f cs))) is ∙ ih e
+child_changed s f (child label m cs) n h = search (rules, same_Some, child_changed (further s) f cs n)
 
 children_within : (s : Step) (f : Node → Node) (r n : Node) → child_at s (children_of r) ≡ Some n → child_at s (children_of (within (change_child s f) r)) ≡ Some (f n)
 children_within s f r n h1 = search (rules, child_changed)
@@ -69,18 +63,14 @@ node_change [] f r n h = let same : r ≡ n = cc in ap (λ (x : Node). Some (f x
 node_change (s ∷ p) f r n h = go (child_at s (children_of r)) refl (λ m. node_change p f m n) h
   where
     go : (o : Option Node) → child_at s (children_of r) ≡ o → ((m : Node) → node_at p m ≡ Some n → node_at p (changed_at p f m) ≡ Some (f n)) → option_and_then (node_at p) o ≡ Some n → node_at (s ∷ p) (changed_at (s ∷ p) f r) ≡ Some (f n)
-    go None is ih e = absurd (cc)
-    go (Some m) is ih e = ap (option_and_then (node_at p)) (children_within s (changed_at p f) r m is) ∙ ih m e
+    go o is ih e = search (rules, children_within)
 
 child_no_more : (a : List ℕ) (s : Step) (f : Node → Node) → ((m : Node) → MentionsNoMore (f m) m) → (cs : Children) → AnyMentions a (change_child s f cs) → AnyMentions a cs
 child_no_more a s f less none h = h
 child_no_more a s f less (child label n cs) h = go (is_here s label) (child_no_more a (further s) f less cs) h
   where
     go : (b : Bool) → (AnyMentions a (change_child (further s) f cs) → AnyMentions a cs) → AnyMentions a (cond b (child label (f n) cs) (child label n (change_child (further s) f cs))) → AnyMentions a (child label n cs)
-    go true ih (inl e) = inl (less n a e)
-    go true ih (inr e) = inr e
-    go false ih (inl e) = inl e
-    go false ih (inr e) = inr (ih e)
+    go b ih e = search rules
 
 change_no_more : (p : List Step) (f : Node → Node) → ((m : Node) → MentionsNoMore (f m) m) → (r : Node) → MentionsNoMore (changed_at p f r) r
 change_no_more [] f less r a h = less r a h
@@ -101,8 +91,7 @@ module _ (block : Bool) (lead : List (List ℕ)) (room : Room) (doc : ℕ) (root
       (subst (λ (m : ℕ). IsWritableAt m v) (sym (longer p (To k))) h.0.0, (h.0.1.0, node_join p (To k) r n at ∙ h.0.1.1, inside_less r root less (Some h.0.1.0) h.0.1.2))
 
   rest_fits : (p : List Step) (x : Addition) (xs : List Addition) (n : Node) → FitAdds root p n (x ∷ xs) → FitAdds root p (within (add_to x) n) xs
-  rest_fits p (appends k v) xs n h = h.1
-  rest_fits p (overwrites k v) xs n h = h.1
+  rest_fits p x xs n h = search rules
 
   adds_fit : (p : List Step) (xs : List Addition) (n r : Node) → node_at p r ≡ Some n → MentionsNoMore r root → AddNone xs → FitAdds root p n xs → AllFitRoot block lead room (map (add_op doc p) xs) r
   adds_fit p [] n r at less free h = tt
@@ -135,8 +124,4 @@ module _ (block : Bool) (lead : List (List ℕ)) (room : Room) (doc : ℕ) (root
 
   -- each operation of changes that may be made fits at its turn
   pub all_fit : IsTree root → (removal : Bool) (cs : List Changed) → InPairs Before cs → MayFold removal cs → AreFit room root cs → AllFitRoot block lead room (ops_of doc (ordered removal cs)) root
-  all_fit tree true cs h k m = fits_back tree cs (spared_in_order block lead cs h) m
-  all_fit tree false cs h k m =
-      let apart : InPairs Apart (reverse cs) = pairs_reverse Apart apart_sym cs (pairs_apart cs h) in
-      subst (λ (xs : List Changed). AllFitRoot block lead room (ops_of doc xs) root) (reverse-reverse cs)
-      (fits_back tree (reverse cs) (spared_apart block lead (reverse cs) (each_reverse (λ (c : Changed). IsKept c.1) cs k) apart) (each_reverse (λ (c : Changed). MayChange room root c × WritesNone c.1) cs m))
+  all_fit tree removal cs h k m = search (rules, fits_back, spared_in_order, pairs_reverse, apart_sym, pairs_apart, reverse-reverse, spared_apart, each_reverse)

@@ -30,12 +30,10 @@ before_irrefl (s ∷ p) (inl h) = parts_not s h
 before_irrefl (s ∷ p) (inr h) = before_irrefl p h.1
 
 pub apart_irrefl : (p : List Step) → Apart p p → ⊥
-apart_irrefl p (inl h) = before_irrefl p h
-apart_irrefl p (inr h) = before_irrefl p h
+apart_irrefl p h = search (rules, before_irrefl)
 
 pub apart_sym : (p q : List Step) → Apart p q → Apart q p
-apart_sym p q (inl h) = inr h
-apart_sym p q (inr h) = inl h
+apart_sym p q h = search rules
 
 -- ---- changes whose paths are related
 
@@ -93,9 +91,6 @@ abbrev pub IsSaid : Change → Type 0
 IsSaid (sets_comment place text) = Unit {0}
 IsSaid _ = ⊥
 
-written_kept : (c : Change) → IsWritten c → IsKept c
-written_kept c h1 = search rules
-
 -- each is of the kind of the update
 abbrev pub IsOf : Update → Change → Type 0
 IsOf (assign left operator right) = IsWritten
@@ -108,7 +103,7 @@ MayFold true cs = AreGone cs
 MayFold false cs = AreKept cs
 
 pub of_may_fold : (u : Update) (cs : List Changed) → AllAre (IsOf u) cs → MayFold (is_removal u) cs
-of_may_fold u cs h1 = search (rules, each_weaker, written_kept)
+of_may_fold u cs h1 = search (rules, each_weaker)
 
 -- ---- what is done is the same in any order
 
@@ -135,8 +130,7 @@ module _ (block : Bool) (lead : List (List ℕ)) where
 
   done_reverse : (cs : List Changed) → InPairs Apart cs → node_edits_of (reverse cs) ≡ node_edits_of cs
   done_reverse [] h = refl
-  done_reverse (c ∷ cs) h =
-      ap node_edits_of (reverse-cons c cs) ∙ (done_last (reverse cs) c (each_reverse (λ (d : Changed). Apart c.0 d.0) cs h.0) ∙ ap (and_at c.0 (node_edit_of block lead c)) (done_reverse cs h.1))
+  done_reverse (c ∷ cs) h = search (rules, reverse-cons, done_last, each_reverse, done_reverse cs h.1)
 
   -- ---- one after the other
 
@@ -145,15 +139,12 @@ module _ (block : Bool) (lead : List (List ℕ)) where
   AreSpared [] = Unit {0}
   AreSpared (c ∷ cs) = Spares (node_edits_of cs) c.0 × AreSpared cs
 
-  spared_before : (x : NodeEdit) (p q : List Step) → Before p q → IsSpared (Some x) p q
-  spared_before x p q h1 = search rules
-
   spared_by : (p : List Step) (x : NodeEdit) (r : List Step) (f : NodeEdits) → IsSpared (Some x) p r → Spares f p → Spares (and_at r x f) p
   spared_by p x r f h k q = cond_both (same_path r q) (Some x) (f q) (λ d. IsSpared d p q) (λ e. subst (IsSpared (Some x) p) (path_same r q e) h) (λ e. k q)
 
   spares_later : (p : List Step) (cs : List Changed) → ToEach Before p cs → Spares (node_edits_of cs) p
   spares_later p [] h = λ q. tt
-  spares_later p (c ∷ cs) h = spared_by p (node_edit_of block lead c) c.0 (node_edits_of cs) (spared_before (node_edit_of block lead c) p c.0 h.0) (spares_later p cs h.1)
+  spares_later p (c ∷ cs) h = spared_by p (node_edit_of block lead c) c.0 (node_edits_of cs) (search rules) (spares_later p cs h.1)
 
   pub spared_in_order : (cs : List Changed) → InPairs Before cs → AreSpared cs
   spared_in_order [] h = tt
@@ -177,12 +168,9 @@ module _ (block : Bool) (lead : List (List ℕ)) where
         one_more c.0 (node_edit_of block lead c) (node_edits_of cs) n tree h.0,
       )
 
-  spared_kept : (c : Changed) → IsKept c.1 → (p : List Step) → Apart p c.0 → IsSpared (Some (node_edit_of block lead c)) p c.0
-  spared_kept c h1 p h2 = search rules
-
   spares_kept : (p : List Step) (cs : List Changed) → AreKept cs → ToEach Apart p cs → Spares (node_edits_of cs) p
   spares_kept p [] k h = λ q. tt
-  spares_kept p (c ∷ cs) k h = spared_by p (node_edit_of block lead c) c.0 (node_edits_of cs) (spared_kept c k.0 p h.0) (spares_kept p cs k.1 h.1)
+  spares_kept p (c ∷ cs) k h = spared_by p (node_edit_of block lead c) c.0 (node_edits_of cs) (search rules) (spares_kept p cs k.1 h.1)
 
   pub spared_apart : (cs : List Changed) → AreKept cs → InPairs Apart cs → AreSpared cs
   spared_apart [] k h = tt
@@ -190,9 +178,5 @@ module _ (block : Bool) (lead : List (List ℕ)) where
 
   -- the operations of changes, one after the other, make all of them at once
   pub folds : (doc : ℕ) (n : Node) → IsTree n → (removal : Bool) (cs : List Changed) → InPairs Before cs → MayFold removal cs → roots_after block lead (ops_of doc (ordered removal cs)) n ≡ at_once (node_edits_of cs) n
-  folds doc n tree true cs h k = fold_back doc n tree cs (spared_in_order cs h)
-  folds doc n tree false cs h k =
-      let apart : InPairs Apart (reverse cs) = pairs_reverse Apart apart_sym cs (pairs_apart cs h) in
-      ap (λ (xs : List Changed). roots_after block lead (ops_of doc xs) n) (sym (reverse-reverse cs))
-      ∙ (fold_back doc n tree (reverse cs) (spared_apart (reverse cs) (each_reverse (λ (c : Changed). IsKept c.1) cs k) apart)
-      ∙ ap (λ (f : NodeEdits). at_once f n) (done_reverse cs (pairs_apart cs h)))
+  folds doc n tree removal cs h k =
+      search (rules, fold_back, spared_in_order, pairs_reverse, apart_sym, pairs_apart, roots_after, reverse-reverse, spared_apart, each_reverse, done_reverse)

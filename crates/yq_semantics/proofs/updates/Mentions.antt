@@ -1,10 +1,10 @@
 -- Trees without aliases: nothing in them mentions a name.
-use Rattle.std.proofs.Common.{◌≡◌, ℕ, ◌⊎◌, Bool, true, false, ◌||◌, List, [], ◌∷◌, ◌++◌, Option, Some, None, refl, sym, ap, ◌∙◌, inl, inr}
-use Rattle.std.{proofs.Math.Bool.or-false, specs.List.list_any, specs.Str.bytes_eq}
+use Rattle.std.proofs.Common.{rules, ◌≡◌, ℕ, ◌⊎◌, Bool, true, false, ◌||◌, List, [], ◌∷◌, ◌++◌, Option, Some, None, refl, sym, ap, ◌∙◌, inl}
+use Rattle.std.{proofs.Common.inr, proofs.Math.Bool.or-false, specs.List.list_any, specs.Str.bytes_eq}
 use Rattle.std.proofs.lemmas.Bool.{false≢true, or_cases, or_left, or_right}
 use Rattle.yq_core.specs.Tree.{Node, alias, scalar, list, Children, none, child, children_of}
 use Rattle.yq_core.{specs.Anchors.{Name, Anchors, Refers, anchor_names, names_of, names_in}, specs.Shapes.IsTree}
-use Rattle.yq_semantics.{specs.Changes.{refers_to, is_used, is_used_inside, is_used_in}, specs.Program.IsValue}
+use Rattle.yq_semantics.specs.Changes.{refers_to, is_used, is_used_inside, is_used_in}
 use Rattle.yq_core.specs.Tree as tree
 
 abbrev mutual
@@ -44,8 +44,7 @@ any_right f [] ys h = h
 any_right f (x ∷ xs) ys h = or_right (f x) (list_any f (xs ++ ys)) (any_right f xs ys h)
 
 any_anchor : (a : List ℕ) (anchor : Option (List ℕ)) (names : List Name) → list_any (refers_to a) (anchor_names anchor names) ≡ list_any (refers_to a) names
-any_anchor a None names = refl
-any_anchor a (Some b) names = refl
+any_anchor a anchor names = search rules
 
 mutual
   mentioned : (a : List ℕ) (n : Node) → list_any (refers_to a) (names_of n) ≡ true → Mentions a n
@@ -97,6 +96,3 @@ in_less n m less (Some x) h = used_less n m less (names_of x) h
 -- a node without anchors and aliases has no alias
 pub unnamed_free : (v : Node) → names_of v ≡ [] → HasNoAlias v
 unnamed_free v unnamed a m = false≢true (ap (list_any (refers_to a)) (sym unnamed) ∙ refers_in a v m)
-
-pub literal_pure : (v : Node) → IsValue v → IsPure v
-literal_pure v h = (h.tree, unnamed_free v h.unnamed)

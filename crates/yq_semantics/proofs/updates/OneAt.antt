@@ -1,5 +1,5 @@
 -- What operations do, one after the other, is what is done at single places.
-use Rattle.std.proofs.Common.{◌≡◌, ℕ, Bool, true, false, cond, List, [], ◌∷◌, ◌++◌, map, Option, Some, refl, sym, ap, ◌∙◌, rules}
+use Rattle.std.proofs.Common.{◌≡◌, ℕ, Bool, cond, List, [], ◌∷◌, ◌++◌, map, Option, Some, refl, sym, ap, ◌∙◌, rules}
 use Rattle.yq_core.specs.Tree.{Label, Node, Children, none, child}
 use Rattle.yq_core.specs.Paths.{Step, is_here, further, change_child, relabel_child, remove_child, within, changed_at}
 use Rattle.yq_semantics.{specs.After.root_after, specs.Changes.{Addition, appends, overwrites, replaces, adds, sets_comment, Changed}}
@@ -15,9 +15,6 @@ use Rattle.yq_semantics.specs.Changes as changes
 within_same : (g h : Children → Children) → ((cs : Children) → g cs ≡ h cs) → (n : Node) → within g n ≡ within h n
 within_same g h h1 n = search rules
 
-within_twice : (g h : Children → Children) (n : Node) → within g (within h n) ≡ within (λ cs. g (h cs)) n
-within_twice g h n = search rules
-
 within_none : (n : Node) → within (λ cs. cs) n ≡ n
 within_none n = search rules
 
@@ -26,8 +23,7 @@ child_none s none = refl
 child_none s (child label n cs) = go (is_here s label) (child_none (further s) cs)
   where
     go : (b : Bool) → change_child (further s) (λ n. n) cs ≡ cs → cond b (child label n cs) (child label n (change_child (further s) (λ n. n) cs)) ≡ child label n cs
-    go true ih = refl
-    go false ih = ap (child label n) ih
+    go b ih = search rules
 
 child_twice : (s : Step) (f g : Node → Node) (cs : Children) → change_child s f (change_child s g cs) ≡ change_child s (λ n. f (g n)) cs
 child_twice s f g none = refl
@@ -35,8 +31,7 @@ child_twice s f g (child label n cs) = go (is_here s label) refl (child_twice (f
   where
     go : (b : Bool) → is_here s label ≡ b → change_child (further s) f (change_child (further s) g cs) ≡ change_child (further s) (λ n. f (g n)) cs →
         change_child s f (cond b (child label (g n) cs) (child label n (change_child (further s) g cs))) ≡ cond b (child label (f (g n)) cs) (child label n (change_child (further s) (λ n. f (g n)) cs))
-    go true is ih = ap (λ (b : Bool). cond b (child label (f (g n)) cs) (child label (g n) (change_child (further s) f cs))) is
-    go false is ih = ap (λ (b : Bool). cond b (child label (f n) (change_child (further s) g cs)) (child label n (change_child (further s) f (change_child (further s) g cs)))) is ∙ ap (child label n) ih
+    go b is ih = search rules
 
 pub change_none : (p : List Step) (n : Node) → changed_at p (λ m. m) n ≡ n
 change_none [] n = refl
@@ -47,7 +42,7 @@ change_none (s ∷ p) n =
 pub change_twice : (p : List Step) (f g : Node → Node) (n : Node) → changed_at p f (changed_at p g n) ≡ changed_at p (λ m. f (g m)) n
 change_twice [] f g n = refl
 change_twice (s ∷ p) f g n =
-    within_twice (change_child s (changed_at p f)) (change_child s (changed_at p g)) n
+    search rules
     ∙ within_same (λ cs. change_child s (changed_at p f) (change_child s (changed_at p g) cs)) (change_child s (changed_at p (λ m. f (g m))))
     (λ cs. child_twice s (changed_at p f) (changed_at p g) cs ∙ ap (λ (h : Node → Node). change_child s h cs) (λ i m. change_twice p f g m i)) n
 
@@ -93,9 +88,6 @@ module _ (x : NodeEdit) (e : Step → Children → Children) (root : (n : Node) 
       (λ cs. at_child_same s (λ label m ds. child label (one_at (t ∷ p) x m) ds) (λ label m ds. child label (at_end e (t ∷ p) m) ds) (λ label m ds. ap (λ k. child label k ds) (one_end (t ∷ p) m)) cs
       ∙ at_child_change s (at_end e (t ∷ p)) cs) n
 
-pub one_goes : (p : List Step) (n : Node) → one_at p goes n ≡ at_end remove_child p n
-one_goes p n = one_end goes remove_child (λ m. refl) (λ s cs. at_child_remove s cs) p n
-
 pub one_line : (text : Option (List ℕ)) (p : List Step) (n : Node) → one_at p (line text) n ≡ at_end (λ s. relabel_child s (with_line_comment text)) p n
 one_line text p n = one_end (line text) (λ s. relabel_child s (with_line_comment text)) (λ m. refl) (λ s cs. at_child_relabel s (with_line_comment text) cs) p n
 
@@ -123,14 +115,12 @@ add_after block lead doc p (overwrites k v) n = simp (led_below, change_join)
 
 adds_after : (block : Bool) (lead : List (List ℕ)) (doc : ℕ) (p : List Step) (xs : List Addition) (n : Node) → roots_after block lead (map (add_op doc p) xs) n ≡ changed_at p (add_all xs) n
 adds_after block lead doc p [] n = sym (change_none p n)
-adds_after block lead doc p (x ∷ xs) n =
-    ap (roots_after block lead (map (add_op doc p) xs)) (add_after block lead doc p x n)
-    ∙ (adds_after block lead doc p xs (changed_at p (within (add_to x)) n) ∙ change_twice p (add_all xs) (within (add_to x)) n)
+adds_after block lead doc p (x ∷ xs) n = search (rules, add_after, change_twice, adds_after block lead doc p xs (changed_at p (within (add_to x)) n))
 
 -- the operations of a change do what is done at its place
 pub change_after : (block : Bool) (lead : List (List ℕ)) (doc : ℕ) (c : Changed) (n : Node) → roots_after block lead (change_ops doc c) n ≡ one_at c.0 (node_edit_of block lead c) n
 change_after block lead doc (p, replaces v) n = sym (one_becomes p (replaced_node (led block lead p v)) n)
 change_after block lead doc (p, adds xs) n = adds_after block lead doc p xs n ∙ sym (one_becomes p (add_all xs) n)
-change_after block lead doc (p, changes.removes) n = sym (one_goes p n)
+change_after block lead doc (p, changes.removes) n = sym (one_end goes remove_child (λ m. refl) (λ s cs. at_child_remove s cs) p n)
 change_after block lead doc (p, sets_comment comments.Line text) n = sym (one_line (line_comment_text text) p n)
 change_after block lead doc (p, sets_comment comments.Head text) n = sym (one_head (head_comment_lines text) p n)

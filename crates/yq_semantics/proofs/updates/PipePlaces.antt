@@ -1,8 +1,8 @@
 -- The places to which a pipe leads are apart.
-use Rattle.std.proofs.Common.{◌≡◌, ℕ, Bool, true, false, List, [], ◌∷◌, refl, subst}
+use Rattle.std.proofs.Common.{rules, ◌≡◌, ℕ, List, [], ◌∷◌, refl, subst}
 use Rattle.yq_core.{specs.Tree.Node, specs.Shapes.IsTree}
-use Rattle.yq_semantics.{specs.Judgement.gives, specs.Program.{PathStep, Condition, Stage, path, select}, specs.Conditions.condition_holds}
-use Rattle.yq_semantics.specs.Pipes.{kept_place, select_on, stage_on, pipe_on, places}
+use Rattle.yq_semantics.{specs.Judgement.gives, specs.Program.{PathStep, Condition, Stage}}
+use Rattle.yq_semantics.specs.Pipes.{select_on, stage_on, pipe_on, places}
 use Rattle.yq_semantics.{specs.Places.{FoundPlace, root_place, for_each, step_on, chained, traverse}, specs.PlacesApart.{AreApart, AreIn}}
 use Rattle.yq_semantics.proofs.JudgementLaws.{then_gives, gives_same}
 use Rattle.yq_semantics.{proofs.GoodPlaces.{AreSound, LeadsInto, LeadsSo, AreGood, each_good}, proofs.ChildPlaces.{leads_none, leads_self}}
@@ -10,9 +10,7 @@ use Rattle.yq_semantics.proofs.updates.StepPlaces.{leads_step}
 
 -- what is so of a place alone and of none is so of what a condition keeps
 pub select_keeps : (R : List FoundPlace → Type 0) (doc : ℕ) (c : Condition) (p : FoundPlace) (qs : List FoundPlace) → R (p ∷ []) → R [] → select_on doc c p ≡ gives qs → R qs
-select_keeps R doc c p qs here none h =
-    let x = then_gives (λ (b : Bool). gives (kept_place p b)) (condition_holds doc c p) qs h in
-    subst R (gives_same x.2) (elim x.0 as (λ b. R (kept_place p b)) [ true ↦ here | false ↦ none ])
+select_keeps R doc c p qs here h6 h = search (rules, then_gives, gives_same)
 
 pub leads_select : (root : Node) (doc : ℕ) (c : Condition) → LeadsSo root (select_on doc c)
 leads_select root doc c p qs tree at h = select_keeps (LeadsInto root p) doc c p qs (leads_self root p p refl refl tree at) (leads_none root p) h
@@ -30,8 +28,7 @@ pipe_keeps doc R step chosen (stage ∷ stages) ps qs r h =
         let x = then_gives (chained (λ u. for_each (step_on u)) ss) (for_each (step_on s) from) to e in walked ss x.0 to (step s from x.0 f x.1) x.2
 
     staged : (stage : Stage) (to : List FoundPlace) → stage_on doc stage ps ≡ gives to → R to
-    staged (path steps) to e = walked steps ps to r e
-    staged (select c) to e = chosen c ps to r e
+    staged stage to e = search (rules, walked)
 
 pub pipe_good : (root : Node) (doc : ℕ) (stages : List Stage) (ps qs : List FoundPlace) → AreGood root ps → pipe_on doc stages ps ≡ gives qs → AreGood root qs
 pipe_good root doc = pipe_keeps doc (AreGood root) (λ s. each_good root (step_on s) (leads_step root s)) (λ c. each_good root (select_on doc c) (leads_select root doc c))

@@ -4,11 +4,11 @@ use Rattle.std.{proofs.Common.{append_assoc, arith, length-append, rules}, specs
 use Rattle.yq_core.{specs.Tree.Node, specs.PathOrder.Before}
 use Rattle.yq_documents.specs.Documents.{Document}
 use Rattle.yq_semantics.{specs.Judgement.{and_then, gives}, specs.After.{root_after, done_to, after_op, all_after}}
-use Rattle.yq_semantics.{specs.Changes.{Changed, Room, created, changes_in, has_comment, changes_from}, specs.Fits.{FitsRoot, AllFit}}
+use Rattle.yq_semantics.{specs.Changes.{Changed, Room, changes_in, has_comment, changes_from}, specs.Fits.{FitsRoot, AllFit}}
 use Rattle.yq_semantics.{specs.Meaning.{changed_at_once, roots_of, AreReady}, specs.Operations.Operation}
 use Rattle.yq_semantics.{specs.Plans.{change_ops, ops_of, is_removal, ordered, all_ops, plan}, specs.Program.{UpdatesHold, Update}}
 use Rattle.yq_semantics.{proofs.updates.FitsInOrder.{AllFitRoot, all_fit, AreFit}, proofs.updates.Folds.{InPairs, IsGone, AreGone, MayFold}}
-use Rattle.yq_semantics.proofs.updates.RootLeads.{document_after, document_folds, AllKeepSome, op_any_lead, puts_or_keeps, KeepsSome}
+use Rattle.yq_semantics.proofs.updates.RootLeads.{document_after, document_folds, op_any_lead, puts_or_keeps}
 use Rattle.yq_semantics.{proofs.JudgementLaws.{then_gives, gives_same}, proofs.updates.Planned.{AreOrdered, update_ordered, removal_first}}
 use Rattle.yq_semantics.proofs.updates.PlanMeans.{AreOf, ops_are_of, after_at, all_after_at, plan_parts}
 use Rattle.yq_semantics.{proofs.updates.FitChanges.update_fit, proofs.updates.Each.{Each, each_op, each_reverse, each_weaker}}
@@ -25,9 +25,6 @@ AnyLead block op = (lead other : List (List ℕ)) (n : Node) → root_after bloc
 abbrev AllAnyLead : Bool → List Operation → Type 0
 AllAnyLead block ops = Each (AnyLead block) ops
 
-leave_any : (block : Bool) (ops : List Operation) → AllKeepSome ops → AllAnyLead block ops
-leave_any block ops l = each_weaker KeepsSome (AnyLead block) (λ op one lead other n. op_any_lead block lead other op one n) ops l
-
 gone_any : (block : Bool) (doc : ℕ) (c : Changed) → IsGone c.1 → AllAnyLead block (change_ops doc c)
 gone_any block doc c h1 = search rules
 
@@ -42,7 +39,7 @@ any_fit block lead room (op ∷ ops) d l h =
 document_fits : (block : Bool) (room : Room) (doc : ℕ) (d : Document) (removal : Bool) (cs : List Changed) → InPairs Before cs → MayFold removal cs → AllFitRoot block d.lead room (ops_of doc (ordered removal cs)) d.root →
     AllFitDocument block room (ops_of doc (ordered removal cs)) d
 document_fits block room doc d true cs p k h = any_fit block d.lead room (ops_of doc (reverse cs)) d (all_gone_any block doc (reverse cs) (each_reverse (λ (c : Changed). IsGone c.1) cs k)) h
-document_fits block room doc d false cs p k h = search (rules, any_fit, all_gone_any, each_reverse, puts_or_keeps, leave_any)
+document_fits block room doc d false cs p k h = search (rules, any_fit, all_gone_any, each_reverse, puts_or_keeps, each_weaker, op_any_lead)
 
 -- ---- on documents
 
@@ -53,10 +50,7 @@ get_at (e ∷ es) d ds = get_at es d ds
 all_fit_at : (rooms : ℕ → Room) (ops : List Operation) (front : List Document) (d : Document) (ds : List Document) → AreOf (length front) ops →
     AllFitDocument (rooms (length front)).block (rooms (length front)) ops d → AllFit rooms ops (front ++ d ∷ ds)
 all_fit_at rooms [] front d ds o h = tt
-all_fit_at rooms (op ∷ ops) front d ds o h = (
-  (d, subst (λ (n : ℕ). slice_get (front ++ d ∷ ds) n ≡ Some d) (sym o.0) (get_at front d ds), subst (λ (n : ℕ). FitsRoot (rooms n) op d.root) (sym o.0) h.0),
-  subst (AllFit rooms ops) (sym (after_at rooms op front d ds o.0)) (all_fit_at rooms ops front (done_to (rooms (length front)).block op d) ds o.1 h.1),
-)
+all_fit_at rooms (op ∷ ops) front d ds o h = search (rules, get_at, after_at, all_fit_at rooms ops front (done_to (rooms (length front)).block op d) ds o.1 h.1)
 
 all_fit_join : (rooms : ℕ → Room) (ops others : List Operation) (docs : List Document) → AllFit rooms ops docs → AllFit rooms others (all_after rooms ops docs) → AllFit rooms (ops ++ others) docs
 all_fit_join rooms [] others docs h k = k
@@ -81,10 +75,7 @@ from_fits u rooms n (d ∷ ds) front css is ready pure good h =
     let longer : length (front ++ new ∷ []) ≡ suc n = length-append front (new ∷ []) ∙ (omega (arith, is)) in
     let here : AllFitDocument (rooms n).block (rooms n) ops d =
     document_fits (rooms n).block (rooms n) n d (is_removal u) one.0 order.0 order.1 (all_fit (rooms n).block d.lead (rooms n) n d.root ready.0.0 (is_removal u) one.0 order.0 order.1 fit) in
-    subst (λ (xs : List (List Changed)). AllFit rooms (all_ops (is_removal u) n xs) (front ++ d ∷ ds)) (gives_same two.2)
-    (all_fit_join rooms ops (all_ops (is_removal u) (suc n) two.0) (front ++ d ∷ ds)
-    (all_fit_at rooms ops front d ds are_of (subst (λ (m : ℕ). AllFitDocument (rooms m).block (rooms m) ops d) (sym is) here))
-    (subst (AllFit rooms (all_ops (is_removal u) (suc n) two.0)) (sym at) (from_fits u rooms (suc n) ds (front ++ new ∷ []) two.0 longer ready.1 pure good two.1)))
+    search (rules, gives_same, all_fit_join, all_fit_at, from_fits u rooms (suc n) ds (front ++ new ∷ []) two.0 longer ready.1 pure good two.1)
 
 -- each operation of a plan fits at its turn
 pub plan_fits : (u : Update) (rooms : ℕ → Room) (docs : List Document) (ops : List Operation) → AreReady rooms 0 docs → UpdatesHold (u ∷ []) → plan u rooms docs ≡ gives ops → AllFit rooms ops docs

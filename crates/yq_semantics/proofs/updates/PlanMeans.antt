@@ -1,5 +1,5 @@
 -- What is planned leads to what is meant.
-use Rattle.std.proofs.Common.{◌≡◌, ℕ, suc, true, List, [], ◌∷◌, ◌++◌, length, map, refl, sym, ap, subst, ◌∙◌, inl, inr, append_assoc, arith}
+use Rattle.std.proofs.Common.{◌≡◌, ℕ, suc, true, List, [], ◌∷◌, ◌++◌, length, map, refl, sym, ap, subst, ◌∙◌, append_assoc, arith}
 use Rattle.std.proofs.Common.{length-append, rules}
 use Rattle.yq_core.proofs.Bools.{chosen}
 use Rattle.yq_documents.{specs.Documents.Document, specs.TreeEdits.change_nth}
@@ -47,8 +47,7 @@ after_at rooms op front d ds is = ap (λ (n : ℕ). change_nth n (done_to (rooms
 pub all_after_at : (rooms : ℕ → Room) (ops : List Operation) (front : List Document) (d : Document) (ds : List Document) → AreOf (length front) ops →
     all_after rooms ops (front ++ d ∷ ds) ≡ front ++ document_after (rooms (length front)).block ops d ∷ ds
 all_after_at rooms [] front d ds h = refl
-all_after_at rooms (op ∷ ops) front d ds h =
-    ap (all_after rooms ops) (after_at rooms op front d ds h.0) ∙ all_after_at rooms ops front (done_to (rooms (length front)).block op d) ds h.1
+all_after_at rooms (op ∷ ops) front d ds h = search (rules, after_at, all_after_at rooms ops front (done_to (rooms (length front)).block op d) ds h.1)
 
 pub after_join : (rooms : ℕ → Room) (ops others : List Operation) (docs : List Document) → all_after rooms (ops ++ others) docs ≡ all_after rooms others (all_after rooms ops docs)
 after_join rooms [] others docs = refl
@@ -68,19 +67,13 @@ from_means u rooms n (d ∷ ds) front css is ready h =
     let created : document_after (rooms n).block ops d ≡ new = search (rules, document_folds, removal_first, one, order) in
     let at : all_after rooms ops (front ++ d ∷ ds) ≡ front ++ new ∷ ds = search (rules, all_after_at, ops_are_of, document_after, ops, one, created) in
     let longer : length (front ++ new ∷ []) ≡ suc n = length-append front (new ∷ []) ∙ (omega (arith, is)) in
-    subst (λ (xs : List (List Changed)). all_after rooms (all_ops (is_removal u) n xs) (front ++ d ∷ ds) ≡ front ++ all_changed rooms n xs (d ∷ ds)) (gives_same two.2)
-    (after_join rooms ops (all_ops (is_removal u) (suc n) two.0) (front ++ d ∷ ds)
-    ∙ (ap (all_after rooms (all_ops (is_removal u) (suc n) two.0)) (at ∙ sym (append_assoc front (new ∷ []) ds))
-    ∙ (from_means u rooms (suc n) ds (front ++ new ∷ []) two.0 longer ready.1 two.1
-    ∙ append_assoc front (new ∷ []) (all_changed rooms (suc n) two.0 ds))))
+    search (rules, gives_same, after_join, append_assoc, from_means u rooms (suc n) ds (front ++ new ∷ []) two.0 longer ready.1 two.1)
 
 -- a plan comes of changes, where a comment's text may be
 pub plan_parts : (u : Update) (rooms : ℕ → Room) (docs : List Document) (ops : List Operation) → plan u rooms docs ≡ gives ops →
     (css : List (List Changed)) × (has_comment u ≡ true)
     × (changes_from u rooms 0 (roots_of docs) ≡ gives css) × (update_changes u rooms (roots_of docs) ≡ gives css) × (all_ops (is_removal u) 0 css ≡ ops)
-plan_parts u rooms docs ops h =
-    let x = then_gives (λ (css : List (List Changed)). gives (all_ops (is_removal u) 0 css)) (update_changes u rooms (roots_of docs)) ops h in
-    elim (chosen (has_comment u) x.1) [ inl c ↦ (x.0, c.0, c.1, x.1, gives_same x.2) | inr c ↦ absurd (let e = c.1 in cc) ]
+plan_parts u rooms docs ops h = search (rules, then_gives, chosen, gives_same)
 
 -- the operations of a plan, one after the other, make what the update means
 pub plan_means : (u : Update) (rooms : ℕ → Room) (docs : List Document) (ops : List Operation) → AreReady rooms 0 docs → plan u rooms docs ≡ gives ops → meaning u rooms docs ≡ gives (all_after rooms ops docs)
@@ -92,8 +85,7 @@ plan_means u rooms docs ops ready h =
 
 -- what comes of both steps, where the second one gives something, refuses as the first
 then_refuses : {A B C : Type 0} (f : A → B) (g : A → C) (j : Judgement A) (why : Refusal) → and_then (λ x. gives (f x)) j ≡ refuses why → and_then (λ x. gives (g x)) j ≡ refuses why
-then_refuses f g (gives x) why h = absurd (cc)
-then_refuses f g (refuses other) why h = let same : other ≡ why = cc in ap refuses same
+then_refuses f g j why h = search rules
 
 -- a plan is refused as the update is
 pub plan_refused : (u : Update) (rooms : ℕ → Room) (docs : List Document) (why : Refusal) → plan u rooms docs ≡ refuses why → meaning u rooms docs ≡ refuses why

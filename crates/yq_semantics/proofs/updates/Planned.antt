@@ -1,18 +1,16 @@
 -- What an update changes is in order.
-use Rattle.std.proofs.lemmas.Bool.{cases_Bool}
-use Rattle.std.proofs.Common.{◌≡◌, ◌≢◌, ℕ, Bool, true, List, [], ◌∷◌, ◌++◌, refl, sym, ap, subst, ◌∙◌, rules}
-use Rattle.yq_core.{specs.Tree.{Node, Children, none, child, children_of}, specs.PathOrder.Before, specs.Shapes.IsTree}
+use Rattle.std.{proofs.lemmas.Bool.cases_Bool, proofs.Common.{◌≡◌, ◌≢◌, ℕ, Bool, true, List, [], ◌∷◌, ◌++◌, refl, ap, subst, ◌∙◌, rules}}
+use Rattle.yq_core.{specs.Tree.{Node, Children, children_of}, specs.PathOrder.Before, specs.Shapes.IsTree}
 use Rattle.yq_semantics.{specs.declared.program.CommentPlace.CommentPlace, specs.Judgement.{Judgement, and_then, gives}}
-use Rattle.yq_semantics.specs.Program.{PathStep, Term, Update, assign, delete, comment}
-use Rattle.yq_semantics.specs.Changes.{Change, Changed, Room, put_below, put_with_path, added, add_at, remove_at, comment_at, allowed}
-use Rattle.yq_semantics.{specs.Changes.{all_allowed, at_each, with_value, changes_at, left_pipe, changes_in}, specs.NodeEdits.step_to}
-use Rattle.yq_semantics.{specs.Pipes.places, specs.Places.{FoundPlace, root_place, for_each}, specs.PlacesApart.{IsBeforeAll, AreApart}}
-use Rattle.yq_semantics.{specs.Plans.is_removal, specs.RightValues.right_value}
+use Rattle.yq_semantics.specs.Program.{Term, Update, assign, delete, comment}
+use Rattle.yq_semantics.specs.Changes.{Change, Changed, Room, put_with_path, add_at, remove_at, comment_at, allowed, all_allowed, at_each}
+use Rattle.yq_semantics.{specs.Changes.{with_value, changes_at, left_pipe, changes_in}, specs.Pipes.places}
+use Rattle.yq_semantics.{specs.Places.{FoundPlace, root_place, for_each}, specs.PlacesApart.{IsBeforeAll, AreApart}, specs.Plans.is_removal}
+use Rattle.yq_semantics.specs.RightValues.{right_value}
 use Rattle.yq_semantics.proofs.updates.Folds.{ToEach, InPairs, AllAre, IsGone, IsWritten, IsSaid, IsOf, MayFold, of_may_fold}
-use Rattle.yq_semantics.{proofs.updates.RootLeads.{NoneAt, NoneLater, FirstIn, IsFirst}, proofs.JudgementLaws.{then_gives, gives_same}}
+use Rattle.yq_semantics.{proofs.updates.RootLeads.{NoneAt, NoneLater, IsFirst}, proofs.JudgementLaws.{then_gives, gives_same}}
 use Rattle.yq_semantics.proofs.updates.FirstPlaces.{NoPlaceAt, NoPlaceLater, IsFirstStep, places_first}
 use Rattle.yq_semantics.{proofs.updates.PipePlaces.places_apart, proofs.updates.Each.{each_given, each_join, joined_gives}}
-use Rattle.yq_core.specs.Tree as tree
 use Rattle.yq_core.specs.Paths as paths
 use Rattle.yq_semantics.specs.declared.program.Operator.TheVariants as operator
 
@@ -34,16 +32,12 @@ one_pairs p cs ds h1 h2 h3 = search rules
 
 -- ---- at several places
 
--- what is allowed is the change itself
-allowed_same : (root : Node) (c d : Changed) → allowed root c ≡ gives d → c ≡ d
-allowed_same root c d h = search (rules, gives_same)
-
 all_same : (root : Node) (cs ds : List Changed) → all_allowed root cs ≡ gives ds → cs ≡ ds
 all_same root [] ds h = gives_same h
 all_same root (c ∷ cs) ds h =
     let w = joined_gives (and_then (λ d. gives (d ∷ [])) (allowed root c)) (all_allowed root cs) ds h in
     let first = then_gives (λ (d : Changed). gives (d ∷ [])) (allowed root c) w.0 w.2 in
-    ap (λ (d : Changed). d ∷ cs) (allowed_same root c first.0 first.1)
+    ap (λ (d : Changed). d ∷ cs) (search (rules, gives_same))
     ∙ (ap (λ (xs : List Changed). first.0 ∷ xs) (all_same root cs w.1 w.3) ∙ (ap (λ (xs : List Changed). xs ++ w.1) (gives_same first.2) ∙ w.4))
 
 -- what is changed at each place is there
@@ -77,20 +71,14 @@ at_ordered root P f so ps cs a h = each_ordered P (λ p. and_then (all_allowed r
 single : (P : Change → Type 0) (p : FoundPlace) (c : Change) (cs : List Changed) → P c → gives ((p.path, c) ∷ []) ≡ gives cs → FromPlace P p cs
 single P p c cs k h = subst (FromPlace P p) (gives_same h) (refl, (k, tt))
 
-put_written : (n : Node) (missing : List PathStep) (v : Node) (c : Change) → put_below n missing v ≡ gives c → IsWritten c
-put_written n missing v c h1 = search (rules, gives_same)
-
 put_so : (v : Node) → IsSo IsWritten (λ p. put_with_path p v)
-put_so v p cs h = search (rules, then_gives, single, put_written)
+put_so v p cs h = search (rules, then_gives, single, gives_same)
 
 modify_so : (doc : ℕ) (right : List Term) → IsSo IsWritten (λ p. and_then (put_with_path p) (right_value doc right p))
 modify_so doc right p cs h = let x = then_gives (put_with_path p) (right_value doc right p) cs h in put_so x.0 p cs x.2
 
-added_written : (n v : Node) (c : Change) → added n v ≡ gives c → IsWritten c
-added_written n v c h1 = search (rules, then_gives, gives_same)
-
 add_so : (v : Node) → IsSo IsWritten (λ p. add_at p v)
-add_so v p cs h = search (rules, then_gives, single, added_written, put_so, gives_same, cases_Bool)
+add_so v p cs h = search (rules, then_gives, single, put_so, gives_same, cases_Bool)
 
 remove_so : IsSo IsGone remove_at
 remove_so p cs h = search (rules, gives_same)
@@ -150,6 +138,5 @@ removal_first (delete left) doc room root cs is tree h =
     go (children_of root) refl (λ s first. each_later IsGone (λ p. and_then (all_allowed root) (remove_at p)) (each_so root IsGone remove_at remove_so) s x.0 cs (places_first doc left root x.0 s tree first x.1) x.2)
   where
     go : (kids : Children) → children_of root ≡ kids → ((s : paths.Step) → IsFirstStep root s → NoneLater s cs) → IsFirst root cs
-    go none is later = subst (λ (k : Children). FirstIn k cs) (sym is) tt
-    go (child label n ds) is later = subst (λ (k : Children). FirstIn k cs) (sym is) (later (step_to 0 label) (label, n, ds, is, refl))
+    go kids is later = search rules
 removal_first _ doc room root cs is tree h = absurd (cc)

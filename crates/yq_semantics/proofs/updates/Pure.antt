@@ -36,15 +36,13 @@ entries_new : (k : List ℕ) (cs : Children) (es : List (List ℕ × Node)) → 
 entries_new k none es t new h = subst (λ (fs : List (List ℕ × Node)). IsNew k (entries fs)) (gives_same h) tt
 entries_new k (child label n cs) es t new h =
     let x = first_copy label n cs es h in
-    subst (λ (fs : List (List ℕ × Node)). IsNew k (entries fs)) x.4
-    ((λ e. new.0 (sym (own_key label.key t.0.0 t.0.1) ∙ e)), entries_new k cs x.1 t.1 new.1 x.3)
+    search (rules, own_key, entries_new k cs x.1 t.1 new.1 x.3)
 
 entries_are : (cs : Children) (es : List (List ℕ × Node)) → AreEntries cs → entry_copies cs ≡ gives es → AreEntries (entries es)
 entries_are none es t h = subst (λ (fs : List (List ℕ × Node)). AreEntries (entries fs)) (gives_same h) tt
 entries_are (child label n cs) es t h =
     let x = first_copy label n cs es h in
-    subst (λ (fs : List (List ℕ × Node)). AreEntries (entries fs)) x.4
-    ((t.0.0, own_key label.key t.0.0 t.0.1 ∙ t.0.1, entries_new t.0.0 cs x.1 t.1 t.0.2 x.3), entries_are cs x.1 t.1 x.3)
+    search (rules, own_key, entries_new, entries_are cs x.1 t.1 x.3)
 
 mutual
   -- a copy is a tree without aliases

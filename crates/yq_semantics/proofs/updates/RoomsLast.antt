@@ -1,14 +1,14 @@
 -- The room that the operations of a plan ask for lasts.
 use Rattle.std.proofs.Common.{◌≡◌, ◌<◌, ◌⊎◌, ℕ, suc, Bool, List, [], ◌∷◌, ◌++◌, map, option_and_then, refl, sym, subst, ◌∙◌, inl, inr}
 use Rattle.std.{proofs.Common.{arith, rules}, proofs.lemmas.Option.same_Some}
-use Rattle.yq_core.{specs.PathOrder.Before, specs.Paths.Step, specs.Tree.Node}
+use Rattle.yq_core.{specs.PathOrder.Before, specs.Paths.Step}
 use Rattle.yq_documents.specs.Documents.{Document}
 use Rattle.yq_semantics.specs.After.{op_document, after_op}
 use Rattle.yq_semantics.specs.Changes.{Addition, appends, overwrites, replaces, adds, sets_comment, Changed, Room, changes_in, changes_from}
 use Rattle.yq_semantics.{specs.Fits.AllFit, specs.Judgement.{and_then, gives}, specs.Meaning.{roots_of, AreReady}}
 use Rattle.yq_semantics.{specs.Operations.{Operation, remove}, specs.Plans.{add_op, ops_of, is_removal, ordered, all_ops, plan}}
 use Rattle.yq_semantics.specs.Program.{UpdatesHold, Update, comment}
-use Rattle.yq_semantics.specs.RoomsKept.{KeepsBlock, KeepsBlockIn, NoneOn, BlockLasts, SetComments, SetNoComment, MayFollow}
+use Rattle.yq_semantics.specs.RoomsKept.{KeepsBlockIn, NoneOn, BlockLasts, SetComments, SetNoComment, MayFollow}
 use Rattle.yq_semantics.proofs.JudgementLaws.{then_gives, gives_same}
 use Rattle.yq_semantics.proofs.updates.Folds.{InPairs, AllAre, AreGone, IsWritten, IsSaid, IsOf, MayFold, of_may_fold}
 use Rattle.yq_semantics.{proofs.updates.Planned.update_kind, proofs.updates.PlanFits.plan_fits}
@@ -18,9 +18,6 @@ use Rattle.yq_semantics.specs.declared.program.CommentPlace.TheVariants as comme
 use Rattle.yq_semantics.specs.Changes as changes
 
 -- ---- by turns
-
-some_keeps_block : (op : Operation) → KeepsSome op → (root : Node) → KeepsBlock op root
-some_keeps_block op h1 root = search rules
 
 -- an operation removes something, and the next one does too, in the same document
 abbrev RemovesMore : Operation → List Operation → Type 0
@@ -32,17 +29,14 @@ abbrev KeepBlocks : List Operation → Type 0
 KeepBlocks [] = Unit {0}
 KeepBlocks (op ∷ ops) = (KeepsSome op ⊎ (NoneOn (op_document op) ops ⊎ RemovesMore op ops)) × KeepBlocks ops
 
-removes_keeps : (rooms : ℕ → Room) (op : Operation) (ops : List Operation) (docs : List Document) → RemovesMore op ops → AllFit rooms ops docs → KeepsBlockIn op docs
-removes_keeps rooms op ops docs h1 h2 = search (rules, same_Some, option_and_then)
-
 keep_last : (rooms : ℕ → Room) (ops : List Operation) (docs : List Document) → KeepBlocks ops → AllFit rooms ops docs → BlockLasts rooms ops docs
 keep_last rooms [] docs t f = tt
 keep_last rooms (op ∷ ops) docs t f = (go t.0, keep_last rooms ops (after_op rooms op docs) t.1 f.1)
   where
     go : KeepsSome op ⊎ (NoneOn (op_document op) ops ⊎ RemovesMore op ops) → KeepsBlockIn op (after_op rooms op docs) ⊎ NoneOn (op_document op) ops
-    go (inl l) = inl (λ d at. some_keeps_block op l d.root)
+    go (inl l) = inl (λ d at. search rules)
     go (inr (inl n)) = inr n
-    go (inr (inr r)) = inl (removes_keeps rooms op ops (after_op rooms op docs) r f.1)
+    go (inr (inr r)) = inl (search (rules, same_Some, option_and_then))
 
 -- ---- the operations of later documents
 
@@ -56,9 +50,7 @@ none_other n m (op ∷ ops) less o = ((λ e. let same : n ≡ m = sym e ∙ o.0 
 
 none_before : (removal : Bool) (n m : ℕ) (css : List (List Changed)) → n < m → NoneOn n (all_ops removal m css)
 none_before removal n m [] less = tt
-none_before removal n m (cs ∷ css) less =
-    none_join n (ops_of m (ordered removal cs)) (all_ops removal (suc m) css) (none_other n m (ops_of m (ordered removal cs)) less (ops_are_of m (ordered removal cs)))
-    (none_before removal n (suc m) css (omega (arith, less)))
+none_before removal n m (cs ∷ css) less = search (rules, none_join, none_other, ops_are_of, none_before removal n (suc m) css (omega (arith, less)))
 
 -- ---- the operations of a document
 
@@ -114,20 +106,15 @@ abbrev Say : Update → List Operation → Type 0
 Say (comment left place text) ops = SetComments ops
 Say _ ops = SetNoComment ops
 
-say_none : (u : Update) → Say u []
-say_none u = search rules
-
 say_join : (u : Update) (n : ℕ) (cs : List Changed) (others : List Operation) → AllAre (IsOf u) cs → Say u others → Say u (ops_of n (ordered (is_removal u) cs) ++ others)
 say_join u n cs others h1 h2 = search (rules, no_join, written_no, gone_no, each_reverse, set_join, said_set)
-
-say_alone : (u : Update) (ops : List Operation) → Say u ops → SetComments ops ⊎ SetNoComment ops
-say_alone u ops h1 = search rules
 
 -- ---- the operations of an update
 
 from_keep : (u : Update) (rooms : ℕ → Room) (n : ℕ) (docs : List Document) (css : List (List Changed)) → AreReady rooms n docs → changes_from u rooms n (roots_of docs) ≡ gives css →
     KeepBlocks (all_ops (is_removal u) n css) × Say u (all_ops (is_removal u) n css)
-from_keep u rooms n [] css ready h = subst (λ (xs : List (List Changed)). KeepBlocks (all_ops (is_removal u) n xs) × Say u (all_ops (is_removal u) n xs)) (gives_same h) (tt, say_none u)
+from_keep u rooms n [] css ready h =
+    subst (λ (xs : List (List Changed)). KeepBlocks (all_ops (is_removal u) n xs) × Say u (all_ops (is_removal u) n xs)) (gives_same h) (tt, search rules)
 from_keep u rooms n (d ∷ ds) css ready h =
     let one = then_gives (λ first. and_then (λ others. gives (first ∷ others)) (changes_from u rooms (suc n) (roots_of ds))) (changes_in u n (rooms n) d.root) css h in
     let two = then_gives (λ (others : List (List Changed)). gives (one.0 ∷ others)) (changes_from u rooms (suc n) (roots_of ds)) css one.2 in
@@ -139,4 +126,4 @@ from_keep u rooms n (d ∷ ds) css ready h =
 
 -- the operations of a plan may follow one another
 pub plan_follows : (u : Update) (rooms : ℕ → Room) (docs : List Document) (ops : List Operation) → AreReady rooms 0 docs → UpdatesHold (u ∷ []) → plan u rooms docs ≡ gives ops → MayFollow rooms ops docs
-plan_follows u rooms docs ops ready holds h = search (rules, plan_fits, plan_parts, from_keep, keep_last, say_alone)
+plan_follows u rooms docs ops ready holds h = search (rules, plan_fits, plan_parts, from_keep, keep_last)

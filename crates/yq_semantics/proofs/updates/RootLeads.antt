@@ -1,15 +1,13 @@
 -- Operations on a document, one after the other: the root, and the lead.
-use Rattle.std.proofs.Common.{◌≡◌, ◌≢◌, ℕ, ◌⊎◌, Bool, true, List, [], ◌∷◌, ◌++◌, map, reverse, Some, None, refl, sym, ap, ◌∙◌, inl, inr}
+use Rattle.std.proofs.Common.{◌≡◌, ◌≢◌, ℕ, ◌⊎◌, Bool, true, List, [], ◌∷◌, ◌++◌, map, reverse, None, refl, sym, ap, ◌∙◌, inl, inr}
 use Rattle.std.{proofs.Common.{append-nil, rules}, proofs.lemmas.Bool.cond_both}
 use mathlib.Core.List.{nil≢cons}
-use Rattle.yq_core.specs.Tree.{Label, Node, Children, none, child, children_of, key_label}
-use Rattle.yq_core.specs.Paths.{Step, To, is_here, further, change_child, relabel_child, append_child, within, changed_at}
+use Rattle.yq_core.{specs.Tree.{Label, Node, Children, none, child, children_of}, specs.Paths.{Step, To, relabel_child, append_child}}
 use Rattle.yq_core.{specs.PathOrder.Before, specs.Shapes.IsTree}
-use Rattle.yq_documents.specs.Documents.{Document}
-use Rattle.yq_documents.specs.TreeEdits.{replaced_node, at_end, with_line_comment, with_head_comment, lead_by, with_tree}
+use Rattle.yq_documents.{specs.Documents.Document, specs.TreeEdits.{at_end, with_line_comment, with_head_comment, lead_by, with_tree}}
 use Rattle.yq_semantics.specs.After.{root_after, done_to}
 use Rattle.yq_semantics.specs.Changes.{Addition, appends, overwrites, replaces, adds, sets_comment, Changed}
-use Rattle.yq_semantics.specs.NodeEdits.{NodeEdits, same_path, step_to, at_once}
+use Rattle.yq_semantics.specs.NodeEdits.{NodeEdits, step_to, at_once}
 use Rattle.yq_semantics.specs.Meaning.{head_comment_lines, line_comment_text, node_edit_of, changed_at_once, IsLed}
 use Rattle.yq_semantics.specs.Operations.{Operation, replace, append, remove, line_comment, head_comment}
 use Rattle.yq_semantics.{specs.Plans.{add_op, change_ops, ops_of, ordered}, proofs.updates.AtOnce.one_more}
@@ -17,7 +15,6 @@ use Rattle.yq_semantics.proofs.updates.Spares.{idle, spares_root}
 use Rattle.yq_semantics.proofs.updates.Folds.{ToEach, InPairs, IsKept, AreKept, IsGone, MayFold, AreSpared, node_edits_of, path_same}
 use Rattle.yq_semantics.{proofs.updates.Folds.{AreGone, ops_join, folds, spared_in_order}, proofs.updates.OneAt.{roots_after, change_after}}
 use Rattle.yq_semantics.proofs.updates.Each.{Each, each_join, reverse-cons}
-use Rattle.yq_core.specs.Tree as tree
 use Rattle.yq_semantics.specs.declared.program.CommentPlace.TheVariants as comments
 use Rattle.yq_semantics.specs.Changes as changes
 
@@ -46,31 +43,22 @@ KeepsSome _ = Unit {0}
 abbrev pub AllKeepSome : List Operation → Type 0
 AllKeepSome ops = Each KeepsSome ops
 
-within_keeps : (g : Children → Children) → ((cs : Children) → IsNone (g cs) → IsNone cs) → (n : Node) → IsNone (children_of (within g n)) → IsNone (children_of n)
-within_keeps g h1 n h2 = search rules
-
-change_keeps : (s : Step) (f : Node → Node) (cs : Children) → IsNone (change_child s f cs) → IsNone cs
-change_keeps s f none h = tt
-change_keeps s f (child label n cs) h = cond_both (is_here s label) (child label (f n) cs) (child label n (change_child (further s) f cs)) (λ ds. IsNone ds → ⊥) (λ e k. k) (λ e k. k) h
-
 relabel_keeps : (s : Step) (f : Label → Label) (cs : Children) → IsNone (relabel_child s f cs) → IsNone cs
-relabel_keeps s f none h = tt
-relabel_keeps s f (child label n cs) h = cond_both (is_here s label) (child (f label) n cs) (child label n (relabel_child (further s) f cs)) (λ ds. IsNone ds → ⊥) (λ e k. k) (λ e k. k) h
+relabel_keeps s f cs h = search (rules, cond_both)
 
 append_keeps : (label : Label) (v : Node) (cs : Children) → IsNone (append_child label v cs) → IsNone cs
-append_keeps label v none h = tt
-append_keeps label v (child first n cs) h = h
+append_keeps label v cs h = search rules
 
 end_keeps : (g : Label → Label) (p : List Step) (n : Node) → IsNone (children_of (at_end (λ s. relabel_child s g) p n)) → IsNone (children_of n)
 end_keeps g [] n h = h
-end_keeps g (s ∷ []) n h = within_keeps (relabel_child s g) (relabel_keeps s g) n h
-end_keeps g (s ∷ (t ∷ p)) n h = within_keeps (change_child s (at_end (λ r. relabel_child r g) (t ∷ p))) (change_keeps s (at_end (λ r. relabel_child r g) (t ∷ p))) n h
+end_keeps g (s ∷ []) n h = search rules
+end_keeps g (s ∷ (t ∷ p)) n h = search rules
 
 op_keeps_some : (block : Bool) (lead : List (List ℕ)) (op : Operation) → KeepsSome op → (n : Node) → IsNone (children_of (root_after block lead op n)) → IsNone (children_of n)
 op_keeps_some block lead (replace doc [] v) l n h = absurd (nil≢cons l.2)
-op_keeps_some block lead (replace doc (s ∷ p) v) l n h = within_keeps (change_child s (changed_at p (replaced_node v))) (change_keeps s (changed_at p (replaced_node v))) n h
-op_keeps_some block lead (append doc [] k v) l n h = within_keeps (append_child (key_label k) v) (append_keeps (key_label k) v) n h
-op_keeps_some block lead (append doc (s ∷ p) k v) l n h = within_keeps (change_child s (changed_at p (within (append_child (key_label k) v)))) (change_keeps s (changed_at p (within (append_child (key_label k) v)))) n h
+op_keeps_some block lead (replace doc (s ∷ p) v) l n h = search rules
+op_keeps_some block lead (append doc [] k v) l n h = search rules
+op_keeps_some block lead (append doc (s ∷ p) k v) l n h = search rules
 op_keeps_some block lead (remove doc path) l n h = absurd l
 op_keeps_some block lead (line_comment doc path text) l n h = end_keeps (with_line_comment (line_comment_text text)) path n h
 op_keeps_some block lead (head_comment doc path text) l n h = end_keeps (with_head_comment (head_comment_lines text)) path n h
@@ -148,10 +136,6 @@ puts_or_keeps doc (c ∷ []) h k = one_keeps doc c k.0
 puts_or_keeps doc (c ∷ (d ∷ ds)) h k =
     inr (each_join KeepsSome (change_ops doc c) (ops_of doc (d ∷ ds)) (below_keeps doc c (first_below c.0 d.0 h.0.0) k.0) (all_below doc c.0 (d ∷ ds) h.0 k.1))
 
-kept_document : (block : Bool) (doc : ℕ) (cs : List Changed) (d : Document) → IsLed block d → InPairs Before cs → AreKept cs →
-    document_after block (ops_of doc cs) d ≡ with_tree block (roots_after block d.lead (ops_of doc cs) d.root) d
-kept_document block doc cs d is h k = search (rules, puts_or_keeps, roots_after, leaving)
-
 -- ---- where entries or items are removed
 
 -- none of these is at the path of that one step
@@ -183,8 +167,7 @@ module _ (block : Bool) (doc : ℕ) (d : Document) (is : IsLed block d) (tree : 
   -- nothing is done at a path at which there is no change
   not_done : (s : Step) (cs : List Changed) → NoneAt s cs → node_edits_of block d.lead cs (s ∷ []) ≡ None
   not_done s [] h = refl
-  not_done s (c ∷ cs) h =
-      cond_both (same_path c.0 (s ∷ [])) (Some (node_edit_of block d.lead c)) (node_edits_of block d.lead cs (s ∷ [])) (λ x. x ≡ None) (λ e. absurd (h.0 (path_same c.0 (s ∷ []) e))) (λ e. not_done s cs h.1)
+  not_done s (c ∷ cs) h = search (rules, cond_both, node_edits_of, path_same, not_done s cs h.1)
 
   first_free : (kids : Children) (c : Changed) (cs : List Changed) → FirstIn kids (c ∷ cs) → FirstFree (node_edits_of block d.lead cs) kids
   first_free none c cs h = tt
@@ -218,4 +201,4 @@ module _ (block : Bool) (doc : ℕ) (d : Document) (is : IsLed block d) (tree : 
 
   -- the operations of changes, one after the other, make all of them in a document
   pub document_folds : (removal : Bool) (cs : List Changed) → InPairs Before cs → MayFold removal cs → (removal ≡ true → IsFirst d.root cs) → document_after block (ops_of doc (ordered removal cs)) d ≡ changed_at_once block cs d
-  document_folds removal cs h1 h2 h3 = search (rules, removed_document, kept_document, folds)
+  document_folds removal cs h1 h2 h3 = search (rules, removed_document, puts_or_keeps, roots_after, leaving, folds)

@@ -1,9 +1,8 @@
 -- What is done spares a path: it is apart from it, and what goes comes after.
-use Rattle.std.proofs.Common.{◌≡◌, ℕ, suc, ◌<◌, List, [], ◌∷◌, Option, Some, None, refl, ap, ◌∙◌, inl, inr, rules}
+use Rattle.std.proofs.Common.{◌≡◌, ℕ, suc, ◌<◌, List, [], ◌∷◌, Option, Some, None, refl, ap, ◌∙◌, rules}
 use Rattle.yq_core.{specs.Tree.{Label, Node, list, Children, none, child, map}, specs.Paths.{Nth, Step}, specs.PathOrder.{Before, Apart}}
 use Rattle.yq_semantics.specs.NodeEdits.{step_to, NodeEdit, line, head, goes, NodeEdits, under, done_at, child_by, node_edit_inside}
-use Rattle.yq_semantics.specs.NodeEdits.{each_at_once, at_once}
-use Rattle.yq_semantics.proofs.PathLaws.{before_not_in, before_under, apart_under, apart_root, apart_not_in}
+use Rattle.yq_semantics.{specs.NodeEdits.{each_at_once, at_once}, proofs.PathLaws.{before_not_in, before_under, apart_root, apart_not_in}}
 
 -- two functions that agree at each path
 pub node_edits_same : (f g : NodeEdits) → ((q : List Step) → f q ≡ g q) → f ≡ g
@@ -31,21 +30,18 @@ spared_apart : (x : NodeEdit) (p q : List Step) → IsSpared (Some x) p q → Ap
 spared_apart x p q h1 = search rules
 
 pub spares_under : (f : NodeEdits) (s : Step) (p : List Step) → Spares f (s ∷ p) → Spares (under s f) p
-spares_under f s p h q = search (rules, apart_under, before_under)
+spares_under f s p h q = search (rules, before_under)
 
 -- nothing is done at a place that is apart from none
 pub nothing : (d : Option NodeEdit) (p q : List Step) → (Apart p q → ⊥) → IsSpared d p q → d ≡ None
-nothing None p q never h = refl
-nothing (Some x) p q never h = absurd (never (spared_apart x p q h))
+nothing d p q never h = search (rules, spared_apart)
 
 pub spares_root : (f : NodeEdits) (p : List Step) → Spares f p → f [] ≡ None
-spares_root f [] h = nothing (f []) [] [] (apart_root []) (h [])
-spares_root f (s ∷ p) h = nothing (f []) (s ∷ p) [] (apart_not_in s p) (h [])
+spares_root f p h = search (rules, nothing, apart_root, apart_not_in)
 
 -- an item that goes comes after
 pub spares_behind : (m i : ℕ) (p : List Step) → Before (Nth m ∷ p) (Nth i ∷ []) → m < i
-spares_behind m i p (inl h) = h
-spares_behind m i p (inr h) = absurd (before_not_in p h.1)
+spares_behind m i p h = search (rules, before_not_in)
 
 -- ---- where nothing is done
 

@@ -1,20 +1,17 @@
 -- Sums are trees without aliases.
-use Rattle.std.proofs.Common.{◌≡◌, ◌≢◌, ℕ, Bool, true, false, cond, List, [], ◌∷◌, Option, Some, None, refl, sym, ap, subst, ◌∙◌, inl, inr}
-use Rattle.std.{proofs.Common.rules, proofs.lemmas.Bool.false≢true, proofs.lemmas.Option.none-some}
-use Rattle.yq_core.{specs.declared.kind.Kind.Kind, specs.Tree.{Label, Node, alias, scalar, list, Children, none, child, key_label}}
+use Rattle.yq_semantics.{proofs.updates.Mentions.{unnamed_free, IsPure}, specs.Judgement.{and_then, gives}}
+use Rattle.yq_semantics.{specs.Program.{SumHolds, PathStep, Term, literal, found}, specs.Conditions.{node_there, value_of}}
+use Rattle.yq_semantics.{specs.Copies.copy_at, specs.Pipes.pipe_on, specs.Places.FoundPlace, specs.PlacesApart.IsIn}
+use Rattle.yq_semantics.specs.RightValues.{is_null, as_items, with_entry, with_entries, value_sum, sum, only_copy, term_value, sum_from}
+use Rattle.yq_semantics.{specs.RightValues.right_value, proofs.JudgementLaws.{then_gives, gives_same}, proofs.GoodPlaces.AreSound}
+use Rattle.yq_semantics.{proofs.PathLaws.bytes_refl, proofs.updates.PipePlaces.pipe_good}
+use Rattle.yq_semantics.proofs.updates.Pure.{AreFree, free_child, copy_pure}
+use Rattle.std.proofs.Common.{◌≡◌, ◌≢◌, ℕ, Bool, true, false, cond, List, [], ◌∷◌, Option, Some, None, refl, sym, subst, inl, inr, rules}
+use Rattle.std.{proofs.lemmas.Bool.false≢true, proofs.lemmas.Option.none-some}
+use Rattle.yq_core.specs.Tree.{Label, Node, alias, scalar, list, Children, none, child, key_label}
 use Rattle.yq_core.specs.Paths.{To, key_is, child_at, change_child, append_child, append_children}
 use Rattle.yq_core.specs.Shapes.{IsNew, AreItems, AreEntries, IsTree}
-use Rattle.yq_semantics.{specs.Judgement.{and_then, gives}, specs.Program.{SumHolds, PathStep, Term, literal, found}}
-use Rattle.yq_semantics.{specs.Conditions.{node_there, value_of}, specs.Copies.copy_at, proofs.updates.Mentions.{literal_pure, IsPure}}
-use Rattle.yq_semantics.{specs.Pipes.pipe_on, specs.Places.FoundPlace, specs.PlacesApart.IsIn}
-use Rattle.yq_semantics.specs.RightValues.{is_null, scalar_sum, as_items, with_entry, with_entries, value_sum, sum, only_copy, term_value}
-use Rattle.yq_semantics.{specs.RightValues.{sum_from, right_value}, proofs.JudgementLaws.{then_gives, gives_same}}
-use Rattle.yq_semantics.{proofs.GoodPlaces.AreSound, proofs.PathLaws.bytes_refl, proofs.updates.PipePlaces.pipe_good}
-use Rattle.yq_semantics.proofs.updates.Pure.{AreFree, free_child, copy_pure}
 use Rattle.yq_core.specs.Tree as tree
-
-free_none : AreFree none
-free_none = (tt, λ a m. m)
 
 free_first : (label : Label) (n : Node) (cs : Children) → AreFree (child label n cs) → IsPure n
 free_first label n cs f = (f.0.0, λ a m. f.1 a (inl m))
@@ -34,31 +31,23 @@ pub items_items : (v : Node) → IsPure v → AreItems (as_items v)
 items_items v h1 = search rules
 
 pub items_free : (v : Node) → IsPure v → AreFree (as_items v)
-items_free (alias name) p = free_child (key_label None) (alias name) none p free_none
-items_free (scalar anchor kind text) p = free_child (key_label None) (scalar anchor kind text) none p free_none
+items_free (alias name) p = free_child (key_label None) (alias name) none p ((tt, λ a m. m))
+items_free (scalar anchor kind text) p = free_child (key_label None) (scalar anchor kind text) none p ((tt, λ a m. m))
 items_free (list anchor cs) p = (p.0.1, λ a m. p.1 a m)
-items_free (tree.map anchor cs) p = free_child (key_label None) (tree.map anchor cs) none p free_none
+items_free (tree.map anchor cs) p = free_child (key_label None) (tree.map anchor cs) none p ((tt, λ a m. m))
 
 free_append : (label : Label) (v : Node) (cs : Children) → IsPure v → AreFree cs → AreFree (append_child label v cs)
-free_append label v none p f = free_child label v none p free_none
+free_append label v none p f = free_child label v none p ((tt, λ a m. m))
 free_append label v (child first n cs) p f = free_child first n (append_child label v cs) (free_first first n cs f) (free_append label v cs p (free_rest first n cs f))
 
 free_change : (k : List ℕ) (v : Node) (cs : Children) → IsPure v → AreFree cs → AreFree (change_child (To k) (λ old. v) cs)
 free_change k v none p f = f
-free_change k v (child label n cs) p f = go (key_is k label.key) (free_change k v cs p (free_rest label n cs f))
-  where
-    go : (b : Bool) → AreFree (change_child (To k) (λ old. v) cs) → AreFree (cond b (child label v cs) (child label n (change_child (To k) (λ old. v) cs)))
-    go true ih = free_child label v cs p (free_rest label n cs f)
-    go false ih = free_child label n (change_child (To k) (λ old. v) cs) (free_first label n cs f) ih
+free_change k v (child label n cs) p f = search (rules, free_rest, free_child, free_first, free_change k v cs p (free_rest label n cs f))
 
 -- a key that isn't found is new
 pub not_found : (k : List ℕ) (cs : Children) → child_at (To k) cs ≡ None → IsNew k cs
 not_found k none h = tt
-not_found k (child label n cs) h = go (key_is k label.key) refl (not_found k cs) h
-  where
-    go : (b : Bool) → key_is k label.key ≡ b → (child_at (To k) cs ≡ None → IsNew k cs) → cond b (Some n) (child_at (To k) cs) ≡ None → (label.key ≢ Some k) × IsNew k cs
-    go true is ih e = absurd (none-some _ (sym e))
-    go false is ih e = ((λ same. let there : key_is k label.key ≡ true = ap (key_is k) same ∙ bytes_refl k in false≢true (sym is ∙ there)), ih e)
+not_found k (child label n cs) h = search (rules, none-some, bytes_refl, false≢true, not_found k cs)
 
 new_append : (j k : List ℕ) (v : Node) (cs : Children) → j ≢ k → IsNew k cs → IsNew k (append_child (key_label (Some j)) v cs)
 new_append j k v none d h = ((λ e. d (let same : j ≡ k = cc in same)), tt)
@@ -69,21 +58,15 @@ new_change j k f none h = tt
 new_change j k f (child label n cs) h = go (key_is j label.key) (new_change j k f cs h.1)
   where
     go : (b : Bool) → IsNew k (change_child (To j) f cs) → IsNew k (cond b (child label (f n) cs) (child label n (change_child (To j) f cs)))
-    go true ih = (h.0, h.1)
-    go false ih = (h.0, ih)
+    go b ih = search rules
 
 entries_append : (k : List ℕ) (v : Node) (cs : Children) → IsNew k cs → AreEntries cs → AreEntries (append_child (key_label (Some k)) v cs)
 entries_append k v none new h = ((k, refl, tt), tt)
-entries_append k v (child label n cs) new h =
-    ((h.0.0, h.0.1, new_append k h.0.0 v cs (λ e. new.0 (h.0.1 ∙ ap Some (sym e))) h.0.2), entries_append k v cs new.1 h.1)
+entries_append k v (child label n cs) new h = search (rules, new_append, entries_append k v cs new.1 h.1)
 
 entries_change : (j : List ℕ) (f : Node → Node) (cs : Children) → AreEntries cs → AreEntries (change_child (To j) f cs)
 entries_change j f none h = tt
-entries_change j f (child label n cs) h = go (key_is j label.key) (entries_change j f cs h.1)
-  where
-    go : (b : Bool) → AreEntries (change_child (To j) f cs) → AreEntries (cond b (child label (f n) cs) (child label n (change_child (To j) f cs)))
-    go true ih = h
-    go false ih = ((h.0.0, h.0.1, new_change j h.0.0 f cs h.0.2), ih)
+entries_change j f (child label n cs) h = search (rules, new_change, entries_change j f cs h.1)
 
 -- entries with one more value
 abbrev AreMap : Children → Type 0
@@ -99,13 +82,10 @@ with_all cs (child label v ds) m n =
     (subst (λ (o : Option (List ℕ)). AreMap (with_entry o v cs)) (sym n.0.0.1) (with_one n.0.0.0 v cs (free_first label v ds n.1) m))
     (n.0.1, free_rest label v ds n.1)
 
-scalar_pure : (k : Kind) (t : List ℕ) (j : Kind) (u : List ℕ) (w : Node) → scalar_sum k t j u ≡ gives w → IsPure w
-scalar_pure k t j u w h1 = search (rules, gives_same)
-
 value_pure : (n v w : Node) → IsPure n → IsPure v → value_sum n v ≡ gives w → IsPure w
-value_pure (scalar a k t) (scalar b j u) w p q h = scalar_pure k t j u w h
-value_pure (list a cs) v w p q h = search (rules, scalar_pure, free_join, items_free, gives_same, items_join, items_items, with_all)
-value_pure (tree.map a cs) (tree.map b ds) w p q h = search (rules, scalar_pure, free_join, items_free, gives_same, items_join, items_items, with_all)
+value_pure (scalar a k t) (scalar b j u) w p q h = search (rules, gives_same)
+value_pure (list a cs) v w p q h = search (rules, free_join, items_free, gives_same, items_join, items_items, with_all)
+value_pure (tree.map a cs) (tree.map b ds) w p q h = search (rules, free_join, items_free, gives_same, items_join, items_items, with_all)
 value_pure _ _ w p q h = absurd (cc)
 
 pub sum_pure : (n v w : Node) → IsPure n → IsPure v → sum n v ≡ gives w → IsPure w
@@ -122,8 +102,7 @@ at_pure : (p : FoundPlace) (v : Node) → IsTree p.node → copy_at p ≡ gives 
 at_pure p v t h = copy_pure (value_of p) v (go p.missing) h
   where
     go : (missing : List PathStep) → IsTree (node_there missing p.node)
-    go [] = t
-    go (m ∷ ms) = tt
+    go missing = search rules
 
 only_pure : (root : Node) (ps : List FoundPlace) (v : Node) → AreSound root ps → only_copy ps ≡ gives v → IsPure v
 only_pure root (p ∷ []) v s h = at_pure p v s.0.0 h
@@ -131,14 +110,13 @@ only_pure root _ v s h = absurd (cc)
 
 module _ (root : Node) (doc : ℕ) (p : FoundPlace) (tree : IsTree p.node) (at : IsIn root p) where
   term_pure : (t : Term) (ts : List Term) (v : Node) → SumHolds (t ∷ ts) → term_value doc p t ≡ gives v → IsPure v
-  term_pure (literal w) ts v free h = subst IsPure (gives_same h) (literal_pure w free.0)
+  term_pure (literal w) ts v free h = subst IsPure (gives_same h) ((free.0.tree, unnamed_free w free.0.unnamed))
   term_pure (found pipe) ts v free h =
       let x = then_gives only_copy (pipe_on doc pipe (p ∷ [])) v h in
       only_pure root x.0 v (pipe_good root doc pipe (p ∷ []) x.0 (record { apart = (tt, tt); sound = ((tree, at), tt) }) x.1).sound x.2
 
   terms_rest : (t : Term) (ts : List Term) → SumHolds (t ∷ ts) → SumHolds ts
-  terms_rest (literal w) ts free = free.1
-  terms_rest (found pipe) ts free = free
+  terms_rest t ts free = search rules
 
   from_pure : (v : Node) (ts : List Term) (w : Node) → IsPure v → SumHolds ts → sum_from doc p v ts ≡ gives w → IsPure w
   from_pure v [] w q free h = subst IsPure (gives_same h) q

@@ -1,6 +1,6 @@
-use Rattle.yq_row_table.{proofs.KeptReads.kept_within, specs.Offsets.{AreCuts, lengths, pieces_of}, specs.View.RowsView}
+use Rattle.std.{proofs.Common.{rules, arith, ◌-◌, List, ℕ, ap, drop, length, subst, sym, ◌∙◌}, specs.Str.IsCharBoundary}
+use Rattle.yq_row_table.{proofs.KeptReads.kept_within, specs.Offsets.{AreCuts, lengths}}
 use Rattle.yq_row_table.proofs.KeptPlaces.{back_found, back_within, front_found, row_back, row_front}
-use Rattle.std.{proofs.Common.{arith, ◌-◌, List, ℕ, Some, ap, drop, length, slice_get, subst, sym, ◌∙◌}, specs.Str.IsCharBoundary}
 use Rattle.yq_row_table.proofs.rows.Rows.found.Goals as goal
 
 pub split_at-requires : goal.split_at-requires
@@ -14,10 +14,7 @@ returns-then-i-len-clause-cuts c =
     subst (λ (t : List ℕ). AreCuts t (lengths c.kept-row.result.now)) (ap (λ (n : ℕ). drop n c.self.inside.text.front.now) (sym c.start.ensures) ∙ sym c.split_at.ensures.back) stands.1
 
 pub returns-then-i-len-clause-row : goal.returns-then-i-len-clause-row
-returns-then-i-len-clause-row c =
-    ap (λ (v : RowsView). slice_get v.rows c.args.i) (sym c.self.view_is)
-    ∙ (row_front c.self.inside.text c.self.inside.places c.args.i c.kept-row.result.now c.kept-row.ensures (omega (arith, c.self.inside.places.front.ok.0))
-    ∙ ap (λ (t : List ℕ). Some (pieces_of t c.kept-row.result.now)) (ap (λ (n : ℕ). drop n c.self.inside.text.front.now) (sym c.start.ensures) ∙ sym c.split_at.ensures.back))
+returns-then-i-len-clause-row c = search (rules, row_front)
 
 pub overflow_sub-back : goal.overflow_sub-back
 overflow_sub-back c = rw c.start-2.ensures (back_within c.self.inside.text c.self.inside.places c.args.i c.kept-row.result.now c.self.invariant c.kept-row.ensures (omega (arith, c.self.inside.places.front.ok.0)))
@@ -34,11 +31,7 @@ returns-clause-cuts c =
     subst (λ (t : List ℕ). AreCuts t (lengths c.kept-row.result.now)) (ap (λ (n : ℕ). drop (length back - n) back) (sym c.start-2.ensures) ∙ sym c.split_at-2.ensures.back) stands.1
 
 pub returns-clause-row : goal.returns-clause-row
-returns-clause-row c =
-    let back = c.self.inside.text.back.now in
-    ap (λ (v : RowsView). slice_get v.rows c.args.i) (sym c.self.view_is)
-    ∙ (row_back c.self.inside.text c.self.inside.places c.args.i c.kept-row.result.now c.kept-row.ensures (omega (arith, c.self.inside.places.front.ok.0))
-    ∙ ap (λ (t : List ℕ). Some (pieces_of t c.kept-row.result.now)) (ap (λ (n : ℕ). drop (length back - n) back) (sym c.start-2.ensures) ∙ sym c.split_at-2.ensures.back))
+returns-clause-row c = search (rules, row_back)
 
 pub kept-row-requires : goal.kept-row-requires
 kept-row-requires c = kept_within c.self.inside.text c.self.inside.places c.args.i c.args.self.now c.self.view_is c.requires

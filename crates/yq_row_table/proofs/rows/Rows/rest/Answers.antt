@@ -1,18 +1,13 @@
-use Rattle.std.{proofs.Common.{◌≡◌, ◌-◌, ◌++◌, length, List, take, drop, ap, arith, sym, subst}, specs.List.Sorted.IsNonDecreasingBy}
+use Rattle.std.{proofs.Common.{rules, ◌≡◌, ◌-◌, ◌++◌, List, take, drop, ap, arith, sym, subst}, specs.List.Sorted.IsNonDecreasingBy}
 use Rattle.std.proofs.lemmas.List.{length-map}
-use Rattle.yq_row_table.{specs.Ends.bound_in_half, specs.View.{Bound, bounds_at, RowsView}}
-use Rattle.yq_row_table.proofs.RestSlicing.{AtRow, ends_rise, in_order, rest_sliced}
+use Rattle.yq_row_table.{specs.View.{Bound, bounds_at, RowsView}, proofs.RestSlicing.{AtRow, ends_rise, in_order, rest_sliced}}
 use Rattle.yq_row_table.proofs.rows.Rows.rest.Goals as goal
 
 pub returns-then-i-eq0-clause-within : goal.returns-then-i-eq0-clause-within
-returns-then-i-eq0-clause-within c =
-    let bounds = ap (λ (s : RowsView). s.bounds) c.self.view_is in
-    omega (arith, c.count_to-to.ensures.within, ap length bounds, length-map c.self.inside.places.ends (bound_in_half c.self.inside.text))
+returns-then-i-eq0-clause-within c = search (rules, length-map)
 
 pub returns-clause-within : goal.returns-clause-within
-returns-clause-within c =
-    let bounds = ap (λ (s : RowsView). s.bounds) c.self.view_is in
-    omega (arith, c.count_to-to.ensures.within, ap length bounds, length-map c.self.inside.places.ends (bound_in_half c.self.inside.text))
+returns-clause-within c = search (rules, length-map)
 
 pub returns-then-i-eq0-clause-bounds : goal.returns-then-i-eq0-clause-bounds
 returns-then-i-eq0-clause-bounds c =
