@@ -66,7 +66,7 @@ run_length gap =
 pub run_within : (gap run : List ℕ) → text_lines run ≡ last_run (text_lines gap) → length run ≤ length gap
 run_within gap run e = let same : run ≡ joined (last_run (text_lines gap)) = sym (joined_lines run) ∙ ap joined e in omega (arith, run_length gap, ap length same)
 
-run_is : (gap run : List ℕ) → text_lines run ≡ last_run (text_lines gap) → joined (last_run (text_lines gap)) ≡ run
+pub run_is : (gap run : List ℕ) → text_lines run ≡ last_run (text_lines gap) → joined (last_run (text_lines gap)) ≡ run
 run_is gap run e = ap joined (sym e) ∙ joined_lines run
 
 -- where a run is in a gap, by its length

@@ -6,19 +6,16 @@ use Rattle.std.proofs.lemmas.Bool.{cond-true, cond-false, eq-eqb, ne_eqb, eqb-tr
 use Rattle.std.{proofs.lemmas.List.{length-drop, take-append-drop}, proofs.lemmas.Option.{cond_some, same_Some}}
 use Rattle.std.{proofs.lemmas.Str.IsCharBoundary-at_seam, specs.List.slice_get, specs.Str.{IsUtf8, IsCharBoundary}}
 use Rattle.yq_core.{specs.Answers.◌>>=◌, specs.Paths.Step, specs.Lines.is_blank, specs.Text.{joined, text_lines}, proofs.Bools.bind_some}
-use Rattle.yq_core.proofs.LineLaws.{joined_lines}
 use Rattle.yq_outline.{specs.Comments.head_comment, specs.Ends.{line_at_steps, lines_end}, specs.Outline.Line}
 use Rattle.yq_outline.{specs.Lines.{lines_from, row_lines, lines_of_rows}, specs.RowWalk.line_number}
 use Rattle.yq_outline.{specs.declared.line_position.Position.Position, specs.declared.line_position.Stretch.Stretch}
 use Rattle.yq_row_table.{specs.Grammar.no_rows, specs.Removal.hold_comment, specs.Rows.{RowMark, Content, Row}}
 use Rattle.yq_documents.{specs.Pieces.{before_run, last_run}, specs.LinesInRows.{RowLine, behind_one, row_line}}
-use Rattle.yq_places.{specs.RemovalPlaces.{OwnRows, row_count, in_three, own_rows}, specs.RemovalReading.marks}
-use Rattle.yq_places.{proofs.PlacedPartLaws.map_some, proofs.RemovalTexts.gap_parts, proofs.WalkDocuments.row_line_number}
+use Rattle.yq_places.{proofs.CommentPlaceLaws.run_is, specs.RemovalPlaces.{OwnRows, row_count, in_three, own_rows}}
+use Rattle.yq_places.{specs.RemovalReading.marks, proofs.PlacedPartLaws.map_some, proofs.RemovalTexts.gap_parts}
+use Rattle.yq_places.proofs.WalkDocuments.{row_line_number}
 
 -- ---- a gap cut before its comment
-
-run_is : (gap run : List ℕ) → text_lines run ≡ last_run (text_lines gap) → joined (last_run (text_lines gap)) ≡ run
-run_is gap run e = ap joined (sym e) ∙ joined_lines run
 
 gap_is : (gap run : List ℕ) → text_lines run ≡ last_run (text_lines gap) → gap ≡ joined (before_run (text_lines gap)) ++ run
 gap_is gap run e = sym (gap_parts gap) ∙ ap (λ (x : List ℕ). joined (before_run (text_lines gap)) ++ x) (run_is gap run e)
@@ -188,6 +185,3 @@ held_on l ls e = rw e refl
 pub none_held : (t : List ℕ) → t ≡ [] → hold_comment (text_lines t) ≡ false
 unfolding Rattle.yq_core.specs.Text.text_lines
 none_held t e = ap (λ (x : List ℕ). hold_comment (text_lines x)) e
-
-pub run_less : (gap run : List ℕ) → text_lines run ≡ last_run (text_lines gap) → length run ≤ length gap
-run_less gap run e = omega (arith, ap length (gap_is gap run e), length-append (joined (before_run (text_lines gap))) run)
