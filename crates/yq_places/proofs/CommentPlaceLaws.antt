@@ -1,15 +1,14 @@
 -- Where the comments of a row are, by its pieces.
-use Rattle.std.proofs.Common.{◌≡◌, ℕ, ◌+◌, ◌-◌, ◌<◌, ◌≤◌, eqb, List, [], ◌++◌, length, Option, Some, None, option_map, Bool, true, false}
-use Rattle.std.proofs.Common.{cond, refl, sym, ap, ◌∙◌, arith, length-append, length-drop, length-take, rules}
+use Rattle.std.proofs.Common.{◌≡◌, ℕ, ◌+◌, ◌-◌, ◌<◌, ◌≤◌, List, [], ◌++◌, length, Option, Some, None, option_map, Bool, true, false, cond}
+use Rattle.std.proofs.Common.{refl, sym, ap, ◌∙◌, arith, length-append, length-drop, length-take, rules}
 use Rattle.std.{proofs.lemmas.Option.slice_get-map, specs.List.slice_get}
 use Rattle.yq_text.specs.Limit.{text_limit}
-use Rattle.yq_core.specs.Text.{cut, upto, front, ends_line, no_white, past_white, is_empty, joined, text_lines}
-use Rattle.yq_core.proofs.LineLaws.{joined_lines}
-use Rattle.yq_row_table.{specs.Exchange.behind_row, specs.Rows.{Row, behind_gap, Cut}, specs.View.{Slices, slices, rows_of, rows_view}}
+use Rattle.yq_core.{specs.Text.{cut, ends_line, no_white, is_empty, joined, text_lines}, proofs.LineLaws.joined_lines}
+use Rattle.yq_row_table.{specs.Rows.{Row, Cut}, specs.View.{Slices, slices, rows_of, rows_view}}
 use Rattle.yq_documents.{specs.Pieces.{tail_comment, before_run, last_run, gap_comment, piece_span}, specs.LinesInRows.RowLine}
 use Rattle.yq_documents.proofs.RunLaws.{run_split}
 use Rattle.yq_places.specs.CommentReading.{before_tail, line_comment_in, head_comment_in, tail_span, line_comment_span, gap_span}
-use Rattle.yq_places.{specs.CommentReading.{head_comment_span, before_row}, specs.RowLineReading.numbers, proofs.StartLaws.start_agrees}
+use Rattle.yq_places.{specs.CommentReading.head_comment_span, specs.RowLineReading.numbers, proofs.StartLaws.start_agrees}
 use Rattle.yq_outline.{specs.Extents.{row_start, front_length}, proofs.LengthLaws.head_agrees}
 
 -- the comment in a tail
@@ -17,28 +16,10 @@ pair : (a b c d : ℕ) → a ≡ b → c ≡ d → ◌≡◌ {A = ℕ × ℕ} (a
 pair a b c d e f = λ i. (e i, f i)
 
 pub tail_view : (before tail behind : List ℕ) (start : ℕ) → start ≡ length before → tail_span start tail ≡ option_map piece_span (tail_comment before tail behind)
-tail_view before tail behind start e = go (front (λ b. eqb b 35) (past_white tail))
-  where
-    white : List ℕ
-    white = (cut no_white tail).0
-
-    long : ℕ
-    long = length (cut ends_line (past_white tail)).0
-
-    go : (b : Bool) → cond b (Some (start + length white, start + length white + long)) None ≡ option_map piece_span (cond b (Some (record { before = before ++ white; text = (cut ends_line (past_white tail)).0; behind = (cut ends_line (past_white tail)).1 ++ behind })) None)
-    go b = search (rules, pair, length-append)
+tail_view before tail behind start e = search (rules, pair, length-append)
 
 pub tail_fits : (start : ℕ) (tail white comment text rest : List ℕ) → (white, comment) ≡ cut no_white tail → (text, rest) ≡ cut ends_line comment → start + length tail ≤ text_limit → start + length white + length text ≤ text_limit
-tail_fits start tail white comment text rest e1 e2 h = omega (
-  arith,
-  h,
-  ap (λ (x : List ℕ × List ℕ). length x.0) e1,
-  ap (λ (x : List ℕ × List ℕ). length x.1) e1,
-  ap (λ (x : List ℕ × List ℕ). length x.0) e2,
-  length-take (upto no_white tail) tail,
-  length-drop (upto no_white tail) tail,
-  length-take (upto ends_line comment) comment,
-)
+tail_fits start tail white comment text rest e1 e2 h = search (rules, arith, length-take, length-drop)
 
 -- where a row's tail begins
 before_length : (c : Cut) (i : ℕ) (r : Row) → slice_get (rows_of c) i ≡ Some r → row_start i (rows_view c) + front_length (slices r) + length (slices r).head ≡ length (before_tail i r c)
@@ -49,13 +30,7 @@ before_length c i r is =
     search (rules, length-append, s, agrees)
 
 pub beside_agrees : (c : Cut) (i : ℕ) (s : RowLine) (k : ℕ) → slice_get (rows_of c) i ≡ Some s.row → line_comment_span (row_start i (rows_view c)) (slices s.row) (numbers k s) ≡ option_map piece_span (line_comment_in i s c)
-beside_agrees c i s k is = go (eqb s.line (length s.row.dashes))
-  where
-    x : Slices
-    x = slices s.row
-
-    go : (b : Bool) → cond b (tail_span (row_start i (rows_view c) + front_length x + length x.head) x.tail) None ≡ option_map piece_span (cond b (tail_comment (before_tail i s.row c) x.tail (x.raw ++ behind_row i c)) None)
-    go b = search (rules, tail_view, before_length)
+beside_agrees c i s k is = search (rules, tail_view, before_length)
 
 -- the run in a gap
 run_length : (gap : List ℕ) → length gap ≡ length (joined (before_run (text_lines gap))) + length (joined (last_run (text_lines gap)))
@@ -66,7 +41,7 @@ run_length gap =
 pub run_within : (gap run : List ℕ) → text_lines run ≡ last_run (text_lines gap) → length run ≤ length gap
 run_within gap run e = let same : run ≡ joined (last_run (text_lines gap)) = sym (joined_lines run) ∙ ap joined e in omega (arith, run_length gap, ap length same)
 
-run_is : (gap run : List ℕ) → text_lines run ≡ last_run (text_lines gap) → joined (last_run (text_lines gap)) ≡ run
+pub run_is : (gap run : List ℕ) → text_lines run ≡ last_run (text_lines gap) → joined (last_run (text_lines gap)) ≡ run
 run_is gap run e = ap joined (sym e) ∙ joined_lines run
 
 -- where a run is in a gap, by its length
@@ -96,7 +71,4 @@ gap_agrees before gap behind start e = go (is_empty (joined (last_run (text_line
     go false = ap Some (pair _ _ _ _ (omega (arith, e, run_length gap, length-append before other)) (omega (arith, e, run_length gap, length-append before other)))
 
 pub above_view : (c : Cut) (i : ℕ) (s : RowLine) (k : ℕ) → slice_get (rows_of c) i ≡ Some s.row → head_comment_span (row_start i (rows_view c)) (slices s.row) (numbers k s) ≡ option_map piece_span (head_comment_in i s c)
-above_view c i s k is = go (eqb s.line 0)
-  where
-    go : (b : Bool) → cond b (gap_span (row_start i (rows_view c)) s.row.gap) None ≡ option_map piece_span (cond b (gap_comment (before_row i c) s.row.gap (behind_gap s.row (behind_row i c))) None)
-    go b = search (rules, gap_agrees, start_agrees)
+above_view c i s k is = search (rules, gap_agrees, start_agrees)

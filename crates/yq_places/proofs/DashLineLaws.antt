@@ -1,7 +1,7 @@
 -- What is known of the line that is in a row line.
-use Rattle.std.proofs.Common.{◌≡◌, ◌⊎◌, inl, inr, ℕ, zero, suc, ◌+◌, ◌-◌, ◌<◌, ◌≤◌, List, [], ◌∷◌, ◌++◌, length, Some, None, option_map}
-use Rattle.std.{proofs.Common.{refl, sym, ap, ◌∙◌, subst, arith}, proofs.lemmas.Bool.{cases_lt, lt-ltb, le-ltb, cond-true, cond-false}}
-use Rattle.std.{proofs.lemmas.Option.same_Some, specs.List.slice_get}
+use Rattle.std.proofs.Common.{rules, ◌≡◌, ◌⊎◌, inl, inr, ℕ, zero, suc, ◌+◌, ◌-◌, ◌<◌, ◌≤◌, List, [], ◌∷◌, ◌++◌, length, Some, None}
+use Rattle.std.proofs.Common.{option_map, refl, sym, ap, ◌∙◌, subst, arith}
+use Rattle.std.{proofs.lemmas.Bool.{cases_lt, lt-ltb, le-ltb, cond-true, cond-false}, proofs.lemmas.Option.same_Some, specs.List.slice_get}
 use Rattle.yq_row_table.specs.Rows.{Content, Row}
 use Rattle.yq_outline.{specs.Lines.{lines_from, row_lines, lines_of_rows}, specs.Outline.{Dash, Line}, proofs.RowLaws.lines_count}
 use Rattle.yq_documents.specs.LinesInRows.{RowLine, behind_one, row_line}
@@ -17,19 +17,15 @@ line_from : (above : List (List ℕ)) (column : ℕ) (ns : List ℕ) (m : rows.R
 line_from above column [] m c zero l e = record { within = omega arith; dash = λ p. absurd (omega (arith, p)) }
 line_from above column [] m c (suc n) l e = absurd (cc)
 line_from above column (k ∷ ns) m c zero l e = subst (IsDashLine (suc (length ns)) 0) (same_Some _ _ e) (record { within = omega arith; dash = λ p. (refl, refl) })
-line_from above column (k ∷ ns) m c (suc n) l e =
-    let h = line_from [] (suc (column + k)) ns m c n l e in
-    record { within = omega (arith, h.within); dash = λ p. h.dash (omega (arith, p)) }
+line_from above column (k ∷ ns) m c (suc n) l e = search (rules, arith, line_from [] (suc (column + k)) ns m c n l e)
 
 get_front : (xs ys : List Line) (n : ℕ) (l : Line) → n < length xs → slice_get (xs ++ ys) n ≡ Some l → slice_get xs n ≡ Some l
-get_front [] ys n l h e = absurd (omega (arith, h))
-get_front (x ∷ xs) ys zero l h e = e
 get_front (x ∷ xs) ys (suc n) l h e = get_front xs ys n l (omega (arith, h)) e
+get_front xs ys n l h e = search (rules, arith)
 
 get_back : (xs ys : List Line) (n : ℕ) (l : Line) → length xs ≤ n → slice_get (xs ++ ys) n ≡ Some l → slice_get ys (n - length xs) ≡ Some l
-get_back [] ys n l h e = let same : n - 0 ≡ n = omega arith in ap (slice_get ys) same ∙ e
-get_back (x ∷ xs) ys zero l h e = absurd (omega (arith, h))
 get_back (x ∷ xs) ys (suc n) l h e = let same : suc n - suc (length xs) ≡ n - length xs = omega arith in ap (slice_get ys) same ∙ get_back xs ys n l (omega (arith, h)) e
+get_back xs ys n l h e = search (rules, arith)
 
 -- the same of a row line
 abbrev pub OnDashLine : RowLine → Line → Type 0

@@ -1,7 +1,7 @@
 -- The rows of items and entries, as the code counts them.
-use Rattle.std.proofs.Common.{◌≡◌, ℕ, suc, ◌+◌, ◌-◌, ◌≤◌, ltb, Bool, true, false, cond, List, [], ◌∷◌, ◌++◌, length, map, take, drop}
-use Rattle.std.proofs.Common.{Option, Some, None, option_map, refl, sym, ap, ◌∙◌, arith, length-take-le}
-use Rattle.std.{proofs.lemmas.List.{length-map, take-append-drop}, proofs.lemmas.Option.{slice_get_within, none-some}, specs.List.slice_get}
+use Rattle.std.proofs.Common.{rules, ◌≡◌, ℕ, suc, ◌+◌, ◌-◌, ◌≤◌, List, [], ◌∷◌, length, map, take, drop, Option, Some, None, option_map}
+use Rattle.std.{proofs.Common.{refl, sym, ap, ◌∙◌, arith, length-take-le}, proofs.lemmas.List.{length-map, take-append-drop}}
+use Rattle.std.{proofs.lemmas.Option.{slice_get_within, none-some}, specs.List.slice_get}
 use Rattle.yq_outline.{proofs.EndsLaws.drop_at, specs.Ends.line_at_steps, specs.Lines.lines_of_rows, specs.Extents.lines_before_mark}
 use Rattle.yq_outline.specs.RowWalk.{HasRows, IsLine, deeper_rows, line_level, line_number}
 use Rattle.yq_outline.{specs.declared.line_position.Position.Position, specs.declared.line_position.Stretch.Stretch}
@@ -35,19 +35,13 @@ entry_row_agrees s d h q at steps level dashes end level_is dashes_are end_is li
     rows_behind s d h (q.row + 1) (omega (arith, at.from)) (omega (arith, at.upto)) ∙ ap (λ (k : ℕ). map slices (drop k h.rows)) next in
     let count : dashes ≡ length l.row.dashes = dashes_are (slices l.row) l.pieces ∙ l.row_agrees.counted in
     let under : deeper_rows level (take (d.end - (q.row + 1)) (drop (q.row + 1) s.rows)) ≡ under_count x (drop (suc i) h.rows) = (λ j. deeper_rows (level_is (slices l.row) l.pieces j) (rest j)) in
-    let last : end ≡ d.first + i + 1 + under_count x (drop (suc i) h.rows) = omega (arith, end_is, under, row) in
-    (λ j. Some (row j, q.line, count j, last j))
-    ∙ sym (ap (λ (o : Option ℕ). option_map (numbers_of_entry d.first h.rows) (o >>= λ n. row_line n h.rows)) (sym line) ∙ ap (option_map (numbers_of_entry d.first h.rows)) (row_line_number h.rows i q.line l.row l.there l.within))
+    search (rules, row_line_number, arith)
 
 -- ---- where steps lead in a text
 
 fewer : (n : ℕ) (ss : List Slices) → deeper_rows n ss ≤ length ss
 fewer n [] = omega arith
-fewer n (s ∷ ss) = go (ltb n (line_level 0 s)) (fewer n ss)
-  where
-    go : (b : Bool) → deeper_rows n ss ≤ length ss → cond b (suc (deeper_rows n ss)) 0 ≤ suc (length ss)
-    go true h = omega (arith, h)
-    go false h = omega arith
+fewer n (s ∷ ss) = search (rules, arith, fewer n ss)
 
 -- The rows of an item or entry that the code has found.
 pub record FoundEntry (t : List ℕ) (s : RowsView) (n : ℕ) (steps : List Step) (m : declared.RowsOfEntry) : Type 0 where
@@ -81,24 +75,7 @@ entry_found t s n steps m cut is e =
     let end_is : k + q.before + 1 + count ≡ m.end = ap (λ (y : StandingCounts). y.3) same in
     record {
       entry = entry_rows_at d.0 q;
-      is = record {
-        rows = record {
-          cut = cut;
-          rows_view_is = is;
-          document = n;
-          part = d.0;
-          placed = d.1;
-          rows_are = sym (take-append-drop q.before rs) ∙ ap (λ (y : List Row). take q.before rs ++ y) (rest ∙ ap (λ (y : List Row). q.row ∷ y) (sym (take-append-drop count back)));
-          start_is = refl;
-          end_is = refl;
-          behind_is = refl;
-          row_is = omega (arith, row_is, front);
-          last_is = omega (arith, row_is, end_is, under);
-        };
-        line = sym (ap (λ (y : StandingCounts). y.1) same);
-        dashes = sym (ap (λ (y : StandingCounts). y.2) same);
-        upto = (row_line_is line.0 rs q line.2).1;
-      };
+      is = search (rules, arith, take-append-drop, row_line_is);
       row = omega (arith, row_is, front);
       place = ap (λ (o : Option PlacedPart). o >>= λ y. option_map (entry_rows_at y) (row_line_of steps y.part.rows)) d.1 ∙ ap (option_map (entry_rows_at d.0)) line_in_row;
     }
@@ -107,11 +84,7 @@ pub no_entry : (n : ℕ) (steps : List Step) (c : Cut) → None ≡ numbers_at n
 no_entry n steps c e = go (placed_document n c) refl
   where
     at_row_line : (d : PlacedPart) (o : Option RowLine) → slice_get (document_parts c) n ≡ Some d.part → row_line_of steps d.part.rows ≡ o → option_map (entry_rows_at d) o ≡ None
-    at_row_line d None there is = refl
-    at_row_line d (Some q) there is =
-        let k : ℕ = document_row n c in
-        let some : numbers_at n steps c ≡ Some (numbers_of_entry k d.part.rows q) = ap (λ (o : Option Part). o >>= λ p. option_map (numbers_of_entry k p.rows) (row_line_of steps p.rows)) there ∙ ap (option_map (numbers_of_entry k d.part.rows)) is in
-        absurd (none-some _ (e ∙ some))
+    at_row_line d o there is = search (rules, none-some)
 
     go : (o : Option PlacedPart) → placed_document n c ≡ o → (o >>= λ y. option_map (entry_rows_at y) (row_line_of steps y.part.rows)) ≡ None
     go None is = refl

@@ -1,11 +1,10 @@
 -- The places of entries and of their contents, by lines or in flow.
-use Rattle.std.proofs.Common.{◌≡◌, ℕ, suc, ◌+◌, ◌-◌, ◌≤◌, eqb, ltb, List, [], ◌∷◌, ◌++◌, length, drop, Option, Some, None, option_map}
-use Rattle.std.proofs.Common.{option_and_then, Bool, true, false, cond, refl, ap, zero, ◌<◌, take, rules}
+use Rattle.std.proofs.Common.{◌≡◌, ℕ, suc, ◌+◌, ◌-◌, ◌≤◌, eqb, List, [], ◌∷◌, ◌++◌, length, drop, Option, Some, None, option_map}
+use Rattle.std.proofs.Common.{option_and_then, true, false, ap, ◌<◌, take, rules}
 use Rattle.std.{proofs.lemmas.Bool.{ltb-false, eq-eqb, eqb-true, false≢true}, proofs.lemmas.Option.same_Some, specs.List.slice_get}
 use Rattle.yq_core.{specs.Answers.◌>>=◌, specs.Paths.Step, specs.Entries.{PlacedEntry, entry_place, content_place}, specs.Places.Placed}
 use Rattle.yq_row_table.{specs.Exchange.behind_row, specs.Rows.{Row, Cut, cut_text}, specs.View.{rows_of, Bound}}
-use Rattle.yq_documents.{specs.FlowReading.row_flow, specs.declared.path.Path.Path}
-use Rattle.yq_documents.specs.LinesInRows.{RowLine, behind_one, row_line, row_line_at}
+use Rattle.yq_documents.{specs.FlowReading.row_flow, specs.declared.path.Path.Path, specs.LinesInRows.{RowLine, row_line, row_line_at}}
 use Rattle.yq_outline.{specs.Places.{lines_before, FoundLine}, specs.Lines.lines_of_rows, specs.Ends.reached, proofs.Values.If}
 use Rattle.yq_outline.proofs.KnownLaws.{get_dropped, get_front}
 use Rattle.yq_places.specs.EntryReading.{entry_at, content_row_place, entry_within, flow_entry_from, flow_entry_of, line_entry_at}
@@ -18,10 +17,7 @@ IsLineInRow rs s = (slice_get rs s.before ≡ Some s.row) × (s.line ≤ length 
 
 line_in_row : (n : ℕ) (rs : List Row) → If (row_line n rs) (IsLineInRow rs)
 line_in_row n [] = tt
-line_in_row n (r ∷ rs) = go (ltb (length r.dashes) n) refl (row_line (n - suc (length r.dashes)) rs) (line_in_row (n - suc (length r.dashes)) rs)
-  where
-    go : (b : Bool) → ltb (length r.dashes) n ≡ b → (o : Option RowLine) → If o (IsLineInRow rs) → If (cond b (option_map behind_one o) (Some (record { before = 0; row = r; line = n }))) (IsLineInRow (r ∷ rs))
-    go b h1 o h2 = search (rules, ltb-false)
+line_in_row n (r ∷ rs) = search (rules, ltb-false, line_in_row (n - suc (length r.dashes)) rs)
 
 pub row_line_is : (n : ℕ) (rs : List Row) (s : RowLine) → row_line n rs ≡ Some s → IsLineInRow rs s
 row_line_is n rs s e = go (row_line n rs) (line_in_row n rs) e
@@ -53,9 +49,6 @@ abbrev pub or_flow : TextSpan → TextSpan → TextSpan
 or_flow None y = y
 or_flow (Some x) y = Some x
 
-or_none : (x : TextSpan) → x ≡ or_flow x None
-or_none x = search rules
-
 -- where a path leads among lines, by the number of the line
 abbrev pub by_line : Option (FoundLine × List Step) → Option (ℕ × List Step)
 by_line o = option_map (λ x. (length (lines_before x.0.place), x.1)) o
@@ -72,12 +65,8 @@ row_line_entry p c first x e = search rules
 -- ---- the first of the ends of parts before a row
 
 first_taken : (bs : List Bound) (from k : ℕ) (b : Bound) → slice_get bs from ≡ Some b → take (suc k) (drop from bs) ≡ b ∷ take k (drop (suc from) bs)
-first_taken [] from k b h = cc
-first_taken (x ∷ bs) zero k b h = ap (λ (y : Bound). y ∷ take k bs) (same_Some _ _ h)
 first_taken (x ∷ bs) (suc from) k b h = first_taken bs from k b h
+first_taken bs from k b h = search (rules, same_Some)
 
 pub range_first : (bs : List Bound) (from to : ℕ) (b : Bound) → slice_get bs from ≡ Some b → from < to → take (to - from) (drop from bs) ≡ b ∷ take (to - from - 1) (drop (suc from) bs)
 range_first bs from to b h less = search (rules, first_taken)
-
-pub range_none : (bs : List Bound) (from to : ℕ) → to ≤ from → take (to - from) (drop from bs) ≡ []
-range_none bs from to le = search rules

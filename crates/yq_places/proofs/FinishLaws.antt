@@ -1,12 +1,12 @@
 -- Rows end, before their breaks, at whole characters, and no later than rows after them.
-use Rattle.std.proofs.Common.{◌≡◌, ◌⊎◌, inl, inr, ℕ, zero, suc, ◌-◌, ◌<◌, ◌≤◌, List, [], ◌∷◌, ◌++◌, length, take, drop, replicate, Some}
-use Rattle.std.proofs.Common.{Bool, true, false, cond, refl, sym, ap, ◌∙◌, subst, arith, eqb-true, append_assoc, length-append, rules}
+use Rattle.std.proofs.Common.{◌≡◌, ◌⊎◌, inl, inr, ℕ, zero, suc, ◌-◌, ◌<◌, ◌≤◌, List, [], ◌∷◌, ◌++◌, length, Some, Bool, true, false, cond}
+use Rattle.std.proofs.Common.{refl, sym, ap, ◌∙◌, subst, arith, eqb-true, append_assoc, length-append, rules}
 use Rattle.std.{proofs.lemmas.Bool.{cases_lt, lt-ltb, le-ltb, cond-true, cond-false, false≢true, and_parts}, specs.List.slice_get}
 use Rattle.std.specs.Str.{IsCharBoundary}
 use Rattle.yq_core.{specs.Text.is_empty, proofs.BlockPieceLaws.IsLf}
 use Rattle.yq_row_table.{specs.Exchange.{row_front, before_at, before_content, behind_row}, specs.Grammar.AreParts}
-use Rattle.yq_row_table.specs.Rows.{mark_text, dashes_text, content_text, Row, rows_text, parent_indent, part_text, Cut, last, marked}
-use Rattle.yq_row_table.{specs.Rows.cut_text, specs.View.{Slices, slices, rows_of}, proofs.ExchangeLaws.{slice_front, slice_back}}
+use Rattle.yq_row_table.specs.Rows.{mark_text, content_text, Row, rows_text, parent_indent, part_text, Cut, last, marked, cut_text}
+use Rattle.yq_row_table.{specs.View.{Slices, slices, rows_of}, proofs.ExchangeLaws.{slice_front, slice_back}}
 use Rattle.yq_row_table.{proofs.NodePieces.{BeginsAscii, before_ascii}, proofs.PlaceLaws.{row_front-append, row_in}}
 use Rattle.yq_row_table.proofs.SliceLaws.{print-length}
 use Rattle.yq_places.{specs.CommentReading.before_tail, specs.EntryReading.{before_line, through_row}}
@@ -107,9 +107,4 @@ content_order (marked p marker c) i j r q h is at = go (cases_lt i (length p.row
 
 pub lines_order : (c : Cut) (i j k : ℕ) (r q : Row) → i ≤ j → slice_get (rows_of c) i ≡ Some r → slice_get (rows_of c) j ≡ Some q → length (before_line i k r c) ≤ length (through_row j q c)
 lines_order c i j k r q h is at =
-    let s : Slices = slices q in
-    let spaces : List ℕ = replicate r.column 32 in
-    let front : List ℕ = dashes_text (take k r.dashes) [] in
-    let behind : List ℕ = dashes_text (drop k r.dashes) (mark_text r.mark []) in
-    let before : List ℕ = before_content j c in
     omega (arith, content_order c i j r q h is at, front_in i c r is, length-append {A = ℕ}, ap length (dashes_split k r.dashes (mark_text r.mark [])))

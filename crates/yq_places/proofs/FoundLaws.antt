@@ -1,8 +1,7 @@
 -- Lines that were found, by their indexes.
-use Rattle.std.proofs.Common.{◌≡◌, ◌⊎◌, inl, inr, ℕ, suc, ◌+◌, ◌<◌, ◌≤◌, Bool, true, false, cond, List, [], ◌∷◌, ◌++◌, length, get_or}
-use Rattle.std.proofs.Common.{Option, Some, None, option_map, option_and_then, refl, sym, ap, ◌∙◌, arith, append_assoc, length-append}
-use Rattle.std.{proofs.Common.rules, proofs.lemmas.Bool.cases_lt, proofs.lemmas.List.drop_all, proofs.lemmas.Option.slice_get_cases}
-use Rattle.std.specs.List.{slice_get}
+use Rattle.std.proofs.Common.{◌≡◌, ◌⊎◌, inl, inr, ℕ, suc, ◌+◌, ◌<◌, ◌≤◌, Bool, cond, List, [], ◌∷◌, ◌++◌, length, get_or, Option, Some}
+use Rattle.std.proofs.Common.{None, option_map, option_and_then, refl, sym, ap, ◌∙◌, arith, append_assoc, length-append, rules}
+use Rattle.std.{proofs.lemmas.Bool.cases_lt, proofs.lemmas.List.drop_all, proofs.lemmas.Option.slice_get_cases, specs.List.slice_get}
 use Rattle.yq_core.{specs.Paths.{Step, is_here, further}, specs.Tree.Node}
 use Rattle.yq_outline.{specs.Ends.part, specs.Group.group}
 use Rattle.yq_outline.specs.Outline.{LineMark, Bare, Key, Dash, Line, level, Outline, end, row, flatten, label}
@@ -64,8 +63,7 @@ row_found s (row l u a) ls first floor e =
 
     go : (h : IsFirst ls first floor l u a) (b : Bool) (r : Option FoundLine) → If r (IsFound ls h.next) →
         If (cond b (Some (record { place = here; line = l; under = u; after = a })) (option_map (next_to l u) r)) (IsFound ls first)
-    go h true r found_it = found_first ls first floor l u a h
-    go h false r found_it = later h r found_it
+    go h b r found_it = search (rules, found_first, later)
 
 -- the lines before one in what is under another
 pub before_inside : (p q : Context) (l : Line) (a : Outline) → lines_before (compose p (below l q a)) ≡ lines_before p ++ (l ∷ lines_before q)
@@ -106,5 +104,4 @@ path_found s (t ∷ ts) (row l u a) ls first floor e = go (λ v n deep is. path_
 pub found_in_lines : (s : Step) (ss left : List Step) (ls : List Line) (f : FoundLine) → find s ss (group ls) ≡ Some (f, left) →
     (slice_get ls (length (lines_before f.place)) ≡ Some f.line) × (f.under ≡ part ls (length (lines_before f.place) + 1) (level f.line))
 found_in_lines s ss left ls f is =
-    let found_it : IsFound ls 0 f = at (λ x. IsFound ls 0 x.0) (find s ss (group ls)) (f, left) is (path_found s ss (group ls) ls 0 0 (part-all ls)) in
-    search (rules, found_it)
+    search (rules, at (λ x. IsFound ls 0 x.0) (find s ss (group ls)) (f, left) is (path_found s ss (group ls) ls 0 0 (part-all ls)))

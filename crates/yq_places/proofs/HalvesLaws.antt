@@ -71,14 +71,10 @@ gap_hash t n x y w h ex ey e = gap_by t n w h ∙ (ap (λ (c : Bool). c || eqb (
 -- a text less its last break, by the bytes that end it
 last_other : (t : List ℕ) (m : ℕ) → length t ≡ suc m → (slice_index t m ≡ 10 → ⊥) → length (less_break t) ≡ suc m
 unfolding less_break
-last_other [] m e f = absurd (omega (arith, e))
 last_other (b ∷ []) zero e f = ap (λ c. length (cond c [] (b ∷ []))) (ne_eqb b 10 f)
-last_other (b ∷ []) (suc m) e f = absurd (omega (arith, e))
-last_other (b ∷ (d ∷ [])) zero e f = absurd (omega (arith, e))
 last_other (b ∷ (d ∷ [])) (suc zero) e f = search (rules, ne_eqb)
-last_other (b ∷ (d ∷ [])) (suc (suc m)) e f = absurd (omega (arith, e))
-last_other (b ∷ (d ∷ (x ∷ t))) zero e f = absurd (omega (arith, e))
 last_other (b ∷ (d ∷ (x ∷ t))) (suc m) e f = ap suc (last_other (d ∷ (x ∷ t)) m (omega (arith, e)) f)
+last_other _ _ e f = absurd (omega (arith, e))
 
 last_feed : (t : List ℕ) (m : ℕ) → length t ≡ suc m → slice_index t m ≡ 10 → ((k : ℕ) → suc k ≡ m → slice_index t k ≡ 13 → ⊥) → length (less_break t) ≡ m
 unfolding less_break
@@ -93,12 +89,8 @@ last_feed (b ∷ (d ∷ (x ∷ t))) (suc m) e f r = ap suc (last_feed (d ∷ (x 
 
 last_return : (t : List ℕ) (m : ℕ) → length t ≡ suc (suc m) → slice_index t (suc m) ≡ 10 → slice_index t m ≡ 13 → length (less_break t) ≡ m
 unfolding less_break
-last_return [] m e f r = absurd (omega (arith, e))
-last_return (b ∷ []) m e f r = absurd (omega (arith, e))
-last_return (b ∷ (d ∷ [])) zero e f r = cc (eq-eqb b 13 r, eq-eqb d 10 f)
-last_return (b ∷ (d ∷ [])) (suc m) e f r = absurd (omega (arith, e))
-last_return (b ∷ (d ∷ (x ∷ t))) zero e f r = absurd (omega (arith, e))
 last_return (b ∷ (d ∷ (x ∷ t))) (suc m) e f r = ap suc (last_return (d ∷ (x ∷ t)) m (omega (arith, e)) f r)
+last_return t m e f r = search (rules, arith, eq-eqb)
 
 pub no_break : (t : List ℕ) → (length t ≡ 0) ⊎ (slice_index t (length t - 1) ≡ 10 → ⊥) → length (less_break t) ≡ length t
 unfolding less_break

@@ -1,11 +1,11 @@
 -- Where the head of a row ends, by its pieces.
 use Rattle.yq_documents.{proofs.HeadLaws.{opens, block_marks}, specs.RowReading.is_block_head}
-use Rattle.std.proofs.Common.{◌≡◌, ℕ, ℤ, ◌+◌, true, false, cond, List, [], ◌∷◌, length, Some, option_map, ◌≤◌, sym, ap, ◌∙◌, arith}
-use Rattle.std.{proofs.Common.{append-nil, rules}, proofs.lemmas.Option.{slice_get-map, same_Some}}
-use Rattle.std.{proofs.lemmas.Bool.{false≢true, cond-false}, specs.List.slice_get}
+use Rattle.std.proofs.Common.{◌≡◌, ℕ, ℤ, ◌+◌, true, false, cond, List, ◌∷◌, length, Some, option_map, ◌≤◌, sym, ap, ◌∙◌, arith, append-nil}
+use Rattle.std.{proofs.Common.rules, proofs.lemmas.Option.{slice_get-map, same_Some}, proofs.lemmas.Bool.{false≢true, cond-false}}
+use Rattle.std.specs.List.{slice_get}
 use Rattle.yq_text.specs.Limit.{text_limit}
-use Rattle.yq_core.{specs.Piece.deeper, specs.Inline.depth_limit, specs.Nodes.{FlowNode, node_text, takes_anchor, IsFlowNode}}
-use Rattle.yq_core.{specs.Scalars.IsScalarAt, proofs.NodesPieceLaws.{front_not, scalar_begins}}
+use Rattle.yq_core.{specs.Piece.deeper, specs.Inline.depth_limit, specs.Nodes.{FlowNode, node_text, IsFlowNode}, specs.Scalars.IsScalarAt}
+use Rattle.yq_core.proofs.NodesPieceLaws.{front_not, scalar_begins}
 use Rattle.yq_row_table.{specs.Exchange.behind_row, specs.Grammar.{IsContent, IsCut}, specs.Rows.{Content, Row, parent_indent, Cut}}
 use Rattle.yq_row_table.{specs.View.{Slices, slices, anchor_cut, content_cut, rows_of, RowsView, rows_view}, proofs.PlaceLaws.row_in}
 use Rattle.yq_outline.{specs.Extents.{row_start, front_length, head_place, IsRowsView}, proofs.LengthLaws.{row_fits, view_small}}
@@ -26,13 +26,9 @@ scalar_begins_none n p rest h1 = search (rules, scalar_begins, front_not)
 abbrev Opens : ℕ → Type 0
 Opens b = (t : List ℕ) → is_block_head (b ∷ t) ≡ false
 
-behind_anchor : (n : ℤ) (node : FlowNode) (rest : List ℕ) → takes_anchor node ≡ true → IsFlowNode false (Some (deeper n)) depth_limit node rest → is_block_head (node_text node []) ≡ false
-unfolding node_text IsFlowNode
-behind_anchor n node rest h1 h2 = search (rules, append-nil, scalar_begins_none, opens, false≢true)
-
 pub node_begins : (n : ℤ) (node : FlowNode) (rest : List ℕ) → IsFlowNode false (Some (deeper n)) depth_limit node rest → is_block_head (anchor_cut node).2 ≡ false
 unfolding node_text IsFlowNode
-node_begins n node rest h1 = search (rules, append-nil, scalar_begins_none, opens, behind_anchor)
+node_begins n node rest h1 = search (rules, append-nil, scalar_begins_none, opens, false≢true)
 
 content_ends : (n : ℤ) (end : ℕ) (x : Content) (rest : List ℕ) → IsContent n x rest → cond (is_block_head (content_cut x).3) (end + length (content_cut x).4 + length (content_cut x).5) end ≡ head_end end x
 content_ends n end x rest h1 = search (rules, cond-false, node_begins, block_marks)

@@ -1,6 +1,6 @@
 -- The heads of rows, and what is in flow in them, go from one whole character to another.
-use Rattle.std.proofs.Common.{◌≡◌, ℕ, ◌+◌, ◌-◌, ◌<◌, List, [], ◌∷◌, ◌++◌, length, drop, replicate, Option, Some, Bool, true, false, refl}
-use Rattle.std.{proofs.Common.{sym, ap, ◌∙◌, subst, arith, append_assoc, length-append, inl, rules}, proofs.Math.Seq.drop-append_seam}
+use Rattle.std.proofs.Common.{◌≡◌, ℕ, ◌+◌, ◌-◌, ◌<◌, List, [], ◌∷◌, ◌++◌, length, drop, Option, Some, Bool, true, false, refl, sym, ap, ◌∙◌}
+use Rattle.std.{proofs.Common.{subst, arith, append_assoc, length-append, inl, rules}, proofs.Math.Seq.drop-append_seam}
 use Rattle.std.{proofs.lemmas.Bool.{false≢true, and_parts}, specs.List.slice_get, specs.Str.{IsUtf8, IsCharBoundary}}
 use Rattle.yq_core.{specs.declared.block_header.BlockStyle.BlockStyle, specs.Block.style_indicator, specs.Entries.end_of}
 use Rattle.yq_core.{specs.Inline.IsInlineAt, specs.Nodes.{FlowNode, node_text, IsFlowNode}}
@@ -71,7 +71,6 @@ module _ (c : Cut) (i : ℕ) (r : Row) (u : IsUtf8 (cut_text c)) (cut : IsCut (c
   node_boundary space node tail content false alone =
       let row = (row_in c i true r cut.parts is).row in
       let none : space ≡ [] = bare_space r.mark space node tail (behind_row i c) alone (subst (λ (x : Content). IsMark r.mark x (behind_row i c)) content row.mark) in
-      let spaces : List ℕ = replicate r.column 32 in
       let same : length (before_line i 0 r c) ≡ length (before_content i c ++ space) =
       omega (arith, front_in i c r is, length-append {A = ℕ}, ap length none, ap length (bare_front r.dashes r.mark alone row.dashes)) in
       subst (IsCharBoundary (cut_text c)) same (line_boundary c i 0 r u cut.parts is)

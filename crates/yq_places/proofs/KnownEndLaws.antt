@@ -1,5 +1,5 @@
 -- The end of the lines under a line is looked for from an item on that is known among them.
-use Rattle.std.{proofs.Common.{◌≡◌, ◌⊎◌, inl, inr, ℕ, ◌+◌, ◌<◌, Some, sym, ap, ◌∙◌, arith}, proofs.lemmas.Option.same_Some}
+use Rattle.std.{proofs.Common.{rules, ◌≡◌, ◌⊎◌, inl, inr, ℕ, ◌+◌, ◌<◌, Some, sym, ap, ◌∙◌, arith}, proofs.lemmas.Option.same_Some}
 use Rattle.std.specs.List.{slice_get}
 use Rattle.yq_row_table.specs.View.{Slices, RowsView}
 use Rattle.yq_outline.{specs.RowWalk.{HasRows, IsKnownIn, line_level, rows_end}, specs.declared.line_position.KnownItem.KnownItem}
@@ -14,8 +14,7 @@ module _ (s : RowsView) (d : Stretch) (h : HasRows s d) (row : ℕ) (under : Pos
       let later = row_later s d h under floor k among in
       let there : slice_get s.rows k.under.row ≡ Some among.known.piece = sym (get_taken s.rows k.row k.under.row (omega (arith, later, ap (λ (q : Position). q.row) among.under_is))) ∙ among.known.there in
       let same : among.known.piece ≡ x = same_Some _ _ (sym there ∙ (ap (λ (q : Position). slice_get s.rows q.row) among.under_is ∙ is)) in
-      let level : k.level ≡ line_level 0 x = among.known.level ∙ (λ i. line_level ((ap (λ (q : Position). q.line) among.under_is ∙ first) i) (same i)) in
-      omega (arith, among.known.deeper, among.floor_is, level)
+      search (rules, arith)
 
   end_behind : under.row ≡ row + 1 → under.line ≡ 0 → rows_end s d floor k.row ≡ rows_end s d floor (row + 1)
   end_behind next first =
@@ -26,8 +25,7 @@ module _ (s : RowsView) (d : Stretch) (h : HasRows s d) (row : ℕ) (under : Pos
       ∙ ap (rows_end s d floor) next)
 
   pub end_from : (under.row ≡ row) ⊎ ((under.row ≡ row + 1) × (under.line ≡ 0)) → rows_end s d floor k.row ≡ rows_end s d floor (row + 1)
-  end_from (inl same) = end_later s d h under floor k among ∙ ap (λ (n : ℕ). rows_end s d floor (n + 1)) same
-  end_from (inr next) = end_behind next.0 next.1
+  end_from same = search (rules, end_later, end_behind)
 
   pub later_from : (under.row ≡ row) ⊎ ((under.row ≡ row + 1) × (under.line ≡ 0)) → row < k.row
   later_from (inl same) = omega (arith, row_later s d h under floor k among, same)

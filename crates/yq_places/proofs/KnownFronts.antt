@@ -11,10 +11,9 @@ use Rattle.yq_places.specs.RowWalk.{StaysKnown}
 use Rattle.yq_row_table.specs.declared.offsets.Offsets as declared
 
 begins_behind : (xs : List Item) (m i : ℕ) (o : declared.Offsets) → slice_get (near m xs) i ≡ Some o → m ≤ o.start
-begins_behind [] m i o e = absurd (cc)
-begins_behind (row_item r ∷ xs) m zero o e = omega (arith, ap (λ (p : declared.Offsets). p.start) (same_Some _ _ e))
 begins_behind (row_item r ∷ xs) m (suc i) o e = omega (arith, begins_behind xs _ i o e)
 begins_behind (end_item gap marker ∷ xs) m i o e = omega (arith, begins_behind xs _ i o e)
+begins_behind xs m i o e = search (rules, arith, same_Some)
 
 -- the rows before one that begins in front of an offset are among the items in front of it
 rows_in_front : (xs : List Item) (m n i : ℕ) (o : declared.Offsets) → slice_get (near m xs) i ≡ Some o → o.start < m + n → i ≤ length (rows_in_items (in_front n xs))

@@ -1,5 +1,5 @@
 -- The break that ends a text, and what comes after the last line of a content.
-use Rattle.std.proofs.Common.{◌≡◌, ◌⊎◌, ℕ, true, false, cond, List, [], ◌∷◌, ◌++◌, length, drop, refl, ap, ◌∙◌, rules}
+use Rattle.std.proofs.Common.{◌≡◌, ℕ, true, false, cond, List, [], ◌∷◌, ◌++◌, ap, ◌∙◌, rules}
 use Rattle.yq_core.{specs.Block.AreRaw, specs.Text.{is_empty, is_feed, is_line, joined}, specs.declared.block_lines.TextIndent.TextIndent}
 use Rattle.yq_core.proofs.BlockPieceLaws.{IsLf, line_lf, raw_lf}
 use Rattle.yq_places.specs.PrintedLines.{less_break, last_break}
@@ -11,10 +11,9 @@ HasNoFeed (b ∷ bs) = (is_feed b ≡ false) × HasNoFeed bs
 
 last_behind : (f : List ℕ) → is_line (last_break (f ++ (10 ∷ []))) ≡ true
 unfolding less_break is_line
-last_behind [] = refl
-last_behind (b ∷ []) = search rules
 last_behind (b ∷ (d ∷ [])) = last_behind (d ∷ [])
 last_behind (b ∷ (d ∷ (e ∷ f))) = last_behind (d ∷ (e ∷ f))
+last_behind f = search rules
 
 pub lf_last : (t : List ℕ) → IsLf t → is_line (last_break t) ≡ true
 lf_last t h = ap (λ x. is_line (last_break x)) h.1 ∙ last_behind h.0
@@ -24,15 +23,10 @@ line_last t h = lf_last t (line_lf t h)
 
 -- the raw lines of a block scalar, if there are some, end in a break
 pub raw_last : (f : TextIndent) (raw : List (List ℕ)) (tail : List ℕ) → AreRaw f raw → is_line tail ≡ true → is_line (cond (is_empty (joined raw)) (last_break tail) (last_break (joined raw))) ≡ true
-raw_last f raw tail h t = go (joined raw) (raw_lf f raw h)
-  where
-    go : (l : List ℕ) → (l ≡ []) ⊎ IsLf l → is_line (cond (is_empty l) (last_break tail) (last_break l)) ≡ true
-    go l h1 = search (rules, line_last, lf_last)
+raw_last f raw tail h t = search (rules, raw_lf, line_last, lf_last)
 
 -- where no LF is in a text, no break ends it
 pub no_last : (t : List ℕ) → HasNoFeed t → last_break t ≡ []
 unfolding less_break
-no_last [] h = refl
-no_last (b ∷ []) h = ap (λ c. drop (length (cond c [] (b ∷ []))) (b ∷ [])) h.0
-no_last (b ∷ (d ∷ [])) h = search rules
 no_last (b ∷ (d ∷ (e ∷ t))) h = no_last (d ∷ (e ∷ t)) h.1
+no_last t h = search rules

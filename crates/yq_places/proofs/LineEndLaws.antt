@@ -13,18 +13,14 @@ use Rattle.yq_core.specs.Text as text
 -- more text after a break
 front_more : (p : ℕ → Rattle.std.proofs.Common.Bool) (c break more : List ℕ) → 0 < length break → front p (c ++ (break ++ more)) ≡ front p (c ++ break)
 front_more p [] [] more some = absurd (omega (arith, some))
-front_more p [] (b ∷ break) more some = refl
-front_more p (d ∷ c) break more some = refl
+front_more p _ _ more some = refl
 
 none_more : (c break more : List ℕ) → 0 < length break → NoneIn ends_line c break → NoneIn ends_line c (break ++ more)
 none_more [] break more some h = tt
 none_more (b ∷ c) break more some h = (ap (λ x. is_feed b || (is_return b && x)) (front_more is_feed c break more some) ∙ h.0, none_more c break more some h.1)
 
-some_break : (break : List ℕ) → (is_break break && is_line break) ≡ true → 0 < length break
-some_break break h1 = search (rules, false≢true)
-
 pub comment_more : (c break more : List ℕ) → IsComment c break → IsBreak break more → NoneIn ends_line c (break ++ more)
-comment_more c break more h1 h2 = search (rules, none_more, some_break, comment_none, append-nil)
+comment_more c break more h1 h2 = search (rules, none_more, false≢true, comment_none, append-nil)
 
 -- the end of a line that a tail is
 abbrev pub end_of_tail : (before tail more : List ℕ) → IsTail tail more → LineEnd

@@ -1,14 +1,9 @@
 -- Lines cut out of a text.
-use Rattle.std.proofs.Common.{◌≡◌, inl, ℕ, ◌-◌, eqb, Bool, true, cond, List, [], ◌∷◌, ◌++◌, length, length-append, take, drop, refl, ◌∙◌}
-use Rattle.std.{proofs.Common.{arith, rules}, proofs.Math.Seq.{drop-append_seam, take-append_seam}}
-use Rattle.std.proofs.lemmas.Bool.{and_parts, eqb-true, ne_eqb}
+use Rattle.std.proofs.Common.{◌≡◌, inl, ℕ, ◌-◌, eqb, Bool, cond, List, [], ◌∷◌, ◌++◌, length, length-append, take, drop, refl, ◌∙◌, arith}
+use Rattle.std.{proofs.Common.rules, proofs.Math.Seq.{drop-append_seam, take-append_seam}, proofs.lemmas.Bool.{and_parts, eqb-true, ne_eqb}}
 use Rattle.yq_core.specs.Text.{is_empty}
 use Rattle.yq_places.specs.LineReading.{CutsLines, IsLastBreak, LinesIn, line_list}
 use Rattle.yq_places.specs.PrintedLines.{is_last_break, last_break, less_break}
-
--- a break that ends a text is one, or nothing
-one_break : (t : List ℕ) → is_last_break t ≡ true → IsLastBreak t
-one_break t h1 = search (rules, eqb-true, and_parts)
 
 pub last_is : (t : List ℕ) → IsLastBreak (last_break t)
 unfolding less_break
@@ -16,7 +11,7 @@ last_is [] = inl refl
 last_is (b ∷ bs) = go (is_last_break (b ∷ bs)) refl (last_is bs)
   where
     go : (c : Bool) → is_last_break (b ∷ bs) ≡ c → IsLastBreak (last_break bs) → IsLastBreak (drop (length (cond c [] (b ∷ less_break bs))) (b ∷ bs))
-    go c h1 h2 = search (rules, one_break)
+    go c h1 h2 = search (rules, eqb-true, and_parts)
 
 pub none_is : (t : List ℕ) → eqb (length t) 0 ≡ is_empty t
 none_is t = search (rules, ne_eqb)
@@ -30,8 +25,4 @@ module _ (t : List ℕ) (from stop : ℕ) (h : CutsLines t from stop) where
 
   pub lines_are : (before own lines last behind : List ℕ) (none : Bool) → before ≡ take from t → own ≡ take (stop - from) (drop from t) → behind ≡ drop (stop - from) (drop from t) → none ≡ eqb (length own) 0 → lines ≡ less_break own → last ≡ last_break own →
       ◌≡◌ {A = LinesIn} (record { before = before; none = none; lines = lines; last = last; behind = behind }) (line_list h)
-  lines_are before own lines last behind none a b d e f g =
-      let first : before ≡ h.before = a ∙ ((λ i. take (h.from_is i) (h.text i)) ∙ take-append_seam h.before (h.own ++ h.behind)) in
-      let same : own ≡ h.own = b ∙ ((λ i. take (size i) (rest i)) ∙ take-append_seam h.own h.behind) in
-      let third : behind ≡ h.behind = d ∙ ((λ i. drop (size i) (rest i)) ∙ drop-append_seam h.own h.behind) in
-      search (rules, none_is, first, same, third)
+  lines_are before own lines last behind none a b d e f g = search (rules, take-append_seam, size, rest, drop-append_seam, none_is)

@@ -1,14 +1,13 @@
 -- Contents begin in their entries.
 use Rattle.std.proofs.Common.{◌≡◌, ℕ, List, [], ◌∷◌, ◌++◌, map, Option, Some, None, is_some, option_map, Bool, true, false, cond, sym, ap}
 use Rattle.std.{proofs.Common.{◌∙◌, append_assoc, append-nil, rules}, proofs.lemmas.Option.{none-some, same_Some}}
-use Rattle.yq_core.{specs.Answers.◌>>=◌, specs.Paths.Step, specs.Nodes.{FlowNode, empty, alias, scalar, coll, anchored, key_text}}
+use Rattle.yq_core.{specs.Answers.◌>>=◌, specs.Paths.Step, specs.Nodes.{FlowNode, anchored, key_text}}
 use Rattle.yq_row_table.specs.Rows.{Content, Nothing, Inline, Block, anchor_text}
 use Rattle.yq_outline.{specs.Group.group, specs.Places.{FoundLine, find}, specs.Positions.has_no_mark}
 use Rattle.yq_documents.{specs.Located.steps_of, specs.Pieces.{TextPiece, node_piece, head_piece}}
 use Rattle.yq_places.specs.PrintedLines.{line_front, PrintedLine, line_rest, print_line, print_lines, line_in, run_piece, lines_piece}
-use Rattle.yq_places.specs.PathPieces.{BlockEntry, content_piece, FlowEntry, flow_at, line_inline, flow_piece, flow_content}
-use Rattle.yq_places.specs.PathPieces.{PrintedDocument, printed_document, found_entry, piece_in_entry, piece_in}
-use Rattle.yq_places.specs.PieceLaws.{ContentsBegin}
+use Rattle.yq_places.specs.PathPieces.{BlockEntry, content_piece, FlowEntry, flow_piece, flow_content, PrintedDocument, printed_document}
+use Rattle.yq_places.{specs.PathPieces.{found_entry, piece_in_entry, piece_in}, specs.PieceLaws.ContentsBegin}
 use Rattle.yq_documents.specs.declared.path.Part.TheVariants as parts
 
 -- a piece begins after a text
@@ -22,11 +21,8 @@ further : (before more : List ℕ) (x : TextPiece) → From (before ++ more) x �
 further before more x h = (more ++ h.0, h.1 ∙ append_assoc before more h.0)
 
 node_begins : (before : List ℕ) (node : FlowNode) (rest : List ℕ) (x : TextPiece) → node_piece before node rest ≡ Some x → From before x
-node_begins before empty rest x e = absurd (none-some _ e)
-node_begins before (alias n) rest x e = here before x (ap (λ (p : TextPiece). p.before) (sym (same_Some _ _ e)))
-node_begins before (scalar p) rest x e = here before x (ap (λ (p : TextPiece). p.before) (sym (same_Some _ _ e)))
-node_begins before (coll k g is) rest x e = here before x (ap (λ (p : TextPiece). p.before) (sym (same_Some _ _ e)))
 node_begins before (anchored n g node) rest x e = further before (38 ∷ (n ++ g)) x (node_begins (before ++ 38 ∷ (n ++ g)) node rest x e)
+node_begins before node rest x e = search (rules, none-some, here, same_Some)
 
 head_begins : (before : List ℕ) (c : Content) (rest : List ℕ) (x : TextPiece) → head_piece before c rest ≡ Some x → From before x
 head_begins before (Nothing tail) rest x e = absurd (none-some _ e)
@@ -54,16 +50,12 @@ content_begins e x is = go (is_some e.line.line.head) is
 item_begins : (o : Option FlowEntry) (e x : TextPiece) → option_map flow_piece o ≡ Some e → (o >>= flow_content) ≡ Some x → From e.before x
 item_begins None e x h k = absurd (none-some _ h)
 item_begins (Some y) e x h k =
-    let f = further y.before (key_text y.key []) x (node_begins (y.before ++ key_text y.key []) y.node y.behind x k) in
-    (f.0, f.1 ∙ ap (λ (p : TextPiece). p.before ++ f.0) (same_Some _ _ h))
-
-head_item_begins : (ss : List Step) (o : Option FlowEntry) (e x : TextPiece) → (o >>= λ y. option_map flow_piece (flow_at ss y)) ≡ Some e → (o >>= λ y. flow_at ss y >>= flow_content) ≡ Some x → From e.before x
-head_item_begins ss o e x h1 h2 = search (rules, none-some, item_begins)
+    search (rules, further y.before (key_text y.key []) x (node_begins (y.before ++ key_text y.key []) y.node y.behind x k), same_Some)
 
 part_begins : (ss : List Step) (o : Option BlockEntry) (e x : TextPiece) → (o >>= piece_in_entry parts.Entry ss) ≡ Some e → (o >>= piece_in_entry parts.Content ss) ≡ Some x → From e.before x
 part_begins ss None e x h k = absurd (none-some _ h)
 part_begins [] (Some y) e x h k = let f = content_begins y x k in (f.0, f.1 ∙ ap (λ (p : TextPiece). p.before ++ f.0) (same_Some _ _ h))
-part_begins (t ∷ ts) (Some y) e x h k = head_item_begins (t ∷ ts) (line_inline y) e x h k
+part_begins (t ∷ ts) (Some y) e x h k = search (rules, none-some, item_begins)
 
 found_begins : (s : PrintedDocument) (o : Option (FoundLine × List Step)) (e x : TextPiece) → (o >>= λ f. found_entry s f.0 >>= piece_in_entry parts.Entry f.1) ≡ Some e →
     (o >>= λ f. found_entry s f.0 >>= piece_in_entry parts.Content f.1) ≡ Some x → From e.before x

@@ -16,8 +16,8 @@ use Rattle.yq_documents.proofs.RunLaws.{run_split}
 use Rattle.yq_places.specs.PrintedLines.{PrintedLine, line_front, print_line, print_lines, line_in, run_text, run_break, run_piece}
 use Rattle.yq_places.specs.PrintedLines.{lines_piece}
 use Rattle.yq_places.specs.PathPieces.{BlockEntry, content_piece, FlowEntry, flow_in, flow_under, flow_at, content_inline, line_inline}
-use Rattle.yq_places.specs.PathPieces.{flow_piece, flow_content, PrintedDocument, printed_document, entry_with, found_entry, piece_in_entry}
-use Rattle.yq_places.{specs.PathPieces.piece_in, proofs.PlacedPartLaws.part_stands}
+use Rattle.yq_places.specs.PathPieces.{flow_piece, PrintedDocument, printed_document, entry_with, found_entry, piece_in_entry, piece_in}
+use Rattle.yq_places.proofs.PlacedPartLaws.{part_stands}
 use Rattle.yq_places.proofs.PrintedTexts.{line_then, lines_then, lines_append, run_is, map_some, line_split, rows_are}
 use Rattle.yq_outline.{specs.Group.group, specs.Outline.flatten, specs.Places.{lines_before, find}}
 use Rattle.yq_documents.specs.declared.path.Part.TheVariants as parts
@@ -33,9 +33,7 @@ node_whole before empty behind x e = absurd (none-some _ e)
 node_whole before (alias name) behind x e = ap piece_text (sym (same_Some _ _ e)) ∙ ap (λ l. before ++ l) (sym (node_then (alias name) behind))
 node_whole before (scalar p) behind x e = ap piece_text (sym (same_Some _ _ e)) ∙ ap (λ l. before ++ l) (sym (node_then (scalar p) behind))
 node_whole before (coll close gap items) behind x e = ap piece_text (sym (same_Some _ _ e)) ∙ ap (λ l. before ++ l) (sym (node_then (coll close gap items) behind))
-node_whole before (anchored name gap node) behind x e =
-    node_whole (before ++ 38 ∷ (name ++ gap)) node behind x e
-    ∙ (append_assoc before (38 ∷ (name ++ gap)) (node_text node behind) ∙ ap (λ l. before ++ (38 ∷ l)) (append_assoc name gap (node_text node behind)))
+node_whole before (anchored name gap node) behind x e = search (rules, append_assoc, node_whole (before ++ 38 ∷ (name ++ gap)) node behind x e)
 
 pub head_whole : (before : List ℕ) (c : Content) (behind : List ℕ) (x : TextPiece) → head_piece before c behind ≡ Some x → piece_text x ≡ before ++ content_text c behind
 head_whole before c behind x h1 = search (rules, none-some, node_whole, append_assoc, same_Some)
@@ -74,9 +72,6 @@ item_is x = ap (λ l. x.before ++ l) (sym (ap (key_text x.key) (node_then x.node
 key_before : (x : FlowEntry) → (x.before ++ key_text x.key []) ++ node_text x.node x.behind ≡ item_text x
 key_before x = append_assoc x.before (key_text x.key []) (node_text x.node x.behind) ∙ ap (λ l. x.before ++ l) (sym (key_append x.key [] (node_text x.node x.behind)))
 
-value_whole : (x : FlowEntry) (p : TextPiece) → flow_content x ≡ Some p → piece_text p ≡ item_text x
-value_whole x p e = node_whole (x.before ++ key_text x.key []) x.node x.behind p e ∙ key_before x
-
 items_whole : (k : ℕ) (s : Step) (before : List ℕ) (is : Items) (behind : List ℕ) (x : FlowEntry) → flow_in k s before is behind ≡ Some x → item_text x ≡ before ++ flow_items_text k is behind
 unfolding flow_items_text
 items_whole k s before none behind x e = absurd (none-some _ e)
@@ -93,18 +88,15 @@ items_whole k s before (item key n sep is) behind x e = go (is_here s (key_label
 
     go : (b : Bool) → (flow_in k (further s) (before ++ front) is behind ≡ Some x → item_text x ≡ (before ++ front) ++ tail) →
         cond b (Some (record { before = before; key = key; node = n; behind = sep_text sep tail })) (flow_in k (further s) (before ++ front) is behind) ≡ Some x → item_text x ≡ before ++ key_text key (node_text n (sep_text sep tail))
-    go true again e = ap item_text (sym (same_Some _ _ e))
-    go false again e = again e ∙ (append_assoc before front tail ∙ ap (λ l. before ++ l) (sym split))
+    go b again e = search (rules, same_Some, append_assoc, split)
 
 under_whole : (s : Step) (before : List ℕ) (node : FlowNode) (behind : List ℕ) (x : FlowEntry) → flow_under s before node behind ≡ Some x → item_text x ≡ before ++ node_text node behind
 unfolding node_text
-under_whole s before empty behind x e = absurd (none-some _ e)
-under_whole s before (alias n) behind x e = absurd (none-some _ e)
-under_whole s before (scalar p) behind x e = absurd (none-some _ e)
 under_whole s before (coll k gap is) behind x e = items_whole k s (before ++ opening_bracket k ∷ gap) is behind x e ∙ append_assoc before (opening_bracket k ∷ gap) (flow_items_text k is behind)
 under_whole s before (anchored n gap node) behind x e =
     under_whole s (before ++ 38 ∷ (n ++ gap)) node behind x e
     ∙ (append_assoc before (38 ∷ (n ++ gap)) (node_text node behind) ∙ ap (λ l. before ++ (38 ∷ l)) (append_assoc n gap (node_text node behind)))
+under_whole s before _ behind x e = absurd (none-some _ e)
 
 pub at_whole : (ss : List Step) (x y : FlowEntry) → flow_at ss x ≡ Some y → item_text y ≡ item_text x
 at_whole [] x y e = ap item_text (sym (same_Some _ _ e))
@@ -158,7 +150,7 @@ entry_piece_whole parts.Content [] e x is = content_whole e x is
 entry_piece_whole parts.Content (s ∷ ss) e x is =
     let h = bind_some (line_inline e) is in
     let y = bind_some (flow_at (s ∷ ss) h.0) h.2 in
-    value_whole y.0 x y.2 ∙ (at_whole (s ∷ ss) h.0 y.0 y.1 ∙ in_line_whole e h.0 h.1)
+    (node_whole (y.0.before ++ key_text y.0.key []) y.0.node y.0.behind x y.2 ∙ key_before y.0) ∙ (at_whole (s ∷ ss) h.0 y.0 y.1 ∙ in_line_whole e h.0 h.1)
 entry_piece_whole parts.Entry [] e x is = ap piece_text (sym (same_Some _ _ is)) ∙ run_whole e.before e.line e.under e.behind
 entry_piece_whole parts.Entry (s ∷ ss) e x is =
     let h = bind_some (line_inline e) is in

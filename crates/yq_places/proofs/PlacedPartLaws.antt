@@ -1,7 +1,7 @@
 -- Documents in their place in a text.
-use Rattle.std.proofs.Common.{◌≡◌, ℕ, zero, suc, ◌+◌, ◌-◌, ◌<◌, ltb, List, [], ◌++◌, length, take, Option, Some, option_map, true, false}
-use Rattle.std.proofs.Common.{refl, ap, ◌∙◌, subst, arith, append_assoc, rules}
-use Rattle.std.{proofs.lemmas.Bool.{lt-ltb, le-ltb, cond-true, cond-false}, proofs.lemmas.Option.same_Some, specs.List.slice_get}
+use Rattle.std.proofs.Common.{◌≡◌, ℕ, zero, suc, ◌+◌, ◌<◌, List, [], ◌++◌, length, take, Option, Some, option_map, true, refl, ap, subst}
+use Rattle.std.{proofs.Common.{arith, append_assoc, rules}, proofs.lemmas.Bool.{lt-ltb, le-ltb, cond-true, cond-false}}
+use Rattle.std.{proofs.lemmas.Option.same_Some, specs.List.slice_get}
 use Rattle.yq_row_table.{specs.Grammar.{unlimited, AreRows, AreParts}, specs.Rows.{rows_text, Part, part_text, Cut, last, marked, cut_text}}
 use Rattle.yq_row_table.{specs.Splices.{nth_part, behind_part}, proofs.PlaceLaws.part_then, proofs.splices.PartPlaces.part_in}
 use Rattle.yq_documents.{specs.Documents.document_parts, specs.PartNumbers.{part_number, rows_to}, specs.LinesInRows.document_row}
@@ -39,14 +39,8 @@ part_rows k c d h e = subst (λ (y : PlacedPart). AreRows unlimited y.part.rows 
 -- the text before a row of part i
 pub row_before : (i : ℕ) (c : Cut) (j : ℕ) → j < length (nth_part i c).rows → before_row (rows_to i c + j) c ≡ before_part i c ++ rows_text (take j (nth_part i c).rows) []
 row_before i (last p) j h = let same : 0 + j ≡ j = omega arith in ap (λ (k : ℕ). rows_text (take k p.rows) []) same
-row_before zero (marked p marker c) j h =
-    let same : 0 + j ≡ j = omega arith in
-    ap (λ (k : ℕ). before_row k (marked p marker c)) same ∙ cond-true (ltb j (length p.rows)) (rows_text (take j p.rows) []) (part_text p (marker ++ before_row (j - length p.rows) c)) (lt-ltb j (length p.rows) h)
-row_before (suc i) (marked p marker c) j h =
-    let past : ltb (length p.rows + rows_to i c + j) (length p.rows) ≡ false = le-ltb (length p.rows + rows_to i c + j) (length p.rows) (omega arith) in
-    let left : length p.rows + rows_to i c + j - length p.rows ≡ rows_to i c + j = omega arith in
-    cond-false (ltb (length p.rows + rows_to i c + j) (length p.rows)) (rows_text (take (length p.rows + rows_to i c + j) p.rows) []) (part_text p (marker ++ before_row (length p.rows + rows_to i c + j - length p.rows) c)) past
-    ∙ (ap (λ (k : ℕ). part_text p (marker ++ before_row k c)) left ∙ text_behind p marker (before_part i c) (rows_text (take j (nth_part i c).rows) []) (before_row (rows_to i c + j) c) (row_before i c j h))
+row_before zero (marked p marker c) j h = search (rules, arith, cond-true, lt-ltb)
+row_before (suc i) (marked p marker c) j h = search (rules, arith, le-ltb, cond-false, text_behind, row_before i c j h)
 
 pub text_before : (n : ℕ) (c : Cut) (d : PlacedPart) → placed_document n c ≡ Some d → (j : ℕ) → j < length d.part.rows → before_row (document_row n c + j) c ≡ d.before ++ rows_text (take j d.part.rows) []
 text_before n c d e = subst (λ (y : PlacedPart). (j : ℕ) → j < length y.part.rows → before_row (document_row n c + j) c ≡ y.before ++ rows_text (take j y.part.rows) []) (part_stands n c d e).is (row_before (part_number n c) c)

@@ -1,16 +1,15 @@
 -- A document's rows in the text of a cut, and the row of a line, by the rows of all parts.
-use Rattle.std.proofs.Common.{◌≡◌, ℕ, zero, suc, ◌+◌, ◌-◌, ltb, List, [], ◌∷◌, ◌++◌, length, take, drop, Option, Some, None, option_map}
-use Rattle.std.{proofs.Common.{refl, sym, ap, ◌∙◌, subst, arith, rules}, proofs.lemmas.Bool.{lt-ltb, le-ltb, cond-true, cond-false}}
+use Rattle.std.proofs.Common.{◌≡◌, ℕ, zero, suc, ◌+◌, List, [], ◌∷◌, ◌++◌, length, take, drop, Option, Some, None, option_map, refl, sym}
+use Rattle.std.{proofs.Common.{ap, ◌∙◌, subst, arith, rules}, proofs.lemmas.Bool.{lt-ltb, le-ltb, cond-true, cond-false}}
 use Rattle.std.{proofs.lemmas.Option.{slice_get_within, none-some, same_Some}, specs.List.slice_get}
 use Rattle.yq_core.specs.Answers.{◌>>=◌}
-use Rattle.yq_row_table.{specs.Exchange.{text_after_row, behind_row}, specs.Rows.{Row, rows_text, Part, Cut, last, marked, cut_text}}
+use Rattle.yq_row_table.{specs.Exchange.{text_after_row, behind_row}, specs.Rows.{Row, rows_text, Part, Cut, last, marked}}
 use Rattle.yq_row_table.{specs.Splices.{nth_part, behind_part}, specs.View.rows_of}
 use Rattle.yq_outline.{specs.Ends.line_at_steps, specs.Lines.lines_of_rows, proofs.KnownLaws.get_front}
 use Rattle.yq_documents.{specs.declared.path.Path.Path, specs.Documents.document_parts, specs.Located.steps_of}
-use Rattle.yq_documents.{specs.LinesInRows.{RowLine, row_line_of, row_line_at, document_row}, specs.PartNumbers.{part_number, rows_to}}
+use Rattle.yq_documents.{specs.LinesInRows.{RowLine, row_line_of, row_line_at, document_row}, specs.PartNumbers.rows_to}
 use Rattle.yq_documents.proofs.PartNumberLaws.{part_there}
-use Rattle.yq_places.specs.CommentReading.{before_row}
-use Rattle.yq_places.specs.PlacedRows.{PlacedPart, PlacedRow, placed_at, placed_document, placed_row, row_of_path}
+use Rattle.yq_places.{specs.CommentReading.before_row, specs.PlacedRows.{PlacedPart, PlacedRow, placed_document, placed_row, row_of_path}}
 use Rattle.yq_places.{specs.RowLineReading.{LineCounts, numbers}, proofs.PlacedPartLaws.{part_stands, row_before}}
 use Rattle.yq_places.proofs.RowLineSpans.{steps_row}
 
@@ -25,9 +24,8 @@ abbrev pub HasRowsAt : Cut → ℕ → PlacedPart → Type 0
 HasRowsAt c k s = (j : ℕ) (r : Row) → slice_get s.part.rows j ≡ Some r → IsAt c (k + j) (s.before ++ rows_text (take j s.part.rows) []) r (rows_text (drop (suc j) s.part.rows) (s.part.end ++ s.behind))
 
 rows_behind : (rows : List Row) (i : ℕ) (rest : List ℕ) → text_after_row i rows rest ≡ rows_text (drop (suc i) rows) rest
-rows_behind [] i rest = refl
-rows_behind (x ∷ rows) zero rest = refl
 rows_behind (x ∷ rows) (suc i) rest = rows_behind rows i rest
+rows_behind _ _ rest = refl
 
 get_behind : (xs ys : List Row) (n : ℕ) → slice_get (xs ++ ys) (length xs + n) ≡ slice_get ys n
 get_behind [] ys n = ap (slice_get ys) (omega arith)
@@ -35,27 +33,9 @@ get_behind (x ∷ xs) ys n = let more : suc (length xs) + n ≡ suc (length xs +
 
 rows_at : (i : ℕ) (c : Cut) (j : ℕ) (r : Row) → slice_get (nth_part i c).rows j ≡ Some r →
     (slice_get (rows_of c) (rows_to i c + j) ≡ Some r) × (behind_row (rows_to i c + j) c ≡ rows_text (drop (suc j) (nth_part i c).rows) ((nth_part i c).end ++ behind_part i c))
-rows_at i (last p) j r is =
-    let at : 0 + j ≡ j = omega arith in
-    (ap (slice_get p.rows) at ∙ is, ap (λ n. text_after_row n p.rows (p.end ++ [])) at ∙ rows_behind p.rows j (p.end ++ []))
-rows_at zero (marked p marker c) j r is =
-    let at : 0 + j ≡ j = omega arith in
-    let rest : List ℕ = p.end ++ (marker ++ cut_text c) in
-    let here = lt-ltb j (length p.rows) (slice_get_within p.rows j r is) in (
-      ap (slice_get (p.rows ++ rows_of c)) at ∙ get_front p.rows (rows_of c) j r is,
-      ap (λ n. behind_row n (marked p marker c)) at ∙ (cond-true (ltb j (length p.rows)) (text_after_row j p.rows rest) (behind_row (j - length p.rows) c) here ∙ rows_behind p.rows j rest),
-    )
-rows_at (suc i) (marked q marker c) j r is =
-    let x = rows_at i c j r is in
-    let n : ℕ = rows_to i c + j in
-    let m : ℕ = length q.rows + n in
-    let at : length q.rows + rows_to i c + j ≡ m = omega arith in
-    let left : m - length q.rows ≡ n = omega arith in
-    let past = le-ltb m (length q.rows) (omega arith) in (
-      ap (slice_get (q.rows ++ rows_of c)) at ∙ (get_behind q.rows (rows_of c) n ∙ x.0),
-      ap (λ k. behind_row k (marked q marker c)) at
-          ∙ (cond-false (ltb m (length q.rows)) (text_after_row m q.rows (q.end ++ (marker ++ cut_text c))) (behind_row (m - length q.rows) c) past ∙ (ap (λ k. behind_row k c) left ∙ x.1)),
-    )
+rows_at i (last p) j r is = search (rules, arith, rows_behind)
+rows_at zero (marked p marker c) j r is = search (rules, arith, lt-ltb, slice_get_within, get_front, cond-true, rows_behind)
+rows_at (suc i) (marked q marker c) j r is = search (rules, arith, le-ltb, get_behind, cond-false, rows_at i c j r is)
 
 pub part_at : (n : ℕ) (c : Cut) (s : PlacedPart) → placed_document n c ≡ Some s → HasRowsAt c (document_row n c) s
 part_at n c s e = search (rules, part_stands, rows_at, row_before, slice_get_within)
@@ -65,10 +45,7 @@ abbrev pub part_of : Option PlacedPart → Option Part
 part_of o = option_map (λ (s : PlacedPart). s.part) o
 
 pub document_placed : (n : ℕ) (c : Cut) → slice_get (document_parts c) n ≡ part_of (placed_document n c)
-document_placed n c = go (slice_get (document_parts c) n) refl
-  where
-    go : (o : Option Part) → slice_get (document_parts c) n ≡ o → o ≡ part_of (option_map (λ p. placed_at (part_number n c) c) o)
-    go o h1 = search (rules, part_there)
+document_placed n c = search (rules, part_there)
 
 -- The line that the code tells is one of a row that is there.
 pub record IsRowLineOf (path : Path) (c : Cut) (n : LineCounts) (w : PlacedRow) : Type 0 where

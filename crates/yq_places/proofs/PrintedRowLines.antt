@@ -45,9 +45,7 @@ in_row gap spaces column [] m c (suc n) h = absurd (omega (arith, h))
 in_row gap spaces column (k ∷ ns) m c zero h =
     let d = first_deeper (head_comment gap) column k ns m c in
     record { line = _; there = refl; start = sym (append-nil (gap ++ spaces)); first = λ e. (refl, refl); later = λ p. absurd (omega (arith, p)); last = λ e. absurd (omega (arith, e)); deeper = λ p. (d.0, d.1, d.2, refl); dash = λ p. refl }
-in_row gap spaces column (k ∷ ns) m c (suc n) h =
-    let r = in_row [] [] (suc (column + k)) ns m c n (omega (arith, h)) in
-    search (rules, cases_lt, r)
+in_row gap spaces column (k ∷ ns) m c (suc n) h = search (rules, in_row [] [] (suc (column + k)) ns m c n (omega (arith, h)), cases_lt)
 
 -- the text of a row before line k of it
 abbrev pub row_begin : RowLine → List ℕ
@@ -67,9 +65,8 @@ pub record IsPrintedLine (rs : List Row) (n : ℕ) (q : RowLine) : Type 0 where
   pub dash : q.line < length q.row.dashes → line.content ≡ Nothing []
 
 get_front : {A : Type 0} (xs ys : List A) (n : ℕ) → n < length xs → slice_get (xs ++ ys) n ≡ slice_get xs n
-get_front [] ys n h = absurd (omega (arith, h))
-get_front (x ∷ xs) ys zero h = refl
 get_front (x ∷ xs) ys (suc n) h = get_front xs ys n (omega (arith, h))
+get_front xs ys n h = search (rules, arith)
 
 get_behind : {A : Type 0} (xs ys : List A) (n : ℕ) → slice_get (xs ++ ys) (length xs + n) ≡ slice_get ys n
 get_behind [] ys n = ap (slice_get ys) (omega arith)

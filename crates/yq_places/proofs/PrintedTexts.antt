@@ -47,9 +47,7 @@ lines_append (l ∷ ls) ks z = ap (print_line l) (lines_append ls ks z)
 -- a run of lines
 pub run_is : (l : PrintedLine) (ls : List PrintedLine) (z : List ℕ) → run_text l ls ++ (run_break l ls ++ z) ≡ line_rest l (print_lines ls z)
 run_is l [] z = append_assoc l.mark (less_end l.content) (end_break l.content ++ z) ∙ ap (λ x. l.mark ++ x) (end_is l.content z)
-run_is l (k ∷ ks) z =
-    sym (front_then l (line_front k ++ run_text k ks) (run_break k ks ++ z))
-    ∙ ap (line_rest l) (append_assoc (line_front k) (run_text k ks) (run_break k ks ++ z) ∙ ap (λ x. line_front k ++ x) (run_is k ks z))
+run_is l (k ∷ ks) z = search (rules, front_then, append_assoc, run_is k ks z)
 
 pub map_some : {A B : Type 0} {f : A → B} {y : B} (o : Option A) → option_map f o ≡ Some y → (x : A) × (o ≡ Some x) × (f x ≡ y)
 map_some o h1 = search (rules, same_Some)

@@ -33,12 +33,7 @@ ends_at zero k (marked p marker c) j i some at =
       inside = λ h. cond-false (eqb i (k + length p.rows)) (b ∷ others) others (ne_eqb i (k + length p.rows) (λ e. omega (arith, e, at, h))) ∙ none_low i (k + length p.rows) c (omega (arith, at, h));
       behind = λ h. (b, others, cond-true (eqb i (k + length p.rows)) (b ∷ others) others (eq-eqb i (k + length p.rows) (omega (arith, at, h))), refl);
     }
-ends_at (suc m) k (marked p marker c) j i some at =
-    let b : Bound = record { rows = k + length p.rows; end = p.end; marker = marker } in
-    let others : List Bound = bounds_at i (bounds_from (k + length p.rows) c) in
-    let h = ends_at m (k + length p.rows) c j i some (omega (arith, at)) in
-    let past = cond-false (eqb i (k + length p.rows)) (b ∷ others) others (ne_eqb i (k + length p.rows) (λ e. omega (arith, e, at, some))) in
-    record { inside = λ x. past ∙ h.inside x; behind = λ x. let y = h.behind x in (y.0, y.1, past ∙ y.2, y.3) }
+ends_at (suc m) k (marked p marker c) j i some at = search (rules, arith, cond-false, ne_eqb, ends_at m (k + length p.rows) c j i some (omega (arith, at)))
 
 -- the gap before the rows of a document after some, and its column
 pub gap_behind : (n : ℕ) (c : Cut) (d : PlacedPart) (some back : List Row) → placed_document n c ≡ Some d → d.part.rows ≡ some ++ back → 0 < length some →
@@ -65,6 +60,4 @@ last_row zero rs h less = absurd (omega (arith, h))
 last_row (suc k) [] h less = absurd (omega (arith, less))
 last_row (suc zero) (r ∷ rs) h less = (r, refl, refl)
 last_row (suc (suc k)) (r ∷ []) h less = absurd (omega (arith, less))
-last_row (suc (suc k)) (r ∷ (q ∷ rs)) h less =
-    let x = last_row (suc k) (q ∷ rs) (omega arith) (omega (arith, less)) in
-    search (rules, x)
+last_row (suc (suc k)) (r ∷ (q ∷ rs)) h less = search (rules, last_row (suc k) (q ∷ rs) (omega arith) (omega (arith, less)))

@@ -1,24 +1,21 @@
 -- What is taken out with an item or entry, by the pieces of rows.
-use Rattle.std.proofs.Common.{◌≡◌, ℕ, zero, suc, ◌+◌, ◌-◌, ◌<◌, ◌≤◌, eqb, ltb, List, [], ◌∷◌, ◌++◌, length, take, drop, Option, Some, None}
+use Rattle.std.proofs.Common.{rules, ◌≡◌, ℕ, zero, suc, ◌+◌, ◌-◌, ◌<◌, ◌≤◌, eqb, ltb, List, [], ◌∷◌, ◌++◌, length, take, drop, Some, None}
 use Rattle.std.proofs.Common.{option_map, Bool, true, false, cond, refl, sym, ap, ◌∙◌, subst, arith, length-append, length-take-le}
 use Rattle.std.proofs.Math.Seq.{drop-append_seam, take-append_seam}
 use Rattle.std.proofs.lemmas.Bool.{cond-true, cond-false, eq-eqb, ne_eqb, eqb-true, ltb-true}
 use Rattle.std.{proofs.lemmas.List.{length-drop, take-append-drop}, proofs.lemmas.Option.{cond_some, same_Some}}
 use Rattle.std.{proofs.lemmas.Str.IsCharBoundary-at_seam, specs.List.slice_get, specs.Str.{IsUtf8, IsCharBoundary}}
 use Rattle.yq_core.{specs.Answers.◌>>=◌, specs.Paths.Step, specs.Lines.is_blank, specs.Text.{joined, text_lines}, proofs.Bools.bind_some}
-use Rattle.yq_core.proofs.LineLaws.{joined_lines}
 use Rattle.yq_outline.{specs.Comments.head_comment, specs.Ends.{line_at_steps, lines_end}, specs.Outline.Line}
 use Rattle.yq_outline.{specs.Lines.{lines_from, row_lines, lines_of_rows}, specs.RowWalk.line_number}
 use Rattle.yq_outline.{specs.declared.line_position.Position.Position, specs.declared.line_position.Stretch.Stretch}
 use Rattle.yq_row_table.{specs.Grammar.no_rows, specs.Removal.hold_comment, specs.Rows.{RowMark, Content, Row}}
 use Rattle.yq_documents.{specs.Pieces.{before_run, last_run}, specs.LinesInRows.{RowLine, behind_one, row_line}}
-use Rattle.yq_places.{specs.RemovalPlaces.{OwnRows, row_count, in_three, own_rows}, specs.RemovalReading.marks}
-use Rattle.yq_places.{proofs.PlacedPartLaws.map_some, proofs.RemovalTexts.gap_parts, proofs.WalkDocuments.row_line_number}
+use Rattle.yq_places.{proofs.CommentPlaceLaws.run_is, specs.RemovalPlaces.{OwnRows, row_count, in_three, own_rows}}
+use Rattle.yq_places.{specs.RemovalReading.marks, proofs.PlacedPartLaws.map_some, proofs.RemovalTexts.gap_parts}
+use Rattle.yq_places.proofs.WalkDocuments.{row_line_number}
 
 -- ---- a gap cut before its comment
-
-run_is : (gap run : List ℕ) → text_lines run ≡ last_run (text_lines gap) → joined (last_run (text_lines gap)) ≡ run
-run_is gap run e = ap joined (sym e) ∙ joined_lines run
 
 gap_is : (gap run : List ℕ) → text_lines run ≡ last_run (text_lines gap) → gap ≡ joined (before_run (text_lines gap)) ++ run
 gap_is gap run e = sym (gap_parts gap) ∙ ap (λ (x : List ℕ). joined (before_run (text_lines gap)) ++ x) (run_is gap run e)
@@ -76,13 +73,12 @@ some_lines (r ∷ rs) h = omega (arith, more_lines r rs)
 
 -- so many rows have the lines of the first of them
 count_rows : (j : ℕ) (rs : List Row) → j ≤ length rs → row_count (length (lines_of_rows (take j rs))) rs ≡ j
-count_rows zero rs h = refl
-count_rows (suc j) [] h = absurd (omega (arith, h))
 count_rows (suc j) (r ∷ rs) h =
     let m : ℕ = length (lines_of_rows (take j rs)) in
     let size : length (lines_of_rows (r ∷ take j rs)) ≡ suc (length r.dashes + m) = omega (arith, more_lines r (take j rs)) in
     let less : length r.dashes + m - length r.dashes ≡ m = omega arith in
     ap (λ (k : ℕ). row_count k (r ∷ rs)) size ∙ ap suc (ap (λ (k : ℕ). row_count k rs) less ∙ count_rows j rs (omega (arith, h)))
+count_rows j rs h = search (rules, arith)
 
 -- the lines of rows between others
 lines_between : (i e : ℕ) (rs : List Row) → i ≤ e → length (lines_of_rows (take e rs)) ≡ length (lines_of_rows (take i rs)) + length (lines_of_rows (take (e - i) (drop i rs)))
@@ -91,17 +87,8 @@ lines_between (suc i) zero rs h = absurd (omega (arith, h))
 lines_between (suc i) (suc e) [] h = omega (arith, none (suc e - suc i))
   where
     none : (k : ℕ) → length (lines_of_rows (take k [])) ≡ 0
-    none zero = refl
-    none (suc k) = refl
-lines_between (suc i) (suc e) (r ∷ rs) h =
-    let less : suc e - suc i ≡ e - i = omega arith in
-    omega (
-      arith,
-      lines_between i e rs (omega (arith, h)),
-      more_lines r (take e rs),
-      more_lines r (take i rs),
-      ap (λ (k : ℕ). length (lines_of_rows (take k (drop i rs)))) less,
-    )
+    none k = search rules
+lines_between (suc i) (suc e) (r ∷ rs) h = search (rules, arith, more_lines, lines_between i e rs (omega (arith, h)))
 
 -- ---- the rows of an item or entry
 
@@ -123,16 +110,10 @@ pub record OwnStand (rs : List Row) (x : OwnRows) : Type 0 where
   pub some : no_rows x.own ≡ false
 
 some_own : (k : ℕ) (rs : List Row) → 0 < k → 0 < length rs → no_rows (take (row_count k rs) rs) ≡ false
-some_own zero rs h e = absurd (omega (arith, h))
-some_own (suc k) [] h e = absurd (omega (arith, e))
-some_own (suc k) (r ∷ rs) h e = refl
+some_own k rs h e = search (rules, arith)
 
 own_line : (steps : List Step) (rs : List Row) (x : OwnRows) → own_rows steps rs ≡ Some x → (n : ℕ) × (q : RowLine) × OwnLine steps rs n q
-own_line steps rs x e =
-    let n = bind_some (line_at_steps steps (lines_of_rows rs)) e in
-    let q = bind_some (row_line n.0 rs) n.2 in
-    let g = cond_some (eqb q.0.line 0) _ _ q.2 in
-    (n.0, q.0, record { line = n.1; row = q.1; first = eqb-true q.0.line 0 g.0 })
+own_line steps rs x e = search (rules, bind_some, cond_some, eqb-true)
 
 pub own_stands : (steps : List Step) (rs : List Row) (x : OwnRows) → own_rows steps rs ≡ Some x → OwnStand rs x
 own_stands steps rs x e =
@@ -142,11 +123,7 @@ own_stands steps rs x e =
     let at = row_line_in n rs q l.2.row in
     let left : length (drop q.before rs) ≡ length rs - q.before = length-drop q.before rs in
     let lines : 0 < length (lines_of_rows (drop q.before rs)) = some_lines (drop q.before rs) (omega (arith, left, at.0)) in
-    let past = end_past n (lines_of_rows rs) (omega (arith, at.1, l.2.first, lines)) in
-    subst (OwnStand rs) (same_Some _ _ (sym (own_is steps rs n q l.2) ∙ e)) (record {
-      rows_are = three_whole q.before (row_count (lines_end n (lines_of_rows rs) - n) (drop q.before rs)) rs;
-      some = some_own (lines_end n (lines_of_rows rs) - n) (drop q.before rs) (omega (arith, past)) (omega (arith, left, at.0));
-    })
+    search (rules, end_past, same_Some, own_is, three_whole, some_own, arith)
 
 -- what the code counts
 pub own_agrees : (d : Stretch) (rs : List Row) (steps : List Step) (q e : Position) (r : Row) → Some (line_number d rs q) ≡ line_at_steps steps (lines_of_rows rs) → slice_get rs (q.row - d.first) ≡ Some r → d.first ≤ q.row → q.line ≡ 0 → e.line ≡ 0 → q.row < e.row →
@@ -163,19 +140,14 @@ own_agrees d rs steps q e r line there from none last less within end =
     let front : length (take i rs) ≡ i = length-take-le i rs (omega (arith, within, less, from)) in
     let own : length (take (row_count k (drop i rs)) (drop i rs)) ≡ j - i = ap (λ (m : ℕ). length (take m (drop i rs))) count ∙ length-take-le (j - i) (drop i rs) (omega (arith, left, within)) in
     let begin : q.row ≡ d.first + length (take i rs) = omega (arith, front, from) in
-    let finish : e.row ≡ d.first + length (take i rs) + length (take (row_count k (drop i rs)) (drop i rs)) = omega (arith, front, own, from, less) in
-    (λ x. Some (d.first, begin x, finish x)) ∙ ap (option_map (marks d.first)) (sym (own_is steps rs n (record { before = i; row = r; line = q.line }) h))
+    search (rules, own_is, arith)
 
 -- no line, or none that begins a row
 pub no_own : (first : ℕ) (rs : List Row) (steps : List Step) → None ≡ line_at_steps steps (lines_of_rows rs) → None ≡ option_map (marks first) (own_rows steps rs)
-no_own first rs steps e =
-    ap (λ (o : Option ℕ). option_map (marks first) (o >>= λ n. row_line n rs >>= λ s. cond (eqb s.line 0) (Some (in_three s.before (row_count (lines_end n (lines_of_rows rs) - n) (drop s.before rs)) rs)) None)) e
+no_own first rs steps e = search rules
 
 pub not_own : (first n : ℕ) (rs : List Row) (steps : List Step) (q : RowLine) → Some n ≡ line_at_steps steps (lines_of_rows rs) → row_line n rs ≡ Some q → (q.line ≡ 0 → ⊥) → None ≡ option_map (marks first) (own_rows steps rs)
-not_own first n rs steps q line is some =
-    ap (option_map (marks first)) (sym (cond-false (eqb q.line 0) (Some (in_three q.before (row_count (lines_end n (lines_of_rows rs) - n) (drop q.before rs)) rs)) None (ne_eqb q.line 0 some)))
-    ∙ (ap (λ (o : Option RowLine). option_map (marks first) (o >>= λ s. cond (eqb s.line 0) (Some (in_three s.before (row_count (lines_end n (lines_of_rows rs) - n) (drop s.before rs)) rs)) None)) (sym is)
-    ∙ ap (λ (o : Option ℕ). option_map (marks first) (o >>= λ n. row_line n rs >>= λ s. cond (eqb s.line 0) (Some (in_three s.before (row_count (lines_end n (lines_of_rows rs) - n) (drop s.before rs)) rs)) None)) line)
+not_own first n rs steps q line is some = search (rules, cond-false, ne_eqb)
 
 -- ---- the loops
 
@@ -188,6 +160,3 @@ held_on l ls e = rw e refl
 pub none_held : (t : List ℕ) → t ≡ [] → hold_comment (text_lines t) ≡ false
 unfolding Rattle.yq_core.specs.Text.text_lines
 none_held t e = ap (λ (x : List ℕ). hold_comment (text_lines x)) e
-
-pub run_less : (gap run : List ℕ) → text_lines run ≡ last_run (text_lines gap) → length run ≤ length gap
-run_less gap run e = omega (arith, ap length (gap_is gap run e), length-append (joined (before_run (text_lines gap))) run)

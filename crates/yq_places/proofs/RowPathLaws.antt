@@ -54,6 +54,4 @@ after_starts n m (below l p a) h = starts_joined m (lines_after p) (flatten a) (
 after_starts n m (beside l u p) h = after_starts n m p h.4
 
 pub found_starts : (ls : List Line) (s : Step) (ss rest : List Step) (f : FoundLine) → find s ss (group ls) ≡ Some (f, rest) → is_fine (group ls) ≡ true → StartsAt (level f.line) (flatten f.after ++ lines_after f.place)
-found_starts ls s ss rest f is fine =
-    let p = found_place ls s ss rest f is fine in
-    search (rules, starts_joined, even_starts, after_starts, p)
+found_starts ls s ss rest f is fine = search (rules, found_place ls s ss rest f is fine, starts_joined, even_starts, after_starts)

@@ -117,7 +117,6 @@ module _ (c : Cut) (p : Part) (more : List Row) (k : ℕ) (s : PrintedDocument) 
   end_size : (n : ℕ) (q : RowLine) (d : IsPrintedLine p.rows n q) → row_line n p.rows ≡ Some q → q.line ≡ length q.row.dashes →
       length (through_row (k + q.before) q.row c) ≡ length s.before + length (print_lines (take n (printed_lines p.rows)) (line_less d.line))
   end_size n q d is e =
-      let x = content_cut q.row.content in
       let less : less_end d.line.content ≡ less_end q.row.content = ap less_end (d.last e).0 in
       omega (
         arith,

@@ -1,8 +1,8 @@
 -- Searches for the step of a document, row by row.
 use Rattle.yq_outline.{proofs.WalkRows.{rows_length, rows_agree}, specs.Lines.lines_of_rows, specs.RowWalk.{HasRows, line_level}}
 use Rattle.yq_outline.{specs.declared.line_position.Stretch.Stretch, proofs.KnownLaws.{one_there, taken_more}, proofs.WalkLevels.RowsAgree}
-use Rattle.std.proofs.Common.{◌≡◌, ℕ, zero, suc, ◌+◌, ◌-◌, ◌/◌, ◌%◌, ◌<◌, ◌≤◌, eqb, ltb, ◌&&◌, Bool, true, false, cond, List, [], ◌∷◌, ◌++◌}
-use Rattle.std.proofs.Common.{length, map, take, drop, Some, refl, sym, ap, ◌∙◌, subst, arith, drop_of_length-le, take-take}
+use Rattle.std.proofs.Common.{rules, ◌≡◌, ℕ, zero, suc, ◌+◌, ◌-◌, ◌/◌, ◌%◌, ◌<◌, ◌≤◌, eqb, ltb, ◌&&◌, Bool, true, false, cond, List, []}
+use Rattle.std.proofs.Common.{◌∷◌, ◌++◌, length, map, take, drop, Some, refl, sym, ap, ◌∙◌, subst, arith, drop_of_length-le, take-take}
 use Rattle.std.{specs.List.slice_get, proofs.lemmas.List.{drop-take, drop-append-le, length-take-le, take-append-drop, take-map}}
 use Rattle.std.{proofs.lemmas.Bool.ltb-true, proofs.lemmas.Option.slice_get_within}
 use Rattle.yq_row_table.{specs.Rows.{Row, Cut}, specs.RowStarts.row_start, specs.View.{Slices, slices, RowsView, rows_view}}
@@ -13,10 +13,8 @@ use Rattle.yq_places.{proofs.StepLaws.{step_behind, step_here, steps_agrees, row
 -- ---- rows
 
 none_front : (dashes : Bool) (a n : ℕ) (xs : List Slices) → NoneBegins dashes a xs → NoneBegins dashes a (take n xs)
-none_front dashes a zero [] h = tt
-none_front dashes a (suc n) [] h = tt
-none_front dashes a zero (x ∷ xs) h = tt
 none_front dashes a (suc n) (x ∷ xs) h = (h.0, none_front dashes (end_level x) n xs h.1)
+none_front dashes a _ _ h = tt
 
 none_more : (dashes : Bool) (a : ℕ) (xs : List Slices) (x : Slices) → NoneBegins dashes a xs → begins_under_level dashes (last_level a xs) (line_level 0 x) ≡ false → NoneBegins dashes a (xs ++ (x ∷ []))
 none_more dashes a [] x h e = (e, tt)
@@ -28,9 +26,8 @@ last_more a (y ∷ xs) x = last_more (end_level y) xs x
 
 nothing_taken : (ss : List Slices) (n : ℕ) → drop n (take n ss) ≡ []
 nothing_taken [] zero = refl
-nothing_taken [] (suc n) = refl
-nothing_taken (s ∷ ss) zero = refl
 nothing_taken (s ∷ ss) (suc n) = nothing_taken ss n
+nothing_taken _ _ = refl
 
 -- a search that begins
 pub search_begins : (dashes : Bool) (ss : List Slices) (n : ℕ) → IsSearched dashes ss (record { first = n; row = n; above = 0 })
@@ -44,12 +41,7 @@ passed_more ss k x order is =
 
 pub search_goes_on : (dashes : Bool) (ss : List Slices) (k : StepSearch) (x : Slices) (level : ℕ) → IsSearched dashes ss k → k.first ≤ k.row → slice_get ss k.row ≡ Some x → begins_under_level dashes k.above (line_level 0 x) ≡ false →
     level ≡ end_level x → IsSearched dashes ss (record { first = k.first; row = k.row + 1; above = level })
-search_goes_on dashes ss k x level h order is other ends =
-    let more = passed_more ss k x order is in
-    record {
-      none = subst (NoneBegins dashes 0) (sym more) (none_more dashes 0 (searched_rows ss k) x h.none (ap (λ (a : ℕ). begins_under_level dashes a (line_level 0 x)) (sym h.above) ∙ other));
-      above = ends ∙ sym (ap (last_level 0) more ∙ last_more 0 (searched_rows ss k) x);
-    }
+search_goes_on dashes ss k x level h order is other ends = search (rules, passed_more ss k x order is, none_more, last_more)
 
 -- ---- a search that went less far
 
@@ -68,35 +60,24 @@ search_anew dashes ss k row e = subst (λ (n : ℕ). IsSearched dashes ss (recor
 pub search_less : (dashes : Bool) (ss : List Slices) (k : StepSearch) (before level : ℕ) (x : Slices) → IsSearched dashes ss k → k.first ≤ before → before + 1 ≤ k.row → slice_get ss before ≡ Some x → level ≡ end_level x →
     IsSearched dashes ss (record { first = k.first; row = before + 1; above = level })
 search_less dashes ss k before level x h order less is ends =
-    let more = passed_more ss (record { first = k.first; row = before; above = 0 }) x order is in
-    record {
-      none = none_less dashes ss k (before + 1) h (omega (arith, order)) less;
-      above = ends ∙ sym (ap (last_level 0) more ∙ last_more 0 (drop k.first (take before ss)) x);
-    }
+    search (rules, arith, passed_more ss (record { first = k.first; row = before; above = 0 }) x order is, none_less, last_more)
 
 -- ---- texts that keep what is in front
 
 pub search_stays : (dashes : Bool) (s : RowsView) (k : StepSearch) (front : ℕ) → IsSearched dashes s.rows k → k.row < length s.rows → row_start k.row s < front → (c : Cut) → s ≡ rows_view c → StaysSearched dashes front c k
 search_stays dashes s k front h within before c is new back touched =
     let stay = rows_stay c k.row front (subst (λ (x : RowsView). k.row < length x.rows) is within) (subst (λ (x : RowsView). row_start k.row x < front) is before) new back touched in
-    let same : searched_rows (rows_view new).rows k ≡ searched_rows s.rows k = ap (drop k.first) stay ∙ ap (λ (x : RowsView). searched_rows x.rows k) (sym is) in
-    record { none = subst (NoneBegins dashes 0) (sym same) h.none; above = h.above ∙ sym (ap (last_level 0) same) }
+    search rules
 
 -- ---- the step
 
 none_step : (dashes : Bool) (a : ℕ) (rs qs : List Row) → RowsAgree rs → NoneBegins dashes a (map slices rs) → step_behind dashes a (lines_of_rows (rs ++ qs)) ≡ step_behind dashes (last_level a (map slices rs)) (lines_of_rows qs)
 none_step dashes a [] qs t h = refl
-none_step dashes a (r ∷ rs) qs t h =
-    let n : ℕ = line_level 0 (slices r) in
-    let on : ℕ = step_behind dashes (end_level (slices r)) (lines_of_rows (rs ++ qs)) in
-    row_step dashes a n (end_level (slices r)) r (lines_of_rows (rs ++ qs)) t.0 refl (ap (λ (k : ℕ). line_level k (slices r)) t.0.counted)
-    ∙ (ap (λ (b : Bool). cond b ((n - a) / 3) on) h.0 ∙ none_step dashes (end_level (slices r)) rs qs t.1 h.1)
+none_step dashes a (r ∷ rs) qs t h = search (rules, step_behind, row_step, none_step dashes (end_level (slices r)) rs qs t.1 h.1)
 
 agree_front : (n : ℕ) (rs : List Row) → RowsAgree rs → RowsAgree (take n rs)
-agree_front zero [] h = tt
-agree_front (suc n) [] h = tt
-agree_front zero (r ∷ rs) h = tt
 agree_front (suc n) (r ∷ rs) h = (h.0, agree_front n rs h.1)
+agree_front _ _ h = tt
 
 -- the step is that of the lines from where a search ended
 pub searched_step : (s : RowsView) (d : Stretch) (h : HasRows s d) (dashes : Bool) (k : StepSearch) → k.first ≡ d.first → d.first ≤ k.row → k.row ≤ d.end → IsSearched dashes s.rows k →
@@ -136,6 +117,4 @@ found_deeper dashes ss k level within begins agrees =
     omega (arith, ltb-true _ _ deep, agrees r.0 r.1)
   where
     last_is : (p q : Bool) {b : Bool} → (p && (q && b)) ≡ true → b ≡ true
-    last_is true true h = h
-    last_is true false h = absurd (cc)
-    last_is false q h = absurd (cc)
+    last_is p q h = search rules

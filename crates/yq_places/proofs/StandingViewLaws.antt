@@ -1,15 +1,15 @@
 -- What is at items and entries, by the rows that the code has found.
-use Rattle.std.proofs.Common.{◌≡◌, ℕ, suc, ◌+◌, ◌<◌, eqb, Bool, true, false, ◌&&◌, List, [], ◌∷◌, ◌++◌, length, length-append, map, Option}
-use Rattle.std.proofs.Common.{Some, None, option_map, refl, sym, ap, ◌∙◌, arith, append_assoc}
+use Rattle.std.proofs.Common.{rules, ◌≡◌, ℕ, suc, ◌+◌, ◌<◌, eqb, Bool, true, false, ◌&&◌, List, [], ◌∷◌, ◌++◌, length, length-append, map}
+use Rattle.std.proofs.Common.{Option, Some, None, option_map, refl, sym, ap, ◌∙◌, arith, append_assoc}
 use Rattle.std.proofs.lemmas.Bool.{cond-false, cond-true, eq-eqb, false≢true, ne_eqb}
 use Rattle.yq_core.{specs.Answers.◌>>=◌, specs.Block.BlockText, specs.Paths.Step, specs.Text.is_empty}
 use Rattle.yq_outline.{specs.Positions.has_no_mark, specs.Lines.line_mark, proofs.RowLaws.colon_some}
 use Rattle.yq_row_table.{specs.Grammar.IsMark, specs.Removal.{block_numbers, block_of}}
-use Rattle.yq_row_table.specs.Rows.{Content, Nothing, Inline, Block, Row, dashes_text, print_row, rows_text, Cut}
+use Rattle.yq_row_table.specs.Rows.{Content, Row, dashes_text, print_row, rows_text, Cut}
 use Rattle.yq_row_table.{specs.View.{Slices, slices, colon_of, content_cut, last_dash, RowsView}, proofs.seams.SeamLaws.rows_text-append}
 use Rattle.yq_documents.specs.Reading.{cut_of}
 use Rattle.yq_places.specs.Standings.{RowsOfEntry, alone, before_entry, behind_entry, behind_mark, below, beside, block, compact}
-use Rattle.yq_places.specs.Standings.{compact_in, entry_standing, held, is_alone, lone, rows_of_entry, standing_at, under}
+use Rattle.yq_places.specs.Standings.{compact_in, entry_standing, held, is_alone, lone, standing_at, under}
 use Rattle.yq_places.{specs.StandingReading.{AreRowsOf, IsEntryIn, numbers_at}, specs.StandingViews.{held_at, held_if_last}}
 use Rattle.yq_places.{proofs.EntryNumbers.{FoundEntry, no_entry}, proofs.LinesCutLaws.none_is, proofs.RemovalTexts.texts_then}
 use Rattle.yq_row_table.specs.Rows as rows
@@ -18,10 +18,7 @@ use Rattle.yq_places.specs.declared.places.rows_of_entry.RowsOfEntry as declared
 -- ---- a node that is alone on its line
 
 marks : (ns : List ℕ) (m : rows.RowMark) (x : Content) (rest : List ℕ) → IsMark m x rest → (is_empty (dashes_text ns (last_dash m)) && is_empty (colon_of m)) ≡ (is_empty ns && has_no_mark (line_mark m))
-marks (n ∷ ns) m x rest h = refl
-marks [] rows.Bare x rest h = refl
-marks [] rows.Dash x rest h = refl
-marks [] (rows.Key key colon) x rest h = ap is_empty h.colon_is.spelled ∙ colon_some h.colon_is.white
+marks ns m x rest h = search (rules, colon_some)
 
 alone_agrees : (r : Row) (s : Slices) (rest : List ℕ) → slices r ≡ s → IsMark r.mark r.content rest → (is_empty s.dashes && is_empty s.colon) ≡ is_alone r
 alone_agrees r s rest is h = ap (λ (y : Slices). is_empty y.dashes && is_empty y.colon) (sym is) ∙ marks r.dashes r.mark r.content rest h
@@ -32,18 +29,12 @@ then_alone r s rest dashes colon is h a b e =
     none_is colon ∙ (ap is_empty b ∙ (ap (λ x. x && is_empty s.colon) none ∙ alone_agrees r s rest is h))
 
 pub else_alone : (r : Row) (s : Slices) (rest dashes : List ℕ) → slices r ≡ s → IsMark r.mark r.content rest → dashes ≡ s.dashes → eqb (length dashes) 0 ≡ false → false ≡ is_alone r
-else_alone r s rest dashes is h a e =
-    let some : false ≡ is_empty s.dashes = sym e ∙ (none_is dashes ∙ ap is_empty a) in
-    ap (λ x. x && is_empty s.colon) some ∙ alone_agrees r s rest is h
+else_alone r s rest dashes is h a e = search (rules, sym e ∙ (none_is dashes ∙ ap is_empty a), alone_agrees)
 
 -- ---- rows under it
 
 pub none_below : (t : List ℕ) (s : RowsView) (e : RowsOfEntry) (m : declared.RowsOfEntry) → IsEntryIn t s e m → m.row + 1 ≡ m.end → beside (held e) ≡ below e e.under
-none_below t s e m h same = go e.under refl
-  where
-    go : (us : List Row) → e.under ≡ us → beside (held e) ≡ below e us
-    go [] is = refl
-    go (r ∷ rs) is = absurd (let size : length e.under ≡ suc (length rs) = ap length is in omega (arith, h.rows.last_is, same, size))
+none_below t s e m h same = search (rules, arith)
 
 -- the first row under it, with those under that, as rows of an item or entry
 abbrev pub next_entry : RowsOfEntry → Row → List Row → RowsOfEntry
@@ -103,27 +94,19 @@ module _ (t : List ℕ) (s : RowsView) (e : RowsOfEntry) (row end : ℕ) (h : Ha
 -- ---- by the row's content
 
 pub some_block : (o : Option BlockText) (z : ℕ) (k : Bool) → Some (k, z) ≡ option_map block_numbers o → (b : BlockText) × ((o ≡ Some b) × (z ≡ b.indent.columns))
-some_block None z k e = absurd (cc)
-some_block (Some b) z k e = let same : (k, z) ≡ block_numbers b = cc in (b, (refl, ap (λ (p : Bool × ℕ). p.1) same))
+some_block o z k e = search rules
 
 pub no_block : (o : Option BlockText) → None ≡ option_map block_numbers o → o ≡ None
-no_block None e = refl
-no_block (Some b) e = absurd (cc)
+no_block o e = search rules
 
 block_mark : (e : RowsOfEntry) (x : Content) (b : BlockText) → block_of x ≡ Some b → block (held e) b.indent.columns ≡ behind_mark e x
-block_mark e (Nothing tail) b is = absurd (cc)
-block_mark e (Inline space node tail) b is = absurd (cc)
-block_mark e (Block space anchor k) b is = ap (λ (y : BlockText). block (held e) y.indent.columns) (let same : b ≡ k = cc in same)
+block_mark e x b is = search rules
 
 no_head : (e : RowsOfEntry) (x : Content) → block_of x ≡ None → is_empty (slices e.row).head ≡ true → below e e.under ≡ behind_mark e x
-no_head e (Nothing tail) none is = refl
-no_head e (Inline space node tail) none is = sym (cond-true (is_empty (slices e.row).head) (below e e.under) (beside (held e)) is)
-no_head e (Block space anchor k) none is = absurd (cc)
+no_head e x h2 is = search (rules, cond-true)
 
 some_head : (e : RowsOfEntry) (x : Content) → block_of x ≡ None → (slices e.row).head ≡ (content_cut x).3 → is_empty (slices e.row).head ≡ false → beside (held e) ≡ behind_mark e x
-some_head e (Nothing tail) none head is = absurd (false≢true (sym is ∙ ap is_empty head))
-some_head e (Inline space node tail) none head is = sym (cond-false (is_empty (slices e.row).head) (below e e.under) (beside (held e)) is)
-some_head e (Block space anchor k) none head is = absurd (cc)
+some_head e x h2 head is = search (rules, false≢true, cond-false)
 
 module _ (t : List ℕ) (s : RowsView) (e : RowsOfEntry) (m : declared.RowsOfEntry) (h : IsEntryIn t s e m) where
   mark_here : m.line ≡ m.dashes → behind_mark e e.row.content ≡ entry_standing e
@@ -148,25 +131,14 @@ pub no_held : (n : ℕ) (steps : List Step) (c : Cut) → None ≡ numbers_at n 
 no_held n steps c e = sym (ap (λ (o : Option RowsOfEntry). o >>= held_if_last) (no_entry n steps c e))
 
 pub no_standing : (n : ℕ) (steps : List Step) (c : Cut) → None ≡ numbers_at n steps c → 0 < length steps → None ≡ standing_at n steps c
-no_standing n [] c e some = absurd (omega (arith, some))
-no_standing n (s ∷ ss) c e some = sym (ap (option_map entry_standing) (no_entry n (s ∷ ss) c e))
+no_standing n steps c e some = search (rules, arith, no_entry)
 
 module _ (t : List ℕ) (s : RowsView) (n : ℕ) (steps : List Step) (m : declared.RowsOfEntry) (f : FoundEntry t s n steps m) where
   pub other_held : (m.line ≡ m.dashes → ⊥) → None ≡ held_at n steps (cut_of t)
-  other_held other =
-      let h = f.is in
-      sym (cond-false (eqb f.entry.line (length f.entry.row.dashes)) (Some (held f.entry)) None (ne_eqb f.entry.line (length f.entry.row.dashes) (λ same. other (h.line ∙ (same ∙ sym h.dashes)))))
-      ∙ sym (ap (λ (o : Option RowsOfEntry). o >>= held_if_last) f.place)
+  other_held other = search (rules, cond-false, ne_eqb)
 
   pub held_there : m.line ≡ m.dashes → Some (held f.entry) ≡ held_at n steps (cut_of t)
-  held_there same =
-      let h = f.is in
-      sym (cond-true (eqb f.entry.line (length f.entry.row.dashes)) (Some (held f.entry)) None (eq-eqb f.entry.line (length f.entry.row.dashes) (sym h.line ∙ (same ∙ h.dashes))))
-      ∙ sym (ap (λ (o : Option RowsOfEntry). o >>= held_if_last) f.place)
+  held_there same = search (rules, cond-true, eq-eqb)
 
   pub standing_there : 0 < length steps → Some (entry_standing f.entry) ≡ standing_at n steps (cut_of t)
-  standing_there some = go steps some f.place
-    where
-      go : (ss : List Step) → 0 < length ss → rows_of_entry n ss (cut_of t) ≡ Some f.entry → Some (entry_standing f.entry) ≡ standing_at n ss (cut_of t)
-      go [] some e = absurd (omega (arith, some))
-      go (x ∷ xs) some e = sym (ap (option_map entry_standing) e)
+  standing_there some = search (rules, arith)

@@ -1,6 +1,6 @@
 -- Where rows begin, by their pieces.
-use Rattle.std.proofs.Common.{◌≡◌, ◌⊎◌, ℕ, zero, suc, ◌+◌, ◌-◌, ◌<◌, ◌≤◌, List, [], ◌∷◌, length, take, Some, option_map, refl, ap, ◌∙◌}
-use Rattle.std.{proofs.Common.{arith, length-append, rules}, proofs.lemmas.Bool.{cases_lt, lt-ltb, le-ltb, cond-true, cond-false}}
+use Rattle.std.proofs.Common.{◌≡◌, ◌⊎◌, ℕ, suc, ◌+◌, ◌-◌, ◌<◌, ◌≤◌, List, [], ◌∷◌, length, take, Some, option_map, refl, ap, ◌∙◌, arith}
+use Rattle.std.{proofs.Common.{length-append, rules}, proofs.lemmas.Bool.{cases_lt, lt-ltb, le-ltb, cond-true, cond-false}}
 use Rattle.std.{proofs.lemmas.Option.slice_get-map, specs.List.slice_get}
 use Rattle.yq_row_table.{specs.Exchange.{row_front, before_at, before_content}, specs.Rows.{Row, rows_text, Cut, last, marked}}
 use Rattle.yq_row_table.{specs.View.{Slices, slices, rows_of, rows_view}, proofs.ExchangeLaws.{slice_front, slice_back}}
@@ -10,9 +10,8 @@ use Rattle.yq_places.specs.CommentReading.{before_row}
 
 -- the text before a row's content is that before the row, and the row's front
 front_at : (rows : List Row) (i : ℕ) (r : Row) → slice_get rows i ≡ Some r → length (before_at i rows) ≡ length (rows_text (take i rows) []) + length (row_front r)
-front_at [] i r is = absurd (cc)
-front_at (x ∷ rows) zero r is = let same : x ≡ r = cc in omega (arith, ap (λ (y : Row). length (row_front y)) same)
 front_at (x ∷ rows) (suc i) r is = omega (arith, print-length x (before_at i rows), print-length x (rows_text (take i rows) []), front_at rows i r is)
+front_at rows i r is = search (rules, arith)
 
 pub front_in : (i : ℕ) (c : Cut) (r : Row) → slice_get (rows_of c) i ≡ Some r → length (before_content i c) ≡ length (before_row i c) + length (row_front r)
 front_in i (last p) r is = front_at p.rows i r is

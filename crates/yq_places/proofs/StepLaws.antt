@@ -1,15 +1,13 @@
 -- The steps of a document, row by row.
-use Rattle.std.proofs.Common.{◌≡◌, ◌⊎◌, inl, inr, ℕ, suc, ◌+◌, ◌-◌, ◌*◌, ◌/◌, ◌%◌, ◌<◌, ◌≤◌, eqb, ltb, ◌&&◌, Bool, true, false, cond, List}
-use Rattle.std.proofs.Common.{[], ◌∷◌, ◌++◌, length, drop, Some, refl, sym, ap, ◌∙◌, arith}
+use Rattle.std.proofs.Common.{rules, ◌≡◌, ℕ, suc, ◌+◌, ◌-◌, ◌*◌, ◌/◌, ◌%◌, ◌<◌, ◌≤◌, eqb, ltb, ◌&&◌, Bool, true, false, cond, List, [], ◌∷◌}
+use Rattle.std.proofs.Common.{◌++◌, length, drop, Some, refl, sym, ap, ◌∙◌, arith}
 use Rattle.std.{proofs.lemmas.Bool.{cases_Bool, eq-eqb, ne_eqb, ltb-true}, proofs.lemmas.Option.same_Some, specs.List.slice_get}
-use Rattle.yq_outline.specs.Outline.{LineMark, Bare, Key, Dash, Line, level, rank}
-use Rattle.yq_outline.{specs.Lines.{dash_line, lines_from, row_lines, lines_of_rows}, specs.Extents.lines_before_mark}
-use Rattle.yq_outline.{specs.RowWalk.{HasRows, line_level}, specs.declared.line_position.Stretch.Stretch, proofs.EndsLaws.drop_at}
-use Rattle.yq_outline.{proofs.WalkLevels.{RowAgrees, line_in, level_is}, proofs.WalkPositions.{Located, located}}
+use Rattle.yq_outline.{specs.Outline.{LineMark, Line, level, rank}, specs.Lines.{dash_line, lines_from, row_lines, lines_of_rows}}
+use Rattle.yq_outline.{specs.Extents.lines_before_mark, specs.RowWalk.{HasRows, line_level}, specs.declared.line_position.Stretch.Stretch}
+use Rattle.yq_outline.{proofs.EndsLaws.drop_at, proofs.WalkLevels.{RowAgrees, line_in, level_is}, proofs.WalkPositions.{Located, located}}
 use Rattle.yq_row_table.{specs.Rows.{Content, Row, Cut}, specs.View.{Slices, slices, RowsView}}
 use Rattle.yq_places.specs.StepReading.{begins_under_level}
-use Rattle.yq_places.specs.Steps.{IndentSteps, steps_in, steps_of_part, document_steps, is_key, is_kind, first_step}
-use Rattle.yq_places.proofs.WalkDocuments.{Found}
+use Rattle.yq_places.{specs.Steps.{steps_in, steps_of_part, document_steps, is_key, is_kind, first_step}, proofs.WalkDocuments.Found}
 use Rattle.yq_outline.specs.Comments as comments
 use Rattle.yq_row_table.specs.Rows as rows
 use Rattle.yq_places.specs.Steps as spec
@@ -21,17 +19,10 @@ step_behind dashes a (l ∷ ls) = cond (begins_under_level dashes a (level l)) (
 
 -- the mark of a line by its level
 key_agrees : (m : LineMark) (column : ℕ) → is_key m ≡ eqb ((3 * column + rank m) % 3) 2
-key_agrees Bare column = sym (ne_eqb _ 2 (λ e. omega (arith, e)))
-key_agrees (Key k) column = sym (eq-eqb _ 2 (omega arith))
-key_agrees Dash column = sym (ne_eqb _ 2 (λ e. omega (arith, e)))
+key_agrees m column = search (rules, arith, ne_eqb, eq-eqb)
 
 kind_agrees : (dashes : Bool) (m : LineMark) (column : ℕ) → is_kind dashes m ≡ eqb ((3 * column + rank m) % 3) (cond dashes 0 2)
-kind_agrees true Bare column = sym (ne_eqb _ 0 (λ e. omega (arith, e)))
-kind_agrees true (Key k) column = sym (ne_eqb _ 0 (λ e. omega (arith, e)))
-kind_agrees true Dash column = sym (eq-eqb _ 0 (omega arith))
-kind_agrees false Bare column = sym (ne_eqb _ 2 (λ e. omega (arith, e)))
-kind_agrees false (Key k) column = sym (eq-eqb _ 2 (omega arith))
-kind_agrees false Dash column = sym (ne_eqb _ 2 (λ e. omega (arith, e)))
+kind_agrees dashes m column = search (rules, arith, ne_eqb, eq-eqb)
 
 begins_agrees : (dashes : Bool) (l m : Line) → spec.begins_under (is_kind dashes) l m ≡ begins_under_level dashes (level l) (level m)
 unfolding level
@@ -40,26 +31,11 @@ begins_agrees dashes l m = λ i. key_agrees l.mark l.column i && (kind_agrees da
 -- by how many columns a collection is deeper than its key
 columns_agrees : (dashes : Bool) (l m : Line) → spec.begins_under (is_kind dashes) l m ≡ true → (level m - level l) / 3 ≡ m.column - l.column
 unfolding level
-columns_agrees dashes l m h = go dashes l.mark m.mark h
-  where
-    go : (dashes : Bool) (k n : LineMark) → (is_key k && (is_kind dashes n && ltb (3 * l.column + rank k) (3 * m.column + rank n))) ≡ true → ((3 * m.column + rank n) - (3 * l.column + rank k)) / 3 ≡ m.column - l.column
-    go dashes Bare n h = absurd (cc)
-    go dashes Dash n h = absurd (cc)
-    go dashes (Key k) Bare h = absurd (cc)
-    go true (Key k) (Key n) h = absurd (cc)
-    go false (Key k) (Key n) h = omega (arith, ltb-true _ _ h)
-    go true (Key k) Dash h = omega (arith, ltb-true _ _ h)
-    go false (Key k) Dash h = absurd (cc)
+columns_agrees dashes l m h = search (rules, arith, ltb-true)
 
 step_agrees : (dashes : Bool) (l : Line) (ls : List Line) → first_step (is_kind dashes) (l ∷ ls) ≡ step_behind dashes (level l) ls
 step_agrees dashes l [] = refl
-step_agrees dashes l (m ∷ ms) = go (cases_Bool (spec.begins_under (is_kind dashes) l m)) (step_agrees dashes m ms)
-  where
-    go : (spec.begins_under (is_kind dashes) l m ≡ true) ⊎ (spec.begins_under (is_kind dashes) l m ≡ false) → first_step (is_kind dashes) (m ∷ ms) ≡ step_behind dashes (level m) ms → first_step (is_kind dashes) (l ∷ (m ∷ ms)) ≡ step_behind dashes (level l) (m ∷ ms)
-    go (inl begins) again = λ i. cond (begins_agrees dashes l m i) (sym (columns_agrees dashes l m begins) i) (again i)
-    go (inr other) again =
-        ap (λ b. cond b (m.column - l.column) (first_step (is_kind dashes) (m ∷ ms))) other
-        ∙ (again ∙ ap (λ b. cond b ((level m - level l) / 3) (step_behind dashes (level m) ms)) (sym other ∙ begins_agrees dashes l m))
+step_agrees dashes l (m ∷ ms) = search (rules, cases_Bool, begins_agrees, columns_agrees, step_agrees dashes m ms)
 
 pub steps_agrees : (dashes : Bool) (ls : List Line) → step_behind dashes 0 ls ≡ first_step (is_kind dashes) ls
 steps_agrees dashes [] = refl
@@ -73,13 +49,11 @@ under_dash dashes above column n = ap (λ b. b && (eqb (n % 3) (cond dashes 0 2)
 lines_step : (dashes : Bool) (a : ℕ) (above : List (List ℕ)) (column : ℕ) (ns : List ℕ) (m : rows.RowMark) (c : Content) (f l : Line) (ys : List Line) →
     slice_get (lines_from above column ns m c) 0 ≡ Some f → slice_get (lines_from above column ns m c) (length ns) ≡ Some l →
     step_behind dashes a (lines_from above column ns m c ++ ys) ≡ cond (begins_under_level dashes a (level f)) ((level f - a) / 3) (step_behind dashes (level l) ys)
-lines_step dashes a above column [] m c f l ys first last =
-    λ i. cond (begins_under_level dashes a (level (same_Some _ _ first i))) ((level (same_Some _ _ first i) - a) / 3) (step_behind dashes (level (same_Some _ _ last i)) ys)
+lines_step dashes a above column [] m c f l ys first last = search (rules, same_Some)
 lines_step dashes a above column (n ∷ ns) m c f l ys first last =
     let d : Line = dash_line above column in
     let x = line_in [] (suc (column + n)) ns m c 0 (omega arith) in
-    let rest = lines_step dashes (level d) [] (suc (column + n)) ns m c x.0 l ys x.1 last ∙ ap (λ b. cond b ((level x.0 - level d) / 3) (step_behind dashes (level l) ys)) (under_dash dashes above column (level x.0)) in
-    λ i. cond (begins_under_level dashes a (level (same_Some _ _ first i))) ((level (same_Some _ _ first i) - a) / 3) (rest i)
+    search (rules, under_dash, same_Some, lines_step dashes (level d) [] (suc (column + n)) ns m c x.0 l ys x.1 last)
 
 -- the lines of a row: only its first one can begin a collection under a key
 pub row_step : (dashes : Bool) (a n k : ℕ) (r : Row) (ys : List Line) → RowAgrees r → n ≡ line_level 0 (slices r) → k ≡ line_level (length r.dashes) (slices r) →

@@ -75,11 +75,9 @@ uncommented_from (s ∷ ss) x h = go (labelled_at s (children_of x.1)) (uncommen
     go : (r : Option Labelled) → If r IsUncommented → ((y : Labelled) → IsUncommented y → If (labelled_from ss y) (λ y. HasNone y.0)) → If (option_and_then (labelled_from ss) r) (λ y. HasNone y.0)
     go r h1 h2 = search rules
 
-uncommented_anchored : (a : Option (List ℕ)) (n : Node) → Uncommented n → Uncommented (anchored a n)
-uncommented_anchored a n h1 = search rules
-
 pub uncommented_reach : (a : Option (List ℕ)) (s : Step) (ss : List Step) (n : Node) → Uncommented n → If (reach s ss (anchored a n)) (λ y. HasNone y.0)
-uncommented_reach a s ss n h = go (labelled_at s (children_of (anchored a n))) (uncommented_at s (children_of (anchored a n)) (uncommented_children (anchored a n) (uncommented_anchored a n h)))
+uncommented_reach a s ss n h =
+    go (labelled_at s (children_of (anchored a n))) (uncommented_at s (children_of (anchored a n)) (uncommented_children (anchored a n) (search rules)))
   where
     go : (r : Option Labelled) → If r IsUncommented → If (option_and_then (labelled_from ss) r) (λ y. HasNone y.0)
     go r h1 = search (rules, uncommented_from)

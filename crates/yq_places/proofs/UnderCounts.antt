@@ -8,7 +8,7 @@ use Rattle.yq_outline.{specs.Ends.{deeper_count, lines_end}, specs.Group.{group,
 use Rattle.yq_outline.specs.Outline.{Line, level, Outline, end, row, flatten, IsEven}
 use Rattle.yq_outline.{specs.Places.{Context, here, below, beside, lines_before, lines_after, FoundLine, find}, proofs.Allowing.Allows}
 use Rattle.yq_outline.proofs.LineEnds.{end_behind}
-use Rattle.yq_places.proofs.RowPathLaws.{found_lines, found_place}
+use Rattle.yq_places.proofs.RowPathLaws.{allowed_level, found_lines, found_place}
 
 -- how many lines are deeper
 pub count_stops : (k : ℕ) (ls : List Line) (x : Line) → slice_get ls (deeper_count k ls) ≡ Some x → level x ≤ k
@@ -37,14 +37,9 @@ pub shallow_even : (m n : ℕ) (o : Outline) → IsEven n o → n ≤ m → Shal
 shallow_even m n end h less = tt
 shallow_even m n (row l u a) h less = omega (arith, h.0, less)
 
-pub allows_less : (n : ℕ) (p : Context) (m : ℕ) → Allows n p m → n ≤ m
-allows_less n here m h = omega (arith, h)
-allows_less n (below l p after) m h = omega (arith, h.3.1, allows_less h.3.0 p m h.3.2)
-allows_less n (beside l under p) m h = allows_less n p m h.4
-
 pub shallow_after : (n : ℕ) (p : Context) (m : ℕ) → Allows n p m → Shallow m (lines_after p)
 shallow_after n here m h = tt
-shallow_after n (below l p after) m h = shallow_append m (lines_after p) (flatten after) (shallow_after h.3.0 p m h.3.2) (shallow_even m n after h.4 (omega (arith, h.3.1, allows_less h.3.0 p m h.3.2)))
+shallow_after n (below l p after) m h = shallow_append m (lines_after p) (flatten after) (shallow_after h.3.0 p m h.3.2) (shallow_even m n after h.4 (omega (arith, h.3.1, allowed_level h.3.0 m p h.3.2)))
 shallow_after n (beside l under p) m h = shallow_after n p m h.4
 
 pub count_none : (m : ℕ) (ls : List Line) → Shallow m ls → deeper_count m ls ≡ 0

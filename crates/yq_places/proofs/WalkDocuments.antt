@@ -1,29 +1,21 @@
 -- The rows of documents among those of a text.
-use Rattle.std.proofs.Common.{◌≡◌, ℕ, zero, suc, ◌+◌, ◌-◌, ◌<◌, ◌≤◌, List, [], ◌∷◌, ◌++◌, length, take, drop, Option, Some, None}
-use Rattle.std.proofs.Common.{option_map, true, refl, sym, ap, ◌∙◌, arith, length-append, Bool}
+use Rattle.std.proofs.Common.{rules, ◌≡◌, ℕ, zero, suc, ◌+◌, ◌≤◌, List, [], ◌∷◌, ◌++◌, length, take, drop, Option, Some, None, option_map}
+use Rattle.std.proofs.Common.{true, refl, sym, ap, ◌∙◌, arith, length-append, Bool}
 use Rattle.std.{proofs.lemmas.Bool.{lt-ltb, le-ltb, cond-true, cond-false}, proofs.lemmas.Option.same_Some, specs.List.slice_get}
 use Rattle.yq_core.{specs.Answers.◌>>=◌, specs.Paths.Step}
-use Rattle.yq_outline.{specs.Ends.line_at_steps, specs.Lines.{row_lines, lines_of_rows}, proofs.RowLaws.lines_count}
+use Rattle.yq_outline.{specs.Ends.line_at_steps, specs.Lines.lines_of_rows, proofs.RowLaws.lines_count}
 use Rattle.yq_outline.{specs.RowWalk.{HasDocument, stretch_view}, specs.declared.line_position.Stretch.Stretch}
-use Rattle.yq_row_table.{specs.Grammar.IsCut, specs.Rows.{Row, Part, Cut}, specs.Splices.nth_part}
-use Rattle.yq_row_table.specs.View.{Bound, rows_of, RowsView, rows_view}
+use Rattle.yq_row_table.{specs.Grammar.IsCut, specs.Rows.{Row, Part, Cut}, specs.View.{Bound, rows_of, RowsView, rows_view}}
 use Rattle.yq_documents.{specs.Documents.document_parts, proofs.PartRows.{document_has, part_begins}}
-use Rattle.yq_documents.specs.LinesInRows.{behind_one, row_line, row_line_of, row_line_at, document_row, RowLine, line_has_room}
-use Rattle.yq_documents.{specs.LinesInRows.row_line_has_room, specs.PartNumbers.{document_part, rows_to}}
+use Rattle.yq_documents.specs.LinesInRows.{row_line, row_line_of, row_line_at, document_row, RowLine, line_has_room, row_line_has_room}
+use Rattle.yq_documents.specs.PartNumbers.{document_part, rows_to}
 use Rattle.yq_documents.{proofs.PartNumberLaws.{part_there, document_found, document_missing, end_agrees}, specs.declared.path.Path.Path}
 use Rattle.yq_documents.{specs.Located.steps_of, specs.Reading.all_documents, specs.declared.path.Part.Part as Place}
 use Rattle.yq_places.{specs.RowWalk.{InCut, document_row_range}, specs.RowLineReading.{LineCounts, numbers}}
-use Rattle.yq_outline.specs.Comments as comments
 
 -- the rows of a document, by the number of its part
 pub rows_known : (c : Cut) (s : RowsView) (n k first : ℕ) (b : Bound) → s ≡ rows_view c → Some k ≡ document_part n c → first ≡ rows_to k c → slice_get s.bounds k ≡ Some b → Some (first, b.rows) ≡ document_row_range n c
-rows_known c s n k first b is number from bound =
-    let d = document_found c n k number in
-    let end : b.rows ≡ document_row n c + length d.0.rows =
-    end_agrees k 0 c b (ap (λ (x : RowsView). slice_get x.bounds k) (sym is) ∙ bound)
-    ∙ omega (arith, ap (λ j. rows_to j c + length (nth_part j c).rows) d.2, ap (λ (p : Part). length p.rows) (part_there c n d.0 d.1)) in
-    (λ i. Some ((from ∙ ap (λ j. rows_to j c) d.2) i, end i))
-    ∙ sym (ap (option_map (λ (p : Part). (document_row n c, document_row n c + length p.rows))) d.1)
+rows_known c s n k first b is number from bound = search (rules, arith, document_found, end_agrees, part_there)
 
 pub no_rows_view : (c : Cut) (n : ℕ) → None ≡ document_part n c → None ≡ document_row_range n c
 no_rows_view c n e = sym (ap (option_map (λ (p : Part). (document_row n c, document_row n c + length p.rows))) (document_missing c n e))
@@ -31,21 +23,8 @@ no_rows_view c n e = sym (ap (option_map (λ (p : Part). (document_row n c, docu
 -- the line of a number, by its row
 pub row_line_number : (rs : List Row) (i k : ℕ) (r : Row) → slice_get rs i ≡ Some r → k ≤ length r.dashes → row_line (length (lines_of_rows (take i rs)) + k) rs ≡ Some (record { before = i; row = r; line = k })
 row_line_number [] i k r e h = absurd (cc)
-row_line_number (x ∷ rs) zero k r e h =
-    let same : x ≡ r = same_Some _ _ e in
-    let less : k ≤ length x.dashes = omega (arith, h, ap (λ (y : Row). length y.dashes) same) in
-    let none : 0 + k ≡ k = omega arith in
-    ap (λ (n : ℕ). row_line n (x ∷ rs)) none
-    ∙ (cond-false _ (option_map behind_one (row_line (k - suc (length x.dashes)) rs)) (Some (record { before = 0; row = x; line = k })) (le-ltb (length x.dashes) k less)
-    ∙ ap (λ (y : Row). Some (record { before = 0; row = y; line = k })) same)
-row_line_number (x ∷ rs) (suc i) k r e h =
-    let a : ℕ = length (lines_of_rows (take i rs)) in
-    let count : length (row_lines x) ≡ suc (length x.dashes) = lines_count (comments.head_comment x.gap) x.column x.dashes x.mark x.content in
-    let n : ℕ = length (row_lines x ++ lines_of_rows (take i rs)) + k in
-    let past : length x.dashes < n = omega (arith, count, length-append (row_lines x) (lines_of_rows (take i rs))) in
-    let left : n - suc (length x.dashes) ≡ a + k = omega (arith, count, length-append (row_lines x) (lines_of_rows (take i rs))) in
-    cond-true _ (option_map behind_one (row_line (n - suc (length x.dashes)) rs)) (Some (record { before = 0; row = x; line = n })) (lt-ltb (length x.dashes) n past)
-    ∙ (ap (λ (m : ℕ). option_map behind_one (row_line m rs)) left ∙ ap (option_map behind_one) (row_line_number rs i k r e h))
+row_line_number (x ∷ rs) zero k r e h = search (rules, arith, same_Some _ _ e, same_Some, cond-false, le-ltb)
+row_line_number (x ∷ rs) (suc i) k r e h = search (rules, arith, lines_count, length-append, cond-true, lt-ltb, row_line_number rs i k r e h)
 
 -- A document that was found in a text with its cut.
 pub record Found (s : RowsView) (c : Cut) (n : ℕ) (d : Stretch) : Type 0 where
@@ -84,33 +63,20 @@ found_in_cut t s c n d cut is f =
 pub place_found : {A : Type 0} (t : List ℕ) (s : RowsView) (c : Cut) (n : ℕ) (d : Stretch) (found : Option A) (place : ℕ → Cut → List Row → Option A) → IsCut t c → s ≡ rows_view c → Some (stretch_view d) ≡ document_row_range n c → all_documents c ≡ true →
     ((k : InCut s d c) → found ≡ place d.first c k.document.stand.rows) → found ≡ (slice_get (document_parts c) n >>= λ p. place (document_row n c) c p.rows)
 place_found t s c n d found place cut is e known agrees =
-    let f = found_document t s c n d cut is e known in
-    let k = found_in_cut t s c n d cut is f in
-    agrees k.0
-    ∙ ((λ i. place (f.first i) c (k.1 i))
-    ∙ sym (ap (λ (o : Option Part). o >>= λ p. place (document_row n c) c p.rows) f.there))
+    search (rules, found_document t s c n d cut is e known, found_in_cut t s c n d cut is (found_document t s c n d cut is e known))
 
 pub no_place_found : {A : Type 0} (c : Cut) (n : ℕ) (place : ℕ → Cut → List Row → Option A) → None ≡ document_row_range n c → None ≡ (slice_get (document_parts c) n >>= λ p. place (document_row n c) c p.rows)
-no_place_found {A = A} c n place e = go (slice_get (document_parts c) n) e
-  where
-    go : (o : Option Part) → ◌≡◌ {A = Option (ℕ × ℕ)} None (option_map (λ p. (document_row n c, document_row n c + length p.rows)) o) → None ≡ (o >>= λ p. place (document_row n c) c p.rows)
-    go None e = refl
-    go (Some p) e = absurd (cc)
+no_place_found c n place e = search rules
 
 -- the line of a path in a document that was found
 pub row_line_found : (s : RowsView) (c : Cut) (path : Path) (d : Stretch) (steps : List Step) (found : Option LineCounts) (f : Found s c path.doc d) → steps ≡ steps_of path → found ≡ option_map (numbers d.first) (row_line_of steps f.document.stand.rows) →
     found ≡ option_map (numbers (document_row path.doc c)) (row_line_at path c)
-row_line_found s c path d steps found f same e =
-    e
-    ∙ ((λ i. option_map (numbers (f.first i)) (row_line_of (same i) (f.rows i)))
-    ∙ sym (ap (λ (o : Option Part). option_map (numbers (document_row path.doc c)) (o >>= λ d. row_line_of (steps_of path) d.rows)) f.there))
+row_line_found s c path d steps found f same e = search rules
 
 -- the line to which steps lead, by its row
 pub row_line_reached : (rs : List Row) (steps : List Step) (first i k dashes row : ℕ) (r : Row) → slice_get rs i ≡ Some r → k ≤ length r.dashes → row ≡ first + i → dashes ≡ length r.dashes →
     Some (length (lines_of_rows (take i rs)) + k) ≡ line_at_steps steps (lines_of_rows rs) → Some (row, k, dashes) ≡ option_map (numbers first) (row_line_of steps rs)
-row_line_reached rs steps first i k dashes row r is h row_is count e =
-    (λ j. Some (row_is j, k, count j))
-    ∙ sym (ap (λ (o : Option ℕ). option_map (numbers first) (o >>= λ n. row_line n rs)) (sym e) ∙ ap (option_map (numbers first)) (row_line_number rs i k r is h))
+row_line_reached rs steps first i k dashes row r is h row_is count e = search (rules, row_line_number)
 
 pub none_reached : (rs : List Row) (steps : List Step) (first : ℕ) → None ≡ line_at_steps steps (lines_of_rows rs) → None ≡ option_map (numbers first) (row_line_of steps rs)
 none_reached rs steps first e = ap (λ (o : Option ℕ). option_map (numbers first) (o >>= λ n. row_line n rs)) e

@@ -1,5 +1,6 @@
 -- Lines of a document from one up to another one, and their place.
-use Rattle.std.{proofs.Common.{◌≡◌, ℕ, suc, ◌+◌, ◌-◌, ◌<◌, List, length, take, Option, Some, sym, ap, ◌∙◌, arith}, specs.List.slice_get}
+use Rattle.std.proofs.Common.{rules, ◌≡◌, ℕ, suc, ◌+◌, ◌-◌, ◌<◌, List, length, take, Option, Some, sym, ap, ◌∙◌, arith}
+use Rattle.std.specs.List.{slice_get}
 use Rattle.yq_core.specs.Answers.{◌>>=◌}
 use Rattle.yq_row_table.{specs.Rows.{Row, Cut}, specs.View.{Slices, slices, rows_of, RowsView}}
 use Rattle.yq_outline.{specs.Lines.lines_of_rows, specs.Extents.row_start, specs.RowWalk.{HasRows, IsLine, AreLinesTo, line_number}}
@@ -8,10 +9,6 @@ use Rattle.yq_outline.{proofs.WalkEnds.lines_upto, proofs.WalkPositions.{located
 use Rattle.yq_documents.specs.LinesInRows.{RowLine, row_line}
 use Rattle.yq_places.{specs.EntryReading.{before_line, through_row, lines_place, line_begin}, specs.RowWalk.InCut}
 use Rattle.yq_places.{proofs.RowStarts.line_begins, proofs.WalkDocuments.row_line_number, proofs.WalkNodes.{row_line_is, row_in_cut}}
-
--- the first of lines is one, where there are any
-first_line : (s : RowsView) (d : Stretch) (p q : Position) → AreLinesTo s d p q → p.row < q.row → IsLine s d p
-first_line s d p q a less = position_line s d p a.begin (omega (arith, less, a.stop.upto))
 
 -- the line before the first one of a row is the last one of the row before
 module _ (s : RowsView) (d : Stretch) (h : HasRows s d) (q : Position) where
@@ -23,8 +20,7 @@ module _ (s : RowsView) (d : Stretch) (h : HasRows s d) (q : Position) where
       let l = located s d h row_before at in
       let i : ℕ = (q.row - 1) - d.first in
       let next : q.row - d.first ≡ suc i + 0 = omega (arith, less) in
-      let number : line_number d h.rows q - 1 ≡ length (lines_of_rows (take i h.rows)) + length l.row.dashes =
-      omega (arith, first, ap (λ (k : ℕ). length (lines_of_rows (take k h.rows))) next, lines_upto h.rows i 0 l.row l.there) in
+      let number : line_number d h.rows q - 1 ≡ length (lines_of_rows (take i h.rows)) + length l.row.dashes = search (rules, arith, lines_upto) in
       ap (λ (n : ℕ). row_line n h.rows) number ∙ row_line_number h.rows i (length l.row.dashes) l.row l.there (omega arith)
 
 pub lines_view : (s : RowsView) (d : Stretch) (c : Cut) (k : InCut s d c) (p q : Position) (start end : ℕ) → AreLinesTo s d p q → p.row < q.row → ((x : Slices) → slice_get s.rows p.row ≡ Some x → start ≡ line_begin (row_start p.row s) x p.line) →
@@ -32,7 +28,7 @@ pub lines_view : (s : RowsView) (d : Stretch) (c : Cut) (k : InCut s d c) (p q :
     ◌≡◌ {A = Option (ℕ × ℕ)} (Some (start, end)) (lines_place d.first c k.document.stand.rows (line_number d k.document.stand.rows p) (line_number d k.document.stand.rows q - 1))
 lines_view s d c k p q start end a less agrees_start agrees_end =
     let rs : List Row = k.document.stand.rows in
-    let at : IsLine s d p = first_line s d p q a less in
+    let at : IsLine s d p = position_line s d p a.begin (omega (arith, less, a.stop.upto)) in
     let l = located s d k.document.stand p at in
     let z : Position = record { row = q.row - 1; line = 0 } in
     let last : IsLine s d z = record { from = omega (arith, less, a.begin.from); upto = omega (arith, less, a.stop.upto); line = λ x e. omega arith } in

@@ -1,5 +1,5 @@
 -- What is under a line or a document, and in which row of a cut a line is.
-use Rattle.std.proofs.Common.{◌≡◌, ◌⊎◌, inl, inr, ℕ, suc, ◌+◌, ◌-◌, ◌<◌, ◌≤◌, eqb, Bool, true, false, cond, not, List, [], ◌∷◌, length}
+use Rattle.std.proofs.Common.{rules, ◌≡◌, ◌⊎◌, inl, inr, ℕ, suc, ◌+◌, ◌-◌, ◌<◌, ◌≤◌, eqb, true, false, cond, not, List, [], ◌∷◌, length}
 use Rattle.std.proofs.Common.{drop, get_or, Option, Some, None, refl, sym, ap, ◌∙◌, arith}
 use Rattle.std.proofs.lemmas.Bool.{cases_lt, false≢true, eq-eqb, ne_eqb, eqb-true, lt-ltb, le-ltb, cond-true, cond-false}
 use Rattle.std.{proofs.lemmas.List.drop_all, proofs.lemmas.Option.slice_get_cases, specs.List.slice_get}
@@ -10,7 +10,7 @@ use Rattle.yq_outline.{proofs.NameLaws.above, specs.RowWalk.{IsLine, line_number
 use Rattle.yq_outline.{specs.declared.line_position.Position.Position, specs.declared.line_position.Stretch.Stretch}
 use Rattle.yq_outline.proofs.WalkPositions.{located}
 use Rattle.yq_row_table.{specs.Rows.{Row, Cut}, specs.View.{rows_of, RowsView}}
-use Rattle.yq_documents.specs.LinesInRows.{RowLine, row_line}
+use Rattle.yq_documents.specs.LinesInRows.{row_line}
 use Rattle.yq_places.{specs.RowWalk.InCut, proofs.EntryPlaceLaws.row_there, proofs.WalkDocuments.row_line_number}
 
 -- lines that are deeper than a level end where they begin exactly where there are none
@@ -18,12 +18,8 @@ pub stops_here : (ls : List Line) (n floor : ℕ) → eqb n (lines_stop n floor 
 stops_here ls n floor = go ((slice_get_cases ls n).1)
   where
     go2 : (m : Line) → slice_get ls n ≡ Some m → (floor < level m) ⊎ (level m ≤ floor) → eqb n (lines_stop n floor ls) ≡ has_no_lines (part ls n floor)
-    go2 m at (inl deep) =
-        let more = ap (deeper_count floor) (drop_at ls n m at) ∙ cond-true _ (suc (deeper_count floor (drop (n + 1) ls))) 0 (lt-ltb floor (level m) deep) in
-        ne_eqb n (lines_stop n floor ls) (λ e. omega (arith, e, more)) ∙ sym (ap has_no_lines (part_row ls n floor m at deep))
-    go2 m at (inr low) =
-        let none = ap (deeper_count floor) (drop_at ls n m at) ∙ cond-false _ (suc (deeper_count floor (drop (n + 1) ls))) 0 (le-ltb floor (level m) low) in
-        eq-eqb n (lines_stop n floor ls) (omega (arith, none)) ∙ sym (ap has_no_lines (part_stop ls n floor m at low))
+    go2 m at (inl deep) = search (rules, arith, drop_at, cond-true, lt-ltb, ne_eqb, part_row)
+    go2 m at (inr low) = search (rules, arith, drop_at, cond-false, le-ltb, eq-eqb, part_stop)
 
     go : ((x : Line) × (n < length ls) × (slice_get ls n ≡ Some x) × (get_or ls n x ≡ x)) ⊎ ((length ls ≤ n) × (slice_get ls n ≡ None)) → eqb n (lines_stop n floor ls) ≡ has_no_lines (part ls n floor)
     go (inr past) =
@@ -34,11 +30,7 @@ stops_here ls n floor = go ((slice_get_cases ls n).1)
 -- what is said of the first of them
 module _ {A : Type 0} (ls : List Line) (n floor : ℕ) (said : Line → Option A) where
   pub none_here : false ≡ not (has_no_lines (part ls n floor)) → None ≡ cond (eqb n (lines_stop n floor ls)) None (slice_get ls n >>= said)
-  none_here none = sym (cond-true _ None (slice_get ls n >>= said) (stops_here ls n floor ∙ ends (has_no_lines (part ls n floor)) none))
-    where
-      ends : (b : Bool) → false ≡ not b → b ≡ true
-      ends true e = refl
-      ends false e = absurd (false≢true e)
+  none_here h0 = search (rules, cond-true, stops_here, false≢true)
 
   pub first_here : (l : Line) → slice_get ls n ≡ Some l → true ≡ not (has_no_lines (part ls n floor)) → said l ≡ cond (eqb n (lines_stop n floor ls)) None (slice_get ls n >>= said)
   first_here l is some = ap (λ (o : Option Line). o >>= said) (sym is) ∙ sym (cond-false _ None (slice_get ls n >>= said) (stops_here ls n floor ∙ not_end _ some))
@@ -76,6 +68,4 @@ module _ (s : RowsView) (d : Stretch) (c : Cut) (k : InCut s d c) (q : Position)
   -- what is said of that row is said of the line's
   pub row_known : {A : Type 0} (said : ℕ → Row → Option A) (found : Option A) → ((r : Row) → slice_get (rows_of c) q.row ≡ Some r → found ≡ said q.row r) →
       found ≡ (row_line (line_number d k.document.stand.rows q) k.document.stand.rows >>= λ s. said (d.first + s.before) s.row)
-  row_known {A = A} said found agrees =
-      agrees row_is row_in_cut
-      ∙ ((λ i. said (sym before_is i) row_is) ∙ sym (ap (λ (o : Option RowLine). o >>= λ s. said (d.first + s.before) s.row) row_line_is))
+  row_known said found agrees = search (rules, row_in_cut, before_is, row_line_is)

@@ -1,4 +1,4 @@
-use Rattle.std.proofs.Common.{length, ap, arith, rules}
+use Rattle.std.proofs.Common.{arith, rules}
 use Rattle.yq_row_table.specs.View.{row_view}
 use Rattle.yq_outline.proofs.LengthLaws.{row_fits, view_small}
 use Rattle.yq_places.proofs.places.comment_place.line_comment_in.Goals as goal
@@ -13,6 +13,4 @@ pub overflow_add-start-2 : goal.overflow_add-start-2
 overflow_add-start-2 c = search (rules, row_fits, view_small)
 
 pub tail_comment-requires : goal.tail_comment-requires
-tail_comment-requires c =
-    let f = row_fits c.args.rows.now c.args.row_line.row (row_view c.row-row.result) c.row-row.ensures in
-    omega (arith, f, view_small c.args.rows.now c.requires.rows_view, c.row_start.ensures, c.front_len.ensures, ap length c.head.ensures, ap length c.tail.ensures)
+tail_comment-requires c = search (rules, arith, row_fits c.args.rows.now c.args.row_line.row (row_view c.row-row.result) c.row-row.ensures, view_small)

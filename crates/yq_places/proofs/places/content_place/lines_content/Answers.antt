@@ -1,15 +1,11 @@
-use Rattle.std.proofs.Common.{◌-◌, cond, Some, refl, ap, ◌∙◌, arith}
+use Rattle.std.proofs.Common.{◌-◌, cond, Some, refl, ap, ◌∙◌, arith, rules}
 use Rattle.yq_outline.{specs.Lines.lines_of_rows, specs.Positions.has_no_mark, proofs.EndsLaws.{deeper_line, not_end}}
 use Rattle.yq_outline.{specs.RowWalk.{line_number, lines_stop}, proofs.WalkPositions.{located, position_line}}
 use Rattle.yq_places.{specs.EntryReading.{head_extent, line_head, lines_place}, proofs.WalkNodes.{first_here, none_here, row_known}}
 use Rattle.yq_places.proofs.places.content_place.lines_content.Goals as goal
 
 pub returns-then-not-is_deeper : goal.returns-then-not-is_deeper
-returns-then-not-is_deeper c = λ cut k.
-    let d = c.args.walk.now.document in
-    let rs = k.document.stand.rows in
-    let n = line_number d rs c.args.from in
-    none_here (lines_of_rows rs) n c.args.floor (λ l. cond (has_no_mark l.mark) (line_head d.first cut rs n) (lines_place d.first cut rs n (lines_stop n c.args.floor (lines_of_rows rs) - 1))) (c.if-not-is_deeper.ensures.test k.document.stand)
+returns-then-not-is_deeper c = search (rules, none_here)
 
 pub is_bare-requires-clause-position : goal.is_bare-requires-clause-position
 is_bare-requires-clause-position c = position_line c.args.walk.now.rows.now c.args.walk.now.document c.args.from c.requires.from (c.if-not-is_deeper.ensures.some refl)
@@ -36,12 +32,7 @@ pub behind_all-to-requires-clause-deeper : goal.behind_all-to-requires-clause-de
 behind_all-to-requires-clause-deeper c = λ h l is. deeper_line (lines_of_rows h.rows) (line_number c.args.walk.now.document h.rows c.args.from) c.args.floor l is (not_end _ (c.if-not-is_deeper.ensures.test h))
 
 pub lines_place-requires-clause-lines : goal.lines_place-requires-clause-lines
-lines_place-requires-clause-lines c = record {
-  begin = c.requires.from;
-  stop = c.behind_all-to.ensures.position;
-  first = c.behind_all-to.ensures.line;
-  order = λ h. omega (arith, c.behind_all-to.ensures.number h);
-}
+lines_place-requires-clause-lines c = search (rules, arith)
 
 pub returns : goal.returns
 returns c = λ cut k.

@@ -1,4 +1,4 @@
-use Rattle.std.{proofs.Common.{◌-◌, ℕ, Option, ap, ◌∙◌, arith}, proofs.lemmas.Option.slice_get_within}
+use Rattle.std.{proofs.Common.{◌-◌, ℕ, Option, ap, ◌∙◌, arith, rules}, proofs.lemmas.Option.slice_get_within}
 use Rattle.yq_core.specs.Answers.{◌>>=◌}
 use Rattle.yq_outline.{specs.Lines.lines_of_rows, proofs.LineEnds.end_agrees, specs.RowWalk.line_number}
 use Rattle.yq_outline.proofs.WalkPositions.{line_position, located}
@@ -9,12 +9,7 @@ pub returns-in_err-at : goal.returns-in_err-at
 returns-in_err-at c = rw c.from_residual.ensures (λ cut k. ap (λ (o : Option ℕ). o >>= line_entry c.args.walk.now.document.first cut k.document.stand.rows) (c.in_err-at.ensures.found k.document))
 
 pub lines_place-requires-clause-lines : goal.lines_place-requires-clause-lines
-lines_place-requires-clause-lines c = record {
-  begin = line_position c.args.walk.now.rows.now c.args.walk.now.document c.in_ok-at.at c.in_ok-at.ensures.within;
-  stop = c.behind-to.ensures.position;
-  first = c.behind-to.ensures.line;
-  order = λ h. omega (arith, (c.behind-to.ensures.end h).0);
-}
+lines_place-requires-clause-lines c = search (rules, arith, line_position)
 
 pub returns : goal.returns
 returns c = λ cut k.

@@ -1,4 +1,4 @@
-use Rattle.std.proofs.Common.{◌∙◌, arith}
+use Rattle.std.proofs.Common.{arith, rules}
 use Rattle.yq_places.proofs.KnownEndLaws.{end_from, later_from}
 use Rattle.yq_places.proofs.places.known_end.row_after.Goals as goal
 
@@ -8,6 +8,4 @@ returns-in-Some-clause-later c =
     omega (arith, c.rows_under.ensures.value, later_from w.rows.now w.document c.requires.walk.document.stand c.args.at.row c.args.first c.args.floor c.in-Some.known c.in-Some.ensures c.requires.first)
 
 pub returns-in-Some-clause-value : goal.returns-in-Some-clause-value
-returns-in-Some-clause-value c =
-    let w = c.args.walk.now in
-    c.rows_under.ensures.value ∙ end_from w.rows.now w.document c.requires.walk.document.stand c.args.at.row c.args.first c.args.floor c.in-Some.known c.in-Some.ensures c.requires.first
+returns-in-Some-clause-value c = search (rules, end_from)

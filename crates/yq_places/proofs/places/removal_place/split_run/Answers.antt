@@ -1,5 +1,5 @@
 use Rattle.std.proofs.Common.{◌∙◌}
-use Rattle.yq_places.proofs.RemovalPlaceLaws.{kept_is, rest_is, run_boundary, run_less}
+use Rattle.yq_places.{proofs.CommentPlaceLaws.run_within, proofs.RemovalPlaceLaws.{kept_is, rest_is, run_boundary}}
 use Rattle.yq_places.proofs.places.removal_place.split_run.Goals as goal
 
 pub split_at-requires : goal.split_at-requires
@@ -12,4 +12,4 @@ pub returns-clause-run : goal.returns-clause-run
 returns-clause-run c = c.split_at.ensures.back ∙ rest_is c.args.gap.now c.last_run-run.result.now c.last_run-run.ensures
 
 pub overflow_sub-gap : goal.overflow_sub-gap
-overflow_sub-gap c = run_less c.args.gap.now c.last_run-run.result.now c.last_run-run.ensures
+overflow_sub-gap c = run_within c.args.gap.now c.last_run-run.result.now c.last_run-run.ensures

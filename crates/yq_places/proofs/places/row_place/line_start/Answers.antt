@@ -10,6 +10,4 @@ pub overflow_add-result-2 : goal.overflow_add-result-2
 overflow_add-result-2 c = search (rules, row_fits, view_small)
 
 pub overflow_add-result-3 : goal.overflow_add-result-3
-overflow_add-result-3 c =
-    let f = row_fits c.args.rows.now c.args.position.row (row_view c.row-row.result) c.row-row.ensures in
-    search (rules, view_small, f)
+overflow_add-result-3 c = search (rules, row_fits c.args.rows.now c.args.position.row (row_view c.row-row.result) c.row-row.ensures, view_small)

@@ -1,4 +1,4 @@
-use Rattle.std.proofs.Common.{◌≡◌, ◌<◌, ◌+◌, ◌-◌, ℕ, length, Option, IfSome, subst, arith}
+use Rattle.std.proofs.Common.{◌≡◌, ◌<◌, ◌+◌, ◌-◌, ℕ, length, Option, IfSome, subst, arith, rules}
 use Rattle.yq_outline.proofs.KnownLaws.{one_there}
 use Rattle.yq_row_table.specs.RowStarts.{row_start}
 use Rattle.yq_places.{proofs.SearchLaws.{search_anew, search_less, search_stays}, specs.StepReading.IsSearched}
@@ -14,11 +14,7 @@ returns-then-row-known-2 c = λ dashes searched cut is.
     search_stays dashes s c.in_ok-known.known c.args.front known within before cut is
 
 pub returns-then-row-known-3 : goal.returns-then-row-known-3
-returns-then-row-known-3 c = λ dashes searched cut is.
-    let s = c.args.rows.now in
-    let within : c.row_in_front-row.result < length s.rows = omega (arith, c.if-row-len.false, c.len.ensures) in
-    let before : row_start c.row_in_front-row.result s < c.args.front = omega (arith, c.if-start-front.false, c.start.ensures) in
-    search_stays dashes s (record { first = c.in_ok-known.known.first; row = c.row_in_front-row.result; above = 0 }) c.args.front (search_anew dashes s.rows c.in_ok-known.known c.row_in_front-row.result c.if-row-known-3.true) within before cut is
+returns-then-row-known-3 c = search (rules, arith, search_stays, search_anew)
 
 pub returns-else-row-known-3 : goal.returns-else-row-known-3
 returns-else-row-known-3 c = λ dashes searched cut is.
