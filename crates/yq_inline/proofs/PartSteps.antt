@@ -13,7 +13,7 @@ use Rattle.yq_core.{specs.Borrowed.{items_in_front, located_or_end}, proofs.Node
 use Rattle.yq_core.{proofs.NodeLaws.{all_again, items_done}, proofs.NodeTakes.key_in}
 use Rattle.yq_core.proofs.NodeAgain.{key_in_again, item_longer, sep_longer}
 use Rattle.yq_core.proofs.BorrowedLaws.{borrowed_items, items_borrowed, items_located, front_located, node_borrowed}
-use Rattle.yq_core.{specs.Entries.{entry_start, flow_part_at, start_of}, specs.View.borrowed_view, specs.Paths.{Nth, is_item, key_is}}
+use Rattle.yq_core.{specs.Entries.{entry_start, flow_part_at, start_of}, specs.View.borrowed_view, specs.Paths.{Nth, is_item}}
 use Rattle.yq_inline.{specs.BorrowedParts.{IsFirstEntry, borrowed_entry, parts_view}, specs.Measured.{closing_byte, measured, past_node}}
 use Rattle.yq_inline.{specs.declared.parts.BorrowedEntry.BorrowedEntry, specs.declared.parts.BorrowedParts.BorrowedParts}
 

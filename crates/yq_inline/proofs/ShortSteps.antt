@@ -13,8 +13,8 @@ use Rattle.yq_core.{proofs.Across.plain_colon, proofs.BorrowedTexts.{any_take, b
 use Rattle.yq_core.{proofs.EndLaws.node_no_space, proofs.NodesPieceLaws.front_is, proofs.PlainLaws.boundary_plain}
 use Rattle.yq_core.{proofs.PlainRuns.run_behind, proofs.QuotedFound.{boundary_quoted, quoted_text}}
 use Rattle.yq_core.proofs.QuotedRuns.{closed_here, quoted_behind}
-use Rattle.yq_inline.{specs.Measured.{kind_of_style, measured}, specs.Short.{IsShortKey, IsShortScalar, stops_plain, is_token}}
-use Rattle.yq_inline.{proofs.GapSteps.{behind_space, no_gap, token_apart}, proofs.MeasureSteps.{node_content, scalar_some}}
+use Rattle.yq_inline.{specs.Measured.{kind_of_style, measured}, specs.Short.{IsShortKey, IsShortScalar, stops_plain}}
+use Rattle.yq_inline.{proofs.GapSteps.{behind_space, no_gap}, proofs.MeasureSteps.{node_content, scalar_some}}
 
 -- bytes that a run goes over
 none_in_run : (p q : ℕ → Bool) → ((b : ℕ) → p b ≡ true → q b ≡ false) → (t : List ℕ) → list_any q (take (prefix_len p t) t) ≡ false
@@ -172,11 +172,9 @@ comma_in_front k t b g r comma behind gap =
     let none : read_gap t ≡ Some ([], t) = no_gap t (ap is_space (front_is 44 t comma)) in
     rw (none, comma, ← behind, gap) refl
 
-pub closing_in_front : (k : ℕ) (t : List ℕ) → begins_with 44 t ≡ false → begins_with k t ≡ true → is_token t ≡ true → past_sep k t ≡ Some t
+pub closing_behind_gap : (k : ℕ) (t g r : List ℕ) → read_gap t ≡ Some (g, r) → begins_with 44 r ≡ false → begins_with k r ≡ true → past_sep k t ≡ Some r
 unfolding sep_at sep_behind
-closing_in_front k t comma closes_it token =
-    let none : read_gap t ≡ Some ([], t) = no_gap t (token_apart t token).0 in
-    rw (none, comma, closes_it) refl
+closing_behind_gap k t g r gap comma closes_it = rw (gap, comma, closes_it) refl
 
 -- a scalar is measured
 scalar_starts : (t : List ℕ) → begins_scalar true t ≡ true → (begins_with 38 t ≡ false) × ((begins_with 42 t ≡ false) × ((begins_with 91 t ≡ false) × (begins_with 123 t ≡ false)))

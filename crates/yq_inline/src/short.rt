@@ -3,7 +3,7 @@ ghost use Rattle.std.specs.Prelude.{◌≡◌, ◌<◌, ◌≤◌, IfSome, Some,
 ghost use Rattle.yq_core.specs.PlacedReading.{past_sep};
 ghost use Rattle.yq_inline.specs.Short as spec;
 
-use crate::lead::{is_token, near_gap};
+use crate::lead::near_gap;
 use crate::pieces::begins_content;
 use yq_core::{Run, first_is, run_len, strip};
 use yq_scalar_reader::plain::begins_plain;
@@ -75,7 +75,8 @@ pub fn short_key(text: &str) -> Option<(&str, &str)>
     Some((key, value))
 }
 
-/// What follows an item, and the comma and the gap after it if there is one, where no gap is before these.
+/// What follows an item, and the comma and the gap after it if there is one, where no gap is before the
+/// comma, and nothing, one space, or a break and spaces before the closing bracket.
 #[inline(always)]
 pub(crate) fn short_sep(close: u8, text: &str) -> Option<&str>
     ensures read { IfSome result (λ r. past_sep close text.now ≡ Some r.now) }
@@ -85,8 +86,9 @@ pub(crate) fn short_sep(close: u8, text: &str) -> Option<&str>
         let (_, rest) = near_gap(behind)?;
         return Some(rest);
     }
-    if !first_is(close, text.as_bytes()) || !is_token(text.as_bytes()) {
+    let (_, rest) = near_gap(text)?;
+    if first_is(b',', rest.as_bytes()) || !first_is(close, rest.as_bytes()) {
         return None;
     }
-    Some(text)
+    Some(rest)
 }

@@ -1,6 +1,6 @@
 use Rattle.std.proofs.Common.{sym, ap, ◌∙◌}
 use Rattle.yq_core.specs.Nodes.{begins_with}
-use Rattle.yq_inline.{specs.Short.is_token as token, proofs.ShortSteps.{closing_in_front, comma_in_front}}
+use Rattle.yq_inline.proofs.ShortSteps.{closing_behind_gap, comma_in_front}
 use Rattle.yq_inline.proofs.short.short_sep.Goals as goal
 
 pub returns-in-Some-clause-read : goal.returns-in-Some-clause-read
@@ -9,5 +9,6 @@ returns-in-Some-clause-read c =
 
 pub returns-clause-read : goal.returns-clause-read
 returns-clause-read c =
-    closing_in_front c.args.close c.args.text.now c.in_default.ensures (ap (begins_with c.args.close) (sym c.as_bytes.ensures.value) ∙ (sym c.first_is.ensures ∙ c.if-not-first_is.false))
-    (ap token (sym c.as_bytes-else-not-first_is.ensures.value) ∙ (sym c.is_token.ensures ∙ c.if-not-is_token.false))
+    closing_behind_gap c.args.close c.args.text.now c.in_ok-rest-2.field-0-0.now c.in_ok-rest-2.rest.now c.in_ok-rest-2.ensures.read
+    (ap (begins_with 44) (sym c.as_bytes.ensures.value) ∙ (sym c.first_is.ensures ∙ c.if-first_is.false))
+    (ap (begins_with c.args.close) (sym c.as_bytes-else-first_is.ensures.value) ∙ (sym c.first_is-else-first_is.ensures ∙ c.if-not-first_is.false))
