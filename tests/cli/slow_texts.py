@@ -112,3 +112,10 @@ def check_values_put_in_one_row_in_any_order(folder):
         each_within_a_second(folder, [".a += .b"])
     folder.write("f", ("[" + ", ".join('{"a": 1, "b": 2}' for _ in range(MANY)) + "]\n").encode())
     each_within_a_second(folder, ['.[] += {"c": 3, "b": 4, "a": 5}'])
+
+
+def check_collections_emptied_in_one_row(folder):
+    """The row is read once, also where some of them keep an item."""
+    for items, removal in (["[1]"], "del(.[][])"), (["[1, 2]", "{a: 1}"], "del(.[][])"), (["[1]", "[1, 2]"], "del(.[][0])"):
+        folder.write("f", ("[" + ", ".join(items * (MANY // len(items))) + "]\n").encode())
+        each_within_a_second(folder, [removal])

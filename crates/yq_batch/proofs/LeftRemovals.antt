@@ -11,10 +11,12 @@ use Rattle.yq_flow_edits.proofs.EditLaws.{Around, around_is}
 use Rattle.yq_row_table.specs.Rows.{Cut, cut_text}
 use Rattle.yq_places.{specs.FlowViews.{behind_anchor, placed_collection}, specs.declared.places.flow_node.FlowHead.FlowHead}
 use Rattle.yq_edit_laws.{proofs.FlowAnswers.CollFound, proofs.FlowHeads.whole_is, proofs.FlowLonger.with_more, specs.NearParts.LeadsToPart}
+use Rattle.yq_edit_laws.proofs.SoleEntries.{empty_bytes}
 use Rattle.yq_batch.specs.LeftItems.{Ending, closing, others, LeadsToIndex, TakesOut, front_text, gap_at, left_items, text_of_item}
 use Rattle.yq_batch.specs.LeftItems.{place_of_part, ending_items, items_after, upto_text}
-use Rattle.yq_batch.{specs.LeftPlaces.{GoesWith, IsLeftPlace, MoreFollow, NoneFollow}, specs.RemovalRuns.AreAfter}
-use Rattle.yq_batch.{specs.declared.left.LeftPlace.LeftPlace, proofs.LeftItemLaws.{ends_before, more_follow, none_follow}}
+use Rattle.yq_batch.specs.LeftPlaces.{GoesWith, IsLeftPlace, MoreFollow, NoneFollow}
+use Rattle.yq_batch.{specs.RemovalRuns.{AreAfter, content_of, empty_content, empty_text}, specs.declared.left.LeftPlace.LeftPlace}
+use Rattle.yq_batch.proofs.LeftItemLaws.{ends_before, more_follow, none_follow}
 use Rattle.yq_batch.proofs.LeftPlaceLaws.{after_as_read, after_ending, leads_there, no_space}
 use Rattle.yq_batch.proofs.LeftPlaceLaws as laws
 
@@ -34,6 +36,27 @@ core_end (placed a s c e f) = refl
 coll_ends : (total : ℕ) (w : CollPieces) → end_of (placed_collection total w) ≡ total - length w.rest
 unfolding locate
 coll_ends total w = refl
+
+core_begin : (q : Placed) → content_of q ≡ content_of (behind_anchor q)
+core_begin (placed a s c e f) = refl
+
+coll_begins : (total : ℕ) (w : CollPieces) → content_of (placed_collection total w) ≡ total - suc (length (w.gap ++ flow_items_text w.close w.items w.rest))
+unfolding locate node_text
+coll_begins total w = refl
+
+core_empty : (q : Placed) → empty_text q ≡ empty_text (behind_anchor q)
+core_empty (placed a s c e f) = refl
+
+holder_empty : (k : ℕ) (parts : Parts) → empty_content (holder k parts) ≡ Some (empty_bytes k)
+holder_empty k parts = go (eqb k 125)
+  where
+    go : (b : Bool) → empty_content (cond b (mapping parts) (sequence parts)) ≡ Some (cond b (123 ∷ (125 ∷ [])) (91 ∷ (93 ∷ [])))
+    go true = refl
+    go false = refl
+
+coll_empty : (total : ℕ) (w : CollPieces) → empty_text (placed_collection total w) ≡ Some (empty_bytes w.close)
+unfolding locate
+coll_empty total w = holder_empty w.close (locate_items total w.close w.items w.rest)
 
 open_feed : (k : ℕ) → is_feed (opening_bracket k) ≡ false
 open_feed k = elim (eqb k 125) as (λ c. is_feed (cond c 123 91) ≡ false) [ true ↦ refl | false ↦ refl ]
@@ -86,6 +109,21 @@ module _ (c : Cut) (n : ℕ) (steps : List Step) (x : FlowHead) (q : Placed) (f 
 
   pub opened_size : length (f.agrees.front ++ opening) ≡ x.before + length opening
   opened_size = omega (arith, length-append f.agrees.front opening, f.agrees.before)
+
+  -- where its content begins
+  pub begins_at : content_of q + suc (length own.gap) ≡ length opening
+  begins_at =
+      omega (
+        arith,
+        core_begin q ∙ (ap content_of f.node ∙ coll_begins (length row) own),
+        ap length text,
+        length-append around.before (opening_bracket own.close ∷ (own.gap ++ flow_items_text own.close own.items own.rest)),
+        length-append around.before (opening_bracket own.close ∷ own.gap),
+      )
+
+  -- and the text of an empty one of its kind
+  pub empty_is : empty_text q ≡ Some (empty_bytes own.close)
+  empty_is = core_empty q ∙ (ap empty_text f.node ∙ coll_empty (length row) own)
 
   -- where the collection ends
   pub ends_at : x.before + end_of q ≡ length (cut_text c) - length (own.rest ++ more)

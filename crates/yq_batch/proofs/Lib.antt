@@ -15,7 +15,10 @@ pub mod RunAnswers
 pub mod MoreAnswers
 pub mod FilledAnswers
 pub mod LeftRemovals
+pub mod BackEdits
 pub mod RemovalRunLaws
+pub mod SoleRemovals
+pub mod Exchanges
 pub mod RemovalAnswers
 pub mod RowPutLaws
 pub mod RowCommentLaws

@@ -1,30 +1,34 @@
 -- Runs of items and entries that are taken out of the collections of one head, as the code makes them.
-use Rattle.std.proofs.Common.{◌≡◌, inl, inr, ℕ, ◌+◌, ◌-◌, ◌≤◌, ◌<◌, Bool, List, [], ◌++◌, length, take, drop, map, Option, Some, None, refl}
-use Rattle.std.{proofs.Common.{sym, ap, ◌∙◌, subst, append_assoc, append-nil, arith, length-append}, specs.Str.{IsCharBoundary, IsUtf8}}
-use Rattle.std.{proofs.lemmas.List.{append_cancel_right, drop_all, drop-drop, take_all, take-append-drop}, proofs.Math.Seq.drop-append-add}
-use Rattle.std.{proofs.lemmas.Option.{same_Some, IfSome_then}, specs.Prelude.{IfSome, ◌^◌, string_bytes}}
-use Rattle.yq_text.{specs.Limit.text_limit, specs.Script.splice_at, specs.Splice.Splice, specs.TextGapBuffer.buffer_text}
+use Rattle.std.proofs.Common.{◌≡◌, ◌⊎◌, inl, inr, ℕ, suc, ◌+◌, ◌-◌, ◌≤◌, Bool, List, [], ◌++◌, length, take, drop, map, Option, Some, None}
+use Rattle.std.proofs.Common.{refl, sym, ap, ◌∙◌, subst, append_assoc, append-nil, arith, length-append}
+use Rattle.std.specs.Str.{IsCharBoundary, IsUtf8}
+use Rattle.std.proofs.lemmas.List.{append_cancel_right, drop_all, length-take-le, take_all, take-append-drop}
+use Rattle.std.{proofs.Math.Seq.drop-append-add, proofs.lemmas.Option.{same_Some, IfSome_then}}
+use Rattle.std.specs.Prelude.{IfSome, false, nat_lt, string_bytes}
+use Rattle.yq_text.{specs.Limit.text_limit, specs.TextGapBuffer.buffer_text}
 use Rattle.yq_core.{specs.Paths.Step, specs.Collections.CollPieces, specs.Entries.{end_of, parts_of, tree_step}, specs.Places.Placed}
-use Rattle.yq_core.{specs.Nodes.{Items, flow_items_text}, proofs.NodesWrittenLaws.items_append}
+use Rattle.yq_core.{specs.Nodes.{Items, flow_items_text}, specs.Trees.items_tree, proofs.NodesWrittenLaws.items_append}
 use Rattle.yq_flow_edits.specs.FlowEdits.{FlowEdit}
+use Rattle.yq_outline.specs.Counts.{count}
 use Rattle.yq_row_table.specs.Rows.{Cut, cut_text}
 use Rattle.yq_documents.specs.Reading.{cut_of, read_at}
 use Rattle.yq_places.{specs.FlowNodes.flow_collection, specs.FlowViews.{FlowAgrees, LeadsToHead}, specs.Standings.last_step}
 use Rattle.yq_places.specs.declared.places.flow_node.FlowHead.{FlowHead}
 use Rattle.yq_semantics.{specs.Operations.{Operation, operations_of, remove}, specs.declared.op.Op.Op}
-use Rattle.yq_edit_laws.{proofs.CutLaws.{text_read, text_small}, proofs.ApplyLaws.applied_by, proofs.TextFaults.text_utf8}
-use Rattle.yq_edit_laws.{proofs.FlowAnswers.{CollFound, coll_found}, proofs.FlowLonger.with_more, specs.Answers.EditFails}
-use Rattle.yq_edit_laws.{specs.Carried.{carried, carry_all}, specs.Edit.{edit_after, gives, refuses}, specs.Theorems.IsFitting}
-use Rattle.yq_edit_laws.{specs.Valid.AreServed, specs.declared.edit_error.EditError.EditError, specs.NearParts.LeadsToPart}
+use Rattle.yq_edit_laws.{proofs.CutLaws.text_read, proofs.TextFaults.text_utf8, proofs.FlowAnswers.{CollFound, coll_found}}
+use Rattle.yq_edit_laws.{proofs.FlowLonger.with_more, specs.Carried.carry_all, specs.Edit.edit_after, specs.Theorems.IsFitting}
+use Rattle.yq_edit_laws.{specs.Valid.AreServed, specs.NearParts.LeadsToPart}
 use Rattle.yq_batch.specs.LeftItems.{closing, count_items, count_parts}
-use Rattle.yq_batch.specs.RemovalRuns.{AreFirstLeft, AreLeft, HasTakenOut, IsKnownLeft, IsLeftOf, IsRemovalRun, RemovalFails, RemovesOn}
-use Rattle.yq_batch.{specs.RemovalRuns.{RemovesSo, CarriesTogether, GoneInHead, left_coll, text_without}, specs.LeftPlaces.IsLeftPlace}
-use Rattle.yq_batch.{specs.declared.left.LeftPlace.LeftPlace, specs.Runs.EndsAt, specs.declared.together.Together.Together}
-use Rattle.yq_batch.{specs.declared.removals.LeftOf.LeftOf, specs.declared.removals.RemovalRun.RemovalRun, proofs.CollectionLeft.left_there}
+use Rattle.yq_batch.specs.RemovalRuns.{AreFirstLeft, GoesInHead, IsKnownLeft, IsLeftIn, IsLeftOf, IsRemovalRun, PartGoes, SoleGoes}
+use Rattle.yq_batch.specs.RemovalRuns.{content_of, empty_text, RemovesSo, CarriesTogether, left_coll, text_exchanged}
+use Rattle.yq_batch.{specs.LeftPlaces.IsLeftPlace, specs.declared.left.LeftPlace.LeftPlace, specs.Runs.EndsAt}
+use Rattle.yq_batch.{specs.declared.together.Together.Together, specs.declared.gone.LeftOf.LeftOf, specs.declared.gone.Removed.Removed}
+use Rattle.yq_batch.{specs.declared.removals.RemovalRun.RemovalRun, proofs.CollectionLeft.left_there}
 use Rattle.yq_batch.{proofs.LeftItemLaws.{all_left, ends_within}, proofs.LeftPlaceLaws.counted}
-use Rattle.yq_batch.proofs.LeftRemovals.{Goes, coll_is, ends_at, goes_out, more, opened, opened_size, opening, own, parts_are}
-use Rattle.yq_edit_laws.specs.declared.edit_error.EditError.TheVariants as error
+use Rattle.yq_batch.proofs.LeftRemovals.{Goes, begins_at, coll_is, empty_is, ends_at, goes_out, more, opened, opened_size, opening, own}
+use Rattle.yq_batch.{proofs.LeftRemovals.parts_are, proofs.Exchanges.{CanExchange, exchange_fails, exchange_on, few_left}}
 use Rattle.yq_batch.proofs.RemovalRunLaws as laws
+use Rattle.yq_batch.proofs.SoleRemovals as sole
 
 -- a run of nothing
 pub removals_begin : (t : List ℕ) (n : ℕ) (stem : List Step) (r : RemovalRun) → read_at t ≡ Some (cut_of t) → LeadsToHead (cut_of t) n stem → buffer_text r.text ≡ t → r.keep ≡ length t → RemovesSo (cut_of t) n stem None r
@@ -45,13 +49,6 @@ removals_begin t n stem r read leads text keep =
       };
       known_is = tt;
     }
-
--- the text that a gap buffer makes of it
-pub taken : (t front behind new left : List ℕ) (start end : ℕ) → start ≤ end → front ≡ take start t → behind ≡ drop start t → new ≡ front ++ [] → left ≡ drop (end - start) behind → new ++ left ≡ text_without t start end
-taken t front behind new left start end order front_is behind_is new_is left_is =
-    let whole : start + (end - start) ≡ end = omega (arith, order) in
-    let rest : left ≡ drop end t = left_is ∙ (ap (drop (end - start)) behind_is ∙ (drop-drop (end - start) start t ∙ ap (λ (k : ℕ). drop k t) whole)) in
-    λ i. (new_is ∙ (append-nil front ∙ front_is)) i ++ rest i
 
 -- The collection in which an operation takes one out is found in the head.
 module _ (c : Cut) (n : ℕ) (stem left path : List Step) (s : Step) (last : last_step path ≡ Some (stem ++ left, s)) (x : FlowHead) (q : Placed) (f : CollFound c n (stem ++ left) x q)
@@ -77,12 +74,15 @@ module _ (c : Cut) (n : ℕ) (stem left path : List Step) (s : Step) (last : las
   abbrev text : cut_text run.run.cut ≡ now
   text = text_read now run.run.cut run.run.read
 
-  abbrev First : ℕ → Option Bool → Type 0
-  First count after = AreFirstLeft w c run.run.cut n (stem ++ left) before.keep count after
+  utf8 : IsUtf8 (buffer_text before.text)
+  utf8 = subst IsUtf8 (text ∙ sym run.text) (text_utf8 (cut_text run.run.cut) run.run.cut (ap read_at text ∙ run.run.read))
+
+  abbrev First : ℕ → Option Bool → ℕ → Type 0
+  First count after behind = AreFirstLeft w c run.run.cut n (stem ++ left) before.keep count after behind
 
   -- of one that ends before what was taken out all are left
-  all_are : length t - length w.rest ≤ before.keep → First (count_items w.items) None
-  all_are ends =
+  all_are : (behind : ℕ) → length t - length w.rest ≤ before.keep → behind + (length t - length w.rest) ≡ length now → First (count_items w.items) None behind
+  all_are behind ends size_is =
       let size : length t ≡ length first_bytes + length (flow_items_text w.close w.items w.rest) = ap length opens ∙ length-append first_bytes (flow_items_text w.close w.items w.rest) in
       let front : List ℕ = first_bytes ++ flow_items_text w.close w.items [] in
       let is : t ≡ front ++ w.rest = opens ∙ (ap (λ (l : List ℕ). first_bytes ++ l) (items_append w.close w.items [] w.rest) ∙ sym (append_assoc first_bytes (flow_items_text w.close w.items []) w.rest)) in
@@ -99,6 +99,20 @@ module _ (c : Cut) (n : ℕ) (stem left path : List Step) (s : Step) (last : las
         ending = closing all.0;
         ends = tt;
         rest = mid ++ run.tail;
+        behind_is = omega (
+          arith,
+          size_is,
+          ends,
+          ap length rest,
+          ap length is,
+          length-append front w.rest,
+          length-append mid (drop before.keep t),
+          length-append mid run.tail,
+          length-append (take before.keep t) run.tail,
+          length-take-le before.keep t run.run.within,
+          ap length (take-append-drop before.keep t),
+          length-append (take before.keep t) (drop before.keep t),
+        );
         left = there ∙ ap (λ (is : Items). Some (record { close = w.close; gap = w.gap; items = is; rest = mid ++ run.tail })) (sym all.1);
         opening = first_bytes;
         was = opens;
@@ -111,21 +125,24 @@ module _ (c : Cut) (n : ℕ) (stem left path : List Step) (s : Step) (last : las
       }
 
   -- of one that is known
-  known_are : (k : LeftOf) → known ≡ Some k → map tree_step k.steps.now ≡ left → First k.count k.after
+  known_are : (k : LeftOf) → known ≡ Some k → map tree_step k.steps.now ≡ left → First k.count k.after k.behind
   known_are k is same =
-      let h : IsLeftOf c run.run.cut n (stem ++ left) before.keep k.count k.after = subst (λ (ss : List Step). IsLeftOf c run.run.cut n (stem ++ ss) before.keep k.count k.after) same (subst (IsKnownLeft c run.run.cut n stem before.keep) is run.known_is) in
-      subst (λ (v : CollPieces). AreFirstLeft v c run.run.cut n (stem ++ left) before.keep k.count k.after) (same_Some _ _ (sym h.1 ∙ found)) h.2
+      let h : IsLeftOf c run.run.cut n (stem ++ left) before.keep k.count k.after k.behind =
+      subst (λ (ss : List Step). IsLeftOf c run.run.cut n (stem ++ ss) before.keep k.count k.after k.behind) same (subst (IsKnownLeft c run.run.cut n stem before.keep) is run.known_is) in
+      subst (λ (v : CollPieces). AreFirstLeft v c run.run.cut n (stem ++ left) before.keep k.count k.after k.behind) (same_Some _ _ (sym h.1 ∙ found)) h.2
 
   -- as the code finds it
-  pub are_left : (end count : ℕ) (after : Option Bool) → end ≡ x.before + end_of q → AreLeft left known end before.keep (count_parts (parts_of q)) count after → First count after
-  are_left end count after end_is (inl h) = subst (λ (o : Option Bool). First count o) (sym h.4) (subst (λ (m : ℕ). First m h.0.after) (sym h.3) (known_are h.0 h.1 h.2))
-  are_left end count after end_is (inr h) =
+  pub are_left : (end : ℕ) (k : LeftOf) → end ≡ x.before + end_of q → IsLeftIn left known end before.keep (length (buffer_text before.text)) (count_parts (parts_of q)) k → First k.count k.after k.behind
+  are_left end k end_is (inl h) = known_are k h.0 h.1
+  are_left end k end_is (inr h) =
       let all : count_parts (parts_of q) ≡ count_items w.items = ap count_parts (parts_are c n (stem ++ left) x q f) ∙ counted _ _ _ _ in
-      let reaches : length t - length w.rest ≤ before.keep = omega (arith, h.0, end_is, ends_at c n (stem ++ left) x q f) in
-      subst (λ (o : Option Bool). First count o) (sym h.2) (subst (λ (m : ℕ). First m None) (sym (h.1 ∙ all)) (all_are reaches))
+      let ends = ends_at c n (stem ++ left) x q f in
+      let reaches : length t - length w.rest ≤ before.keep = omega (arith, h.0, end_is, ends) in
+      let size : k.behind + (length t - length w.rest) ≡ length now = omega (arith, h.3, end_is, ends, ap length run.text) in
+      subst (λ (o : Option Bool). First k.count o k.behind) (sym h.2) (subst (λ (m : ℕ). First m None k.behind) (sym (h.1 ∙ all)) (all_are k.behind reaches size))
 
   -- an operation takes one out
-  module _ (i j : ℕ) (b : Option Bool) (p : LeftPlace) (leads : LeadsToPart s i (parts_of q)) (goes : IsLeftPlace x.text.now (parts_of q) i j b p) (h : First j b) where
+  module _ (i j : ℕ) (b : Option Bool) (behind : ℕ) (p : LeftPlace) (leads : LeadsToPart s i (parts_of q)) (goes : IsLeftPlace x.text.now (parts_of q) i j b p) (h : First j b behind) where
     abbrev place : Goes w.close w.gap w.items (x.before + length (opening c n (stem ++ left) x q f)) i j s h.ending h.rest p x.before
     place = goes_out c n (stem ++ left) x q f s i j b p leads goes h.ending h.ends h.rest
 
@@ -167,30 +184,15 @@ module _ (c : Cut) (n : ℕ) (stem left path : List Step) (s : Step) (last : las
     short : start ≤ before.keep
     short = omega (arith, h.kept place.within.0 place.within.1, place.within.2, place.start, open_size)
 
-    pub order : start ≤ finish
-    order = laws.in_order c n stem left path s before.keep run.tail run.run last z h.left g place.out.removes place.out.lead front now_is start finish start_is finish_is short
-
-    pub starts : IsCharBoundary (buffer_text before.text) start
-    starts =
-        subst (λ (l : List ℕ). IsCharBoundary l start) (sym run.text)
-        (laws.start_there c n stem left path s before.keep run.tail run.run last z h.left g place.out.removes place.out.lead front now_is start finish start_is finish_is short)
-
-    pub finishes : IsCharBoundary (buffer_text before.text) finish
-    finishes =
-        subst (λ (l : List ℕ). IsCharBoundary l finish) (sym run.text)
-        (laws.finish_there c n stem left path s before.keep run.tail run.run last z h.left g place.out.removes place.out.lead front now_is start finish start_is finish_is short)
-
-    pub utf8 : IsUtf8 (buffer_text before.text)
-    utf8 = subst IsUtf8 (text ∙ sym run.text) (text_utf8 (cut_text run.run.cut) run.run.cut (ap read_at text ∙ run.run.read))
-
     -- what is left is known
     known_next : (cut : Cut) → cut_text cut ≡ take start t ++ g.behind →
         cut ≡ laws.next_cut c n stem left path s before.keep run.tail run.run last z h.left g place.out.removes place.out.lead front now_is start finish start_is finish_is short →
-        AreFirstLeft w c cut n (stem ++ left) start i p.after
+        AreFirstLeft w c cut n (stem ++ left) start i p.after behind
     known_next cut reads is = record {
       ending = place.ending;
       ends = place.ends;
       rest = h.rest;
+      behind_is = h.behind_is;
       left =
           ap (flow_collection n (stem ++ left)) is
           ∙ (left_there run.run.cut n stem left z (ap read_at text ∙ run.run.read) h.left run.run.leads path s g last place.out.removes
@@ -204,85 +206,138 @@ module _ (c : Cut) (n : ℕ) (stem left path : List Step) (s : Step) (last : las
       kept = λ m less. omega (arith, place.short m less, place.start, open_size);
     }
 
-    module _ (fitting : IsFitting (remove n path) (buffer_text before.text)) where
-      fits_now : IsFitting (remove n path) now
-      fits_now = subst (IsFitting (remove n path)) run.text fitting
+    module _ (k : LeftOf) (steps : map tree_step k.steps.now ≡ left) (count : k.count ≡ i) (others : k.after ≡ p.after) (size : k.behind ≡ behind) where
+      goes_on : IsFitting (remove n path) now → length (text_exchanged now start finish []) ≤ text_limit → (r : IsRemovalRun c n stem start g.behind) × IsKnownLeft c r.cut n stem start (Some k)
+      goes_on fitting small =
+          let on = laws.removal_goes_on c n stem left path s before.keep run.tail run.run last z h.left g place.out.removes place.out.lead front now_is start finish start_is finish_is short fitting small in
+          let first : AreFirstLeft w c on.0.cut n (stem ++ left) start i p.after behind = known_next on.0.cut (text_read (take start t ++ g.behind) on.0.cut on.0.read) on.1 in (
+            on.0,
+            subst (λ (ss : List Step). IsLeftOf c on.0.cut n (stem ++ ss) start k.count k.after k.behind) (sym steps)
+                (subst (λ (m : ℕ). IsLeftOf c on.0.cut n (stem ++ left) start m k.after k.behind) (sym count)
+                (subst (λ (o : Option Bool). IsLeftOf c on.0.cut n (stem ++ left) start i o k.behind) (sym others) (subst (IsLeftOf c on.0.cut n (stem ++ left) start i p.after) (sym size) (w, found, first)))),
+          )
 
-      pub removal_on : (k : LeftOf) → map tree_step k.steps.now ≡ left → k.count ≡ i → k.after ≡ p.after → (after : RemovalRun) → HasTakenOut start finish before after → RemovesOn (remove n path) c n stem before k after
-      removal_on k steps count others after taken_out =
-          let own_size : length (text_without now start finish) ≤ text_limit = subst (λ (l : List ℕ). length (text_without l start finish) ≤ text_limit) run.text taken_out.size in
-          let cs : List Splice = splice_at start (drop start (take finish now)) [] in
-          let made : buffer_text after.text ≡ text_without now start finish = taken_out.text ∙ ap (λ (l : List ℕ). text_without l start finish) run.text in
-          let comes : carried (remove n path) (buffer_text before.text) ≡ gives (buffer_text after.text) cs =
-          ap (carried (remove n path)) run.text
-          ∙ (laws.removal_there c n stem left path s before.keep run.tail run.run last z h.left g place.out.removes place.out.lead front now_is start finish start_is finish_is short own_size
-          ∙ ap (λ (l : List ℕ). gives l cs) (sym made)) in
-          let on = laws.removal_goes_on c n stem left path s before.keep run.tail run.run last z h.left g place.out.removes place.out.lead front now_is start finish start_is finish_is short fits_now own_size in
-          let first : AreFirstLeft w c on.0.cut n (stem ++ left) start i p.after = known_next on.0.cut (text_read (take start t ++ g.behind) on.0.cut on.0.read) on.1 in
-          let is_left : IsLeftOf c on.0.cut n (stem ++ map tree_step k.steps.now) start k.count k.after =
-          subst (λ (ss : List Step). IsLeftOf c on.0.cut n (stem ++ ss) start k.count k.after) (sym steps)
-          (subst (λ (m : ℕ). IsLeftOf c on.0.cut n (stem ++ left) start m k.after) (sym count) (subst (λ (o : Option Bool). IsLeftOf c on.0.cut n (stem ++ left) start i o) (sym others) (w, found, first))) in
-          let kept = subst (λ (m : ℕ). (r : IsRemovalRun c n stem m g.behind) × IsKnownLeft c r.cut n stem m (Some k)) (sym taken_out.keep) (on.0, is_left) in
-          record {
-            new_bytes = cs;
-            comes = comes;
-            applied = applied_by (remove n path) (buffer_text before.text) tt fitting (buffer_text after.text) cs comes;
-            splices = taken_out.splices ∙ ap (λ (l : List ℕ). before.splices.items ++ splice_at start (drop start (take finish l)) []) run.text;
-            run = record {
-              tail = g.behind;
-              text =
-                  made
-                  ∙ (laws.new_text_is c n stem left path s before.keep run.tail run.run last z h.left g place.out.removes place.out.lead front now_is start finish start_is finish_is short
-                  ∙ ap (λ (m : ℕ). take m t ++ g.behind) (sym taken_out.keep));
-              run = kept.0;
-              known_is = kept.1;
-            };
-          }
+      pub can_take : CanExchange (remove n path) c n stem before start finish [] (Some k)
+      can_take = record {
+        order = laws.in_order c n stem left path s before.keep run.tail run.run last z h.left g place.out.removes place.out.lead front now_is start finish start_is finish_is short;
+        room = omega arith;
+        starts =
+            subst (λ (l : List ℕ). IsCharBoundary l start) (sym run.text)
+            (laws.start_there c n stem left path s before.keep run.tail run.run last z h.left g place.out.removes place.out.lead front now_is start finish start_is finish_is short);
+        finishes =
+            subst (λ (l : List ℕ). IsCharBoundary l finish) (sym run.text)
+            (laws.finish_there c n stem left path s before.keep run.tail run.run last z h.left g place.out.removes place.out.lead front now_is start finish start_is finish_is short);
+        utf8 = utf8;
+        on = λ fitting. exchange_on (remove n path) c n stem before now run.text start finish [] g.behind (Some k) tt fitting
+            (laws.removal_there c n stem left path s before.keep run.tail run.run last z h.left g place.out.removes place.out.lead front now_is start finish start_is finish_is short)
+            (goes_on (subst (IsFitting (remove n path)) run.text fitting))
+            (laws.new_text_is c n stem left path s before.keep run.tail run.run last z h.left g place.out.removes place.out.lead front now_is start finish start_is finish_is short);
+        fails = exchange_fails (remove n path) before now run.text start finish [] (laws.removal_large c n stem left path s before.keep run.tail run.run last z h.left g place.out.removes place.out.lead front now_is start finish start_is finish_is short);
+      }
 
-    -- too large a text
-    pub removal_fails : (e : EditError) → RemovalFails e start finish before → EditFails e (carried (remove n path) (buffer_text before.text))
-    removal_fails e fails = subst (λ (l : List ℕ). EditFails e (carried (remove n path) l)) (sym run.text) (go e fails)
-      where
-        go : (e : EditError) → RemovalFails e start finish before → EditFails e (carried (remove n path) now)
-        go (error.Read fault) fails = absurd fails
-        go (error.Refused why) fails =
-            laws.removal_large c n stem left path s before.keep run.tail run.run last z h.left g place.out.removes place.out.lead front now_is start finish start_is finish_is short
-            (subst (λ (l : List ℕ). text_limit < length (text_without l start finish)) run.text fails.1)
-            ∙ ap refuses (sym fails.0)
-        go error.Memory fails = tt
+  -- the only one that is left
+  module _ (above : List Step × Step) (inner : last_step left ≡ Some above) (behind : ℕ) (h : First 1 None behind) where
+    abbrev z1 : CollPieces
+    z1 = left_coll w 1 h.ending h.rest
 
--- An operation takes out what is between two places of the text of a run, which is cut at characters there, and goes on after it.
-pub record CanTakeOut (op : Operation) (c : Cut) (n : ℕ) (stem left : List Step) (index : ℕ) (others : Option Bool) (before : RemovalRun) (start finish : ℕ) : Type 0 where
-  pub order : start ≤ finish
-  pub starts : IsCharBoundary (buffer_text before.text) start
-  pub finishes : IsCharBoundary (buffer_text before.text) finish
-  pub utf8 : IsUtf8 (buffer_text before.text)
-  pub small : length (buffer_text before.text) < 2 ^ 64
-  pub on : IsFitting op (buffer_text before.text) → (k : LeftOf) → map tree_step k.steps.now ≡ left → k.count ≡ index → k.after ≡ others → (after : RemovalRun) → HasTakenOut start finish before after → RemovesOn op c n stem before k after
-  pub fails : (e : EditError) → RemovalFails e start finish before → EditFails e (carried op (buffer_text before.text))
+    few : nat_lt 1 (count (items_tree z1.items)) ≡ false
+    few = few_left h.ending h.ends w.items
+
+    abbrev e1 : FlowEdit
+    e1 = sole.e c n stem left path s before.keep run.tail run.run last above inner z1 h.left few
+
+    abbrev front1 : List ℕ
+    front1 = sole.before c n stem left path s before.keep run.tail run.run last above inner z1 h.left few
+
+    abbrev new1 : List ℕ
+    new1 = e1.lead ++ e1.written
+
+    opened1 : length front1 + suc (length w.gap) ≡ length h.opening
+    opened1 = sole.opens c n stem left path s before.keep run.tail run.run last above inner z1 h.left few h.opening (h.is)
+
+    module _ (start1 finish1 : ℕ) (new : List ℕ) (starts_at : start1 ≡ x.before + content_of q) (ends_there : finish1 + behind ≡ length (buffer_text before.text)) (empty : empty_text q ≡ Some new) where
+      at_start : start1 ≡ length front1
+      at_start =
+          omega (
+            arith,
+            starts_at,
+            opened1,
+            ap length h.was,
+            ap length opens,
+            length-append h.opening (flow_items_text w.close w.items w.rest),
+            length-append first_bytes (flow_items_text w.close w.items w.rest),
+            opened_size c n (stem ++ left) x q f,
+            begins_at c n (stem ++ left) x q f,
+          )
+
+      at_finish : finish1 ≡ length (front1 ++ e1.old)
+      at_finish = omega (arith, ends_there, ap length run.text, h.behind_is, sole.ends c n stem left path s before.keep run.tail run.run last above inner z1 h.left few)
+
+      short1 : start1 ≤ before.keep
+      short1 = omega (arith, at_start, opened1, h.kept 0 (omega arith))
+
+      new_same : new1 ≡ new
+      new_same = sole.new_is c n stem left path s before.keep run.tail run.run last above inner z1 h.left few ∙ same_Some _ _ (sym (empty_is c n (stem ++ left) x q f) ∙ empty)
+
+      can_empty_so : CanExchange (remove n path) c n stem before start1 finish1 new1 None
+      can_empty_so = record {
+        order = sole.sole_order c n stem left path s before.keep run.tail run.run last above inner z1 h.left few start1 finish1 at_start at_finish short1;
+        room = sole.sole_room c n stem left path s before.keep run.tail run.run last above inner z1 h.left few start1 finish1 at_start at_finish short1;
+        starts = subst (λ (l : List ℕ). IsCharBoundary l start1) (sym run.text) (sole.sole_start c n stem left path s before.keep run.tail run.run last above inner z1 h.left few start1 finish1 at_start at_finish short1);
+        finishes = subst (λ (l : List ℕ). IsCharBoundary l finish1) (sym run.text) (sole.sole_finish c n stem left path s before.keep run.tail run.run last above inner z1 h.left few start1 finish1 at_start at_finish short1);
+        utf8 = utf8;
+        on = λ fitting. exchange_on (remove n path) c n stem before now run.text start1 finish1 new1 (new1 ++ e1.behind) None tt fitting
+            (sole.sole_there c n stem left path s before.keep run.tail run.run last above inner z1 h.left few start1 finish1 at_start at_finish short1)
+            (λ small. (sole.sole_goes_on c n stem left path s before.keep run.tail run.run last above inner z1 h.left few start1 finish1 at_start at_finish short1 (subst (IsFitting (remove n path)) run.text fitting) small, tt))
+            (sole.sole_text c n stem left path s before.keep run.tail run.run last above inner z1 h.left few start1 finish1 at_start at_finish short1);
+        fails = exchange_fails (remove n path) before now run.text start1 finish1 new1 (sole.sole_large c n stem left path s before.keep run.tail run.run last above inner z1 h.left few start1 finish1 at_start at_finish short1);
+      }
+
+      pub can_empty : CanExchange (remove n path) c n stem before start1 finish1 new None
+      can_empty = subst (λ (l : List ℕ). CanExchange (remove n path) c n stem before start1 finish1 l None) new_same can_empty_so
 
 -- what the code finds of an operation
-pub out_of : (t : List ℕ) (m n : ℕ) (stem path : List Step) (op : Operation) (x : FlowHead) (p : LeftPlace) (i : ℕ) (before : RemovalRun) (known : Option LeftOf) → read_at t ≡ Some (cut_of t) → op ≡ remove m path → m ≡ n →
-    EndsAt stem (map tree_step x.left.now) path → FlowAgrees t (flow_collection n (stem ++ map tree_step x.left.now) (cut_of t)) (Some x) → GoneInHead path x known before.keep p i → RemovesSo (cut_of t) n stem known before →
-    CanTakeOut op (cut_of t) n stem (map tree_step x.left.now) i p.after before (x.before + p.start) (x.before + p.end)
-out_of t m n stem path op x p i before known read is same ends agrees gone run =
-    let c : Cut = cut_of t in
-    let left : List Step = map tree_step x.left.now in
-    let own_is : op ≡ remove n path = is ∙ ap (λ (k : ℕ). remove k path) same in
-    let last : last_step path ≡ Some (stem ++ left, gone.step) = ends.1 ∙ ap (λ (r : Step). Some (stem ++ left, r)) (sym (ap (λ (y : List Step × Step). y.1) (same_Some _ _ (gone.last ∙ ends.1)))) in
-    let f : CollFound c n (stem ++ left) x gone.node = coll_found t n (stem ++ left) (Some x) x gone.node read agrees refl gone.there in
-    let first = are_left c n stem left path gone.step last x gone.node f before known run (x.before + end_of gone.node) gone.count gone.after refl gone.first in
-    let text : cut_text run.run.cut ≡ buffer_text before.text = text_read _ run.run.cut run.run.read ∙ sym run.text in
-    subst (λ (o : Operation). CanTakeOut o c n stem left i p.after before (x.before + p.start) (x.before + p.end)) (sym own_is)
-    (record {
-      order = order c n stem left path gone.step last x gone.node f before known run i gone.count gone.after p gone.leads gone.goes first;
-      starts = starts c n stem left path gone.step last x gone.node f before known run i gone.count gone.after p gone.leads gone.goes first;
-      finishes = finishes c n stem left path gone.step last x gone.node f before known run i gone.count gone.after p gone.leads gone.goes first;
-      utf8 = utf8 c n stem left path gone.step last x gone.node f before known run i gone.count gone.after p gone.leads gone.goes first;
-      small = subst (λ (l : List ℕ). length l < 2 ^ 64) text (text_small (cut_text run.run.cut) run.run.cut (ap read_at (text_read _ run.run.cut run.run.read) ∙ run.run.read));
-      on = λ fitting. removal_on c n stem left path gone.step last x gone.node f before known run i gone.count gone.after p gone.leads gone.goes first fitting;
-      fails = removal_fails c n stem left path gone.step last x gone.node f before known run i gone.count gone.after p gone.leads gone.goes first;
-    })
+module _ (t : List ℕ) (n : ℕ) (stem path : List Step) (x : FlowHead) (r : Removed) (before : RemovalRun) (known : Option LeftOf) (read : read_at t ≡ Some (cut_of t)) (ends : EndsAt stem (map tree_step x.left.now) path)
+    (agrees : FlowAgrees t (flow_collection n (stem ++ map tree_step x.left.now) (cut_of t)) (Some x)) (gone : GoesInHead path x known before r) (run : RemovesSo (cut_of t) n stem known before) where
+  abbrev own_cut : Cut
+  own_cut = cut_of t
+
+  abbrev own_left : List Step
+  own_left = map tree_step x.left.now
+
+  abbrev Can : Type 0
+  Can = CanExchange (remove n path) own_cut n stem before r.start r.end r.new.now r.known
+
+  found_in : CollFound own_cut n (stem ++ own_left) x gone.node
+  found_in = coll_found t n (stem ++ own_left) (Some x) x gone.node read agrees refl gone.there
+
+  part_out : PartGoes path x gone.node gone.left r → Can
+  part_out h =
+      let last : last_step path ≡ Some (stem ++ own_left, h.step) = ends.1 ∙ ap (λ (s : Step). Some (stem ++ own_left, s)) (sym (ap (λ (y : List Step × Step). y.1) (same_Some _ _ (h.last ∙ ends.1)))) in
+      let first = are_left own_cut n stem own_left path h.step last x gone.node found_in before known run (x.before + end_of gone.node) gone.left refl gone.first in
+      subst (λ (a : ℕ). CanExchange (remove n path) own_cut n stem before a r.end r.new.now r.known) (sym h.start)
+      (subst (λ (b : ℕ). CanExchange (remove n path) own_cut n stem before (x.before + h.place.start) b r.new.now r.known) (sym h.finish)
+      (subst (λ (l : List ℕ). CanExchange (remove n path) own_cut n stem before (x.before + h.place.start) (x.before + h.place.end) l r.known) (sym h.new)
+      (subst (CanExchange (remove n path) own_cut n stem before (x.before + h.place.start) (x.before + h.place.end) []) (sym h.known_is)
+      (can_take own_cut n stem own_left path h.step last x gone.node found_in before known run h.index gone.left.count gone.left.after gone.left.behind h.place h.leads h.goes first h.known h.steps_are h.count h.after h.behind))))
+
+  sole_out : SoleGoes x gone.node gone.left before r → Can
+  sole_out h =
+      let first = are_left own_cut n stem own_left path ends.0 ends.1 x gone.node found_in before known run (x.before + end_of gone.node) gone.left refl gone.first in
+      let coll : CollPieces = w own_cut n stem own_left path ends.0 ends.1 x gone.node found_in before known run in
+      let one : AreFirstLeft coll own_cut run.run.cut n (stem ++ own_left) before.keep 1 None gone.left.behind =
+      subst (λ (o : Option Bool). AreFirstLeft coll own_cut run.run.cut n (stem ++ own_left) before.keep 1 o gone.left.behind) h.alone
+      (subst (λ (k : ℕ). AreFirstLeft coll own_cut run.run.cut n (stem ++ own_left) before.keep k gone.left.after gone.left.behind) h.sole first) in
+      subst (CanExchange (remove n path) own_cut n stem before r.start r.end r.new.now) (sym h.known)
+      (can_empty own_cut n stem own_left path ends.0 ends.1 x gone.node found_in before known run h.own (sym h.inner) gone.left.behind one r.start r.end r.new.now h.start h.finish h.new)
+
+  either : PartGoes path x gone.node gone.left r ⊎ SoleGoes x gone.node gone.left before r → Can
+  either (inl h) = part_out h
+  either (inr h) = sole_out h
+
+  pub out_of : (m : ℕ) (op : Operation) → op ≡ remove m path → m ≡ n → CanExchange op own_cut n stem before r.start r.end r.new.now r.known
+  out_of m op is same =
+      subst (λ (o : Operation). CanExchange o own_cut n stem before r.start r.end r.new.now r.known) (sym (is ∙ ap (λ (k : ℕ). remove k path) same)) (either gone.goes)
 
 -- ---- operations together
 

@@ -1,9 +1,7 @@
 -- One more item or entry taken out of a collection of a head, before those that were.
-use Rattle.std.proofs.Common.{◌≡◌, ℕ, ◌-◌, ◌≤◌, ◌<◌, List, [], ◌++◌, length, take, drop, Option, Some, option_map, refl, sym, ap, ◌∙◌}
-use Rattle.std.{proofs.Common.{subst, append-nil, append_assoc, arith, length-append}, proofs.Math.Seq.{take-append_seam, drop-append_seam}}
-use Rattle.std.proofs.lemmas.List.{append_cancel_left, length-take-le, take-append-drop, take-append-le, take-take}
-use Rattle.std.{specs.Option.option_or, specs.Str.IsCharBoundary}
-use Rattle.yq_text.{specs.Limit.text_limit, specs.Script.{Segment, new_text, splice_at}}
+use Rattle.std.proofs.Common.{◌≡◌, ℕ, ◌≤◌, ◌<◌, List, [], ◌++◌, length, take, drop, Option, Some, option_map, refl, sym, ap, ◌∙◌}
+use Rattle.std.{proofs.Common.{append_assoc, arith}, specs.Option.option_or, specs.Str.IsCharBoundary}
+use Rattle.yq_text.{specs.Limit.text_limit, specs.Script.{Segment, splice_at}}
 use Rattle.yq_core.{specs.Answers.◌>>=◌, specs.Paths.Step, specs.Collections.CollPieces}
 use Rattle.yq_flow_edits.{specs.FlowEdits.FlowEdit, specs.Removals.removing}
 use Rattle.yq_row_table.specs.Rows.{Cut, cut_text}
@@ -15,8 +13,9 @@ use Rattle.yq_edit_laws.proofs.CutLaws.{text_read}
 use Rattle.yq_edit_laws.proofs.FlowRemoveLaws.{bounds, bytes, collection_before, head_behind, next, removed_reads}
 use Rattle.yq_edit_laws.{specs.Carried.{carried, carry_one}, specs.Edit.{by_reading, edit_of_segments, gives, refuses}}
 use Rattle.yq_edit_laws.specs.Theorems.{IsFitting}
-use Rattle.yq_batch.{specs.RemovalRuns.{IsRemovalRun, text_without}, proofs.PutComes.{made_text, new_is, segments_come, segments_large}}
-use Rattle.yq_batch.proofs.RunEdits.{fits_now}
+use Rattle.yq_batch.{specs.RemovalRuns.{IsRemovalRun, text_exchanged}, proofs.RunEdits.fits_now}
+use Rattle.yq_batch.proofs.BackEdits.{back_finish, back_large, back_new, back_order, back_start, back_text, back_there, drop_is, gone_first}
+use Rattle.yq_batch.proofs.BackEdits.{gone_is, own_front}
 
 -- An edit of a collection as it is now, which begins in the bytes that stay, and puts nothing.
 module _ (c : Cut) (n : ℕ) (stem left path : List Step) (s : Step) (keep : ℕ) (tail : List ℕ) (run : IsRemovalRun c n stem keep tail)
@@ -35,28 +34,8 @@ module _ (c : Cut) (n : ℕ) (stem left path : List Step) (s : Step) (keep : ℕ
   abbrev pub read : read_at (cut_text run.cut) ≡ Some run.cut
   read = ap read_at text ∙ run.read
 
-  split : cut_text run.cut ≡ before ++ (g.old ++ g.behind)
-  split = text ∙ now_is
-
   nothing : g.lead ++ g.written ≡ []
   nothing = λ i. lead i ++ (bytes run.cut n path (stem ++ left) s z g read last found gone).none_written i
-
-  whole_split : now ≡ (before ++ g.old) ++ g.behind
-  whole_split = now_is ∙ sym (append_assoc before g.old g.behind)
-
-  front_is : take start now ≡ before
-  front_is = (λ i. take (start_is i) (now_is i)) ∙ take-append_seam before (g.old ++ g.behind)
-
-  left_is : drop finish now ≡ g.behind
-  left_is = (λ i. drop (finish_is i) (whole_split i)) ∙ drop-append_seam (before ++ g.old) g.behind
-
-  old_is : drop start (take finish now) ≡ g.old
-  old_is =
-      let front : take finish now ≡ before ++ g.old = (λ i. take (finish_is i) (whole_split i)) ∙ take-append_seam (before ++ g.old) g.behind in
-      (λ i. drop (start_is i) (front i)) ∙ drop-append_seam before g.old
-
-  made_is : made_text before g ≡ text_without now start finish
-  made_is = (λ i. (before ++ nothing i) ++ g.behind) ∙ (ap (λ (l : List ℕ). l ++ g.behind) (append-nil before) ∙ λ i. sym front_is i ++ sym left_is i)
 
   edits : op_edits (remove n path) run.cut ≡ Some (flow_segments (cut_text run.cut) g)
   edits =
@@ -68,72 +47,47 @@ module _ (c : Cut) (n : ℕ) (stem left path : List Step) (s : Step) (keep : ℕ
       ap (carried (remove n path)) (sym text)
       ∙ (ap (by_reading (carry_one (remove n path))) read ∙ ap (λ (o : Option (List Segment)). edit_of_segments (or_stay run.cut o)) edits)
 
-  pub removal_there : length (text_without now start finish) ≤ text_limit → carried (remove n path) now ≡ gives (text_without now start finish) (splice_at start (drop start (take finish now)) [])
-  removal_there small =
-      comes
-      ∙ (segments_come (cut_text run.cut) before g split (omega (arith, small, ap length made_is))
-      ∙ λ i. gives (made_is i) (splice_at (sym start_is i) (sym old_is i) (nothing i)))
+  without : text_exchanged now start finish (g.lead ++ g.written) ≡ text_exchanged now start finish []
+  without = ap (text_exchanged now start finish) nothing
 
-  pub removal_large : text_limit < length (text_without now start finish) → carried (remove n path) now ≡ refuses TooLarge
-  removal_large large = comes ∙ segments_large (cut_text run.cut) before g split (omega (arith, large, ap length made_is))
+  pub removal_there : length (text_exchanged now start finish []) ≤ text_limit → carried (remove n path) now ≡ gives (text_exchanged now start finish []) (splice_at start (drop start (take finish now)) [])
+  removal_there small =
+      back_there c n stem keep tail run g before now_is start finish start_is finish_is short (remove n path) comes (omega (arith, small, ap length without))
+      ∙ λ i. gives (without i) (splice_at start (drop start (take finish now)) (nothing i))
+
+  pub removal_large : text_limit < length (text_exchanged now start finish []) → carried (remove n path) now ≡ refuses TooLarge
+  removal_large large = back_large c n stem keep tail run g before now_is start finish start_is finish_is short (remove n path) comes (omega (arith, large, ap length without))
 
   -- where it goes, in the text as it is now
-  bounds_now : IsCharBoundary (cut_text run.cut) (length (cut_text run.cut) - length (g.old ++ g.behind)) × IsCharBoundary (cut_text run.cut) (length (cut_text run.cut) - length g.behind)
-  bounds_now = bounds run.cut n path (stem ++ left) s z g read last found gone
-
   pub start_there : IsCharBoundary now start
-  start_there =
-      subst (IsCharBoundary now) (omega (arith, start_is, ap length split, length-append before (g.old ++ g.behind)))
-      (subst (λ (l : List ℕ). IsCharBoundary l (length (cut_text run.cut) - length (g.old ++ g.behind))) text bounds_now.0)
+  start_there = back_start c n stem keep tail run g before now_is start finish start_is finish_is short (bounds run.cut n path (stem ++ left) s z g read last found gone)
 
   pub finish_there : IsCharBoundary now finish
-  finish_there =
-      subst (IsCharBoundary now) (omega (arith, finish_is, ap length split, length-append before (g.old ++ g.behind), length-append g.old g.behind, length-append before g.old))
-      (subst (λ (l : List ℕ). IsCharBoundary l (length (cut_text run.cut) - length g.behind)) text bounds_now.1)
+  finish_there = back_finish c n stem keep tail run g before now_is start finish start_is finish_is short (bounds run.cut n path (stem ++ left) s z g read last found gone)
 
   pub in_order : start ≤ finish
-  in_order = omega (arith, start_is, finish_is, length-append before g.old)
-
-  -- what stays, in the text as it was read
-  kept_front : take start (take keep t) ≡ take start t
-  kept_front = take-take start keep t short
-
-  own_front : take start t ≡ before
-  own_front =
-      sym kept_front ∙ (sym (take-append-le start (take keep t) tail (omega (arith, short, length-take-le keep t run.within))) ∙ front_is)
-
-  abbrev gone_first : List ℕ
-  gone_first = drop start (take keep t)
-
-  kept_is : take keep t ≡ before ++ gone_first
-  kept_is = sym (take-append-drop start (take keep t)) ∙ ap (λ (l : List ℕ). l ++ gone_first) (kept_front ∙ own_front)
-
-  gone_is : gone_first ++ tail ≡ g.old ++ g.behind
-  gone_is =
-      append_cancel_left before (gone_first ++ tail) (g.old ++ g.behind)
-      (sym (append_assoc before gone_first tail) ∙ (ap (λ (l : List ℕ). l ++ tail) (sym kept_is) ∙ now_is))
-
-  all_is : t ≡ before ++ (gone_first ++ drop keep t)
-  all_is = sym (take-append-drop keep t) ∙ (ap (λ (l : List ℕ). l ++ drop keep t) kept_is ∙ append_assoc before gone_first (drop keep t))
-
-  drop_is : drop start t ≡ gone_first ++ drop keep t
-  drop_is = (λ i. drop (start_is i) (all_is i)) ∙ drop-append_seam before (gone_first ++ drop keep t)
+  in_order = back_order c n stem keep tail run g before now_is start finish start_is finish_is short
 
   -- the run goes on after it
-  pub new_text_is : text_without now start finish ≡ take start t ++ g.behind
-  new_text_is = λ i. (front_is ∙ sym own_front) i ++ left_is i
+  pub new_text_is : text_exchanged now start finish [] ≡ take start t ++ g.behind
+  new_text_is =
+      sym without
+      ∙ (back_text c n stem keep tail run g before now_is start finish start_is finish_is short ∙ ap (λ (l : List ℕ). take start t ++ (l ++ g.behind)) nothing)
 
   pub front_stays : take start t ++ g.behind ≡ before ++ g.behind
-  front_stays = ap (λ (l : List ℕ). l ++ g.behind) own_front
+  front_stays = ap (λ (l : List ℕ). l ++ g.behind) (own_front c n stem keep tail run g before now_is start finish start_is finish_is short)
 
   abbrev pub next_cut : Cut
   next_cut = next run.cut n path (stem ++ left) s z g read last found gone stem left refl run.leads
 
-  pub removal_goes_on : IsFitting (remove n path) now → length (text_without now start finish) ≤ text_limit →
+  abbrev first : List ℕ
+  first = gone_first c n stem keep tail run g before now_is start finish start_is finish_is short
+
+  pub removal_goes_on : IsFitting (remove n path) now → length (text_exchanged now start finish []) ≤ text_limit →
       (on : IsRemovalRun c n stem start g.behind) × (on.cut ≡ next_cut)
   removal_goes_on fitting small =
       let fit = fits_now (remove n path) now run.cut tt fitting run.read in
-      let new_bytes : new_text (flow_segments (cut_text run.cut) g) ≡ text_without now start finish = new_is (cut_text run.cut) before g split ∙ made_is in
+      let new_bytes = back_new c n stem keep tail run g before now_is start finish start_is finish_is short ∙ without in
       let reads = removed_reads run.cut n path (stem ++ left) s z g read last found gone fit (omega (arith, small, ap length new_bytes)) in (
         record {
           within = omega (arith, short, run.within);
@@ -141,9 +95,9 @@ module _ (c : Cut) (n : ℕ) (stem left path : List Step) (s : Step) (keep : ℕ
           read = ap read_at (sym (new_bytes ∙ new_text_is)) ∙ reads;
           leads = head_behind run.cut n path (stem ++ left) s z g read last found gone stem left refl run.leads;
           stays = λ ss u m at_end ends.
-              let own : u.rest ≡ (m ++ gone_first) ++ drop keep t = ends ∙ (ap (λ (l : List ℕ). m ++ l) drop_is ∙ sym (append_assoc m gone_first (drop keep t))) in
-              let rest : (m ++ gone_first) ++ tail ≡ m ++ (g.old ++ g.behind) = append_assoc m gone_first tail ∙ ap (λ (l : List ℕ). m ++ l) gone_is in
-              collection_before run.cut n path (stem ++ left) s z g read last found gone stem left refl run.leads ss (record u { rest = (m ++ gone_first) ++ tail }) m (run.stays ss u (m ++ gone_first) at_end own) rest
+              let own : u.rest ≡ (m ++ first) ++ drop keep t = ends ∙ (ap (λ (l : List ℕ). m ++ l) (drop_is c n stem keep tail run g before now_is start finish start_is finish_is short) ∙ sym (append_assoc m first (drop keep t))) in
+              let rest : (m ++ first) ++ tail ≡ m ++ (g.old ++ g.behind) = append_assoc m first tail ∙ ap (λ (l : List ℕ). m ++ l) (gone_is c n stem keep tail run g before now_is start finish start_is finish_is short) in
+              collection_before run.cut n path (stem ++ left) s z g read last found gone stem left refl run.leads ss (record u { rest = (m ++ first) ++ tail }) m (run.stays ss u (m ++ first) at_end own) rest
               ∙ ap (λ (l : List ℕ). Some (record u { rest = m ++ (l ++ g.behind) })) nothing;
         },
         refl,

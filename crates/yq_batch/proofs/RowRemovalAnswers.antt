@@ -16,7 +16,7 @@ use Rattle.yq_semantics.{specs.Operations.{Operation, operation_of, operations_o
 use Rattle.yq_edit_laws.{proofs.ApplyLaws.applied_by, proofs.CutLaws.{text_read, text_small}, proofs.FlowSoundLaws.last_is}
 use Rattle.yq_edit_laws.{proofs.TextFaults.text_utf8, specs.Answers.EditFails, specs.Carried.carried, specs.Edit.gives}
 use Rattle.yq_edit_laws.{specs.Theorems.IsFitting, specs.Valid.AreServed, specs.declared.edit_error.EditError.EditError}
-use Rattle.yq_batch.{specs.RemovalRuns.{HasTakenOut, RemovalFails, text_without}, specs.declared.removals.RemovalRun.RemovalRun}
+use Rattle.yq_batch.{specs.RemovalRuns.{HasExchanged, ExchangeFails, text_exchanged}, specs.declared.removals.RemovalRun.RemovalRun}
 use Rattle.yq_batch.specs.RowRemovals.{HasOthersNow, IsLeast, IsRowRemovalRun, RemovesBeside, RemovesRows, RemovesRowsOn, StaysAt}
 use Rattle.yq_batch.{specs.RowRemovals.{TakesFirst, above_of, removal_of}, proofs.OthersFollow.others_follow, proofs.RowRunGoesOn.goes_on}
 use Rattle.yq_batch.proofs.RunEdits.{fits_now}
@@ -28,8 +28,8 @@ pub record CanTake (op : Operation) (c : Cut) (n : ℕ) (above : List Step) (bef
   pub utf8 : IsUtf8 (buffer_text before.text)
   pub starts : IsCharBoundary (buffer_text before.text) start
   pub finishes : IsCharBoundary (buffer_text before.text) finish
-  pub on : (after : RemovalRun) → HasTakenOut start finish before after → RemovesRowsOn op c n above before next after
-  pub fails : (e : EditError) → RemovalFails e start finish before → EditFails e (carried op (buffer_text before.text))
+  pub on : (after : RemovalRun) → HasExchanged start finish [] before after → RemovesRowsOn op c n above before next after
+  pub fails : (e : EditError) → ExchangeFails e start finish [] before → EditFails e (carried op (buffer_text before.text))
 
 -- where lines are in a text that is small
 pub out_small : (t : List ℕ) (n : ℕ) (steps : List Step) (x : Removal) → read_at t ≡ Some (cut_of t) → removal_place n steps (cut_of t) ≡ Some x → length x.before + length x.gone < 2 ^ 64
@@ -107,10 +107,10 @@ module _ (c : Cut) (n : ℕ) (above : List Step) (s : Step) (least next : Option
         (IsCharBoundary-from_take now (length both) utf8_now (omega (arith, ap length in_two, length-append both (out.gap ++ out.behind)))
         (subst IsUtf8 (sym (ap (take (length both)) in_two ∙ take-append_seam both (out.gap ++ out.behind))) (IsUtf8-append (rows_out d x).before (rows_out d x).gone utf8 gone_utf8)))
 
-    comes_now : carried (remove n steps) now ≡ gives (text_without now start finish) (splice_at start (drop start (take finish now)) [])
+    comes_now : carried (remove n steps) now ≡ gives (text_exchanged now start finish []) (splice_at start (drop start (take finish now)) [])
     comes_now = taken.removal_comes c n above s least next before.keep run.tail run.run read d placed x own short others_at stays low
 
-    left_is : text_without now start finish ≡ out.before ++ (out.gap ++ out.behind)
+    left_is : text_exchanged now start finish [] ≡ out.before ++ (out.gap ++ out.behind)
     left_is = taken.left_is c n above s least next before.keep run.tail run.run read d placed x own short others_at stays low
 
     kept_is : out.before ≡ take start (cut_text c)
@@ -122,10 +122,10 @@ module _ (c : Cut) (n : ℕ) (above : List Step) (s : Step) (least next : Option
     goes : IsRowRemovalRun c n above next start (out.gap ++ out.behind)
     goes = goes_on c n above s least next before.keep run.tail run.run read d placed x own short others_at stays low fits
 
-    on_now : (after : RemovalRun) → HasTakenOut start finish before after → RemovesRowsOn (remove n steps) c n above before next after
+    on_now : (after : RemovalRun) → HasExchanged start finish [] before after → RemovesRowsOn (remove n steps) c n above before next after
     on_now after out_of =
         let cs : List Splice = splice_at start (drop start (take finish now)) [] in
-        let made : buffer_text after.text ≡ text_without now start finish = out_of.text ∙ ap (λ (l : List ℕ). text_without l start finish) run.text in
+        let made : buffer_text after.text ≡ text_exchanged now start finish [] = out_of.text ∙ ap (λ (l : List ℕ). text_exchanged l start finish []) run.text in
         let comes : carried (remove n steps) (buffer_text before.text) ≡ gives (buffer_text after.text) cs =
         ap (carried (remove n steps)) run.text ∙ (comes_now ∙ ap (λ (l : List ℕ). gives l cs) (sym made)) in
         record {
@@ -140,14 +140,14 @@ module _ (c : Cut) (n : ℕ) (above : List Step) (s : Step) (least next : Option
           };
         }
 
-    small_now : length (text_without now start finish) ≤ text_limit
+    small_now : length (text_exchanged now start finish []) ≤ text_limit
     small_now =
         subst (λ (l : List ℕ). length l ≤ text_limit) (sym left_is) (taken.small c n above s least next before.keep run.tail run.run read d placed x own short others_at stays low)
 
-    fails_now : (e : EditError) → RemovalFails e start finish before → EditFails e (carried (remove n steps) (buffer_text before.text))
+    fails_now : (e : EditError) → ExchangeFails e start finish [] before → EditFails e (carried (remove n steps) (buffer_text before.text))
     fails_now (error.Read fault) fails = absurd fails
     fails_now (error.Refused why) fails =
-        let large = subst (λ (l : List ℕ). text_limit < length (text_without l start finish)) run.text fails.1 in
+        let large = subst (λ (l : List ℕ). text_limit < length (text_exchanged l start finish [])) run.text fails.1 in
         absurd (omega (arith, large, small_now))
     fails_now error.Memory fails = tt
 

@@ -22,7 +22,7 @@ use Rattle.yq_edit_rules.proofs.RemovalChangeLaws.{removal_stands}
 use Rattle.yq_semantics.specs.Operations.{remove}
 use Rattle.yq_edit_laws.{proofs.CutLaws.{cut_read, text_read}, specs.Carried.{carried, carry_one}}
 use Rattle.yq_edit_laws.specs.Edit.{by_reading, edit_of_segments, gives}
-use Rattle.yq_batch.{specs.RemovalRuns.text_without, specs.RowRemovals.{AreLow, IsLeast, IsRowRemovalRun, StandsBefore, StayLow, StaysAt}}
+use Rattle.yq_batch.{specs.RemovalRuns.text_exchanged, specs.RowRemovals.{AreLow, IsLeast, IsRowRemovalRun, StandsBefore, StayLow, StaysAt}}
 use Rattle.yq_batch.{proofs.EntryRemains.{has, own_first}, proofs.GapStays.{gap_kept, segments_come}}
 
 -- ---- a block collection is no flow collection
@@ -171,7 +171,7 @@ module _ (c : Cut) (n : ℕ) (above : List Step) (s : Step) (least next : Option
   in_two : now ≡ (out.before ++ out.gone) ++ (out.gap ++ out.behind)
   in_two = whole ∙ sym (append_assoc out.before out.gone (out.gap ++ out.behind))
 
-  pub left_is : text_without now start finish ≡ out.before ++ (out.gap ++ out.behind)
+  pub left_is : text_exchanged now start finish [] ≡ out.before ++ (out.gap ++ out.behind)
   left_is =
       (λ i. take (sizes.0 i) (whole i) ++ drop (sizes.1 i) (in_two i))
       ∙ (λ i. take-append_seam out.before (out.gone ++ (out.gap ++ out.behind)) i ++ drop-append_seam (out.before ++ out.gone) (out.gap ++ out.behind) i)
@@ -193,7 +193,7 @@ module _ (c : Cut) (n : ℕ) (above : List Step) (s : Step) (least next : Option
       )
 
   -- it comes to this that its lines go
-  pub removal_comes : carried (remove n steps) now ≡ gives (text_without now start finish) (splice_at start (drop start (take finish now)) [])
+  pub removal_comes : carried (remove n steps) now ≡ gives (text_exchanged now start finish []) (splice_at start (drop start (take finish now)) [])
   removal_comes =
       ap (carried (remove n steps)) (sym text)
       ∙ (ap (by_reading (carry_one (remove n steps))) read_now

@@ -24,7 +24,8 @@ use Rattle.yq_places.{specs.RemovalPlaces.{OwnRows, Removal, Seam, has_others_at
 use Rattle.yq_places.proofs.UnderExchange.{lines_append}
 use Rattle.yq_semantics.{specs.Fits.Fits, specs.Operations.remove, specs.Rooms.room_of}
 use Rattle.yq_edit_laws.proofs.RemovingLaws.{may_take}
-use Rattle.yq_batch.{specs.RemovalRuns.text_without, specs.RowRemovals.{AreLow, IsLeast, IsRowRemovalRun, StaysAt}, proofs.EntryRemains.has}
+use Rattle.yq_batch.{specs.RemovalRuns.text_exchanged, specs.RowRemovals.{AreLow, IsLeast, IsRowRemovalRun, StaysAt}}
+use Rattle.yq_batch.proofs.EntryRemains.{has}
 use Rattle.yq_batch.proofs.RowsTaken.{finish, left_is, low_now, now, old_now, out, place, read_now, seam_stays, small, start, there}
 
 -- ---- gaps that stay
@@ -165,8 +166,8 @@ module _ (c : Cut) (n : ℕ) (above : List Step) (s : Step) (least next : Option
   pub read_next : read_at (cut_text next_cut) ≡ Some next_cut
   read_next = went.0.read
 
-  pub text_next : cut_text next_cut ≡ text_without (now c n above s least next keep tail run read d placed x own short others stays low)
-      (start c n above s least next keep tail run read d placed x own short others stays low) (finish c n above s least next keep tail run read d placed x own short others stays low)
+  pub text_next : cut_text next_cut ≡ text_exchanged (now c n above s least next keep tail run read d placed x own short others stays low)
+      (start c n above s least next keep tail run read d placed x own short others stays low) (finish c n above s least next keep tail run read d placed x own short others stays low) []
   text_next = text_q ∙ (ap (λ (g : List ℕ). gone.before ++ (g ++ gone.behind)) mended_is ∙ sym (left_is c n above s least next keep tail run read d placed x own short others stays low))
 
   -- the lines of the rows after those that go stay

@@ -1,9 +1,11 @@
 -- Items and entries taken out, one before the other, of the flow collections of one head, which was read once (YAML 1.2.2, 7.4; own).
-use Rattle.std.specs.Prelude.{◌≡◌, ⊤, ◌⊎◌, ℕ, ◌+◌, ◌<◌, ◌≤◌, Bool, true, List, [], ◌++◌, drop, take, length, map, Option, Some, None}
+use Rattle.std.specs.Prelude.{◌≡◌, ⊤, ◌⊎◌, ℕ, ◌+◌, ◌<◌, ◌≤◌, Bool, true, List, [], ◌∷◌, ◌++◌, drop, take, length, map, Option, Some, None}
 use Rattle.std.specs.Prelude.{IfSome, string_bytes}
 use Rattle.yq_text.{specs.Limit.text_limit, specs.Script.splice_at, specs.Splice.Splice, specs.TextGapBuffer.buffer_text}
 use Rattle.yq_core.{specs.Paths.Step, specs.Collections.CollPieces, specs.Entries.{end_of, parts_of, tree_step}}
-use Rattle.yq_core.{specs.PlainText.begins_marker, specs.Nodes.{flow_items_text, key_text, node_text}, specs.Places.Placed}
+use Rattle.yq_core.{specs.PlainText.begins_marker, specs.Nodes.{flow_items_text, key_text, node_text}}
+use Rattle.yq_core.{specs.Places.{CoreNode, Placed, mapping, name, nothing, placed, sequence, text}, specs.View.inline_view}
+use Rattle.yq_core.specs.declared.inline.Inline.{Inline}
 use Rattle.yq_row_table.specs.Rows.{Cut, cut_text}
 use Rattle.yq_documents.specs.Reading.{read_at}
 use Rattle.yq_places.{specs.FlowNodes.flow_collection, specs.FlowViews.{LeadsToHead, behind_anchor, collection_view}}
@@ -11,10 +13,13 @@ use Rattle.yq_places.{specs.Standings.last_step, specs.declared.places.flow_node
 use Rattle.yq_semantics.{specs.declared.op.Op.Op, specs.Operations.{Operation, operations_of}}
 use Rattle.yq_semantics.specs.declared.refusal.Refusal.TheVariants.{TooLarge}
 use Rattle.yq_edit_laws.{specs.Carried.{carried, carry_all}, specs.Edit.{edit_after, gives}, specs.Theorems.IsApplied}
-use Rattle.yq_edit_laws.{specs.NearParts.LeadsToPart, specs.Valid.AreServed, specs.declared.edit_error.EditError.EditError}
+use Rattle.yq_edit_laws.{specs.NearParts.{LeadsToPart, head_with}, specs.Valid.AreServed, specs.declared.edit_error.EditError.EditError}
 use Rattle.yq_batch.specs.LeftItems.{Ending, closing, count_parts, others, left_items, upto_text}
 use Rattle.yq_batch.{specs.declared.removals.RemovalRun.RemovalRun, specs.LeftPlaces.IsLeftPlace, specs.declared.left.LeftPlace.LeftPlace}
-use Rattle.yq_batch.{specs.declared.removals.LeftOf.LeftOf, specs.declared.together.Together.Together}
+use Rattle.yq_batch.{specs.declared.gone.LeftOf.LeftOf, specs.declared.gone.Removed.Removed, specs.declared.together.Together.Together}
+use Rattle.yq_batch.specs.declared.head.HeadInText.{HeadInText}
+use denote.Bor.{Bor}
+use Rattle.yq_core.specs.declared.path.Step as declared
 use Rattle.yq_edit_laws.specs.declared.edit_error.EditError.TheVariants as error
 
 -- ---- runs
@@ -40,11 +45,13 @@ AreAfter (Some marked) (others key n s is) = begins_marker (key_text key (node_t
 abbrev pub left_coll : CollPieces → ℕ → Ending → List ℕ → CollPieces
 left_coll w count e rest = record { close = w.close; gap = w.gap; items = left_items count w.items e; rest = rest }
 
--- So many of the first items of a collection are left in another cut, before an ending, in the place where they were, in bytes that stay (own).
-pub record AreFirstLeft (w : CollPieces) (c cut : Cut) (n : ℕ) (steps : List Step) (keep count : ℕ) (after : Option Bool) : Type 0 where
+-- So many of the first items of a collection are left in another cut, before an ending, in the place where they were, in bytes that stay, and so many bytes
+-- come after the collection (own).
+pub record AreFirstLeft (w : CollPieces) (c cut : Cut) (n : ℕ) (steps : List Step) (keep count : ℕ) (after : Option Bool) (behind : ℕ) : Type 0 where
   pub ending : Ending
   pub ends : AreAfter after ending
   pub rest : List ℕ
+  pub behind_is : behind ≡ length rest
   pub left : flow_collection n steps cut ≡ Some (left_coll w count ending rest)
   pub opening : List ℕ
   pub was : cut_text c ≡ opening ++ flow_items_text w.close w.items w.rest
@@ -52,13 +59,14 @@ pub record AreFirstLeft (w : CollPieces) (c cut : Cut) (n : ℕ) (steps : List S
   pub kept : (i : ℕ) → i < count → length opening + length (upto_text i w.items) ≤ keep
 
 -- the same of the collection to which steps lead (own)
-abbrev pub IsLeftOf : (c cut : Cut) → ℕ → List Step → (keep count : ℕ) → Option Bool → Type 0
-IsLeftOf c cut n steps keep count after = (w : CollPieces) × (flow_collection n steps c ≡ Some w) × AreFirstLeft w c cut n steps keep count after
+abbrev pub IsLeftOf : (c cut : Cut) → ℕ → List Step → (keep count : ℕ) → Option Bool → (behind : ℕ) → Type 0
+IsLeftOf c cut n steps keep count after behind =
+    (w : CollPieces) × (flow_collection n steps c ≡ Some w) × AreFirstLeft w c cut n steps keep count after behind
 
 -- what is known of the collection from which a run took the last one out, if it took any (own)
 abbrev pub IsKnownLeft : (c cut : Cut) → ℕ → List Step → ℕ → Option LeftOf → Type 0
 IsKnownLeft c cut n stem keep None = ⊤
-IsKnownLeft c cut n stem keep (Some k) = IsLeftOf c cut n (stem ++ map tree_step k.steps.now) keep k.count k.after
+IsKnownLeft c cut n stem keep (Some k) = IsLeftOf c cut n (stem ++ map tree_step k.steps.now) keep k.count k.after k.behind
 
 -- A run of the code is one, of which this is known (own).
 pub record RemovesSo (c : Cut) (n : ℕ) (stem : List Step) (known : Option LeftOf) (r : RemovalRun) : Type 0 where
@@ -67,52 +75,100 @@ pub record RemovesSo (c : Cut) (n : ℕ) (stem : List Step) (known : Option Left
   pub run : IsRemovalRun c n stem r.keep tail
   pub known_is : IsKnownLeft c run.cut n stem r.keep known
 
--- how many of the first items of a collection are left, and what comes after them: as is known of the last one, or all of one that ends before what was
--- taken out (own)
-abbrev pub AreLeft : List Step → Option LeftOf → (end keep all count : ℕ) → Option Bool → Type 0
-AreLeft steps known end keep all count after =
-    ((k : LeftOf) × (known ≡ Some k) × (map tree_step k.steps.now ≡ steps) × (count ≡ k.count) × (after ≡ k.after))
-    ⊎ ((end ≤ keep) × (count ≡ all) × (after ≡ None))
+-- what is left of a collection that ends at a place, in a text so long: as is known of the last one, or all of one that ends before what was taken out (own)
+abbrev pub IsLeftIn : List Step → Option LeftOf → (end keep size all : ℕ) → LeftOf → Type 0
+IsLeftIn steps known end keep size all k =
+    ((known ≡ Some k) × (map tree_step k.steps.now ≡ steps)) ⊎ ((end ≤ keep) × (k.count ≡ all) × (k.after ≡ None) × (k.behind + end ≡ size))
 
--- Where a path ends in a collection of a head, the item or entry of an index, what goes with it, and what is left of the collection (own).
-pub record GoneInHead (steps : List Step) (x : FlowHead) (known : Option LeftOf) (keep : ℕ) (place : LeftPlace) (index : ℕ) : Type 0 where
+-- the same of a node of the code after so many bytes, in the text of a run (own)
+abbrev pub HasLeft : List declared.Step → Option LeftOf → ℕ → Inline → RemovalRun → LeftOf → Type 0
+HasLeft steps known before m r =
+    IsLeftIn (map tree_step steps) known (before + end_of (inline_view m)) r.keep (length (buffer_text r.text)) (count_parts (parts_of (inline_view m)))
+
+-- where the content of a node begins (own)
+abbrev pub content_of : Placed → ℕ
+content_of (placed a s c e f) = c
+
+-- the text of an empty collection of the kind of a content (7.4)
+abbrev pub empty_content : CoreNode → Option (List ℕ)
+empty_content nothing = None
+empty_content (name n) = None
+empty_content (text s piece) = None
+empty_content (sequence parts) = Some (91 ∷ (93 ∷ []))
+empty_content (mapping parts) = Some (123 ∷ (125 ∷ []))
+
+-- the same of a node (7.4)
+abbrev pub empty_text : Placed → Option (List ℕ)
+empty_text (placed a s c e f) = empty_content f
+
+-- An item or entry of a collection of a head goes, with what goes with it, and the ones before it are left (own).
+pub record PartGoes (steps : List Step) (x : FlowHead) (node : Placed) (left : LeftOf) (z : Removed) : Type 0 where
   pub above : List Step
   pub step : Step
   pub last : Some (above, step) ≡ last_step steps
+  pub index : ℕ
+  pub place : LeftPlace
+  pub leads : LeadsToPart step index (parts_of node)
+  pub goes : IsLeftPlace x.text.now (parts_of node) index left.count left.after place
+  pub start : z.start ≡ x.before + place.start
+  pub finish : z.end ≡ x.before + place.end
+  pub new : z.new.now ≡ []
+  pub known : LeftOf
+  pub known_is : z.known ≡ Some known
+  pub steps_are : map tree_step known.steps.now ≡ map tree_step x.left.now
+  pub count : known.count ≡ index
+  pub after : known.after ≡ place.after
+  pub behind : known.behind ≡ left.behind
+
+-- The only one that is left of a collection in another one goes, and an empty one comes in the place of that (own).
+pub record SoleGoes (x : FlowHead) (node : Placed) (left : LeftOf) (r : RemovalRun) (z : Removed) : Type 0 where
+  pub own : List Step × Step
+  pub inner : Some own ≡ last_step (map tree_step x.left.now)
+  pub sole : left.count ≡ 1
+  pub alone : left.after ≡ None
+  pub start : z.start ≡ x.before + content_of node
+  pub finish : z.end + left.behind ≡ length (buffer_text r.text)
+  pub new : empty_text node ≡ Some z.new.now
+  pub known : z.known ≡ None
+
+-- the same of a node of the code in a head (own)
+abbrev pub SoleGone : HeadInText → Bor (List declared.Step) → Inline → LeftOf → RemovalRun → Removed → Type 0
+SoleGone x steps m left r = SoleGoes (head_with x.head steps) (inline_view m) left r
+
+-- What an operation exchanges in the text of a run, whose path ends in a collection of a head, and what is left of that then (own).
+pub record GoesInHead (steps : List Step) (x : FlowHead) (known : Option LeftOf) (r : RemovalRun) (z : Removed) : Type 0 where
   pub node : Placed
   pub there : Some (behind_anchor node) ≡ collection_view x
-  pub count : ℕ
-  pub after : Option Bool
-  pub leads : LeadsToPart step index (parts_of node)
-  pub first : AreLeft (map tree_step x.left.now) known (x.before + end_of node) keep (count_parts (parts_of node)) count after
-  pub goes : IsLeftPlace x.text.now (parts_of node) index count after place
+  pub left : LeftOf
+  pub first : IsLeftIn (map tree_step x.left.now) known (x.before + end_of node) r.keep (length (buffer_text r.text)) (count_parts (parts_of node)) left
+  pub goes : PartGoes steps x node left z ⊎ SoleGoes x node left r z
 
 -- ---- what is taken out
 
--- the text without what is between two places (own)
-abbrev pub text_without : List ℕ → (start end : ℕ) → List ℕ
-text_without t start end = take start t ++ drop end t
+-- the text with another one in the place of what is between two places (own)
+abbrev pub text_exchanged : List ℕ → (start end : ℕ) → List ℕ → List ℕ
+text_exchanged t start end new = take start t ++ (new ++ drop end t)
 
--- What is between two places is gone, and the whole is no larger than a text may be (own).
-pub record HasTakenOut (start end : ℕ) (before after : RemovalRun) : Type 0 where
-  pub text : buffer_text after.text ≡ text_without (buffer_text before.text) start end
+-- A text has come in the place of what is between two places, and the whole is no larger than a text may be (own).
+pub record HasExchanged (start end : ℕ) (new : List ℕ) (before after : RemovalRun) : Type 0 where
+  pub text : buffer_text after.text ≡ text_exchanged (buffer_text before.text) start end new
   pub keep : after.keep ≡ start
-  pub splices : after.splices.items ≡ before.splices.items ++ splice_at start (drop start (take end (buffer_text before.text))) []
-  pub size : length (text_without (buffer_text before.text) start end) ≤ text_limit
+  pub splices : after.splices.items ≡ before.splices.items ++ splice_at start (drop start (take end (buffer_text before.text))) new
+  pub size : length (text_exchanged (buffer_text before.text) start end new) ≤ text_limit
 
--- why it is not: the whole would be too large, or memory ran out (own)
-abbrev pub RemovalFails : EditError → (start end : ℕ) → RemovalRun → Type 0
-RemovalFails (error.Read fault) start end r = ⊥
-RemovalFails (error.Refused why) start end r = (why ≡ TooLarge) × (text_limit < length (text_without (buffer_text r.text) start end))
-RemovalFails error.Memory start end r = ⊤
+-- why it has not: the whole would be too large, or memory ran out (own)
+abbrev pub ExchangeFails : EditError → (start end : ℕ) → List ℕ → RemovalRun → Type 0
+ExchangeFails (error.Read fault) start end new r = ⊥
+ExchangeFails (error.Refused why) start end new r = (why ≡ TooLarge) × (text_limit < length (text_exchanged (buffer_text r.text) start end new))
+ExchangeFails error.Memory start end new r = ⊤
 
 -- An operation is carried out on the text of a run, which goes on after it (own).
-pub record RemovesOn (op : Operation) (c : Cut) (n : ℕ) (stem : List Step) (before : RemovalRun) (known : LeftOf) (after : RemovalRun) : Type 0 where
+pub record RemovesOn (op : Operation) (c : Cut) (n : ℕ) (stem : List Step) (before : RemovalRun) (known : Option LeftOf) (after : RemovalRun) : Type 0 where
   pub new_bytes : List Splice
   pub comes : carried op (buffer_text before.text) ≡ gives (buffer_text after.text) new_bytes
   pub applied : IsApplied op (buffer_text before.text) (buffer_text after.text) new_bytes
   pub splices : after.splices.items ≡ before.splices.items ++ new_bytes
-  pub run : RemovesSo c n stem (Some known) after
+  pub run : RemovesSo c n stem known after
 
 -- ---- operations carried out together
 

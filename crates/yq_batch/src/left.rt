@@ -5,12 +5,14 @@ ghost use Rattle.yq_batch.specs.LeftPlaces.{IsLeftPlace};
 ghost use Rattle.yq_core.specs.Entries as entries;
 ghost use Rattle.yq_flow_edits.specs.FlowPlaces as places;
 ghost use Rattle.yq_batch.specs.LeftItems as spec;
+ghost use Rattle.yq_batch.specs.RemovalRuns as runs;
 
 use yq_core::text::begins_marker;
 use yq_core::{Form, Inline, Piece, first_is};
 use yq_flow_edits::behind;
 
 /// The place of what goes, and what is after it then.
+#[derive(Clone, Copy)]
 pub(crate) struct LeftPlace {
     pub(crate) start: usize,
     pub(crate) end: usize,
@@ -30,6 +32,13 @@ pub(crate) fn end_of(node: &Inline<'_>) -> usize
     ensures { result ≡ entries.end_of (inline_view node.now) }
 {
     node.end
+}
+
+/// Where what comes after the anchor of a node begins.
+pub(crate) fn content_of(node: &Inline<'_>) -> usize
+    ensures { result ≡ runs.content_of (inline_view node.now) }
+{
+    node.content
 }
 
 /// Where the item of an index begins and ends.

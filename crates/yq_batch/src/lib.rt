@@ -4,6 +4,7 @@
 mod adding;
 mod any_order;
 mod change;
+mod gone;
 mod head;
 mod heads;
 mod in_rows;

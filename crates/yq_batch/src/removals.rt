@@ -1,26 +1,21 @@
 //! Items and entries that an update takes out of the flow collections of one head, one before the other: they
 //! are carried out together, and the head is read once.
-ghost use Rattle.std.specs.Prelude.{◌≡◌, ◌+◌, ◌≤◌, [], length, map, IfErr, IfOk, IfSome, None, OnOk, string_bytes};
+ghost use Rattle.std.specs.Prelude.{◌≡◌, ◌-◌, ◌≤◌, [], length, IfErr, IfOk, IfSome, None, OnOk, string_bytes};
 ghost use Rattle.std.specs.Str.{IsCharBoundary, IsUtf8};
 ghost use Rattle.yq_text.{specs.Halves.whole, specs.TextGapBuffer.buffer_text};
-ghost use Rattle.yq_core.{specs.Entries.{end_of, parts_of, tree_step}, specs.View.inline_view};
-ghost use Rattle.yq_documents.specs.Located.{steps_of};
 ghost use Rattle.yq_semantics.specs.Operations.{operation_of, operations_of};
 ghost use Rattle.yq_edit_laws.{specs.Answers.EditFails, specs.Carried.{carry_all, carried}, specs.Theorems.IsFitting};
-ghost use Rattle.yq_edit_laws.{specs.NearParts.head_with, specs.Valid.AreServed};
-ghost use Rattle.yq_batch.{specs.LeftItems.count_parts, specs.RemovalRuns.CarriesTogether, specs.Runs.{IsInText, cut_with, stem_of}};
+ghost use Rattle.yq_edit_laws.specs.Valid.{AreServed};
+ghost use Rattle.yq_batch.{specs.RemovalRuns.CarriesTogether, specs.Runs.{IsInText, cut_with, stem_of}};
 ghost use Rattle.yq_batch.specs.RemovalRuns as spec;
 
-use crate::change::{are_same_steps, steps_in_head};
+use crate::change::steps_in_head;
+use crate::gone::{LeftOf, Removed, gone_in_head};
 use crate::head::HeadInText;
-use crate::left::{LeftPlace, count_of, end_of, left_place};
 use crate::run::{between, bytes_of, push_splice};
 use crate::together::Together;
 use std::alloc::{AllocError, Global};
-use yq_core::{Inline, Step};
-use yq_documents::Path;
-use yq_edit_laws::{EditError, last_step, part_index};
-use yq_places::collection_along;
+use yq_edit_laws::EditError;
 use yq_semantics::{Op, Refusal};
 use yq_text::{Edited, Halves, Splice, TEXT_LIMIT, TextGapBuffer};
 
@@ -32,17 +27,6 @@ pub(crate) struct RemovalRun {
     /// How many bytes of it, from its beginning on, are those that were read.
     pub(crate) keep: usize,
     pub(crate) splices: Vec<Splice>,
-}
-
-/// What is left of the collection from which an item or entry was taken out.
-#[derive(Clone, Copy)]
-pub(crate) struct LeftOf<'s> {
-    /// The steps that lead to it in the head.
-    pub(crate) steps: &'s [Step],
-    /// How many of its first items or entries.
-    pub(crate) count: usize,
-    /// Whether others come after these, and perhaps begin with a document marker.
-    pub(crate) after: Option<bool>,
 }
 
 /// A text from which nothing was taken out.
@@ -62,100 +46,47 @@ pub(crate) fn untouched(alloc: Global, text: Halves<'_>) -> Result<RemovalRun, A
     })
 }
 
-/// What is between two places of the text of a run goes.
-pub(crate) fn take_out(
+/// A text comes in the place of what is between two places of the text of a run, which is no shorter.
+pub(crate) fn exchange(
     alloc: Global,
     run: &mut RemovalRun,
     start: usize,
     end: usize,
+    new: &str,
 ) -> Result<(), EditError>
     requires order { start ≤ end }
+    requires room { length new.now ≤ end - start }
     requires utf8 { IsUtf8 (buffer_text run.old.text) }
     requires start { IsCharBoundary (buffer_text run.old.text) start }
     requires end { IsCharBoundary (buffer_text run.old.text) end }
-    ensures ok { OnOk result (spec.HasTakenOut start end run.old run.new) }
-    ensures err { IfErr result (λ e. spec.RemovalFails e start end run.old) }
+    ensures ok { OnOk result (spec.HasExchanged start end new.now run.old run.new) }
+    ensures err { IfErr result (λ e. spec.ExchangeFails e start end new.now run.old) }
 {
     let old = bytes_of(alloc, between(run.text.halves(), start, end))?;
+    let written = Vec::from_slice(alloc, new.as_bytes())?;
     run.text.move_split(start);
-    run.text.exchange(end - start, "");
+    run.text.exchange(end - start, new);
     run.keep = start;
     if run.text.len() > TEXT_LIMIT {
         return Err(EditError::Refused(Refusal::TooLarge));
     }
-    Ok(push_splice(&mut run.splices, start, old, Vec::new(alloc))?)
-}
-
-/// How many of the first items or entries of a collection are left, and what comes after them: as is known
-/// of the last one, or all of one that ends before what was taken out.
-fn first_left<'s>(
-    steps: &[Step],
-    before: usize,
-    node: &Inline<'_>,
-    known: Option<LeftOf<'s>>,
-    keep: usize,
-) -> Option<(usize, Option<bool>)>
-    ensures { IfSome result (λ x. spec.AreLeft (map tree_step steps.now) known.entry
-        (before + end_of (inline_view node.now)) keep
-        (count_parts (parts_of (inline_view node.now))) x.0 x.1) }
-{
-    if let Some(left) = known {
-        if are_same_steps(left.steps, steps) {
-            return Some((left.count, left.after));
-        }
-    }
-    let end = end_of(node);
-    if before > keep || end > keep - before {
-        return None;
-    }
-    Some((count_of(node), None))
-}
-
-/// What goes with the item or entry in which a path ends, and its index, if steps lead on to its collection in a head,
-/// and what is left of that is known; nothing, where it is a sole one.
-fn gone_in_head<'s>(
-    at: &HeadInText<'_, '_, '_, '_, '_, '_>,
-    path: &Path,
-    steps: &[Step],
-    known: Option<LeftOf<'s>>,
-    keep: usize,
-) -> Option<(LeftPlace, usize)>
-    requires { IsInText at.now }
-    ensures { IfSome result (λ x. spec.GoneInHead (steps_of path.now) (head_with at.now.head steps.entry)
-        known.entry keep x.0 x.1) }
-{
-    let Some((_, last)) = last_step(&path.steps) else {
-        return None;
-    };
-    let Some(node) = collection_along(&at.head.node, steps) else {
-        return None;
-    };
-    let Some((count, after)) = first_left(steps, at.head.before, node, known, keep) else {
-        return None;
-    };
-    let Some(index) = part_index(node, last, count) else {
-        return None;
-    };
-    let Some(place) = left_place(at.head.text.as_bytes(), node, index, count, after) else {
-        return None;
-    };
-    Some((place, index))
+    Ok(push_splice(&mut run.splices, start, old, written)?)
 }
 
 /// Carries out an operation on the text of a run, if it takes an item or entry out of a collection of a
-/// head, before those that were taken out.
+/// head, before those that were taken out; and reports what is left of that collection then.
 fn remove_one<'s>(
     alloc: Global,
     at: &HeadInText<'_, '_, '_, '_, '_, '_>,
     op: &'s Op,
     known: Option<LeftOf<'s>>,
     run: &mut RemovalRun,
-) -> Result<Option<LeftOf<'s>>, EditError>
+) -> Result<Option<Option<LeftOf<'s>>>, EditError>
     requires there { IsInText at.now }
     requires run { spec.RemovesSo (cut_with at.now) at.now.doc (stem_of at.now) known run.old }
     requires fits { IsFitting (operation_of op.now) (buffer_text run.old.text) }
-    ensures ok { IfOk result (λ o. IfSome o (λ k. spec.RemovesOn (operation_of op.now)
-        (cut_with at.now) at.now.doc (stem_of at.now) run.old k run.new)) }
+    ensures ok { IfOk result (λ o. IfSome o (λ next. spec.RemovesOn (operation_of op.now)
+        (cut_with at.now) at.now.doc (stem_of at.now) run.old next run.new)) }
     ensures stays { IfOk result (λ o. o ≡ None → run.new ≡ run.old) }
     ensures err { IfErr result (λ e. EditFails e (carried (operation_of op.now)
         (buffer_text run.old.text))) }
@@ -166,16 +97,17 @@ fn remove_one<'s>(
     let Some(steps) = steps_in_head(path, at.doc, at.stem) else {
         return Ok(None);
     };
-    let Some((place, index)) = gone_in_head(at, path, steps, known, run.keep) else {
+    let Some(gone) = gone_in_head(at, path, steps, known, run) else {
         return Ok(None);
     };
-    let LeftPlace { start, end, after } = place;
-    take_out(alloc, run, at.head.before + start, at.head.before + end)?;
-    Ok(Some(LeftOf {
-        steps,
-        count: index,
-        after,
-    }))
+    let Removed {
+        start,
+        end,
+        new,
+        known,
+    } = gone;
+    exchange(alloc, run, start, end, new)?;
+    Ok(Some(known))
 }
 
 /// The text of a run with the operations that are left, if that is no more than one.
@@ -218,7 +150,7 @@ pub(crate) fn remove_each<'s>(
         let Some(left) = found else {
             return Ok(ended(run, rest));
         };
-        known = Some(left);
+        known = left;
         rest = after;
     }
     Ok(ended(run, rest))

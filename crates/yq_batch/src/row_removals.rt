@@ -10,7 +10,7 @@ ghost use Rattle.yq_edit_laws.{specs.Answers.EditFails, specs.Carried.carry_all,
 ghost use Rattle.yq_batch.specs.RowRemovals as spec;
 
 use crate::change::are_same_steps;
-use crate::removals::{RemovalRun, take_out, untouched};
+use crate::removals::{RemovalRun, exchange, untouched};
 use crate::together::Together;
 use std::alloc::Global;
 use yq_core::lines::split_line;
@@ -134,7 +134,7 @@ fn take_rows<'d>(
     }
     is_text(removal.before);
     is_text(removal.gone);
-    take_out(alloc, run, start, end)?;
+    exchange(alloc, run, start, end, "")?;
     Ok(Some(next))
 }
 

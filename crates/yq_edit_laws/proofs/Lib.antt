@@ -15,6 +15,8 @@ pub mod FlowAppendLaws
 pub mod EarlierPuts
 pub mod FlowRemoveLaws
 pub mod SoleLaws
+pub mod SoleParts
+pub mod SoleEntries
 pub mod EarlierCollections
 pub mod FlowHeads
 pub mod FlowAnswers

@@ -223,3 +223,14 @@ sole_removed n steps init s v c ss read last others empty edit =
           let done = edit.carried h.empty.value (fits n init s v c h) size in
           record { reads = read_so n init s v c h (new_text ss) done.reads; local = done.local };
     })
+
+-- it is a value
+pub empty_value : (old v : Node) → empty_collection old ≡ Some v → IsValueTree v
+empty_value old v e = (is_emptied old v e).value
+
+-- the operation that puts it there fits, where the removal does
+pub sole_fits : (n : ℕ) (init : List Step) (s : Step) (v old : Node) (c : Cut) → read_at (cut_text c) ≡ Some c → has_others_at n (init ++ (s ∷ [])) c ≡ false → node_in n init c ≡ Some old → empty_collection old ≡ Some v →
+    Fits (room_of (cut_text c)) (remove n (init ++ (s ∷ []))) (documents c) → Fits (room_of (cut_text c)) (replace n init v) (documents c)
+sole_fits n init s v old c read others there empty f =
+    fits n init s v c
+    (record { read = read; others = others; d = f.0; document = f.1; old = old; there = there; empty = is_emptied old v empty; node = f.2.1.0; node_is = f.2.1.1; unused = f.2.1.2 })

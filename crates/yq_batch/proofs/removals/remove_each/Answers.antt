@@ -3,7 +3,7 @@ use Rattle.yq_text.specs.TextGapBuffer.{buffer_text}
 use Rattle.yq_semantics.specs.Operations.{operation_of, operations_of}
 use Rattle.yq_edit_laws.{specs.Carried.carry_all, specs.Edit.edit_after, specs.Valid.AreServed}
 use Rattle.yq_edit_laws.{proofs.OperationsLaws.{first_fits, others_come, others_served}, proofs.OrderLaws.behind_none}
-use Rattle.yq_batch.{specs.Runs.{cut_with, stem_of}, specs.RemovalRuns.RemovesOn, specs.declared.removals.LeftOf.LeftOf}
+use Rattle.yq_batch.{specs.Runs.{cut_with, stem_of}, specs.RemovalRuns.RemovesOn, specs.declared.gone.LeftOf.LeftOf}
 use Rattle.yq_batch.proofs.RemovalAnswers.{ended_on, removals_begin}
 use Rattle.yq_batch.proofs.removals.remove_each.Goals as goal
 
@@ -27,7 +27,7 @@ pub operations-preserved : goal.operations-preserved
 operations-preserved c =
     let t : List ℕ = buffer_text c.operations.run.text in
     let m : List ℕ = buffer_text c.remove_one.new.run.text in
-    let on = subst (λ (o : Option LeftOf). IfSome o (λ k. RemovesOn (operation_of c.op-item.result) (cut_with c.args.at.now) c.args.at.now.doc (stem_of c.args.at.now) c.operations.run k c.remove_one.new.run)) c.in-Some.is c.in_ok-found.ensures.ok in
+    let on = subst (λ (o : Option (Option LeftOf)). IfSome o (λ k. RemovesOn (operation_of c.op-item.result) (cut_with c.args.at.now) c.args.at.now.doc (stem_of c.args.at.now) c.operations.run k c.remove_one.new.run)) c.in-Some.is c.in_ok-found.ensures.ok in
     record {
       whole =
           others_come c.operations.rest.now c.op-item.result t m c.operations.run.splices.items on.new_bytes c.remove_one.new.run.splices.items c.in-len1-up.len_at_least c.op-item.is on.comes on.splices
