@@ -1,8 +1,8 @@
 -- A changed text, given as a tree with the lead that goes with it.
-use Rattle.std.proofs.Common.{◌≡◌, ℕ, zero, suc, List, [], ◌∷◌, map, Bool, true, false, Some, refl, sym, ap, ◌∙◌}
+use Rattle.std.proofs.Common.{rules, ◌≡◌, ℕ, zero, suc, List, [], ◌∷◌, map, Bool, true, Some, refl, sym, ap, ◌∙◌}
 use Rattle.std.{proofs.lemmas.Option.same_Some, specs.List.slice_get}
 use mathlib.Core.List.{head-eq_of_cons-eq, tail-eq_of_cons-eq}
-use Rattle.yq_core.{specs.Paths.{change_child, within}, specs.Tree.{Node, Children, none, child}}
+use Rattle.yq_core.{specs.Paths.{change_child, within}, specs.Tree.{Node, Children, none}}
 use Rattle.yq_row_table.specs.Rows.{Part}
 use Rattle.yq_documents.{specs.Documents.Document, specs.Reading.part_document, specs.TreeEdits.{change_nth, lead_by}}
 use Rattle.yq_edit_rules.{specs.After.EndIsChange, specs.Edited.first_above}
@@ -28,9 +28,7 @@ nth_same (suc k) p f g (x ∷ ps) e same = ap (λ ds. part_document x ∷ ds) (n
 
 -- the lead of a block root goes with it
 pub by_first : (cs : Children) (lead other : List (List ℕ)) → first_above cs ≡ Some lead → lead_by true cs other ≡ lead
-by_first none lead other e = cc
-by_first (child l n cs) lead other e = cc
+by_first cs lead other e = search rules
 
 pub none_kept : (block : Bool) (cs : Children) (lead : List (List ℕ)) → (block ≡ true → cs ≡ none) → lead_by block cs lead ≡ lead
-none_kept false cs lead h = refl
-none_kept true cs lead h = ap (λ ds. lead_by true ds lead) (h refl)
+none_kept block cs lead h = search rules

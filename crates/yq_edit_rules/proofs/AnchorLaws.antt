@@ -1,6 +1,5 @@
 -- Anchors of lines, and keys of rows, where some are replaced by others.
-use Rattle.std.proofs.Common.{◌≡◌, ℕ, List, [], ◌∷◌, ◌++◌, Option, Some, None, refl, sym, ap, ◌∙◌, subst, rules}
-use Rattle.std.proofs.lemmas.Option.{same_Some}
+use Rattle.std.{proofs.Common.{◌≡◌, ℕ, List, [], ◌∷◌, ◌++◌, Option, refl, ap, ◌∙◌, subst, rules}, proofs.lemmas.Option.same_Some}
 use Rattle.yq_row_table.specs.Rows.{Row}
 use Rattle.yq_outline.{specs.LineAnchors.{IsFree, HaveOneAnchorEach}, specs.Outline.{Line, level, Outline, end, row, flatten}}
 use Rattle.yq_outline.specs.Places.{Context, here, below, beside, lines_before, lines_after, FoundLine}
@@ -21,20 +20,14 @@ each_join (l ∷ []) ys h k f = (f, k)
 each_join (l ∷ (m ∷ xs)) ys h k f = (first l.anchor h.0, each_join (m ∷ xs) ys h.1 k f)
   where
     first : (a : Option (List ℕ)) → IsFree a (m ∷ xs) → IsFree a (m ∷ (xs ++ ys))
-    first None h = tt
-    first (Some a) h = h
+    first a h = search rules
 
 pub any_free : (a : Option (List ℕ)) (ys : List Line) → BeginsEntry ys → IsFree a ys
-any_free a ys e = free_longer a [] ys (none a) e
-  where
-    none : (a : Option (List ℕ)) → IsFree a []
-    none None = tt
-    none (Some a) = tt
+any_free a ys e = search (rules, free_longer)
 
 pub anchors_stay : AnchorsStay
 anchors_stay before gone come after h new free anew =
-    let back : HaveOneAnchorEach after = each_back gone after (each_back before (gone ++ after) h) in
-    each_join before (come ++ after) (each_front before (gone ++ after) h) (each_join come after new back (any_free (last_anchor come) after anew)) (free_longer (last_anchor before) come after free anew)
+    search (rules, each_back gone after (each_back before (gone ++ after) h), each_join, each_front, any_free, free_longer)
 
 -- the lines after a place begin with an entry
 pub collection_anew : (o : Outline) → IsCollection o → BeginsEntry (flatten o)
@@ -42,8 +35,7 @@ collection_anew end c = tt
 collection_anew (row l u a) c = entry_out l.mark c
 
 pub both_anew : (xs ys : List Line) → BeginsEntry xs → BeginsEntry ys → BeginsEntry (xs ++ ys)
-both_anew [] ys h k = k
-both_anew (l ∷ xs) ys h k = h
+both_anew xs ys h k = search rules
 
 pub after_anew : (n m : ℕ) (p : Context) → Allows n p m → BeginsEntry (lines_after p)
 after_anew n m here h = tt
@@ -65,8 +57,7 @@ lines_among n o (s ∷ ss) h even e = found (lines_found s ss o h e)
         let old = under_even n o s ss f even w.is in
         let entry : allowing.IsEntry f.line.mark = headless_entry f.line.mark f.line.head f.after w.open' (old.1).2 in
         let after : BeginsEntry (flatten f.after) = collection_anew f.after (next (level f.line) f.line f.after entry refl (old.1).4) in
-        let behind : BeginsEntry (lines_after (under_line f).place) =
-        subst BeginsEntry (sym (after_under f.place f.line f.after)) (both_anew (flatten f.after) (lines_after f.place) after (after_anew n (level f.line) f.place old.0)) in
+        let behind : BeginsEntry (lines_after (under_line f).place) = search (rules, after_under, both_anew, after_anew) in
         let anchor : last_anchor (lines_before (under_line f).place) ≡ f.line.anchor = ap last_anchor (before_under f.place f.line f.after) ∙ last_is (lines_before f.place) f.line in
         subst (λ (x : NodeLines). BeginsEntry (lines_after x.place) × (last_anchor (lines_before x.place) ≡ x.anchor)) w.place_is (behind, anchor)
 

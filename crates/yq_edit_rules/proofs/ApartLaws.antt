@@ -1,11 +1,11 @@
 -- Where lines begin and end among rows, by their levels.
-use Rattle.std.proofs.Common.{◌≡◌, ◌⊎◌, inl, inr, ⊎_elim, ℕ, suc, ◌+◌, ◌*◌, ◌≤◌, List, [], ◌∷◌, ◌++◌, Option, Some, None, option_map}
-use Rattle.std.{proofs.Common.{is_some, Bool, true, false, cond, refl, sym, ap, ◌∙◌, subst, arith}, proofs.lemmas.Bool.false≢true}
+use Rattle.std.proofs.Common.{rules, ◌≡◌, ◌⊎◌, inl, inr, ⊎_elim, ℕ, suc, ◌+◌, ◌*◌, ◌≤◌, List, [], ◌∷◌, ◌++◌, Option, Some, None, option_map}
+use Rattle.std.{proofs.Common.{Bool, true, false, cond, refl, sym, ap, ◌∙◌, subst, arith}, proofs.lemmas.Bool.false≢true}
 use Rattle.std.proofs.lemmas.Option.{same_Some}
 use mathlib.Core.List.{head-eq_of_cons-eq, tail-eq_of_cons-eq}
-use Rattle.yq_core.{specs.Paths.{Step, is_here, further}, specs.Tree.Node}
+use Rattle.yq_core.specs.Paths.{Step, is_here, further}
 use Rattle.yq_outline.{specs.Comments.head_comment, specs.Group.level_or, specs.Lines.{mark_line, lines_from, row_lines, lines_of_rows}}
-use Rattle.yq_outline.specs.Outline.{Line, level, Outline, flatten, IsOpen, IsEven, label, end, row}
+use Rattle.yq_outline.specs.Outline.{Line, level, Outline, flatten, IsEven, label, end, row}
 use Rattle.yq_outline.specs.Places.{Context, here, below, beside, lines_before, lines_after, FoundLine, next_to, find_row}
 use Rattle.yq_outline.{proofs.Allowing.Allows, proofs.PlaceLaws.at, proofs.Values.{If, rank_small}}
 use Rattle.yq_row_table.specs.Rows.{Content, Row}
@@ -30,8 +30,7 @@ even_deep n (row l u a) e = (let same = e.0 in omega (arith, same), deep_both n 
 
 -- first lines
 pub begins_both : (n : ℕ) (xs ys : List Line) → Begins n xs → Begins n ys → Begins n (xs ++ ys)
-begins_both n [] ys a b = b
-begins_both n (x ∷ xs) ys a b = a
+begins_both n xs ys a b = search rules
 
 pub begins_less : (n m : ℕ) (xs : List Line) → n ≤ m → Begins n xs → Begins m xs
 begins_less n m [] e h = tt
@@ -55,10 +54,7 @@ apart_deep n (l ∷ (k ∷ b)) z d h = apart_deep n (k ∷ b) z d.1 h
 -- lines after a place
 pub after_begins : (n m : ℕ) (p : Context) → Allows n p m → Begins m (lines_after p)
 after_begins n m here a = tt
-after_begins n m (below l p after) a =
-    let lt = a.3.1 in
-    let more = allowed_level a.3.0 m p a.3.2 in
-    begins_both m (lines_after p) (flatten after) (after_begins a.3.0 m p a.3.2) (begins_less n m (flatten after) (omega (arith, lt, more)) (even_begins n after a.4))
+after_begins n m (below l p after) a = search (rules, arith, allowed_level, begins_both, begins_less, even_begins, after_begins a.3.0 m p a.3.2)
 after_begins n m (beside l under p) a = after_begins n m p a.4
 
 lines_begin : (n : ℕ) (o : Outline) (steps : List Step) (h : NodeLines) → IsEven n o → lines_at steps o ≡ Some h → Begins h.above (lines_after h.place)
@@ -66,16 +62,10 @@ lines_begin n o [] h even e = subst (λ (x : NodeLines). Begins x.above (lines_a
 lines_begin n o (s ∷ ss) h even e = found (lines_found s ss o h e)
   where
     found : Under s ss o h → Begins h.above (lines_after h.place)
-    found w =
-        let f = w.found in
-        let there = under_even n o s ss f even w.is in
-        subst (λ (x : NodeLines). Begins x.above (lines_after x.place)) w.place_is
-        (subst (Begins (level f.line)) (sym (after_under f.place f.line f.after))
-        (begins_both (level f.line) (flatten f.after) (lines_after f.place) (even_begins (level f.line) f.after there.1.4) (after_begins n (level f.line) f.place there.0)))
+    found w = search (rules, under_even n o s ss w.found even w.is, after_under, begins_both, even_begins, after_begins)
 
 pub block_some : (o : Outline) → HasEntries o → flatten o ≡ [] → ⊥
-block_some end b e = absurd b
-block_some (row l u a) b e = cc
+block_some o b e = search rules
 
 pub lines_apart : LinesApart
 lines_apart n o steps h even e block =
@@ -114,14 +104,10 @@ entries_apart n o steps s h f even e =
     let own = w.even in
     let lt = deep.0 in
     let same : level f.line ≡ m = own.0 in
-    let behind : Begins m (lines_behind h f) =
-    begins_both m (flatten f.after ++ lines_after f.place) (lines_after h.place)
-    (begins_both m (flatten f.after) (lines_after f.place) (even_begins m f.after own.4) (subst (Begins m) (sym w.after) tt))
-    (begins_less h.above m (lines_after h.place) (omega (arith, lt)) (lines_begin n o steps h even e.place_is)) in
+    let behind : Begins m (lines_behind h f) = search (rules, arith, begins_both, even_begins, begins_less, lines_begin) in
     let lines : AreDeep m (f.line ∷ flatten f.under) = (omega (arith, same), deep_less m own.3.0 (flatten f.under) (let less = own.3.1 in omega (arith, less)) (even_deep own.3.0 f.under own.3.2)) in
     record {
-      begin = λ some. apart_skip (lines_before h.place) (lines_before f.place) ((f.line ∷ flatten f.under) ++ lines_behind h f) some
-          (apart_deep m (lines_before f.place) ((f.line ∷ flatten f.under) ++ lines_behind h f) w.before (omega (arith, same)));
+      begin = search (rules, arith, apart_skip, apart_deep);
       end = apart_skip (lines_before h.place ++ lines_before f.place) (f.line ∷ flatten f.under) (lines_behind h f) (λ none. cc) (apart_deep m (f.line ∷ flatten f.under) (lines_behind h f) lines behind);
       next = begins_less m (level f.line) (lines_behind h f) (omega (arith, same)) behind;
     }
@@ -134,14 +120,7 @@ closed_both n (x ∷ xs) ys d b h k = (λ some. begins_both (level x) xs ys (h.0
 pub even_closed : EvenClosed
 even_closed n end e = tt
 even_closed n (row l u a) e =
-    let lt = e.3.1 in
-    let same = e.0 in
-    (head l.head u e.1, closed_both n (flatten u) (flatten a) (deep_less n e.3.0 (flatten u) (omega (arith, lt)) (even_deep e.3.0 u e.3.2)) (even_begins n a e.4) (even_closed e.3.0 u e.3.2) (even_closed n a e.4))
-  where
-    head : (x : Option Node) (u : Outline) → IsOpen x u → is_some x ≡ true → Begins (level l) (flatten u ++ flatten a)
-    head None u o some = absurd (false≢true some)
-    head (Some y) end o some = begins_less n (level l) (flatten a) (let same = e.0 in omega (arith, same)) (even_begins n a e.4)
-    head (Some y) (row k v b) o some = absurd o
+    search (rules, arith, closed_both, deep_less, even_deep, even_begins, false≢true, begins_less, even_closed e.3.0 u e.3.2, even_closed n a e.4)
 
 pub closed_back : (xs ys : List Line) → AreClosed (xs ++ ys) → AreClosed ys
 closed_back [] ys h = h
@@ -158,8 +137,7 @@ abbrev Around : List Line → List Line → List Line → List Line → Type 0
 Around ls rest a z = (a ≡ []) ⊎ ((b : List Line) × (a ≡ ls ++ b) × (rest ≡ b ++ z) × StandApart b z)
 
 apart_rest : (x : Line) (a z : List Line) → StandApart (x ∷ a) z → StandApart a z
-apart_rest x [] z h = tt
-apart_rest x (y ∷ a) z h = h
+apart_rest x a z h = search rules
 
 row_around : (above : List (List ℕ)) (column : ℕ) (ns : List ℕ) (m : rows.RowMark) (c : Content) (rest a z : List Line) → lines_from above column ns m c ++ rest ≡ a ++ z → StandApart a z →
     Around (lines_from above column ns m c) rest a z

@@ -1,6 +1,6 @@
 -- One item or entry more at the end of a text that has no final break: the break comes first.
-use Rattle.std.proofs.Common.{arith, inr, ◌≡◌, ℕ, ◌+◌, ◌≤◌, true, false, List, [], ◌∷◌, ◌++◌, length, Option, Some, refl, sym, ap, ◌∙◌}
-use Rattle.std.proofs.Common.{subst, append_assoc, append-nil, replicate}
+use Rattle.std.proofs.Common.{rules, arith, inr, ◌≡◌, ℕ, ◌+◌, ◌≤◌, true, false, List, [], ◌∷◌, ◌++◌, length, Option, Some, refl, sym, ap}
+use Rattle.std.proofs.Common.{◌∙◌, subst, append_assoc, append-nil}
 use Rattle.yq_core.{specs.declared.block_types.Break.Break, specs.BlockWritten.break_text, specs.Paths.Step, specs.Tree.Node}
 use Rattle.yq_core.specs.Text.{is_line}
 use Rattle.yq_text.{specs.Limit.text_limit, specs.Script.{Segment, new_text}}
@@ -11,23 +11,21 @@ use Rattle.yq_row_table.specs.Grammar.{IsTail, limit_after}
 use Rattle.yq_places.{specs.CollectionEnds.CollectionEnd, specs.RowPaths.IsReadable, proofs.RunSpans.rows_then}
 use Rattle.yq_documents.specs.Reading.{read_at}
 use Rattle.yq_edit_rules.{specs.declared.layout.Layout.Layout, specs.Alone.singleton, specs.BlockRows.node_rows}
-use Rattle.yq_edit_rules.{specs.BlockText.block_value, proofs.TextLaws.value_spelled, specs.Changed.put_document}
-use Rattle.yq_edit_rules.{specs.CollectionPlaces.IsCollectionEnd, specs.DocumentRows.behind_document, proofs.TextPieceLaws.pieces_joined}
-use Rattle.yq_edit_rules.{specs.Local.{IsLocal, IsLocalTo}, proofs.ItemsLocal.{first_within, last_nothing}}
-use Rattle.yq_edit_rules.{proofs.LocalLaws.{cut_known, rows_local}, specs.Layouts.layout_of, specs.EntryEdits.entry_lines}
-use Rattle.yq_edit_rules.{specs.ReadsAfter.ReadsAfter, proofs.CommentPieceLaws.break_piece, proofs.SegmentLaws.segments_readable}
-use Rattle.yq_edit_rules.{specs.BlockValues.IsEnd, specs.Ends.{TakesRowsLast, closed_with}, proofs.EndLaws.end_of_text_appended}
+use Rattle.yq_edit_rules.{proofs.TextLaws.value_spelled, specs.Changed.put_document, specs.CollectionPlaces.IsCollectionEnd}
+use Rattle.yq_edit_rules.{specs.DocumentRows.behind_document, proofs.TextPieceLaws.pieces_joined, specs.Local.{IsLocal, IsLocalTo}}
+use Rattle.yq_edit_rules.{proofs.ItemsLocal.{first_within, last_nothing}, proofs.LocalLaws.{cut_known, rows_local}, specs.Layouts.layout_of}
+use Rattle.yq_edit_rules.{specs.EntryEdits.entry_lines, specs.ReadsAfter.ReadsAfter, proofs.CommentPieceLaws.break_piece}
+use Rattle.yq_edit_rules.{proofs.SegmentLaws.segments_readable, specs.BlockValues.IsEnd, specs.Ends.{TakesRowsLast, closed_with}}
+use Rattle.yq_edit_rules.proofs.EndLaws.{end_of_text_appended}
 use Rattle.yq_edit_rules.proofs.UnbrokenLaws.{EndsText, ends_text, closed_row, closed_text, closed_root, closed_lead, some_closed}
 use Rattle.yq_edit_rules.proofs.AppendEntryLaws.{none_uncommented}
 use Rattle.yq_edit_rules.proofs.AppendPlaces.{IsAppendPlace, put_segments, old_is, p, there, e, allows_there, kept_pieces, IsAsked, entry}
 use Rattle.yq_edit_rules.{proofs.AppendPlaces.{written, new_rows_are, entry_piece, filled, finished}, proofs.LaidRows.no_gap_here}
 use Rattle.yq_semantics.specs.Operations.{append}
-use Rattle.yq_core.specs.declared.block_types.Break.TheVariants as breaks
 
 one_break : (br : Break) → is_one_break (break_text br) ≡ true
 unfolding is_line
-one_break breaks.Lf = refl
-one_break breaks.CrLf = refl
+one_break br = search rules
 
 -- nothing may come after rows
 pub nothing_tail : IsTail [] []
@@ -62,9 +60,7 @@ module _ (doc : ℕ) (steps : List Step) (key : Option (List ℕ)) (v : Node) (c
   ends = ends_text c doc part steps x place (allows_there doc steps c x read at) broken
 
   new_lines : rows_text new [] ≡ lines
-  new_lines =
-      let w = filled doc steps key v c x read at g in
-      value_spelled (singleton key v) l x.column [] [] w.filled w.value ∙ ap (λ z. replicate x.column 32 ++ z) (append-nil (block_value l x.column (singleton key v)))
+  new_lines = search (rules, filled doc steps key v c x read at g, value_spelled, append-nil)
 
   new_is : cut_text (put_document doc q c) ≡ new_text (put_segments x (break_text l.br ++ lines))
   new_is =

@@ -1,17 +1,16 @@
 -- The rows of one item or entry that is written.
-use Rattle.std.proofs.Common.{◌≡◌, ℕ, ◌+◌, ◌*◌, ◌<◌, ◌≤◌, true, List, [], ◌∷◌, ◌++◌, Option, Some, None, refl, subst, append-nil, rules}
+use Rattle.std.proofs.Common.{◌≡◌, ℕ, ◌+◌, ◌*◌, ◌<◌, ◌≤◌, List, [], ◌∷◌, ◌++◌, Option, Some, None, refl, subst, append-nil, rules}
 use Rattle.yq_core.{specs.Text.upto, specs.Tree.{Node, Children, none, child, key_label}}
 use Rattle.yq_flow_edits.specs.Valued.{IsValueTree}
 use Rattle.yq_outline.{specs.LineAnchors.HaveOneAnchorEach, specs.Comments.line_comment}
 use Rattle.yq_outline.specs.Outline.{LineMark, Line, level, rank, Outline, end, row, flatten, IsOpen, IsEven, label, outline_node, children}
 use Rattle.yq_outline.{specs.Outline.{value, Stands}, specs.Places.content_under, proofs.ByRules.rules_give, specs.Lines.lines_of_rows}
-use Rattle.yq_row_table.{specs.Gap.IsGap, specs.Grammar.{Limit, limit_after, allows, AreRows}, specs.Rows.Row, specs.Splices.first_gap}
+use Rattle.yq_row_table.{specs.Gap.IsGap, specs.Grammar.{Limit, limit_after, AreRows}, specs.Rows.Row, specs.Splices.first_gap}
 use Rattle.yq_documents.specs.Documents.{HaveFitKeys}
 use Rattle.yq_edit_rules.{specs.declared.layout.Layout.Layout, specs.Alone.singleton}
 use Rattle.yq_edit_rules.specs.BlockRows.{inline_of, node_rows, children_rows, entry_rows, rows_on_dash, end_of_line_before, column_below}
 use Rattle.yq_edit_rules.specs.BlockValues.{IsEnd, IsFilledValue, IsNear, HasNearKeys, IsWritable, level_at}
-use Rattle.yq_edit_rules.{proofs.FitLaws.{node_fit, keys_fit, anchors_fit}, proofs.LaidRows.laid_rows, proofs.BlockLineLaws.node_stands}
-use Rattle.yq_edit_rules.{proofs.RowLaws.value_laid, specs.Operands.KeyIsUtf8}
+use Rattle.yq_edit_rules.{proofs.FitLaws.{node_fit, keys_fit, anchors_fit}, proofs.BlockLineLaws.node_stands, specs.Operands.KeyIsUtf8}
 use Rattle.yq_core.specs.Tree as tree
 use Rattle.yq_core.specs.Nodes as inline
 
@@ -45,12 +44,6 @@ no_more (row l u a) e = absurd (cc)
 children_same : (x y : tree.Label) (n m : Node) (cs ds : Children) → child x n cs ≡ child y m ds → (x ≡ y) × (n ≡ m) × (ds ≡ cs)
 children_same x y n m cs ds e = (cc, cc, cc)
 
-list_same : (cs ds : Children) → tree.list None cs ≡ tree.list None ds → cs ≡ ds
-list_same cs ds e = cc
-
-map_same : (cs ds : Children) → tree.map None cs ≡ tree.map None ds → cs ≡ ds
-map_same cs ds e = cc
-
 -- the line of an outline with one item or entry
 abbrev IsOne : Option (List ℕ) → Node → Line → Outline → Outline → Type 0
 IsOne k v l u a = (label l ≡ key_label k) × (content_under l u ≡ v) × (a ≡ end)
@@ -60,7 +53,7 @@ is_child k v l u a e = let x = children_same (label l) (key_label k) (content_un
 
 -- its mark, by its level
 is_one : (k : Option (List ℕ)) (v : Node) (column : ℕ) (l : Line) (u a : Outline) (m : LineMark) → l.mark ≡ m → 3 * l.column + rank m ≡ entry_level k column → outline_node m (child (label l) (content_under l u) (children a)) ≡ singleton k v → IsOne k v l u a
-is_one k v column l u a m h1 h2 h3 = search (rules, is_child, list_same, map_same)
+is_one k v column l u a m h1 h2 h3 = search (rules, is_child)
 
 -- the outline of a collection of one item or entry
 one_row : (key : Option (List ℕ)) (v : Node) (column : ℕ) (o : Outline) (rs : List Row) → IsEven (entry_level key column) o → flatten o ≡ lines_of_rows rs → value o ≡ singleton key v → IsEntryOf key v column rs
@@ -121,7 +114,3 @@ entry_bare key v l column last = rows_bare l column last (singleton key v)
 pub rows_gap : (limit : Limit) (rs : List Row) (gap rest : List ℕ) → AreRows limit rs [] (gap ++ rest) → IsGap gap rest → AreRows limit rs gap rest
 rows_gap limit [] gap rest h g = g
 rows_gap limit (r ∷ rs) gap rest h g = (h.0, rows_gap (limit_after r) rs gap rest h.1 g)
-
-pub entry_rows_are : (key : Option (List ℕ)) (v : Node) (l : Layout) (column : ℕ) (last gap rest : List ℕ) (limit : Limit) → IsWritable (singleton key v) column last (gap ++ rest) → allows limit column ≡ true → IsGap gap rest →
-    AreRows limit (node_rows l column last (singleton key v)) gap rest
-entry_rows_are key v l column last gap rest limit w allowed g = search (rules, rows_gap, laid_rows, value_laid)

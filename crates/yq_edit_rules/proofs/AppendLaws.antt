@@ -90,9 +90,7 @@ block_appended t c k p steps h front back new m l u old there_is size w takes te
     let less = w.fits.deep in
     let above : h.above < n = deep.0 in
     let new_deep : AreDeep n (lines_of_rows new) = subst (AreDeep n) (sym w.lines) (omega (arith, level_is), deep_less n m (flatten u) (omega (arith, level_is, less)) (even_deep m u w.fits.even)) in
-    let first : StandApart (lines_of_rows front) (l ∷ []) =
-    subst (λ (ls : List Line). StandApart ls (l ∷ [])) (sym parts.0) (apart_skip (lines_before h.place) (flatten h.lines) (l ∷ []) (block_some h.lines there_is.block)
-    (apart_deep n (flatten h.lines) (l ∷ []) (even_deep n h.lines deep.1) (omega (arith, level_is)))) in
+    let first : StandApart (lines_of_rows front) (l ∷ []) = search (rules, arith, apart_skip, block_some, apart_deep, even_deep) in
     let part : AreRows unlimited (front ++ back) p.end rest =
     subst (λ (rs : List Row). AreRows unlimited rs p.end rest) takes.rows_are (subst (λ (x : Part). AreRows unlimited x.rows x.end rest) (part_numbered c k p old.there).0 (part_in c (part_number k c) true known.cut.parts).rows) in
     let gap : List ℕ = first_gap back p.end in

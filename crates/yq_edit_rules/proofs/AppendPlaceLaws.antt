@@ -2,23 +2,21 @@
 use Rattle.std.proofs.Common.{◌≡◌, ℕ, suc, ◌+◌, ◌*◌, ◌<◌, ◌≤◌, List, [], ◌∷◌, ◌++◌, Option, Some, None, true, refl, sym, ap, ◌∙◌, subst}
 use Rattle.std.{proofs.Common.{arith, append_assoc, append-nil, length-append, rules}, proofs.lemmas.Bool.lt-ltb}
 use Rattle.std.proofs.lemmas.Option.{same_Some}
-use Rattle.yq_outline.{specs.Comments.head_comment, specs.Group.level_or, specs.Outline.{Line, level, Outline, flatten}}
+use Rattle.yq_outline.{specs.Comments.head_comment, specs.Group.level_or, specs.Outline.{Line, level, flatten}}
 use Rattle.yq_outline.{specs.Places.{lines_before, lines_after}, proofs.Decides.flatten-group}
 use Rattle.yq_outline.specs.Lines.{mark_line, lines_from, row_lines, lines_of_rows}
 use Rattle.yq_core.specs.Paths.{Step}
 use Rattle.yq_row_table.{specs.Exchange.{allows_first, asked_behind}, specs.Gap.IsGap}
-use Rattle.yq_row_table.{specs.Grammar.{Limit, unlimited, allows, limit_after, AreRows}, specs.Rows.{Content, Row, mark_column, Part, Cut}}
+use Rattle.yq_row_table.{specs.Grammar.{Limit, unlimited, allows, limit_after, AreRows}, specs.Rows.{Row, mark_column, Part, Cut}}
 use Rattle.yq_row_table.{specs.Splices.{first_gap, behind_first}, proofs.PlainEnds.{AtLine, rows_line}, proofs.seams.SeamLaws.part_line}
 use Rattle.yq_row_table.{proofs.splices.PartPlaces.{part_in, part_ends}, proofs.splices.SpliceTexts.first_is}
 use Rattle.yq_places.{specs.CollectionEnds.CollectionEnd, proofs.UnderExchange.lines_append}
 use Rattle.yq_documents.{specs.Reading.part_outline, specs.PartNumbers.part_number}
-use Rattle.yq_edit_rules.{specs.CollectionPlaces.{BeginsAt, IsCollectionEnd}, specs.DocumentRows.{IsDocumentPart, behind_document}}
-use Rattle.yq_edit_rules.{specs.LineRows.{Begins, AreDeep}, specs.Moved.dash_lines, specs.Siblings.HasEntries}
-use Rattle.yq_edit_rules.proofs.ApartLaws.{even_deep, lines_apart, block_some}
+use Rattle.yq_edit_rules.{specs.CollectionPlaces.IsCollectionEnd, specs.DocumentRows.{IsDocumentPart, behind_document}}
+use Rattle.yq_edit_rules.{specs.LineRows.{Begins, AreDeep}, specs.Moved.dash_lines, proofs.ApartLaws.{even_deep, lines_apart, block_some}}
 use Rattle.yq_edit_rules.proofs.ColumnLaws.{allowed_content, below_entry, below_node, high_level, next_low}
 use Rattle.yq_edit_rules.{proofs.LineLaws.{above_mark, mark_behind}, proofs.NodeLineLaws.lines_even}
 use Rattle.yq_edit_rules.{proofs.PartLaws.{document_known, part_numbered}, proofs.PlacedLaws.{same_parts, whole_lines}}
-use Rattle.yq_row_table.specs.Rows as rows
 
 -- ---- a row whose last line is deep
 
@@ -40,13 +38,10 @@ deep_last n (x ∷ (z ∷ ls)) l h e = deep_last n (z ∷ ls) l h.1 e
 row_last : (r : Row) → last_line (row_lines r) ≡ Some (mark_line (above_mark (head_comment r.gap) r.dashes) (mark_column r) r.mark r.content)
 row_last r = ap last_line (mark_behind (head_comment r.gap) r.column r.dashes r.mark r.content) ∙ last_of (dash_lines (head_comment r.gap) r.column r.dashes) _ []
 
-bare_level : (above : List (List ℕ)) (column : ℕ) (c : Content) → level (mark_line above column rows.Bare c) ≡ 3 * column + 1
-unfolding level
-bare_level above column c = refl
-
 -- an entry or item in a column less deep than the last line of a row may come after that row
 mark_limit : (n column : ℕ) (r : Row) → 3 * column + 1 < n → n ≤ level (mark_line (above_mark (head_comment r.gap) r.dashes) (mark_column r) r.mark r.content) → allows (limit_after r) column ≡ true
-mark_limit n column r low deep = search (rules, allowed_content, above_mark, bare_level, high_level, below_node, below_entry)
+unfolding level
+mark_limit n column r low deep = search (rules, allowed_content, above_mark, high_level, below_node, below_entry)
 
 -- after the last of rows
 pub last_limit : (limit : Limit) (others : List Row) (r : Row) → asked_behind limit (others ++ (r ∷ [])) ≡ limit_after r
@@ -62,19 +57,12 @@ row_some r = go r.dashes
 
 -- the last line of rows
 rows_last : (others : List Row) (r : Row) → last_line (lines_of_rows (others ++ (r ∷ []))) ≡ last_line (row_lines r)
-rows_last others r =
-    let w = row_some r in
-    ap last_line (lines_append others (r ∷ []) ∙ ap (λ ls. lines_of_rows others ++ ls) (append-nil (row_lines r) ∙ w.2)) ∙ (last_of (lines_of_rows others) w.0 w.1 ∙ ap last_line (sym w.2))
+rows_last others r = search (rules, row_some r, lines_append, append-nil, last_of)
 
 -- lines that end in some
 ends_some : (xs ys : List Line) → (ys ≡ [] → ⊥) → last_line (xs ++ ys) ≡ last_line ys
 ends_some xs [] some = absurd (some refl)
 ends_some xs (y ∷ ys) some = last_of xs y ys
-
--- the level of a collection's lines
-entry_level : (column : ℕ) (o : Outline) → HasEntries o → BeginsAt column o → (3 * column + 1 < level_or 0 o) × (level_or 0 o ≤ 3 * column + 3)
-unfolding level
-entry_level column o h1 h2 = search rules
 
 -- the next rows are no deeper
 low_first : (n column : ℕ) (back : List Row) → n ≤ 3 * column + 3 → (m : ℕ) → m < n → Begins m (lines_of_rows back) → allows_first (record { column = Some (suc column) }) back ≡ true
@@ -93,6 +81,7 @@ pub record EndAllows (c : Cut) (k : ℕ) (p : Part) (x : CollectionEnd) (front b
   pub gap : IsGap (first_gap back p.end) (behind_first back p.end (behind_document k c))
 
 pub end_allows : (t : List ℕ) (c : Cut) (k : ℕ) (p : Part) (steps : List Step) (x : CollectionEnd) → IsDocumentPart t c k p → (e : IsCollectionEnd c k p steps x) → EndAllows c k p x e.front e.back
+unfolding level
 end_allows t c k p steps x h e =
     let known = document_known t c k p h in
     let o = part_outline p in
@@ -100,7 +89,7 @@ end_allows t c k p steps x h e =
     let rest : List ℕ = behind_document k c in
     let deep = lines_even (level_or 0 o) o steps e.h known.even e.collection.place_is e.collection.block in
     let apart = lines_apart (level_or 0 o) o steps e.h known.even e.collection.place_is e.collection.block in
-    let lev = entry_level x.column e.h.lines e.collection.block e.first in
+    let lev : (3 * x.column + 1 < level_or 0 e.h.lines) × (level_or 0 e.h.lines ≤ 3 * x.column + 3) = search rules in
     let whole : lines_of_rows e.front ++ ([] ++ lines_of_rows e.back) ≡ (lines_before e.h.place ++ flatten e.h.lines) ++ ([] ++ lines_after e.h.place) =
     sym (lines_append e.front e.back)
     ∙ (ap lines_of_rows (sym e.rows_are) ∙ (sym (flatten-group (lines_of_rows p.rows)) ∙ (whole_lines o steps e.h e.collection.place_is ∙ sym (append_assoc (lines_before e.h.place) (flatten e.h.lines) (lines_after e.h.place))))) in

@@ -1,6 +1,6 @@
 -- The place of one more item or entry in a text, and its rows there.
 use Rattle.std.proofs.Common.{inl, inr, ◌≡◌, ℕ, suc, true, false, List, [], ◌∷◌, ◌++◌, length, Option, Some, None, sym, ap, ◌∙◌, subst}
-use Rattle.std.{proofs.Common.{append_assoc, append-nil, replicate, rules}, proofs.lemmas.Bool.false≢true, proofs.lemmas.Option.same_Some}
+use Rattle.std.{proofs.Common.{append_assoc, append-nil, rules}, proofs.lemmas.Bool.false≢true, proofs.lemmas.Option.same_Some}
 use Rattle.std.specs.List.{slice_get}
 use Rattle.yq_core.{specs.Keys.{HasUniqueKeys, keys_of}, specs.Paths.{Step, append_child, changed_at, node_at, within}, specs.Tree.Node}
 use Rattle.yq_flow_edits.specs.Valued.{IsValueTree}
@@ -10,18 +10,19 @@ use Rattle.yq_row_table.{specs.Grammar.{unlimited, AreRows, no_rows, Limit, allo
 use Rattle.yq_row_table.{proofs.seams.SeamLaws.rows_text-append, specs.Gap.IsGap}
 use Rattle.yq_places.{specs.CollectionEnds.CollectionEnd, proofs.CommentPieceLaws.Ended}
 use Rattle.yq_documents.{specs.Documents.{document_parts, lead_of}, specs.Reading.{part_outline, read_at, root_of}}
+use Rattle.yq_edit_rules.proofs.AppendEntryLaws.{rows_gap, alone_value, alone_writable, IsEntryOf, entry_of, entry_keys, entry_anchors}
+use Rattle.yq_edit_rules.{proofs.AppendEntryLaws.entry_bare, proofs.LaidRows.laid_rows, proofs.RowLaws.value_laid}
 use Rattle.yq_edit_rules.{specs.declared.layout.Layout.Layout, specs.Alone.singleton, specs.BlockRows.node_rows}
-use Rattle.yq_edit_rules.{specs.BlockText.block_value, specs.BlockValues.{IsFilledValue, IsEnd}, proofs.CharacterLaws.value_sound}
-use Rattle.yq_edit_rules.{specs.Appends.AreAppendedRows, specs.Changed.{IsChanged, put_document}, specs.CollectionPlaces.IsCollectionEnd}
+use Rattle.yq_edit_rules.{specs.BlockValues.{IsFilledValue, IsEnd}, proofs.CharacterLaws.value_sound, specs.Appends.AreAppendedRows}
+use Rattle.yq_edit_rules.{specs.Changed.{IsChanged, put_document}, specs.CollectionPlaces.IsCollectionEnd}
 use Rattle.yq_edit_rules.{specs.DocumentRows.{IsDocumentPart, behind_document}, specs.Rooms.is_block_root}
 use Rattle.yq_edit_rules.{specs.SoundRoots.{IsNewKey, IsNewValue}, specs.TextPieces.IsPiece, proofs.AppendPlaceLaws.{EndAllows, end_allows}}
 use Rattle.yq_edit_rules.{proofs.EditedLaws.lines_are_there, proofs.EndedRowLaws.{rows_ended, rows_then}, proofs.LeadLaws.same_lead_goes}
 use Rattle.yq_edit_rules.{proofs.TextPieceLaws.{text_is_piece, pieces_joined, line_cut}, specs.Layouts.layout_of}
 use Rattle.yq_edit_rules.{specs.EntryEdits.entry_lines, specs.Operands.KeyIsUtf8, specs.ReadsAfter.ReadsAfter}
-use Rattle.yq_edit_rules.proofs.AppendEntryLaws.{alone_value, alone_writable, IsEntryOf, entry_of, entry_keys, entry_anchors, entry_bare}
-use Rattle.yq_edit_rules.{proofs.AppendEntryLaws.entry_rows_are, proofs.DoneLaws.document_done}
-use Rattle.yq_edit_rules.{proofs.EditsFitLaws.{new_value, key_near, near_keys}, proofs.CommentPieceLaws.nothing}
-use Rattle.yq_edit_rules.{proofs.RemovalPieceLaws.spaces_piece, proofs.AppendTakers.{IsTaker, taker}, proofs.LayoutLaws.steps_least}
+use Rattle.yq_edit_rules.{proofs.DoneLaws.document_done, proofs.EditsFitLaws.{new_value, key_near, near_keys}}
+use Rattle.yq_edit_rules.{proofs.CommentPieceLaws.nothing, proofs.RemovalPieceLaws.spaces_piece, proofs.AppendTakers.{IsTaker, taker}}
+use Rattle.yq_edit_rules.proofs.LayoutLaws.{steps_least}
 use Rattle.yq_semantics.{specs.Changes.{is_overlong_key, has_long_key, is_deep}, specs.Fits.Takes, specs.Operations.append}
 use Rattle.yq_text.specs.Script.{Segment, keep, put}
 use Rattle.yq_core.specs.Tree as tree
@@ -102,9 +103,7 @@ module _ (doc : ℕ) (steps : List Step) (key : Option (List ℕ)) (v : Node) (c
   filled = alone_value key v g.key_utf8 g.value_tree
 
   pub entry_piece : IsPiece (entry_lines l x.column key v)
-  entry_piece =
-      let w = value_sound (singleton key v) l x.column filled.value in
-      pieces_joined (replicate x.column 32) (block_value l x.column (singleton key v)) (spaces_piece x.column) (record { utf8 = w.0; characters = w.1 })
+  entry_piece = search (rules, value_sound (singleton key v) l x.column filled.value, pieces_joined, spaces_piece)
 
   -- the rows of the item or entry, the last of which has this end
   pub entry : (last : List ℕ) → said last ≡ None → IsEntryOf key v x.column (node_rows l x.column last (singleton key v))
@@ -128,7 +127,7 @@ module _ (doc : ℕ) (steps : List Step) (key : Option (List ℕ)) (v : Node) (c
       }
 
   pub new_rows_are : (last gap rest : List ℕ) (limit : Limit) → IsEnd x.column last (gap ++ rest) → allows limit x.column ≡ true → IsGap gap rest → AreRows limit (node_rows l x.column last (singleton key v)) gap rest
-  new_rows_are last gap rest limit ends allowed h = search (rules, entry_rows_are, alone_writable, key_near, near_keys)
+  new_rows_are last gap rest limit ends allowed h = search (rules, rows_gap, laid_rows, value_laid, alone_writable, key_near, near_keys)
 
   -- a part with such rows, in which the first row stays, is what the operation asks
   pub finished : (q : Part) (last : List ℕ) (uncommented : said last ≡ None) →

@@ -6,15 +6,8 @@ use Rattle.yq_outline.specs.Outline.{LineMark, Line, level, Outline, end, row, a
 use Rattle.yq_edit_rules.{specs.CollectionPlaces.BeginsAt, specs.Siblings.{IsEntry, HasEntries}, specs.SoundRoots.IsNewKey}
 use Rattle.yq_edit_rules.{proofs.AppendEntryLaws.entry_level, proofs.EditsFitLaws.new_key}
 use Rattle.yq_semantics.specs.Fits.{Takes}
-use Rattle.yq_core.specs.Tree as tree
 
 -- ---- the collection that gets more
-
-map_list : {x y : Option (List ℕ)} {cs ds : Children} → tree.map x cs ≡ tree.list y ds → ⊥
-map_list e = cc
-
-map_same : {x y : Option (List ℕ)} {cs ds : Children} → tree.map x cs ≡ tree.map y ds → cs ≡ ds
-map_same e = cc
 
 -- What is known of a collection that takes an item, or an entry of a key: its lines' level, and that it hasn't the key.
 pub record IsTaker (key : Option (List ℕ)) (o : Outline) (column : ℕ) : Type 0 where
@@ -24,7 +17,7 @@ pub record IsTaker (key : Option (List ℕ)) (o : Outline) (column : ℕ) : Type
 taker_of : (key : Option (List ℕ)) (n : Node) (a : Option (List ℕ)) (l : Line) (cs : Children) (column : ℕ) (m : LineMark) → l.mark ≡ m → IsEntry m → Takes key n → n ≡ anchored a (outline_node m cs) → l.column ≡ column →
     (level l ≡ entry_level key column) × IsNewKey key (keys_of cs)
 unfolding level
-taker_of key n a l cs column m h1 h2 h3 h4 h5 = search (rules, map_list, new_key, map_same)
+taker_of key n a l cs column m h1 h2 h3 h4 h5 = search (rules, new_key)
 
 pub taker : (key : Option (List ℕ)) (n : Node) (a : Option (List ℕ)) (o : Outline) (column : ℕ) → Takes key n → n ≡ anchored a (value o) → HasEntries o → BeginsAt column o → IsTaker key o column
 taker key n a end column t same b at = absurd b

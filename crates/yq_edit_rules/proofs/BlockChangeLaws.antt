@@ -54,10 +54,7 @@ entry_removed t c k p q steps h s f put entry left lines spared =
     lines_removed t c k p q steps h s f put entry left lines sound
 
 pub entry_relabelled : EntryRelabelled
-entry_relabelled t c k p q steps h s f g l put entry new_line key lines =
-    let there = lines_are_there steps (part_outline p) h entry.place_is in
-    let sound = relabel_keeps steps (root_of p) (anchored h.anchor (value h.lines)) s g (old_is_sound t c k p q put) there key in
-    line_relabelled t c k p q steps h s f g l put entry new_line lines sound
+entry_relabelled t c k p q steps h s f g l put entry new_line key lines = search (rules, lines_are_there, relabel_keeps, old_is_sound, line_relabelled)
 
 front_length : (before : List Row) (above : List (List ℕ)) (column : ℕ) (ds : List ℕ) (size : ℕ) → length (lines_of_rows before) + length ds ≡ size →
     length (lines_of_rows before ++ dash_lines above column ds) ≡ size

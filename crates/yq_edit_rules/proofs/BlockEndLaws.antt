@@ -1,11 +1,11 @@
 -- What comes after rows that are written one after the other.
-use Rattle.std.proofs.Common.{◌≡◌, ℕ, suc, ◌≤◌, Bool, true, false, not, ◌&&◌, ◌||◌, eqb, List, ◌++◌, Option, Some, None, refl, sym, ◌∙◌}
+use Rattle.std.proofs.Common.{rules, ◌≡◌, ℕ, suc, ◌≤◌, Bool, true, false, not, ◌&&◌, ◌||◌, eqb, List, ◌++◌, Option, Some, refl, sym, ◌∙◌}
 use Rattle.std.proofs.Common.{inl, inr, arith, []}
 use Rattle.std.proofs.lemmas.Bool.{false≢true, not-true, false_from_ne_true, le-leb, leb-true, and_parts, cases_Bool}
 use Rattle.std.specs.Prelude.{nat_le}
-use Rattle.yq_core.{specs.declared.block_types.Break.Break, specs.BlockWritten.break_text, specs.Lines.spaces}
+use Rattle.yq_core.{specs.declared.block_types.Break.Break, specs.BlockWritten.break_text}
 use Rattle.yq_core.specs.Plain.{no_gap, last_line, plain_may_follow, follows, ends_plain, ends_text}
-use Rattle.yq_core.specs.Text.{cut, is_space, is_empty, is_line, front, is_marker}
+use Rattle.yq_core.specs.Text.{cut, is_space, is_empty, is_line, front}
 use Rattle.yq_row_table.{specs.Grammar.IsTail, proofs.PlainEnds.{AtLine, tail_ends}}
 use Rattle.yq_edit_rules.specs.BlockValues.{IsEnd}
 use Rattle.yq_core.specs.declared.block_types.Break.TheVariants as breaks
@@ -27,10 +27,7 @@ less_deep : (d e n : ℕ) → d ≤ e → nat_le e n ≡ true → nat_le d n ≡
 less_deep d e n h k = let le : e ≤ n = leb-true e n k in le-leb d n (omega (arith, le, h))
 
 follow_less : (d e : ℕ) (line : Option (List ℕ)) (text : List ℕ) → d ≤ e → plain_may_follow (Some e) line text ≡ true → plain_may_follow (Some d) line text ≡ true
-follow_less d e None text h k = refl
-follow_less d e (Some l) text h k =
-    let p = and_parts (nat_le e (spaces (l ++ text))) (not (is_marker (l ++ text))) k in
-    rw (less_deep d e (spaces (l ++ text)) h p.0, p.1) refl
+follow_less d e line text h k = search (rules, and_parts, less_deep)
 
 abbrev may_go_on : List ℕ → Bool
 may_go_on t = not (is_empty t) && not (front (λ b. eqb b 35) t) && not (ends_text false t)

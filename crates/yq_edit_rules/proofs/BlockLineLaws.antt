@@ -1,10 +1,10 @@
 -- The lines of what is written in block style are those of its value.
 use Rattle.std.proofs.Common.{◌≡◌, ℕ, ◌+◌, ◌*◌, ◌<◌, ◌≤◌, Bool, true, false, List, [], ◌∷◌, ◌++◌, Option, Some, None, refl, sym, ap, ◌∙◌}
 use Rattle.std.{proofs.Common.{subst, arith, rules}, specs.Str.IsUtf8}
-use Rattle.yq_core.{specs.declared.block_types.Break.Break, specs.BlockWritten.break_text, specs.Text.{text_lines, upto}}
+use Rattle.yq_core.{specs.declared.block_types.Break.Break, specs.BlockWritten.break_text, specs.Text.upto}
 use Rattle.yq_core.specs.Tree.{Children, key_label}
 use Rattle.yq_flow_edits.specs.Valued.{IsLabel, IsValueTree, AreValueTrees}
-use Rattle.yq_outline.specs.Comments.{head_comment, line_comment}
+use Rattle.yq_outline.{proofs.RowLaws.no_comments, specs.Comments.{head_comment, line_comment}}
 use Rattle.yq_outline.specs.Grammar.{IsNodeOutline, mapping, sequence, AreEntryLines, no_more, entry, IsUnder, headed, deeper_lines}
 use Rattle.yq_outline.specs.Lines.{mark_line, dash_line, lines_of_rows}
 use Rattle.yq_outline.{specs.Outline.{LineMark, Bare, Key, Dash, Line, rank, level, anchored, label}, proofs.NodeLaws.anchored_none}
@@ -16,11 +16,6 @@ use Rattle.yq_edit_rules.{specs.declared.layout.Layout.Layout, proofs.ScalarLaws
 use Rattle.yq_core.specs.Tree as tree
 use Rattle.yq_core.specs.Nodes as inline
 use Rattle.yq_row_table.specs.Rows as rows
-
--- no comments
-pub no_head : head_comment [] ≡ []
-unfolding text_lines
-no_head = refl
 
 pub break_uncommented : (br : Break) → line_comment (break_text br) ≡ None
 unfolding upto
@@ -60,7 +55,7 @@ mutual
 
 -- a dash before rows is a line more
 behind_lines : (column : ℕ) (rs : List Row) → BeginAt (item_column column) rs → lines_of_rows (rows_on_dash column rs) ≡ dash_line [] column ∷ lines_of_rows rs
-behind_lines column rs h1 = search (rules, no_head)
+behind_lines column rs h1 = search (rules, no_comments)
 
 -- an entry or item
 pub unanchored : (a : Option (List ℕ)) (n : tree.Node) → a ≡ None → anchored a n ≡ n
@@ -79,10 +74,10 @@ under_key : (l : Layout) (column : ℕ) (n : tree.Node) → 1 ≤ l.mapping → 
 under_key l column n h1 h2 = search rules
 
 key_line_label : (k : List ℕ) (column : ℕ) (c : rows.Content) → IsUtf8 k → line_comment (Rattle.yq_outline.specs.Lines.tail_of c) ≡ None → label (mark_line (head_comment []) column (rows.Key (block_key k) (58 ∷ [])) c) ≡ key_label (Some k)
-key_line_label k column c u uncommented = λ i. record { key = Some (key_content_is k u i); head_comment = no_head i; line_comment = uncommented i }
+key_line_label k column c u uncommented = λ i. record { key = Some (key_content_is k u i); head_comment = no_comments i; line_comment = uncommented i }
 
 dash_line_label : (column : ℕ) (c : rows.Content) → line_comment (Rattle.yq_outline.specs.Lines.tail_of c) ≡ None → label (mark_line (head_comment []) column rows.Dash c) ≡ key_label None
-dash_line_label column c uncommented = λ i. record { key = None; head_comment = no_head i; line_comment = uncommented i }
+dash_line_label column c uncommented = λ i. record { key = None; head_comment = no_comments i; line_comment = uncommented i }
 
 entry_lines : (l : Layout) (column : ℕ) (end : List ℕ) (keyed : Bool) (own_label : tree.Label) (n : tree.Node) (node : Option inline.FlowNode) (below : List Row) (after : List Line) (cs : Children) → 1 ≤ l.mapping →
     IsLabel keyed own_label → Heads n node → line_comment end ≡ None →

@@ -84,8 +84,7 @@ around_child s (child l n cs) m e = go (is_here s l) refl e (around_child (furth
         }
 
 pub anchor_front : (a : Option (List ℕ)) (xs : List Name) → anchor_names a xs ≡ anchor_names a [] ++ xs
-anchor_front None xs = refl
-anchor_front (Some a) xs = refl
+anchor_front a xs = search rules
 
 deep : (n : Node) (anchor : List Name) (s : Step) (ss : List Step) (cs : Children) (k m : Node) → names_of n ≡ anchor ++ names_in cs →
     ((g : Children → Children) → names_of (within g n) ≡ anchor ++ names_in (g cs)) → AroundChild s cs k → Around ss k m → Around (s ∷ ss) n m

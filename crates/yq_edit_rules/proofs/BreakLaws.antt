@@ -3,7 +3,7 @@ use Rattle.std.proofs.Common.{◌≡◌, ◌⊎◌, inl, ℕ, List, [], ◌∷�
 use Rattle.std.proofs.lemmas.Bool.{false≢true, and_parts}
 use Rattle.yq_core.specs.Text.{is_break, is_line}
 use Rattle.yq_row_table.proofs.EmptyTexts.{empty_is}
-use Rattle.yq_places.specs.PrintedLines.{is_last_break, less_break, last_break}
+use Rattle.yq_places.specs.PrintedLines.{less_break, last_break}
 
 -- a break: LF or CR LF
 abbrev pub IsLfOrCrLf : List ℕ → Type 0
@@ -13,11 +13,7 @@ pub break_is : (p : List ℕ) → (is_break p && is_line p) ≡ true → IsLfOrC
 unfolding is_line
 break_is p h1 = search (rules, false≢true, and_parts, eqb-true, empty_is)
 
--- what ends a text is a break, or nothing
-last_cases : (t : List ℕ) → is_last_break t ≡ true → IsLfOrCrLf t
-last_cases t h1 = search (rules, false≢true, eqb-true, and_parts)
-
 pub last_is : (t : List ℕ) → (last_break t ≡ []) ⊎ IsLfOrCrLf (last_break t)
 unfolding less_break
 last_is [] = inl refl
-last_is (b ∷ bs) = search (rules, last_cases, last_is bs)
+last_is (b ∷ bs) = search (rules, false≢true, eqb-true, and_parts, last_is bs)

@@ -29,27 +29,14 @@ begin_stays i q (last p) = refl
 begin_stays zero q (marked p marker c) = refl
 begin_stays (suc i) q (marked p marker c) = ap (λ b. begins_document marker || b) (begin_stays i q c)
 
-first_is : (is : Bool) (k : ℕ) (p q : Part) (c : Cut) → (begins_bare c || not (has_begin c)) ≡ is → slice_get (parts_from is c) k ≡ Some p → KeepsRows p q →
-    (begins_bare (put_part (number_from is k c) q c) || not (has_begin (put_part (number_from is k c) q c))) ≡ is
-first_is is k p q c h1 h2 h3 = search (rules, same_Some, begin_stays)
-
 pub first_stays : (c : Cut) (k : ℕ) (p q : Part) → slice_get (document_parts c) k ≡ Some p → KeepsRows p q → (begins_bare (put_document k q c) || not (has_begin (put_document k q c))) ≡ (begins_bare c || not (has_begin c))
-first_stays c k p q there keeps = first_is (begins_bare c || not (has_begin c)) k p q c refl there keeps
+first_stays c k p q there keeps = search (rules, same_Some, begin_stays)
 
 pub document_put : DocumentPut
 document_put c k p q there keeps = ap (λ b. parts_from b (put_document k q c)) (first_stays c k p q there keeps) ∙ from_put (begins_bare c || not (has_begin c)) k p q c there
 
 pub part_stands : PartStands
-part_stands q root h = record {
-  lead = refl;
-  root = search (rules, rules_from, h.stands);
-  keys = h.keys;
-  unique = h.unique;
-  nested = h.nested;
-  anchors = h.anchors;
-  bound = h.bound;
-  short = h.short;
-}
+part_stands q root h = search (rules, rules_from)
 
 -- members of lists
 all_with : (test : Part → Bool) (k : ℕ) (q : Part) (ps : List Part) → test q ≡ true → list_all test ps ≡ true → list_all test (change_nth k (λ x. q) ps) ≡ true
@@ -84,8 +71,7 @@ lead_is_first p = go p.rows
     first r (n ∷ ns) = refl
 
     front : (ls ks : List Line) (above none : List (List ℕ)) → above ≡ first_comment none ls → (ls ≡ [] → ⊥) → above ≡ first_comment none (ls ++ ks)
-    front [] ks above none e h = absurd (h refl)
-    front (l ∷ ls) ks above none e h = e
+    front ls ks above none e h = search rules
 
     some : (r : Row) (dashes : List ℕ) → lines_from (head_comment r.gap) r.column dashes r.mark r.content ≡ [] → ⊥
     some r [] e = cc

@@ -47,10 +47,6 @@ dash_sound : IsUtf8Text (45 ∷ 32 ∷ [])
 unfolding chars pairs_returns encode
 dash_sound = ((45 ∷ 32 ∷ [], (refl, refl)), refl)
 
-colon_sound : IsUtf8Text (58 ∷ [])
-unfolding chars pairs_returns encode
-colon_sound = ((58 ∷ [], (refl, refl)), refl)
-
 space_sound : IsUtf8Text (58 ∷ 32 ∷ [])
 unfolding chars pairs_returns encode
 space_sound = ((58 ∷ 32 ∷ [], (refl, refl)), refl)
@@ -82,13 +78,14 @@ key_sound : (k : List ℕ) → IsUtf8 k → IsUtf8Text (block_key k)
 key_sound k u = let w = key_spelled k u in (w.utf8, w.text)
 
 entry_sound : (l : Layout) (below : ℕ) (keyed : Bool) (label : tree.Label) (node : Option inline.FlowNode) (t : List ℕ) → IsLabel keyed label → Sounds node → IsUtf8Text t → IsUtf8Text (block_entry l below label.key node t)
+unfolding chars pairs_returns encode
 entry_sound l below true label (Some node) t is h s =
     subst (λ (x : tree.Label). IsUtf8Text (block_entry l below x.key (Some node) t)) (sym is.1)
     (sound_join (block_key is.0) (58 ∷ 32 ∷ node_text node []) (key_sound is.0 is.2) (sound_join (58 ∷ 32 ∷ []) (node_text node []) space_sound h))
 entry_sound l below true label None t is h s =
     subst (λ (x : tree.Label). IsUtf8Text (block_entry l below x.key None t)) (sym is.1)
     (sound_join (block_key is.0) (58 ∷ (break_text l.br ++ (replicate below 32 ++ t))) (key_sound is.0 is.2)
-    (sound_join (58 ∷ []) (break_text l.br ++ (replicate below 32 ++ t)) colon_sound
+    (sound_join (58 ∷ []) (break_text l.br ++ (replicate below 32 ++ t)) (((58 ∷ [], (refl, refl)), refl))
     (sound_join (break_text l.br) (replicate below 32 ++ t) (break_sound l.br) (sound_join (replicate below 32) t (spaces_sound below) s))))
 entry_sound l below false label (Some node) t is h s = subst (λ (x : tree.Label). IsUtf8Text (block_entry l below x.key (Some node) t)) (sym is) (sound_join (45 ∷ 32 ∷ []) (node_text node []) dash_sound h)
 entry_sound l below false label None t is h s = subst (λ (x : tree.Label). IsUtf8Text (block_entry l below x.key None t)) (sym is) (sound_join (45 ∷ 32 ∷ []) t dash_sound s)

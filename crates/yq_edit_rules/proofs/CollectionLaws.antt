@@ -1,10 +1,10 @@
 -- Items or entries of the collection at a path, added, taken out and relabelled.
-use Rattle.std.proofs.Common.{◌≡◌, ℕ, ◌<◌, List, [], ◌∷◌, ◌++◌, Option, Some, None, option_map, Bool, true, false, cond, refl, sym, ap, ◌∙◌}
+use Rattle.std.proofs.Common.{◌≡◌, ℕ, List, [], ◌∷◌, ◌++◌, Option, Some, None, option_map, Bool, true, false, cond, refl, sym, ap, ◌∙◌}
 use Rattle.std.proofs.Common.{subst, append_assoc, append-nil, rules}
 use Rattle.yq_core.specs.Paths.{Step, is_here, further, append_child, changed_at, relabel_child, remove_child, within, append_children}
 use Rattle.yq_core.specs.Tree.{Label, child}
 use Rattle.yq_outline.{specs.Group.level_or, specs.Laws.with_lines}
-use Rattle.yq_outline.specs.Outline.{Line, level, Outline, end, row, flatten, IsOpen, IsEven, anchored, head_or, label, children, value}
+use Rattle.yq_outline.specs.Outline.{Line, level, Outline, end, row, flatten, IsEven, anchored, head_or, label, children, value}
 use Rattle.yq_outline.{specs.Places.{here, plug, FoundLine, next_to, find_row, content_under}, proofs.PlaceLaws.at, proofs.Plug.entry_whole}
 use Rattle.yq_outline.proofs.Values.{If, same_rank, same_entry, anchored-within}
 use Rattle.yq_edit_rules.specs.Siblings.{append_outline, HasEntries, put_lines, StandsSomewhere, CollectionReplaced, Appended, Removed}
@@ -39,14 +39,7 @@ row_splits s (row k v a) = go (is_here s (label k)) refl (find_row (further s) a
   where
     go : (b : Bool) → is_here s (label k) ≡ b → (r : Option FoundLine) → If r (Splits (further s) a) →
         If (cond b (Some (record { place = here; line = k; under = v; after = a })) (option_map (next_to k v) r)) (Splits s (row k v a))
-    go true e r h = record {
-      front = end;
-      whole = refl;
-      plugs = λ x. refl;
-      lines = λ ls. ap (λ x. ls ++ x) (append-nil (flatten a));
-      removed = rw e refl;
-      relabelled = λ g. rw e refl;
-    }
+    go true e r h = search (rules, append-nil)
     go false e None h = tt
     go false e (Some f) h = record {
       front = row k v h.front;
@@ -84,8 +77,7 @@ relabelled n o steps h s f g l even entry new_line =
     let here : IsEven m (row f.line f.under f.after) = even_right m w.front (row f.line f.under f.after) whole in
     let old' : HasEntries (append_outline w.front (row f.line f.under f.after)) = subst HasEntries (sym w.whole) entry.block in
     let block : HasEntries u = stay w.front old' in
-    let one : IsEven m (row l f.under end) =
-    (new_line.level_is ∙ here.0, subst (λ x. IsOpen x f.under) (sym new_line.head_is) here.1, entry_whole l.mark l.head end (mark w.front m whole old'), here.3, tt) in
+    let one : IsEven m (row l f.under end) = search (rules, entry_whole, mark) in
     let new : IsEven m u = even_replaced m w.front (row f.line f.under end) f.after (row l f.under end) whole one old' block in
     let node : content_under l f.under ≡ content_under f.line f.under = λ i. anchored (new_line.anchor_is i) (head_or (new_line.head_is i) (value f.under)) in
     let kids : children u ≡ relabel_child s g (children h.lines) = search (rules, children-append, w, node) in
@@ -116,8 +108,7 @@ level_mark l end b e = absurd b
 level_mark l (row k u c) b e = same_entry k.mark l.mark (entry_in k.mark b) (same_rank k l (sym e))
 
 still_block : (a b : Outline) → HasEntries a → HasEntries (append_outline a b)
-still_block end b h = absurd h
-still_block (row k u a) b h = h
+still_block a b h = search rules
 
 pub appended : Appended
 appended n m o v l steps h even there fits =
@@ -125,8 +116,7 @@ appended n m o v l steps h even there fits =
     let k : ℕ = level_or 0 h.lines in
     let u : Outline = append_outline h.lines (row l v end) in
     let block : HasEntries u = still_block h.lines (row l v end) there.block in
-    let one : IsEven k (row l v end) =
-    (fits.level_is, fits.headless, entry_whole l.mark l.head end (level_mark l h.lines there.block fits.level_is), (m, subst (λ x. x < m) fits.level_is fits.deep, fits.even), tt) in
+    let one : IsEven k (row l v end) = search (rules, entry_whole, level_mark) in
     let new : IsEven k u = even_append k h.lines (row l v end) (entries u block) deep.1 one in
     let law = collection_replaced n o u steps h (append_child (label l) (content_under l v)) even there block new (last_child h.lines v l) in
     let lines : flatten u ≡ flatten h.lines ++ (l ∷ flatten v) = flatten-append h.lines (row l v end) ∙ ap (λ x. flatten h.lines ++ (l ∷ x)) (append-nil (flatten v)) in

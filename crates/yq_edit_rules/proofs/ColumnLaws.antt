@@ -7,8 +7,8 @@ use Rattle.yq_core.{specs.Block.{BlockText, RawLines, IsDigit, IsTextIndent}, sp
 use Rattle.yq_core.specs.Piece.{deeper}
 use Rattle.yq_outline.{specs.Comments.head_comment, specs.Lines.{mark_line, lines_from, row_lines, lines_of_rows, head_of}}
 use Rattle.yq_outline.{specs.Outline.{Line, level}, proofs.Values.rank_small}
-use Rattle.yq_row_table.specs.Grammar.{Limit, allows, limit_after, limit_behind, AreDashes, IsRow}
-use Rattle.yq_row_table.specs.Rows.{Content, Row, behind_columns, before_column, mark_column, parent_of, parent_indent, rows_text}
+use Rattle.yq_row_table.specs.Grammar.{allows, limit_after, limit_behind, AreDashes}
+use Rattle.yq_row_table.specs.Rows.{Content, Row, behind_columns, before_column, mark_column, parent_of, parent_indent}
 use Rattle.yq_row_table.specs.Removal.{block_of, last_block, next_column, StandsLess}
 use Rattle.yq_edit_rules.{specs.Moved.dash_lines, specs.Columns.{NextAllowed, NextStays, BlockIsDeeper, ClosedStandsLess}}
 use Rattle.yq_edit_rules.{specs.LineRows.{Begins, StandApart, AreDeep, AreClosed}, proofs.ApartLaws.{apart_skip, closed_back, first_level}}
@@ -22,10 +22,6 @@ behind_more column (n ∷ ns) = let more = behind_more (suc (column + n)) ns in 
 
 pub next_low : (n : ℕ) (back : List Row) (b : Row) (bs : List Row) → back ≡ b ∷ bs → Begins n (lines_of_rows back) → 3 * b.column + 1 ≤ n
 next_low n back b bs e h = first_level (head_comment b.gap) b.column b.dashes b.mark b.content (lines_of_rows bs) n (subst (λ (x : List Row). Begins n (lines_of_rows x)) e h)
-
-low_level : (l : Line) → 3 * l.column + 1 ≤ level l
-unfolding level
-low_level l = omega (arith, rank_small l.mark)
 
 pub high_level : (l : Line) → level l ≤ 3 * l.column + 3
 unfolding level
@@ -67,11 +63,7 @@ row_limit n m column r rest d deep less low = allowed_content (parent_indent r) 
     entry = let up = high (row_lines r ++ rest) deep refl in let more = behind_more r.column r.dashes in omega (arith, up, less, low, more)
 
     node : (ns : List ℕ) → r.dashes ≡ ns → r.mark ≡ rows.Bare → column < mark_column r
-    node [] e b = subst (λ (ns : List ℕ). column < behind_columns r.column ns) (sym e) (let one = alone in omega (arith, one, less, low))
-      where
-        alone : n ≤ 3 * r.column + 1
-        alone = bare_high n (head_comment r.gap) r.column r.content rest (subst (λ (x : rows.RowMark). AreDeep n (lines_from (head_comment r.gap) r.column [] x r.content ++ rest)) b
-            (subst (λ (ns : List ℕ). AreDeep n (lines_from (head_comment r.gap) r.column ns r.mark r.content ++ rest)) e deep))
+    node [] e b = search (rules, arith, bare_high)
     node (k ∷ ns) e b = absurd (false≢true ((subst (λ (x : rows.RowMark). AreDashes (k ∷ ns) x) b (subst (λ (x : List ℕ). AreDashes x r.mark) e d)).1))
 
     go : (mark : rows.RowMark) → r.mark ≡ mark → (ns : List ℕ) → r.dashes ≡ ns → column < deeper (parent_of r.mark (mark_column r))
@@ -89,17 +81,13 @@ next_allowed n limit (r ∷ []) [] end rest h some deep m less next = refl
 next_allowed n limit (r ∷ []) (b ∷ bs) end rest h some deep m less next = row_limit n m b.column r [] h.0.dashes deep less (next_low m (b ∷ bs) b bs refl next)
 next_allowed n limit (r ∷ (q ∷ new)) back end rest h some deep m less next = next_allowed n (limit_after r) (q ∷ new) back end rest h.1 refl (deep_back n (row_lines r) (lines_of_rows (q ∷ new)) deep) m less next
 
--- a column less than one that is allowed
-allowed_less : (limit : Limit) (a b : ℕ) → a ≤ b → allows limit b ≡ true → allows limit a ≡ true
-allowed_less limit a b e h = search (rules, lt-ltb, ltb-true)
-
 pub next_stays : NextStays
 next_stays limit [] back end rest l ls h e next = absurd (cc)
 next_stays limit (r ∷ rs) [] end rest l ls h e next = refl
 next_stays limit (r ∷ rs) (b ∷ bs) end rest l ls h e next =
     let high = first_high (head_comment r.gap) r.column r.dashes r.mark r.content (lines_of_rows rs) l ls e in
     let low = next_low (level l) (b ∷ bs) b bs refl next in
-    allowed_less limit b.column r.column (omega (arith, high, low)) h.0.allowed
+    search (rules, lt-ltb, ltb-true)
 
 -- the indentation of a block scalar
 indent_least : (least : ℕ) (digit : Option ℕ) (f : TextIndent) (raw : RawLines) → IsDigit digit → IsTextIndent least digit f raw → least ≤ f.columns
@@ -107,10 +95,6 @@ indent_least least (Some d) f raw small h = let same = ap (λ (x : TextIndent). 
 indent_least least None f [] small h = let same = ap (λ (x : TextIndent). x.columns) h in omega (arith, same)
 indent_least least None f (l ∷ raw) small h =
     ⊎_elim {0, 0, 0} (λ e. indent_least least None f raw tt e.2) (λ e. let same = ap (λ (x : TextIndent). x.columns) e.1 in let own = e.2 in omega (arith, same, own)) h
-
--- the last row, where it holds a block scalar
-row_block : (limit : Limit) (r : Row) (t : List ℕ) (b : BlockText) → IsRow limit r t → block_of r.content ≡ Some b → mark_column r < b.indent.columns
-row_block limit r t b h e = search (rules, same_Some, indent_least, false≢true, none-some)
 
 -- the last line of rows
 abbrev last_line : Row → Line
@@ -137,16 +121,15 @@ rows_lines q rs e = go q.dashes e
     go [] e = cc
     go (n ∷ ns) e = cc
 
-one_row : (r : Row) (zs : List Line) → StandApart (row_lines r ++ []) zs → StandApart (row_lines r) zs
-one_row r zs h = subst (λ (ls : List Line). StandApart ls zs) (Rattle.std.proofs.Common.append-nil (row_lines r)) h
-
 pub block_is_deeper : BlockIsDeeper
+unfolding level
 block_is_deeper limit [] rows end rest b l h e apart = absurd (cc)
 block_is_deeper limit (r ∷ []) rows end rest b l h e apart =
-    let own : level l ≤ level (last_line r) = last_apart r (l ∷ []) (one_row r (l ∷ []) apart) in
-    let low = low_level l in
+    let own : level l ≤ level (last_line r) =
+    last_apart r (l ∷ []) (subst (λ (ls : List Line). StandApart ls (l ∷ [])) (Rattle.std.proofs.Common.append-nil (row_lines r)) apart) in
+    let low : 3 * l.column + 1 ≤ level l = omega (arith, rank_small l.mark) in
     let high = high_level (last_line r) in
-    let deep = row_block limit r (rows_text rows (end ++ rest)) b h.0 e in
+    let deep : mark_column r < b.indent.columns = search (rules, same_Some, indent_least, false≢true, none-some) in
     omega (arith, own, low, high, deep)
 block_is_deeper limit (r ∷ (q ∷ front)) rows end rest b l h e apart = block_is_deeper (limit_after r) (q ∷ front) rows end rest b l h.1 e (apart_later (row_lines r) (lines_of_rows (q ∷ front)) (l ∷ []) (rows_lines q front) apart)
 
@@ -156,11 +139,7 @@ block_head c b h1 = search rules
 
 pub last_closed : (front : List Row) (b : BlockText) (zs : List Line) → last_block front ≡ Some b → AreClosed (lines_of_rows front ++ zs) → StandApart (lines_of_rows front) zs
 last_closed [] b zs e h = absurd (cc)
-last_closed (r ∷ []) b zs e h =
-    let d : List Line = dash_lines (head_comment r.gap) r.column r.dashes in
-    let split : row_lines r ++ [] ≡ d ++ (last_line r ∷ []) = Rattle.std.proofs.Common.append-nil (row_lines r) ∙ mark_behind (head_comment r.gap) r.column r.dashes r.mark r.content in
-    let more : AreClosed (d ++ (last_line r ∷ zs)) = subst AreClosed (ap (λ (x : List Line). x ++ zs) split ∙ append_assoc d (last_line r ∷ []) zs) h in
-    subst (λ (x : List Line). StandApart x zs) (sym split) (apart_skip d (last_line r ∷ []) zs (λ none. cc) ((closed_back d (last_line r ∷ zs) more).0 (block_head r.content b e)))
+last_closed (r ∷ []) b zs e h = search (rules, mark_behind, append_assoc, apart_skip, closed_back, block_head)
 last_closed (r ∷ (q ∷ front)) b zs e h =
     apart_skip (row_lines r) (lines_of_rows (q ∷ front)) zs (rows_lines q front) (last_closed (q ∷ front) b zs e
     (closed_back (row_lines r) (lines_of_rows (q ∷ front) ++ zs) (subst AreClosed (append_assoc (row_lines r) (lines_of_rows (q ∷ front)) zs) h)))

@@ -16,7 +16,7 @@ use Rattle.yq_semantics.specs.declared.program.CommentPlace.TheVariants as comme
 
 -- ---- single bytes
 
-nothing_text : is_text [] ≡ true
+pub nothing_text : is_text [] ≡ true
 unfolding chars pairs_returns
 nothing_text = refl
 

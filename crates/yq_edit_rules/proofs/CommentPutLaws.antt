@@ -39,9 +39,7 @@ one_line t c p steps s h f a x z old e lines size =
 
 -- a row with another tail
 pub fit_retail : (front : List Row) (r : Row) (back : List Row) (tail : List ℕ) → HaveFitKeys (front ++ (r ∷ back)) → HaveFitKeys (front ++ (retail tail r ∷ back))
-fit_retail front r back tail h =
-    let parts = fit_parts front (r ∷ back) h in
-    fit_from front (retail tail r ∷ back) parts.0 (parts.1.0, (search (rules, parts.1.1)), parts.1.2)
+fit_retail front r back tail h = search (rules, fit_parts front (r ∷ back) h, fit_from)
 
 pub short_retail : (front : List Row) (r : Row) (back : List Row) (tail : List ℕ) → HasShortRoot (front ++ (r ∷ back)) → HasShortRoot (front ++ (retail tail r ∷ back))
 short_retail [] r back tail h = (search rules) ∙ h

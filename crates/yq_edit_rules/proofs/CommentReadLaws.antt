@@ -25,9 +25,7 @@ abbrev of_text : List ℕ → Option (List ℕ)
 of_text c = cond (front (λ b. eqb b 35) c) (Some (less_space (text.cut ends_line (drop 1 c)).0)) None
 
 pub comment_behind : (white rest t : List ℕ) → IsWhite white → comment_text (white ++ (35 ∷ (t ++ rest))) ≡ comment_text (35 ∷ (t ++ rest))
-comment_behind white rest t h =
-    let past : past_white (white ++ (35 ∷ (t ++ rest))) ≡ 35 ∷ (t ++ rest) = ap (λ (x : List ℕ × List ℕ). x.1) (white_again white (35 ∷ (t ++ rest)) h refl) in
-    ap of_text past ∙ sym (ap of_text (no_white_there (t ++ rest)))
+comment_behind white rest t h = search (rules, ap (λ (x : List ℕ × List ℕ). x.1) (white_again white (35 ∷ (t ++ rest)) h refl), no_white_there)
 
 -- the text after a `#`, up to a break
 pub comment_is : (t rest : List ℕ) → NoneIn ends_line t rest → ends_line rest ≡ true → comment_text (35 ∷ (t ++ rest)) ≡ Some (less_space t)
@@ -40,12 +38,6 @@ behind_hash t = cond (is_empty t) [] (32 ∷ t)
 
 hash_none : (t rest : List ℕ) → Each no_break t → NoneIn ends_line (behind_hash t) rest
 hash_none t rest h1 = search (rules, no_breaks_none)
-
-less_is : (t : List ℕ) → less_space (behind_hash t) ≡ t
-less_is t = search rules
-
-break_ends : (br : Break) (rest : List ℕ) → ends_line (break_text br ++ rest) ≡ true
-break_ends br rest = search rules
 
 pub break_is : (br : Break) → (is_break (break_text br) && is_line (break_text br)) ≡ true
 unfolding is_line
@@ -61,7 +53,7 @@ line_is column br t h =
     ∙ (text_line (white ++ comment) (break_text br) (white_none white comment (break_text br) (white_spaces column) none) ∙ (and_parts (is_break (break_text br)) (is_line (break_text br)) (break_is br)).1)
 
 line_agrees_with : (column : ℕ) (br : Break) (t : List ℕ) → Each no_break t → comment_text (comment_line column (break_text br) t) ≡ Some t
-line_agrees_with column br t h = search (rules, comment_behind, white_spaces, comment_is, hash_none, append-nil, break_ends, less_is)
+line_agrees_with column br t h = search (rules, comment_behind, white_spaces, comment_is, hash_none, append-nil)
 
 line_begins : (column : ℕ) (br : Break) (t : List ℕ) → front (λ b. eqb b 35) (past_white (comment_line column (break_text br) t)) ≡ true
 line_begins column br t = ap (λ (x : List ℕ × List ℕ). front (λ b. eqb b 35) x.1) (white_again (replicate column 32) (35 ∷ (behind_hash t ++ break_text br)) (white_spaces column) refl)

@@ -18,7 +18,7 @@ use Rattle.yq_places.specs.Standings.{RowsOfEntry, before_entry, behind_entry, e
 use Rattle.yq_places.{proofs.CommentEndLaws.row_text_parts, proofs.CommentPieceLaws.row_place, proofs.PlacedRowLaws.{IsAt, part_at}}
 use Rattle.yq_places.{proofs.PrintedTexts.map_some, proofs.RowLineSpans.steps_row}
 use Rattle.yq_documents.{specs.Documents.document_parts, specs.Ready.begins_no_node, specs.LinesInRows.{RowLine, row_line_of, document_row}}
-use Rattle.yq_edit_rules.proofs.PlacedPartLaws.{document_stands_at}
+use Rattle.yq_edit_rules.{proofs.RemovalPieceLaws.front_none, proofs.PlacedPartLaws.document_stands_at}
 use Rattle.yq_core.specs.Text as text
 use Rattle.yq_row_table.specs.Rows as rows
 
@@ -64,10 +64,7 @@ pub rows_same : (n : ℕ) (steps : List Step) (c : Cut) → row_of_path n steps 
 rows_same n steps c = go (placed_document n c)
   where
     printed_line : (d : PlacedPart) (o : Option RowLine) → option_map (placed_row d) o ≡ option_map entry_row (option_map (entry_rows_at d) o)
-    printed_line d None = refl
-    printed_line d (Some x) =
-        let rs : List Row = drop (suc x.before) d.part.rows in
-        ap (λ t. Some (record { before = d.before ++ rows_text (take x.before d.part.rows) []; row = x.row; line = x.line; behind = t })) (behind_rows d (under_count x rs) rs)
+    printed_line d o = search (rules, behind_rows)
 
     go : (o : Option PlacedPart) → (o >>= λ d. option_map (placed_row d) (row_line_of steps d.part.rows)) ≡ option_map entry_row (o >>= λ d. option_map (entry_rows_at d) (row_line_of steps d.part.rows))
     go o = search (rules, printed_line)
@@ -89,28 +86,21 @@ end_parts before rest = cut_takes no_white rest ∙ ap (λ x. (text.cut no_white
 
 -- ---- something is written on the line of a row
 
-left_none : (a b : List ℕ) → a ++ b ≡ [] → a ≡ []
-left_none [] b e = refl
-left_none (x ∷ a) b e = absurd (let bad : x ∷ (a ++ b) ≡ [] = e in cc)
-
-no_start : (tail more : List ℕ) → IsTail tail more → Starts (tail ++ more) → ⊥
-no_start tail more h s = search (rules, line_end_behind, false≢true, ⊎_elim, or_cases)
-
 pub line_some : (limit : Limit) (r : Row) (rest : List ℕ) → IsRow limit r rest → IsTail (slices r).tail ((slices r).raw ++ rest) → is_empty (text_to_line_end r) ≡ false
 line_some limit r rest h tail = go (cases_Bool (is_empty (text_to_line_end r)))
   where
     starts : text_to_line_end r ≡ [] → Starts ((slices r).tail ++ ((slices r).raw ++ rest))
     starts e =
-        let first : row_front r ≡ [] = left_none (row_front r) _ e in
-        let gap : r.gap ≡ [] = left_none r.gap (replicate r.column 32 ++ dashes_text r.dashes (mark_text r.mark [])) first in
+        let first : row_front r ≡ [] = front_none (row_front r) _ e in
+        let gap : r.gap ≡ [] = front_none r.gap (replicate r.column 32 ++ dashes_text r.dashes (mark_text r.mark [])) first in
         let rest_none : replicate r.column 32 ++ dashes_text r.dashes (mark_text r.mark []) ≡ [] = sym (ap (λ g. g ++ (replicate r.column 32 ++ dashes_text r.dashes (mark_text r.mark []))) gap) ∙ first in
-        let spaces : replicate r.column 32 ≡ [] = left_none (replicate r.column 32) (dashes_text r.dashes (mark_text r.mark [])) rest_none in
+        let spaces : replicate r.column 32 ≡ [] = front_none (replicate r.column 32) (dashes_text r.dashes (mark_text r.mark [])) rest_none in
         let whole : behind_indent r rest ≡ (slices r).tail ++ ((slices r).raw ++ rest) =
         sym (λ i. gap i ++ (spaces i ++ behind_indent r rest)) ∙ (row_text_parts r rest ∙ ap (λ l. l ++ ((slices r).tail ++ ((slices r).raw ++ rest))) e) in
         subst Starts whole (row_starts limit r rest h)
 
     go : (is_empty (text_to_line_end r) ≡ true) ⊎ (is_empty (text_to_line_end r) ≡ false) → is_empty (text_to_line_end r) ≡ false
-    go h1 = search (rules, no_start, empty_is, starts)
+    go h1 = search (rules, line_end_behind, false≢true, ⊎_elim, or_cases, empty_is, starts)
 
 -- ---- a path to a line
 

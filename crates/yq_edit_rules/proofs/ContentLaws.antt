@@ -1,16 +1,15 @@
 -- What is written after the mark of one row is replaced by a value.
-use Rattle.std.proofs.Common.{◌≡◌, ◌⊎◌, inl, inr, ℕ, ℤ, suc, ◌+◌, ◌≤◌, ◌++◌, eqb, Bool, true, List, [], ◌∷◌, length, take, Option, Some}
-use Rattle.std.proofs.Common.{None, refl, sym, ap, ◌∙◌, subst, arith, length-append, append_assoc, append-nil, rules}
+use Rattle.std.proofs.Common.{◌≡◌, ◌⊎◌, inl, inr, ℕ, ℤ, suc, ◌+◌, ◌≤◌, ◌++◌, true, List, [], ◌∷◌, length, Option, Some, None, refl, sym, ap}
+use Rattle.std.proofs.Common.{◌∙◌, subst, arith, length-append, append_assoc, append-nil, rules}
 use Rattle.std.proofs.lemmas.Bool.{cond_both, false≢true}
 use mathlib.Core.List.{head-eq_of_cons-eq, tail-eq_of_cons-eq}
 use Rattle.yq_core.{specs.Characters.is_text, specs.Paths.{Step, changed_at}, specs.Tree.{Node, Children, anchor_of}}
-use Rattle.yq_core.{specs.Nodes.{takes_anchor, IsFlowNode}, specs.Trees.{tree_of, node_anchor, node_head}}
-use Rattle.yq_core.specs.Anchors.{IsNoAlias, names_of}
+use Rattle.yq_core.{specs.Nodes.{takes_anchor, IsFlowNode}, specs.Trees.{tree_of, node_head}, specs.Anchors.{IsNoAlias, names_of}}
 use Rattle.yq_text.specs.Limit.{text_limit}
 use Rattle.yq_outline.{specs.LineAnchors.{IsFree, MayTake, HaveOneAnchorEach}, specs.Comments.head_comment, specs.Group.{group, level_or}}
 use Rattle.yq_outline.specs.Laws.{with_lines}
-use Rattle.yq_outline.specs.Outline.{LineMark, Line, level, Outline, end, row, flatten, IsOpen, IsWhole, IsEven, first_anchor, anchored}
-use Rattle.yq_outline.{specs.Outline.{head_or, null_node, value}, specs.Places.{lines_before, lines_after, FoundLine, find, content_under}}
+use Rattle.yq_outline.specs.Outline.{Line, level, Outline, end, row, flatten, IsOpen, IsWhole, IsEven, first_anchor, anchored, head_or}
+use Rattle.yq_outline.{specs.Outline.{null_node, value}, specs.Places.{lines_before, lines_after, FoundLine, find, content_under}}
 use Rattle.yq_outline.specs.Lines.{block_anchor, content_anchor, head_of, line_mark, mark_line, lines_of_rows}
 use Rattle.yq_outline.{proofs.Decides.flatten-group, proofs.NodeLaws.anchored_twice, proofs.NameLaws.each_back}
 use Rattle.yq_row_table.{specs.Exchange.{asked_behind, with_content}, specs.Grammar.{unlimited, IsContent, IsCut, no_rows}}
@@ -29,7 +28,6 @@ use Rattle.yq_edit_rules.{proofs.LineLaws.{above_mark, dashes_count}, proofs.Nod
 use Rattle.yq_edit_rules.proofs.PartLaws.{document_known, is_put, part_numbered, part_rows, rows_put, take_front}
 use Rattle.yq_edit_rules.{proofs.PlacedLaws.{same_parts, whole_line}, proofs.CommentPutLaws.last_lines, proofs.ReplaceLaws.rows_before_some}
 use Rattle.yq_edit_rules.proofs.RowCommentLaws.{rows_behind, lead_content}
-use Rattle.yq_core.specs.Tree as tree
 use Rattle.yq_core.specs.Nodes as inline
 use Rattle.yq_core.specs.Trees as trees
 use Rattle.yq_outline.specs.Outline as outline
@@ -38,58 +36,37 @@ use Rattle.yq_row_table.specs.Rows as rows
 -- ---- what a row spells, and its anchor
 
 coll_named : (k : ℕ) (a : Option (List ℕ)) (cs : Children) → anchor_of (anchored a (trees.tree_collection k cs)) ≡ a
-coll_named k a cs = cond_both (eqb k 125) (tree.map None cs) (tree.list None cs) (λ n. anchor_of (anchored a n) ≡ a) (λ _. only a) (λ _. only a)
-  where
-    only : (a : Option (List ℕ)) → first_anchor a None ≡ a
-    only None = refl
-    only (Some x) = refl
+coll_named k a cs = search (rules, cond_both)
 
 core_named : (name : List ℕ) (node : inline.FlowNode) → takes_anchor node ≡ true → anchor_of (anchored (Some name) (head_or (node_head node) null_node)) ≡ Some name
 unfolding tree_of
 core_named name node h1 = search (rules, false≢true, coll_named)
 
-node_named : (flow : Bool) (spaces : Option ℕ) (d : ℕ) (node : inline.FlowNode) (rest : List ℕ) → IsFlowNode flow spaces d node rest → anchor_of (anchored (node_anchor node) (head_or (node_head node) null_node)) ≡ node_anchor node
-unfolding tree_of IsFlowNode
-node_named flow spaces d node rest h1 = search (rules, coll_named, core_named)
-
 block_named : (a : Option rows.Anchor) → first_anchor (block_anchor a) None ≡ block_anchor a
-block_named None = refl
-block_named (Some a) = refl
+block_named a = search rules
 
 -- the anchor in a row is that of the node
 pub content_named : (n : ℤ) (x : Content) (rest : List ℕ) → IsContent n x rest → anchor_of (spelled_node x) ≡ content_anchor x
-content_named n x rest h1 = search (rules, node_named, block_named)
+unfolding tree_of IsFlowNode
+content_named n x rest h1 = search (rules, coll_named, core_named, block_named)
 
 -- the same after another anchor, if it may take that
 under_named : (a b : Option (List ℕ)) (n : Node) → anchor_of n ≡ b → (a ≡ None) ⊎ IsNoAlias (Some n) → anchor_of (anchored a n) ≡ first_anchor a b
-under_named a b (tree.alias n) e (inl none) = e ∙ ap (λ x. first_anchor x b) (sym none)
-under_named a b (tree.alias n) e (inr h) = absurd h
-under_named a b (tree.scalar x k t) e h = ap (first_anchor a) e
-under_named a b (tree.list x cs) e h = ap (first_anchor a) e
-under_named a b (tree.map x cs) e h = ap (first_anchor a) e
+under_named a b n e h = search rules
 
 no_alias : (a : Option (List ℕ)) (h : Option Node) → IsNoAlias h → IsNoAlias (Some (anchored a (head_or h null_node)))
-no_alias a None h = tt
-no_alias a (Some (tree.alias n)) h = absurd h
-no_alias a (Some (tree.scalar x k t)) h = tt
-no_alias a (Some (tree.list x cs)) h = tt
-no_alias a (Some (tree.map x cs)) h = tt
+no_alias a h h2 = search rules
 
 -- a value without names is no alias
 value_no_alias : (v : Node) → names_of v ≡ [] → IsNoAlias (Some v)
-value_no_alias (tree.alias n) h = absurd (cc)
-value_no_alias (tree.scalar a k t) h = tt
-value_no_alias (tree.list a cs) h = tt
-value_no_alias (tree.map a cs) h = tt
+value_no_alias v h = search rules
 
 -- an anchor before a line of its own
 bare_takes : (a : Option (List ℕ)) (h : Option Node) → MayTake outline.Bare a h → (a ≡ None) × IsNoAlias h
-bare_takes None h m = (refl, m)
-bare_takes (Some x) h m = absurd m
+bare_takes a h m = search rules
 
 takes_bare : (a : Option (List ℕ)) (h : Option Node) → a ≡ None → IsNoAlias h → MayTake outline.Bare a h
-takes_bare None h e n = n
-takes_bare (Some x) h e n = absurd (cc)
+takes_bare a h e n = search rules
 
 free_cases : (a : Option (List ℕ)) (l : Line) (ls : List Line) → l.mark ≡ outline.Bare → IsFree a (l ∷ ls) → (a ≡ None) ⊎ ((l.anchor ≡ None) × IsNoAlias l.head)
 free_cases None l ls m h = inl refl
@@ -101,8 +78,7 @@ free_from (Some x) l ls m (inl e) = absurd (cc)
 free_from (Some x) l ls m (inr h) = subst (λ k. MayTake k l.anchor l.head) (sym m) (takes_bare l.anchor l.head h.0 h.1)
 
 pub free_alone : (a : Option (List ℕ)) → IsFree a []
-free_alone None = tt
-free_alone (Some x) = tt
+free_alone a = search rules
 
 -- ---- lines
 
@@ -141,10 +117,8 @@ row_cut t c k p front back r s old cut rows stands new =
     let one : length front + 1 ≡ suc (length front) = omega arith in
     let same : splice j (length front) (suc (length front)) (s ∷ []) (first_gap back (nth_part j c).end) c ≡ put_document k (inserted front (s ∷ []) back p) c =
     (λ i. splice j (length front) (sym one i) (s ∷ []) (first_gap back (is i).end) c) ∙ whole_is in
-    let asked : asked_behind unlimited front ≡ asked_at j (length front) c =
-    ap (asked_behind unlimited) (sym (take_front p front (r ∷ back) rows)) ∙ ap (λ (x : Part). asked_behind unlimited (take (length front) x.rows)) (sym is) in
-    let there : StandsFor (asked_at j (length front) c) r s back (rest_behind j back c) =
-    subst (λ limit. StandsFor limit r s back (rest_behind j back c)) asked (subst (λ (x : Part). StandsFor (asked_behind unlimited front) r s back (rows_text back (x.end ++ behind_document k c))) (sym is) stands) in
+    let asked : asked_behind unlimited front ≡ asked_at j (length front) c = search (rules, take_front) in
+    let there : StandsFor (asked_at j (length front) c) r s back (rest_behind j back c) = search rules in
     subst (λ (x : Cut). IsCut (cut_text x) x) same
     (row_exchanged t c j front r back s cut (ap (λ (x : Part). x.rows) is ∙ rows) there
     (ap (λ (x : Cut). is_text (cut_text x)) same ∙ new.characters) (subst (λ (x : Cut). length (cut_text x) ≤ text_limit) (sym same) new.size))
@@ -237,12 +211,7 @@ module _ (t : List ℕ) (c : Cut) (k : ℕ) (p : Part) (front : List Row) (r : R
       not_alias (inr e) = inr (no_alias (content_anchor r.content) (head_of r.content) e.1)
 
       node_is : f.under ≡ row x end end → line_mark r.mark ≡ outline.Bare → (f.line.anchor ≡ None) ⊎ ((content_anchor r.content ≡ None) × IsNoAlias (head_of r.content)) → content_under f.line (row l end end) ≡ replaced_node v (content_under f.line f.under)
-      node_is alone bare takes =
-          let b : Option (List ℕ) = content_anchor r.content in
-          let node : content_under f.line f.under ≡ anchored f.line.anchor (spelled_node r.content) = (λ i. anchored f.line.anchor (head_or (open' i) (value (alone i)))) ∙ ap (anchored f.line.anchor) (alone_value x bare) in
-          let anchor : anchor_of (anchored f.line.anchor (spelled_node r.content)) ≡ first_anchor f.line.anchor b = under_named f.line.anchor b (spelled_node r.content) named (not_alias takes) in
-          (λ i. anchored f.line.anchor (head_or (open' i) (value (row l end end))))
-          ∙ (ap (anchored f.line.anchor) (alone_value l bare ∙ spelled_new) ∙ (anchored_twice f.line.anchor b v ∙ (ap (λ y. anchored y v) (sym anchor) ∙ ap (replaced_node v) (sym node))))
+      node_is alone bare takes = search (rules, alone_value, under_named, named, not_alias, spelled_new, anchored_twice)
 
   -- as a root
   pub root_is : length (lines_of_rows p.rows) ≡ 1 → r.mark ≡ rows.Bare → MayReplace v (root_of p) (root_of p) 0 → IsChanged c (put_document k q c) k (lead_of p) (changed_at [] (replaced_node v))

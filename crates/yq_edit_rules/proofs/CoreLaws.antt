@@ -27,35 +27,23 @@ put_core core (Block space anchor block) = Block space anchor block
 -- ---- what it spells
 
 pub core_head : (core node : FlowNode) → node_head (recore core node) ≡ node_head core
-core_head core empty = refl
-core_head core (alias n) = refl
-core_head core (scalar p) = refl
-core_head core (coll k g is) = refl
 core_head core (anchored n g node) = core_head core node
+core_head core _ = refl
 
 pub core_anchor : (core node : FlowNode) → node_anchor core ≡ None → node_anchor (recore core node) ≡ node_anchor node
 core_anchor core node h1 = search rules
 
 pub core_keys : (core node : FlowNode) → HasFitKeys core → HasFitKeys (recore core node)
-core_keys core empty h = h
-core_keys core (alias n) h = h
-core_keys core (scalar p) h = h
-core_keys core (coll k g is) h = h
 core_keys core (anchored n g node) h = core_keys core node h
+core_keys core _ h = h
 
 pub core_bare : (core node : FlowNode) → is_empty_node core ≡ false → is_empty_node (recore core node) ≡ false
-core_bare core empty h = h
-core_bare core (alias n) h = h
-core_bare core (scalar p) h = h
-core_bare core (coll k g is) h = h
 core_bare core (anchored n g node) h = refl
+core_bare core _ h = h
 
 pub core_more : (core node : FlowNode) → is_more core ≡ true → is_empty_node core ≡ false → is_more (recore core node) ≡ true
-core_more core empty h b = h
-core_more core (alias n) h b = h
-core_more core (scalar p) h b = h
-core_more core (coll k g is) h b = h
 core_more core (anchored n g node) h b = ap not (core_bare core node b)
+core_more core _ h b = h
 
 -- ---- it is a node
 
@@ -64,15 +52,13 @@ unfolding IsFlowNode node_text
 begins spaces d core rest h1 h2 h3 = search (rules, false≢true, or_right, scalar_begins, cond_both)
 
 no_empty_gap : (g : List ℕ) → (false || not (is_empty g)) ≡ true → is_empty g ≡ false
-no_empty_gap [] h = absurd (cc)
-no_empty_gap (b ∷ g) h = refl
+no_empty_gap g h = search rules
 
 name_space : (n t u : List ℕ) → IsName n t → IsName n (32 ∷ u)
 name_space n t u h = record { some = h.some; inside = none_unless in_name n t (32 ∷ u) h.inside; ends = refl }
 
 front_again : (q : ℕ → Bool) (g t u : List ℕ) → is_empty g ≡ false → unless q (g ++ t) ≡ true → unless q (g ++ u) ≡ true
-front_again q [] t u some h = absurd (cc)
-front_again q (b ∷ g) t u some h = h
+front_again q g t u some h = search rules
 
 name_again : (n g t u : List ℕ) → is_empty g ≡ false → IsName n (g ++ t) → IsName n (g ++ u)
 name_again n g t u some h = record { some = h.some; inside = none_unless in_name n (g ++ t) (g ++ u) h.inside; ends = front_again in_name g t u some h.ends }
@@ -89,22 +75,18 @@ module _ (spaces : Option ℕ) (d : ℕ) (core : FlowNode) (rest : List ℕ) (un
   pub anchored_node : (n g : List ℕ) (old : FlowNode) (t : List ℕ) → is_empty_node old ≡ false → IsName n (g ++ t) → IsLead false (begins_content false) g t → (is_empty_node old || not (is_empty g)) ≡ true → IsFlowNode false spaces d (anchored n g core) rest
   unfolding IsFlowNode node_text
   anchored_node n g old t full name lead apart_is =
-      let gap : is_empty g ≡ false = no_empty_gap g (ap (λ b. b || not (is_empty g)) (sym full) ∙ apart_is) in
-      (name_again n g t (node_text core rest) gap name, lead_again g t gap lead, or_right (is_empty_node core) (not (is_empty g)) (ap not gap), takes, stands)
+      search (rules, no_empty_gap g (ap (λ b. b || not (is_empty g)) (sym full) ∙ apart_is), name_again, lead_again, or_right)
 
 pub core_node : (spaces : Option ℕ) (d : ℕ) (core : FlowNode) (rest : List ℕ) → node_anchor core ≡ None → is_empty_node core ≡ false → takes_anchor core ≡ true → IsFlowNode false spaces d core rest →
     (node : FlowNode) → IsFlowNode false spaces d node rest → IsFlowNode false spaces d (recore core node) rest
 unfolding IsFlowNode node_text
-core_node spaces d core rest u b a s empty h = s
-core_node spaces d core rest u b a s (alias n) h = s
-core_node spaces d core rest u b a s (scalar p) h = s
-core_node spaces d core rest u b a s (coll k g is) h = s
 core_node spaces d core rest u b a s (anchored n g empty) h =
     (name_space n (g ++ rest) (node_text core rest) h.0, inl (((refl, tt), starts spaces d core rest u b a s), begins spaces d core rest u b s), or_right (is_empty_node core) true refl, a, s)
 core_node spaces d core rest u b a s (anchored n g (alias m)) h = absurd (false≢true h.3)
 core_node spaces d core rest u b a s (anchored n g (scalar p)) h = anchored_node spaces d core rest u b a s n g (scalar p) (p ++ rest) refl h.0 h.1 h.2
 core_node spaces d core rest u b a s (anchored n g (coll k x is)) h = anchored_node spaces d core rest u b a s n g (coll k x is) (opening_bracket k ∷ (x ++ flow_items_text k is rest)) refl h.0 h.1 h.2
 core_node spaces d core rest u b a s (anchored n g (anchored m x node)) h = absurd (false≢true h.3)
+core_node spaces d core rest u b a s _ h = s
 
 -- ---- no white space before nothing
 

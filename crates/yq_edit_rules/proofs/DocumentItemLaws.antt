@@ -1,5 +1,5 @@
 -- The items of a cut in which a document is exchanged.
-use Rattle.std.proofs.Common.{◌≡◌, ℕ, zero, suc, List, [], ◌∷◌, ◌++◌, refl, sym, ap, ◌∙◌}
+use Rattle.std.proofs.Common.{rules, ◌≡◌, ℕ, zero, suc, List, [], ◌∷◌, ◌++◌, refl, sym, ap, ◌∙◌}
 use Rattle.yq_row_table.specs.Items.{Item, row_item, end_item, rows_items, items_of_cut, items_text}
 use Rattle.yq_row_table.{specs.Rows.{Row, rows_text, Part, Cut, last, marked}, specs.Splices.{behind_part, nth_part}}
 use Rattle.yq_row_table.proofs.ItemLaws.{items_of_text}
@@ -43,13 +43,4 @@ has (suc i) (marked x m c) =
     record { above = rows_items x.rows (end_item x.end m ∷ h.above); marker = h.marker; below = h.below; behind = h.behind; old = later x m h.above _ _ h.old; put = λ q. later x m h.above _ _ (h.put q) }
 
 pub document_has_items : DocumentHasItems
-document_has_items c k p e =
-    let h = has (part_number k c) c in
-    record {
-      above = h.above;
-      marker = h.marker;
-      below = h.below;
-      behind = h.behind;
-      old = h.old ∙ ap (λ (x : Part). h.above ++ rows_items x.rows (end_item x.end h.marker ∷ h.below)) (part_there c k p e);
-      put = h.put;
-    }
+document_has_items c k p e = search (rules, has (part_number k c) c, part_there)

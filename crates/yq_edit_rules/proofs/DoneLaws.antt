@@ -1,15 +1,14 @@
 -- One document of a text in the place of another, as an operation makes it: the text reads as the documents after that, and leaves the room that it has to.
 use Rattle.std.proofs.Common.{◌≡◌, ℕ, zero, suc, List, [], ◌∷◌, map, Option, Some, refl, sym, ap, ◌∙◌, subst, rules}
 use Rattle.std.{proofs.lemmas.Option.same_Some, specs.List.slice_get}
-use Rattle.yq_core.{specs.Tree.{Node, children_of}, specs.Answers.◌>>=◌, proofs.Bools.guard_then}
+use Rattle.yq_core.{specs.Tree.{Node, children_of}, proofs.Bools.guard_then}
 use Rattle.yq_row_table.specs.Rows.{Part, Cut, cut_text}
 use Rattle.yq_documents.{specs.Documents.{Document, document_parts, lead_of}, specs.Reading.{documents, read_at, cut_of, root_of}}
-use Rattle.yq_documents.{specs.Ready.part_is_block, specs.LinesInRows.{row_line_of, row_line_has_room}}
-use Rattle.yq_documents.{specs.TreeEdits.{change_nth, lead_by}, proofs.ReadLaws.{text_takes, cut_is}}
+use Rattle.yq_documents.{specs.Ready.part_is_block, specs.TreeEdits.{change_nth, lead_by}, proofs.ReadLaws.{text_takes, cut_is}}
 use Rattle.yq_edit_rules.{specs.Changed.{changed, put_document}, proofs.AfterLaws.{nth_is, nth_same}, proofs.ChangedLaws.document_put}
 use Rattle.yq_edit_rules.{specs.Rooms.is_block_root, specs.Done.{IsDone, DocumentDone}, specs.ReadsAfter.RoomStays}
-use Rattle.yq_semantics.{specs.After.{op_document, root_after, done_to, after_op}, specs.Operations.Operation}
-use Rattle.yq_semantics.{specs.Rooms.{comment_part, room_of}, specs.RoomsKept.KeepsBlock}
+use Rattle.yq_semantics.{specs.After.{op_document, root_after, done_to, after_op}, specs.Operations.Operation, specs.Rooms.room_of}
+use Rattle.yq_semantics.specs.RoomsKept.{KeepsBlock}
 use Rattle.yq_documents.specs.Reading as reading
 
 -- the cut of a text that reads
@@ -103,12 +102,7 @@ module _ (op : Operation) (c : Cut) (p q : Part) (lead : List (List ℕ)) (f : N
   room_stays : RoomStays op t u
   room_stays = record {
     others = λ i apart. (search (rules, other_part i apart));
-    comments = λ sets. record {
-      block = block_stays (search (rules, sets));
-      has = λ place steps.
-          ap (λ o. row_line_has_room (comment_part place) (o >>= λ x. row_line_of steps x.rows)) new_part
-          ∙ (h.equal_room sets (comment_part place) steps ∙ ap (λ o. row_line_has_room (comment_part place) (o >>= λ x. row_line_of steps x.rows)) (sym old_part));
-    };
+    comments = search (rules, block_stays, new_part, old_part);
     block = λ d at keeps.
         let is : reading.part_document q ≡ d = same_Some _ _ (sym (nth_map k q reading.part_document (document_parts (cut_of u)) new_part) ∙ at) in
         block_stays (subst (λ (e : Document). KeepsBlock op e.root) (sym is) keeps);

@@ -1,15 +1,12 @@
 -- Texts with other lines in one document.
-use Rattle.std.proofs.Common.{◌≡◌, ℕ, List, [], ◌∷◌, ◌++◌, Option, Some, None, true, refl, sym, ap, ◌∙◌, subst, append_assoc, rules}
+use Rattle.std.proofs.Common.{◌≡◌, ℕ, List, [], ◌∷◌, ◌++◌, Some, true, refl, sym, ap, ◌∙◌, subst, append_assoc, rules}
 use Rattle.std.proofs.lemmas.Option.{same_Some}
-use Rattle.yq_core.specs.Keys.{HasUniqueKeys, depth}
-use Rattle.yq_core.specs.Paths.{Step, append_child, changed_at, node_at, relabel_child, remove_child, within}
-use Rattle.yq_core.{specs.Tree.{Label, Node, Children, child, children_of}, proofs.Bools.guard_then, specs.Anchors.names_of}
-use Rattle.yq_outline.{specs.Comments.head_comment, specs.LineAnchors.{IsFree, HaveOneAnchorEach}, specs.Group.level_or}
-use Rattle.yq_outline.{specs.Laws.with_lines, specs.Lines.lines_of_rows}
-use Rattle.yq_outline.specs.Outline.{LineMark, Bare, Key, Dash, Line, level, Outline, end, row, flatten, IsWhole, IsEven, anchored, head_or}
-use Rattle.yq_outline.specs.Outline.{label, outline_node, children, value}
+use Rattle.yq_core.{specs.Keys.{HasUniqueKeys, depth}, specs.Paths.{Step, append_child, changed_at, relabel_child, remove_child, within}}
+use Rattle.yq_core.{specs.Tree.{Label, Node}, proofs.Bools.guard_then, specs.Anchors.names_of}
+use Rattle.yq_outline.{specs.LineAnchors.{IsFree, HaveOneAnchorEach}, specs.Group.level_or, specs.Laws.with_lines}
+use Rattle.yq_outline.{specs.Lines.lines_of_rows, specs.Outline.{Line, level, Outline, end, row, flatten, IsEven, anchored, label, value}}
 use Rattle.yq_outline.{specs.Places.{lines_before, lines_after, plug, FoundLine, find, content_under}, proofs.Allowing.Allows}
-use Rattle.yq_outline.{proofs.Decides.{flatten-group, even_from}, proofs.Finding.{IsFoundIn, FoundNode, path_node, path_whole}}
+use Rattle.yq_outline.{proofs.Decides.{flatten-group, even_from}, proofs.Finding.{IsFoundIn, path_node, path_whole}}
 use Rattle.yq_outline.{proofs.PlaceLaws.{at, exchanged}, proofs.Plug.allows_from, proofs.Values.{same_rank, same_entry}}
 use Rattle.yq_outline.{proofs.NameLaws.{each_front, each_back}, proofs.NodeLaws.anchored_none}
 use Rattle.yq_row_table.specs.Rows.{Part, Cut}
@@ -18,12 +15,12 @@ use Rattle.yq_documents.{proofs.DocumentLaws.document_is, proofs.ReadLaws.text_t
 use Rattle.yq_places.proofs.RowPathLaws.{document_fine}
 use Rattle.yq_edit_rules.{specs.Changed.{IsChanged, put_document, first_comment}, specs.Conditions.{last_anchor, BeginsEntry}}
 use Rattle.yq_edit_rules.specs.Edited.{IsPut, OldIsEven, OldIsSound, LinesAreThere, LineExchanged, LinesExchanged, LinesAppended}
-use Rattle.yq_edit_rules.{specs.Edited.{LinesRemoved, LineRelabelled, LeadIsAbove, first_above, RootHasLead}, specs.SoundRoots.IsSoundRoot}
-use Rattle.yq_edit_rules.specs.Siblings.{append_outline, IsEntry, HasEntries, NodeLines, put_lines, StandsSomewhere}
+use Rattle.yq_edit_rules.{specs.Edited.{LinesRemoved, LineRelabelled, LeadIsAbove, RootHasLead}, specs.SoundRoots.IsSoundRoot}
+use Rattle.yq_edit_rules.specs.Siblings.{HasEntries, NodeLines, put_lines, StandsSomewhere}
 use Rattle.yq_edit_rules.proofs.AnchorLaws.{any_free, anchors_stay, after_anew, both_anew, collection_anew, lines_among}
 use Rattle.yq_edit_rules.proofs.ChangedLaws.{document_changed, lead_is_first}
 use Rattle.yq_edit_rules.proofs.CollectionLaws.{Splits, some_at, level_mark, appended, removed, relabelled}
-use Rattle.yq_edit_rules.proofs.NodeLineLaws.{Under, lines_found, lines_even, lines_replaced}
+use Rattle.yq_edit_rules.proofs.NodeLineLaws.{lines_found, lines_even, lines_replaced}
 use Rattle.yq_edit_rules.{proofs.SiblingLaws.{entry_out, entries, even_right, next, rest_entries}, proofs.PartLaws.all_at}
 use Rattle.yq_edit_rules.proofs.PlacedLaws.{around}
 use Rattle.yq_outline.proofs.Allowing as allowing
@@ -64,14 +61,7 @@ finish t c k p q f h stands each sound =
 
 pub lines_are_there : LinesAreThere
 lines_are_there [] o h e = subst (λ (x : NodeLines). Some (value o) ≡ Some (anchored x.anchor (value x.lines))) (same_Some _ _ e) (ap Some (sym (anchored_none (value o))))
-lines_are_there (s ∷ ss) o h e = found (lines_found s ss o h e)
-  where
-    found : Under s ss o h → node_at (s ∷ ss) (value o) ≡ Some (anchored h.anchor (value h.lines))
-    found w =
-        let f : FoundLine = w.found in
-        let there : node_at (s ∷ ss) (value o) ≡ Some (content_under f.line f.under) = path_node s ss o ∙ ap FoundNode w.is in
-        let same : content_under f.line f.under ≡ anchored f.line.anchor (value f.under) = ap (λ x. anchored f.line.anchor (head_or x (value f.under))) w.open' in
-        subst (λ (x : NodeLines). node_at (s ∷ ss) (value o) ≡ Some (anchored x.anchor (value x.lines))) w.place_is (there ∙ ap Some same)
+lines_are_there (s ∷ ss) o h e = search (rules, lines_found, path_node)
 
 -- leads
 first_same : (d e : List (List ℕ)) (before : List Line) (l m : Line) (ls ms : List Line) → m.head_comment ≡ l.head_comment → first_comment d (before ++ (m ∷ ms)) ≡ first_comment e (before ++ (l ∷ ls))
@@ -87,14 +77,7 @@ led_as c new k a b f e h = subst (λ x. IsChanged c new k x f) e h
 
 -- what follows a line that was found begins with an entry
 following : (n : ℕ) (f : FoundLine) → Allows n f.place (level f.line) → IsEven (level f.line) (row f.line f.under f.after) → BeginsEntry (flatten f.after ++ lines_after f.place)
-following n f allows even = both_anew (flatten f.after) (lines_after f.place) (behind f.line.mark f.line.head refl f.after even.2 even.4) (after_anew n (level f.line) f.place allows)
-  where
-    behind : (m : LineMark) (h : Option Node) → f.line.mark ≡ m → (o : Outline) → IsWhole m h o → IsEven (level f.line) o → BeginsEntry (flatten o)
-    behind (Key j) h e o w v = collection_anew o (next (level f.line) f.line o (subst allowing.IsEntry (sym e) tt) refl v)
-    behind Dash h e o w v = collection_anew o (next (level f.line) f.line o (subst allowing.IsEntry (sym e) tt) refl v)
-    behind Bare h e end w v = tt
-    behind Bare None e (row k u a) w v = absurd w
-    behind Bare (Some x) e (row k u a) w v = absurd w
+following n f allows even = search (rules, both_anew, after_anew, collection_anew, next)
 
 pub line_exchanged : LineExchanged
 line_exchanged t c k p q s ss rest f g m l u put found fits whole anchors lines sound =
@@ -120,8 +103,7 @@ lines_exchanged t c k p q steps h g m u put is fits anchors lines sound =
     let law = lines_replaced n m o u steps h g w.even is fits in
     let among = lines_among n o steps h w.even is in
     let was : lines_of_rows p.rows ≡ put_lines h (flatten h.lines) = sym w.lines ∙ law.0 in
-    let one : HaveOneAnchorEach (put_lines h (flatten u)) =
-    anchors_stay (lines_before h.place) (flatten h.lines) (flatten u) (lines_after h.place) (subst HaveOneAnchorEach was w.each) anchors.each (subst (λ a. IsFree a (flatten u)) (sym among.1) anchors.free) among.0 in
+    let one : HaveOneAnchorEach (put_lines h (flatten u)) = search (rules, anchors_stay) in
     finish t c k p q (changed_at steps g) put (subst (λ ls. StandsSomewhere ls (changed_at steps g (root_of p))) (sym lines) law.1) (subst HaveOneAnchorEach (sym lines) one) sound
 
 pub lines_appended : LinesAppended
@@ -151,12 +133,7 @@ lines_appended t c k p q steps h m l v put there fits each lines sound =
 
 -- the items or entries after one begin anew
 behind_split : (s : Step) (o : Outline) (f : FoundLine) → Splits s o f → HasEntries o → IsEven (level_or 0 o) o → BeginsEntry (flatten f.after) × allowing.IsEntry f.line.mark
-behind_split s o f w block even =
-    let n : ℕ = level_or 0 o in
-    let whole : IsEven n (append_outline w.front (row f.line f.under f.after)) = subst (IsEven n) (sym w.whole) even in
-    let run : allowing.IsEntry f.line.mark = rest_entries n w.front (row f.line f.under f.after) (entries _ (subst HasEntries (sym w.whole) block)) whole in
-    let here = even_right n w.front (row f.line f.under f.after) whole in
-    (collection_anew f.after (next n f.line f.after run here.0 here.4), run)
+behind_split s o f w block even = search (rules, rest_entries, entries, even_right, collection_anew, next)
 
 pub lines_removed : LinesRemoved
 lines_removed t c k p q steps h s f put entry left lines sound =
@@ -210,24 +187,10 @@ line_relabelled t c k p q steps h s f g l put entry new_line lines sound =
 pub lead_is_above : LeadIsAbove
 unfolding level
 lead_is_above above n end block even = absurd block
-lead_is_above above n (row l u a) block even = (even, go l.mark block (content_under l u) (children a))
-  where
-    go : (m : LineMark) → IsEntry m → (x : Node) (cs : Children) → outline_node m (child (label (record l { head_comment = above })) x cs) ≡ within (headed above) (outline_node m (child (label l) x cs))
-    go Bare e x cs = absurd e
-    go (Key j) e x cs = refl
-    go Dash e x cs = refl
+lead_is_above above n (row l u a) block even = search rules
 
 pub root_has_lead : RootHasLead
-root_has_lead p block = go (part_outline p) block refl ∙ ap Some (sym (lead_is_first p ∙ ap (first_comment (head_comment p.end)) (sym (flatten-group (lines_of_rows p.rows)))))
-  where
-    kind : (m : LineMark) → IsEntry m → (cs : Children) → children_of (outline_node m cs) ≡ cs
-    kind Bare e cs = absurd e
-    kind (Key j) e cs = refl
-    kind Dash e cs = refl
-
-    go : (o : Outline) → HasEntries o → part_outline p ≡ o → first_above (children_of (value o)) ≡ Some (first_comment (head_comment p.end) (flatten o))
-    go end b e = absurd b
-    go (row l u a) b e = ap first_above (kind l.mark b (children (row l u a)))
+root_has_lead p block = search (rules, lead_is_first, flatten-group)
 
 -- a root under a lead is as deep, and has the same names and keys
 pub led_same : (above : List (List ℕ)) (n : Node) →

@@ -3,9 +3,9 @@ use Rattle.std.proofs.Common.{inl, inr, ◌≡◌, ℕ, ◌+◌, ◌≤◌, Bool
 use Rattle.std.{proofs.Common.{sym, ap, ◌∙◌, subst, arith, rules}, proofs.lemmas.Bool.{false≢true, ltb-false, or_parts}}
 use Rattle.std.{specs.List.{list_any, slice_get}, proofs.lemmas.Option.{none-some, same_Some}, specs.Prelude.{◌≢◌, All}, specs.Str.bytes_eq}
 use Rattle.yq_core.{specs.Answers.◌>>=◌, specs.Keys.{HasUniqueKeys, EachHasUniqueKeys, AreDistinct, keys_of, depth}}
-use Rattle.yq_core.{specs.Paths.{Step, To, key_is, child_at, node_at}, specs.Shapes.{IsTree, AreTrees, AreEntries, IsNew}}
+use Rattle.yq_core.{specs.Paths.{Step, To, child_at, node_at}, specs.Shapes.{IsTree, AreTrees, AreEntries, IsNew}}
 use Rattle.yq_core.{specs.Tree.{Node, Children}, specs.Inline.depth_limit}
-use Rattle.yq_core.{specs.Anchors.{Name, Anchors, Refers, names_of, names_in, IsAmong}, specs.Text.with_first}
+use Rattle.yq_core.specs.Anchors.{Name, Anchors, Refers, names_of, names_in, IsAmong}
 use Rattle.yq_flow_edits.specs.Valued.{IsLabel, IsValueTree, AreValueTrees}
 use Rattle.yq_row_table.specs.Rows.{Part, Cut, cut_text}
 use Rattle.yq_documents.{specs.Documents.{Document, document_parts}, specs.Reading.{documents, root_of}}
@@ -77,12 +77,9 @@ mutual
         each_near keyed cs h.2 (or_parts (has_long_key n) (have_long_key cs) others).1,
       )
 
-key_other : (k : List ℕ) (o : Option (List ℕ)) (ks : List (List ℕ)) → key_is k o ≡ false → (IsAmong k ks → ⊥) → IsAmong k (with_first o ks) → ⊥
-key_other k o ks h1 h2 h3 = search (rules, false≢true, bytes_refl)
-
 pub new_key : (k : List ℕ) (cs : Children) → child_at (To k) cs ≡ None → IsAmong k (keys_of cs) → ⊥
 new_key k tree.none e among = among
-new_key k (tree.child label n cs) e among = search (rules, none-some, key_other, new_key k cs)
+new_key k (tree.child label n cs) e among = search (rules, none-some, false≢true, bytes_refl, new_key k cs)
 
 -- ---- anchors that go
 

@@ -1,18 +1,18 @@
 -- One item or entry more at the end of a text without a final break.
-use Rattle.std.proofs.Common.{◌≡◌, inl, inr, ℕ, suc, ◌+◌, ◌≤◌, List, [], ◌∷◌, ◌++◌, length, drop, eqb, ◌&&◌, Option, Some, None, true}
-use Rattle.std.proofs.Common.{false, cond, refl, sym, ap, ◌∙◌, subst, rules, arith, ⊎_elim, append_assoc, append-nil, length-append}
+use Rattle.std.proofs.Common.{◌≡◌, inl, inr, ℕ, suc, ◌+◌, ◌≤◌, List, [], ◌∷◌, ◌++◌, length, drop, ◌&&◌, Option, Some, None, true, false}
+use Rattle.std.proofs.Common.{cond, refl, sym, ap, ◌∙◌, subst, rules, arith, ⊎_elim, append_assoc, append-nil, length-append}
 use Rattle.std.proofs.lemmas.Bool.{false≢true, cond-true, cond-false, and_parts}
 use Rattle.yq_core.{specs.Characters.{is_text, pairs_returns}, specs.Lines.is_hash}
 use Rattle.yq_core.{specs.Text.{cut, ends_line, is_break, is_line, no_white, past_white}, proofs.Upto.cut-append}
 use Rattle.yq_text.specs.Limit.{text_limit}
 use Rattle.yq_outline.{specs.Comments.{comment_text, head_comment, less_space, line_comment}, specs.Group.level_or}
-use Rattle.yq_outline.{specs.Lines.{mark_line, lines_of_rows}, specs.Outline.{Line, flatten}, specs.Places.{lines_before, lines_after}}
+use Rattle.yq_outline.{specs.Lines.lines_of_rows, specs.Outline.{Line, flatten}, specs.Places.{lines_before, lines_after}}
 use Rattle.yq_outline.{proofs.Decides.flatten-group, proofs.HeadLaws.end_no_hash}
 use Rattle.yq_row_table.{specs.Exchange.row_front, specs.Gap.{IsBreak, IsComment, IsWhite}}
 use Rattle.yq_row_table.specs.Grammar.{Limit, IsTail, unlimited, AreRows, IsCut, no_rows}
-use Rattle.yq_row_table.specs.Rows.{Content, Row, content_text, mark_column, parent_indent, print_row, rows_text, Part, Cut, cut_text}
+use Rattle.yq_row_table.specs.Rows.{Row, content_text, parent_indent, print_row, rows_text, Part, Cut, cut_text}
 use Rattle.yq_row_table.{specs.Splices.{before_rows, behind_part, nth_part, splice}, specs.Appending.closed_by}
-use Rattle.yq_row_table.{specs.Seams.{is_block, tail_behind, with_tail}, proofs.splices.AppendLaws.end_appended}
+use Rattle.yq_row_table.{specs.Seams.{tail_behind, with_tail}, proofs.splices.AppendLaws.end_appended}
 use Rattle.yq_row_table.{proofs.splices.SpliceTexts.front_text, proofs.CharacterLaws.pairs_back}
 use Rattle.yq_row_table.{proofs.LineEnds.{behind_comment, white_again}, proofs.PlaceLaws.row_front-append}
 use Rattle.yq_row_table.{proofs.seams.ScalarSeams.ends_return, proofs.seams.SeamLaws.{line_by_break, rows_drop}}
@@ -22,7 +22,7 @@ use Rattle.yq_places.{specs.RowPaths.IsReadable, proofs.RemovalLines.front_some,
 use Rattle.yq_edit_rules.{specs.Changed.put_document, specs.Moved.dash_lines, specs.Siblings.put_lines}
 use Rattle.yq_edit_rules.{proofs.AnchorLaws.{fit_parts, fit_from}, proofs.CollectionLaws.appended, proofs.BlockChangeLaws.entry_appended}
 use Rattle.yq_edit_rules.{proofs.PlacedLaws.same_parts, specs.Ends.{TakesRowsLast, closed_with, EndAppended}}
-use Rattle.yq_edit_rules.{specs.DocumentRows.{IsDocumentPart, behind_document}, proofs.AppendLaws.around, proofs.LineLaws.above_mark}
+use Rattle.yq_edit_rules.{specs.DocumentRows.{IsDocumentPart, behind_document}, proofs.AppendLaws.around}
 use Rattle.yq_edit_rules.proofs.PartLaws.{part_numbered, rows_put, document_known, is_put, drop_front}
 use Rattle.yq_edit_rules.proofs.CommentPutLaws.{fit_retail, short_retail, last_lines}
 
@@ -42,10 +42,7 @@ comment_is white comment break w c e =
     ap (λ (x : List ℕ). cond (is_hash x) (Some (less_space (cut ends_line (drop 1 x)).0)) None) past ∙ go comment c
   where
     go : (comment : List ℕ) → IsComment comment break → cond (is_hash (comment ++ break)) (Some (less_space (cut ends_line (drop 1 (comment ++ break))).0)) None ≡ after_hash comment
-    go [] c = cond-false _ _ _ (end_no_hash break (break_ends break e))
-    go (b ∷ cs) c =
-        let whole = cut-append ends_line cs break c.1 (break_ends break e) in
-        cond-true _ _ _ (ap (λ (x : ℕ). eqb x 35) c.0) ∙ ap (λ (y : List ℕ × List ℕ). Some (less_space y.0)) whole
+    go comment c = search (rules, cond-false, end_no_hash, break_ends, cut-append, cond-true)
 
 -- A tail that gets a break has the same comment.
 pub comment_stays : (tail break : List ℕ) → (is_break break && is_line break) ≡ true → is_line tail ≡ false → pairs_returns tail ≡ true → IsTail tail [] →
@@ -60,11 +57,6 @@ comment_stays tail break b bare pairs h = ⊎_elim {0, 0, 0}
     ∙ (comment_is h.white h.comment break h.line.blank (comment_closed h.comment break as_comment none) (inl b)
     ∙ sym (ap comment_text (is ∙ ap (λ l. h.white ++ l) (sym (append-nil h.comment))) ∙ comment_is h.white h.comment [] h.line.blank as_comment (inr (refl, refl)))))
     h.line.ends
-
--- the line of a row that gets a break
-line_stays : (above : List (List ℕ)) (column : ℕ) (mark : Rattle.yq_row_table.specs.Rows.RowMark) (c : Content) (tail : List ℕ) → is_block c ≡ false → line_comment tail ≡ line_comment (tail_behind c) →
-    mark_line above column mark (with_tail tail c) ≡ mark_line above column mark c
-line_stays above column mark c tail h1 h2 = search (rules, false≢true)
 
 -- the cut
 end_cut : (t : List ℕ) (c : Cut) (k : ℕ) (p : Part) (front new : List Row) (r : Row) (break : List ℕ) → IsDocumentPart t c k p → IsCut t c → TakesRowsLast p front r break new (behind_document k c) →
@@ -96,8 +88,7 @@ last_comment t c k p front new r break old cut takes =
     let tail : pairs_returns (tail_behind r.content) ≡ true = ap pairs_returns (sym (append-nil (tail_behind r.content))) ∙ tail_pairs r.content [] takes.takes.inline content in
     let own = rows_drop i p.rows unlimited p.end (behind_part j c) (subst (λ (x : Part). AreRows unlimited x.rows x.end (behind_part j c)) here (part_in c j true cut.parts).rows) in
     let asked : Limit = Rattle.yq_row_table.specs.Exchange.asked_behind unlimited (Rattle.std.specs.Prelude.take i p.rows) in
-    let row : AreRows asked (r ∷ []) [] [] =
-    subst (λ (x : List ℕ). AreRows asked (r ∷ []) [] x) takes.rest_is (subst (λ (x : List ℕ). AreRows asked (r ∷ []) x (behind_part j c)) takes.end_is (subst (λ (x : List Row). AreRows asked x p.end (behind_part j c)) end_is own)) in
+    let row : AreRows asked (r ∷ []) [] [] = search rules in
     comment_stays (tail_behind r.content) break takes.takes.break_is takes.takes.bare tail (content_tail (parent_indent r) r.content [] takes.takes.inline row.0.content)
 
 pub end_of_text_appended : EndAppended
@@ -112,7 +103,7 @@ end_of_text_appended t c k p steps h front new r break m l u old there_is size w
     let stays : (back : List Row) → lines_of_rows (front ++ (closed_by break r ∷ back)) ≡ lines_of_rows (front ++ (r ∷ back)) =
     λ back. last_lines front r back (with_tail tail r.content)
     ∙ (ap (λ (x : Line). (lines_of_rows front ++ dash_lines (head_comment r.gap) r.column r.dashes) ++ (x ∷ lines_of_rows back))
-    (line_stays (above_mark (head_comment r.gap) r.dashes) (mark_column r) r.mark r.content tail takes.takes.inline comment)
+    (search (rules, false≢true))
     ∙ sym (last_lines front r back r.content)) in
     let olds : flatten o ≡ put_lines h (flatten h.lines) = (appended (level_or 0 o) m o u l steps h known.even there_is w.fits).0 in
     let whole : lines_of_rows p.rows ++ ([] ++ []) ≡ (lines_before h.place ++ flatten h.lines) ++ ([] ++ lines_after h.place) =

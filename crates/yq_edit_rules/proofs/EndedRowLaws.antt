@@ -1,5 +1,5 @@
 -- Rows end in an LF, or nothing is after them.
-use Rattle.std.proofs.Common.{inl, inr, ◌≡◌, ℕ, ℤ, List, [], ◌∷◌, ◌++◌, sym, ◌∙◌, subst}
+use Rattle.std.proofs.Common.{rules, inl, inr, ◌≡◌, ℕ, ℤ, List, [], ◌∷◌, ◌++◌, sym, ◌∙◌, subst}
 use Rattle.yq_core.proofs.BlockPieceLaws.{IsLf, append_lf}
 use Rattle.yq_row_table.{specs.Exchange.row_front, specs.Grammar.{Limit, limit_after, IsContent, IsRow, AreRows}}
 use Rattle.yq_row_table.{specs.Rows.{Content, content_text, Row, print_row, rows_text}, specs.View.content_cut}
@@ -30,11 +30,7 @@ row_lf : (r : Row) → IsLf (content_text r.content []) → IsLf (print_row r []
 row_lf r h = subst IsLf (sym (row_front-append r [])) (append_lf (row_front r) (content_text r.content []) h)
 
 pub row_ended : (limit : Limit) (r : Row) (rest : List ℕ) → IsRow limit r rest → Ended (print_row r []) rest
-row_ended limit r rest h = go (content_ended _ r.content rest h.content)
-  where
-    go : Ended (content_text r.content []) rest → Ended (print_row r []) rest
-    go (inl lf) = inl (row_lf r lf)
-    go (inr none) = inr none
+row_ended limit r rest h = search (rules, content_ended, row_lf)
 
 pub rows_ended : (limit : Limit) (others : List Row) (r : Row) (back : List Row) (gap rest : List ℕ) → AreRows limit (others ++ (r ∷ back)) gap rest → Ended (rows_text (others ++ (r ∷ [])) []) (rows_text back (gap ++ rest))
 rows_ended limit others r back gap rest h = go (content_ended _ r.content _ (row_there limit others r back gap rest h).1.content)

@@ -1,10 +1,10 @@
 -- The break after the lines of an item or entry.
 use Rattle.std.proofs.Common.{◌≡◌, ◌⊎◌, inl, inr, ℕ, ℤ, ◌<◌, Bool, true, false, cond, List, [], ◌∷◌, ◌++◌, length, drop, None, refl, sym}
 use Rattle.std.{proofs.Common.{ap, ◌∙◌, subst, arith, append-nil, rules}, proofs.lemmas.Bool.{false≢true, eqb-true, and_parts}}
-use Rattle.yq_core.{specs.Text.{cut_line, is_empty, separates, is_line, joined}, proofs.BlockPieceLaws.{IsLf, line_lf, raw_lf}}
+use Rattle.yq_core.{specs.Text.{cut_line, is_empty, separates, is_line}, proofs.BlockPieceLaws.{IsLf, line_lf, raw_lf}}
 use Rattle.yq_outline.specs.Comments.{line_comment}
 use Rattle.yq_row_table.specs.Grammar.{IsContent, IsTail, AreRows, Limit, limit_after}
-use Rattle.yq_row_table.{specs.Rows.{Content, Nothing, Inline, Block, Row, parent_indent, rows_text}, proofs.NothingLaws.some_behind}
+use Rattle.yq_row_table.{specs.Rows.{Content, Nothing, Inline, Block, Row, rows_text}, proofs.NothingLaws.some_behind}
 use Rattle.yq_row_table.proofs.NodePieces.{BeginsAscii}
 use Rattle.yq_places.specs.PrintedLines.{is_last_break, less_break, last_break, end_break, PrintedLine, printed_from, printed_row}
 use Rattle.yq_places.{specs.PrintedLines.{printed_lines, run_break}, proofs.CommentPieceLaws.{Ended, tail_end}, proofs.FinishLaws.lf_behind}
@@ -43,16 +43,7 @@ content_break n (Inline space node tail) rest h some = go (tail_end tail rest h.
     go : Ended tail rest → IsOneBreak (last_break tail)
     go (inl lf) = last_lf tail lf
     go (inr none) = absurd (false≢true (sym some ∙ ap is_empty none))
-content_break n (Block space anchor block) rest h some = go (raw_lf block.indent block.raw h.2.lines)
-  where
-    line : IsLf block.tail
-    line = line_lf block.tail (and_parts (is_line block.tail) _ h.2.tail).0
-
-    go : (joined block.raw ≡ []) ⊎ IsLf (joined block.raw) → IsOneBreak (cond (is_empty (joined block.raw)) (last_break block.tail) (last_break (joined block.raw)))
-    go (inl none) = subst (λ (t : List ℕ). IsOneBreak (cond (is_empty t) (last_break block.tail) (last_break t))) (sym none) (last_lf block.tail line)
-    go (inr lf) =
-        let full : is_empty (joined block.raw) ≡ false = ap is_empty lf.1 ∙ some_behind lf.0 (10 ∷ []) refl in
-        subst (λ (b : Bool). IsOneBreak (cond b (last_break block.tail) (last_break (joined block.raw)))) (sym full) (last_lf (joined block.raw) lf)
+content_break n (Block space anchor block) rest h some = search (rules, raw_lf, line_lf, and_parts, last_lf, some_behind)
 
 -- ---- the break after lines
 
@@ -82,9 +73,7 @@ from_some gap spaces column (n ∷ ns) m c z e = cc
 pub rows_break : (limit : Limit) (r : Row) (gone more : List Row) (end rest gap spaces : List ℕ) (column : ℕ) (es : List ℕ) → AreRows limit (r ∷ (gone ++ more)) end rest →
     is_empty (rows_text more (end ++ rest)) ≡ false →
     IsOneBreak (lines_break (printed_from gap spaces column es r.mark r.content ++ printed_lines gone))
-rows_break limit r [] more end rest gap spaces column es h some =
-    subst IsOneBreak (sym (ap lines_break (append-nil (printed_from gap spaces column es r.mark r.content)) ∙ from_break gap spaces column es r.mark r.content))
-    (content_break (parent_indent r) r.content (rows_text more (end ++ rest)) h.0.content some)
+rows_break limit r [] more end rest gap spaces column es h some = search (rules, append-nil, from_break, content_break)
 rows_break limit r (g ∷ gone) more end rest gap spaces column es h some =
     subst IsOneBreak (sym (break_last (printed_from gap spaces column es r.mark r.content) (printed_row g ++ printed_lines gone)
     (from_some g.gap _ g.column g.dashes g.mark g.content (printed_lines gone))))
@@ -94,8 +83,7 @@ rows_break limit r (g ∷ gone) more end rest gap spaces column es h some =
 
 pub break_cut : (b rest : List ℕ) → IsOneBreak b → cut_line (b ++ rest) ≡ (b, rest)
 unfolding Rattle.yq_core.specs.Text.line_len
-break_cut b rest (inl e) = ap (λ (x : List ℕ). cut_line (x ++ rest)) e ∙ ap (λ (x : List ℕ). (x, rest)) (sym e)
-break_cut b rest (inr e) = ap (λ (x : List ℕ). cut_line (x ++ rest)) e ∙ ap (λ (x : List ℕ). (x, rest)) (sym e)
+break_cut b rest e = search rules
 
 pub break_tail : (b rest : List ℕ) → IsOneBreak b → IsTail b rest
 unfolding is_line
@@ -113,13 +101,11 @@ break_tail b rest (inr e) = subst (λ (x : List ℕ). IsTail x rest) (sym e) (re
 })
 
 pub break_apart : (b rest : List ℕ) → IsOneBreak b → separates (b ++ rest) ≡ true
-break_apart b rest (inl e) = ap (λ (x : List ℕ). separates (x ++ rest)) e
-break_apart b rest (inr e) = ap (λ (x : List ℕ). separates (x ++ rest)) e
+break_apart b rest e = search rules
 
 pub break_bare : (b : List ℕ) → IsOneBreak b → line_comment b ≡ None
 unfolding Rattle.yq_core.specs.Text.upto
-break_bare b (inl e) = ap line_comment e
-break_bare b (inr e) = ap line_comment e
+break_bare b e = search rules
 
 pub break_ascii : (b rest : List ℕ) → IsOneBreak b → BeginsAscii (b ++ rest)
 break_ascii b rest (inl e) = subst (λ (x : List ℕ). BeginsAscii (x ++ rest)) (sym e) (let less : 10 < 128 = omega arith in less)

@@ -62,8 +62,7 @@ no_spaces [] n = refl
 no_spaces (b ∷ x) n = go (eqb b 32) (no_spaces x n)
   where
     go : (c : Bool) → are_spaces (x ++ (45 ∷ replicate n 32)) ≡ false → (c && are_spaces (x ++ (45 ∷ replicate n 32))) ≡ false
-    go true e = e
-    go false e = refl
+    go c e = search rules
 
 none_less : (n : ℕ) → less_spaces (replicate n 32) ≡ []
 unfolding less_spaces

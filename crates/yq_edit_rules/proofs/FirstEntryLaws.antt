@@ -3,7 +3,7 @@ use Rattle.std.proofs.Common.{◌≡◌, ℕ, suc, ◌+◌, ◌<◌, ◌≤◌, 
 use Rattle.std.{proofs.Common.{arith, append_assoc, length-append, rules}, proofs.lemmas.List.{take-append-drop, length-take-le}}
 use mathlib.Core.List.{head-eq_of_cons-eq, tail-eq_of_cons-eq}
 use Rattle.yq_core.specs.Paths.{Step}
-use Rattle.yq_outline.{specs.Comments.head_comment, specs.Group.level_or, specs.Outline.{Line, level, Outline, end, row, flatten, IsEven}}
+use Rattle.yq_outline.{specs.Comments.head_comment, specs.Group.level_or, specs.Outline.{Line, level, Outline, row, flatten, IsEven}}
 use Rattle.yq_outline.specs.Places.{Context, here, below, beside, plug, lines_before, lines_after, FoundLine, find_row}
 use Rattle.yq_outline.{proofs.PlaceLaws.at, proofs.Values.rank_small, specs.Lines.{dash_line, lines_from, row_lines, lines_of_rows}}
 use Rattle.yq_outline.proofs.RowLaws.{no_comments}
@@ -72,11 +72,7 @@ record NextLine (f : FoundLine) : Type 0 where
   pub entry : IsEntry line.mark
 
 next_line : (m : ℕ) (f : FoundLine) → IsEven m (row f.line f.under f.after) → HasEntries f.after → NextLine f
-next_line m f even some = go f.after refl even.4 some
-  where
-    go : (o : Outline) → f.after ≡ o → IsEven m o → HasEntries o → NextLine f
-    go end e h b = absurd b
-    go (row l u a) e h b = record { line = l; under = u; after = a; is = e; level_is = h.0 ∙ sym even.0; entry = b }
+next_line m f even some = search rules
 
 -- The rows of the first item or entry of a compact collection: after the dashes ns of a row the rest of it and more rows, and then the row of the next one, in the same column.
 pub record FirstRows (p : Part) (h : NodeLines) (f : FoundLine) (q : RowLine) : Type 0 where
@@ -194,8 +190,7 @@ module _ (p : Part) (m : ℕ) (ss : List Step) (s : Step) (h : NodeLines) (f : F
             within = w.less;
             before = before_is;
             size = ap length (ap (λ (x : List Line). x ++ lines_of_rows gone) (sym rest_lines) ∙ own);
-            column = sym (first_column (head_comment next.gap) next.column next.dashes next.mark next.content (lines_of_rows back) next_is.line _ first)
-                ∙ (same_column next_is.line f.line next_is.level_is ∙ line_column);
+            column = search (rules, first_column, same_column, line_column);
             entry = λ d. first_entry (head_comment next.gap) next.column next.dashes next.mark next.content (lines_of_rows back) next_is.line _ first d next_is.entry;
           }
 

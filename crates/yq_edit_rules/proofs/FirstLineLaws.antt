@@ -1,5 +1,5 @@
 -- First lines of rows, and the last one of dashes.
-use Rattle.std.proofs.Common.{◌≡◌, inl, inr, ℕ, ◌<◌, List, [], ◌∷◌, ◌++◌, length, refl, sym, ap, subst, arith}
+use Rattle.std.proofs.Common.{rules, ◌≡◌, inl, inr, ℕ, ◌<◌, List, [], ◌∷◌, ◌++◌, length, refl, sym, ap, subst, arith}
 use Rattle.std.{proofs.lemmas.Str.IsUtf8-from_ascii, proofs.lemmas.Str.Ascii.{IsAscii-nil, IsAscii-cons}, specs.Str.IsUtf8}
 use Rattle.yq_outline.{specs.Group.group, specs.Outline.Line, specs.Lines.{lines_from, lines_of_rows}}
 use Rattle.yq_row_table.specs.Rows.{Content, Row}
@@ -7,8 +7,7 @@ use Rattle.yq_edit_rules.{specs.Siblings.HasEntries, proofs.FirstBreakLaws.IsOne
 use Rattle.yq_row_table.specs.Rows as rows
 
 pub entries_first : (ls : List Line) → HasEntries (group ls) → FirstEntry ls
-entries_first [] h = h
-entries_first (l ∷ ls) h = h
+entries_first ls h = search rules
 
 from_first : (above : List (List ℕ)) (column : ℕ) (ns : List ℕ) (m : rows.RowMark) (c : Content) (x y : List Line) → FirstEntry (lines_from above column ns m c ++ x) →
     FirstEntry (lines_from above column ns m c ++ y)

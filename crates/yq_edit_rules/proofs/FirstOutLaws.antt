@@ -1,13 +1,13 @@
 -- What is taken out with the first item or entry of a compact collection is in the text.
-use Rattle.std.proofs.Common.{◌≡◌, ℕ, zero, suc, ◌<◌, eqb, Bool, true, false, cond, List, [], ◌++◌, Some, refl, sym, ap, ◌∙◌, arith}
+use Rattle.std.proofs.Common.{rules, ◌≡◌, ℕ, zero, suc, ◌<◌, Bool, true, false, cond, List, [], ◌++◌, Some, refl, sym, ap, ◌∙◌, arith}
 use Rattle.std.{proofs.Common.append_assoc, proofs.lemmas.Bool.eqb-false, proofs.lemmas.List.take-append-drop, specs.List.slice_get}
 use Rattle.yq_core.{specs.Answers.◌>>=◌, specs.Paths.Step, specs.Text.{cut, cut_line, no_space, upto, line_len}, proofs.Bools.bind_some}
 use Rattle.yq_core.proofs.Binds.{not_then}
 use Rattle.yq_outline.{specs.Ends.line_at_steps, specs.Lines.lines_of_rows}
 use Rattle.yq_row_table.{specs.Rows.{Part, Cut, cut_text}, specs.Reading.begins_gap}
 use Rattle.yq_documents.{specs.declared.path.Part.TheVariants.Entry, specs.Documents.document_parts, specs.Pieces.TextPiece}
-use Rattle.yq_documents.specs.LinesInRows.{RowLine, row_line, row_line_of}
-use Rattle.yq_places.specs.FirstPlaces.{less_spaces, end_spaces, FirstOut, first_out, first_entry, first_removal}
+use Rattle.yq_documents.specs.LinesInRows.{RowLine, row_line}
+use Rattle.yq_places.specs.FirstPlaces.{less_spaces, end_spaces, FirstOut, first_out, first_removal}
 use Rattle.yq_places.{specs.PathPieces.{printed_document, piece_in}, proofs.FirstLaws.spaces_parts}
 use Rattle.yq_places.{proofs.PieceTexts.{piece_text, document_whole, piece_whole}, proofs.PrintedTexts.map_some}
 use Rattle.yq_edit_rules.specs.RemovalChanges.{FirstStands}
@@ -32,24 +32,7 @@ some_line zero h = absurd (h refl)
 some_line (suc n) h = omega arith
 
 pub out_is : (c : Cut) (k : ℕ) (steps : List Step) (x : FirstOut) → first_removal k steps c ≡ Some x → IsFirstOut c k steps x
-out_is c k steps x e =
-    let p = map_some (first_entry k steps c) e in
-    let q = bind_some (slice_get (document_parts c) k >>= λ d. row_line_of steps d.rows) p.1 in
-    let g = not_then (eqb q.0.line 0) q.2 in
-    let d = bind_some (slice_get (document_parts c) k) q.1 in
-    let n = bind_some (line_at_steps steps (lines_of_rows d.0.rows)) d.2 in
-    record {
-      piece = p.0;
-      out = p.2;
-      part = d.0;
-      there = d.1;
-      number = n.0;
-      line = n.1;
-      row_line = q.0;
-      row_line_is = n.2;
-      later = some_line q.0.line (eqb-false q.0.line 0 g.0);
-      is = g.1;
-    }
+out_is c k steps x e = search (rules, map_some, bind_some, not_then, some_line, eqb-false)
 
 -- the whole text of it
 abbrev out_text : FirstOut → List ℕ

@@ -1,8 +1,8 @@
 -- The first item or entry of a compact collection taken out of a text.
-use Rattle.std.proofs.Common.{◌≡◌, ◌⊎◌, inl, inr, ℕ, ◌+◌, ◌<◌, ◌≤◌, Bool, true, false, cond, List, [], ◌∷◌, ◌++◌, length, replicate, take}
-use Rattle.std.{proofs.Common.{drop, Option, Some, None, refl, sym, ap, ◌∙◌, subst, arith, append_assoc}, proofs.Math.Seq.take-append_seam}
-use Rattle.std.{proofs.lemmas.List.{take-append-drop, length-append, length-take-le}, proofs.lemmas.Str.{IsUtf8-take, is_utf8-from_IsUtf8}}
-use Rattle.std.specs.Str.{IsUtf8}
+use Rattle.std.proofs.Common.{rules, ◌≡◌, ◌⊎◌, inl, inr, ℕ, ◌+◌, ◌<◌, ◌≤◌, Bool, true, false, cond, List, [], ◌∷◌, ◌++◌, length, replicate}
+use Rattle.std.proofs.Common.{take, drop, Option, Some, None, refl, sym, ap, ◌∙◌, subst, arith, append_assoc}
+use Rattle.std.{proofs.Math.Seq.take-append_seam, proofs.lemmas.List.{take-append-drop, length-append, length-take-le}}
+use Rattle.std.{proofs.lemmas.Str.{IsUtf8-take, is_utf8-from_IsUtf8}, specs.Str.IsUtf8}
 use Rattle.yq_core.{specs.Answers.◌>>=◌, specs.Paths.{Step, changed_at, remove_child, within}, specs.Text.{cut, cut_line, no_space}}
 use Rattle.yq_core.{proofs.Bools.guard_then, specs.Anchors.names_of}
 use Rattle.yq_text.specs.Limit.{text_limit}
@@ -160,11 +160,7 @@ module _ (c : Cut) (k : ℕ) (y : Step) (ys ss : List Step) (s : Step) (x : Firs
       (IsUtf8-take (above ++ e.piece.behind) (length above) all.utf8 (before_ascii above e.piece.behind begins))) all
 
   readable : (new u : List ℕ) → new ≡ u → IsPiece u → length u ≤ text_limit → IsReadable new
-  readable new u is piece less = record {
-    utf8 = is_utf8-from_IsUtf8 new (subst IsUtf8 (sym is) piece.utf8);
-    characters = (subst IsPiece (sym is) piece).characters;
-    size = subst (λ (v : List ℕ). length v ≤ text_limit) (sym is) less;
-  }
+  readable new u is piece less = search (rules, is_utf8-from_IsUtf8)
 
   -- what is taken out, by whether a gap comes before the next row
   abbrev either : Bool → FirstOut
@@ -177,11 +173,8 @@ module _ (c : Cut) (k : ℕ) (y : Step) (ys ss : List Step) (s : Step) (x : Firs
   taken new back u text first changed =
       let n : Part = inserted fr.front (new ∷ []) back p in
       let block : HasEntries (part_outline p) = root_entries ss (part_outline p) w.h w.entry.place_is w.entry.block in
-      let old_first : FirstEntry (lines_of_rows (fr.front ++ (r ∷ (fr.gone ++ (fr.next ∷ fr.back))))) =
-      subst (λ (rs : List Row). FirstEntry (lines_of_rows rs)) fr.rows_are (entries_first (lines_of_rows p.rows) block) in
-      let new_first : FirstEntry (lines_of_rows n.rows) =
-      subst (λ (rs : List Row). FirstEntry (lines_of_rows (fr.front ++ (new ∷ rs)))) (sym (own_gap back p.end))
-      (first_stays fr.front (r ∷ (fr.gone ++ (fr.next ∷ fr.back))) (new ∷ back) old_first first) in
+      let old_first : FirstEntry (lines_of_rows (fr.front ++ (r ∷ (fr.gone ++ (fr.next ∷ fr.back))))) = search (rules, entries_first) in
+      let new_first : FirstEntry (lines_of_rows n.rows) = search (rules, own_gap, first_stays) in
       record {
         old = p;
         new = n;
@@ -239,13 +232,7 @@ module _ (c : Cut) (k : ℕ) (y : Step) (ys ss : List Step) (s : Step) (x : Firs
           trail = ft.break;
           before_is = front ∙ (ap (λ (u : List ℕ). u ++ (45 ∷ [])) (front_row (dashes_front r dash.0)) ∙ append_assoc (a.start ++ rows_text fr.front []) (dashes_front r dash.0) (45 ∷ []));
           behind_is = ft.behind;
-          begins = omega (
-            arith,
-            row_long,
-            ap length (ap (dashes_front r) dash.2 ∙ dash_front r dash.0 dash.1),
-            length-append (dashes_front r dash.0) (45 ∷ replicate dash.1 32),
-            length-append (dashes_front r dash.0) (45 ∷ []),
-          );
+          begins = search (rules, arith, row_long, dashes_front, dash_front, length-append);
           ends = inl ft.one;
         },
       )

@@ -1,11 +1,12 @@
 -- Rows that take the place of a compact collection's first item or entry.
-use Rattle.std.proofs.Common.{◌≡◌, ℕ, ◌<◌, true, false, List, [], ◌∷◌, ◌++◌, length, Some, refl, sym, ap, ◌∙◌, subst, arith, append_assoc}
+use Rattle.std.proofs.Common.{rules, ◌≡◌, ℕ, ◌<◌, true, false, List, [], ◌∷◌, ◌++◌, length, Some, refl, sym, ap, ◌∙◌, subst, arith}
+use Rattle.std.proofs.Common.{append_assoc}
 use Rattle.yq_core.{specs.Text.separates, specs.Alike.{Alike, byte}}
 use Rattle.yq_row_table.specs.Exchange.{allows_first, asked_behind}
 use Rattle.yq_row_table.specs.Grammar.{IsContent, IsTail, AreDashes, is_entry, IsRow, Limit, unlimited, limit_after, limit_behind, AreRows}
 use Rattle.yq_row_table.specs.Joined.{dashed_row}
 use Rattle.yq_row_table.specs.Rows.{Nothing, Row, behind_columns, behind_dashes, behind_indent, dashes_text, parent_indent, parent_of}
-use Rattle.yq_row_table.{specs.Rows.{print_row, rows_text, Part}, specs.Seams.TakesPlace, specs.Splices.{behind_first, first_gap}}
+use Rattle.yq_row_table.{specs.Rows.{rows_text, Part}, specs.Seams.TakesPlace, specs.Splices.{behind_first, first_gap}}
 use Rattle.yq_row_table.proofs.RowPlaces.{takes_place}
 use Rattle.yq_row_table.proofs.seams.JoinLaws.{row_dashed, space_apart, dashes_text-append, behind_columns-append}
 use Rattle.yq_row_table.{proofs.splices.SpliceTexts.{first_is, first_text}, proofs.PlaceLaws.first_allowed}
@@ -45,8 +46,7 @@ moved_takes limit other r b ns es t u h k f =
     let own : AreDashes (ns ++ es) r.mark = subst (λ (x : List ℕ). AreDashes x r.mark) f.dashes h.dashes in
     let old : behind_indent r t ≡ dashes_text ns (dashes_text es (behind_dashes r t)) = ap (λ (x : List ℕ). dashes_text x (behind_dashes r t)) f.dashes ∙ dashes_text-append ns es (behind_dashes r t) in
     let new : dashes_text (ns ++ b.dashes) (behind_dashes b u) ≡ dashes_text ns (behind_indent b u) = dashes_text-append ns b.dashes (behind_dashes b u) in
-    let indent : Alike (Some false) (behind_indent r t) (dashes_text (ns ++ b.dashes) (behind_dashes b u)) =
-    rw (old, new) (dashes_alike ns es (dashes_text es (behind_dashes r t)) (behind_indent b u) r.mark f.some own) in
+    let indent : Alike (Some false) (behind_indent r t) (dashes_text (ns ++ b.dashes) (behind_dashes b u)) = search (rules, dashes_alike) in
     let content : IsContent (parent_of b.mark (behind_columns r.column (ns ++ b.dashes))) b.content u = subst (λ (n : _). IsContent n b.content u) (sym (same_parent r b ns f.column)) k.content in
     takes_place limit r t (ns ++ b.dashes) b.mark b.content u h indent (dashes_moved ns es b.dashes r.mark b.mark (f.entry k.dashes) own k.dashes) k.mark content
 
@@ -70,8 +70,7 @@ moved_replaces p front gone back r b ns es rest h rows f =
       some = refl;
       new_are = (subst (IsRow limit new) text takes.row, first_is (limit_after b) back p.end rest next.1);
       next = ap (λ (n : _). allows_first (limit_behind n b.content) back) (same_parent r b ns f.column) ∙ first_allowed (limit_after b) back p.end rest next.1;
-      alike = subst (λ (rs : List Row). Alike (Some false) (rows_text rs (p.end ++ rest)) (rows_text (new ∷ []) (first_gap back p.end ++ behind_first back p.end rest))) (sym split)
-          (subst (λ (x : List ℕ). Alike (Some false) (print_row r t) (print_row new x)) text takes.alike);
+      alike = search rules;
     }
 
 -- ---- a row with nothing after its last dash
@@ -102,5 +101,4 @@ dropped_replaces p front gone back r n ns es tail rest h rows f =
     }
   where
     free : (rs : List Row) → allows_first unlimited rs ≡ true
-    free [] = refl
-    free (q ∷ rs) = refl
+    free rs = search rules

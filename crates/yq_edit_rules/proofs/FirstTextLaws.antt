@@ -11,7 +11,7 @@ use Rattle.yq_row_table.{specs.Grammar.{unlimited, AreRows, limit_after}, specs.
 use Rattle.yq_row_table.{specs.Rows.{Content, Nothing, Row, behind_columns, rows_text, Part}, proofs.seams.FrontSeams.rows_some}
 use Rattle.yq_documents.{specs.declared.path.Part.TheVariants.Entry, specs.Pieces.TextPiece, specs.LinesInRows.{RowLine, row_line}}
 use Rattle.yq_places.specs.PathPieces.{BlockEntry, found_entry, piece_in, piece_in_entry}
-use Rattle.yq_places.specs.PrintedLines.{PrintedLine, line_front, print_lines, printed_from, printed_lines, printed_row, line_in, run_piece}
+use Rattle.yq_places.specs.PrintedLines.{PrintedLine, print_lines, printed_from, printed_lines, printed_row, line_in, run_piece}
 use Rattle.yq_places.{proofs.FoundEntries.lines_count, proofs.PrintedLaws.lines_are, proofs.PrintedTexts.{lines_then, rows_are}}
 use Rattle.yq_places.{proofs.PrintedRowLines.{row_begin, printed_line, row_count}, proofs.UnderCounts.end_is}
 use Rattle.yq_edit_rules.{specs.LineRows.lines_before_entry, specs.Siblings.NodeLines}
@@ -58,11 +58,7 @@ get_part (x ∷ a) c l = get_part a c l
 parts_at : (a b c ls : List PrintedLine) (n m : ℕ) (l : PrintedLine) → ls ≡ a ++ (b ++ c) → n ≡ length a → suc m ≡ length b → slice_get ls n ≡ Some l →
     (l ∷ take m (drop (suc n) ls) ≡ b) × (drop m (drop (suc n) ls) ≡ c)
 parts_at a [] c ls n m l is before size there = absurd (omega (arith, size))
-parts_at a (x ∷ b) c ls n m l is before size there =
-    let rest : drop (suc n) ls ≡ b ++ c = (λ i. drop (suc (before i)) (is i)) ∙ drop_part a b c x in
-    let first : l ≡ x = same_Some _ _ (sym there ∙ ((λ i. slice_get (is i) (before i)) ∙ get_part a (b ++ c) x)) in
-    let count : m ≡ length b = omega (arith, size) in
-    ((λ i. first i ∷ take (count i) (rest i)) ∙ ap (λ (ys : List PrintedLine). x ∷ ys) (take-append_seam b c), (λ i. drop (count i) (rest i)) ∙ drop-append_seam b c)
+parts_at a (x ∷ b) c ls n m l is before size there = search (rules, arith, drop_part, same_Some, get_part, take-append_seam, drop-append_seam)
 
 -- ---- the piece of an item or entry
 
@@ -100,11 +96,8 @@ module _ (p : Part) (start rest : List ℕ) (h : NodeLines) (f : FoundLine) (q :
   abbrev own : List PrintedLine
   own = printed_from [] [] column es r.mark r.content ++ printed_lines fr.gone
 
-  ns_size : length ns ≡ q.line
-  ns_size = length-take-le q.line r.dashes fr.within
-
   dashes : DashesPrinted r.gap (replicate r.column 32) r.column ns es r.mark r.content
-  dashes = dashes_printed r.gap (replicate r.column 32) r.column ns es r.mark r.content (omega (arith, ns_size, later))
+  dashes = dashes_printed r.gap (replicate r.column 32) r.column ns es r.mark r.content (omega (arith, length-take-le q.line r.dashes fr.within, later))
 
   abbrev above : List PrintedLine
   above = printed_lines fr.front ++ dashes.lines
@@ -142,11 +135,7 @@ module _ (p : Part) (start rest : List ℕ) (h : NodeLines) (f : FoundLine) (q :
       let d = printed_line p.rows n q row_line_is in
       let same : d.line ≡ l = same_Some _ _ (sym d.there ∙ there) in
       record {
-        before =
-            append_assoc start (print_lines (take n ls) []) (line_front l)
-            ∙ ap (λ (t : List ℕ). start ++ t)
-            (sym (lines_then (take n ls) [] (line_front l))
-            ∙ (ap (λ (k : PrintedLine). print_lines (take n ls) (line_front k)) (sym same) ∙ (d.start ∙ ap (λ (rs : List Row). rows_text rs (row_begin q)) front_is)));
+        before = search (rules, append_assoc, lines_then, row_begin, front_is);
         break = lines_break own;
         one = one_break;
         behind = (λ i. lines_break (parts.0 i) ++ print_lines (parts.1 i) z) ∙ ap (λ (t : List ℕ). lines_break own ++ t) (rows_are back z);

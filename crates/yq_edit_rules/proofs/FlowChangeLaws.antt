@@ -1,5 +1,5 @@
 -- The operations inside flow collections, by the head of one line.
-use Rattle.std.proofs.Common.{◌≡◌, ℕ, ◌+◌, List, [], ◌∷◌, ◌++◌, Option, Some, None, refl, sym, ap, ◌∙◌, subst, arith, rules}
+use Rattle.std.proofs.Common.{◌≡◌, ℕ, ◌+◌, List, [], ◌∷◌, ◌++◌, Option, Some, refl, sym, ap, ◌∙◌, subst, arith, rules}
 use Rattle.std.proofs.lemmas.Option.{none-some}
 use Rattle.yq_core.{specs.Paths.{Step, changed_at}, specs.Tree.Node, specs.Anchors.IsNoAlias}
 use Rattle.yq_row_table.specs.Rows.{Part, Cut}
@@ -49,5 +49,4 @@ changed_head t c k p q s ss rest f n m g put found head new is lines sound =
     (search (rules, head, old.2)) (record { each = (none_free f.line.anchor, tt); free = free }) lines sound
   where
     none_free : (a : Option (List ℕ)) → IsFree a []
-    none_free None = tt
-    none_free (Some a) = tt
+    none_free a = search rules

@@ -1,11 +1,11 @@
 -- What stays of a document in which a flow collection has other items or entries.
-use Rattle.std.proofs.Common.{◌≡◌, ◌⊎◌, inl, inr, ℕ, Bool, true, false, cond, List, [], ◌∷◌, ◌++◌, map, Some, option_and_then, option_map}
-use Rattle.std.{proofs.Common.{sym, ap, ◌∙◌, subst, rules}, specs.Option.option_or, proofs.lemmas.Bool.cond_both}
+use Rattle.std.proofs.Common.{◌≡◌, ◌⊎◌, ℕ, Bool, true, false, cond, List, [], ◌∷◌, ◌++◌, map, Some, option_and_then, option_map, sym, ap}
+use Rattle.std.{proofs.Common.{◌∙◌, subst, rules}, specs.Option.option_or, proofs.lemmas.Bool.cond_both}
 use Rattle.std.{proofs.lemmas.Option.{none-some, same_Some}, specs.Prelude.is_some}
 use Rattle.yq_core.{specs.Paths.{Step, is_here, further}, specs.Collections.{CollPieces, coll_along, collection_put, change_item}}
 use Rattle.yq_core.specs.Entries.{EntryPieces, item_at}
-use Rattle.yq_core.specs.Nodes.{Key, FlowNode, empty, alias, scalar, coll, anchored, Sep, Items, none, item, sep_text, flow_items_text}
-use Rattle.yq_core.{specs.Trees.key_content, specs.Tree.key_label}
+use Rattle.yq_core.{specs.Nodes.{Key, FlowNode, coll, anchored, Sep, Items, none, item, sep_text, flow_items_text}, specs.Trees.key_content}
+use Rattle.yq_core.specs.Tree.{key_label}
 use Rattle.yq_flow_edits.{specs.FlowEdits.FlowEdit, specs.Removals.{before_next, edit_from_item, gap_of, last_out, removing_from}}
 use Rattle.yq_flow_edits.proofs.RemoveTexts.{either, option_some}
 use Rattle.yq_row_table.{specs.Exchange.with_content, specs.Rows.{Inline, Row, Part}, proofs.splices.SpliceTexts.own_gap}
@@ -24,20 +24,14 @@ fit_items ss k s (item key n sep os) rest w f e h fits = go (is_here s (key_labe
   where
     go : (b : Bool) → (option_and_then (λ (y : EntryPieces). coll_along ss y.node y.rest) (item_at k (further s) os rest) ≡ Some w → EachHasFitKeys (change_item (further s) f os)) → option_and_then (λ (y : EntryPieces). coll_along ss y.node y.rest) (cond b (Some (record { key = key; node = n; rest = sep_text sep (flow_items_text k os rest) })) (item_at k (further s) os rest)) ≡ Some w →
         EachHasFitKeys (cond b (item key (f n) sep os) (item key n sep (change_item (further s) f os)))
-    go true again e = (h.0, fits n _ e h.1, h.2)
-    go false again e = (h.0, h.1, again e)
+    go b again e = search rules
 
 fit_at : (ss : List Step) (node : FlowNode) (rest : List ℕ) (w : CollPieces) (g : List ℕ) (is : Items) → coll_along ss node rest ≡ Some w → HasFitKeys node → (EachHasFitKeys w.items → EachHasFitKeys is) → HasFitKeys (collection_put ss g is node)
-fit_at [] empty rest w g is e h f = absurd (none-some _ e)
-fit_at [] (alias n) rest w g is e h f = absurd (none-some _ e)
-fit_at [] (scalar p) rest w g is e h f = absurd (none-some _ e)
 fit_at [] (coll k gap os) rest w g is e h f = f (subst (λ (x : CollPieces). EachHasFitKeys x.items) (same_Some _ _ e) h)
 fit_at [] (anchored n gap node) rest w g is e h f = fit_at [] node rest w g is e h f
-fit_at (s ∷ ss) empty rest w g is e h f = absurd (none-some _ e)
-fit_at (s ∷ ss) (alias n) rest w g is e h f = absurd (none-some _ e)
-fit_at (s ∷ ss) (scalar p) rest w g is e h f = absurd (none-some _ e)
 fit_at (s ∷ ss) (coll k gap os) rest w g is e h f = fit_items ss k s os rest w (collection_put ss g is) e h (λ node u found fit. fit_at ss node u w g is found fit f)
 fit_at (s ∷ ss) (anchored n gap node) rest w g is e h f = fit_at (s ∷ ss) node rest w g is e h f
+fit_at _ _ rest w g is e h f = absurd (none-some _ e)
 
 pub flow_keys : FlowKeys
 flow_keys t c k p steps f rest i w gap is old at fits =
@@ -55,10 +49,7 @@ left_fit k rest s g (item key n sep os) e at h = go (is_here s (key_label (key_c
   where
     behind : ((x : FlowEdit) → removing_from k rest (further s) (gap_of sep) os ≡ Some x → EachHasFitKeys x.items) →
         (last_out k rest (further s) g key n sep os ≡ Some e) ⊎ (option_map (edit_from_item g key n sep) (removing_from k rest (further s) (gap_of sep) os) ≡ Some e) → EachHasFitKeys e.items
-    behind again (inl at) = search (rules, none-some, same_Some, cond_both, at, h.0, h.1)
-    behind again (inr at) =
-        let x = option_some (edit_from_item g key n sep) (removing_from k rest (further s) (gap_of sep) os) e at in
-        subst (λ (y : FlowEdit). EachHasFitKeys y.items) x.2 (h.0, h.1, again x.0 x.1)
+    behind again at = search (rules, none-some, same_Some, cond_both, option_some)
 
     go : (b : Bool) → ((x : FlowEdit) → removing_from k rest (further s) (gap_of sep) os ≡ Some x → EachHasFitKeys x.items) →
         cond b (before_next k rest g key n sep os) (option_or (last_out k rest (further s) g key n sep os) (option_map (edit_from_item g key n sep) (removing_from k rest (further s) (gap_of sep) os))) ≡ Some e → EachHasFitKeys e.items

@@ -5,9 +5,9 @@ use Rattle.yq_core.{specs.Answers.◌>>=◌, specs.Paths.{Step, changed_at, with
 use Rattle.yq_outline.{specs.LineAnchors.{IsFree, HaveOneAnchorEach}, specs.Group.level_or, specs.Laws.with_lines}
 use Rattle.yq_outline.specs.Outline.{LineMark, Bare, Key, Dash, Line, level, Outline, end, row, flatten, IsEven, anchored, label}
 use Rattle.yq_outline.specs.Outline.{outline_node, value}
-use Rattle.yq_outline.specs.Places.{here, below, compose, lines_before, lines_after, plug, FoundLine, find, in_head, place_inside}
-use Rattle.yq_outline.{specs.Places.content_under, specs.Positions.has_no_mark, proofs.Finding.{IsFoundIn, path_whole}}
-use Rattle.yq_outline.{proofs.PlaceLaws.{at, placed}, proofs.Plug.plug-compose, proofs.Values.anchored-within, specs.Lines.lines_of_rows}
+use Rattle.yq_outline.specs.Places.{here, below, lines_before, lines_after, plug, FoundLine, find, in_head, place_inside, content_under}
+use Rattle.yq_outline.{specs.Positions.has_no_mark, proofs.Finding.{IsFoundIn, path_whole}, proofs.PlaceLaws.{at, placed}}
+use Rattle.yq_outline.{proofs.Plug.plug-compose, proofs.Values.anchored-within, specs.Lines.lines_of_rows}
 use Rattle.yq_row_table.specs.Rows.{Part, Cut}
 use Rattle.yq_documents.{specs.Documents.lead_of, specs.Reading.{part_outline, root_of}}
 use Rattle.yq_places.{specs.FlowNodes.{bare_line, head_line, find_head}, proofs.FlowPlaceLaws.{TakesSteps, Takes, takes_left}}
@@ -71,8 +71,7 @@ under_line_is n o s ss g f rest even is open' (row l v a) under e = go l.mark re
       left = refl;
       outline = under;
       even = (under_even n o s ss g even is).1.3;
-      put = λ x ls.
-          ap (λ (y : Outline). lines_before (compose g.place (below g.line here g.after)) ++ (ls ++ (flatten y ++ lines_after (compose g.place (below g.line here g.after))))) x;
+      put = search rules;
       bare = mark;
       whole = plug-compose g.place (below g.line here g.after) (row l v a) ∙ (ap (λ (y : Outline). plug g.place (row g.line y g.after)) (sym under) ∙ at (IsFoundIn o) (find s ss o) (g, []) is (path_whole s ss o));
     }))
@@ -110,8 +109,7 @@ pub head_takes : (n : ℕ) (o : Outline) (steps : List Step) (f : FoundLine) (re
 head_takes n o steps f rest even e = go (head_cases n o steps f rest even e)
   where
     go : Cases steps o f rest → TakesSteps f.line
-    go (inl c) = c.takes
-    go (inr c) = inl (ap has_no_mark c.bare)
+    go c = search rules
 
 bare_value : (x : Line) → x.mark ≡ Bare → value (row x end end) ≡ content_under x end
 bare_value x e = ap (λ y. outline_node y (child (label x) (content_under x end) none)) e

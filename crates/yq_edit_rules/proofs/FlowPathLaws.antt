@@ -71,17 +71,7 @@ in_cut : (i : ℕ) (c : Cut) (front : List Row) (r : Row) (back : List Row) (end
 in_cut i (last q) front r back end same = subst (λ (x : Part). InCut i (last x) (record { rows = front ++ (r ∷ back); end = end }) front r back) same (last_row i front r back end)
 in_cut zero (marked q marker c) front r back end same =
     subst (λ (x : Part). InCut zero (marked x marker c) (record { rows = front ++ (r ∷ back); end = end }) front r back) same (first_row front r back end marker c)
-in_cut (suc i) (marked q marker c) front r back end e =
-    let h = in_cut i c front r back end e in
-    let a : ℕ = rows_to i c in
-    let b : ℕ = length front in
-    let past = le-ltb ((length q.rows + a) + b) (length q.rows) (omega arith) in
-    let same : ((length q.rows + a) + b) - length q.rows ≡ a + b = omega arith in
-    record {
-      there = more_there q.rows (rows_of c) a b ∙ h.there;
-      behind = cond-false _ _ _ past ∙ (ap (λ n. behind_row n c) same ∙ h.behind);
-      exchanged = λ x. cond-false _ _ _ past ∙ ap (marked q marker) (ap (λ n. exchange n x c) same ∙ h.exchanged x);
-    }
+in_cut (suc i) (marked q marker c) front r back end e = search (rules, arith, le-ltb, more_there, cond-false, in_cut i c front r back end e)
 
 pub row_in_cut : (c : Cut) (k : ℕ) (p : Part) (front : List Row) (r : Row) (back : List Row) → slice_get (document_parts c) k ≡ Some p → p.rows ≡ front ++ (r ∷ back) → InCut (part_number k c) c p front r back
 row_in_cut c k p front r back there rows =
@@ -142,11 +132,5 @@ flow_found t c k steps w read e =
       line = f;
       rest = rest;
       row = i;
-      at = record {
-        found = x.1;
-        rows_are = a.rows_are;
-        content_is = y.is;
-        number = omega (arith, mark, a.lines);
-        along = ap (λ (u : List ℕ). coll_along rest y.node (y.tail ++ u)) (sym same) ∙ y.along;
-      };
+      at = search (rules, arith);
     }

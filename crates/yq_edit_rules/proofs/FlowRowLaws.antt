@@ -1,7 +1,6 @@
 -- A flow collection whose items or entries are changed, by the row in which it is.
-use Rattle.std.proofs.Common.{◌≡◌, ℕ, Bool, true, false, cond, eqb, List, [], ◌∷◌, ◌++◌, length, Option, Some, None, refl, sym, ap, ◌∙◌}
-use Rattle.std.{proofs.Common.{subst, length-append, ℤ, rules}, proofs.lemmas.Bool.{and_parts, cond_both}}
-use Rattle.std.proofs.lemmas.Option.{none-some, same_Some}
+use Rattle.std.proofs.Common.{◌≡◌, ℕ, true, false, eqb, List, [], ◌∷◌, ◌++◌, length, Some, None, refl, sym, ap, ◌∙◌, subst, length-append}
+use Rattle.std.{proofs.Common.{ℤ, rules}, proofs.lemmas.Bool.{and_parts, cond_both}, proofs.lemmas.Option.{none-some, same_Some}}
 use mathlib.Core.List.{head-eq_of_cons-eq}
 use Rattle.yq_core.{specs.Paths.{Step, changed_at, within}, specs.Alike.{Alike, stop, after}}
 use Rattle.yq_core.{specs.Collections.{CollPieces, coll_along, collection_put}, specs.Inline.IsInline}
@@ -69,16 +68,11 @@ named_holds n g node m rest h = record {
 }
 
 pub node_holds : (ss : List Step) (node : FlowNode) (rest : List ℕ) (w : CollPieces) (g : List ℕ) (is : Items) → coll_along ss node rest ≡ Some w → HoldsColl node (collection_put ss g is node) rest
-node_holds [] empty rest w g is e = absurd (none-some _ e)
-node_holds [] (alias n) rest w g is e = absurd (none-some _ e)
-node_holds [] (scalar p) rest w g is e = absurd (none-some _ e)
 node_holds [] (coll k gap others) rest w g is e = coll_holds k g gap is others rest
 node_holds [] (anchored n gap node) rest w g is e = named_holds n gap node _ rest (node_holds [] node rest w g is e)
-node_holds (s ∷ ss) empty rest w g is e = absurd (none-some _ e)
-node_holds (s ∷ ss) (alias n) rest w g is e = absurd (none-some _ e)
-node_holds (s ∷ ss) (scalar p) rest w g is e = absurd (none-some _ e)
 node_holds (s ∷ ss) (coll k gap others) rest w g is e = coll_holds k gap gap _ others rest
 node_holds (s ∷ ss) (anchored n gap node) rest w g is e = named_holds n gap node _ rest (node_holds (s ∷ ss) node rest w g is e)
+node_holds _ _ rest w g is e = absurd (none-some _ e)
 
 -- the tree of a node by its anchor and its head
 anchor_head : (node : FlowNode) (h : tree.Node) → node_head node ≡ Some h → tree_of node ≡ outlines.anchored (node_anchor node) h
@@ -122,8 +116,7 @@ row_takes limit i m u h e holds inline =
     (old.0, inline, old.2)
 
 plain_next : (n : ℤ) (space tail : List ℕ) (m : FlowNode) (back : List Row) → is_plain_content m ≡ false → allows_first (Rattle.yq_row_table.specs.Grammar.limit_behind n (Inline space m tail)) back ≡ true
-plain_next n space tail m [] e = refl
-plain_next n space tail m (b ∷ back) e = ap (λ (x : Bool). Rattle.yq_row_table.specs.Grammar.allows (cond x (record { column = Some (Rattle.yq_core.specs.Piece.deeper n) }) unlimited) b.column) e
+plain_next n space tail m back e = search rules
 
 short_node : (mark : rows.RowMark) (space tail : List ℕ) (m : FlowNode) → is_plain_content m ≡ false → is_long_plain mark (Inline space m tail) ≡ false
 short_node mark space tail m h1 = search rules
@@ -150,10 +143,7 @@ line_is t c k p steps f rest i w n known at head =
     let under : f.under ≡ end = none_under f.line.head n f.under (sym (ap (λ (l : Line). l.head) is) ∙ head) even.1.1 in
     record {
       is = is;
-      put = λ m.
-          ap (λ (rs : List Row). lines_of_rows (i.front ++ (with_content (Inline i.space m i.tail) r ∷ rs))) (own_gap i.back p.end)
-          ∙ (last_lines i.front r i.back (Inline i.space m i.tail)
-          ∙ ((λ j. parts.0 j ++ (line (Inline i.space m i.tail) ∷ parts.2 j)) ∙ ap (λ (u : Outline). lines_before f.place ++ (line (Inline i.space m i.tail) ∷ (flatten u ++ tail))) under));
+      put = search (rules, own_gap, last_lines);
     }
 
 pub flow_edited : FlowEdited
@@ -165,11 +155,7 @@ flow_edited t c k p steps f rest i w e h old at edited keys sound text =
     let q : Part = with_node p i m in
     let u : List ℕ = rows_text i.back (p.end ++ behind_document k c) in
     let holds = node_holds rest i.node (i.tail ++ u) w e.gap e.items at.along in
-    let takes : TakesRow p i.front r b i.back (behind_document k c) = record {
-      rows_are = at.rows_are;
-      takes = row_takes (asked_behind unlimited i.front) i m u (row_is t c k p i old at.rows_are) at.content_is holds edited.inline;
-      next = plain_next (parent_indent r) i.space i.tail m i.back holds.plain;
-    } in
+    let takes : TakesRow p i.front r b i.back (behind_document k c) = search (rules, row_takes, row_is, plain_next) in
     let there : q.rows ≡ i.front ++ (b ∷ i.back) = ap (λ (rs : List Row). i.front ++ (b ∷ rs)) (own_gap i.back p.end) in
     let cut = document_replaced t c k p i.front (r ∷ []) i.back (b ∷ []) (first_gap i.back p.end) old (row_replaces t c k p i.front i.back r b old takes) text in
     let fits = fit_parts i.front (r ∷ i.back) (subst HaveFitKeys at.rows_are known.document.keys) in
@@ -183,7 +169,5 @@ flow_edited t c k p steps f rest i w e h old at edited keys sound text =
     let l : Line = mark_line above (mark_column r) r.mark (Inline i.space m i.tail) in
     let whole_is : l ≡ with_head d.0 f.line = (λ j. record l { anchor = holds.anchor j; head = d.1 j }) ∙ ap (with_head d.0) line.is in
     let anchor : node_anchor i.node ≡ f.line.anchor = ap (λ (y : Line). y.anchor) line.is in
-    let tree : outlines.anchored f.line.anchor d.0 ≡ changed_at rest (within h) (outlines.anchored f.line.anchor n.0) =
-    subst (λ (a : Option (List ℕ)). outlines.anchored a d.0 ≡ changed_at rest (within h) (outlines.anchored a n.0)) anchor
-    (ap (λ (a : Option (List ℕ)). outlines.anchored a d.0) (sym holds.anchor) ∙ (sym (anchor_head m d.0 d.1) ∙ (edited.tree ∙ ap (changed_at rest (within h)) (anchor_head i.node n.0 n.1)))) in
+    let tree : outlines.anchored f.line.anchor d.0 ≡ changed_at rest (within h) (outlines.anchored f.line.anchor n.0) = search (rules, anchor_head) in
     flow_line_changed t c k p q steps rest f n.0 d.0 h put at.found (sym (ap (λ (y : Line). y.head) line.is) ∙ n.1) (λ _. d.2) tree (line.put m ∙ ap (λ (y : Line). with_lines f (y ∷ [])) whole_is) sound

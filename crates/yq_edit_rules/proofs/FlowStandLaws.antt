@@ -30,9 +30,6 @@ entry_valid : (ss : List Step) (x y : EntryPieces) → Valid x.node x.rest → e
 entry_valid [] x y v e = subst (λ (z : EntryPieces). Valid z.node z.rest) (same_Some _ _ e) v
 entry_valid (s ∷ ss) x y v e = let k = path_holds v.flow v.spaces v.depth s ss x y v.is e in record { flow = true; spaces = Some 0; depth = k.0; is = k.2 }
 
-mapped_to : {A B : Type 0} (f : A → B) (o : Option A) (x : A) → o ≡ Some x → option_map f o ≡ Some (f x)
-mapped_to f o x e = ap (option_map f) e
-
 -- The flow collection at a path is that of a node of the text, which is valid there and has its places at whole characters.
 pub record CollStands (c : Cut) (w : CollPieces) : Type 0 where
   pub node : FlowNode
@@ -60,7 +57,8 @@ coll_stands c k steps w read at =
     let own : HasSpans (cut_text c) (locate total i.node (i.tail ++ behind_row (document_row k c + length i.front) c)) =
     node_spans c (document_row k c + length i.front) i.row utf8 known.cut h.there i.space i.node i.tail at.at.content_is in
     let spans : HasSpans (cut_text c) (locate total i.node r) = subst (λ (u : List ℕ). HasSpans (cut_text c) (locate total i.node (i.tail ++ u))) h.behind own in
-    let placed : placed_entry_at at.rest (locate_entry total slot) ≡ Some (locate_entry total y.0) = path_places total at.rest slot ∙ mapped_to (locate_entry total) (entry_pieces_at at.rest slot) y.0 y.1 in
+    let placed : placed_entry_at at.rest (locate_entry total slot) ≡ Some (locate_entry total y.0) =
+    path_places total at.rest slot ∙ (ap (option_map (locate_entry total)) y.1) in
     record {
       node = y.0.node;
       rest = y.0.rest;

@@ -1,12 +1,11 @@
 -- With other items or entries in a flow collection, the steps that lead to its head lead there still, with what they led to in it.
-use Rattle.std.proofs.Common.{◌≡◌, ℕ, zero, suc, ◌+◌, Bool, true, false, not, ◌||◌, cond, List, [], ◌∷◌, ◌++◌, length, take, map, Option}
+use Rattle.std.proofs.Common.{rules, ◌≡◌, ℕ, zero, suc, ◌+◌, Bool, true, false, not, ◌||◌, List, [], ◌∷◌, ◌++◌, length, take, map, Option}
 use Rattle.std.{proofs.Common.{Some, None, option_map, refl, sym, ap, ◌∙◌, arith}, proofs.Math.Seq.take-append_seam}
 use Rattle.std.{proofs.lemmas.Bool.false≢true, proofs.lemmas.List.length-map, proofs.lemmas.Option.same_Some, specs.List.slice_get}
 use Rattle.std.specs.Option.{is_some}
 use Rattle.yq_core.{specs.Answers.◌>>=◌, specs.Paths.Step, specs.Collections.{CollPieces, coll_along, collection_put}}
 use Rattle.yq_core.specs.Nodes.{FlowNode, Items}
-use Rattle.yq_outline.{specs.Group.group, specs.Outline.{Outline, end, row, null_node}}
-use Rattle.yq_outline.{specs.Places.{here, below, FoundLine, find, in_head, place_inside, lines_before}, specs.Positions.has_no_mark}
+use Rattle.yq_outline.{specs.Group.group, specs.Outline.Outline, specs.Places.{below, FoundLine, place_inside, lines_before}}
 use Rattle.yq_outline.specs.Lines.{head_of, lines_of_rows}
 use Rattle.yq_row_table.{specs.Exchange.{behind_row, with_content}, specs.Grammar.{begins_document, no_rows}}
 use Rattle.yq_row_table.{specs.Rows.{Content, Inline, Row, Part, Cut, last, marked, rows_text}, specs.Splices.behind_part}
@@ -30,34 +29,18 @@ abbrev Reached : Type 0
 Reached = FoundLine × List Step
 
 bare_strip : (o : Outline) → bare_line (strip_outline o) ≡ option_map strip_found (bare_line o)
-bare_strip end = refl
-bare_strip (row l u a) = go (has_no_mark l.mark)
-  where
-    go : (b : Bool) → cond b (Some (strip_found (record { place = here; line = l; under = u; after = a }))) None ≡ option_map strip_found (cond b (Some (record { place = here; line = l; under = u; after = a })) None)
-    go true = refl
-    go false = refl
+bare_strip o = search (rules, strip_found)
 
 under_strip : (f : FoundLine) (o : Option FoundLine) → option_map {U = Reached} (λ g. (place_inside (strip_found f) g, [])) (option_map strip_found o) ≡ option_map strip_pair (option_map {U = Reached} (λ g. (place_inside f g, [])) o)
 under_strip f None = refl
 under_strip f (Some g) = λ i. Some (record (strip_found g) { place = compose_strip f.place (below f.line g.place f.after) i }, [])
 
 line_strip : (f : FoundLine) (left : List Step) → head_line (strip_found f) left ≡ option_map strip_pair (head_line f left)
-line_strip f (s ∷ ss) = refl
-line_strip f [] =
-    ap (in_head (option_map (λ n. null_node) f.line.head) (Some (strip_found f, []))) (ap (option_map {U = Reached} (λ g. (place_inside (strip_found f) g, []))) (bare_strip f.under) ∙ under_strip f (bare_line f.under))
-    ∙ head_strip f.line.head (Some (f, [])) (option_map {U = Reached} (λ g. (place_inside f g, [])) (bare_line f.under))
+line_strip f left = search (rules, strip_found, bare_strip, under_strip, head_strip)
 
 find_head_strip : (steps : List Step) (o : Outline) → find_head steps (strip_outline o) ≡ option_map strip_pair (find_head steps o)
-find_head_strip [] o = ap (option_map {U = Reached} (λ f. (f, []))) (bare_strip o) ∙ go (bare_line o)
-  where
-    go : (r : Option FoundLine) → option_map {U = Reached} (λ f. (f, [])) (option_map strip_found r) ≡ option_map strip_pair (option_map {U = Reached} (λ f. (f, [])) r)
-    go None = refl
-    go (Some f) = refl
-find_head_strip (s ∷ ss) o = ap (λ (r : Option Reached). r >>= λ x. head_line x.0 x.1) (find_strip s ss o) ∙ go (find s ss o)
-  where
-    go : (r : Option Reached) → (option_map strip_pair r >>= λ x. head_line x.0 x.1) ≡ option_map strip_pair (r >>= λ x. head_line x.0 x.1)
-    go None = refl
-    go (Some x) = line_strip x.0 x.1
+find_head_strip [] o = search (rules, bare_strip, strip_found, strip_pair)
+find_head_strip (s ∷ ss) o = search (rules, find_strip, strip_pair, line_strip)
 
 -- where a path leads in rows of the same shapes
 shape_head : (p q : Part) → map row_shape q.rows ≡ map row_shape p.rows → (steps : List Step) → option_map strip_pair (find_head steps (part_outline q)) ≡ option_map strip_pair (find_head steps (part_outline p))
@@ -119,14 +102,10 @@ module _ (c : Cut) (k : ℕ) (steps : List Step) (w : CollPieces) (at : FlowAt c
       ap (λ (b : Bool). behind_part (number_from b k new) new) (first_stays c k at.part q at.there keeps) ∙ behind_stays (begins_bare c || not (has_begin c)) k q c
 
   headed : is_some (head_of (Inline i.space m i.tail)) ≡ is_some (head_of i.row.content)
-  headed =
-      let holds = node_holds at.rest i.node (behind_node c k at.part i) w gap is at.at.along in
-      ap is_some holds.head.1 ∙ (sym (ap is_some holds.old_head.1) ∙ sym (ap (λ (x : Content). is_some (head_of x)) at.at.content_is))
+  headed = search (rules, node_holds at.rest i.node (behind_node c k at.part i) w gap is at.at.along)
 
   shapes : map row_shape q.rows ≡ map row_shape at.part.rows
-  shapes =
-      let own : row_shape r ≡ row_shape i.row = λ j. record { column = i.row.column; dashes = i.row.dashes; mark = i.row.mark; headed = headed j } in
-      ap (map row_shape) rows_are ∙ (one_other i.front r i.row i.back own ∙ sym (ap (map row_shape) at.at.rows_are))
+  shapes = search (rules, headed, rows_are, one_other)
 
   -- by how many lines come before the one in whose head the node is
   abbrev number : ℕ

@@ -1,6 +1,6 @@
 -- The head comment of the gap that stays where rows are taken out.
-use Rattle.std.proofs.Common.{◌≡◌, ℕ, Bool, true, false, ◌&&◌, List, [], ◌∷◌, ◌++◌, Option, Some, None, refl, sym, ap, ◌∙◌, subst, ⊎_elim}
-use Rattle.std.{proofs.Common.replicate, proofs.lemmas.Bool.{false≢true, cond_both, cond-true, cond-false, and_parts, cases_Bool}}
+use Rattle.std.proofs.Common.{rules, ◌≡◌, ℕ, Bool, true, false, ◌&&◌, List, [], ◌∷◌, ◌++◌, Option, Some, None, refl, sym, ap, ◌∙◌, subst}
+use Rattle.std.{proofs.Common.{⊎_elim, replicate}, proofs.lemmas.Bool.{false≢true, cond_both, cond-true, cond-false, and_parts, cases_Bool}}
 use Rattle.yq_core.{specs.Block.{BlockText, RawLines, keeps}, specs.BlockRepair.{AreGap, is_short, is_outdented_comment, repair}}
 use Rattle.yq_core.{specs.Lines.{is_hash, is_blank}, specs.Text.{is_break, is_empty, is_line, joined, text_lines, past_white}}
 use Rattle.yq_core.{proofs.LineLaws.lines_again, proofs.BlockRepairText.{line_past, line_spaces}}
@@ -27,15 +27,7 @@ all_before (l ∷ ls) h = ⊎_elim {0, 0, 0}
 
 pub none_before : (ls : RawLines) → last_comments (before_run ls) ≡ []
 none_before [] = refl
-none_before (l ∷ ls) = ⊎_elim {0, 0, 0}
-    (λ e. ap last_comments (cond-true (are_comments (l ∷ ls)) [] (l ∷ before_run ls) e))
-    (λ e.
-    let open' : are_comments (l ∷ before_run ls) ≡ false = ⊎_elim {0, 0, 0}
-    (λ k. let parts = and_parts (is_hash (past_white l)) (are_comments (before_run ls)) k in absurd (false≢true (sym e ∙ (λ i. parts.0 i && all_before ls parts.1 i))))
-    (λ k. k)
-    (cases_Bool (are_comments (l ∷ before_run ls))) in
-    ap last_comments (cond-false (are_comments (l ∷ ls)) [] (l ∷ before_run ls) e) ∙ (cond-false _ _ _ open' ∙ none_before ls))
-    (cases_Bool (are_comments (l ∷ ls)))
+none_before (l ∷ ls) = search (rules, cond-true, and_parts, false≢true, all_before, cases_Bool, cond-false, none_before ls)
 
 -- each line has its break
 abbrev AreLines : RawLines → Type 0
@@ -60,10 +52,7 @@ gap_lines (l ∷ ls) rest some h = (gap_line l (joined ls ++ rest) (some_behind 
 repaired_lines : (keep : Bool) (m column : ℕ) (ls : RawLines) → AreLines ls → AreLines (repair keep m column ls)
 unfolding repair
 repaired_lines keep m column [] h = tt
-repaired_lines true m column (l ∷ ls) h = ⊎_elim {0, 0, 0}
-    (λ b. rw b (repaired_lines true m column ls h.1))
-    (λ b. rw b (cond_both (is_outdented_comment m l) l (replicate column 32 ++ past_white l) (λ x. is_line x ≡ true) (λ _. h.0) (λ _. line_spaces column (past_white l) (line_past l h.0)), h.1))
-    (cases_Bool (is_blank l))
+repaired_lines true m column (l ∷ ls) h = search (rules, cond_both, line_spaces, line_past, cases_Bool, repaired_lines true m column ls h.1)
 repaired_lines false m column (l ∷ ls) h = ⊎_elim {0, 0, 0}
     (λ b. rw b (cond_both (is_short m l) l (past_white l) (λ x. is_line x ≡ true) (λ _. h.0) (λ _. line_past l h.0), repaired_lines false m column ls h.1))
     (λ b. rw b (cond_both (is_outdented_comment m l) l (replicate column 32 ++ past_white l) (λ x. is_line x ≡ true) (λ _. h.0) (λ _. line_spaces column (past_white l) (line_past l h.0)), h.1))

@@ -1,7 +1,6 @@
 -- Head comments of items and entries, put and taken away.
 use Rattle.std.proofs.Common.{◌≡◌, ℕ, zero, suc, ◌+◌, ◌<◌, List, [], ◌∷◌, ◌++◌, length, take, Option, Some, None, true, false, refl, sym}
-use Rattle.std.proofs.Common.{ap, ◌∙◌, subst, arith, rules, ⊎_elim, append_assoc, replicate}
-use Rattle.std.proofs.lemmas.Bool.{lt-ltb, and_from, cases_Bool}
+use Rattle.std.{proofs.Common.{ap, ◌∙◌, subst, arith, rules, append_assoc, replicate}, proofs.lemmas.Bool.{lt-ltb, and_from, cases_Bool}}
 use Rattle.yq_core.{specs.Block.{BlockText, RawLines, ends_block, keeps}, specs.BlockRepair.is_behind}
 use Rattle.yq_core.{specs.declared.block_lines.TextIndent.TextIndent, specs.Text.{is_empty, joined, put_byte, text_lines}}
 use Rattle.yq_core.{proofs.BlockRepairLaws.ends_behind, proofs.SpaceLaws.{prefix_none, spaces_front, drop_front as spaces_drop}}
@@ -9,12 +8,12 @@ use Rattle.yq_outline.{specs.Comments.{head_comment, last_comments}, specs.Group
 use Rattle.yq_outline.{specs.Lines.{mark_line, dash_line, lines_from, lines_of_rows}, specs.Outline.{Line, level, flatten, label}}
 use Rattle.yq_outline.proofs.Decides.{flatten-group}
 use Rattle.yq_row_table.{specs.Exchange.asked_behind, specs.Gap.{AreGapLines, IsGap}, specs.Grammar.{Limit, unlimited, AreRows, no_rows}}
-use Rattle.yq_row_table.{specs.Rows.{Row, behind_gap, behind_indent, rows_text, Part}, specs.Seams.are_seamed}
-use Rattle.yq_row_table.{specs.Removal.{hold_comment, last_block}, proofs.AlikeBlocks.put_first}
-use Rattle.yq_row_table.{proofs.seams.GapSeams.{gap_lines_of, lines_before}, proofs.seams.GapFronts.{ends_blank, ends_comment, gap_joined}}
-use Rattle.yq_row_table.{proofs.seams.LessLaws.starts_less, proofs.NothingLaws.some_behind, proofs.seams.BlockFronts.{gap_front, last_none}}
-use Rattle.yq_row_table.{proofs.RowAgain.row_starts, proofs.seams.SeamLaws.rows_drop}
-use Rattle.yq_row_table.{proofs.seams.FrontSeams.{behind_row_some, seams_any, seams_were}, proofs.splices.PartPlaces.part_in}
+use Rattle.yq_row_table.{specs.Rows.{Row, behind_gap, rows_text, Part}, specs.Seams.are_seamed, specs.Removal.last_block}
+use Rattle.yq_row_table.{proofs.AlikeBlocks.put_first, proofs.seams.GapSeams.{gap_lines_of, lines_before}}
+use Rattle.yq_row_table.{proofs.seams.GapFronts.{ends_blank, ends_comment, gap_joined}, proofs.seams.LessLaws.starts_less}
+use Rattle.yq_row_table.{proofs.NothingLaws.some_behind, proofs.seams.BlockFronts.{gap_front, last_none}, proofs.RowAgain.row_starts}
+use Rattle.yq_row_table.{proofs.seams.SeamLaws.rows_drop, proofs.seams.FrontSeams.{behind_row_some, seams_any, seams_were}}
+use Rattle.yq_row_table.proofs.splices.PartPlaces.{part_in}
 use Rattle.yq_edit_rules.{proofs.GapLaws.{head_joined, none_before}, specs.Siblings.put_lines, proofs.BlockChangeLaws.entry_relabelled}
 use Rattle.yq_edit_rules.{specs.Heads.{IsHeadCommentRun, with_run, rerun, HeadCommented}, specs.LineRows.{StandApart, AreClosed}}
 use Rattle.yq_edit_rules.{specs.DocumentRows.{behind_document, RowsFit}, proofs.ApartLaws.even_closed, proofs.AppendLaws.block_seam}
@@ -72,11 +71,7 @@ run_seam front back r run last rest l old limit own is column apart = go (last_b
         ∙ append_assoc (joined ks) (joined (last_run (text_lines r.gap))) x
 
     new : (b : BlockText) → r.column < b.indent.columns → is_behind b.indent (text_lines (run ++ x)) ≡ true
-    new b less = ⊎_elim {0, 0, 0}
-        (λ none. ap (λ (g : List ℕ). is_behind b.indent (text_lines (g ++ x))) none ∙ starts_less b.indent r.column (behind_indent r (rows_text back (last ++ rest))) (row_starts limit r (rows_text back (last ++ rest)) own.0) less)
-        (λ w. ap (λ (g : List ℕ). is_behind b.indent (text_lines (g ++ x))) w.1 ∙
-        (ap (λ (g : List ℕ). is_behind b.indent (text_lines g)) (append_assoc (replicate r.column 32) (35 ∷ w.0) x) ∙ hash_less b.indent r.column (w.0 ++ x) less))
-        is.stands
+    new b less = search (rules, starts_less, row_starts, append_assoc, hash_less)
 
     go : (o : Option BlockText) → last_block front ≡ o → are_seamed front (with_run r run ++ x) ≡ true
     go None e = seams_any front (r ∷ back) unlimited last rest (with_run r run ++ x) old refl (last_none front e)
@@ -87,10 +82,8 @@ run_seam front back r run last rest l old limit own is column apart = go (last_b
         let split : text_lines (r.gap ++ x) ≡ ks ++ text_lines y = ap text_lines gap_is ∙ lines_before ks y y y_some kept in
         let ended : ends_block (keeps b.chomping) b.indent (ks ++ text_lines y) ≡ true = ap (ends_block (keeps b.chomping) b.indent) (sym split) ∙ was in
         let text : text_lines (with_run r run ++ x) ≡ ks ++ text_lines (run ++ x) = ap text_lines (append_assoc (joined ks) run x) ∙ lines_before ks y (run ++ x) y_some kept in
-        let whole_is : ends_block (keeps b.chomping) b.indent (ks ++ text_lines (run ++ x)) ≡ true = ⊎_elim {0, 0, 0}
-        (λ h. ends_comment (keeps b.chomping) b.indent ks (text_lines y) (text_lines (run ++ x)) h ended)
-        (λ h. ends_blank (keeps b.chomping) b.indent ks (text_lines y) (text_lines (run ++ x)) h ended (ends_behind (keeps b.chomping) b.indent (text_lines (run ++ x)) (new b less)))
-        (cases_Bool (hold_comment ks)) in
+        let whole_is : ends_block (keeps b.chomping) b.indent (ks ++ text_lines (run ++ x)) ≡ true =
+        search (rules, ends_comment, ks, ends_blank, ends_behind, new, cases_Bool) in
         block_seam front b (with_run r run ++ x) e (ap (ends_block (keeps b.chomping) b.indent) text ∙ whole_is)
 
 -- the first line of a row, and those after it
@@ -103,29 +96,23 @@ further_lines r [] = []
 further_lines r (n ∷ ns) = lines_from [] (suc (r.column + n)) ns r.mark r.content
 
 first_split : (above : List (List ℕ)) (r : Row) (ns : List ℕ) → lines_from above r.column ns r.mark r.content ≡ first_line above r ns ∷ further_lines r ns
-first_split above r [] = refl
-first_split above r (n ∷ ns) = refl
+first_split above r ns = search rules
 
 same_level : (a b : List (List ℕ)) (r : Row) (ns : List ℕ) → level (first_line a r ns) ≡ level (first_line b r ns)
 unfolding level
-same_level a b r [] = refl
-same_level a b r (n ∷ ns) = refl
+same_level a b r ns = search rules
 
 same_head : (a b : List (List ℕ)) (r : Row) (ns : List ℕ) → (first_line a r ns).head ≡ (first_line b r ns).head
-same_head a b r [] = refl
-same_head a b r (n ∷ ns) = refl
+same_head a b r ns = search rules
 
 same_anchor : (a b : List (List ℕ)) (r : Row) (ns : List ℕ) → (first_line a r ns).anchor ≡ (first_line b r ns).anchor
-same_anchor a b r [] = refl
-same_anchor a b r (n ∷ ns) = refl
+same_anchor a b r ns = search rules
 
 same_label : (a b : List (List ℕ)) (r : Row) (ns : List ℕ) → label (first_line a r ns) ≡ with_head_comment a (label (first_line b r ns))
-same_label a b r [] = refl
-same_label a b r (n ∷ ns) = refl
+same_label a b r ns = search rules
 
 in_column : (a : List (List ℕ)) (r : Row) (ns : List ℕ) → (first_line a r ns).column ≡ r.column
-in_column a r [] = refl
-in_column a r (n ∷ ns) = refl
+in_column a r ns = search rules
 
 row_after : (front : List Row) (r : Row) (back : List Row) (gap : List ℕ) →
     lines_of_rows (front ++ (record r { gap = gap } ∷ back)) ≡ lines_of_rows front ++ (first_line (head_comment gap) r r.dashes ∷ (further_lines r r.dashes ++ lines_of_rows back))

@@ -1,15 +1,15 @@
 -- Where what a key or dash holds is cut into pieces.
-use Rattle.std.proofs.Common.{inl, inr, ◌≡◌, ◌⊎◌, ℕ, ℤ, ◌<◌, ⊎_elim, Bool, true, false, cond, eqb, ◌&&◌, List, [], ◌∷◌, ◌++◌, drop, length}
-use Rattle.std.proofs.Common.{replicate, Some, None, refl, sym, ap, ◌∙◌, subst, arith, append_assoc, append-nil}
+use Rattle.std.proofs.Common.{rules, inl, inr, ◌≡◌, ◌⊎◌, ℕ, ℤ, ◌<◌, Bool, true, false, cond, List, [], ◌∷◌, ◌++◌, length, replicate, Some}
+use Rattle.std.proofs.Common.{None, refl, sym, ap, ◌∙◌, subst, arith, append_assoc, append-nil}
 use Rattle.std.{proofs.lemmas.Bool.{cases_lt, eqb-true, false≢true, false_from_ne_true, not-false}, proofs.Math.Seq.take-append_seam}
 use Rattle.std.{proofs.lemmas.Str.IsUtf8-take, specs.Str.IsUtf8}
-use Rattle.yq_core.{specs.Text.{front, is_empty, is_feed, is_return, is_white, no_white, unless, NoneIn}, proofs.Bools.at_byte}
+use Rattle.yq_core.{specs.Text.{front, is_empty, is_return, is_white, no_white, unless, NoneIn}, proofs.Bools.at_byte}
 use Rattle.yq_core.{specs.Nodes.{in_name, node_text, IsLead, IsName, IsFlowNode}, proofs.NodesWrittenLaws.node_then}
 use Rattle.yq_core.specs.declared.block_types.Break.TheVariants.{Lf, CrLf}
 use Rattle.yq_row_table.{specs.Gap.IsWhite, specs.Grammar.{IsContent, IsMark, is_entry}}
 use Rattle.yq_row_table.{specs.Rows.{Content, Nothing, Inline, Block, dashes_text, mark_text}, specs.View.{Slices, content_cut}}
 use Rattle.yq_row_table.{proofs.NodePieces.{BeginsAscii, before_ascii, behind_ascii}, proofs.seams.ScalarSeams.ends_return}
-use Rattle.yq_places.{specs.PrintedLines.{is_last_break, less_break, last_break}, specs.RowPieces.{anchor_before, space_before}}
+use Rattle.yq_places.{specs.PrintedLines.{less_break, last_break}, specs.RowPieces.{anchor_before, space_before}}
 use Rattle.yq_places.proofs.PrintedTexts.{less_is}
 use Rattle.yq_edit_rules.{specs.TextPieces.IsPiece, proofs.LineFrontLaws.{clean_cut, ends_more}, proofs.TextPieceLaws.byte_cut}
 use Rattle.yq_edit_rules.{proofs.BreakLaws.{IsLfOrCrLf, last_is}, proofs.CommentPieceLaws.{nothing, break_piece}}
@@ -30,13 +30,9 @@ lead_white p g t (inr x) = subst IsWhite (sym x.0) tt
 pub space_white : (n : ℤ) (x : Content) (rest : List ℕ) → IsContent n x rest → IsWhite (cond (is_empty (content_cut x).1) (content_cut x).0 (content_cut x).2)
 unfolding IsFlowNode node_text
 space_white n (Nothing z) rest h = tt
-space_white n (Inline space inline.empty z) rest h = h.0
-space_white n (Inline space (inline.alias m) z) rest h = h.0
-space_white n (Inline space (inline.scalar p) z) rest h = h.0
-space_white n (Inline space (inline.coll k g is) z) rest h = h.0
 space_white n (Inline space (inline.anchored m g node) z) rest h = lead_white _ g _ h.1.valid.1
-space_white n (Block space None block) rest h = h.0
 space_white n (Block space (Some a) block) rest h = h.1.1
+space_white n _ rest h = h.0
 
 -- ---- round the anchor's end
 
@@ -47,12 +43,7 @@ name_clean b (c ∷ m) t e h = name_clean c m t (at_byte in_name c 13 (not-false
 
 -- what doesn't go on with a name begins with an ASCII byte
 unnamed_ascii : (t : List ℕ) → unless in_name t ≡ true → BeginsAscii t
-unnamed_ascii [] h = tt
-unnamed_ascii (b ∷ t) h = ⊎_elim {0, 0, 0} (λ lt. lt) (λ le.
-    let isnt : (k : ℕ) → k < 128 → eqb b k ≡ false = λ k small. false_from_ne_true (eqb b k) (λ e. absurd (omega (arith, eqb-true b k e))) in
-    let inside : unless in_name (b ∷ t) ≡ false = rw (isnt 32 (omega arith), isnt 9 (omega arith), isnt 10 (omega arith), isnt 13 (omega arith), isnt 44 (omega arith), isnt 91 (omega arith), isnt 93 (omega arith), isnt 123 (omega arith), isnt 125 (omega arith)) refl in
-    absurd (false≢true (sym inside ∙ h)))
-    (cases_lt b 128)
+unnamed_ascii t h = search (rules, arith, false_from_ne_true, eqb-true, false≢true, cases_lt)
 
 -- What is round the end of an anchor: no CR before it, and an ASCII byte after it.
 pub record AnchorEnds (anchor behind : List ℕ) : Type 0 where
@@ -60,8 +51,7 @@ pub record AnchorEnds (anchor behind : List ℕ) : Type 0 where
   pub ascii : BeginsAscii behind
 
 ascii_front : (a b : List ℕ) → BeginsAscii (a ++ b) → BeginsAscii a
-ascii_front [] b h = tt
-ascii_front (x ∷ a) b h = h
+ascii_front a b h = search rules
 
 pub anchor_ends : (n : ℤ) (x : Content) (rest : List ℕ) → is_empty (content_cut x).1 ≡ false → IsContent n x rest → AnchorEnds (content_cut x).1 ((content_cut x).2 ++ (content_cut x).3)
 unfolding IsFlowNode node_text
@@ -78,13 +68,7 @@ anchor_ends n (Inline space (inline.anchored m g node) z) rest some h =
       ascii = ascii_front (g ++ node_text node []) (z ++ rest) (subst BeginsAscii text (unnamed_ascii (g ++ node_text node (z ++ rest)) name.ends));
     }
 anchor_ends n (Block space None block) rest some h = absurd (false≢true (sym some))
-anchor_ends n (Block space (Some a) block) rest some h =
-    let head : List ℕ = (content_cut (Block space (Some a) block)).3 in
-    let more : List ℕ = block.tail ++ (Rattle.yq_core.specs.Text.joined block.raw ++ rest) in
-    record {
-      clean = name_clean 38 a.name (a.gap ++ (head ++ more)) refl h.1.0.inside;
-      ascii = ascii_front (a.gap ++ head) more (subst BeginsAscii (sym (append_assoc a.gap head more)) (unnamed_ascii (a.gap ++ (head ++ more)) h.1.0.ends));
-    }
+anchor_ends n (Block space (Some a) block) rest some h = search (rules, name_clean, ascii_front, append_assoc, unnamed_ascii)
 
 -- ---- the end of a key or dash
 
@@ -132,10 +116,7 @@ anchor_cut last front s ends low named = go (is_empty s.anchor) refl named
   where
     go : (b : Bool) → is_empty s.anchor ≡ b → (b ≡ false → AnchorEnds s.anchor (s.apart ++ s.head)) → IsPiece ((front ++ cond b [] (s.space ++ s.anchor)) ++ (cond b s.space s.apart ++ s.head)) →
         IsPiece (front ++ cond b [] (s.space ++ s.anchor)) × IsPiece (cond b s.space s.apart ++ s.head)
-    go true e named all =
-        let own : front ++ [] ≡ ends.0 ++ last ∷ [] = append-nil front ∙ ends.1 in
-        let cut = last_cut last ends.0 (s.space ++ s.head) low.0 low.1 (subst (λ q. IsPiece (q ++ (s.space ++ s.head))) own all) in
-        (subst IsPiece (sym own) cut.0, cut.1)
+    go true e named all = search (rules, append-nil, last_cut)
     go false e named all =
         let k = named refl in
         let whole : List ℕ = front ++ (s.space ++ s.anchor) in
@@ -153,24 +134,9 @@ break_is_piece b (inr (inr e)) = subst IsPiece (sym e) (break_piece CrLf)
 less_clean : (t : List ℕ) → last_break t ≡ 10 ∷ [] → ends_return (less_break t) ≡ false
 unfolding less_break
 less_clean [] e = refl
-less_clean (b ∷ []) e = go (is_feed b) e
-  where
-    go : (x : Bool) → drop (length (cond x [] (b ∷ []))) (b ∷ []) ≡ 10 ∷ [] → ends_return (cond x [] (b ∷ [])) ≡ false
-    go true e = refl
-    go false e = absurd (cc)
-less_clean (b ∷ (d ∷ [])) e = go (is_return b) (is_feed d) refl refl e
-  where
-    go : (x y : Bool) → is_return b ≡ x → is_feed d ≡ y → drop (length (cond (x && y) [] (b ∷ cond y [] (d ∷ [])))) (b ∷ (d ∷ [])) ≡ 10 ∷ [] → ends_return (cond (x && y) [] (b ∷ cond y [] (d ∷ []))) ≡ false
-    go true true r f e = refl
-    go true false r f e = absurd (cc)
-    go false true r f e = r
-    go false false r f e = absurd (cc)
-less_clean (b ∷ (d ∷ (f ∷ t))) e = go (is_last_break (d ∷ (f ∷ t))) (less_clean (d ∷ (f ∷ t))) e
-  where
-    go : (x : Bool) → (drop (length (cond x [] (d ∷ less_break (f ∷ t)))) (d ∷ (f ∷ t)) ≡ 10 ∷ [] → ends_return (cond x [] (d ∷ less_break (f ∷ t))) ≡ false) →
-        drop (length (cond x [] (d ∷ less_break (f ∷ t)))) (d ∷ (f ∷ t)) ≡ 10 ∷ [] → ends_return (b ∷ cond x [] (d ∷ less_break (f ∷ t))) ≡ false
-    go true more e = absurd (cc)
-    go false more e = more e
+less_clean (b ∷ []) e = search (rules, ends_return)
+less_clean (b ∷ (d ∷ [])) e = search (rules, ends_return)
+less_clean (b ∷ (d ∷ (f ∷ t))) e = search (rules, ends_return, less_clean (d ∷ (f ∷ t)))
 
 -- a piece less its last break is one
 pub less_piece : (t : List ℕ) → IsPiece t → IsPiece (less_break t)
@@ -181,7 +147,5 @@ less_piece t h = go (last_is t)
 
     go : (last_break t ≡ []) ⊎ IsLfOrCrLf (last_break t) → IsPiece (less_break t)
     go (inl e) = subst IsPiece (ap (λ b. less_break t ++ b) e ∙ append-nil (less_break t)) parted
-    go (inr (inl e)) =
-        let all : IsPiece (less_break t ++ 10 ∷ []) = subst (λ b. IsPiece (less_break t ++ b)) e parted in
-        (clean_cut (less_break t) (10 ∷ []) all (front_utf8 (less_break t) (10 ∷ []) all (let low : 10 < 128 = omega arith in low)) (λ f. less_clean t e)).0
+    go (inr (inl e)) = search (rules, arith, subst (λ b. IsPiece (less_break t ++ b)) e parted, clean_cut, front_utf8, less_clean)
     go (inr (inr e)) = (byte_cut (less_break t) (13 ∷ (10 ∷ [])) (subst (λ b. IsPiece (less_break t ++ b)) e parted) (omega arith, refl)).0

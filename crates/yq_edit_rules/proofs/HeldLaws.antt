@@ -1,5 +1,5 @@
 -- What a key or dash holds spells the text of its rows.
-use Rattle.std.proofs.Common.{◌≡◌, ℕ, true, cond, List, [], ◌∷◌, ◌++◌, Some, refl, sym, ap, ◌∙◌, append_assoc, append-nil, rules}
+use Rattle.std.proofs.Common.{◌≡◌, ℕ, cond, List, [], ◌∷◌, ◌++◌, Some, refl, sym, ap, ◌∙◌, append_assoc, append-nil, rules}
 use Rattle.std.proofs.lemmas.Bool.{false≢true}
 use Rattle.yq_core.{specs.Paths.Step, specs.Text.is_empty}
 use Rattle.yq_row_table.{specs.Exchange.row_front, specs.Rows.{Row, Cut, cut_text, print_row, rows_text}, specs.View.{Slices, slices}}
@@ -11,17 +11,13 @@ use Rattle.yq_edit_rules.{proofs.CommentRowLaws.{cut_spelled, end_parts, entry_r
 
 -- ---- the pieces of a row
 
--- a row without an anchor has no white space after one
-no_apart : (r : Row) → is_empty (slices r).anchor ≡ true → (slices r).apart ≡ []
-no_apart r = search (rules, false≢true)
-
 -- the text of a line up to its tail: the key or dash with its anchor, the white space after that, and the head
 pub front_is : (b : List ℕ) (r : Row) → b ++ text_to_line_end r ≡ ((b ++ row_front r) ++ anchor_before (slices r)) ++ (space_before (slices r) ++ (slices r).head)
-front_is b r = search (rules, empty_is, no_apart, append_assoc, append-nil)
+front_is b r = search (rules, empty_is, false≢true, append_assoc, append-nil)
 
 -- ---- the lines below
 
-no_break : less_break [] ≡ []
+pub no_break : less_break [] ≡ []
 unfolding less_break
 no_break = refl
 

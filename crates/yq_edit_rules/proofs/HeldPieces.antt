@@ -1,6 +1,6 @@
 -- What a key or dash holds is in pieces of the text.
-use Rattle.std.proofs.Common.{inl, inr, ◌≡◌, ◌⊎◌, ℕ, false, cond, List, [], ◌∷◌, ◌++◌, length, replicate, Some, refl, sym, ap, ◌∙◌, subst}
-use Rattle.std.{proofs.Common.{append_assoc, append-nil}, proofs.lemmas.Bool.false≢true}
+use Rattle.std.proofs.Common.{rules, inl, inr, ◌≡◌, ◌⊎◌, ℕ, false, cond, List, [], ◌∷◌, ◌++◌, length, replicate, Some, refl, sym, ap, ◌∙◌}
+use Rattle.std.{proofs.Common.{subst, append_assoc, append-nil}, proofs.lemmas.Bool.false≢true}
 use Rattle.yq_core.{specs.Paths.Step, specs.Text.is_empty, proofs.BlockPieceLaws.IsLf}
 use Rattle.yq_row_table.{specs.Exchange.{asked_behind, row_front}, specs.Gap.IsBreak, specs.Grammar.{IsRow, IsTail, unlimited}}
 use Rattle.yq_row_table.{specs.Rows.{Cut, cut_text, mark_text, parent_indent, rows_text}, specs.View.{Slices, slices}}
@@ -9,13 +9,12 @@ use Rattle.yq_places.{specs.CommentPlaces.{LineEnd, end_in_line, text_to_line_en
 use Rattle.yq_places.{specs.RowPieces.space_before, specs.Standings.{RowsOfEntry, before_entry, behind_entry, held, rows_of_entry}}
 use Rattle.yq_places.{proofs.CommentEndLaws.row_text_parts, proofs.CommentPieceLaws.Ended, proofs.LineEndLaws.{line_tail, tail_is_end}}
 use Rattle.yq_places.proofs.RunSpans.{rows_then}
-use Rattle.yq_edit_rules.{specs.StandingLaws.{HeldSpells, HoldsPieces, StandsThere}, specs.TextPieces.IsPiece}
-use Rattle.yq_edit_rules.{proofs.StandingMarks.{entry_there, row_there, rows_ended_there}, proofs.StandingRows.rows_stand}
-use Rattle.yq_edit_rules.{proofs.TextPieceLaws.{line_cut, piece_back, text_is_piece}, proofs.BreakLaws.{IsLfOrCrLf, break_is, last_is}}
-use Rattle.yq_edit_rules.proofs.CommentRowLaws.{entry_row, cut_spelled}
+use Rattle.yq_edit_rules.{proofs.HeldLaws.{no_break, front_is, held_there}, specs.StandingLaws.{HeldSpells, HoldsPieces, StandsThere}}
+use Rattle.yq_edit_rules.{specs.TextPieces.IsPiece, proofs.StandingMarks.{entry_there, row_there, rows_ended_there}}
+use Rattle.yq_edit_rules.{proofs.StandingRows.rows_stand, proofs.TextPieceLaws.{line_cut, piece_back, text_is_piece}}
+use Rattle.yq_edit_rules.{proofs.BreakLaws.{IsLfOrCrLf, break_is, last_is}, proofs.CommentRowLaws.{entry_row, cut_spelled}}
 use Rattle.yq_edit_rules.proofs.HeldCuts.{EndsIn, anchor_cut, anchor_ends, break_is_piece, dashes_end, ends_behind, last_of, less_piece}
-use Rattle.yq_edit_rules.{proofs.HeldCuts.{low_last, mark_ends, space_white}, proofs.HeldLaws.{front_is, held_there}}
-use Rattle.yq_edit_rules.proofs.TailPieces.{HasTailPieces, pieces, white_piece}
+use Rattle.yq_edit_rules.{proofs.HeldCuts.{low_last, mark_ends, space_white}, proofs.TailPieces.{HasTailPieces, pieces, white_piece}}
 
 -- the end of a line, as it is cut without what is after
 pub end_agrees : (tail more : List ℕ) (h : IsTail tail more) → end_in_line [] tail ≡ record { before = []; white = h.white; comment = h.comment; behind = h.line.break }
@@ -24,8 +23,7 @@ end_agrees tail more h =
     ap (end_in_line []) (sym (append-nil tail)) ∙ (tail_is_end [] tail [] alone ∙ ap (λ t. record { before = []; white = h.white; comment = h.comment; behind = t }) (append-nil h.line.break))
   where
     ends : IsBreak h.line.break more → IsBreak h.line.break []
-    ends (inl e) = inl e
-    ends (inr e) = inr (e.0, refl)
+    ends e = search rules
 
 -- what is left of a text that ends in an LF ends in one
 pub suffix_lf : (a b : List ℕ) → IsLf (a ++ b) → is_empty b ≡ false → IsLf b
@@ -51,12 +49,8 @@ record BelowPieces (b below z : List ℕ) : Type 0 where
   last : IsPiece (cond (is_empty below) b (last_break below))
   behind : IsPiece z
 
-nothing_below : less_break [] ≡ []
-unfolding less_break
-nothing_below = refl
-
 below_pieces : (break below behind : List ℕ) → IsPiece break → IsPiece (below ++ behind) → (is_empty below ≡ false → Ended below behind) → BelowPieces break below behind
-below_pieces break [] behind b all ends = record { break = Rattle.yq_edit_rules.proofs.CommentPieceLaws.nothing; lines = subst IsPiece (sym nothing_below) Rattle.yq_edit_rules.proofs.CommentPieceLaws.nothing; last = b; behind = all }
+below_pieces break [] behind b all ends = record { break = Rattle.yq_edit_rules.proofs.CommentPieceLaws.nothing; lines = subst IsPiece (sym no_break) Rattle.yq_edit_rules.proofs.CommentPieceLaws.nothing; last = b; behind = all }
 below_pieces break (x ∷ xs) behind b all ends =
     let k = cut (ends refl) in
     record { break = b; lines = less_piece (x ∷ xs) k.0; last = break_is_piece (last_break (x ∷ xs)) (last_is (x ∷ xs)); behind = k.1 }

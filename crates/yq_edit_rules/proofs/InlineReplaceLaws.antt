@@ -1,5 +1,5 @@
 -- What comes after a row that is alone on its line.
-use Rattle.std.proofs.Common.{◌≡◌, ℕ, ℤ, zero, suc, ◌+◌, ◌*◌, ◌<◌, List, [], ◌∷◌, ◌++◌, length, take, Some, true, false, refl, sym, ap, ◌∙◌}
+use Rattle.std.proofs.Common.{◌≡◌, ℕ, ℤ, suc, ◌+◌, ◌*◌, ◌<◌, List, [], ◌∷◌, ◌++◌, length, take, Some, true, false, refl, sym, ap, ◌∙◌}
 use Rattle.std.{proofs.Common.{subst, arith, append_assoc, length-append, rules}, proofs.lemmas.Bool.{false≢true, lt-ltb}}
 use Rattle.yq_core.{specs.Paths.Step, specs.Piece.deeper, specs.Plain.ends_plain, specs.Nodes.scalar}
 use Rattle.yq_outline.{specs.Group.{group, level_or, is_fine}, specs.Outline.{Line, level, rank, Outline, end, row, flatten, IsEven}}
@@ -31,8 +31,7 @@ pub deeper_entry : (m : rows.RowMark) (column : ℕ) → is_entry m ≡ true →
 deeper_entry m column h1 = search (rules, false≢true)
 
 deeper_bare : (column : ℕ) → deeper (parent_of rows.Bare column) ≡ column
-deeper_bare zero = refl
-deeper_bare (suc n) = refl
+deeper_bare column = search rules
 
 -- the next row comes before what is asked
 pub next_by : (n d : ℕ) (back : List Row) → Begins n (lines_of_rows back) → n < 3 * d + 1 → allows_first (record { column = Some d }) back ≡ true
@@ -82,8 +81,7 @@ module _ (p : Part) (front : List Row) (r : Row) (back : List Row) (rows_are : p
       (next_by (level h.found.line) (mark_column r) back starts (omega (arith, b.1, level_is, ap (λ m. rank (line_mark m)) h.mark)))
     where
       begins : (ls : List Line) → StartsAt (level h.found.line) ls → Begins (level h.found.line) ls
-      begins [] s = tt
-      begins (l ∷ ls) s = s
+      begins ls s = search rules
 
   -- the root
   root_back : IsRootRow p r → back ≡ []

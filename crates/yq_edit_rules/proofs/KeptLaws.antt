@@ -1,5 +1,5 @@
 -- A scalar that is put in its own place changes nothing.
-use Rattle.std.proofs.Common.{◌≡◌, ℕ, List, [], ◌∷◌, Option, Some, None, Bool, true, false, refl, sym, ap, ◌∙◌, subst, append-nil, rules}
+use Rattle.std.proofs.Common.{◌≡◌, ℕ, List, [], Option, Some, Bool, true, false, sym, ap, ◌∙◌, subst, append-nil, rules}
 use Rattle.std.{proofs.lemmas.Bool.false≢true, specs.List.slice_get}
 use Rattle.yq_core.{specs.Paths.{Step, changed_at, node_at}, specs.Scalar.ScalarText, specs.Tree.Node}
 use Rattle.yq_flow_edits.specs.Valued.{IsValueTree}
@@ -11,22 +11,13 @@ use Rattle.yq_edit_rules.{specs.EditLaws.EqualScalarsStay, specs.ReadsAfter.Read
 use Rattle.yq_edit_rules.{proofs.SameLaws.same_is, proofs.SamePlaceLaws.{put_own, nth_own, change_own}}
 use Rattle.yq_semantics.specs.Operations.{replace}
 use Rattle.yq_places.specs.NodesAt.{scalar_in}
-use Rattle.yq_core.specs.Tree as tree
 use Rattle.yq_documents.specs.Reading as reading
 
 pub led_same : (block : Bool) (lead : List (List ℕ)) (steps : List Step) (v : Node) → (steps ≡ [] → block ≡ false) → led block lead steps v ≡ v
 led_same block lead steps v h1 = search (rules, false≢true)
 
 led_scalar : (o : Option ScalarText) (block : Bool) (lead : List (List ℕ)) (steps : List Step) (v : Node) → are_same o (scalar_in v) ≡ true → led block lead steps v ≡ v
-led_scalar o true lead [] (tree.alias name) e = refl
-led_scalar o true lead [] (tree.scalar a kind t) e = refl
-led_scalar None true lead [] (tree.list a cs) e = absurd (false≢true e)
-led_scalar (Some s) true lead [] (tree.list a cs) e = absurd (false≢true e)
-led_scalar None true lead [] (tree.map a cs) e = absurd (false≢true e)
-led_scalar (Some s) true lead [] (tree.map a cs) e = absurd (false≢true e)
-led_scalar o false lead [] v e = refl
-led_scalar o true lead (s ∷ path) v e = refl
-led_scalar o false lead (s ∷ path) v e = refl
+led_scalar o block lead steps v e = search (rules, false≢true)
 
 kept_reads : (doc : ℕ) (steps : List Step) (v : Node) (c : Cut) (p : Part) → read_at (cut_text c) ≡ Some c → slice_get (document_parts c) doc ≡ Some p → (n : Node) → IsValueTree v → node_at steps (root_of p) ≡ Some n →
     are_same (scalar_in n) (scalar_in v) ≡ true → ReadsAfter (replace doc steps v) c (cut_text c)

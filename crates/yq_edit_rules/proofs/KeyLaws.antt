@@ -31,15 +31,11 @@ key_unmarked k t = key_by (λ p. is_marker (p ++ (58 ∷ t)) ≡ false) k
     (λ text. plain_unmarked k t (not-true (begins_marker k) (and_parts _ (not (begins_marker k)) text).1))
     (λ u. no_first 34 (u ++ (58 ∷ t)) refl refl)
 
--- a key doesn't merge
-plain_apart : (k : List ℕ) → is_plain_text false k ≡ true → k ≡ 60 ∷ 60 ∷ [] → ⊥
-unfolding chars
-plain_apart k h e = search (rules, false≢true)
-
 pub key_apart : (k : List ℕ) → block_key k ≢ codes "<<"
+unfolding chars
 key_apart k =
     let merge : codes "<<" ≡ 60 ∷ 60 ∷ [] = refl in
-    key_by (λ p. p ≢ codes "<<") k (λ text e. plain_apart k text (e ∙ merge)) (λ u e. false≢true (sym (ap (front (λ b. eqb b 34)) (e ∙ merge))))
+    key_by (λ p. p ≢ codes "<<") k (λ text e. search (rules, false≢true)) (λ u e. false≢true (sym (ap (front (λ b. eqb b 34)) (e ∙ merge))))
 
 -- how many characters a text has at least
 record Counts (p : List ℕ) (n : ℕ) : Type 0 where
@@ -56,14 +52,12 @@ counts_append p q n m a b = record {
   many = omega (arith, a.many, b.many, length-append a.chars b.chars);
 }
 
-low_scalar : (b : ℕ) → b < 128 → scalar b ≡ true
-low_scalar b h = Rattle.std.proofs.lemmas.Bool.agree_below_at scalar (λ x. true) 128 b refl h
-
 counts_char : (c : ℕ) → scalar c ≡ true → Counts (encode c) 1
 counts_char c h = record { chars = c ∷ []; valid = rw h refl; spelled = append-nil (encode c); many = omega arith }
 
 counts_byte : (b : ℕ) → b < 128 → Counts (b ∷ []) 1
-counts_byte b h = subst (λ (p : List ℕ). Counts p 1) (encode_ascii b h) (counts_char b (low_scalar b h))
+counts_byte b h =
+    subst (λ (p : List ℕ). Counts p 1) (encode_ascii b h) (counts_char b (Rattle.std.proofs.lemmas.Bool.agree_below_at scalar (λ x. true) 128 b refl h))
 
 letter_low : (es : List (ℕ × ℕ)) (c l : ℕ) → list_all (λ e. ltb e.0 128) es ≡ true → letter_of c es ≡ Some l → l < 128
 letter_low [] c l all h = absurd (let e : None ≡ Some l = h in cc)
@@ -76,8 +70,7 @@ letter_low (e ∷ es) c l all h =
 
 counts_double : (c : ℕ) (o : Option ℕ) → letter_of c written_letters ≡ o → scalar c ≡ true → is_text_char c ≡ true → Counts (double_by o c) 1
 counts_double c (Some l) h s t =
-    let two : Counts (92 ∷ l ∷ []) 2 = counts_append (92 ∷ []) (l ∷ []) 1 1 (counts_byte 92 (omega arith)) (counts_byte l (letter_low written_letters c l refl h)) in
-    record { chars = two.chars; valid = two.valid; spelled = two.spelled; many = omega (arith, two.many) }
+    search (rules, arith, counts_append (92 ∷ []) (l ∷ []) 1 1 (counts_byte 92 (omega arith)) (counts_byte l (letter_low written_letters c l refl h)))
 counts_double c None h s t = rw t (counts_char c s)
 
 counts_doubles : (cs : List ℕ) → scalars cs ≡ true → list_all is_plain_char cs ≡ true → Counts (flat_map in_double cs) (length cs)

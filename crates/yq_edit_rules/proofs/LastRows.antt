@@ -5,9 +5,9 @@ use mathlib.Core.List.{tail-eq_of_cons-eq}
 use Rattle.yq_core.{proofs.BlockPieceLaws.IsLf, proofs.Bools.guard_then}
 use Rattle.yq_row_table.specs.Grammar.{Limit, limit_after, IsRow}
 use Rattle.yq_row_table.specs.Items.{Item, row_item, rows_items, items_of_cut, items_text, Asked, nothing_asked, asked_by, asked_of}
-use Rattle.yq_row_table.{specs.Items.AreRowItems, specs.Rows.{Row, print_row, behind_gap, rows_text, Part, Cut, cut_text}}
-use Rattle.yq_row_table.{specs.Splices.with_row_gap, proofs.ItemLaws.{items_joined, parts_are_items}, proofs.PlaceLaws.row_then}
-use Rattle.yq_row_table.{proofs.RowLaws.row_longer, proofs.seams.FrontSeams.row_some}
+use Rattle.yq_row_table.{specs.Items.AreRowItems, specs.Rows.{Row, print_row, rows_text, Part, Cut, cut_text}, specs.Splices.with_row_gap}
+use Rattle.yq_row_table.{proofs.ItemLaws.{items_joined, parts_are_items}, proofs.PlaceLaws.row_then, proofs.RowLaws.row_longer}
+use Rattle.yq_row_table.proofs.seams.FrontSeams.{row_some}
 use Rattle.yq_documents.{specs.Reading.read_at, proofs.ReadLaws.text_takes}
 use Rattle.yq_places.proofs.CommentPieceLaws.{Ended}
 use Rattle.yq_edit_rules.{specs.Changed.put_document, proofs.DocumentItemLaws.{rows_before, rows_spell}, proofs.EndedRowLaws.row_ended}
@@ -26,9 +26,7 @@ lf_end (x ∷ t) u h some = go (λ k. lf_end t u k some) h.0 h.1
 
 -- a row has a text of its own
 own_some : (limit : Limit) (r : Row) (rest : List ℕ) → IsRow limit r rest → 0 < length (print_row r [])
-own_some limit r rest h =
-    let own : behind_gap r rest ≡ behind_gap r [] ++ rest = row_then (with_row_gap [] r) [] rest in
-    omega (arith, row_longer r rest h.mark h.content, ap length own, length-append (behind_gap r []) rest, length-append r.gap (behind_gap r []))
+own_some limit r rest h = search (rules, arith, row_then (with_row_gap [] r) [] rest, row_longer, length-append)
 
 first_own : (r : Row) (rs : List Row) → length (print_row r []) ≤ length (rows_text (r ∷ rs) [])
 first_own r rs = omega (arith, ap length (row_then r [] (rows_text rs [])), length-append (print_row r []) (rows_text rs []))

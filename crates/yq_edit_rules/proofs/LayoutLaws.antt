@@ -1,12 +1,12 @@
 -- The steps of a document's layout.
-use Rattle.std.proofs.Common.{◌≡◌, ℕ, ◌+◌, ◌-◌, ◌≤◌, ◌&&◌, ◌||◌, not, Bool, true, false, List, [], ◌∷◌, ◌++◌, replicate, Option, Some, None}
-use Rattle.std.{proofs.Common.{refl, ap, ◌∙◌, arith, rules}, proofs.lemmas.Bool.{false≢true, ltb-true, and_parts, or_left, or_right}}
+use Rattle.std.proofs.Common.{◌≡◌, ℕ, ◌+◌, ◌≤◌, ◌&&◌, ◌||◌, not, Bool, true, false, List, [], ◌∷◌, ◌++◌, replicate, Option, Some, None}
+use Rattle.std.{proofs.Common.{refl, ap, arith, rules}, proofs.lemmas.Bool.{false≢true, ltb-true, and_parts, or_left, or_right}}
 use Rattle.std.{specs.List.slice_get, specs.Option.{is_none, is_some}}
 use Rattle.yq_core.{specs.BlockWritten.break_text, specs.Text.is_empty, specs.Tree.{Node, alias, scalar, list, map, Children, none, child}}
 use Rattle.yq_outline.{specs.Outline.{Line, level}, specs.Lines.lines_of_rows}
 use Rattle.yq_row_table.specs.Rows.{Part, Cut}
 use Rattle.yq_documents.specs.Documents.{document_parts}
-use Rattle.yq_places.specs.Steps.{is_kind, begins_under, first_step, steps_of_part}
+use Rattle.yq_places.specs.Steps.{is_kind, first_step, steps_of_part}
 use Rattle.yq_edit_rules.{specs.BlockReading.is_filled, specs.BlockRows.{block_key, column_below, indent_step, inline_of}}
 use Rattle.yq_edit_rules.specs.BlockText.{block_children, block_entry, block_node, block_value, inline_or, then_lines}
 use Rattle.yq_edit_rules.{specs.declared.layout.Layout.Layout, specs.ClosedTexts.lines_put_behind}
@@ -14,15 +14,11 @@ use Rattle.yq_edit_rules.specs.EntryEdits.{entry_lines, more_lines}
 use Rattle.yq_edit_rules.specs.Layouts.{LooksLike, children_ask, node_asks, is_filled_as, layout_of, columns_deeper}
 use Rattle.yq_core.specs.Nodes as inline
 
--- a key that is deeper than another one is in a later column
-key_step : (l m : Line) → begins_under (is_kind false) l m ≡ true → 1 ≤ m.column - l.column
-unfolding level
-key_step l m h = search (rules, and_parts, ltb-true, false≢true)
-
 step_least : (ls : List Line) → 1 ≤ first_step (is_kind false) ls
+unfolding level
 step_least [] = omega arith
 step_least (l ∷ []) = omega arith
-step_least (l ∷ (m ∷ ls)) = search (rules, key_step, step_least (m ∷ ls))
+step_least (l ∷ (m ∷ ls)) = search (rules, and_parts, ltb-true, false≢true, step_least (m ∷ ls))
 
 pub steps_least : (o : Option Part) → 1 ≤ (steps_of_part o).mapping
 steps_least None = omega arith
@@ -63,16 +59,12 @@ module _ (l k : Layout) where
     entry_by a b None None t u columns texts = ap (λ (x : List ℕ). 45 ∷ 32 ∷ x) (texts refl)
 
     then_like : (column : ℕ) (cs : Children) (t u : List ℕ) → t ≡ u → then_lines l column cs t ≡ then_lines k column cs u
-    then_like column none t u e = refl
-    then_like column (child label n cs) t u e = λ i. break_text (same i) ++ (replicate column 32 ++ e i)
+    then_like column cs t u e = search rules
 
     one_like : (column : ℕ) (key : Option (List ℕ)) (v : Node) → SameSteps (λ dashes. is_some key && is_filled_as dashes v) → ((at : ℕ) → block_node l at v ≡ block_node k at v) →
         block_entry l (column_below l column key v) key (inline_of v) (block_node l (column_below l column key v) v)
         ≡ block_entry k (column_below k column key v) key (inline_of v) (block_node k (column_below k column key v) v)
-    one_like column key v h below =
-        let a : ℕ = column_below l column key v in
-        entry_by a (column_below k column key v) key (inline_of v) (block_node l a v) (block_node k (column_below k column key v) v) (columns_like column key v h)
-        (λ filled. below a ∙ ap (λ (at : ℕ). block_node k at v) (columns_like column key v h filled))
+    one_like column key v h below = search (rules, entry_by, columns_like)
 
     mutual
       unfolding block_node block_children node_asks children_ask

@@ -1,11 +1,10 @@
 -- The lead that goes with the root of a part in the place of another one.
-use Rattle.std.proofs.Common.{inl, inr, ◌⊎◌, ◌≡◌, List, [], ◌∷◌, Bool, true, false, refl, sym, ap, ◌∙◌, rules}
-use Rattle.std.proofs.lemmas.Bool.{false≢true}
+use Rattle.std.{proofs.Common.{inl, inr, ◌⊎◌, ◌≡◌, List, [], ◌∷◌, true, refl, sym, ap, ◌∙◌, rules}, proofs.lemmas.Bool.false≢true}
 use Rattle.yq_core.specs.Tree.{children_of}
-use Rattle.yq_outline.{specs.Group.group, specs.Outline.{Line, value}, specs.Lines.lines_of_rows}
+use Rattle.yq_outline.{specs.Group.group, specs.Outline.Line}
 use Rattle.yq_documents.{specs.Documents.lead_of, specs.Reading.root_of, specs.Ready.begins_no_node, specs.TreeEdits.lead_by}
 use Rattle.yq_edit_rules.{specs.Siblings.HasEntries, proofs.AfterLaws.{by_first, none_kept}, proofs.EditedLaws.root_has_lead}
-use Rattle.yq_edit_rules.specs.Rooms.{is_block_root, LeadGoes, SameLeadGoes, BlockLeadGoes, KeptLeadGoes}
+use Rattle.yq_edit_rules.specs.Rooms.{is_block_root, SameLeadGoes, BlockLeadGoes, KeptLeadGoes}
 
 pub block_lead_goes : BlockLeadGoes
 block_lead_goes p q block has =
@@ -20,11 +19,4 @@ block_entries [] h = inr refl
 block_entries (l ∷ ls) h = inl (search (rules, false≢true))
 
 pub same_lead_goes : SameLeadGoes
-same_lead_goes p q same block = go (is_block_root p) refl
-  where
-    go : (b : Bool) → is_block_root p ≡ b → LeadGoes p q
-    go false e = kept_lead_goes p q same (λ h. absurd (false≢true (sym e ∙ h)))
-    go true e = elim (block_entries (lines_of_rows q.rows) (block ∙ e)) [
-      | inl has ↦ block_lead_goes p q e has
-      | inr none_left ↦ kept_lead_goes p q same (λ h. (ap (λ x. children_of (value (group x))) none_left))
-    ]
+same_lead_goes p q same block = search (rules, kept_lead_goes, false≢true, block_entries, block_lead_goes)

@@ -10,14 +10,12 @@ use Rattle.yq_core.specs.Nodes.{key_text, sep_text, node_text, flow_items_text, 
 use Rattle.yq_core.proofs.NodesWrittenLaws.{key_append, sep_append, node_append}
 use Rattle.yq_row_table.{specs.Gap.{IsWhite, IsGap}, specs.Grammar.{IsContent, IsMark}, specs.Exchange.row_front}
 use Rattle.yq_row_table.specs.Rows.{Content, Nothing, Inline, Block, behind_gap, behind_indent, content_text, dashes_text, mark_text}
-use Rattle.yq_row_table.{specs.Rows.parent_indent, specs.View.{anchor_cut, anchor_with_sign, apart_of, content_cut}}
+use Rattle.yq_row_table.{specs.Rows.parent_indent, specs.View.{anchor_cut, content_cut}}
 use Rattle.yq_row_table.{proofs.CharacterLaws.{all_text, all_join, pairs_back}, proofs.NothingLaws.some_behind}
 use Rattle.yq_row_table.{proofs.PlaceLaws.row_front-append, proofs.RowAgain.row_starts, proofs.seams.NodeSeams.plain_text}
 use Rattle.yq_row_table.{proofs.seams.ScalarSeams.ends_return, proofs.seams.TailLaws.content_joined}
 use Rattle.yq_places.proofs.CommentPieceLaws.{Ended, gap_end}
 use Rattle.yq_edit_rules.{specs.LineFronts.{CleanCut, LineEndsClean}, proofs.TextPieceLaws.piece_back}
-use Rattle.yq_core.specs.declared.block_header.BlockStyle.TheVariants as styles
-use Rattle.yq_core.specs.Nodes as nodes
 use Rattle.yq_row_table.specs.Rows as rows
 
 -- ---- texts that end in no CR
@@ -31,8 +29,7 @@ clean_joined a [] h k = ap ends_return (append-nil a) ∙ h
 clean_joined a (b ∷ bs) h k = ends_more a (b ∷ bs) refl ∙ k
 
 pub clean_byte : (b : ℕ) (t : List ℕ) → is_return b ≡ false → ends_return t ≡ false → ends_return (b ∷ t) ≡ false
-clean_byte b [] h k = h
-clean_byte b (c ∷ t) h k = k
+clean_byte b t h k = search rules
 
 pub clean_white : (w : List ℕ) → IsWhite w → ends_return w ≡ false
 clean_white [] h = refl
@@ -77,12 +74,7 @@ clean_node spaces (coll k g is) d rest h e =
     let whole : opening_bracket k ∷ (g ++ flow_items_text k is []) ≡ (opening_bracket k ∷ (g ++ x.0)) ++ k ∷ [] = ap (λ t. opening_bracket k ∷ (g ++ t)) x.1 ∙ ap (λ t. opening_bracket k ∷ t) (sym (append_assoc g x.0 (k ∷ []))) in
     ap ends_return whole ∙ (last_byte (opening_bracket k ∷ (g ++ x.0)) k ∙ (at_byte is_close k 13 h.0 refl))
 clean_node spaces (anchored n g node) d rest h e =
-    clean_byte 38 (n ++ (g ++ node_text node [])) refl
-    (clean_joined n (g ++ node_text node []) (clean_name n (g ++ node_text node rest) h.0.inside) (clean_joined g (node_text node []) (gap h.1) (clean_node spaces node d rest h.4 e)))
-  where
-    gap : nodes.IsLead false (nodes.begins_content false) g (node_text node rest) → ends_return g ≡ false
-    gap (inl x) = clean_gap g (node_text node rest) x.0.0
-    gap (inr x) = ap ends_return x.0
+    search (rules, clean_byte, clean_joined, clean_name, ends_return, clean_gap, clean_node spaces node d rest h.4 e)
 
 -- ---- a content, up to the end of its line
 
@@ -106,18 +98,12 @@ indicators_clean : (d : Rattle.std.proofs.Common.Option ℕ) (c : Chomping) (p :
 indicators_clean d c p h = search (rules, ends_return, clean_joined, cases_Bool)
 
 style_clean : (style : BlockStyle) → is_return (Rattle.yq_core.specs.Block.style_indicator style) ≡ false
-style_clean styles.Literal = refl
-style_clean styles.Folded = refl
+style_clean style = search rules
 
 content_clean : (n : ℤ) (c : Content) (rest : List ℕ) → IsContent n c rest → pairs_returns (content_text c rest) ≡ true → front is_feed ((content_cut c).4 ++ ((content_cut c).5 ++ rest)) ≡ true → ends_return (written c) ≡ false
 content_clean n (Nothing tail) rest h pairs feed = refl
-content_clean n (Inline space node tail) rest h pairs feed =
-    clean_joined space _ (clean_white space h.0) (ap ends_return (node_cut node) ∙ clean_node _ node _ (tail ++ rest) h.1.valid (plain_clean n space node tail rest h pairs feed))
-content_clean n (Block space anchor block) rest h pairs feed =
-    let head : List ℕ = Rattle.yq_core.specs.Block.style_indicator block.style ∷ block.indicators in
-    let clean : ends_return head ≡ false = clean_byte _ block.indicators (style_clean block.style) (indicators_clean block.digit block.chomping block.indicators h.2.indicators) in
-    ends_more space (anchor_with_sign anchor ++ (apart_of anchor ++ head)) (some_behind (anchor_with_sign anchor) _ (some_behind (apart_of anchor) head refl))
-    ∙ (ends_more (anchor_with_sign anchor) (apart_of anchor ++ head) (some_behind (apart_of anchor) head refl) ∙ (ends_more (apart_of anchor) head refl ∙ clean))
+content_clean n (Inline space node tail) rest h pairs feed = search (rules, clean_joined, clean_white, ends_return, node_cut, clean_node, plain_clean)
+content_clean n (Block space anchor block) rest h pairs feed = search (rules, ends_return, clean_byte, style_clean, indicators_clean, ends_more, some_behind)
 
 -- ---- a row, up to the end of its line
 
@@ -125,11 +111,8 @@ dashes_clean : (ns t : List ℕ) → ends_return t ≡ false → ends_return (da
 dashes_clean [] t h = h
 dashes_clean (n ∷ ns) t h = clean_byte 45 (replicate n 32 ++ dashes_text ns t) refl (clean_joined (replicate n 32) (dashes_text ns t) (clean_spaces n) (dashes_clean ns t h))
 
-colon_clean : (key white : List ℕ) → ends_return (key ++ ((white ++ 58 ∷ []) ++ [])) ≡ false
-colon_clean key white = simp (ends_more, append-nil, some_behind, ends_return, last_byte)
-
 mark_clean : (m : rows.RowMark) (c : Content) (rest : List ℕ) → IsMark m c rest → ends_return (mark_text m []) ≡ false
-mark_clean m c rest h1 = search (rules, ends_return, colon_clean)
+mark_clean m c rest h1 = search (rules, ends_return, ends_more, append-nil, some_behind, last_byte)
 
 gap_clean : (gap rest : List ℕ) → IsGap gap rest → is_empty rest ≡ false → ends_return gap ≡ false
 gap_clean gap rest h some = go (gap_end gap rest h)

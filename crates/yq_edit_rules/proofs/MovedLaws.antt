@@ -4,7 +4,7 @@ use Rattle.yq_outline.{specs.Comments.{head_comment, line_comment}, specs.Lines.
 use Rattle.yq_outline.specs.Outline.{Line}
 use Rattle.yq_row_table.specs.Rows.{Content, Nothing, behind_columns}
 use Rattle.yq_places.proofs.UnderExchange.{lines_append}
-use Rattle.yq_edit_rules.specs.Moved.{dash_lines, moved_up, emptied_row, DashesFirst, FirstMoved, FirstEmptied}
+use Rattle.yq_edit_rules.specs.Moved.{dash_lines, moved_up, DashesFirst, FirstMoved, FirstEmptied}
 use Rattle.yq_row_table.specs.Rows as rows
 
 -- the lines of dashes, and those after them
@@ -46,13 +46,4 @@ split_dashes above column n [] es mark c = refl
 split_dashes above column n (k ∷ ns) es mark c = ap (λ ls. dash_line above column ∷ ls) (split_dashes [] (suc (column + k)) n ns es mark c)
 
 pub first_emptied : FirstEmptied
-first_emptied before gone behind r n ns es tail dashes bare =
-    let d : List Line = dash_lines (head_comment r.gap) r.column (ns ++ (n ∷ [])) in
-    let x : List Line = lines_from [] (behind_columns r.column (ns ++ (n ∷ []))) es r.mark r.content in
-    let old : row_lines r ≡ d ++ x = ap (λ ds. lines_from (head_comment r.gap) r.column ds r.mark r.content) dashes ∙ split_dashes (head_comment r.gap) r.column n ns es r.mark r.content in
-    let new : row_lines (emptied_row r ns tail) ≡ d = from_last (head_comment r.gap) r.column n ns tail bare in (
-      lines_append before (r ∷ (gone ++ behind))
-          ∙ ((λ i. lines_of_rows before ++ (old i ++ lines_append gone behind i)) ∙ three (lines_of_rows before) d x (lines_of_rows gone) (lines_of_rows behind)),
-      lines_append before (emptied_row r ns tail ∷ behind)
-          ∙ ((λ i. lines_of_rows before ++ (new i ++ lines_of_rows behind)) ∙ sym (append_assoc (lines_of_rows before) d (lines_of_rows behind))),
-    )
+first_emptied before gone behind r n ns es tail dashes bare = search (rules, split_dashes, from_last, lines_append, three, append_assoc)

@@ -4,7 +4,7 @@ use Rattle.std.{proofs.Common.{append-nil, rules}, proofs.lemmas.Option.{none-so
 use Rattle.yq_core.{specs.Paths.{Step, changed_at}, specs.Tree.Node}
 use Rattle.yq_outline.{specs.Group.level_or, specs.Laws.with_lines}
 use Rattle.yq_outline.specs.Outline.{Line, level, Outline, end, row, flatten, IsEven, anchored, value, Stands}
-use Rattle.yq_outline.specs.Places.{Context, here, below, beside, plug, lines_after, compose, FoundLine, find, content_under}
+use Rattle.yq_outline.specs.Places.{Context, here, below, beside, lines_after, compose, FoundLine, find, content_under}
 use Rattle.yq_outline.{proofs.Allowing.Allows, proofs.Finding.{IsFoundIn, path_whole}, proofs.PlaceLaws.{at, exchanged}}
 use Rattle.yq_outline.{proofs.Plug.{allows_from, closed}, proofs.Values.rank_small, proofs.NodeLaws.anchored_none}
 use Rattle.yq_places.proofs.FlowViewLaws.{before_under}
@@ -43,9 +43,7 @@ lines_found s ss o h e = go (find s ss o) refl e
 -- the line of a node found at a path, and what is under it
 pub under_even : (n : ℕ) (o : Outline) (s : Step) (ss : List Step) (f : FoundLine) → IsEven n o → find s ss o ≡ Some (f, []) →
     Allows n f.place (level f.line) × IsEven (level f.line) (row f.line f.under f.after)
-under_even n o s ss f even found =
-    let is : plug f.place (row f.line f.under f.after) ≡ o = at (IsFoundIn o) (find s ss o) (f, []) found (path_whole s ss o) in
-    allows_from n f.place f.line f.under f.after (subst (λ x. IsEven n x) (sym is) even)
+under_even n o s ss f even found = search (rules, at (IsFoundIn o) (find s ss o) (f, []) found (path_whole s ss o), allows_from)
 
 pub low_level : (l : Line) → 1 ≤ level l
 unfolding level
@@ -54,21 +52,7 @@ low_level l = omega (arith, rank_small l.mark)
 -- a node's lines are even at a level deeper than the line above them
 pub lines_even : (n : ℕ) (o : Outline) (steps : List Step) (h : NodeLines) → IsEven n o → lines_at steps o ≡ Some h → HasEntries h.lines →
     (h.above < level_or 0 h.lines) × IsEven (level_or 0 h.lines) h.lines
-lines_even n o [] h even e block = (deep h block (ap (λ (x : NodeLines). x.above) is), level_even n h.lines block (subst (IsEven n) (ap (λ (x : NodeLines). x.lines) is) even))
-  where
-    is : record { place = here; above = 0; anchor = None; lines = o } ≡ h
-    is = same_Some _ _ e
-
-    deep : (h : NodeLines) → HasEntries h.lines → 0 ≡ h.above → h.above < level_or 0 h.lines
-    deep h b e = go h.lines b
-      where
-        go : (o : Outline) → HasEntries o → h.above < level_or 0 o
-        go end b = absurd b
-        go (row l u a) b = omega (arith, e, low_level l)
-
-    level_even : (n : ℕ) (o : Outline) → HasEntries o → IsEven n o → IsEven (level_or 0 o) o
-    level_even n end b e = absurd b
-    level_even n (row l u a) b e = subst (λ k. IsEven k (row l u a)) (sym e.0) e
+lines_even n o [] h even e block = search (rules, arith, same_Some, low_level)
 lines_even n o (s ∷ ss) h even e block = found (lines_found s ss o h e)
   where
     go : (f : FoundLine) (o : Outline) (m : ℕ) → HasEntries o → level f.line < m → IsEven m o → (level f.line < level_or 0 o) × IsEven (level_or 0 o) o
@@ -76,26 +60,10 @@ lines_even n o (s ∷ ss) h even e block = found (lines_found s ss o h e)
     go f (row l u a) m b lt e = (omega (arith, lt, e.0), subst (λ k. IsEven k (row l u a)) (sym e.0) e)
 
     found : Under s ss o h → (h.above < level_or 0 h.lines) × IsEven (level_or 0 h.lines) h.lines
-    found w =
-        let old = (under_even n o s ss w.found even w.is).1 in
-        let block' : HasEntries w.found.under = subst (λ (x : NodeLines). HasEntries x.lines) (sym w.place_is) block in
-        subst (λ (x : NodeLines). (x.above < level_or 0 x.lines) × IsEven (level_or 0 x.lines) x.lines) w.place_is (go w.found w.found.under old.3.0 block' old.3.1 old.3.2)
+    found w = search (rules, (under_even n o s ss w.found even w.is).1, subst (λ (x : NodeLines). HasEntries x.lines) (sym w.place_is) block, go)
 
 pub lines_replaced : LinesReplaced
-lines_replaced n m o u [] h g even e fit =
-    subst (λ (x : NodeLines). anchored x.anchor (value u) ≡ g (anchored x.anchor (value x.lines)) → (flatten o ≡ put_lines x (flatten x.lines)) × StandsSomewhere (put_lines x (flatten u)) (g (value o))) (same_Some _ _ e)
-    (λ is. (
-      sym (append-nil (flatten o)),
-      (
-        m,
-        record {
-          outline = u;
-          even = fit.even;
-          lines_are = sym (append-nil (flatten u));
-          node_is = sym (anchored_none (value u)) ∙ (is ∙ ap g (anchored_none (value o)));
-        },
-      ),
-    )) fit.node_is
+lines_replaced n m o u [] h g even e fit = search (rules, same_Some, append-nil, anchored_none)
 lines_replaced n m o u (s ∷ ss) h g even e fit = found (lines_found s ss o h e)
   where
     found : Under s ss o h → (flatten o ≡ put_lines h (flatten h.lines)) × StandsSomewhere (put_lines h (flatten u)) (changed_at (s ∷ ss) g (value o))

@@ -32,14 +32,10 @@ behind_feed (b ∷ u) w h lf = go (behind_feed u w) (is_feed b) refl
 
 -- ---- ends of lines
 
--- a byte that is no line feed, in front
-one_more : (b : ℕ) (t : List ℕ) → is_feed b ≡ false → is_one_line t ≡ true → is_one_line (b ∷ t) ≡ true
-one_more b t e h = ap (λ x. cond x (is_empty t) (is_one_line t)) e ∙ h
-
 line_is_one : (t : List ℕ) → is_line t ≡ true → is_one_line t ≡ true
 unfolding is_line
 line_is_one [] h = refl
-line_is_one (b ∷ t) h = search (rules, one_more, line_is_one t)
+line_is_one (b ∷ t) h = search (rules, is_one_line, line_is_one t)
 
 pub break_line : (b rest : List ℕ) → IsBreak b rest → is_one_line b ≡ true
 break_line b rest h1 = search (rules, line_is_one, and_parts)

@@ -5,7 +5,7 @@ use Rattle.std.{proofs.lemmas.Bool.{eqb-true, le-ltb, cond-false}, proofs.lemmas
 use Rattle.yq_core.{specs.Paths.Step, proofs.Bools.bind_some}
 use Rattle.yq_outline.{specs.Ends.{deeper_count, line_at_steps, lines_end}, specs.Group.level_or}
 use Rattle.yq_outline.{specs.Outline.{Line, level, flatten, IsEven, row}, specs.Places.{lines_before, lines_after, FoundLine}}
-use Rattle.yq_outline.{proofs.Decides.flatten-group, specs.Lines.{row_lines, lines_of_rows}, proofs.RowLaws.lines_count}
+use Rattle.yq_outline.{proofs.Decides.flatten-group, specs.Lines.lines_of_rows, proofs.RowLaws.lines_count}
 use Rattle.yq_row_table.specs.Rows.{Row, Part}
 use Rattle.yq_documents.{specs.Reading.part_outline, specs.LinesInRows.{RowLine, row_line}}
 use Rattle.yq_places.{specs.RemovalPlaces.{OwnRows, row_count}, proofs.UnderCounts.count_under}
@@ -14,7 +14,6 @@ use Rattle.yq_edit_rules.{specs.Siblings.{IsEntryAt, NodeLines, append_outline},
 use Rattle.yq_edit_rules.{proofs.CollectionLaws.{relabelled, some_at}, proofs.NodeLineLaws.lines_even, proofs.PartLaws.document_known}
 use Rattle.yq_edit_rules.{proofs.PathLaws.path_is_entry, proofs.PlacedLaws.around, proofs.RowsLaws.entry_rows}
 use Rattle.yq_edit_rules.proofs.SiblingLaws.{even_right}
-use Rattle.yq_outline.specs.Comments as comments
 
 -- rows that have so many lines
 row_more : (n : ℕ) (r : Row) (rs : List Row) → row_count (suc (length r.dashes) + n) (r ∷ rs) ≡ suc (row_count n rs)
@@ -25,10 +24,7 @@ row_more n r rs =
 
 pub count_rows : (a b : List Row) → row_count (length (lines_of_rows a)) (a ++ b) ≡ length a
 count_rows [] b = refl
-count_rows (r ∷ a) b =
-    let count : length (row_lines r) ≡ suc (length r.dashes) = lines_count (comments.head_comment r.gap) r.column r.dashes r.mark r.content in
-    let all : length (lines_of_rows (r ∷ a)) ≡ suc (length r.dashes) + length (lines_of_rows a) = omega (arith, count, length-append (row_lines r) (lines_of_rows a)) in
-    ap (λ (k : ℕ). row_count k (r ∷ (a ++ b))) all ∙ (row_more (length (lines_of_rows a)) r (a ++ b) ∙ ap suc (count_rows a b))
+count_rows (r ∷ a) b = search (rules, arith, lines_count, length-append, row_more, count_rows a b)
 
 -- where the lines under a line end
 end_at : (b : List Line) (l : Line) (rest : List Line) → lines_end (length b) (b ++ (l ∷ rest)) ≡ suc (length b) + deeper_count (level l) rest

@@ -1,14 +1,13 @@
 -- Rows of one document exchanged in a cut.
-use Rattle.std.proofs.Common.{◌≡◌, ℕ, zero, suc, ◌+◌, ◌≤◌, List, [], ◌∷◌, ◌++◌, length, take, drop, Bool, true, false, not, ◌||◌, Some}
-use Rattle.std.{proofs.Common.{refl, sym, ap, ◌∙◌, subst, arith}, proofs.lemmas.Bool.{and_parts, false≢true, or_right}}
+use Rattle.std.proofs.Common.{rules, ◌≡◌, ℕ, zero, suc, ◌+◌, ◌≤◌, List, [], ◌∷◌, ◌++◌, length, take, drop, Bool, true, false, not, ◌||◌}
+use Rattle.std.{proofs.Common.{Some, refl, sym, ap, ◌∙◌, subst, arith}, proofs.lemmas.Bool.{and_parts, false≢true, or_right}}
 use Rattle.std.{proofs.Math.Seq.{take-append_seam, drop-append_seam}, proofs.lemmas.Option.same_Some, specs.List.{slice_get, list_all}}
 use Rattle.yq_core.{proofs.Bools.guard_then, specs.Characters.is_text}
-use Rattle.yq_row_table.{specs.Grammar.{unlimited, AreRows, IsCut, no_rows, begins_document}, specs.Exchange.{allows_first, asked_behind}}
+use Rattle.yq_row_table.specs.Grammar.{unlimited, AreRows, IsCut, no_rows, begins_document}
 use Rattle.yq_row_table.{proofs.splices.PartPlaces.{part_in, part_after}, proofs.splices.SpliceLaws.spliced}
 use Rattle.yq_row_table.specs.Rows.{Row, rows_text, Part, Cut, last, marked, cut_text}
 use Rattle.yq_row_table.specs.Splices.{with_first_gap, end_gap, behind_first, splice_part, splice, nth_part, behind_part, is_started}
-use Rattle.yq_row_table.{specs.Splices.marker_before, specs.Seams.are_seamed, specs.SpliceFits.{is_after, SpliceFits}}
-use Rattle.yq_row_table.proofs.splices.SpliceCases.{open_part}
+use Rattle.yq_row_table.{specs.Splices.marker_before, specs.SpliceFits.{is_after, SpliceFits}, proofs.splices.SpliceCases.open_part}
 use Rattle.yq_text.specs.Limit.{text_limit}
 use Rattle.yq_documents.specs.Documents.{HaveFitKeys, HasShortRoot, begins_bare, document_parts, has_begin, parts_from}
 use Rattle.yq_documents.{specs.Reading.{is_document, read_at}, proofs.DocumentLaws.document_is, proofs.ReadLaws.text_takes}
@@ -76,19 +75,7 @@ short_stays (r ∷ front) a b n h = h
 pub fits : (marker : List ℕ) (started : Bool) (front gone back new : List Row) (gap : List ℕ) (p : Part) (rest : List ℕ) → p.rows ≡ front ++ (gone ++ back) → RowsFit front new back gap p rest →
     is_after marker (rows_text new (gap ++ behind_first back p.end rest)) ≡ true → started ≡ true →
     SpliceFits marker started (length front) (length front + length gone) new gap p rest
-fits marker started front gone back new gap p rest rows h after begun =
-    let i : ℕ = length front in
-    let j : ℕ = length front + length gone in
-    let before : front ≡ take i p.rows = sym (take_front p front (gone ++ back) rows) in
-    let behind : back ≡ drop j p.rows = sym (drop_gone p front gone back rows) in
-    let by : (P : List Row → List Row → Type 0) → P front back → P (take i p.rows) (drop j p.rows) = λ P x. subst (λ (a : List Row). P a (drop j p.rows)) before (subst (P front) behind x) in
-    record {
-      rows = by (λ a b. AreRows (asked_behind unlimited a) new gap (behind_first b p.end rest)) h.rows;
-      next = by (λ a b. allows_first (asked_behind (asked_behind unlimited a) new) b ≡ true) h.next;
-      seam = by (λ a b. are_seamed a (rows_text new (gap ++ behind_first b p.end rest)) ≡ true) h.seam;
-      start = by (λ a b. (not (no_rows a) || is_after marker (rows_text new (gap ++ behind_first b p.end rest))) ≡ true) (or_right (not (no_rows front)) _ after);
-      inside = rw begun refl;
-    }
+fits marker started front gone back new gap p rest rows h after begun = search (rules, take_front, drop_gone, or_right)
 
 -- a document is open in its part
 started_is : (is started : Bool) (k : ℕ) (c : Cut) (p : Part) → slice_get (parts_from is c) k ≡ Some p → (is ≡ true → started ≡ true) → is_started started (number_from is k c) c ≡ true

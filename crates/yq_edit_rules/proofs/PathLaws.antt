@@ -40,9 +40,7 @@ step_lines t [] (row l u a) f h b e n is = (
     same = same_Some _ _ is
 
     go : (m : LineMark) → IsEntry m → bare_or m (Some (record { place = here; line = l; under = u; after = a }, t ∷ [])) (option_map (λ f. (f, [])) (find_row t (row l u a))) ≡ Some (f, [])
-    go Bare b = absurd b
-    go (Key k) b = ap (option_map (λ f. (f, []))) e
-    go Dash b = ap (option_map (λ f. (f, []))) e
+    go m b = search rules
 step_lines t (v ∷ vs) o f h b e n is = found (lines_found v vs f.under h is)
   where
     found : Under v vs f.under h →
@@ -103,8 +101,7 @@ path_sits (t ∷ ts) s n o even = split (ts ++ (s ∷ [])) refl o even (λ m u e
               h = g.0;
               f = w.f;
               entry = record { place_is = g.1; block = subst HasEntries (sym g.2) w.entry.block; found = ap (find_row s) g.2 ∙ w.entry.found };
-              number = (let count = w.number in let place = g.3 in let c = ap length (before_inside f.place x.0.place f.line f.after) in let d = length-append (lines_before f.place)
-                  (f.line ∷ lines_before x.0.place) in omega (arith, count, place, c, d));
+              number = search (rules, arith, before_inside, length-append);
             }
 
         head_is : HasEntries (row l u a) → (f : FoundLine) → find_row t (row l u a) ≡ Some f → (h : Option Node) → f.line.head ≡ h → If (find v vs f.under) (Sits ts s f.under) →
@@ -129,8 +126,7 @@ line_at : (steps : List Step) (s : Step) (o : Outline) (r : Option (FoundLine ×
 line_at steps s o r n h1 h2 = search (rules, none-some, same_Some)
 
 line_found : (steps : List Step) (rows : List Row) → line_at_steps steps (lines_of_rows rows) ≡ option_and_then (λ x. found_line x.0 x.1) (found_at steps (Rattle.yq_outline.specs.Group.group (lines_of_rows rows)))
-line_found [] rows = refl
-line_found (s ∷ ss) rows = refl
+line_found steps rows = search rules
 
 pub path_is_entry : PathIsEntry
 path_is_entry p m steps s n even e = line_at steps s (part_outline p) (found_at (steps ++ (s ∷ [])) (part_outline p)) n (path_sits steps s m (part_outline p) even) (sym (line_found (steps ++ (s ∷ [])) p.rows) ∙ e)

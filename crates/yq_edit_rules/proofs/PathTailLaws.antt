@@ -1,41 +1,33 @@
 -- The line comment of an item or entry at a path.
-use Rattle.std.proofs.Common.{◌≡◌, ℕ, ◌+◌, true, false, List, [], ◌∷◌, ◌++◌, length, take, Option, Some, None, refl, sym, ap, ◌∙◌, subst}
-use Rattle.std.{proofs.Common.rules, proofs.Math.Seq.take-append_seam, proofs.lemmas.Bool.false≢true}
+use Rattle.std.proofs.Common.{◌≡◌, ℕ, ◌+◌, true, false, List, [], ◌∷◌, ◌++◌, length, Option, Some, None, refl, sym, ap, ◌∙◌, subst, rules}
+use Rattle.std.proofs.lemmas.Bool.{false≢true}
 use Rattle.yq_core.{specs.Block.{BlockText, block_text, style_indicator}, specs.Text.separates}
 use Rattle.yq_core.{specs.Paths.{Step, changed_at, relabel_child, within}, specs.declared.block_header.BlockStyle.BlockStyle}
 use Rattle.yq_core.proofs.AlikePieces.{name_by}
 use Rattle.yq_outline.{specs.Comments.line_comment, specs.Ends.line_at_steps, specs.Group.level_or, specs.Lines.lines_of_rows}
 use Rattle.yq_row_table.{specs.Exchange.{asked_behind, with_content}, specs.Gap.IsWhite}
-use Rattle.yq_row_table.specs.Grammar.{unlimited, AreRows, IsAnchor, IsMark, IsRow, is_entry, ends_part}
+use Rattle.yq_row_table.specs.Grammar.{unlimited, IsAnchor, IsRow, is_entry, ends_part}
 use Rattle.yq_row_table.specs.Rows.{Content, Nothing, Inline, Block, Row, anchor_text, content_text, parent_indent, rows_text, Part, Cut}
 use Rattle.yq_row_table.{specs.Rows.cut_text, specs.Seams.{is_block, retail, with_tail}, proofs.ExchangeLaws.one_row}
-use Rattle.yq_row_table.{proofs.seams.SeamLaws.rows_drop, proofs.seams.TailLaws.fits_by, proofs.splices.PartPlaces.part_ends}
+use Rattle.yq_row_table.{proofs.seams.TailLaws.fits_by, proofs.splices.PartPlaces.part_ends}
 use Rattle.yq_documents.{specs.Documents.lead_of, specs.Reading.part_outline, specs.LinesInRows.{RowLine, row_line_of}}
 use Rattle.yq_documents.{specs.TreeEdits.with_line_comment, specs.PartNumbers.part_number}
 use Rattle.yq_places.{specs.RowPaths.IsReadable, proofs.HeadSpanLaws.free_first}
-use Rattle.yq_edit_rules.{specs.Appends.inserted, specs.Changed.{IsChanged, put_document}}
+use Rattle.yq_edit_rules.{proofs.InlineReplaceLaws.own_rows, specs.Appends.inserted, specs.Changed.{IsChanged, put_document}}
 use Rattle.yq_edit_rules.specs.DocumentRows.{IsDocumentPart, behind_document}
 use Rattle.yq_edit_rules.{specs.PathTails.{with_line_tail, IsLineTail, tailed, PathTailPut}, specs.RowComments.{TakesRow, with_header_tail}}
-use Rattle.yq_edit_rules.proofs.PartLaws.{document_known, drop_front, part_rows}
+use Rattle.yq_edit_rules.proofs.PartLaws.{document_known}
 use Rattle.yq_edit_rules.proofs.PathLaws.{path_is_entry, path_line_commented, row_line_found, row_line_number}
 use Rattle.yq_edit_rules.proofs.RowCommentLaws.{block_commented}
-use Rattle.yq_core.specs.declared.block_header.BlockStyle.TheVariants as styles
 use Rattle.yq_row_table.specs.Rows as rows
 
 -- a row of a document
-row_stands : (t : List ℕ) (c : Cut) (k : ℕ) (p : Part) (front back : List Row) (r : Row) → IsDocumentPart t c k p → p.rows ≡ front ++ (r ∷ back) → AreRows (asked_behind unlimited front) (r ∷ back) p.end (behind_document k c)
-row_stands t c k p front back r old is =
-    let own = rows_drop (length front) p.rows unlimited p.end (behind_document k c) (part_rows t c k p old (document_known t c k p old).cut) in
-    let all = subst (λ (rs : List Row). AreRows (asked_behind unlimited (take (length front) p.rows)) rs p.end (behind_document k c)) (drop_front p front (r ∷ back) is) own in
-    subst (λ (rs : List Row). AreRows (asked_behind unlimited rs) (r ∷ back) p.end (behind_document k c)) (ap (take (length front)) is ∙ take-append_seam front (r ∷ back)) all
-
 -- an anchor before another text
 pub anchor_other : (anchor : Option rows.Anchor) (t u : List ℕ) → IsAnchor anchor t → IsAnchor anchor u
 anchor_other anchor t u h1 = search (rules, name_by, false≢true)
 
 mark_apart : (style : BlockStyle) (t u : List ℕ) → separates (style_indicator style ∷ t) ≡ separates (style_indicator style ∷ u)
-mark_apart styles.Literal t u = refl
-mark_apart styles.Folded t u = refl
+mark_apart style t u = search rules
 
 anchor_apart : (anchor : Option rows.Anchor) (style : BlockStyle) (t u : List ℕ) → separates (anchor_text anchor (style_indicator style ∷ t)) ≡ separates (anchor_text anchor (style_indicator style ∷ u))
 anchor_apart None style t u = mark_apart style t u
@@ -45,17 +37,12 @@ header_apart : (space : List ℕ) (anchor : Option rows.Anchor) (style : BlockSt
 header_apart [] anchor style t u h e = sym (anchor_apart anchor style t u) ∙ e
 header_apart (b ∷ space) anchor style t u h e = rw h.0 refl
 
--- after the mark of a row that holds a block scalar
-entry_apart : (mark : rows.RowMark) (space : List ℕ) (anchor : Option rows.Anchor) (block : BlockText) (rest : List ℕ) → IsMark mark (Block space anchor block) rest →
-    (is_entry mark ≡ true) × (separates (content_text (Block space anchor block) rest) ≡ true)
-entry_apart mark space anchor block rest h1 = search (rules, false≢true)
-
 header_takes : (p : Part) (front back : List Row) (r : Row) (space : List ℕ) (anchor : Option rows.Anchor) (block : BlockText) (tail rest : List ℕ) → r.content ≡ Block space anchor block → p.rows ≡ front ++ (r ∷ back) →
     Rattle.yq_core.specs.Block.is_tail tail ≡ true → IsRow (asked_behind unlimited front) r (rows_text back (p.end ++ rest)) → TakesRow p front r (with_content (with_header_tail tail space anchor block) r) back rest
 header_takes p front back r space anchor block tail rest is there fits row =
     let u : List ℕ = rows_text back (p.end ++ rest) in
     let other : BlockText = record block { tail = tail } in
-    let mark = entry_apart r.mark space anchor block u (subst (λ (x : Content). IsMark r.mark x u) is row.mark) in
+    let mark : (is_entry r.mark ≡ true) × (separates (content_text (Block space anchor block) u) ≡ true) = search (rules, false≢true) in
     let content = subst (λ (x : Content). Rattle.yq_row_table.specs.Grammar.IsContent (parent_indent r) x u) is row.content in
     record {
       rows_are = there;
@@ -81,7 +68,7 @@ module _ (t : List ℕ) (c : Cut) (k : ℕ) (p : Part) (steps : List Step) (s : 
 
   behind_tail : is_block x.row.content ≡ false → Rattle.yq_row_table.specs.Grammar.IsTail tail (rows_text back (p.end ++ behind_document k c)) → Commented c k p steps s front back tail (retail tail x.row)
   behind_tail inline h =
-      let all = row_stands t c k p front back x.row old there in
+      let all = own_rows t c k p front x.row back old there in
       let ends : ends_part (behind_document k c) ≡ true = part_ends c (part_number k c) true (document_known t c k p old).cut.parts in
       path_line_commented t c k p steps s x front back tail old row_line_is last (record { rows_are = there; inline = inline; fits = fits_by (parent_indent x.row) x.row.content tail back p.end (behind_document k c) inline h all.1 ends }) before
 
@@ -90,7 +77,7 @@ module _ (t : List ℕ) (c : Cut) (k : ℕ) (p : Part) (steps : List Step) (s : 
       let l = row_line_found p.rows (line_at_steps (steps ++ (s ∷ [])) (lines_of_rows p.rows)) x row_line_is in
       let w = path_is_entry p (level_or 0 (part_outline p)) steps s l.0 (document_known t c k p old).even l.1 in
       let number = row_line_number p.rows front back l.0 x l.2 there before in
-      let all = row_stands t c k p front back x.row old there in
+      let all = own_rows t c k p front x.row back old there in
       block_commented t c k p steps s w.h w.f front back x.row space anchor block tail old w.entry is (header_takes p front back x.row space anchor block tail (behind_document k c) is there h all.0)
       (ap (λ (n : ℕ). length (lines_of_rows front) + n) (sym last) ∙ (sym number ∙ w.number)) text
 

@@ -1,13 +1,12 @@
 -- Rows that are written after a key or dash of a text.
 use Rattle.yq_edit_rules.{proofs.FirstReplaceLaws.rows_after, proofs.AppendEntryLaws.none_uncommented}
 use Rattle.yq_edit_rules.specs.BlockPlaces.{compact_rows, IsUpto, at_mark, at_dash, IsAbove, Replaces, BeginsUpto}
-use Rattle.yq_edit_rules.{specs.BlockRows.item_column, proofs.LaidRows.{AreLaid, IsLaid, rows_append}}
-use Rattle.yq_edit_rules.proofs.BlockLineLaws.{BeginAt, no_head}
-use Rattle.std.proofs.Common.{◌≡◌, ℤ, ℕ, suc, ◌+◌, true, false, not, ◌&&◌, eqb, List, [], ◌∷◌, ◌++◌, None, refl, sym, ap, ◌∙◌, subst, arith}
+use Rattle.yq_edit_rules.{specs.BlockRows.item_column, proofs.LaidRows.{AreLaid, IsLaid, rows_append}, proofs.BlockLineLaws.BeginAt}
+use Rattle.std.proofs.Common.{◌≡◌, ℕ, suc, ◌+◌, true, false, not, ◌&&◌, eqb, List, [], ◌∷◌, ◌++◌, None, refl, sym, ap, ◌∙◌, subst, arith}
 use Rattle.std.{proofs.Common.{append_assoc, replicate, Some, rules}, proofs.lemmas.Bool.false≢true}
 use Rattle.yq_core.{specs.Text.{separates, upto}, specs.Alike.{Alike, byte}, proofs.Alikes.{alike_append, alike_marker}}
-use Rattle.yq_outline.{specs.Comments.line_comment, specs.Lines.{dash_line, lines_from, row_lines, lines_of_rows}}
-use Rattle.yq_row_table.{specs.Exchange.{asked_behind, with_content}, specs.Alone.holds_nothing}
+use Rattle.yq_outline.{proofs.RowLaws.no_comments, specs.Lines.{dash_line, lines_from, row_lines, lines_of_rows}}
+use Rattle.yq_row_table.specs.Exchange.{asked_behind, with_content}
 use Rattle.yq_row_table.specs.Grammar.{IsContent, IsMark, is_entry, is_more, is_plain_content, AreDashes, Limit, unlimited, limit_after}
 use Rattle.yq_row_table.specs.Grammar.{limit_behind, IsRow, AreRows}
 use Rattle.yq_row_table.specs.Rows.{RowMark, Dash, Content, Nothing, dashes_text, mark_text, content_text, behind_dashes, behind_indent}
@@ -62,18 +61,7 @@ like_row limit r old ns m x t h a dashes mark content =
 
 -- nothing, or an anchor, asks nothing of the next row
 nothing_plain : (node : inline.FlowNode) → not (is_more node) ≡ true → is_plain_content node ≡ false
-nothing_plain inline.empty h = refl
-nothing_plain (inline.alias name) h = absurd (false≢true h)
-nothing_plain (inline.scalar p) h = absurd (false≢true h)
-nothing_plain (inline.coll close gap is) h = refl
-nothing_plain (inline.anchored name gap inline.empty) h = refl
-nothing_plain (inline.anchored name gap (inline.alias m)) h = refl
-nothing_plain (inline.anchored name gap (inline.scalar p)) h = absurd (false≢true h)
-nothing_plain (inline.anchored name gap (inline.coll close g is)) h = refl
-nothing_plain (inline.anchored name gap (inline.anchored m g node)) h = absurd (false≢true h)
-
-nothing_limit : (n : ℤ) (x : Content) → holds_nothing x ≡ true → limit_behind n x ≡ unlimited
-nothing_limit n x h1 = search (rules, nothing_plain, false≢true)
+nothing_plain node h = search (rules, false≢true)
 
 pub upto_row : {limit : Limit} {r s : Row} {old : List ℕ} (x : Content) (t : List ℕ) → IsRow limit r old → IsUpto s r → IsContent (parent_indent s) x t → separates (content_text x t) ≡ true →
     IsRow limit (with_content x s) t × Alike (Some false) (print_row r old) (print_row (with_content x s) t)
@@ -86,7 +74,7 @@ pub under_laid : (limit : Limit) (r s : Row) (old : List ℕ) (x : Content) (bel
     AreLaid below rs rest → Replaces limit (mark_column s) r old (with_content x s ∷ rs) rest
 under_laid limit r s old x below rs rest h laid =
     let first = upto_row x (rows_text rs rest) h.row h.upto h.content h.apart in
-    search (rules, nothing_limit, first)
+    search (rules, nothing_plain, false≢true, first)
 
 -- rows on the line of a dash
 on_line : (limit : Limit) (r : Row) (old ds : List ℕ) (q : Row) (rs : List Row) (rest : List ℕ) → IsRow limit r old →
@@ -120,7 +108,7 @@ lines_behind above column [] ms m c = λ i. record { column = column; mark = out
 lines_behind above column (n ∷ ns) ms m c = ap (λ ls. dash_line above column ∷ ls) (lines_behind [] (suc (column + n)) ns ms m c)
 
 pub compact_lines : (s : Row) (rs : List Row) → BeginAt (item_column (mark_column s)) rs → lines_of_rows (compact_rows s rs) ≡ row_lines (dashed_row s.dashes (Nothing []) s) ++ lines_of_rows rs
-compact_lines s rs h1 = search (rules, lines_behind, append_assoc, no_head)
+compact_lines s rs h1 = search (rules, lines_behind, append_assoc, no_comments)
 
 pub rows_replaced : (limit : Limit) (column : ℕ) (before under after new : List Row) (r : Row) (end rest : List ℕ) → AreRows limit (before ++ (r ∷ (under ++ after))) end rest → BeginsUpto column after →
     Replaces (asked_behind limit before) column r (rows_text (under ++ after) (end ++ rest)) new (rows_text after (end ++ rest)) → AreRows limit (before ++ (new ++ after)) end rest

@@ -1,9 +1,9 @@
 -- The text around a document, and the lines that are printed there.
-use Rattle.std.{proofs.Common.{◌≡◌, ℕ, List, ◌++◌, Some, option_map, ap, ◌∙◌}, specs.List.slice_get}
+use Rattle.std.{proofs.Common.{rules, ◌≡◌, ℕ, List, ◌++◌, Some, ap, ◌∙◌}, specs.List.slice_get}
 use Rattle.yq_row_table.specs.Rows.{Part, part_text, Cut, cut_text}
 use Rattle.yq_documents.{specs.Documents.document_parts, specs.PartNumbers.part_number, proofs.PartNumberLaws.part_there}
-use Rattle.yq_places.{specs.PathPieces.{printed_part, printed_document}, specs.PlacedRows.{before_part, placed_at}}
-use Rattle.yq_places.{specs.PrintedLines.printed_lines, proofs.PlacedPartLaws.text_at}
+use Rattle.yq_places.{specs.PathPieces.printed_document, specs.PlacedRows.before_part, specs.PrintedLines.printed_lines}
+use Rattle.yq_places.proofs.PlacedPartLaws.{text_at}
 use Rattle.yq_edit_rules.{specs.Changed.put_document, specs.DocumentRows.behind_document, proofs.PlacedPartLaws.put_text}
 
 -- The text before document k, whose lines are printed between it and what is after them, and which stays where the document has another part.
@@ -19,8 +19,7 @@ around k c p e =
     let is = part_there c k p e in
     record {
       start = before_part i c;
-      printed = ap (λ o. option_map printed_part (option_map (λ (x : Part). placed_at i c) o)) e
-          ∙ ap (λ (x : Part). Some (record { before = before_part i c; lines = printed_lines x.rows; behind = x.end ++ behind_document k c })) is;
+      printed = search rules;
       text = text_at i c ∙ ap (λ (x : Part). before_part i c ++ part_text x (behind_document k c)) is;
       put = λ q. put_text i q c;
     }

@@ -1,11 +1,11 @@
 -- Where the lines of a node, an entry or an item are among the lines of rows.
-use Rattle.std.proofs.Common.{◌≡◌, ℕ, List, [], ◌∷◌, ◌++◌, length, Option, Some, None, option_map, option_and_then, Bool, true, false, cond}
-use Rattle.std.{proofs.Common.{refl, sym, ap, ◌∙◌, subst, arith, append_assoc, append-nil, length-append}, proofs.lemmas.Option.same_Some}
+use Rattle.std.proofs.Common.{rules, ◌≡◌, ℕ, List, [], ◌∷◌, ◌++◌, length, Option, Some, None, option_map, option_and_then, refl, sym, ap}
+use Rattle.std.{proofs.Common.{◌∙◌, subst, arith, append_assoc, append-nil, length-append}, proofs.lemmas.Option.same_Some}
 use mathlib.Core.List.{head-eq_of_cons-eq, tail-eq_of_cons-eq}
-use Rattle.yq_core.{specs.Paths.{Step, is_here, further}, specs.Tree.Node}
+use Rattle.yq_core.{specs.Paths.{Step, further}, specs.Tree.Node}
 use Rattle.yq_outline.{specs.Laws.with_lines, specs.Lines.lines_of_rows}
-use Rattle.yq_outline.specs.Outline.{LineMark, Bare, Key, Dash, Line, Outline, end, row, flatten, IsEven, label}
-use Rattle.yq_outline.specs.Places.{here, lines_before, lines_after, FoundLine, next_to, find_row, place_inside, bare_or, in_head, find}
+use Rattle.yq_outline.specs.Outline.{LineMark, Bare, Key, Dash, Line, Outline, end, row, flatten, IsEven}
+use Rattle.yq_outline.specs.Places.{here, lines_before, lines_after, FoundLine, find_row, place_inside, bare_or, in_head, find}
 use Rattle.yq_outline.{proofs.Allowing.IsCollection, proofs.Decides.flatten-group, proofs.Finding.{IsFoundIn, path_whole}}
 use Rattle.yq_outline.{proofs.PlaceLaws.{at, placed}, proofs.Values.If}
 use Rattle.yq_documents.specs.Reading.{part_outline}
@@ -66,13 +66,7 @@ entry_placed n p steps h s f a x z even entry parted =
 -- a line found in a collection is an entry's
 row_entry : (n : ℕ) (s : Step) (o : Outline) → IsCollection o → IsEven n o → If (find_row s o) (λ f. allowing.IsEntry f.line.mark × ((m : ℕ) × IsEven m f.under))
 row_entry n s end c e = tt
-row_entry n s (row k v a) c e = go (is_here s (label k)) (find_row (further s) a) (row_entry n (further s) a (next n k a c e.0 e.4) e.4)
-  where
-    go : (b : Bool) (r : Option FoundLine) → If r (λ f. allowing.IsEntry f.line.mark × ((m : ℕ) × IsEven m f.under)) →
-        If (cond b (Some (record { place = here; line = k; under = v; after = a })) (option_map (next_to k v) r)) (λ f. allowing.IsEntry f.line.mark × ((m : ℕ) × IsEven m f.under))
-    go true r h = (c, (e.3.0, e.3.2))
-    go false None h = tt
-    go false (Some f) h = h
+row_entry n s (row k v a) c e = search (rules, next, row_entry n (further s) a (next n k a c e.0 e.4) e.4)
 
 -- where no steps are left
 abbrev Ends : List Step → Line → Type 0
@@ -87,8 +81,7 @@ path_entry n s ss end e = tt
 path_entry n s [] (row k v a) e = go k.mark refl (find_row s (row k v a)) (λ c. row_entry n s (row k v a) c e)
   where
     found : (r : Option FoundLine) → If r (λ f. allowing.IsEntry f.line.mark × ((m : ℕ) × IsEven m f.under)) → If (option_map (λ f. (f, [])) r) Ending
-    found None h = tt
-    found (Some f) h = h.0
+    found r h = search rules
 
     go : (m : LineMark) → k.mark ≡ m → (r : Option FoundLine) → (IsCollection (row k v a) → If r (λ f. allowing.IsEntry f.line.mark × ((m : ℕ) × IsEven m f.under))) →
         If (bare_or m (Some (record { place = here; line = k; under = v; after = a }, s ∷ [])) (option_map (λ f. (f, [])) r)) Ending
@@ -98,9 +91,7 @@ path_entry n s [] (row k v a) e = go k.mark refl (find_row s (row k v a)) (λ c.
 path_entry n s (t ∷ ts) (row k v a) e = go (λ m u f. path_entry m t ts u f) k.mark refl (find_row s (row k v a)) (λ c. row_entry n s (row k v a) c e)
   where
     deep : (f : FoundLine) (h : Option Node) (q : Option (FoundLine × List Step)) → If q Ending → If (in_head h (Some (f, t ∷ ts)) (option_map (λ x. (place_inside f x.0, x.1)) q)) Ending
-    deep f (Some n) q h = tt
-    deep f None None h = tt
-    deep f None (Some x) h = h
+    deep f h q h3 = search rules
 
     found : ((m : ℕ) (u : Outline) → IsEven m u → If (find t ts u) Ending) → (r : Option FoundLine) → If r (λ f. allowing.IsEntry f.line.mark × ((m : ℕ) × IsEven m f.under)) →
         If (option_and_then (λ f. in_head f.line.head (Some (f, t ∷ ts)) (option_map (λ x. (place_inside f x.0, x.1)) (find t ts f.under))) r) Ending

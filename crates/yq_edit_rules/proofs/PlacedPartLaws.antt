@@ -1,9 +1,8 @@
 -- Where a document that has other rows is in its text.
-use Rattle.std.proofs.Common.{◌≡◌, ℕ, zero, suc, ◌++◌, refl, ap, subst}
+use Rattle.std.proofs.Common.{rules, ◌≡◌, ℕ, zero, suc, ◌++◌, refl}
 use Rattle.yq_row_table.{specs.Rows.{Part, part_text, Cut, last, marked, cut_text}, specs.Splices.behind_part}
-use Rattle.yq_documents.specs.PartNumbers.{part_number}
-use Rattle.yq_places.{specs.PlacedRows.{PlacedPart, before_part}, proofs.PlacedPartLaws.{part_stands, text_behind}}
-use Rattle.yq_edit_rules.{specs.Changed.{put_part, put_document}, specs.PlacedParts.DocumentStandsAt}
+use Rattle.yq_places.{specs.PlacedRows.before_part, proofs.PlacedPartLaws.{part_stands, text_behind}}
+use Rattle.yq_edit_rules.{specs.Changed.put_part, specs.PlacedParts.DocumentStandsAt}
 
 pub put_text : (i : ℕ) (q : Part) (c : Cut) → cut_text (put_part i q c) ≡ before_part i c ++ part_text q (behind_part i c)
 put_text i q (last p) = refl
@@ -11,11 +10,4 @@ put_text zero q (marked p marker c) = refl
 put_text (suc i) q (marked p marker c) = text_behind p marker (before_part i c) (part_text q (behind_part i c)) (cut_text (put_part i q c)) (put_text i q c)
 
 pub document_stands_at : DocumentStandsAt
-document_stands_at c k s e =
-    let h = part_stands k c s e in
-    record {
-      there = h.there;
-      behind = ap (λ (y : PlacedPart). y.behind) h.is;
-      text = h.text;
-      put = subst (λ (y : PlacedPart). (q : Part) → cut_text (put_document k q c) ≡ y.before ++ part_text q y.behind) h.is (λ q. put_text (part_number k c) q c);
-    }
+document_stands_at c k s e = search (rules, part_stands k c s e, put_text)

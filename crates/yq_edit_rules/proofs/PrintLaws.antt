@@ -1,5 +1,5 @@
 -- What is printed is read.
-use Rattle.std.proofs.Common.{◌≡◌, List, ℕ, [], ◌∷◌, ◌++◌, refl, sym, ◌∙◌, subst, arith}
+use Rattle.std.proofs.Common.{rules, ◌≡◌, List, ℕ, [], ◌∷◌, ◌++◌, sym, ◌∙◌, subst, arith}
 use Rattle.yq_flow_edits.specs.Valued.{IsValueTree}
 use Rattle.yq_edit_rules.{specs.BlockLaws.ReadsAlone, specs.BlockText.block_value, specs.BlockValues.IsCollection}
 use Rattle.yq_edit_rules.{proofs.ReadLaws.value_read, specs.Print.{print_layout, print_text}}
@@ -7,10 +7,7 @@ use Rattle.yq_core.specs.Tree as tree
 
 collection_text : (v : tree.Node) → IsCollection v → print_text v ≡ block_value print_layout 0 v ++ 10 ∷ []
 unfolding print_text
-collection_text (tree.alias name) c = absurd c
-collection_text (tree.scalar a kind t) c = absurd c
-collection_text (tree.list a cs) c = refl
-collection_text (tree.map a cs) c = refl
+collection_text v c = search rules
 
 pub printed_read : (v : tree.Node) (t : List ℕ) → (IsCollection v → IsValueTree v) → t ≡ print_text v → ReadsAlone v t
 printed_read v t valid is root =

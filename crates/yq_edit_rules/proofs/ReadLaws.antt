@@ -5,17 +5,17 @@ use Rattle.yq_text.specs.Limit.{text_limit}
 use Rattle.yq_core.{specs.Text.is_marker, specs.Nodes.node_text, proofs.NodesWrittenLaws.node_then, specs.BlockWritten.break_text}
 use Rattle.yq_core.proofs.Alikes.{no_first}
 use Rattle.yq_flow_edits.specs.Valued.{IsValueTree}
-use Rattle.yq_row_table.specs.Grammar.{is_entry, is_plain_content, unlimited, AreRows, no_rows}
-use Rattle.yq_row_table.{specs.Rows.{Bare, Inline, Row, rows_text, last}, specs.Splices.first_gap, proofs.PlainEnds.end_line}
-use Rattle.yq_documents.specs.Documents.{IsRoot, HasShortRoot, is_long_plain, ReadsDocuments, document_parts, AreDocuments}
-use Rattle.yq_outline.{specs.Grammar.{IsNodeOutline, alone}, specs.Lines.lines_of_rows, specs.Outline.Line, specs.Comments.head_comment}
+use Rattle.yq_row_table.{specs.Grammar.{is_plain_content, unlimited, AreRows, no_rows}, specs.Rows.{Bare, Inline, Row, rows_text, last}}
+use Rattle.yq_row_table.{specs.Splices.first_gap, proofs.PlainEnds.end_line}
+use Rattle.yq_documents.specs.Documents.{IsRoot, HasShortRoot, ReadsDocuments, document_parts}
+use Rattle.yq_outline.{proofs.RowLaws.no_comments, specs.Grammar.{IsNodeOutline, alone}, specs.Lines.lines_of_rows, specs.Outline.Line}
 use Rattle.yq_edit_rules.{specs.BlockLaws.{ReadsAlone, IsHead}, specs.BlockRows.node_rows, specs.BlockText.{block_node, block_value}}
 use Rattle.yq_edit_rules.{specs.BlockValues.{HasNearKeys, IsCollection, IsFilled, MayBeRoot}, specs.declared.layout.Layout.Layout}
 use Rattle.yq_edit_rules.proofs.CharacterLaws.{IsUtf8Text, break_sound, value_sound, sound_join}
 use Rattle.yq_edit_rules.proofs.BlockEndLaws.{break_ends, break_tail, line_ends}
 use Rattle.yq_edit_rules.proofs.FitLaws.{RowsAreFit, all_bound, anchors_fit, keys_fit, node_fit}
 use Rattle.yq_edit_rules.proofs.LaidRows.{AreLaid, laid_rows, no_gap_here}
-use Rattle.yq_edit_rules.{proofs.BlockLineLaws.{break_uncommented, unanchored, no_head, node_stands}, proofs.RowLaws.node_laid}
+use Rattle.yq_edit_rules.{proofs.BlockLineLaws.{break_uncommented, unanchored, node_stands}, proofs.RowLaws.node_laid}
 use Rattle.yq_edit_rules.{proofs.ScalarLaws.heads, proofs.TextLaws.node_spelled}
 use Rattle.yq_core.specs.Tree as tree
 use Rattle.yq_core.specs.Nodes as inline
@@ -39,33 +39,15 @@ all_read v text rs w s size h root =
       utf8 = is_utf8-from_IsUtf8 text s.0;
       parts = last p;
       cut = record { text = sym w.spelled; parts = record { rows = w.laid; inside = refl }; characters = s.1; size = size };
-      documents = subst (λ (ps : List rows.Part). AreDocuments ps (record { lead = []; root = v } ∷ [])) (sym one) (
-        record {
-          lead = sym (ap head_comment w.gap ∙ no_head);
-          root = w.root;
-          keys = keys_fit rs w.fit;
-          unique = root.unique;
-          nested = root.nested;
-          anchors = anchors_fit rs w.fit;
-          bound = all_bound v h;
-          short = w.short;
-        },
-        tt,
-      );
+      documents = search (rules, no_comments, keys_fit, anchors_fit, all_bound);
     }
 
 -- the lines of a node are a root
 root_of : {n : ℕ} {ls : List Line} {v : tree.Node} → IsNodeOutline n ls v → IsRoot ls v
 root_of h1 = search rules
 
-first_gap_none : (column : ℕ) (rs : List Row) → AreLaid column rs [] → first_gap rs [] ≡ []
-first_gap_none column rs h1 = search rules
-
-entry_short : (mark : rows.RowMark) (c : rows.Content) → is_entry mark ≡ true → is_long_plain mark c ≡ false
-entry_short mark c h1 = search rules
-
 laid_short : (column : ℕ) (rs : List Row) → AreLaid column rs [] → HasShortRoot rs
-laid_short column rs h1 = search (rules, entry_short)
+laid_short column rs h1 = search rules
 
 -- a collection with items or entries
 block_all : (v : tree.Node) (l : Layout) → 1 ≤ l.mapping → IsFilled v → IsValueTree v → HasNearKeys v → IsAllOf v (block_node l 0 v ++ break_text l.br) (node_rows l 0 (break_text l.br) v)
@@ -77,16 +59,13 @@ block_all v l step b h near =
       spelled = node_spelled v l 0 end [] b h ∙ ap (λ (t : List ℕ). block_node l 0 v ++ t) (append-nil end);
       root = root_of (node_stands v l 0 end step b h (break_uncommented l.br));
       fit = node_fit v l 0 end h;
-      gap = first_gap_none 0 _ laid;
+      gap = search rules;
       short = laid_short 0 _ laid;
     }
 
 -- an empty collection
 abbrev empty_row : Layout → inline.FlowNode → Row
 empty_row l node = record { gap = []; column = 0; dashes = []; mark = rows.Bare; content = Inline [] node (break_text l.br) }
-
-empty_root : (v : tree.Node) (l : Layout) (node : inline.FlowNode) → IsHead v node → IsRoot (lines_of_rows (empty_row l node ∷ [])) v
-empty_root v l node h = (_, subst (IsNodeOutline _ (lines_of_rows (empty_row l node ∷ []))) (unanchored _ v h.unnamed) (alone refl refl h.same))
 
 empty_all : (v : tree.Node) (l : Layout) (node : inline.FlowNode) → IsHead v node → ((t : List ℕ) → is_marker (node_text node t) ≡ false) → is_plain_content node ≡ false → IsAllOf v (node_text node [] ++ break_text l.br) (empty_row l node ∷ [])
 empty_all v l node h unmarked plain = record {
@@ -102,7 +81,7 @@ empty_all v l node h unmarked plain = record {
     no_gap_here [],
   );
   spelled = node_then node (break_text l.br ++ []) ∙ ap (λ (t : List ℕ). node_text node [] ++ t) (append-nil (break_text l.br));
-  root = empty_root v l node h;
+  root = (_, subst (IsNodeOutline _ (lines_of_rows (empty_row l node ∷ []))) (unanchored _ v h.unnamed) (alone refl refl h.same));
   fit = ((tt, h.keys, h.unnamed), tt);
   gap = refl;
   short = rw plain refl;

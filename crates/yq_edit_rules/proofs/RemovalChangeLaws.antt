@@ -1,16 +1,16 @@
 -- An item or entry taken out of a text.
-use Rattle.std.proofs.Common.{◌≡◌, ℕ, ◌-◌, ◌<◌, ◌≤◌, Bool, true, false, cond, List, [], ◌∷◌, ◌++◌, length, take, Option, Some, None}
-use Rattle.std.proofs.Common.{option_map, option_and_then, refl, sym, ap, ◌∙◌, subst, arith, length-append, rules}
-use Rattle.std.{proofs.Math.Seq.take-append_seam, proofs.lemmas.Bool.{false≢true, ltb-true}, proofs.lemmas.Option.{none-some, same_Some}}
+use Rattle.std.proofs.Common.{◌≡◌, ℕ, ◌-◌, ◌<◌, ◌≤◌, true, List, [], ◌∷◌, ◌++◌, length, take, Option, Some, option_and_then, refl, sym, ap}
+use Rattle.std.{proofs.Common.{◌∙◌, subst, arith, length-append, rules}, proofs.Math.Seq.take-append_seam}
+use Rattle.std.{proofs.lemmas.Bool.{false≢true, ltb-true}, proofs.lemmas.Option.{none-some, same_Some}}
 use Rattle.std.proofs.lemmas.Str.{is_utf8-from_IsUtf8}
 use Rattle.yq_text.specs.Limit.{text_limit}
-use Rattle.yq_core.{specs.Paths.{Step, is_here, further, child_at, node_at, remove_child}, specs.Tree.{Node, Children, children_of}}
+use Rattle.yq_core.{specs.Paths.{Step, child_at, node_at, remove_child}, specs.Tree.{Node, Children, children_of}}
 use Rattle.yq_core.{proofs.Bools.{bind_some, guard_then}, specs.Anchors.names_of}
 use Rattle.yq_outline.{specs.Counts.count, specs.Group.{group, level_or}, specs.Laws.with_lines}
-use Rattle.yq_outline.specs.Outline.{Line, level, Outline, end, row, flatten, IsEven, head_or, label, children, value}
-use Rattle.yq_outline.specs.Places.{Context, here, below, beside, plug, lines_before, lines_after, FoundLine, next_to, find_row, find}
-use Rattle.yq_outline.{specs.Places.content_under, proofs.Finding.{IsFoundIn, children-collection, path_node, path_whole, row_child}}
-use Rattle.yq_outline.{proofs.PlaceLaws.at, proofs.ChildLaws.anchored_children, specs.Lines.lines_of_rows}
+use Rattle.yq_outline.specs.Outline.{Line, level, Outline, end, row, flatten, IsEven, children, value}
+use Rattle.yq_outline.specs.Places.{Context, here, below, beside, plug, lines_before, lines_after, FoundLine, find_row, find, content_under}
+use Rattle.yq_outline.{proofs.Finding.{IsFoundIn, children-collection, path_node, path_whole, row_child}, proofs.PlaceLaws.at}
+use Rattle.yq_outline.{proofs.ChildLaws.anchored_children, specs.Lines.lines_of_rows}
 use Rattle.yq_row_table.{specs.Grammar.no_rows, specs.Rows.{Row, rows_text, Part, part_text, Cut, cut_text}}
 use Rattle.yq_row_table.specs.Splices.{first_gap, behind_first}
 use Rattle.yq_documents.{specs.Documents.lead_of, specs.Reading.{part_outline, read_at, root_of}, specs.Ready.begins_no_node}
@@ -46,8 +46,7 @@ node_behind (t ∷ ts) s n = go (child_at t (children_of n)) (λ m. node_behind 
   where
     go : (o : Option Node) → ((m : Node) → node_at (ts ++ (s ∷ [])) m ≡ option_and_then (node_at (s ∷ [])) (node_at ts m)) →
         option_and_then (node_at (ts ++ (s ∷ []))) o ≡ option_and_then (node_at (s ∷ [])) (option_and_then (node_at ts) o)
-    go None h = refl
-    go (Some m) h = h m
+    go o h = search rules
 
 -- ---- the collection at a path
 
@@ -74,17 +73,11 @@ collection_node (t ∷ ts) o h e b = found (lines_found t ts o h e)
         record {
           node = content_under f.line f.under;
           there = path_node t ts o ∙ ap (λ r. option_and_then (λ (x : FoundLine × List Step). node_at x.1 (content_under x.0.line x.0.under)) r) w.is;
-          children_are = anchored_children f.line.anchor (head_or f.line.head (value f.under))
-              ∙ (ap (λ n. children_of (head_or n (value f.under))) w.open' ∙ (children-value f.under (subst HasEntries (sym same) b) ∙ ap children same));
+          children_are = search (rules, anchored_children, children-value);
         }
 
 entry_node : (ss : List Step) (s : Step) (o : Outline) (h : NodeLines) (f : FoundLine) → IsEntryAt ss s o h f → node_at (ss ++ (s ∷ [])) (value o) ≡ Some (content_under f.line f.under)
-entry_node ss s o h f at =
-    let x = collection_node ss o h at.place_is at.block in
-    node_behind ss s (value o)
-    ∙ (ap (option_and_then (node_at (s ∷ []))) x.there
-    ∙ (ap (λ cs. option_and_then (node_at []) (child_at s cs)) x.children_are
-    ∙ (ap (option_and_then (node_at [])) (row_child s h.lines) ∙ ap (λ r. option_and_then (node_at []) (option_map (λ g. content_under g.line g.under) r)) at.found)))
+entry_node ss s o h f at = search (rules, collection_node ss o h at.place_is at.block, node_behind, row_child)
 
 -- ---- something is left
 
@@ -94,17 +87,7 @@ left_after n l (row k v a) b e h some = entry_out k.mark (next n l (row k v a) (
 
 left_entries : (s : Step) (o : Outline) (n : ℕ) (f : FoundLine) → HasEntries o → IsEven n o → find_row s o ≡ Some f → 1 < count (children o) → HasEntries (plug f.place f.after)
 left_entries s end n f b h e some = absurd b
-left_entries s (row l u a) n f b h e some = go (is_here s (label l)) e
-  where
-    some_left : 0 < count (children a)
-    some_left = omega (arith, some)
-
-    beside_entry : (g : FoundLine) → next_to l u g ≡ f → HasEntries (plug f.place f.after)
-    beside_entry g is = subst (λ (x : FoundLine). HasEntries (plug x.place x.after)) is b
-
-    go : (c : Bool) → cond c (Some (record { place = here; line = l; under = u; after = a })) (option_map (next_to l u) (find_row (further s) a)) ≡ Some f → HasEntries (plug f.place f.after)
-    go true e = subst (λ (x : FoundLine). HasEntries (plug x.place x.after)) (same_Some _ _ e) (left_after n l a b h.0 h.4 some_left)
-    go false e = let x = map_some (next_to l u) (find_row (further s) a) f e in beside_entry x.0 x.2
+left_entries s (row l u a) n f b h e some = search (rules, arith, same_Some, left_after, map_some)
 
 -- ---- first lines
 
@@ -114,16 +97,13 @@ FirstEntry [] = ⊥
 FirstEntry (l ∷ ls) = IsEntry l.mark
 
 pub first_group : (ls : List Line) → FirstEntry ls → HasEntries (group ls)
-first_group [] h = h
-first_group (l ∷ ls) h = h
+first_group ls h = search rules
 
 pub group_begins : (ls : List Line) → HasEntries (group ls) → begins_no_node ls ≡ true
-group_begins [] h = refl
-group_begins (l ∷ ls) h = search rules
+group_begins ls h = search rules
 
 first_flatten : (o : Outline) (ls : List Line) → HasEntries o → FirstEntry (flatten o ++ ls)
-first_flatten end ls h = absurd h
-first_flatten (row l u a) ls h = h
+first_flatten o ls h = search rules
 
 place_first : (p : Context) (o : Outline) (ls : List Line) → HasEntries (plug p o) → (HasEntries o → FirstEntry ls) → FirstEntry (lines_before p ++ ls)
 place_first here o ls h own = own h
@@ -136,11 +116,7 @@ root_entries (t ∷ ts) o h e b = let w = lines_found t ts o h e in found_entrie
 
 -- the lines that are left begin with an entry
 left_first : (ss : List Step) (s : Step) (o : Outline) (h : NodeLines) (f : FoundLine) → IsEntryAt ss s o h f → HasEntries (plug f.place f.after) → FirstEntry (put_lines h (with_lines f []))
-left_first [] s o h f at left =
-    let is : record { place = here; above = 0; anchor = None; lines = o } ≡ h = same_Some _ _ at.place_is in
-    let w = some_at s h.lines f at.found in
-    let lines : flatten (plug f.place f.after) ≡ with_lines f [] = ap flatten (w.plugs f.after) ∙ (flatten-append w.front f.after ∙ sym (w.lines [])) in
-    subst (λ (x : NodeLines). FirstEntry (put_lines x (with_lines f []))) is (subst (λ (ls : List Line). FirstEntry (ls ++ [])) lines (first_flatten (plug f.place f.after) [] left))
+left_first [] s o h f at left = search (rules, same_Some, some_at, flatten-append, first_flatten)
 left_first (t ∷ ts) s o h f at left = found (lines_found t ts o h at.place_is)
   where
     found : Under t ts o h → FirstEntry (put_lines h (with_lines f []))
@@ -148,16 +124,11 @@ left_first (t ∷ ts) s o h f at left = found (lines_found t ts o h at.place_is)
         let g : FoundLine = w.found in
         let whole : plug g.place (row g.line g.under g.after) ≡ o = Rattle.yq_outline.proofs.PlaceLaws.at (IsFoundIn o) (find t ts o) (g, []) w.is (path_whole t ts o) in
         let ls : List Line = (g.line ∷ with_lines f []) ++ (flatten g.after ++ lines_after g.place) in
-        let first : FirstEntry (lines_before g.place ++ ls) =
-        place_first g.place (row g.line g.under g.after) ls (subst HasEntries (sym whole) (found_entries t ts o g w.is)) (λ e. e) in
+        let first : FirstEntry (lines_before g.place ++ ls) = search (rules, place_first, found_entries) in
         subst (λ (x : NodeLines). FirstEntry (put_lines x (with_lines f []))) w.place_is (subst FirstEntry (sym (put_under g (with_lines f []))) first)
 
 pub keeps : (p q : Part) → FirstEntry (lines_of_rows q.rows) → KeepsRows p q
-keeps p q h empty = go q.rows h empty
-  where
-    go : (rs : List Row) → FirstEntry (lines_of_rows rs) → no_rows rs ≡ true → no_rows p.rows ≡ true
-    go [] h empty = absurd h
-    go (r ∷ rs) h empty = absurd (false≢true empty)
+keeps p q h empty = search (rules, false≢true)
 
 -- ---- what is taken out
 
@@ -170,10 +141,7 @@ record IsRowsOut (c : Cut) (k : ℕ) (steps : List Step) (x : Removal) : Type 0 
   pub out : rows_out d own ≡ x
 
 out_is : (c : Cut) (k : ℕ) (steps : List Step) (x : Removal) → removal_place k steps c ≡ Some x → IsRowsOut c k steps x
-out_is c k steps x e =
-    let d = bind_some (placed_document k c) e in
-    let o = map_some (rows_out d.0) (own_rows steps d.0.part.rows) x d.2 in
-    record { d = d.0; is = d.1; own = o.0; rows = o.1; out = o.2 }
+out_is c k steps x e = search (rules, bind_some, map_some)
 
 -- An item's or entry's own rows begin with one.
 record HasFirst (p : Part) (own : OwnRows) : Type 0 where
@@ -261,11 +229,7 @@ taken_at c k ss s x read h may size =
     let text : cut_text (put_document k q c) ≡ x.before ++ (mended x.seam x.gap ++ x.behind) = search (rules, new_text, q, st) in
     let piece : IsPiece (cut_text (put_document k q c)) =
     subst IsPiece (sym (st.put q ∙ new_text h.d h.own)) (new_readable c k h.d h.own first.first first.others read h.is first.own_are first.rows_are) in
-    let readable : IsReadable (cut_text (put_document k q c)) = record {
-      utf8 = is_utf8-from_IsUtf8 (cut_text (put_document k q c)) piece.utf8;
-      characters = piece.characters;
-      size = subst (λ (y : List ℕ). length y ≤ text_limit) (sym text) size;
-    } in
+    let readable : IsReadable (cut_text (put_document k q c)) = search (rules, is_utf8-from_IsUtf8) in
     let gone = block_gone t c k p ss s w.h w.f h.own.front h.own.own h.own.back old w.entry go.0 w.rows go.1 readable in
     let entries : FirstEntry (lines_of_rows q.rows) = subst FirstEntry (sym gone.1) (left_first ss s o w.h w.f w.entry go.0) in
     let own_is : h.own.own ≡ first.first ∷ first.others = first.own_are in (

@@ -4,7 +4,7 @@ use Rattle.std.{proofs.Common.{None, refl, sym, ap, ◌∙◌, subst, append-nil
 use Rattle.std.{proofs.lemmas.Str.{IsUtf8-from_ascii, IsUtf8-nil, chars-IsAscii}, proofs.lemmas.Str.Ascii.{IsAscii-nil, IsAscii-cons}}
 use Rattle.std.{specs.List.list_all, specs.Str.{chars, IsAscii}}
 use Rattle.yq_core.{specs.Block.RawLines, specs.BlockRepair.{is_short, is_outdented_comment, repaired_blank, repaired_comment, repair}}
-use Rattle.yq_core.{specs.Characters.{is_text, is_text_char, pairs_returns}, specs.Lines.is_blank}
+use Rattle.yq_core.{specs.Characters.{is_text_char, pairs_returns}, specs.Lines.is_blank}
 use Rattle.yq_core.{specs.Text.{is_white, joined, text_lines, past_white}, proofs.Boundaries.white_ascii, proofs.SpaceLaws.white_drop}
 use Rattle.yq_row_table.{specs.Gap.{IsGap, IsGapLine, AreGapLines}, specs.Grammar.AreParts, specs.Rows.{Row, rows_text, Cut, cut_text}}
 use Rattle.yq_row_table.{specs.Splices.{behind_first, first_gap}, proofs.seams.GapFronts.gap_lines}
@@ -13,12 +13,9 @@ use Rattle.yq_places.{proofs.CommentPieceLaws.{Ended, gap_end}, proofs.PlacedPar
 use Rattle.yq_places.{proofs.RemovalLines.{LineSeam, line_seam, lies_in, are_lines}, proofs.RemovalTexts.old_text}
 use Rattle.yq_edit_rules.{specs.RemovalChanges.mended, specs.TextPieces.IsPiece, proofs.TextPieceLaws.{line_cut, piece_back, pieces_joined}}
 
-nothing_text : is_text [] ≡ true
-unfolding chars pairs_returns
-nothing_text = refl
-
 nothing_piece : IsPiece []
-nothing_piece = record { utf8 = IsUtf8-nil; characters = nothing_text }
+unfolding chars pairs_returns
+nothing_piece = record { utf8 = IsUtf8-nil; characters = refl }
 
 pub seam_pieces : (a b : List ℕ) → LineSeam a b → IsPiece (a ++ b) → IsPiece a × IsPiece b
 seam_pieces a b h1 h2 = search (rules, nothing_piece, line_cut, append-nil)
@@ -54,21 +51,18 @@ past_piece (b ∷ l) h = elim (cases_Bool (is_white b)) [
   | inr e ↦ rw (white_drop b l) (rw e h)
 ]
 
-space_text : (list_all is_text_char (32 ∷ []) && pairs_returns (32 ∷ [])) ≡ true
-unfolding pairs_returns
-space_text = refl
-
 space_piece : IsPiece (32 ∷ [])
+unfolding pairs_returns
 space_piece = record {
   utf8 = IsUtf8-from_ascii (32 ∷ []) (byte_ascii 32 (omega arith));
-  characters = ap (λ cs. list_all is_text_char cs && pairs_returns (32 ∷ [])) (chars-IsAscii (32 ∷ []) (byte_ascii 32 (omega arith))) ∙ space_text;
+  characters = ap (λ cs. list_all is_text_char cs && pairs_returns (32 ∷ [])) (chars-IsAscii (32 ∷ []) (byte_ascii 32 (omega arith))) ∙ refl;
 }
 
 pub spaces_piece : (n : ℕ) → IsPiece (replicate n 32)
 spaces_piece zero = nothing_piece
 spaces_piece (suc n) = pieces_joined (32 ∷ []) (replicate n 32) space_piece (spaces_piece n)
 
-front_none : (a b : List ℕ) → a ++ b ≡ [] → a ≡ []
+pub front_none : (a b : List ℕ) → a ++ b ≡ [] → a ≡ []
 front_none [] b e = refl
 front_none (x ∷ a) b e = absurd (cc)
 

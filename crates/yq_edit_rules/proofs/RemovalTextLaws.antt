@@ -1,5 +1,5 @@
 -- The text of a document, of which rows are taken out.
-use Rattle.std.proofs.Common.{◌≡◌, Bool, true, false, cond, ℕ, List, ◌++◌, Option, Some, None, refl, append_assoc}
+use Rattle.std.proofs.Common.{rules, ◌≡◌, Bool, cond, ℕ, List, ◌++◌, Option, Some, None, refl, append_assoc}
 use Rattle.yq_core.{specs.Block.{BlockText, keeps}, specs.BlockRepair.repair, specs.Text.{joined, text_lines}}
 use Rattle.yq_row_table.{specs.Removal.{hold_comment, seam_gap}, specs.Rows.part_text, proofs.seams.SeamLaws.{gap_text, rows_text-append}}
 use Rattle.yq_places.{specs.PlacedRows.PlacedPart, specs.RemovalPlaces.{OwnRows, Seam, seam_behind, rows_out}}
@@ -8,8 +8,7 @@ use Rattle.yq_edit_rules.{specs.RemovalChanges.mended, specs.Removes.without}
 
 -- the gap that is left
 mended_if : (b : Bool) (x : Seam) (kept gap : List ℕ) → cond b (kept ++ gap) (kept ++ joined (repair x.keeps x.indent x.column (text_lines gap))) ≡ kept ++ mended (cond b None (Some x)) gap
-mended_if true x kept gap = refl
-mended_if false x kept gap = refl
+mended_if b x kept gap = search rules
 
 pub gap_mended : (o : Option BlockText) (column : ℕ) (kept gap : List ℕ) → seam_gap o column kept gap ≡ kept ++ mended (seam_behind o column kept) gap
 gap_mended None column kept gap = refl

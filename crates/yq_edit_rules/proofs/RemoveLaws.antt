@@ -32,12 +32,10 @@ use Rattle.yq_row_table.specs.Rows as rows
 
 -- rows with another gap before them
 gap_lines : (gap : List ℕ) (back : List Row) (last : List ℕ) → (no_rows back ≡ false → head_comment gap ≡ head_comment (first_gap back last)) → lines_of_rows (with_first_gap gap back) ≡ lines_of_rows back
-gap_lines gap [] last h = refl
-gap_lines gap (r ∷ back) last h = ap (λ (above : List (List ℕ)). Rattle.yq_outline.specs.Lines.lines_from above r.column r.dashes r.mark r.content ++ lines_of_rows back) (h refl)
+gap_lines gap back last h = search rules
 
 gap_fit : (gap : List ℕ) (back : List Row) → HaveFitKeys back → HaveFitKeys (with_first_gap gap back)
-gap_fit gap [] h = h
-gap_fit gap (r ∷ back) h = h
+gap_fit gap back h = search rules
 
 -- a first row that begins with an entry is no plain scalar alone
 pub entry_short : (r : Row) (rest : List Line) → AreDashes r.dashes r.mark → BeginsEntry (row_lines r ++ rest) → is_long_plain r.mark r.content ≡ false
@@ -46,8 +44,7 @@ entry_short r rest d h = go r.mark refl r.dashes refl
     go : (m : rows.RowMark) → r.mark ≡ m → (ns : List ℕ) → r.dashes ≡ ns → is_long_plain r.mark r.content ≡ false
     go rows.Dash e ns f = ap (λ (m : rows.RowMark). is_long_plain m r.content) e
     go (rows.Key key colon) e ns f = ap (λ (m : rows.RowMark). is_long_plain m r.content) e
-    go rows.Bare e [] f = absurd (subst (λ (m : rows.RowMark). BeginsEntry (Rattle.yq_outline.specs.Lines.lines_from (head_comment r.gap) r.column [] m r.content ++ rest)) e
-        (subst (λ (ns : List ℕ). BeginsEntry (Rattle.yq_outline.specs.Lines.lines_from (head_comment r.gap) r.column ns r.mark r.content ++ rest)) f h))
+    go rows.Bare e [] f = search rules
     go rows.Bare e (n ∷ ns) f = absurd (false≢true ((subst (λ (m : rows.RowMark). AreDashes (n ∷ ns) m) e (subst (λ (x : List ℕ). AreDashes x r.mark) f d)).1))
 
 short_left : (front gone back : List Row) (gap : List ℕ) (limit : Limit) (last rest : List ℕ) → HasShortRoot (front ++ (gone ++ back)) → AreRows limit back last rest → BeginsEntry (lines_of_rows back) →
@@ -102,14 +99,8 @@ removed_cut t c k p front gone back old cut rows some next less text =
     let before : front ≡ take i p.rows = sym (take_front p front (gone ++ back) rows) in
     let behind : back ≡ drop j p.rows = sym (drop_gone p front gone back rows) in
     let asked : allows_first (asked_behind unlimited (take i p.rows)) (drop j p.rows) ≡ true = search (rules, before, j, behind) in
-    let lower : StandsLess (last_block (take i p.rows)) (next_column (drop j p.rows)) =
-    subst (λ (a : List Row). StandsLess (last_block a) (next_column (drop j p.rows))) before (subst (λ (b : List Row). StandsLess (last_block front) (next_column b)) behind less) in
-    let fits : RepairFits n i j ks (last_run ls) c = record {
-      some = ap (λ (x : Part). no_rows (drop i x.rows)) is ∙ (ap no_rows here ∙ rows_behind_some gone back some);
-      lines = ap (λ (x : Part). text_lines (first_gap (drop i x.rows) x.end)) is ∙ (ap (λ (rs : List Row). text_lines (first_gap rs p.end)) here ∙ (ap text_lines (first_same gone back p.end some) ∙ run_parts ls));
-      next = subst (λ (x : Part). allows_first (asked_behind unlimited (take i x.rows)) (drop j x.rows) ≡ true) (sym is) asked;
-      less = subst (λ (x : Part). StandsLess (last_block (take i x.rows)) (next_column (drop j x.rows))) (sym is) lower;
-    } in
+    let lower : StandsLess (last_block (take i p.rows)) (next_column (drop j p.rows)) = search rules in
+    let fits : RepairFits n i j ks (last_run ls) c = search (rules, rows_behind_some, first_same, run_parts) in
     let same : without_rows n i j ks c ≡ put_document k (without front gone back p) c =
     ap (λ (x : Part). splice n i j [] (removed_gap i j ks x) c) is
     ∙ ((λ v. splice n i j [] (seam_gap (last_block (sym before v)) (next_column (sym behind v)) (joined ks) (first_gap (sym behind v) p.end)) c)
@@ -133,13 +124,10 @@ block_gone t c k p steps s h f front gone back old at left has spared text =
     let apart = entries_apart (level_or 0 o) o steps s h f known.even at in
     let b : List Line = lines_before h.place ++ lines_before f.place in
     let e : List Line = f.line ∷ flatten f.under in
-    let old_lines : lines_of_rows p.rows ≡ lines_of_rows front ++ (lines_of_rows gone ++ lines_of_rows back) =
-    ap lines_of_rows has.rows_are ∙ (lines_append front (gone ++ back) ∙ ap (λ (x : List Line). lines_of_rows front ++ x) (lines_append gone back)) in
+    let old_lines : lines_of_rows p.rows ≡ lines_of_rows front ++ (lines_of_rows gone ++ lines_of_rows back) = search (rules, lines_append) in
     let place =
     entry_placed (level_or 0 o) p steps h s f (lines_of_rows front) (lines_of_rows gone) (lines_of_rows back) known.even at (record { parts_are = old_lines; before_are = has.number; size_is = has.count }) in
-    let whole : lines_of_rows front ++ (lines_of_rows gone ++ lines_of_rows back) ≡ b ++ (e ++ lines_behind h f) =
-    sym (place.1 (lines_of_rows gone)) ∙ (ap (λ (x : List Line). put_lines h (with_lines f x)) place.0
-    ∙ around (lines_before h.place) (lines_before f.place) e (flatten f.after ++ lines_after f.place) (lines_after h.place)) in
+    let whole : lines_of_rows front ++ (lines_of_rows gone ++ lines_of_rows back) ≡ b ++ (e ++ lines_behind h f) = search (rules, around) in
     let parts = same_parts (lines_of_rows front) (lines_of_rows gone) (lines_of_rows back) b e (lines_behind h f) whole (has.number ∙ sym (length-append (lines_before h.place) (lines_before f.place))) has.count in
     let some : no_rows gone ≡ false = rows_with gone [] e place.0 (λ none. cc) in
     let part : AreRows unlimited (front ++ (gone ++ back)) p.end rest =
@@ -161,12 +149,10 @@ block_gone t c k p steps s h f front gone back old at left has spared text =
     let cut = removed_cut t c k p front gone back old known.cut has.rows_are some allowed less text in
     let ls = text_lines (first_gap gone p.end) in
     let x : List ℕ = joined (last_run ls) ++ behind_first (gone ++ back) p.end rest in
-    let kept : AreGapLines (before_run ls) x =
-    gap_front (first_gap (gone ++ back) p.end) (behind_first (gone ++ back) p.end rest) (before_run ls) (last_run ls) (first_is asked (gone ++ back) p.end rest own) (ap text_lines (first_same gone back p.end some) ∙ run_parts ls) in
+    let kept : AreGapLines (before_run ls) x = search (rules, gap_front, first_is, first_same, run_parts) in
     let x_some : is_empty x ≡ false = some_behind (joined (last_run ls)) (behind_first (gone ++ back) p.end rest) (behind_some asked (gone ++ back) p.end rest (rows_behind_some gone back some) own) in
     let head : no_rows back ≡ false → head_comment gap ≡ head_comment (first_gap back p.end) =
-    λ n. head_left (last_block front) (next_column back) (before_run ls) x (first_gap back p.end) (behind_first back p.end rest) kept x_some (none_before ls)
-    (first_is limit back p.end rest further) (behind_some limit back p.end rest n further) in
+    search (rules, head_left, none_before, first_is, behind_some) in
     let lines : lines_of_rows q.rows ≡ put_lines h (with_lines f []) =
     lines_append front (with_first_gap gap back) ∙ (ap (λ (y : List Line). lines_of_rows front ++ y) (gap_lines gap back p.end head) ∙ sym (place.1 [])) in
     let keys = fit_parts front (gone ++ back) (subst HaveFitKeys has.rows_are known.document.keys) in

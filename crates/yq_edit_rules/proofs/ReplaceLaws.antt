@@ -1,14 +1,11 @@
 -- Rows of a document in the place of others, and a node below the root replaced by them.
 use Rattle.std.proofs.Common.{◌≡◌, ℕ, List, [], ◌∷◌, ◌++◌, Some, false, refl, sym, ap, ◌∙◌, subst, length-append, rules}
 use Rattle.std.{proofs.lemmas.Bool.false≢true, proofs.lemmas.Option.same_Some}
-use mathlib.Core.List.{cons≢nil}
 use Rattle.yq_core.specs.Paths.{Step}
-use Rattle.yq_outline.{specs.Group.level_or, specs.Laws.with_lines, specs.Outline.{Line, Outline, end, row, flatten}}
-use Rattle.yq_outline.{specs.Places.{FoundLine, find}, proofs.Decides.flatten-group, proofs.Values.{same_rank, same_entry}}
-use Rattle.yq_outline.specs.Lines.{lines_of_rows}
-use Rattle.yq_row_table.{specs.Exchange.asked_behind, specs.Grammar.{unlimited, AreRows, no_rows}, specs.Rows.{Row, rows_text, Part}}
-use Rattle.yq_row_table.{specs.Splices.{behind_first, first_gap}, proofs.seams.FrontSeams.{seams_alike, seams_were}}
-use Rattle.yq_row_table.proofs.splices.SpliceTexts.{own_gap}
+use Rattle.yq_outline.{specs.Group.level_or, specs.Laws.with_lines, specs.Outline.{Line, Outline, flatten}, specs.Places.{FoundLine, find}}
+use Rattle.yq_outline.{proofs.Decides.flatten-group, proofs.Values.{same_rank, same_entry}, specs.Lines.lines_of_rows}
+use Rattle.yq_row_table.{specs.Exchange.asked_behind, specs.Grammar.{unlimited, AreRows, no_rows}, specs.Rows.{Row, Part}}
+use Rattle.yq_row_table.{specs.Splices.first_gap, proofs.seams.FrontSeams.{seams_alike, seams_were}, proofs.splices.SpliceTexts.own_gap}
 use Rattle.yq_documents.{specs.Documents.{HaveFitKeys, HasShortRoot}, specs.Reading.part_outline}
 use Rattle.yq_edit_rules.{specs.Appends.inserted, specs.Conditions.BeginsEntry, specs.DocumentRows.{RowsFit, behind_document}}
 use Rattle.yq_edit_rules.{specs.Replaces.{DocumentReplaced, NodeRowsReplaced}, specs.Siblings.{IsEntry, HasEntries}}
@@ -26,23 +23,14 @@ document_replaced t c k p front gone back new gap old r text =
     let known = document_known t c k p old in
     let rest : List ℕ = behind_document k c in
     let rows : AreRows unlimited (front ++ (gone ++ back)) p.end rest = subst (λ (rs : List Row). AreRows unlimited rs p.end rest) r.rows_are (part_rows t c k p old known.cut) in
-    let fits : RowsFit front new back gap p rest = record {
-      rows = r.new_are;
-      next = r.next;
-      seam = seams_alike front (rows_text (gone ++ back) (p.end ++ rest)) (rows_text new (gap ++ behind_first back p.end rest)) r.alike (seams_were front (gone ++ back) unlimited p.end rest rows);
-    } in
+    let fits : RowsFit front new back gap p rest = search (rules, seams_alike, seams_were) in
     document_spliced t c k p front gone back new gap old known.cut r.rows_are (ap no_rows r.rows_are ∙ rows_before_some front (gone ++ back) (rows_behind_some gone back r.some)) fits text
 
--- a path that ends at a line leads into a collection
-no_more : (x y : FoundLine × List Step) (s : Step) (ss : List Step) → x.1 ≡ s ∷ ss → y.1 ≡ [] → Some x ≡ Some y → ⊥
-no_more x y s ss a b e = cons≢nil (sym a ∙ (ap (λ (z : FoundLine × List Step). z.1) (same_Some _ _ e) ∙ b))
-
 pub found_entries : (s : Step) (ss : List Step) (o : Outline) (f : FoundLine) → find s ss o ≡ Some (f, []) → HasEntries o
-found_entries s ss o f h1 = search (rules, no_more)
+found_entries s ss o f h1 = search (rules, same_Some)
 
 outline_begins : (o : Outline) → HasEntries o → BeginsEntry (flatten o)
-outline_begins end h = tt
-outline_begins (row l under after) h = h
+outline_begins o h = search rules
 
 -- lines that begin as others do, or with an entry
 begin_stays : (x y z : List Line) (l : Line) (ls : List Line) → IsEntry l.mark → BeginsEntry (x ++ (y ++ z)) → BeginsEntry ((x ++ (l ∷ ls)) ++ z)
@@ -75,9 +63,7 @@ node_rows_replaced t c k p s ss f v front gone new back x y m l u old found r w 
     let fit : HaveFitKeys (front ++ (new ++ back)) = fit_from front (new ++ back) keys.0 (fit_from new back w.keys (fit_parts gone back keys.1).1) in
     let entry : IsEntry l.mark = entry_out l.mark (same_entry f.line.mark l.mark (entry_in f.line.mark (found_is_entry (level_or 0 o) p s ss f known.even found)) (same_rank f.line l (sym fits.level_is))) in
     let begins : front ≡ [] → BeginsEntry (lines_of_rows (new ++ back)) =
-    λ none. subst BeginsEntry (sym (ap (λ (rs : List Row). lines_of_rows (rs ++ (new ++ back))) (sym none) ∙ (rows_in_parts front new back ∙ (λ i. lines_of_rows (none i) ++ (w.new_lines i ++ z)))))
-    (begin_stays x y z l (flatten u) entry (subst BeginsEntry (flatten-group (lines_of_rows p.rows) ∙ (olds ∙ ap (λ (rs : List Row). (lines_of_rows rs ++ x) ++ (y ++ z)) none)) (outline_begins o (found_entries s ss o f found)))) in
-    let short : HasShortRoot (front ++ (new ++ back)) =
-    short_new front (gone ++ back) new back (first_gap back p.end) _ (subst HasShortRoot r.rows_are known.document.short) r.new_are some begins in
+    search (rules, rows_in_parts, begin_stays, flatten-group, outline_begins, found_entries) in
+    let short : HasShortRoot (front ++ (new ++ back)) = search (rules, short_new) in
     let put = is_put t c k p q old (ap no_rows there ∙ rows_before_some front (new ++ back) (rows_behind_some new back some)) text cut (subst HaveFitKeys (sym there) fit) (subst HasShortRoot (sym there) short) in
     node_replaced t c k p q s ss f v m l u put found fits w.anchors lines may

@@ -1,10 +1,10 @@
 -- What is written in block style is rows.
 use Rattle.std.proofs.Common.{◌≡◌, ℕ, ◌+◌, ◌≤◌, pos, Bool, true, false, List, [], ◌∷◌, ◌++◌, Option, Some, refl, arith, append-nil, rules}
-use Rattle.std.{proofs.Common.{suc, cond, None, ap, subst}, proofs.Math.Bool.and-false, proofs.lemmas.Bool.lt-ltb, specs.Str.IsUtf8}
+use Rattle.std.{proofs.Common.{None, ap, subst}, proofs.Math.Bool.and-false, proofs.lemmas.Bool.lt-ltb, specs.Str.IsUtf8}
 use Rattle.yq_core.{specs.declared.block_types.Break.Break, specs.BlockWritten.break_text, specs.Text.{is_marker, separates}}
 use Rattle.yq_core.{specs.Tree.Children, specs.Nodes.node_text, proofs.Alikes.sep_first}
 use Rattle.yq_flow_edits.specs.Valued.{IsLabel, IsValueTree, AreValueTrees}
-use Rattle.yq_row_table.specs.Grammar.{allows, limit_behind, Limit, is_entry, IsMark, IsContent, IsRow, is_plain_content, unlimited}
+use Rattle.yq_row_table.specs.Grammar.{allows, limit_behind, Limit, is_entry, IsMark, IsContent, IsRow, unlimited}
 use Rattle.yq_row_table.specs.Rows.{Nothing, Inline, Row, rows_text, RowMark, Dash, Key, Content, content_text, mark_text, parent_of}
 use Rattle.yq_edit_rules.specs.BlockRows.{block_key, children_rows, column_below, end_of_line_before, entry_rows, inline_of, key_row}
 use Rattle.yq_edit_rules.specs.BlockRows.{node_rows, indent_step}
@@ -37,23 +37,16 @@ front_is limit column m content rest allowed f c = search (rules, no_gap_here, a
 
 -- a key or dash, and an inline node
 row_follows : (column c : ℕ) (node : inline.FlowNode) (end : List ℕ) → c ≤ column → allows (limit_behind (pos column) (Inline (32 ∷ []) node end)) c ≡ true
-row_follows column c node end within = go (is_plain_content node) where
-  go : (b : Bool) → allows (cond b (record { column = Some (suc column) }) unlimited) c ≡ true
-  go true = lt-ltb c (suc column) (omega (arith, within))
-  go false = refl
+row_follows column c node end within = search (rules, arith, lt-ltb)
 
 inline_laid : (column : ℕ) (m : RowMark) (end : List ℕ) (n : tree.Node) (node : inline.FlowNode) (rest : List ℕ) → IsFront column m (Inline (32 ∷ []) node end) rest → IsHead n node → IsEnd column end rest → AreLaid column (front_row column m (Inline (32 ∷ []) node end) ∷ []) rest
 inline_laid column m end n node rest f h e = search (rules, front_is, pos, no_gap_here, row_follows)
-
--- a key, and the rows below it
-break_apart : (br : Break) (rest : List ℕ) → separates (break_text br ++ rest) ≡ true
-break_apart br rest = search rules
 
 above_laid : (column below : ℕ) (br : Break) (k : List ℕ) (rs : List Row) (rest : List ℕ) → IsUtf8 k → IsNear (Some k) → column ≤ below → AreLaid below rs rest → AreLaid column (key_row column k (Nothing (break_text br)) ∷ rs) rest
 above_laid column below br k [] rest u near deep h = absurd h
 above_laid column below br k (r ∷ rs) rest u near deep h =
     let t : List ℕ = rows_text (r ∷ rs) rest in
-    let f = key_front column k (Nothing (break_text br)) t u near (break_apart br t) in
+    let f = key_front column k (Nothing (break_text br)) t u near (search rules) in
     record {
       gap = refl;
       at = refl;
@@ -72,8 +65,7 @@ entry_laid l column end true label n None below rest is near h e inner =
     rw is.1 (above_laid column (column + indent_step l n) l.br is.0 below rest is.2 (subst IsNear (ap (λ (x : tree.Label). x.key) is.1) near) (omega arith)
     (subst (λ (x : tree.Label). AreLaid (column_below l column x.key n) below rest) is.1 (inner h)))
 entry_laid l column end false label n (Some node) below rest is near h e inner = rw is (inline_laid column Dash end n node rest (dash_front column node end rest) h e)
-entry_laid l column end false label n None below rest is near h e inner =
-    rw is (laid_behind column below rest (subst (λ (x : tree.Label). AreLaid (column_below l column x.key n) below rest) is (inner h)))
+entry_laid l column end false label n None below rest is near h e inner = search (rules, laid_behind)
 
 below_deeper : (l : Layout) (column : ℕ) (key : Option (List ℕ)) (n : tree.Node) → column ≤ column_below l column key n
 below_deeper l column (Some k) n = omega arith

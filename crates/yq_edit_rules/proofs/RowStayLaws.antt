@@ -12,9 +12,9 @@ use Rattle.yq_documents.specs.Documents.{Document, begins_bare, document_parts, 
 use Rattle.yq_documents.{specs.LinesInRows.{RowLine, behind_one, row_line, row_line_of}, specs.PartNumbers.{number_from, part_number}}
 use Rattle.yq_documents.{specs.Reading.{part_document, part_outline}, specs.TreeEdits.change_nth, proofs.PartNumberLaws.part_there}
 use Rattle.yq_places.specs.PlacedRows.{PlacedPart, before_part, placed_at, placed_document}
-use Rattle.yq_places.specs.Standings.{RowsOfEntry, entry_rows_at, rows_of_entry, under_count}
-use Rattle.yq_places.{proofs.PlacedPartLaws.{StandsIn, map_some, part_stands}, proofs.RowLineSpans.steps_row}
-use Rattle.yq_edit_rules.{specs.Appends.inserted, specs.Changed.{KeepsRows, put_document, put_part}, specs.Rooms.{RowShape, row_shape}}
+use Rattle.yq_places.{specs.Standings.{RowsOfEntry, entry_rows_at, rows_of_entry}, proofs.PlacedPartLaws.map_some}
+use Rattle.yq_places.proofs.RowLineSpans.{steps_row}
+use Rattle.yq_edit_rules.{specs.Changed.{KeepsRows, put_document, put_part}, specs.Rooms.{RowShape, row_shape}}
 use Rattle.yq_edit_rules.specs.RowStays.{EntriesStay, ExchangesStay, HeadNodes, RowLinesStay, RowsBehindStay, StandsStill, StaysFrom}
 use Rattle.yq_edit_rules.{proofs.ChangedLaws.{document_put, first_stays, nth_changed}, proofs.FlowKeptLaws.one_other}
 use Rattle.yq_edit_rules.{proofs.ShapeLaws.line_by_shape, proofs.StandingMarks.{even_there, under_it}}
@@ -55,12 +55,7 @@ row_line_stays (suc n) m (r ∷ rs) (x ∷ ss) s e same is less =
     go : (b : Bool) (o : Option RowLine) → row_line (m - suc (length r.dashes)) rs ≡ o → cond b (option_map behind_one o) (Some (record { before = 0; row = r; line = m })) ≡ Some s →
         ((y : RowLine) → row_line (m - suc (length r.dashes)) rs ≡ Some y → n ≤ y.before → row_line (m - suc (length r.dashes)) ss ≡ Some y) →
         cond b (option_map behind_one (row_line (m - suc (length r.dashes)) ss)) (Some (record { before = 0; row = x; line = m })) ≡ Some s
-    go true None found there again = absurd (none-some _ there)
-    go true (Some y) found there again =
-        let one : behind_one y ≡ s = same_Some _ _ there in
-        let behind : suc y.before ≡ s.before = ap (λ (z : RowLine). z.before) one in
-        ap (option_map behind_one) (again y found (omega (arith, less, behind))) ∙ ap Some one
-    go false o found there again = absurd (let first : 0 ≡ s.before = ap (λ (z : RowLine). z.before) (same_Some _ _ there) in omega (arith, less, first))
+    go b o found there again = search (rules, arith, none-some, same_Some)
 
 line_there : (n : ℕ) (o : Option ℕ) (rs ss : List Row) (s : RowLine) → shapes ss ≡ shapes rs → drop n ss ≡ drop n rs → (o >>= λ m. row_line m rs) ≡ Some s → n ≤ s.before → (o >>= λ m. row_line m ss) ≡ Some s
 line_there n None rs ss s e same is less = absurd (none-some _ is)
@@ -168,16 +163,7 @@ module _ (c : Cut) (k n : ℕ) (p q : Part) (there : slice_get (document_parts c
     later = drop_later n (suc s.before) q.rows p.rows stays.rows (omega (arith, less, front_size))
 
     rows_same : entry_rows_at (around k q c) s ≡ record (entry_rows_at (around k p c) s) { front = take s.before q.rows }
-    rows_same = λ j. record {
-      start = before_part i c;
-      front = take s.before q.rows;
-      row = s.row;
-      line = s.line;
-      under = take (under_count s (later j)) (later j);
-      back = drop (under_count s (later j)) (later j);
-      end = stays.end j;
-      behind = behind_part i c;
-    }
+    rows_same = search (rules, later)
 
     entry_stays : StandsStill e k steps new
     entry_stays = record {
@@ -197,23 +183,14 @@ module _ (c : Cut) (k n : ℕ) (p q : Part) (there : slice_get (document_parts c
     abbrev d : PlacedPart
     d = other.0
 
-    stands : StandsIn m c d
-    stands = part_stands m c d other.1
-
     abbrev j : ℕ
     j = part_number m c
-
-    number_there : part_number m new ≡ j
-    number_there = ap (λ (b : Bool). number_from b m new) (first_stays c k p q there keeps) ∙ number_stays (begins_bare c || not (has_begin c)) m i q c
-
-    there_too : slice_get (document_parts new) m ≡ Some d.part
-    there_too = ap (λ (ps : List Part). slice_get ps m) (document_put c k p q there keeps) ∙ (nth_other k m q (document_parts c) later ∙ stands.there)
 
     abbrev now : PlacedPart
     now = record { before = before_part j new; part = d.part; behind = d.behind }
 
     placed_there : placed_document m new ≡ Some now
-    placed_there = search (rules, there_too, number_there, part_there, behind_other, numbers_rise, later)
+    placed_there = search (rules, document_put, nth_other, first_stays, keeps, number_stays, part_there, behind_other, numbers_rise, later)
 
     line_there_still : (s : RowLine) × (row_line_of steps d.part.rows ≡ Some s) × (entry_rows_at d s ≡ e)
     line_there_still = map_some (entry_rows_at d) (row_line_of steps d.part.rows) e other.2
@@ -240,13 +217,7 @@ past_row [] r back = refl
 past_row (x ∷ front) r back = past_row front r back
 
 exchanges_stay : ExchangesStay
-exchanges_stay p front back r new are same =
-    let now : (inserted front (new ∷ []) back p).rows ≡ front ++ (new ∷ back) = ap (λ (rs : List Row). front ++ (new ∷ rs)) (own_gap back p.end) in
-    record {
-      shapes = ap (map row_shape) now ∙ (one_other front new r back same ∙ sym (ap (map row_shape) are));
-      rows = ap (drop (suc (length front))) now ∙ (past_row front new back ∙ (sym (past_row front r back) ∙ sym (ap (drop (suc (length front))) are)));
-      end = own_end back p.end;
-    }
+exchanges_stay p front back r new are same = search (rules, own_gap, one_other, past_row, own_end)
 
 -- ---- nodes
 

@@ -1,5 +1,5 @@
 -- The rows of a collection's items or entries, and of one of them.
-use Rattle.std.proofs.Common.{◌≡◌, List, [], ◌∷◌, ◌++◌, length, refl, sym, ap, ◌∙◌, arith, length-append}
+use Rattle.std.proofs.Common.{rules, ◌≡◌, List, [], ◌∷◌, ◌++◌, length, refl, sym, ap, ◌∙◌, arith, length-append}
 use Rattle.yq_outline.{specs.Lines.lines_of_rows, specs.Outline.{Line, flatten}, specs.Places.{lines_before, lines_after}}
 use Rattle.yq_outline.proofs.Decides.{flatten-group}
 use Rattle.yq_documents.specs.Reading.{part_outline}
@@ -27,9 +27,5 @@ entry_rows p n steps s h f x even at is first =
       gone = cut.front;
       back = cut.back;
       number = w.before;
-      has = record {
-        rows_are = w.rows_are ∙ ap (λ rs. w.front ++ rs) cut.rows_are;
-        number = size ∙ length-append (lines_before h.place) (lines_before f.place);
-        count = ap length cut.front_lines;
-      };
+      has = search (rules, length-append);
     }

@@ -1,10 +1,10 @@
 -- Scalars, keys and empty collections as they are written in block style.
 use Rattle.std.proofs.Common.{◌≡◌, ℕ, Bool, true, false, cond, List, [], ◌∷◌, length, Option, Some, None, refl, ap, arith, rules}
 use Rattle.std.{proofs.lemmas.Bool.false≢true, specs.Str.{chars, IsUtf8}}
-use Rattle.yq_core.{specs.declared.kind.Kind.Kind, specs.Piece.deeper, specs.Scalar.{ScalarText, string_of, of_kind}, specs.Text.separates}
-use Rattle.yq_core.{specs.Writable.can_write, specs.Written.written_scalar, specs.Nodes.IsFlowNode}
-use Rattle.yq_core.{specs.Scalars.{scalar_content, scalar_of}, specs.Trees.{tree_of, scalar_node}, specs.NodesWritten.scalar_text}
-use Rattle.yq_core.{proofs.GapLaws.none_gap, proofs.NodesWrittenLaws.double_when}
+use Rattle.yq_core.{specs.Piece.deeper, specs.Scalar.{ScalarText, string_of}, specs.Text.separates, specs.Writable.can_write}
+use Rattle.yq_core.{specs.Written.written_scalar, specs.Nodes.IsFlowNode, specs.Scalars.{scalar_content, scalar_of}}
+use Rattle.yq_core.{specs.Trees.{tree_of, scalar_node}, specs.NodesWritten.scalar_text, proofs.GapLaws.none_gap}
+use Rattle.yq_core.proofs.NodesWrittenLaws.{double_when}
 use Rattle.yq_flow_edits.{specs.Valued.{IsValid, IsValueTree, SpellsScalar}, proofs.StyledScalars.styled_spells}
 use Rattle.yq_row_table.specs.Grammar.{IsKey}
 use Rattle.yq_edit_rules.{specs.BlockRows.{block_key, inline_of}, specs.BlockValues.{IsFilled, IsNear}, specs.BlockLaws.IsHead}
@@ -27,12 +27,9 @@ pub key_spelled : (k : List ℕ) → IsUtf8 k → SpellsScalar (string_of k) (bl
 unfolding scalar_text
 key_spelled k u = styled (string_of k) (record { kind = tt; utf8 = u }) (can_write (string_of k) styles.Plain places.Block) refl
 
-text_of : (kind : Kind) (t k : List ℕ) → of_kind kind t ≡ string_of k → t ≡ k
-text_of kind t k h1 = search (rules, false≢true)
-
 content_by : (p k : List ℕ) → scalar_of p ≡ string_of k → scalar_content p ≡ k
 unfolding scalar_of scalar_content
-content_by p k h = search (rules, text_of)
+content_by p k h = search (rules, false≢true)
 
 pub key_content_is : (k : List ℕ) → IsUtf8 k → scalar_content (block_key k) ≡ k
 key_content_is k u = content_by (block_key k) k (key_spelled k u).same

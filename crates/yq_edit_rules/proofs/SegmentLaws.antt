@@ -1,12 +1,8 @@
 -- What segments make of a text is made of pieces.
-use Rattle.std.{proofs.Common.{◌≡◌, List, [], ◌∷◌, true, refl}, proofs.lemmas.Str.{IsUtf8-nil, is_utf8-from_IsUtf8}, specs.Str.chars}
-use Rattle.yq_core.specs.Characters.{is_text, pairs_returns}
-use Rattle.yq_edit_rules.{specs.TextPieces.IsPiece, proofs.TextPieceLaws.pieces_joined, specs.Done.{ArePieces, SegmentsReadable}}
+use Rattle.std.{proofs.Common.{List, [], ◌∷◌}, proofs.lemmas.Str.{IsUtf8-nil, is_utf8-from_IsUtf8}}
+use Rattle.yq_edit_rules.{proofs.CommentPieceLaws.nothing_text, specs.TextPieces.IsPiece, proofs.TextPieceLaws.pieces_joined}
+use Rattle.yq_edit_rules.specs.Done.{ArePieces, SegmentsReadable}
 use Rattle.yq_text.specs.Script.{Segment, keep, put, new_text}
-
-nothing_text : is_text [] ≡ true
-unfolding chars pairs_returns
-nothing_text = refl
 
 segments_piece : (ss : List Segment) → ArePieces ss → IsPiece (new_text ss)
 segments_piece [] h = record { utf8 = IsUtf8-nil; characters = nothing_text }

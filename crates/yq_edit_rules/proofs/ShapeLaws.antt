@@ -3,8 +3,7 @@ use Rattle.std.proofs.Common.{◌≡◌, ℕ, suc, ◌+◌, ◌-◌, nat_lt, eqb
 use Rattle.std.{proofs.Common.{None, option_map, option_and_then, refl, sym, ap, ◌∙◌, rules}, proofs.lemmas.List.{map-append, length-map}}
 use Rattle.std.specs.Option.{is_some}
 use Rattle.yq_core.{specs.Answers.◌>>=◌, specs.Paths.{Step, is_here, further}, specs.Tree.Node}
-use Rattle.yq_outline.{specs.Comments.head_comment, specs.Ends.{found_line, line_at_steps}}
-use Rattle.yq_outline.specs.Group.{deeper_lines, shallow, lead, group}
+use Rattle.yq_outline.{specs.Comments.head_comment, specs.Ends.{found_line, line_at_steps}, specs.Group.{deeper_lines, shallow, group}}
 use Rattle.yq_outline.specs.Outline.{LineMark, Dash, Line, level, Outline, end, row, flatten, label, null_node}
 use Rattle.yq_outline.specs.Places.{Context, here, below, beside, lines_before, compose, FoundLine, next_to, find_row, place_inside}
 use Rattle.yq_outline.{specs.Places.{bare_or, in_head, find}, specs.Lines.{head_of, line_mark, lines_from, row_lines, lines_of_rows}}
@@ -39,8 +38,7 @@ unfolding level
 same_level l = refl
 
 outline_if : (b : Bool) (x y : Outline) → cond b (strip_outline x) (strip_outline y) ≡ strip_outline (cond b x y)
-outline_if true x y = refl
-outline_if false x y = refl
+outline_if b x y = search rules
 
 deeper_strip : (n : ℕ) (o : Outline) → deeper_lines n (strip_outline o) ≡ strip_outline (deeper_lines n o)
 deeper_strip n end = refl
@@ -54,10 +52,7 @@ shallow_strip n (row l u a) =
 
 pub group_strip : (ls : List Line) → group (map stripped ls) ≡ strip_outline (group ls)
 group_strip [] = refl
-group_strip (l ∷ ls) =
-    ap (lead (stripped l)) (group_strip ls)
-    ∙ ((λ i. row (stripped l) (deeper_lines (same_level l i) (strip_outline (group ls))) (shallow (same_level l i) (strip_outline (group ls))))
-    ∙ (λ i. row (stripped l) (deeper_strip (level l) (group ls) i) (shallow_strip (level l) (group ls) i)))
+group_strip (l ∷ ls) = search (rules, same_level, deeper_strip, shallow_strip, group_strip ls)
 
 flatten_strip : (o : Outline) → flatten (strip_outline o) ≡ map stripped (flatten o)
 flatten_strip end = refl
@@ -105,12 +100,10 @@ inside_strip f (Some x) =
     λ i. Some (record { place = compose_strip f.place (below f.line x.0.place f.after) i; line = stripped x.0.line; under = strip_outline x.0.under; after = strip_outline x.0.after }, x.1)
 
 pub head_strip : (h : Option Node) (x y : Option (FoundLine × List Step)) → in_head (option_map (λ n. null_node) h) (option_map strip_pair x) (option_map strip_pair y) ≡ option_map strip_pair (in_head h x y)
-head_strip None x y = refl
-head_strip (Some n) x y = refl
+head_strip h x y = search rules
 
 none_left : (o : Option FoundLine) → option_map (λ f. (f, [])) (option_map strip_found o) ≡ option_map strip_pair (option_map (λ f. (f, [])) o)
-none_left None = refl
-none_left (Some f) = refl
+none_left o = search rules
 
 on_strip : (t : Step) (ts : List Step) → ((o : Outline) → find t ts (strip_outline o) ≡ option_map strip_pair (find t ts o)) → (o : Option FoundLine) →
     option_and_then (go_on t ts) (option_map strip_found o) ≡ option_map strip_pair (option_and_then (go_on t ts) o)
@@ -145,8 +138,7 @@ shapes_lines [] = []
 shapes_lines (s ∷ ss) = shape_lines s.column s.dashes s.mark s.headed ++ shapes_lines ss
 
 head_is : (h : Option Node) → option_map (λ n. null_node) h ≡ head_if (is_some h)
-head_is None = refl
-head_is (Some n) = refl
+head_is h = search rules
 
 from_strip : (above : List (List ℕ)) (column : ℕ) (ns : List ℕ) (mark : rows.RowMark) (c : Content) → map stripped (lines_from above column ns mark c) ≡ shape_lines column ns mark (is_some (head_of c))
 from_strip above column [] mark c = ap (λ h. record { column = column; mark = line_mark mark; anchor = None; head = h; head_comment = []; line_comment = None } ∷ []) (head_is (head_of c))
@@ -186,26 +178,20 @@ row_line_numbers n [] = refl
 row_line_numbers n (r ∷ rs) = go (nat_lt (length r.dashes) n) (row_line (n - suc (length r.dashes)) rs) (row_line_numbers (n - suc (length r.dashes)) rs)
   where
     go : (b : Bool) (o : Option RowLine) {x : Option (ℕ × ℕ)} → numbers_of o ≡ x → numbers_of (cond b (option_map behind_one o) (Some (record { before = 0; row = r; line = n }))) ≡ cond b x (Some (n, length r.dashes))
-    go true None e = e
-    go true (Some s) e = e
-    go false o e = refl
+    go b o e = search rules
 
 room_numbers : (part : places.Part) (o : Option RowLine) → row_line_has_room part o ≡ have_room part (numbers_of o)
 room_numbers part o = search rules
 
-same_room : (part : places.Part) (n : ℕ) (rs ss : List Row) → map row_shape ss ≡ map row_shape rs → row_line_has_room part (row_line n ss) ≡ row_line_has_room part (row_line n rs)
-same_room part n rs ss h = search (rules, room_numbers, row_line_numbers)
-
 line_room : (part : places.Part) (o : Option ℕ) (rs ss : List Row) → map row_shape ss ≡ map row_shape rs → row_line_has_room part (o >>= λ n. row_line n ss) ≡ row_line_has_room part (o >>= λ n. row_line n rs)
 line_room part None rs ss h = refl
-line_room part (Some n) rs ss h = same_room part n rs ss h
+line_room part (Some n) rs ss h = search (rules, room_numbers, row_line_numbers)
 
 equal_rooms : (p q : Part) → map row_shape q.rows ≡ map row_shape p.rows → EqualRoom p q
 equal_rooms p q h part steps = ap (λ o. row_line_has_room part (o >>= λ n. row_line n q.rows)) (line_by_shape p q h steps) ∙ line_room part (line_at_steps steps (lines_of_rows p.rows)) p.rows q.rows h
 
 begins_strip : (ls : List Line) → begins_no_node (map stripped ls) ≡ begins_no_node ls
-begins_strip [] = refl
-begins_strip (l ∷ ls) = refl
+begins_strip ls = search rules
 
 pub shapes_are_alike : ShapesAgree
 shapes_are_alike p q h = (

@@ -92,23 +92,11 @@ each_more l v (child i n cs) h k = (k.0, each_more l v cs h k.1)
 
 deepest_more : (l : Label) (v : Node) (cs : Children) → deepest (append_child l v cs) ≤ max (deepest cs) (depth v)
 deepest_more l v none = max_least (depth v) 0 (max 0 (depth v)) (max_right 0 (depth v)) (omega arith)
-deepest_more l v (child i n cs) =
-    let top : ℕ = max (max (depth n) (deepest cs)) (depth v) in
-    let low = deepest_more l v cs in
-    let a = max_left (depth n) (deepest cs) in
-    let b = max_right (depth n) (deepest cs) in
-    let c = max_left (max (depth n) (deepest cs)) (depth v) in
-    let d = max_right (max (depth n) (deepest cs)) (depth v) in
-    let e : max (deepest cs) (depth v) ≤ top = max_least (deepest cs) (depth v) top (omega (arith, b, c)) d in
-    max_least (depth n) (deepest (append_child l v cs)) top (omega (arith, a, c)) (omega (arith, low, e))
-
-append_depth : (d : ℕ) (l : Label) (v n : Node) → depth n ≤ d → suc (depth v) ≤ d → depth (within (append_child l v) n) ≤ d
-append_depth d l v n h1 h2 = search (rules, deepest_more, max_least)
+deepest_more l v (child i n cs) = search (rules, arith, max_left, max_right, max_least, deepest_more l v cs)
 
 -- keys in order, with one more at the end
 with_append : (k : Option (List ℕ)) (xs ys : List (List ℕ)) → with_first k (xs ++ ys) ≡ with_first k xs ++ ys
-with_append None xs ys = refl
-with_append (Some k) xs ys = refl
+with_append k xs ys = search rules
 
 keys_more : (l : Label) (v : Node) (cs : Children) → keys_of (append_child l v cs) ≡ keys_of cs ++ with_first l.key []
 keys_more l v none = refl
@@ -144,5 +132,5 @@ append_keeps steps root old v l h there is new =
     let nested = is.nested in
     let low = depth_at steps root old there in
     let limit = h.nested in
-    let deep : depth (within (append_child l v) old) ≤ depth_limit - length steps = append_depth (depth_limit - length steps) l v old (omega (arith, low, limit)) (omega (arith, nested)) in
+    let deep : depth (within (append_child l v) old) ≤ depth_limit - length steps = search (rules, deepest_more, max_least) in
     same_names steps root old (within (append_child l v)) h there (append_unique l v old (unique_at steps root old there h.unique) is.unique new) (omega (arith, deep, nested)) (append_names l v old is.bare)

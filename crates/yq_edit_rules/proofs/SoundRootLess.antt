@@ -14,15 +14,7 @@ use Rattle.yq_edit_rules.{proofs.TreeLaws.{max_least, max_left, max_right}, proo
 -- one less
 unlike_less : (k : List ℕ) (s : Step) (cs : Children) → list_any (bytes_eq k) (keys_of cs) ≡ false → list_any (bytes_eq k) (keys_of (remove_child s cs)) ≡ false
 unlike_less k s none e = e
-unlike_less k s (child l n cs) e = go (is_here s l) l.key e (unlike_less k (further s) cs)
-  where
-    go : (b : Bool) (j : Option (List ℕ)) → list_any (bytes_eq k) (with_first j (keys_of cs)) ≡ false →
-        (list_any (bytes_eq k) (keys_of cs) ≡ false → list_any (bytes_eq k) (keys_of (remove_child (further s) cs)) ≡ false) →
-        list_any (bytes_eq k) (keys_of (cond b cs (child (record l { key = j }) n (remove_child (further s) cs)))) ≡ false
-    go true None e ih = e
-    go true (Some j) e ih = (or_parts (bytes_eq k j) (list_any (bytes_eq k) (keys_of cs)) e).1
-    go false None e ih = ih e
-    go false (Some j) e ih = let p = or_parts (bytes_eq k j) (list_any (bytes_eq k) (keys_of cs)) e in or_from (bytes_eq k j) _ p.0 (ih p.1)
+unlike_less k s (child l n cs) e = search (rules, or_parts, or_from, unlike_less k (further s) cs)
 
 distinct_less : (s : Step) (cs : Children) → are_distinct (keys_of cs) ≡ true → are_distinct (keys_of (remove_child s cs)) ≡ true
 distinct_less s none e = e
@@ -33,35 +25,24 @@ distinct_less s (child l n cs) e = go (is_here s l) l.key e (distinct_less (furt
     go true None e ih = e
     go true (Some j) e ih = (and_parts (not (list_any (bytes_eq j) (keys_of cs))) (are_distinct (keys_of cs)) e).1
     go false None e ih = ih e
-    go false (Some j) e ih =
-        let p = and_parts (not (list_any (bytes_eq j) (keys_of cs))) (are_distinct (keys_of cs)) e in
-        and_from (not (list_any (bytes_eq j) (keys_of (remove_child (further s) cs)))) (are_distinct (keys_of (remove_child (further s) cs)))
-        (ap not (unlike_less j (further s) cs (not-true (list_any (bytes_eq j) (keys_of cs)) p.0))) (ih p.1)
+    go false (Some j) e ih = search (rules, and_parts, and_from, unlike_less, not-true)
 
 each_less : (s : Step) (cs : Children) → EachHasUniqueKeys cs → EachHasUniqueKeys (remove_child s cs)
 each_less s none h = h
 each_less s (child l n cs) h = go (is_here s l) (each_less (further s) cs h.1)
   where
     go : (b : Bool) → EachHasUniqueKeys (remove_child (further s) cs) → EachHasUniqueKeys (cond b cs (child l n (remove_child (further s) cs)))
-    go true ih = h.1
-    go false ih = (h.0, ih)
+    go b ih = search rules
 
 deepest_less : (s : Step) (cs : Children) → deepest (remove_child s cs) ≤ deepest cs
 deepest_less s none = omega arith
-deepest_less s (child l n cs) = go (is_here s l) (deepest_less (further s) cs)
-  where
-    go : (b : Bool) → deepest (remove_child (further s) cs) ≤ deepest cs → deepest (cond b cs (child l n (remove_child (further s) cs))) ≤ max (depth n) (deepest cs)
-    go true ih = max_right (depth n) (deepest cs)
-    go false ih = max_least (depth n) (deepest (remove_child (further s) cs)) (max (depth n) (deepest cs)) (max_left (depth n) (deepest cs)) (omega (arith, ih, max_right (depth n) (deepest cs)))
+deepest_less s (child l n cs) = search (rules, arith, max_right, max_least, max_left, deepest_less (further s) cs)
 
 remove_unique : (s : Step) (n : Node) → HasUniqueKeys n → HasUniqueKeys (within (remove_child s) n)
 remove_unique s (alias name) h = h
 remove_unique s (scalar a i t) h = h
 remove_unique s (list a cs) h = each_less s cs h
 remove_unique s (map a cs) h = (distinct_is (keys_of (remove_child s cs)) (distinct_less s cs (is_distinct (keys_of cs) h.0)), each_less s cs h.1)
-
-remove_depth : (s : Step) (n : Node) → depth (within (remove_child s) n) ≤ depth n
-remove_depth s n = search (rules, deepest_less)
 
 -- the names around a node that is taken out
 record Without (s : Step) (cs : Children) (x : Node) : Type 0 where
@@ -113,7 +94,7 @@ without_in s (map a cs) x e = with_names a s cs x (map a cs) (λ g. refl) refl (
 pub remove_keeps : RemoveKeeps
 remove_keeps steps root old x s h there is spared =
     let low = depth_at steps root old there in
-    let less = remove_depth s old in
+    let less : depth (within (remove_child s) old) ≤ depth old = search (rules, deepest_less) in
     let limit = h.nested in
     let w = without_in s old x is in
     sound steps root old (within (remove_child s)) w.front (names_of x) [] w.back h there (remove_unique s old (unique_at steps root old there h.unique)) (omega (arith, low, less, limit)) w.old w.new refl spared
@@ -131,8 +112,7 @@ labels_stay s g (child l n cs) key = go (is_here s l) (labels_stay (further s) g
         (names_in (cond b (child (g l) n cs) (child l n (relabel_child (further s) g cs))) ≡ names_of n ++ names_in cs) ×
         (deepest (cond b (child (g l) n cs) (child l n (relabel_child (further s) g cs))) ≡ max (depth n) (deepest cs)) ×
         (HasUniqueKeys n × EachHasUniqueKeys cs → EachHasUniqueKeys (cond b (child (g l) n cs) (child l n (relabel_child (further s) g cs))))
-    go true ih = (ap (λ k. with_first k (keys_of cs)) (key l), refl, refl, λ h. h)
-    go false ih = (ap (with_first l.key) ih.0, ap (λ x. names_of n ++ x) ih.1, ap (max (depth n)) ih.2, λ h. (h.0, ih.3 h.1))
+    go b ih = search rules
 
 relabel_node : (s : Step) (g : Label → Label) (n : Node) → ((l : Label) → (g l).key ≡ l.key) →
     (names_of (within (relabel_child s g) n) ≡ names_of n) × (depth (within (relabel_child s g) n) ≡ depth n) × (HasUniqueKeys n → HasUniqueKeys (within (relabel_child s g) n))

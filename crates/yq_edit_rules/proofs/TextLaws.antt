@@ -52,9 +52,6 @@ mutual
       ∙ then_spelled l column end cs (block_entry l below label.key (inline_of n) (block_node l below n)) rest))
 
 pub value_spelled : (v : tree.Node) (l : Layout) (column : ℕ) (end rest : List ℕ) → IsFilled v → IsValueTree v → rows_text (node_rows l column end v) rest ≡ indented column (block_value l column v) (end ++ rest)
-value_spelled (tree.alias name) l column end rest b h = absurd b
-value_spelled (tree.scalar a kind t) l column end rest b h = absurd b
-value_spelled (tree.list a tree.none) l column end rest b h = absurd b
 value_spelled (tree.list a (tree.child label n cs)) l column end rest b h = node_spelled (tree.list a (tree.child label n cs)) l column end rest b h
-value_spelled (tree.map a tree.none) l column end rest b h = absurd b
 value_spelled (tree.map a (tree.child label n cs)) l column end rest b h = node_spelled (tree.map a (tree.child label n cs)) l column end rest b h
+value_spelled _ l column end rest b h = absurd b

@@ -42,10 +42,7 @@ piece_back a b u h =
     record { utf8 = subst IsUtf8 (drop-append_seam a b) (IsUtf8-drop (a ++ b) (length a) h.utf8 start); characters = and_from _ _ y.1 (pairs_back a b x.1) }
 
 pieces_cut : (a b : List ℕ) → IsPiece (a ++ b) → IsUtf8 a → MayCut a b → IsPiece a × IsPiece b
-pieces_cut a b h u may =
-    let x = and_parts (all_text (a ++ b)) (pairs_returns (a ++ b)) h.characters in
-    let y = and_parts (all_text a) (all_text b) (sym (all_join a b u) ∙ x.0) in
-    (record { utf8 = u; characters = and_from _ _ y.0 (search (rules, pairs_front, append_assoc, pairs_cut, may, x.1)) }, piece_back a b u h)
+pieces_cut a b h u may = search (rules, and_parts, all_text, all_join, and_from, pairs_front, append_assoc, pairs_cut, piece_back)
 
 -- after an ASCII byte that is no CR
 pub cut_behind : (a b : List ℕ) → IsPiece (a ++ b) → EndsAscii a → EndsBlack a → IsPiece a × IsPiece b
@@ -56,8 +53,7 @@ line_cut a b h = cut_behind (a ++ 10 ∷ []) b h (record { front = a; last = 10;
 
 -- before an ASCII byte that is no LF, or at the end
 ascii_front : (b : List ℕ) → BeginsPiece b → BeginsAscii b × (front is_feed b ≡ false)
-ascii_front [] h = (tt, refl)
-ascii_front (x ∷ b) h = h
+ascii_front b h = search rules
 
 pub byte_cut : ByteCut
 byte_cut a b h e =

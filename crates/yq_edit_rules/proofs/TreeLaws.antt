@@ -1,7 +1,7 @@
 -- Unique keys and depth of a tree in which a node is changed.
-use Rattle.std.proofs.Common.{◌≡◌, ℕ, ◌+◌, ◌-◌, ◌≤◌, max, [], ◌∷◌, length, Option, Some, None, option_and_then, Bool, true, false, cond}
-use Rattle.std.{proofs.Common.{refl, sym, ap, subst, arith}, proofs.lemmas.Option.{none-some, same_Some}}
-use Rattle.yq_core.specs.Keys.{AreDistinct, keys_of, HasUniqueKeys, EachHasUniqueKeys, depth, deepest}
+use Rattle.std.proofs.Common.{rules, ◌≡◌, ℕ, ◌+◌, ◌-◌, ◌≤◌, max, [], ◌∷◌, length, Option, Some, None, option_and_then, Bool, true, false}
+use Rattle.std.{proofs.Common.{cond, refl, sym, subst, arith}, proofs.lemmas.Option.{none-some, same_Some}}
+use Rattle.yq_core.specs.Keys.{keys_of, HasUniqueKeys, EachHasUniqueKeys, depth, deepest}
 use Rattle.yq_core.specs.Paths.{Step, is_here, further, child_at, node_at, change_child, within, changed_at}
 use Rattle.yq_core.{specs.Tree.{Node, alias, scalar, list, map, Children, none, child, children_of}, specs.Text.with_first}
 use Rattle.yq_edit_rules.specs.Conditions.{UniqueChanged, DepthChanged}
@@ -11,8 +11,7 @@ keys_stay s f none = refl
 keys_stay s f (child l n cs) = go (is_here s l) (keys_stay (further s) f cs)
   where
     go : (b : Bool) → keys_of (change_child (further s) f cs) ≡ keys_of cs → keys_of (cond b (child l (f n) cs) (child l n (change_child (further s) f cs))) ≡ with_first l.key (keys_of cs)
-    go true ih = refl
-    go false ih = ap (with_first l.key) ih
+    go b ih = search rules
 
 -- a property of each item or entry, where one is changed
 each_unique : (s : Step) (f : Node → Node) (cs : Children) (k : Node) → child_at s cs ≡ Some k → (HasUniqueKeys k → HasUniqueKeys (f k)) → EachHasUniqueKeys cs →
@@ -30,10 +29,7 @@ unique_changed [] n old f e h new = subst (λ x. HasUniqueKeys (f x)) (sym (same
 unique_changed (s ∷ ss) n old f e h new = go (child_at s (children_of n)) refl e (λ k d u. unique_changed ss k old f d u new)
   where
     kinds : (n k : Node) → child_at s (children_of n) ≡ Some k → (HasUniqueKeys k → HasUniqueKeys (changed_at ss f k)) → HasUniqueKeys n → HasUniqueKeys (within (change_child s (changed_at ss f)) n)
-    kinds (alias name) k is r h = tt
-    kinds (scalar a i t) k is r h = tt
-    kinds (list a cs) k is r h = each_unique s (changed_at ss f) cs k is r h
-    kinds (map a cs) k is r h = (subst AreDistinct (sym (keys_stay s (changed_at ss f) cs)) h.0, each_unique s (changed_at ss f) cs k is r h.1)
+    kinds n k is r h = search (rules, each_unique, keys_stay)
 
     go : (r : Option Node) → child_at s (children_of n) ≡ r → option_and_then (node_at ss) r ≡ Some old → ((k : Node) → node_at ss k ≡ Some old → HasUniqueKeys k → HasUniqueKeys (changed_at ss f k)) →
         HasUniqueKeys (within (change_child s (changed_at ss f)) n)
@@ -65,8 +61,7 @@ deepest_changed d s f (child l n cs) k e new h = go (is_here s l) e (λ c. deepe
     go false e ih = max_least _ _ d left (ih e)
 
 pub depth_changed : DepthChanged
-depth_changed d [] n old f e h new =
-    let less : depth (f old) ≤ d = omega (arith, new) in subst (λ x. depth (f x) ≤ d) (sym (same_Some _ _ e)) less
+depth_changed d [] n old f e h new = search (rules, arith, same_Some)
 depth_changed d (s ∷ ss) n old f e h new =
     let less : length ss + depth (f old) ≤ d - 1 = omega (arith, new) in go (child_at s (children_of n)) refl e (λ k u w. depth_changed (d - 1) ss k old f u w less)
   where

@@ -29,9 +29,6 @@ ends_none : (break rest : List ℕ) → Ends false break rest → rest ≡ []
 ends_none break rest (inl h) = absurd (false≢true h.0)
 ends_none break rest (inr h) = h.2
 
-not_block : (c : Content) → is_broken c ≡ false → (is_block c ≡ false) × (is_line (tail_behind c) ≡ false)
-not_block c h1 = search (rules, false≢true)
-
 -- The last row of a collection is the last one of its text, and has no break.
 pub record EndsText (c : Cut) (k : ℕ) (p : Part) (x : CollectionEnd) (others : List Row) (last : Row) : Type 0 where
   pub rows_are : p.rows ≡ others ++ (last ∷ [])
@@ -51,7 +48,7 @@ ends_text c k p steps x e h broken =
     let ends : Ends (is_broken e.last.content) (end_break e.last.content) (rows_text e.back (p.end ++ rest)) = content_ends (parent_indent e.last) e.last.content (rows_text e.back (p.end ++ rest)) row.1.content in
     let none : rows_text e.back (p.end ++ rest) ≡ [] = ends_none (end_break e.last.content) (rows_text e.back (p.end ++ rest)) (subst (λ b. Ends b (end_break e.last.content) (rows_text e.back (p.end ++ rest))) bare ends) in
     let parts = none_behind (asked_behind unlimited e.front) e.back p.end rest (rows_behind e.front e.back unlimited p.end rest h.rows) none in
-    let tail = not_block e.last.content bare in
+    let tail : (is_block e.last.content ≡ false) × (is_line (tail_behind e.last.content) ≡ false) = search (rules, false≢true) in
     record {
       rows_are = e.rows_are ∙ ((λ i. e.front_is i ++ parts.0 i) ∙ append-nil (e.others ++ (e.last ∷ [])));
       end_is = parts.1;

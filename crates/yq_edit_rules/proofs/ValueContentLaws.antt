@@ -1,7 +1,7 @@
 -- The content of a row with the inline node of a value in the place of its own.
-use Rattle.std.proofs.Common.{◌≡◌, inl, inr, ℕ, ℤ, ◌&&◌, ◌||◌, not, List, [], ◌∷◌, ◌++◌, Option, Some, Bool, true, false, refl, ap, ◌∙◌}
-use Rattle.std.{proofs.Common.rules, proofs.lemmas.Bool.{false≢true, and_parts, and_from, eqb-true}}
-use Rattle.std.{proofs.lemmas.List.Folds.list_any-append, specs.List.list_any}
+use Rattle.std.proofs.Common.{◌≡◌, inl, inr, ℕ, ℤ, ◌&&◌, ◌||◌, not, List, [], ◌∷◌, ◌++◌, Option, Some, true, false, refl, ap, ◌∙◌, rules}
+use Rattle.std.{proofs.lemmas.Bool.{false≢true, and_parts, and_from, eqb-true}, proofs.lemmas.List.Folds.list_any-append}
+use Rattle.std.specs.List.{list_any}
 use Rattle.yq_core.{specs.Piece.deeper, specs.Plain.{ends_plain, holds_break}}
 use Rattle.yq_core.{specs.Text.{is_feed, is_marker, is_white, no_white, separates, unless, NoneIn}, specs.Tree.Node}
 use Rattle.yq_core.specs.Nodes.{empty, alias, scalar, coll, anchored, node_text, begins_content, in_name, is_empty_node, IsLead, IsFlowNode}
@@ -66,41 +66,27 @@ module _ (v : Node) (node : inline.FlowNode) (is : IsValueNode v node) where
   -- and it is no marker there
   core_unmarked : (old : inline.FlowNode) (rest : List ℕ) → separates rest ≡ true → is_marker (node_text (recore node old) rest) ≡ false
   unfolding node_text
-  core_unmarked empty rest h = is.unmarked rest h
-  core_unmarked (alias n) rest h = is.unmarked rest h
-  core_unmarked (scalar p) rest h = is.unmarked rest h
-  core_unmarked (coll k g xs) rest h = is.unmarked rest h
   core_unmarked (anchored n g old) rest h = no_first 38 _ refl refl
+  core_unmarked _ rest h = is.unmarked rest h
 
   pub content_unmarked : (n : ℤ) (x : Content) (rest : List ℕ) → may_be_alone x ≡ true → IsContent n x rest → is_marker (content_text (put_core node x) rest) ≡ false
   content_unmarked n x rest h1 h2 = search (rules, false≢true, core_unmarked, tail_apart)
 
   -- it is on one line, if it is plain
   plain_short : (is_plain_content node && holds_break (node_text node [])) ≡ false
-  plain_short = go (is_plain_content node) refl
-    where
-      go : (b : Bool) → is_plain_content node ≡ b → (b && holds_break (node_text node [])) ≡ false
-      go false e = refl
-      go true e = is.line e
+  plain_short = search rules
 
   behind_anchor : (n g : List ℕ) → list_any is_feed n ≡ false → list_any is_feed g ≡ false → (is_plain_content node && holds_break (38 ∷ (n ++ (g ++ node_text node [])))) ≡ false
-  behind_anchor n g a b = go (is_plain_content node) refl
-    where
-      go : (c : Bool) → is_plain_content node ≡ c → (c && holds_break (38 ∷ (n ++ (g ++ node_text node [])))) ≡ false
-      go false e = refl
-      go true e = feed_join n (g ++ node_text node []) a (feed_join g (node_text node []) b (is.line e))
+  behind_anchor n g a b = search (rules, feed_join)
 
   core_short : (old : inline.FlowNode) (spaces : Option ℕ) (d : ℕ) (rest : List ℕ) → IsFlowNode false spaces d old rest → (is_plain_content (recore node old) && holds_break (node_text (recore node old) [])) ≡ false
   unfolding IsFlowNode node_text
-  core_short empty spaces d rest h = plain_short
-  core_short (alias n) spaces d rest h = plain_short
-  core_short (scalar p) spaces d rest h = plain_short
-  core_short (coll k g xs) spaces d rest h = plain_short
   core_short (anchored n g empty) spaces d rest h = behind_anchor n (32 ∷ []) (name_feed n (g ++ rest) h.0.inside) refl
   core_short (anchored n g (alias m)) spaces d rest h = absurd (false≢true h.3)
   core_short (anchored n g (scalar p)) spaces d rest h = behind_anchor n g (name_feed n (g ++ (p ++ rest)) h.0.inside) (gap_feed g _ h.1)
   core_short (anchored n g (coll k x xs)) spaces d rest h = behind_anchor n g (name_feed n _ h.0.inside) (gap_feed g _ h.1)
   core_short (anchored n g (anchored m x old)) spaces d rest h = absurd (false≢true h.3)
+  core_short _ spaces d rest h = plain_short
 
   pub content_short : (n : ℤ) (mark : rows.RowMark) (x : Content) (rest : List ℕ) → IsContent n x rest → is_long_plain mark (put_core node x) ≡ false
   content_short n mark x rest h1 = search (rules, plain_short, core_short)

@@ -1,7 +1,7 @@
 -- The inline nodes of values: scalars in a style of one line, and collections in flow style.
 use Rattle.yq_edit_rules.{proofs.CommentPieceLaws.nothing, specs.InlineRows.IsValueNode, specs.TextPieces.IsPiece}
 use Rattle.yq_edit_rules.{proofs.TextPieceLaws.pieces_joined, proofs.FlowWritten.flow_fits}
-use Rattle.std.proofs.Common.{◌≡◌, ℕ, ◌≤◌, eqb, not, cond, List, [], ◌∷◌, ◌++◌, Option, Some, Bool, true, false, refl, sym, ap, ◌∙◌, subst}
+use Rattle.std.proofs.Common.{◌≡◌, ℕ, ◌≤◌, not, cond, List, [], ◌∷◌, ◌++◌, Option, Some, Bool, true, false, refl, sym, ap, ◌∙◌, subst}
 use Rattle.std.{proofs.Common.{append-nil, rules}, proofs.lemmas.Bool.{false≢true, not-true, and_parts}, specs.Str.{chars, IsUtf8}}
 use lib.Utf8.{encode}
 use Rattle.yq_core.{specs.Characters.pairs_returns, specs.Keys.depth, specs.Piece.deeper, specs.PlainText.begins_marker}
@@ -22,12 +22,8 @@ use Rattle.yq_core.specs.Nodes as inline
 
 -- ---- scalars
 
--- before what separates, a text that begins with no marker makes none
-first_other : (k b : ℕ) (t : List ℕ) → ((bs : List ℕ) → separates (k ∷ bs) ≡ false) → separates (b ∷ t) ≡ true → eqb b k ≡ false
-first_other k b t never h = front_not separates k never (b ∷ t) h
-
 marker_behind : (t rest : List ℕ) → begins_marker t ≡ false → separates rest ≡ true → is_marker (t ++ rest) ≡ false
-marker_behind t rest h1 h2 = search (rules, no_first, first_other, no_second, no_third)
+marker_behind t rest h1 h2 = search (rules, no_first, front_not, no_second, no_third)
 
 style_unmarked : (s : ScalarText) (style : Style) (rest : List ℕ) → IsValid s → IsOneLine style → can_write s style places.Block ≡ true → separates rest ≡ true → is_marker (written_scalar style s.text ++ rest) ≡ false
 style_unmarked s styles.Plain rest v i h sep = marker_behind s.text rest (not-true (begins_marker s.text) (and_parts _ (not (begins_marker s.text)) (writable_text s.kind s.text false v.kind h)).1) sep

@@ -23,9 +23,7 @@ style_line p = search rules
 
 pub scalar_for : (a : Option (List ℕ)) (s : ScalarText) (style : Style) → IsValueTree (tree.scalar a s.kind s.text) → IsOneLine style → can_write s style Block ≡ true → IsWrittenFor (tree.scalar a s.kind s.text) (written_scalar style s.text)
 unfolding node_text
-scalar_for a s style h i can =
-    let w = scalar_is a s.kind s.text style h i can in
-    record { node = inline.scalar (written_scalar style s.text); is = w.0; text = append-nil (written_scalar style s.text); piece = w.1 }
+scalar_for a s style h i can = search (rules, scalar_is a s.kind s.text style h i can, append-nil)
 
 -- in the place of any text
 pub value_for : (old : List ℕ) (v : Node) → IsValueTree v → depth v ≤ depth_limit → has_long_key v ≡ false → IsWrittenFor v (value_text Block old v)
