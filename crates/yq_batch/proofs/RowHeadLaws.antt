@@ -1,10 +1,11 @@
 -- Head comments that operations put above rows, wherever their items and entries are still.
-use Rattle.std.proofs.Common.{◌≡◌, ℕ, ◌+◌, ◌≤◌, cond, eqb, eqb-true, List, [], ◌++◌, length, Option, Some, None, option_map, refl, sym, ap}
-use Rattle.std.proofs.Common.{◌∙◌, subst, arith, append_assoc, string_bytes, length-append}
+use Rattle.std.proofs.Common.{◌≡◌, ℕ, ◌+◌, ◌≤◌, false, cond, eqb, eqb-true, List, [], ◌∷◌, ◌++◌, length, Option, Some, None, option_map}
+use Rattle.std.proofs.Common.{refl, sym, ap, ◌∙◌, subst, arith, append_assoc, string_bytes, length-append}
 use Rattle.std.{proofs.lemmas.Str.{IsCharBoundary-at_seam, IsUtf8-append}, specs.Str.{IsCharBoundary, IsUtf8}}
 use Rattle.std.{proofs.lemmas.Option.{none-some, same_Some}, specs.List.slice_get}
 use Rattle.yq_text.specs.Limit.{text_limit}
 use Rattle.yq_core.{specs.Answers.◌>>=◌, specs.BlockWritten.break_text, specs.Paths.Step, proofs.Bools.{bind_some, guard_then}}
+use Rattle.yq_core.{specs.Text.is_empty, specs.declared.block_types.Break.Break}
 use Rattle.yq_row_table.specs.Rows.{Cut, cut_text}
 use Rattle.yq_documents.{specs.declared.path.Path.Path, specs.Documents.document_parts, specs.Located.steps_of}
 use Rattle.yq_documents.{specs.LinesInRows.{document_row, row_line_at}, specs.Reading.{cut_of, read_at}}
@@ -19,18 +20,24 @@ use Rattle.yq_edit_laws.{proofs.CutLaws.{cut_read, text_read}, proofs.EditsHold.
 use Rattle.yq_batch.{specs.RowRuns.{PutsInRow, PutsSo, PutsText, bytes_in, rows_still}, specs.declared.in_rows.RowPut.RowPut}
 use Rattle.yq_documents.specs.LinesInRows as lines
 
+-- an empty head comment has no lines, and others end alike by the same break
+lines_same : (column : ℕ) (text : List ℕ) (a b : Break) → (is_empty text ≡ false → a ≡ b) →
+    head_lines column (break_text a) (head_comment_lines text) ≡ head_lines column (break_text b) (head_comment_lines text)
+lines_same column [] a b same = refl
+lines_same column (x ∷ xs) a b same = ap (λ (k : Break). head_lines column (break_text k) (head_comment_lines (x ∷ xs))) (same refl)
+
 module _ (n : ℕ) (steps : List Step) (text : List ℕ) (c : Cut) (e : RowsOfEntry) (first : e.line ≡ 0) where
   -- the lines that are written with a break
   abbrev lines_with : List ℕ → List ℕ
   lines_with br = head_lines e.row.column br (head_comment_lines text)
 
-  pub head_comment_comes : (d : Cut) → read_at (cut_text d) ≡ Some d → first_break (cut_text d) ≡ first_break (cut_text c) → (still : StandsStill e n steps d) →
+  pub head_comment_comes : (d : Cut) → read_at (cut_text d) ≡ Some d → (is_empty text ≡ false → first_break (cut_text d) ≡ first_break (cut_text c)) → (still : StandsStill e n steps d) →
       PutsText (head_comment n steps text) d (rows_still e still) (above_rows e).run (lines_with (break_text (first_break (cut_text c)))) (above_rows e).behind
   head_comment_comes d read_d same still =
       let now : RowsOfEntry = rows_still e still in
       let br : List ℕ = break_text (first_break (cut_text d)) in
       let edited = row_edits.head_comment n steps text d now still.found first in
-      subst (λ (l : List ℕ). PutsText (head_comment n steps text) d now (above_rows e).run (lines_with l) (above_rows e).behind) (ap break_text same)
+      subst (λ (l : List ℕ). PutsText (head_comment n steps text) d now (above_rows e).run l (above_rows e).behind) (lines_same e.row.column text (first_break (cut_text d)) (first_break (cut_text c)) same)
       (record {
         segments = head_comment_segments br text (above_rows now);
         front = (above_rows now).before;
@@ -124,7 +131,7 @@ head_comment_puts_there t p text x w put read line is operand run behind doc row
       there = λ d there breaks still. comes d there breaks h still;
     }
   where
-    comes : (d : Cut) → read_at (cut_text d) ≡ Some d → first_break (cut_text d) ≡ first_break (cut_text (cut_of t)) → (h : IsAbove t p w) → (still : StandsStill h.entry p.doc (steps_of p) d) →
+    comes : (d : Cut) → read_at (cut_text d) ≡ Some d → (is_empty text ≡ false → first_break (cut_text d) ≡ first_break (cut_text (cut_of t))) → (h : IsAbove t p w) → (still : StandsStill h.entry p.doc (steps_of p) d) →
         PutsSo (head_comment p.doc (steps_of p) text) d (rows_still h.entry still) w.run w.behind (bytes_in string_bytes put.written)
     comes d there breaks h still =
         let br : List ℕ = break_text (first_break (cut_text (cut_of t))) in

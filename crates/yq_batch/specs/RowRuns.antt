@@ -86,7 +86,7 @@ WritesSameBreak (replace n steps v) t u = ⊤
 WritesSameBreak (append n steps key v) t u = ⊤
 WritesSameBreak (remove n steps) t u = ⊤
 WritesSameBreak (line_comment n steps text) t u = ⊤
-WritesSameBreak (head_comment n steps text) t u = first_break u ≡ first_break t
+WritesSameBreak (head_comment n steps text) t u = is_empty text ≡ false → first_break u ≡ first_break t
 
 -- the same of a text that was read, and of that with what a run made of it (own)
 abbrev pub KeepsBreak : Operation → Cut → PutRun → Type 0

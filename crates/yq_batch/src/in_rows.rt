@@ -208,10 +208,10 @@ fn near_break(text: &[u8]) -> Option<Break>
 fn writes_same_break(cut: &CutText<'_, '_>, op: &Op, run: &PutRun) -> bool
     ensures { IsTrue result → spec.KeepsBreak (operation_of op.now) (cut_of cut.now) run.now }
 {
-    let Op::HeadComment(_, _) = op else {
+    let Op::HeadComment(_, text) = op else {
         return true;
     };
-    if run.text.is_empty() && run.done == 0 {
+    if text.is_empty() || (run.text.is_empty() && run.done == 0) {
         return true;
     }
     match (near_break(run.text.as_bytes()), cut.first_break()) {
