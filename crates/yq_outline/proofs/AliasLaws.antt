@@ -5,7 +5,7 @@ use Rattle.std.proofs.lemmas.List.Folds.{list_any-append}
 use Rattle.yq_core.{specs.Tree.{Node, Children}, specs.Anchors.{Name, Anchors, Refers, anchor_names, names_of, names_in}}
 use Rattle.yq_outline.{specs.Ends.part, specs.Group.deeper_lines, specs.LinesReading.are_bound}
 use Rattle.yq_outline.specs.Names.{is_reference, head_names, line_names}
-use Rattle.yq_outline.specs.Outline.{LineMark, Line, level, Outline, end, row, flatten, anchored, head_or, outline_node, shaped, children}
+use Rattle.yq_outline.specs.Outline.{Line, level, Outline, end, row, flatten, anchored, head_or, shaped, children}
 use Rattle.yq_outline.{proofs.Decides.flatten-group, proofs.NameLaws.line_names-append}
 
 -- some of these names is an alias's
@@ -33,12 +33,8 @@ none_drop zero ls h = h
 none_drop (suc k) [] h = refl
 none_drop (suc k) (l ∷ ls) h = none_drop k ls (none_line l ls h).1
 
--- the node of items or entries without aliases
-none_collection : (m : LineMark) (cs : Children) → refer (names_in cs) ≡ false → refer (names_of (outline_node m cs)) ≡ false
-none_collection m cs h1 = search (rules, or_parts, refer-append)
-
 none_shaped : (o : Outline) (cs : Children) → refer (names_in cs) ≡ false → refer (names_of (shaped o cs)) ≡ false
-none_shaped o cs h1 = search (rules, none_collection)
+none_shaped o cs h1 = search (rules, or_parts, refer-append)
 
 none_entry : (head : Option Node) (n : Node) → refer (head_names head) ≡ false → refer (names_of n) ≡ false → refer (names_of (head_or head n)) ≡ false
 none_entry head n h1 h2 = search rules

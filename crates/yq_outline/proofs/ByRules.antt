@@ -92,10 +92,7 @@ to_entries n (row l u a) c e =
 
 -- lines that mean a node are none, or the node's by the rules
 pub rules_from : (n : ℕ) (lines : List Line) (v : Node) → Stands lines v n → (l : Line) (ls : List Line) → lines ≡ l ∷ ls → IsNodeOutline n lines v
-rules_from n lines v s l ls is = go s.outline s.even s.lines_are s.node_is
-  where
-    go : (o : Outline) → IsEven n o → flatten o ≡ lines → value o ≡ v → IsNodeOutline n lines v
-    go o h1 h2 h3 = search (rules, node_of, to_entries)
+rules_from n lines v s l ls is = search (rules, node_of, to_entries)
 
 pub rules_give : (n : ℕ) (lines : List Line) (v : Node) → IsNodeOutline n lines v → Stands lines v n
 rules_give n lines v d = from_node d

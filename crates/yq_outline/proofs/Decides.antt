@@ -1,5 +1,5 @@
 -- `stand` tells exactly what lines mean.
-use Rattle.std.proofs.Common.{◌≡◌, ℕ, ◌+◌, ◌<◌, ltb, List, [], ◌∷◌, ◌++◌, Option, Some, None, Bool, true, false, cond, refl, ap, ◌∙◌}
+use Rattle.std.proofs.Common.{◌≡◌, ℕ, ◌+◌, ◌<◌, List, [], ◌∷◌, ◌++◌, Option, Some, None, Bool, true, false, cond, refl, ap, ◌∙◌}
 use Rattle.std.proofs.Common.{append_assoc, rules}
 use Rattle.std.proofs.lemmas.Bool.{lt-ltb, ltb-true, eqb-true, eq-eqb, cond-true, and_parts, and_from, false≢true}
 use Rattle.std.proofs.lemmas.Option.{none-some, same_Some}
@@ -10,11 +10,7 @@ use Rattle.yq_outline.{specs.Group.{deeper_lines, shallow, group, is_open, is_wh
 -- the lines of an outline's two parts
 pub flatten-parts : (n : ℕ) (o : Outline) → flatten (deeper_lines n o) ++ flatten (shallow n o) ≡ flatten o
 flatten-parts n end = refl
-flatten-parts n (row l u a) = go (ltb n (level l)) (flatten-parts n a)
-  where
-    go : (b : Bool) → flatten (deeper_lines n a) ++ flatten (shallow n a) ≡ flatten a
-        → flatten (cond b (row l u (deeper_lines n a)) end) ++ flatten (cond b (shallow n a) (row l u a)) ≡ flatten (row l u a)
-    go b h1 = search (rules, append_assoc)
+flatten-parts n (row l u a) = search (rules, append_assoc, flatten-parts n a)
 
 pub flatten-group : (ls : List Line) → flatten (group ls) ≡ ls
 flatten-group [] = refl
@@ -23,14 +19,8 @@ flatten-group (l ∷ ls) = ap (λ x. l ∷ x) (flatten-parts (level l) (group ls
 open_from : (h : Option Node) (o : Outline) → is_open h o ≡ true → IsOpen h o
 open_from h o h1 = search (rules, false≢true)
 
-to_open : (h : Option Node) (o : Outline) → IsOpen h o → is_open h o ≡ true
-to_open h o h1 = search rules
-
 whole_from : (m : LineMark) (h : Option Node) (o : Outline) → is_whole m h o ≡ true → IsWhole m h o
 whole_from m h o h1 = search (rules, false≢true)
-
-to_whole : (m : LineMark) (h : Option Node) (o : Outline) → IsWhole m h o → is_whole m h o ≡ true
-to_whole m h o h1 = search rules
 
 pub even_from : (n : ℕ) (o : Outline) → is_even n o ≡ true → IsEven n o
 even_from n end e = tt
@@ -53,7 +43,7 @@ pub to_even : (n : ℕ) (o : Outline) → IsEven n o → is_even n o ≡ true
 to_even n end e = refl
 to_even n (row l u a) e =
     let d : ℕ = level_or (level l + 1) u in
-    and_from _ _ (eq-eqb (level l) n e.0) (and_from _ _ (to_open l.head u e.1) (and_from _ _ (to_whole l.mark l.head a e.2)
+    and_from _ _ (eq-eqb (level l) n e.0) (and_from _ _ (search rules) (and_from _ _ (search rules)
     (and_from _ _ (lt-ltb n d (first_above n e.3.0 l u e.3.1 e.0 e.3.2)) (and_from _ _ (to_even d u (first_even e.3.0 (level l + 1) u e.3.2)) (to_even n a e.4)))))
 
 pub stand-sound : (ls : List Line) (node : Node) → stand ls ≡ Some node → (n : ℕ) × Stands ls node n

@@ -1,12 +1,12 @@
 -- The entries under a line, or of a document, have different keys.
-use Rattle.std.proofs.Common.{◌≡◌, ◌⊎◌, inl, inr, ℕ, zero, suc, ◌+◌, ltb, Bool, true, false, cond, not, ◌&&◌, List, [], ◌∷◌, ◌++◌, Option}
-use Rattle.std.proofs.Common.{Some, None, option_map, bytes_eq, refl, sym, ap, ◌∙◌, subst, arith, rules}
+use Rattle.std.proofs.Common.{◌≡◌, ◌⊎◌, inl, inr, ℕ, zero, suc, ◌+◌, ltb, Bool, true, false, cond, not, ◌&&◌, List, [], ◌∷◌, ◌++◌, Some}
+use Rattle.std.proofs.Common.{None, bytes_eq, refl, sym, ap, ◌∙◌, subst, arith, rules}
 use Rattle.std.proofs.lemmas.Bool.{and_parts, or_parts, not-true, ltb-true, eqb-true, le-leb, cond-false, false≢true}
 use Rattle.std.{proofs.lemmas.Option.{same_Some, none-some}, specs.List.{slice_get, list_any}}
-use Rattle.yq_core.{specs.Keys.{keys_of, are_distinct}, specs.Paths.{To, is_here, key_is}, specs.Text.with_first}
+use Rattle.yq_core.{specs.Keys.{keys_of, are_distinct}, specs.Paths.{To, is_here}, specs.Text.with_first}
 use Rattle.yq_outline.{specs.Ends.{part, has_no_lines, IsEndOf}, specs.Group.{deeper_lines, shallow, group}}
-use Rattle.yq_outline.specs.Outline.{LineMark, Bare, Line, level, Outline, end, row, children, key_of, label}
-use Rattle.yq_outline.{specs.Places.{here, find_row, next_to}, specs.Sound.{is_sound_outline, is_entry_line}, specs.Positions.position}
+use Rattle.yq_outline.{specs.Outline.{LineMark, Bare, Line, level, Outline, end, row, children, key_of, label}, specs.Places.find_row}
+use Rattle.yq_outline.{specs.Sound.{is_sound_outline, is_entry_line}, specs.Positions.position}
 use Rattle.yq_outline.{proofs.EndsLaws.{deeper_line, not_end, row_parts}, proofs.KeyLaws.{differ, differs}, proofs.NameLaws.part-all}
 use Rattle.yq_outline.proofs.SoundLaws.{asked, keys_with, IsEntryLevel, asked_line, entry_level, sound_entries, too_deep, sound_bare}
 
@@ -93,11 +93,7 @@ root_keys d ls sound = keys_differ _ (subst IsSound (sym (part-all ls)) (d, soun
 -- where no entry has a key, the key leads nowhere
 nowhere : (key : List ℕ) (o : Outline) → list_any (bytes_eq key) (keys_of (children o)) ≡ false → find_row (To key) o ≡ None
 nowhere key end none = refl
-nowhere key (row l u a) none = go (key_of l.mark) none (nowhere key a)
-  where
-    go : (k : Option (List ℕ)) → list_any (bytes_eq key) (with_first k (keys_of (children a))) ≡ false → (list_any (bytes_eq key) (keys_of (children a)) ≡ false → find_row (To key) a ≡ None) →
-        cond (key_is key k) (Some (record { place = here; line = l; under = u; after = a })) (option_map (next_to l u) (find_row (To key) a)) ≡ None
-    go k h1 h2 = search (rules, or_parts, bytes_eq, cond-false, differs, differ)
+nowhere key (row l u a) none = search (rules, or_parts, cond-false, differs, differ, nowhere key a)
 
 -- The first of lines with different keys is not the entry of a key that one after it has.
 module _ (ls : List Line) (at floor next : ℕ) (l : Line) (is : slice_get ls at ≡ Some l) (deep : true ≡ not (has_no_lines (part ls at floor))) (ends : IsEndOf ls at next) (differ' : are_distinct (keys_of (children (part ls at floor))) ≡ true) where
@@ -108,10 +104,4 @@ module _ (ls : List Line) (at floor next : ℕ) (l : Line) (is : slice_get ls at
   keys_behind = search (rules, own)
 
   pub other_key : (key : List ℕ) (w : ℕ × Line × Outline) → position next (find_row (To key) (part ls next floor)) ≡ Some w → is_here (To key) (label l) ≡ false
-  other_key key w found = go (key_of l.mark) own
-    where
-      there : find_row (To key) (part ls next floor) ≡ None → ⊥
-      there none = none-some w (sym (ap (position next) none) ∙ found)
-
-      go : (k : Option (List ℕ)) → are_distinct (with_first k (keys_of (children (part ls next floor)))) ≡ true → key_is key k ≡ false
-      go k h1 = search (rules, and_parts, bytes_eq, not-true, differs, nowhere)
+  other_key key w found = search (rules, own, none-some, and_parts, not-true, differs, nowhere)

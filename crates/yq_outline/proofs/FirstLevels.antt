@@ -45,12 +45,9 @@ bare_level_at x k none = search rules
 abbrev rank_by : ℕ → List ℕ → Bool → ℕ
 rank_by k t colon = cond (ltb (dash_at k t) (length t)) 3 (cond colon 2 1)
 
-rank_same : (b e : Bool) → ◌≡◌ {A = ℕ} (cond b 3 (cond (not e) 2 1)) (cond b 3 (cond e 1 2))
-rank_same b e = search rules
-
 dash_first : (x : Slices) → true ≡ not (is_empty x.dashes) → row_level x ≡ 3 * x.column + 3
 dash_first x = search rules
 
 pub dashed_level : (x : Slices) (k first : ℕ) (t : List ℕ) (colon : Bool) → first ≡ row_level x → t ≡ x.dashes → colon ≡ not (is_empty x.colon) → true ≡ not (is_empty x.dashes) →
     ((first + 3 * dash_at k t) - 3) + rank_by k t colon ≡ line_level k x
-dashed_level x k first t colon level same is some = search (rules, dash_first, rank_same)
+dashed_level x k first t colon level same is some = search (rules, dash_first)

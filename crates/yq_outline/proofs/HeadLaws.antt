@@ -1,12 +1,12 @@
 -- The comment lines that end lines, after others, or where the lines are repaired.
 use Rattle.std.proofs.Common.{◌≡◌, ℕ, Bool, true, false, ◌&&◌, List, [], ◌∷◌, ◌++◌, Option, Some, refl, sym, ap, ◌∙◌, ⊎_elim, replicate}
-use Rattle.std.proofs.Common.{eqb-true, drop, rules}
+use Rattle.std.proofs.Common.{eqb-true, rules}
 use Rattle.std.proofs.lemmas.Bool.{false≢true, cond_both, cond-true, cond-false, false_from_ne_true, and_parts, cases_Bool}
 use Rattle.yq_core.specs.Block.{RawLines}
 use Rattle.yq_core.specs.BlockRepair.{AreGap, is_short, is_outdented_comment, repaired_blank, repaired_comment, repair}
-use Rattle.yq_core.{specs.Lines.{is_hash, is_blank}, specs.Text.{upto, cut, is_white, ends_line, past_white, with_first}}
-use Rattle.yq_core.{proofs.SpaceLaws.white_drop, proofs.BlockRepairLaws.white_front}
-use Rattle.yq_outline.specs.Comments.{less_space, comment_text, are_comments, last_comments}
+use Rattle.yq_core.{specs.Lines.{is_hash, is_blank}, specs.Text.{upto, ends_line, past_white, with_first}, proofs.SpaceLaws.white_drop}
+use Rattle.yq_core.proofs.BlockRepairLaws.{white_front}
+use Rattle.yq_outline.specs.Comments.{are_comments, last_comments}
 
 -- lines after lines
 all_behind : (ls ms : RawLines) → are_comments ls ≡ false → are_comments (ls ++ ms) ≡ false
@@ -16,14 +16,11 @@ all_behind (l ∷ ls) ms h = ⊎_elim {0, 0, 0}
     (λ e. rw e refl)
     (cases_Bool (is_hash (past_white l)))
 
-hash_text : (l : List ℕ) → is_hash (past_white l) ≡ true → (t : List ℕ) × (comment_text l ≡ Some t)
-hash_text l h = (less_space (cut ends_line (drop 1 (past_white l))).0, cond-true _ _ _ h)
-
 some_text : (o : Option (List ℕ)) (t : List ℕ) (ts : RawLines) → o ≡ Some t → with_first o ts ≡ [] → ⊥
 some_text x t ts e h = absurd (cc)
 
 no_run : (l : List ℕ) (ls : RawLines) → last_comments (l ∷ ls) ≡ [] → are_comments (l ∷ ls) ≡ false
-no_run l ls h = search (rules, false_from_ne_true, hash_text, and_parts, some_text, cond-true)
+no_run l ls h = search (rules, false_from_ne_true, and_parts, some_text, cond-true)
 
 pub comments_behind : (ls ms : RawLines) → last_comments ls ≡ [] → last_comments (ls ++ ms) ≡ last_comments ms
 comments_behind [] ms h = refl
@@ -39,13 +36,7 @@ same_line l x ls h = rw h refl
 past_again : (l : List ℕ) → past_white (past_white l) ≡ past_white l
 unfolding upto
 past_again [] = refl
-past_again (b ∷ l) = ⊎_elim {0, 0, 0}
-    (λ e. rw (white_drop b l) (rw e (past_again l)))
-    (λ e. rw (white_drop b l) (rw e (white_drop b l ∙ rw e refl)))
-    (cases_Bool (is_white b))
-
-blank_past : (m : ℕ) (l : List ℕ) → past_white (repaired_blank m l) ≡ past_white l
-blank_past m l = cond_both (is_short m l) l (past_white l) (λ x. past_white x ≡ past_white l) (λ _. refl) (λ _. past_again l)
+past_again (b ∷ l) = search (rules, white_drop, cases_Bool, past_again l)
 
 comment_past : (m column : ℕ) (l : List ℕ) → past_white (repaired_comment m column l) ≡ past_white l
 comment_past m column l = cond_both (is_outdented_comment m l) l (replicate column 32 ++ past_white l) (λ x. past_white x ≡ past_white l) (λ _. refl) (λ _. white_front column (past_white l) ∙ past_again l)
@@ -65,7 +56,8 @@ head_repaired true m column (l ∷ ls) h = ⊎_elim {0, 0, 0}
     (cases_Bool (is_blank l))
 head_repaired false m column (l ∷ ls) h = ⊎_elim {0, 0, 0}
     (λ b.
-    let blank : is_blank (repaired_blank m l) ≡ true = ap ends_line (blank_past m l) ∙ b in
+    let blank : is_blank (repaired_blank m l) ≡ true =
+    ap ends_line (cond_both (is_short m l) l (past_white l) (λ x. past_white x ≡ past_white l) (λ _. refl) (λ _. past_again l)) ∙ b in
     rw b (blank_off (repaired_blank m l) (repair false m column ls) blank ∙ (head_repaired false m column ls h.1 ∙ sym (blank_off l ls b))))
     (λ b. rw b (same_line l (repaired_comment m column l) ls (comment_past m column l)))
     (cases_Bool (is_blank l))

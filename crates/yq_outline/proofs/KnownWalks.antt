@@ -151,8 +151,7 @@ rows_passed ss floor n end less long (suc m) a within deep =
     let sum : a + suc m ≡ (a + 1) + m = omega arith in
     let first : drop a (take (a + suc m) ss) ≡ x.0 ∷ drop (a + 1) (take ((a + 1) + m) ss) = search (rules, drop_at, get_taken, x) in
     let both : AreRowsDeep n (x.0 ∷ drop (a + 1) (take ((a + 1) + m) ss)) = subst (AreRowsDeep n) first deep in
-    under_more ss floor a end x.0 x.1 (omega (arith, within)) (omega (arith, less, both.0))
-    ∙ (rows_passed ss floor n end less long m (a + 1) (omega (arith, within)) both.1 ∙ ap (λ (k : ℕ). k + deeper_rows floor (take (end - k) (drop k ss))) (sym sum))
+    search (rules, under_more, rows_passed ss floor n end less long m (a + 1) (omega (arith, within)) both.1)
 
 -- the end of a collection is looked for from a known item on
 module _ (s : RowsView) (d : Stretch) (h : HasRows s d) (under : Position) (floor : ℕ) (k : KnownItem) (among : IsKnownIn s.rows under floor d.end k) where

@@ -1,5 +1,5 @@
 -- Where steps lead in what lines mean, with the label there.
-use Rattle.std.proofs.Common.{◌≡◌, ℕ, List, [], ◌∷◌, Option, Some, None, option_map, option_and_then, refl, sym, ◌∙◌, rules}
+use Rattle.std.proofs.Common.{◌≡◌, ℕ, List, [], ◌∷◌, Option, Some, None, option_map, option_and_then, refl, rules}
 use Rattle.yq_core.{specs.Tree.{Node, children_of}, specs.Paths.Step}
 use Rattle.yq_outline.specs.Labelled.{Labelled, labelled_at, labelled_from}
 use Rattle.yq_outline.specs.Outline.{LineMark, Bare, Key, Dash, Outline, end, row, anchored, head_or, outline_node, children, value}
@@ -27,8 +27,7 @@ path_entry s (t ∷ ts) (row k v a) = go (λ u. path_entry t ts u) k.mark
 
     head : ((u : Outline) → reach t ts (value u) ≡ FoundEntry (find t ts u)) → (f : FoundLine) (h : Option Node) →
         reach t ts (anchored f.line.anchor (head_or h (value f.under))) ≡ FoundEntry (in_head h (Some (record { place = f.place; line = record f.line { head = h }; under = f.under; after = f.after }, t ∷ ts)) (option_map (λ x. (place_inside f x.0, x.1)) (find t ts f.under)))
-    head ih f None = reach-anchored f.line.anchor t ts (value f.under) ∙ (ih f.under ∙ sym (deep f (find t ts f.under)))
-    head ih f (Some n) = refl
+    head ih f h = search (rules, f, reach-anchored, deep)
 
     found : ((u : Outline) → reach t ts (value u) ≡ FoundEntry (find t ts u)) → (r : Option FoundLine) →
         option_and_then (labelled_from (t ∷ ts)) (option_map (λ f. entry_of f.line f.under) r) ≡

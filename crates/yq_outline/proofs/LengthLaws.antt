@@ -7,7 +7,7 @@ use Rattle.std.proofs.lemmas.List.Sums.{sum_by-cons, sum_by-append, sum_by_more_
 use Rattle.std.{proofs.lemmas.Option.{get_or_from_slice_get, slice_get_within, slice_get-map, same_Some}, specs.List.{slice_get, sum_by}}
 use Rattle.yq_text.specs.Limit.{text_limit}
 use Rattle.yq_row_table.specs.Exchange.{row_front, before_at, before_content}
-use Rattle.yq_row_table.specs.Rows.{RowMark, Row, dashes_text, mark_text, rows_text, Part, part_text, Cut, last, marked, cut_text}
+use Rattle.yq_row_table.specs.Rows.{Row, dashes_text, mark_text, rows_text, Part, part_text, Cut, last, marked, cut_text}
 use Rattle.yq_row_table.specs.View.{Slices, slices, last_dash, key_of_mark, colon_of, rows_of, Bound, bounds_from, RowsView, rows_view}
 use Rattle.yq_row_table.{proofs.ExchangeLaws.{slice_front, slice_back}, proofs.SliceLaws.print-length, specs.Offsets.row_length}
 use Rattle.yq_outline.specs.Extents.{bound_length, passed_length, row_start, front_length, view_length, head_place, IsRowsView}
@@ -16,12 +16,9 @@ use Rattle.yq_outline.specs.Extents.{bound_length, passed_length, row_start, fro
 abbrev rows_sum : List Row → ℕ
 rows_sum rows = sum_by row_length (map slices rows)
 
-rows_sum-cons : (r : Row) (rows : List Row) → rows_sum (r ∷ rows) ≡ row_length (slices r) + rows_sum rows
-rows_sum-cons r rows = sum_by-cons row_length (slices r) (map slices rows)
-
 rows-length : (rows : List Row) (rest : List ℕ) → length (rows_text rows rest) ≡ rows_sum rows + length rest
 rows-length [] rest = omega arith
-rows-length (r ∷ rows) rest = omega (arith, print-length r (rows_text rows rest), rows_sum-cons r rows, rows-length rows rest)
+rows-length (r ∷ rows) rest = omega (arith, print-length r (rows_text rows rest), sum_by-cons row_length (slices r) (map slices rows), rows-length rows rest)
 
 pub part-length : (p : Part) (rest : List ℕ) → length (part_text p rest) ≡ rows_sum p.rows + (length p.end + length rest)
 part-length p rest = omega (arith, rows-length p.rows (p.end ++ rest), length-append p.end rest)
@@ -33,13 +30,6 @@ pieces-length n (marked p marker c) =
     let b : Bound = record { rows = n + length p.rows; end = p.end; marker = marker } in
     let rows : rows_sum (p.rows ++ rows_of c) ≡ rows_sum p.rows + rows_sum (rows_of c) = simp (map-append, sum_by-append) in
     omega (arith, part-length p (marker ++ cut_text c), length-append marker (cut_text c), rows, sum_by-cons bound_length b (bounds_from (n + length p.rows) c), pieces-length (n + length p.rows) c)
-
-pub rows_view-length : (c : Cut) → length (cut_text c) ≡ view_length (rows_view c)
-rows_view-length c = pieces-length 0 c
-
--- the front of a row
-mark-length : (m : RowMark) → length (mark_text m []) ≡ length (last_dash m) + (length (key_of_mark m) + length (colon_of m))
-mark-length m = search (rules, length-append)
 
 dashes-length : (ns : List ℕ) (t u : List ℕ) (n : ℕ) → length t ≡ length u + n → length (dashes_text ns t) ≡ length (dashes_text ns u) + n
 dashes-length [] t u n e = e
@@ -56,14 +46,13 @@ front-length r =
       arith,
       spaces,
       length-append {A = ℕ},
-      dashes-length r.dashes (mark_text r.mark []) (last_dash r.mark) (length (key_of_mark r.mark) + length (colon_of r.mark)) (mark-length r.mark),
+      dashes-length r.dashes (mark_text r.mark []) (last_dash r.mark) (length (key_of_mark r.mark) + length (colon_of r.mark)) (search (rules, length-append)),
     )
 
 before-length : (i : ℕ) (rows : List Row) (r : Row) → slice_get rows i ≡ Some r → length (before_at i rows) ≡ sum_by row_length (take i (map slices rows)) + begin_length (slices r)
 before-length i [] r is = cc
 before-length zero (x ∷ rows) r is = search (rules, front-length)
-before-length (suc i) (x ∷ rows) r is =
-    omega (arith, print-length x (before_at i rows), sum_by-cons row_length (slices x) (take i (map slices rows)), before-length i rows r is)
+before-length (suc i) (x ∷ rows) r is = search (rules, print-length, sum_by-cons, before-length i rows r is)
 
 -- the ends of later parts are not passed
 not_passed : (j : ℕ) (b : Bound) → j < b.rows → passed_length j b ≡ 0
@@ -74,9 +63,7 @@ is_passed j b h = cond-true _ _ _ (le-leb b.rows j h)
 
 none_passed : (j n : ℕ) (c : Cut) → j < n → sum_by (passed_length j) (bounds_from n c) ≡ 0
 none_passed j n (last p) less = search (rules, sum_by-cons, not_passed)
-none_passed j n (marked p marker c) less =
-    let b : Bound = record { rows = n + length p.rows; end = p.end; marker = marker } in
-    omega (arith, sum_by-cons (passed_length j) b (bounds_from (n + length p.rows) c), not_passed j b (omega (arith, less)), none_passed j (n + length p.rows) c (omega (arith, less)))
+none_passed j n (marked p marker c) less = search (rules, sum_by-cons, not_passed, none_passed j (n + length p.rows) c (omega (arith, less)))
 
 take_past : (xs ys : List Slices) (i : ℕ) → length xs ≤ i → take i (xs ++ ys) ≡ xs ++ take (i - length xs) ys
 take_past [] ys i h = ap (λ (k : ℕ). take k ys) (omega arith)
@@ -144,4 +131,4 @@ row_fits s i x is =
 
 -- a text that is not too long has pieces that are not
 pub view_small : (s : RowsView) → IsRowsView s → view_length s ≤ text_limit
-view_small s h = omega (arith, ap view_length h.is, rows_view-length h.cut, h.size)
+view_small s h = omega (arith, ap view_length h.is, pieces-length 0 h.cut, h.size)

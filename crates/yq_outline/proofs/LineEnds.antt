@@ -2,24 +2,17 @@
 use Rattle.std.proofs.Common.{◌≡◌, ℕ, zero, suc, ◌+◌, ◌<◌, ◌≤◌, ltb, List, [], ◌∷◌, ◌++◌, length, drop, Some, Bool, cond, refl, sym, ap}
 use Rattle.std.{proofs.Common.{◌∙◌, arith, length-drop, rules}, proofs.lemmas.Bool.{lt-ltb, ltb-true, cond-true}}
 use Rattle.std.{proofs.lemmas.List.drop-drop, proofs.lemmas.Option.{same_Some, slice_get_within}, specs.List.slice_get}
-use Rattle.yq_outline.{specs.Ends.{IsEndOf, deeper_count, lines_end}, specs.Group.{deeper_lines, shallow, group}}
+use Rattle.yq_outline.{specs.Ends.{IsEndOf, deeper_count, lines_end}, specs.Group.{shallow, group}}
 use Rattle.yq_outline.{specs.Outline.{Line, level, Outline, end, row, flatten}, proofs.Decides.flatten-group, proofs.EndsLaws.has_line}
 
 -- after the lines that are deeper than one level and those that are deeper than a lower one
 shallow_twice : (k m : ℕ) (o : Outline) → k < m → shallow k (shallow m o) ≡ shallow k o
 shallow_twice k m end h = refl
-shallow_twice k m (row l u a) h = go (ltb m (level l)) refl (shallow_twice k m a h)
-  where
-    go : (b : Bool) → ltb m (level l) ≡ b → shallow k (shallow m a) ≡ shallow k a → shallow k (cond b (shallow m a) (row l u a)) ≡ shallow k (row l u a)
-    go b h1 h2 = search (rules, cond-true, lt-ltb, ltb-true)
+shallow_twice k m (row l u a) h = search (rules, cond-true, lt-ltb, ltb-true, shallow_twice k m a h)
 
 shallow_group : (k : ℕ) (ls : List Line) → shallow k (group ls) ≡ group (drop (deeper_count k ls) ls)
 shallow_group k [] = refl
-shallow_group k (l ∷ ls) = go (ltb k (level l)) refl (shallow_group k ls)
-  where
-    go : (b : Bool) → ltb k (level l) ≡ b → shallow k (group ls) ≡ group (drop (deeper_count k ls) ls) →
-        cond b (shallow k (shallow (level l) (group ls))) (row l (deeper_lines (level l) (group ls)) (shallow (level l) (group ls))) ≡ group (drop (cond b (suc (deeper_count k ls)) 0) (l ∷ ls))
-    go b h1 h2 = search (rules, shallow_twice, ltb-true)
+shallow_group k (l ∷ ls) = search (rules, shallow_twice, ltb-true, shallow_group k ls)
 
 -- no more are deeper than there are
 count_within : (k : ℕ) (ls : List Line) → deeper_count k ls ≤ length ls

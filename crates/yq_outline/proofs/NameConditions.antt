@@ -1,36 +1,23 @@
 -- What is asked of anchors and aliases, as a test and as a fact.
 use Rattle.std.{proofs.Common.{◌≡◌, ℕ, List, [], ◌∷◌, true, Option, refl, inl, inr, ⊎_elim, bytes_eq, rules}, proofs.Math.Bool.or-true}
 use Rattle.std.{proofs.lemmas.Bool.{and_parts, and_from, or_cases}, proofs.lemmas.Slice.Eq.bytes_eq-Decides, specs.List.list_any}
-use Rattle.yq_core.{specs.Tree.Node, specs.Anchors.{Name, Anchors, Refers, IsAmong, AreBound, IsNoAlias}}
-use Rattle.yq_outline.specs.LineAnchors.{MayTake, IsFree, HaveOneAnchorEach}
-use Rattle.yq_outline.{specs.LinesReading.{is_no_alias, may_take, is_free, have_one_anchor_each, are_bound}, specs.Outline.{LineMark, Line}}
-
--- anchors
-no_alias_is : (h : Option Node) → is_no_alias h ≡ true → IsNoAlias h
-no_alias_is h h1 = search rules
-
-is_no_alias_of : (h : Option Node) → IsNoAlias h → is_no_alias h ≡ true
-is_no_alias_of h h1 = search rules
+use Rattle.yq_core.{specs.Tree.Node, specs.Anchors.{Name, Anchors, Refers, IsAmong, AreBound}}
+use Rattle.yq_outline.specs.LineAnchors.{MayTake, HaveOneAnchorEach}
+use Rattle.yq_outline.{specs.LinesReading.{may_take, is_free, have_one_anchor_each, are_bound}, specs.Outline.{LineMark, Line}}
 
 take_is : (m : LineMark) (a : Option (List ℕ)) (h : Option Node) → may_take m a h ≡ true → MayTake m a h
-take_is m a h h1 = search (rules, no_alias_is)
+take_is m a h h1 = search rules
 
 is_take : (m : LineMark) (a : Option (List ℕ)) (h : Option Node) → MayTake m a h → may_take m a h ≡ true
-is_take m a h h1 = search (rules, is_no_alias_of)
-
-free_is : (a : Option (List ℕ)) (ls : List Line) → is_free a ls ≡ true → IsFree a ls
-free_is a ls h1 = search (rules, take_is)
-
-is_free_of : (a : Option (List ℕ)) (ls : List Line) → IsFree a ls → is_free a ls ≡ true
-is_free_of a ls h1 = search (rules, is_take)
+is_take m a h h1 = search rules
 
 pub anchors_are : (ls : List Line) → have_one_anchor_each ls ≡ true → HaveOneAnchorEach ls
 anchors_are [] e = tt
-anchors_are (l ∷ ls) e = let p = and_parts (is_free l.anchor ls) (have_one_anchor_each ls) e in (free_is l.anchor ls p.0, anchors_are ls p.1)
+anchors_are (l ∷ ls) e = let p = and_parts (is_free l.anchor ls) (have_one_anchor_each ls) e in (search (rules, take_is), anchors_are ls p.1)
 
 pub are_anchors : (ls : List Line) → HaveOneAnchorEach ls → have_one_anchor_each ls ≡ true
 are_anchors [] h = refl
-are_anchors (l ∷ ls) h = and_from (is_free l.anchor ls) (have_one_anchor_each ls) (is_free_of l.anchor ls h.0) (are_anchors ls h.1)
+are_anchors (l ∷ ls) h = and_from (is_free l.anchor ls) (have_one_anchor_each ls) (search (rules, is_take)) (are_anchors ls h.1)
 
 -- aliases
 among_is : (name : List ℕ) (known : List (List ℕ)) → list_any (bytes_eq name) known ≡ true → IsAmong name known

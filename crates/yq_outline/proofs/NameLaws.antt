@@ -1,7 +1,7 @@
 -- The anchors and aliases of a node, as those of its lines.
-use Rattle.std.proofs.Common.{◌≡◌, ℕ, List, [], ◌∷◌, ◌++◌, Option, Some, None, true, refl, sym, ap, ◌∙◌, append_assoc, append-nil, rules}
-use Rattle.std.{proofs.Common.{◌<◌, false, arith}, proofs.lemmas.Bool.{lt-ltb, cond-true, and_parts}, proofs.Math.Bool.and-false}
-use Rattle.yq_core.{specs.Tree.{Label, Node, Children, child}, specs.Anchors.{Name, anchor_names, names_of, names_in, IsNoAlias}}
+use Rattle.std.proofs.Common.{◌≡◌, ℕ, List, [], ◌∷◌, ◌++◌, Option, Some, None, true, refl, ap, ◌∙◌, append_assoc, append-nil, rules, ◌<◌}
+use Rattle.std.{proofs.Common.{false, arith}, proofs.lemmas.Bool.{lt-ltb, cond-true, and_parts}, proofs.Math.Bool.and-false}
+use Rattle.yq_core.{specs.Tree.{Label, Node, child}, specs.Anchors.{Name, anchor_names, names_of, names_in, IsNoAlias}}
 use Rattle.yq_core.specs.Inline.{depth_limit}
 use Rattle.yq_outline.{specs.LineAnchors.{MayTake, IsFree, HaveOneAnchorEach}, specs.Group.{group, level_or, is_fine, deeper_lines}}
 use Rattle.yq_outline.specs.Names.{head_names, line_names, IsUnnamed, MayBeNamed, HaveHeadsApart}
@@ -15,9 +15,7 @@ with-append a xs ys = search rules
 
 pub line_names-append : (xs ys : List Line) → line_names (xs ++ ys) ≡ line_names xs ++ line_names ys
 line_names-append [] ys = refl
-line_names-append (l ∷ xs) ys =
-    ap (anchor_names l.anchor) (ap (λ t. head_names l.head ++ t) (line_names-append xs ys) ∙ sym (append_assoc (head_names l.head) (line_names xs) (line_names ys)))
-    ∙ with-append l.anchor (head_names l.head ++ line_names xs) (line_names ys)
+line_names-append (l ∷ xs) ys = search (rules, append_assoc, with-append, line_names-append xs ys)
 
 -- a node that may take an anchor
 abbrev NodeTakes : Option (List ℕ) → Node → Type 0
@@ -33,13 +31,9 @@ head_takes a h h1 h2 = search rules
 bare_takes : (x : List ℕ) (k : Option (List ℕ)) (h : Option Node) (v w : Outline) → MayTake Bare k h → IsUnnamed h → IsWhole Bare h w → NodeTakes (Some x) (anchored k (head_or h (value v)))
 bare_takes x k h v w h1 h2 h3 = search (rules, anchored_none)
 
-collection_takes : (x : List ℕ) (m : LineMark) (k : Option (List ℕ)) (h : Option Node) (v w : Outline) (lbl : Label) (cs : Children) → MayTake m k h → IsUnnamed h → IsWhole m h w →
-    NodeTakes (Some x) (outline_node m (child lbl (anchored k (head_or h (value v))) cs))
-collection_takes x m k h v w lbl cs h1 h2 h3 = search (rules, bare_takes)
-
 -- an anchor before lines can be that of their node
 value_takes : (a : Option (List ℕ)) (n : ℕ) (o : Outline) → IsEven n o → IsFree a (flatten o) → HaveHeadsApart (flatten o) → NodeTakes a (value o)
-value_takes a n o h1 h2 h3 = search (rules, collection_takes)
+value_takes a n o h1 h2 h3 = search (rules, bare_takes)
 
 collection_names : (m : LineMark) (h : Option Node) (w : Outline) (lbl : Label) (n : Node) → IsWhole m h w → names_of (outline_node m (child lbl n (children w))) ≡ names_of n ++ names_in (children w)
 collection_names m h w lbl n h1 = search (rules, append-nil)
@@ -47,12 +41,9 @@ collection_names m h w lbl n h1 = search (rules, append-nil)
 names_value : (n : ℕ) (o : Outline) → IsEven n o → names_of (value o) ≡ names_in (children o)
 names_value n o h1 = search (rules, collection_names)
 
-pub free_front : (a : Option (List ℕ)) (xs ys : List Line) → IsFree a (xs ++ ys) → IsFree a xs
-free_front a xs ys h1 = search rules
-
 pub each_front : (xs ys : List Line) → HaveOneAnchorEach (xs ++ ys) → HaveOneAnchorEach xs
 each_front [] ys h = tt
-each_front (l ∷ xs) ys h = (free_front l.anchor xs ys h.0, each_front xs ys h.1)
+each_front (l ∷ xs) ys h = (search rules, each_front xs ys h.1)
 
 pub each_back : (xs ys : List Line) → HaveOneAnchorEach (xs ++ ys) → HaveOneAnchorEach ys
 each_back [] ys h = h
@@ -78,7 +69,7 @@ names_children n (row l u a) even each apart =
     let fa = flatten a in
     let hn = head_names l.head in
     let below = names_children even.3.0 u even.3.2 (each_front fu fa each.1) (apart_front fu fa apart.1) in
-    let here = entry_names l.anchor l.head even.3.0 u even.1 apart.0.0 apart.0.1 even.3.2 (free_front l.anchor fu fa each.0) (apart_front fu fa apart.1) below in
+    let here = entry_names l.anchor l.head even.3.0 u even.1 apart.0.0 apart.0.1 even.3.2 (search rules) (apart_front fu fa apart.1) below in
     let behind = names_children n a even.4 (each_back fu fa each.1) (apart_back fu fa apart.1) in
     search (rules, with-append, append_assoc, line_names-append, fu, fa, hn, here, behind)
 

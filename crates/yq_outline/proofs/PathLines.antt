@@ -3,7 +3,7 @@ use Rattle.std.proofs.Common.{◌≡◌, ℕ, suc, ◌+◌, ◌<◌, eqb, List, 
 use Rattle.std.{proofs.Common.{false, refl, sym, ap, ◌∙◌, arith, length-append, rules}, proofs.lemmas.Bool.{eq-eqb, eqb-true, false≢true}}
 use Rattle.std.{proofs.lemmas.Option.{none-some, same_Some}, specs.List.slice_get, specs.Prelude.IfSome}
 use Rattle.yq_core.specs.Paths.{Step}
-use Rattle.yq_outline.{specs.Ends.{part, line_at_steps, reached}, specs.Outline.{Line, level, Outline, flatten}}
+use Rattle.yq_outline.{specs.Ends.{part, line_at_steps, reached}, specs.Outline.{Line, Outline, flatten}}
 use Rattle.yq_outline.specs.Places.{Context, here, below, beside, compose, lines_before, FoundLine, find_row, place_inside, in_head, find}
 use Rattle.yq_outline.{specs.Positions.{position, line_here, begins_with_node, reach_in, reach_under, reach_from}, proofs.EndsLaws.has_line}
 use Rattle.yq_outline.proofs.NameLaws.{part-all}
@@ -67,11 +67,6 @@ length-compose (beside l u p) q = omega (arith, length-compose p q, length-appen
 deep_line : (first : ℕ) (f : FoundLine) (r : Option (FoundLine × List Step)) → behind first (option_map (λ x. (place_inside f x.0, x.1)) r) ≡ behind ((first + length (lines_before f.place)) + 1) r
 deep_line first f r = search (rules, length-compose)
 
--- from a line that was found, by its index
-found_step : (ls : List Line) (first : ℕ) (ss : List Step) (f : FoundLine) → f.under ≡ part ls ((first + length (lines_before f.place)) + 1) (level f.line) → slice_get ls (first + length (lines_before f.place)) ≡ Some f.line →
-    behind first (in_rest f ss) ≡ reach_from ls (Some (first + length (lines_before f.place))) ss
-found_step ls first ss f h1 h2 = search (rules, from_there, deep_line)
-
 -- one step
 pub step_line : (ls : List Line) (first floor : ℕ) (s : Step) (ss : List Step) (r : Option ℕ) → begins_with_node (part ls first floor) ≡ false →
     position first (find_row s (part ls first floor)) ≡ line_here ls r → IfSome r (λ i. i < length ls) →
@@ -86,4 +81,4 @@ step_line ls first floor s ss r other found within =
     go None (Some i) e w =
         let line = has_line ls i w in
         search (rules, none-some, line)
-    go (Some f) (Some i) e w = search (rules, has_line, same_Some, found_step)
+    go (Some f) (Some i) e w = search (rules, has_line, same_Some, from_there, deep_line)

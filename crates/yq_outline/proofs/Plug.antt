@@ -1,5 +1,5 @@
 -- What exchanging the lines in a place does to the lines, to evenness and to the tree.
-use Rattle.std.proofs.Common.{◌≡◌, ℕ, ◌∷◌, ◌++◌, Option, None, refl, sym, ap, ◌∙◌, subst, append_assoc, append-nil, rules}
+use Rattle.std.proofs.Common.{◌≡◌, ℕ, ◌++◌, Option, None, refl, sym, ap, subst, append_assoc, append-nil, rules}
 use Rattle.std.proofs.lemmas.Option.{none-some}
 use Rattle.yq_core.specs.Tree.{Node}
 use Rattle.yq_outline.specs.Outline.{LineMark, Line, level, Outline, row, flatten, IsOpen, IsWhole, IsEven}
@@ -8,9 +8,7 @@ use Rattle.yq_outline.proofs.Allowing.{IsEntry, Allows}
 
 pub flatten-plug : (p : Context) (o : Outline) → flatten (plug p o) ≡ lines_before p ++ (flatten o ++ lines_after p)
 flatten-plug here o = sym (append-nil (flatten o))
-flatten-plug (below l p a) o =
-    ap (λ x. l ∷ x) (ap (λ x. x ++ flatten a) (flatten-plug p o)
-    ∙ (append_assoc (lines_before p) (flatten o ++ lines_after p) (flatten a) ∙ ap (λ x. lines_before p ++ x) (append_assoc (flatten o) (lines_after p) (flatten a))))
+flatten-plug (below l p a) o = search (rules, append_assoc, flatten-plug p o)
 flatten-plug (beside l u p) o = cc (flatten-plug p o, append_assoc (flatten u) (lines_before p) (flatten o ++ lines_after p))
 
 pub plug-compose : (p q : Context) (o : Outline) → plug (compose p q) o ≡ plug p (plug q o)
@@ -27,10 +25,8 @@ entry_whole m h o h1 = search rules
 -- what is in a place at the level that it allows makes an even outline
 pub plug-even : (n m : ℕ) (p : Context) (o : Outline) → Allows n p m → IsEven m o → IsEven n (plug p o)
 plug-even n m here o h e = subst (λ k. IsEven k o) (sym h) e
-plug-even n m (below l p a) o h e =
-    (h.0, closed l.head (plug p o) h.1, entry_whole l.mark l.head a h.2, (h.3.0, h.3.1, plug-even h.3.0 m p o h.3.2 e), h.4)
-plug-even n m (beside l u p) o h e =
-    (h.0, h.1, entry_whole l.mark l.head (plug p o) h.2, h.3, plug-even n m p o h.4 e)
+plug-even n m (below l p a) o h e = search (rules, closed, entry_whole, plug-even h.3.0 m p o h.3.2 e)
+plug-even n m (beside l u p) o h e = search (rules, entry_whole, plug-even n m p o h.4 e)
 
 -- nothing in a place is the end of an outline
 never_end : (P : Outline → Type 0) (p : Context) (l : Line) (u a : Outline) → ((k : Line) (v b : Outline) → P (row k v b)) → P (plug p (row l u a))

@@ -1,10 +1,9 @@
 -- What a row spells, by what is written: its colon, its key and its lines.
-use Rattle.yq_core.{proofs.BorrowedTexts.{any_take, any_drop}, specs.Piece.deeper, specs.Plain.{begins_plain, holds_break}}
-use Rattle.yq_core.{specs.Quoted.IsQuotedText, specs.Text.{is_empty, text_lines, is_feed}, specs.Scalars.{IsScalarAt, is_quoted}}
-use Rattle.yq_core.{proofs.NodesPieceLaws.{front_not, scalar_some}, specs.ContentReading.quoted_content, specs.Nodes.begins_with}
-use Rattle.yq_core.proofs.OneLine.{borrowed_quoted}
-use Rattle.std.proofs.Common.{◌≡◌, ℕ, ℤ, suc, ◌+◌, true, false, List, [], ◌∷◌, ◌++◌, length, Option, Some, refl, ap, rules, zero, ◌<◌, ◌≤◌}
-use Rattle.std.proofs.Common.{None, arith, ◌-◌, eqb, cond, ◌||◌, drop, take, ◌∙◌, replicate, not}
+use Rattle.yq_core.{proofs.BorrowedTexts.{any_take, any_drop}, specs.Plain.holds_break, specs.Quoted.IsQuotedText}
+use Rattle.yq_core.{specs.Text.{is_empty, text_lines, is_feed}, specs.Scalars.{IsScalarAt, is_quoted}, proofs.NodesPieceLaws.front_not}
+use Rattle.yq_core.{specs.ContentReading.quoted_content, specs.Nodes.begins_with, proofs.OneLine.borrowed_quoted}
+use Rattle.std.proofs.Common.{◌≡◌, ℕ, suc, ◌+◌, true, false, List, [], ◌∷◌, ◌++◌, length, Option, Some, refl, ap, rules, zero, ◌<◌, ◌≤◌}
+use Rattle.std.proofs.Common.{None, arith, ◌-◌, eqb, cond, drop, take, ◌∙◌, replicate, not}
 use Rattle.std.{proofs.lemmas.Bool.{false≢true, cases_lt, cond-false}, proofs.lemmas.Option.same_Some, specs.List.{slice_get, list_any}}
 use Rattle.std.proofs.lemmas.List.Sums.{sum_by-cons}
 use Rattle.yq_outline.{specs.Comments.head_comment, specs.Outline.Line, specs.Lines.{lines_from, content_anchor, tail_of}}
@@ -19,15 +18,8 @@ pub colon_some : (white : List ℕ) → is_empty (white ++ 58 ∷ []) ≡ false
 colon_some [] = refl
 colon_some (b ∷ bs) = refl
 
-pub scalar_written : (n : ℤ) (p rest : List ℕ) → IsScalarAt false (Some (deeper n)) p rest → is_empty p ≡ false
-scalar_written n p rest h1 = search (rules, scalar_some)
-
--- a quoted key is a quoted scalar
-plain_key : (key rest : List ℕ) → begins_plain false (key ++ rest) ≡ true → is_quoted key ≡ true → IsQuotedText key
-plain_key key rest h1 h2 = search (rules, false≢true, front_not)
-
 pub scalar_quoted : (spaces : Option ℕ) (p rest : List ℕ) → IsScalarAt false spaces p rest → is_quoted p ≡ true → IsQuotedText p
-scalar_quoted spaces p rest h1 h2 = search (rules, plain_key)
+scalar_quoted spaces p rest h1 h2 = search (rules, false≢true, front_not)
 
 pub mark_quoted : (m : rows.RowMark) (c : Content) (rest : List ℕ) → IsMark m c rest → is_quoted (key_of_mark m) ≡ true → IsQuotedText (key_of_mark m)
 mark_quoted m c rest h1 h2 = search (rules, false≢true, scalar_quoted)
@@ -59,9 +51,7 @@ pub beside_in : (above : List (List ℕ)) (column : ℕ) (ns : List ℕ) (m : ro
 beside_in above column [] m c zero l h e = search (rules, same_Some)
 beside_in above column [] m c (suc k) l h e = absurd (omega (arith, h))
 beside_in above column (n ∷ ns) m c zero l h e = search (rules, same_Some)
-beside_in above column (n ∷ ns) m c (suc k) l h e =
-    let x = beside_in [] (suc (column + n)) ns m c k l (omega (arith, h)) e in
-    search (rules, cases_lt, x)
+beside_in above column (n ∷ ns) m c (suc k) l h e = search (rules, cases_lt, beside_in [] (suc (column + n)) ns m c k l (omega (arith, h)) e)
 
 -- ---- a quoted key or scalar on one line without escapes means what is between its quotes
 
@@ -74,15 +64,11 @@ quoted_lent (b ∷ bs) inner q broken is none =
 
 none_in_spaces : (n : ℕ) (t : List ℕ) → dash_count (replicate n 32 ++ t) ≡ dash_count t
 none_in_spaces zero t = refl
-none_in_spaces (suc n) t =
-    let step : dash_count (32 ∷ (replicate n 32 ++ t)) ≡ 0 + dash_count (replicate n 32 ++ t) = sum_by-cons (λ b. cond (eqb b 45) 1 0) 32 (replicate n 32 ++ t) in
-    omega (arith, step, none_in_spaces n t)
+none_in_spaces (suc n) t = search (rules, sum_by-cons, none_in_spaces n t)
 
 dashes_count : (ns t : List ℕ) → dash_count (dashes_text ns t) ≡ length ns + dash_count t
 dashes_count [] t = omega arith
-dashes_count (n ∷ ns) t =
-    let step : dash_count (45 ∷ (replicate n 32 ++ dashes_text ns t)) ≡ 1 + dash_count (replicate n 32 ++ dashes_text ns t) = sum_by-cons (λ b. cond (eqb b 45) 1 0) 45 (replicate n 32 ++ dashes_text ns t) in
-    omega (arith, step, none_in_spaces n (dashes_text ns t), dashes_count ns t)
+dashes_count (n ∷ ns) t = search (rules, sum_by-cons, none_in_spaces, dashes_count ns t)
 
 -- the lines before the last one of a row
 pub before_mark : (ns : List ℕ) (m : RowMark) (c : Content) (rest : List ℕ) → AreDashes ns m → IsMark m c rest → cond (is_empty (colon_of m)) (dash_count (dashes_text ns (last_dash m)) - 1) (dash_count (dashes_text ns (last_dash m))) ≡ length ns

@@ -4,7 +4,7 @@ use Rattle.yq_outline.specs.Outline.{LineMark, Bare, Dash, rank, Line, level, Ou
 use Rattle.yq_outline.{specs.Group.{deeper_lines, shallow, is_open, is_whole, level_or, is_even, is_fine}, specs.Ends.has_no_lines}
 use Rattle.yq_outline.specs.Sound.{is_sound_outline, head_is_sound, line_is_sound, is_entry_line}
 use Rattle.std.proofs.Common.{◌≡◌, ℕ, suc, ◌+◌, ◌<◌, ◌≤◌, max, leb, ltb, eqb, List, [], ◌++◌, Option, Some, None, is_some, Bool, true}
-use Rattle.std.proofs.Common.{false, ◌&&◌, ◌⊎◌, inl, inr, refl, sym, ap, ◌∙◌, arith, append_assoc, rules}
+use Rattle.std.proofs.Common.{false, ◌&&◌, ◌⊎◌, refl, ap, ◌∙◌, append_assoc, rules}
 use Rattle.std.proofs.lemmas.Bool.{lt-ltb, eq-eqb, ne_eqb, leb-true, le-leb, cases_eq, and_parts, false_from_ne_true, false≢true}
 use Rattle.std.proofs.Math.Bool.{and-false, and-true, and_comm}
 use Rattle.yq_core.{specs.Tree.Node, specs.Keys.{keys_of, depth, deepest, are_distinct, has_unique_keys, each_has_unique_keys}}
@@ -55,9 +55,6 @@ leb-max a b d = search (rules, max, le-leb, leb-true, no_leb, false≢true)
 leb-suc : (a d : ℕ) → leb (suc a) (suc d) ≡ leb a d
 leb-suc a d = search (rules, le-leb, leb-true, no_leb, false≢true)
 
-leb-zero : (a : ℕ) → leb (suc a) 0 ≡ false
-leb-zero a = no_leb (suc a) 0 (λ h. omega arith)
-
 -- nine facts in two orders
 sorted : (f e l h x u g y z : Bool) → (f && e) && (((l && h) && x) && (((u && g) && y) && z)) ≡ (h && g) && ((f && (l && u)) && (e && (x && (y && z))))
 sorted f e l h x u g y z = search (rules, and-false)
@@ -68,11 +65,6 @@ even_any d o = search rules
 whole_entry : (m : LineMark) (h : Option Node) (o : Outline) → is_entry_line m ≡ true → is_whole m h o ≡ true
 whole_entry m h o h1 = search (rules, false≢true)
 
--- a line at the level of its collection, with what is under it
-even_row : (n : ℕ) (l : Line) (u a : Outline) → is_entry_line l.mark ≡ true → level l ≡ n → is_open l.head u ≡ true → level l < level_or (level l + 1) u →
-    is_even n (row l u a) ≡ (is_fine u && is_even n a)
-even_row n l u a entry lev open' deep = search (rules, eq-eqb, whole_entry, lt-ltb, even_any)
-
 keys_again : (keys : List (List ℕ)) (k : Option (List ℕ)) (more : List (List ℕ)) → keys ++ with_first k more ≡ (keys ++ with_first k []) ++ more
 keys_again keys k more = search (rules, append_assoc)
 
@@ -80,14 +72,11 @@ keys_again keys k more = search (rules, append_assoc)
 asked_row : (d n : ℕ) (keys : List (List ℕ)) (l : Line) (u a : Outline) → is_entry_line l.mark ≡ true → level l ≡ n → is_open l.head u ≡ true → level l < level_or (level l + 1) u →
     asked d n keys (row l u a) ≡ (head_is_sound d l.head && (is_sound_outline d u && asked d n (keys_with keys l.mark) a))
 asked_row d n keys l u a entry lev open' deep =
-    search (rules, depth-anchored, depth-head, unique-anchored, unique-head, keys_again, even_row, leb-max, sorted, head_parts)
+    search (rules, depth-anchored, depth-head, unique-anchored, unique-head, keys_again, eq-eqb, whole_entry, lt-ltb, even_any, leb-max, sorted, head_parts)
 
 -- a line at another level, or with a head and lines under it
 not_level : (d n : ℕ) (keys : List (List ℕ)) (l : Line) (u a : Outline) → (level l ≡ n → ⊥) → asked d n keys (row l u a) ≡ false
 not_level d n keys l u a e = rw (ne_eqb (level l) n e) refl
-
-not_open : (d n : ℕ) (keys : List (List ℕ)) (l : Line) (u a : Outline) → level l ≡ n → is_open l.head u ≡ false → asked d n keys (row l u a) ≡ false
-not_open d n keys l u a lev e = rw (eq-eqb (level l) n lev, e) refl
 
 -- what is asked of a line in a collection, of those under it and of those after it
 pub asked_line : (d n : ℕ) (keys : List (List ℕ)) (l : Line) (u a : Outline) → IsEntryLevel n → level l < level_or (level l + 1) u →
@@ -98,11 +87,10 @@ asked_line d n keys l u a entries deep = go (cases_eq (level l) n)
     next = is_sound_outline d u && asked d n (keys_with keys l.mark) a
 
     opened : (b : Bool) → level l ≡ n → is_open l.head u ≡ b → asked d n keys (row l u a) ≡ (b && head_is_sound d l.head) && next
-    opened b h1 h2 = search (rules, asked_row, not_open)
+    opened b h1 h2 = search (rules, asked_row, eq-eqb)
 
     go : (level l ≡ n) ⊎ (level l ≡ n → ⊥) → asked d n keys (row l u a) ≡ (line_is_sound d n l u && next)
-    go (inl lev) = opened (is_open l.head u) lev refl ∙ sym (ap (λ b. (b && (is_open l.head u && head_is_sound d l.head)) && next) (eq-eqb (level l) n lev))
-    go (inr other) = not_level d n keys l u a other ∙ sym (ap (λ b. (b && (is_open l.head u && head_is_sound d l.head)) && next) (ne_eqb (level l) n other))
+    go lev = search (rules, opened, next, eq-eqb, not_level, ne_eqb)
 
 entry_by_rank : (a b : LineMark) → rank a ≡ rank b → is_entry_line b ≡ true → is_entry_line a ≡ true
 entry_by_rank a b h1 h2 = search (rules, false≢true)
@@ -139,7 +127,7 @@ sound_entries d l u a entry = go l.mark refl entry
     go m h1 h2 = search (rules, false≢true, leb-suc, and_comm, guarded, no_keys)
 
 pub too_deep : (l : Line) (u a : Outline) → is_entry_line l.mark ≡ true → is_sound_outline 0 (row l u a) ≡ false
-too_deep l u a entry = search (rules, false≢true, leb-zero, and-false)
+too_deep l u a entry = search (rules, false≢true, no_leb, and-false)
 
 -- a node on a line of its own, with what is under it and after it
 alone : (d n : ℕ) (h : Option Node) (u a : Outline) → n < n + 1 →

@@ -1,5 +1,5 @@
 -- Where lines end that are deeper than a level: after one of them and those under it.
-use Rattle.std.proofs.Common.{◌≡◌, ℕ, suc, ◌+◌, ◌<◌, ltb, Bool, cond, List, [], ◌∷◌, length, drop, Some, refl, sym, ap, ◌∙◌, arith, rules}
+use Rattle.std.proofs.Common.{◌≡◌, ℕ, suc, ◌+◌, ◌<◌, List, [], ◌∷◌, length, drop, Some, sym, ap, ◌∙◌, arith, rules}
 use Rattle.std.{proofs.lemmas.Bool.{lt-ltb, ltb-true, cond-true}, proofs.lemmas.List.drop-drop, proofs.lemmas.Option.slice_get_within}
 use Rattle.std.specs.List.{slice_get}
 use Rattle.yq_outline.{specs.Ends.{IsEndOf, deeper_count}, specs.Outline.{Line, level}, proofs.LineEnds.{end_counted, end_agrees}}
@@ -11,11 +11,7 @@ count_more n l ls h = cond-true _ (suc (deeper_count n ls)) 0 (lt-ltb n (level l
 -- lines that are deeper than a level are passed with those that are deeper than one above it
 passed : (n floor : ℕ) (ls : List Line) → floor < n → deeper_count floor ls ≡ deeper_count n ls + deeper_count floor (drop (deeper_count n ls) ls)
 passed n floor [] h = omega arith
-passed n floor (l ∷ ls) h = go (ltb n (level l)) refl (passed n floor ls h)
-  where
-    go : (b : Bool) → ltb n (level l) ≡ b → deeper_count floor ls ≡ deeper_count n ls + deeper_count floor (drop (deeper_count n ls) ls) →
-        deeper_count floor (l ∷ ls) ≡ cond b (suc (deeper_count n ls)) 0 + deeper_count floor (drop (cond b (suc (deeper_count n ls)) 0) (l ∷ ls))
-    go b h1 h2 = search (rules, count_more, ltb-true)
+passed n floor (l ∷ ls) h = search (rules, count_more, ltb-true, passed n floor ls h)
 
 pub stop_end : (ls : List Line) (at : ℕ) (l : Line) → slice_get ls at ≡ Some l → IsEndOf ls at ((at + 1) + deeper_count (level l) (drop (at + 1) ls))
 stop_end ls at l is = search (rules, end_counted)

@@ -1,9 +1,8 @@
 -- An even outline is the one that its lines group to.
-use Rattle.std.proofs.Common.{◌≡◌, ℕ, ◌<◌, ◌≤◌, List, [], ◌++◌, refl, sym, ap, ◌∙◌, subst, arith, append_assoc, append-nil}
+use Rattle.std.proofs.Common.{rules, ◌≡◌, ℕ, ◌<◌, ◌≤◌, List, [], ◌++◌, refl, sym, ap, ◌∙◌, subst, arith, append_assoc, append-nil}
 use Rattle.std.proofs.lemmas.Bool.{lt-ltb, le-ltb, cond-true, cond-false}
 use Rattle.yq_core.specs.Tree.{Node}
-use Rattle.yq_outline.specs.Outline.{Line, level, Outline, end, row, flatten, value, IsEven, Stands}
-use Rattle.yq_outline.specs.Group.{deeper_lines, shallow, lead, group}
+use Rattle.yq_outline.{specs.Outline.{Line, level, Outline, end, row, flatten, IsEven, Stands}, specs.Group.{deeper_lines, shallow, group}}
 
 -- one outline after another
 abbrev pub join : Outline → Outline → Outline
@@ -16,26 +15,21 @@ IsShallow n end = Unit {0}
 IsShallow n (row l under after) = level l ≤ n
 
 deeper-shallow : (n : ℕ) (o : Outline) → IsShallow n o → deeper_lines n o ≡ end
-deeper-shallow n end h = refl
-deeper-shallow n (row l u a) h = cond-false _ _ _ (le-ltb n (level l) h)
+deeper-shallow n o h = search (rules, cond-false, le-ltb)
 
 shallow-shallow : (n : ℕ) (o : Outline) → IsShallow n o → shallow n o ≡ o
-shallow-shallow n end h = refl
-shallow-shallow n (row l u a) h = cond-false _ _ _ (le-ltb n (level l) h)
+shallow-shallow n o h = search (rules, cond-false, le-ltb)
 
 deeper-join : (n m : ℕ) (o b : Outline) → n < m → IsEven m o → IsShallow n b → deeper_lines n (join o b) ≡ o
 deeper-join n m end b lt e h = deeper-shallow n b h
-deeper-join n m (row l u a) b lt e h =
-    cond-true _ _ _ (lt-ltb n (level l) (omega (arith, e.0))) ∙ ap (row l u) (deeper-join n m a b lt e.4 h)
+deeper-join n m (row l u a) b lt e h = search (rules, cond-true, lt-ltb, deeper-join n m a b lt e.4 h)
 
 shallow-join : (n m : ℕ) (o b : Outline) → n < m → IsEven m o → IsShallow n b → shallow n (join o b) ≡ b
 shallow-join n m end b lt e h = shallow-shallow n b h
-shallow-join n m (row l u a) b lt e h =
-    cond-true _ _ _ (lt-ltb n (level l) (omega (arith, e.0))) ∙ shallow-join n m a b lt e.4 h
+shallow-join n m (row l u a) b lt e h = search (rules, cond-true, lt-ltb, shallow-join n m a b lt e.4 h)
 
 shallow_up : (n m : ℕ) (o : Outline) → n < m → IsShallow n o → IsShallow m o
-shallow_up n m end lt h = tt
-shallow_up n m (row l u a) lt h = omega (arith, lt, h)
+shallow_up n m o lt h = search rules
 
 join-IsShallow : (n : ℕ) (o b : Outline) → IsEven n o → IsShallow n b → IsShallow n (join o b)
 join-IsShallow n end b e h = h
@@ -52,10 +46,7 @@ group-flatten n (row l u a) ls e h =
     let rest = join a (group ls) in
     let deep_here : level l < e.3.0 = omega (arith, e.0, deep) in
     let low_here : IsShallow (level l) rest = subst (λ (k : ℕ). IsShallow k rest) (sym e.0) (join-IsShallow n a (group ls) e.4 h) in
-    let all : group ((flatten u ++ flatten a) ++ ls) ≡ join u rest = ap group (append_assoc (flatten u) (flatten a) ls) ∙ (below ∙ ap (join u) behind) in
-    ap (lead l) all
-    ∙ (ap (λ (o : Outline). row l o (shallow (level l) (join u rest))) (deeper-join (level l) e.3.0 u rest deep_here e.3.2 low_here)
-    ∙ ap (row l u) (shallow-join (level l) e.3.0 u rest deep_here e.3.2 low_here))
+    search (rules, append_assoc, deeper-join, shallow-join)
 
 join-end : (o : Outline) → join o end ≡ o
 join-end end = refl
@@ -65,6 +56,4 @@ pub group_even : (n : ℕ) (o : Outline) → IsEven n o → group (flatten o) �
 group_even n o e = ap group (sym (append-nil (flatten o))) ∙ (group-flatten n o [] e tt ∙ join-end o)
 
 pub one_node : (lines : List Line) (a b : Node) (m n : ℕ) → Stands lines a m → Stands lines b n → a ≡ b
-one_node lines a b m n s t =
-    let same : s.outline ≡ t.outline = sym (group_even m s.outline s.even) ∙ (ap group (s.lines_are ∙ sym t.lines_are) ∙ group_even n t.outline t.even) in
-    sym s.node_is ∙ (ap value same ∙ t.node_is)
+one_node lines a b m n s t = search (rules, group_even)

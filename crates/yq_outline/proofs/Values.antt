@@ -42,11 +42,8 @@ pub row_shape : (s : Step) (o : Outline) →
     If (find_row s o) (λ f. (l : Line) (u : Outline) (cs : Children) → level l ≡ level f.line → shaped (plug f.place (row l u f.after)) cs ≡ shaped o cs)
 row_shape s o = search (rules, same_collection, same_rank)
 
-within-collection : (m : LineMark) (g : Children → Children) (cs : Children) → IsEntry m → outline_node m (g cs) ≡ within g (outline_node m cs)
-within-collection m g cs h1 = search rules
-
 pub within-shaped : (o : Outline) (g : Children → Children) (cs : Children) → IsCollection o → shaped o (g cs) ≡ within g (shaped o cs)
-within-shaped o g cs h1 = search (rules, within-collection)
+within-shaped o g cs h1 = search rules
 
 abbrev pub RowChanges : Step → Outline → FoundLine → Type 0
 RowChanges s o f =

@@ -1,6 +1,6 @@
 -- Where the lines under a line end, row by row.
-use Rattle.std.proofs.Common.{◌≡◌, ◌⊎◌, inl, inr, ℕ, zero, suc, ◌+◌, ◌-◌, ◌*◌, ◌<◌, ◌≤◌, List, [], ◌∷◌, ◌++◌, length, map, take, drop, Some}
-use Rattle.std.{proofs.Common.{refl, sym, ap, ◌∙◌, subst, arith, append_assoc, length-append, rules}, proofs.Math.Seq.drop-append-add}
+use Rattle.std.proofs.Common.{◌≡◌, ℕ, zero, suc, ◌+◌, ◌-◌, ◌*◌, ◌<◌, ◌≤◌, List, [], ◌∷◌, ◌++◌, length, map, take, drop, Some, refl, sym, ap}
+use Rattle.std.{proofs.Common.{◌∙◌, subst, arith, append_assoc, length-append, rules}, proofs.Math.Seq.drop-append-add}
 use Rattle.std.{proofs.lemmas.Bool.{cases_lt, lt-ltb, le-ltb, cond-true, cond-false}, proofs.lemmas.Option.same_Some, specs.List.slice_get}
 use Rattle.yq_outline.{specs.Ends.{IsEndOf, deeper_count}, specs.Outline.{Line, level}, proofs.LineEnds.end_counted}
 use Rattle.yq_outline.{proofs.EndsLaws.drop_at, proofs.Values.rank_small}
@@ -30,12 +30,7 @@ mark_level above column m c = omega (arith, (rank_small (line_mark m)).0)
 all_deeper : (n : ℕ) (above : List (List ℕ)) (column : ℕ) (ns : List ℕ) (m : rows.RowMark) (c : Content) (ys : List Line) → n < 3 * column + 1 →
     deeper_count n (lines_from above column ns m c ++ ys) ≡ suc (length ns) + deeper_count n ys
 all_deeper n above column [] m c ys h = omega (arith, count_more n (mark_line above column m c) ys (omega (arith, h, mark_level above column m c)))
-all_deeper n above column (k ∷ ns) m c ys h =
-    omega (
-      arith,
-      count_more n (dash_line above column) (lines_from [] (suc (column + k)) ns m c ++ ys) (omega (arith, h, dash_level above column)),
-      all_deeper n [] (suc (column + k)) ns m c ys (omega (arith, h)),
-    )
+all_deeper n above column (k ∷ ns) m c ys h = search (rules, count_more, dash_level, all_deeper n [] (suc (column + k)) ns m c ys (omega (arith, h)))
 
 -- the lines of a row whose first one is deeper
 first_deeper : (n : ℕ) (above : List (List ℕ)) (column : ℕ) (ns : List ℕ) (m : rows.RowMark) (c : Content) (l : Line) (ys : List Line) → slice_get (lines_from above column ns m c) 0 ≡ Some l → n < level l →
@@ -67,21 +62,8 @@ first_line r t =
 -- the lines of the rows that begin deeper
 rows_deeper : (n : ℕ) (rs : List Row) → RowsAgree rs → deeper_count n (lines_of_rows rs) ≡ length (lines_of_rows (take (deeper_rows n (map slices rs)) rs))
 rows_deeper n [] h = refl
-rows_deeper n (r ∷ rs) h = go (cases_lt n (line_level 0 (slices r))) (rows_deeper n rs h.1)
-  where
-    count : length (row_lines r) ≡ suc (length r.dashes)
-    count = lines_count (comments.head_comment r.gap) r.column r.dashes r.mark r.content
-
-    go : (n < line_level 0 (slices r)) ⊎ (line_level 0 (slices r) ≤ n) → deeper_count n (lines_of_rows rs) ≡ length (lines_of_rows (take (deeper_rows n (map slices rs)) rs)) →
-        deeper_count n (row_lines r ++ lines_of_rows rs) ≡ length (lines_of_rows (take (deeper_rows n (map slices (r ∷ rs))) (r ∷ rs)))
-    go (inl less) again =
-        let x = first_line r h.0 in
-        let rest : List Line = lines_of_rows (take (deeper_rows n (map slices rs)) rs) in
-        let lines : deeper_count n (row_lines r ++ lines_of_rows rs) ≡ suc (length r.dashes) + deeper_count n (lines_of_rows rs) = search (rules, first_deeper, x) in
-        let agrees : deeper_rows n (map slices (r ∷ rs)) ≡ suc (deeper_rows n (map slices rs)) = cond-true _ (suc (deeper_rows n (map slices rs))) 0 (lt-ltb n (line_level 0 (slices r)) less) in
-        let sum : length (row_lines r ++ rest) ≡ suc (length r.dashes) + deeper_count n (lines_of_rows rs) = omega (arith, count, again, length-append (row_lines r) rest) in
-        lines ∙ (sym sum ∙ ap (λ (k : ℕ). length (lines_of_rows (take k (r ∷ rs)))) (sym agrees))
-    go (inr stop) again = search (rules, first_line, cond-false, le-ltb, first_shallow)
+rows_deeper n (r ∷ rs) h =
+    search (rules, cases_lt, lines_count, first_line, first_deeper, cond-true, lt-ltb, length-append, cond-false, le-ltb, first_shallow, rows_deeper n rs h.1)
 
 -- the lines of rows, cut at a row
 pub lines_cut : (rs : List Row) (i : ℕ) (r : Row) → slice_get rs i ≡ Some r → lines_of_rows rs ≡ lines_of_rows (take i rs) ++ (row_lines r ++ lines_of_rows (drop (suc i) rs))
@@ -95,14 +77,12 @@ lines_upto [] i d r e = absurd (cc)
 lines_upto (x ∷ rs) zero d r e = search (rules, same_Some, lines_count, length-append)
 lines_upto (x ∷ rs) (suc i) d r e =
     let one : suc (suc i) + d ≡ suc (suc i + d) = omega arith in
-    ap (λ (k : ℕ). length (lines_of_rows (take k (x ∷ rs)))) one
-    ∙ omega (arith, lines_upto rs i d r e, length-append (row_lines x) (lines_of_rows (take (suc i + d) rs)), length-append (row_lines x) (lines_of_rows (take i rs)))
+    search (rules, length-append, lines_upto rs i d r e)
 
 -- the rows after one
 rows_agree_drop : (k : ℕ) (rs : List Row) → RowsAgree rs → RowsAgree (drop k rs)
-rows_agree_drop zero rs h = h
-rows_agree_drop (suc k) [] h = h
 rows_agree_drop (suc k) (r ∷ rs) h = rows_agree_drop k rs h.1
+rows_agree_drop _ _ h = h
 
 -- a line of rows
 pub line_of_row : (rs : List Row) (i k : ℕ) (r : Row) → slice_get rs i ≡ Some r → k ≤ length r.dashes → slice_get (lines_of_rows rs) (length (lines_of_rows (take i rs)) + k) ≡ slice_get (row_lines r) k

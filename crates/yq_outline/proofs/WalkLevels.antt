@@ -1,6 +1,6 @@
 -- How deep the lines of rows are, by the pieces of rows.
-use Rattle.std.proofs.Common.{◌≡◌, ◌⊎◌, ℕ, zero, suc, ◌+◌, ◌%◌, ◌<◌, ◌≤◌, ltb, true, false, cond, List, [], ◌∷◌, length, take, replicate}
-use Rattle.std.proofs.Common.{Some, None, refl, arith, length-append, rules, inl, inr, ◌++◌, ap, ◌&&◌}
+use Rattle.std.proofs.Common.{◌≡◌, ◌⊎◌, ℕ, zero, suc, ◌+◌, ◌%◌, ◌<◌, ◌≤◌, true, false, List, [], ◌∷◌, length, take, replicate, Some, None}
+use Rattle.std.proofs.Common.{refl, arith, length-append, rules, inl, inr, ◌++◌, ap, ◌&&◌}
 use Rattle.std.proofs.lemmas.Bool.{cases_lt, lt-ltb, le-ltb, cond-true, cond-false, ne_eqb}
 use Rattle.std.{proofs.lemmas.List.{length-replicate, take_all}, specs.List.slice_get, specs.Prelude.is_none}
 use Rattle.yq_core.{specs.Scalars.is_quoted, specs.Paths.is_item, specs.Plain.holds_break, specs.Quoted.IsQuotedText, specs.Text.is_empty}
@@ -27,9 +27,7 @@ to_dash zero [] t h (inl e) = ap (dash_at 0) e
 to_dash zero [] t h (inr e) = ap (dash_at 0) e.1
 to_dash (suc k) [] t h e = absurd (omega (arith, h))
 to_dash zero (n ∷ ns) t h e = refl
-to_dash (suc k) (n ∷ ns) t h e =
-    let again : dash_at k (dashes_text ns t) ≡ length (dashes_text (take k ns) []) = to_dash k ns t (omega (arith, h)) e in
-    search (rules, length-replicate, cond-false, ne_eqb, past_spaces, length-append, again)
+to_dash (suc k) (n ∷ ns) t h e = search (rules, length-replicate, cond-false, ne_eqb, past_spaces, length-append, to_dash k ns t (omega (arith, h)) e)
 
 pub last_is : (m : RowMark) → last_dash m ≡ [] ⊎ ((u : List ℕ) × (last_dash m ≡ 45 ∷ u))
 last_is m = search rules
@@ -59,9 +57,7 @@ pub line_in : (above : List (List ℕ)) (column : ℕ) (ns : List ℕ) (m : rows
 line_in above column [] m c zero h = (mark_line above column m c, refl, record { column_is = omega arith; dash = λ p. absurd (omega (arith, p)); mark = λ e. (refl, refl) })
 line_in above column [] m c (suc k) h = absurd (omega (arith, h))
 line_in above column (n ∷ ns) m c zero h = (dash_line above column, refl, record { column_is = omega arith; dash = λ p. (refl, refl); mark = λ e. absurd (omega (arith, e)) })
-line_in above column (n ∷ ns) m c (suc k) h =
-    let x = line_in [] (suc (column + n)) ns m c k (omega (arith, h)) in
-    search (rules, length-replicate, length-append, x)
+line_in above column (n ∷ ns) m c (suc k) h = search (rules, length-replicate, length-append, line_in [] (suc (column + n)) ns m c k (omega (arith, h)))
 
 -- a dash comes before what follows it
 dash_before : (k : ℕ) (ns t : List ℕ) → k < length ns → length (dashes_text (take k ns) []) < length (dashes_text ns t)
@@ -73,17 +69,12 @@ dash_behind : (ns : List ℕ) → length (dashes_text ns (45 ∷ [])) ≡ suc (l
 dash_behind [] = refl
 dash_behind (n ∷ ns) = omega (arith, dash_behind ns, length-append (replicate n 32) (dashes_text ns (45 ∷ [])), length-append (replicate n 32) (dashes_text ns []))
 
--- the rank of a row's last line
-mark_rank : (m : rows.RowMark) (ns : List ℕ) (a : ℕ) → a ≡ length (dashes_text ns []) → is_empty (colon_of m) ≡ is_item (key_of (line_mark m)) →
-    rank (line_mark m) ≡ cond (ltb a (length (dashes_text ns (last_dash m)))) 3 (cond (is_empty (colon_of m)) 1 2)
-mark_rank m ns a h1 h2 = search (rules, cond-false, le-ltb, cond-true, lt-ltb, dash_behind)
-
 -- the rank of a line of a row
 pub rank_is : (r : Row) (k : ℕ) (l : Line) → RowAgrees r → k ≤ length r.dashes → IsLineOf r.column r.dashes r.mark r.content k l → rank l.mark ≡ line_rank k (slices r)
 rank_is r k l t h is = go (to_dash k r.dashes (last_dash r.mark) h (last_is r.mark)) (cases_lt k (length r.dashes))
   where
     go : dash_at k (slices r).dashes ≡ length (dashes_text (take k r.dashes) []) → (k < length r.dashes) ⊎ (length r.dashes ≤ k) → rank l.mark ≡ line_rank k (slices r)
-    go h1 h2 = search (rules, cond-true, lt-ltb, dash_before, take_all, mark_rank)
+    go h1 h2 = search (rules, cond-true, lt-ltb, dash_before, take_all, cond-false, le-ltb, dash_behind)
 
 -- the level of a line of a row
 pub level_is : (r : Row) (k : ℕ) (l : Line) → RowAgrees r → k ≤ length r.dashes → IsLineOf r.column r.dashes r.mark r.content k l → level l ≡ line_level k (slices r)

@@ -1,16 +1,14 @@
 -- What lines of a document begin with, and whether they have a head, by their rows.
-use Rattle.std.proofs.Common.{◌≡◌, ◌⊎◌, ℕ, ◌<◌, ◌≤◌, eqb, Bool, true, false, not, ◌&&◌, List, length, Option, Some, None, sym, ap, ◌∙◌}
-use Rattle.std.{proofs.Common.{subst, rules}, proofs.lemmas.Bool.{cases_lt, eq-eqb, ne_eqb}, proofs.lemmas.Option.same_Some}
-use Rattle.std.{specs.List.slice_get, specs.Prelude.{is_none, is_some}, specs.Str.bytes_eq}
+use Rattle.std.proofs.Common.{◌≡◌, ℕ, eqb, Bool, true, false, not, ◌&&◌, List, Some, None, sym, ap, ◌∙◌, subst, rules}
+use Rattle.std.{proofs.lemmas.Bool.{cases_lt, eq-eqb, ne_eqb}, proofs.lemmas.Option.same_Some, specs.List.slice_get, specs.Prelude.is_some}
+use Rattle.std.specs.Str.{bytes_eq}
 use Rattle.yq_core.{specs.Scalars.{scalar_content, is_quoted}, specs.Paths.{is_item, key_is}, specs.Plain.holds_break}
-use Rattle.yq_core.{specs.Quoted.IsQuotedText, specs.Text.is_empty, specs.Tree.Node}
-use Rattle.yq_outline.{specs.Outline.{LineMark, Line, key_of, rank}, specs.Positions.has_no_mark, specs.Lines.{line_mark, lines_of_rows}}
+use Rattle.yq_core.{specs.Quoted.IsQuotedText, specs.Text.is_empty}
+use Rattle.yq_outline.{specs.Outline.{LineMark, Line, key_of, rank}, specs.Positions.has_no_mark, specs.Lines.lines_of_rows}
 use Rattle.yq_outline.{specs.Extents.lines_before_mark, specs.RowWalk.{line_rank, HasRows, IsLine, line_number}}
 use Rattle.yq_outline.{specs.declared.line_position.Position.Position, specs.declared.line_position.Stretch.Stretch}
 use Rattle.yq_outline.{proofs.WalkLevels.rank_is, proofs.WalkPositions.{Located, located}}
 use Rattle.yq_row_table.specs.View.{Slices, slices, RowsView}
-use Rattle.yq_row_table.specs.Rows as rows
-use Rattle.yq_row_table.specs.View as views
 
 -- what is known of a line's mark, by its rank
 bare_ranked : (m : LineMark) → has_no_mark m ≡ eqb (rank m) 1
@@ -44,13 +42,7 @@ module _ (s : RowsView) (d : Stretch) (h : HasRows s d) (q : Position) (at : IsL
     key_none other = search (rules, same)
 
     pub key_here : n ≡ 2 → Some (scalar_content (slices (located s d h q at).row).key) ≡ key_of l.mark
-    key_here two = go (cases_lt q.line (length k.row.dashes))
-      where
-        marked : (m : rows.RowMark) → rank (line_mark m) ≡ 2 → Some (scalar_content (views.key_of_mark m)) ≡ key_of (line_mark m)
-        marked m h1 = search rules
-
-        go : (q.line < length k.row.dashes) ⊎ (length k.row.dashes ≤ q.line) → Some (scalar_content (slices k.row).key) ≡ key_of l.mark
-        go h1 = search (rules, own, same)
+    key_here two = search (rules, cases_lt, own, same)
 
     -- whether it is that key's
     pub other_agrees : (key : List ℕ) → (n ≡ 2 → ⊥) → false ≡ key_is key (key_of l.mark)
@@ -60,19 +52,7 @@ module _ (s : RowsView) (d : Stretch) (h : HasRows s d) (q : Position) (at : IsL
     key_agrees piece key written two = ap (λ (t : List ℕ). bytes_eq (scalar_content t) key) (written (slices k.row) k.pieces) ∙ ap (key_is key) (key_here two)
 
   pub head_agrees : (last : Bool) (x : Slices) → slice_get s.rows q.row ≡ Some x → last ≡ eqb q.line (lines_before_mark x) → (last && not (is_empty x.head)) ≡ is_some l.head
-  head_agrees last x there e = go (cases_lt q.line (length k.row.dashes))
-    where
-      pieces : slices k.row ≡ x
-      pieces = same_Some _ _ (sym k.pieces ∙ there)
-
-      counted : lines_before_mark x ≡ length k.row.dashes
-      counted = ap lines_before_mark (sym pieces) ∙ k.row_agrees.counted
-
-      some : (o : Option Node) → not (is_none o) ≡ is_some o
-      some o = search rules
-
-      go : (q.line < length k.row.dashes) ⊎ (length k.row.dashes ≤ q.line) → (last && not (is_empty x.head)) ≡ is_some l.head
-      go h1 = search (rules, ne_eqb, same, own, eq-eqb)
+  head_agrees last x there e = search (rules, cases_lt, same_Some, ne_eqb, same, own, eq-eqb)
 
 -- a quoted key is a quoted scalar
 pub quoted_agrees : (s : RowsView) (d : Stretch) (h : HasRows s d) (q : Position) → IsLine s d q → (piece : List ℕ) → ((x : Slices) → slice_get s.rows q.row ≡ Some x → piece ≡ x.key) → is_quoted piece ≡ true → IsQuotedText piece

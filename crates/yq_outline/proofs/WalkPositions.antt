@@ -145,10 +145,9 @@ no_line steps ls h1 = search (rules, option_and_then)
 
 pub get_taken : (ss : List Slices) (n i : ℕ) → i < n → slice_get (take n ss) i ≡ slice_get ss i
 get_taken [] zero i h = refl
-get_taken [] (suc n) i h = refl
 get_taken (x ∷ ss) zero i h = absurd (omega (arith, h))
-get_taken (x ∷ ss) (suc n) zero h = refl
 get_taken (x ∷ ss) (suc n) (suc i) h = get_taken ss n i (omega (arith, h))
+get_taken _ (suc n) _ h = refl
 
 -- rows are counted up to one that is not deeper
 pub deeper_upto : (n m : ℕ) (zs : List Slices) (y : Slices) → slice_get zs m ≡ Some y → line_level 0 y ≤ n → deeper_rows n zs ≡ deeper_rows n (take m zs)

@@ -1,15 +1,16 @@
 -- The rows of a document among those of a text, and that their pieces tell their lines.
-use Rattle.std.proofs.Common.{◌≡◌, ℕ, ℤ, zero, suc, ◌+◌, ◌-◌, ◌<◌, ◌≤◌, false, List, [], ◌∷◌, ◌++◌, length, map, take, drop, Some, refl}
-use Rattle.std.{proofs.Common.{sym, ◌∙◌, arith, append-nil, rules}, proofs.lemmas.Bool.{false≢true, lt-ltb, le-ltb, cond-true, cond-false}}
+use Rattle.yq_core.{proofs.NodesPieceLaws.scalar_some, specs.Piece.deeper, specs.Paths.is_item, specs.Text.is_empty}
+use Rattle.yq_core.{specs.Inline.depth_limit, specs.Nodes.{FlowNode, node_text, IsFlowNode}, specs.Trees.node_head}
+use Rattle.yq_core.proofs.NodeAgain.{is_anchored, takes_unanchored}
+use Rattle.std.proofs.Common.{◌≡◌, ℕ, ℤ, zero, suc, ◌+◌, ◌-◌, ◌<◌, ◌≤◌, false, List, [], ◌∷◌, length, map, take, drop, Some, refl, sym, ◌∙◌}
+use Rattle.std.{proofs.Common.{arith, append-nil, rules}, proofs.lemmas.Bool.{false≢true, lt-ltb, le-ltb, cond-true, cond-false}}
 use Rattle.std.{proofs.lemmas.List.{drop-drop, drop-map, drop-take, length-map, length-take-le, length-drop}, specs.List.slice_get}
 use Rattle.std.specs.Prelude.{is_none}
-use Rattle.yq_core.{specs.Piece.deeper, specs.Paths.is_item, specs.Text.is_empty, specs.Inline.depth_limit}
-use Rattle.yq_core.{specs.Nodes.{FlowNode, node_text, IsFlowNode}, specs.Trees.node_head, proofs.NodeAgain.{is_anchored, takes_unanchored}}
 use Rattle.yq_outline.{specs.Outline.key_of, proofs.EndsLaws.drop_at, specs.Lines.{head_of, line_mark}}
 use Rattle.yq_outline.{specs.RowWalk.{line_level, deeper_rows, HasRows}, specs.declared.line_position.Stretch.Stretch}
-use Rattle.yq_outline.{proofs.RowLaws.{before_mark, colon_some, mark_line, mark_quoted, scalar_written}, proofs.WalkLevels.RowsAgree}
-use Rattle.yq_row_table.specs.Grammar.{IsContent, IsMark, Limit, limit_after, AreRows}
-use Rattle.yq_row_table.{specs.Rows.{Content, Row, parent_indent, rows_text}, specs.View.{Slices, slices, RowsView, colon_of, content_cut}}
+use Rattle.yq_outline.{proofs.RowLaws.{before_mark, colon_some, mark_line, mark_quoted}, proofs.WalkLevels.RowsAgree}
+use Rattle.yq_row_table.{specs.Grammar.{IsContent, IsMark, Limit, limit_after, AreRows}, specs.Rows.{Content, Row}}
+use Rattle.yq_row_table.specs.View.{Slices, slices, RowsView, colon_of, content_cut}
 use Rattle.yq_row_table.specs.Rows as rows
 
 -- row by row, up to one that doesn't begin deeper
@@ -50,7 +51,7 @@ row_of s d h i x from upto is =
 -- the pieces of rows tell their lines
 node_summary : (n : ℤ) (node : FlowNode) (rest : List ℕ) → is_anchored node ≡ false → IsFlowNode false (Some (deeper n)) depth_limit node rest → is_empty (node_text node []) ≡ is_none (node_head node)
 unfolding node_text IsFlowNode
-node_summary n node rest h1 h2 = search (rules, append-nil, scalar_written, false≢true)
+node_summary n node rest h1 h2 = search (rules, append-nil, scalar_some, false≢true)
 
 pub head_agrees : (n : ℤ) (c : Content) (rest : List ℕ) → IsContent n c rest → is_empty (content_cut c).3 ≡ is_none (head_of c)
 unfolding IsFlowNode
@@ -62,13 +63,4 @@ colon_agrees m c rest h1 = search (rules, colon_some)
 pub rows_agree : (limit : Limit) (rs : List Row) (end rest : List ℕ) → AreRows limit rs end rest → RowsAgree rs
 rows_agree limit [] end rest h = tt
 rows_agree limit (r ∷ rs) end rest h =
-    let t : List ℕ = rows_text rs (end ++ rest) in (
-      record {
-        counted = before_mark r.dashes r.mark r.content t h.0.dashes h.0.mark;
-        colon = colon_agrees r.mark r.content t h.0.mark;
-        head = head_agrees (parent_indent r) r.content t h.0.content;
-        quoted = mark_quoted r.mark r.content t h.0.mark;
-        line = mark_line r.mark r.content t h.0.mark;
-      },
-      rows_agree (limit_after r) rs end rest h.1,
-    )
+    search (rules, before_mark, colon_agrees, head_agrees, mark_quoted, mark_line, rows_agree (limit_after r) rs end rest h.1)
