@@ -2,8 +2,8 @@
 use Rattle.std.proofs.Common.{◌≡◌, ℕ, ◌+◌, Bool, true, false, cond, List, [], ◌∷◌, ◌++◌, length, nat_eq, refl, sym, ap, ◌∙◌, arith}
 use Rattle.std.{proofs.Common.{append_assoc, append-nil, length-append, rules}, proofs.lemmas.Bool.false≢true}
 use Rattle.yq_text.specs.Splice.{Splice}
-use Rattle.yq_text.specs.Script.{Segment, keep, put, old_text, new_text, keep_before, put_before, merged, splice_at, splices_at}
-use Rattle.yq_text.{specs.Script.{changes_behind, are_kept, kept_front, kept_back, from_first, to_last}, proofs.TouchLaws.put_twice}
+use Rattle.yq_text.specs.Script.{Segment, keep, put, old_text, new_text, put_before, merged, splice_at, splices_at, changes_behind}
+use Rattle.yq_text.{specs.Script.{are_kept, kept_front, kept_back, from_first, to_last}, proofs.TouchLaws.put_twice}
 use Rattle.yq_text.proofs.KeptSegments.{last_kept, new_kept, one_kept}
 
 -- ---- the last one that is replaced
@@ -14,9 +14,8 @@ last_stays (keep u ∷ ss) t = λ i. cond (last_kept ss t i) [] (keep u ∷ last
 last_stays (put o w ∷ ss) t = ap (λ x. put o w ∷ x) (last_stays ss t)
 
 last_gives : (ss : List Segment) (o w : List ℕ) → are_kept (ss ++ (put o w ∷ [])) ≡ false
-last_gives [] o w = refl
 last_gives (keep u ∷ ss) o w = last_gives ss o w
-last_gives (put p x ∷ ss) o w = refl
+last_gives _ o w = refl
 
 pub to_last_put : (ss : List Segment) (o w : List ℕ) → to_last (ss ++ (put o w ∷ [])) ≡ ss ++ (put o w ∷ [])
 to_last_put [] o w = refl
@@ -33,21 +32,16 @@ back_gives (put p x ∷ ss) o w = back_gives ss o w
 -- ---- the texts
 
 pub new_first : (ss : List Segment) → new_text ss ≡ kept_front ss ++ new_text (from_first ss)
-new_first [] = refl
 new_first (keep t ∷ ss) = ap (λ u. t ++ u) (new_first ss) ∙ sym (append_assoc t (kept_front ss) (new_text (from_first ss)))
-new_first (put o w ∷ ss) = refl
+new_first _ = refl
 
 pub old_first : (ss : List Segment) → old_text ss ≡ kept_front ss ++ old_text (from_first ss)
-old_first [] = refl
 old_first (keep t ∷ ss) = ap (λ u. t ++ u) (old_first ss) ∙ sym (append_assoc t (kept_front ss) (old_text (from_first ss)))
-old_first (put o w ∷ ss) = refl
+old_first _ = refl
 
 pub new_last : (ss : List Segment) → new_text ss ≡ new_text (to_last ss) ++ kept_back ss
 new_last [] = refl
-new_last (keep t ∷ ss) = go (are_kept ss) refl (new_last ss)
-  where
-    go : (b : Bool) → are_kept ss ≡ b → new_text ss ≡ new_text (to_last ss) ++ kept_back ss → t ++ new_text ss ≡ new_text (cond b [] (keep t ∷ to_last ss)) ++ cond b (t ++ kept_back ss) (kept_back ss)
-    go b h1 h2 = search (rules, new_kept, append_assoc)
+new_last (keep t ∷ ss) = search (rules, new_kept, append_assoc, new_last ss)
 new_last (put o w ∷ ss) = ap (λ u. w ++ u) (new_last ss) ∙ sym (append_assoc w (new_text (to_last ss)) (kept_back ss))
 
 pub back_first : (ss : List Segment) → are_kept ss ≡ false → kept_back (from_first ss) ≡ kept_back ss
@@ -67,18 +61,15 @@ run n o w (put p x ∷ ss) = run n (o ++ p) (w ++ x) ss
 pub behind_nothing : (n : ℕ) (ss : List Segment) → splices_at n (put_before [] [] ss) ≡ splices_at n ss
 behind_nothing n ss = search rules
 
-put_kept : (n : ℕ) (o w : List ℕ) (b : ℕ) (t : List ℕ) (ss : List Segment) → splices_at n (put_before o w (keep_before (b ∷ t) ss)) ≡ splice_at n o w ++ splices_at (n + length w + length (b ∷ t)) ss
-put_kept n o w b t ss = search (rules, length-append)
-
 -- what is kept ends the exchange in front of it
 pub loop_kept : (done more whole : List Splice) (n m : ℕ) (o w t : List ℕ) (rest : List Segment) → nat_eq (length t) 0 ≡ false → done ++ splices_at n (put_before o w (merged (keep t ∷ rest))) ≡ whole →
     more ≡ done ++ splice_at n o w → m ≡ n + length w + length t → more ++ splices_at m (put_before [] [] (merged rest)) ≡ whole
-loop_kept done more whole n m o w t rest h1 h2 h3 h4 = search (rules, false≢true, behind_nothing, append_assoc, put_kept)
+loop_kept done more whole n m o w t rest h1 h2 h3 h4 = search (rules, false≢true, behind_nothing, append_assoc, length-append)
 
 run_is : (n : ℕ) (o w : List ℕ) (ss : List Segment) → splices_at n (put_before o w (merged ss)) ≡ run n o w ss
 run_is n o w [] = append-nil (splice_at n o w)
 run_is n o w (keep [] ∷ ss) = run_is n o w ss
-run_is n o w (keep (b ∷ t) ∷ ss) = search (rules, put_kept, behind_nothing, run_is (n + length w + length (b ∷ t)) [] [] ss)
+run_is n o w (keep (b ∷ t) ∷ ss) = search (rules, length-append, behind_nothing, run_is (n + length w + length (b ∷ t)) [] [] ss)
 run_is n o w (put p x ∷ ss) = ap (splices_at n) (put_twice o w p x (merged ss)) ∙ run_is n (o ++ p) (w ++ x) ss
 
 run_of : (n : ℕ) (ss : List Segment) → changes_behind n ss ≡ run n [] [] ss

@@ -1,12 +1,11 @@
 -- Bytes and splices that are added to what is made so far.
-use Rattle.std.proofs.Common.{◌≡◌, ℕ, Bool, true, Err, List, ◌∷◌, ◌++◌, length, nat_eq, Ok, Result, sym, ap, ◌∙◌, append_assoc, append-nil}
+use Rattle.std.proofs.Common.{rules, ◌≡◌, ℕ, Bool, true, List, ◌++◌, length, nat_eq, Result, sym, ap, ◌∙◌, append_assoc, append-nil}
 use Rattle.std.{proofs.lemmas.Bool.eqb-true, proofs.lemmas.Result.on_ok_weaker, specs.Result.OnOk, specs.Str.bytes_eq}
 use Rattle.yq_text.{specs.Splice.Splice, proofs.FirstSegment.none_long}
 
 -- what holds however it ends holds where it ends well
 pub on_ok : {T E P : Type 0} (r : Result T E) → P → OnOk r P
-on_ok (Ok v) p = p
-on_ok (Err e) p = tt
+on_ok r p = search rules
 
 -- nothing is added where there are no bytes
 pub nothing_more : (t more : List ℕ) (b : Bool) → b ≡ nat_eq (length more) 0 → b ≡ true → t ≡ t ++ more

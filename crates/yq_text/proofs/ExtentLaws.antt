@@ -9,8 +9,7 @@ StartFrom n [] = ⊤
 StartFrom n (e ∷ es) = (n ≤ e.from) × (e.from ≤ e.to)
 
 start_earlier : (m n : ℕ) (es : List Extent) → m ≤ n → StartFrom n es → StartFrom m es
-start_earlier m n [] le h = tt
-start_earlier m n (e ∷ es) le h = (omega (arith, h.0), h.1)
+start_earlier m n es le h = search rules
 
 extents_start : (n : ℕ) (ss : List Segment) → StartFrom n (extents n ss)
 extents_start n [] = tt

@@ -1,6 +1,6 @@
 -- The first segment and those after it, as a loop over them takes it apart.
-use Rattle.std.proofs.Common.{◌≡◌, ℕ, ◌+◌, ◌-◌, ◌<◌, ◌≤◌, List, [], ◌∷◌, ◌++◌, length, take, drop, get_or, false, nat_eq, refl, sym, ap}
-use Rattle.std.{proofs.Common.{◌∙◌, arith, append-nil, length-drop, length-take-le, String, Global}, proofs.lemmas.List.take_rest}
+use Rattle.std.proofs.Common.{rules, ◌≡◌, ℕ, ◌+◌, ◌-◌, ◌<◌, ◌≤◌, List, [], ◌∷◌, ◌++◌, length, take, drop, get_or, false, nat_eq, refl, sym}
+use Rattle.std.{proofs.Common.{ap, ◌∙◌, arith, append-nil, length-drop, length-take-le, String, Global}, proofs.lemmas.List.take_rest}
 use Rattle.std.specs.String.{string_bytes}
 use Rattle.yq_text.{specs.Halves.whole, specs.declared.halves.Halves.Halves, specs.Exchanging.gives}
 use Rattle.yq_text.specs.Script.{Segment, keep, put, new_text, put_before, merged, splice_at, splices_at}
@@ -56,16 +56,11 @@ kept_found done more all n m o w o2 w2 t ss us some is so_far adds at gone come 
 pub put_found : (done more all : List Splice) (n m : ℕ) (o w p u o2 w2 : List ℕ) (ss us : List Segment) → ss ≡ put p u ∷ us →
     done ++ splices_at n (put_before o w (merged ss)) ≡ all →
     more ≡ done → m ≡ n → o2 ≡ o ++ p → w2 ≡ w ++ u → more ++ splices_at m (put_before o2 w2 (merged us)) ≡ all
-put_found done more all n m o w p u o2 w2 ss us is so_far same at gone come =
-    (λ i. same i ++ splices_at (at i) (put_before (gone i) (come i) (merged us)))
-    ∙ ap (λ s. done ++ splices_at n s) (sym (put_twice o w p u (merged us)))
-    ∙ ap (λ s. done ++ splices_at n (put_before o w (merged s))) (sym is)
-    ∙ so_far
+put_found done more all n m o w p u o2 w2 ss us is so_far same at gone come = search (rules, put_twice)
 
 -- the text and the splices at the end
 pub build_gives : (text all : List ℕ) (done pushed total : List Splice) (n : ℕ) (o w : List ℕ) (xs : List Held) → length xs < 1 →
     text ++ new_text (segments_of xs) ≡ all →
     done ++ splices_at n (put_before o w (merged (segments_of xs))) ≡ total → pushed ≡ done ++ splice_at n o w → gives all total ≡ gives text pushed
-build_gives text all done pushed total n o w [] none so_far found adds =
-    (λ i. gives ((sym so_far ∙ append-nil text) i) ((sym found ∙ (ap (λ s. done ++ s) (append-nil (splice_at n o w)) ∙ sym adds)) i))
+build_gives text all done pushed total n o w [] none so_far found adds = search (rules, append-nil)
 build_gives text all done pushed total n o w (x ∷ xs) none so_far found adds = absurd (omega (arith, none))

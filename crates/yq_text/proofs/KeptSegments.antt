@@ -67,14 +67,10 @@ between (put o w ∷ ss) e = let h = behind (put o w ∷ ss) in record { old = h
 -- ---- segments between a kept one in front and one after
 
 pub last_kept : (ss : List Segment) (b : List ℕ) → are_kept (ss ++ (keep b ∷ [])) ≡ are_kept ss
-last_kept [] b = refl
 last_kept (keep t ∷ ss) b = last_kept ss b
-last_kept (put o w ∷ ss) b = refl
+last_kept _ b = refl
 
 pub back_last : (ss : List Segment) (b : List ℕ) → kept_back (ss ++ (keep b ∷ [])) ≡ kept_back ss ++ b
 back_last [] b = append-nil b
-back_last (keep t ∷ ss) b = one_kept t (ss ++ (keep b ∷ [])) (are_kept ss) (last_kept ss b) ∙ go (back_last ss b) (are_kept ss)
-  where
-    go : kept_back (ss ++ (keep b ∷ [])) ≡ kept_back ss ++ b → (x : Bool) → cond x (t ++ kept_back (ss ++ (keep b ∷ []))) (kept_back (ss ++ (keep b ∷ []))) ≡ cond x (t ++ kept_back ss) (kept_back ss) ++ b
-    go h1 x = search (rules, append_assoc)
+back_last (keep t ∷ ss) b = search (rules, one_kept, last_kept, append_assoc, back_last ss b)
 back_last (put o w ∷ ss) b = back_last ss b

@@ -1,6 +1,6 @@
 -- The segments so far and one more.
-use Rattle.std.proofs.Common.{◌≡◌, ℕ, ◌+◌, List, [], ◌∷◌, ◌++◌, ◌-◌, ◌<◌, ◌≤◌, length, length-take-le, take, get_or, sym, ap, ◌∙◌, arith}
-use Rattle.std.{proofs.Common.{rules, subst, String, Global}, proofs.lemmas.List.{map-append, take_all, take_more}}
+use Rattle.std.proofs.Common.{◌≡◌, ℕ, ◌+◌, List, [], ◌∷◌, ◌++◌, ◌-◌, ◌≤◌, length, length-take-le, take, get_or, sym, ap, ◌∙◌, arith, rules}
+use Rattle.std.{proofs.Common.{subst, String, Global}, proofs.lemmas.List.{map-append, take_all, take_more}}
 use Rattle.std.{proofs.lemmas.Str.IsUtf8-append, specs.Str.IsUtf8, specs.String.string_bytes}
 use Rattle.yq_text.{specs.Halves.whole, specs.declared.halves.Halves.Halves, specs.Script.{Segment, keep, kept_front, kept_back, to_last}}
 use Rattle.yq_text.{specs.Segments.{segment_of, segments_of}, specs.declared.segment.Segment.Segment as Held}
@@ -10,9 +10,6 @@ use Rattle.yq_text.specs.declared.segment.Segment.TheVariants as held
 -- those in front of the last one are fewer
 pub but_last_long : {A : Type 0} (xs : List A) → 1 ≤ length xs → length xs - 1 ≡ length (take (length xs - 1) xs)
 but_last_long xs some = sym (length-take-le (length xs - 1) xs (omega (arith, some)))
-
-pub but_last_fewer : {A : Type 0} (xs : List A) → 1 ≤ length xs → length (take (length xs - 1) xs) < length xs
-but_last_fewer xs some = omega (arith, some, but_last_long xs some)
 
 -- segments with the last one after the others
 module _ (xs : List Held) (x d : Held) (some : 1 ≤ length xs) (is : x ≡ get_or xs (length xs - 1) d) where

@@ -1,13 +1,11 @@
 -- Where the split of a text may end up, in bytes, and what room there is.
-use Rattle.std.proofs.Common.{◌≡◌, ℕ, ◌+◌, ◌-◌, ◌≤◌, List, ◌++◌, Fits, Vec, w64, drop, length, take, arith, length-append, length-drop}
+use Rattle.std.proofs.Common.{rules, ◌≡◌, ℕ, ◌+◌, ◌-◌, ◌≤◌, List, ◌++◌, Fits, Vec, w64, drop, length, take, length-append, length-drop}
 use Rattle.std.{proofs.Common.{length-take, vec_len}, specs.Global.Global, specs.Str.IsCharBoundary}
 use Rattle.yq_text.{specs.TextGapBuffer.IsKept, proofs.SplitLaws.reaches}
 
 -- how long a text is that is kept so
 pub kept_length : (xs : List ℕ) (f b n : ℕ) → IsKept xs f b → n ≡ length xs → f + (n - b) ≡ length (take f xs ++ drop b xs)
-kept_length xs f b n k e =
-    let both = length-append (take f xs) (drop b xs) in
-    omega (arith, e, k.order, k.within, both, length-take f xs, length-drop b xs)
+kept_length xs f b n k e = search (rules, length-append, length-take, length-drop)
 
 -- bytes that are written at the split, and those after it that are replaced
 pub record IsRoom (v : Vec ℕ Global) (f b n gone : ℕ) : Type 0 where
@@ -17,17 +15,7 @@ pub record IsRoom (v : Vec ℕ Global) (f b n gone : ℕ) : Type 0 where
 
 pub is_room : (v : Vec ℕ Global) (ys : List ℕ) (f b gone : ℕ) → IsKept v.items f b → IsCharBoundary (drop b v.items) gone → length ys ≤ b - f + gone
     → IsRoom v f b (length ys) gone
-is_room v ys f b gone k i l =
-    let r = reaches v.items ys f b gone k i l in
-    let order = k.order in
-    let first = v.ok.0 in
-    let second = v.ok.1 in
-    let small = v.small in
-    record {
-      within = omega (arith, r.0, r.1);
-      fits = omega (arith, r.1, first, second, small);
-      left = omega (arith, r.0, order);
-    }
+is_room v ys f b gone k i l = search (rules, reaches)
 
 -- the split moved to the end
 pub record IsOn (v : Vec ℕ Global) (at f b : ℕ) : Type 0 where

@@ -31,9 +31,7 @@ splice_leads front o w rest n e = go (bytes_eq o w) refl
 pub splices_lead : (front : List ℕ) (n : ℕ) (ss : List Segment) → length front ≡ n → all_done (splices_at n ss) (front ++ old_text ss) ≡ Some (front ++ new_text ss)
 splices_lead front n [] e = refl
 splices_lead front n (keep t ∷ ss) e =
-    ap (all_done (splices_at (n + length t) ss)) (sym (append_assoc front t (old_text ss)))
-    ∙ splices_lead (front ++ t) (n + length t) ss (omega (arith, length-append front t))
-    ∙ ap Some (append_assoc front t (new_text ss))
+    search (rules, append_assoc, length-append, splices_lead (front ++ t) (n + length t) ss (omega (arith, length-append front t)))
 splices_lead front n (put o w ∷ ss) e =
     all_done-append (splice_at n o w) (splices_at (n + length w) ss) (front ++ (o ++ old_text ss))
     ∙ ap (option_and_then (all_done (splices_at (n + length w) ss))) (splice_leads front o w (old_text ss) n e)

@@ -1,33 +1,22 @@
 -- A splice exchanges bytes in one place, and what splices do is taken back by the flipped ones.
-use Rattle.std.proofs.Common.{◌≡◌, ℕ, Bool, List, [], ◌∷◌, ◌++◌, length, take, drop, nat_eq, Some, None, refl, sym, ap, ◌∙◌, cond}
-use Rattle.std.{proofs.Common.{append_assoc, append-nil, length-append, length-take-le, rules}, specs.Prelude.option_and_then}
-use Rattle.std.{proofs.Math.Seq.{drop-append_seam, take-append_seam}, proofs.lemmas.Bool.{le-leb, leb-true, and_parts}}
-use Rattle.std.{proofs.lemmas.List.take-append-drop, proofs.lemmas.Slice.Eq.starts_is}
-use Rattle.yq_text.specs.Splice.{Splice, swapped, Exchanges, is_found, change_done, all_done, flipped, lengths_done, length_done}
+use Rattle.std.proofs.Common.{◌≡◌, ℕ, List, [], ◌∷◌, ◌++◌, nat_eq, Some, None, refl, sym, ap, ◌∙◌, append_assoc, append-nil, length-append}
+use Rattle.std.{proofs.Common.{length-take-le, rules}, specs.Prelude.option_and_then, proofs.Math.Seq.{drop-append_seam, take-append_seam}}
+use Rattle.std.{proofs.lemmas.Bool.{le-leb, leb-true, and_parts}, proofs.lemmas.List.take-append-drop, proofs.lemmas.Slice.Eq.starts_is}
+use Rattle.yq_text.specs.Splice.{Splice, swapped, Exchanges, change_done, all_done, flipped, lengths_done, length_done}
 
 -- what is exchanged in one place is a splice done
 pub done-from_exchanges : (s : Splice) (b c : List ℕ) → Exchanges s b c → change_done s b ≡ Some c
 unfolding change_done
-done-from_exchanges s b c p =
-    let whole : b ≡ p.front ++ (s.old ++ p.rest) = p.before in
-    search (rules, append_assoc, drop-append_seam, take-append_seam, le-leb, length-append, starts_is, nat_eq, whole)
-
--- the parts, where the test held
-exchanges_if : (s : Splice) (b c : List ℕ) (t : Bool) → is_found s b ≡ t → cond t (Some (take s.at b ++ s.new ++ drop (length s.old) (drop s.at b))) None ≡ Some c → Exchanges s b c
-exchanges_if s b c t h1 h2 = search (rules, and_parts, nat_eq, leb-true, starts_is, length-take-le, take-append-drop, append_assoc)
+done-from_exchanges s b c p = search (rules, append_assoc, drop-append_seam, take-append_seam, le-leb, length-append, starts_is)
 
 -- a splice done has exchanged bytes in one place
 pub exchanges-from_done : (s : Splice) (b c : List ℕ) → change_done s b ≡ Some c → Exchanges s b c
 unfolding change_done
-exchanges-from_done s b c e = exchanges_if s b c (is_found s b) refl e
+exchanges-from_done s b c e = search (rules, and_parts, nat_eq, leb-true, starts_is, length-take-le, take-append-drop, append_assoc)
 
 -- bytes exchanged are exchanged back by the swapped splice
 swapped_exchanges : (s : Splice) (b c : List ℕ) → Exchanges s b c → Exchanges (swapped s) c b
 swapped_exchanges s b c p = record { front = p.front; rest = p.rest; offset = p.offset; before = p.after; after = p.before }
-
--- one splice done is taken back
-pub change_taken_back : (s : Splice) (b c : List ℕ) → change_done s b ≡ Some c → change_done (swapped s) c ≡ Some b
-change_taken_back s b c e = done-from_exchanges (swapped s) c b (swapped_exchanges s b c (exchanges-from_done s b c e))
 
 -- splices done one list after the other
 pub all_done-append : (xs ys : List Splice) (b : List ℕ) → all_done (xs ++ ys) b ≡ option_and_then (all_done ys) (all_done xs b)
@@ -47,7 +36,7 @@ taken_back (s ∷ ss) b c e =
       | Some m ↦ λ is h.
           all_done-append (flipped ss) (swapped s ∷ []) c
           ∙ ap (option_and_then (all_done (swapped s ∷ []))) (taken_back ss m c h)
-          ∙ ap (option_and_then (λ d. Some d)) (change_taken_back s b m is)
+          ∙ ap (option_and_then (λ d. Some d)) (done-from_exchanges (swapped s) m b (swapped_exchanges s b m (exchanges-from_done s b m is)))
     ] refl e
 
 pub flipped-append : (xs ys : List Splice) → flipped (xs ++ ys) ≡ flipped ys ++ flipped xs

@@ -1,18 +1,13 @@
 -- What becomes of a text in two halves when bytes are moved or written between them.
 use Rattle.std.proofs.Common.{rules, arith, ◌≡◌, ◌+◌, ◌-◌, ◌≤◌, ◌++◌, drop, length, take, ℕ, List, take_all}
 use Rattle.std.{specs.Str.{IsCharBoundary, IsUtf8}, specs.List.copy_within, proofs.lemmas.List.{places, same_lists, drop_all}}
-use Rattle.std.{proofs.lemmas.Slice.overwrites, proofs.lemmas.Str.{IsUtf8-append, IsUtf8-take, IsUtf8-drop, IsUtf8-nil}}
+use Rattle.std.{proofs.lemmas.Slice.overwrites, proofs.lemmas.Str.{IsUtf8-append, IsUtf8-take, IsUtf8-drop}}
 use lib.Seq.{paste}
 use Rattle.yq_text.specs.TextGapBuffer.{IsKept}
 
 -- a text whose split is at its end is kept
 pub all_front : (xs : List ℕ) (n : ℕ) → n ≡ length xs → IsUtf8 xs → IsKept xs n n
-all_front xs n e u = record {
-  order = search rules;
-  within = search rules;
-  front_text = rw (take_all n xs (search rules)) u;
-  back_text = rw (drop_all n xs (search rules)) IsUtf8-nil;
-}
+all_front xs n e u = search (rules, take_all, drop_all)
 
 -- these bytes keep this text with its split at a place
 pub record IsMoved (bytes : List ℕ) (front back : ℕ) (text : List ℕ) : Type 0 where

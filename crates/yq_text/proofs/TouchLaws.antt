@@ -2,11 +2,6 @@
 use Rattle.std.proofs.Common.{◌≡◌, ℕ, List, [], ◌∷◌, ◌++◌, refl, ap, append_assoc, append-nil, rules}
 use Rattle.yq_text.specs.Script.{Segment, keep, put, keep_before, put_before, merged, changes, splices_at}
 
--- segments that are merged alike have the same splices
-pub same_changes : (ss us : List Segment) → merged ss ≡ merged us → changes ss ≡ changes us
-unfolding changes
-same_changes ss us e = ap (splices_at 0) e
-
 -- the same segments after others
 merged_behind : (ss us rs : List Segment) → merged us ≡ merged rs → merged (ss ++ us) ≡ merged (ss ++ rs)
 merged_behind [] us rs e = e
@@ -18,10 +13,13 @@ pub put_twice : (o w p x : List ℕ) (ss : List Segment) → put_before o w (put
 put_twice o w p x ss = search (rules, append_assoc)
 
 pub touching : (ss us : List Segment) (o p w x : List ℕ) → changes (ss ++ (put o w ∷ (put p x ∷ us))) ≡ changes (ss ++ (put (o ++ p) (w ++ x) ∷ us))
-touching ss us o p w x = same_changes _ _ (merged_behind ss (put o w ∷ (put p x ∷ us)) (put (o ++ p) (w ++ x) ∷ us) (put_twice o w p x (merged us)))
+unfolding changes
+touching ss us o p w x = ap (splices_at 0) (merged_behind ss (put o w ∷ (put p x ∷ us)) (put (o ++ p) (w ++ x) ∷ us) (put_twice o w p x (merged us)))
 
 pub nothing_kept : (ss us : List Segment) → changes (ss ++ (keep [] ∷ us)) ≡ changes (ss ++ us)
-nothing_kept ss us = same_changes _ _ (merged_behind ss (keep [] ∷ us) us refl)
+unfolding changes
+nothing_kept ss us = ap (splices_at 0) (merged_behind ss (keep [] ∷ us) us refl)
 
 pub kept_in_two : (ss us : List Segment) (t u : List ℕ) → changes (ss ++ (keep t ∷ (keep u ∷ us))) ≡ changes (ss ++ (keep (t ++ u) ∷ us))
-kept_in_two ss us t u = search (rules, append-nil, append_assoc, same_changes, merged_behind)
+unfolding changes
+kept_in_two ss us t u = search (rules, append-nil, append_assoc, merged_behind)

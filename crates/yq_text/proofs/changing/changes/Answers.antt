@@ -1,12 +1,10 @@
-use Rattle.std.proofs.Common.{ap, sym, ◌∙◌, subst}
+use Rattle.std.proofs.Common.{ap, sym, ◌∙◌, subst, rules}
 use Rattle.yq_text.{specs.Changing.IsChange, specs.Script.to_last, specs.Segments.segments_of}
 use Rattle.yq_text.{specs.declared.changed.ChangedMiddle.ChangedMiddle, proofs.ChangeLaws.{change_is, inner_small}}
 use Rattle.yq_text.proofs.changing.changes.Goals as goal
 
 pub build-requires : goal.build-requires
-build-requires c =
-    inner_small (segments_of c.as_slice-segments.result.now) c.in-Some.len (segments_of c.to_last.result.now) (sym c.new_len.ensures ∙ c.in-Some.is)
-    (c.to_last.ensures ∙ ap to_last c.from_first-front.ensures.rest) c.from_first-front.result.0 c.from_first-front.ensures.front
+build-requires c = search (rules, inner_small)
 
 pub returns : goal.returns
 returns c =

@@ -1,7 +1,7 @@
-use Rattle.std.proofs.Common.{◌-◌, ap, arith, length, length-append, length-take-le, subst, sym, take}
-use Rattle.std.{proofs.lemmas.Str.{IsUtf8-append, IsUtf8-nil}, specs.Str.IsUtf8}
-use Rattle.yq_text.{specs.Halves.whole, specs.Script.kept_back, specs.Segments.segments_of, proofs.FirstSegment.none_left}
-use Rattle.yq_text.{proofs.KeptSegments.back_within, proofs.LoopLaws.{back_kept, back_put, but_last_fewer}}
+use Rattle.std.proofs.Common.{rules, ◌-◌, ap, arith, length, length-append, length-take-le, subst, sym, take}
+use Rattle.std.{proofs.lemmas.Str.IsUtf8-append, specs.Str.IsUtf8}
+use Rattle.yq_text.{proofs.LoopLaws.{but_last_long, back_kept, back_put}, specs.Halves.whole, specs.Script.kept_back}
+use Rattle.yq_text.{specs.Segments.segments_of, proofs.FirstSegment.none_left, proofs.KeptSegments.back_within}
 use Rattle.yq_text.proofs.changing.kept_back.Goals as goal
 
 pub text_len-len-requires : goal.text_len-len-requires
@@ -40,20 +40,10 @@ segments-preserved c =
     }
 
 pub returns-in-Put : goal.returns-in-Put
-returns-in-Put c =
-    let none = back_put c.segments.rest.now c.segment-item.result _ c.in-len1-up.len_at_least c.segment-item.is c.in-Put.field-0 c.in-Put.field-1 c.in-Put.is in
-    record {
-      back = omega (arith, ap length none, c.segments.invariant.back);
-      text = c.segments.invariant.text (subst IsUtf8 (sym none) IsUtf8-nil);
-    }
+returns-in-Put c = search (rules, back_put)
 
 pub segments-smaller : goal.segments-smaller
-segments-smaller c = but_last_fewer c.segments.rest.now c.in-len1-up.len_at_least
+segments-smaller c = omega (arith, c.in-len1-up.len_at_least, but_last_long c.segments.rest.now c.in-len1-up.len_at_least)
 
 pub returns : goal.returns
-returns c =
-    let none = none_left c.segments.rest.now c.in_default.len_below in
-    record {
-      back = omega (arith, c.segments.invariant.back, ap (λ ss. length (kept_back ss)) none);
-      text = c.segments.invariant.text (subst (λ ss. IsUtf8 (kept_back ss)) (sym none) IsUtf8-nil);
-    }
+returns c = search (rules, none_left)

@@ -1,4 +1,4 @@
-use Rattle.std.{proofs.Math.Nat.le_of_lt, proofs.Common.◌∙◌}
+use Rattle.std.{proofs.Math.Nat.le_of_lt, proofs.Common.rules}
 use Rattle.yq_text.proofs.HalvesLaws.{drop_past, first_cut}
 use Rattle.yq_text.proofs.halves.Halves.split_at.Goals as goal
 
@@ -6,5 +6,4 @@ pub split_at-requires : goal.split_at-requires
 split_at-requires c = first_cut c.args.self.front.now c.args.self.back.now c.args.at c.if-at-self.true c.requires
 
 pub returns-clause-back : goal.returns-clause-back
-returns-clause-back c =
-    c.of-2.ensures.whole ∙ (c.split_at-2.ensures.back ∙ drop_past c.args.self.front.now c.args.self.back.now c.args.at (le_of_lt c.if-at-self.false))
+returns-clause-back c = search (rules, drop_past, le_of_lt)
