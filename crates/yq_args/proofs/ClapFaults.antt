@@ -74,7 +74,10 @@ module _ (c : List Rule) (again : Bool) where
   long_passes : (o : Option Rule) (v : Option Text) (h : Held) → fault.long_fault c again o v h ≡ [] → pass.long_passes c again o v h ≡ true
   long_passes None v h e = cc
   long_passes (Some a) v h e = by_takes (takes_values a) v e where
-    by_takes : (b : Bool) (v : Option Text) → (if b then fault.option_fault c again a v h else (if is_some v then ErrorKind.TooManyValues ∷ [] else fault.react_fault c again a [] h)) ≡ [] → (if b then pass.option_passes c again a v h else (not (is_some v) && pass.react_passes c again a [] h)) ≡ true
+    by_takes : (b : Bool) (v : Option Text) →
+        (if b then fault.option_fault c again a v h else
+        (if is_some v then ErrorKind.TooManyValues ∷ [] else fault.react_fault c again a [] h)) ≡ [] →
+        (if b then pass.option_passes c again a v h else (not (is_some v) && pass.react_passes c again a [] h)) ≡ true
     by_takes true v e = option_passes a v h e
     by_takes false (Some v) e = cc
     by_takes false None e = react_passes a [] h e
@@ -162,7 +165,9 @@ walk_passes s names w (word ∷ words) e =
 none_wants : (rules : List Rule) (rows : List Row) → list_any (λ a. a.required && not (pass.is_given a.id rows)) rules ≡ false → list_all (λ a. not a.required || pass.is_given a.id rows) rules ≡ true
 none_wants [] rows e = refl
 none_wants (a ∷ rules) rows e = by_one a.required (pass.is_given a.id rows) (list_any (λ x. x.required && not (pass.is_given x.id rows)) rules) e (none_wants rules rows) where
-  by_one : (required given others : Bool) → ((required && not given) || others) ≡ false → (others ≡ false → list_all (λ x. not x.required || pass.is_given x.id rows) rules ≡ true) → ((not required || given) && list_all (λ x. not x.required || pass.is_given x.id rows) rules) ≡ true
+  by_one : (required given others : Bool) → ((required && not given) || others) ≡ false →
+      (others ≡ false → list_all (λ x. not x.required || pass.is_given x.id rows) rules ≡ true) →
+      ((not required || given) && list_all (λ x. not x.required || pass.is_given x.id rows) rules) ≡ true
   by_one true true others e later = later e
   by_one true false others e later = cc
   by_one false given others e later = later e

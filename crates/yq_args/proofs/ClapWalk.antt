@@ -114,7 +114,9 @@ module _ (c : List Rule) (again : Bool) (f : list_all fills c ≡ true) where
     by_kept true p = k
     by_kept false p = settled_filled h p k
 
-  pub step_filled : (w : Walk) (word : Text) (h : Held) (step : Step) → (step ≡ value → option_map_or (λ a. positional_passes c again a h) (arg_by_index c w.position) false ≡ true) → AreFilled h.rows → AreFilled (after_step c word w h step).held.rows
+  pub step_filled : (w : Walk) (word : Text) (h : Held) (step : Step) →
+      (step ≡ value → option_map_or (λ a. positional_passes c again a h) (arg_by_index c w.position) false ≡ true) → AreFilled h.rows →
+      AreFilled (after_step c word w h step).held.rows
   step_filled w word h value p k = go (arg_by_index c w.position) (p refl) where
     go : (o : Option Rule) → option_map_or (λ a. positional_passes c again a h) o false ≡ true → AreFilled (to_positional c o word w h).held.rows
     go None p = k

@@ -43,7 +43,8 @@ exchange_on op c n stem before now text start finish new tail known operand fitt
     }
 
 -- or not, where the text would be too large
-pub exchange_fails : (op : Operation) (before : RemovalRun) (now : List ℕ) → buffer_text before.text ≡ now → (start finish : ℕ) (new : List ℕ) → (text_limit < length (text_exchanged now start finish new) → carried op now ≡ refuses TooLarge) →
+pub exchange_fails : (op : Operation) (before : RemovalRun) (now : List ℕ) → buffer_text before.text ≡ now → (start finish : ℕ) (new : List ℕ) →
+    (text_limit < length (text_exchanged now start finish new) → carried op now ≡ refuses TooLarge) →
     (e : EditError) → ExchangeFails e start finish new before → EditFails e (carried op (buffer_text before.text))
 exchange_fails op before now text start finish new large e fails = subst (λ (l : List ℕ). EditFails e (carried op l)) (sym text) (go e fails)
   where

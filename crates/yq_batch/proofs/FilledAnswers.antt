@@ -16,7 +16,8 @@ use Rattle.yq_batch.{specs.declared.run.PutRun.PutRun, proofs.FilledLaws.{again_
 use Rattle.yq_batch.{proofs.MoreAnswers.{known_at, more_fails, more_on}, proofs.RunAnswers.{fill_on, kept_on, put_fails, put_on, run_fails}}
 
 -- a change comes after what was put
-module _ (x : HeadInText) (op : Operation) (before : FilledRun) (y : HeadChange) (there : IsInText x) (so : FillsSo x before) (h : ChangesAt op x y) (is_after : IsAfterRun before.run y.place y.lead.now) (fitting : IsFitting op (filled_text x before)) where
+module _ (x : HeadInText) (op : Operation) (before : FilledRun) (y : HeadChange) (there : IsInText x) (so : FillsSo x before) (h : ChangesAt op x y)
+    (is_after : IsAfterRun before.run y.place y.lead.now) (fitting : IsFitting op (filled_text x before)) where
   abbrev After : Bool → Type 0
   After b = IsAfterBy b before.run.done y.place.start y.place.end y.lead.now
 
@@ -57,7 +58,8 @@ module _ (x : HeadInText) (op : Operation) (before : FilledRun) (y : HeadChange)
         go false h later fails = put_fails x u all op before.run y there so.run h is_after.0 later fitting s some e fails
 
 -- one more comes into the collection that is known
-module _ (x : HeadInText) (u : List ℕ) (all : u ≡ cut_text (cut_with x)) (op : Operation) (before : FilledRun) (y : HeadChange) (so : FillsSo x before) (change : ChangesAt op x y) (known : (y.place.more ≡ true) × IsSameFilled before.filled (map tree_step y.steps.now))
+module _ (x : HeadInText) (u : List ℕ) (all : u ≡ cut_text (cut_with x)) (op : Operation) (before : FilledRun) (y : HeadChange)
+    (so : FillsSo x before) (change : ChangesAt op x y) (known : (y.place.more ≡ true) × IsSameFilled before.filled (map tree_step y.steps.now))
     (fitting : IsFitting op (filled_text x before)) (s : String Global) (some : y.written ≡ Some s) (new : List ℕ) (new_is : new ≡ (44 ∷ (32 ∷ [])) ++ string_bytes s) where
   abbrev is : IsSameFilled before.filled (map tree_step y.steps.now)
   is = known.1

@@ -102,7 +102,8 @@ module _ (c : Cut) (n : ℕ) (steps : List Step) (i : ℕ) (h : IsHeadInRow c n 
 
 -- ---- by the rows of its item or entry
 
-module _ (c : Cut) (n : ℕ) (s : Step) (ss : List Step) (e : RowsOfEntry) (read : read_at (cut_text c) ≡ Some c) (at : rows_of_entry n (s ∷ ss) c ≡ Some e) (last : e.line ≡ length e.row.dashes) (headed : is_some (head_of e.row.content) ≡ true) where
+module _ (c : Cut) (n : ℕ) (s : Step) (ss : List Step) (e : RowsOfEntry) (read : read_at (cut_text c) ≡ Some c)
+    (at : rows_of_entry n (s ∷ ss) c ≡ Some e) (last : e.line ≡ length e.row.dashes) (headed : is_some (head_of e.row.content) ≡ true) where
   pub d : (d : PlacedPart) × (placed_document n c ≡ Some d) × (option_map (entry_rows_at d) (row_line_of (s ∷ ss) d.part.rows) ≡ Some e)
   d = bind_some (placed_document n c) at
 

@@ -97,7 +97,9 @@ module _ (c d : Cut) (k : ℕ) (steps : List Step) (w : CollPieces) (at : FlowAt
         head_on n b.0,
         λ l path f found after.
             let first : StandsStill f l path d = b.1 l path f found after in
-            let from : IsBehind k (suc (length i.front)) l (length first.front) = subst (λ (a : ℕ). IsBehind k (suc a) l (length first.front)) (own_row n b.0) (sized k (suc n) l (length f.front) (length first.front) (sym first.size) after) in
+            let from : IsBehind k (suc (length i.front)) l (length first.front) =
+                subst (λ (a : ℕ). IsBehind k (suc a) l (length first.front)) (own_row n b.0)
+                (sized k (suc n) l (length f.front) (length first.front) (sym first.size) after) in
             let z = rows_stay_there.entries d k (suc (length i.front)) p q l path (record f { start = first.start; front = first.front }) at.there stays first.found from in
             record { start = z.start; front = z.front; found = z.found; size = z.size ∙ first.size },
       )
@@ -159,7 +161,8 @@ row_found t n (s ∷ ss) x read is inline =
     }
 
 -- a run of rows goes on in a head after them
-pub head_run : (t : List ℕ) (last : Option (ℕ × ℕ)) (r : PutRun) (n row : ℕ) (steps : List Step) → read_at t ≡ Some (cut_of t) → IsRowsRun (cut_of t) last r → IsRowAt (cut_of t) n steps row → Passed last n row → IsPutRun (cut_of t) n steps (string_bytes r.text) r.done
+pub head_run : (t : List ℕ) (last : Option (ℕ × ℕ)) (r : PutRun) (n row : ℕ) (steps : List Step) → read_at t ≡ Some (cut_of t) →
+    IsRowsRun (cut_of t) last r → IsRowAt (cut_of t) n steps row → Passed last n row → IsPutRun (cut_of t) n steps (string_bytes r.text) r.done
 head_run t last r n row [] read run at passed = absurd (no_root_rows n (cut_of t) at.entry at.found)
 head_run t last r n row (s ∷ ss) read run at passed =
     let c : Cut = cut_of t in

@@ -66,7 +66,8 @@ entries_counted (x ∷ es) = ap suc (entries_counted es)
 -- ---- what goes
 
 -- up to another one
-pub goes_up_to : (t : List ℕ) (parts : Parts) (i j : ℕ) (before : Option Bool) (start finish next other : ℕ) (marked : Bool) (x : LeftPlace) → place_of_part i parts ≡ Some (start, finish) → place_of_part (i + 1) parts ≡ Some (next, other) → i < j →
+pub goes_up_to : (t : List ℕ) (parts : Parts) (i j : ℕ) (before : Option Bool) (start finish next other : ℕ) (marked : Bool) (x : LeftPlace) →
+    place_of_part i parts ≡ Some (start, finish) → place_of_part (i + 1) parts ≡ Some (next, other) → i < j →
     (i + 1 < j → begins_marker (drop next t) ≡ marked) → (i + 1 ≡ j → before ≡ Some marked) → GoesUpTo t start next marked x.start x.end x.after → IsLeftPlace t parts i j before x
 goes_up_to t parts i j before start finish next other marked x here there within as_read others goes =
     let one : i + 1 ≡ suc i = omega arith in

@@ -20,7 +20,8 @@ use Rattle.yq_batch.{proofs.MoreRuns.{more_goes_on, more_large, more_put_there},
 use Rattle.yq_core.specs.declared.path.Step as declared
 
 -- the head is that of the collection to which the steps lead that go on to it
-pub more_head : (x : HeadInText) → IsInText x → (m : ℕ) (path : List Step) (left : Bor (List declared.Step)) → m ≡ x.doc → path ≡ stem_of x ++ map tree_step left.now → FlowAgrees x.cut.now (flow_collection m path (cut_with x)) (Some (head_with x.head left))
+pub more_head : (x : HeadInText) → IsInText x → (m : ℕ) (path : List Step) (left : Bor (List declared.Step)) → m ≡ x.doc → path ≡ stem_of x
+    ++ map tree_step left.now → FlowAgrees x.cut.now (flow_collection m path (cut_with x)) (Some (head_with x.head left))
 more_head x there m path left same steps =
     subst (λ (k : ℕ). FlowAgrees x.cut.now (flow_collection k path (cut_with x)) (Some (head_with x.head left))) (sym same)
     (subst (λ (ss : List Step). FlowAgrees x.cut.now (flow_collection x.doc ss (cut_with x)) (Some (head_with x.head left))) (sym steps) (there.reports.reports (head_with x.head left) refl refl refl))
@@ -87,7 +88,8 @@ module _ (x : HeadInText) (u : List ℕ) (all : u ≡ cut_text (cut_with x)) (op
       subst (λ (o : Operation). (on : RunsOn o x before after) × IsKnownFilled (cut_with x) on.run.cut x.doc (stem_of x) after.done known) (sym h.operation)
       (fill_on x u all own before y.place.start y.place.end new h.valid own_fits known
       (more_put_there (cut_with x) x.doc (stem_of x) h.left h.key h.value (string_bytes before.text) before.done run h.collection h.found h.takes (change_place y) h.placed behind opens (string_bytes s) written_is)
-      (λ small. let r = more_goes_on (cut_with x) x.doc (stem_of x) h.left h.key h.value (string_bytes before.text) before.done run h.collection h.found h.takes (change_place y) h.placed behind opens (string_bytes s) written_is h.valid own_fits small in
+      (λ small. let r = more_goes_on (cut_with x) x.doc (stem_of x) h.left h.key h.value (string_bytes before.text) before.done run h.collection
+          h.found h.takes (change_place y) h.placed behind opens (string_bytes s) written_is h.valid own_fits small in
       (r.0, known_then known fills r.0.cut r.1)) after has_put)
 
   pub more_fails : (e : EditError) → PutFails e u y.place.start y.place.end new before → EditFails e (carried op (now_text (cut_with x) before))

@@ -232,7 +232,9 @@ module _ (c : Cut) (n : ℕ) (stem left path : List Step) (s : Step) (last : las
             (laws.removal_there c n stem left path s before.keep run.tail run.run last z h.left g place.out.removes place.out.lead front now_is start finish start_is finish_is short)
             (goes_on (subst (IsFitting (remove n path)) run.text fitting))
             (laws.new_text_is c n stem left path s before.keep run.tail run.run last z h.left g place.out.removes place.out.lead front now_is start finish start_is finish_is short);
-        fails = exchange_fails (remove n path) before now run.text start finish [] (laws.removal_large c n stem left path s before.keep run.tail run.run last z h.left g place.out.removes place.out.lead front now_is start finish start_is finish_is short);
+        fails = exchange_fails (remove n path) before now run.text start finish []
+            (laws.removal_large c n stem left path s before.keep run.tail run.run last z h.left g place.out.removes place.out.lead front now_is start
+            finish start_is finish_is short);
       }
 
   -- the only one that is left

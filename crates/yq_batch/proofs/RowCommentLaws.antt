@@ -23,7 +23,9 @@ module _ (n : ℕ) (s : Step) (ss : List Step) (text : List ℕ) (c : Cut) (e : 
   abbrev lower : List ℕ
   lower = (held e).break ++ ((held e).lines ++ ((held e).last ++ (held e).behind))
 
-  pub comment_comes : (d : Cut) → read_at (cut_text d) ≡ Some d → (still : StandsStill e n (s ∷ ss) d) → PutsText (line_comment n (s ∷ ss) text) d (rows_still e still) (comment_old text (held e)) (comment_written text (held e).comment) ((held e).break ++ ((held e).lines ++ ((held e).last ++ (held e).behind)))
+  pub comment_comes : (d : Cut) → read_at (cut_text d) ≡ Some d → (still : StandsStill e n (s ∷ ss) d) →
+      PutsText (line_comment n (s ∷ ss) text) d (rows_still e still) (comment_old text (held e)) (comment_written text (held e).comment)
+      ((held e).break ++ ((held e).lines ++ ((held e).last ++ (held e).behind)))
   comment_comes d read_d still =
       let now : RowsOfEntry = rows_still e still in
       let edited = row_edits.comment n (s ∷ ss) text d now still.found last in
@@ -115,7 +117,9 @@ comment_puts_there t n (s ∷ ss) text white comment x put read is operand white
       finish = stop;
       starts = subst (IsCharBoundary (cut_text c)) (sym place) (comment_starts n s ss text c e again is.found is.last);
       ends = subst (IsCharBoundary (cut_text c)) (sym stop) (comment_ends n s ss text c e again is.found is.last);
-      there = λ d there breaks still. subst (PutsSo (line_comment n (s ∷ ss) text) d (rows_still e still) (comment_old text w) (w.break ++ (w.lines ++ (w.last ++ w.behind)))) (sym new) (comment_comes n s ss text c e again is.found is.last d there still);
+      there = λ d there breaks still. subst
+          (PutsSo (line_comment n (s ∷ ss) text) d (rows_still e still) (comment_old text w) (w.break ++ (w.lines ++ (w.last ++ w.behind))))
+          (sym new) (comment_comes n s ss text c e again is.found is.last d there still);
     }
   where
     taken : (b : Bool) (u v : List ℕ) → length (cond b [] u) + length (cond b u [] ++ v) ≡ length u + length v
@@ -123,7 +127,8 @@ comment_puts_there t n (s ∷ ss) text white comment x put read is operand white
     taken false u v = omega (arith)
 
 -- the text up to the end of a line comment is no longer than a text may be
-pub comment_fits : (t : List ℕ) (n : ℕ) (steps : List Step) (white comment : List ℕ) (x : HeldRow) → read_at t ≡ Some (cut_of t) → IsHeldRow n steps (cut_of t) x → white ≡ (end_in_line [] x.tail.now).white → comment ≡ (end_in_line [] x.tail.now).comment →
+pub comment_fits : (t : List ℕ) (n : ℕ) (steps : List Step) (white comment : List ℕ) (x : HeldRow) → read_at t ≡ Some (cut_of t) →
+    IsHeldRow n steps (cut_of t) x → white ≡ (end_in_line [] x.tail.now).white → comment ≡ (end_in_line [] x.tail.now).comment →
     (x.start + length x.head.now) + (length white + length comment) ≤ text_limit
 comment_fits t n [] white comment x read is whites comments = absurd (no_root_rows n (cut_of t) is.entry is.found)
 comment_fits t n (s ∷ ss) white comment x read is whites comments =

@@ -116,7 +116,9 @@ value_fits t n (s ∷ ss) v x read is inline plain =
     let w : Held = held is.entry in
     let text = ap length (value_text_is n s ss v c is.entry again is.found h plain) in
     let size = (cut_read (cut_text c) c again).size in
-    omega (arith, size, text, is.start, ap length is.head, length-append (w.before ++ w.space) (w.head ++ (w.white ++ (w.comment ++ (w.last ++ w.behind)))), length-append w.before w.space, length-append w.head (w.white ++ (w.comment ++ (w.last ++ w.behind))))
+    omega (arith, size, text, is.start, ap length is.head,
+        length-append (w.before ++ w.space) (w.head ++ (w.white ++ (w.comment ++ (w.last ++ w.behind)))), length-append w.before w.space,
+        length-append w.head (w.white ++ (w.comment ++ (w.last ++ w.behind))))
 
 -- what the code tells of a value that is put in a row
 pub value_puts : (t : List ℕ) (n : ℕ) (steps : List Step) (v : Node) (x : HeldRow) (put : RowPut) → read_at t ≡ Some (cut_of t) → IsHeldRow n steps (cut_of t) x → x.inline ≡ true → is_filled v ≡ false → HasOperand (replace n steps v) →
@@ -148,7 +150,9 @@ value_puts t n (s ∷ ss) v x put read is inline plain operand doc row start fin
       there = λ d there breaks still. there_so d there still again h (bytes_in string_bytes put.written) (subst (λ (y : List ℕ). IsWrittenSo (node_in n (s ∷ ss) c) v y (bytes_in string_bytes put.written)) is.head written);
     }
   where
-    there_so : (d : Cut) → read_at (cut_text d) ≡ Some d → (still : StandsStill is.entry n (s ∷ ss) d) → read_at (cut_text (cut_of t)) ≡ Some (cut_of t) → (h : HoldsInline is.entry) (w : Option (List ℕ)) → IsWrittenSo (node_in n (s ∷ ss) (cut_of t)) v (held is.entry).head w →
+    there_so : (d : Cut) → read_at (cut_text d) ≡ Some d → (still : StandsStill is.entry n (s ∷ ss) d) →
+        read_at (cut_text (cut_of t)) ≡ Some (cut_of t) → (h : HoldsInline is.entry) (w : Option (List ℕ)) →
+        IsWrittenSo (node_in n (s ∷ ss) (cut_of t)) v (held is.entry).head w →
         PutsSo (replace n (s ∷ ss) v) d (rows_still is.entry still) (held is.entry).head ((held is.entry).white ++ ((held is.entry).comment ++ ((held is.entry).last ++ (held is.entry).behind))) w
     there_so d there still again h None kept = value_stays n s ss v (cut_of t) is.entry again is.found h plain d there still kept
     there_so d there still again h (Some w) other =

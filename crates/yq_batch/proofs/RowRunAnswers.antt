@@ -60,7 +60,9 @@ module _ (t u : List ℕ) (read : read_at t ≡ Some (cut_of t)) (all : u ≡ t)
   pub row_order : (op : Operation) (x : RowPut) → PutsInRow op (cut_of t) x → x.start ≤ x.end
   row_order op x h = omega (arith, h.start, h.finish)
 
-module _ (t u : List ℕ) (op : Operation) (o : Option (ℕ × ℕ)) (before : PutRun) (x : RowPut) (read : read_at t ≡ Some (cut_of t)) (all : u ≡ t) (run : IsRowsRun (cut_of t) o before) (h : PutsInRow op (cut_of t) x) (passed : Passed o x.doc x.row) (ordered : before.done ≤ x.start) (fitting : IsFitting op (now_text (cut_of t) before))
+module _ (t u : List ℕ) (op : Operation) (o : Option (ℕ × ℕ)) (before : PutRun) (x : RowPut) (read : read_at t ≡ Some (cut_of t)) (all : u ≡ t)
+    (run : IsRowsRun (cut_of t) o before) (h : PutsInRow op (cut_of t) x) (passed : Passed o x.doc x.row) (ordered : before.done ≤ x.start)
+    (fitting : IsFitting op (now_text (cut_of t) before))
     (same : WritesSameBreak op (cut_text (cut_of t)) (now_text (cut_of t) before)) where
   abbrev c : Cut
   c = cut_of t
@@ -130,7 +132,9 @@ module _ (t u : List ℕ) (op : Operation) (o : Option (ℕ × ℕ)) (before : P
 
     -- a text comes there
     pub row_put_on : (after : PutRun) → HasPut u x.start x.end new before after → RowsGoOn op c before (Some (x.doc, x.row)) after
-    row_put_on after a = put_at_row after (subst (λ (l : List ℕ). HasPut l (length h.before) (length h.before + length h.old) new before after) whole_is (subst (λ (i : ℕ). HasPut u (length h.before) i new before after) h.finish (subst (λ (i : ℕ). HasPut u i x.end new before after) h.start a)))
+    row_put_on after a =
+        put_at_row after (subst (λ (l : List ℕ). HasPut l (length h.before) (length h.before + length h.old) new before after) whole_is
+        (subst (λ (i : ℕ). HasPut u (length h.before) i new before after) h.finish (subst (λ (i : ℕ). HasPut u i x.end new before after) h.start a)))
 
     large : (e : EditError) → PutFails e (cut_text c) (length h.before) (length h.before + length h.old) new before → EditFails e (carried op (now_text c before))
     large (error.Read fault) fails = absurd fails
@@ -141,4 +145,6 @@ module _ (t u : List ℕ) (op : Operation) (o : Option (ℕ × ℕ)) (before : P
 
     -- too large a text
     pub row_put_fails : (e : EditError) → PutFails e u x.start x.end new before → EditFails e (carried op (now_text c before))
-    row_put_fails e fails = large e (subst (λ (l : List ℕ). PutFails e l (length h.before) (length h.before + length h.old) new before) whole_is (subst (λ (i : ℕ). PutFails e u (length h.before) i new before) h.finish (subst (λ (i : ℕ). PutFails e u i x.end new before) h.start fails)))
+    row_put_fails e fails =
+        large e (subst (λ (l : List ℕ). PutFails e l (length h.before) (length h.before + length h.old) new before) whole_is
+        (subst (λ (i : ℕ). PutFails e u (length h.before) i new before) h.finish (subst (λ (i : ℕ). PutFails e u i x.end new before) h.start fails)))

@@ -29,7 +29,8 @@ behind_both k n m i l j (inr a) (inr b) = inr (a.0 ∙ b.0, omega (arith, a.1, b
 pub sized : (k n m i j : ℕ) → i ≡ j → IsBehind k n m i → IsBehind k n m j
 sized k n m i j e h = subst (λ (x : ℕ). IsBehind k n m x) e h
 
-module _ (c : Cut) (k n : ℕ) (out : List ℕ) (done : ℕ) (run : IsRowRun c k n out done) (op : Operation) (steps : List Step) (e : RowsOfEntry) (at : rows_of_entry (op_document op) steps c ≡ Some e) (later : IsBehind k n (op_document op) (length e.front)) where
+module _ (c : Cut) (k n : ℕ) (out : List ℕ) (done : ℕ) (run : IsRowRun c k n out done) (op : Operation) (steps : List Step) (e : RowsOfEntry)
+    (at : rows_of_entry (op_document op) steps c ≡ Some e) (later : IsBehind k n (op_document op) (length e.front)) where
   -- the rows in the text as it is now
   abbrev pub still : StandsStill e (op_document op) steps run.cut
   still = run.stays (op_document op) steps e at later

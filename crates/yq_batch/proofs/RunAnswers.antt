@@ -60,7 +60,8 @@ stem_is above left stem n same size =
     sym (take-map tree_step n above) ∙ ((λ i. take (sym long i) (same i)) ∙ take-append_seam stem (map tree_step left))
 
 -- the head is that of the collection in which a path ends, with the steps that go on to it
-pub head_there : (x : HeadInText) → IsInText x → (m : ℕ) (above : List Step) (s : Step) (path : List Step) (left : Bor (List declared.Step)) → Some (above, s) ≡ last_step path → (m ≡ x.doc) × EndsAt (stem_of x) (map tree_step left.now) path →
+pub head_there : (x : HeadInText) → IsInText x → (m : ℕ) (above : List Step) (s : Step) (path : List Step) (left : Bor (List declared.Step)) →
+    Some (above, s) ≡ last_step path → (m ≡ x.doc) × EndsAt (stem_of x) (map tree_step left.now) path →
     FlowAgrees x.cut.now (flow_collection m above (cut_with x)) (Some (head_with x.head left))
 head_there x there m above s path left last ends =
     let above_is : above ≡ stem_of x ++ map tree_step left.now = ap (λ (y : List Step × Step). y.0) (same_Some _ _ (last ∙ ends.1.1)) in
@@ -118,7 +119,8 @@ module _ (x : HeadInText) (u : List ℕ) (all : u ≡ cut_text (cut_with x)) (op
   cs = splice_at (length (run_front (cut_text (cut_with x)) before start)) (drop start (take finish (cut_text (cut_with x)))) new
 
   -- the run goes on, with what is known then of an empty collection that got an item or entry
-  pub fill_on : (known : Option Filled) → (length made ≤ text_limit → carried op (now_text (cut_with x) before) ≡ gives made cs) → (length made ≤ text_limit → FilledOf x known out finish) → (after : PutRun) → HasPut u start finish new before after →
+  pub fill_on : (known : Option Filled) → (length made ≤ text_limit → carried op (now_text (cut_with x) before) ≡ gives made cs) →
+      (length made ≤ text_limit → FilledOf x known out finish) → (after : PutRun) → HasPut u start finish new before after →
       (on : RunsOn op x before after) × IsKnownFilled (cut_with x) on.run.cut x.doc (stem_of x) after.done known
   fill_on known there on after has_put =
       let a : HasPut (cut_text (cut_with x)) start finish new before after = subst (λ (l : List ℕ). HasPut l start finish new before after) all has_put in
@@ -172,7 +174,8 @@ module _ (x : HeadInText) (u : List ℕ) (all : u ≡ cut_text (cut_with x)) (op
         subst (λ (o : Operation). RunsOn o x before after) (sym h.operation)
         (fill_on x u all own before y.place.start y.place.end new h.valid own_fits None
         (put_there (cut_with x) x.doc (stem_of x) h.path h.value (string_bytes before.text) before.done again run h.ends h.part h.standing (change_place y) h.placed behind passes (string_bytes s) is.0 is.1)
-        (λ small. (goes_on (cut_with x) x.doc (stem_of x) h.path h.value (string_bytes before.text) before.done again run h.ends h.part h.standing (change_place y) h.placed behind passes (string_bytes s) is.0 is.1 h.valid own_fits small, tt))
+        (λ small. (goes_on (cut_with x) x.doc (stem_of x) h.path h.value (string_bytes before.text) before.done again run h.ends h.part h.standing
+            (change_place y) h.placed behind passes (string_bytes s) is.0 is.1 h.valid own_fits small, tt))
         after has_put).0
 
     -- too large a text

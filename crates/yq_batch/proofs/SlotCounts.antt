@@ -25,7 +25,9 @@ module _ (place : SlotPlace) (lead written : List ℕ) where
   pub in_one : (s s2 : SlotView) (at was : ℕ) → IsPutAt s s2 place lead written at was → IsPutIn (s ∷ []) (s2 ∷ []) place lead written at was
   in_one s s2 at was h = record { front = []; slot = s; slot2 = s2; back = []; own = at; old_is = refl; new_is = refl; put = h; at_is = refl }
 
-  pub one_put : {E : Type 0} (s s2 : SlotView) (r : Result (Option SlotPut) E) → IfOk r (λ o. IfSome o (λ p. IsPutAt s s2 place lead written p.at p.was)) → IfOk r (λ o. IfSome o (λ p. IsPutIn (s ∷ []) (s2 ∷ []) place lead written p.at p.was))
+  pub one_put : {E : Type 0} (s s2 : SlotView) (r : Result (Option SlotPut) E) →
+      IfOk r (λ o. IfSome o (λ p. IsPutAt s s2 place lead written p.at p.was)) →
+      IfOk r (λ o. IfSome o (λ p. IsPutIn (s ∷ []) (s2 ∷ []) place lead written p.at p.was))
   one_put s s2 (Ok None) h = tt
   one_put s s2 (Ok (Some p)) h = in_one s s2 p.at p.was h
   one_put s s2 (Err e) h = tt

@@ -45,7 +45,9 @@ module _ (t : List ℕ) where
   starts_at p q [] le h = rest_split p q le h
   starts_at p q (s ∷ ss) le h = go s.new (starts_at p q ss le (order_from s.place.end q (length t) (slot_places ss) (omega (arith, h.0, h.1)) h.3))
     where
-      go : (o : Option (List ℕ)) → text_from t p ss ≡ drop p (take q t) ++ text_from t q ss → passed t p s.place.start (text_from t p ss) (text_from t s.place.end ss) o ≡ drop p (take q t) ++ passed t q s.place.start (text_from t q ss) (text_from t s.place.end ss) o
+      go : (o : Option (List ℕ)) → text_from t p ss ≡ drop p (take q t) ++ text_from t q ss →
+          passed t p s.place.start (text_from t p ss) (text_from t s.place.end ss) o ≡ drop p (take q t)
+          ++ passed t q s.place.start (text_from t q ss) (text_from t s.place.end ss) o
       go None again = again
       go (Some w) again =
           ap (λ (l : List ℕ). l ++ (w ++ text_from t s.place.end ss)) (between_split p q s.place.start le h.0 (omega (arith, h.1, order_within s.place.end (length t) (slot_places ss) h.3)))

@@ -215,7 +215,9 @@ module _ (c : Cut) (n : ℕ) (stem path : List Step) (v : Node) (slots slots2 : 
   edges2 : AreCharEdges t slots2
   edges2 =
       subst (AreCharEdges t) (sym put.new_is)
-      (edges_put t front s s2 back (subst (AreCharEdges t) put.old_is run.edges) (subst (λ (q : SlotPlace). IsCharBoundary t q.start) (sym put.put.same) there.lies.start) (subst (λ (q : SlotPlace). IsCharBoundary t q.end) (sym put.put.same) there.lies.end))
+      (edges_put t front s s2 back (subst (AreCharEdges t) put.old_is run.edges)
+          (subst (λ (q : SlotPlace). IsCharBoundary t q.start) (sym put.put.same) there.lies.start)
+          (subst (λ (q : SlotPlace). IsCharBoundary t q.end) (sym put.put.same) there.lies.end))
 
   -- what is known of its own place after it: nothing
   own_after : (k : Cut) → IsStill c k n stem s2 rest
@@ -229,7 +231,8 @@ module _ (c : Cut) (n : ℕ) (stem path : List Step) (v : Node) (slots slots2 : 
   kept_there kept = subst (λ (u : List ℕ). carried (replace n path v) u ≡ gives u []) text (kept_comes run.cut n path v read a (sym same_kept ∙ kept))
 
   -- another value
-  module _ (other : keeps_scalar (node_in n path c) v ≡ false) (lead_same : lead ≡ place.lead) (is : written ≡ (put_edit v z).written) (value : IsValueTree v) (fitting : IsFitting (replace n path v) now) (small : length (text_from t 0 slots2) ≤ text_limit) where
+  module _ (other : keeps_scalar (node_in n path c) v ≡ false) (lead_same : lead ≡ place.lead) (is : written ≡ (put_edit v z).written)
+      (value : IsValueTree v) (fitting : IsFitting (replace n path v) now) (small : length (text_from t 0 slots2) ≤ text_limit) where
     written_is : written ≡ e.written
     written_is = is ∙ ap (λ (y : FlowPart). (put_edit v y).written) (sym (entry_found c n path z standing).1)
 
@@ -276,7 +279,8 @@ module _ (c : Cut) (n : ℕ) (stem path : List Step) (v : Node) (slots slots2 : 
       still =
           subst (AreStill c following n stem) (sym put.new_is)
           (stills c run.cut following n stem (e2.old ++ e2.behind) ((e2.lead ++ e2.written) ++ e2.behind) (length rest) 0 leaves s s2 back same_place [] e.old (lead ++ written) slot_old slot_new refl (sym new_is_made) (own_after following)
-          (room_next c run.cut following n stem (e2.old ++ e2.behind) ((e2.lead ++ e2.written) ++ e2.behind) (length rest) 0 leaves s.place back (order_at 0 (length t) front s back order).2 (order_at 0 (length t) front s back order).3 (omega arith)) 0 front order still);
+          (room_next c run.cut following n stem (e2.old ++ e2.behind) ((e2.lead ++ e2.written) ++ e2.behind) (length rest) 0 leaves s.place back
+              (order_at 0 (length t) front s back order).2 (order_at 0 (length t) front s back order).3 (omega arith)) 0 front order still);
     }
 
   -- the bytes of an equal scalar are put there again

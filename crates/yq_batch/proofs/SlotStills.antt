@@ -17,7 +17,8 @@ use Rattle.yq_batch.proofs.SlotLaws.{apart, between_length, front_of, order_with
 pub record Leaves (cut next : Cut) (n : ℕ) (stem : List Step) (gone made : List ℕ) (last apart : ℕ) : Type 0 where
   pub parts_behind : (ss : List Step) (r : Step) (z : EntryPieces) → IsPartOf cut n (stem ++ ss) r z → length z.rest < last → length (node_text (without_anchor z.node) z.rest) ≤ last → IsPartOf next n (stem ++ ss) r z
   pub ends_behind : (ss : List Step) (z : CollPieces) → flow_collection n (stem ++ ss) cut ≡ Some z → length (behind_appended z) + apart ≤ last → EndsAsIn z next n (stem ++ ss)
-  pub parts_before : (ss : List Step) (r : Step) (z : EntryPieces) → IsPartOf cut n (stem ++ ss) r z → length gone ≤ length z.rest → length gone < length (node_text (without_anchor z.node) z.rest) → IsPartBefore next n (stem ++ ss) r z gone made
+  pub parts_before : (ss : List Step) (r : Step) (z : EntryPieces) → IsPartOf cut n (stem ++ ss) r z → length gone ≤ length z.rest →
+      length gone < length (node_text (without_anchor z.node) z.rest) → IsPartBefore next n (stem ++ ss) r z gone made
   pub colls_before : (ss : List Step) (z : CollPieces) → flow_collection n (stem ++ ss) cut ≡ Some z → length gone < length (behind_appended z) → IsCollBefore next n (stem ++ ss) z gone made
 
 -- what comes after the last item or entry, before another text
@@ -29,7 +30,8 @@ last_then k gap (item key n sep (item key2 n2 sep2 is)) rest more = last_then k 
 -- the length of a content before another text
 content_length : (y : EntryPieces) (l : List ℕ) (n size : ℕ) → length y.rest ≡ n → length (node_text (without_anchor y.node) y.rest) ≡ size + n → length (node_text (without_anchor y.node) l) ≡ size + length l
 content_length y l n size rest all =
-    omega (arith, rest, all, ap length (node_then (without_anchor y.node) y.rest), ap length (node_then (without_anchor y.node) l), length-append (node_text (without_anchor y.node) []) y.rest, length-append (node_text (without_anchor y.node) []) l)
+    omega (arith, rest, all, ap length (node_then (without_anchor y.node) y.rest), ap length (node_then (without_anchor y.node) l),
+        length-append (node_text (without_anchor y.node) []) y.rest, length-append (node_text (without_anchor y.node) []) l)
 
 -- ---- the text around a place at which something else is
 
@@ -68,7 +70,8 @@ module _ (c cut next : Cut) (n : ℕ) (stem : List Step) (gone made : List ℕ) 
   content_size s y l order within rest size = content_length y l (length t - s.place.end) (size_of s) (ap length rest ∙ length-drop s.place.end t) (omega (arith, size, order, within))
 
   -- one after the change
-  still_behind : (s : SlotView) (rest : List ℕ) → IsStill c cut n stem s rest → s.place.start ≤ s.place.end → s.place.end ≤ length t → (s.place.more ≡ false → s.new ≡ None → size_of s + length rest < last) → length rest + apart_by ≤ last → IsStill c next n stem s rest
+  still_behind : (s : SlotView) (rest : List ℕ) → IsStill c cut n stem s rest → s.place.start ≤ s.place.end → s.place.end ≤ length t →
+      (s.place.more ≡ false → s.new ≡ None → size_of s + length rest < last) → length rest + apart_by ≤ last → IsStill c next n stem s rest
   still_behind s rest h order within room small = record {
     part = λ no_text one left r y there is size.
         let content = content_size s y rest order within is size in
@@ -81,7 +84,8 @@ module _ (c cut next : Cut) (n : ℕ) (stem : List Step) (gone made : List ℕ) 
   }
 
   -- one before the change
-  still_before : (s : SlotView) (mid : List ℕ) → IsStill c cut n stem s (mid ++ gone) → s.place.start ≤ s.place.end → s.place.end ≤ length t → (0 < length mid) ⊎ ((s.place.more ≡ false) × (s.place.start < s.place.end)) → IsStill c next n stem s (mid ++ made)
+  still_before : (s : SlotView) (mid : List ℕ) → IsStill c cut n stem s (mid ++ gone) → s.place.start ≤ s.place.end → s.place.end ≤ length t →
+      (0 < length mid) ⊎ ((s.place.more ≡ false) × (s.place.start < s.place.end)) → IsStill c next n stem s (mid ++ made)
   still_before s mid h order within some = record {
     part = λ no_text one left r y there is size.
         let content = content_size s y (mid ++ gone) order within is size in
@@ -182,6 +186,7 @@ module _ (c cut next : Cut) (n : ℕ) (stem : List Step) (gone made : List ℕ) 
           stills a.place.end fs order.3 h.1,
         )
       where
-        long : (0 < length (front_of t a.place.end fs s.place.start)) ⊎ ((a.place.more ≡ false) × (a.place.start < a.place.end)) → (0 < length (front_of t a.place.end fs s.place.start ++ front)) ⊎ ((a.place.more ≡ false) × (a.place.start < a.place.end))
+        long : (0 < length (front_of t a.place.end fs s.place.start)) ⊎ ((a.place.more ≡ false) × (a.place.start < a.place.end)) →
+            (0 < length (front_of t a.place.end fs s.place.start ++ front)) ⊎ ((a.place.more ≡ false) × (a.place.start < a.place.end))
         long (inl h) = inl (omega (arith, h, length-append (front_of t a.place.end fs s.place.start) front))
         long (inr h) = inr h

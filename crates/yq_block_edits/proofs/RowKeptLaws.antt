@@ -79,7 +79,9 @@ read_again : (t : List ℕ) → read_at t ≡ Some (cut_of t) → read_at (cut_t
 read_again t read = let r = (exact_reading t (cut_of t)).0 read in ap read_at (sym (r.0.cut.text ∙ ap cut_text r.1)) ∙ read
 
 -- whether a value is the scalar that is there
-pub kept_in_row : (t : List ℕ) (n : ℕ) (steps : List Step) (v : Node) (x : HeldRow) → read_at t ≡ Some (cut_of t) → IsHeldRow n steps (cut_of t) x → x.inline ≡ true → is_short_plain x.head.now ≡ true → are_same (Some (plain_of x.head.now)) (scalar_in v) ≡ keeps_scalar (node_in n steps (cut_of t)) v
+pub kept_in_row : (t : List ℕ) (n : ℕ) (steps : List Step) (v : Node) (x : HeldRow) → read_at t ≡ Some (cut_of t) → IsHeldRow n steps (cut_of t) x →
+    x.inline ≡ true → is_short_plain x.head.now ≡ true →
+    are_same (Some (plain_of x.head.now)) (scalar_in v) ≡ keeps_scalar (node_in n steps (cut_of t)) v
 kept_in_row t n [] v x read is inline short = absurd (no_root_rows n (cut_of t) is.entry is.found)
 kept_in_row t n (s ∷ ss) v x read is inline short =
     let c : Cut = cut_of t in

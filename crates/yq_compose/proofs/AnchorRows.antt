@@ -92,7 +92,8 @@ bare_takes None h = refl
 bare_takes (Some x) h = refl
 
 -- the first line of a row that is a node itself
-first_bare : (above : List (List ℕ)) (column : ℕ) (ns : List ℕ) (m : rows.RowMark) (c : Content) (l : Line) → slice_get (lines_from above column ns m c) 0 ≡ Some l → true ≡ has_no_mark l.mark → (content_anchor c ≡ l.anchor) × (head_of c ≡ l.head)
+first_bare : (above : List (List ℕ)) (column : ℕ) (ns : List ℕ) (m : rows.RowMark) (c : Content) (l : Line) →
+    slice_get (lines_from above column ns m c) 0 ≡ Some l → true ≡ has_no_mark l.mark → (content_anchor c ≡ l.anchor) × (head_of c ≡ l.head)
 first_bare above column [] m c l e bare = (ap (λ (y : Line). y.anchor) (same_Some _ _ e), ap (λ (y : Line). y.head) (same_Some _ _ e))
 first_bare above column (n ∷ ns) m c l e bare = absurd (false≢true (ap (λ (y : Line). has_no_mark y.mark) (same_Some _ _ e) ∙ sym bare))
 

@@ -79,7 +79,8 @@ gives_all s d q e floor to same moved none = record {
     go h deep (inr less) = less
 
 -- one more line of a collection is passed
-pub stop_same : (s : RowsView) (d : Stretch) (h : HasRows s d) (q e f : Position) (floor : ℕ) (at : IsLine s d e) → lines_stop (line_number d h.rows q) floor (lines_of_rows h.rows) ≡ lines_stop (line_number d h.rows e) floor (lines_of_rows h.rows) →
+pub stop_same : (s : RowsView) (d : Stretch) (h : HasRows s d) (q e f : Position) (floor : ℕ) (at : IsLine s d e) →
+    lines_stop (line_number d h.rows q) floor (lines_of_rows h.rows) ≡ lines_stop (line_number d h.rows e) floor (lines_of_rows h.rows) →
     has_no_lines (part (lines_of_rows h.rows) (line_number d h.rows e) floor) ≡ false → GivesEnd s d e f → lines_stop (line_number d h.rows q) floor (lines_of_rows h.rows) ≡ lines_stop (line_number d h.rows f) floor (lines_of_rows h.rows)
 stop_same s d h q e f floor at same deep g =
     let k = located s d h e at in

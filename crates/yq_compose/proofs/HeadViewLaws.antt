@@ -33,7 +33,8 @@ row_of_cut t s ms d k q at =
     ap (slice_get (rows_of k.cut)) (sym place) ∙ row_in_cut t s ms d k (q.row - d.first) l.row l.there
 
 -- the head of a line that has one is reported
-pub head_line : (t : List ℕ) (s : RowsView) (ms : List Decoded) (d : Stretch) (k : IsCheckable t s ms d) (q : Position) (at : IsLine s d q) (l : Line) → slice_get (lines_of_rows k.document.rows) (line_number d k.document.rows q) ≡ Some l → true ≡ is_some l.head →
+pub head_line : (t : List ℕ) (s : RowsView) (ms : List Decoded) (d : Stretch) (k : IsCheckable t s ms d) (q : Position) (at : IsLine s d q)
+    (l : Line) → slice_get (lines_of_rows k.document.rows) (line_number d k.document.rows q) ≡ Some l → true ≡ is_some l.head →
     decoded_head (decoded_at q.row ms) (slices (located s d k.document q at).row).head ≡ l.head
 head_line t s ms d k q at l is some =
     let f = located s d k.document q at in
@@ -79,7 +80,9 @@ headless d None e = refl
 headless d (Some n) e = absurd (false≢true e)
 
 -- a line with no alias and no flow collection made of its row
-pub head_free : (t : List ℕ) (s : RowsView) (ms : List Decoded) (d : Stretch) (k : IsCheckable t s ms d) (q : Position) (at : IsLine s d q) (l : Line) → slice_get (lines_of_rows k.document.rows) (line_number d k.document.rows q) ≡ Some l → (depth : ℕ) → decoded_flow (decoded_at q.row ms) ≡ None → head_is_sound depth l.head ≡ true
+pub head_free : (t : List ℕ) (s : RowsView) (ms : List Decoded) (d : Stretch) (k : IsCheckable t s ms d) (q : Position) (at : IsLine s d q)
+    (l : Line) → slice_get (lines_of_rows k.document.rows) (line_number d k.document.rows q) ≡ Some l → (depth : ℕ) →
+    decoded_flow (decoded_at q.row ms) ≡ None → head_is_sound depth l.head ≡ true
 head_free t s ms d k q at l is depth none = go (is_some l.head) refl
   where
     go : (b : Bool) → is_some l.head ≡ b → head_is_sound depth l.head ≡ true

@@ -35,7 +35,8 @@ row_later s d h q e at to less last = go (cases_lt q.row e.row)
         absurd (omega (arith, less, last, counted, to.line (slices k.row) there, ap (λ (m : ℕ). length (lines_of_rows (take (m - d.first) h.rows))) same))
 
 -- a line with a head is the last one of its row
-pub head_last : (s : RowsView) (d : Stretch) (h : HasRows s d) (q : Position) (at : IsLine s d q) (l : Line) → slice_get (lines_of_rows h.rows) (line_number d h.rows q) ≡ Some l → true ≡ is_some l.head → q.line ≡ length (located s d h q at).row.dashes
+pub head_last : (s : RowsView) (d : Stretch) (h : HasRows s d) (q : Position) (at : IsLine s d q) (l : Line) →
+    slice_get (lines_of_rows h.rows) (line_number d h.rows q) ≡ Some l → true ≡ is_some l.head → q.line ≡ length (located s d h q at).row.dashes
 head_last s d h q at l is some = go (cases_lt q.line (length (located s d h q at).row.dashes))
   where
     go : (q.line < length (located s d h q at).row.dashes) ⊎ (length (located s d h q at).row.dashes ≤ q.line) → q.line ≡ length (located s d h q at).row.dashes

@@ -63,7 +63,8 @@ pub some_front : (t : List ℕ) (q : ℕ) → begins_with q t ≡ true → 1 ≤
 some_front [] q h = absurd (false≢true h)
 some_front (b ∷ bs) q h = omega arith
 
-pub quoted_line : (t rest end : List ℕ) (q n : ℕ) → is_quote q ≡ true → begins_with q t ≡ true → rest ≡ drop 1 t → n ≡ prefix_len (run_goes_on (Quoted q)) rest → end ≡ drop n rest → n + 2 ≡ length t → begins_with q end ≡ true → borrows_text t ≡ true
+pub quoted_line : (t rest end : List ℕ) (q n : ℕ) → is_quote q ≡ true → begins_with q t ≡ true → rest ≡ drop 1 t →
+    n ≡ prefix_len (run_goes_on (Quoted q)) rest → end ≡ drop n rest → n + 2 ≡ length t → begins_with q end ≡ true → borrows_text t ≡ true
 quoted_line [] rest end q n quote front back run last long ends = absurd (false≢true front)
 quoted_line (b ∷ bs) rest end q n quote front back run last long ends =
     let same : n ≡ prefix_len (run_goes_on (Quoted q)) bs = run ∙ ap (prefix_len (run_goes_on (Quoted q))) back in
@@ -74,5 +75,6 @@ quoted_line (b ∷ bs) rest end q n quote front back run last long ends =
       | inr e ↦ go q 39 (eqb-true q 39 e) (λ s u. single bs n s long u) same stop
     ])
   where
-    go : (q k : ℕ) → q ≡ k → (n ≡ prefix_len (run_goes_on (Quoted k)) bs → begins_with k (drop n bs) ≡ true → borrows_text (k ∷ bs) ≡ true) → n ≡ prefix_len (run_goes_on (Quoted q)) bs → begins_with q (drop n bs) ≡ true → borrows_text (q ∷ bs) ≡ true
+    go : (q k : ℕ) → q ≡ k → (n ≡ prefix_len (run_goes_on (Quoted k)) bs → begins_with k (drop n bs) ≡ true → borrows_text (k ∷ bs) ≡ true) →
+        n ≡ prefix_len (run_goes_on (Quoted q)) bs → begins_with q (drop n bs) ≡ true → borrows_text (q ∷ bs) ≡ true
     go q k e f s u = subst (λ (x : ℕ). borrows_text (x ∷ bs) ≡ true) (sym e) (f (subst (λ (x : ℕ). n ≡ prefix_len (run_goes_on (Quoted x)) bs) e s) (subst (λ (x : ℕ). begins_with x (drop n bs) ≡ true) e u))

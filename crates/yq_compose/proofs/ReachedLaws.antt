@@ -13,7 +13,8 @@ use Rattle.yq_documents.specs.declared.decoded.Decoded.{Decoded}
 use Rattle.yq_compose.{specs.Ahead.IsAhead, specs.Checking.IsReached, proofs.LineLevelLaws.level_agrees}
 
 -- the end, and a line
-pub reached_end : (ms : List Decoded) (s : RowsView) (d : Stretch) (q : Position) (left : Bor (List Decoded)) → IsAhead ms q.row left.now → IsPosition s d q → d.end ≤ q.row → IsReached ms s d (record { position = q; level = 0; decoded = left })
+pub reached_end : (ms : List Decoded) (s : RowsView) (d : Stretch) (q : Position) (left : Bor (List Decoded)) → IsAhead ms q.row left.now →
+    IsPosition s d q → d.end ≤ q.row → IsReached ms s d (record { position = q; level = 0; decoded = left })
 reached_end ms s d q left ahead at past = record {
   position = at;
   some = λ p. absurd (omega (arith, p));
@@ -22,7 +23,9 @@ reached_end ms s d q left ahead at past = record {
   decoded = ahead;
 }
 
-pub reached_line : (ms : List Decoded) (s : RowsView) (d : Stretch) (q : Position) (left : Bor (List Decoded)) → IsAhead ms q.row left.now → IsLine s d q → (n : ℕ) → ((x : Slices) → slice_get s.rows q.row ≡ Some x → n ≡ line_level q.line x) → IsReached ms s d (record { position = q; level = n; decoded = left })
+pub reached_line : (ms : List Decoded) (s : RowsView) (d : Stretch) (q : Position) (left : Bor (List Decoded)) → IsAhead ms q.row left.now →
+    IsLine s d q → (n : ℕ) → ((x : Slices) → slice_get s.rows q.row ≡ Some x → n ≡ line_level q.line x) →
+    IsReached ms s d (record { position = q; level = n; decoded = left })
 reached_line ms s d q left ahead at n agrees = record {
   position = line_position s d q at;
   some = λ p. at.upto;
@@ -59,7 +62,9 @@ ranked : (n : ℕ) (o : Option (List ℕ)) → not (eqb n 2) ≡ is_item o → t
 ranked n None e some = absurd (false≢true (sym some))
 ranked n (Some a) e some = eqb-true n 2 (not-false (eqb n 2) e)
 
-pub key_some : (s : RowsView) (d : Stretch) (h : HasRows s d) (q : Position) (at : IsLine s d q) (l : Line) → slice_get (lines_of_rows h.rows) (line_number d h.rows q) ≡ Some l → true ≡ is_some (key_of l.mark) → Some (scalar_content (slices (located s d h q at).row).key) ≡ key_of l.mark
+pub key_some : (s : RowsView) (d : Stretch) (h : HasRows s d) (q : Position) (at : IsLine s d q) (l : Line) →
+    slice_get (lines_of_rows h.rows) (line_number d h.rows q) ≡ Some l → true ≡ is_some (key_of l.mark) →
+    Some (scalar_content (slices (located s d h q at).row).key) ≡ key_of l.mark
 key_some s d h q at l is some =
     let k = located s d h q at in
     let n : ℕ = line_rank q.line (slices k.row) in

@@ -67,23 +67,28 @@ loose : (l : List ℕ) (ls : RawLines) (w s : ℕ) (x : RawLines × RawLines) �
 loose l ls w s x some = search (rules, ⊎_elim, length-append, some_length, cases_Bool)
 
 -- The loop over the raw lines.
-pub raw_kept : (keep : Bool) (f : TextIndent) (w s n : ℕ) (t l a : List ℕ) → (text_lines t ≡ l ∷ text_lines a) × (0 < n) × (length l ≡ n) → is_empty_at keep f l ≡ true → keep ≡ true → raw_length (s + n) (s + n) (len_at keep f a) ≡ raw_length w s (len_at keep f t)
+pub raw_kept : (keep : Bool) (f : TextIndent) (w s n : ℕ) (t l a : List ℕ) → (text_lines t ≡ l ∷ text_lines a) × (0 < n) × (length l ≡ n) →
+    is_empty_at keep f l ≡ true → keep ≡ true → raw_length (s + n) (s + n) (len_at keep f a) ≡ raw_length w s (len_at keep f t)
 unfolding raw_at
 raw_kept keep f w s n t l a e h k = search (rules, len_text, false≢true)
 
-pub raw_loose : (keep : Bool) (f : TextIndent) (w s n : ℕ) (t l a : List ℕ) → (text_lines t ≡ l ∷ text_lines a) × (0 < n) × (length l ≡ n) → is_empty_at keep f l ≡ true → keep ≡ false → raw_length w (s + n) (len_at keep f a) ≡ raw_length w s (len_at keep f t)
+pub raw_loose : (keep : Bool) (f : TextIndent) (w s n : ℕ) (t l a : List ℕ) → (text_lines t ≡ l ∷ text_lines a) × (0 < n) × (length l ≡ n) →
+    is_empty_at keep f l ≡ true → keep ≡ false → raw_length w (s + n) (len_at keep f a) ≡ raw_length w s (len_at keep f t)
 unfolding raw_at
 raw_loose keep f w s n t l a e h k = search (rules, false≢true, loose)
 
-pub raw_text : (keep : Bool) (f : TextIndent) (w s n : ℕ) (t l a : List ℕ) → (text_lines t ≡ l ∷ text_lines a) × (0 < n) × (length l ≡ n) → is_empty_at keep f l ≡ false → is_text_at f l ≡ true → raw_length (s + n) (s + n) (len_at keep f a) ≡ raw_length w s (len_at keep f t)
+pub raw_text : (keep : Bool) (f : TextIndent) (w s n : ℕ) (t l a : List ℕ) → (text_lines t ≡ l ∷ text_lines a) × (0 < n) × (length l ≡ n) →
+    is_empty_at keep f l ≡ false → is_text_at f l ≡ true → raw_length (s + n) (s + n) (len_at keep f a) ≡ raw_length w s (len_at keep f t)
 unfolding raw_at
 raw_text keep f w s n t l a e h k = rw (e.0, h, k, ← e.2) (sym (len_text l w s (raw_at keep f (text_lines a)) (omega (arith, e.1, e.2))))
 
-pub raw_next : (keep : Bool) (f : TextIndent) (w s n : ℕ) (t l a : List ℕ) → (text_lines t ≡ l ∷ text_lines a) × (0 < n) × (length l ≡ n) → is_empty_at keep f l ≡ false → is_text_at f l ≡ false → is_less_indented f l ≡ true → raw_length w s (len_at keep f t) ≡ Some w
+pub raw_next : (keep : Bool) (f : TextIndent) (w s n : ℕ) (t l a : List ℕ) → (text_lines t ≡ l ∷ text_lines a) × (0 < n) × (length l ≡ n) →
+    is_empty_at keep f l ≡ false → is_text_at f l ≡ false → is_less_indented f l ≡ true → raw_length w s (len_at keep f t) ≡ Some w
 unfolding raw_at
 raw_next keep f w s n t l a e h k m = rw (e.0, h, k, m) refl
 
-pub raw_refused : (keep : Bool) (f : TextIndent) (w s n : ℕ) (t l a : List ℕ) → (text_lines t ≡ l ∷ text_lines a) × (0 < n) × (length l ≡ n) → is_empty_at keep f l ≡ false → is_text_at f l ≡ false → is_less_indented f l ≡ false → raw_length w s (len_at keep f t) ≡ None
+pub raw_refused : (keep : Bool) (f : TextIndent) (w s n : ℕ) (t l a : List ℕ) → (text_lines t ≡ l ∷ text_lines a) × (0 < n) × (length l ≡ n) →
+    is_empty_at keep f l ≡ false → is_text_at f l ≡ false → is_less_indented f l ≡ false → raw_length w s (len_at keep f t) ≡ None
 unfolding raw_at
 raw_refused keep f w s n t l a e h k m = rw (e.0, h, k, m) refl
 

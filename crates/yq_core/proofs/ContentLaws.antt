@@ -16,7 +16,9 @@ use Rattle.yq_core.proofs.CharLaws.{IsEscape, code_escape, letter_is_escape}
 
 -- what a character means before a text: white space is held, and anything else comes after what is before it
 abbrev pub Means : ℕ → Char → List ℕ → Type 0
-Means q c t = (before : BlankBefore) (w : List ℕ) → content_on q 0 before w (spell_char c ++ t) ≡ cond (is_plain_blank c) (content_on q 0 before (w ++ char_text c) t) (item_with_blanks before w ++ (char_text c ++ content_on q 0 within [] t))
+Means q c t = (before : BlankBefore) (w : List ℕ) →
+    content_on q 0 before w (spell_char c ++ t) ≡ cond (is_plain_blank c) (content_on q 0 before (w ++ char_text c) t)
+    (item_with_blanks before w ++ (char_text c ++ content_on q 0 within [] t))
 
 abbrev pub AllMean : ℕ → List Char → List ℕ → Type 0
 AllMean q [] t = Unit {0}

@@ -15,7 +15,8 @@ pub by_close : (P : ℕ → Type 0) (k c : ℕ) → is_close k ≡ true → (eqb
 by_close P k c h e p q r = search rules
 
 -- what is in front of that which comes after an item
-pub ends_by : (P : List ℕ → Type 0) (k : ℕ) (t : List ℕ) → is_close k ≡ true → EndsItem k t → ((r : List ℕ) → P (44 ∷ r)) → ((r : List ℕ) → P (93 ∷ r)) → ((r : List ℕ) → P (125 ∷ r)) → ((b : ℕ) (r : List ℕ) → is_space (b ∷ r) ≡ true → P (b ∷ r)) → P t
+pub ends_by : (P : List ℕ → Type 0) (k : ℕ) (t : List ℕ) → is_close k ≡ true → EndsItem k t → ((r : List ℕ) → P (44 ∷ r)) →
+    ((r : List ℕ) → P (93 ∷ r)) → ((r : List ℕ) → P (125 ∷ r)) → ((b : ℕ) (r : List ℕ) → is_space (b ∷ r) ≡ true → P (b ∷ r)) → P t
 ends_by P k t h e p q r s = go e.gap e.spelled e.is_gap where
   go : (g : List ℕ) → t ≡ g ++ (e.close ∷ e.rest) → IsInlineGap g (e.close ∷ e.rest) → P t
   go [] is gap = subst P (sym is) (by_close (λ c. P (c ∷ e.rest)) k e.close h e.ends (p e.rest) (q e.rest) (r e.rest))
@@ -138,7 +139,8 @@ last_mark : (gap : List ℕ) (c : ℕ) (l : List ℕ) → NoMark gap → last_li
 last_mark [] c l w h = cc
 last_mark (b ∷ gap) c l w h = search (rules, cond_some, last_mark gap c l w.2)
 
-may_same : (f : Bool) (gap : List ℕ) (b : ℕ) (p t u : List ℕ) → NoMark gap → KeepsApart (fresh f gap) (b ∷ p) t u → plain_may_follow (Some 0) (last_line gap) (b ∷ (p ++ t)) ≡ true → plain_may_follow (Some 0) (last_line gap) (b ∷ (p ++ u)) ≡ true
+may_same : (f : Bool) (gap : List ℕ) (b : ℕ) (p t u : List ℕ) → NoMark gap → KeepsApart (fresh f gap) (b ∷ p) t u →
+    plain_may_follow (Some 0) (last_line gap) (b ∷ (p ++ t)) ≡ true → plain_may_follow (Some 0) (last_line gap) (b ∷ (p ++ u)) ≡ true
 may_same f gap b p t u w keeps h = go (last_line gap) refl h where
   go : (o : Option (List ℕ)) → last_line gap ≡ o → plain_may_follow (Some 0) o (b ∷ (p ++ t)) ≡ true → plain_may_follow (Some 0) o (b ∷ (p ++ u)) ≡ true
   go None is e = refl

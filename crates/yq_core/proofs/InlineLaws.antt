@@ -23,7 +23,8 @@ inline_again place n depth at text p h = search (rules, all_again, bare_locate)
 pub found_by : {X : Type 0} (v : X → Placed) (place : Place) (n : ℤ) (depth at : ℕ) (text : List ℕ) (r : Result X ReadError) → Gives v r (inline_at place n depth at text) → IfOk r (λ x. IsInlineAt place n depth at text (v x))
 found_by v place n depth at text r h = search (rules, inline_takes)
 
-pub only_by : {X : Type 0} (v : X → Placed) (place : Place) (n : ℤ) (depth at : ℕ) (text : List ℕ) (r : Result X ReadError) → Gives v r (inline_at place n depth at text) → (p : Placed) → IsInlineAt place n depth at text p → Gives v r (Some p)
+pub only_by : {X : Type 0} (v : X → Placed) (place : Place) (n : ℤ) (depth at : ℕ) (text : List ℕ) (r : Result X ReadError) →
+    Gives v r (inline_at place n depth at text) → (p : Placed) → IsInlineAt place n depth at text p → Gives v r (Some p)
 only_by v place n depth at text r h p a = subst (Gives v r) (inline_again place n depth at text p a) h
 
 -- what is read is what is there, and nothing else

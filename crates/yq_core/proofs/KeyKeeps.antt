@@ -59,7 +59,8 @@ ends_key_here k t m e = go e.gap e.spelled e.is_gap where
   go (b ∷ g) is gap = subst (λ (l : List ℕ). (separates l || (begins_with 44 l || begins_with 125 l)) ≡ true) (sym is) (rw gap.inside.0 refl)
 
 -- nothing comes after an anchor or a `:`
-pub ends_lead : (begins : List ℕ → Bool) (k : ℕ) (t : List ℕ) → is_close k ≡ true → EndsItem k t → ((r : List ℕ) → begins (44 ∷ r) ≡ false) → ((r : List ℕ) → begins (93 ∷ r) ≡ false) → ((r : List ℕ) → begins (125 ∷ r) ≡ false) → IsLead true begins [] t
+pub ends_lead : (begins : List ℕ → Bool) (k : ℕ) (t : List ℕ) → is_close k ≡ true → EndsItem k t → ((r : List ℕ) → begins (44 ∷ r) ≡ false) →
+    ((r : List ℕ) → begins (93 ∷ r) ≡ false) → ((r : List ℕ) → begins (125 ∷ r) ≡ false) → IsLead true begins [] t
 ends_lead begins k t c e x y z = inr (refl, (e.gap, e.close ∷ e.rest, e.spelled, e.is_gap, by_close (λ b. begins (b ∷ e.rest) ≡ false) k e.close c e.ends (x e.rest) (y e.rest) (z e.rest)))
 
 pub key_bare : (k : ℕ) (p b g t u : List ℕ) → is_close k ≡ true → EndsItem k t → EndsItem k u → IsInlineKey k (keyed p b g) t → IsInlineKey k (keyed p b g) u
@@ -76,7 +77,8 @@ key_bare k p b g t u c e d h = subst (λ (l : List ℕ). IsInlineKey k (keyed p 
   fixed : IsInlineKey k (keyed p b []) u
   fixed = search (rules, scalar_alike, alike_append, gap_alike, or_right, ends_key_here, ends_lead, like, old)
 
-pub key_keeps : (k d : ℕ) (f : Bool) (key : Key) (n : FlowNode) (t u : List ℕ) → is_close k ≡ true → EndsItem k t → EndsItem k u → KeepsApart f (key_text key (node_text n [])) t u → IsFlowNode true (Some 0) d n t → IsFlowNode true (Some 0) d n u →
+pub key_keeps : (k d : ℕ) (f : Bool) (key : Key) (n : FlowNode) (t u : List ℕ) → is_close k ≡ true → EndsItem k t → EndsItem k u →
+    KeepsApart f (key_text key (node_text n [])) t u → IsFlowNode true (Some 0) d n t → IsFlowNode true (Some 0) d n u →
     IsInlineKey k key (node_text n t) → IsInlineKey k key (node_text n u)
 key_keeps k d f bare n t u c e h keeps x y is = is
 key_keeps k d f (keyed p b g) n t u c e h keeps x y is = elim (cases_Bool (is_empty_node n)) [

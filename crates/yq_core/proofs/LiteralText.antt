@@ -65,7 +65,9 @@ literal_can (b ∷ s) u h =
 can_text : (s : ScalarText) → can_write s styles.Literal places.Block ≡ true → is_literal_text s.text ≡ true
 can_text s h = (and_parts (is_string s.kind && true) (is_literal_text s.text) h).1
 
-pub literal_block : (least m : ℕ) (b : Break) (s : ScalarText) (tail rest : List ℕ) → IsUtf8 s.text → can_write s styles.Literal places.Block ≡ true → least ≤ m → is_tail tail ≡ true → ends_block false (record { columns = m; known = true }) (text_lines rest) ≡ true → IsBlock least (written_block s.text m (break_text b) tail) rest
+pub literal_block : (least m : ℕ) (b : Break) (s : ScalarText) (tail rest : List ℕ) → IsUtf8 s.text →
+    can_write s styles.Literal places.Block ≡ true → least ≤ m → is_tail tail ≡ true →
+    ends_block false (record { columns = m; known = true }) (text_lines rest) ≡ true → IsBlock least (written_block s.text m (break_text b) tail) rest
 literal_block least m b s tail rest u can le line behind = written_is least m b s.text tail rest (literal_can s.text u (can_text s can)) le line behind
 
 pub literal_content : (m : ℕ) (b : Break) (s : ScalarText) (tail : List ℕ) → IsUtf8 s.text → can_write s styles.Literal places.Block ≡ true → block_content (written_block s.text m (break_text b) tail) ≡ s.text

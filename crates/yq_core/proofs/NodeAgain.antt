@@ -44,7 +44,9 @@ node_of_content : (flow : Bool) (spaces : Option ℕ) (kids : Kids) (t : List �
 unfolding read_node
 node_of_content flow spaces kids t x e h = rw e h
 
-anchored_node : (flow : Bool) (spaces : Option ℕ) (kids : Kids) (n g : List ℕ) (node : FlowNode) (rest : List ℕ) → IsName n (g ++ node_text node rest) → IsLead flow (begins_content flow) g (node_text node rest) → (is_empty_node node || not (is_empty g)) ≡ true → takes_anchor node ≡ true →
+anchored_node : (flow : Bool) (spaces : Option ℕ) (kids : Kids) (n g : List ℕ) (node : FlowNode) (rest : List ℕ) →
+    IsName n (g ++ node_text node rest) → IsLead flow (begins_content flow) g (node_text node rest) →
+    (is_empty_node node || not (is_empty g)) ≡ true → takes_anchor node ≡ true →
     read_core flow spaces kids (node_text node rest) ≡ Some (node, rest) → read_node flow spaces kids (38 ∷ (n ++ (g ++ node_text node rest))) ≡ Some (anchored n g node, rest)
 unfolding read_node
 anchored_node flow spaces kids n g node rest name lead apart takes h = search (rules, name_again, lead_again)
@@ -71,7 +73,8 @@ mutual
   items_longer k (item key n s is) rest =
       omega (arith, items_longer k is rest, sep_longer s (flow_items_text k is rest), node_longer n (sep_text s (flow_items_text k is rest)), key_longer key (node_text n (sep_text s (flow_items_text k is rest))))
 
-pub item_longer : (flow : Bool) (spaces : Option ℕ) (d : ℕ) (key : Key) (node : FlowNode) (rest : List ℕ) → (is_keyed key || not (is_empty_node node)) ≡ true → IsFlowNode flow spaces d node rest → length rest < length (key_text key (node_text node rest))
+pub item_longer : (flow : Bool) (spaces : Option ℕ) (d : ℕ) (key : Key) (node : FlowNode) (rest : List ℕ) →
+    (is_keyed key || not (is_empty_node node)) ≡ true → IsFlowNode flow spaces d node rest → length rest < length (key_text key (node_text node rest))
 unfolding node_text IsFlowNode
 item_longer flow spaces d key node rest e h = search (rules, false≢true, length-append, node_longer, key_longer, scalar_some, items_longer, not-true, or_cases)
 
@@ -82,7 +85,9 @@ close_letter k h = search rules
 open_close : (j k : ℕ) → is_close k ≡ true → eqb (opening_bracket j) k ≡ false
 open_close j k h = let c = close_letter k h in cond_both (eqb j 125) 123 91 (λ x. eqb x k ≡ false) (λ _. c.5) (λ _. c.4)
 
-pub item_front : (flow : Bool) (spaces : Option ℕ) (d k : ℕ) (key : Key) (node : FlowNode) (rest : List ℕ) → is_close k ≡ true → (is_keyed key || not (is_empty_node node)) ≡ true → IsInlineKey k key (node_text node rest) → IsFlowNode flow spaces d node rest → begins_with k (key_text key (node_text node rest)) ≡ false
+pub item_front : (flow : Bool) (spaces : Option ℕ) (d k : ℕ) (key : Key) (node : FlowNode) (rest : List ℕ) → is_close k ≡ true →
+    (is_keyed key || not (is_empty_node node)) ≡ true → IsInlineKey k key (node_text node rest) → IsFlowNode flow spaces d node rest →
+    begins_with k (key_text key (node_text node rest)) ≡ false
 unfolding node_text IsFlowNode
 item_front flow spaces d k key node rest c e a h = search (rules, false≢true, close_letter, letter_front, scalar_begins, open_close, not-true)
 
@@ -106,7 +111,9 @@ takes_unanchored node h1 = search (rules, false≢true)
 mutual
   unfolding node_text IsFlowNode flow_items_text AreFlowItems items_at
 
-  pub content_again : (flow : Bool) (spaces : Option ℕ) (node : FlowNode) (n d : ℕ) (rest : List ℕ) → is_anchored node ≡ false → IsFlowNode flow spaces d node rest → length (node_text node rest) ≤ n → read_core flow spaces (kids_by n d) (node_text node rest) ≡ Some (node, rest)
+  pub content_again : (flow : Bool) (spaces : Option ℕ) (node : FlowNode) (n d : ℕ) (rest : List ℕ) → is_anchored node ≡ false →
+      IsFlowNode flow spaces d node rest → length (node_text node rest) ≤ n →
+      read_core flow spaces (kids_by n d) (node_text node rest) ≡ Some (node, rest)
   content_again flow spaces empty n d rest e h short = empty_content flow spaces (kids_by n d) rest h.0
   content_again flow spaces (alias a) n d rest e h short = alias_content flow spaces (kids_by n d) a rest h
   content_again flow spaces (scalar p) n d rest e h short = scalar_content flow spaces (kids_by n d) p rest h
@@ -115,16 +122,21 @@ mutual
       coll_content flow spaces (kids_by n (suc d)) k g is rest h.0 h.1 (items_again is n d k rest h.0 h.2 (omega (arith, length-append g (flow_items_text k is rest))))
   content_again flow spaces (anchored a g node) n d rest e h short = absurd (false≢true (sym e))
 
-  pub node_again : (flow : Bool) (spaces : Option ℕ) (node : FlowNode) (n d : ℕ) (rest : List ℕ) → IsFlowNode flow spaces d node rest → length (node_text node rest) ≤ n → read_node flow spaces (kids_by n d) (node_text node rest) ≡ Some (node, rest)
+  pub node_again : (flow : Bool) (spaces : Option ℕ) (node : FlowNode) (n d : ℕ) (rest : List ℕ) → IsFlowNode flow spaces d node rest →
+      length (node_text node rest) ≤ n → read_node flow spaces (kids_by n d) (node_text node rest) ≡ Some (node, rest)
   node_again flow spaces empty n d rest h short = node_of_content flow spaces (kids_by n d) rest (empty, rest) h.1 (empty_content flow spaces (kids_by n d) rest h.0)
   node_again flow spaces (alias a) n d rest h short = node_of_content flow spaces (kids_by n d) (42 ∷ (a ++ rest)) (alias a, rest) refl (alias_content flow spaces (kids_by n d) a rest h)
-  node_again flow spaces (scalar p) n d rest h short = node_of_content flow spaces (kids_by n d) (p ++ rest) (scalar p, rest) (letter_front flow 38 (p ++ rest) (λ bs. refl) (scalar_begins flow spaces p rest h)) (scalar_content flow spaces (kids_by n d) p rest h)
+  node_again flow spaces (scalar p) n d rest h short =
+      node_of_content flow spaces (kids_by n d) (p ++ rest) (scalar p, rest)
+      (letter_front flow 38 (p ++ rest) (λ bs. refl) (scalar_begins flow spaces p rest h)) (scalar_content flow spaces (kids_by n d) p rest h)
   node_again flow spaces (coll k g is) n zero rest h short = absurd h.2
   node_again flow spaces (coll k g is) n (suc d) rest h short =
       node_of_content flow spaces (kids_by n (suc d)) (opening_bracket k ∷ (g ++ flow_items_text k is rest)) (coll k g is, rest) (cond_both (eqb k 125) 123 91 (λ x. eqb x 38 ≡ false) (λ _. refl) (λ _. refl))
       (coll_content flow spaces (kids_by n (suc d)) k g is rest h.0 h.1 (items_again is n d k rest h.0 h.2 (omega (arith, length-append g (flow_items_text k is rest)))))
   node_again flow spaces (anchored a g node) n d rest h short =
-      anchored_node flow spaces (kids_by n d) a g node rest h.0 h.1 h.2 h.3 (content_again flow spaces node n d rest (takes_unanchored node h.3) h.4 (omega (arith, length-append a (g ++ node_text node rest), length-append g (node_text node rest))))
+      anchored_node flow spaces (kids_by n d) a g node rest h.0 h.1 h.2 h.3
+          (content_again flow spaces node n d rest (takes_unanchored node h.3) h.4
+          (omega (arith, length-append a (g ++ node_text node rest), length-append g (node_text node rest))))
 
   pub items_again : (is : Items) (n d k : ℕ) (rest : List ℕ) → is_close k ≡ true → AreFlowItems d k is rest → length (flow_items_text k is rest) < n → items_at n d k (flow_items_text k is rest) ≡ Some (is, rest)
   items_again is zero d k rest c h short = absurd (omega arith)
@@ -137,5 +149,7 @@ mutual
       let tail_short = sep_longer s tail in
       let inner_short = key_longer key inner in
       rw (item_front true (Some 0) d k key node behind c h.1 h.0 h.2)
-      (ap (λ o. o >>= λ key. read_node true (Some 0) (kids_by n d) key.1 >>= λ node. cond (is_keyed key.0 || not (is_empty_node node.0)) (sep_at k node.1) None >>= λ sep. items_at n d k sep.1 >>= λ rest. Some (item key.0 node.0 sep.0 rest.0, rest.1)) (key_in_again k key inner h.0)
+      (ap (λ o. o >>= λ key. read_node true (Some 0) (kids_by n d) key.1 >>= λ node. cond (is_keyed key.0 || not (is_empty_node node.0))
+          (sep_at k node.1) None >>= λ sep. items_at n d k sep.1 >>= λ rest. Some (item key.0 node.0 sep.0 rest.0, rest.1))
+          (key_in_again k key inner h.0)
       ∙ rw (node_again true (Some 0) node n d behind h.2 (omega arith)) (rw h.1 (rw (sep_again k s tail (close_letter k c).1 h.3) (rw (items_again is n d k rest c h.4 (omega arith)) refl))))

@@ -48,12 +48,16 @@ name_behind : (k : ℕ) (n g : List ℕ) (node : FlowNode) (t u : List ℕ) → 
 name_behind k n [] node t u c d a h = name_by n (node_text node t) (node_text node u) (subst (λ (l : List ℕ). unless in_name l ≡ true) (sym (bare_text node u (or_left_true (is_empty_node node) false refl a))) (ends_name k u c d)) h
 name_behind k n (b ∷ g) node t u c d a h = name_by n (b ∷ (g ++ node_text node t)) (b ∷ (g ++ node_text node u)) h.ends h
 
-lead_behind : (k d : ℕ) (g : List ℕ) (node : FlowNode) (t u : List ℕ) → is_close k ≡ true → EndsItem k t → EndsItem k u → KeepsApart (fresh false g) (node_text node []) t u → takes_anchor node ≡ true → IsFlowNode true (Some 0) d node t → IsFlowNode true (Some 0) d node u →
+lead_behind : (k d : ℕ) (g : List ℕ) (node : FlowNode) (t u : List ℕ) → is_close k ≡ true → EndsItem k t → EndsItem k u →
+    KeepsApart (fresh false g) (node_text node []) t u → takes_anchor node ≡ true → IsFlowNode true (Some 0) d node t →
+    IsFlowNode true (Some 0) d node u →
     IsLead true (begins_content true) g (node_text node t) → IsLead true (begins_content true) g (node_text node u)
 lead_behind k d g node t u c e h keeps a x y lead = elim (cases_Bool (is_empty_node node)) [
   | inl z ↦ (let no : begins_content true t ≡ false = (or_parts (begins_with 38 t) (begins_content true t) (ends_node k t c e)).1 in
       let none_ : g ≡ [] = lead_none (begins_content true) g t no (subst (λ (l : List ℕ). IsLead true (begins_content true) g l) (bare_text node t z) lead) in
-      subst (λ (l : List ℕ). IsLead true (begins_content true) l (node_text node u)) (sym none_) (subst (λ (l : List ℕ). IsLead true (begins_content true) [] l) (sym (bare_text node u z)) (ends_lead (begins_content true) k u c h (λ r. refl) (λ r. refl) (λ r. refl))))
+      subst (λ (l : List ℕ). IsLead true (begins_content true) l (node_text node u)) (sym none_)
+          (subst (λ (l : List ℕ). IsLead true (begins_content true) [] l) (sym (bare_text node u z))
+          (ends_lead (begins_content true) k u c h (λ r. refl) (λ r. refl) (λ r. refl))))
   | inr z ↦ inl (gap_node g d node t u z x keeps (lead_gap (begins_content true) g (node_text node t) (taken_begins true (Some 0) d node t z a x) (some_begins true (Some 0) d node t z x) lead), taken_begins true (Some 0) d node u z a y)
 ]
 
@@ -67,7 +71,10 @@ mutual
   node_keeps k (coll j g is) zero f t u c e h keeps x = absurd x.2
   node_keeps k (coll j g is) (suc d) f t u c e h keeps x = (x.0, gap_alike (Some true) g (flow_items_text j is t) (flow_items_text j is u) (items_text_alike j is t u x.0) x.1, items_any is d j t u x.0 x.2)
   node_keeps k (anchored n g node) d f t u c e h keeps x =
-      let inner : KeepsApart (fresh false g) (node_text node []) t u = keeps_append g false (node_text node []) t u (subst (λ (l : Bool). KeepsApart l (g ++ node_text node []) t u) (name_fresh false n (g ++ node_text node t) x.0.inside refl) (keeps_append n false (g ++ node_text node []) t u keeps.2)) in
+      let inner : KeepsApart (fresh false g) (node_text node []) t u =
+          keeps_append g false (node_text node []) t u
+          (subst (λ (l : Bool). KeepsApart l (g ++ node_text node []) t u) (name_fresh false n (g ++ node_text node t) x.0.inside refl)
+          (keeps_append n false (g ++ node_text node []) t u keeps.2)) in
       let new = node_keeps k node d (fresh false g) t u c e h inner x.4 in
       (name_behind k n g node t u c h x.2 x.0, lead_behind k d g node t u c e h inner x.3 x.4 new x.1, x.2, x.3, new)
 

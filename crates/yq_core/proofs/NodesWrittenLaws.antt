@@ -101,7 +101,10 @@ pub list_value : (xs : List Value) → flow_text (tree.list None (items (map val
 unfolding node_text flow_of
 list_value xs = simp (items_all, map_twice)
 
-pub map_value : (es : List Entry) → flow_text (tree.map None (entries (map (λ (e : String Global × tree.Node). (string_bytes e.0, e.1)) (map (λ (e : Entry). (e.0, value_node e.1)) es)))) ≡ 123 ∷ (comma_separated true (map (λ (e : Entry). entry_text (string_bytes e.0, value_node e.1)) es) ++ 125 ∷ [])
+pub map_value : (es : List Entry) →
+    flow_text (tree.map None
+    (entries (map (λ (e : String Global × tree.Node). (string_bytes e.0, e.1)) (map (λ (e : Entry). (e.0, value_node e.1)) es)))) ≡ 123
+    ∷ (comma_separated true (map (λ (e : Entry). entry_text (string_bytes e.0, value_node e.1)) es) ++ 125 ∷ [])
 unfolding node_text flow_of
 map_value es = simp (entries_all, string_bytes, map_twice)
 
@@ -113,5 +116,6 @@ pub node_map : (v : Vec Entry Global) → value_node (values.Map v) ≡ tree.map
 node_map v = search (rules, the_lemmas)
 
 -- a text between its brackets, added to others
-pub between_brackets : {A E : Type 0} (r : Result A E) (open_ close : ℕ) (old a b new text all : List ℕ) → a ≡ old ++ open_ ∷ [] → b ≡ a ++ text → new ≡ cond (is_ok r) (b ++ close ∷ []) b → all ≡ open_ ∷ (text ++ close ∷ []) → OnOk r (new ≡ old ++ all)
+pub between_brackets : {A E : Type 0} (r : Result A E) (open_ close : ℕ) (old a b new text all : List ℕ) → a ≡ old ++ open_ ∷ [] → b ≡ a ++ text →
+    new ≡ cond (is_ok r) (b ++ close ∷ []) b → all ≡ open_ ∷ (text ++ close ∷ []) → OnOk r (new ≡ old ++ all)
 between_brackets r open_ close old a b new text all h1 h2 h3 h4 = search (rules, append_assoc)

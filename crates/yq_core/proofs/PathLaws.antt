@@ -98,7 +98,8 @@ unfolding AreFlowItems
 items_hold d k s none rest x a h = cc
 items_hold d k s (item key n sep is) rest x a h = search (rules, same_Some, items_hold d k (further s) is rest x a.4)
 
-inside_holds : (flow : Bool) (spaces : Option ℕ) (d : ℕ) (s : Step) (node : FlowNode) (rest : List ℕ) (x : EntryPieces) → IsFlowNode flow spaces d node rest → path_inside s node rest ≡ Some x → (e : ℕ) × (d ≡ suc e) × IsFlowNode true (Some 0) e x.node x.rest
+inside_holds : (flow : Bool) (spaces : Option ℕ) (d : ℕ) (s : Step) (node : FlowNode) (rest : List ℕ) (x : EntryPieces) →
+    IsFlowNode flow spaces d node rest → path_inside s node rest ≡ Some x → (e : ℕ) × (d ≡ suc e) × IsFlowNode true (Some 0) e x.node x.rest
 unfolding IsFlowNode
 inside_holds flow spaces zero s (coll k g is) rest x a h = absurd a.2
 inside_holds flow spaces (suc d) s (coll k g is) rest x a h = (d, refl, items_hold d k s is rest x a.2 h)
@@ -112,5 +113,6 @@ further_holds (s ∷ ss) z y e a h =
     let b = inside_holds true (Some 0) e s z.node z.rest w.0 a w.1 in
     search (rules, further_holds ss w.0 y b.0 b.2 w.2)
 
-pub path_holds : (flow : Bool) (spaces : Option ℕ) (d : ℕ) (s : Step) (ss : List Step) (x y : EntryPieces) → IsFlowNode flow spaces d x.node x.rest → entry_pieces_at (s ∷ ss) x ≡ Some y → (e : ℕ) × (d ≡ length (s ∷ ss) + e) × IsFlowNode true (Some 0) e y.node y.rest
+pub path_holds : (flow : Bool) (spaces : Option ℕ) (d : ℕ) (s : Step) (ss : List Step) (x y : EntryPieces) → IsFlowNode flow spaces d x.node x.rest →
+    entry_pieces_at (s ∷ ss) x ≡ Some y → (e : ℕ) × (d ≡ length (s ∷ ss) + e) × IsFlowNode true (Some 0) e y.node y.rest
 path_holds flow spaces d s ss x y a h = search (rules, then_some, inside_holds, further_holds)

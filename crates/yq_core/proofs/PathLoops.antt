@@ -36,12 +36,16 @@ next_entry key e es h = rw h refl
 entries_from : (key : List ℕ) (es : List Field) (i : ℕ) (e d : Field) → i < length es → e ≡ get_or es i d → flow_part_at (To key) (entries_end (drop i es)) ≡ flow_part_at (To key) (entries_end (e ∷ drop (i + 1) es))
 entries_from key es i e d lt at = ap (λ (l : List Field). flow_part_at (To key) (entries_end l)) (drop_more es i d lt ∙ ap (λ (x : Field). x ∷ drop (i + 1) es) (sym at))
 
-pub entry_found : (key : List ℕ) (es : List Field) (i : ℕ) (e d : Field) (s : List ℕ) (all : Option PlacedEntry) → i < length es → e ≡ get_or es i d → s ≡ string_bytes e.0 → bytes_eq s key ≡ true → flow_part_at (To key) (entries_end (drop i es)) ≡ all → Some (Some (s, e.1), inline_view e.2) ≡ all
+pub entry_found : (key : List ℕ) (es : List Field) (i : ℕ) (e d : Field) (s : List ℕ) (all : Option PlacedEntry) → i < length es →
+    e ≡ get_or es i d → s ≡ string_bytes e.0 → bytes_eq s key ≡ true → flow_part_at (To key) (entries_end (drop i es)) ≡ all →
+    Some (Some (s, e.1), inline_view e.2) ≡ all
 entry_found key es i e d s all lt at text same so_far =
     ap (λ (l : List ℕ). Some (Some (l, e.1), inline_view e.2)) text
     ∙ (sym (first_entry key e (drop (i + 1) es) (ap (λ (l : List ℕ). bytes_eq l key) (sym text) ∙ same)) ∙ (sym (entries_from key es i e d lt at) ∙ so_far))
 
-pub entry_past : (key : List ℕ) (es : List Field) (i : ℕ) (e d : Field) (s : List ℕ) (all : Option PlacedEntry) → i < length es → e ≡ get_or es i d → s ≡ string_bytes e.0 → bytes_eq s key ≡ false → flow_part_at (To key) (entries_end (drop i es)) ≡ all → flow_part_at (To key) (entries_end (drop (i + 1) es)) ≡ all
+pub entry_past : (key : List ℕ) (es : List Field) (i : ℕ) (e d : Field) (s : List ℕ) (all : Option PlacedEntry) → i < length es → e ≡ get_or es i d →
+    s ≡ string_bytes e.0 → bytes_eq s key ≡ false → flow_part_at (To key) (entries_end (drop i es)) ≡ all →
+    flow_part_at (To key) (entries_end (drop (i + 1) es)) ≡ all
 entry_past key es i e d s all lt at text other so_far =
     sym (next_entry key e (drop (i + 1) es) (ap (λ (l : List ℕ). bytes_eq l key) (sym text) ∙ other)) ∙ (sym (entries_from key es i e d lt at) ∙ so_far)
 

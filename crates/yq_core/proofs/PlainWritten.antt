@@ -37,7 +37,8 @@ text_inside flow b bs rest q h = search (rules, front_of, cases_Bool, behind_col
 is_none_more : (o : Option ℕ) → is_none (more 1 o) ≡ is_none o
 is_none_more o = search rules
 
-pub across_inside : (flow : Bool) (spaces : Option ℕ) (bs rest : List ℕ) → Each is_no_control bs → no_rest (needs_quotes flow) bs ≡ true → is_empty bs ≡ false → front (λ c. eqb c 35) bs ≡ false → is_none (across flow spaces true (bs ++ rest)) ≡ false
+pub across_inside : (flow : Bool) (spaces : Option ℕ) (bs rest : List ℕ) → Each is_no_control bs → no_rest (needs_quotes flow) bs ≡ true →
+    is_empty bs ≡ false → front (λ c. eqb c 35) bs ≡ false → is_none (across flow spaces true (bs ++ rest)) ≡ false
 across_inside flow spaces [] rest q h some hash = absurd (false≢true (sym some))
 across_inside flow spaces (c ∷ bs) rest q h some hash =
     let f = front_of flow c bs h in
@@ -56,7 +57,9 @@ none_inside flow spaces (b ∷ bs) rest q h =
       | inl e ↦ (let g : (is_empty bs || front (λ c. eqb c 35) bs) ≡ false = rw e at f.space in
           let p = or_parts (is_empty bs) (front (λ c. eqb c 35) bs) g in
           let s : is_space (b ∷ (bs ++ rest)) ≡ true = rw e refl in
-          let a : is_none (across flow spaces true (b ∷ (bs ++ rest))) ≡ false = ap is_none (across_white flow spaces true b (bs ++ rest) (rw e refl)) ∙ (is_none_more (across flow spaces true (bs ++ rest)) ∙ across_inside flow spaces bs rest q.1 f.rest p.0 p.1) in
+          let a : is_none (across flow spaces true (b ∷ (bs ++ rest))) ≡ false =
+              ap is_none (across_white flow spaces true b (bs ++ rest) (rw e refl))
+              ∙ (is_none_more (across flow spaces true (bs ++ rest)) ∙ across_inside flow spaces bs rest q.1 f.rest p.0 p.1) in
           ends_space flow spaces (b ∷ (bs ++ rest)) s ∙ a)
       | inr e ↦ rw (no_control_space b (bs ++ rest) q.0 e, text_inside flow b bs rest q h) refl
     ] in

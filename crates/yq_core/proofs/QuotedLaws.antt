@@ -28,7 +28,8 @@ char_again q (code letter digits) t h =
     subst (λ (x : ℕ). quoted_len x 0 (92 ∷ ((letter ∷ digits) ++ t)) ≡ more (length (92 ∷ letter ∷ digits)) (quoted_len x 0 t)) (sym h.0) (escape_again _ (letter ∷ digits) t (code_escape letter digits h.1 h.2 h.3))
 
 -- one more piece in front
-in_front : (q : ℕ) (p r t : List ℕ) → quoted_len q 0 (p ++ (r ++ t)) ≡ more (length p) (quoted_len q 0 (r ++ t)) → quoted_len q 0 (r ++ t) ≡ more (length r) (quoted_len q 0 t) → quoted_len q 0 ((p ++ r) ++ t) ≡ more (length (p ++ r)) (quoted_len q 0 t)
+in_front : (q : ℕ) (p r t : List ℕ) → quoted_len q 0 (p ++ (r ++ t)) ≡ more (length p) (quoted_len q 0 (r ++ t)) →
+    quoted_len q 0 (r ++ t) ≡ more (length r) (quoted_len q 0 t) → quoted_len q 0 ((p ++ r) ++ t) ≡ more (length (p ++ r)) (quoted_len q 0 t)
 in_front q p r t first rest = search (rules, append_assoc, more_more, length-append)
 
 pub chars_again : (q : ℕ) (cs : List Char) (t : List ℕ) → AreChars q cs t → quoted_len q 0 (spell_chars cs ++ t) ≡ more (length (spell_chars cs)) (quoted_len q 0 t)

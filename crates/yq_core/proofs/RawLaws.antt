@@ -67,7 +67,8 @@ pub ends_blank : (f : TextIndent) (l : List ℕ) (ls : RawLines) → is_empty_li
 unfolding ends_block
 ends_blank f l ls is h = rw is h
 
-takes_empty : (keep : Bool) (f : TextIndent) (l : List ℕ) (ls : RawLines) (x y : RawLines × RawLines) → is_empty_at keep f l ≡ true → (is_line l ≡ true) ⊎ (ls ≡ []) → Cut ls x → IsRaw keep f x → with_empty keep l ls x ≡ Some y → IsRaw keep f y
+takes_empty : (keep : Bool) (f : TextIndent) (l : List ℕ) (ls : RawLines) (x y : RawLines × RawLines) → is_empty_at keep f l ≡ true →
+    (is_line l ≡ true) ⊎ (ls ≡ []) → Cut ls x → IsRaw keep f x → with_empty keep l ls x ≡ Some y → IsRaw keep f y
 takes_empty keep f l ls x y is line cut h e = search (rules, same_Some, and_parts, joined_none, ends_blank, some_lines, no_more, ends_more, false≢true, chosen)
 
 pub raw_takes : (keep : Bool) (f : TextIndent) (ls : RawLines) (x : RawLines × RawLines) → AreLines ls → raw_at keep f ls ≡ Some x → IsRaw keep f x

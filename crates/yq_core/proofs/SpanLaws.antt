@@ -75,7 +75,8 @@ past_node t flow spaces node d r h x = less t (node_text node r) (node_text node
 past_items : (t : List ℕ) (k : ℕ) (is : Items) (d : ℕ) (r : List ℕ) → is_close k ≡ true → AreFlowItems d k is r → IsLeft t (flow_items_text k is r) → IsLeft t r
 past_items t k is d r c h x = less t (flow_items_text k is r) (flow_items_text k is []) r (items_append k is [] r) x (items_past k is d r c h x.utf8)
 
-past_anchor : (t : List ℕ) (flow : Bool) (spaces : Option ℕ) (n g : List ℕ) (node : FlowNode) (d : ℕ) (rest : List ℕ) → IsFlowNode flow spaces d (anchored n g node) rest → IsLeft t (38 ∷ (n ++ (g ++ node_text node rest))) → IsLeft t (node_text node rest)
+past_anchor : (t : List ℕ) (flow : Bool) (spaces : Option ℕ) (n g : List ℕ) (node : FlowNode) (d : ℕ) (rest : List ℕ) →
+    IsFlowNode flow spaces d (anchored n g node) rest → IsLeft t (38 ∷ (n ++ (g ++ node_text node rest))) → IsLeft t (node_text node rest)
 unfolding IsFlowNode
 past_anchor t flow spaces n g node d rest h x =
     let inner : List ℕ = node_text node rest in

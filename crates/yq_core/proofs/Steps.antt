@@ -28,7 +28,9 @@ locate_content : (total : ℕ) (node : FlowNode) (rest t : List ℕ) → is_anch
 unfolding locate
 locate_content total node rest t h1 h2 = search (rules, false≢true)
 
-bare_in_place : (total : ℕ) (node : FlowNode) (rest t : List ℕ) → is_anchored node ≡ false → (bare_placed (placed_between total t rest (core_between total t node rest)) ≡ is_empty_node node) × (takes_placed (placed_between total t rest (core_between total t node rest)) ≡ takes_anchor node)
+bare_in_place : (total : ℕ) (node : FlowNode) (rest t : List ℕ) → is_anchored node ≡ false →
+    (bare_placed (placed_between total t rest (core_between total t node rest)) ≡ is_empty_node node)
+    × (takes_placed (placed_between total t rest (core_between total t node rest)) ≡ takes_anchor node)
 bare_in_place total node rest t h1 = search (rules, bare_holder, false≢true)
 
 -- items
@@ -60,16 +62,21 @@ sep_step total d k t key node is some = rw some
     (λ sep e.
     let text = (sep_takes k node.1 sep e).0 in
     bind_bind (all_items d k sep.1) (λ rest. Some (item key node.0 sep.0 rest.0, rest.1)) (λ x. Some (locate_items total k x.0 x.1, x.1))
-    ∙ (bind_same (λ rest. Some (locate_items total k (item key node.0 sep.0 rest.0) rest.1, rest.1)) (λ rest. Some (part (key_placed total t key) (locate total node.0 node.1) (locate_items total k rest.0 rest.1), rest.1)) (all_items d k sep.1)
+    ∙ (bind_same (λ rest. Some (locate_items total k (item key node.0 sep.0 rest.0) rest.1, rest.1))
+        (λ rest. Some (part (key_placed total t key) (locate total node.0 node.1) (locate_items total k rest.0 rest.1), rest.1)) (all_items d k sep.1)
     (λ rest f. let whole : node.1 ≡ sep_text sep.0 (flow_items_text k rest.0 rest.1) = text ∙ ap (sep_text sep.0) (items_text_is d k sep.1 rest f) in
     ap (λ (r : List ℕ). Some (part (key_placed total (key_text key (node_text node.0 r)) key) (locate total node.0 r) (locate_items total k rest.0 rest.1), rest.1)) (sym whole)
     ∙ ap (λ (u : List ℕ). Some (part (key_placed total u key) (locate total node.0 node.1) (locate_items total k rest.0 rest.1), rest.1)) (sym is))
     ∙ sym (bind_bind (all_items d k sep.1) (λ x. Some (locate_items total k x.0 x.1, x.1)) (λ y. Some (part (key_placed total t key) (locate total node.0 node.1) y.0, y.1)))))
     ∙ sym (bind_bind (sep_at k node.1) (λ x. Some x.1) (then_entry total d k (key_placed total t key) (locate total node.0 node.1)))))
 
-bare_step : (total d : ℕ) (t : List ℕ) (node : FlowNode × List ℕ) → (then_sep d 93 bare node >>= λ x. Some (locate_items total 93 x.0 x.1, x.1)) ≡ cond (bare_placed (locate total node.0 node.1)) None (then_value total d 93 None (locate total node.0 node.1, node.1))
+bare_step : (total d : ℕ) (t : List ℕ) (node : FlowNode × List ℕ) →
+    (then_sep d 93 bare node >>= λ x. Some (locate_items total 93 x.0 x.1, x.1)) ≡ cond (bare_placed (locate total node.0 node.1)) None
+    (then_value total d 93 None (locate total node.0 node.1, node.1))
 bare_step total d t node = go (is_empty_node node.0) refl where
-  go : (b : Bool) → is_empty_node node.0 ≡ b → (then_sep d 93 bare node >>= λ x. Some (locate_items total 93 x.0 x.1, x.1)) ≡ cond (bare_placed (locate total node.0 node.1)) None (then_value total d 93 None (locate total node.0 node.1, node.1))
+  go : (b : Bool) → is_empty_node node.0 ≡ b →
+      (then_sep d 93 bare node >>= λ x. Some (locate_items total 93 x.0 x.1, x.1)) ≡ cond (bare_placed (locate total node.0 node.1)) None
+      (then_value total d 93 None (locate total node.0 node.1, node.1))
   go true e = rw (bare_locate total node.0 node.1 ∙ e) (rw e refl)
   go false e = rw (bare_locate total node.0 node.1 ∙ e) (sep_step total d 93 (node_text node.0 node.1) bare node refl (rw e refl))
 
@@ -77,7 +84,9 @@ items_by_node : (total d : ℕ) (t : List ℕ) → begins_with 93 t ≡ false �
 items_by_node total d t h =
     ap (λ o. o >>= λ x. Some (locate_items total 93 x.0 x.1, x.1)) (items_step d 93 t h)
     ∙ (bind_bind (all_node true (Some 0) d t) (then_sep d 93 bare) (λ x. Some (locate_items total 93 x.0 x.1, x.1))
-    ∙ (bind_same (λ node. then_sep d 93 bare node >>= λ x. Some (locate_items total 93 x.0 x.1, x.1)) (λ node. cond (bare_placed (locate total node.0 node.1)) None (then_value total d 93 None (locate total node.0 node.1, node.1))) (all_node true (Some 0) d t)
+    ∙ (bind_same (λ node. then_sep d 93 bare node >>= λ x. Some (locate_items total 93 x.0 x.1, x.1))
+        (λ node. cond (bare_placed (locate total node.0 node.1)) None (then_value total d 93 None (locate total node.0 node.1, node.1)))
+        (all_node true (Some 0) d t)
     (λ node e. bare_step total d t node)
     ∙ sym (bind_bind (all_node true (Some 0) d t) (λ x. Some (locate total x.0 x.1, x.1)) (λ x. cond (bare_placed x.0) None (then_value total d 93 None x)))))
 
@@ -118,7 +127,9 @@ entry_step : (total d : ℕ) (t : List ℕ) (key : Key × List ℕ) → read_flo
 entry_step total d t key e =
     let place = keyed_place total t key.0 (key_keyed t key e) in
     bind_bind (all_node true (Some 0) d key.1) (then_sep d 125 key.0) (λ x. Some (locate_items total 125 x.0 x.1, x.1))
-    ∙ (bind_same (λ node. then_sep d 125 key.0 node >>= λ x. Some (locate_items total 125 x.0 x.1, x.1)) (λ node. then_value total d 125 (Some (key_here total t (key_piece key.0))) (locate total node.0 node.1, node.1)) (all_node true (Some 0) d key.1)
+    ∙ (bind_same (λ node. then_sep d 125 key.0 node >>= λ x. Some (locate_items total 125 x.0 x.1, x.1))
+        (λ node. then_value total d 125 (Some (key_here total t (key_piece key.0))) (locate total node.0 node.1, node.1))
+        (all_node true (Some 0) d key.1)
     (λ node f.
     let is : t ≡ key_text key.0 (node_text node.0 node.1) = (key_takes t key e).0 ∙ ap (key_text key.0) (all_takes true (Some 0) d key.1 node f).0 in
     sep_step total d 125 t key.0 node is (rw (key_keyed t key e) refl)
@@ -147,16 +158,22 @@ node_plain flow spaces total d t h = rw h
     (λ x e. ap (λ s. Some (s, x.1)) (locate_content total x.0 x.1 t (not_anchored flow spaces (kids_of d) t x e) (content_takes flow spaces (kids_of d) d t x (kids_all d 0) h e).0)))
 
 anchored_step : (total d : ℕ) (t n r g s : List ℕ) (x : FlowNode × List ℕ) → t ≡ 38 ∷ (n ++ r) → r ≡ g ++ s → s ≡ node_text x.0 x.1 → is_anchored x.0 ≡ false →
-    (◌>>=◌ {A = FlowNode × List ℕ} {B = Placed × List ℕ} (cond ((is_empty_node x.0 || not (is_empty g)) && takes_anchor x.0) (Some (anchored n g x.0, x.1)) None) (λ x. Some (locate total x.0 x.1, x.1))) ≡ then_anchored total t n g (placed_between total s x.1 (core_between total s x.0 x.1), x.1)
+    (◌>>=◌ {A = FlowNode × List ℕ} {B = Placed × List ℕ}
+        (cond ((is_empty_node x.0 || not (is_empty g)) && takes_anchor x.0) (Some (anchored n g x.0, x.1)) None)
+        (λ x. Some (locate total x.0 x.1, x.1))) ≡ then_anchored total t n g (placed_between total s x.1 (core_between total s x.0 x.1), x.1)
 unfolding locate node_text
 anchored_step total d t n r g s x e f h a =
     let same = bare_in_place total x.0 x.1 s a in
     rw (same.0, same.1) (go ((is_empty_node x.0 || not (is_empty g)) && takes_anchor x.0)) where
-      go : (b : Bool) → (◌>>=◌ {A = FlowNode × List ℕ} {B = Placed × List ℕ} (cond b (Some (anchored n g x.0, x.1)) None) (λ x. Some (locate total x.0 x.1, x.1))) ≡ cond b (Some (anchored_node n (total - length t) (placed_between total s x.1 (core_between total s x.0 x.1)), x.1)) None
+      go : (b : Bool) → (◌>>=◌ {A = FlowNode × List ℕ} {B = Placed × List ℕ} (cond b (Some (anchored n g x.0, x.1)) None)
+          (λ x. Some (locate total x.0 x.1, x.1))) ≡ cond b
+          (Some (anchored_node n (total - length t) (placed_between total s x.1 (core_between total s x.0 x.1)), x.1)) None
       go true = ap (λ s. Some (s, x.1)) (search (rules, locate_content))
       go false = refl
 
-pub node_anchored : (flow : Bool) (spaces : Option ℕ) (total d : ℕ) (t n r g s : List ℕ) → begins_with 38 t ≡ true → name_at (drop 1 t) ≡ Some (n, r) → lead_at flow (begins_content flow) r ≡ Some (g, s) → placed_node flow spaces total d t ≡ (placed_content flow spaces total d s >>= then_anchored total t n g)
+pub node_anchored : (flow : Bool) (spaces : Option ℕ) (total d : ℕ) (t n r g s : List ℕ) → begins_with 38 t ≡ true →
+    name_at (drop 1 t) ≡ Some (n, r) → lead_at flow (begins_content flow) r ≡ Some (g, s) →
+    placed_node flow spaces total d t ≡ (placed_content flow spaces total d s >>= then_anchored total t n g)
 unfolding read_node
 node_anchored flow spaces total d t n r g s amp name lead =
     let a = name_takes (drop 1 t) (n, r) name in
@@ -177,11 +194,14 @@ pub node_no_lead : (flow : Bool) (spaces : Option ℕ) (total d : ℕ) (t n r : 
 unfolding read_node
 node_no_lead flow spaces total d t n r amp name lead = rw amp (rw name (rw lead refl))
 
-pub node_fails : (e : ReadError) (flow : Bool) (spaces : Option ℕ) (total d : ℕ) (t n r g s : List ℕ) → begins_with 38 t ≡ true → name_at (drop 1 t) ≡ Some (n, r) → lead_at flow (begins_content flow) r ≡ Some (g, s) → ReadFails e (placed_content flow spaces total d s) → ReadFails e (placed_node flow spaces total d t)
+pub node_fails : (e : ReadError) (flow : Bool) (spaces : Option ℕ) (total d : ℕ) (t n r g s : List ℕ) → begins_with 38 t ≡ true →
+    name_at (drop 1 t) ≡ Some (n, r) → lead_at flow (begins_content flow) r ≡ Some (g, s) → ReadFails e (placed_content flow spaces total d s) →
+    ReadFails e (placed_node flow spaces total d t)
 node_fails errors.Memory flow spaces total d t n r g s amp name lead h = tt
 node_fails (errors.Fault f) flow spaces total d t n r g s amp name lead h = node_anchored flow spaces total d t n r g s amp name lead ∙ rw h refl
 
-pub node_gives : {X : Type 0} (v : X → Placed × List ℕ) (o : Result X ReadError) (flow : Bool) (spaces : Option ℕ) (total d : ℕ) (t n r g s : List ℕ) (x : Placed × List ℕ) → begins_with 38 t ≡ true → name_at (drop 1 t) ≡ Some (n, r) → lead_at flow (begins_content flow) r ≡ Some (g, s) →
+pub node_gives : {X : Type 0} (v : X → Placed × List ℕ) (o : Result X ReadError) (flow : Bool) (spaces : Option ℕ) (total d : ℕ) (t n r g s : List ℕ)
+    (x : Placed × List ℕ) → begins_with 38 t ≡ true → name_at (drop 1 t) ≡ Some (n, r) → lead_at flow (begins_content flow) r ≡ Some (g, s) →
     placed_content flow spaces total d s ≡ Some x → Gives v o (then_anchored total t n g x) → Gives v o (placed_node flow spaces total d t)
 node_gives v o flow spaces total d t n r g s x amp name lead h answer =
     let is : placed_node flow spaces total d t ≡ then_anchored total t n g x = node_anchored flow spaces total d t n r g s amp name lead ∙ rw h refl in

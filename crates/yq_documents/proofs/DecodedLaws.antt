@@ -33,7 +33,9 @@ decoded_found (x ∷ ms) row (suc at) m h e is =
     decoded_found ms row at m ((λ k d low lt. h.0 (suc k) d (omega arith) (omega arith)), (λ k d low lt. h.1 (suc k) d (omega arith) (omega arith))) e is
     ∙ sym (cond-false _ (Some x) (decoded_at row ms) (ne_eqb row x.row (λ q. omega (arith, q, less))))
 
-pub decoded_none : (n : ℕ) (ms : List Decoded) (row at : ℕ) → Rise n ms → IsPartitionPoint (λ x. ltb x.row row ≡ true) (λ x. ltb x.row row ≡ false) ms at → ((m : Decoded) → slice_get ms at ≡ Some m → m.row ≡ row → ⊥) → None ≡ decoded_at row ms
+pub decoded_none : (n : ℕ) (ms : List Decoded) (row at : ℕ) → Rise n ms →
+    IsPartitionPoint (λ x. ltb x.row row ≡ true) (λ x. ltb x.row row ≡ false) ms at → ((m : Decoded) → slice_get ms at ≡ Some m → m.row ≡ row → ⊥) →
+    None ≡ decoded_at row ms
 decoded_none n [] row at r h other = refl
 decoded_none n (x ∷ ms) row zero r h other =
     let more = ltb-false _ _ (h.1 0 x (omega arith) (omega arith)) in

@@ -23,7 +23,9 @@ use Rattle.yq_core.specs.Tree as trees
 
 -- an inline node that is read is its head
 holder_head : (s c e k : ℕ) (parts : Parts) → placed_head (placed None s c e (holder k parts)) ≡ Some (placed_tree (placed None s c e (holder k parts)))
-holder_head s c e k parts = elim (eqb k 125) as (λ x. placed_head (placed None s c e (cond x (mapping parts) (sequence parts))) ≡ Some (placed_tree (placed None s c e (cond x (mapping parts) (sequence parts))))) [ true ↦ refl | false ↦ refl ]
+holder_head s c e k parts =
+    elim (eqb k 125) as (λ x. placed_head (placed None s c e (cond x (mapping parts) (sequence parts))) ≡ Some
+    (placed_tree (placed None s c e (cond x (mapping parts) (sequence parts))))) [ true ↦ refl | false ↦ refl ]
 
 placed_head_is : (total : ℕ) (node : FlowNode) (rest : List ℕ) → is_anchored node ≡ false → placed_head (locate total node rest) ≡ node_head node
 unfolding locate tree_of
@@ -98,7 +100,8 @@ scalar_some_is n (b ∷ bs) rest h =
     let more : eqb b 62 ≡ false = front_not (begins_scalar false) 62 (λ cs. refl) (b ∷ (bs ++ rest)) begins in
     (refl, rw (bar, more) refl)
 
-scalar_is : (whole : List ℕ) (n : ℤ) (p rest : List ℕ) → EndsIn whole (node_text (scalar p) rest) → IsFlowNode false (Some (deeper n)) depth_limit (scalar p) rest → read_head whole n p (node_text (scalar p) rest) ≡ Some (node_head (scalar p))
+scalar_is : (whole : List ℕ) (n : ℤ) (p rest : List ℕ) → EndsIn whole (node_text (scalar p) rest) →
+    IsFlowNode false (Some (deeper n)) depth_limit (scalar p) rest → read_head whole n p (node_text (scalar p) rest) ≡ Some (node_head (scalar p))
 unfolding IsFlowNode tree_of
 scalar_is whole n p rest ends h =
     let s = scalar_some_is n p rest h in

@@ -48,7 +48,8 @@ rows_stand t s c n p d cut is at first end =
     (λ i. drop (first i) (is i).rows) ∙ (drop-map slices k (rows_of c) ∙ (ap (map slices) b.1 ∙ map-append slices p.rows b.0)) in
     let pieces : take (d.end - d.first) (drop d.first s.rows) ≡ map slices p.rows =
     (λ i. take (size i) (there i)) ∙ take_at (map slices p.rows) (map slices b.0) (length p.rows) (length-map p.rows slices) in
-    let long : length s.rows - d.first ≡ length p.rows + length b.0 = sym (length-drop d.first s.rows) ∙ (ap length there ∙ (length-append (map slices p.rows) (map slices b.0) ∙ (λ i. length-map p.rows slices i + length-map b.0 slices i))) in
+    let long : length s.rows - d.first ≡ length p.rows + length b.0 = sym (length-drop d.first s.rows)
+        ∙ (ap length there ∙ (length-append (map slices p.rows) (map slices b.0) ∙ (λ i. length-map p.rows slices i + length-map b.0 slices i))) in
     let all : length s.rows ≡ length (rows_of c) = ap (λ (x : RowsView). length x.rows) is ∙ length-map (rows_of c) slices in
     let upto : k + length (nth_part (part_number n c) c).rows ≤ length (rows_of c) = rows_within (part_number n c) c in (
       record {
@@ -65,7 +66,8 @@ rows_stand t s c n p d cut is at first end =
     )
 
 -- the document of a text with its cut
-pub document_has : (t : List ℕ) (s : RowsView) (c : Cut) (n : ℕ) (p : Part) (d : Stretch) → IsCut t c → s ≡ rows_view c → slice_get (document_parts c) n ≡ Some p → d.first ≡ document_row n c → d.end ≡ document_row n c + length p.rows → all_documents c ≡ true →
+pub document_has : (t : List ℕ) (s : RowsView) (c : Cut) (n : ℕ) (p : Part) (d : Stretch) → IsCut t c → s ≡ rows_view c →
+    slice_get (document_parts c) n ≡ Some p → d.first ≡ document_row n c → d.end ≡ document_row n c + length p.rows → all_documents c ≡ true →
     (h : HasDocument s d) × (h.stand.rows ≡ p.rows)
 document_has t s c n p d cut is at first end walk =
     let h = rows_stand t s c n p d cut is at first end in

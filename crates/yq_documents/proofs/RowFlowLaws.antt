@@ -15,7 +15,9 @@ use Rattle.yq_outline.specs.Lines.{tail_of}
 use Rattle.yq_core.specs.declared.style.Place.TheVariants as places
 
 -- an inline node that is read
-pub node_again : (whole : List ℕ) (n : ℤ) (node : FlowNode) (rest : List ℕ) → is_empty_node node ≡ false → EndsIn whole (node_text node rest) → IsFlowNode false (Some (deeper n)) depth_limit node rest → node_flow_at whole n (node_text node rest) ≡ alias_or_collection (locate (length whole) node rest)
+pub node_again : (whole : List ℕ) (n : ℤ) (node : FlowNode) (rest : List ℕ) → is_empty_node node ≡ false → EndsIn whole (node_text node rest) →
+    IsFlowNode false (Some (deeper n)) depth_limit node rest →
+    node_flow_at whole n (node_text node rest) ≡ alias_or_collection (locate (length whole) node rest)
 node_again whole n node rest some ends h =
     let at : ℕ = length whole - length (node_text node rest) in
     let p = locate (length whole) node rest in
@@ -58,7 +60,9 @@ scalar_none : (total : ℕ) (p rest : List ℕ) → None ≡ alias_or_collection
 unfolding locate
 scalar_none total p rest = refl
 
-scalar_is : (whole : List ℕ) (n : ℤ) (p rest : List ℕ) → EndsIn whole (node_text (scalar p) rest) → IsFlowNode false (Some (deeper n)) depth_limit (scalar p) rest → head_flow_at whole n p (node_text (scalar p) rest) ≡ alias_or_collection (locate (length whole) (scalar p) rest)
+scalar_is : (whole : List ℕ) (n : ℤ) (p rest : List ℕ) → EndsIn whole (node_text (scalar p) rest) →
+    IsFlowNode false (Some (deeper n)) depth_limit (scalar p) rest →
+    head_flow_at whole n p (node_text (scalar p) rest) ≡ alias_or_collection (locate (length whole) (scalar p) rest)
 unfolding IsFlowNode
 scalar_is whole n p rest ends h =
     let s = scalar_some_is n p rest h in
@@ -97,7 +101,8 @@ node_is whole n (coll k g is) rest ends h = written_is whole n (coll k g is) res
 node_is whole n (anchored name g node) rest ends h = written_is whole n node rest (takes_unanchored node h.3) ends h.4
 
 -- that of a row's content
-pub flow_is : (whole : List ℕ) (n : ℤ) (c : Content) (rest : List ℕ) → EndsIn whole (head_text c rest) → IsContent n c rest → head_flow_at whole n (content_cut c).3 (head_text c rest) ≡ alias_or_collection (locate (length whole) (content_core c) (tail_of c ++ rest))
+pub flow_is : (whole : List ℕ) (n : ℤ) (c : Content) (rest : List ℕ) → EndsIn whole (head_text c rest) → IsContent n c rest →
+    head_flow_at whole n (content_cut c).3 (head_text c rest) ≡ alias_or_collection (locate (length whole) (content_core c) (tail_of c ++ rest))
 flow_is whole n (Nothing tail) rest ends h = by_nothing whole n (tail ++ rest) ∙ empty_none (length whole) (tail ++ rest)
 flow_is whole n (Inline space node tail) rest ends h = node_is whole n node (tail ++ rest) ends h.1.valid
 flow_is whole n (Block space anchor block) rest ends h =

@@ -34,7 +34,8 @@ nothing_tail = record { white = []; comment = []; line = record { break = []; sp
 nothing_ends : (column : ℕ) → IsEnd column [] ([] ++ [])
 nothing_ends column = record { tail = nothing_tail; plain = refl }
 
-module _ (doc : ℕ) (steps : List Step) (key : Option (List ℕ)) (v : Node) (c : Cut) (x : CollectionEnd) (read : read_at (cut_text c) ≡ Some c) (at : IsAppendPlace doc steps c x) (g : IsAsked steps key v (p doc steps c x read at)) (broken : x.broken ≡ false) where
+module _ (doc : ℕ) (steps : List Step) (key : Option (List ℕ)) (v : Node) (c : Cut) (x : CollectionEnd) (read : read_at (cut_text c) ≡ Some c)
+    (at : IsAppendPlace doc steps c x) (g : IsAsked steps key v (p doc steps c x read at)) (broken : x.broken ≡ false) where
   abbrev l : Layout
   l = layout_of doc c
 

@@ -52,7 +52,8 @@ is_child : (k : Option (List ℕ)) (v : Node) (l : Line) (u a : Outline) → chi
 is_child k v l u a e = let x = children_same (label l) (key_label k) (content_under l u) v (children a) none e in (x.0, x.1, no_more a x.2)
 
 -- its mark, by its level
-is_one : (k : Option (List ℕ)) (v : Node) (column : ℕ) (l : Line) (u a : Outline) (m : LineMark) → l.mark ≡ m → 3 * l.column + rank m ≡ entry_level k column → outline_node m (child (label l) (content_under l u) (children a)) ≡ singleton k v → IsOne k v l u a
+is_one : (k : Option (List ℕ)) (v : Node) (column : ℕ) (l : Line) (u a : Outline) (m : LineMark) → l.mark ≡ m →
+    3 * l.column + rank m ≡ entry_level k column → outline_node m (child (label l) (content_under l u) (children a)) ≡ singleton k v → IsOne k v l u a
 is_one k v column l u a m h1 h2 h3 = search (rules, is_child)
 
 -- the outline of a collection of one item or entry
@@ -69,7 +70,9 @@ pub entry_of : (key : Option (List ℕ)) (v : Node) (l : Layout) (column : ℕ) 
 entry_of key v l column last uncommented step u h =
     let w = alone_value key v u h in
     let rs : List Row = node_rows l column last (singleton key v) in
-    let s : Stands (lines_of_rows rs) (singleton key v) (level_at column (singleton key v)) = rules_give (level_at column (singleton key v)) (lines_of_rows rs) (singleton key v) (node_stands (singleton key v) l column last step w.filled w.value uncommented) in
+    let s : Stands (lines_of_rows rs) (singleton key v) (level_at column (singleton key v)) =
+        rules_give (level_at column (singleton key v)) (lines_of_rows rs) (singleton key v)
+        (node_stands (singleton key v) l column last step w.filled w.value uncommented) in
     one_row key v column s.outline rs (subst (λ n. IsEven n s.outline) (search rules) s.even) s.lines_are s.node_is
 
 -- its keys and anchors
@@ -99,7 +102,8 @@ mutual
   each_bare l column last tree.none = refl
   each_bare l column last (tree.child own_label n cs) =
       first_bare (entry_rows l column (end_of_line_before l last cs) own_label.key (inline_of n) (node_rows l (column_below l column own_label.key n) (end_of_line_before l last cs) n)) (children_rows l column last cs)
-      (by own_label.key (inline_of n) (node_rows l (column_below l column own_label.key n) (end_of_line_before l last cs) n) (rows_bare l (column_below l column own_label.key n) (end_of_line_before l last cs) n)) (λ e. each_bare l column last cs)
+      (by own_label.key (inline_of n) (node_rows l (column_below l column own_label.key n) (end_of_line_before l last cs) n)
+          (rows_bare l (column_below l column own_label.key n) (end_of_line_before l last cs) n)) (λ e. each_bare l column last cs)
     where
       by : (key : Option (List ℕ)) (node : Option inline.FlowNode) (rs : List Row) → first_gap rs [] ≡ [] → first_gap (entry_rows l column (end_of_line_before l last cs) key node rs) [] ≡ []
       by (Some k) (Some node) rs e = refl

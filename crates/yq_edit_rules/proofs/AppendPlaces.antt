@@ -113,7 +113,9 @@ module _ (doc : ℕ) (steps : List Step) (key : Option (List ℕ)) (v : Node) (c
   known_taker =
       taker key g.node place.h.anchor place.h.lines x.column g.takes (same_Some _ _ (sym g.node_is ∙ lines_are_there steps (part_outline part) place.h place.collection.place_is)) place.collection.block place.first
 
-  pub written : (last : List ℕ) (uncommented : said last ≡ None) → AreAppendedRows place.h (node_rows l x.column last (singleton key v)) (entry last uncommented).deep.0 (entry last uncommented).line (entry last uncommented).under (length steps)
+  pub written : (last : List ℕ) (uncommented : said last ≡ None) →
+      AreAppendedRows place.h (node_rows l x.column last (singleton key v)) (entry last uncommented).deep.0 (entry last uncommented).line
+      (entry last uncommented).under (length steps)
   written last uncommented =
       let w = entry last uncommented in
       record {

@@ -29,7 +29,8 @@ BeginAt column (r ∷ rs) = (r.gap ≡ []) × (r.column ≡ column)
 begun_append : (column : ℕ) (xs ys : List Row) → BeginAt column xs → BeginAt column (xs ++ ys)
 begun_append column xs ys h1 = search rules
 
-entry_begun : (l : Layout) (column : ℕ) (end : List ℕ) (key : Option (List ℕ)) (n : tree.Node) (node : Option inline.FlowNode) (below : List Row) → Heads n node → (IsFilled n → BeginAt (column_below l column key n) below) → BeginAt column (entry_rows l column end key node below)
+entry_begun : (l : Layout) (column : ℕ) (end : List ℕ) (key : Option (List ℕ)) (n : tree.Node) (node : Option inline.FlowNode) (below : List Row) →
+    Heads n node → (IsFilled n → BeginAt (column_below l column key n) below) → BeginAt column (entry_rows l column end key node below)
 entry_begun l column end key n node below h1 h2 = search rules
 
 abbrev ChildrenBegun : ℕ → Children → List Row → Type 0
@@ -134,7 +135,8 @@ mutual
   node_stands (tree.map a (tree.child label n cs)) l column end step b h uncommented =
       rw h.0 (as_map column refl tt (children_stand (tree.child label n cs) l column end true step h.1 uncommented))
 
-  children_stand : (cs : Children) (l : Layout) (column : ℕ) (end : List ℕ) (keyed : Bool) → 1 ≤ l.mapping → AreValueTrees keyed cs → line_comment end ≡ None → AreEntryLines (keyed_level keyed column) (lines_of_rows (children_rows l column end cs)) cs
+  children_stand : (cs : Children) (l : Layout) (column : ℕ) (end : List ℕ) (keyed : Bool) → 1 ≤ l.mapping → AreValueTrees keyed cs →
+      line_comment end ≡ None → AreEntryLines (keyed_level keyed column) (lines_of_rows (children_rows l column end cs)) cs
   children_stand tree.none l column end keyed step h uncommented = no_more
   children_stand (tree.child label n cs) l column end keyed step h uncommented =
       let below : ℕ = column_below l column label.key n in

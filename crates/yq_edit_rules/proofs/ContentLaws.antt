@@ -170,7 +170,8 @@ module _ (t : List ℕ) (c : Cut) (k : ℕ) (p : Part) (front : List Row) (r : R
   spelled_new = (λ i. anchored (h.anchor_is i) (head_or (h.head_is i) null_node))
 
   -- alone on the line under a key or dash
-  pub lower_is : (s : Step) (ss : List Step) (f : FoundLine) → find s ss (part_outline p) ≡ Some (f, []) → f.line.head ≡ None → length (flatten f.under) ≡ 1 → r.mark ≡ rows.Bare → length (lines_of_rows front) + length r.dashes ≡ suc (length (lines_before f.place)) →
+  pub lower_is : (s : Step) (ss : List Step) (f : FoundLine) → find s ss (part_outline p) ≡ Some (f, []) → f.line.head ≡ None →
+      length (flatten f.under) ≡ 1 → r.mark ≡ rows.Bare → length (lines_of_rows front) + length r.dashes ≡ suc (length (lines_before f.place)) →
       MayReplace v (content_under f.line f.under) (root_of p) (length (s ∷ ss)) → IsChanged c (put_document k q c) k (lead_of p) (changed_at (s ∷ ss) (replaced_node v))
   lower_is s ss f found open' count mark number may =
       let size : length a ≡ length (lines_before f.place ++ (f.line ∷ [])) = search (rules, length-append, dashes_count) in
@@ -210,7 +211,9 @@ module _ (t : List ℕ) (c : Cut) (k : ℕ) (p : Part) (front : List Row) (r : R
       not_alias (inl e) = inl e
       not_alias (inr e) = inr (no_alias (content_anchor r.content) (head_of r.content) e.1)
 
-      node_is : f.under ≡ row x end end → line_mark r.mark ≡ outline.Bare → (f.line.anchor ≡ None) ⊎ ((content_anchor r.content ≡ None) × IsNoAlias (head_of r.content)) → content_under f.line (row l end end) ≡ replaced_node v (content_under f.line f.under)
+      node_is : f.under ≡ row x end end → line_mark r.mark ≡ outline.Bare →
+          (f.line.anchor ≡ None) ⊎ ((content_anchor r.content ≡ None) × IsNoAlias (head_of r.content)) →
+          content_under f.line (row l end end) ≡ replaced_node v (content_under f.line f.under)
       node_is alone bare takes = search (rules, alone_value, under_named, named, not_alias, spelled_new, anchored_twice)
 
   -- as a root

@@ -72,7 +72,8 @@ module _ (spaces : Option ℕ) (d : ℕ) (core : FlowNode) (rest : List ℕ) (un
   lead_again g t gap (inr h) = absurd (none_is g gap h.0)
 
   -- after an anchor
-  pub anchored_node : (n g : List ℕ) (old : FlowNode) (t : List ℕ) → is_empty_node old ≡ false → IsName n (g ++ t) → IsLead false (begins_content false) g t → (is_empty_node old || not (is_empty g)) ≡ true → IsFlowNode false spaces d (anchored n g core) rest
+  pub anchored_node : (n g : List ℕ) (old : FlowNode) (t : List ℕ) → is_empty_node old ≡ false → IsName n (g ++ t) →
+      IsLead false (begins_content false) g t → (is_empty_node old || not (is_empty g)) ≡ true → IsFlowNode false spaces d (anchored n g core) rest
   unfolding IsFlowNode node_text
   anchored_node n g old t full name lead apart_is =
       search (rules, no_empty_gap g (ap (λ b. b || not (is_empty g)) (sym full) ∙ apart_is), name_again, lead_again, or_right)

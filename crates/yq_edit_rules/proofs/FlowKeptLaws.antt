@@ -17,16 +17,21 @@ use Rattle.yq_edit_rules.proofs.ShapeLaws.{shapes_are_alike}
 
 -- ---- keys
 
-fit_items : (ss : List Step) (k : ℕ) (s : Step) (os : Items) (rest : List ℕ) (w : CollPieces) (f : FlowNode → FlowNode) → option_and_then (λ (y : EntryPieces). coll_along ss y.node y.rest) (item_at k s os rest) ≡ Some w → EachHasFitKeys os →
+fit_items : (ss : List Step) (k : ℕ) (s : Step) (os : Items) (rest : List ℕ) (w : CollPieces) (f : FlowNode → FlowNode) →
+    option_and_then (λ (y : EntryPieces). coll_along ss y.node y.rest) (item_at k s os rest) ≡ Some w → EachHasFitKeys os →
     ((node : FlowNode) (u : List ℕ) → coll_along ss node u ≡ Some w → HasFitKeys node → HasFitKeys (f node)) → EachHasFitKeys (change_item s f os)
 fit_items ss k s none rest w f e h fits = absurd (none-some _ e)
 fit_items ss k s (item key n sep os) rest w f e h fits = go (is_here s (key_label (key_content key))) (λ again. fit_items ss k (further s) os rest w f again h.2 fits) e
   where
-    go : (b : Bool) → (option_and_then (λ (y : EntryPieces). coll_along ss y.node y.rest) (item_at k (further s) os rest) ≡ Some w → EachHasFitKeys (change_item (further s) f os)) → option_and_then (λ (y : EntryPieces). coll_along ss y.node y.rest) (cond b (Some (record { key = key; node = n; rest = sep_text sep (flow_items_text k os rest) })) (item_at k (further s) os rest)) ≡ Some w →
+    go : (b : Bool) → (option_and_then (λ (y : EntryPieces). coll_along ss y.node y.rest) (item_at k (further s) os rest) ≡ Some w →
+        EachHasFitKeys (change_item (further s) f os)) →
+        option_and_then (λ (y : EntryPieces). coll_along ss y.node y.rest)
+        (cond b (Some (record { key = key; node = n; rest = sep_text sep (flow_items_text k os rest) })) (item_at k (further s) os rest)) ≡ Some w →
         EachHasFitKeys (cond b (item key (f n) sep os) (item key n sep (change_item (further s) f os)))
     go b again e = search rules
 
-fit_at : (ss : List Step) (node : FlowNode) (rest : List ℕ) (w : CollPieces) (g : List ℕ) (is : Items) → coll_along ss node rest ≡ Some w → HasFitKeys node → (EachHasFitKeys w.items → EachHasFitKeys is) → HasFitKeys (collection_put ss g is node)
+fit_at : (ss : List Step) (node : FlowNode) (rest : List ℕ) (w : CollPieces) (g : List ℕ) (is : Items) → coll_along ss node rest ≡ Some w →
+    HasFitKeys node → (EachHasFitKeys w.items → EachHasFitKeys is) → HasFitKeys (collection_put ss g is node)
 fit_at [] (coll k gap os) rest w g is e h f = f (subst (λ (x : CollPieces). EachHasFitKeys x.items) (same_Some _ _ e) h)
 fit_at [] (anchored n gap node) rest w g is e h f = fit_at [] node rest w g is e h f
 fit_at (s ∷ ss) (coll k gap os) rest w g is e h f = fit_items ss k s os rest w (collection_put ss g is) e h (λ node u found fit. fit_at ss node u w g is found fit f)

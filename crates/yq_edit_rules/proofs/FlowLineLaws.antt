@@ -43,7 +43,10 @@ Cases steps o f rest = InEntry steps o f rest ⊎ OnLine steps o f rest
 root_line : (n : ℕ) (l : Line) (u a : Outline) (f : FoundLine) (rest : List Step) → IsEven n (row l u a) → find_head [] (row l u a) ≡ Some (f, rest) → Cases [] (row l u a) f rest
 root_line n l u a f rest even e = go l.mark refl e
   where
-    go : (m : LineMark) → l.mark ≡ m → option_map {U = FoundLine × List Step} (λ g. (g, [])) (Rattle.std.proofs.Common.cond (has_no_mark m) (Some (record { place = here; line = l; under = u; after = a })) None) ≡ Some (f, rest) → Cases [] (row l u a) f rest
+    go : (m : LineMark) → l.mark ≡ m →
+        option_map {U = FoundLine × List Step} (λ g. (g, []))
+        (Rattle.std.proofs.Common.cond (has_no_mark m) (Some (record { place = here; line = l; under = u; after = a })) None) ≡ Some (f, rest) →
+        Cases [] (row l u a) f rest
     go (Key k) is e = absurd (none-some _ e)
     go Dash is e = absurd (none-some _ e)
     go Bare is e = inr (subst (λ (x : FoundLine × List Step). OnLine [] (row l u a) x.0 x.1) (same_Some _ _ e) (record {
@@ -62,7 +65,10 @@ under_line_is : (n : ℕ) (o : Outline) (s : Step) (ss : List Step) (g : FoundLi
 under_line_is n o s ss g f rest even is open' end under e = absurd (none-some _ e)
 under_line_is n o s ss g f rest even is open' (row l v a) under e = go l.mark refl e
   where
-    go : (m : LineMark) → l.mark ≡ m → option_map {U = FoundLine × List Step} (λ y. (place_inside g y, [])) (Rattle.std.proofs.Common.cond (has_no_mark m) (Some (record { place = here; line = l; under = v; after = a })) None) ≡ Some (f, rest) → Cases (s ∷ ss) o f rest
+    go : (m : LineMark) → l.mark ≡ m →
+        option_map {U = FoundLine × List Step} (λ y. (place_inside g y, []))
+        (Rattle.std.proofs.Common.cond (has_no_mark m) (Some (record { place = here; line = l; under = v; after = a })) None) ≡ Some (f, rest) →
+        Cases (s ∷ ss) o f rest
     go (Key k) mark e = absurd (none-some _ e)
     go Dash mark e = absurd (none-some _ e)
     go Bare mark e = inr (subst (λ (x : FoundLine × List Step). OnLine (s ∷ ss) o x.0 x.1) (same_Some _ _ e) (record {
@@ -84,7 +90,9 @@ head_cases n o (s ∷ ss) f rest even e = go (find s ss o) refl e
     entry : (g : FoundLine) (left : List Step) → find s ss o ≡ Some (g, left) → TakesSteps g.line → ◌≡◌ {A = Option (FoundLine × List Step)} (Some (g, left)) (Some (f, rest)) → Cases (s ∷ ss) o f rest
     entry g left is takes e = inl (subst (λ (x : FoundLine × List Step). InEntry (s ∷ ss) o x.0 x.1) (same_Some _ _ e) (record { first = s; others = ss; steps_are = refl; found = is; takes = takes }))
 
-    own : (g : FoundLine) → find s ss o ≡ Some (g, []) → (h : Option Node) → g.line.head ≡ h → in_head h (Some (g, [])) (option_map {U = FoundLine × List Step} (λ y. (place_inside g y, [])) (bare_line g.under)) ≡ Some (f, rest) → Cases (s ∷ ss) o f rest
+    own : (g : FoundLine) → find s ss o ≡ Some (g, []) → (h : Option Node) → g.line.head ≡ h →
+        in_head h (Some (g, [])) (option_map {U = FoundLine × List Step} (λ y. (place_inside g y, [])) (bare_line g.under)) ≡ Some (f, rest) →
+        Cases (s ∷ ss) o f rest
     own g is (Some m) head e = entry g [] is (inr (ap is_some head)) e
     own g is None head e = under_line_is n o s ss g f rest even is head g.under refl e
 

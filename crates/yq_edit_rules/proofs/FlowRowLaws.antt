@@ -126,7 +126,8 @@ record LineIs (p : Part) (f : FoundLine) (i : InlineRow) : Type 0 where
   is : mark_line (above_mark (head_comment i.row.gap) i.row.dashes) (mark_column i.row) i.row.mark (Inline i.space i.node i.tail) ≡ f.line
   put : (m : FlowNode) → lines_of_rows (with_node p i m).rows ≡ with_lines f (mark_line (above_mark (head_comment i.row.gap) i.row.dashes) (mark_column i.row) i.row.mark (Inline i.space m i.tail) ∷ [])
 
-line_is : (t : List ℕ) (c : Cut) (k : ℕ) (p : Part) (steps : List Step) (f : FoundLine) (rest : List Step) (i : InlineRow) (w : CollPieces) (n : tree.Node) → Known t c p → IsFlowAt c k p steps f rest i w → node_head i.node ≡ Some n → LineIs p f i
+line_is : (t : List ℕ) (c : Cut) (k : ℕ) (p : Part) (steps : List Step) (f : FoundLine) (rest : List Step) (i : InlineRow) (w : CollPieces)
+    (n : tree.Node) → Known t c p → IsFlowAt c k p steps f rest i w → node_head i.node ≡ Some n → LineIs p f i
 line_is t c k p steps f rest i w n known at head =
     let r : Row = i.row in
     let o : Outline = part_outline p in

@@ -97,7 +97,8 @@ module _ (p : Part) (front : List Row) (r : Row) (back : List Row) (rows_are : p
   next_stands (s ∷ ss) h = lower_next s ss h
 
 -- before what comes after a row's content a plain scalar ends
-pub tail_ends_plain : (n : ℤ) (tail : List ℕ) (limit : Limit) (back : List Row) (gap rest : List ℕ) → IsTail tail (rows_text back (gap ++ rest)) → AreRows limit back gap rest → allows_first (record { column = Some (deeper n) }) back ≡ true → ends_part rest ≡ true →
+pub tail_ends_plain : (n : ℤ) (tail : List ℕ) (limit : Limit) (back : List Row) (gap rest : List ℕ) → IsTail tail (rows_text back (gap ++ rest)) →
+    AreRows limit back gap rest → allows_first (record { column = Some (deeper n) }) back ≡ true → ends_part rest ≡ true →
     ends_plain false (Some (deeper n)) (tail ++ rows_text back (gap ++ rest)) ≡ true
 tail_ends_plain n tail limit back gap rest t h next e =
     (fits_by n (Inline [] (scalar []) []) tail back gap rest refl t (relimit limit (record { column = Some (deeper n) }) back gap rest next h) e).1 refl

@@ -19,7 +19,8 @@ plain_unmarked : (k t : List ℕ) → begins_marker k ≡ false → is_marker (k
 plain_unmarked k t h1 = search (rules, no_first, no_second, no_third)
 
 -- what holds of a key in both styles in which it may be written
-styled_by : (P : List ℕ → Type 0) (k : List ℕ) (plain : Bool) → can_write (string_of k) styles.Plain places.Block ≡ plain → (is_plain_text false k ≡ true → P k) → ((t : List ℕ) → P (34 ∷ t)) → P (written_scalar (cond plain styles.Plain styles.Double) k)
+styled_by : (P : List ℕ → Type 0) (k : List ℕ) (plain : Bool) → can_write (string_of k) styles.Plain places.Block ≡ plain →
+    (is_plain_text false k ≡ true → P k) → ((t : List ℕ) → P (34 ∷ t)) → P (written_scalar (cond plain styles.Plain styles.Double) k)
 styled_by P k plain h1 h2 h3 = search (rules, writable_text)
 
 key_by : (P : List ℕ → Type 0) (k : List ℕ) → (is_plain_text false k ≡ true → P k) → ((t : List ℕ) → P (34 ∷ t)) → P (block_key k)

@@ -87,7 +87,8 @@ unfolding node_text
 node_cut node = search rules
 
 -- no CR at the end of a plain scalar, before an LF
-plain_clean : (n : ℤ) (space : List ℕ) (node : FlowNode) (tail rest : List ℕ) → IsContent n (Inline space node tail) rest → pairs_returns (content_text (Inline space node tail) rest) ≡ true → front is_feed (tail ++ rest) ≡ true → ends_return (plain_text node) ≡ false
+plain_clean : (n : ℤ) (space : List ℕ) (node : FlowNode) (tail rest : List ℕ) → IsContent n (Inline space node tail) rest →
+    pairs_returns (content_text (Inline space node tail) rest) ≡ true → front is_feed (tail ++ rest) ≡ true → ends_return (plain_text node) ≡ false
 plain_clean n space node tail rest h pairs feed = go (content_joined n (Inline space node tail) rest [] [] h pairs)
   where
     go : (front is_feed (tail ++ rest) ≡ front is_feed []) ⊎ (ends_return (plain_text node) ≡ false) → ends_return (plain_text node) ≡ false

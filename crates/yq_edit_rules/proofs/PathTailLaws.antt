@@ -33,7 +33,9 @@ anchor_apart : (anchor : Option rows.Anchor) (style : BlockStyle) (t u : List �
 anchor_apart None style t u = mark_apart style t u
 anchor_apart (Some a) style t u = refl
 
-header_apart : (space : List ℕ) (anchor : Option rows.Anchor) (style : BlockStyle) (t u : List ℕ) → IsWhite space → separates (space ++ anchor_text anchor (style_indicator style ∷ t)) ≡ true → separates (space ++ anchor_text anchor (style_indicator style ∷ u)) ≡ true
+header_apart : (space : List ℕ) (anchor : Option rows.Anchor) (style : BlockStyle) (t u : List ℕ) → IsWhite space →
+    separates (space ++ anchor_text anchor (style_indicator style ∷ t)) ≡ true →
+    separates (space ++ anchor_text anchor (style_indicator style ∷ u)) ≡ true
 header_apart [] anchor style t u h e = sym (anchor_apart anchor style t u) ∙ e
 header_apart (b ∷ space) anchor style t u h e = rw h.0 refl
 
@@ -70,9 +72,13 @@ module _ (t : List ℕ) (c : Cut) (k : ℕ) (p : Part) (steps : List Step) (s : 
   behind_tail inline h =
       let all = own_rows t c k p front x.row back old there in
       let ends : ends_part (behind_document k c) ≡ true = part_ends c (part_number k c) true (document_known t c k p old).cut.parts in
-      path_line_commented t c k p steps s x front back tail old row_line_is last (record { rows_are = there; inline = inline; fits = fits_by (parent_indent x.row) x.row.content tail back p.end (behind_document k c) inline h all.1 ends }) before
+      path_line_commented t c k p steps s x front back tail old row_line_is last
+          (record { rows_are = there; inline = inline; fits =
+          fits_by (parent_indent x.row) x.row.content tail back p.end (behind_document k c) inline h all.1 ends }) before
 
-  in_header : (space : List ℕ) (anchor : Option rows.Anchor) (block : BlockText) → x.row.content ≡ Block space anchor block → Rattle.yq_core.specs.Block.is_tail tail ≡ true → Commented c k p steps s front back tail (with_content (with_header_tail tail space anchor block) x.row)
+  in_header : (space : List ℕ) (anchor : Option rows.Anchor) (block : BlockText) → x.row.content ≡ Block space anchor block →
+      Rattle.yq_core.specs.Block.is_tail tail ≡ true →
+      Commented c k p steps s front back tail (with_content (with_header_tail tail space anchor block) x.row)
   in_header space anchor block is h text =
       let l = row_line_found p.rows (line_at_steps (steps ++ (s ∷ [])) (lines_of_rows p.rows)) x row_line_is in
       let w = path_is_entry p (level_or 0 (part_outline p)) steps s l.0 (document_known t c k p old).even l.1 in

@@ -91,14 +91,18 @@ on_line limit r old ds q rs rest h seams laid =
     let limits : limit_after q ≡ limit_after new = ap (λ n. limit_behind n q.content) same in
     let alone = laid.laid unlimited refl in
     let dashes = are_dashes ds q.dashes Dash q.mark laid.entry seam.1 (omega arith, laid.entry, alone.0.dashes) in
-    let first = like_row limit r old (ds ++ 1 ∷ q.dashes) q.mark q.content t h (subst (λ (l : List ℕ). Alike (Some false) (behind_indent r old) l) joined seam.0) dashes alone.0.mark (subst (λ n. IsContent n q.content t) same alone.0.content) in
+    let first = like_row limit r old (ds ++ 1 ∷ q.dashes) q.mark q.content t h
+        (subst (λ (l : List ℕ). Alike (Some false) (behind_indent r old) l) joined seam.0) dashes alone.0.mark
+        (subst (λ n. IsContent n q.content t) same alone.0.content) in
     search (rules, first, limits, alone)
 
-upto_line : {limit : Limit} {r s : Row} {old : List ℕ} (q : Row) (rs : List Row) (rest : List ℕ) → IsRow limit r old → IsUpto s r → s.mark ≡ Dash → IsLaid (item_column (mark_column s)) q rs rest → Replaces limit (mark_column s) r old (compact_row 1 s q ∷ rs) rest
+upto_line : {limit : Limit} {r s : Row} {old : List ℕ} (q : Row) (rs : List Row) (rest : List ℕ) → IsRow limit r old → IsUpto s r → s.mark ≡ Dash →
+    IsLaid (item_column (mark_column s)) q rs rest → Replaces limit (mark_column s) r old (compact_row 1 s q ∷ rs) rest
 upto_line {limit} {old} q rs rest h (at_mark {r} entry) last laid = on_line limit r old r.dashes q rs rest h (λ u apart. dash_seam u h (at_mark entry) last apart) laid
 upto_line {limit} {old} q rs rest h (at_dash {r} {ns} n ms is) last laid = on_line limit r old ns q rs rest h (λ u apart. dash_seam u h (at_dash n ms is) last apart) laid
 
-pub behind_laid : (limit : Limit) (r s : Row) (old : List ℕ) (rs : List Row) (rest : List ℕ) → IsRow limit r old → IsUpto s r → s.mark ≡ Dash → AreLaid (item_column (mark_column s)) rs rest → Replaces limit (mark_column s) r old (compact_rows s rs) rest
+pub behind_laid : (limit : Limit) (r s : Row) (old : List ℕ) (rs : List Row) (rest : List ℕ) → IsRow limit r old → IsUpto s r → s.mark ≡ Dash →
+    AreLaid (item_column (mark_column s)) rs rest → Replaces limit (mark_column s) r old (compact_rows s rs) rest
 behind_laid limit r s old [] rest h upto last laid = absurd laid
 behind_laid limit r s old (q ∷ rs) rest h upto last laid = upto_line q rs rest h upto last laid
 

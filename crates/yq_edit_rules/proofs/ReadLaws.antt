@@ -67,7 +67,8 @@ block_all v l step b h near =
 abbrev empty_row : Layout → inline.FlowNode → Row
 empty_row l node = record { gap = []; column = 0; dashes = []; mark = rows.Bare; content = Inline [] node (break_text l.br) }
 
-empty_all : (v : tree.Node) (l : Layout) (node : inline.FlowNode) → IsHead v node → ((t : List ℕ) → is_marker (node_text node t) ≡ false) → is_plain_content node ≡ false → IsAllOf v (node_text node [] ++ break_text l.br) (empty_row l node ∷ [])
+empty_all : (v : tree.Node) (l : Layout) (node : inline.FlowNode) → IsHead v node → ((t : List ℕ) → is_marker (node_text node t) ≡ false) →
+    is_plain_content node ≡ false → IsAllOf v (node_text node [] ++ break_text l.br) (empty_row l node ∷ [])
 empty_all v l node h unmarked plain = record {
   laid = (
     record {
@@ -98,4 +99,6 @@ collection_all (tree.map a tree.none) l step c h near = (_, empty_all (tree.map 
 collection_all (tree.map a (tree.child label n cs)) l step c h near = (_, block_all (tree.map a (tree.child label n cs)) l step tt h near)
 
 pub value_read : (v : tree.Node) (l : Layout) → 1 ≤ l.mapping → IsValueTree v → ReadsAlone v (block_value l 0 v ++ break_text l.br)
-value_read v l step h root size = let all = collection_all v l step root.collection h root.near in all_read v (block_value l 0 v ++ break_text l.br) all.0 all.1 (sound_join _ (break_text l.br) (value_sound v l 0 h) (break_sound l.br)) size h root
+value_read v l step h root size = let all = collection_all v l step root.collection h root.near in
+    all_read v (block_value l 0 v ++ break_text l.br) all.0 all.1 (sound_join _ (break_text l.br) (value_sound v l 0 h) (break_sound l.br)) size h
+    root

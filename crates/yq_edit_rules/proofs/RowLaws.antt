@@ -39,7 +39,9 @@ front_is limit column m content rest allowed f c = search (rules, no_gap_here, a
 row_follows : (column c : ℕ) (node : inline.FlowNode) (end : List ℕ) → c ≤ column → allows (limit_behind (pos column) (Inline (32 ∷ []) node end)) c ≡ true
 row_follows column c node end within = search (rules, arith, lt-ltb)
 
-inline_laid : (column : ℕ) (m : RowMark) (end : List ℕ) (n : tree.Node) (node : inline.FlowNode) (rest : List ℕ) → IsFront column m (Inline (32 ∷ []) node end) rest → IsHead n node → IsEnd column end rest → AreLaid column (front_row column m (Inline (32 ∷ []) node end) ∷ []) rest
+inline_laid : (column : ℕ) (m : RowMark) (end : List ℕ) (n : tree.Node) (node : inline.FlowNode) (rest : List ℕ) →
+    IsFront column m (Inline (32 ∷ []) node end) rest → IsHead n node → IsEnd column end rest →
+    AreLaid column (front_row column m (Inline (32 ∷ []) node end) ∷ []) rest
 inline_laid column m end n node rest f h e = search (rules, front_is, pos, no_gap_here, row_follows)
 
 above_laid : (column below : ℕ) (br : Break) (k : List ℕ) (rs : List Row) (rest : List ℕ) → IsUtf8 k → IsNear (Some k) → column ≤ below → AreLaid below rs rest → AreLaid column (key_row column k (Nothing (break_text br)) ∷ rs) rest
@@ -76,11 +78,15 @@ abbrev ChildrenLaid : ℕ → Children → List Row → List ℕ → Type 0
 ChildrenLaid column tree.none rs rest = Unit {0}
 ChildrenLaid column (tree.child label n cs) rs rest = AreLaid column rs rest
 
-join : (l : Layout) (column : ℕ) (end : List ℕ) (cs : Children) (xs : List Row) (rest : List ℕ) → AreLaid column xs (rows_text (children_rows l column end cs) rest) → ChildrenLaid column cs (children_rows l column end cs) rest → AreLaid column (xs ++ children_rows l column end cs) rest
+join : (l : Layout) (column : ℕ) (end : List ℕ) (cs : Children) (xs : List Row) (rest : List ℕ) →
+    AreLaid column xs (rows_text (children_rows l column end cs) rest) → ChildrenLaid column cs (children_rows l column end cs) rest →
+    AreLaid column (xs ++ children_rows l column end cs) rest
 unfolding children_rows
 join l column end cs xs rest h1 h2 = search (rules, append-nil, laid_append)
 
-end_laid : (l : Layout) (column : ℕ) (end : List ℕ) (cs : Children) (rest : List ℕ) → IsEnd column end rest → ChildrenLaid column cs (children_rows l column end cs) rest → IsEnd column (end_of_line_before l end cs) (rows_text (children_rows l column end cs) rest)
+end_laid : (l : Layout) (column : ℕ) (end : List ℕ) (cs : Children) (rest : List ℕ) → IsEnd column end rest →
+    ChildrenLaid column cs (children_rows l column end cs) rest →
+    IsEnd column (end_of_line_before l end cs) (rows_text (children_rows l column end cs) rest)
 unfolding children_rows
 end_laid l column end tree.none rest e k = e
 end_laid l column end (tree.child label n cs) rest e k = line_ends l.br column _ (laid_line column _ rest k)

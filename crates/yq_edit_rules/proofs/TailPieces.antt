@@ -17,7 +17,9 @@ none_clean (b ∷ (d ∷ c)) rest h f = none_clean (d ∷ c) rest h.1 f
 
 pub white_piece : (w : List ℕ) → IsWhite w → IsPiece w
 white_piece [] h = nothing
-white_piece (b ∷ w) h = ⊎_elim {0, 0, 0} (λ (e : eqb b 32 ≡ true). byte_then b w (ap is_line_ascii (eqb-true b 32 e)) (white_piece w h.1)) (λ e. byte_then b w (ap is_line_ascii (eqb-true b 9 e)) (white_piece w h.1)) (or_cases (eqb b 32) (eqb b 9) h.0)
+white_piece (b ∷ w) h =
+    ⊎_elim {0, 0, 0} (λ (e : eqb b 32 ≡ true). byte_then b w (ap is_line_ascii (eqb-true b 32 e)) (white_piece w h.1))
+    (λ e. byte_then b w (ap is_line_ascii (eqb-true b 9 e)) (white_piece w h.1)) (or_cases (eqb b 32) (eqb b 9) h.0)
 
 -- What is known of the pieces of the text at the end of a line.
 pub record HasTailPieces (w : PlacedRow) (tail more : List ℕ) (h : IsTail tail more) : Type 0 where
@@ -29,7 +31,8 @@ pub record HasTailPieces (w : PlacedRow) (tail more : List ℕ) (h : IsTail tail
 front_utf8 : (a b : List ℕ) → IsPiece (a ++ b) → Rattle.yq_row_table.proofs.NodePieces.BeginsAscii b → IsUtf8 a
 front_utf8 a b h k = subst IsUtf8 (take-append_seam a b) (IsUtf8-take (a ++ b) (length a) h.utf8 (before_ascii a b k))
 
-pub pieces : (w : PlacedRow) (limit : Limit) → IsRow limit w.row w.behind → IsPiece (w.before ++ print_row w.row w.behind) → (h : IsTail (slices w.row).tail ((slices w.row).raw ++ w.behind)) → HasTailPieces w (slices w.row).tail ((slices w.row).raw ++ w.behind) h
+pub pieces : (w : PlacedRow) (limit : Limit) → IsRow limit w.row w.behind → IsPiece (w.before ++ print_row w.row w.behind) →
+    (h : IsTail (slices w.row).tail ((slices w.row).raw ++ w.behind)) → HasTailPieces w (slices w.row).tail ((slices w.row).raw ++ w.behind) h
 pieces w limit row whole h =
     let tail : List ℕ = (slices w.row).tail in
     let more : List ℕ = (slices w.row).raw ++ w.behind in

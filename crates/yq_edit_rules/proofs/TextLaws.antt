@@ -25,7 +25,9 @@ abbrev behind_text : Layout → ℕ → Children → List ℕ → List ℕ → L
 behind_text l column tree.none end rest = rest
 behind_text l column (tree.child label n cs) end rest = indented column (block_children l column (tree.child label n cs)) (end ++ rest)
 
-then_spelled : (l : Layout) (column : ℕ) (end : List ℕ) (cs : Children) (t rest : List ℕ) → indented column t (end_of_line_before l end cs ++ behind_text l column cs end rest) ≡ indented column (t ++ then_lines l column cs (block_children l column cs)) (end ++ rest)
+then_spelled : (l : Layout) (column : ℕ) (end : List ℕ) (cs : Children) (t rest : List ℕ) →
+    indented column t (end_of_line_before l end cs ++ behind_text l column cs end rest) ≡ indented column
+    (t ++ then_lines l column cs (block_children l column cs)) (end ++ rest)
 then_spelled l column end cs t rest = search (rules, append-nil, append_assoc)
 
 mutual

@@ -21,7 +21,8 @@ pub record IsWrittenFor (v : Node) (t : List ℕ) : Type 0 where
 pub style_line : (p : List ℕ) → IsOneLine (scalar_style p)
 style_line p = search rules
 
-pub scalar_for : (a : Option (List ℕ)) (s : ScalarText) (style : Style) → IsValueTree (tree.scalar a s.kind s.text) → IsOneLine style → can_write s style Block ≡ true → IsWrittenFor (tree.scalar a s.kind s.text) (written_scalar style s.text)
+pub scalar_for : (a : Option (List ℕ)) (s : ScalarText) (style : Style) → IsValueTree (tree.scalar a s.kind s.text) → IsOneLine style →
+    can_write s style Block ≡ true → IsWrittenFor (tree.scalar a s.kind s.text) (written_scalar style s.text)
 unfolding node_text
 scalar_for a s style h i can = search (rules, scalar_is a s.kind s.text style h i can, append-nil)
 

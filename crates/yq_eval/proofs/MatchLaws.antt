@@ -100,7 +100,9 @@ step_has s p qs h e = go p.missing e
     go [] e = there s e
     go (m ∷ ms) e = subst HaveScalars (gives_same e) (miss_has s p h)
 
-chain_has : {S : Type 0} (f : S → List FoundPlace → Judgement (List FoundPlace)) → ((s : S) (ps qs : List FoundPlace) → HaveScalars ps → f s ps ≡ gives qs → HaveScalars qs) → (ss : List S) (ps qs : List FoundPlace) → HaveScalars ps → chained f ss ps ≡ gives qs → HaveScalars qs
+chain_has : {S : Type 0} (f : S → List FoundPlace → Judgement (List FoundPlace)) →
+    ((s : S) (ps qs : List FoundPlace) → HaveScalars ps → f s ps ≡ gives qs → HaveScalars qs) → (ss : List S) (ps qs : List FoundPlace) →
+    HaveScalars ps → chained f ss ps ≡ gives qs → HaveScalars qs
 chain_has f so [] ps qs h e = subst HaveScalars (gives_same e) h
 chain_has f so (s ∷ ss) ps qs h e =
     let x = then_gives (chained f ss) (f s ps) qs e in chain_has f so ss x.0 qs (so s ps x.0 h x.1) x.2

@@ -220,7 +220,8 @@ module _ (root : Node) (x : List Step) where
   added_alike (tree.map anchor cs) free (maps {a} {b} {l} {m} {n} {o} {cs = xs} {ds = ys}) h = adds_alike cs l m n o xs ys (λ bs. none_overwritten (free refl) (additions cs bs)) h.fit h.short h.deep
 
 module _ (root : Node) (p : FoundPlace) where
-  add_further : (ms : List PathStep) {v w : Node} → (is_mapping v ≡ true → HaveNoAlias (names_of root)) → AreOneKind v w → IsStandIn v w → verdict (and_then (all_allowed root) (add_below ms p v)) ≡ verdict (and_then (all_allowed root) (add_below ms p w))
+  add_further : (ms : List PathStep) {v w : Node} → (is_mapping v ≡ true → HaveNoAlias (names_of root)) → AreOneKind v w → IsStandIn v w →
+      verdict (and_then (all_allowed root) (add_below ms p v)) ≡ verdict (and_then (all_allowed root) (add_below ms p w))
   add_further [] free k h = added_alike root p.path p.node free k h
   add_further (m ∷ ms) {v} {w} free k h = put_alike root p v w h
 

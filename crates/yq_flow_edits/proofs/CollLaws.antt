@@ -53,7 +53,8 @@ lead_open flow g k t u some (inl h) = inl (apart_open flow g k t u h.0, open_beg
 lead_open flow g k t u some (inr h) = absurd (false≢true (sym (ap (λ (l : List ℕ). not (is_empty l)) h.0) ∙ some))
 
 -- the collection of a node
-pub coll_stands : (flow : Bool) (spaces : Option ℕ) (d : ℕ) (node : FlowNode) (rest : List ℕ) (c : CollPieces) → IsFlowNode flow spaces d node rest → coll_in node rest ≡ Some c → Stands flow spaces d node rest c 0 (λ g is. put_coll g is node) within
+pub coll_stands : (flow : Bool) (spaces : Option ℕ) (d : ℕ) (node : FlowNode) (rest : List ℕ) (c : CollPieces) → IsFlowNode flow spaces d node rest →
+    coll_in node rest ≡ Some c → Stands flow spaces d node rest c 0 (λ g is. put_coll g is node) within
 unfolding node_text IsFlowNode tree_of
 coll_stands flow spaces d empty rest c x h = cc
 coll_stands flow spaces d (alias n) rest c x h = cc
@@ -80,7 +81,9 @@ coll_stands flow spaces d (anchored n g (alias m)) rest c x h = cc
 coll_stands flow spaces d (anchored n g (scalar p)) rest c x h = cc
 coll_stands flow spaces d (anchored n g (anchored m q node)) rest c x h = absurd (false≢true x.3)
 coll_stands flow spaces zero (anchored n g (coll k q is)) rest c x h = absurd x.4.2
-coll_stands flow spaces (suc d) (anchored n g (coll k q is)) rest c x h = subst (λ (c : CollPieces). Stands flow spaces (suc d) (anchored n g (coll k q is)) rest c 0 (λ g2 is2. anchored n g (coll k g2 is2)) within) (same_Some _ _ h) (record {
+coll_stands flow spaces (suc d) (anchored n g (coll k q is)) rest c x h =
+    subst (λ (c : CollPieces). Stands flow spaces (suc d) (anchored n g (coll k q is)) rest c 0 (λ g2 is2. anchored n g (coll k g2 is2)) within)
+    (same_Some _ _ h) (record {
   inner_depth = d;
   depths = omega arith;
   closes = x.4.0;
@@ -90,7 +93,9 @@ coll_stands flow spaces (suc d) (anchored n g (coll k q is)) rest c x h = subst 
   text = ap (λ l. 38 ∷ l) (sym (append_assoc n g (coll_text k q is rest)));
   some = refl;
   longer = omega arith;
-  new = λ g2 is2 gap are. (name_open n g k (q ++ flow_items_text k is rest) (g2 ++ flow_items_text k is2 rest) x.0, lead_open flow g k (q ++ flow_items_text k is rest) (g2 ++ flow_items_text k is2 rest) x.2 x.1, x.2, x.3, (x.4.0, gap, are));
+  new = λ g2 is2 gap are.
+      (name_open n g k (q ++ flow_items_text k is rest) (g2 ++ flow_items_text k is2 rest) x.0,
+      lead_open flow g k (q ++ flow_items_text k is rest) (g2 ++ flow_items_text k is2 rest) x.2 x.1, x.2, x.3, (x.4.0, gap, are));
   new_text = λ g2 is2. ap (λ l. 38 ∷ l) (sym (append_assoc n g (coll_text k g2 is2 rest)));
   new_some = λ g2 is2. refl;
   like = λ g2 is2. stop refl;

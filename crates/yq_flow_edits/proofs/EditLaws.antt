@@ -22,7 +22,9 @@ pub room_is : (x : CollAt) (s : Around x) → room_in x ≡ s.inner_depth
 room_is x s = omega (arith, s.depths)
 
 -- its edit is one of the node
-pub edited : (x : CollAt) (e : FlowEdit) (h : tree.Children → tree.Children) → (s : Around x) → IsInlineGap e.gap (flow_items_text x.coll.close e.items x.coll.rest) → AreFlowItems s.inner_depth x.coll.close e.items x.coll.rest → items_tree e.items ≡ h (items_tree x.coll.items) →
+pub edited : (x : CollAt) (e : FlowEdit) (h : tree.Children → tree.Children) → (s : Around x) →
+    IsInlineGap e.gap (flow_items_text x.coll.close e.items x.coll.rest) → AreFlowItems s.inner_depth x.coll.close e.items x.coll.rest →
+    items_tree e.items ≡ h (items_tree x.coll.items) →
     Becomes (coll_text x.coll.close x.coll.gap x.coll.items x.coll.rest) (coll_text x.coll.close e.gap e.items x.coll.rest) e.old (e.lead ++ e.written) e.behind → IsFlowEdited x e (changed_at x.steps (within h))
 edited x e h s gap are same text = record {
   inline = record {
@@ -34,15 +36,20 @@ edited x e h s gap are same text = record {
 }
 
 -- after the opening bracket
-pub opened : (k : ℕ) (g h : List ℕ) (is new : Items) (rest old fresh_ behind : List ℕ) → Becomes (g ++ flow_items_text k is rest) (h ++ flow_items_text k new rest) old fresh_ behind → Becomes (coll_text k g is rest) (coll_text k h new rest) old fresh_ behind
+pub opened : (k : ℕ) (g h : List ℕ) (is new : Items) (rest old fresh_ behind : List ℕ) →
+    Becomes (g ++ flow_items_text k is rest) (h ++ flow_items_text k new rest) old fresh_ behind →
+    Becomes (coll_text k g is rest) (coll_text k h new rest) old fresh_ behind
 opened k g h is new rest old fresh_ behind t = put_before (opening_bracket k ∷ []) _ _ old fresh_ behind t
 
 -- after the gap too
-pub behind_gap : (k : ℕ) (g : List ℕ) (is new : Items) (rest old fresh_ behind : List ℕ) → Becomes (flow_items_text k is rest) (flow_items_text k new rest) old fresh_ behind → Becomes (coll_text k g is rest) (coll_text k g new rest) old fresh_ behind
+pub behind_gap : (k : ℕ) (g : List ℕ) (is new : Items) (rest old fresh_ behind : List ℕ) →
+    Becomes (flow_items_text k is rest) (flow_items_text k new rest) old fresh_ behind →
+    Becomes (coll_text k g is rest) (coll_text k g new rest) old fresh_ behind
 behind_gap k g is new rest old fresh_ behind t = opened k g g is new rest old fresh_ behind (put_before g _ _ old fresh_ behind t)
 
 -- a node replaced
-pub replaced : (x : CollAt) (s : Step) (y : EntryPieces) (m : FlowNode) → IsCollAt x → item_in s x ≡ Some y → FitsNode (room_in x) m y.rest → IsFlowEdited x (replacing s y m x.coll) (changed_at x.steps (within (change_child s (put_value (tree_of m)))))
+pub replaced : (x : CollAt) (s : Step) (y : EntryPieces) (m : FlowNode) → IsCollAt x → item_in s x ≡ Some y → FitsNode (room_in x) m y.rest →
+    IsFlowEdited x (replacing s y m x.coll) (changed_at x.steps (within (change_child s (put_value (tree_of m)))))
 replaced x s y m h found fits =
     let c = x.coll in
     let i = around_is x h in
@@ -74,7 +81,8 @@ added d k key m gap (item j n sep is) rest c front a f =
     record { front = l.front gap front; are = l.are; tree = l.tree; text = put_before gap _ _ [] (44 ∷ (32 ∷ key_text key (node_text m []))) (behind_last k gap (item j n sep is) rest) l.text }
 
 -- an item or entry more
-pub appended : (x : CollAt) (key : Key) (m : FlowNode) → IsCollAt x → FitsItem (room_in x) x.coll.close key m (behind_appended x.coll) → IsFlowEdited x (appending key m x.coll) (changed_at x.steps (within (append_child (key_label (key_content key)) (tree_of m))))
+pub appended : (x : CollAt) (key : Key) (m : FlowNode) → IsCollAt x → FitsItem (room_in x) x.coll.close key m (behind_appended x.coll) →
+    IsFlowEdited x (appending key m x.coll) (changed_at x.steps (within (append_child (key_label (key_content key)) (tree_of m))))
 appended x key m h fits =
     let c = x.coll in
     let i = around_is x h in

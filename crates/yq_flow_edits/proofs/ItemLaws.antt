@@ -39,14 +39,16 @@ keeps_node f (keyed p b g) n t u h =
     let q = keeps_append b (fresh f p) (58 ∷ (g ++ node_text n [])) t u a in
     (fresh false g, keeps_append g false (node_text n []) t u q.2)
 
-pub item_keeps : (d k : ℕ) (f : Bool) (key : Key) (n : FlowNode) (t u : List ℕ) → is_close k ≡ true → EndsItem k t → EndsItem k u → KeepsApart f (key_text key (node_text n [])) t u → IsInlineKey k key (node_text n t) → IsFlowNode true (Some 0) d n t → ItemStands d k key n u
+pub item_keeps : (d k : ℕ) (f : Bool) (key : Key) (n : FlowNode) (t u : List ℕ) → is_close k ≡ true → EndsItem k t → EndsItem k u →
+    KeepsApart f (key_text key (node_text n [])) t u → IsInlineKey k key (node_text n t) → IsFlowNode true (Some 0) d n t → ItemStands d k key n u
 item_keeps d k f key n t u c e h keeps x y =
     let inner_ = keeps_node f key n t u keeps in
     let node = node_keeps k n d inner_.0 t u c e h inner_.1 y in
     record { key_is = key_keeps k d f key n t u c e h keeps y node x; node_is = node }
 
 -- an item's text begins as a node
-pub item_begins : (d k : ℕ) (key : Key) (n : FlowNode) (r : List ℕ) → IsInlineKey k key (node_text n r) → (is_keyed key || not (is_empty_node n)) ≡ true → IsFlowNode true (Some 0) d n r → begins_node true (key_text key (node_text n r)) ≡ true
+pub item_begins : (d k : ℕ) (key : Key) (n : FlowNode) (r : List ℕ) → IsInlineKey k key (node_text n r) →
+    (is_keyed key || not (is_empty_node n)) ≡ true → IsFlowNode true (Some 0) d n r → begins_node true (key_text key (node_text n r)) ≡ true
 item_begins d k key n r h1 h2 h3 = search (rules, some_begins, not-true, or_right, scalar_begins)
 
 -- bytes before an item's text
@@ -139,7 +141,9 @@ marks_own t rest h1 = search (rules, and-false)
 byte_on : (b : ℕ) (t u : List ℕ) → (is_return b && front is_feed u) ≡ false → is_space (b ∷ t) ≡ false → is_space (b ∷ u) ≡ false
 byte_on b t u r h = let x = or_parts (is_white b) (is_feed b || (is_return b && front is_feed t)) h in let y = or_parts (is_feed b) (is_return b && front is_feed t) x.1 in rw (x.0, y.0, r) refl
 
-marker_on : (line : Bool) (b : ℕ) (p t u : List ℕ) → Unmarked u → ((line && is_marks (b ∷ p)) && separates u) ≡ false → ((e : ℕ) → (ends_return (e ∷ []) && front is_feed u) ≡ false → is_space (e ∷ t) ≡ false → is_space (e ∷ u) ≡ false) → (ends_return (b ∷ p) && front is_feed u) ≡ false →
+marker_on : (line : Bool) (b : ℕ) (p t u : List ℕ) → Unmarked u → ((line && is_marks (b ∷ p)) && separates u) ≡ false →
+    ((e : ℕ) → (ends_return (e ∷ []) && front is_feed u) ≡ false → is_space (e ∷ t) ≡ false → is_space (e ∷ u) ≡ false) →
+    (ends_return (b ∷ p) && front is_feed u) ≡ false →
     line ≡ true → is_marker (b ∷ (p ++ t)) ≡ false → is_marker (b ∷ (p ++ u)) ≡ false
 marker_on line b [] t [] m n on r l h = refl
 marker_on line b [] t (x ∷ u) m n on r l h = no_second b x u m.dash m.dot
@@ -183,7 +187,8 @@ item_some d k (keyed [] b g) n t h s x = absurd (omega (arith, scalar_some true 
 item_some d k (keyed (a ∷ p) b g) n t h s x = (a, (p ++ (b ++ (58 ∷ (g ++ node_text n []))), refl))
 
 -- a gap before an item
-pub gap_before : (d k : ℕ) (key : Key) (n : FlowNode) (t u q : List ℕ) → IsInlineKey k key (node_text n t) → (is_keyed key || not (is_empty_node n)) ≡ true → IsFlowNode true (Some 0) d n t → KeepsApart (fresh false q) (key_text key (node_text n [])) t u →
+pub gap_before : (d k : ℕ) (key : Key) (n : FlowNode) (t u q : List ℕ) → IsInlineKey k key (node_text n t) →
+    (is_keyed key || not (is_empty_node n)) ≡ true → IsFlowNode true (Some 0) d n t → KeepsApart (fresh false q) (key_text key (node_text n [])) t u →
     IsInlineGap q (key_text key (node_text n t)) → IsInlineGap q (key_text key (node_text n u))
 gap_before d k key n t u q h s x keeps gap =
     let cut : (z : List ℕ) → key_text key (node_text n z) ≡ key_text key (node_text n []) ++ z = λ z. ap (key_text key) (node_then n z) ∙ key_append key (node_text n []) z in

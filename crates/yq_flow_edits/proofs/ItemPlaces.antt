@@ -51,7 +51,9 @@ pub item_rest : (k : ℕ) (s : Step) (is : Items) (rest : List ℕ) (y : EntryPi
 item_rest k s none rest y e = absurd (none-some _ e)
 item_rest k s (item key n sep is) rest y e = go (item_rest k (further s) is rest y) (is_here s (key_label (key_content key))) e
   where
-    go : (item_at k (further s) is rest ≡ Some y → length rest ≤ length y.rest) → (b : Bool) → cond b (Some (record { key = key; node = n; rest = sep_text sep (flow_items_text k is rest) })) (item_at k (further s) is rest) ≡ Some y → length rest ≤ length y.rest
+    go : (item_at k (further s) is rest ≡ Some y → length rest ≤ length y.rest) → (b : Bool) →
+        cond b (Some (record { key = key; node = n; rest = sep_text sep (flow_items_text k is rest) })) (item_at k (further s) is rest) ≡ Some y →
+        length rest ≤ length y.rest
     go again true e = subst (λ (z : EntryPieces). length rest ≤ length z.rest) (same_Some _ _ e) (omega (arith, sep_longer sep (flow_items_text k is rest), items_longer k is rest))
     go again false e = again e
 

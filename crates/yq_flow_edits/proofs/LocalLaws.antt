@@ -97,11 +97,14 @@ coll_no_anchor : (k : ℕ) (cs : tree.Children) → anchor_of (tree_collection k
 coll_no_anchor k cs = elim (eqb k 125) as (λ c. anchor_of (cond c (tree.map None cs) (tree.list None cs)) ≡ None) [ true ↦ refl | false ↦ refl ]
 
 -- in the place of a node that is something, without an anchor
-filled_by : (d k : ℕ) (m : FlowNode) (key : Key) (n : FlowNode) (rest : List ℕ) → is_empty_node n ≡ false → FitsNode d m rest → IsInlineKey k key (node_text n rest) → IsFlowNode true (Some 0) d n rest → IsInlineKey k key (node_text m rest) × Front (key_text key (node_text n rest)) (key_text key (node_text m rest))
+filled_by : (d k : ℕ) (m : FlowNode) (key : Key) (n : FlowNode) (rest : List ℕ) → is_empty_node n ≡ false → FitsNode d m rest →
+    IsInlineKey k key (node_text n rest) → IsFlowNode true (Some 0) d n rest → IsInlineKey k key (node_text m rest)
+    × Front (key_text key (node_text n rest)) (key_text key (node_text m rest))
 filled_by d k m key n rest some f h x = refit k key (node_text n rest) (node_text m rest) (some_begins true (Some 0) d n rest some x) (some_begins true (Some 0) d m rest f.some f.is) f.unmarked h
 
 -- in the place of a node that is something, after an anchor
-anchored_filled : (d k : ℕ) (m : FlowNode) (key : Key) (n g : List ℕ) (node : FlowNode) (rest : List ℕ) → is_empty_node node ≡ false → takes_anchor node ≡ true → tree_of (anchored n g m) ≡ put_value (tree_of m) (tree_of (anchored n g node)) → FitsNode d m rest →
+anchored_filled : (d k : ℕ) (m : FlowNode) (key : Key) (n g : List ℕ) (node : FlowNode) (rest : List ℕ) → is_empty_node node ≡ false →
+    takes_anchor node ≡ true → tree_of (anchored n g m) ≡ put_value (tree_of m) (tree_of (anchored n g node)) → FitsNode d m rest →
     IsInlineKey k key (node_text (anchored n g node) rest) → IsFlowNode true (Some 0) d (anchored n g node) rest → Filled d k m key (anchored n g node) rest key (anchored n g m)
 unfolding node_text IsFlowNode
 anchored_filled d k m key n g node rest some takes tree f h x =
@@ -129,9 +132,12 @@ anchored_filled d k m key n g node rest some takes tree f h x =
 spaced : (k : ℕ) (p b x y : List ℕ) → is_close k ≡ true → begins_node true x ≡ false → begins_node true y ≡ true → is_safe true x ≡ false → IsInlineKey k (keyed p b []) x → IsInlineKey k (keyed p b (32 ∷ [])) y
 spaced k p b x y c bx by unsafe h =
     let like : Alike (Some true) (58 ∷ x) (58 ∷ (32 ∷ y)) = colon unsafe refl in
-    (h.0, scalar_alike true None p (b ++ (58 ∷ x)) (b ++ (58 ∷ (32 ∷ y))) (alike_append (Some true) b (58 ∷ x) (58 ∷ (32 ∷ y)) like) h.1, gap_alike (Some true) b (58 ∷ x) (58 ∷ (32 ∷ y)) like h.2, or-true (is_quoted p), inl (space_before y by, by))
+    (h.0, scalar_alike true None p (b ++ (58 ∷ x)) (b ++ (58 ∷ (32 ∷ y))) (alike_append (Some true) b (58 ∷ x) (58 ∷ (32 ∷ y)) like) h.1,
+        gap_alike (Some true) b (58 ∷ x) (58 ∷ (32 ∷ y)) like h.2, or-true (is_quoted p), inl (space_before y by, by))
 
-pub filled : (d k : ℕ) (m : FlowNode) (key : Key) (n : FlowNode) (rest : List ℕ) → is_close k ≡ true → EndsItem k rest → FitsNode d m rest → IsInlineKey k key (node_text n rest) → (is_keyed key || not (is_empty_node n)) ≡ true → IsFlowNode true (Some 0) d n rest → Filled d k m key n rest (put_content m key n).0 (put_content m key n).1
+pub filled : (d k : ℕ) (m : FlowNode) (key : Key) (n : FlowNode) (rest : List ℕ) → is_close k ≡ true → EndsItem k rest → FitsNode d m rest →
+    IsInlineKey k key (node_text n rest) → (is_keyed key || not (is_empty_node n)) ≡ true → IsFlowNode true (Some 0) d n rest →
+    Filled d k m key n rest (put_content m key n).0 (put_content m key n).1
 unfolding node_text IsFlowNode tree_of
 filled d k m bare empty rest c e f h s x = absurd (false≢true s)
 filled d k m (keyed p b g) empty rest c e f h s x =
@@ -157,7 +163,8 @@ filled d k m key (alias n) rest c e f h s x = let y = filled_by d k m key (alias
 filled d k m key (scalar p) rest c e f h s x = let y = filled_by d k m key (scalar p) rest refl f h x in
     record { key_is = y.0; some = rw f.some (or-true (is_keyed key)); node_is = f.is; front = y.1; text = swap_text key (scalar p) m rest; tree = refl; label = refl }
 filled d k m key (coll j g is) rest c e f h s x = let y = filled_by d k m key (coll j g is) rest refl f h x in
-    record { key_is = y.0; some = rw f.some (or-true (is_keyed key)); node_is = f.is; front = y.1; text = swap_text key (coll j g is) m rest; tree = ap (λ (a : Option (List ℕ)). with_anchor_name a (tree_of m)) (sym (coll_no_anchor j (items_tree is))); label = refl }
+    record { key_is = y.0; some = rw f.some (or-true (is_keyed key)); node_is = f.is; front = y.1; text = swap_text key (coll j g is) m rest; tree =
+        ap (λ (a : Option (List ℕ)). with_anchor_name a (tree_of m)) (sym (coll_no_anchor j (items_tree is))); label = refl }
 filled d k m key (anchored n g empty) rest c e f h s x =
     let nothing : g ≡ [] = lead_none (begins_content true) g rest x.4.0 x.1 in
     let new : List ℕ = node_text m rest in

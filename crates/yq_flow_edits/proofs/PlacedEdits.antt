@@ -33,7 +33,8 @@ content_edited flow spaces d total (anchored n g (scalar p)) rest h = ap (λ l. 
 content_edited flow spaces d total (anchored n g (coll k q is)) rest h = coll_placed total k (node_text (coll k q is) rest) rest _ _ refl ∙ ap (λ l. old_edit total l rest) (node_then (coll k q is) rest)
 content_edited flow spaces d total (anchored n g (anchored m q node)) rest h = absurd (false≢true h.3)
 
-pub replace_placed : (flow : Bool) (spaces : Option ℕ) (d total : ℕ) (s : Step) (y : EntryPieces) (m : FlowNode) (c : CollPieces) → IsFlowNode flow spaces d y.node y.rest → replace_place (locate total y.node y.rest) ≡ place_edit total (replacing s y m c)
+pub replace_placed : (flow : Bool) (spaces : Option ℕ) (d total : ℕ) (s : Step) (y : EntryPieces) (m : FlowNode) (c : CollPieces) →
+    IsFlowNode flow spaces d y.node y.rest → replace_place (locate total y.node y.rest) ≡ place_edit total (replacing s y m c)
 unfolding content_edit
 replace_placed flow spaces d total s y m c h = content_edited flow spaces d total y.node y.rest h
 
@@ -62,7 +63,9 @@ anchor_length [] [] t = omega arith
 anchor_length [] (b ∷ g) t = let more = anchor_length [] g t in omega arith
 anchor_length (b ∷ n) g t = let more = anchor_length n g t in omega arith
 
-pub append_placed : (total : ℕ) (node : FlowNode) (rest : List ℕ) (c : CollPieces) (key : Key) (m : FlowNode) → length (node_text node rest) ≤ total → coll_in node rest ≡ Some c → append_place (locate total node rest) ≡ Some (place_edit total (appending key m c))
+pub append_placed : (total : ℕ) (node : FlowNode) (rest : List ℕ) (c : CollPieces) (key : Key) (m : FlowNode) →
+    length (node_text node rest) ≤ total → coll_in node rest ≡ Some c →
+    append_place (locate total node rest) ≡ Some (place_edit total (appending key m c))
 unfolding locate locate_items node_text flow_items_text
 append_placed total empty rest c key m h at = cc
 append_placed total (alias n) rest c key m h at = cc

@@ -69,7 +69,8 @@ record Left (d k : ℕ) (s : Step) (g : List ℕ) (is : Items) (rest : List ℕ)
   whole : (x b : List ℕ) → x ++ (g ++ flow_items_text k is rest) ≡ b ++ (e.old ++ e.behind) → Whole b (e.old ++ e.behind)
 
 -- up to the next one
-before_left : (d k : ℕ) (s : Step) (g : List ℕ) (key : Key) (n : FlowNode) (sep : Sep) (is : Items) (rest : List ℕ) (e : FlowEdit) → is_close k ≡ true → is_here s (key_label (key_content key)) ≡ true → IsInlineGap g (flow_items_text k (item key n sep is) rest) →
+before_left : (d k : ℕ) (s : Step) (g : List ℕ) (key : Key) (n : FlowNode) (sep : Sep) (is : Items) (rest : List ℕ) (e : FlowEdit) →
+    is_close k ≡ true → is_here s (key_label (key_content key)) ≡ true → IsInlineGap g (flow_items_text k (item key n sep is) rest) →
     AreFlowItems d k (item key n sep is) rest → before_next k rest g key n sep is ≡ Some e → Left d k s g (item key n sep is) rest e
 unfolding flow_items_text AreFlowItems items_tree
 before_left d k s g key n sep none rest e c here gap a at = absurd (none-some _ at)
@@ -90,7 +91,9 @@ before_left d k s g key n sep (item key2 n2 sep2 is) rest e c here gap a at =
 
 -- the item after another one, where that has another separator
 last_left : (d k : ℕ) (s : Step) (g : List ℕ) (key : Key) (n : FlowNode) (sep : Sep) (key2 : Key) (n2 : FlowNode) (sep2 left : Sep) (rest old lead behind_ : List ℕ) → is_close k ≡ true →
-    is_here s (key_label (key_content key)) ≡ false → is_here (further s) (key_label (key_content key2)) ≡ true → IsInlineGap g (flow_items_text k (item key n sep (item key2 n2 sep2 none)) rest) → AreFlowItems d k (item key n sep (item key2 n2 sep2 none)) rest →
+    is_here s (key_label (key_content key)) ≡ false → is_here (further s) (key_label (key_content key2)) ≡ true →
+        IsInlineGap g (flow_items_text k (item key n sep (item key2 n2 sep2 none)) rest) →
+        AreFlowItems d k (item key n sep (item key2 n2 sep2 none)) rest →
     ends_return (key_text key (node_text n [])) ≡ false → IsSep k left (k ∷ rest) → IsApartFrom (fresh false g) (key_text key (node_text n [])) (sep_text left (k ∷ rest)) → LastBytes k rest sep key2 n2 sep2 left old lead behind_ →
     Left d k s g (item key n sep (item key2 n2 sep2 none)) rest (record { gap = g; items = item key n left none; old = old; lead = lead; written = []; behind = behind_ })
 unfolding flow_items_text AreFlowItems items_tree
@@ -112,7 +115,8 @@ last_left d k s g key n sep key2 n2 sep2 left rest old lead behind_ c here there
           whole_by b (old ++ behind_) (ap ends_return (append_cancel_right b ((z ++ g) ++ own) (old ++ behind_) (sym same ∙ cut)) ∙ (return_some (z ++ g) own some ∙ ends));
     }
 
-last_of : (d k : ℕ) (s : Step) (g : List ℕ) (key : Key) (n : FlowNode) (sep : Sep) (is : Items) (rest : List ℕ) (e : FlowEdit) → is_close k ≡ true → is_here s (key_label (key_content key)) ≡ false → ends_return (key_text key (node_text n [])) ≡ false →
+last_of : (d k : ℕ) (s : Step) (g : List ℕ) (key : Key) (n : FlowNode) (sep : Sep) (is : Items) (rest : List ℕ) (e : FlowEdit) → is_close k ≡ true →
+    is_here s (key_label (key_content key)) ≡ false → ends_return (key_text key (node_text n [])) ≡ false →
     IsInlineGap g (flow_items_text k (item key n sep is) rest) → AreFlowItems d k (item key n sep is) rest → last_out k rest (further s) g key n sep is ≡ Some e → Left d k s g (item key n sep is) rest e
 unfolding flow_items_text AreFlowItems
 last_of d k s g key n sep none rest e c here ends gap a at = absurd (none-some _ at)
@@ -124,12 +128,18 @@ last_of d k s g key n sep (item key2 n2 sep2 none) rest e c here ends gap a at =
   comma_is : (h : List ℕ) → IsInlineGap h (k ∷ rest) → IsSep k (comma [] h) (k ∷ rest)
   comma_is h gap = (none_gap (44 ∷ (h ++ (k ∷ rest))) refl, gap)
 
-  marked : (there : is_here (further s) (key_label (key_content key2)) ≡ true) (sep2 : Sep) → IsSep k sep2 (k ∷ rest) → IsInlineGap g (flow_items_text k (item key n sep (item key2 n2 sep2 none)) rest) → AreFlowItems d k (item key n sep (item key2 n2 sep2 none)) rest →
+  marked : (there : is_here (further s) (key_label (key_content key2)) ≡ true) (sep2 : Sep) → IsSep k sep2 (k ∷ rest) →
+      IsInlineGap g (flow_items_text k (item key n sep (item key2 n2 sep2 none)) rest) →
+      AreFlowItems d k (item key n sep (item key2 n2 sep2 none)) rest →
       Left d k s g (item key n sep (item key2 n2 sep2 none)) rest (comma_left k rest g key n sep key2 n2 sep2)
   marked there (last b) h gap a = last_left d k s g key n sep key2 n2 (last b) (comma [] b) rest _ _ _ c here there gap a ends (comma_is b h.0) (comma_apart (fresh false g) own (b ++ (k ∷ rest))) (comma_new_bytes k rest sep key2 n2 b)
-  marked there (comma b q) h gap a = last_left d k s g key n sep key2 n2 (comma b q) (comma [] q) rest _ _ _ c here there gap a ends (comma_is q h.1) (comma_apart (fresh false g) own (q ++ (k ∷ rest))) (comma_old_bytes k rest sep key2 n2 b q)
+  marked there (comma b q) h gap a =
+      last_left d k s g key n sep key2 n2 (comma b q) (comma [] q) rest _ _ _ c here there gap a ends (comma_is q h.1)
+      (comma_apart (fresh false g) own (q ++ (k ∷ rest))) (comma_old_bytes k rest sep key2 n2 b q)
 
-  one : is_here (further s) (key_label (key_content key2)) ≡ true → (m : Bool) → ends_marked (fresh false g) own ≡ m → Left d k s g (item key n sep (item key2 n2 sep2 none)) rest (cond m (comma_left k rest g key n sep key2 n2 sep2) (last_gone k rest g key n sep key2 n2 sep2))
+  one : is_here (further s) (key_label (key_content key2)) ≡ true → (m : Bool) → ends_marked (fresh false g) own ≡ m →
+      Left d k s g (item key n sep (item key2 n2 sep2 none)) rest
+      (cond m (comma_left k rest g key n sep key2 n2 sep2) (last_gone k rest g key n sep key2 n2 sep2))
   one there true is = marked there sep2 a.4.3 gap a
   one there false is = last_left d k s g key n sep key2 n2 sep2 sep2 rest _ _ _ c here there gap a ends a.4.3 (record { unmarked = rw is refl; unbroken = rw ends refl }) (gone_bytes k rest sep key2 n2 sep2)
 
@@ -139,7 +149,9 @@ last_of d k s g key n sep (item key2 n2 sep2 none) rest e c here ends gap a at =
 
 -- one of the items after another one
 behind_left : (d k : ℕ) (s : Step) (g : List ℕ) (key : Key) (n : FlowNode) (sep : Sep) (is : Items) (rest : List ℕ) (e : FlowEdit) → is_close k ≡ true → is_here s (key_label (key_content key)) ≡ false →
-    IsInlineGap g (flow_items_text k (item key n sep is) rest) → AreFlowItems d k (item key n sep is) rest → removing_from k rest (further s) (gap_of sep) is ≡ Some e → (IsInlineGap (gap_of sep) (flow_items_text k is rest) → Left d k (further s) (gap_of sep) is rest e) →
+    IsInlineGap g (flow_items_text k (item key n sep is) rest) → AreFlowItems d k (item key n sep is) rest →
+        removing_from k rest (further s) (gap_of sep) is ≡ Some e →
+        (IsInlineGap (gap_of sep) (flow_items_text k is rest) → Left d k (further s) (gap_of sep) is rest e) →
     Left d k s g (item key n sep is) rest (edit_from_item g key n sep e)
 unfolding flow_items_text AreFlowItems items_tree
 behind_left d k s g key n sep none rest e c here gap a at l = absurd (none-some _ at)
@@ -161,7 +173,9 @@ behind_left d k s g key n (comma b q) (item key2 n2 sep2 is) rest e c here gap a
       whole = λ z w same. x.whole (z ++ f) w (append_assoc z f (q ++ t) ∙ (ap (λ l. z ++ l) (sym (behind_cut g key n (comma b q) t)) ∙ same));
     }
 
-left : (d k : ℕ) (s : Step) (g : List ℕ) (is : Items) (rest : List ℕ) (e : FlowEdit) → is_close k ≡ true → pairs_returns (flow_items_text k is rest) ≡ true → IsInlineGap g (flow_items_text k is rest) → AreFlowItems d k is rest → removing_from k rest s g is ≡ Some e →
+left : (d k : ℕ) (s : Step) (g : List ℕ) (is : Items) (rest : List ℕ) (e : FlowEdit) → is_close k ≡ true →
+    pairs_returns (flow_items_text k is rest) ≡ true → IsInlineGap g (flow_items_text k is rest) → AreFlowItems d k is rest →
+    removing_from k rest s g is ≡ Some e →
     Left d k s g is rest e
 unfolding flow_items_text AreFlowItems
 left d k s g none rest e c pairs gap a at = absurd (none-some _ at)
@@ -175,15 +189,22 @@ left d k s g (item key n sep is) rest e c pairs gap a at = go (is_here s (key_la
   further_pairs : pairs_returns t ≡ true
   further_pairs = pairs_behind (key_text key (node_text n (sep_text sep []))) t (subst (λ (l : List ℕ). pairs_returns l ≡ true) (item_cut key n sep t) pairs)
 
-  other : is_here s (key_label (key_content key)) ≡ false → ((x : FlowEdit) → pairs_returns (flow_items_text k is rest) ≡ true → IsInlineGap (gap_of sep) (flow_items_text k is rest) → removing_from k rest (further s) (gap_of sep) is ≡ Some x → Left d k (further s) (gap_of sep) is rest x) →
+  other : is_here s (key_label (key_content key)) ≡ false →
+      ((x : FlowEdit) → pairs_returns (flow_items_text k is rest) ≡ true → IsInlineGap (gap_of sep) (flow_items_text k is rest) →
+      removing_from k rest (further s) (gap_of sep) is ≡ Some x → Left d k (further s) (gap_of sep) is rest x) →
       (last_out k rest (further s) g key n sep is ≡ Some e) ⊎ (option_map (edit_from_item g key n sep) (removing_from k rest (further s) (gap_of sep) is) ≡ Some e) → Left d k s g (item key n sep is) rest e
   other here again (inl at) = last_of d k s g key n sep is rest e c here ends gap a at
   other here again (inr at) =
       let x = option_some (edit_from_item g key n sep) (removing_from k rest (further s) (gap_of sep) is) e at in
       subst (Left d k s g (item key n sep is) rest) x.2 (behind_left d k s g key n sep is rest x.0 c here gap a x.1 (λ q. again x.0 further_pairs q x.1))
 
-  go : (b : Bool) → is_here s (key_label (key_content key)) ≡ b → ((x : FlowEdit) → pairs_returns (flow_items_text k is rest) ≡ true → IsInlineGap (gap_of sep) (flow_items_text k is rest) → removing_from k rest (further s) (gap_of sep) is ≡ Some x → Left d k (further s) (gap_of sep) is rest x) →
-      cond b (before_next k rest g key n sep is) (option_or (last_out k rest (further s) g key n sep is) (option_map (edit_from_item g key n sep) (removing_from k rest (further s) (gap_of sep) is))) ≡ Some e → Left d k s g (item key n sep is) rest e
+  go : (b : Bool) → is_here s (key_label (key_content key)) ≡ b →
+      ((x : FlowEdit) → pairs_returns (flow_items_text k is rest) ≡ true → IsInlineGap (gap_of sep) (flow_items_text k is rest) →
+      removing_from k rest (further s) (gap_of sep) is ≡ Some x → Left d k (further s) (gap_of sep) is rest x) →
+      cond b (before_next k rest g key n sep is)
+          (option_or (last_out k rest (further s) g key n sep is)
+          (option_map (edit_from_item g key n sep) (removing_from k rest (further s) (gap_of sep) is))) ≡ Some e →
+          Left d k s g (item key n sep is) rest e
   go true here again at = before_left d k s g key n sep is rest e c here gap a at
   go false here again at = other here again (either _ _ at)
 

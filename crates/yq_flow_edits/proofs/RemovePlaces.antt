@@ -29,7 +29,8 @@ drop_end t v x h =
     ap (λ n. drop n t) at ∙ (ap (drop (length v)) h ∙ drop-append_seam v x)
 
 -- the space
-spaced_here : (t w : List ℕ) (b : ℕ) (g front own u : List ℕ) → is_feed b ≡ false → Unmarked u → t ≡ w ++ (b ∷ (g ++ (front ++ (own ++ u)))) → space_at t (length t - length (front ++ (own ++ u))) (length t - length (own ++ u)) ≡ space_to g own
+spaced_here : (t w : List ℕ) (b : ℕ) (g front own u : List ℕ) → is_feed b ≡ false → Unmarked u → t ≡ w ++ (b ∷ (g ++ (front ++ (own ++ u)))) →
+    space_at t (length t - length (front ++ (own ++ u))) (length t - length (own ++ u)) ≡ space_to g own
 spaced_here t w b g front own u feed m is =
     let tail : List ℕ = own ++ u in
     let x : List ℕ = front ++ tail in
@@ -39,7 +40,8 @@ spaced_here t w b g front own u feed m is =
     let next : begins_marker (drop (length t - length tail) t) ≡ begins_marker own = ap begins_marker (drop_end t (w ++ (b ∷ (g ++ front))) tail whole) ∙ marks_own own u m in
     λ i. cond (line i && next i) (32 ∷ []) []
 
-next_placed : (d k : ℕ) (g : List ℕ) (key : Key) (n : FlowNode) (sep : Sep) (is : Items) (rest t w : List ℕ) (b : ℕ) → is_close k ≡ true → AreFlowItems d k is rest → is_feed b ≡ false → t ≡ w ++ (b ∷ (g ++ flow_items_text k (item key n sep is) rest)) →
+next_placed : (d k : ℕ) (g : List ℕ) (key : Key) (n : FlowNode) (sep : Sep) (is : Items) (rest t w : List ℕ) (b : ℕ) → is_close k ≡ true →
+    AreFlowItems d k is rest → is_feed b ≡ false → t ≡ w ++ (b ∷ (g ++ flow_items_text k (item key n sep is) rest)) →
     option_map (remove_before t (length t - length (flow_items_text k (item key n sep is) rest))) (first_start (locate_items (length t) k is rest)) ≡ option_map (place_edit (length t)) (before_next k rest g key n sep is)
 unfolding flow_items_text locate_items AreFlowItems
 next_placed d k g key n sep none rest t w b c a feed text = refl
@@ -139,7 +141,8 @@ end_placed_at k g key n sep key2 n2 sep2 rest t w b c sep_is feed text = ap (λ 
   go true = comma_placed k rest g key n sep key2 n2 sep2 t ((front ++ own) ++ old) c sep_is before_sep
   go false = ap (λ l. record { start = length t - length l; end = end_; lead = [] }) (sym was)
 
-last_placed : (d k : ℕ) (s : Step) (g : List ℕ) (key : Key) (n : FlowNode) (sep : Sep) (is : Items) (rest t w : List ℕ) (b : ℕ) → is_close k ≡ true → AreFlowItems d k is rest → is_feed b ≡ false → t ≡ w ++ (b ∷ (g ++ flow_items_text k (item key n sep is) rest)) →
+last_placed : (d k : ℕ) (s : Step) (g : List ℕ) (key : Key) (n : FlowNode) (sep : Sep) (is : Items) (rest t w : List ℕ) (b : ℕ) → is_close k ≡ true →
+    AreFlowItems d k is rest → is_feed b ≡ false → t ≡ w ++ (b ∷ (g ++ flow_items_text k (item key n sep is) rest)) →
     option_map (remove_end t (length t - length (flow_items_text k (item key n sep is) rest)) (length t - length (sep_text sep (flow_items_text k is rest)))) (only_end s (locate_items (length t) k is rest))
     ≡ option_map (place_edit (length t)) (last_out k rest s g key n sep is)
 unfolding flow_items_text locate_items AreFlowItems
@@ -158,7 +161,8 @@ same_place total g key n sep None = refl
 same_place total g key n sep (Some e) = refl
 
 -- after an item are a comma and the gap before the next one
-further_placed : (d k : ℕ) (s : Step) (g : List ℕ) (key : Key) (n : FlowNode) (sep : Sep) (is : Items) (rest t w : List ℕ) (b : ℕ) → is_close k ≡ true → AreFlowItems d k (item key n sep is) rest → t ≡ w ++ (b ∷ (g ++ flow_items_text k (item key n sep is) rest)) →
+further_placed : (d k : ℕ) (s : Step) (g : List ℕ) (key : Key) (n : FlowNode) (sep : Sep) (is : Items) (rest t w : List ℕ) (b : ℕ) →
+    is_close k ≡ true → AreFlowItems d k (item key n sep is) rest → t ≡ w ++ (b ∷ (g ++ flow_items_text k (item key n sep is) rest)) →
     ((p v : List ℕ) (e : ℕ) → is_feed e ≡ false → t ≡ v ++ (e ∷ (p ++ flow_items_text k is rest)) → remove_part t s (locate_items (length t) k is rest) ≡ option_map (place_edit (length t)) (removing_from k rest s p is)) →
     remove_part t s (locate_items (length t) k is rest) ≡ option_map (place_edit (length t)) (removing_from k rest s (gap_of sep) is)
 unfolding flow_items_text locate_items AreFlowItems
@@ -187,7 +191,9 @@ part_removed d k s g (item key n sep is) rest t w b c a feed text =
     ≡ option_map (place_edit total) (option_or (last_out k rest (further s) g key n sep is) (option_map (edit_from_item g key n sep) (removing_from k rest (further s) (gap_of sep) is))) =
     (λ i. option_or (last_placed d k (further s) g key n sep is rest t w b c a.4 feed text i) ((again ∙ same_place total g key n sep (removing_from k rest (further s) (gap_of sep) is)) i))
     ∙ or_mapped (place_edit total) (last_out k rest (further s) g key n sep is) (option_map (edit_from_item g key n sep) (removing_from k rest (further s) (gap_of sep) is)) in
-    (λ i. cond (is_here s (key_label (key_tree total own key i))) (option_map (remove_before t (start i)) (first_start parts)) (option_or (option_map (remove_end t (start i) (end_placed total n behind i)) (only_end (further s) parts)) (remove_part t (further s) parts)))
+    (λ i. cond (is_here s (key_label (key_tree total own key i))) (option_map (remove_before t (start i)) (first_start parts))
+        (option_or (option_map (remove_end t (start i) (end_placed total n behind i)) (only_end (further s) parts))
+        (remove_part t (further s) parts)))
     ∙ elim (is_here s (key_label (key_content key)))
     as (λ v. cond v (option_map (remove_before t (total - length own)) (first_start parts)) (option_or (option_map (remove_end t (total - length own) (total - length behind)) (only_end (further s) parts)) (remove_part t (further s) parts))
     ≡ option_map (place_edit total) (cond v (before_next k rest g key n sep is) (option_or (last_out k rest (further s) g key n sep is) (option_map (edit_from_item g key n sep) (removing_from k rest (further s) (gap_of sep) is)))))
@@ -216,5 +222,6 @@ pub remove_placed : (flow : Bool) (spaces : Option ℕ) (d : ℕ) (t w : List �
     remove_place t s (locate (length t) node rest) ≡ option_map (place_edit (length t)) (removing s c)
 remove_placed flow spaces d t w node rest c s is at text =
     let i = coll_stands flow spaces d node rest c is at in
-    let t_is : t ≡ (w ++ i.before) ++ (opening_bracket c.close ∷ (c.gap ++ flow_items_text c.close c.items c.rest)) = text ∙ (ap (λ l. w ++ l) i.text ∙ sym (append_assoc w i.before (opening_bracket c.close ∷ (c.gap ++ flow_items_text c.close c.items c.rest)))) in
+    let t_is : t ≡ (w ++ i.before) ++ (opening_bracket c.close ∷ (c.gap ++ flow_items_text c.close c.items c.rest)) = text
+        ∙ (ap (λ l. w ++ l) i.text ∙ sym (append_assoc w i.before (opening_bracket c.close ∷ (c.gap ++ flow_items_text c.close c.items c.rest)))) in
     ap (remove_part t s) (coll_parts (length t) node rest c at) ∙ part_removed i.inner_depth c.close s c.gap c.items c.rest t (w ++ i.before) (opening_bracket c.close) i.closes i.items (open_feed c.close) t_is

@@ -143,7 +143,9 @@ behind_text k rest g key n sep is e h =
     let new : g ++ key_text key (node_text n (sep_text (with_gap e.gap sep) (flow_items_text k e.items rest))) ≡ (g ++ (key_text key (node_text n []) ++ f)) ++ (e.gap ++ flow_items_text k e.items rest) =
     ap (λ l. g ++ key_text key (node_text n l)) (sep_with e.gap sep (flow_items_text k e.items rest)) ∙ front_cut g key n f (e.gap ++ flow_items_text k e.items rest) in
     record {
-      text = becomes_same _ _ _ _ e.old (e.lead ++ e.written) e.behind (behind_cut g key n sep (flow_items_text k is rest)) new (put_before (g ++ (key_text key (node_text n []) ++ f)) (gap_of sep ++ flow_items_text k is rest) (e.gap ++ flow_items_text k e.items rest) e.old (e.lead ++ e.written) e.behind h.text);
+      text = becomes_same _ _ _ _ e.old (e.lead ++ e.written) e.behind (behind_cut g key n sep (flow_items_text k is rest)) new
+          (put_before (g ++ (key_text key (node_text n []) ++ f)) (gap_of sep ++ flow_items_text k is rest) (e.gap ++ flow_items_text k e.items rest)
+          e.old (e.lead ++ e.written) e.behind h.text);
       none_written = h.none_written;
       longer = h.longer;
       lead = h.lead;

@@ -119,7 +119,8 @@ unfolding flow_items_text flow_items
 sep_ends k keyed fits tree.none rest = fits.ends rest
 sep_ends k keyed fits (tree.child label n cs) rest = refl
 
-items_begin : (k : ℕ) (keyed : Bool) → Fits k keyed → (label : tree.Label) (n : tree.Node) (cs : tree.Children) (rest : List ℕ) → AreValueTrees keyed (tree.child label n cs) → begins_content true (flow_items_text k (flow_items (tree.child label n cs)) rest) ≡ true
+items_begin : (k : ℕ) (keyed : Bool) → Fits k keyed → (label : tree.Label) (n : tree.Node) (cs : tree.Children) (rest : List ℕ) →
+    AreValueTrees keyed (tree.child label n cs) → begins_content true (flow_items_text k (flow_items (tree.child label n cs)) rest) ≡ true
 unfolding flow_items_text flow_items
 items_begin k keyed fits label n cs rest h = search (rules, node_begins, sep_ends)
 

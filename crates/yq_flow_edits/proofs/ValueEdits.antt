@@ -29,7 +29,8 @@ put_same : (x : CollAt) (s : Step) (m : FlowNode) (v : tree.Node) → tree_of m 
 put_same x s m v e = ap (λ (w : tree.Node). changed_at x.steps (within (change_child s (put_value w)))) e ∙ change_last x.steps s (put_value v)
 
 -- a value in the place of a node
-pub value_replaced : (x : CollAt) (s : Step) (y : EntryPieces) (v : tree.Node) → IsCollAt x → item_in s x ≡ Some y → IsValueTree v → depth v ≤ room_in x → IsFlowEdited x (replacing s y (flow_of v) x.coll) (changed_at (x.steps ++ (s ∷ [])) (put_value v))
+pub value_replaced : (x : CollAt) (s : Step) (y : EntryPieces) (v : tree.Node) → IsCollAt x → item_in s x ≡ Some y → IsValueTree v →
+    depth v ≤ room_in x → IsFlowEdited x (replacing s y (flow_of v) x.coll) (changed_at (x.steps ++ (s ∷ [])) (put_value v))
 value_replaced x s y v h found is deep =
     let c = x.coll in
     let i = around_is x h in
@@ -56,9 +57,12 @@ pub appended_ends : (x : CollAt) → (i : Around x) → EndsItem x.coll.close (b
 appended_ends x i = last_ends i.inner_depth x.coll.close x.coll.gap x.coll.items x.coll.rest i.gap i.items
 
 -- a value as one more item or entry
-pub value_appended : (x : CollAt) (label : tree.Label) (v : tree.Node) → IsCollAt x → IsLabel (eqb x.coll.close 125) label → IsValueTree v → depth v ≤ room_in x → IsFlowEdited x (appending (flow_key label.key) (flow_of v) x.coll) (changed_at x.steps (within (append_child label v)))
+pub value_appended : (x : CollAt) (label : tree.Label) (v : tree.Node) → IsCollAt x → IsLabel (eqb x.coll.close 125) label → IsValueTree v →
+    depth v ≤ room_in x → IsFlowEdited x (appending (flow_key label.key) (flow_of v) x.coll) (changed_at x.steps (within (append_child label v)))
 value_appended x label v h is value deep =
     let i = around_is x h in
     let fits = item_fits x.coll.close (room_in x) label v (behind_appended x.coll) i.closes (appended_ends x i) is value deep in
-    let same : changed_at x.steps (within (append_child (key_label (key_content (flow_key label.key))) (tree_of (flow_of v)))) ≡ changed_at x.steps (within (append_child label v)) = λ j. changed_at x.steps (within (append_child ((fit_of x.coll.close i.closes).same label is j) (written_tree v value j))) in
+    let same : changed_at x.steps (within (append_child (key_label (key_content (flow_key label.key))) (tree_of (flow_of v)))) ≡ changed_at x.steps
+        (within (append_child label v)) =
+        λ j. changed_at x.steps (within (append_child ((fit_of x.coll.close i.closes).same label is j) (written_tree v value j))) in
     edited_same x (appending (flow_key label.key) (flow_of v) x.coll) _ _ same (appended x (flow_key label.key) (flow_of v) h fits)

@@ -54,7 +54,8 @@ value_fits k e v rest c ends h deep = record {
 }
 
 -- a scalar in a style of one line
-pub scalar_fits : (k e : ℕ) (s : ScalarText) (style : Style) (rest : List ℕ) → is_close k ≡ true → EndsItem k rest → IsValid s → scalars.IsOneLine style → can_write s style places.Flow ≡ true → FitsNode e (scalar (written_scalar style s.text)) rest
+pub scalar_fits : (k e : ℕ) (s : ScalarText) (style : Style) (rest : List ℕ) → is_close k ≡ true → EndsItem k rest → IsValid s →
+    scalars.IsOneLine style → can_write s style places.Flow ≡ true → FitsNode e (scalar (written_scalar style s.text)) rest
 unfolding IsFlowNode node_text
 scalar_fits k e s styles.Plain rest c ends v i h = record {
   is = inl (writable_piece s true (Some 0) rest v.utf8 v.kind h (ends_plainly (Some 0) k rest c ends));

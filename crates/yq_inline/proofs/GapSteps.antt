@@ -66,12 +66,14 @@ in_break (b ∷ bs) some = ⊎_elim
     (λ e. absurd (omega (arith, some, no_more b bs e)))
     (cases_Bool (eqb b 32))
 
-after_feed : (u : List ℕ) → 0 < upto no_space u → is_space (drop (upto no_space u) u) ≡ false → begins_with 35 (drop (upto no_space u) u) ≡ false → read_gap (10 ∷ u) ≡ Some (take (suc (upto no_space u)) (10 ∷ u), drop (suc (upto no_space u)) (10 ∷ u))
+after_feed : (u : List ℕ) → 0 < upto no_space u → is_space (drop (upto no_space u) u) ≡ false → begins_with 35 (drop (upto no_space u) u) ≡ false →
+    read_gap (10 ∷ u) ≡ Some (take (suc (upto no_space u)) (10 ∷ u), drop (suc (upto no_space u)) (10 ∷ u))
 unfolding read_gap flow_gap_len gap_end
 after_feed u some h k = let x = in_break u some h k in rw (x.0, x.1) refl
 
 -- a break and spaces
-pub break_and_spaces : (t u g r : List ℕ) (n : ℕ) → begins_with 10 t ≡ true → u ≡ drop 1 t → n ≡ prefix_len (λ b. eqb b 32) u → (n ≡ 0 → ⊥) → g ≡ take (n + 1) t → r ≡ drop (n + 1) t → is_space r ≡ false → begins_with 35 r ≡ false → read_gap t ≡ Some (g, r)
+pub break_and_spaces : (t u g r : List ℕ) (n : ℕ) → begins_with 10 t ≡ true → u ≡ drop 1 t → n ≡ prefix_len (λ b. eqb b 32) u → (n ≡ 0 → ⊥) →
+    g ≡ take (n + 1) t → r ≡ drop (n + 1) t → is_space r ≡ false → begins_with 35 r ≡ false → read_gap t ≡ Some (g, r)
 break_and_spaces t u g r n feed line count some gap_is rest_is space mark =
     let text : t ≡ 10 ∷ u = front_is 10 t feed ∙ ap (λ (l : List ℕ). 10 ∷ l) (sym line) in
     let spaces : n ≡ upto no_space u = count ∙ sym (upto_unless (λ b. eqb b 32) u) in

@@ -116,31 +116,40 @@ mapping_gap : (d : ℕ) (t : List ℕ) (o : Option (List ℕ × List ℕ)) → m
 mapping_gap d t None = refl
 mapping_gap d t (Some g) = mapping_items t g.0 (kids_of d 125 g.1)
 
-mapping_is : (flow : Bool) (spaces : Option ℕ) (d : ℕ) (t : List ℕ) → begins_with 42 t ≡ false → begins_with 91 t ≡ false → begins_with 123 t ≡ true → measured (placed_content flow spaces 0 d t) ≡ as_collection (past_node (placed_coll 0 d 125 (drop 1 t)))
+mapping_is : (flow : Bool) (spaces : Option ℕ) (d : ℕ) (t : List ℕ) → begins_with 42 t ≡ false → begins_with 91 t ≡ false →
+    begins_with 123 t ≡ true → measured (placed_content flow spaces 0 d t) ≡ as_collection (past_node (placed_coll 0 d 125 (drop 1 t)))
 unfolding read_core read_collection
 mapping_is flow spaces d t star other opens = rw (star, other, opens) (mapping_gap d t (read_gap (drop 1 t)))
 
 pub sequence_none : (flow : Bool) (spaces : Option ℕ) (d : ℕ) (t : List ℕ) → begins_with 42 t ≡ false → begins_with 91 t ≡ true → past_node (placed_coll 0 d 93 (drop 1 t)) ≡ None → measured (placed_content flow spaces 0 d t) ≡ None
 sequence_none flow spaces d t star opens e = sequence_is flow spaces d t star opens ∙ ap as_collection e
 
-pub sequence_some : (flow : Bool) (spaces : Option ℕ) (d : ℕ) (t r : List ℕ) → begins_with 42 t ≡ false → begins_with 91 t ≡ true → past_node (placed_coll 0 d 93 (drop 1 t)) ≡ Some r → measured (placed_content flow spaces 0 d t) ≡ Some ((false, kinds.Collection), r)
+pub sequence_some : (flow : Bool) (spaces : Option ℕ) (d : ℕ) (t r : List ℕ) → begins_with 42 t ≡ false → begins_with 91 t ≡ true →
+    past_node (placed_coll 0 d 93 (drop 1 t)) ≡ Some r → measured (placed_content flow spaces 0 d t) ≡ Some ((false, kinds.Collection), r)
 sequence_some flow spaces d t r star opens e = sequence_is flow spaces d t star opens ∙ ap as_collection e
 
-pub mapping_none : (flow : Bool) (spaces : Option ℕ) (d : ℕ) (t : List ℕ) → begins_with 42 t ≡ false → begins_with 91 t ≡ false → begins_with 123 t ≡ true → past_node (placed_coll 0 d 125 (drop 1 t)) ≡ None → measured (placed_content flow spaces 0 d t) ≡ None
+pub mapping_none : (flow : Bool) (spaces : Option ℕ) (d : ℕ) (t : List ℕ) → begins_with 42 t ≡ false → begins_with 91 t ≡ false →
+    begins_with 123 t ≡ true → past_node (placed_coll 0 d 125 (drop 1 t)) ≡ None → measured (placed_content flow spaces 0 d t) ≡ None
 mapping_none flow spaces d t star other opens e = mapping_is flow spaces d t star other opens ∙ ap as_collection e
 
-pub mapping_some : (flow : Bool) (spaces : Option ℕ) (d : ℕ) (t r : List ℕ) → begins_with 42 t ≡ false → begins_with 91 t ≡ false → begins_with 123 t ≡ true → past_node (placed_coll 0 d 125 (drop 1 t)) ≡ Some r → measured (placed_content flow spaces 0 d t) ≡ Some ((false, kinds.Collection), r)
+pub mapping_some : (flow : Bool) (spaces : Option ℕ) (d : ℕ) (t r : List ℕ) → begins_with 42 t ≡ false → begins_with 91 t ≡ false →
+    begins_with 123 t ≡ true → past_node (placed_coll 0 d 125 (drop 1 t)) ≡ Some r →
+    measured (placed_content flow spaces 0 d t) ≡ Some ((false, kinds.Collection), r)
 mapping_some flow spaces d t r star other opens e = mapping_is flow spaces d t star other opens ∙ ap as_collection e
 
-pub scalar_none : (flow : Bool) (spaces : Option ℕ) (d : ℕ) (t : List ℕ) → begins_with 42 t ≡ false → begins_with 91 t ≡ false → begins_with 123 t ≡ false → begins_content flow t ≡ true → read_scalar flow spaces t ≡ None → measured (placed_content flow spaces 0 d t) ≡ None
+pub scalar_none : (flow : Bool) (spaces : Option ℕ) (d : ℕ) (t : List ℕ) → begins_with 42 t ≡ false → begins_with 91 t ≡ false →
+    begins_with 123 t ≡ false → begins_content flow t ≡ true → read_scalar flow spaces t ≡ None → measured (placed_content flow spaces 0 d t) ≡ None
 unfolding read_core
 scalar_none flow spaces d t a b c s e = let f = front_parts flow t true a b c s in rw (a, b, c) (rw f (rw e refl))
 
-pub scalar_some : (flow : Bool) (spaces : Option ℕ) (d : ℕ) (t p r : List ℕ) → begins_with 42 t ≡ false → begins_with 91 t ≡ false → begins_with 123 t ≡ false → begins_content flow t ≡ true → read_scalar flow spaces t ≡ Some (p, r) → measured (placed_content flow spaces 0 d t) ≡ Some ((false, kind_of_style (scalar_style p)), r)
+pub scalar_some : (flow : Bool) (spaces : Option ℕ) (d : ℕ) (t p r : List ℕ) → begins_with 42 t ≡ false → begins_with 91 t ≡ false →
+    begins_with 123 t ≡ false → begins_content flow t ≡ true → read_scalar flow spaces t ≡ Some (p, r) →
+    measured (placed_content flow spaces 0 d t) ≡ Some ((false, kind_of_style (scalar_style p)), r)
 unfolding read_core
 scalar_some flow spaces d t p r a b c s e = let f = front_parts flow t true a b c s in rw (a, b, c) (rw f (rw e refl))
 
-pub nothing_here : (flow : Bool) (spaces : Option ℕ) (d : ℕ) (t : List ℕ) → begins_with 42 t ≡ false → begins_with 91 t ≡ false → begins_with 123 t ≡ false → begins_content flow t ≡ false → measured (placed_content flow spaces 0 d t) ≡ Some ((false, kinds.Nothing), t)
+pub nothing_here : (flow : Bool) (spaces : Option ℕ) (d : ℕ) (t : List ℕ) → begins_with 42 t ≡ false → begins_with 91 t ≡ false →
+    begins_with 123 t ≡ false → begins_content flow t ≡ false → measured (placed_content flow spaces 0 d t) ≡ Some ((false, kinds.Nothing), t)
 unfolding read_core
 nothing_here flow spaces d t a b c s = let f = front_parts flow t false a b c s in rw (a, b, c) (rw f refl)
 
@@ -154,12 +163,16 @@ node_nameless flow spaces d t amp e = ap measured (node_no_name flow spaces 0 d 
 pub node_leadless : (flow : Bool) (spaces : Option ℕ) (d : ℕ) (t n r : List ℕ) → begins_with 38 t ≡ true → name_at (drop 1 t) ≡ Some (n, r) → lead_at flow (begins_content flow) r ≡ None → measured (placed_node flow spaces 0 d t) ≡ None
 node_leadless flow spaces d t n r amp e f = ap measured (node_no_lead flow spaces 0 d t n r amp e f)
 
-pub node_none : (flow : Bool) (spaces : Option ℕ) (d : ℕ) (t n r g s : List ℕ) → begins_with 38 t ≡ true → name_at (drop 1 t) ≡ Some (n, r) → lead_at flow (begins_content flow) r ≡ Some (g, s) → measured (placed_content flow spaces 0 d s) ≡ None → measured (placed_node flow spaces 0 d t) ≡ None
+pub node_none : (flow : Bool) (spaces : Option ℕ) (d : ℕ) (t n r g s : List ℕ) → begins_with 38 t ≡ true → name_at (drop 1 t) ≡ Some (n, r) →
+    lead_at flow (begins_content flow) r ≡ Some (g, s) → measured (placed_content flow spaces 0 d s) ≡ None →
+    measured (placed_node flow spaces 0 d t) ≡ None
 node_none flow spaces d t n r g s amp e f h =
     ap measured (node_anchored flow spaces 0 d t n r g s amp e f ∙ ap (λ o. o >>= then_anchored 0 t n g) (unread (placed_content flow spaces 0 d s) h))
 
 -- a node after an anchor, by whether it may be there
-anchored_is : (flow : Bool) (spaces : Option ℕ) (d : ℕ) (t n r g s u : List ℕ) (a : Bool) (k : MeasuredKind) → begins_with 38 t ≡ true → name_at (drop 1 t) ≡ Some (n, r) → lead_at flow (begins_content flow) r ≡ Some (g, s) → measured (placed_content flow spaces 0 d s) ≡ Some ((a, k), u) →
+anchored_is : (flow : Bool) (spaces : Option ℕ) (d : ℕ) (t n r g s u : List ℕ) (a : Bool) (k : MeasuredKind) → begins_with 38 t ≡ true →
+    name_at (drop 1 t) ≡ Some (n, r) → lead_at flow (begins_content flow) r ≡ Some (g, s) →
+    measured (placed_content flow spaces 0 d s) ≡ Some ((a, k), u) →
     measured (placed_node flow spaces 0 d t) ≡ cond (node_may_follow g (a, k)) (Some ((true, k), u)) None
 anchored_is flow spaces d t n r g s u a k amp e f h =
     let y = found (placed_content flow spaces 0 d s) a k u h in
@@ -172,11 +185,15 @@ anchored_is flow spaces d t n r g s u a k amp e f h =
     go true x v = refl
     go false x v = refl
 
-pub node_apart : (flow : Bool) (spaces : Option ℕ) (d : ℕ) (t n r g s u : List ℕ) (a : Bool) (k : MeasuredKind) → begins_with 38 t ≡ true → name_at (drop 1 t) ≡ Some (n, r) → lead_at flow (begins_content flow) r ≡ Some (g, s) → measured (placed_content flow spaces 0 d s) ≡ Some ((a, k), u) →
+pub node_apart : (flow : Bool) (spaces : Option ℕ) (d : ℕ) (t n r g s u : List ℕ) (a : Bool) (k : MeasuredKind) → begins_with 38 t ≡ true →
+    name_at (drop 1 t) ≡ Some (n, r) → lead_at flow (begins_content flow) r ≡ Some (g, s) →
+    measured (placed_content flow spaces 0 d s) ≡ Some ((a, k), u) →
     node_may_follow g (a, k) ≡ false → measured (placed_node flow spaces 0 d t) ≡ None
 node_apart flow spaces d t n r g s u a k amp e f h may = anchored_is flow spaces d t n r g s u a k amp e f h ∙ ap (λ c. cond c (Some ((true, k), u)) None) may
 
-pub node_some : (flow : Bool) (spaces : Option ℕ) (d : ℕ) (t n r g s u : List ℕ) (a : Bool) (k : MeasuredKind) → begins_with 38 t ≡ true → name_at (drop 1 t) ≡ Some (n, r) → lead_at flow (begins_content flow) r ≡ Some (g, s) → measured (placed_content flow spaces 0 d s) ≡ Some ((a, k), u) →
+pub node_some : (flow : Bool) (spaces : Option ℕ) (d : ℕ) (t n r g s u : List ℕ) (a : Bool) (k : MeasuredKind) → begins_with 38 t ≡ true →
+    name_at (drop 1 t) ≡ Some (n, r) → lead_at flow (begins_content flow) r ≡ Some (g, s) →
+    measured (placed_content flow spaces 0 d s) ≡ Some ((a, k), u) →
     node_may_follow g (a, k) ≡ true → measured (placed_node flow spaces 0 d t) ≡ Some ((true, k), u)
 node_some flow spaces d t n r g s u a k amp e f h may = anchored_is flow spaces d t n r g s u a k amp e f h ∙ ap (λ c. cond c (Some ((true, k), u)) None) may
 

@@ -34,7 +34,8 @@ pub record Inside (total d k : ℕ) (t : List ℕ) : Type 0 where
 
 holder_tree : (k : ℕ) (s c e : ℕ) (parts : Parts) → (placed_tree (placed None s c e (holder k parts)) ≡ tree_collection k (parts_tree parts)) × (parts_of (placed None s c e (holder k parts)) ≡ parts)
 holder_tree k s c e parts = go (eqb k 125) where
-  go : (b : Bool) → (placed_tree (placed None s c e (cond b (mapping parts) (sequence parts))) ≡ cond b (tree_collection 125 (parts_tree parts)) (tree_collection 93 (parts_tree parts))) × (parts_of (placed None s c e (cond b (mapping parts) (sequence parts))) ≡ parts)
+  go : (b : Bool) → (placed_tree (placed None s c e (cond b (mapping parts) (sequence parts))) ≡ cond b (tree_collection 125 (parts_tree parts))
+      (tree_collection 93 (parts_tree parts))) × (parts_of (placed None s c e (cond b (mapping parts) (sequence parts))) ≡ parts)
   go true = (refl, refl)
   go false = (refl, refl)
 
@@ -68,7 +69,8 @@ each_unique k cs h = go (eqb k 125) h where
   go true e = (and_parts (are_distinct (keys_of cs)) (each_has_unique_keys cs) e).1
   go false e = e
 
-coll_inside : (total d k : ℕ) (t g : List ℕ) (is : Items) (rest : List ℕ) → is_close k ≡ true → t ≡ node_text (coll k g is) rest → IsFlowNode true (Some 0) d (coll k g is) rest → borrows_items is ≡ true → each_has_unique_keys (items_tree is) ≡ true → Inside total d k t
+coll_inside : (total d k : ℕ) (t g : List ℕ) (is : Items) (rest : List ℕ) → is_close k ≡ true → t ≡ node_text (coll k g is) rest →
+    IsFlowNode true (Some 0) d (coll k g is) rest → borrows_items is ≡ true → each_has_unique_keys (items_tree is) ≡ true → Inside total d k t
 unfolding node_text IsFlowNode locate
 coll_inside total zero k t g is rest close stands valid borrows unique = absurd valid.2
 coll_inside total (suc e) k t g is rest close stands valid borrows unique =
@@ -89,14 +91,18 @@ coll_inside total (suc e) k t g is rest close stands valid borrows unique =
       parts = ap parts_of shown ∙ (by.1 ∙ sym here);
     }
 
-inside_of : (total d k : ℕ) (t : List ℕ) (node : FlowNode) (rest : List ℕ) → is_close k ≡ true → begins_with (opening_bracket k) t ≡ true → t ≡ node_text node rest → IsFlowNode true (Some 0) d node rest → borrows_node node ≡ true → has_unique_keys (tree_of node) ≡ true → Inside total d k t
+inside_of : (total d k : ℕ) (t : List ℕ) (node : FlowNode) (rest : List ℕ) → is_close k ≡ true → begins_with (opening_bracket k) t ≡ true →
+    t ≡ node_text node rest → IsFlowNode true (Some 0) d node rest → borrows_node node ≡ true → has_unique_keys (tree_of node) ≡ true →
+    Inside total d k t
 unfolding node_text IsFlowNode tree_of
 inside_of total d k t empty rest close opens stands valid borrows unique =
     absurd (bracket_of k (λ b. begins_with b t ≡ true → ⊥) close (λ e. false≢true (sym (ap (begins_with 91) stands ∙ opens_list rest valid.0) ∙ e)) (λ e. false≢true (sym (ap (begins_with 123) stands ∙ opens_map rest valid.0) ∙ e)) opens)
 inside_of total d k t (alias n) rest close opens stands valid borrows unique = absurd (false≢true borrows)
 inside_of total d k t (scalar p) rest close opens stands valid borrows unique =
     let begins = scalar_begins true (Some 0) p rest valid in
-    absurd (bracket_of k (λ b. begins_with b t ≡ true → ⊥) close (λ e. false≢true (sym (ap (begins_with 91) stands ∙ no_list true (p ++ rest) begins) ∙ e)) (λ e. false≢true (sym (ap (begins_with 123) stands ∙ no_map true (p ++ rest) begins) ∙ e)) opens)
+    absurd (bracket_of k (λ b. begins_with b t ≡ true → ⊥) close
+        (λ e. false≢true (sym (ap (begins_with 91) stands ∙ no_list true (p ++ rest) begins) ∙ e))
+        (λ e. false≢true (sym (ap (begins_with 123) stands ∙ no_map true (p ++ rest) begins) ∙ e)) opens)
 inside_of total d k t (coll j g is) rest close opens stands valid borrows unique =
     let same : j ≡ k = same_bracket j k valid.0 close (sym (ap (begins_with (opening_bracket k)) stands) ∙ opens) in
     coll_inside total d k t g is rest close (subst (λ m. t ≡ node_text (coll m g is) rest) same stands) (subst (λ m. IsFlowNode true (Some 0) d (coll m g is) rest) same valid) borrows (each_unique j (items_tree is) unique)
@@ -139,7 +145,8 @@ pub record ScalarFront (total d : ℕ) (t : List ℕ) : Type 0 where
 opened : (j : ℕ) (t : List ℕ) → is_close j ≡ true → begins_with (opening_bracket j) t ≡ true → begins_with 91 t ≡ false → begins_with 123 t ≡ false → ⊥
 opened j t close opens a b = bracket_of j (λ m. begins_with m t ≡ true → ⊥) close (λ e. false≢true (sym a ∙ e)) (λ e. false≢true (sym b ∙ e)) opens
 
-scalar_of_front : (total d : ℕ) (t : List ℕ) (node : FlowNode) (rest : List ℕ) → begins_with 91 t ≡ false → begins_with 123 t ≡ false → begins_scalar true t ≡ true → t ≡ node_text node rest → IsFlowNode true (Some 0) d node rest → borrows_node node ≡ true → ScalarFront total d t
+scalar_of_front : (total d : ℕ) (t : List ℕ) (node : FlowNode) (rest : List ℕ) → begins_with 91 t ≡ false → begins_with 123 t ≡ false →
+    begins_scalar true t ≡ true → t ≡ node_text node rest → IsFlowNode true (Some 0) d node rest → borrows_node node ≡ true → ScalarFront total d t
 unfolding node_text IsFlowNode locate
 scalar_of_front total d t empty rest a b c stands valid borrows = absurd (false≢true (sym (ap (begins_scalar true) stands ∙ opens_scalar rest valid.0) ∙ c))
 scalar_of_front total d t (alias n) rest a b c stands valid borrows = absurd (false≢true borrows)
@@ -160,7 +167,8 @@ pub scalar_front : (total d : ℕ) (t : List ℕ) → is_borrowed d t ≡ true �
 scalar_front total d t borrowed a b c = let x = borrowed_node d t borrowed in scalar_of_front total d t x.node x.rest a b c x.stands x.valid x.borrowed
 
 -- nothing in front
-nothing_of_front : (total d : ℕ) (t : List ℕ) (node : FlowNode) (rest : List ℕ) → begins_with 91 t ≡ false → begins_with 123 t ≡ false → begins_scalar true t ≡ false → t ≡ node_text node rest → IsFlowNode true (Some 0) d node rest → borrows_node node ≡ true →
+nothing_of_front : (total d : ℕ) (t : List ℕ) (node : FlowNode) (rest : List ℕ) → begins_with 91 t ≡ false → begins_with 123 t ≡ false →
+    begins_scalar true t ≡ false → t ≡ node_text node rest → IsFlowNode true (Some 0) d node rest → borrows_node node ≡ true →
     (placed_tree (node_in_front total d t) ≡ scalar_node null) × (parts_of (node_in_front total d t) ≡ end)
 unfolding node_text IsFlowNode locate
 nothing_of_front total d t empty rest a b c stands valid borrows = let shown = front_located total d t empty rest stands valid in (ap placed_tree shown, ap parts_of shown)
@@ -169,7 +177,8 @@ nothing_of_front total d t (scalar p) rest a b c stands valid borrows = absurd (
 nothing_of_front total d t (coll j g is) rest a b c stands valid borrows = absurd (opened j t valid.0 (ap (begins_with (opening_bracket j)) stands ∙ eq-eqb (opening_bracket j) (opening_bracket j) refl) a b)
 nothing_of_front total d t (anchored n g node) rest a b c stands valid borrows = absurd (false≢true borrows)
 
-pub nothing_front : (total d : ℕ) (t : List ℕ) → is_borrowed d t ≡ true → begins_with 91 t ≡ false → begins_with 123 t ≡ false → begins_scalar true t ≡ false → (placed_tree (node_in_front total d t) ≡ scalar_node null) × (parts_of (node_in_front total d t) ≡ end)
+pub nothing_front : (total d : ℕ) (t : List ℕ) → is_borrowed d t ≡ true → begins_with 91 t ≡ false → begins_with 123 t ≡ false →
+    begins_scalar true t ≡ false → (placed_tree (node_in_front total d t) ≡ scalar_node null) × (parts_of (node_in_front total d t) ≡ end)
 nothing_front total d t borrowed a b c = let x = borrowed_node d t borrowed in nothing_of_front total d t x.node x.rest a b c x.stands x.valid x.borrowed
 
 -- where a node begins and ends
@@ -226,7 +235,10 @@ ends_of total d t (coll k g is) rest stands valid borrows =
       passed = ap (λ v. past_node (all_node true (Some 0) d v)) stands ∙ ap past_node (all_again true (Some 0) d (coll k g is) rest valid);
       start = ap start_of shown ∙ ap (λ (v : List ℕ). total - length v) (sym stands);
       end = ap end_of shown;
-      content = ap content_place shown ∙ (holder_place k whole whole (total - length rest) (locate_items total k is rest) ∙ (ap (λ (v : List ℕ). Some (total - length v, total - length rest)) (sym stands) ∙ sym (ap (λ b. cond b (Some (total - length t, total - length rest)) None) some)));
+      content = ap content_place shown
+          ∙ (holder_place k whole whole (total - length rest) (locate_items total k is rest)
+          ∙ (ap (λ (v : List ℕ). Some (total - length v, total - length rest)) (sym stands)
+          ∙ sym (ap (λ b. cond b (Some (total - length t, total - length rest)) None) some)));
     }
   where
     go : (a b c : Bool) → b ≡ true → (a || (b || c)) ≡ true

@@ -36,7 +36,8 @@ pub record First (d k : ℕ) (t : List ℕ) : Type 0 where
   pub node_unique : has_unique_keys (tree_of node) ≡ true
   pub items_unique : each_has_unique_keys (items_tree items) ≡ true
 
-first_of : (d k : ℕ) (t : List ℕ) (items : Items) (rest : List ℕ) → begins_with k t ≡ false → t ≡ flow_items_text k items rest → AreFlowItems d k items rest → borrows_items items ≡ true → each_has_unique_keys (items_tree items) ≡ true → First d k t
+first_of : (d k : ℕ) (t : List ℕ) (items : Items) (rest : List ℕ) → begins_with k t ≡ false → t ≡ flow_items_text k items rest →
+    AreFlowItems d k items rest → borrows_items items ≡ true → each_has_unique_keys (items_tree items) ≡ true → First d k t
 unfolding flow_items_text AreFlowItems items_tree
 first_of d k t none rest before stands valid borrows unique = absurd (false≢true (sym before ∙ (ap (begins_with k) stands ∙ eq-eqb k k refl)))
 first_of d k t (item key n s is) rest before stands valid borrows unique =
@@ -117,7 +118,8 @@ node_found d k t close before borrowed key u read =
     subst (λ r. is_borrowed d r ≡ true) (ap (λ (y : Key × List ℕ). y.1) same) (node_there d k t close x)
 
 -- what follows it was passed
-pub sep_found : (d k : ℕ) (t : List ℕ) → is_close k ≡ true → begins_with k t ≡ false → are_borrowed d k t ≡ true → (key : Key) (u r : List ℕ) → key_in k t ≡ Some (key, u) → past_node (all_node true (Some 0) d u) ≡ Some r → past_sep k r ≡ None → ⊥
+pub sep_found : (d k : ℕ) (t : List ℕ) → is_close k ≡ true → begins_with k t ≡ false → are_borrowed d k t ≡ true → (key : Key) (u r : List ℕ) →
+    key_in k t ≡ Some (key, u) → past_node (all_node true (Some 0) d u) ≡ Some r → past_sep k r ≡ None → ⊥
 sep_found d k t close before borrowed key u r read passed missing =
     let x = first d k t before borrowed in
     let same = same_Some _ _ (sym (key_read d k t close x) ∙ read) in
@@ -132,7 +134,9 @@ pub record Left (total d k : ℕ) (t : List ℕ) (key : Key) (u s : List ℕ) : 
   pub borrowed : are_borrowed d k s ≡ true
   pub shorter : length s < length t
 
-pub left_after : (total d k : ℕ) (t : List ℕ) → is_close k ≡ true → begins_with k t ≡ false → are_borrowed d k t ≡ true → (key : Key) (u r s : List ℕ) → key_in k t ≡ Some (key, u) → past_node (all_node true (Some 0) d u) ≡ Some r → past_sep k r ≡ Some s → Left total d k t key u s
+pub left_after : (total d k : ℕ) (t : List ℕ) → is_close k ≡ true → begins_with k t ≡ false → are_borrowed d k t ≡ true →
+    (key : Key) (u r s : List ℕ) → key_in k t ≡ Some (key, u) → past_node (all_node true (Some 0) d u) ≡ Some r → past_sep k r ≡ Some s →
+    Left total d k t key u s
 left_after total d k t close before borrowed key u r s read passed sep =
     let x = first d k t before borrowed in
     let same = same_Some _ _ (sym (key_read d k t close x) ∙ read) in
@@ -204,11 +208,14 @@ pub record PartsLeft (p : BorrowedParts) (e : BorrowedEntry) (s : List ℕ) : Ty
 pub entry_node : (p : BorrowedParts) (e : BorrowedEntry) (r : List ℕ) → IsFirstEntry p e → past_node (all_node true (Some 0) e.node.depth e.node.text.now) ≡ Some r → past_node (all_node true (Some 0) p.depth e.node.text.now) ≡ Some r
 entry_node p e r is passed = ap (λ d. past_node (all_node true (Some 0) d e.node.text.now)) (sym is.depth) ∙ passed
 
-pub comma_there : (p : BorrowedParts) (e : BorrowedEntry) (r : List ℕ) (j : ℕ) → begins_with (closing_byte p.keyed) p.text.now ≡ false → IsFirstEntry p e → past_node (all_node true (Some 0) e.node.depth e.node.text.now) ≡ Some r → j ≡ closing_byte p.keyed → past_sep j r ≡ None → ⊥
+pub comma_there : (p : BorrowedParts) (e : BorrowedEntry) (r : List ℕ) (j : ℕ) → begins_with (closing_byte p.keyed) p.text.now ≡ false →
+    IsFirstEntry p e → past_node (all_node true (Some 0) e.node.depth e.node.text.now) ≡ Some r → j ≡ closing_byte p.keyed → past_sep j r ≡ None → ⊥
 comma_there p e r j before is passed same missing =
     sep_found p.depth (closing_byte p.keyed) p.text.now (close_is p.keyed) before p.borrowed is.key e.node.text.now r is.stands (entry_node p e r is passed) (ap (λ k. past_sep k r) (sym same) ∙ missing)
 
-pub parts_left : (p : BorrowedParts) (e : BorrowedEntry) (r s : List ℕ) (j : ℕ) → begins_with (closing_byte p.keyed) p.text.now ≡ false → IsFirstEntry p e → past_node (all_node true (Some 0) e.node.depth e.node.text.now) ≡ Some r → j ≡ closing_byte p.keyed → past_sep j r ≡ Some s → PartsLeft p e s
+pub parts_left : (p : BorrowedParts) (e : BorrowedEntry) (r s : List ℕ) (j : ℕ) → begins_with (closing_byte p.keyed) p.text.now ≡ false →
+    IsFirstEntry p e → past_node (all_node true (Some 0) e.node.depth e.node.text.now) ≡ Some r → j ≡ closing_byte p.keyed → past_sep j r ≡ Some s →
+    PartsLeft p e s
 parts_left p e r s j before is passed same sep =
     let k : ℕ = closing_byte p.keyed in
     let left = left_after p.total p.depth k p.text.now (close_is p.keyed) before p.borrowed is.key e.node.text.now r s is.stands (entry_node p e r is passed) (ap (λ m. past_sep m r) (sym same) ∙ sep) in

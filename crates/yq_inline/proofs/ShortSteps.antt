@@ -108,7 +108,8 @@ pub boundary_closed : (t u s : List ℕ) (n : ℕ) → IsUtf8 t → begins_with 
 boundary_closed t u s n utf8 opens inner run rest quote =
     boundary_quoted t (n + 2) utf8 (run_len_is t u s n (front_is 34 t opens ∙ ap (λ (l : List ℕ). 34 ∷ l) (sym inner)) run rest quote)
 
-no_byte : (q : ℕ → Bool) → ((b : ℕ) → run_goes_on (Quoted 34) b ≡ true → q b ≡ false) → q 34 ≡ false → (u s : List ℕ) (n : ℕ) → n ≡ prefix_len (run_goes_on (Quoted 34)) u → s ≡ drop n u → begins_with 34 s ≡ true → list_any q (take (suc n) u) ≡ false
+no_byte : (q : ℕ → Bool) → ((b : ℕ) → run_goes_on (Quoted 34) b ≡ true → q b ≡ false) → q 34 ≡ false → (u s : List ℕ) (n : ℕ) →
+    n ≡ prefix_len (run_goes_on (Quoted 34)) u → s ≡ drop n u → begins_with 34 s ≡ true → list_any q (take (suc n) u) ≡ false
 no_byte q other here u s n run rest quote =
     none_after q n u (subst (λ (k : ℕ). list_any q (take k u) ≡ false) (sym run) (none_in_run (run_goes_on (Quoted 34)) q other u))
     (ap (front q) (sym rest ∙ front_is 34 s quote) ∙ here)
@@ -124,7 +125,8 @@ with_lines : (spaces : Option ℕ) (x : List ℕ × List ℕ) → holds_break x.
 with_lines None x h = rw h refl
 with_lines (Some n) x h = refl
 
-pub short_quoted_is : (t u s p r : List ℕ) (n : ℕ) → begins_with 34 t ≡ true → u ≡ drop 1 t → n ≡ prefix_len (run_goes_on (Quoted 34)) u → s ≡ drop n u → begins_with 34 s ≡ true → p ≡ take (n + 2) t → r ≡ drop (n + 2) t → IsShortScalar t p r
+pub short_quoted_is : (t u s p r : List ℕ) (n : ℕ) → begins_with 34 t ≡ true → u ≡ drop 1 t → n ≡ prefix_len (run_goes_on (Quoted 34)) u →
+    s ≡ drop n u → begins_with 34 s ≡ true → p ≡ take (n + 2) t → r ≡ drop (n + 2) t → IsShortScalar t p r
 unfolding read_scalar
 short_quoted_is t u s p r n opens inner run rest quote front_piece back_is =
     let text : t ≡ 34 ∷ u = front_is 34 t opens ∙ ap (λ (l : List ℕ). 34 ∷ l) (sym inner) in

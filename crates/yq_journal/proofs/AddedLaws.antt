@@ -35,7 +35,10 @@ pub splice_adds : (s : Splice) (t t₁ t₂ t₃ t₄ t₅ t₆ : List ℕ) → 
     → t₁ ≡ t ++ codes "{\"at\":" ++ decimal s.at → t₂ ≡ t₁ ++ codes ",\"new\":\"" → t₃ ≡ t₂ ++ escape (encode_of standard s.new) → t₄ ≡ t₃ ++ codes "\",\"old\":\"" → t₅ ≡ t₄ ++ escape (encode_of standard s.old)
     → t₆ ≡ t₅ ++ codes "\"}" → Adds change_data splice_of s t t₆
 splice_adds s t t₁ t₂ t₃ t₄ t₅ t₆ h n o e₁ e₂ e₃ e₄ e₅ e₆ = record {
-  text_is = e₆ ∙ ap (λ l. l ++ codes "\"}") (e₅ ∙ ap (λ l. l ++ escape (encode_of standard s.old)) (e₄ ∙ ap (λ l. l ++ codes "\",\"old\":\"") (e₃ ∙ ap (λ l. l ++ escape (encode_of standard s.new)) (e₂ ∙ ap (λ l. l ++ codes ",\"new\":\"") e₁)))) ∙ splice_text t s;
+  text_is = e₆ ∙ ap (λ l. l ++ codes "\"}")
+      (e₅ ∙ ap (λ l. l ++ escape (encode_of standard s.old))
+      (e₄ ∙ ap (λ l. l ++ codes "\",\"old\":\"")
+      (e₃ ∙ ap (λ l. l ++ escape (encode_of standard s.new)) (e₂ ∙ ap (λ l. l ++ codes ",\"new\":\"") e₁)))) ∙ splice_text t s;
   kept = kept_splice s h n o;
 }
 

@@ -23,7 +23,8 @@ leads_at t (q ∷ rs) (e ∷ es) (suc n) r l is = leads_at e.text rs es n r l.2 
 leads_at t _ _ n _ l is = absurd l
 
 -- a record that leads on from the text at a place
-leads_on : (t u : List ℕ) (rs : List Record) (es : List Revision) (n : ℕ) (r : Record) → Leads t rs es → n ≤ length es → done r (text_after_edits t es n) ≡ Some u → Leads t (take n rs ++ r ∷ []) (take n es ++ record { expr = r.expr; text = u } ∷ [])
+leads_on : (t u : List ℕ) (rs : List Record) (es : List Revision) (n : ℕ) (r : Record) → Leads t rs es → n ≤ length es →
+    done r (text_after_edits t es n) ≡ Some u → Leads t (take n rs ++ r ∷ []) (take n es ++ record { expr = r.expr; text = u } ∷ [])
 leads_on t u rs es zero r l fits d = (refl, d, tt)
 leads_on t u [] [] (suc n) r l fits d = absurd (omega arith)
 leads_on t u (q ∷ rs) (e ∷ es) (suc n) r l fits d = (l.0, l.1, leads_on e.text u rs es n r l.2 (omega arith) d)

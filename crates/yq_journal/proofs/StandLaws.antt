@@ -178,7 +178,8 @@ earlier ss text k s c h small is e =
     (λ b to q. record { text_before = b; is = to; bytes = before s b c q; small = stays_small ss k text b h to small })
 
 -- the same, from a place down
-pub one_earlier : (ss : List Splice) (text : List ℕ) (n : ℕ) (s : Splice) (c : List ℕ) → 0 < n → lengths_done ss (length text) ≢ None → length text < 2 ^ 64 → slice_get ss (n - 1) ≡ Some s → all_done (take n ss) text ≡ Some c → Earlier ss text (n - 1) s c
+pub one_earlier : (ss : List Splice) (text : List ℕ) (n : ℕ) (s : Splice) (c : List ℕ) → 0 < n → lengths_done ss (length text) ≢ None →
+    length text < 2 ^ 64 → slice_get ss (n - 1) ≡ Some s → all_done (take n ss) text ≡ Some c → Earlier ss text (n - 1) s c
 one_earlier ss text n s c pos h small is e = search (rules, earlier)
 
 -- ---- whether a splice's old bytes are there

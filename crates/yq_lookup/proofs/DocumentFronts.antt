@@ -153,7 +153,8 @@ number_stays bs c d j same e =
 
 -- ---- documents that are known
 
-document_stays : (c : Cut) (k : KnownDocument) (front : ℕ) (b : Bound) → IsKnownDocument (rows_view c).bounds k → (k.part ≡ 0 → ⊥) → slice_get (rows_view c).bounds (k.part - 1) ≡ Some b → part_end (k.part - 1) b (rows_view c) + length b.marker < front → DocumentStays front c k
+document_stays : (c : Cut) (k : KnownDocument) (front : ℕ) (b : Bound) → IsKnownDocument (rows_view c).bounds k → (k.part ≡ 0 → ⊥) →
+    slice_get (rows_view c).bounds (k.part - 1) ≡ Some b → part_end (k.part - 1) b (rows_view c) + length b.marker < front → DocumentStays front c k
 document_stays c k front b known some at less new back touched =
     let j : ℕ = k.part - 1 in
     let is : suc j ≡ k.part = omega (arith, some) in
@@ -166,12 +167,17 @@ document_stays c k front b known some at less new back touched =
     let same = first_ends c front_items _ (suc j) touched.old_are within ∙ sym (first_ends new front_items _ (suc j) touched.new_are within) in
     number_stays (rows_view c).bounds new k.doc j same (known ∙ ap Some (sym is)) ∙ ap Some is
 
-pub view_document_stays : (s : RowsView) (k : KnownDocument) (front : ℕ) (b : Bound) → IsKnownDocument s.bounds k → (k.part ≡ 0 → ⊥) → slice_get s.bounds (k.part - 1) ≡ Some b → part_end (k.part - 1) b s + length b.marker < front → (c : Cut) → s ≡ rows_view c →
+pub view_document_stays : (s : RowsView) (k : KnownDocument) (front : ℕ) (b : Bound) → IsKnownDocument s.bounds k → (k.part ≡ 0 → ⊥) →
+    slice_get s.bounds (k.part - 1) ≡ Some b → part_end (k.part - 1) b s + length b.marker < front → (c : Cut) → s ≡ rows_view c →
     DocumentStays front c k
 view_document_stays s k front b known some at less c is =
-    document_stays c k front b (subst (λ (x : RowsView). IsKnownDocument x.bounds k) is known) some (subst (λ (x : RowsView). slice_get x.bounds (k.part - 1) ≡ Some b) is at) (subst (λ (x : RowsView). part_end (k.part - 1) b x + length b.marker < front) is less)
+    document_stays c k front b (subst (λ (x : RowsView). IsKnownDocument x.bounds k) is known) some
+        (subst (λ (x : RowsView). slice_get x.bounds (k.part - 1) ≡ Some b) is at)
+        (subst (λ (x : RowsView). part_end (k.part - 1) b x + length b.marker < front) is less)
 
 -- a document, if there is one, stays known in a text that keeps what is in front
-pub one_stays : (front back : ℕ) (s : RowsView) (c new : Cut) (k : Option KnownDocument) → s ≡ rows_view c → IfSome k (λ x. (a : Cut) → s ≡ rows_view a → DocumentStays front a x) → TouchesOnly front back c new → IfSome k (IsKnownDocument (rows_view new).bounds)
+pub one_stays : (front back : ℕ) (s : RowsView) (c new : Cut) (k : Option KnownDocument) → s ≡ rows_view c →
+    IfSome k (λ x. (a : Cut) → s ≡ rows_view a → DocumentStays front a x) → TouchesOnly front back c new →
+    IfSome k (IsKnownDocument (rows_view new).bounds)
 one_stays front back s c new None is h touched = h
 one_stays front back s c new (Some k) is h touched = h c is new back touched

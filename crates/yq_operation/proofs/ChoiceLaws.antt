@@ -25,17 +25,21 @@ not_chosen r b x y is h = subst (λ (c : Bool). GivesSegments r (cond c x y)) (s
 -- ---- a value, outside flow collections or in one
 
 -- something is outside
-pub put_outside : {E : Type 0} (r : Result (Option (List Segment)) E) (k : List Segment) (b : Bool) (ss : List Segment) (block y : Option (List Segment)) → block ≡ Some ss → GivesSegments r (cond b (Some k) (Some ss)) → GivesSegments r (cond b (Some k) (option_or block y))
+pub put_outside : {E : Type 0} (r : Result (Option (List Segment)) E) (k : List Segment) (b : Bool) (ss : List Segment)
+    (block y : Option (List Segment)) → block ≡ Some ss → GivesSegments r (cond b (Some k) (Some ss)) →
+    GivesSegments r (cond b (Some k) (option_or block y))
 put_outside r k b ss block y is h = subst (λ (z : Option (List Segment)). GivesSegments r (cond b (Some k) z)) (sym (ap (λ (z : Option (List Segment)). option_or z y) is)) h
 
 -- a part of a flow collection is there
-pub put_inside : (t : List ℕ) (v : Node) (b : Bool) (block : Option (List Segment)) (x : Option FlowPart) (ss : List Segment) → block ≡ None → option_map (part_put t b v) x ≡ Some ss → cond b (Some (keep t ∷ [])) (option_or block (option_map (flow_put t v) x)) ≡ Some ss
+pub put_inside : (t : List ℕ) (v : Node) (b : Bool) (block : Option (List Segment)) (x : Option FlowPart) (ss : List Segment) → block ≡ None →
+    option_map (part_put t b v) x ≡ Some ss → cond b (Some (keep t ∷ [])) (option_or block (option_map (flow_put t v) x)) ≡ Some ss
 put_inside t v b block None ss is e = absurd (none-some _ e)
 put_inside t v true block (Some x) ss is e = e
 put_inside t v false block (Some x) ss is e = ap (λ (z : Option (List Segment)). option_or z (Some (flow_put t v x))) is ∙ e
 
 -- neither
-pub put_nowhere : {E : Type 0} (r : Result (Option (List Segment)) E) (t : List ℕ) (v : Node) (b : Bool) (block : Option (List Segment)) (x : Option FlowPart) → block ≡ None → option_map (part_put t b v) x ≡ None → GivesSegments r (cond b (Some (keep t ∷ [])) None) →
+pub put_nowhere : {E : Type 0} (r : Result (Option (List Segment)) E) (t : List ℕ) (v : Node) (b : Bool) (block : Option (List Segment))
+    (x : Option FlowPart) → block ≡ None → option_map (part_put t b v) x ≡ None → GivesSegments r (cond b (Some (keep t ∷ [])) None) →
     GivesSegments r (cond b (Some (keep t ∷ [])) (option_or block (option_map (flow_put t v) x)))
 put_nowhere r t v b block (Some x) is e h = absurd (none-some _ (sym e))
 put_nowhere r t v b block None is e h = subst (λ (z : Option (List Segment)). GivesSegments r (cond b (Some (keep t ∷ [])) z)) (sym (ap (λ (z : Option (List Segment)). option_or z None) is)) h

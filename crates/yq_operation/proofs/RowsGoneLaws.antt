@@ -35,7 +35,9 @@ one_splice n [] some = absurd (omega (arith, some))
 one_splice n (b ∷ gone) some = refl
 
 -- the same between what stays
-between : (before gone gap behind : List ℕ) (c : ChangedMiddle) → 1 ≤ length gone → (length before + length gone) + (length gap + length behind) ≤ text_limit → c.front ≡ length before → c.back ≡ length gap + length behind → IsUtf8 before → IsUtf8 gap → IsUtf8 behind →
+between : (before gone gap behind : List ℕ) (c : ChangedMiddle) → 1 ≤ length gone →
+    (length before + length gone) + (length gap + length behind) ≤ text_limit → c.front ≡ length before → c.back ≡ length gap + length behind →
+    IsUtf8 before → IsUtf8 gap → IsUtf8 behind →
     string_bytes c.new ≡ [] → c.splices.items ≡ record { at = c.front; old = gone; new = [] } ∷ [] → IsChange (keep before ∷ (put gone [] ∷ (keep gap ∷ (keep behind ∷ [])))) c
 between before gone gap behind c some small front back front_text gap_text back_text new splices =
     let ss : List Segment = keep before ∷ (put gone [] ∷ (keep gap ∷ (keep behind ∷ []))) in

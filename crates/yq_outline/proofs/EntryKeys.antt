@@ -96,7 +96,8 @@ nowhere key end none = refl
 nowhere key (row l u a) none = search (rules, or_parts, cond-false, differs, differ, nowhere key a)
 
 -- The first of lines with different keys is not the entry of a key that one after it has.
-module _ (ls : List Line) (at floor next : ℕ) (l : Line) (is : slice_get ls at ≡ Some l) (deep : true ≡ not (has_no_lines (part ls at floor))) (ends : IsEndOf ls at next) (differ' : are_distinct (keys_of (children (part ls at floor))) ≡ true) where
+module _ (ls : List Line) (at floor next : ℕ) (l : Line) (is : slice_get ls at ≡ Some l) (deep : true ≡ not (has_no_lines (part ls at floor)))
+    (ends : IsEndOf ls at next) (differ' : are_distinct (keys_of (children (part ls at floor))) ≡ true) where
   own : are_distinct (with_first (key_of l.mark) (keys_of (children (part ls next floor)))) ≡ true
   own = subst (λ (o : Outline). are_distinct (keys_of (children o)) ≡ true) (row_parts ls at floor next l is (deeper_line ls at floor l is (not_end _ deep)) (ends.2 l is)) differ'
 

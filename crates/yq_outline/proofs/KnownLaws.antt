@@ -78,7 +78,8 @@ known_more ss k x index row h is deep next e =
     let more : take row ss ≡ take k.row ss ++ (x ∷ []) = ap (λ (n : ℕ). take n ss) next ∙ taken_more ss k.row x is in
     subst (λ (xs : List Slices). ArePassed xs (moved_to k index row)) (sym more) (passed_more (take k.row ss) x k index row h deep e)
 
-pub known_less : (ss : List Slices) (k : KnownItem) (x : Slices) (index row : ℕ) → IsKnown ss k → slice_get ss row ≡ Some x → k.row ≡ row + 1 → k.under.row < row → k.index ≡ index + level_count k.level (x ∷ []) → IsKnown ss (moved_to k index row)
+pub known_less : (ss : List Slices) (k : KnownItem) (x : Slices) (index row : ℕ) → IsKnown ss k → slice_get ss row ≡ Some x → k.row ≡ row + 1 →
+    k.under.row < row → k.index ≡ index + level_count k.level (x ∷ []) → IsKnown ss (moved_to k index row)
 known_less ss k x index row h is next less e =
     let more : take k.row ss ≡ take row ss ++ (x ∷ []) = ap (λ (n : ℕ). take n ss) next ∙ taken_more ss row x is in
     search (rules, length-take-le, slice_get_within, passed_less, more)

@@ -119,7 +119,9 @@ module _ (s : RowsView) (d : Stretch) (h : HasRows s d) (floor row n : ℕ) (y :
       go (inr z) = absurd (omega (arith, z.count, h.count))
   over_items (suc p) q h i = go (siblings n (behind q) h.deep) (λ e g. over_items p e g i)
     where
-      go : ((deeper_rows n (behind q) ≡ length (behind q)) × (level_count n (behind q) ≡ 0)) ⊎ Sibling n (behind q) → ((e : Position) → Passing e p → line_here e (Nth (suc p + i)) ≡ line_here stop (Nth i)) → line_here q (Nth (suc (suc p) + i)) ≡ line_here stop (Nth i)
+      go : ((deeper_rows n (behind q) ≡ length (behind q)) × (level_count n (behind q) ≡ 0)) ⊎ Sibling n (behind q) →
+          ((e : Position) → Passing e p → line_here e (Nth (suc p + i)) ≡ line_here stop (Nth i)) →
+          line_here q (Nth (suc (suc p) + i)) ≡ line_here stop (Nth i)
       go (inl z) later = absurd (omega (arith, z.1, h.count))
       go (inr z) later =
           let one : suc (suc p) + i ≡ suc (suc p + i) = omega arith in
@@ -167,7 +169,8 @@ module _ (s : RowsView) (d : Stretch) (h : HasRows s d) (under : Position) (floo
       sym (rows_passed s.rows floor k.level d.end (omega (arith, among.floor_is, among.known.deeper)) h.within m a (omega (arith, row, among.within)) deep ∙ ap (rows_end s d floor) row)
 
 -- A walk goes on from a known item.
-module _ (s : RowsView) (d : Stretch) (under : Position) (floor : ℕ) (k : KnownItem) (start : IsPosition s d under) (among : IsKnownIn s.rows under floor d.end k) (low : (y : Slices) → slice_get s.rows k.row ≡ Some y → line_level 0 y ≤ k.level) where
+module _ (s : RowsView) (d : Stretch) (under : Position) (floor : ℕ) (k : KnownItem) (start : IsPosition s d under)
+    (among : IsKnownIn s.rows under floor d.end k) (low : (y : Slices) → slice_get s.rows k.row ≡ Some y → line_level 0 y ≤ k.level) where
   abbrev row_of : Position
   row_of = record { row = k.row; line = 0 }
 

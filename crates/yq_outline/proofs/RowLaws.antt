@@ -55,7 +55,8 @@ beside_in above column (n ∷ ns) m c (suc k) l h e = search (rules, cases_lt, b
 
 -- ---- a quoted key or scalar on one line without escapes means what is between its quotes
 
-pub quoted_lent : (piece inner : List ℕ) → IsQuotedText piece → holds_break piece ≡ false → inner ≡ take (length piece - 2) (drop 1 piece) → list_any (λ b. eqb b (cond (begins_with 34 piece) 92 39)) inner ≡ false → inner ≡ quoted_content piece
+pub quoted_lent : (piece inner : List ℕ) → IsQuotedText piece → holds_break piece ≡ false → inner ≡ take (length piece - 2) (drop 1 piece) →
+    list_any (λ b. eqb b (cond (begins_with 34 piece) 92 39)) inner ≡ false → inner ≡ quoted_content piece
 quoted_lent [] inner q broken is none = borrowed_quoted [] inner [] q refl is (ap holds_break is) (ap (list_any (λ b. eqb b 39)) is)
 quoted_lent (b ∷ bs) inner q broken is none =
     borrowed_quoted (b ∷ bs) inner (b ∷ bs) q refl is (ap holds_break is ∙ any_take is_feed (length (b ∷ bs) - 2) bs (any_drop is_feed 1 (b ∷ bs) broken)) none
@@ -71,7 +72,8 @@ dashes_count [] t = omega arith
 dashes_count (n ∷ ns) t = search (rules, sum_by-cons, none_in_spaces, dashes_count ns t)
 
 -- the lines before the last one of a row
-pub before_mark : (ns : List ℕ) (m : RowMark) (c : Content) (rest : List ℕ) → AreDashes ns m → IsMark m c rest → cond (is_empty (colon_of m)) (dash_count (dashes_text ns (last_dash m)) - 1) (dash_count (dashes_text ns (last_dash m))) ≡ length ns
+pub before_mark : (ns : List ℕ) (m : RowMark) (c : Content) (rest : List ℕ) → AreDashes ns m → IsMark m c rest →
+    cond (is_empty (colon_of m)) (dash_count (dashes_text ns (last_dash m)) - 1) (dash_count (dashes_text ns (last_dash m))) ≡ length ns
 before_mark [] Bare c rest d m = refl
 before_mark (n ∷ ns) Bare c rest d m = absurd (cc)
 before_mark ns Dash c rest d m = search (rules, dashes_count)

@@ -66,7 +66,9 @@ end_number s d h q at past =
 pub end_agrees : (s : RowsView) (d : Stretch) (h : HasRows s d) (q : Position) (floor : ℕ) → IsPosition s d q → d.end ≤ q.row → false ≡ not (has_no_lines (part (lines_of_rows h.rows) (line_number d h.rows q) floor))
 end_agrees s d h q floor at past =
     let n = end_number s d h q at past in
-    sym (ap (λ (k : ℕ). not (has_no_lines (part (lines_of_rows h.rows) k floor))) n ∙ ap (λ (ls : List Line). not (has_no_lines (Rattle.yq_outline.specs.Group.deeper_lines floor (Rattle.yq_outline.specs.Group.group ls)))) (all (lines_of_rows h.rows)))
+    sym (ap (λ (k : ℕ). not (has_no_lines (part (lines_of_rows h.rows) k floor))) n
+        ∙ ap (λ (ls : List Line). not (has_no_lines (Rattle.yq_outline.specs.Group.deeper_lines floor (Rattle.yq_outline.specs.Group.group ls))))
+        (all (lines_of_rows h.rows)))
   where
     all : (ls : List Line) → drop (length ls) ls ≡ []
     all [] = refl
@@ -101,7 +103,8 @@ behind_agrees s d h q e n at agrees row none =
     (ends_at h.rows i q.line l.row l.line (rows_agree h.limit h.rows h.end h.rest h.valid) l.there l.within l.in_row)
 
 -- where lines end that are deeper than a level
-pub stop_agrees : (s : RowsView) (d : Stretch) (h : HasRows s d) (q e : Position) (n : ℕ) (at : IsLine s d q) → n < level (located s d h q at).line → e.row ≡ (q.row + 1) + deeper_rows n (take (d.end - (q.row + 1)) (drop (q.row + 1) s.rows)) → e.line ≡ 0 →
+pub stop_agrees : (s : RowsView) (d : Stretch) (h : HasRows s d) (q e : Position) (n : ℕ) (at : IsLine s d q) → n < level (located s d h q at).line →
+    e.row ≡ (q.row + 1) + deeper_rows n (take (d.end - (q.row + 1)) (drop (q.row + 1) s.rows)) → e.line ≡ 0 →
     line_number d h.rows e ≡ lines_stop (line_number d h.rows q) n (lines_of_rows h.rows)
 stop_agrees s d h q e n at deep row none =
     let l = located s d h q at in

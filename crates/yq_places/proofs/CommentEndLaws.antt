@@ -79,7 +79,9 @@ module _ (t : List ℕ) (start : ℕ) (gap run : List ℕ) (h : GapStands t star
   above_is front before behind column e d b k =
       let whole : front ≡ (h.before ++ kept) ++ run = e ∙ parts in
       let first : before ≡ h.before ++ kept = b ∙ ((λ i. take (size i) (whole i)) ∙ take-append_seam (h.before ++ kept) run) in
-      let ends : h.before ≡ k.before = sym (ap (λ n. take n t) (h.start_is) ∙ (ap (take (length h.before)) h.text ∙ take-append_seam h.before (gap ++ h.rest))) ∙ (ap (λ n. take n t) k.start_is ∙ (ap (take (length k.before)) k.text ∙ take-append_seam k.before (gap ++ k.rest))) in
+      let ends : h.before ≡ k.before =
+          sym (ap (λ n. take n t) (h.start_is) ∙ (ap (take (length h.before)) h.text ∙ take-append_seam h.before (gap ++ h.rest)))
+          ∙ (ap (λ n. take n t) k.start_is ∙ (ap (take (length k.before)) k.text ∙ take-append_seam k.before (gap ++ k.rest))) in
       let n : start + length gap ≡ length (k.before ++ gap) = omega (arith, k.start_is, length-append k.before gap) in
       search (rules, append_assoc, drop-append_seam, run_is, first, ends, n)
 
@@ -92,7 +94,8 @@ module _ (t : List ℕ) (x : RowsView) (held : HasCut t x) (path : Path) (n : Li
   whole = search (rules, row_line_placed, row_place)
 
   -- the lines above
-  pub gap_stands : (start : ℕ) (gap text : List ℕ) → start ≡ row_start n.0 x → ((y : Slices) → slice_get x.rows n.0 ≡ Some y → gap ≡ y.gap) → text ≡ t → IsUtf8 t → (h : GapStands text start gap) × (h.before ≡ w.before) × (h.rest ≡ behind_gap w.row w.behind) × (gap ≡ w.row.gap)
+  pub gap_stands : (start : ℕ) (gap text : List ℕ) → start ≡ row_start n.0 x → ((y : Slices) → slice_get x.rows n.0 ≡ Some y → gap ≡ y.gap) →
+      text ≡ t → IsUtf8 t → (h : GapStands text start gap) × (h.before ≡ w.before) × (h.rest ≡ behind_gap w.row w.behind) × (gap ≡ w.row.gap)
   gap_stands start gap text begins has e u =
       let at = (row_line_placed path (cut_of t) n row_line_is).1.at in
       let view_row : slice_get x.rows n.0 ≡ Some (slices w.row) = ap (λ (y : RowsView). slice_get y.rows n.0) held.rows ∙ (slice_get-map slices (rows_of (cut_of t)) n.0 ∙ ap (option_map slices) at.there) in

@@ -96,7 +96,9 @@ line_text : (c : List ℕ) → c ≡ (cut ends_line c).0 ++ (cut ends_line c).1
 line_text c = sym (take-append-drop (upto ends_line c) c)
 
 -- a comment in a tail, as a piece of the text
-comment_piece : (before white c more : List ℕ) → IsUtf8 (before ++ ((white ++ c) ++ more)) → BeginsAscii (c ++ more) → Ended c more → HoldsPiece (before ++ ((white ++ c) ++ more)) (record { before = before ++ white; text = (cut ends_line c).0; behind = (cut ends_line c).1 ++ more })
+comment_piece : (before white c more : List ℕ) → IsUtf8 (before ++ ((white ++ c) ++ more)) → BeginsAscii (c ++ more) → Ended c more →
+    HoldsPiece (before ++ ((white ++ c) ++ more))
+    (record { before = before ++ white; text = (cut ends_line c).0; behind = (cut ends_line c).1 ++ more })
 comment_piece before white c more u begins ended =
     let text : List ℕ = (cut ends_line c).0 in
     let behind : List ℕ = (cut ends_line c).1 ++ more in
@@ -111,7 +113,10 @@ cut_end : (white c tail more : List ℕ) → tail ≡ white ++ c → 0 < length 
 cut_end white c tail more text some (inl lf) = inl (suffix_lf white c (subst IsLf text lf) some)
 cut_end white c tail more text some (inr none) = inr none
 
-mark_piece : (before white tail more : List ℕ) (b : ℕ) (bs : List ℕ) → IsUtf8 (before ++ (tail ++ more)) → Ended tail more → tail ≡ white ++ (b ∷ bs) → b ≡ 35 → HoldsPiece (before ++ (tail ++ more)) (record { before = before ++ white; text = (cut ends_line (b ∷ bs)).0; behind = (cut ends_line (b ∷ bs)).1 ++ more })
+mark_piece : (before white tail more : List ℕ) (b : ℕ) (bs : List ℕ) → IsUtf8 (before ++ (tail ++ more)) → Ended tail more → tail ≡ white
+    ++ (b ∷ bs) → b ≡ 35 →
+    HoldsPiece (before ++ (tail ++ more))
+    (record { before = before ++ white; text = (cut ends_line (b ∷ bs)).0; behind = (cut ends_line (b ∷ bs)).1 ++ more })
 mark_piece before white tail more b bs u ended text mark =
     let whole : before ++ (tail ++ more) ≡ before ++ ((white ++ (b ∷ bs)) ++ more) = ap (λ x. before ++ (x ++ more)) text in
     subst (λ x. HoldsPiece x (record { before = before ++ white; text = (cut ends_line (b ∷ bs)).0; behind = (cut ends_line (b ∷ bs)).1 ++ more })) (sym whole)
@@ -120,13 +125,19 @@ mark_piece before white tail more b bs u ended text mark =
 pub tail_piece : (before tail more : List ℕ) (q : TextPiece) → IsUtf8 (before ++ (tail ++ more)) → Ended tail more → tail_comment before tail more ≡ Some q → HoldsPiece (before ++ (tail ++ more)) q
 tail_piece before tail more q u ended is = go (past_white tail) refl is
   where
-    test : (c : Bool) (b : ℕ) (bs : List ℕ) → past_white tail ≡ b ∷ bs → eqb b 35 ≡ c → cond c (Some (record { before = before ++ (cut no_white tail).0; text = (cut ends_line (b ∷ bs)).0; behind = (cut ends_line (b ∷ bs)).1 ++ more })) None ≡ Some q → HoldsPiece (before ++ (tail ++ more)) q
+    test : (c : Bool) (b : ℕ) (bs : List ℕ) → past_white tail ≡ b ∷ bs → eqb b 35 ≡ c →
+        cond c (Some (record
+        { before = before ++ (cut no_white tail).0; text = (cut ends_line (b ∷ bs)).0; behind = (cut ends_line (b ∷ bs)).1 ++ more })) None ≡ Some
+        q → HoldsPiece (before ++ (tail ++ more)) q
     test true b bs e mark found =
         subst (HoldsPiece (before ++ (tail ++ more))) (same_Some _ _ found)
         (mark_piece before (cut no_white tail).0 tail more b bs u ended (tail_text tail ∙ ap (λ x. (cut no_white tail).0 ++ x) e) (eqb-true b 35 mark))
     test false b bs e mark found = absurd (cc)
 
-    go : (c : List ℕ) → past_white tail ≡ c → cond (front (λ b. eqb b 35) c) (Some (record { before = before ++ (cut no_white tail).0; text = (cut ends_line c).0; behind = (cut ends_line c).1 ++ more })) None ≡ Some q → HoldsPiece (before ++ (tail ++ more)) q
+    go : (c : List ℕ) → past_white tail ≡ c →
+        cond (front (λ b. eqb b 35) c)
+        (Some (record { before = before ++ (cut no_white tail).0; text = (cut ends_line c).0; behind = (cut ends_line c).1 ++ more })) None ≡ Some
+        q → HoldsPiece (before ++ (tail ++ more)) q
     go [] e found = absurd (cc)
     go (b ∷ bs) e found = test (eqb b 35) b bs e refl found
 
@@ -156,7 +167,9 @@ pub run_begins : (ls : List (List ℕ)) (rest : List ℕ) → 0 < length (joined
 run_begins [] rest some = absurd (omega (arith, some))
 run_begins (l ∷ ls) rest some = go (are_comments (l ∷ ls)) refl some (λ k. run_begins ls rest k)
   where
-    go : (b : Bool) → are_comments (l ∷ ls) ≡ b → 0 < length (joined (cond b (l ∷ ls) (last_run ls))) → (0 < length (joined (last_run ls)) → BeginsAscii (joined (last_run ls) ++ rest)) → BeginsAscii (joined (cond b (l ∷ ls) (last_run ls)) ++ rest)
+    go : (b : Bool) → are_comments (l ∷ ls) ≡ b → 0 < length (joined (cond b (l ∷ ls) (last_run ls))) →
+        (0 < length (joined (last_run ls)) → BeginsAscii (joined (last_run ls) ++ rest)) →
+        BeginsAscii (joined (cond b (l ∷ ls) (last_run ls)) ++ rest)
     go b h1 h2 h3 = search (rules, append_assoc, comment_begins, and_parts)
 
 some_bytes : (t : List ℕ) → is_empty t ≡ false → 0 < length t
@@ -175,7 +188,10 @@ gap_piece before gap rest q u ended is = go (is_empty (joined (last_run (text_li
     end_of some (inr (inl lf)) = inl (suffix_lf (joined (before_run (text_lines gap))) (joined (last_run (text_lines gap))) (subst IsLf (sym (run_split (text_lines gap) ∙ joined_lines gap)) lf) some)
     end_of some (inr (inr none)) = inr none
 
-    go : (b : Bool) → is_empty (joined (last_run (text_lines gap))) ≡ b → cond b None (Some (record { before = before ++ joined (before_run (text_lines gap)); text = joined (last_run (text_lines gap)); behind = rest })) ≡ Some q → HoldsPiece (before ++ (gap ++ rest)) q
+    go : (b : Bool) → is_empty (joined (last_run (text_lines gap))) ≡ b →
+        cond b None (Some (record
+        { before = before ++ joined (before_run (text_lines gap)); text = joined (last_run (text_lines gap)); behind = rest })) ≡ Some q →
+        HoldsPiece (before ++ (gap ++ rest)) q
     go true e found = absurd (cc)
     go false e found =
         let some : 0 < length (joined (last_run (text_lines gap))) = some_bytes (joined (last_run (text_lines gap))) e in

@@ -91,7 +91,9 @@ module _ (c : Cut) (p : Part) (more : List Row) (k : ℕ) (start end : List ℕ)
 
   pub beside_spans : (steps : List Step) → option_map piece_span (piece_in parts.LineComment steps document) ≡ option_map piece_span (row_line_of steps p.rows >>= λ q. line_comment_in (k + q.before) q c)
   beside_spans [] = refl
-  beside_spans (y ∷ ys) = go (find y ys (group (map line_in (printed_lines p.rows)))) refl ∙ ap (λ ls. option_map piece_span ((line_at_steps (y ∷ ys) ls >>= λ n. row_line n p.rows) >>= λ q. line_comment_in (k + q.before) q c)) (lines_are p.rows)
+  beside_spans (y ∷ ys) = go (find y ys (group (map line_in (printed_lines p.rows)))) refl
+      ∙ ap (λ ls. option_map piece_span ((line_at_steps (y ∷ ys) ls >>= λ n. row_line n p.rows) >>= λ q. line_comment_in (k + q.before) q c))
+      (lines_are p.rows)
     where
       go : (o : Option (FoundLine × List Step)) → find y ys (group (map line_in (printed_lines p.rows))) ≡ o →
           option_map piece_span (o >>= λ f. found_entry document f.0 >>= piece_in_entry parts.LineComment f.1) ≡
@@ -104,7 +106,9 @@ module _ (c : Cut) (p : Part) (more : List Row) (k : ℕ) (start end : List ℕ)
 
   pub above_spans : (steps : List Step) → option_map piece_span (piece_in parts.HeadComment steps document) ≡ option_map piece_span (row_line_of steps p.rows >>= λ q. head_comment_in (k + q.before) q c)
   above_spans [] = refl
-  above_spans (y ∷ ys) = go (find y ys (group (map line_in (printed_lines p.rows)))) refl ∙ ap (λ ls. option_map piece_span ((line_at_steps (y ∷ ys) ls >>= λ n. row_line n p.rows) >>= λ q. head_comment_in (k + q.before) q c)) (lines_are p.rows)
+  above_spans (y ∷ ys) = go (find y ys (group (map line_in (printed_lines p.rows)))) refl
+      ∙ ap (λ ls. option_map piece_span ((line_at_steps (y ∷ ys) ls >>= λ n. row_line n p.rows) >>= λ q. head_comment_in (k + q.before) q c))
+      (lines_are p.rows)
     where
       go : (o : Option (FoundLine × List Step)) → find y ys (group (map line_in (printed_lines p.rows))) ≡ o →
           option_map piece_span (o >>= λ f. found_entry document f.0 >>= piece_in_entry parts.HeadComment f.1) ≡

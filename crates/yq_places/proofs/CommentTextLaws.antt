@@ -20,11 +20,17 @@ tail_view before tail behind = go (past_white tail)
     marked b bs e = ap less_space (ap (λ (k : ℕ). drop 1 (cut ends_line (k ∷ bs)).0) e ∙ cut_mark bs)
 
     test : (c : Bool) (b : ℕ) (bs : List ℕ) → eqb b 35 ≡ c →
-        option_map comment_of (cond c (Some (record { before = before ++ (cut no_white tail).0; text = (cut ends_line (b ∷ bs)).0; behind = (cut ends_line (b ∷ bs)).1 ++ behind })) None) ≡ cond c (Some (less_space (cut ends_line bs).0)) None
+        option_map comment_of
+            (cond c (Some (record
+            { before = before ++ (cut no_white tail).0; text = (cut ends_line (b ∷ bs)).0; behind = (cut ends_line (b ∷ bs)).1 ++ behind }))
+            None) ≡ cond c (Some (less_space (cut ends_line bs).0)) None
     test true b bs e = ap Some (marked b bs (eqb-true b 35 e))
     test false b bs e = refl
 
-    go : (c : List ℕ) → option_map comment_of (cond (front (λ b. eqb b 35) c) (Some (record { before = before ++ (cut no_white tail).0; text = (cut ends_line c).0; behind = (cut ends_line c).1 ++ behind })) None) ≡ cond (front (λ b. eqb b 35) c) (Some (less_space (cut ends_line (drop 1 c)).0)) None
+    go : (c : List ℕ) → option_map comment_of
+        (cond (front (λ b. eqb b 35) c)
+        (Some (record { before = before ++ (cut no_white tail).0; text = (cut ends_line c).0; behind = (cut ends_line c).1 ++ behind })) None) ≡ cond
+        (front (λ b. eqb b 35) c) (Some (less_space (cut ends_line (drop 1 c)).0)) None
     go [] = refl
     go (b ∷ bs) = test (eqb b 35) b bs refl
 

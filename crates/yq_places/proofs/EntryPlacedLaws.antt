@@ -24,7 +24,9 @@ row_line_within (r ∷ rs) n s e = go (ltb (length r.dashes) n) refl (row_line (
     count : length (row_lines r) ≡ suc (length r.dashes)
     count = lines_count (comments.head_comment r.gap) r.column r.dashes r.mark r.content
 
-    go : (b : Bool) → ltb (length r.dashes) n ≡ b → (o : Option RowLine) → ((q : RowLine) → row_line (n - suc (length r.dashes)) rs ≡ Some q → n - suc (length r.dashes) < length (lines_of_rows rs)) → row_line (n - suc (length r.dashes)) rs ≡ o →
+    go : (b : Bool) → ltb (length r.dashes) n ≡ b → (o : Option RowLine) →
+        ((q : RowLine) → row_line (n - suc (length r.dashes)) rs ≡ Some q → n - suc (length r.dashes) < length (lines_of_rows rs)) →
+        row_line (n - suc (length r.dashes)) rs ≡ o →
         cond b (option_map behind_one o) (Some (record { before = 0; row = r; line = n })) ≡ Some s → n < length (row_lines r ++ lines_of_rows rs)
     go true t None again at e = absurd (none-some _ e)
     go true t (Some q) again at e = omega (arith, again q at, ltb-true (length r.dashes) n t, count, length-append (row_lines r) (lines_of_rows rs))

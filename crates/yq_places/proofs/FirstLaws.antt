@@ -99,10 +99,12 @@ pub record EntryStands (t : List ℕ) (c : Cut) (path : Path) (start end : ℕ) 
   pub behind_is : drop (end - start) (drop start t) ≡ piece.behind
 
 -- the place of a line's entry or item is that of the piece
-entry_is : (t : List ℕ) (c : Cut) (path : Path) (k : ℕ) (n : LineCounts) → IsCut t c → all_documents c ≡ true → Some n ≡ option_map (numbers k) (row_line_at path c) → line_entry_at path c ≡ option_map piece_span (path_piece path parts.Entry c)
+entry_is : (t : List ℕ) (c : Cut) (path : Path) (k : ℕ) (n : LineCounts) → IsCut t c → all_documents c ≡ true →
+    Some n ≡ option_map (numbers k) (row_line_at path c) → line_entry_at path c ≡ option_map piece_span (path_piece path parts.Entry c)
 entry_is t c path k n cut sound there = row_line_entry path c k n there ∙ sym (spans_are t c path cut sound).1
 
-pub entry_stands : (t : List ℕ) (c : Cut) (path : Path) (start end : ℕ) → IsUtf8 t → IsCut t c → all_documents c ≡ true → (k : ℕ) (n : LineCounts) → Some n ≡ option_map (numbers k) (row_line_at path c) → Some (start, end) ≡ line_entry_at path c →
+pub entry_stands : (t : List ℕ) (c : Cut) (path : Path) (start end : ℕ) → IsUtf8 t → IsCut t c → all_documents c ≡ true → (k : ℕ) (n : LineCounts) →
+    Some n ≡ option_map (numbers k) (row_line_at path c) → Some (start, end) ≡ line_entry_at path c →
     EntryStands t c path start end
 entry_stands t c path start end u cut sound k n there at =
     let e : Some (start, end) ≡ option_map piece_span (path_piece path parts.Entry c) = at ∙ entry_is t c path k n cut sound there in
@@ -141,7 +143,8 @@ no_first_row_line path c k e = search rules
 pub other_first_line : (path : Path) (c : Cut) (k : ℕ) (n : LineCounts) → Some n ≡ option_map (numbers k) (row_line_at path c) → n.1 ≡ 0 → None ≡ first_removal path.doc (steps_of path) c
 other_first_line path c k n e zero_is = search rules
 
-pub no_first_entry : (t : List ℕ) (c : Cut) (path : Path) (k : ℕ) (n : LineCounts) → IsCut t c → all_documents c ≡ true → Some n ≡ option_map (numbers k) (row_line_at path c) → None ≡ line_entry_at path c → None ≡ first_removal path.doc (steps_of path) c
+pub no_first_entry : (t : List ℕ) (c : Cut) (path : Path) (k : ℕ) (n : LineCounts) → IsCut t c → all_documents c ≡ true →
+    Some n ≡ option_map (numbers k) (row_line_at path c) → None ≡ line_entry_at path c → None ≡ first_removal path.doc (steps_of path) c
 no_first_entry t c path k n cut sound there e = go (path_piece path parts.Entry c) (e ∙ entry_is t c path k n cut sound there) (row_line_at path c)
   where
     either : (b : Bool) → None ≡ option_map first_out (cond b None None)
@@ -150,5 +153,6 @@ no_first_entry t c path k n cut sound there e = go (path_piece path parts.Entry 
     go : (x : Option TextPiece) → None ≡ option_map piece_span x → (o : Option RowLine) → None ≡ first_out_of o x
     go x h1 o = search rules
 
-pub first_is : (path : Path) (c : Cut) (k : ℕ) (n : LineCounts) (x : TextPiece) → Some n ≡ option_map (numbers k) (row_line_at path c) → (n.1 ≡ 0 → ⊥) → path_piece path parts.Entry c ≡ Some x → Some (first_out x) ≡ first_removal path.doc (steps_of path) c
+pub first_is : (path : Path) (c : Cut) (k : ℕ) (n : LineCounts) (x : TextPiece) → Some n ≡ option_map (numbers k) (row_line_at path c) →
+    (n.1 ≡ 0 → ⊥) → path_piece path parts.Entry c ≡ Some x → Some (first_out x) ≡ first_removal path.doc (steps_of path) c
 first_is path c k n x e other is = search rules

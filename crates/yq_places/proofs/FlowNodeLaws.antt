@@ -79,7 +79,8 @@ item_more k s none rest more = refl
 item_more k s (item key n sep is) rest more = go (is_here s (key_label (key_content key))) (item_more k (further s) is rest more)
   where
     go : (b : Bool) → item_at k (further s) is (rest ++ more) ≡ option_map (entry_more more) (item_at k (further s) is rest) →
-        cond b (as_entry key n (sep_text sep (flow_items_text k is (rest ++ more)))) (item_at k (further s) is (rest ++ more)) ≡ option_map (entry_more more) (cond b (as_entry key n (sep_text sep (flow_items_text k is rest))) (item_at k (further s) is rest))
+        cond b (as_entry key n (sep_text sep (flow_items_text k is (rest ++ more)))) (item_at k (further s) is (rest ++ more)) ≡ option_map
+            (entry_more more) (cond b (as_entry key n (sep_text sep (flow_items_text k is rest))) (item_at k (further s) is rest))
     go true again = ap (as_entry key n) (ap (sep_text sep) (items_append k is rest more) ∙ sep_append sep (flow_items_text k is rest) more)
     go false again = again
 
@@ -124,7 +125,8 @@ pub no_collection : (k : ℕ) (c : Cut) (rs : List Row) (steps : List Step) → 
 no_collection k c rs steps e = ap (λ (o : Option (ℕ × List Step)). o >>= λ x. line_collection k c rs x.0 x.1) e
 
 -- the collection in the head of a line, by its row
-beside_agrees : (s : RowsView) (d : Stretch) (c : Cut) (k : InCut s d c) (q : Position) (at : IsLine s d q) (steps left : List Step) → head_line_of steps (lines_of_rows k.document.stand.rows) ≡ Some (line_number d k.document.stand.rows q, left) →
+beside_agrees : (s : RowsView) (d : Stretch) (c : Cut) (k : InCut s d c) (q : Position) (at : IsLine s d q) (steps left : List Step) →
+    head_line_of steps (lines_of_rows k.document.stand.rows) ≡ Some (line_number d k.document.stand.rows q, left) →
     rows_collection d.first c k.document.stand.rows steps ≡ content_flow left (row_is s d c k q at).content (behind_row q.row c)
 beside_agrees s d c k q at steps left e =
     ap (λ (o : Option (ℕ × List Step)). o >>= λ x. line_collection d.first c k.document.stand.rows x.0 x.1) e

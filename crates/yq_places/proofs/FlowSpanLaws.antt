@@ -59,7 +59,8 @@ mapped f o y h1 = search (rules, same_Some)
 abbrev pub AreSpans : List ℕ → PlacedEntry → Type 0
 AreSpans t e = IsSpan t (entry_place e).0 (entry_place e).1 × ((x : ℕ × ℕ) → content_place e.1 ≡ Some x → IsSpan t x.0 x.1)
 
-pub flow_spans : (c : Cut) (i : ℕ) (r : Row) → IsUtf8 (cut_text c) → IsCut (cut_text c) c → slice_get (rows_of c) i ≡ Some r → (s : Step) (ss : List Step) (e : PlacedEntry) → placed_entry_at (s ∷ ss) (None, placed_inline i r c) ≡ Some e → AreSpans (cut_text c) e
+pub flow_spans : (c : Cut) (i : ℕ) (r : Row) → IsUtf8 (cut_text c) → IsCut (cut_text c) c → slice_get (rows_of c) i ≡ Some r →
+    (s : Step) (ss : List Step) (e : PlacedEntry) → placed_entry_at (s ∷ ss) (None, placed_inline i r c) ≡ Some e → AreSpans (cut_text c) e
 flow_spans c i r u cut is s ss e found = go r.content refl found
   where
     go : (x : Content) → r.content ≡ x → placed_entry_at (s ∷ ss) (None, locate (length (cut_text c)) (inline_node x) (tail_of x ++ behind_row i c)) ≡ Some e → AreSpans (cut_text c) e

@@ -55,7 +55,9 @@ pub before_under : (p : Context) (l : Line) (a : Outline) → lines_before (comp
 before_under p l a = before_inside p here l a
 
 -- the line under one that was found
-under_found : (f : FoundLine) (u : Outline) → option_map numbered (option_map {U = FoundLine × List Step} (λ g. (lines.place_inside f g, [])) (bare_line u)) ≡ with_steps [] (cond (begins_with_node u) (Some (length (lines_before f.place) + 1)) None)
+under_found : (f : FoundLine) (u : Outline) →
+    option_map numbered (option_map {U = FoundLine × List Step} (λ g. (lines.place_inside f g, [])) (bare_line u)) ≡ with_steps []
+    (cond (begins_with_node u) (Some (length (lines_before f.place) + 1)) None)
 under_found f u = search (rules, before_under, length-append)
 
 first_line : (o : Outline) → option_map numbered (option_map {U = FoundLine × List Step} (λ f. (f, [])) (bare_line o)) ≡ with_steps [] (cond (begins_with_node o) (Some 0) None)

@@ -45,10 +45,12 @@ head_fits s i x place h there at =
     omega (arith, end, ap (row_start i) h.is, ap front_length got.2, ap (λ (y : Slices). length y.head) got.2, row_fits s i x there, view_small s h)
 
 -- the place of what the head of a row spells
-pub head_agrees : (t : List ℕ) (c : Cut) (s : RowsView) (i : ℕ) (x : Slices) (r : Row) (place : ℕ × ℕ) (end : ℕ) → IsCut t c → s ≡ rows_view c → slice_get s.rows i ≡ Some x → slice_get (rows_of c) i ≡ Some r → place ≡ head_place i c r → end ≡ head_finish place.1 x →
+pub head_agrees : (t : List ℕ) (c : Cut) (s : RowsView) (i : ℕ) (x : Slices) (r : Row) (place : ℕ × ℕ) (end : ℕ) → IsCut t c → s ≡ rows_view c →
+    slice_get s.rows i ≡ Some x → slice_get (rows_of c) i ≡ Some r → place ≡ head_place i c r → end ≡ head_finish place.1 x →
     ◌≡◌ {A = ℕ × ℕ} (place.0, end) (head_extent i r c)
 head_agrees t c s i x r place end cut is there row at e = search (rules, slice_get-map, same_Some, head_ends)
 
 -- the end of a row
-pub end_agrees : (c : Cut) (s : RowsView) (i : ℕ) (x : Slices) (r : Row) (place : ℕ × ℕ) (n : ℕ) → s ≡ rows_view c → slice_get s.rows i ≡ Some x → slice_get (rows_of c) i ≡ Some r → place ≡ head_place i c r → n ≡ length (row_ending x) → place.1 + n ≡ length (through_row i r c)
+pub end_agrees : (c : Cut) (s : RowsView) (i : ℕ) (x : Slices) (r : Row) (place : ℕ × ℕ) (n : ℕ) → s ≡ rows_view c → slice_get s.rows i ≡ Some x →
+    slice_get (rows_of c) i ≡ Some r → place ≡ head_place i c r → n ≡ length (row_ending x) → place.1 + n ≡ length (through_row i r c)
 end_agrees c s i x r place n is there row at e = search (rules, slice_get-map, same_Some, row_ends)

@@ -110,7 +110,9 @@ module _ (c : Cut) (i : ℕ) (r : Row) (u : IsUtf8 (cut_text c)) (cut : IsCut (c
       let ended : Ended last (behind_row i c) = last_ended s.tail s.raw (behind_row i c) (content_end (parent_indent r) r.content (behind_row i c) holds) (raw_end (parent_indent r) r.content (behind_row i c) holds) in
       let whole : cut_text c ≡ (before ++ last) ++ behind_row i c = tail_place c i r is ∙ grouped before s.tail s.raw (behind_row i c) in
       subst (IsCharBoundary (cut_text c)) (omega (arith, tail_length, length-append before last, length-append s.tail (s.raw ++ []), length-append s.raw []))
-      (subst (λ (q : List ℕ). IsCharBoundary q (length (before ++ last))) (sym whole) (seam_boundary (before ++ last) (behind_row i c) (subst IsUtf8 whole u) (ended_seam (before ++ last) (behind_row i c) (ended_after before last (behind_row i c) ended))))
+      (subst (λ (q : List ℕ). IsCharBoundary q (length (before ++ last))) (sym whole)
+          (seam_boundary (before ++ last) (behind_row i c) (subst IsUtf8 whole u)
+          (ended_seam (before ++ last) (behind_row i c) (ended_after before last (behind_row i c) ended))))
 
   inline_span : (space : List ℕ) (node : FlowNode) (tail : List ℕ) → r.content ≡ Inline space node tail → IsSpan (cut_text c) start (start + length (slices r).head)
   inline_span space node tail content =
@@ -143,5 +145,7 @@ module _ (c : Cut) (i : ℕ) (r : Row) (u : IsUtf8 (cut_text c)) (cut : IsCut (c
 pub free_first : (rs : List Row) → allows_first unlimited rs ≡ true
 free_first rs = search rules
 
-pub may_follow : (r : Row) (space : List ℕ) (new : FlowNode) (tail : List ℕ) (rs : List Row) → allows_first (record { column = Some (deeper (parent_indent r)) }) rs ≡ true → allows_first (limit_after (with_content (Inline space new tail) r)) rs ≡ true
+pub may_follow : (r : Row) (space : List ℕ) (new : FlowNode) (tail : List ℕ) (rs : List Row) →
+    allows_first (record { column = Some (deeper (parent_indent r)) }) rs ≡ true →
+    allows_first (limit_after (with_content (Inline space new tail) r)) rs ≡ true
 may_follow r space new tail rs h = search rules

@@ -27,7 +27,9 @@ head_inside : (f : FoundLine) (x : Reached) → head_line (place_inside f x.0) x
 head_inside f (g, s ∷ ss) = refl
 head_inside f (g, []) = go g.line.head (bare_line g.under)
   where
-    go : (h : Option Node) (o : Option FoundLine) → in_head h (Some (place_inside f g, [])) (option_map {U = Reached} (λ b. (place_inside (place_inside f g) b, [])) o) ≡ option_map (within f) (in_head h (Some (g, [])) (option_map {U = Reached} (λ b. (place_inside g b, [])) o))
+    go : (h : Option Node) (o : Option FoundLine) →
+        in_head h (Some (place_inside f g, [])) (option_map {U = Reached} (λ b. (place_inside (place_inside f g) b, [])) o) ≡ option_map (within f)
+        (in_head h (Some (g, [])) (option_map {U = Reached} (λ b. (place_inside g b, [])) o))
     go h o = search (rules, inside_twice)
 
 all_inside : (f : FoundLine) (r : Option Reached) → (option_map {U = Reached} (λ x. (place_inside f x.0, x.1)) r >>= λ x. head_line x.0 x.1) ≡ option_map (within f) (r >>= λ x. head_line x.0 x.1)
@@ -66,7 +68,8 @@ stem_found [] o y e = search rules
 stem_found (s ∷ ss) end y e = absurd (none-some _ e)
 stem_found (s ∷ ss) (row l u a) y e = go l.mark refl (find_row s (row l u a)) refl (λ o x is. stem_found ss o x is) (sym (head_in_row s ss l u a) ∙ e)
   where
-    under : (f : FoundLine) → ((rest : List Step) → find_head (s ∷ rest) (row l u a) ≡ on_from rest f) → f.line.head ≡ None → (r : Option Reached) → find_head ss f.under ≡ r → Stems ss → option_map (within f) r ≡ Some y → HasStem (s ∷ ss) (row l u a) y
+    under : (f : FoundLine) → ((rest : List Step) → find_head (s ∷ rest) (row l u a) ≡ on_from rest f) → f.line.head ≡ None → (r : Option Reached) →
+        find_head ss f.under ≡ r → Stems ss → option_map (within f) r ≡ Some y → HasStem (s ∷ ss) (row l u a) y
     under f all is None found again e = absurd (none-some _ e)
     under f all is (Some x) found again e =
         let deeper = again f.under x found in
@@ -79,7 +82,8 @@ stem_found (s ∷ ss) (row l u a) y e = go l.mark refl (find_row s (row l u a)) 
               ∙ ap (option_map (within f)) (deeper.leads left));
         })
 
-    entry : (f : FoundLine) → ((rest : List Step) → find_head (s ∷ rest) (row l u a) ≡ on_from rest f) → (h : Option Node) → f.line.head ≡ h → Stems ss → in_head h (Some (f, ss)) (option_map (within f) (find_head ss f.under)) ≡ Some y → HasStem (s ∷ ss) (row l u a) y
+    entry : (f : FoundLine) → ((rest : List Step) → find_head (s ∷ rest) (row l u a) ≡ on_from rest f) → (h : Option Node) → f.line.head ≡ h →
+        Stems ss → in_head h (Some (f, ss)) (option_map (within f) (find_head ss f.under)) ≡ Some y → HasStem (s ∷ ss) (row l u a) y
     entry f all (Some n) is again e = subst (HasStem (s ∷ ss) (row l u a)) (same_Some _ _ e) (record {
       stem = s ∷ [];
       steps_are = refl;

@@ -53,7 +53,8 @@ line_in s d steps q h at =
     let l = located s d h q at.line in (slices l.row, (l.pieces, slice_get_within s.rows q.row (slices l.row) l.pieces))
 
 -- the rows of the item or entry to whose line steps lead
-line_found : (t : List ℕ) (s : RowsView) (n : ℕ) (d : Stretch) (steps : List Step) (q : Position) (y : Slices) → IsCut t (cut_of t) → s ≡ rows_view (cut_of t) → Some (stretch_view d) ≡ document_row_range n (cut_of t) → all_documents (cut_of t) ≡ true →
+line_found : (t : List ℕ) (s : RowsView) (n : ℕ) (d : Stretch) (steps : List Step) (q : Position) (y : Slices) → IsCut t (cut_of t) →
+    s ≡ rows_view (cut_of t) → Some (stretch_view d) ≡ document_row_range n (cut_of t) → all_documents (cut_of t) ≡ true →
     IsLineAt s d steps q → slice_get s.rows q.row ≡ Some y →
     FoundEntry t s n steps (record { row = q.row; line = q.line; dashes = lines_before_mark y; end = (q.row + 1) + deeper_rows (line_level q.line y) (take (d.end - (q.row + 1)) (drop (q.row + 1) s.rows)) })
 line_found t s n d steps q y cut is known sound at there =
@@ -95,7 +96,8 @@ module _ (t : List ℕ) (s : RowsView) (e : RowsOfEntry) (row end : ℕ) (h : Ar
       )
 
 -- the row of the line that a walk has found is that of the item or entry to which the steps lead
-pub held_row_is : (t : List ℕ) (s : RowsView) (n : ℕ) (d : Stretch) (steps : List Step) (q : Position) (x : HeldRow) → IsCut t (cut_of t) → s ≡ rows_view (cut_of t) → Some (stretch_view d) ≡ document_row_range n (cut_of t) → all_documents (cut_of t) ≡ true →
+pub held_row_is : (t : List ℕ) (s : RowsView) (n : ℕ) (d : Stretch) (steps : List Step) (q : Position) (x : HeldRow) → IsCut t (cut_of t) →
+    s ≡ rows_view (cut_of t) → Some (stretch_view d) ≡ document_row_range n (cut_of t) → all_documents (cut_of t) ≡ true →
     IsLineAt s d steps q → (y : Slices) → slice_get s.rows q.row ≡ Some y → ((c : Cut) → s ≡ rows_view c → (r : Row) → slice_get (rows_of c) q.row ≡ Some r → IsLastOf c q r x) → IsHeldRow n steps (cut_of t) x
 held_row_is t s n d steps q x cut is known sound at y there says =
     let f = line_found t s n d steps q y cut is known sound at there in

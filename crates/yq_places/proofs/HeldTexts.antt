@@ -51,7 +51,8 @@ line_is r =
     let s : Slices = slices r in
     ap (λ (x : List ℕ). row_front r ++ x) (head_front r.content s s.head refl refl refl) ∙ sym (append_assoc (row_front r) (anchor_before s) (space_before s ++ s.head))
 
-module _ (t : List ℕ) (s : RowsView) (e : RowsOfEntry) (row end : ℕ) (h : AreRowsOf t s e row end) (u : IsUtf8 t) (place : ℕ × ℕ) (agrees : (c : Cut) → s ≡ rows_view c → (r : Row) → slice_get (rows_of c) row ≡ Some r → place ≡ head_place row c r)
+module _ (t : List ℕ) (s : RowsView) (e : RowsOfEntry) (row end : ℕ) (h : AreRowsOf t s e row end) (u : IsUtf8 t) (place : ℕ × ℕ)
+    (agrees : (c : Cut) → s ≡ rows_view c → (r : Row) → slice_get (rows_of c) row ≡ Some r → place ≡ head_place row c r)
     (y : Slices) (there : slice_get s.rows row ≡ Some y) (stop : ℕ) (stop_agrees : (x : Slices) → slice_get s.rows (end - 1) ≡ Some x → stop ≡ row_start (end - 1) s + row_length x) where
   same : slices e.row ≡ y
   same = same_Some _ _ (sym (pieces_at t s e row end h) ∙ there)
@@ -142,10 +143,13 @@ module _ (t : List ℕ) (s : RowsView) (e : RowsOfEntry) (row end : ℕ) (h : Ar
       let x : Slices = slices e.row in
       (λ i. take (size space head a b i) ((is ∙ line_is_front) i)) ∙ take-append_seam front ((space_before x ++ x.head) ++ x.tail)
 
-  pub held_is : (column dashes : ℕ) (keyed noted : Bool) (before space head break last : List ℕ) (tail : LineEnd) (lower : LinesIn) → column ≡ line_column dashes y → dashes ≡ length e.row.dashes → keyed ≡ not (is_empty y.colon) → tail ≡ end_in_line [] y.tail →
+  pub held_is : (column dashes : ℕ) (keyed noted : Bool) (before space head break last : List ℕ) (tail : LineEnd) (lower : LinesIn) →
+      column ≡ line_column dashes y → dashes ≡ length e.row.dashes → keyed ≡ not (is_empty y.colon) → tail ≡ end_in_line [] y.tail →
       noted ≡ (not (is_empty y.anchor) || not (is_empty tail.comment)) → lower ≡ lines_between ((before_entry e ++ text_to_line_end e.row) ++ (slices e.row).tail) ((slices e.row).raw ++ rows_text e.under []) (behind_entry e) →
       space ≡ space_before y → head ≡ y.head → before ≡ take (place.1 - (length space + length head)) lower.before → break ≡ cond lower.none [] tail.behind → last ≡ cond lower.none tail.behind lower.last →
-      ◌≡◌ {A = Held} (record { mark = record { column = column; keyed = keyed; noted = noted }; before = before; space = space; head = head; white = tail.white; comment = tail.comment; break = break; lines = lower.lines; last = last; behind = lower.behind }) (held e)
+      ◌≡◌ {A = Held} (record
+          { mark = record { column = column; keyed = keyed; noted = noted }; before = before; space = space; head = head; white =
+          tail.white; comment = tail.comment; break = break; lines = lower.lines; last = last; behind = lower.behind }) (held e)
   held_is column dashes keyed noted before space head break last tail lower columns_are dashes_are keyed_is tail_is noted_is lower_is space_is head_is before_cut break_is last_is_it =
       let r : Row = e.row in
       let end : tail ≡ end_in_line [] (slices r).tail = tail_is ∙ ap (λ (z : Slices). end_in_line [] z.tail) (sym same) in
@@ -156,7 +160,8 @@ module _ (t : List ℕ) (s : RowsView) (e : RowsOfEntry) (row end : ℕ) (h : Ar
       let g : space ≡ space_before (slices r) = space_is ∙ ap space_before (sym same) in
       let k : head ≡ (slices r).head = head_is ∙ ap (λ (z : Slices). z.head) (sym same) in
       let m : break ≡ cond (is_empty ((slices r).raw ++ rows_text e.under [])) [] (end_in_line [] (slices r).tail).behind = break_is ∙ (λ i. cond (lower_is i).none [] (end i).behind) in
-      let n : last ≡ cond (is_empty ((slices r).raw ++ rows_text e.under [])) (end_in_line [] (slices r).tail).behind (last_break ((slices r).raw ++ rows_text e.under [])) = last_is_it ∙ (λ i. cond (lower_is i).none (end i).behind (lower_is i).last) in
+      let n : last ≡ cond (is_empty ((slices r).raw ++ rows_text e.under [])) (end_in_line [] (slices r).tail).behind
+          (last_break ((slices r).raw ++ rows_text e.under [])) = last_is_it ∙ (λ i. cond (lower_is i).none (end i).behind (lower_is i).last) in
       λ i. record {
         mark = record { column = a i; keyed = b i; noted = d i };
         before = f i;

@@ -23,6 +23,7 @@ module _ (t : List ℕ) (from stop : ℕ) (h : CutsLines t from stop) where
   rest : drop from t ≡ h.own ++ h.behind
   rest = (λ i. drop (h.from_is i) (h.text i)) ∙ drop-append_seam h.before (h.own ++ h.behind)
 
-  pub lines_are : (before own lines last behind : List ℕ) (none : Bool) → before ≡ take from t → own ≡ take (stop - from) (drop from t) → behind ≡ drop (stop - from) (drop from t) → none ≡ eqb (length own) 0 → lines ≡ less_break own → last ≡ last_break own →
+  pub lines_are : (before own lines last behind : List ℕ) (none : Bool) → before ≡ take from t → own ≡ take (stop - from) (drop from t) →
+      behind ≡ drop (stop - from) (drop from t) → none ≡ eqb (length own) 0 → lines ≡ less_break own → last ≡ last_break own →
       ◌≡◌ {A = LinesIn} (record { before = before; none = none; lines = lines; last = last; behind = behind }) (line_list h)
   lines_are before own lines last behind none a b d e f g = search (rules, take-append_seam, size, rest, drop-append_seam, none_is)

@@ -84,7 +84,8 @@ module _ (t : List ℕ) (s : RowsView) (e : RowsOfEntry) (row end : ℕ) (h : Ar
 
 -- ---- a collection after a dash
 
-module _ (t : List ℕ) (s : RowsView) (e : RowsOfEntry) (row end : ℕ) (h : AreRowsOf t s e row end) (u : IsUtf8 t) (line : ℕ) (line_is : line ≡ e.line) (less : e.line < length e.row.dashes) (y : Slices) (there : slice_get s.rows row ≡ Some y) (start stop : ℕ)
+module _ (t : List ℕ) (s : RowsView) (e : RowsOfEntry) (row end : ℕ) (h : AreRowsOf t s e row end) (u : IsUtf8 t) (line : ℕ)
+    (line_is : line ≡ e.line) (less : e.line < length e.row.dashes) (y : Slices) (there : slice_get s.rows row ≡ Some y) (start stop : ℕ)
     (start_agrees : (x : Slices) → slice_get s.rows row ≡ Some x → start ≡ line_begin (row_start row s) x line) (stop_agrees : (x : Slices) → slice_get s.rows (end - 1) ≡ Some x → stop ≡ row_start (end - 1) s + row_length x) where
   abbrev front : List ℕ
   front = before_entry e ++ row_front (upto_dash e.line e.row)
@@ -107,7 +108,9 @@ module _ (t : List ℕ) (s : RowsView) (e : RowsOfEntry) (row end : ℕ) (h : Ar
       let at = first_at t s e row end h in
       let own : List ℕ = e.row.gap ++ (replicate e.row.column 32 ++ dashes_text (take e.line e.row.dashes) []) in
       let begins : start ≡ length (before_entry e ++ own) =
-      start_agrees (slices e.row) (pieces_at t s e row end h) ∙ ((λ i. line_begin (row_start row (h.rows_view_is i)) (slices e.row) (line_is i)) ∙ (line_begins c row e.line e.row at.there (omega (arith, less)) ∙ ap (λ (z : List ℕ). length (z ++ own)) at.before_is)) in
+      start_agrees (slices e.row) (pieces_at t s e row end h)
+          ∙ ((λ i. line_begin (row_start row (h.rows_view_is i)) (slices e.row) (line_is i))
+          ∙ (line_begins c row e.line e.row at.there (omega (arith, less)) ∙ ap (λ (z : List ℕ). length (z ++ own)) at.before_is)) in
       omega (arith, begins, ap length dash_is, length-append upto (45 ∷ []))
 
   pub dash_fits : start + 1 ≤ text_limit

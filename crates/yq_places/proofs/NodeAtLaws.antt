@@ -48,12 +48,16 @@ view_of_map v = simp (the_lemmas) refl
 pub items_agrees : (node : Inline) (v : Vec Inline Global) (n : ℕ) → node.form ≡ forms.TheVariants.List v → n ≡ vec_len v → list (ltb 1 n) ≡ node_summary (placed_tree (inline_view node))
 items_agrees node v n is size =
     ap (λ (k : ℕ). list (ltb 1 k)) (size ∙ (v.ok.0 ∙ sym (items_count v.items)))
-    ∙ (sym (named_summary (anchor_name node.anchor) (tree.list None (parts_tree (items_end v.items)))) ∙ sym (ap (λ (p : Placed). node_summary (placed_tree p)) (view_of_node node) ∙ ap (λ (x : CoreNode). node_summary (with_anchor_name (anchor_name node.anchor) (content_tree x))) (ap form_view is ∙ view_of_list v)))
+    ∙ (sym (named_summary (anchor_name node.anchor) (tree.list None (parts_tree (items_end v.items))))
+        ∙ sym (ap (λ (p : Placed). node_summary (placed_tree p)) (view_of_node node)
+        ∙ ap (λ (x : CoreNode). node_summary (with_anchor_name (anchor_name node.anchor) (content_tree x))) (ap form_view is ∙ view_of_list v)))
 
 pub entries_agrees : (node : Inline) (v : Vec Field Global) (n : ℕ) → node.form ≡ forms.TheVariants.Map v → n ≡ vec_len v → mapping (ltb 1 n) ≡ node_summary (placed_tree (inline_view node))
 entries_agrees node v n is size =
     ap (λ (k : ℕ). mapping (ltb 1 k)) (size ∙ (v.ok.0 ∙ sym (entries_count v.items)))
-    ∙ (sym (named_summary (anchor_name node.anchor) (tree.map None (parts_tree (entries_end v.items)))) ∙ sym (ap (λ (p : Placed). node_summary (placed_tree p)) (view_of_node node) ∙ ap (λ (x : CoreNode). node_summary (with_anchor_name (anchor_name node.anchor) (content_tree x))) (ap form_view is ∙ view_of_map v)))
+    ∙ (sym (named_summary (anchor_name node.anchor) (tree.map None (parts_tree (entries_end v.items))))
+        ∙ sym (ap (λ (p : Placed). node_summary (placed_tree p)) (view_of_node node)
+        ∙ ap (λ (x : CoreNode). node_summary (with_anchor_name (anchor_name node.anchor) (content_tree x))) (ap form_view is ∙ view_of_map v)))
 
 -- no steps lead on from a scalar
 pub scalar_steps : (ss : List Step) (kind : Kind) (text : List ℕ) → false ≡ eqb (length ss) 0 → None ≡ summary_in_head ss (Some (tree.scalar None kind text))
@@ -157,7 +161,8 @@ pub block_numbers_of : (ls : List Line) (steps left : List Step) (p : NodePlace)
 block_numbers_of ls steps left p e none = ap (λ (o : Option ℕ). line_or o (summary_in_line ls left) (summary_of_lines ls p)) none ∙ ap (λ (o : Option (NodePlace × List Step)). o >>= λ x. place_node ls x.0 x.1) e
 
 -- in the head of a line, by its row
-pub head_agrees : (s : RowsView) (d : Stretch) (c : Cut) (k : InCut s d c) (q : Position) (w : IsLine s d q) (steps left : List Step) (p : NodePlace) (h : Option Node) → Some (p, left) ≡ node_place steps (lines_of_rows k.document.stand.rows) →
+pub head_agrees : (s : RowsView) (d : Stretch) (c : Cut) (k : InCut s d c) (q : Position) (w : IsLine s d q) (steps left : List Step) (p : NodePlace)
+    (h : Option Node) → Some (p, left) ≡ node_place steps (lines_of_rows k.document.stand.rows) →
     Some (line_number d k.document.stand.rows q) ≡ place_line (lines_of_rows k.document.stand.rows) p → h ≡ head_of (row_is s d c k q w).content → summary_in_head left h ≡ node_among steps d.first c k.document.stand.rows
 head_agrees s d c k q w steps left p h e found head =
     let ls : List Line = lines_of_rows k.document.stand.rows in

@@ -84,7 +84,9 @@ module _ {A : Type 0} (head : ℕ → Option A) (lines : ℕ → ℕ → Option 
       go true = refl
       go false = ap (lines (suc n)) (sym (line_stop ls n l is)) ∙ (λ i. lines (next i) (lines_stop (next i) (level l) ls))
 
-  pub node_said : (along : List Step → Option A) → along [] ≡ lines 0 (length ls) → ((s : Step) (ss : List Step) → along (s ∷ ss) ≡ (line_at_steps (s ∷ ss) ls >>= Under)) → (steps : List Step) → along steps ≡ (node_place steps ls >>= said_at head lines ls)
+  pub node_said : (along : List Step → Option A) → along [] ≡ lines 0 (length ls) →
+      ((s : Step) (ss : List Step) → along (s ∷ ss) ≡ (line_at_steps (s ∷ ss) ls >>= Under)) → (steps : List Step) →
+      along steps ≡ (node_place steps ls >>= said_at head lines ls)
   node_said along none some [] = none ∙ ap (lines 0) (sym (all_stop ls))
   node_said along none some (s ∷ ss) = some s ss ∙ go (find s ss (group ls)) refl
     where

@@ -43,7 +43,8 @@ moved a b more x h = (more ++ h.0, h.1 ∙ (ap (λ l. l ++ h.0) (sym (append_ass
 content_begins : (e : BlockEntry) (x : TextPiece) → content_piece e ≡ Some x → From (e.before ++ line_front e.line) x
 content_begins e x is = go (is_some e.line.line.head) is
   where
-    go : (b : Bool) → cond b (head_piece (e.before ++ (line_front e.line ++ e.line.mark)) e.line.content (print_lines e.under e.behind)) (lines_piece (e.before ++ print_line e.line []) e.under e.behind) ≡ Some x → From (e.before ++ line_front e.line) x
+    go : (b : Bool) → cond b (head_piece (e.before ++ (line_front e.line ++ e.line.mark)) e.line.content (print_lines e.under e.behind))
+        (lines_piece (e.before ++ print_line e.line []) e.under e.behind) ≡ Some x → From (e.before ++ line_front e.line) x
     go true is = moved e.before (line_front e.line) e.line.mark x (head_begins (e.before ++ (line_front e.line ++ e.line.mark)) e.line.content (print_lines e.under e.behind) x is)
     go false is = moved e.before (line_front e.line) (line_rest e.line []) x (block_begins (e.before ++ print_line e.line []) e.under e.behind x is)
 

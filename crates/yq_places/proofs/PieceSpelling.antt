@@ -106,7 +106,9 @@ under_in s e h = record {
 pub content_spells : (s : PrintedDocument) (e : BlockEntry) (f : FoundLine) (x : TextPiece) (m : ℕ) → IsFound s e f → IsEven m f.under → content_piece e ≡ Some x → SpellsNode s x (places.content_under f.line f.under)
 content_spells s e f x m h even is = go e.line.line.head refl is
   where
-    go : (o : Option tree.Node) → e.line.line.head ≡ o → cond (is_some o) (head_piece (e.before ++ (line_front e.line ++ e.line.mark)) e.line.content (print_lines e.under e.behind)) (lines_piece (e.before ++ print_line e.line []) e.under e.behind) ≡ Some x →
+    go : (o : Option tree.Node) → e.line.line.head ≡ o →
+        cond (is_some o) (head_piece (e.before ++ (line_front e.line ++ e.line.mark)) e.line.content (print_lines e.under e.behind))
+        (lines_piece (e.before ++ print_line e.line []) e.under e.behind) ≡ Some x →
         SpellsNode s x (places.content_under f.line f.under)
     go (Some k) head is =
         subst (λ (j : Line). SpellsNode s x (outlines.anchored j.anchor (head_or j.head (value f.under)))) h.line
@@ -134,7 +136,8 @@ abbrev HasHead : List Step → FoundLine → Type 0
 HasHead [] f = Unit {0}
 HasHead (t ∷ ts) f = (h : tree.Node) × (f.line.head ≡ Some h)
 
-pub part_spells : (s : PrintedDocument) (part : WhichPart) (ss : List Step) (e : BlockEntry) (f : FoundLine) (x : TextPiece) → IsFound s e f → HasHead ss f → ((m : ℕ) × (level f.line < m) × IsEven m f.under) → piece_in_entry part ss e ≡ Some x →
+pub part_spells : (s : PrintedDocument) (part : WhichPart) (ss : List Step) (e : BlockEntry) (f : FoundLine) (x : TextPiece) → IsFound s e f →
+    HasHead ss f → ((m : ℕ) × (level f.line < m) × IsEven m f.under) → piece_in_entry part ss e ≡ Some x →
     Spelled s part x (labelled_from ss (entry_of f.line f.under))
 part_spells s parts.Content [] e f x h head even is = (_, refl, content_spells s e f x even.0 h even.2 is)
 part_spells s parts.Content (t ∷ ts) e f x h head even is =

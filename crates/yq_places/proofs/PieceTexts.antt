@@ -56,7 +56,8 @@ entry_text e = e.before ++ print_lines (e.line ∷ e.under) e.behind
 pub content_whole : (e : BlockEntry) (x : TextPiece) → content_piece e ≡ Some x → piece_text x ≡ entry_text e
 content_whole e x is = go (is_some e.line.line.head) is
   where
-    go : (b : Bool) → cond b (head_piece (e.before ++ (line_front e.line ++ e.line.mark)) e.line.content (print_lines e.under e.behind)) (lines_piece (e.before ++ print_line e.line []) e.under e.behind) ≡ Some x → piece_text x ≡ entry_text e
+    go : (b : Bool) → cond b (head_piece (e.before ++ (line_front e.line ++ e.line.mark)) e.line.content (print_lines e.under e.behind))
+        (lines_piece (e.before ++ print_line e.line []) e.under e.behind) ≡ Some x → piece_text x ≡ entry_text e
     go true is = mark_whole e.before e.line e.under e.behind x is
     go false is =
         block_whole (e.before ++ print_line e.line []) e.under e.behind x is

@@ -57,7 +57,8 @@ pub record IsRowLineOf (path : Path) (c : Cut) (n : LineCounts) (w : PlacedRow) 
 pub row_line_placed : (path : Path) (c : Cut) (n : LineCounts) → Some n ≡ option_map (numbers (document_row path.doc c)) (row_line_at path c) → (w : PlacedRow) × IsRowLineOf path c n w
 row_line_placed path c n e = go (placed_document path.doc c) refl (e ∙ ap (λ (o : Option Part). option_map (numbers (document_row path.doc c)) (o >>= λ d. row_line_of (steps_of path) d.rows)) (document_placed path.doc c))
   where
-    at_row_line : (s : PlacedPart) → placed_document path.doc c ≡ Some s → (o : Option RowLine) → row_line_of (steps_of path) s.part.rows ≡ o → Some n ≡ option_map (numbers (document_row path.doc c)) o → (w : PlacedRow) × IsRowLineOf path c n w
+    at_row_line : (s : PlacedPart) → placed_document path.doc c ≡ Some s → (o : Option RowLine) → row_line_of (steps_of path) s.part.rows ≡ o →
+        Some n ≡ option_map (numbers (document_row path.doc c)) o → (w : PlacedRow) × IsRowLineOf path c n w
     at_row_line s there None is e = absurd (none-some _ (sym e))
     at_row_line s there (Some x) is e =
         let found : n ≡ numbers (document_row path.doc c) x = same_Some _ _ e in

@@ -126,7 +126,9 @@ own_stands steps rs x e =
     search (rules, end_past, same_Some, own_is, three_whole, some_own, arith)
 
 -- what the code counts
-pub own_agrees : (d : Stretch) (rs : List Row) (steps : List Step) (q e : Position) (r : Row) → Some (line_number d rs q) ≡ line_at_steps steps (lines_of_rows rs) → slice_get rs (q.row - d.first) ≡ Some r → d.first ≤ q.row → q.line ≡ 0 → e.line ≡ 0 → q.row < e.row →
+pub own_agrees : (d : Stretch) (rs : List Row) (steps : List Step) (q e : Position) (r : Row) →
+    Some (line_number d rs q) ≡ line_at_steps steps (lines_of_rows rs) → slice_get rs (q.row - d.first) ≡ Some r → d.first ≤ q.row → q.line ≡ 0 →
+    e.line ≡ 0 → q.row < e.row →
     e.row - d.first ≤ length rs → line_number d rs e ≡ lines_end (line_number d rs q) (lines_of_rows rs) → Some (d.first, q.row, e.row) ≡ option_map (marks d.first) (own_rows steps rs)
 own_agrees d rs steps q e r line there from none last less within end =
     let i : ℕ = q.row - d.first in

@@ -146,7 +146,11 @@ agrees_first t s d front r rs back m h =
       );
       gap = (λ i. gap_counts ((end_is ∙ sizes front own k) i) (h.rows_view_is i))
           ∙ gap_behind n c d (front ++ own) back h.placed (h.rows_are ∙ sym (append_assoc front own back)) (omega (arith, length-append front own))
-          (λ q qs is. ap (slice_get (rows_of c)) (sym (sizes front own k) ∙ three k front own) ∙ there (length front + length own) q (ap (λ (z : List Row). slice_get z (length front + length own)) (h.rows_are ∙ (sym (append_assoc front own back) ∙ ap (λ (z : List Row). (front ++ own) ++ z) is)) ∙ (ap (slice_get ((front ++ own) ++ (q ∷ qs))) (sym (length-append front own)) ∙ slice_seam (front ++ own) q qs)));
+          (λ q qs is. ap (slice_get (rows_of c)) (sym (sizes front own k) ∙ three k front own)
+              ∙ there (length front + length own) q
+              (ap (λ (z : List Row). slice_get z (length front + length own))
+              (h.rows_are ∙ (sym (append_assoc front own back) ∙ ap (λ (z : List Row). (front ++ own) ++ z) is))
+              ∙ (ap (slice_get ((front ++ own) ++ (q ∷ qs))) (sym (length-append front own)) ∙ slice_seam (front ++ own) q qs)));
       more = begin.0;
       rows = ap (λ (j : ℕ). drop j (rows_of c)) first_is ∙ begin.1;
       front_size = omega (arith, first_is, at_is, total);
@@ -196,7 +200,8 @@ four_cuts t x u text a b g =
       behind_is = ap (drop (length x.gap)) two ∙ drop-append_seam x.gap x.behind;
     }
 
-pub cuts_agrees : (t : List ℕ) (s : RowsView) (d : PlacedPart) (x : OwnRows) (first at end start size gap : ℕ) → IsUtf8 t → OutAgrees t s d x first at end → start ≡ length (rows_out d x).before → size ≡ length (rows_out d x).gone → gap ≡ length (rows_out d x).gap →
+pub cuts_agrees : (t : List ℕ) (s : RowsView) (d : PlacedPart) (x : OwnRows) (first at end start size gap : ℕ) → IsUtf8 t →
+    OutAgrees t s d x first at end → start ≡ length (rows_out d x).before → size ≡ length (rows_out d x).gone → gap ≡ length (rows_out d x).gap →
     FourCuts t (rows_out d x) start size gap
 cuts_agrees t s d x first at end start size gap u o a b g =
     subst (λ (n : ℕ). FourCuts t (rows_out d x) n size gap) (sym a) (subst (λ (n : ℕ). FourCuts t (rows_out d x) (length (rows_out d x).before) n gap) (sym b)

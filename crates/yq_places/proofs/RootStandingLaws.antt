@@ -103,7 +103,9 @@ module _ (t : List ℕ) (s : RowsView) (d : Stretch) (h : IsRootOf t s d) where
   pub root_block : is_alone h.row ≡ false → root (block_root h.part h.row h.under) ≡ root_standing h.part (h.row ∷ h.under)
   root_block a = sym (cond-false (is_alone h.row) (alone (lone h.part.before h.row (rows_text h.under (h.part.part.end ++ h.part.behind)))) (root (block_root h.part h.row h.under)) a)
 
-  module _ (u : IsUtf8 t) (start stop : ℕ) (start_agrees : (x : Slices) → slice_get s.rows d.first ≡ Some x → start ≡ line_begin (row_start d.first s) x 0) (stop_agrees : (x : Slices) → slice_get s.rows (d.end - 1) ≡ Some x → stop ≡ row_start (d.end - 1) s + row_length x) where
+  module _ (u : IsUtf8 t) (start stop : ℕ)
+      (start_agrees : (x : Slices) → slice_get s.rows d.first ≡ Some x → start ≡ line_begin (row_start d.first s) x 0)
+      (stop_agrees : (x : Slices) → slice_get s.rows (d.end - 1) ≡ Some x → stop ≡ row_start (d.end - 1) s + row_length x) where
     abbrev before : List ℕ
     before = h.part.before ++ (h.row.gap ++ replicate h.row.column 32)
 
@@ -116,7 +118,9 @@ module _ (t : List ℕ) (s : RowsView) (d : Stretch) (h : IsRootOf t s d) where
         ap (λ (x : List ℕ). x ++ print_row h.row (rows_text h.under [])) (append-nil h.part.before) ∙ parts
 
     begins : start ≡ length (before_line d.first 0 h.row (cut_of t))
-    begins = start_agrees (slices h.row) (pieces_at t s e d.first d.end h.is) ∙ (ap (λ (x : RowsView). line_begin (row_start d.first x) (slices h.row) 0) h.is.rows_view_is ∙ line_begins (cut_of t) d.first 0 h.row (first_at t s e d.first d.end h.is).there (omega arith))
+    begins = start_agrees (slices h.row) (pieces_at t s e d.first d.end h.is)
+        ∙ (ap (λ (x : RowsView). line_begin (row_start d.first x) (slices h.row) 0) h.is.rows_view_is
+        ∙ line_begins (cut_of t) d.first 0 h.row (first_at t s e d.first d.end h.is).there (omega arith))
 
     pub root_cut : (v : List ℕ) → v ≡ t → CutsLines v start stop
     root_cut v is =

@@ -27,7 +27,8 @@ pub steps_row : (steps : Option ℕ) (rs : List Row) (s : RowLine) → (steps >>
 steps_row None rs s e = absurd (cc)
 steps_row (Some n) rs s e = of_some (λ q. slice_get rs q.before ≡ Some q.row) (row_line n rs) s (row_line_row n rs) e
 
-document_row_line : (path : Path) (c : Cut) (o : Option Part) (s : RowLine) → slice_get (document_parts c) path.doc ≡ o → (o >>= λ d. row_line_of (steps_of path) d.rows) ≡ Some s → slice_get (rows_of c) (document_row path.doc c + s.before) ≡ Some s.row
+document_row_line : (path : Path) (c : Cut) (o : Option Part) (s : RowLine) → slice_get (document_parts c) path.doc ≡ o →
+    (o >>= λ d. row_line_of (steps_of path) d.rows) ≡ Some s → slice_get (rows_of c) (document_row path.doc c + s.before) ≡ Some s.row
 document_row_line path c None s is e = absurd (cc)
 document_row_line path c (Some p) s is e =
     let b = part_begins c path.doc p is in

@@ -60,7 +60,8 @@ found_in_cut t s c n d cut is f =
     )
 
 -- a place in a document that was found
-pub place_found : {A : Type 0} (t : List ℕ) (s : RowsView) (c : Cut) (n : ℕ) (d : Stretch) (found : Option A) (place : ℕ → Cut → List Row → Option A) → IsCut t c → s ≡ rows_view c → Some (stretch_view d) ≡ document_row_range n c → all_documents c ≡ true →
+pub place_found : {A : Type 0} (t : List ℕ) (s : RowsView) (c : Cut) (n : ℕ) (d : Stretch) (found : Option A)
+    (place : ℕ → Cut → List Row → Option A) → IsCut t c → s ≡ rows_view c → Some (stretch_view d) ≡ document_row_range n c → all_documents c ≡ true →
     ((k : InCut s d c) → found ≡ place d.first c k.document.stand.rows) → found ≡ (slice_get (document_parts c) n >>= λ p. place (document_row n c) c p.rows)
 place_found t s c n d found place cut is e known agrees =
     search (rules, found_document t s c n d cut is e known, found_in_cut t s c n d cut is (found_document t s c n d cut is e known))
@@ -69,7 +70,8 @@ pub no_place_found : {A : Type 0} (c : Cut) (n : ℕ) (place : ℕ → Cut → L
 no_place_found c n place e = search rules
 
 -- the line of a path in a document that was found
-pub row_line_found : (s : RowsView) (c : Cut) (path : Path) (d : Stretch) (steps : List Step) (found : Option LineCounts) (f : Found s c path.doc d) → steps ≡ steps_of path → found ≡ option_map (numbers d.first) (row_line_of steps f.document.stand.rows) →
+pub row_line_found : (s : RowsView) (c : Cut) (path : Path) (d : Stretch) (steps : List Step) (found : Option LineCounts)
+    (f : Found s c path.doc d) → steps ≡ steps_of path → found ≡ option_map (numbers d.first) (row_line_of steps f.document.stand.rows) →
     found ≡ option_map (numbers (document_row path.doc c)) (row_line_at path c)
 row_line_found s c path d steps found f same e = search rules
 

@@ -15,7 +15,9 @@ module _ (s : RowsView) (d : Stretch) (h : HasRows s d) (q : Position) where
   abbrev row_before : Position
   row_before = record { row = q.row - 1; line = 0 }
 
-  pub last_row_line : (at : IsLine s d row_before) → d.first < q.row → q.line ≡ 0 → row_line (line_number d h.rows q - 1) h.rows ≡ Some (record { before = (q.row - 1) - d.first; row = (located s d h row_before at).row; line = length (located s d h row_before at).row.dashes })
+  pub last_row_line : (at : IsLine s d row_before) → d.first < q.row → q.line ≡ 0 →
+      row_line (line_number d h.rows q - 1) h.rows ≡ Some
+      (record { before = (q.row - 1) - d.first; row = (located s d h row_before at).row; line = length (located s d h row_before at).row.dashes })
   last_row_line at less first =
       let l = located s d h row_before at in
       let i : ℕ = (q.row - 1) - d.first in
@@ -23,7 +25,8 @@ module _ (s : RowsView) (d : Stretch) (h : HasRows s d) (q : Position) where
       let number : line_number d h.rows q - 1 ≡ length (lines_of_rows (take i h.rows)) + length l.row.dashes = search (rules, arith, lines_upto) in
       ap (λ (n : ℕ). row_line n h.rows) number ∙ row_line_number h.rows i (length l.row.dashes) l.row l.there (omega arith)
 
-pub lines_view : (s : RowsView) (d : Stretch) (c : Cut) (k : InCut s d c) (p q : Position) (start end : ℕ) → AreLinesTo s d p q → p.row < q.row → ((x : Slices) → slice_get s.rows p.row ≡ Some x → start ≡ line_begin (row_start p.row s) x p.line) →
+pub lines_view : (s : RowsView) (d : Stretch) (c : Cut) (k : InCut s d c) (p q : Position) (start end : ℕ) → AreLinesTo s d p q → p.row < q.row →
+    ((x : Slices) → slice_get s.rows p.row ≡ Some x → start ≡ line_begin (row_start p.row s) x p.line) →
     ((r : Row) → slice_get (rows_of c) (q.row - 1) ≡ Some r → end ≡ length (through_row (q.row - 1) r c)) →
     ◌≡◌ {A = Option (ℕ × ℕ)} (Some (start, end)) (lines_place d.first c k.document.stand.rows (line_number d k.document.stand.rows p) (line_number d k.document.stand.rows q - 1))
 lines_view s d c k p q start end a less agrees_start agrees_end =

@@ -85,7 +85,8 @@ nothing_again n tail rest h =
     let f = tail_front tail rest h in
     search (rules, no_block_here, tail_again)
 
-inline_again_here : (n : ℤ) (space : List ℕ) (node : FlowNode) (tail rest : List ℕ) → IsWhite space → IsInline places.Block n 0 node (tail ++ rest) → IsTail tail rest → read_content n (content_text (Inline space node tail) rest) ≡ Some (Inline space node tail, rest)
+inline_again_here : (n : ℤ) (space : List ℕ) (node : FlowNode) (tail rest : List ℕ) → IsWhite space → IsInline places.Block n 0 node (tail ++ rest) →
+    IsTail tail rest → read_content n (content_text (Inline space node tail) rest) ≡ Some (Inline space node tail, rest)
 unfolding read_content inline_content_at
 inline_again_here n space node tail rest blank h t =
     let u = node_text node (tail ++ rest) in
@@ -93,7 +94,9 @@ inline_again_here n space node tail rest blank h t =
     let f = tail_front tail rest t in
     search (rules, node_no_block, white_again, node_starts, all_again, tail_again)
 
-block_again_here : (n : ℤ) (space : List ℕ) (anchor : Option Anchor) (block : BlockText) (rest : List ℕ) → IsWhite space → IsAnchor anchor (block_text block rest) → IsBlock (deeper n) block rest → read_content n (content_text (Block space anchor block) rest) ≡ Some (Block space anchor block, rest)
+block_again_here : (n : ℤ) (space : List ℕ) (anchor : Option Anchor) (block : BlockText) (rest : List ℕ) → IsWhite space →
+    IsAnchor anchor (block_text block rest) → IsBlock (deeper n) block rest →
+    read_content n (content_text (Block space anchor block) rest) ≡ Some (Block space anchor block, rest)
 unfolding read_content block_content_at anchor_at
 block_again_here n space anchor block rest h1 h2 h3 = search (rules, block_front, white_again, block_again, name_cut, name_again)
 

@@ -35,7 +35,8 @@ pub record IsKeptEnd (whole t after marker rest : List ℕ) (rows : ℕ) (p : Pa
   pub after_is : after ≡ marker ++ rest
   pub place : e ≡ end_at (length whole - length (p.end ++ (marker ++ rest))) (rows + length p.rows) p.end marker
 
-pub kept_part : (started : Bool) (whole t after marker rest end : List ℕ) (rows count : ℕ) (p : Part) (e : EndPlace) → Ends t whole → read_cut_part started t ≡ Some (p, after) → end ≡ p.end → after ≡ marker ++ rest → count ≡ rows + length p.rows →
+pub kept_part : (started : Bool) (whole t after marker rest end : List ℕ) (rows count : ℕ) (p : Part) (e : EndPlace) → Ends t whole →
+    read_cut_part started t ≡ Some (p, after) → end ≡ p.end → after ≡ marker ++ rest → count ≡ rows + length p.rows →
     e ≡ end_at (length whole - length (end ++ (marker ++ rest))) count end marker → IsKeptEnd whole t after marker rest rows p e
 kept_part started whole t after marker rest end rows count p e ends read end_is after_is count_is place = record {
   ends = ends;
@@ -49,7 +50,8 @@ kept_part started whole t after marker rest end rows count p e ends read end_is 
 kept_end : (whole t after marker rest : List ℕ) (rows : ℕ) (p : Part) (e : EndPlace) → IsKeptEnd whole t after marker rest rows p e → e ≡ end_at ((length whole - length t) + length (rows_text p.rows [])) (rows + length p.rows) p.end marker
 kept_end whole t after marker rest rows p e h = search (rules, end_place)
 
-pub ends_placed_end : (es items : List EndPlace) (e : EndPlace) (whole t after : List ℕ) (k : ℕ) (started : Bool) (p : Part) (all : Option (List EndPlace)) → read_cut_part started t ≡ Some (p, after) → is_empty after ≡ true → IsKeptEnd whole t after [] after k p e →
+pub ends_placed_end : (es items : List EndPlace) (e : EndPlace) (whole t after : List ℕ) (k : ℕ) (started : Bool) (p : Part)
+    (all : Option (List EndPlace)) → read_cut_part started t ≡ Some (p, after) → is_empty after ≡ true → IsKeptEnd whole t after [] after k p e →
     items ≡ es ++ e ∷ [] → ends_placed es (length whole - length t) k (all_parts started t) ≡ all → all ≡ Some items
 ends_placed_end es items e whole t after k started p all h none kept pushed so_far =
     let n = length whole - length t in
@@ -58,7 +60,8 @@ ends_placed_end es items e whole t after k started p all h none kept pushed so_f
     ∙ (ap (λ l. Some (es ++ l)) (ends_part n k p.rows p.end [] [])
     ∙ (ap (λ (x : EndPlace). Some (es ++ x ∷ [])) (sym (kept_end whole t after [] after k p e kept)) ∙ ap Some (sym pushed))))
 
-pub ends_placed_step : (es items : List EndPlace) (e : EndPlace) (whole : List ℕ) (started : Bool) (t after marker next : List ℕ) (k j : ℕ) (all : Option (List EndPlace)) → (m : ReadMarked started t after marker next) → IsKeptEnd whole t after marker next k m.part e →
+pub ends_placed_step : (es items : List EndPlace) (e : EndPlace) (whole : List ℕ) (started : Bool) (t after marker next : List ℕ) (k j : ℕ)
+    (all : Option (List EndPlace)) → (m : ReadMarked started t after marker next) → IsKeptEnd whole t after marker next k m.part e →
     items ≡ es ++ e ∷ [] → j ≡ k + length m.part.rows → ends_placed es (length whole - length t) k (all_parts started t) ≡ all → ends_placed items (length whole - length next) j (all_parts (begins_document marker) next) ≡ all
 ends_placed_step es items e whole started t after marker next k j all m kept pushed count so_far =
     let n = length whole - length t in

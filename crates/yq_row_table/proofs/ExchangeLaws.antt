@@ -31,7 +31,8 @@ mark_kept (Key key sign) c new rest other e m s =
     }
 
 -- a row with another content, after a dash or a key
-pub one_row : (limit : Limit) (r : Row) (new : Content) (rest other : List ℕ) → IsRow limit r rest → is_entry r.mark ≡ true → IsContent (parent_indent r) new other → separates (content_text new other) ≡ true → TakesPlace limit r rest (with_content new r) other
+pub one_row : (limit : Limit) (r : Row) (new : Content) (rest other : List ℕ) → IsRow limit r rest → is_entry r.mark ≡ true →
+    IsContent (parent_indent r) new other → separates (content_text new other) ≡ true → TakesPlace limit r rest (with_content new r) other
 one_row limit r new rest other h entry c s = search (rules, takes_place, dashes_text_alike, mark_seam, mark_kept)
 
 -- another limit before rows
@@ -39,7 +40,10 @@ pub relimit : (limit other : Limit) (rs : List Row) (end rest : List ℕ) → al
 relimit limit other rs end rest a h = search rules
 
 -- rows before other rows: what neighbours ask of each other is the limit after and how the text in front begins
-pub chain : (front rows new : List Row) (limit : Limit) (end rest other_end other : List ℕ) → AreRows limit (front ++ rows) end rest → AreRows (asked_behind limit front) new other_end other → Alike (Some false) (rows_text rows (end ++ rest)) (rows_text new (other_end ++ other)) → AreRows limit (front ++ new) other_end other × Alike (Some false) (rows_text (front ++ rows) (end ++ rest)) (rows_text (front ++ new) (other_end ++ other))
+pub chain : (front rows new : List Row) (limit : Limit) (end rest other_end other : List ℕ) → AreRows limit (front ++ rows) end rest →
+    AreRows (asked_behind limit front) new other_end other → Alike (Some false) (rows_text rows (end ++ rest)) (rows_text new (other_end ++ other)) →
+    AreRows limit (front ++ new) other_end other
+    × Alike (Some false) (rows_text (front ++ rows) (end ++ rest)) (rows_text (front ++ new) (other_end ++ other))
 chain [] rows new limit end rest other_end other h n a = (n, a)
 chain (r ∷ front) rows new limit end rest other_end other h n a =
     search (rules, row_alike, row_text_alike, chain front rows new (limit_after r) end rest other_end other h.1 n a)

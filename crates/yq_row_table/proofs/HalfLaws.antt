@@ -14,7 +14,9 @@ use Rattle.yq_row_table.proofs.KeptLaws.{KeptRows, end_apart, far_near, items_te
 use Rattle.yq_row_table.specs.declared.offsets.Offsets as declared
 
 -- one end of a part in a text
-kept_end : (pre gap marker t : List ℕ) (k : ℕ) → IsUtf8 gap → IsUtf8 marker → IsUtf8 t → (bound_in (pre ++ (gap ++ (marker ++ t))) (end_at (length pre) k gap marker) ≡ record { rows = k; end = gap; marker = marker }) × EndStands (pre ++ (gap ++ (marker ++ t))) (end_at (length pre) k gap marker)
+kept_end : (pre gap marker t : List ℕ) (k : ℕ) → IsUtf8 gap → IsUtf8 marker → IsUtf8 t →
+    (bound_in (pre ++ (gap ++ (marker ++ t))) (end_at (length pre) k gap marker) ≡ record { rows = k; end = gap; marker = marker })
+    × EndStands (pre ++ (gap ++ (marker ++ t))) (end_at (length pre) k gap marker)
 kept_end pre gap marker t k g m u =
     let own = gap ++ (marker ++ t) in
     let whole = pre ++ own in
@@ -36,7 +38,8 @@ abbrev HalfEnds : Halves → List EndPlace → List Bound → Type 0
 HalfEnds text es bs = (bounds_in_halves text es ≡ bs) × All (InHalf text) es
 
 abbrev EachEnd : Halves → List ℕ → ℕ → Type 0
-EachEnd text side base = (pre gap marker t : List ℕ) (k : ℕ) → side ≡ pre ++ (gap ++ (marker ++ t)) → IsUtf8 gap → IsUtf8 marker → IsUtf8 t → HalfEnd text (end_at (base + length pre) k gap marker) (record { rows = k; end = gap; marker = marker })
+EachEnd text side base = (pre gap marker t : List ℕ) (k : ℕ) → side ≡ pre ++ (gap ++ (marker ++ t)) → IsUtf8 gap → IsUtf8 marker → IsUtf8 t →
+    HalfEnd text (end_at (base + length pre) k gap marker) (record { rows = k; end = gap; marker = marker })
 
 each_end : (text : Halves) (side : List ℕ) (base : ℕ) → EachEnd text side base → (xs ys : List Item) (pre : List ℕ) (k : ℕ) → side ≡ pre ++ items_text xs [] → TextsIn xs →
     ((j : ℕ) → HalfEnds text (ends_near (base + length side) j ys) (bounds_in_items j ys)) → HalfEnds text (ends_near (base + length pre) k (xs ++ ys)) (bounds_in_items k (xs ++ ys))

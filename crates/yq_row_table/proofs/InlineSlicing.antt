@@ -49,7 +49,9 @@ plain_with : (n : List ℕ) (start : ℕ) (s : Placed) → plain_placed (anchore
 plain_with n start (placed a b c e f) = refl
 
 holder_is : (total k : ℕ) (t rest : List ℕ) (s : Parts) → (nothing_placed (placed_between total t rest (holder k s)) ≡ false) × (plain_placed (placed_between total t rest (holder k s)) ≡ false)
-holder_is total k t rest s = elim (eqb k 125) as (λ d. (nothing_placed (placed_between total t rest (cond d (mapping s) (sequence s))) ≡ false) × (plain_placed (placed_between total t rest (cond d (mapping s) (sequence s))) ≡ false)) [ true ↦ (refl, refl) | false ↦ (refl, refl) ]
+holder_is total k t rest s =
+    elim (eqb k 125) as (λ d. (nothing_placed (placed_between total t rest (cond d (mapping s) (sequence s))) ≡ false)
+    × (plain_placed (placed_between total t rest (cond d (mapping s) (sequence s))) ≡ false)) [ true ↦ (refl, refl) | false ↦ (refl, refl) ]
 
 nothing_inner : (total : ℕ) (node : FlowNode) (rest : List ℕ) → takes_anchor node ≡ true → nothing_placed (locate total node rest) ≡ is_empty_node node
 unfolding locate
@@ -78,7 +80,8 @@ pub record InFront (node : FlowNode) (t rest : List ℕ) : Type 0 where
 no_white_cut : (t : List ℕ) → no_white t ≡ true → cut no_white t ≡ ([], t)
 no_white_cut t h = rw (upto_here no_white t h) refl
 
-unanchored : (node : FlowNode) (rest : List ℕ) → begins_with 38 (node_text node rest) ≡ false → no_white (node_text node rest) ≡ true → is_nothing node ≡ false → anchor_cut node ≡ ([], [], node_text node []) → InFront node (node_text node rest) rest
+unanchored : (node : FlowNode) (rest : List ℕ) → begins_with 38 (node_text node rest) ≡ false → no_white (node_text node rest) ≡ true →
+    is_nothing node ≡ false → anchor_cut node ≡ ([], [], node_text node []) → InFront node (node_text node rest) rest
 unanchored node rest amp white some is = search (rules, anchor_none, no_white_cut, node_then)
 
 -- a content is something
@@ -87,7 +90,9 @@ unfolding node_text IsFlowNode
 content_some spaces d node rest h begins = search (rules, false≢true)
 
 -- what is after an anchor
-lead_front : (spaces : Option ℕ) (d : ℕ) (g : List ℕ) (node : FlowNode) (rest : List ℕ) → IsFlowNode false spaces d node rest → IsLead false (begins_content false) g (node_text node rest) → (is_empty_node node || not (is_empty g)) ≡ true → cut_lead (is_empty_node node) (g ++ node_text node rest) ≡ (g, node_text node rest)
+lead_front : (spaces : Option ℕ) (d : ℕ) (g : List ℕ) (node : FlowNode) (rest : List ℕ) → IsFlowNode false spaces d node rest →
+    IsLead false (begins_content false) g (node_text node rest) → (is_empty_node node || not (is_empty g)) ≡ true →
+    cut_lead (is_empty_node node) (g ++ node_text node rest) ≡ (g, node_text node rest)
 lead_front spaces d g node rest h l some = search (rules, content_some, cut-append, bare_or)
 
 pub in_front : (spaces : Option ℕ) (d : ℕ) (node : FlowNode) (rest : List ℕ) → IsFlowNode false spaces d node rest → InFront node (node_text node rest) rest
@@ -98,7 +103,10 @@ in_front spaces d (scalar p) rest h =
     let begins = scalar_begins false spaces p rest h in
     unanchored (scalar p) rest (front_not (begins_scalar false) 38 (λ cs. refl) (p ++ rest) begins) (node_starts (p ++ rest) (scalar_node (p ++ rest) begins)).no_white refl refl
 in_front spaces d (coll k g is) rest h =
-    let front : (begins_with 38 (node_text (coll k g is) rest) ≡ false) × (no_white (node_text (coll k g is) rest) ≡ true) = cond_both (eqb k 125) 123 91 (λ (b : ℕ). (begins_with 38 (b ∷ (g ++ flow_items_text k is rest)) ≡ false) × (no_white (b ∷ (g ++ flow_items_text k is rest)) ≡ true)) (λ _. (refl, refl)) (λ _. (refl, refl)) in
+    let front : (begins_with 38 (node_text (coll k g is) rest) ≡ false) × (no_white (node_text (coll k g is) rest) ≡ true) =
+        cond_both (eqb k 125) 123 91
+        (λ (b : ℕ). (begins_with 38 (b ∷ (g ++ flow_items_text k is rest)) ≡ false) × (no_white (b ∷ (g ++ flow_items_text k is rest)) ≡ true))
+        (λ _. (refl, refl)) (λ _. (refl, refl)) in
     unanchored (coll k g is) rest front.0 front.1 refl refl
 in_front spaces d (anchored n g node) rest h = search (rules, upto-append, take-append_seam, drop-append_seam, lead_front, node_then)
 
@@ -142,7 +150,8 @@ pub head_boundary : (spaces : Option ℕ) (t rest u : List ℕ) (s : Placed) →
 head_boundary spaces t rest u s r e utf8 = front_boundary u (anchor_cut r.node).2 rest (e ∙ r.head) utf8
 
 -- a node after white space, and its tail
-pub inline_some : (n : ℤ) (space t a r g u behind tail rest : List ℕ) (s : Placed) (some plain : Bool) → Read (Some (deeper n)) t behind s → (a, r) ≡ cut_anchor t → (g, u) ≡ cut_lead (nothing_placed s) (cut_anchor t).1 → read_tail behind ≡ Some (tail, rest) →
+pub inline_some : (n : ℤ) (space t a r g u behind tail rest : List ℕ) (s : Placed) (some plain : Bool) → Read (Some (deeper n)) t behind s →
+    (a, r) ≡ cut_anchor t → (g, u) ≡ cut_lead (nothing_placed s) (cut_anchor t).1 → read_tail behind ≡ Some (tail, rest) →
     plain ≡ plain_placed s → some ≡ (is_empty space && not (nothing_placed s)) →
     inline_sliced n space t ≡ Some (record { space = space; anchor = a; apart = g; head = take (length u - length behind) u; tail = tail; raw = []; plain = plain; alone = some; rest = rest })
 unfolding inline_content_at

@@ -58,7 +58,8 @@ cut_of_row asked r xs c s h m = search rules
 pub no_marker : (marker t : List ℕ) → IsMarkerLine marker t → is_empty marker ≡ false
 no_marker marker t h = search rules
 
-cut_of_end : (asked : Asked) (gap marker : List ℕ) (xs : List Item) (c : Cut) → IsGap gap (marker ++ items_text xs []) → IsPartEnd marker xs [] → IsCutOf (asked_by asked (end_item gap marker)) xs c → IsCutOf asked (end_item gap marker ∷ xs) (end_before gap marker c)
+cut_of_end : (asked : Asked) (gap marker : List ℕ) (xs : List Item) (c : Cut) → IsGap gap (marker ++ items_text xs []) → IsPartEnd marker xs [] →
+    IsCutOf (asked_by asked (end_item gap marker)) xs c → IsCutOf asked (end_item gap marker ∷ xs) (end_before gap marker c)
 cut_of_end asked gap marker xs c g e m = search (rules, behind_parts, or_right, no_marker)
 
 pub cut_of_items : (xs : List Item) (asked : Asked) → AreRowItems asked xs [] → IsCutOf asked xs (cut_of xs)

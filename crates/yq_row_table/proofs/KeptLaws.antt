@@ -34,7 +34,9 @@ end_apart pre gap marker t = ap (λ u. pre ++ u) (sym (append_assoc gap marker t
 
 pub items_apart : (xs : List Item) (rest : List ℕ) → items_text xs rest ≡ items_text xs [] ++ rest
 items_apart [] rest = refl
-items_apart (row_item r ∷ xs) rest = ap (print_row r) (items_apart xs rest) ∙ (print_then r (items_text xs [] ++ rest) ∙ (sym (append_assoc (print_row r []) (items_text xs []) rest) ∙ ap (λ l. l ++ rest) (sym (print_then r (items_text xs [])))))
+items_apart (row_item r ∷ xs) rest = ap (print_row r) (items_apart xs rest)
+    ∙ (print_then r (items_text xs [] ++ rest)
+    ∙ (sym (append_assoc (print_row r []) (items_text xs []) rest) ∙ ap (λ l. l ++ rest) (sym (print_then r (items_text xs [])))))
 items_apart (end_item gap marker ∷ xs) rest = ap (λ l. gap ++ (marker ++ l)) (items_apart xs rest) ∙ (ap (λ l. gap ++ l) (sym (append_assoc marker (items_text xs []) rest)) ∙ sym (append_assoc gap (marker ++ items_text xs []) rest))
 
 -- one row
@@ -66,7 +68,8 @@ near_kept (row_item r ∷ xs) pre rest h u =
     let more : KeptRows ((pre ++ print_row r []) ++ t) (near (length (pre ++ print_row r [])) xs) (rows_in_items xs) = near_kept xs (pre ++ print_row r []) rest h.1 u in
     let moved : KeptRows (pre ++ print_row r t) (near (length pre + length (print_row r [])) xs) (rows_in_items xs) =
     subst (λ (n : ℕ). KeptRows (pre ++ print_row r t) (near n xs) (rows_in_items xs)) long (subst (λ (w : List ℕ). KeptRows w (near (length (pre ++ print_row r [])) xs) (rows_in_items xs)) (sym (row_apart pre r t)) more) in
-    (ap (λ s. s ∷ rows_in (pre ++ print_row r t) (near (length pre + length (print_row r [])) xs)) one.0 ∙ ap (λ l. slices r ∷ l) moved.0, All-cons (IsCutIn (pre ++ print_row r t)) (offsets_of (length pre) (slices r)) (near (length pre + length (print_row r [])) xs) one.1 moved.1)
+    (ap (λ s. s ∷ rows_in (pre ++ print_row r t) (near (length pre + length (print_row r [])) xs)) one.0 ∙ ap (λ l. slices r ∷ l) moved.0,
+        All-cons (IsCutIn (pre ++ print_row r t)) (offsets_of (length pre) (slices r)) (near (length pre + length (print_row r [])) xs) one.1 moved.1)
 near_kept (end_item gap marker ∷ xs) pre rest h u =
     let t = items_text xs rest in
     let long : length (pre ++ (gap ++ marker)) ≡ length pre + length (gap ++ marker) = length-append pre (gap ++ marker) in

@@ -45,7 +45,10 @@ sides_out (x ∷ xs) ys zero a e more = absurd (omega (arith, more))
 sides_out (x ∷ xs) ys (suc i) a e more = sides_out xs ys i a e (omega (arith, more))
 
 -- the place of a row
-row_place : (text : Halves) (p : Places) (i : ℕ) (q : declared.Offsets) (s : Slices) → HavePlaces text p → slice_get (halves_view text p).rows i ≡ Some s → slice_get (map (λ x. x) p.front.items ++ map (row_from_end (length (whole text))) (reverse p.behind.items)) i ≡ Some q → q ≡ offsets_of (row_start i (halves_view text p)) s
+row_place : (text : Halves) (p : Places) (i : ℕ) (q : declared.Offsets) (s : Slices) → HavePlaces text p →
+    slice_get (halves_view text p).rows i ≡ Some s →
+    slice_get (map (λ x. x) p.front.items ++ map (row_from_end (length (whole text))) (reverse p.behind.items)) i ≡ Some q →
+    q ≡ offsets_of (row_start i (halves_view text p)) s
 row_place text p i q s h there own =
     let n = length (whole text) in
     let same = have_view text p h in
@@ -54,10 +57,14 @@ row_place text p i q s h there own =
     ∙ (row_near (h.before ++ h.behind) i s (sym (ap (λ (v : RowsView). slice_get v.rows i) same) ∙ there) ∙ ap (λ (v : RowsView). Some (offsets_of (row_start i v) s)) (sym same)) in
     search (rules, map-id, same_Some)
 
-place_front : (text : Halves) (p : Places) (i : ℕ) (o : declared.Offsets) (s : Slices) → HavePlaces text p → slice_get (halves_view text p).rows i ≡ Some s → slice_get (kept_rows p) i ≡ Some o → i < length p.front.items → o ≡ offsets_of (row_start i (halves_view text p)) s
+place_front : (text : Halves) (p : Places) (i : ℕ) (o : declared.Offsets) (s : Slices) → HavePlaces text p →
+    slice_get (halves_view text p).rows i ≡ Some s → slice_get (kept_rows p) i ≡ Some o → i < length p.front.items →
+    o ≡ offsets_of (row_start i (halves_view text p)) s
 place_front text p i o s h there kept less = row_place text p i o s h there (at_front (λ x. x) (row_from_end (length (whole text))) p.front.items (reverse p.behind.items) i o kept less)
 
-place_back : (text : Halves) (p : Places) (i : ℕ) (o : declared.Offsets) (s : Slices) → HavePlaces text p → slice_get (halves_view text p).rows i ≡ Some s → slice_get (kept_rows p) i ≡ Some o → length p.front.items ≤ i → row_from_end (length (whole text)) o ≡ offsets_of (row_start i (halves_view text p)) s
+place_back : (text : Halves) (p : Places) (i : ℕ) (o : declared.Offsets) (s : Slices) → HavePlaces text p →
+    slice_get (halves_view text p).rows i ≡ Some s → slice_get (kept_rows p) i ≡ Some o → length p.front.items ≤ i →
+    row_from_end (length (whole text)) o ≡ offsets_of (row_start i (halves_view text p)) s
 place_back text p i o s h there kept more = row_place text p i (row_from_end (length (whole text)) o) s h there (at_back (λ x. x) (row_from_end (length (whole text))) p.front.items (reverse p.behind.items) i o kept more)
 
 pub kept_lengths : (text : Halves) (p : Places) (i : ℕ) (o : declared.Offsets) (s : Slices) → HavePlaces text p → slice_get (halves_view text p).rows i ≡ Some s → slice_get (kept_rows p) i ≡ Some o → o ≡ offsets_of o.start s
@@ -67,10 +74,12 @@ kept_lengths text p i o s h there kept =
     (λ (more : length p.front.items ≤ i). ap (λ (q : declared.Offsets). record q { start = o.start }) (place_back text p i o s h there kept more))
     (cases_lt i (length p.front.items))
 
-pub start_front : (text : Halves) (p : Places) (i : ℕ) (o : declared.Offsets) → HavePlaces text p → i < length (halves_view text p).rows → slice_get (kept_rows p) i ≡ Some o → i < length p.front.items → o.start ≡ row_start i (halves_view text p)
+pub start_front : (text : Halves) (p : Places) (i : ℕ) (o : declared.Offsets) → HavePlaces text p → i < length (halves_view text p).rows →
+    slice_get (kept_rows p) i ≡ Some o → i < length p.front.items → o.start ≡ row_start i (halves_view text p)
 start_front text p i o h within kept less = let s = some_row (halves_view text p).rows i within in ap (λ (q : declared.Offsets). q.start) (place_front text p i o s.0 h s.1 kept less)
 
-pub start_back : (text : Halves) (p : Places) (i : ℕ) (o : declared.Offsets) → HavePlaces text p → i < length (halves_view text p).rows → slice_get (kept_rows p) i ≡ Some o → length p.front.items ≤ i → length (whole text) - o.start ≡ row_start i (halves_view text p)
+pub start_back : (text : Halves) (p : Places) (i : ℕ) (o : declared.Offsets) → HavePlaces text p → i < length (halves_view text p).rows →
+    slice_get (kept_rows p) i ≡ Some o → length p.front.items ≤ i → length (whole text) - o.start ≡ row_start i (halves_view text p)
 start_back text p i o h within kept more = let s = some_row (halves_view text p).rows i within in ap (λ (q : declared.Offsets). q.start) (place_back text p i o s.0 h s.1 kept more)
 
 -- what is in each half

@@ -117,7 +117,8 @@ line_end_takes w u blank h =
 pub one_feed : (b : ℕ) → (is_feed b || (is_return b && false)) ≡ true → is_feed b ≡ true
 one_feed b h = ⊎_elim {0, 0, 0} (λ e. e) (λ e. absurd (false≢true (sym (and-false (is_return b)) ∙ e))) (or_cases (is_feed b) (is_return b && false) h)
 
-pub behind_comment : (c break rest : List ℕ) → IsComment c break → IsBreak break rest → (no_white (c ++ (break ++ rest)) ≡ true) × ((ends_line (c ++ (break ++ rest)) || is_hash (c ++ (break ++ rest))) ≡ true) × (ends_line (c ++ (break ++ rest)) ≡ is_empty c)
+pub behind_comment : (c break rest : List ℕ) → IsComment c break → IsBreak break rest → (no_white (c ++ (break ++ rest)) ≡ true)
+    × ((ends_line (c ++ (break ++ rest)) || is_hash (c ++ (break ++ rest))) ≡ true) × (ends_line (c ++ (break ++ rest)) ≡ is_empty c)
 behind_comment c break rest h e = search (rules, ⊎_elim, false≢true, one_feed, and_parts, feed_is, eqb-true, or_cases)
 
 pub comment_none : (c break : List ℕ) → IsComment c break → NoneIn ends_line c break

@@ -38,7 +38,8 @@ dashes_fuel (suc n) (suc m) (x ∷ t) a b =
     search (rules, dashes_fuel n m s.1 (omega arith) (omega arith))
 
 -- one more dash
-pub marks_more : (t : List ℕ) → is_dash t ≡ true → (not (is_empty (cut no_space (drop 1 t)).0) && begins_entry (cut no_space (drop 1 t)).1) ≡ true → read_marks t ≡ with_dash (length (cut no_space (drop 1 t)).0) (read_marks (cut no_space (drop 1 t)).1)
+pub marks_more : (t : List ℕ) → is_dash t ≡ true → (not (is_empty (cut no_space (drop 1 t)).0) && begins_entry (cut no_space (drop 1 t)).1) ≡ true →
+    read_marks t ≡ with_dash (length (cut no_space (drop 1 t)).0) (read_marks (cut no_space (drop 1 t)).1)
 unfolding dashes_at
 marks_more t h1 h2 = search (rules, false≢true, behind_spaces, dashes_fuel)
 

@@ -30,21 +30,26 @@ gap_read limit t g r e = rows_cut limit t ∙ ap (λ (y : List ℕ × List ℕ).
 pub rows_placed_end : (os : List declared.Offsets) (n : ℕ) (limit : Limit) (t g r : List ℕ) (all : Option (List declared.Offsets)) → (g, r) ≡ cut_gap t → ends_part r ≡ true → rows_placed os n (all_rows limit t) ≡ all → all ≡ Some os
 rows_placed_end os n limit t g r all e none so_far = sym so_far ∙ (ap (rows_placed os n) (gap_read limit t g r e ∙ rows_done limit g r none) ∙ ap Some (append-nil os))
 
-pub rows_placed_none : (os : List declared.Offsets) (n : ℕ) (limit : Limit) (t g r : List ℕ) (all : Option (List declared.Offsets)) → (g, r) ≡ cut_gap t → ends_part r ≡ false → row_sliced limit g r ≡ None → rows_placed os n (all_rows limit t) ≡ all → all ≡ None
+pub rows_placed_none : (os : List declared.Offsets) (n : ℕ) (limit : Limit) (t g r : List ℕ) (all : Option (List declared.Offsets)) →
+    (g, r) ≡ cut_gap t → ends_part r ≡ false → row_sliced limit g r ≡ None → rows_placed os n (all_rows limit t) ≡ all → all ≡ None
 rows_placed_none os n limit t g r all e more none so_far = sym so_far ∙ ap (rows_placed os n) (gap_read limit t g r e ∙ rows_refused limit g r more (not_read (row_at limit g r) none))
 
 -- how far from the beginning the next one is
 pub next_place : (whole t p rest : List ℕ) → Ends t whole → t ≡ p ++ rest → length whole - length rest ≡ (length whole - length t) + length p
 next_place whole t p rest h e = search (rules, front_le, front_join, length-append)
 
-pub rows_placed_step : (os items : List declared.Offsets) (o : declared.Offsets) (whole : List ℕ) (limit next : Limit) (t g r : List ℕ) (s : Slices) (after : List ℕ) (all : Option (List declared.Offsets)) → Ends t whole → (g, r) ≡ cut_gap t → ends_part r ≡ false →
-    row_sliced limit g r ≡ Some (s, next, after) → items ≡ os ++ o ∷ [] → o ≡ offsets_of (length whole - length t) s → rows_placed os (length whole - length t) (all_rows limit t) ≡ all → rows_placed items (length whole - length after) (all_rows next after) ≡ all
+pub rows_placed_step : (os items : List declared.Offsets) (o : declared.Offsets) (whole : List ℕ) (limit next : Limit) (t g r : List ℕ) (s : Slices)
+    (after : List ℕ) (all : Option (List declared.Offsets)) → Ends t whole → (g, r) ≡ cut_gap t → ends_part r ≡ false →
+    row_sliced limit g r ≡ Some (s, next, after) → items ≡ os ++ o ∷ [] → o ≡ offsets_of (length whole - length t) s →
+        rows_placed os (length whole - length t) (all_rows limit t) ≡ all →
+        rows_placed items (length whole - length after) (all_rows next after) ≡ all
 rows_placed_step os items o whole limit next t g r s after all ends e more h pushed place so_far =
     let n = length whole - length t in
     let x = bind_some (row_at limit g r) h in
     let is : sliced x.0 ≡ (s, next, after) = same_Some _ _ x.2 in
     let read : all_rows limit t ≡ with_front (x.0.0 ∷ []) (all_rows (limit_after x.0.0) x.0.1) = gap_read limit t g r e ∙ (rows_step limit g r x.0 more x.1 ∙ ap (with_front (x.0.0 ∷ [])) (sym (rows_cut (limit_after x.0.0) x.0.1))) in
-    let one : rows_placed os n (all_rows limit t) ≡ rows_placed (os ++ offsets_of n (slices x.0.0) ∷ []) (n + length (slices_text (slices x.0.0) [])) (all_rows (limit_after x.0.0) x.0.1) = ap (rows_placed os n) read ∙ front_placed os n x.0.0 (all_rows (limit_after x.0.0) x.0.1) in
+    let one : rows_placed os n (all_rows limit t) ≡ rows_placed (os ++ offsets_of n (slices x.0.0) ∷ []) (n + length (slices_text (slices x.0.0) []))
+        (all_rows (limit_after x.0.0) x.0.1) = ap (rows_placed os n) read ∙ front_placed os n x.0.0 (all_rows (limit_after x.0.0) x.0.1) in
     search (rules, next_place, row_joined, row_then)
 
 -- parts
@@ -54,7 +59,9 @@ near_part n rs end marker xs =
     let text : rows_text rs (end ++ marker) ≡ own ++ (end ++ marker) = sym (rows_items_text rs [] (end ++ marker)) ∙ items_apart (rows_items rs []) (end ++ marker) in
     search (rules, length-append, rows_front, near_joined)
 
-pub parts_placed_end : (os items : List declared.Offsets) (n : ℕ) (started : Bool) (t after : List ℕ) (p : Part) (all : Option (List declared.Offsets)) → read_cut_part started t ≡ Some (p, after) → is_empty after ≡ true → rows_placed os n (read_cut_part started t) ≡ Some items →
+pub parts_placed_end : (os items : List declared.Offsets) (n : ℕ) (started : Bool) (t after : List ℕ) (p : Part)
+    (all : Option (List declared.Offsets)) → read_cut_part started t ≡ Some (p, after) → is_empty after ≡ true →
+    rows_placed os n (read_cut_part started t) ≡ Some items →
     parts_placed os n (all_parts started t) ≡ all → all ≡ Some items
 parts_placed_end os items n started t after p all h none placed so_far =
     let is : Some items ≡ Some (os ++ near n (rows_items p.rows [])) = sym placed ∙ ap (rows_placed os n) h in
@@ -79,7 +86,9 @@ pub record ReadMarked (started : Bool) (t after marker next : List ℕ) : Type 0
   pub line : marker_at after ≡ Some (marker, next)
 
 pub parts_placed_step : (os items : List declared.Offsets) (whole : List ℕ) (started : Bool) (t after marker next : List ℕ) (all : Option (List declared.Offsets)) → Ends t whole → ReadMarked started t after marker next →
-    rows_placed os (length whole - length t) (read_cut_part started t) ≡ Some items → parts_placed os (length whole - length t) (all_parts started t) ≡ all → parts_placed items (length whole - length next) (all_parts (begins_document marker) next) ≡ all
+    rows_placed os (length whole - length t) (read_cut_part started t) ≡ Some items →
+        parts_placed os (length whole - length t) (all_parts started t) ≡ all →
+        parts_placed items (length whole - length next) (all_parts (begins_document marker) next) ≡ all
 parts_placed_step os items whole started t after marker next all ends m placed so_far =
     let n = length whole - length t in
     let p = m.part in
@@ -100,10 +109,14 @@ pub record AreRead (t : List ℕ) (os : List declared.Offsets) (es : List EndPla
   pub ends_is : es ≡ ends_near 0 0 items
   pub rows_view_is : s ≡ view_of_items items
 
-are_read : (t : List ℕ) (n : ℕ) (o : Option Cut) (os : List declared.Offsets) (es : List EndPlace) (s : RowsView) → n ≡ 0 → ((c : Cut) → o ≡ Some c → t ≡ cut_text c) → parts_placed [] n o ≡ Some os → ends_placed [] n 0 o ≡ Some es → read_view o ≡ Some s → AreRead t os es s
+are_read : (t : List ℕ) (n : ℕ) (o : Option Cut) (os : List declared.Offsets) (es : List EndPlace) (s : RowsView) → n ≡ 0 →
+    ((c : Cut) → o ≡ Some c → t ≡ cut_text c) → parts_placed [] n o ≡ Some os → ends_placed [] n 0 o ≡ Some es → read_view o ≡ Some s →
+    AreRead t os es s
 are_read t n o os es s h6 text h g e = search (rules, items_of_text, same_Some, items_view_is)
 
-pub near_read : (t : List ℕ) (os : List declared.Offsets) (es : List EndPlace) (s : RowsView) → parts_placed [] (length t - length t) (all_parts true t) ≡ Some os → ends_placed [] (length t - length t) 0 (all_parts true t) ≡ Some es → read_view (all_parts true t) ≡ Some s → AreRead t os es s
+pub near_read : (t : List ℕ) (os : List declared.Offsets) (es : List EndPlace) (s : RowsView) →
+    parts_placed [] (length t - length t) (all_parts true t) ≡ Some os → ends_placed [] (length t - length t) 0 (all_parts true t) ≡ Some es →
+    read_view (all_parts true t) ≡ Some s → AreRead t os es s
 near_read t os es s h g e = are_read t (length t - length t) (all_parts true t) os es s (omega arith) (λ c read. (parts_take (suc (length t)) true t c read).0) h g e
 
 -- a row by its index

@@ -44,11 +44,13 @@ node_fits t c i r space node new tail h is content entry inline next =
 regroup : (before space : List ℕ) (node : FlowNode) (rest : List ℕ) → before ++ (space ++ node_text node rest) ≡ (before ++ space) ++ (node_text node [] ++ rest)
 regroup before space node rest = ap (λ l. before ++ (space ++ l)) (node_then node rest) ∙ sym (append_assoc before space (node_text node [] ++ rest))
 
-pub node_place : (c : Cut) (i : ℕ) (r : Row) (space : List ℕ) (node : FlowNode) (tail : List ℕ) → slice_get (rows_of c) i ≡ Some r → r.content ≡ Inline space node tail → cut_text c ≡ (before_content i c ++ space) ++ (node_text node [] ++ (tail ++ behind_row i c))
+pub node_place : (c : Cut) (i : ℕ) (r : Row) (space : List ℕ) (node : FlowNode) (tail : List ℕ) → slice_get (rows_of c) i ≡ Some r →
+    r.content ≡ Inline space node tail → cut_text c ≡ (before_content i c ++ space) ++ (node_text node [] ++ (tail ++ behind_row i c))
 node_place c i r space node tail is content =
     place c i r is ∙ (ap (λ (x : Content). before_content i c ++ content_text x (behind_row i c)) content ∙ regroup (before_content i c) space node (tail ++ behind_row i c))
 
-pub new_node_place : (c : Cut) (i : ℕ) (r : Row) (space : List ℕ) (new : FlowNode) (tail : List ℕ) → slice_get (rows_of c) i ≡ Some r → cut_text (exchange i (Inline space new tail) c) ≡ (before_content i c ++ space) ++ (node_text new [] ++ (tail ++ behind_row i c))
+pub new_node_place : (c : Cut) (i : ℕ) (r : Row) (space : List ℕ) (new : FlowNode) (tail : List ℕ) → slice_get (rows_of c) i ≡ Some r →
+    cut_text (exchange i (Inline space new tail) c) ≡ (before_content i c ++ space) ++ (node_text new [] ++ (tail ++ behind_row i c))
 new_node_place c i r space new tail is = search (rules, new_place, regroup)
 
 -- the characters of the new text

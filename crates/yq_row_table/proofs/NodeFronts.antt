@@ -44,11 +44,14 @@ name_cut n t h = ap (λ (y : List ℕ × List ℕ). y.1) (cut-append (unless in_
 pub bare_or : (node : FlowNode) (g : List ℕ) → (is_empty_node node || not (is_empty g)) ≡ true → g ≡ [] → is_empty_node node ≡ true
 bare_or node g h1 h2 = search rules
 
-anchored_no_mark : (g : List ℕ) (node : FlowNode) (rest : List ℕ) → IsLead false (begins_content false) g (node_text node rest) → (is_empty_node node || not (is_empty g)) ≡ true → front is_block_mark (past_white rest) ≡ false → front is_block_mark (past_white (g ++ node_text node rest)) ≡ false
+anchored_no_mark : (g : List ℕ) (node : FlowNode) (rest : List ℕ) → IsLead false (begins_content false) g (node_text node rest) →
+    (is_empty_node node || not (is_empty g)) ≡ true → front is_block_mark (past_white rest) ≡ false →
+    front is_block_mark (past_white (g ++ node_text node rest)) ≡ false
 anchored_no_mark g node rest h some c = search (rules, past_is, content_no_mark, bare_text, bare_or)
 
 -- a node is no block scalar
-pub node_no_block : (spaces : Option ℕ) (k : ℕ) (node : FlowNode) (rest : List ℕ) → IsFlowNode false spaces k node rest → not (is_empty_node node) ≡ true → front is_block_mark (past_white rest) ≡ false → begins_block (node_text node rest) ≡ false
+pub node_no_block : (spaces : Option ℕ) (k : ℕ) (node : FlowNode) (rest : List ℕ) → IsFlowNode false spaces k node rest →
+    not (is_empty_node node) ≡ true → front is_block_mark (past_white rest) ≡ false → begins_block (node_text node rest) ≡ false
 unfolding node_text IsFlowNode
 node_no_block spaces k empty rest h some c = absurd (false≢true some)
 node_no_block spaces k (alias n) rest h some c = refl

@@ -87,7 +87,9 @@ space_behind before [] blank e = subst EndsAscii (sym (append-nil before)) e
 space_behind before (b ∷ space) blank e = ends_behind before (b ∷ space) (white_ends b space blank)
 
 -- In front of a node is white space, after a dash, a key or an indentation.
-node_ends : (t : List ℕ) (c : Cut) (i : ℕ) (r : Row) (space : List ℕ) (node : FlowNode) (tail : List ℕ) → IsCut t c → slice_get (rows_of c) i ≡ Some r → r.content ≡ Inline space node tail → (is_entry r.mark ≡ true) ⊎ (1 ≤ r.column) → EndsAscii (before_content i c ++ space)
+node_ends : (t : List ℕ) (c : Cut) (i : ℕ) (r : Row) (space : List ℕ) (node : FlowNode) (tail : List ℕ) → IsCut t c →
+    slice_get (rows_of c) i ≡ Some r → r.content ≡ Inline space node tail → (is_entry r.mark ≡ true) ⊎ (1 ≤ r.column) →
+    EndsAscii (before_content i c ++ space)
 node_ends t c i r space node tail h is content place =
     let row = row_in c i true r h.parts is in
     elim (cases_Bool (is_entry r.mark)) [
@@ -101,7 +103,8 @@ node_ends t c i r space node tail h is content place =
           space_behind (before_content i c) space old.0 (content_ends EndsAscii ends_behind c i r is (bare_ends r.gap r.column r.dashes r.mark bare row.row.dashes column)))
     ]
 
-pub node_pieces : (t : List ℕ) (c : Cut) (i : ℕ) (r : Row) (space : List ℕ) (node : FlowNode) (tail : List ℕ) → IsCut t c → IsUtf8 t → slice_get (rows_of c) i ≡ Some r → r.content ≡ Inline space node tail → (is_entry r.mark ≡ true) ⊎ (1 ≤ r.column) →
+pub node_pieces : (t : List ℕ) (c : Cut) (i : ℕ) (r : Row) (space : List ℕ) (node : FlowNode) (tail : List ℕ) → IsCut t c → IsUtf8 t →
+    slice_get (rows_of c) i ≡ Some r → r.content ≡ Inline space node tail → (is_entry r.mark ≡ true) ⊎ (1 ≤ r.column) →
     HasPieces t (before_content i c ++ space) (node_text node []) (tail ++ behind_row i c)
 node_pieces t c i r space node tail h u is content place =
     let rest = tail ++ behind_row i c in

@@ -14,7 +14,8 @@ dashes_length (n ∷ ns) rest = omega (arith, length-append (replicate n 32) (da
 by_colon : (columns colon : ℕ) → 0 < colon → parent_by columns colon ≡ pos columns
 by_colon columns colon some = search rules
 
-parent_agrees : (column : ℕ) (ns : List ℕ) (mark : RowMark) (c : Content) (rest : List ℕ) → AreDashes ns mark → IsMark mark c rest → parent_of mark (behind_columns column ns) ≡ parent_by (column + length (dashes_text ns (last_dash mark))) (length (colon_of mark))
+parent_agrees : (column : ℕ) (ns : List ℕ) (mark : RowMark) (c : Content) (rest : List ℕ) → AreDashes ns mark → IsMark mark c rest →
+    parent_of mark (behind_columns column ns) ≡ parent_by (column + length (dashes_text ns (last_dash mark))) (length (colon_of mark))
 parent_agrees column ns mark c rest d m = search (rules, false≢true, dashes_length, columns_from, length-append, by_colon)
 
 pub row_known : (limit : Limit) (gap t : List ℕ) (s : Slices) (l : Limit) (after : List ℕ) → row_sliced limit gap t ≡ Some (s, l, after) → ParentAgrees s

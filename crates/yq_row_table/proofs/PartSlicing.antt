@@ -45,7 +45,9 @@ one_part rows started t found end after h = search (rules, bind_some, same_Some,
 pub part_is_marker : (rows : List Slices) (started : Bool) (t : List ℕ) (found : List Slices) (end after : List ℕ) → rows_sliced rows (read_cut_part started t) ≡ Some (found, end, after) → is_empty after ≡ false → is_marker after ≡ true
 part_is_marker rows started t found end after h some = let p = one_part rows started t found end after h in part_marker started t (p.part, after) p.read some
 
-pub part_smaller : (rows : List Slices) (started : Bool) (t : List ℕ) (found : List Slices) (end after marker next : List ℕ) → rows_sliced rows (read_cut_part started t) ≡ Some (found, end, after) → is_empty after ≡ false → marker_at after ≡ Some (marker, next) → length next < length t
+pub part_smaller : (rows : List Slices) (started : Bool) (t : List ℕ) (found : List Slices) (end after marker next : List ℕ) →
+    rows_sliced rows (read_cut_part started t) ≡ Some (found, end, after) → is_empty after ≡ false → marker_at after ≡ Some (marker, next) →
+    length next < length t
 part_smaller rows started t found end after marker next h some m = let p = one_part rows started t found end after h in parts_smaller started t (p.part, after) (marker, next) p.read some m
 
 no_part : (rows : List Slices) (o : Option (Part × List ℕ)) → rows_sliced rows o ≡ None → o ≡ None
@@ -54,7 +56,9 @@ no_part rows o h = search rules
 pub parts_none : (rows : List Slices) (bounds : List Bound) (started : Bool) (t : List ℕ) → rows_sliced rows (read_cut_part started t) ≡ None → parts_sliced rows bounds (all_parts started t) ≡ None
 parts_none rows bounds started t h = ap (parts_sliced rows bounds) (parts_refused started t (no_part rows (read_cut_part started t) h))
 
-pub parts_unmarked : (rows : List Slices) (bounds : List Bound) (started : Bool) (t : List ℕ) (found : List Slices) (end after : List ℕ) → rows_sliced rows (read_cut_part started t) ≡ Some (found, end, after) → is_empty after ≡ false → marker_at after ≡ None → parts_sliced rows bounds (all_parts started t) ≡ None
+pub parts_unmarked : (rows : List Slices) (bounds : List Bound) (started : Bool) (t : List ℕ) (found : List Slices) (end after : List ℕ) →
+    rows_sliced rows (read_cut_part started t) ≡ Some (found, end, after) → is_empty after ≡ false → marker_at after ≡ None →
+    parts_sliced rows bounds (all_parts started t) ≡ None
 parts_unmarked rows bounds started t found end after h some m = let p = one_part rows started t found end after h in ap (parts_sliced rows bounds) (parts_no_marker started t (p.part, after) p.read some m)
 
 -- the last part
@@ -62,7 +66,8 @@ last_view : (rows : List Slices) (bounds : List Bound) (p : Part) (found : List 
     behind_parts rows bounds (last p) ≡ record { rows = found; bounds = bounds ++ record { rows = k; end = end; marker = [] } ∷ [] }
 last_view rows bounds p found end k count rows_is end_is = rw (count, rows_is, end_is) refl
 
-pub parts_done : (rows : List Slices) (bounds : List Bound) (started : Bool) (t : List ℕ) (found : List Slices) (end after : List ℕ) (k : ℕ) → rows_sliced rows (read_cut_part started t) ≡ Some (found, end, after) → is_empty after ≡ true → k ≡ length found →
+pub parts_done : (rows : List Slices) (bounds : List Bound) (started : Bool) (t : List ℕ) (found : List Slices) (end after : List ℕ) (k : ℕ) →
+    rows_sliced rows (read_cut_part started t) ≡ Some (found, end, after) → is_empty after ≡ true → k ≡ length found →
     parts_sliced rows bounds (all_parts started t) ≡ Some (record { rows = found; bounds = bounds ++ record { rows = k; end = end; marker = [] } ∷ [] })
 parts_done rows bounds started t found end after k h none e =
     let p = one_part rows started t found end after h in
@@ -74,7 +79,9 @@ more_view : (rows : List Slices) (bounds : List Bound) (p : Part) (found : List 
     parts_sliced rows bounds (o >>= λ c. Some (marked p marker c)) ≡ parts_sliced found (bounds ++ record { rows = k; end = end; marker = marker } ∷ []) o
 more_view rows bounds p found end marker k o count rows_is end_is e = search (rules, map-append, append_assoc)
 
-pub parts_more : (rows : List Slices) (bounds : List Bound) (started : Bool) (t : List ℕ) (found : List Slices) (end after marker next : List ℕ) (k : ℕ) → rows_sliced rows (read_cut_part started t) ≡ Some (found, end, after) → is_empty after ≡ false → marker_at after ≡ Some (marker, next) → k ≡ length found →
+pub parts_more : (rows : List Slices) (bounds : List Bound) (started : Bool) (t : List ℕ) (found : List Slices) (end after marker next : List ℕ)
+    (k : ℕ) → rows_sliced rows (read_cut_part started t) ≡ Some (found, end, after) → is_empty after ≡ false →
+    marker_at after ≡ Some (marker, next) → k ≡ length found →
     parts_sliced rows bounds (all_parts started t) ≡ parts_sliced found (bounds ++ record { rows = k; end = end; marker = marker } ∷ []) (all_parts (begins_document marker) next)
 parts_more rows bounds started t found end after marker next k h some m e =
     let p = one_part rows started t found end after h in
@@ -84,7 +91,8 @@ parts_more rows bounds started t found end after marker next k h some m e =
 pub bounds_push : (t : List ℕ) (old items : List ends.EndPlace) (e : ends.EndPlace) (b : Bound) → items ≡ old ++ e ∷ [] → bound_in t e ≡ b → bounds_in t items ≡ bounds_in t old ++ b ∷ []
 bounds_push t old items e b pushed same = ap (bounds_in t) pushed ∙ (map-append (bound_in t) old (e ∷ []) ∙ ap (λ (x : Bound). bounds_in t old ++ x ∷ []) same)
 
-pub parts_end : (rows found : List Slices) (bounds items : List Bound) (started : Bool) (t after end : List ℕ) (k : ℕ) (all : Option RowsView) → rows_sliced rows (read_cut_part started t) ≡ Some (found, end, after) → is_empty after ≡ true → k ≡ length found →
+pub parts_end : (rows found : List Slices) (bounds items : List Bound) (started : Bool) (t after end : List ℕ) (k : ℕ) (all : Option RowsView) →
+    rows_sliced rows (read_cut_part started t) ≡ Some (found, end, after) → is_empty after ≡ true → k ≡ length found →
     items ≡ bounds ++ record { rows = k; end = end; marker = [] } ∷ [] → parts_sliced rows bounds (all_parts started t) ≡ all → all ≡ Some (record { rows = found; bounds = items })
 parts_end rows found bounds items started t after end k all h h11 count pushed so_far = search (rules, parts_done)
 
@@ -92,7 +100,10 @@ parts_end rows found bounds items started t after end k all h h11 count pushed s
 pub end_ends : (whole t end after : List ℕ) (started : Bool) (p : Part) → Ends t whole → read_cut_part started t ≡ Some (p, after) → end ≡ p.end → Ends (end ++ after) whole
 end_ends whole t end after started p h read e =
     let text : t ≡ rows_text p.rows (p.end ++ after) = (part_takes started t (p, after) read).text in
-    let front : t ≡ items_text (rows_items p.rows []) [] ++ (end ++ after) = text ∙ (sym (rows_items_text p.rows [] (p.end ++ after)) ∙ (items_apart (rows_items p.rows []) (p.end ++ after) ∙ ap (λ (l : List ℕ). items_text (rows_items p.rows []) [] ++ (l ++ after)) (sym e))) in
+    let front : t ≡ items_text (rows_items p.rows []) [] ++ (end ++ after) = text
+        ∙ (sym (rows_items_text p.rows [] (p.end ++ after))
+        ∙ (items_apart (rows_items p.rows []) (p.end ++ after)
+        ∙ ap (λ (l : List ℕ). items_text (rows_items p.rows []) [] ++ (l ++ after)) (sym e))) in
     ends_next whole t (items_text (rows_items p.rows []) []) (end ++ after) h front
 
 pub empty_by : (t : List ℕ) (b c : Bool) → b ≡ eqb (length t) 0 → b ≡ c → is_empty t ≡ c

@@ -83,7 +83,9 @@ marked_same : (f g : List ℕ × List ℕ → Option Cut) (part : Part × List �
     ≡ cond (is_empty part.1) (Some (last part.0)) (marker_at part.1 >>= λ marker. then_cut part.0 marker.0 (g marker))
 marked_same f g part ends h = search (rules, cond_alike, bind_same, marker_shorter, ends_marker)
 
-marked_fuel : (n m : ℕ) (part : Part × List ℕ) → ends_part part.1 ≡ true → ((marker : List ℕ × List ℕ) → length marker.1 < length part.1 → parts_at n (begins_document marker.0) marker.1 ≡ parts_at m (begins_document marker.0) marker.1) → parts_by n part ≡ parts_by m part
+marked_fuel : (n m : ℕ) (part : Part × List ℕ) → ends_part part.1 ≡ true →
+    ((marker : List ℕ × List ℕ) → length marker.1 < length part.1 →
+    parts_at n (begins_document marker.0) marker.1 ≡ parts_at m (begins_document marker.0) marker.1) → parts_by n part ≡ parts_by m part
 marked_fuel n m part ends h = search (rules, cases_Bool, bind_same, marker_shorter, ends_marker)
 
 parts_fuel : (n m : ℕ) (started : Bool) (t : List ℕ) → length t < n → length t < m → parts_at n started t ≡ parts_at m started t

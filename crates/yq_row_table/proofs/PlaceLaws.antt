@@ -55,14 +55,17 @@ pub place : (c : Cut) (i : ℕ) (r : Row) → slice_get (rows_of c) i ≡ Some r
 place (last p) i r h = place_at p.rows i r (p.end ++ []) h
 place (marked p marker c) i r h = elim (cases_Bool (ltb i (length p.rows))) [
   | inl e ↦ rw e (place_at p.rows i r (p.end ++ (marker ++ cut_text c)) (slice_front p.rows (rows_of c) i r (ltb-true i (length p.rows) e) h))
-  | inr e ↦ rw e (part_place p marker (before_content (i - length p.rows) c) (content_text r.content (behind_row (i - length p.rows) c)) (cut_text c) (place c (i - length p.rows) r (slice_back p.rows (rows_of c) i r (ltb-false i (length p.rows) e) h)))
+  | inr e ↦ rw e (part_place p marker (before_content (i - length p.rows) c) (content_text r.content (behind_row (i - length p.rows) c)) (cut_text c)
+      (place c (i - length p.rows) r (slice_back p.rows (rows_of c) i r (ltb-false i (length p.rows) e) h)))
 ]
 
 pub new_place : (c : Cut) (i : ℕ) (r : Row) (new : Content) → slice_get (rows_of c) i ≡ Some r → cut_text (exchange i new c) ≡ before_content i c ++ content_text new (behind_row i c)
 new_place (last p) i r new h = new_place_at p.rows i r new (p.end ++ []) h
 new_place (marked p marker c) i r new h = elim (cases_Bool (ltb i (length p.rows))) [
   | inl e ↦ rw e (new_place_at p.rows i r new (p.end ++ (marker ++ cut_text c)) (slice_front p.rows (rows_of c) i r (ltb-true i (length p.rows) e) h))
-  | inr e ↦ rw e (part_place p marker (before_content (i - length p.rows) c) (content_text new (behind_row (i - length p.rows) c)) (cut_text (exchange (i - length p.rows) new c)) (new_place c (i - length p.rows) r new (slice_back p.rows (rows_of c) i r (ltb-false i (length p.rows) e) h)))
+  | inr e ↦ rw e (part_place p marker (before_content (i - length p.rows) c) (content_text new (behind_row (i - length p.rows) c))
+      (cut_text (exchange (i - length p.rows) new c))
+      (new_place c (i - length p.rows) r new (slice_back p.rows (rows_of c) i r (ltb-false i (length p.rows) e) h)))
 ]
 
 -- A row among others: it is one before what follows, and the next one may come after it.

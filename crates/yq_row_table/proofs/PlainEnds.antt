@@ -160,7 +160,9 @@ pub rows_line : (d : ℕ) (rs : List Row) (limit : Limit) (end rest : List ℕ) 
 rows_line d [] limit end rest h next a = gap_line d end rest h a
 rows_line d (r ∷ rs) limit end rest h next a = gap_line d r.gap (behind_gap r (rows_text rs (end ++ rest))) h.0.gap (row_at_line d limit r (rows_text rs (end ++ rest)) h.0 (ltb-true r.column d next))
 
-behind_line : (d : ℕ) (rows : List Row) (i : ℕ) (limit : Limit) (r : Row) (end rest : List ℕ) → AreRows limit rows end rest → slice_get rows i ≡ Some r → allows_first (record { column = Some d }) (drop (suc i) rows) ≡ true → AtLine d rest → AtLine d (text_after_row i rows (end ++ rest))
+behind_line : (d : ℕ) (rows : List Row) (i : ℕ) (limit : Limit) (r : Row) (end rest : List ℕ) → AreRows limit rows end rest →
+    slice_get rows i ≡ Some r → allows_first (record { column = Some d }) (drop (suc i) rows) ≡ true → AtLine d rest →
+    AtLine d (text_after_row i rows (end ++ rest))
 behind_line d [] i limit r end rest h is next a = cc
 behind_line d (x ∷ rows) zero limit r end rest h is next a = rows_line d rows (limit_after x) end rest h.1 next a
 behind_line d (x ∷ rows) (suc i) limit r end rest h is next a = behind_line d rows i (limit_after x) r end rest h.1 is next a
@@ -209,9 +211,14 @@ tail_ends d white [] p rest e apart a = ⊎_elim {0, 0, 0}
     subst (λ (l : List ℕ). ends_plain false (Some d) (l ++ rest) ≡ true) (sym e.spelled)
     (subst (λ (l : List ℕ). ends_plain false (Some d) l ≡ true) (sym b.spelled)
     (ends_behind d (b.before ++ 10 ∷ b.behind) b.text (some_white b.before b.behind) b.inside b.here (line_follows d b.before b.behind b.text b.stop))))
-    (λ h. subst (λ (l : List ℕ). ends_plain false (Some d) l ≡ true) (sym (ap (λ l. l ++ rest) e.spelled ∙ (ap (λ l. (white ++ l) ++ rest) h.0 ∙ (ap (λ l. (white ++ []) ++ l) h.1 ∙ (append-nil (white ++ []) ∙ append-nil white))))) (white_ends d white e.blank))
+    (λ h. subst (λ (l : List ℕ). ends_plain false (Some d) l ≡ true)
+        (sym (ap (λ l. l ++ rest) e.spelled
+        ∙ (ap (λ l. (white ++ l) ++ rest) h.0 ∙ (ap (λ l. (white ++ []) ++ l) h.1 ∙ (append-nil (white ++ []) ∙ append-nil white)))))
+        (white_ends d white e.blank))
     e.ends
 tail_ends d white (b ∷ c) p rest e apart a = search (rules, not-true, append_assoc, comment_ends)
 
-pub plain_ends : (t : List ℕ) (c : Cut) (i : ℕ) (r : Row) (tail : List ℕ) (d : ℕ) → IsCut t c → slice_get (rows_of c) i ≡ Some r → IsTail tail (behind_row i c) → allows_first (record { column = Some d }) (rows_behind i c) ≡ true → ends_plain false (Some d) (tail ++ behind_row i c) ≡ true
+pub plain_ends : (t : List ℕ) (c : Cut) (i : ℕ) (r : Row) (tail : List ℕ) (d : ℕ) → IsCut t c → slice_get (rows_of c) i ≡ Some r →
+    IsTail tail (behind_row i c) → allows_first (record { column = Some d }) (rows_behind i c) ≡ true →
+    ends_plain false (Some d) (tail ++ behind_row i c) ≡ true
 plain_ends t c i r tail d h is end next = tail_ends d end.white end.comment tail (behind_row i c) end.line end.apart (line_behind d c i true r h.parts is next)

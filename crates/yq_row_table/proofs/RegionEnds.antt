@@ -45,7 +45,9 @@ pub record Before (gap marker : List ℕ) (back : List Item) : Type 0 where
   pub was : IsGap gap (marker ++ items_text back [])
   pub last : IsGap gap []
 
-row_ended : (asked : Asked) (r : Row) (xs : List Item) (gap marker : List ℕ) (back : List Item) → Before gap marker back → IsRow asked.limit r (items_text (xs ++ (end_item gap marker ∷ back)) []) → LikeBefore xs (items_text (xs ++ (end_item gap marker ∷ back)) []) (items_text (xs ++ cut_end gap) []) →
+row_ended : (asked : Asked) (r : Row) (xs : List Item) (gap marker : List ℕ) (back : List Item) → Before gap marker back →
+    IsRow asked.limit r (items_text (xs ++ (end_item gap marker ∷ back)) []) →
+    LikeBefore xs (items_text (xs ++ (end_item gap marker ∷ back)) []) (items_text (xs ++ cut_end gap) []) →
     TakesPlace asked.limit r (items_text (xs ++ (end_item gap marker ∷ back)) []) r (items_text (xs ++ cut_end gap) [])
 row_ended asked r [] gap marker back b h a = row_cut asked.limit r gap (marker ++ items_text back []) b.some b.was b.last h
 row_ended asked r (x ∷ xs) gap marker back b h a = search (rules, row_alike, row_text_alike)
@@ -53,7 +55,9 @@ row_ended asked r (x ∷ xs) gap marker back b h a = search (rules, row_alike, r
 abbrev LineEnded : List ℕ → List ℕ → List ℕ → Type 0
 LineEnded line t u = IsMarkerLine line u × Alike (Some false) (line ++ t) (line ++ u)
 
-line_ended : (line : List ℕ) (xs : List Item) (gap marker : List ℕ) (back : List Item) → Before gap marker back → IsMarkerLine line (items_text (xs ++ (end_item gap marker ∷ back)) []) → LikeBefore xs (items_text (xs ++ (end_item gap marker ∷ back)) []) (items_text (xs ++ cut_end gap) []) →
+line_ended : (line : List ℕ) (xs : List Item) (gap marker : List ℕ) (back : List Item) → Before gap marker back →
+    IsMarkerLine line (items_text (xs ++ (end_item gap marker ∷ back)) []) →
+    LikeBefore xs (items_text (xs ++ (end_item gap marker ∷ back)) []) (items_text (xs ++ cut_end gap) []) →
     LineEnded line (items_text (xs ++ (end_item gap marker ∷ back)) []) (items_text (xs ++ cut_end gap) [])
 line_ended line [] gap marker back b h a =
     let t = gap ++ (marker ++ items_text back []) in
@@ -100,7 +104,9 @@ region_end xs back gap marker s =
     let own = items_joined xs (end_item gap marker ∷ back) asked [] behind in
     let mine : AreRowItems asked (xs ++ cut_end gap) [] = ⊎_elim {0, 0, 0}
     (λ line.
-    let before : Before gap marker back = record { line = line; some = some_marker marker (items_text back []) line; was = own.0.0; last = end_last gap (marker ++ items_text back []) (some_marker marker (items_text back []) line) own.0.0 } in
+    let before : Before gap marker back =
+        record { line = line; some = some_marker marker (items_text back []) line; was = own.0.0; last =
+        end_last gap (marker ++ items_text back []) (some_marker marker (items_text back []) line) own.0.0 } in
     (cut_items xs asked gap marker back before behind).0)
     (λ none. subst (λ (m : List ℕ). AreRowItems asked (xs ++ (end_item gap m ∷ [])) []) none.0 (subst (λ (l : List Item). AreRowItems asked (xs ++ (end_item gap marker ∷ l)) []) none.1 behind))
     own.0.1 in

@@ -76,5 +76,6 @@ region xs (z ∷ zs) s =
     let behind : AreRowItems asked (xs ++ (z ∷ zs)) [] = items_joined s.front (xs ++ (z ∷ zs)) nothing_asked [] all in
     search (rules, shortened, cut_of, alone_read, cut_of_items, inner_items)
 
-pub read_alone : {X : Type 0} (v : X → RowsView) (t : List ℕ) (xs back : List Item) (r : Result X ReadError) → IsReadAlone xs back → t ≡ items_text xs [] → Gives v r (read_view (all_parts true t)) → Gives v r (Some (view_of_items (region_items xs back)))
+pub read_alone : {X : Type 0} (v : X → RowsView) (t : List ℕ) (xs back : List Item) (r : Result X ReadError) → IsReadAlone xs back →
+    t ≡ items_text xs [] → Gives v r (read_view (all_parts true t)) → Gives v r (Some (view_of_items (region_items xs back)))
 read_alone v t xs back r law e g = search (rules, items_view_is)

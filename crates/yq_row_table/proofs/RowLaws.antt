@@ -41,7 +41,8 @@ pub record RowCut (limit : Limit) (gap t : List ℕ) (r : Row) (rest : List ℕ)
   pub content : IsContent (parent_indent r) r.content rest
   pub row : IsGap gap t → IsRow limit r rest
 
-row_parts : (limit : Limit) (gap : List ℕ) (column : ℕ) (t : List ℕ) (r : Row) (rest : List ℕ) → allows limit column ≡ true → (eqb column 0 && is_marker t) ≡ false → Marked gap column t r rest → IsGap r.gap (behind_gap r rest) → IsRow limit r rest
+row_parts : (limit : Limit) (gap : List ℕ) (column : ℕ) (t : List ℕ) (r : Row) (rest : List ℕ) → allows limit column ≡ true →
+    (eqb column 0 && is_marker t) ≡ false → Marked gap column t r rest → IsGap r.gap (behind_gap r rest) → IsRow limit r rest
 row_parts limit gap column t r rest a u m g = search rules
 
 pub row_takes : (limit : Limit) (gap t : List ℕ) (x : Row × List ℕ) → row_at limit gap t ≡ Some x → RowCut limit gap t x.0 x.1

@@ -21,7 +21,8 @@ pub content_inline : (n : ℤ) (t s u : List ℕ) → (s, u) ≡ cut no_white t 
 unfolding read_content
 content_inline n t s u e block begins = search rules
 
-pub content_nothing : (n : ℤ) (t s u : List ℕ) (read : Option (List ℕ × List ℕ)) → (s, u) ≡ cut no_white t → begins_block u ≡ false → begins_node false u ≡ false → read_tail t ≡ read → filled_at n t ≡ (read >>= λ x. Some (borrowed_content (Nothing x.0, x.1)))
+pub content_nothing : (n : ℤ) (t s u : List ℕ) (read : Option (List ℕ × List ℕ)) → (s, u) ≡ cut no_white t → begins_block u ≡ false →
+    begins_node false u ≡ false → read_tail t ≡ read → filled_at n t ≡ (read >>= λ x. Some (borrowed_content (Nothing x.0, x.1)))
 unfolding read_content
 content_nothing n t s u read e block begins h = search rules
 
@@ -36,11 +37,15 @@ pub marked_slicing : (gap : List ℕ) (column : ℕ) (m : Marks) → (marked_row
 unfolding marked_row_at
 marked_slicing gap column m = search (rules, columns_from, row_is)
 
-row_slicing : (limit : Limit) (gap t indent rest : List ℕ) → (indent, rest) ≡ cut no_space t → (allows limit (length indent) && not (eqb (length indent) 0 && is_marker rest)) ≡ true → row_sliced limit gap t ≡ marked_sliced gap (length indent) (begun (read_marks rest))
+row_slicing : (limit : Limit) (gap t indent rest : List ℕ) → (indent, rest) ≡ cut no_space t →
+    (allows limit (length indent) && not (eqb (length indent) 0 && is_marker rest)) ≡ true →
+    row_sliced limit gap t ≡ marked_sliced gap (length indent) (begun (read_marks rest))
 unfolding row_at
 row_slicing limit gap t indent rest e ok = search (rules, marked_slicing)
 
-pub row_as : (limit : Limit) (gap t indent rest bytes : List ℕ) (stands : Bool) (b : Begun) (o : Option SlicedRow) → (indent, rest) ≡ cut no_space t → bytes ≡ rest → stands ≡ (allows limit (length indent) && not (eqb (length indent) 0 && is_marker bytes)) → stands ≡ true →
+pub row_as : (limit : Limit) (gap t indent rest bytes : List ℕ) (stands : Bool) (b : Begun) (o : Option SlicedRow) →
+    (indent, rest) ≡ cut no_space t → bytes ≡ rest → stands ≡ (allows limit (length indent) && not (eqb (length indent) 0 && is_marker bytes)) →
+    stands ≡ true →
     b ≡ begun (read_marks rest) → marked_sliced gap (length indent) b ≡ o → row_sliced limit gap t ≡ o
 row_as limit gap t indent rest bytes stands b o e same may is marks read = search (rules, row_slicing)
 

@@ -29,7 +29,8 @@ pub record RowsCut (limit : Limit) (t : List ℕ) (x : Part × List ℕ) : Type 
   pub rows : AreRows limit x.0.rows x.0.end x.1
   pub ends : ends_part x.1 ≡ true
 
-one_more : (limit : Limit) (t : List ℕ) (row : Row × List ℕ) (x : Part × List ℕ) → row_at limit (cut_gap t).0 (cut_gap t).1 ≡ Some row → RowsCut (limit_after row.0) row.1 x → RowsCut limit t (record { rows = row.0 ∷ x.0.rows; end = x.0.end }, x.1)
+one_more : (limit : Limit) (t : List ℕ) (row : Row × List ℕ) (x : Part × List ℕ) → row_at limit (cut_gap t).0 (cut_gap t).1 ≡ Some row →
+    RowsCut (limit_after row.0) row.1 x → RowsCut limit t (record { rows = row.0 ∷ x.0.rows; end = x.0.end }, x.1)
 one_more limit t row x e more =
     let one = row_takes limit (cut_gap t).0 (cut_gap t).1 row e in
     search (rules, gap_law, gap_join)
@@ -46,7 +47,8 @@ rows_takes (suc n) limit t x h = ⊎_elim {0, 0, 0}
     subst (RowsCut limit t) (same_Some _ _ rest.2) (one_more limit t row.0 rest.0 row.1 (rows_takes n (limit_after row.0.0) row.0.1 rest.0 rest.1)))
     (chosen (ends_part (cut_gap t).1) h)
 
-pub rows_again : (rs : List Row) (limit : Limit) (end rest : List ℕ) (n : ℕ) → AreRows limit rs end rest → ends_part rest ≡ true → length (rows_text rs (end ++ rest)) < n → rows_at n limit (rows_text rs (end ++ rest)) ≡ Some (record { rows = rs; end = end }, rest)
+pub rows_again : (rs : List Row) (limit : Limit) (end rest : List ℕ) (n : ℕ) → AreRows limit rs end rest → ends_part rest ≡ true →
+    length (rows_text rs (end ++ rest)) < n → rows_at n limit (rows_text rs (end ++ rest)) ≡ Some (record { rows = rs; end = end }, rest)
 unfolding rows_at
 rows_again rs limit end rest zero h ends short = absurd (omega arith)
 rows_again [] limit end rest (suc n) h ends short = search (rules, gap_again, end_no_gap, row_no_gap, row_longer, suffix_le, row_no_end, row_again)

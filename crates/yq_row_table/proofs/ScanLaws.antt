@@ -19,7 +19,9 @@ PartsCut started t c = (t ≡ cut_text c) × AreParts started c
 parts_last_cut : (started : Bool) (t : List ℕ) (part : Part × List ℕ) → PartCut started t part → is_empty part.1 ≡ true → PartsCut started t (last part.0)
 parts_last_cut started t part p h4 = search (rules, empty_is)
 
-parts_marked_cut : (started : Bool) (t : List ℕ) (part : Part × List ℕ) (marker : List ℕ × List ℕ) (c : Cut) → PartCut started t part → is_empty part.1 ≡ false → marker_at part.1 ≡ Some marker → PartsCut (begins_document marker.0) marker.1 c → PartsCut started t (marked part.0 marker.0 c)
+parts_marked_cut : (started : Bool) (t : List ℕ) (part : Part × List ℕ) (marker : List ℕ × List ℕ) (c : Cut) → PartCut started t part →
+    is_empty part.1 ≡ false → marker_at part.1 ≡ Some marker → PartsCut (begins_document marker.0) marker.1 c →
+    PartsCut started t (marked part.0 marker.0 c)
 parts_marked_cut started t part marker c p some h more =
     let m = marker_takes part.1 marker (ends_marker part.1 p.ends some) h in
     search rules

@@ -88,14 +88,20 @@ back_kept p xs at back placed gap apart h =
       back_rows = mine;
       far_rows = sym (turned_twice len two.second within) ∙ (ap (map (row_from_end len)) (mine ∙ sym turned_far) ∙ turned_twice len (far h.behind) (far_within len h.behind size));
       ends_are = ends ∙ (ap (λ (n : ℕ). ends_near 0 0 h.front ++ ends_near n (0 + length (near 0 h.front)) h.behind) bytes ∙ ap (λ (k : ℕ). ends_near 0 0 h.front ++ ends_near (text_length h.front) k h.behind) count);
-      count_is = ap (ends_before ((len - back) + 1)) ends ∙ ends_counted ((len - back) + 1) (ends_near 0 0 h.front) (ends_near m (0 + length (near 0 h.front)) h.behind) (ends_begin (λ s. s < (len - back) + 1) 0 0 h.front ends_low) (ends_begin (λ s. (len - back) + 1 ≤ s) m (0 + length (near 0 h.front)) h.behind ends_high);
+      count_is = ap (ends_before ((len - back) + 1)) ends
+          ∙ ends_counted ((len - back) + 1) (ends_near 0 0 h.front) (ends_near m (0 + length (near 0 h.front)) h.behind)
+          (ends_begin (λ s. s < (len - back) + 1) 0 0 h.front ends_low)
+          (ends_begin (λ s. (len - back) + 1 ≤ s) m (0 + length (near 0 h.front)) h.behind ends_high);
     }
 
 -- where the first of them begins
-pub first_row : (p : Places) (front behind : List Item) (len back count : ℕ) (o : declared.Offsets) → BackKept p front behind len back → count ≡ length (nearer back (reverse p.behind.items)) → 0 < count → o ≡ get_or p.behind.items (count - 1) o →
+pub first_row : (p : Places) (front behind : List Item) (len back count : ℕ) (o : declared.Offsets) → BackKept p front behind len back →
+    count ≡ length (nearer back (reverse p.behind.items)) → 0 < count → o ≡ get_or p.behind.items (count - 1) o →
     (rest : List declared.Offsets) × (near (text_length front) behind ≡ row_from_end len o ∷ rest)
 first_row p front behind len back count o h many some own = go h.rows (h.split) (many ∙ ap length h.rows_are) h.back_rows where
-  go : (rows : List declared.Offsets) → reverse p.behind.items ≡ h.before ++ rows → count ≡ length rows → map (row_from_end len) rows ≡ near (text_length front) behind → (rest : List declared.Offsets) × (near (text_length front) behind ≡ row_from_end len o ∷ rest)
+  go : (rows : List declared.Offsets) → reverse p.behind.items ≡ h.before ++ rows → count ≡ length rows →
+      map (row_from_end len) rows ≡ near (text_length front) behind → (rest : List declared.Offsets)
+      × (near (text_length front) behind ≡ row_from_end len o ∷ rest)
   go [] split long is = absurd (omega (arith, long, some))
   go (q ∷ rows) split long is =
       let all : p.behind.items ≡ reverse rows ++ q ∷ reverse h.before =
@@ -160,7 +166,8 @@ abbrev pub ByEnds : Places → (ends before bytes : ℕ) → Type 0
 ByEnds p ends before bytes = ((length p.ends ≤ ends) × (bytes ≡ before)) ⊎ ((e : EndPlace) × (ends < length p.ends) × (e ≡ get_or p.ends ends e) × (bytes ≡ min before e.start))
 
 pub behind_is : (p : Places) (xs : List Item) (at back rows ends before bytes : ℕ) → AreAt p xs → IsSplitAt at (text_length xs) p → at + back ≤ text_length xs → rows ≡ length (nearer back (reverse p.behind.items)) →
-    ends ≡ ends_before ((text_length xs - back) + 1) p.ends → ByRows p (text_length xs) rows before → ByEnds p ends before bytes → record { rows = length p.front.items + (length p.behind.items - rows); ends = ends; bytes = bytes } ≡ side_of (not_in_back back xs)
+    ends ≡ ends_before ((text_length xs - back) + 1) p.ends → ByRows p (text_length xs) rows before → ByEnds p ends before bytes →
+        record { rows = length p.front.items + (length p.behind.items - rows); ends = ends; bytes = bytes } ≡ side_of (not_in_back back xs)
 behind_is p xs at back rows ends before bytes placed gap apart many count by_rows by_ends =
     let len : ℕ = text_length xs in
     let h = back_found xs 0 back in

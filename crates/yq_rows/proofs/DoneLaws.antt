@@ -49,12 +49,14 @@ gives_way t new kept p x come k read = record {
   small = k.small;
 }
 
-new_sides : (t new : List ℕ) (kept : Kept) (p q : Places) (x : Touched) (come : NewRows) (d : Cut) → (k : TextChange t new kept p x) → ArePlacesRead k.read.written come → RowsExchanged p x come q → IsCut (exchanged kept t new) d → BothSides q (items_of_cut d)
+new_sides : (t new : List ℕ) (kept : Kept) (p q : Places) (x : Touched) (come : NewRows) (d : Cut) → (k : TextChange t new kept p x) →
+    ArePlacesRead k.read.written come → RowsExchanged p x come q → IsCut (exchanged kept t new) d → BothSides q (items_of_cut d)
 unfolding gives_way
 new_sides t new kept p q x come d k read done is =
     (k.before ++ k.read.written, k.read.behind, append_assoc k.before k.read.written k.read.behind ∙ k.items d is, done (gives_way t new kept p x come k read))
 
-pub new_places : (t u v new : List ℕ) (kept : Kept) (p q : Places) (x : Touched) (come : NewRows) (d : Cut) → u ≡ t → v ≡ exchanged kept u new → (k : TextChange t new kept p x) → ArePlacesRead k.read.written come → RowsExchanged p x come q → IsCut (exchanged kept t new) d → ArePlacesOf v q
+pub new_places : (t u v new : List ℕ) (kept : Kept) (p q : Places) (x : Touched) (come : NewRows) (d : Cut) → u ≡ t → v ≡ exchanged kept u new →
+    (k : TextChange t new kept p x) → ArePlacesRead k.read.written come → RowsExchanged p x come q → IsCut (exchanged kept t new) d → ArePlacesOf v q
 new_places t u v new kept p q x come d text spliced k read done is =
     subst (λ (l : List ℕ). ArePlacesOf l q) (sym (spliced ∙ ap (λ (l : List ℕ). exchanged kept l new) text))
     (places_of (exchanged kept t new) q (placed_in (exchanged kept t new) q d is (new_sides t new kept p q x come d k read done is)))

@@ -53,5 +53,6 @@ module _ (t f m z : List ℕ) (front back : ℕ) (h : Pieces t f m z front back)
   back_edge e is edge = search (rules, long, get_or-take, length-take)
 
   -- how what comes ends, where the touched bytes end with those that are kept
-  pub region_ends : (new y x : List ℕ) (b e : ℕ) → e ≡ length f + length m → f ++ m ≡ y ++ x → length t - back ≤ length y → drop b (take front t) ++ (new ++ drop (length t - back) (take e t)) ≡ (drop b (take front t) ++ (new ++ drop (length t - back) y)) ++ x
+  pub region_ends : (new y x : List ℕ) (b e : ℕ) → e ≡ length f + length m → f ++ m ≡ y ++ x → length t - back ≤ length y → drop b (take front t)
+      ++ (new ++ drop (length t - back) (take e t)) ≡ (drop b (take front t) ++ (new ++ drop (length t - back) y)) ++ x
   region_ends new y x b e is ends low = search (rules, grouped, take_at, length-append, drop-append-le, append_assoc)

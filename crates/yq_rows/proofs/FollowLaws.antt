@@ -123,13 +123,22 @@ module _ (t new : List ℕ) (kept : Kept) (p : Places) (x : Touched) (h : Follow
   more = more_is ∙ go z (omega (arith, ap (λ (a : Side). a.rows) old_is, rows)) (omega (arith, ap (λ (a : Side). a.ends) old_is, ends))
     where
       rows : length (kept_rows p) ≡ length (near 0 (f ++ tch)) + length (near 0 z)
-      rows = kept_count (text_length xs) p ∙ (ap length at_xs.rows_are ∙ (ap (λ (l : List Item). length (near 0 l)) group ∙ (ap length (near_joined 0 (f ++ tch) z) ∙ (length-append (near 0 (f ++ tch)) (near (0 + text_length (f ++ tch)) z) ∙ ap (λ (n : ℕ). length (near 0 (f ++ tch)) + n) (near_count (0 + text_length (f ++ tch)) 0 z)))))
+      rows = kept_count (text_length xs) p
+          ∙ (ap length at_xs.rows_are
+          ∙ (ap (λ (l : List Item). length (near 0 l)) group
+          ∙ (ap length (near_joined 0 (f ++ tch) z)
+          ∙ (length-append (near 0 (f ++ tch)) (near (0 + text_length (f ++ tch)) z)
+          ∙ ap (λ (n : ℕ). length (near 0 (f ++ tch)) + n) (near_count (0 + text_length (f ++ tch)) 0 z)))))
 
       ends : length p.ends ≡ length (ends_near 0 0 (f ++ tch)) + length (ends_near 0 0 z)
       ends =
           let m : ℕ = 0 + text_length (f ++ tch) in
           let k : ℕ = 0 + length (near 0 (f ++ tch)) in
-          ap length at_xs.ends_are ∙ (ap (λ (l : List Item). length (ends_near 0 0 l)) group ∙ (ap length (ends_joined 0 0 (f ++ tch) z) ∙ (length-append (ends_near 0 0 (f ++ tch)) (ends_near m k z) ∙ ap (λ (n : ℕ). length (ends_near 0 0 (f ++ tch)) + n) (ends_count m k 0 0 z))))
+          ap length at_xs.ends_are
+              ∙ (ap (λ (l : List Item). length (ends_near 0 0 l)) group
+              ∙ (ap length (ends_joined 0 0 (f ++ tch) z)
+              ∙ (length-append (ends_near 0 0 (f ++ tch)) (ends_near m k z)
+              ∙ ap (λ (n : ℕ). length (ends_near 0 0 (f ++ tch)) + n) (ends_count m k 0 0 z))))
 
       go : (l : List Item) → length (kept_rows p) ≡ x.old.rows + length (near 0 l) → length p.ends ≡ x.old.ends + length (ends_near 0 0 l) → (ltb x.old.rows (length (kept_rows p)) || ltb x.old.ends (length p.ends)) ≡ not (no_items l)
       go l h1 h2 = search (rules, le-ltb, ⊎_elim, lt-ltb, some_behind, cases_lt, or_right)
@@ -173,7 +182,9 @@ module _ (t new : List ℕ) (kept : Kept) (p : Places) (x : Touched) (h : Follow
     ends_so =
         let y : List ℕ = items_text f [] ++ inner in
         let low : length t - kept.back ≤ length y = omega (arith, k.within, pieces.last, long, size, joined_long f tch, ap length touched_ends, length-append y k.marker, length-append (items_text f []) (items_text tch [])) in
-        (drop x.front.bytes (take kept.front t) ++ (new ++ drop (length t - kept.back) y), sym part_is ∙ region_ends t (items_text f []) (items_text tch []) (items_text z []) kept.front kept.back pieces new y k.marker x.front.bytes x.old.bytes end touched_ends low)
+        (drop x.front.bytes (take kept.front t) ++ (new ++ drop (length t - kept.back) y), sym part_is
+            ∙ region_ends t (items_text f []) (items_text tch []) (items_text z []) kept.front kept.back pieces new y k.marker x.front.bytes
+            x.old.bytes end touched_ends low)
 
     stays : begins_line (items_text w []) (length (items_text w []) - e.marker) ≡ true → (front : List Item) × (gap : List ℕ) × (w ≡ ended front gap k.marker)
     stays begins =

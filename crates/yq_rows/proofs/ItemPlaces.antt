@@ -145,7 +145,8 @@ pub behind_in : (t : List ℕ) (p : Places) (n : ℕ) → n ≡ length t → IsP
 behind_in t p n long h = subst (λ (m : ℕ). All (Within m) p.behind.items) (long_by t h.cut p h.is_cut h.placed ∙ sym long) (behind_within p h.placed.before h.placed.behind h.placed.placed)
 
 -- and once they are
-pub moved_sides : (t : List ℕ) (p q : Places) (n : ℕ) → n ≡ length t → (h : IsPlacedIn t p) → placed_rows n q ≡ placed_rows n p → q.ends ≡ p.ends → All (Within n) q.behind.items → q.split ≡ first_byte n (reverse q.behind.items) → BothSides q (items_of_cut h.cut)
+pub moved_sides : (t : List ℕ) (p q : Places) (n : ℕ) → n ≡ length t → (h : IsPlacedIn t p) → placed_rows n q ≡ placed_rows n p → q.ends ≡ p.ends →
+    All (Within n) q.behind.items → q.split ≡ first_byte n (reverse q.behind.items) → BothSides q (items_of_cut h.cut)
 moved_sides t p q n long h same ends within split =
     let xs = items_of_cut h.cut in
     let size : n ≡ text_length xs = long ∙ cut_long t h.cut h.is_cut in

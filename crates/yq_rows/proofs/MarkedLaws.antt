@@ -97,7 +97,9 @@ row_there g r rest es i e ends less is =
     let bound = All-get_or (λ (x : EndPlace). x.rows ≤ length (near 0 g)) (ends_near 0 0 g) i e less (ends_rows 0 0 (length (near 0 g)) g (omega arith)) in
     search (rules, get_or_from_slice_get, bound, own)
 
-agrees_row : (f touched z : List Item) (es : List EndPlace) (front old : Side) (len back : ℕ) (u : List Item) (r : Row) → Stretch f touched z es front old len back → touched ≡ u ++ (row_item r ∷ []) → KeepsMarker touched (back - text_length z) (marked_end es front old (len - back))
+agrees_row : (f touched z : List Item) (es : List EndPlace) (front old : Side) (len back : ℕ) (u : List Item) (r : Row) →
+    Stretch f touched z es front old len back → touched ≡ u ++ (row_item r ∷ []) →
+    KeepsMarker touched (back - text_length z) (marked_end es front old (len - back))
 agrees_row f touched z es front old len back u r h is = search (rules, ⊎_elim, chosen, none_chosen, cases_lt, go, n, zero)
   where
     n : ℕ
@@ -125,7 +127,9 @@ agrees_row f touched z es front old len back u r h is = search (rules, ⊎_elim,
         search (rules, ne_eqb, few, rows, zero)
 
 -- the last touched item is the end of a part
-agrees_end : (f touched z : List Item) (es : List EndPlace) (front old : Side) (len back : ℕ) (u : List Item) (gap marker : List ℕ) → Stretch f touched z es front old len back → touched ≡ ended u gap marker → KeepsMarker touched (back - text_length z) (marked_end es front old (len - back))
+agrees_end : (f touched z : List Item) (es : List EndPlace) (front old : Side) (len back : ℕ) (u : List Item) (gap marker : List ℕ) →
+    Stretch f touched z es front old len back → touched ≡ ended u gap marker →
+    KeepsMarker touched (back - text_length z) (marked_end es front old (len - back))
 agrees_end f touched z es front old len back u gap marker h is = search (rules, slice_joined, chosen, at, e, ends, g, go, list, low, n)
   where
     n : ℕ
@@ -166,7 +170,10 @@ agrees_end f touched z es front old len back u gap marker h is = search (rules, 
     go false t = search (rules, ⊎_elim, leb-true, cases_lt, cases_Bool, both, n, own)
       where
         both : 0 < length marker → length marker ≤ n → ⊥
-        both some within = false≢true (sym t ∙ and_from (eqb e.rows old.rows && ltb 0 e.marker) (leb at (e.start + e.gap)) (and_from (eqb e.rows old.rows) (ltb 0 e.marker) (eq-eqb e.rows old.rows (sym rows)) (lt-ltb 0 (length marker) some)) (le-leb at (text_length g + length gap) (omega (arith, within, some, size, h.last, h.within))))
+        both some within = false≢true
+            (sym t ∙ and_from (eqb e.rows old.rows && ltb 0 e.marker) (leb at (e.start + e.gap))
+            (and_from (eqb e.rows old.rows) (ltb 0 e.marker) (eq-eqb e.rows old.rows (sym rows)) (lt-ltb 0 (length marker) some))
+            (le-leb at (text_length g + length gap) (omega (arith, within, some, size, h.last, h.within))))
 
 pub agrees : (f touched z : List Item) (es : List EndPlace) (front old : Side) (len back : ℕ) → Stretch f touched z es front old len back → KeepsMarker touched (back - text_length z) (marked_end es front old (len - back))
 agrees f touched z es front old len back h = ⊎_elim {0, 0, 0}

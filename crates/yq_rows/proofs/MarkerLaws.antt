@@ -96,7 +96,8 @@ end_ends u z gap own q marker h end line is e some = ⊎_elim {0, 0, 0}
         (λ none. omega (arith, long, ap length c.1, length-append c.0 marker, ap length none.0))
         end
 
-pub marker_stays : (asked : Asked) (w z : List Item) (lead marker : List ℕ) → AreRowItems asked (w ++ z) [] → IsMarkerLine marker (items_text z []) → items_text w [] ≡ lead ++ marker → begins_line (items_text w []) (length lead) ≡ true → 0 < length marker →
+pub marker_stays : (asked : Asked) (w z : List Item) (lead marker : List ℕ) → AreRowItems asked (w ++ z) [] → IsMarkerLine marker (items_text z []) →
+    items_text w [] ≡ lead ++ marker → begins_line (items_text w []) (length lead) ≡ true → 0 < length marker →
     ((u : List Item) (i : Item) → w ≡ u ++ (i ∷ []) → length marker ≤ length (item_text i)) → (front : List Item) × (gap : List ℕ) × (w ≡ ended front gap marker)
 marker_stays asked w z lead marker h line text begins some last = ⊎_elim {0, 0, 0}
     (λ (e : w ≡ []). absurd (omega (arith, some, ap length (sym (ap (λ (l : List Item). items_text l []) e) ∙ text), length-append lead marker)))

@@ -13,7 +13,8 @@ use Rattle.yq_rows.{specs.Following.is_end_of, specs.Sides.{ends_at, past_end, t
 
 -- ---- the end of a part is read before every text
 
-pub end_read : (gap marker x y : List ℕ) → IsGap gap (marker ++ x) → IsMarkerLine marker x → is_line marker ≡ true → (c : Cut) → all_parts true (gap ++ (marker ++ y)) ≡ Some c → (d : Cut) × (c ≡ marked (record { rows = []; end = gap }) marker d)
+pub end_read : (gap marker x y : List ℕ) → IsGap gap (marker ++ x) → IsMarkerLine marker x → is_line marker ≡ true → (c : Cut) →
+    all_parts true (gap ++ (marker ++ y)) ≡ Some c → (d : Cut) × (c ≡ marked (record { rows = []; end = gap }) marker d)
 end_read gap marker x y is line ends c h =
     let kept : IsMarkerLine marker y × Alike (Some false) (marker ++ x) (marker ++ y) = marker_seam marker x y line (closed_line marker y ends) in
     let p : Part = record { rows = []; end = gap } in

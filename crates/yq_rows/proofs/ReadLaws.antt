@@ -65,7 +65,9 @@ marked_parted region written e more text h =
       read = h.read;
       rows = rows_end f h.gap [] ∙ (sym (rows_end f h.gap h.marker) ∙ ap (near 0) (sym h.items));
       some = subst (λ l. 1 ≤ length l) (sym own) (some_more (ends_near 0 0 f) (end_at (text_length f) k h.gap []));
-      ends = ap (λ l. settled_ends l (Some e) more) own ∙ (settled_marked (ends_near 0 0 f) (end_at (text_length f) k h.gap []) e more ∙ (ap (λ (x : EndPlace). ends_near 0 0 f ++ x ∷ []) last ∙ (sym (ends_end f h.gap h.marker) ∙ ap (ends_near 0 0) (sym h.items))));
+      ends = ap (λ l. settled_ends l (Some e) more) own
+          ∙ (settled_marked (ends_near 0 0 f) (end_at (text_length f) k h.gap []) e more
+          ∙ (ap (λ (x : EndPlace). ends_near 0 0 f ++ x ∷ []) last ∙ (sym (ends_end f h.gap h.marker) ∙ ap (ends_near 0 0) (sym h.items))));
       texts = λ t. subst TextsIn (sym h.items) (texts_joined f (end_item h.gap h.marker ∷ []) (texts_first f (end_item h.gap [] ∷ []) t) ((texts_second f (end_item h.gap [] ∷ []) t).0, h.text, tt));
     }
 
@@ -109,14 +111,17 @@ part_short region None = omega arith
 part_short region (Some e) = omega (arith, length-take (length region - e.marker) region)
 
 -- the places that come of it
-pub comes : (region text : List ℕ) (x : Touched) (u : Option EndPlace) (p : Places) (s : RowsView) (ends : List EndPlace) (come : NewRows) (h : IsRead region x) → (k : Parted text h.written u x.more) → IsPlaced p s → s ≡ view_of_items (region_items k.items k.back) →
-    ends ≡ settled_ends p.ends u x.more → come.places.front.items ≡ p.front.items → come.places.behind.items ≡ p.behind.items → come.places.ends ≡ ends → come.read ≡ length text → come.len ≡ length region → text ≡ without_marker region u → ArePlacesRead h.written come
+pub comes : (region text : List ℕ) (x : Touched) (u : Option EndPlace) (p : Places) (s : RowsView) (ends : List EndPlace) (come : NewRows)
+    (h : IsRead region x) → (k : Parted text h.written u x.more) → IsPlaced p s → s ≡ view_of_items (region_items k.items k.back) →
+    ends ≡ settled_ends p.ends u x.more → come.places.front.items ≡ p.front.items → come.places.behind.items ≡ p.behind.items →
+        come.places.ends ≡ ends → come.read ≡ length text → come.len ≡ length region → text ≡ without_marker region u → ArePlacesRead h.written come
 comes region text x u p s ends come h k placed shows ends_are front behind own read long part =
     let at = places_are p s (region_items k.items k.back) placed shows in
     search (rules, part_short, alone_are, at)
 
 -- how many ends were read
-pub ends_read : (region text : List ℕ) (x : Touched) (u : Option EndPlace) (p : Places) (s : RowsView) (h : IsRead region x) → (k : Parted text h.written u x.more) → IsPlaced p s → s ≡ view_of_items (region_items k.items k.back) → 1 ≤ length p.ends
+pub ends_read : (region text : List ℕ) (x : Touched) (u : Option EndPlace) (p : Places) (s : RowsView) (h : IsRead region x) →
+    (k : Parted text h.written u x.more) → IsPlaced p s → s ≡ view_of_items (region_items k.items k.back) → 1 ≤ length p.ends
 ends_read region text x u p s h k placed shows = subst (λ (l : List EndPlace). 1 ≤ length l) (sym (places_are p s (region_items k.items k.back) placed shows).ends_are) k.some
 
 -- where the line of a marker begins that isn't read

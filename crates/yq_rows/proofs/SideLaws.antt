@@ -32,7 +32,9 @@ front_kept p xs at placed gap h =
     let rows = placed.rows_are ∙ (ap (near 0) h.split ∙ near_joined 0 f h.rest) in
     let ends = placed.ends_are ∙ (ap (ends_near 0 0) h.split ∙ ends_joined 0 0 f h.rest) in
     record {
-      rows_are = one_split (λ o. o.start < at) (λ o. at ≤ o.start) (λ o a b. omega (arith, a, b)) p.front.items (map (row_from_end (text_length xs)) (reverse p.behind.items)) (near 0 f) (near m h.rest) rows gap.0 (first_turned at (text_length xs) p.behind.items gap.1)
+      rows_are = one_split (λ o. o.start < at) (λ o. at ≤ o.start) (λ o a b. omega (arith, a, b)) p.front.items
+          (map (row_from_end (text_length xs)) (reverse p.behind.items)) (near 0 f) (near m h.rest) rows gap.0
+          (first_turned at (text_length xs) p.behind.items gap.1)
           (rows_begin (λ s. s < at) 0 f begun) (rows_begin (λ s. at ≤ s) m h.rest later);
       rest = ends_near m k h.rest;
       ends_are = ends;
@@ -60,7 +62,9 @@ end_in_front : (front : List Item) (rest es : List EndPlace) (e : EndPlace) (cou
 end_in_front front rest es e count all is some own = search (rules, get_or_append_left, ends_rows)
 
 -- where it is that end of a part
-end_there : (front : List Item) (gap marker : List ℕ) (rest es : List EndPlace) (e : EndPlace) (count : ℕ) → es ≡ ends_near 0 0 (front ++ (end_item gap marker ∷ [])) ++ rest → count ≡ length (ends_near 0 0 (front ++ (end_item gap marker ∷ []))) → e ≡ get_or es (count - 1) e →
+end_there : (front : List Item) (gap marker : List ℕ) (rest es : List EndPlace) (e : EndPlace) (count : ℕ) →
+    es ≡ ends_near 0 0 (front ++ (end_item gap marker ∷ [])) ++ rest → count ≡ length (ends_near 0 0 (front ++ (end_item gap marker ∷ []))) →
+    e ≡ get_or es (count - 1) e →
     (e ≡ end_at (text_length front) (length (near 0 front)) gap marker) × (count ≡ length (ends_near 0 0 front) + 1)
 end_there front gap marker rest es e count all is own =
     let x = end_at (text_length front) (length (near 0 front)) gap marker in
@@ -69,7 +73,8 @@ end_there front gap marker rest es e count all is own =
     let list : es ≡ ends_near 0 0 front ++ x ∷ rest = all ∙ (ap (λ (l : List EndPlace). l ++ rest) (ends_end front gap marker) ∙ append_assoc (ends_near 0 0 front) (x ∷ []) rest) in
     (own ∙ (ap (λ (l : List EndPlace). get_or l (count - 1) e) list ∙ get_or_at (ends_near 0 0 front) x rest e (count - 1) place), long)
 
-pub at_end : (front : List Item) (first : Item) (rows : List declared.Offsets) (es : List EndPlace) (e : EndPlace) (n count : ℕ) → FrontKept front first rows es count → n ≡ length rows → 0 < count → e ≡ get_or es (count - 1) e → n ≤ e.rows →
+pub at_end : (front : List Item) (first : Item) (rows : List declared.Offsets) (es : List EndPlace) (e : EndPlace) (n count : ℕ) →
+    FrontKept front first rows es count → n ≡ length rows → 0 < count → e ≡ get_or es (count - 1) e → n ≤ e.rows →
     record { rows = n; ends = count - 1; bytes = e.start } ≡ side_of front
 at_end front (row_item r) rows es e n count h long some own high =
     let low = end_in_front front h.rest es e count (h.ends_are ∙ ap (λ (l : List EndPlace). l ++ h.rest) (ends_row front r)) (h.count_is ∙ ap length (ends_row front r)) some own in
@@ -85,7 +90,8 @@ NoEndBehind n es count = 0 < count → (e : EndPlace) × (e ≡ get_or es (count
 no_end : (front : List Item) (gap marker : List ℕ) (rows : List declared.Offsets) (es : List EndPlace) (n count : ℕ) → FrontKept front (end_item gap marker) rows es count → n ≡ length rows → NoEndBehind n es count → ⊥
 no_end front gap marker rows es n count h long none = search (rules, ends_end, length-append, end_there, rows_end)
 
-pub at_row : (front : List Item) (first : Item) (rows : List declared.Offsets) (es : List EndPlace) (o : declared.Offsets) (n count : ℕ) → FrontKept front first rows es count → n ≡ length rows → NoEndBehind n es count → o ≡ get_or rows (n - 1) o →
+pub at_row : (front : List Item) (first : Item) (rows : List declared.Offsets) (es : List EndPlace) (o : declared.Offsets) (n count : ℕ) →
+    FrontKept front first rows es count → n ≡ length rows → NoEndBehind n es count → o ≡ get_or rows (n - 1) o →
     record { rows = n - 1; ends = count; bytes = o.start } ≡ side_of front
 at_row front (row_item r) rows es o n count h long none own = search (rules, rows_row, length-append, get_or_at, sides_same, ends_row, no_end)
 at_row front (end_item gap marker) rows es o n count h long none own = absurd (no_end front gap marker rows es n count h long none)
@@ -166,5 +172,7 @@ pub front_taken : (p : Places) (xs : List Item) (at : ℕ) → AreAt p xs → Is
 front_taken p xs at placed gap within =
     ⊎_elim {0, 0, 0}
     (λ (k : Nothing p xs at). ap (λ (l : List Item). take (length (near 0 l)) p.front.items) k.2 ∙ ap (near 0) (sym k.2))
-    (λ (k : Kept p xs at). ap (λ (l : List Item). take (length (near 0 l)) p.front.items) k.2 ∙ (ap (take (length (near 0 k.0))) (k.3.rows_are ∙ near_joined 0 k.0 (k.1 ∷ [])) ∙ (take_at (near 0 k.0) (near (0 + text_length k.0) (k.1 ∷ [])) (length (near 0 k.0)) refl ∙ ap (near 0) (sym k.2))))
+    (λ (k : Kept p xs at). ap (λ (l : List Item). take (length (near 0 l)) p.front.items) k.2
+        ∙ (ap (take (length (near 0 k.0))) (k.3.rows_are ∙ near_joined 0 k.0 (k.1 ∷ []))
+        ∙ (take_at (near 0 k.0) (near (0 + text_length k.0) (k.1 ∷ [])) (length (near 0 k.0)) refl ∙ ap (near 0) (sym k.2))))
     (found p xs at placed gap within)

@@ -77,7 +77,9 @@ word_no_dash t word = scalar_no_dash t (word_scalar t word)
 pub key_begun : (t key colon behind : List ℕ) → is_dash t ≡ false → read_row_key t ≡ Some (key, colon, behind) → record { dashes = []; columns = 0; mark = Key key colon; rest = behind } ≡ begun (read_marks t)
 key_begun t key colon behind none h = sym (ap begun (marks_none t none ∙ ap (λ o. undashed (key_mark t o)) h))
 
-pub dash_begun : (t dash behind s next : List ℕ) → is_dash t ≡ true → dash ≡ take 1 t → behind ≡ drop 1 t → (s, next) ≡ cut no_space behind → front is_alphanumeric next ≡ true → read_row_key next ≡ None → record { dashes = dash; columns = 0; mark = Dash; rest = behind } ≡ begun (read_marks t)
+pub dash_begun : (t dash behind s next : List ℕ) → is_dash t ≡ true → dash ≡ take 1 t → behind ≡ drop 1 t → (s, next) ≡ cut no_space behind →
+    front is_alphanumeric next ≡ true → read_row_key next ≡ None →
+    record { dashes = dash; columns = 0; mark = Dash; rest = behind } ≡ begun (read_marks t)
 dash_begun t dash behind s next is one back e word none =
     let goes : (not (is_empty s) && begins_entry next) ≡ false = and_right (not (is_empty s)) (begins_entry next) (rw (word_no_dash next word, none) refl) in
     let here : (s, next) ≡ cut no_space (drop 1 t) = e ∙ ap (cut no_space) back in
@@ -117,7 +119,8 @@ white_feed b h = rw (at_byte (λ x. eqb x 10) b 32 h refl, at_byte (λ x. eqb x 
 shallow : (least : ℕ) (line : List ℕ) → prefix_len (λ b. eqb b 32) line < least → begins_deep (Some least) line ≡ false
 shallow least line less = rw (false_from_ne_true (nat_le least (prefix_len (λ b. eqb b 32) line)) (λ e. absurd (omega (arith, leb-true least (prefix_len (λ b. eqb b 32) line) e, less)))) refl
 
-pub scalar_ends : (least : ℕ) (t after rest : List ℕ) (n : ℕ) → begins_with 10 t ≡ true → after ≡ drop 1 t → n ≡ prefix_len (λ b. eqb b 32) after → rest ≡ drop n after → n < least → is_space rest ≡ false → upto (ends_plain false (Some least)) t ≡ 0
+pub scalar_ends : (least : ℕ) (t after rest : List ℕ) (n : ℕ) → begins_with 10 t ≡ true → after ≡ drop 1 t → n ≡ prefix_len (λ b. eqb b 32) after →
+    rest ≡ drop n after → n < least → is_space rest ≡ false → upto (ends_plain false (Some least)) t ≡ 0
 scalar_ends least [] after rest n h one run back less none = absurd (false≢true h)
 scalar_ends least (b ∷ bs) after rest n h one run back less none =
     let feed : b ≡ 10 = eqb-true b 10 h in
@@ -130,7 +133,8 @@ scalar_ends least (b ∷ bs) after rest n h one run back less none =
     let stop : across false (Some least) true (b ∷ bs) ≡ None = first ∙ (ap (λ (d : Bool). more 1 (across false (Some least) d bs)) low ∙ (sym over ∙ ap (more (1 + n)) gone)) in
     plain_stop false (Some least) (b ∷ bs) (rw feed refl) stop
 
-pub feed_content : (n : ℤ) (t tail rest : List ℕ) → begins_with 10 t ≡ true → tail ≡ take 1 t → rest ≡ drop 1 t → filled_at n t ≡ Some (record { space = []; anchor = []; apart = []; head = []; tail = tail; raw = []; plain = false; alone = false; rest = rest })
+pub feed_content : (n : ℤ) (t tail rest : List ℕ) → begins_with 10 t ≡ true → tail ≡ take 1 t → rest ≡ drop 1 t →
+    filled_at n t ≡ Some (record { space = []; anchor = []; apart = []; head = []; tail = tail; raw = []; plain = false; alone = false; rest = rest })
 unfolding upto
 feed_content n [] tail rest h a b = absurd (false≢true h)
 feed_content n (b ∷ bs) tail rest h a c =

@@ -169,7 +169,8 @@ module _ (t new : List ℕ) (kept : Kept) (es : List Extent) where
   Within n w = (line_count (items_text w []) ≤ Lines n w) ⊎ KeptLast n w
 
   module _ (n : ℕ) (w : List Item)
-      (passed : (u : List Item) (gap marker : List ℕ) (ws : List Item) → w ≡ u ++ (end_item gap marker ∷ ws) → 0 < length marker → (n + text_length u) + length (gap ++ marker) ≤ kept.front → begins_line new ((n + text_length u) + length (gap ++ marker)) ≡ true → ⊥)
+      (passed : (u : List Item) (gap marker : List ℕ) (ws : List Item) → w ≡ u ++ (end_item gap marker ∷ ws) → 0 < length marker →
+          (n + text_length u) + length (gap ++ marker) ≤ kept.front → begins_line new ((n + text_length u) + length (gap ++ marker)) ≡ true → ⊥)
       (last : (u : List Item) (gap marker : List ℕ) (ws : List Item) → w ≡ u ++ (end_item gap marker ∷ ws) → 0 < length marker → length new ≤ ((n + text_length u) + length gap) + kept.back →
       (ws ≡ []) × (IsTouched (n + text_length u) ((n + text_length u) + length (gap ++ marker)) es → IsTouched (n + text_length u) ((n + text_length u) + length gap) es)) where
     one_by_one : (u ws : List Item) → w ≡ u ++ ws → Owned n u → AreTouched (n + text_length u) ws es → Within n w
@@ -179,16 +180,21 @@ module _ (t new : List ℕ) (kept : Kept) (es : List Extent) where
         m : ℕ
         m = n + text_length u
 
-        next : ((v : List Item) → w ≡ v ++ ws → Owned n v → AreTouched (n + text_length v) ws es → Within n w) → (i : Item) → w ≡ u ++ (i ∷ ws) → IsTouched m (m + length (item_text i)) es → AreTouched (m + length (item_text i)) ws es → Own m i ≡ item_text i → Within n w
+        next : ((v : List Item) → w ≡ v ++ ws → Owned n v → AreTouched (n + text_length v) ws es → Within n w) → (i : Item) → w ≡ u ++ (i ∷ ws) →
+            IsTouched m (m + length (item_text i)) es → AreTouched (m + length (item_text i)) ws es → Own m i ≡ item_text i → Within n w
         next again i is here more whole =
             let at : m + length (item_text i) ≡ n + text_length (u ++ (i ∷ [])) = omega (arith, joined_long u (i ∷ []), first_long i []) in
             again (u ++ (i ∷ [])) (is ∙ sym (append_assoc u (i ∷ []) ws)) (owned_more n m u i refl own whole here) (subst (λ (k : ℕ). AreTouched k ws es) at more)
 
-        decide : ((v : List Item) → w ≡ v ++ ws → Owned n v → AreTouched (n + text_length v) ws es → Within n w) → (i : Item) → w ≡ u ++ (i ∷ ws) → IsTouched m (m + length (item_text i)) es → AreTouched (m + length (item_text i)) ws es → Within n w
+        decide : ((v : List Item) → w ≡ v ++ ws → Owned n v → AreTouched (n + text_length v) ws es → Within n w) → (i : Item) → w ≡ u ++ (i ∷ ws) →
+            IsTouched m (m + length (item_text i)) es → AreTouched (m + length (item_text i)) ws es → Within n w
         decide again (row_item r) is here more = next again (row_item r) is here more refl
         decide again (end_item gap marker) is here more = ⊎_elim {0, 0, 0}
-            (λ (stays : keeps_line t new kept (m + length gap) (m + length (gap ++ marker)) ≡ true). ⊎_elim {0, 0, 0} (λ (some : 0 < length marker). by_side stays some) (λ (none : length marker ≤ 0). next again (end_item gap marker) is here more (nothing stays none)) (cases_lt 0 (length marker)))
-            (λ (goes : keeps_line t new kept (m + length gap) (m + length (gap ++ marker)) ≡ false). next again (end_item gap marker) is here more (cond-false (keeps_line t new kept (m + length gap) (m + length (gap ++ marker))) gap (gap ++ marker) goes))
+            (λ (stays : keeps_line t new kept (m + length gap) (m + length (gap ++ marker)) ≡ true). ⊎_elim {0, 0, 0}
+                (λ (some : 0 < length marker). by_side stays some)
+                (λ (none : length marker ≤ 0). next again (end_item gap marker) is here more (nothing stays none)) (cases_lt 0 (length marker)))
+            (λ (goes : keeps_line t new kept (m + length gap) (m + length (gap ++ marker)) ≡ false). next again (end_item gap marker) is here more
+                (cond-false (keeps_line t new kept (m + length gap) (m + length (gap ++ marker))) gap (gap ++ marker) goes))
             (cases_Bool (keeps_line t new kept (m + length gap) (m + length (gap ++ marker))))
           where
             behind : Bool
@@ -415,7 +421,9 @@ module _ (t new : List ℕ) (kept : Kept) (c d : Cut) (ss : List Segment) (h : C
             ap (λ (l : List Item). pre ++ l) (append_assoc u (end_item gap marker ∷ (i ∷ ws)) z ∙ sym (append_assoc u (end_item gap marker ∷ []) (i ∷ (ws ++ z)))) ∙ sym (append_assoc pre (u ++ (end_item gap marker ∷ [])) (i ∷ (ws ++ z))) in
             let all : items_of_cut d ≡ lead ++ (i ∷ (ws ++ z)) = are ∙ (ap (λ (l : List Item). pre ++ (l ++ z)) e ∙ group) in
             let stop = back_stop kept.back (items_of_cut d) lead i ws (all ∙ ap (λ (l : List Item). lead ++ (i ∷ (ws ++ l))) (sym back_same)) in
-            absurd (omega (arith, stop, ap (λ (l : List Item). text_length (i ∷ (ws ++ l))) back_same, cut_long new d h.new_is, ap text_length all, joined_long lead (i ∷ (ws ++ z)), joined_long pre (u ++ (end_item gap marker ∷ [])), joined_long u (end_item gap marker ∷ []), first_long (end_item gap marker) [], length-append gap marker, far, some))
+            absurd (omega (arith, stop, ap (λ (l : List Item). text_length (i ∷ (ws ++ l))) back_same, cut_long new d h.new_is, ap text_length all,
+                joined_long lead (i ∷ (ws ++ z)), joined_long pre (u ++ (end_item gap marker ∷ [])), joined_long u (end_item gap marker ∷ []),
+                first_long (end_item gap marker) [], length-append gap marker, far, some))
 
     -- the lines of what is read are those of items between others
     among : Lines t new kept es (text_length pre) written ≤ Lines t new kept es 0 (items_of_cut d)
@@ -432,7 +440,9 @@ module _ (t new : List ℕ) (kept : Kept) (c d : Cut) (ss : List Segment) (h : C
       from = (text_length pre + text_length k.front) + length k.gap
 
       inner : items_text written [] ≡ q ++ k.marker
-      inner = ap (λ (l : List Item). items_text l []) k.items ∙ (text_split k.front (end_item k.gap k.marker ∷ []) ∙ (ap (λ l. items_text k.front [] ++ (k.gap ++ l)) (append-nil k.marker) ∙ sym (append_assoc (items_text k.front []) k.gap k.marker)))
+      inner = ap (λ (l : List Item). items_text l []) k.items
+          ∙ (text_split k.front (end_item k.gap k.marker ∷ [])
+          ∙ (ap (λ l. items_text k.front [] ++ (k.gap ++ l)) (append-nil k.marker) ∙ sym (append_assoc (items_text k.front []) k.gap k.marker)))
 
       whole_is : new ≡ (items_text pre [] ++ q) ++ (k.marker ++ items_text z [])
       whole_is =
@@ -491,7 +501,8 @@ module _ (t new : List ℕ) (kept : Kept) (c d : Cut) (ss : List Segment) (h : C
           let place : length t - (length new - from) ≡ length lead_bytes = omega (arith, sizes, old_size, ap length old_all, length-append (items_text f []) (items_text tch []), length-append lead_bytes k.marker) in
           let text : t ≡ lead_bytes ++ (k.marker ++ items_text z []) =
           old_split ∙ (ap (λ l. take (length t - kept.back) t ++ l) cut_back.1 ∙ sym (append_assoc (take (length t - kept.back) t) cut_back.0 (k.marker ++ items_text z []))) in
-          let whole : fresh true lead_bytes ≡ true = sym (begins_at lead_bytes (k.marker ++ items_text z []) (length t - (length new - from)) place) ∙ (ap (λ (l : List ℕ). begins_line l (length t - (length new - from))) (sym text) ∙ k.began) in
+          let whole : fresh true lead_bytes ≡ true = sym (begins_at lead_bytes (k.marker ++ items_text z []) (length t - (length new - from)) place)
+              ∙ (ap (λ (l : List ℕ). begins_line l (length t - (length new - from))) (sym text) ∙ k.began) in
           let own : fresh true lead ≡ true = fresh_any (fresh true (items_text f [])) lead (sym (fresh_joined true (items_text f []) lead) ∙ (ap (fresh true) (sym cut_tch.2) ∙ whole)) in
           ap (λ (l : List ℕ). begins_line l (length lead)) cut_tch.1 ∙ (begins_is lead k.marker ∙ own)
 
@@ -520,7 +531,9 @@ module _ (t new : List ℕ) (kept : Kept) (c d : Cut) (ss : List Segment) (h : C
       (λ k. let s = stays f w h.touches.new_are k in kept_there f w h.touches.new_are k tch s.0 s.1 s.2)
       (within_lines t new kept es (text_length f) w passed (last_is f w h.touches.new_are) h.each)
     where
-      passed : (u : List Item) (gap marker : List ℕ) (ws : List Item) → w ≡ u ++ (end_item gap marker ∷ ws) → 0 < length marker → (text_length f + text_length u) + length (gap ++ marker) ≤ kept.front → begins_line new ((text_length f + text_length u) + length (gap ++ marker)) ≡ true → ⊥
+      passed : (u : List Item) (gap marker : List ℕ) (ws : List Item) → w ≡ u ++ (end_item gap marker ∷ ws) → 0 < length marker →
+          (text_length f + text_length u) + length (gap ++ marker) ≤ kept.front →
+          begins_line new ((text_length f + text_length u) + length (gap ++ marker)) ≡ true → ⊥
       passed [] gap marker ws is some less begins =
           let at : text_length f + length (gap ++ marker) ≡ kept.front = omega (arith, less, reaches (end_item gap marker) ws is) in
           let place : (text_length f + text_length []) + length (gap ++ marker) ≡ kept.front = omega (arith, at) in
@@ -547,7 +560,9 @@ module _ (t new : List ℕ) (kept : Kept) (c d : Cut) (ss : List Segment) (h : C
           let all : AreTouched (text_length f) (x ∷ ws) es = subst (λ (l : List Item). AreTouched (text_length f) l es) first h.each in
           subst (λ (n : ℕ). AreTouched n ws es) (sym long) all.1
 
-      passed : (u : List Item) (gap marker : List ℕ) (vs : List Item) → ws ≡ u ++ (end_item gap marker ∷ vs) → 0 < length marker → (text_length pre + text_length u) + length (gap ++ marker) ≤ kept.front → begins_line new ((text_length pre + text_length u) + length (gap ++ marker)) ≡ true → ⊥
+      passed : (u : List Item) (gap marker : List ℕ) (vs : List Item) → ws ≡ u ++ (end_item gap marker ∷ vs) → 0 < length marker →
+          (text_length pre + text_length u) + length (gap ++ marker) ≤ kept.front →
+          begins_line new ((text_length pre + text_length u) + length (gap ++ marker)) ≡ true → ⊥
       passed u gap marker vs is some less begins = omega (arith, less, reaches x ws first, long, length-append gap marker, some)
 
       same_marker : (k : KeptLast t new kept es (text_length pre) ws) → kept_marker (kept.back - text_length z) (drop 1 tch) ≡ length k.marker

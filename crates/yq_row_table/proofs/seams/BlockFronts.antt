@@ -21,7 +21,8 @@ gap_front gap x ks run h is =
     lines_front ks run x (subst (λ (ls : RawLines). AreGapLines ls x) same h.each)
 
 -- a gap after a block scalar
-pub block_seam : (least column : ℕ) (b : BlockText) (ks : RawLines) (x next rest : List ℕ) → IsBlock least b (joined ks ++ x) → AreGapLines ks x → is_empty x ≡ false → IsGap next rest → column < b.indent.columns → is_behind b.indent (text_lines rest) ≡ true →
+pub block_seam : (least column : ℕ) (b : BlockText) (ks : RawLines) (x next rest : List ℕ) → IsBlock least b (joined ks ++ x) → AreGapLines ks x →
+    is_empty x ≡ false → IsGap next rest → column < b.indent.columns → is_behind b.indent (text_lines rest) ≡ true →
     ends_block (keeps b.chomping) b.indent (text_lines (seam_gap (Some b) column (joined ks) next ++ rest)) ≡ true
 block_seam least column b ks x next rest h k some n less behind =
     let keep = keeps b.chomping in

@@ -56,7 +56,8 @@ pub seams_alike : (front : List Row) (t u : List ℕ) → Alike (Some false) t u
 seams_alike front t u a h = seams_same front t u (alike_empty (Some false) t u a) (lines_alike t u a) h
 
 -- Of a row they ask for its gap and its column alone.
-pub seams_row : (front : List Row) (limit other : Limit) (r s : Row) (t u : List ℕ) → IsRow limit r t → IsRow other s u → s.gap ≡ r.gap → s.column ≡ r.column → are_seamed front (print_row r t) ≡ true → are_seamed front (print_row s u) ≡ true
+pub seams_row : (front : List Row) (limit other : Limit) (r s : Row) (t u : List ℕ) → IsRow limit r t → IsRow other s u → s.gap ≡ r.gap →
+    s.column ≡ r.column → are_seamed front (print_row r t) ≡ true → are_seamed front (print_row s u) ≡ true
 seams_row front limit other r s t u h k gap column was = search (rules, starts_alike, row_starts, lines_after, seams_same, row_some)
 
 -- After rows of which the last one ends in a break and holds no block scalar, any text may be.

@@ -17,7 +17,8 @@ pub three_lines : (a b c : ℕ) (p : List ℕ) → is_feed a ≡ false → is_fe
 unfolding is_line
 three_lines a b c p x y z = rw (x, y, z) refl
 
-three_seam : (a b c : ℕ) (p t u : List ℕ) → is_feed a ≡ false → is_feed b ≡ false → is_feed c ≡ false → ((r : List ℕ) → is_space (c ∷ r) ≡ false) → IsMarkerLine (a ∷ (b ∷ (c ∷ p))) t → is_closed (a ∷ (b ∷ (c ∷ p))) u ≡ true → MarkerKept (a ∷ (b ∷ (c ∷ p))) t u
+three_seam : (a b c : ℕ) (p t u : List ℕ) → is_feed a ≡ false → is_feed b ≡ false → is_feed c ≡ false → ((r : List ℕ) → is_space (c ∷ r) ≡ false) →
+    IsMarkerLine (a ∷ (b ∷ (c ∷ p))) t → is_closed (a ∷ (b ∷ (c ∷ p))) u ≡ true → MarkerKept (a ∷ (b ∷ (c ∷ p))) t u
 three_seam a b c p t u x y z black h closed =
     let tail_closed : is_closed p u ≡ true = ap (λ (q : Bool). q || is_empty u) (sym (three_lines a b c p x y z)) ∙ closed in
     let tail = tail_kept p t u tail_closed h.tail in

@@ -83,7 +83,8 @@ bare_seam spaces d name gap t u h g =
     let text : Alike (Some false) (name ++ t) (name ++ u) = name_alike name t u was.some h.was h.apart was.inside in
     rw nothing ((name_seam name t u h.apart was, h.lead, g.2, g.3, (none.1, none.0)), λ e. after text)
 
-node_bare : (node : FlowNode) (spaces : Option ℕ) (d : ℕ) (name gap t u : List ℕ) → is_empty_node node ≡ true → Behind spaces (anchored name gap node) t u → IsFlowNode false spaces d (anchored name gap node) t → Kept spaces d (anchored name gap node) t u
+node_bare : (node : FlowNode) (spaces : Option ℕ) (d : ℕ) (name gap t u : List ℕ) → is_empty_node node ≡ true →
+    Behind spaces (anchored name gap node) t u → IsFlowNode false spaces d (anchored name gap node) t → Kept spaces d (anchored name gap node) t u
 node_bare node spaces d name gap t u e h g =
     let is = bare_is node e in
     subst (λ (n : FlowNode). Kept spaces d (anchored name gap n) t u) (sym is)

@@ -36,7 +36,8 @@ NodeKept n space node tail t new u = IsContent n (Inline space node new) u × Al
 something : (b : Bool) → (false || not b) ≡ true → b ≡ false
 something b h = search (rules, false≢true)
 
-pub inline_seam : (n : ℤ) (space : List ℕ) (node : FlowNode) (tail t new u : List ℕ) → IsContent n (Inline space node tail) t → TailFits n new (Inline space node tail) u → Joined (Inline space node tail) t new u → NodeKept n space node tail t new u
+pub inline_seam : (n : ℤ) (space : List ℕ) (node : FlowNode) (tail t new u : List ℕ) → IsContent n (Inline space node tail) t →
+    TailFits n new (Inline space node tail) u → Joined (Inline space node tail) t new u → NodeKept n space node tail t new u
 inline_seam n space node tail t new u h f j =
     let behind : Behind (Some (deeper n)) node (tail ++ t) (new ++ u) = record { was = tail_apart tail t h.2; apart = tail_apart new u f.0; lead = tail_lead new u f.0; ends = f.1; joint = j } in
     let kept = node_seam (Some (deeper n)) node depth_limit (tail ++ t) (new ++ u) behind h.1.valid in
@@ -84,7 +85,9 @@ bare_row : (limit : Limit) (r : Row) (t new u : List ℕ) → is_entry r.mark �
 bare_row limit r t new u e h f j =
     let n = parent_indent r in
     let text = alone_text n r.content t new u (search (rules, false≢true)) h.content f j in
-    takes_place limit r t r.dashes r.mark (with_tail new r.content) u h (dashes_text_alike r.dashes _ _ (bare_text r.mark _ _ e text)) h.dashes (bare_mark r.mark r.content t (with_tail new r.content) u e h.mark (alone_tail r.content new)) (content_seam n r.content t new u h.content f j)
+    takes_place limit r t r.dashes r.mark (with_tail new r.content) u h (dashes_text_alike r.dashes _ _ (bare_text r.mark _ _ e text)) h.dashes
+        (bare_mark r.mark r.content t (with_tail new r.content) u e h.mark (alone_tail r.content new))
+        (content_seam n r.content t new u h.content f j)
 
 -- a row with another tail, before another text
 pub row_tail : (limit : Limit) (r : Row) (t new u : List ℕ) → IsRow limit r t → TailFits (parent_indent r) new r.content u → Joined r.content t new u → TakesPlace limit r t (retail new r) u

@@ -83,7 +83,8 @@ RowsKept limit front rows new end rest other_end other =
     AreRows limit (front ++ new) other_end other
     × ((no_rows front ≡ true) ⊎ Alike (Some false) (rows_text (front ++ rows) (end ++ rest)) (rows_text (front ++ new) (other_end ++ other)))
 
-pub rows_seam : (front rows new : List Row) (limit : Limit) (end rest other_end other : List ℕ) → AreRows limit (front ++ rows) end rest → MayFollowRows limit front new other_end other → RowsKept limit front rows new end rest other_end other
+pub rows_seam : (front rows new : List Row) (limit : Limit) (end rest other_end other : List ℕ) → AreRows limit (front ++ rows) end rest →
+    MayFollowRows limit front new other_end other → RowsKept limit front rows new end rest other_end other
 rows_seam [] rows new limit end rest other_end other h f = (f.rows, inl refl)
 rows_seam (r ∷ []) rows new limit end rest other_end other h f =
     let kept = row_seam limit r (rows_text rows (end ++ rest)) (rows_text new (other_end ++ other)) h.0 f.seam (plain_before (parent_indent r) r.content new other_end other f.rows f.ends) in
@@ -109,7 +110,9 @@ gap_text gap rs end rest = search rules
 pub spliced_text : (new : List Row) (gap : List ℕ) (rs : List Row) (end rest : List ℕ) → rows_text (new ++ with_first_gap gap rs) (end_gap gap rs end ++ rest) ≡ rows_text new (gap ++ behind_first rs end rest)
 spliced_text new gap rs end rest = rows_text-append new (with_first_gap gap rs) (end_gap gap rs end ++ rest) ∙ ap (rows_text new) (gap_text gap rs end rest)
 
-pub rows_join : (new : List Row) (limit was : Limit) (gap : List ℕ) (rs : List Row) (end rest : List ℕ) → AreRows limit new gap (behind_first rs end rest) → AreRows was rs end rest → allows_first (asked_behind limit new) rs ≡ true → AreRows limit (new ++ with_first_gap gap rs) (end_gap gap rs end) rest
+pub rows_join : (new : List Row) (limit was : Limit) (gap : List ℕ) (rs : List Row) (end rest : List ℕ) →
+    AreRows limit new gap (behind_first rs end rest) → AreRows was rs end rest → allows_first (asked_behind limit new) rs ≡ true →
+    AreRows limit (new ++ with_first_gap gap rs) (end_gap gap rs end) rest
 rows_join [] limit was gap [] end rest h k a = h
 rows_join [] limit was gap (r ∷ rs) end rest h k a = (record { gap = h; allowed = a; unmarked = k.0.unmarked; dashes = k.0.dashes; mark = k.0.mark; content = k.0.content }, k.1)
 rows_join (x ∷ new) limit was gap rs end rest h k a = search (rules, spliced_text, rows_join new (limit_after x) was gap rs end rest h.1 k a)

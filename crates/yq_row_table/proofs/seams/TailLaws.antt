@@ -88,7 +88,9 @@ tail_closed tail break u b bare pairs h = ⊎_elim {0, 0, 0}
     h.line.ends
 
 -- a tail may be there, where rows come after it
-pub fits_by : (n : ℤ) (c : Content) (new : List ℕ) (rs : List Row) (end rest : List ℕ) → is_block c ≡ false → IsTail new (rows_text rs (end ++ rest)) → AreRows (limit_behind n c) rs end rest → ends_part rest ≡ true → TailFits n new c (rows_text rs (end ++ rest))
+pub fits_by : (n : ℤ) (c : Content) (new : List ℕ) (rs : List Row) (end rest : List ℕ) → is_block c ≡ false →
+    IsTail new (rows_text rs (end ++ rest)) → AreRows (limit_behind n c) rs end rest → ends_part rest ≡ true →
+    TailFits n new c (rows_text rs (end ++ rest))
 fits_by n (Nothing tail) new rs end rest b t h e = t
 fits_by n (Inline space node tail) new rs end rest b t h e = (t, λ plain. plain_before n (Inline space node new) rs end rest h e plain t)
 fits_by n (Block space anchor block) new rs end rest b t h e = absurd (false≢true (sym b))
@@ -100,7 +102,8 @@ pub tail_pairs : (c : Content) (t : List ℕ) → is_block c ≡ false → pairs
 tail_pairs c t h1 h2 = search (rules, pairs_back, node_then, false≢true)
 
 -- A row at the end of the text, without a break, gets one, and rows come after it.
-pub row_closed : (limit : Limit) (r : Row) (break : List ℕ) (new : List Row) (end rest : List ℕ) → IsRow limit r [] → TakesBreak r break → pairs_returns (print_row r []) ≡ true → AreRows (limit_after r) new end rest → ends_part rest ≡ true →
+pub row_closed : (limit : Limit) (r : Row) (break : List ℕ) (new : List Row) (end rest : List ℕ) → IsRow limit r [] → TakesBreak r break →
+    pairs_returns (print_row r []) ≡ true → AreRows (limit_after r) new end rest → ends_part rest ≡ true →
     TakesPlace limit r [] (closed_by break r) (rows_text new (end ++ rest))
 row_closed limit r break new end rest h f pairs n e =
     let text : pairs_returns (content_text r.content []) ≡ true = pairs_back (row_front r) (content_text r.content []) (ap pairs_returns (sym (row_front-append r [])) ∙ pairs) in
@@ -118,7 +121,9 @@ pub rows_appended : (front : List Row) (r : Row) (break : List ℕ) (new : List 
     AreRows (limit_after r) new end [] → AreRows limit (front ++ (closed_by break r ∷ new)) end []
 rows_appended front r break new limit end h f pairs n =
     let own = rows_drop (length front) (front ++ (r ∷ [])) limit [] [] h in
-    let asked : AreRows (asked_behind limit (take (length front) (front ++ (r ∷ [])))) (r ∷ []) [] [] = subst (λ (rs : List Row). AreRows (asked_behind limit (take (length front) (front ++ (r ∷ [])))) rs [] []) (drop-append_seam front (r ∷ [])) own in
+    let asked : AreRows (asked_behind limit (take (length front) (front ++ (r ∷ [])))) (r ∷ []) [] [] =
+        subst (λ (rs : List Row). AreRows (asked_behind limit (take (length front) (front ++ (r ∷ [])))) rs [] []) (drop-append_seam front (r ∷ []))
+        own in
     let last : AreRows (asked_behind limit front) (r ∷ []) [] [] = subst (λ (rs : List Row). AreRows (asked_behind limit rs) (r ∷ []) [] []) (take-append_seam front (r ∷ [])) asked in
     let kept = row_closed (asked_behind limit front) r break new end [] last.0 f pairs n refl in
     let behind : AreRows (limit_after (closed_by break r)) new end [] = subst (λ (l : Limit). AreRows l new end []) (sym (limit_closed break r)) n in

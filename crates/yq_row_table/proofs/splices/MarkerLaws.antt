@@ -14,7 +14,9 @@ use Rattle.yq_row_table.{proofs.seams.TailLaws.tail_closed, proofs.ItemCuts.no_m
 abbrev MarkerClosed : List ℕ → List ℕ → List ℕ → Type 0
 MarkerClosed p break u = IsMarkerLine (p ++ break) u × Alike (Some false) (p ++ []) ((p ++ break) ++ u)
 
-three_closed : (a b c : ℕ) (p break u : List ℕ) → is_feed a ≡ false → is_feed b ≡ false → is_feed c ≡ false → ((r : List ℕ) → is_space (c ∷ r) ≡ false) → IsMarkerLine (a ∷ (b ∷ (c ∷ p))) [] → is_line (a ∷ (b ∷ (c ∷ p))) ≡ false → is_one_break break ≡ true →
+three_closed : (a b c : ℕ) (p break u : List ℕ) → is_feed a ≡ false → is_feed b ≡ false → is_feed c ≡ false →
+    ((r : List ℕ) → is_space (c ∷ r) ≡ false) → IsMarkerLine (a ∷ (b ∷ (c ∷ p))) [] → is_line (a ∷ (b ∷ (c ∷ p))) ≡ false →
+    is_one_break break ≡ true →
     pairs_returns (a ∷ (b ∷ (c ∷ p))) ≡ true → MarkerClosed (a ∷ (b ∷ (c ∷ p))) break u
 three_closed a b c p break u x y z black h bare is pairs =
     let none : is_line p ≡ false = sym (three_lines a b c p x y z) ∙ bare in
@@ -44,7 +46,8 @@ begins_same : (p break : List ℕ) → is_empty p ≡ false → begins_document 
 begins_same p break h = search (rules, false≢true)
 
 -- cuts
-one_closed : (started : Bool) (p : Part) (marker : List ℕ) (q new : Part) (break : List ℕ) → AreParts started (marked p marker (last q)) → is_line marker ≡ false → is_one_break break ≡ true → pairs_returns (cut_text (marked p marker (last q))) ≡ true →
+one_closed : (started : Bool) (p : Part) (marker : List ℕ) (q new : Part) (break : List ℕ) → AreParts started (marked p marker (last q)) →
+    is_line marker ≡ false → is_one_break break ≡ true → pairs_returns (cut_text (marked p marker (last q))) ≡ true →
     IsPart (begins_document marker) new [] → CutExchanged started (marked p marker (last q)) (marked p (marker ++ break) (last new))
 one_closed started p marker q new break h bare is pairs n =
     let u : List ℕ = part_text new [] in
@@ -56,7 +59,8 @@ one_closed started p marker q new break h bare is pairs n =
     let closed = marker_closed marker break u line bare is own in
     search (rules, begins_same, no_marker, part_alike, part_text_alike)
 
-parts_closed : (c : Cut) (started : Bool) (p : Part) (marker : List ℕ) (new : Part) (break : List ℕ) → AreParts started (marked p marker c) → is_line (last_marker (marked p marker c)) ≡ false → is_one_break break ≡ true → pairs_returns (cut_text (marked p marker c)) ≡ true →
+parts_closed : (c : Cut) (started : Bool) (p : Part) (marker : List ℕ) (new : Part) (break : List ℕ) → AreParts started (marked p marker c) →
+    is_line (last_marker (marked p marker c)) ≡ false → is_one_break break ≡ true → pairs_returns (cut_text (marked p marker c)) ≡ true →
     IsPart (begins_document (last_marker (marked p marker c))) new [] → CutExchanged started (marked p marker c) (with_last_part break new (marked p marker c))
 parts_closed (last q) started p marker new break h bare is pairs n = one_closed started p marker q new break h bare is pairs n
 parts_closed (marked q other c) started p marker new break h bare is pairs n =

@@ -10,7 +10,8 @@ use Rattle.yq_row_table.{proofs.splices.PartPlaces.{row_stands, rows_after, rows
 use Rattle.yq_row_table.proofs.splices.SpliceTexts.{first_text, first_is, row_pairs}
 
 -- where what the rows in front ask of it is kept
-one_placed : (t : List ℕ) (c : Cut) (k : ℕ) (front : List Row) (r : Row) (back : List Row) (s : Row) → IsCut t c → StandsBetween k front r back c → IsRow (asked_at k (length front) c) s (rest_behind k back c) → allows_first (limit_after s) back ≡ true →
+one_placed : (t : List ℕ) (c : Cut) (k : ℕ) (front : List Row) (r : Row) (back : List Row) (s : Row) → IsCut t c → StandsBetween k front r back c →
+    IsRow (asked_at k (length front) c) s (rest_behind k back c) → allows_first (limit_after s) back ≡ true →
     ((fs : List Row) → are_seamed fs (print_row r (rest_behind k back c)) ≡ true → are_seamed fs (print_row s (rest_behind k back c)) ≡ true) → CutsItsText (replace_row k front (s ∷ []) (first_gap back (nth_part k c).end) c)
 one_placed t c k front r back s h stands row allowed keeps =
     let p = nth_part k c in
@@ -24,7 +25,8 @@ one_placed t c k front r back s h stands row allowed keeps =
     let own = row_stands t c k front r back h stands in
     search (rules, first_text, first_is, placed)
 
-pub row_replaced : (t : List ℕ) (c : Cut) (k : ℕ) (front : List Row) (r : Row) (back : List Row) (s : Row) → IsCut t c → StandsBetween k front r back c → TakesPlace (asked_at k (length front) c) r (rest_behind k back c) s (rest_behind k back c) →
+pub row_replaced : (t : List ℕ) (c : Cut) (k : ℕ) (front : List Row) (r : Row) (back : List Row) (s : Row) → IsCut t c →
+    StandsBetween k front r back c → TakesPlace (asked_at k (length front) c) r (rest_behind k back c) s (rest_behind k back c) →
     allows_first (limit_after s) back ≡ true → CutsItsText (replace_row k front (s ∷ []) (first_gap back (nth_part k c).end) c)
 row_replaced t c k front r back s h stands takes allowed = search (rules, one_placed, seams_alike)
 

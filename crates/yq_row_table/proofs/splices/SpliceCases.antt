@@ -31,7 +31,8 @@ starts : (t : List ℕ) (c : Cut) (k i : ℕ) (u : List ℕ) → IsCut t c → n
 starts t c k i u h some = or_right (not (no_rows (front_rows k i c))) (is_after (marker_before [] k c) u) (part_after c k true u h.parts (more_of i (nth_part k c).rows some))
 
 -- rows in the place of others, where what the rows in front ask of the text after them is kept
-pub placed : (t : List ℕ) (c : Cut) (k i j : ℕ) (new : List Row) (gap : List ℕ) → IsCut t c → no_rows (back_rows k i c) ≡ false → AreRows (asked_at k i c) new gap (behind_rows k j c) → allows_first (asked_behind (asked_at k i c) new) (back_rows k j c) ≡ true →
+pub placed : (t : List ℕ) (c : Cut) (k i j : ℕ) (new : List Row) (gap : List ℕ) → IsCut t c → no_rows (back_rows k i c) ≡ false →
+    AreRows (asked_at k i c) new gap (behind_rows k j c) → allows_first (asked_behind (asked_at k i c) new) (back_rows k j c) ≡ true →
     ((fs : List Row) → are_seamed fs (rows_text (back_rows k i c) ((nth_part k c).end ++ behind_part k c)) ≡ true → are_seamed fs (rows_text new (gap ++ behind_rows k j c)) ≡ true) → CutsItsText (splice k i j new gap c)
 placed t c k i j new gap h some rows next keeps =
     let p = nth_part k c in

@@ -37,7 +37,8 @@ or_not a b h e = search (rules, false≢true)
 none_front : (a b : List Row) (t : List ℕ) → no_rows a ≡ true → rows_text (a ++ b) t ≡ rows_text b t
 none_front a b t h = search (rules, false≢true)
 
-part_spliced : (marker : List ℕ) (started : Bool) (i j : ℕ) (new : List Row) (gap : List ℕ) (p : Part) (rest : List ℕ) → ends_part rest ≡ true → IsPart started p rest → SpliceFits marker started i j new gap p rest → PartSpliced marker started p (splice_part i j new gap p) rest
+part_spliced : (marker : List ℕ) (started : Bool) (i j : ℕ) (new : List Row) (gap : List ℕ) (p : Part) (rest : List ℕ) → ends_part rest ≡ true →
+    IsPart started p rest → SpliceFits marker started i j new gap p rest → PartSpliced marker started p (splice_part i j new gap p) rest
 part_spliced marker started i j new gap p rest e h f =
     let front = take i p.rows in
     let back = drop j p.rows in
@@ -58,7 +59,8 @@ CutSpliced marker started c d = AreParts started d × Fronts marker (cut_text c)
 after_closed : (p t u : List ℕ) → IsMarkerLine p t → is_after p u ≡ true → is_closed p u ≡ true
 after_closed p t u h c = search rules
 
-marked_spliced : (before : List ℕ) (started : Bool) (p : Part) (marker : List ℕ) (c d : Cut) → AreParts started (marked p marker c) → CutSpliced marker (begins_document marker) c d → CutSpliced before started (marked p marker c) (marked p marker d)
+marked_spliced : (before : List ℕ) (started : Bool) (p : Part) (marker : List ℕ) (c d : Cut) → AreParts started (marked p marker c) →
+    CutSpliced marker (begins_document marker) c d → CutSpliced before started (marked p marker c) (marked p marker d)
 marked_spliced before started p marker c d h more = ⊎_elim {0, 0, 0}
     (λ alike. let kept : CutExchanged started (marked p marker c) (marked p marker d) = marked_behind started p marker c d h (more.0, alike) in (kept.0, inl kept.1))
     (λ a.

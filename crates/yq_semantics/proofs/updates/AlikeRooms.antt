@@ -48,7 +48,9 @@ module _ (op : Operation) (old new : ℕ → Room) (docs : List Document) (left 
 
   all_same : SetsComment op → (others : List Operation) → AreAlike old new others
   all_same set [] = tt
-  all_same set (x ∷ xs) = let same : SameRoom (old (op_document x)) (new (op_document x)) = by_document (λ i. SameRoom (old i) (new i)) (left.comments set) left.others (op_document x) in (record { block = same.block; has = λ c. same.has }, all_same set xs)
+  all_same set (x ∷ xs) = let same : SameRoom (old (op_document x)) (new (op_document x)) =
+      by_document (λ i. SameRoom (old i) (new i)) (left.comments set) left.others (op_document x) in
+      (record { block = same.block; has = λ c. same.has }, all_same set xs)
 
   same_block : KeepsBlockIn op docs → (others : List Operation) → SetNoComment others → AreAlike old new others
   same_block kept [] none = tt
@@ -63,7 +65,9 @@ module _ (op : Operation) (old new : ℕ → Room) (docs : List Document) (left 
   same_others (x ∷ xs) apart none = (record { block = (left.others (op_document x) apart.0).block; has = λ c. absurd (none.0 c) }, same_others xs apart.1 none.1)
 
 -- the rooms that an operation leaves are alike for the later ones
-next_alike : (op : Operation) (ops : List Operation) (old new : ℕ → Room) (after : List Document) → LeavesRooms op old new after → ((d : Document) × (slice_get after (op_document op) ≡ Some d)) → (KeepsBlockIn op after ⊎ NoneOn (op_document op) ops) → SetComments (op ∷ ops) ⊎ SetNoComment (op ∷ ops) → AreAlike old new ops
+next_alike : (op : Operation) (ops : List Operation) (old new : ℕ → Room) (after : List Document) → LeavesRooms op old new after →
+    ((d : Document) × (slice_get after (op_document op) ≡ Some d)) → (KeepsBlockIn op after ⊎ NoneOn (op_document op) ops) →
+    SetComments (op ∷ ops) ⊎ SetNoComment (op ∷ ops) → AreAlike old new ops
 next_alike op ops old new after h1 h2 h3 h4 = search (rules, all_same, same_block, same_others)
 
 module _ (op : Operation) (ops : List Operation) (old new : ℕ → Room) (docs : List Document) (left : LeavesRooms op old new (after_op old op docs)) (h : MayFollow old (op ∷ ops) docs) where

@@ -56,7 +56,8 @@ find_item (suc r) m f free behind i is (child label n cs) items =
     let next : suc i + r ≡ m = omega (arith, is) in
     search (rules, child_done, find_past_item, find_item r m f free behind (suc i) next cs items.1)
 
-find_inside : (s : Step) (f : NodeEdits) → f (s ∷ []) ≡ None → ((m i : ℕ) → s ≡ Nth m → f (Nth i ∷ []) ≡ Some goes → m < i) → (n : Node) → IsTree n → child_at s (children_of (node_edit_inside f n)) ≡ done_child s f (child_at s (children_of n))
+find_inside : (s : Step) (f : NodeEdits) → f (s ∷ []) ≡ None → ((m i : ℕ) → s ≡ Nth m → f (Nth i ∷ []) ≡ Some goes → m < i) → (n : Node) → IsTree n →
+    child_at s (children_of (node_edit_inside f n)) ≡ done_child s f (child_at s (children_of n))
 find_inside s f h1 h2 n h3 = search (rules, find_key, find_item, no_entry_done, no_entry)
 
 -- what is done elsewhere leaves the node at a path as it is

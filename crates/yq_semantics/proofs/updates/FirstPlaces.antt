@@ -57,7 +57,8 @@ each_at_none root f so s x ps qs b t n h =
     each_given (λ rs. IsBeforeAll x rs × AreSound root rs × NoPlaceAt s rs) (λ (p : FoundPlace). p.path ≢ s ∷ []) f
     (λ p more r. ((λ rs e. lying_none s x p.path rs r.0.0 r.2.0 (so p rs r.1.0.0 r.1.0.1 e).inside), (r.0.1, r.1.1, r.2.1))) ps qs (b, t, n) h
 
-each_first : (root : Node) (f : FoundPlace → Judgement (List FoundPlace)) → LeadsSo root f → (s : paths.Step) → LeadsFirst root s f → (ps qs : List FoundPlace) → AreGood root ps → NoPlaceLater s ps → for_each f ps ≡ gives qs → NoPlaceLater s qs
+each_first : (root : Node) (f : FoundPlace → Judgement (List FoundPlace)) → LeadsSo root f → (s : paths.Step) → LeadsFirst root s f →
+    (ps qs : List FoundPlace) → AreGood root ps → NoPlaceLater s ps → for_each f ps ≡ gives qs → NoPlaceLater s qs
 each_first root f h1 s h2 ps qs h3 h4 h5 = search (rules, gives_same, joined_gives, later_join, each_at_none)
 
 -- of the children of the root, the first one is first

@@ -39,4 +39,6 @@ rows-preserved c = record {
 }
 
 pub returns : goal.returns
-returns c = λ k. names_all (line_names (lines_of_rows k.document.rows)) (all_named c.rows.names.items) k.document.rows (c.rows.i - c.args.x.document.first) (omega (arith, rows_length c.args.x.rows.now c.args.x.document k.document, c.rows-test.false)) (c.rows.invariant.names k)
+returns c = λ k. names_all (line_names (lines_of_rows k.document.rows)) (all_named c.rows.names.items) k.document.rows
+    (c.rows.i - c.args.x.document.first) (omega (arith, rows_length c.args.x.rows.now c.args.x.document k.document, c.rows-test.false))
+    (c.rows.invariant.names k)

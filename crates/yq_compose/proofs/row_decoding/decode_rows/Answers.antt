@@ -18,7 +18,8 @@ rows-preserved c =
     let r = row_at c.args.text.now c.args.rows.now c.requires.cut c.rows.at (omega (arith, c.rows-test.true, c.len.ensures)) in
     record {
       within = omega (arith, c.rows-test.true, c.len.ensures);
-      so_far = row_step c.args.text.now c.rows.at c.rows.decoded.items c.rows.invariant.so_far r.0 r.1 (c.in-Ok.ensures.fits r.0 r.1) c.in-Ok.row c.in_ok-decoded.decoded.items c.in-Ok.ensures.row c.in_ok-decoded.ensures (c.in-Ok.ensures.agrees r.0 r.1);
+      so_far = row_step c.args.text.now c.rows.at c.rows.decoded.items c.rows.invariant.so_far r.0 r.1 (c.in-Ok.ensures.fits r.0 r.1) c.in-Ok.row
+          c.in_ok-decoded.decoded.items c.in-Ok.ensures.row c.in_ok-decoded.ensures (c.in-Ok.ensures.agrees r.0 r.1);
     }
 
 pub returns-clause-fits : goal.returns-clause-fits

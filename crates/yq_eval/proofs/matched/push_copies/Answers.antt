@@ -18,5 +18,6 @@ returns-in_err-push_match c =
 pub places-preserved : goal.places-preserved
 places-preserved c = record {
   scalars = (subst HaveScalars (reached place_of c.args.places.now c.places.place-index c.place-item.result c.places-test.true c.place-item.is) c.places.invariant.scalars).1;
-  so_far = each_more place_of (match_at c.args.doc) (matches_of c.places.matches.items) (matches_of c.push_match.new.matches.items) c.args.places.now c.places.place-index c.place-item.result _ c.places-test.true c.place-item.is c.in_ok-push_match.ensures c.places.invariant.so_far;
+  so_far = each_more place_of (match_at c.args.doc) (matches_of c.places.matches.items) (matches_of c.push_match.new.matches.items) c.args.places.now
+      c.places.place-index c.place-item.result _ c.places-test.true c.place-item.is c.in_ok-push_match.ensures c.places.invariant.so_far;
 }

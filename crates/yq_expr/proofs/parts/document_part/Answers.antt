@@ -78,7 +78,9 @@ returns-clause-part c =
     let is = c.in_ok-push_changes.ensures in
     let count = length-map c.in_ok-places.places.items place_of in
     elim c.if-end-count.branch [
-      | then-end-count w ↦ subst (IsPlanPart (document_ops u c.args.document.doc room root) c.args.place before after) (sym w.next-is) (more_part u c.args.document.doc room root ps found before after c.args.place (c.args.place + c.in_ok-few.few) cs order changed is)
+      | then-end-count w ↦
+          subst (IsPlanPart (document_ops u c.args.document.doc room root) c.args.place before after) (sym w.next-is)
+          (more_part u c.args.document.doc room root ps found before after c.args.place (c.args.place + c.in_ok-few.few) cs order changed is)
       | else-end-count w ↦ subst (IsPlanPart (document_ops u c.args.document.doc room root) c.args.place before after) (sym w.next-is)
           (last_part u c.args.document.doc room root ps found before after c.args.place (c.args.place + c.in_ok-few.few) cs order changed is
           (omega (arith, count, c.in_ok-places.places.ok.0, c.len-count.ensures, w.if-end-count.false)))

@@ -29,7 +29,9 @@ read_node-returns-in-Ok-clause-read t c =
     c.in-Some.ensures.0 (rw c.in-Some.ensures.1 at c.in_ok-name.ensures.read) c.in_ok-gap.ensures.read c.in-Ok.ensures.read c.put_anchor.ensures.read
 
 pub read_content-returns-in-Ok-clause-read : goal.read_content-returns-in-Ok-clause-read
-read_content-returns-in-Ok-clause-read t c = content_given c.args.flow c.args.spaces (length c.args.whole.now) c.args.depth c.args.text.now (form_view c.in-Ok.form) c.in-Ok.rest.now c.in-Ok.ensures.read ∙ ap (λ (s : Placed). Some (s, c.in-Ok.rest.now)) (sym c.placed_between.ensures)
+read_content-returns-in-Ok-clause-read t c =
+    content_given c.args.flow c.args.spaces (length c.args.whole.now) c.args.depth c.args.text.now (form_view c.in-Ok.form) c.in-Ok.rest.now
+    c.in-Ok.ensures.read ∙ ap (λ (s : Placed). Some (s, c.in-Ok.rest.now)) (sym c.placed_between.ensures)
 
 pub read_content-returns-in-Err-clause-read : goal.read_content-returns-in-Err-clause-read
 read_content-returns-in-Err-clause-read t c = content_fails c.args.flow c.args.spaces (length c.args.whole.now) c.args.depth c.args.text.now c.in-Err.e c.in-Err.ensures.read
@@ -38,19 +40,34 @@ pub read_form-returns-in_err-name-clause-read : goal.read_form-returns-in_err-na
 read_form-returns-in_err-name-clause-read t c = search (rules, form_unnamed)
 
 pub read_form-returns-in-Some-clause-read : goal.read_form-returns-in-Some-clause-read
-read_form-returns-in-Some-clause-read t c = let h = form_alias c.args.flow c.args.spaces (length c.args.whole.now) c.args.depth c.args.text.now c.in-Some.behind.now c.in_ok-name.name.now c.in_ok-name.rest.now c.in-Some.ensures.0 c.in-Some.ensures.1 c.in_ok-name.ensures.read in simp the_lemmas h
+read_form-returns-in-Some-clause-read t c = let h =
+    form_alias c.args.flow c.args.spaces (length c.args.whole.now) c.args.depth c.args.text.now c.in-Some.behind.now c.in_ok-name.name.now
+    c.in_ok-name.rest.now c.in-Some.ensures.0 c.in-Some.ensures.1 c.in_ok-name.ensures.read in simp the_lemmas h
 
 pub read_form-returns-in-Some-strip-clause-read : goal.read_form-returns-in-Some-strip-clause-read
-read_form-returns-in-Some-strip-clause-read t c = gives_same _ c.read_sequence.result _ _ (sequence_form c.args.flow c.args.spaces (length c.args.whole.now) c.args.depth c.args.text.now c.in_default.ensures c.in-Some-strip.ensures.0 ∙ ap (placed_coll (length c.args.whole.now) c.args.depth 93) (sym c.in-Some-strip.ensures.1)) c.read_sequence.ensures.read
+read_form-returns-in-Some-strip-clause-read t c =
+    gives_same _ c.read_sequence.result _ _
+    (sequence_form c.args.flow c.args.spaces (length c.args.whole.now) c.args.depth c.args.text.now c.in_default.ensures c.in-Some-strip.ensures.0
+    ∙ ap (placed_coll (length c.args.whole.now) c.args.depth 93) (sym c.in-Some-strip.ensures.1)) c.read_sequence.ensures.read
 
 pub read_form-returns-in-Some-strip-2-clause-read : goal.read_form-returns-in-Some-strip-2-clause-read
-read_form-returns-in-Some-strip-2-clause-read t c = gives_same _ c.read_mapping.result _ _ (mapping_form c.args.flow c.args.spaces (length c.args.whole.now) c.args.depth c.args.text.now c.in_default.ensures c.in_default-strip.ensures c.in-Some-strip-2.ensures.0 ∙ ap (placed_coll (length c.args.whole.now) c.args.depth 125) (sym c.in-Some-strip-2.ensures.1)) c.read_mapping.ensures.read
+read_form-returns-in-Some-strip-2-clause-read t c =
+    gives_same _ c.read_mapping.result _ _
+    (mapping_form c.args.flow c.args.spaces (length c.args.whole.now) c.args.depth c.args.text.now c.in_default.ensures c.in_default-strip.ensures
+    c.in-Some-strip-2.ensures.0 ∙ ap (placed_coll (length c.args.whole.now) c.args.depth 125) (sym c.in-Some-strip-2.ensures.1))
+    c.read_mapping.ensures.read
 
 pub read_form-returns-then-begins_content-clause-read : goal.read_form-returns-then-begins_content-clause-read
-read_form-returns-then-begins_content-clause-read t c = gives_same _ c.read_text.result _ _ (text_form c.args.flow c.args.spaces (length c.args.whole.now) c.args.depth c.args.text.now c.in_default.ensures c.in_default-strip.ensures c.in_default-strip-2.ensures (sym (c.if-begins_content.ensures ∙ ap (begins_content c.args.flow) c.as_bytes.ensures.value))) c.read_text.ensures.read
+read_form-returns-then-begins_content-clause-read t c =
+    gives_same _ c.read_text.result _ _
+    (text_form c.args.flow c.args.spaces (length c.args.whole.now) c.args.depth c.args.text.now c.in_default.ensures c.in_default-strip.ensures
+    c.in_default-strip-2.ensures (sym (c.if-begins_content.ensures ∙ ap (begins_content c.args.flow) c.as_bytes.ensures.value)))
+    c.read_text.ensures.read
 
 pub read_form-returns-clause-read : goal.read_form-returns-clause-read
-read_form-returns-clause-read t c = let h = no_form c.args.flow c.args.spaces (length c.args.whole.now) c.args.depth c.args.text.now c.in_default.ensures c.in_default-strip.ensures c.in_default-strip-2.ensures (sym (c.if-begins_content.ensures ∙ ap (begins_content c.args.flow) c.as_bytes.ensures.value)) in simp the_lemmas h
+read_form-returns-clause-read t c = let h =
+    no_form c.args.flow c.args.spaces (length c.args.whole.now) c.args.depth c.args.text.now c.in_default.ensures c.in_default-strip.ensures
+    c.in_default-strip-2.ensures (sym (c.if-begins_content.ensures ∙ ap (begins_content c.args.flow) c.as_bytes.ensures.value)) in simp the_lemmas h
 
 pub read_item-returns-in-Err-clause-read : goal.read_item-returns-in-Err-clause-read
 read_item-returns-in-Err-clause-read t c = item_fails c.in-Err.e (length c.args.whole.now) c.args.depth c.args.text.now c.in-Err.ensures.read
@@ -59,7 +76,9 @@ pub read_item-returns-in_err-behind-in-Ok-clause-read : goal.read_item-returns-i
 read_item-returns-in_err-behind-in-Ok-clause-read t c = search (rules, item_refused)
 
 pub read_item-returns-in_ok-behind-in-Ok-clause-read : goal.read_item-returns-in_ok-behind-in-Ok-clause-read
-read_item-returns-in_ok-behind-in-Ok-clause-read t c = item_given (length c.args.whole.now) c.args.depth c.args.text.now (inline_view c.in-Ok.item) c.in-Ok.rest.now c.in_ok-behind-in-Ok.behind.now c.in-Ok.ensures.read c.in_ok-behind-in-Ok.ensures.read
+read_item-returns-in_ok-behind-in-Ok-clause-read t c =
+    item_given (length c.args.whole.now) c.args.depth c.args.text.now (inline_view c.in-Ok.item) c.in-Ok.rest.now c.in_ok-behind-in-Ok.behind.now
+    c.in-Ok.ensures.read c.in_ok-behind-in-Ok.ensures.read
 
 pub read_item-returns-in_ok-behind-in-Ok-clause-shorter : goal.read_item-returns-in_ok-behind-in-Ok-clause-shorter
 read_item-returns-in_ok-behind-in-Ok-clause-shorter t c = omega (arith, c.in_ok-behind-in-Ok.ensures.shorter, node_shorter (length c.args.whole.now) c.args.depth c.args.text.now _ _ c.in-Ok.ensures.read c.in_ok-behind-in-Ok.ensures.some)
@@ -68,7 +87,9 @@ pub read_sequence-returns-in_err-rest-clause-read : goal.read_sequence-returns-i
 read_sequence-returns-in_err-rest-clause-read t c = search (rules, coll_unopened)
 
 pub read_sequence-returns-in-Ok-clause-read : goal.read_sequence-returns-in-Ok-clause-read
-read_sequence-returns-in-Ok-clause-read t c = let h = coll_given (length c.args.whole.now) c.args.depth 93 c.args.text.now c.in_ok-rest.rest.now (items_end c.in-Ok.items.items) c.in-Ok.rest.now c.in_ok-rest.ensures.read c.in-Ok.ensures.read in simp the_lemmas h
+read_sequence-returns-in-Ok-clause-read t c = let h =
+    coll_given (length c.args.whole.now) c.args.depth 93 c.args.text.now c.in_ok-rest.rest.now (items_end c.in-Ok.items.items) c.in-Ok.rest.now
+    c.in_ok-rest.ensures.read c.in-Ok.ensures.read in simp the_lemmas h
 
 pub read_sequence-returns-in-Err-clause-read : goal.read_sequence-returns-in-Err-clause-read
 read_sequence-returns-in-Err-clause-read t c = coll_fails c.in-Err.e (length c.args.whole.now) c.args.depth 93 c.args.text.now c.in_ok-rest.rest.now c.in_ok-rest.ensures.read c.in-Err.ensures.read
@@ -77,7 +98,9 @@ pub read_mapping-returns-in_err-rest-clause-read : goal.read_mapping-returns-in_
 read_mapping-returns-in_err-rest-clause-read t c = search (rules, coll_unopened)
 
 pub read_mapping-returns-in-Ok-clause-read : goal.read_mapping-returns-in-Ok-clause-read
-read_mapping-returns-in-Ok-clause-read t c = let h = coll_given (length c.args.whole.now) c.args.depth 125 c.args.text.now c.in_ok-rest.rest.now (entries_end c.in-Ok.entries.items) c.in-Ok.rest.now c.in_ok-rest.ensures.read c.in-Ok.ensures.read in simp the_lemmas h
+read_mapping-returns-in-Ok-clause-read t c = let h =
+    coll_given (length c.args.whole.now) c.args.depth 125 c.args.text.now c.in_ok-rest.rest.now (entries_end c.in-Ok.entries.items) c.in-Ok.rest.now
+    c.in_ok-rest.ensures.read c.in-Ok.ensures.read in simp the_lemmas h
 
 pub read_mapping-returns-in-Err-clause-read : goal.read_mapping-returns-in-Err-clause-read
 read_mapping-returns-in-Err-clause-read t c = coll_fails c.in-Err.e (length c.args.whole.now) c.args.depth 125 c.args.text.now c.in_ok-rest.rest.now c.in_ok-rest.ensures.read c.in-Err.ensures.read

@@ -20,10 +20,16 @@ pub split_at-requires : goal.split_at-requires
 split_at-requires c = head_boundary c.args.parent c.split_apart.result.2.now c.in-Ok.piece (block_read c.args.parent c.split_apart.result.2.now c.in-Ok.piece (rw (to_z-of_z w64 c.args.parent c.ranges.parent) at c.in-Ok.ensures.exact))
 
 pub split_at-requires-2 : goal.split_at-requires-2
-split_at-requires-2 c = tail_boundary c.args.parent c.split_apart.result.2.now c.split_at.result.1.now c.in-Ok.piece (block_read c.args.parent c.split_apart.result.2.now c.in-Ok.piece (rw (to_z-of_z w64 c.args.parent c.ranges.parent) at c.in-Ok.ensures.exact)) c.split_at.ensures.back (search rules)
+split_at-requires-2 c =
+    tail_boundary c.args.parent c.split_apart.result.2.now c.split_at.result.1.now c.in-Ok.piece
+    (block_read c.args.parent c.split_apart.result.2.now c.in-Ok.piece (rw (to_z-of_z w64 c.args.parent c.ranges.parent) at c.in-Ok.ensures.exact))
+    c.split_at.ensures.back (search rules)
 
 pub split_at-requires-3 : goal.split_at-requires-3
-split_at-requires-3 c = raw_boundary c.args.parent c.split_apart.result.2.now c.split_at.result.1.now c.split_at-2.result.1.now c.in-Ok.piece (block_read c.args.parent c.split_apart.result.2.now c.in-Ok.piece (rw (to_z-of_z w64 c.args.parent c.ranges.parent) at c.in-Ok.ensures.exact)) c.split_at.ensures.back c.split_at-2.ensures.back (search rules)
+split_at-requires-3 c =
+    raw_boundary c.args.parent c.split_apart.result.2.now c.split_at.result.1.now c.split_at-2.result.1.now c.in-Ok.piece
+    (block_read c.args.parent c.split_apart.result.2.now c.in-Ok.piece (rw (to_z-of_z w64 c.args.parent c.ranges.parent) at c.in-Ok.ensures.exact))
+    c.split_at.ensures.back c.split_at-2.ensures.back (search rules)
 
 pub returns-clause-read : goal.returns-clause-read
 returns-clause-read c =

@@ -22,7 +22,8 @@ split_at-requires-2 c =
     let dash : is_dash text ≡ true = ap is_dash (sym c.as_bytes.ensures.value) ∙ (sym c.is_dash.ensures ∙ c.if-not-is_dash.false) in
     let word = ap (front is_alphanumeric) (sym c.as_bytes-2.ensures.value) ∙ (sym c.begins_word.ensures ∙ c.if-not-begins_word.false) in
     let key = word_behind c.split_spaces.result.0.now c.split_spaces.result.1.now _ (some_spaces c.split_spaces.result.0.now c.is_empty.result c.is_empty.ensures c.if-is_empty.false) word c.in_ok-key.ensures in
-    let keyed = dash_keyed text text c.split_at.result.1.now c.split_spaces.result.0.now c.split_spaces.result.1.now _ _ _ (rw none refl) (omega arith) (rw none (front_none (begun (read_marks text)))) dash c.split_at.ensures.back c.split_spaces.ensures key in
+    let keyed = dash_keyed text text c.split_at.result.1.now c.split_spaces.result.0.now c.split_spaces.result.1.now _ _ _ (rw none refl)
+        (omega arith) (rw none (front_none (begun (read_marks text)))) dash c.split_at.ensures.back c.split_spaces.ensures key in
     front_boundary text _ c.split_spaces.result.1.now keyed.join (search rules)
 
 pub returns-clause-read : goal.returns-clause-read
@@ -32,5 +33,6 @@ returns-clause-read c =
     let dash : is_dash text ≡ true = ap is_dash (sym c.as_bytes.ensures.value) ∙ (sym c.is_dash.ensures ∙ c.if-not-is_dash.false) in
     let word = ap (front is_alphanumeric) (sym c.as_bytes-2.ensures.value) ∙ (sym c.begins_word.ensures ∙ c.if-not-begins_word.false) in
     let key = word_behind c.split_spaces.result.0.now c.split_spaces.result.1.now _ (some_spaces c.split_spaces.result.0.now c.is_empty.result c.is_empty.ensures c.if-is_empty.false) word c.in_ok-key.ensures in
-    let keyed = dash_keyed text text c.split_at.result.1.now c.split_spaces.result.0.now c.split_spaces.result.1.now _ _ _ (rw none refl) (omega arith) (rw none (front_none (begun (read_marks text)))) dash c.split_at.ensures.back c.split_spaces.ensures key in
+    let keyed = dash_keyed text text c.split_at.result.1.now c.split_spaces.result.0.now c.split_spaces.result.1.now _ _ _ (rw none refl)
+        (omega arith) (rw none (front_none (begun (read_marks text)))) dash c.split_at.ensures.back c.split_spaces.ensures key in
     rw c.split_at-2.ensures.front keyed.read

@@ -10,7 +10,10 @@ pub split_at-requires : goal.split_at-requires
 split_at-requires c = boundary_first c.args.text.now 10 (omega arith) (ap (begins_with 10) (sym c.as_bytes.ensures.value) ∙ (sym c.first_is.ensures ∙ c.if-first_is.true)) c.utf8.text
 
 pub returns-then-first_is : goal.returns-then-first_is
-returns-then-first_is c = feed_content c.args.parent c.args.text.now c.split_at.result.0.now c.split_at.result.1.now (ap (begins_with 10) (sym c.as_bytes.ensures.value) ∙ (sym c.first_is.ensures ∙ c.if-first_is.true)) c.split_at.ensures.front c.split_at.ensures.back
+returns-then-first_is c =
+    feed_content c.args.parent c.args.text.now c.split_at.result.0.now c.split_at.result.1.now
+    (ap (begins_with 10) (sym c.as_bytes.ensures.value) ∙ (sym c.first_is.ensures ∙ c.if-first_is.true)) c.split_at.ensures.front
+    c.split_at.ensures.back
 
 pub returns-then-begins_word : goal.returns-then-begins_word
 returns-then-begins_word c =

@@ -36,7 +36,8 @@ returns-in-Undo g c =
       helped = subst (λ x. Helps x c.move_file.result (report_by c.args.report.now)) (sym is) tt;
       no_output = e.no_output;
       count = e.count;
-      calls = subst (λ x. CallsOf g.D.Store.leads c.move_file.result x c.args.store.now c.move_file.new.store) (sym is) (pair_calls g.D.Store.leads _ _ _ _ _ c.as_str.ensures.value c.as_str-in-Undo.ensures.value (move_effect move.Undo) _ _ e.calls);
+      calls = subst (λ x. CallsOf g.D.Store.leads c.move_file.result x c.args.store.now c.move_file.new.store) (sym is)
+          (pair_calls g.D.Store.leads _ _ _ _ _ c.as_str.ensures.value c.as_str-in-Undo.ensures.value (move_effect move.Undo) _ _ e.calls);
     }
 
 pub returns-in-Redo : goal.returns-in-Redo
@@ -45,7 +46,9 @@ returns-in-Redo g c =
     let is = c.in-Redo.is in
     record {
       done = λ keeps. record {
-        arrives = subst (ArrivesOn _ _ c.move_file-in-Redo.result) (sym is) (pair_arrives _ _ _ _ c.as_str-in-Redo.ensures.value c.as_str-in-Redo-2.ensures.value _ _ c.move_file-in-Redo.result (move_cause move.Redo) (move_next move.Redo) (e.arrives keeps));
+        arrives = subst (ArrivesOn _ _ c.move_file-in-Redo.result) (sym is)
+            (pair_arrives _ _ _ _ c.as_str-in-Redo.ensures.value c.as_str-in-Redo-2.ensures.value _ _ c.move_file-in-Redo.result
+            (move_cause move.Redo) (move_next move.Redo) (e.arrives keeps));
         effect = subst (WorksOn _ _ c.move_file-in-Redo.result) (sym is) (pair_works _ _ _ _ c.as_str-in-Redo.ensures.value c.as_str-in-Redo-2.ensures.value _ _ c.move_file-in-Redo.result (move_effect move.Redo) (e.effect keeps));
         output = subst (ShowsOn _ c.move_file-in-Redo.result _) (sym is) (λ file journal on h good. on_ok c.move_file-in-Redo.result (empty_shows _ _ c.requires.empty));
         listed = subst (ListsOn _ c.move_file-in-Redo.result _) (sym is) (λ file journal on. on_ok c.move_file-in-Redo.result tt);
@@ -61,7 +64,8 @@ returns-in-Redo g c =
       helped = subst (λ x. Helps x c.move_file-in-Redo.result (report_by c.args.report.now)) (sym is) tt;
       no_output = e.no_output;
       count = e.count;
-      calls = subst (λ x. CallsOf g.D.Store.leads c.move_file-in-Redo.result x c.args.store.now c.move_file-in-Redo.new.store) (sym is) (pair_calls g.D.Store.leads _ _ _ _ _ c.as_str-in-Redo.ensures.value c.as_str-in-Redo-2.ensures.value (move_effect move.Redo) _ _ e.calls);
+      calls = subst (λ x. CallsOf g.D.Store.leads c.move_file-in-Redo.result x c.args.store.now c.move_file-in-Redo.new.store) (sym is)
+          (pair_calls g.D.Store.leads _ _ _ _ _ c.as_str-in-Redo.ensures.value c.as_str-in-Redo-2.ensures.value (move_effect move.Redo) _ _ e.calls);
     }
 
 pub returns-in-Squash : goal.returns-in-Squash
@@ -70,7 +74,9 @@ returns-in-Squash g c =
     let is = c.in-Squash.is in
     record {
       done = λ keeps. record {
-        arrives = subst (ArrivesOn _ _ c.squash.result) (sym is) (pair_arrives _ _ _ _ c.as_str-in-Squash.ensures.value c.as_str-in-Squash-2.ensures.value _ _ c.squash.result (squash_cause c.in-Squash.n) (squash_next c.in-Squash.n) (e.arrives keeps));
+        arrives = subst (ArrivesOn _ _ c.squash.result) (sym is)
+            (pair_arrives _ _ _ _ c.as_str-in-Squash.ensures.value c.as_str-in-Squash-2.ensures.value _ _ c.squash.result
+            (squash_cause c.in-Squash.n) (squash_next c.in-Squash.n) (e.arrives keeps));
         effect = subst (WorksOn _ _ c.squash.result) (sym is) (pair_works _ _ _ _ c.as_str-in-Squash.ensures.value c.as_str-in-Squash-2.ensures.value _ _ c.squash.result (squash_effect c.in-Squash.n) (e.effect keeps));
         output = subst (ShowsOn _ c.squash.result _) (sym is) (λ file journal on h good. on_ok c.squash.result (empty_shows _ _ c.requires.empty));
         listed = subst (ListsOn _ c.squash.result _) (sym is) (λ file journal on. on_ok c.squash.result tt);
@@ -86,7 +92,9 @@ returns-in-Squash g c =
       helped = subst (λ x. Helps x c.squash.result (report_by c.args.report.now)) (sym is) tt;
       no_output = e.no_output;
       count = e.count;
-      calls = subst (λ x. CallsOf g.D.Store.leads c.squash.result x c.args.store.now c.squash.new.store) (sym is) (pair_calls g.D.Store.leads _ _ _ _ _ c.as_str-in-Squash.ensures.value c.as_str-in-Squash-2.ensures.value (squash_effect c.in-Squash.n) _ _ e.calls);
+      calls = subst (λ x. CallsOf g.D.Store.leads c.squash.result x c.args.store.now c.squash.new.store) (sym is)
+          (pair_calls g.D.Store.leads _ _ _ _ _ c.as_str-in-Squash.ensures.value c.as_str-in-Squash-2.ensures.value (squash_effect c.in-Squash.n) _ _
+          e.calls);
     }
 
 pub returns-in-History : goal.returns-in-History
@@ -114,7 +122,9 @@ returns-in-History g c =
       helped = subst (λ x. Helps x c.listing.result (report_by report)) (sym is) tt;
       no_output = e.no_output;
       count = e.count;
-      calls = subst (λ x. CallsOf g.D.Store.leads c.listing.result x c.args.store.now c.listing.new.store) (sym is) (pair_calls g.D.Store.leads _ _ _ _ _ c.as_str-in-History.ensures.value c.as_str-in-History-2.ensures.value (listing_effect c.in-History.diffs) _ _ e.calls);
+      calls = subst (λ x. CallsOf g.D.Store.leads c.listing.result x c.args.store.now c.listing.new.store) (sym is)
+          (pair_calls g.D.Store.leads _ _ _ _ _ c.as_str-in-History.ensures.value c.as_str-in-History-2.ensures.value
+          (listing_effect c.in-History.diffs) _ _ e.calls);
     }
 
 pub returns-in-Help : goal.returns-in-Help

@@ -12,4 +12,6 @@ pub overflow_add-result : goal.overflow_add-result
 overflow_add-result c = omega (arith, c.requires.fits, head_length _ _ _ _ _ _ c.in_ok-style.ensures.read c.split_indicators-digit.ensures, tail_length _ _ _ c.in_ok-tail.ensures.read, raw_within _ _ _ _ c.in_ok-len.ensures.read)
 
 pub returns-clause-read : goal.returns-clause-read
-returns-clause-read c = piece_is c.args.start c.args.least c.args.text.now _ _ _ _ _ _ _ _ _ _ _ c.in_ok-style.ensures.read c.split_indicators-digit.ensures c.in_ok-tail.ensures.read c.in_ok-indent.ensures.read c.keeps-keep.ensures c.in_ok-len.ensures.read c.style_of.ensures
+returns-clause-read c =
+    piece_is c.args.start c.args.least c.args.text.now _ _ _ _ _ _ _ _ _ _ _ c.in_ok-style.ensures.read c.split_indicators-digit.ensures
+    c.in_ok-tail.ensures.read c.in_ok-indent.ensures.read c.keeps-keep.ensures c.in_ok-len.ensures.read c.style_of.ensures

@@ -24,7 +24,8 @@ each-preserved-then-first-eq10 c =
     let r : List ℕ = c.each.rest.now in
     let k = c.spaces_len-indent.result in
     let on =
-    go_line c.args.flow c.args.spaces c.each.deep c.begins_deep-deep.result c.each.n c.each.rest.now _ c.in-len1-up.len_at_least (sym c.is_white.ensures ∙ c.if-is_white.false) c.if-first-eq10.true c.begins_deep-deep.ensures c.each.invariant.so_far in
+    go_line c.args.flow c.args.spaces c.each.deep c.begins_deep-deep.result c.each.n c.each.rest.now _ c.in-len1-up.len_at_least
+        (sym c.is_white.ensures ∙ c.if-is_white.false) c.if-first-eq10.true c.begins_deep-deep.ensures c.each.invariant.so_far in
     let back : c.split_at-then-first-eq10.result.1.now ≡ drop k (rest_of r) = c.split_at-then-first-eq10.ensures.back in
     record {
       within = omega (arith, rest_length c.each.n r _ c.in-len1-up.len_at_least c.each.invariant.within, c.spaces_len-indent.ensures.within, c.split_at-then-first-eq10.ensures.back_len);
@@ -34,5 +35,6 @@ each-preserved-then-first-eq10 c =
 pub each-preserved : goal.each-preserved
 each-preserved c = record {
   within = rest_length c.each.n c.each.rest.now _ c.in-len1-up.len_at_least c.each.invariant.within;
-  so_far = go_return c.args.flow c.args.spaces c.each.deep c.each.n c.each.rest.now _ c.in-len1-up.len_at_least (sym c.is_white.ensures ∙ c.if-is_white.false) (search rules) (sym c.is_break.ensures ∙ c.if-is_break.true) c.each.invariant.so_far;
+  so_far = go_return c.args.flow c.args.spaces c.each.deep c.each.n c.each.rest.now _ c.in-len1-up.len_at_least
+      (sym c.is_white.ensures ∙ c.if-is_white.false) (search rules) (sym c.is_break.ensures ∙ c.if-is_break.true) c.each.invariant.so_far;
 }

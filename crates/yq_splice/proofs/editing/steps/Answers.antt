@@ -50,4 +50,6 @@ pub step-requires-clause-read : goal.step-requires-clause-read
 step-requires-clause-read c = ap read_at (sym c.as_bytes.ensures.value) ∙ c.in_ok-documents.ensures.exact
 
 pub returns-clause-ok : goal.returns-clause-ok
-returns-clause-ok c = λ t led. led_more (program_of c.args.program.now) c.args.nth t c.args.text.now (string_bytes c.in_ok-edited.edited.text) c.args.splices.items c.in_ok-edited.edited.splices.items c.requires.within led c.in_ok-edited.ensures.ok
+returns-clause-ok c =
+    λ t led. led_more (program_of c.args.program.now) c.args.nth t c.args.text.now (string_bytes c.in_ok-edited.edited.text) c.args.splices.items
+    c.in_ok-edited.edited.splices.items c.requires.within led c.in_ok-edited.ensures.ok

@@ -10,7 +10,9 @@ abbrev pub invariant-each : goal.invariant-each
 invariant-each l = record {
   path : path_of l.path ≡ path_of l.fn.place.path;
   counted : l.before + count (left_of l.children) ≡ l.count;
-  so_far : places_of l.places.items ++ map (child_place (place_of l.fn.place)) (stepped l.before (left_of l.children)) ≡ places_of l.initial.places.items ++ map (child_place (place_of l.fn.place)) (stepped 0 (children_of (node_of l.fn.place.node)));
+  so_far : places_of l.places.items
+      ++ map (child_place (place_of l.fn.place)) (stepped l.before (left_of l.children)) ≡ places_of l.initial.places.items
+      ++ map (child_place (place_of l.fn.place)) (stepped 0 (children_of (node_of l.fn.place.node)));
 }
 
 abbrev pub decreases-each : goal.decreases-each

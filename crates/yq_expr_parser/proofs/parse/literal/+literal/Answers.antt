@@ -72,7 +72,8 @@ list-returns-in_err-item-clause-value t c =
 pub list-returns-in-None-clause-value : goal.list-returns-in-None-clause-value
 list-returns-in-None-clause-value t c =
     gives_as _ c.closed.result _ _ (either_none _ _ _ _ (sym c.in_default.ensures.value)
-    (bind_gives _ _ _ _ (parted_end value_node (codes ",") (literal_at c.args.depth) (item_lessens c.args.depth) _ (tokens c.items.rest.now) _ c.items.invariant.2 _ _ c.in_ok-item.ensures.value _ c.in_ok-push.ensures.items (sym c.in-None.ensures.value)) refl))
+    (bind_gives _ _ _ _ (parted_end value_node (codes ",") (literal_at c.args.depth) (item_lessens c.args.depth) _ (tokens c.items.rest.now) _
+        c.items.invariant.2 _ _ c.in_ok-item.ensures.value _ c.in_ok-push.ensures.items (sym c.in-None.ensures.value)) refl))
     (closed_reads _ c.closed.result _ _ c.closed.ensures.value)
 
 pub mapping-fields-init : goal.mapping-fields-init
@@ -82,7 +83,8 @@ pub mapping-fields-preserved : goal.mapping-fields-preserved
 mapping-fields-preserved t c = (
   search rules,
   omega (arith, c.in_ok-field.ensures.shorter, c.in-Some-after.ensures.shorter, c.fields.invariant.1),
-  parted_more field_of (codes ",") (field_at (literal_at c.args.depth)) (field_lessens c.args.depth) _ (tokens c.fields.rest.now) _ c.fields.invariant.2 _ _ c.in_ok-field.ensures.value _ c.in_ok-push.ensures.items _ (sym c.in-Some-after.ensures.value),
+  parted_more field_of (codes ",") (field_at (literal_at c.args.depth)) (field_lessens c.args.depth) _ (tokens c.fields.rest.now) _
+      c.fields.invariant.2 _ _ c.in_ok-field.ensures.value _ c.in_ok-push.ensures.items _ (sym c.in-Some-after.ensures.value),
 )
 
 pub mapping-returns-in-Some-clause-value : goal.mapping-returns-in-Some-clause-value
@@ -98,5 +100,7 @@ mapping-returns-in_err-field-clause-value t c =
 pub mapping-returns-in-None-clause-value : goal.mapping-returns-in-None-clause-value
 mapping-returns-in-None-clause-value t c =
     gives_as _ c.closed.result _ _ (either_none _ _ _ _ (sym c.in_default.ensures.value)
-    (bind_gives _ _ _ _ (parted_end field_of (codes ",") (field_at (literal_at c.args.depth)) (field_lessens c.args.depth) _ (tokens c.fields.rest.now) _ c.fields.invariant.2 _ _ c.in_ok-field.ensures.value _ c.in_ok-push.ensures.items (sym c.in-None.ensures.value)) refl))
+    (bind_gives _ _ _ _ (parted_end field_of (codes ",") (field_at (literal_at c.args.depth)) (field_lessens c.args.depth) _
+        (tokens c.fields.rest.now) _ c.fields.invariant.2 _ _ c.in_ok-field.ensures.value _ c.in_ok-push.ensures.items (sym c.in-None.ensures.value))
+        refl))
     (closed_reads _ c.closed.result _ _ c.closed.ensures.value)

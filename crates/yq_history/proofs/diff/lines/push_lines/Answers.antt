@@ -23,7 +23,9 @@ lines-preserved c =
       rest_text = search rules;
       within = omega (arith, cut.1, c.lines.invariant.within);
       so_far = omega (arith, ap length cut.0, c.lines.invariant.so_far);
-      printed = ap (λ x. x ++ rest) c.in_ok-push_line.ensures ∙ (append_assoc (string_bytes c.lines.out) (marked_line c.args.mark.now line) rest ∙ (ap (λ ls. string_bytes c.lines.out ++ marked_lines c.args.mark.now ls) (sym cut.0) ∙ c.lines.invariant.printed));
+      printed = ap (λ x. x ++ rest) c.in_ok-push_line.ensures
+          ∙ (append_assoc (string_bytes c.lines.out) (marked_line c.args.mark.now line) rest
+          ∙ (ap (λ ls. string_bytes c.lines.out ++ marked_lines c.args.mark.now ls) (sym cut.0) ∙ c.lines.invariant.printed));
     }
 
 pub returns : goal.returns

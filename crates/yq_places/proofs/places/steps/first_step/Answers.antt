@@ -18,4 +18,5 @@ pub returns : goal.returns
 returns c = λ h.
     let found = c.search_step-found in
     let within : found.result.row < c.args.walk.now.document.end = omega (arith, c.if-found-walk.false) in
-    one_found c.args.walk.now.rows.now c.args.walk.now.document h c.args.dashes found.result c.level_at-level.result found.ensures.first found.ensures.order within found.ensures.searched (found.ensures.stops within within) c.level_at-level.ensures
+    one_found c.args.walk.now.rows.now c.args.walk.now.document h c.args.dashes found.result c.level_at-level.result found.ensures.first
+        found.ensures.order within found.ensures.searched (found.ensures.stops within within) c.level_at-level.ensures

@@ -22,7 +22,8 @@ put_aliases_below-each-preserved t c =
     record {
       counted = omega (arith, counted);
       deep = omega (arith, reaches);
-      so_far = λ k. named_more (refers_to k) (left_of c.each.children) (left_of c.next.new.self) (label_of c.in-Some.child) (node_of c.in-Some.child) (is_some (get_text k c.each.aliases)) _ _ is (c.in_ok-put_aliases.ensures k) (c.each.invariant.so_far k);
+      so_far = λ k. named_more (refers_to k) (left_of c.each.children) (left_of c.next.new.self) (label_of c.in-Some.child) (node_of c.in-Some.child)
+          (is_some (get_text k c.each.aliases)) _ _ is (c.in_ok-put_aliases.ensures k) (c.each.invariant.so_far k);
     }
 
 pub put_aliases_below-put_aliases-requires : goal.put_aliases_below-put_aliases-requires

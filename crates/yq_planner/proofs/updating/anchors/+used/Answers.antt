@@ -14,7 +14,8 @@ is_used_in-returns-else-is_named t c = λ names h.
 
 pub is_used_inside-returns-then-is_used_in : goal.is_used_inside-returns-then-is_used_in
 is_used_inside-returns-then-is_used_in t c = λ names h.
-    used_here names (left_of c.each.children) (left_of c.next.new.self) (label_of c.in-Some.child) (node_of c.in-Some.child) _ c.in-Some.ensures.steps (sym (c.is_used_in.ensures names h) ∙ c.if-is_used_in.true) (c.each.invariant.so_far names h)
+    used_here names (left_of c.each.children) (left_of c.next.new.self) (label_of c.in-Some.child) (node_of c.in-Some.child) _
+        c.in-Some.ensures.steps (sym (c.is_used_in.ensures names h) ∙ c.if-is_used_in.true) (c.each.invariant.so_far names h)
 
 pub is_used_inside-each-preserved : goal.is_used_inside-each-preserved
 is_used_inside-each-preserved t c =
@@ -24,7 +25,8 @@ is_used_inside-each-preserved t c =
     record {
       counted = omega (arith, counted);
       deep = omega (arith, reaches);
-      so_far = λ names h. used_more names (left_of c.each.children) (left_of c.next.new.self) (label_of c.in-Some.child) (node_of c.in-Some.child) _ is (sym (c.is_used_in.ensures names h) ∙ c.if-is_used_in.false) (c.each.invariant.so_far names h);
+      so_far = λ names h. used_more names (left_of c.each.children) (left_of c.next.new.self) (label_of c.in-Some.child) (node_of c.in-Some.child) _
+          is (sym (c.is_used_in.ensures names h) ∙ c.if-is_used_in.false) (c.each.invariant.so_far names h);
     }
 
 pub is_used_inside-is_used_in-requires : goal.is_used_inside-is_used_in-requires

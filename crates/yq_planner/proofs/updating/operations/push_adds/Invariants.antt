@@ -6,6 +6,8 @@ use Rattle.yq_planner.proofs.updating.operations.push_adds.Given as goal
 
 abbrev pub invariant-each : goal.invariant-each
 invariant-each l = record {
-  so_far : operations_of l.ops.items ++ map (add_op l.path.doc (steps_of l.path)) (map addition_of (into_iter_items l.addition-iterator)) ≡ operations_of l.fn.ops.items ++ map (add_op l.path.doc (steps_of l.path)) (map addition_of l.fn.additions.items);
+  so_far : operations_of l.ops.items
+      ++ map (add_op l.path.doc (steps_of l.path)) (map addition_of (into_iter_items l.addition-iterator)) ≡ operations_of l.fn.ops.items
+      ++ map (add_op l.path.doc (steps_of l.path)) (map addition_of l.fn.additions.items);
   counted : into_iter_len l.addition-iterator ≡ length (into_iter_items l.addition-iterator);
 }
