@@ -3,7 +3,7 @@ use Rattle.std.proofs.Common.{rules, inl, inr, ◌⊎◌, ◌≡◌, ℕ, suc, �
 use Rattle.std.proofs.Common.{Option, Some, None, refl, sym, ap, ◌∙◌, subst, arith, append_assoc, append-nil, length-append}
 use Rattle.std.{proofs.lemmas.Bool.{cases_lt, false≢true}, proofs.lemmas.Option.same_Some, specs.List.slice_get, specs.Option.is_none}
 use Rattle.yq_core.{specs.Paths.Step, specs.Text.is_empty, specs.Tree.Node}
-use Rattle.yq_outline.{specs.Comments.head_comment, specs.Outline.{Line, Outline, end, row, flatten}}
+use Rattle.yq_outline.{specs.Comments.head_comment, specs.Outline.{Line, Outline, flatten}}
 use Rattle.yq_outline.{specs.Places.{FoundLine, here, lines_after, lines_before}, specs.Positions.has_no_mark, proofs.Decides.flatten-group}
 use Rattle.yq_outline.specs.Lines.{head_of, lines_from, lines_of_rows, line_mark, row_lines}
 use Rattle.yq_outline.{proofs.WalkLevels.{RowsAgree, IsLineOf, RowAgrees, line_in}, proofs.WalkRows.rows_agree}

@@ -1,6 +1,6 @@
 -- A value in rows on the line of an item's dash.
 use Rattle.std.proofs.Common.{◌≡◌, ℕ, ◌*◌, ◌+◌, ◌<◌, ◌≤◌, List, [], ◌∷◌, ◌++◌, None, sym, ap, ◌∙◌, subst, arith, append_assoc, rules}
-use Rattle.yq_core.{specs.Paths.Step, specs.Text.upto, specs.Tree.{Node, anchor_of}}
+use Rattle.yq_core.{specs.Paths.Step, specs.Tree.{Node, anchor_of}}
 use Rattle.yq_outline.{specs.LineAnchors.HaveOneAnchorEach, specs.Comments.line_comment, specs.Outline.{level, Stands}}
 use Rattle.yq_outline.{specs.Places.content_under, proofs.ByRules.rules_give, specs.Lines.{lines_of_rows, tail_of}}
 use Rattle.yq_row_table.{specs.Exchange.row_front, specs.Rows.{Nothing, Row, mark_column, rows_text, Cut}, specs.Items.rows_items}

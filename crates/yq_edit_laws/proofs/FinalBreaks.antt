@@ -16,7 +16,6 @@ use Rattle.yq_row_table.proofs.seams.ScalarSeams.{last_no_space}
 use Rattle.yq_places.{specs.CollectionEnds.is_broken, specs.Standings.is_alone, specs.PrintedLines.{end_break, last_break, less_break}}
 use Rattle.yq_places.{proofs.ContentEndLaws.{Ends, content_ends, tail_ends}, proofs.LastBreakLaws.lf_last, proofs.PrintedTexts.less_is}
 use Rattle.yq_edit_rules.{proofs.EndedRowLaws.many_lf, proofs.LineFrontLaws.items_close, proofs.BreakLaws.last_is}
-use Rattle.yq_core.specs.Nodes as nodes
 use Rattle.yq_row_table.specs.Rows as rows
 
 -- an LF ends a text

@@ -9,7 +9,6 @@ use Rattle.yq_documents.specs.Ready.{begins_no_node}
 use Rattle.yq_places.{specs.PrintedLines.last_break, specs.Standings.is_alone, proofs.CommentPieceLaws.Ended, proofs.LastBreakLaws.lf_last}
 use Rattle.yq_edit_rules.{proofs.FirstBreakLaws.IsOneBreak, proofs.BreakLaws.last_is}
 use Rattle.yq_edit_laws.proofs.HeldRows.{no_line}
-use Rattle.yq_row_table.specs.Rows as rows
 
 pub some_length : (t : List ℕ) → is_empty t ≡ false → 0 < length t
 some_length [] h = absurd (false≢true (sym h))

@@ -1,6 +1,6 @@
 -- An edit of a flow collection carries out an operation, where it makes of the document what that does.
-use Rattle.std.proofs.Common.{rules, ◌+◌, [], ◌∷◌, refl, ◌≡◌, ℕ, ◌-◌, ◌≤◌, List, ◌++◌, length, take, Some, sym, ap, ◌∙◌, arith}
-use Rattle.std.{proofs.Common.{append_assoc, append-nil, length-append}, proofs.Math.Seq.take-append_seam}
+use Rattle.std.proofs.Common.{rules, ◌+◌, [], refl, ◌≡◌, ℕ, ◌-◌, ◌≤◌, List, ◌++◌, length, take, Some, sym, ap, ◌∙◌, arith, append_assoc}
+use Rattle.std.{proofs.Common.{append-nil, length-append}, proofs.Math.Seq.take-append_seam}
 use Rattle.yq_text.{specs.Limit.text_limit, specs.Script.{Segment, old_text, new_text, script_text_before, kept_front, kept_back}}
 use Rattle.yq_core.{specs.Paths.{Step, changed_at, within}, specs.Tree.Children, specs.Collections.CollPieces}
 use Rattle.yq_core.specs.Nodes.{FlowNode, node_text}

@@ -1,6 +1,6 @@
 -- The line in whose head a path goes on holds the collection to which the path leads, in an inline node of its row.
-use Rattle.std.proofs.Common.{rules, ◌≡◌, ℕ, ◌+◌, true, List, [], ◌∷◌, ◌++◌, length, Option, Some, None, option_map, refl, sym, ap, ◌∙◌}
-use Rattle.std.{proofs.Common.{subst, length-append}, proofs.lemmas.Bool.false≢true, proofs.lemmas.Option.{none-some, same_Some}}
+use Rattle.std.proofs.Common.{rules, ◌≡◌, ℕ, ◌+◌, List, [], ◌∷◌, ◌++◌, length, Option, Some, None, option_map, refl, sym, ap, ◌∙◌, subst}
+use Rattle.std.{proofs.Common.length-append, proofs.lemmas.Bool.false≢true, proofs.lemmas.Option.{none-some, same_Some}}
 use Rattle.std.{specs.List.slice_get, specs.Prelude.option_and_then}
 use mathlib.Core.List.{head-eq_of_cons-eq}
 use Rattle.yq_core.{specs.Answers.◌>>=◌, specs.Paths.{Step, node_at}, specs.Collections.CollPieces, specs.Trees.tree_of}

@@ -1,6 +1,6 @@
 -- Edits of a flow collection in a part of a text, as edits of the text.
-use Rattle.std.proofs.Common.{rules, ◌≡◌, ℕ, ◌+◌, ◌-◌, ◌≤◌, true, false, cond, List, [], ◌∷◌, ◌++◌, length, Option, Some, None, option_map}
-use Rattle.std.{proofs.Common.{refl, sym, ap, ◌∙◌, arith, append_assoc, length-append}, specs.Option.option_or}
+use Rattle.std.proofs.Common.{rules, ◌≡◌, ℕ, ◌≤◌, true, false, cond, List, [], ◌∷◌, ◌++◌, length, Option, Some, None, option_map, refl, sym}
+use Rattle.std.{proofs.Common.{ap, ◌∙◌, arith, append_assoc, length-append}, specs.Option.option_or}
 use Rattle.yq_core.{specs.Paths.{Step, is_here, further}, specs.Collections.CollPieces, specs.Entries.{EntryPieces, item_at}}
 use Rattle.yq_core.{specs.Nodes.{Key, Sep, FlowNode, Items, none, item}, specs.Trees.key_content, specs.Tree.key_label}
 use Rattle.yq_core.proofs.NodesWrittenLaws.{items_append, sep_append}

@@ -5,8 +5,7 @@ use Rattle.std.specs.Str.{IsCharBoundary}
 use Rattle.yq_core.{specs.Keys.depth, specs.Paths.{Step, changed_at, change_child, further, within}, specs.Scalar.ScalarText}
 use Rattle.yq_core.{specs.declared.style.Place.TheVariants.Flow, specs.Collections.{CollAt, CollPieces, IsCollAt, item_in, room_in}}
 use Rattle.yq_core.{specs.Entries.EntryPieces, specs.Nodes.{Key, Items, none, item, is_empty_node, node_text, without_anchor}}
-use Rattle.yq_core.{specs.Places.locate, specs.Scalars.scalar_style, specs.Trees.{with_anchor_name, scalar_node}}
-use Rattle.yq_core.proofs.PathLaws.{items_hold}
+use Rattle.yq_core.{specs.Places.locate, specs.Scalars.scalar_style, specs.Trees.scalar_node, proofs.PathLaws.items_hold}
 use Rattle.yq_text.{specs.Limit.text_limit, specs.Script.new_text}
 use Rattle.yq_flow_edits.specs.FlowEdits.{FlowEdit, IsFlowEdited, behind_appended, put_content, put_item, put_value, replacing, space_for}
 use Rattle.yq_flow_edits.{specs.FlowEdits.spaced_key, specs.Valued.IsValueTree, proofs.EditLaws.around_is}

@@ -3,8 +3,8 @@ use Rattle.std.proofs.Common.{rules, ◌≡◌, ℕ, Bool, true, false, not, ◌
 use Rattle.std.{proofs.Common.append_assoc, proofs.lemmas.Bool.false≢true}
 use Rattle.yq_core.{specs.Paths.Step, specs.Text.{front, is_feed}, specs.Collections.{CollAt, IsCollAt, item_in}}
 use Rattle.yq_core.specs.Entries.{EntryPieces, pieces_text}
-use Rattle.yq_core.specs.Nodes.{bare, FlowNode, coll, anchored, Items, none, item, key_text, node_text, flow_items_text, AreFlowItems}
-use Rattle.yq_core.specs.Nodes.{is_close, is_empty_node, IsFlowNode, opening_bracket, without_anchor}
+use Rattle.yq_core.specs.Nodes.{bare, FlowNode, anchored, Items, none, item, key_text, node_text, flow_items_text, AreFlowItems, is_close}
+use Rattle.yq_core.specs.Nodes.{is_empty_node, IsFlowNode, opening_bracket, without_anchor}
 use Rattle.yq_core.proofs.NodesWrittenLaws.{key_append, node_then}
 use Rattle.yq_flow_edits.{specs.FlowEdits.{behind_appended, behind_last}, specs.Removals.ends_return, proofs.EditLaws.{Around, around_is}}
 use Rattle.yq_flow_edits.{proofs.ItemLaws.{item_begins, item_some}, proofs.ItemPlaces.{Behind, further_behind, item_behind, last_behind}}

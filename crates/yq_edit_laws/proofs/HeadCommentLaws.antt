@@ -1,6 +1,6 @@
 -- A head comment set: the text reads as the documents after that.
-use Rattle.std.proofs.Common.{rules, ◌≡◌, ◌⊎◌, ℕ, zero, suc, ◌≤◌, true, false, eqb, List, [], ◌∷◌, ◌++◌, length, replicate, Some, refl, sym}
-use Rattle.std.{proofs.Common.{ap, ◌∙◌, subst, append_assoc, append-nil, arith, length-append}, proofs.Math.Seq.take-append_seam}
+use Rattle.std.proofs.Common.{rules, ◌≡◌, ℕ, zero, suc, ◌≤◌, true, false, eqb, List, [], ◌∷◌, ◌++◌, length, replicate, Some, refl, sym, ap}
+use Rattle.std.{proofs.Common.{◌∙◌, subst, append_assoc, append-nil, arith, length-append}, proofs.Math.Seq.take-append_seam}
 use Rattle.std.{proofs.lemmas.Bool.{false≢true, eqb-true, and_parts, cases_Bool}, proofs.lemmas.Option.same_Some}
 use Rattle.std.{proofs.lemmas.Str.IsUtf8-take, specs.Str.{IsCharBoundary, IsUtf8}}
 use Rattle.yq_core.{specs.BlockWritten.break_text, specs.Paths.{Step, changed_at, relabel_child, within}, specs.Tree.Node}

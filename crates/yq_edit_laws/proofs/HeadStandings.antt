@@ -3,7 +3,7 @@ use Rattle.std.proofs.Common.{rules, ◌≡◌, ℕ, List, [], ◌∷◌, Option
 use Rattle.std.{proofs.lemmas.Option.{none-some, same_Some}, specs.Prelude.option_and_then}
 use Rattle.yq_core.{specs.Answers.◌>>=◌, specs.Paths.Step, specs.Tree.Node, specs.Collections.CollPieces}
 use Rattle.yq_text.specs.Script.{Segment}
-use Rattle.yq_outline.{specs.Outline.{Outline, end}, specs.Places.{FoundLine, find}}
+use Rattle.yq_outline.{specs.Outline.Outline, specs.Places.{FoundLine, find}}
 use Rattle.yq_row_table.specs.Rows.{Cut, Part, cut_text}
 use Rattle.yq_documents.specs.Reading.{part_outline, read_at}
 use Rattle.yq_places.specs.FlowNodes.{bare_line, find_head, flow_collection, head_line}

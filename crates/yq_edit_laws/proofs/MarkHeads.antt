@@ -1,5 +1,5 @@
 -- What is written after a key or dash and its anchor, or nothing: the text of another node there.
-use Rattle.std.proofs.Common.{◌≡◌, ℕ, ℤ, true, false, cond, List, [], ◌∷◌, ◌++◌, append_assoc, append-nil, rules}
+use Rattle.std.proofs.Common.{◌≡◌, ℕ, ℤ, true, false, cond, List, [], ◌++◌, append_assoc, append-nil, rules}
 use Rattle.std.proofs.lemmas.Bool.{false≢true}
 use Rattle.yq_core.{specs.Text.is_empty, specs.Nodes.{node_text, IsFlowNode}, proofs.NodesPieceLaws.scalar_some}
 use Rattle.yq_row_table.{specs.Grammar.IsContent, specs.Rows.{Content, content_text}, specs.Seams.is_block, specs.View.content_cut}

@@ -1,7 +1,7 @@
 -- One more item or entry that fits has a place in a flow collection, or at the end of a block collection.
-use Rattle.std.proofs.Common.{rules, ◌≡◌, ◌⊎◌, inl, inr, ℕ, Bool, true, false, cond, eqb, eqb-true, List, [], ◌∷◌, ◌++◌, length, Option}
-use Rattle.std.{proofs.Common.{Some, None, option_map, refl, sym, ap, ◌∙◌, subst}, proofs.lemmas.Bool.{cond-false, cond-true, false≢true}}
-use Rattle.std.{proofs.lemmas.Option.{none-some, same_Some}, specs.List.slice_get, specs.Option.option_or, specs.Prelude.{is_some, ◌&&◌}}
+use Rattle.std.proofs.Common.{rules, ◌≡◌, ◌⊎◌, inl, inr, ℕ, Bool, true, false, cond, eqb, eqb-true, List, [], ◌∷◌, length, Option, Some}
+use Rattle.std.{proofs.Common.{None, option_map, refl, sym, ap, ◌∙◌, subst}, proofs.lemmas.Bool.{cond-false, cond-true, false≢true}}
+use Rattle.std.{proofs.lemmas.Option.{none-some, same_Some}, specs.List.slice_get, specs.Option.option_or, specs.Prelude.is_some}
 use Rattle.yq_core.{specs.Answers.◌>>=◌, specs.Paths.{Step, node_at}, specs.Text.is_empty, specs.Collections.CollPieces}
 use Rattle.yq_core.{specs.Nodes.{IsFlowNode, FlowNode, node_text}, specs.Trees.node_head}
 use Rattle.yq_outline.{specs.Outline.{Line, Outline, flatten}, specs.Places.{FoundLine, find}, specs.Positions.has_no_mark}

@@ -13,7 +13,6 @@ use Rattle.yq_edit_rules.{specs.Operands.HasOperand, specs.ReadsAfter.ReadsAfter
 use Rattle.yq_edit_rules.{proofs.AppendPlaces.{IsAppendPlace, IsAsked, old_is, p, put_segments}, proofs.DoneLaws.nth_map}
 use Rattle.yq_edit_rules.proofs.EditsFitLaws.{tree_unique}
 use Rattle.yq_edit_laws.proofs.AppendInside.{inside_both}
-use Rattle.yq_documents.specs.Reading as reading
 
 -- ---- at the end of a collection
 

@@ -1,6 +1,6 @@
 -- What each operation puts is near.
-use Rattle.std.proofs.Common.{rules, ◌≡◌, ◌⊎◌, inl, inr, ℕ, ◌≤◌, Bool, true, false, cond, ◌&&◌, eqb, List, [], ◌∷◌, length, Option, Some}
-use Rattle.std.{proofs.Common.{None, option_map, refl, subst}, specs.Prelude.⊤, proofs.lemmas.Option.{none-some, same_Some}}
+use Rattle.std.proofs.Common.{rules, ◌≡◌, ◌⊎◌, inl, inr, ℕ, ◌≤◌, Bool, true, false, cond, eqb, List, [], ◌∷◌, length, Option, Some, None}
+use Rattle.std.{proofs.Common.{option_map, refl, subst}, specs.Prelude.⊤, proofs.lemmas.Option.{none-some, same_Some}}
 use Rattle.std.specs.Option.{option_or}
 use Rattle.yq_core.{specs.Answers.◌>>=◌, specs.Paths.Step, specs.Scalar.ScalarText, specs.Tree.Node, specs.Writable.can_write}
 use Rattle.yq_core.{specs.Written.double, specs.declared.style.Place.TheVariants.Block as InBlock}

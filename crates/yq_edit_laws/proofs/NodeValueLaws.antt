@@ -1,6 +1,6 @@
 -- The rows that are written for a value in the place of those of an item or entry: after its key or dash, or under it.
-use Rattle.std.proofs.Common.{◌≡◌, ℕ, suc, ◌+◌, ◌*◌, ◌<◌, ◌≤◌, true, false, List, [], ◌∷◌, ◌++◌, Option, Some, None, refl, sym, ap, ◌∙◌}
-use Rattle.std.{proofs.Common.{subst, rules}, proofs.lemmas.Bool.false≢true}
+use Rattle.std.proofs.Common.{◌≡◌, ℕ, suc, ◌<◌, ◌≤◌, true, false, List, [], ◌∷◌, ◌++◌, Option, Some, None, refl, sym, ap, ◌∙◌, subst, rules}
+use Rattle.std.proofs.lemmas.Bool.{false≢true}
 use Rattle.yq_core.{specs.Paths.Step, specs.Piece.deeper, specs.Plain.ends_plain, specs.Text.separates, specs.Tree.{Node, anchor_of}}
 use Rattle.yq_outline.{specs.LineAnchors.HaveOneAnchorEach, specs.Comments.line_comment}
 use Rattle.yq_outline.{specs.Outline.{end, IsOpen, level, head_or, Stands, value}, specs.Places.content_under, proofs.ByRules.rules_give}

@@ -1,5 +1,5 @@
 -- Where the root of a document comes that has no rows, after a text that doesn't end in a break: on a line of its own, after a break that comes first.
-use Rattle.std.proofs.Common.{◌≡◌, ◌⊎◌, inl, inr, ℕ, ◌≤◌, List, [], ◌∷◌, ◌++◌, length, Some, true, false, refl, sym, ap, ◌∙◌, subst, arith}
+use Rattle.std.proofs.Common.{◌≡◌, inl, inr, ℕ, ◌≤◌, List, [], ◌∷◌, ◌++◌, length, Some, true, false, refl, sym, ap, ◌∙◌, subst, arith}
 use Rattle.std.proofs.Common.{append_assoc, append-nil, length-append, rules}
 use Rattle.std.{proofs.lemmas.Bool.{false≢true, cond-true, false_from_ne_true, and_parts}, proofs.lemmas.Str.is_utf8-from_IsUtf8}
 use Rattle.std.{specs.List.list_all, specs.Str.{chars, is_utf8}}

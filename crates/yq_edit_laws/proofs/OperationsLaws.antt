@@ -1,5 +1,5 @@
 -- Operations of a plan, the first of them apart.
-use Rattle.std.proofs.Common.{rules, ◌≡◌, ℕ, ◌-◌, ◌≤◌, List, [], ◌∷◌, ◌++◌, length, take, drop, slice_index_or, refl, sym, ap, ◌∙◌, subst}
+use Rattle.std.proofs.Common.{rules, ◌≡◌, ℕ, ◌-◌, ◌≤◌, List, [], ◌∷◌, ◌++◌, length, take, drop, slice_index_or, refl, sym, ap, subst}
 use Rattle.std.proofs.Common.{take_all, append-nil, arith}
 use Rattle.yq_semantics.{specs.Operations.{operation_of, operations_of}, specs.declared.op.Op.Op}
 use Rattle.yq_text.specs.Splice.{Splice}

@@ -3,7 +3,6 @@ use Rattle.std.proofs.Common.{rules, ◌≡◌, inl, inr, ℕ, List, [], ◌∷�
 use Rattle.yq_text.specs.Splice.{Splice}
 use Rattle.yq_edit_laws.{specs.Answers.EditFails, specs.Edit.{Edit, unreadable, refuses, gives, edit_after, edit_then, in_order}}
 use Rattle.yq_edit_laws.{specs.Theorems.{InOrder, Leading, StopsInOrder}, specs.declared.edit_error.EditError.EditError}
-use Rattle.yq_edit_laws.specs.declared.edit_error.EditError.TheVariants as error
 
 -- what is known of each step, said otherwise
 pub leads_so : {A : Type 0} (R S : Leading A) → ((x : A) (t new : List ℕ) (cs : List Splice) → R x t new cs → S x t new cs) →

@@ -1,10 +1,9 @@
 -- One of several items or entries taken out of a text, by its segments.
-use Rattle.std.proofs.Common.{rules, inl, arith, ◌≡◌, ℕ, ◌-◌, ◌≤◌, Bool, true, false, cond, List, [], ◌∷◌, ◌++◌, length, replicate, Option}
-use Rattle.std.proofs.Common.{Some, None, refl, sym, ap, ◌∙◌, subst, append_assoc, append-nil}
+use Rattle.std.proofs.Common.{rules, inl, arith, ◌≡◌, ℕ, ◌≤◌, Bool, true, false, cond, List, [], ◌∷◌, ◌++◌, length, replicate, Option, Some}
+use Rattle.std.proofs.Common.{None, refl, sym, ap, ◌∙◌, subst, append_assoc, append-nil}
 use Rattle.std.{proofs.lemmas.List.{take-append-drop, length-append}, proofs.lemmas.Option.same_Some}
-use Rattle.yq_core.{specs.Answers.◌>>=◌, specs.Block.RawLines, specs.BlockRepair.{is_short, is_outdented_comment, repair}}
-use Rattle.yq_core.{specs.Lines.is_blank, specs.Paths.Step, specs.Text.{cut, no_white, past_white, upto, joined, text_lines}}
-use Rattle.yq_core.proofs.LineLaws.{joined_lines}
+use Rattle.yq_core.{specs.Block.RawLines, specs.BlockRepair.{is_short, is_outdented_comment, repair}, specs.Lines.is_blank}
+use Rattle.yq_core.{specs.Paths.Step, specs.Text.{cut, no_white, past_white, upto, joined, text_lines}, proofs.LineLaws.joined_lines}
 use Rattle.yq_text.{specs.Limit.text_limit, specs.Script.{Segment, keep, put, old_text, new_text, kept_back}}
 use Rattle.yq_text.proofs.KeptSegments.{IsBehind, behind, back_last}
 use Rattle.yq_row_table.{specs.Rows.{Row, print_row, Part, Cut, cut_text}, specs.Splices.first_gap}

@@ -1,5 +1,5 @@
 -- A value that fits as the root of a document: what that says of it, and the text in which it comes there.
-use Rattle.std.{proofs.Common.{rules, ◌≡◌, ℕ, ◌≤◌, List, [], ◌++◌, replicate, Some, sym, ◌∙◌, subst}, proofs.lemmas.Option.same_Some}
+use Rattle.std.{proofs.Common.{rules, ◌≡◌, ℕ, ◌≤◌, List, [], ◌++◌, replicate, Some, sym, subst}, proofs.lemmas.Option.same_Some}
 use Rattle.std.specs.List.{slice_get}
 use Rattle.yq_core.{specs.Tree.Node, specs.Anchors.names_of}
 use Rattle.yq_flow_edits.specs.Valued.{IsValueTree}

@@ -1,6 +1,6 @@
 -- The rows in which a value is written as a root.
-use Rattle.std.proofs.Common.{◌≡◌, ℕ, suc, ◌+◌, ◌*◌, ◌<◌, ◌≤◌, true, false, List, [], ◌∷◌, ◌++◌, replicate, Option, Some, None, refl, sym}
-use Rattle.std.{proofs.Common.{ap, ◌∙◌, subst, arith, rules}, proofs.Math.Bool.and-false, proofs.lemmas.Bool.false≢true}
+use Rattle.std.proofs.Common.{◌≡◌, ℕ, suc, ◌<◌, ◌≤◌, true, false, List, [], ◌∷◌, ◌++◌, replicate, Option, Some, None, refl, sym, ap, ◌∙◌}
+use Rattle.std.{proofs.Common.{subst, arith, rules}, proofs.Math.Bool.and-false, proofs.lemmas.Bool.false≢true}
 use Rattle.yq_core.{specs.Paths.within, specs.Plain.ends_plain, specs.Text.{is_empty, separates}, specs.Tree.Node, specs.Nodes.node_text}
 use Rattle.yq_core.proofs.NodesWrittenLaws.{node_then}
 use Rattle.yq_flow_edits.specs.Valued.{IsValueTree}
@@ -17,7 +17,6 @@ use Rattle.yq_edit_rules.{proofs.LaidRows.{AreLaid, laid_rows, no_gap_here}, pro
 use Rattle.yq_edit_rules.{proofs.TextLaws.node_spelled, specs.Edited.with_lead, specs.InlineRows.IsValueNode, specs.Siblings.HasEntries}
 use Rattle.yq_edit_rules.{proofs.ContentLaws.{free_alone, alone_even, alone_value}, proofs.EditedLaws.lead_is_above}
 use Rattle.yq_edit_rules.{proofs.NodeLineLaws.low_level, proofs.AppendEntryLaws.rows_gap}
-use Rattle.yq_core.specs.Tree as tree
 use Rattle.yq_core.specs.Nodes as inline
 use Rattle.yq_outline.specs.Outline as outline
 use Rattle.yq_row_table.specs.Rows as rows

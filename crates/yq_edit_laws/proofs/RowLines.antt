@@ -2,7 +2,7 @@
 use Rattle.std.proofs.Common.{◌≡◌, ℕ, suc, ◌+◌, ◌<◌, true, List, [], ◌∷◌, ◌++◌, length, None, sym, ap, ◌∙◌, subst, arith, append_assoc}
 use Rattle.std.proofs.lemmas.Bool.{false≢true}
 use mathlib.Core.List.{head-eq_of_cons-eq}
-use Rattle.yq_outline.{specs.Comments.{head_comment, line_comment}, specs.Outline.{Line, Outline, flatten}}
+use Rattle.yq_outline.{specs.Comments.head_comment, specs.Outline.{Line, Outline, flatten}}
 use Rattle.yq_outline.specs.Lines.{dash_line, lines_from, mark_line, lines_of_rows}
 use Rattle.yq_row_table.{specs.Grammar.is_entry, specs.Rows.{Content, Nothing, Row, behind_columns}}
 use Rattle.yq_edit_rules.{proofs.AppendEntryLaws.none_uncommented, specs.Moved.dash_lines, specs.Siblings.{HasEntries, IsEntry}}

@@ -1,7 +1,7 @@
 -- One step more on a path to the line in whose head a node is goes on in that head.
 use Rattle.std.proofs.Common.{rules, ◌≡◌, ◌<◌, List, [], ◌∷◌, ◌++◌, length, Option, Some, None, option_map, ap, ◌∙◌, append_assoc, arith}
 use Rattle.std.{proofs.Common.length-append, proofs.lemmas.Option.{none-some, same_Some}}
-use Rattle.yq_core.{specs.Answers.◌>>=◌, specs.Paths.Step, specs.Tree.Node}
+use Rattle.yq_core.{specs.Paths.Step, specs.Tree.Node}
 use Rattle.yq_outline.{specs.Outline.Outline, specs.Places.{FoundLine, in_head, place_inside}}
 use Rattle.yq_places.{specs.FlowNodes.{bare_line, find_head}, proofs.HeadSteps.stem_found}
 use Rattle.yq_edit_laws.proofs.EntryLines.{found_at}

@@ -1,5 +1,5 @@
 -- A text that isn't read, which is never since it is no UTF-8, and one that is.
-use Rattle.std.{proofs.Common.{rules, ◌≡◌, ◌≢◌, ◌↔◌, List, ℕ, Some, None, Err, false, ◌∙◌}, specs.Str.{IsUtf8, is_utf8}}
+use Rattle.std.{proofs.Common.{rules, ◌≡◌, ◌≢◌, ◌↔◌, List, ℕ, Some, None, Err, false}, specs.Str.{IsUtf8, is_utf8}}
 use Rattle.std.{proofs.lemmas.Bool.false≢true, proofs.lemmas.Str.{IsUtf8-from_is_utf8, is_utf8-from_IsUtf8}}
 use Rattle.yq_core.{proofs.Bools.guard_then, specs.Answers.{ReadFails as FailsReading, ReadError}, specs.declared.ReadFault.ReadFault}
 use Rattle.yq_core.specs.declared.fault.FaultKind.TheVariants.{NotUtf8}

@@ -9,7 +9,7 @@ use Rattle.yq_semantics.specs.Program.{Program, Update, read, updates, update_at
 use Rattle.yq_semantics.{specs.Rooms.room_of, specs.declared.refusal.Refusal.Refusal}
 use Rattle.yq_text.{specs.Splice.Splice, proofs.PlaceInList.get_some, specs.declared.edited.Edited.Edited}
 use Rattle.yq_edit_laws.{specs.Answers.{Edits, EditFails, of_planning, error_of_reading}, specs.Carried.{carry_all, carry_out, updated}}
-use Rattle.yq_edit_laws.{specs.Edit.{Edit, unreadable, refuses, gives, edit_after, by_reading}, specs.Theorems.HasReading}
+use Rattle.yq_edit_laws.{specs.Edit.{Edit, unreadable, gives, edit_after, by_reading}, specs.Theorems.HasReading}
 use Rattle.yq_edit_laws.{specs.Valid.{HaveOperands, IsStep, UpdateFails, FailsAt}, specs.declared.edit_error.EditError.EditError}
 use Rattle.yq_edit_laws.{proofs.MeaningLaws.{UpdateComes, plan_comes, plan_stops}, proofs.OrderLaws.fails_itself}
 use Rattle.yq_edit_laws.proofs.TextFaults.{FailsToRead, text_unread}

@@ -1,6 +1,6 @@
 use Rattle.std.proofs.Common.{◌∙◌, ℕ, List, Some, map, refl, sym, ap, subst, rules}
 use Rattle.yq_text.specs.Halves.{whole}
-use Rattle.yq_core.{specs.Answers.◌>>=◌, specs.Entries.{entry_view, tree_step}, specs.Values.value_node, specs.View.inline_view}
+use Rattle.yq_core.{specs.Entries.{entry_view, tree_step}, specs.Values.value_node, specs.View.inline_view}
 use Rattle.yq_documents.{specs.Located.steps_of, specs.Reading.cut_of}
 use Rattle.yq_places.{specs.FlowNodes.flow_collection, specs.FlowViews.FlowAgrees, specs.Standings.last_step}
 use Rattle.yq_edit_rules.specs.Answers.{GivesSegments}
