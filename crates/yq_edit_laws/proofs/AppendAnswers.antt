@@ -1,8 +1,8 @@
 -- What putting an item or entry into a flow collection comes to, by what the code finds.
-use Rattle.std.proofs.Common.{◌≡◌, inl, inr, ℕ, Bool, true, false, not, cond, eqb, List, length, Option, Some, None, sym, ap, ◌∙◌, subst}
-use Rattle.std.{proofs.Common.refl, proofs.lemmas.Option.{none-some, same_Some}, specs.Prelude.{is_some, string_bytes}}
+use Rattle.std.proofs.Common.{rules, ◌≡◌, inl, inr, ℕ, Bool, true, false, cond, List, length, Option, Some, None, sym, ap, ◌∙◌, subst, refl}
+use Rattle.std.{proofs.lemmas.Option.{none-some, same_Some}, specs.Prelude.string_bytes}
 use Rattle.yq_core.{specs.Answers.◌>>=◌, specs.Paths.Step, specs.Tree.Node, specs.Collections.CollPieces}
-use Rattle.yq_core.{specs.Places.{Placed, placed, sequence, mapping, Parts, locate, locate_items}, specs.NodesWritten.{flow_key, flow_of}}
+use Rattle.yq_core.{specs.Places.{Placed, placed, locate}, specs.NodesWritten.{flow_key, flow_of}}
 use Rattle.yq_flow_edits.{specs.FlowEdits.{FlowEdit, appending}, specs.FlowPlaces.{append_place, edit_view, place_edit}}
 use Rattle.yq_flow_edits.specs.declared.flow_place.EditPlace.{EditPlace}
 use Rattle.yq_text.specs.Script.{Segment}
@@ -10,7 +10,7 @@ use Rattle.yq_row_table.specs.Rows.{Cut, cut_text}
 use Rattle.yq_places.{specs.FlowNodes.flow_collection, specs.FlowViews.{FlowAgrees, behind_anchor, collection_view, placed_collection}}
 use Rattle.yq_places.specs.declared.places.flow_node.FlowHead.{FlowHead}
 use Rattle.yq_edit_rules.specs.FlowParts.{flow_more, flow_segments, takes_key}
-use Rattle.yq_edit_laws.specs.EditPlaces.{content_takes, edit_segments, placed_takes}
+use Rattle.yq_edit_laws.specs.EditPlaces.{edit_segments, placed_takes}
 use Rattle.yq_edit_laws.{specs.PartPuts.{AreMore, IsEditPlace, PutsMoreIn, more_edit, place_after}, specs.declared.append.MorePut.MorePut}
 use Rattle.yq_edit_laws.{proofs.FlowAnswers.{CollFound, edit_lies, edit_moved, segments_at}, proofs.PutAnswers.no_collection}
 use Rattle.yq_edit_laws.{proofs.FlowAppendLaws.{bounds, there}, proofs.FlowHeads.{append_found, appended_within, whole_is}}
@@ -22,11 +22,7 @@ core_takes (placed a b c e f) key = refl
 
 takes_is : (total : ℕ) (w : CollPieces) (key : Option (List ℕ)) → placed_takes (placed_collection total w) key ≡ takes_key w.close key
 unfolding locate
-takes_is total w key = go (eqb w.close 125) (locate_items total w.close w.items w.rest)
-  where
-    go : (b : Bool) (parts : Parts) → content_takes (cond b (mapping parts) (sequence parts)) key ≡ cond b (is_some key) (not (is_some key))
-    go true parts = refl
-    go false parts = refl
+takes_is total w key = search rules
 
 -- where it is written
 core_append : (q : Placed) → append_place (behind_anchor q) ≡ append_place q

@@ -1,13 +1,12 @@
 -- One item or entry more after a line that has a break.
-use Rattle.std.proofs.Common.{◌≡◌, ℕ, suc, ◌≤◌, true, false, List, [], ◌∷◌, ◌++◌, length, Option, Some, refl, sym, ap, ◌∙◌, subst}
+use Rattle.std.proofs.Common.{rules, ◌≡◌, ℕ, suc, ◌≤◌, true, false, List, [], ◌∷◌, ◌++◌, length, Option, Some, refl, sym, ap, ◌∙◌, subst}
 use Rattle.std.{proofs.Common.{append_assoc, append-nil, replicate}, proofs.lemmas.Bool.false≢true}
-use Rattle.yq_core.{specs.BlockWritten.break_text, specs.Paths.Step, specs.Tree.Node, specs.Text.is_line}
+use Rattle.yq_core.{specs.BlockWritten.break_text, specs.Paths.Step, specs.Tree.Node}
 use Rattle.yq_text.{specs.Limit.text_limit, specs.Script.{Segment, new_text}}
 use Rattle.yq_row_table.{specs.Exchange.asked_behind, specs.Grammar.{unlimited, no_rows}, proofs.PlainEnds.AtLine}
-use Rattle.yq_row_table.specs.Rows.{Content, Nothing, Inline, Block, Row, rows_text, Part, Cut, cut_text}
-use Rattle.yq_row_table.{specs.Seams.{is_block, tail_behind, ends_in_block, ends_in_line}, specs.Splices.{first_gap, behind_first}}
-use Rattle.yq_row_table.{proofs.seams.SeamLaws.rows_text-append, proofs.splices.SpliceTexts.{own_gap, own_end, first_text}}
-use Rattle.yq_row_table.specs.Items.{rows_items}
+use Rattle.yq_row_table.{specs.Rows.{Row, rows_text, Part, Cut, cut_text}, specs.Seams.{ends_in_block, ends_in_line}}
+use Rattle.yq_row_table.{specs.Splices.{first_gap, behind_first}, proofs.seams.SeamLaws.rows_text-append}
+use Rattle.yq_row_table.{proofs.splices.SpliceTexts.{own_gap, own_end, first_text}, specs.Items.rows_items}
 use Rattle.yq_places.{specs.CollectionEnds.{CollectionEnd, is_broken}, specs.RowPaths.IsReadable}
 use Rattle.yq_documents.{specs.Documents.lead_of, specs.Ready.begins_no_node, specs.Reading.read_at}
 use Rattle.yq_outline.specs.Lines.{lines_from, lines_of_rows}
@@ -25,12 +24,7 @@ use Rattle.yq_semantics.specs.Operations.{append}
 use Rattle.yq_outline.specs.Comments as comments
 
 last_closed : (others : List Row) (r : Row) → is_broken r.content ≡ true → ends_in_block (others ++ (r ∷ [])) ≡ false → ends_in_line (others ++ (r ∷ [])) ≡ true
-last_closed [] r e inside = last r.content e inside
-  where
-    last : (c : Content) → is_broken c ≡ true → is_block c ≡ false → is_line (tail_behind c) ≡ true
-    last (Nothing tail) e n = e
-    last (Inline space node tail) e n = e
-    last (Block space anchor block) e n = absurd (false≢true (sym n))
+last_closed [] r e inside = search (rules, false≢true)
 last_closed (x ∷ []) r e inside = last_closed [] r e inside
 last_closed (x ∷ (y ∷ others)) r e inside = last_closed (y ∷ others) r e inside
 

@@ -1,6 +1,7 @@
 -- An operation that fits is carried out by what it exchanges.
-use Rattle.std.proofs.Common.{◌≡◌, ℕ, ◌<◌, ◌≤◌, ◌^◌, Bool, true, false, cond, leb, List, length, Option, Some, None, Result, Ok, Err, IfOk}
-use Rattle.std.{proofs.Common.{IfErr, string_bytes, refl, sym, ap, ◌∙◌, subst, arith, append-nil}, proofs.lemmas.Bool.{leb-true, leb-false}}
+use Rattle.std.proofs.Common.{rules, ◌≡◌, ℕ, ◌<◌, ◌≤◌, ◌^◌, Bool, true, false, cond, leb, List, length, Option, Some, None, Result, Ok, Err}
+use Rattle.std.proofs.Common.{IfOk, IfErr, string_bytes, refl, sym, ap, ◌∙◌, subst, arith, append-nil}
+use Rattle.std.proofs.lemmas.Bool.{leb-true, leb-false}
 use Rattle.yq_text.{specs.Limit.text_limit, specs.Splice.Splice, specs.Script.{Segment, new_text, old_text, changes}}
 use Rattle.yq_text.specs.declared.edited.Edited.{Edited}
 use Rattle.yq_row_table.specs.Rows.{Cut, cut_text}
@@ -116,7 +117,4 @@ old_by op c read = go (op_edits op c) refl
     go (Some ss) is = (edit_is op c ss read is).old
 
 pub segments_short : (op : Operation) (t : List ℕ) (ss : List Segment) → read_at t ≡ Some (cut_of t) → ss ≡ segments_by op (cut_of t) → length (old_text ss) < 2 ^ 64
-segments_short op t ss read is =
-    let text : cut_text (cut_of t) ≡ t = text_read t (cut_of t) read in
-    let size : length t ≤ text_limit = (cut_read t (cut_of t) read).size in
-    omega (arith, size, ap length (ap old_text is ∙ (old_by op (cut_of t) (ap read_at text ∙ read) ∙ text)))
+segments_short op t ss read is = search (rules, arith, text_read t (cut_of t) read, (cut_read t (cut_of t) read).size, old_by)

@@ -1,5 +1,5 @@
 -- A collection that begins on the line of a dash.
-use Rattle.std.proofs.Common.{◌≡◌, ℕ, List, [], ◌∷◌, ◌++◌, replicate, refl, sym, ap, ◌∙◌, append_assoc, rules}
+use Rattle.std.proofs.Common.{◌≡◌, ℕ, List, [], ◌∷◌, ◌++◌, replicate, sym, ap, ◌∙◌, append_assoc, rules}
 use Rattle.std.proofs.lemmas.List.{append_cancel_left}
 use Rattle.yq_row_table.{specs.Exchange.row_front, specs.Joined.compact_row}
 use Rattle.yq_row_table.{specs.Rows.{Row, behind_indent, dashes_text, mark_text, rows_text}, proofs.seams.JoinLaws.dashes_text-append}
@@ -18,16 +18,13 @@ more_rows [] = []
 more_rows (q ∷ qs) = qs
 
 pub rows_are : (column : ℕ) (row : Row) (rs : List Row) → BeginAt column rs → compact_rows row rs ≡ first_row row rs ∷ more_rows rs
-rows_are column row [] b = absurd b
-rows_are column row (q ∷ qs) b = refl
+rows_are column row rs b = search rules
 
 pub gap_same : (column : ℕ) (row : Row) (rs : List Row) → BeginAt column rs → (first_row row rs).gap ≡ row.gap
-gap_same column row [] b = absurd b
-gap_same column row (q ∷ qs) b = refl
+gap_same column row rs b = search rules
 
 pub keys_same : (row : Row) (rs : List Row) → HaveFitKeys rs → HaveFitKeys (compact_rows row rs)
-keys_same row [] h = tt
-keys_same row (q ∷ qs) h = h
+keys_same row rs h = search rules
 
 -- their text
 dash_front : (row : Row) (u : List ℕ) → row.mark ≡ rows.Dash → row.gap ++ (replicate row.column 32 ++ dashes_text row.dashes (45 ∷ u)) ≡ row_front row ++ u

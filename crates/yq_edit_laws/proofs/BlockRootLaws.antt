@@ -1,11 +1,11 @@
 -- Where the block collection is that is the root of a document.
-use Rattle.std.proofs.Common.{◌≡◌, ◌⊎◌, inl, inr, ℕ, List, [], ◌∷◌, ◌++◌, replicate, Some, None, true, false, refl, sym, ap, ◌∙◌, subst}
-use Rattle.std.{proofs.Common.{append_assoc, append-nil}, proofs.lemmas.Bool.false≢true}
+use Rattle.std.proofs.Common.{rules, ◌≡◌, ◌⊎◌, inl, inr, ℕ, List, [], ◌∷◌, ◌++◌, replicate, Some, None, true, false, refl, sym, ap, ◌∙◌}
+use Rattle.std.{proofs.Common.{subst, append_assoc, append-nil}, proofs.lemmas.Bool.false≢true}
 use Rattle.yq_core.{specs.Text.separates, proofs.BlockPieceLaws.{IsLf, append_lf}}
-use Rattle.yq_outline.{specs.Comments.{head_comment, line_comment}, specs.Lines.lines_of_rows}
-use Rattle.yq_row_table.{specs.Gap.IsGap, specs.Grammar.{IsCut, IsTail, unlimited, AreRows, no_rows, ends_part}}
-use Rattle.yq_row_table.{specs.Rows.{Row, behind_gap, behind_indent, rows_text, Cut, cut_text}, specs.Splices.first_gap}
-use Rattle.yq_row_table.{proofs.NothingLaws.gap_other, proofs.seams.FrontSeams.behind_row_some, proofs.splices.PartPlaces.part_ends}
+use Rattle.yq_outline.{specs.Comments.line_comment, specs.Lines.lines_of_rows}
+use Rattle.yq_row_table.{specs.Gap.IsGap, specs.Grammar.{IsCut, IsTail, unlimited, AreRows, ends_part}}
+use Rattle.yq_row_table.{specs.Rows.{Row, behind_gap, behind_indent, rows_text, Cut, cut_text}, proofs.NothingLaws.gap_other}
+use Rattle.yq_row_table.{proofs.seams.FrontSeams.behind_row_some, proofs.splices.PartPlaces.part_ends}
 use Rattle.yq_documents.{specs.Reading.read_at, specs.Ready.begins_no_node, specs.PartNumbers.part_number}
 use Rattle.yq_places.{specs.PlacedRows.{PlacedPart, placed_document}, specs.PrintedLines.{last_break, less_break}}
 use Rattle.yq_places.{specs.Standings.{BlockRoot, is_alone}, proofs.CommentPieceLaws.{Ended, gap_end}, proofs.PrintedTexts.less_is}
@@ -159,14 +159,7 @@ module _ (n : ℕ) (c : Cut) (w : BlockRoot) (read : read_at (cut_text c) ≡ So
       uncommented (inr e) = ap line_comment e.0 ∙ none_uncommented
 
   pub takes_value : TakesValue n c h.d h.row.gap w.last h.d.part.end
-  takes_value = record {
-    stands = stands;
-    old = there;
-    block = h.block;
-    room = room;
-    lead = ap (λ xs. head_comment (first_gap xs h.d.part.end)) (sym h.rows_are);
-    starts = λ t e. absurd (false≢true (ap no_rows (sym h.rows_are) ∙ e));
-  }
+  takes_value = search (rules, stands, there, room, false≢true)
 
   -- the text round it is made of pieces
   whole_rows : cut_text c ≡ (h.d.before ++ h.row.gap) ++ behind_row

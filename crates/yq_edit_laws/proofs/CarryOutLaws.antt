@@ -1,6 +1,6 @@
 -- What each operation exchanges carries it out, by the laws of each kind of edit.
-use Rattle.std.proofs.Common.{◌≡◌, ◌⊎◌, inl, inr, ℕ, Bool, true, false, cond, List, [], ◌∷◌, Option, Some, None, option_map, refl, subst}
-use Rattle.std.{proofs.lemmas.Option.{none-some, same_Some}, specs.Option.option_or}
+use Rattle.std.proofs.Common.{rules, ◌≡◌, ◌⊎◌, inl, inr, ℕ, Bool, true, false, cond, List, [], ◌∷◌, Option, Some, None, option_map, refl}
+use Rattle.std.{proofs.Common.subst, proofs.lemmas.Option.{none-some, same_Some}, specs.Option.option_or}
 use Rattle.yq_core.{specs.Answers.◌>>=◌, specs.Paths.Step, specs.Tree.Node, proofs.Bools.bind_some}
 use Rattle.yq_flow_edits.proofs.RemoveTexts.{either}
 use Rattle.yq_row_table.specs.Rows.{Cut, cut_text}
@@ -54,8 +54,7 @@ module _ (laws : KindsCarryOut) where
 
   pub edits_carry_out : EditsCarryOut
   edits_carry_out (replace n steps v) c ss read is = replaced_is n steps v c ss read is
-  edits_carry_out (append n steps key v) c ss read is =
-      appended_is n steps key v c ss read (either (standing_at n steps c >>= block_more (layout_of n c) key v) (flow_collection n steps c >>= flow_more (cut_text c) key v) is)
+  edits_carry_out (append n steps key v) c ss read is = search (rules, appended_is, either)
   edits_carry_out (remove n steps) c ss read is = by (either (part_removed n c (last_step steps)) (rows_or_sole n steps c) is)
     where
       by : (part_removed n c (last_step steps) ≡ Some ss) ⊎ (rows_or_sole n steps c ≡ Some ss) → IsEdit (remove n steps) c ss

@@ -1,7 +1,6 @@
 -- Texts that end in a break, and those that don't.
-use Rattle.std.proofs.Common.{◌≡◌, inl, inr, ℕ, List, [], ◌∷◌, ◌++◌, Bool, true, false, cond, refl, sym, ap, rules}
-use Rattle.std.proofs.lemmas.Bool.{false≢true}
-use Rattle.yq_core.specs.Text.{is_empty, is_feed, is_line}
+use Rattle.std.{proofs.Common.{◌≡◌, ℕ, List, [], ◌∷◌, ◌++◌, true, false, refl, sym, rules}, proofs.lemmas.Bool.false≢true}
+use Rattle.yq_core.specs.Text.{is_empty, is_line}
 use Rattle.yq_edit_rules.{specs.ClosedTexts.is_closed_text, proofs.BreakLaws.IsLfOrCrLf}
 
 -- the end of a text tells
@@ -15,22 +14,15 @@ closed_behind (x ∷ (z ∷ a)) b some = closed_behind (z ∷ a) b some
 -- with a break after it a text ends in one
 pub closed_end : (a b : List ℕ) → IsLfOrCrLf b → is_closed_text (a ++ b) ≡ true
 unfolding is_closed_text
-closed_end [] b (inl e) = ap is_closed_text e
-closed_end [] b (inr e) = ap is_closed_text e
-closed_end (x ∷ []) b (inl e) = ap (λ y. is_closed_text (x ∷ y)) e
-closed_end (x ∷ []) b (inr e) = ap (λ y. is_closed_text (x ∷ y)) e
 closed_end (x ∷ (y ∷ a)) b h = closed_end (y ∷ a) b h
+closed_end a b h = search rules
 
 -- a line with its break ends in one
 pub closed_line : (m : List ℕ) → is_line m ≡ true → is_closed_text m ≡ true
 unfolding is_line is_closed_text
 closed_line [] h = refl
 closed_line (b ∷ []) h = search (rules, false≢true)
-closed_line (b ∷ (d ∷ t)) h = go (is_feed b) h (closed_line (d ∷ t))
-  where
-    go : (x : Bool) → cond x false (is_line (d ∷ t)) ≡ true → (is_line (d ∷ t) ≡ true → is_closed_text (d ∷ t) ≡ true) → is_closed_text (d ∷ t) ≡ true
-    go true e more = absurd (false≢true e)
-    go false e more = more e
+closed_line (b ∷ (d ∷ t)) h = search (rules, false≢true, closed_line (d ∷ t))
 
 -- a text that doesn't end in a break isn't empty
 pub open_some : (t : List ℕ) → is_closed_text t ≡ false → is_empty t ≡ false

@@ -1,8 +1,8 @@
 -- A collection at a path is in the head of a line, in flow, or it has lines of its own, in block.
-use Rattle.std.proofs.Common.{◌≡◌, ◌⊎◌, inl, inr, cond, List, [], ◌∷◌, Option, Some, None, option_map, refl, sym, ap, ◌∙◌, subst}
+use Rattle.std.proofs.Common.{rules, ◌≡◌, ◌⊎◌, inl, inr, cond, List, [], ◌∷◌, Option, Some, None, option_map, refl, sym, ap, ◌∙◌, subst}
 use Rattle.std.{proofs.lemmas.Option.{none-some, same_Some}, specs.Prelude.option_and_then}
 use Rattle.yq_core.{specs.Answers.◌>>=◌, specs.Paths.{Step, node_at}, specs.Tree.Node}
-use Rattle.yq_outline.specs.Outline.{LineMark, Bare, Key, Dash, Outline, end, row, anchored, head_or, value}
+use Rattle.yq_outline.specs.Outline.{LineMark, Bare, Key, Dash, Outline, end, row, value}
 use Rattle.yq_outline.{specs.Places.{here, FoundLine, find, in_head, place_inside, content_under}, specs.Positions.has_no_mark}
 use Rattle.yq_outline.proofs.Finding.{path_node}
 use Rattle.yq_places.specs.FlowNodes.{bare_line, find_head, head_line}
@@ -50,9 +50,7 @@ below_cases s ss o f x found is = go f.line.head refl
 
     go : (h : Option Node) → f.line.head ≡ h → Cases (s ∷ ss) o
     go (Some n) head = inl ((f, []), head_is (Some n) head)
-    go None head =
-        let own : held (value f.under) ≡ Some x = sym (held_anchored f.line.anchor (value f.under)) ∙ (ap (λ k. held (anchored f.line.anchor (head_or k (value f.under)))) (sym head) ∙ is) in
-        under head (lines_cases f.under x own)
+    go None head = search (rules, held, held_anchored, under, lines_cases)
 
 pub collection_cases : (steps : List Step) (o : Outline) (x : FlowContent) → HeldAt steps (value o) x → Cases steps o
 collection_cases [] o x h = root_cases o x (ap held (same_Some _ _ h.1) ∙ h.2)

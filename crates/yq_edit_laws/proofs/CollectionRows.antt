@@ -1,5 +1,5 @@
 -- Rows that end in one, lists of lines, and what a text of rows ends in.
-use Rattle.std.proofs.Common.{◌≡◌, ℕ, zero, suc, ◌+◌, false, not, List, [], ◌∷◌, ◌++◌, length, replicate, Some, refl, sym, ap, ◌∙◌, subst}
+use Rattle.std.proofs.Common.{rules, ◌≡◌, ℕ, zero, suc, ◌+◌, false, not, List, [], ◌∷◌, ◌++◌, length, Some, refl, sym, ap, ◌∙◌, subst}
 use Rattle.std.{proofs.Common.{arith, append_assoc, length-append}, proofs.lemmas.Bool.false≢true, proofs.lemmas.List.length-replicate}
 use Rattle.std.specs.List.{slice_get}
 use Rattle.yq_core.specs.Text.{is_empty}
@@ -39,9 +39,7 @@ row_agrees_in (x ∷ a) b r h = row_agrees_in a b r h.1
 
 pub columns_are : (column : ℕ) (ns : List ℕ) → behind_columns column ns ≡ column + length (dashes_text ns [])
 columns_are column [] = omega arith
-columns_are column (n ∷ ns) =
-    let spaces : length (replicate {A = ℕ} n 32) ≡ n = length-replicate {A = ℕ} n 32 in
-    omega (arith, columns_are (suc (column + n)) ns, spaces, length-append (replicate n 32) (dashes_text ns []))
+columns_are column (n ∷ ns) = search (rules, arith, length-replicate {A = ℕ} n 32, length-append, columns_are (suc (column + n)) ns)
 
 pub no_bare : (m : outlines.LineMark) → has_no_mark m ≡ false → IsEntry m
 no_bare outlines.Bare e = absurd (false≢true (sym e))

@@ -1,11 +1,11 @@
 -- A block collection that is at a place, by its rows, and where it ends.
-use Rattle.std.proofs.Common.{inl, inr, ◌⊎◌, ◌≡◌, ℕ, suc, ◌+◌, ◌<◌, ◌≤◌, Bool, true, false, ◌&&◌, List, [], ◌∷◌, ◌++◌, length, take, Option}
-use Rattle.std.proofs.Common.{Some, None, option_and_then, refl, sym, ap, ◌∙◌, subst, arith, append_assoc, append-nil, length-append}
+use Rattle.std.proofs.Common.{rules, inl, inr, ◌⊎◌, ◌≡◌, ℕ, suc, ◌+◌, ◌<◌, ◌≤◌, Bool, true, false, ◌&&◌, List, [], ◌∷◌, ◌++◌, length, take}
+use Rattle.std.proofs.Common.{Option, Some, None, refl, sym, ap, ◌∙◌, subst, arith, append_assoc, append-nil, length-append}
 use Rattle.std.{proofs.lemmas.Bool.{cases_lt, false≢true}, proofs.lemmas.Option.same_Some, specs.List.slice_get, specs.Option.is_none}
 use Rattle.yq_core.{specs.Paths.Step, specs.Text.is_empty, specs.Tree.Node}
-use Rattle.yq_outline.{specs.Comments.head_comment, specs.Outline.{Line, Outline, end, row, flatten}}
+use Rattle.yq_outline.{specs.Comments.head_comment, specs.Outline.{Line, Outline, flatten}}
 use Rattle.yq_outline.{specs.Places.{FoundLine, here, lines_after, lines_before}, specs.Positions.has_no_mark, proofs.Decides.flatten-group}
-use Rattle.yq_outline.specs.Lines.{dash_line, head_of, lines_from, lines_of_rows, mark_line, line_mark, row_lines}
+use Rattle.yq_outline.specs.Lines.{head_of, lines_from, lines_of_rows, line_mark, row_lines}
 use Rattle.yq_outline.{proofs.WalkLevels.{RowsAgree, IsLineOf, RowAgrees, line_in}, proofs.WalkRows.rows_agree}
 use Rattle.yq_row_table.specs.Grammar.{AreDashes, AreRows, IsRow, Limit, is_entry, unlimited}
 use Rattle.yq_row_table.{specs.Rows.{Row, Part, Cut, behind_columns, cut_text, part_text, print_row, rows_text}, specs.View.slices}
@@ -13,7 +13,7 @@ use Rattle.yq_documents.{specs.Documents.document_parts, specs.Reading.part_outl
 use Rattle.yq_places.{specs.CollectionEnds.{CollectionEnd, is_broken}, specs.Standings.{RowsOfEntry, before_entry, behind_entry, is_alone}}
 use Rattle.yq_places.{proofs.FlowViewLaws.before_under, proofs.RowPathLaws.found_lines, proofs.UnderExchange.lines_append}
 use Rattle.yq_edit_rules.{specs.Changed.put_document, specs.CollectionPlaces.{BeginsAt, IsCollectionEnd}}
-use Rattle.yq_edit_rules.{specs.DocumentRows.behind_document, specs.Siblings.{HasEntries, IsEntry, lines_below, under_line}}
+use Rattle.yq_edit_rules.{specs.DocumentRows.behind_document, specs.Siblings.{HasEntries, IsEntry, under_line}}
 use Rattle.yq_edit_rules.{specs.StandingLaws.StandsThere, proofs.EndedRowLaws.row_there, proofs.LineLaws.row_count}
 use Rattle.yq_edit_rules.{proofs.PartLaws.{document_known, part_rows}, proofs.CommentRowLaws.rows_front, proofs.SamePlaceLaws.put_own}
 use Rattle.yq_edit_laws.proofs.CollectionRows.{get_behind, get_front, behind_front, row_agrees_in, columns_are, no_bare}
@@ -41,8 +41,7 @@ module _ (n : ℕ) (s : Step) (ss : List Step) (c : Cut) (e : RowsOfEntry) (ther
   lines_there : (i : ℕ) → slice_get (row_lines e.row ++ (lines_of_rows e.under ++ lines_of_rows e.back)) (e.line + i) ≡ slice_get (f.line ∷ (flatten f.under ++ behind)) i
   lines_there i =
       let rest : List Line = row_lines e.row ++ (lines_of_rows e.under ++ lines_of_rows e.back) in
-      let rows : lines_of_rows p.rows ≡ lines_of_rows e.front ++ rest =
-      ap lines_of_rows there.rows_are ∙ (lines_append e.front (e.row ∷ (e.under ++ e.back)) ∙ ap (λ ls. lines_of_rows e.front ++ (row_lines e.row ++ ls)) (lines_append e.under e.back)) in
+      let rows : lines_of_rows p.rows ≡ lines_of_rows e.front ++ rest = search (rules, lines_append) in
       let found : lines_of_rows p.rows ≡ lines_before f.place ++ (f.line ∷ (flatten f.under ++ behind)) = found_lines (lines_of_rows p.rows) s ss [] f there.is in
       let same : length (lines_of_rows e.front) + (e.line + i) ≡ length (lines_before f.place) + i = omega (arith, there.number) in
       sym (get_behind (lines_of_rows e.front) rest (e.line + i))
@@ -71,11 +70,7 @@ module _ (n : ℕ) (s : Step) (ss : List Step) (c : Cut) (e : RowsOfEntry) (ther
 
   -- the first line under it
   begins : (x : Line) (column : ℕ) → slice_get (row_lines e.row ++ (lines_of_rows e.under ++ lines_of_rows e.back)) (e.line + 1) ≡ Some x → IsEntry x.mark → x.column ≡ column → 0 < length (flatten f.under) → HasEntries f.under × BeginsAt column f.under
-  begins x column at entry col some = go f.under some (sym (lines_there 1) ∙ at)
-    where
-      go : (o : Outline) → 0 < length (flatten o) → slice_get (f.line ∷ (flatten o ++ behind)) 1 ≡ Some x → HasEntries o × BeginsAt column o
-      go end some h = absurd (omega (arith, some))
-      go (row l u a) some h = let same : l ≡ x = same_Some _ _ h in (subst IsEntry (ap (λ (y : Line). y.mark) (sym same)) entry, ap (λ (y : Line). y.column) same ∙ col)
+  begins x column at entry col some = search (rules, arith, lines_there, same_Some)
 
   -- a collection on the lines under the key or dash
   pub begins_under : (r : Row) (rs : List Row) → e.line ≡ length e.row.dashes → e.under ≡ r ∷ rs → is_alone r ≡ false → HasEntries f.under × BeginsAt r.column f.under
@@ -86,8 +81,7 @@ module _ (n : ℕ) (s : Step) (ss : List Step) (c : Cut) (e : RowsOfEntry) (ther
       (λ i. slice_get (row_lines e.row ++ (lines_of_rows (under i) ++ lines_of_rows e.back)) (sym count i))
       ∙ (let plain : length (row_lines e.row) ≡ length (row_lines e.row) + 0 = omega arith in ap (slice_get (row_lines e.row ++ (lines_of_rows (r ∷ rs) ++ lines_of_rows e.back))) plain
       ∙ (get_behind (row_lines e.row) (lines_of_rows (r ∷ rs) ++ lines_of_rows e.back) 0 ∙ get_front (lines_of_rows (r ∷ rs)) (lines_of_rows e.back) 0 l.0 (get_front (row_lines r) (lines_of_rows rs) 0 l.0 l.1))) in
-      let some : 0 < length (flatten f.under) =
-      omega (arith, there.count, last, row_count e.row, length-append (row_lines e.row) (lines_of_rows e.under), ap (λ x. length (lines_of_rows x)) under, row_count r, length-append (row_lines r) (lines_of_rows rs)) in
+      let some : 0 < length (flatten f.under) = search (rules, arith, row_count, length-append) in
       begins l.0 r.column at (first_entry r.dashes r.mark l.0 alone l.2) (omega (arith, l.2.column_is)) some
     where
       first_entry : (ns : List ℕ) (m : rows.RowMark) (l : Line) → (is_empty ns && has_no_mark (line_mark m)) ≡ false → IsLineOf r.column ns m r.content 0 l → IsEntry l.mark
@@ -99,8 +93,7 @@ module _ (n : ℕ) (s : Step) (ss : List Step) (c : Cut) (e : RowsOfEntry) (ther
   begins_behind less =
       let l = line_in (head_comment e.row.gap) e.row.column e.row.dashes e.row.mark e.row.content (suc e.line) (omega (arith, less)) in
       let next : e.line + 1 ≡ suc e.line = omega arith in
-      let at : slice_get (row_lines e.row ++ (lines_of_rows e.under ++ lines_of_rows e.back)) (e.line + 1) ≡ Some l.0 =
-      ap (slice_get (row_lines e.row ++ (lines_of_rows e.under ++ lines_of_rows e.back))) next ∙ get_front (row_lines e.row) (lines_of_rows e.under ++ lines_of_rows e.back) (suc e.line) l.0 l.1 in
+      let at : slice_get (row_lines e.row ++ (lines_of_rows e.under ++ lines_of_rows e.back)) (e.line + 1) ≡ Some l.0 = search (rules, get_front) in
       let some : 0 < length (flatten f.under) = omega (arith, there.count, less, row_count e.row, length-append (row_lines e.row) (lines_of_rows e.under)) in
       begins l.0 (behind_columns e.row.column (take (suc e.line) e.row.dashes)) at (entry l.0 l.2) (l.2.column_is ∙ sym (columns_are e.row.column (take (suc e.line) e.row.dashes))) some
     where
@@ -133,10 +126,7 @@ module _ (n : ℕ) (s : Step) (ss : List Step) (c : Cut) (e : RowsOfEntry) (ther
       let above : length (lines_before (under_line f).place) ≡ length (lines_before f.place) + 1 = ap length (before_under f.place f.line f.after) ∙ length-append (lines_before f.place) (f.line ∷ []) in
       record {
         h = under_line f;
-        collection = record {
-          place_is = ap (λ o. option_and_then (λ z. lines_below z.0.line.head z.1 z.0) o) there.is ∙ ap (λ m. lines_below m [] f) none;
-          block = begin.0;
-        };
+        collection = search rules;
         first = begin.1;
         front = e.front ++ (e.row ∷ e.under);
         back = e.back;
@@ -181,10 +171,7 @@ root_ends n c part start r rs broken at are_rows alone put last =
     }
   where
     first : (above : List (List ℕ)) (column : ℕ) (ns : List ℕ) (m : rows.RowMark) (x : rows.Content) (more : List Line) → (is_empty ns && has_no_mark (line_mark m)) ≡ false → (o : Outline) → flatten o ≡ lines_from above column ns m x ++ more → HasEntries o × BeginsAt column o
-    first above column [] m x more e end is = absurd (cc)
-    first above column (k ∷ ns) m x more e end is = absurd (cc)
-    first above column [] m x more e (row l u a) is = let same : l ≡ mark_line above column m x = cc in (subst IsEntry (ap (λ (y : Line). y.mark) (sym same)) (no_bare (line_mark m) e), ap (λ (y : Line). y.column) same)
-    first above column (k ∷ ns) m x more e (row l u a) is = let same : l ≡ dash_line above column = cc in (subst IsEntry (ap (λ (y : Line). y.mark) (sym same)) tt, ap (λ (y : Line). y.column) same)
+    first above column ns m x more e o is = search (rules, no_bare)
 
     begins : (o : Outline) → flatten o ≡ lines_of_rows (r ∷ rs) → HasEntries o × BeginsAt r.column o
     begins o is = first (head_comment r.gap) r.column r.dashes r.mark r.content (lines_of_rows rs) alone o is

@@ -9,20 +9,15 @@ use Rattle.yq_row_table.specs.Rows.{Content, content_text, Row, mark_column, par
 use Rattle.yq_documents.specs.Documents.{MarkIsFit, ContentHasFitKeys, HaveFitKeys}
 use Rattle.yq_edit_rules.{specs.DocumentRows.behind_document, proofs.AnchorLaws.fit_parts, proofs.ContentLaws.free_alone}
 use Rattle.yq_edit_rules.{proofs.InlineReplaceLaws.deeper_entry, proofs.PartLaws.document_known, proofs.UnderLaws.{line_with, gone_lines}}
-use Rattle.yq_edit_rules.{specs.BlockPlaces.{IsUpto, at_mark, at_dash, Replaces}, proofs.LaidRows.no_gap_here, proofs.PlaceLaws.upto_row}
+use Rattle.yq_edit_rules.{specs.BlockPlaces.{IsUpto, Replaces}, proofs.LaidRows.no_gap_here, proofs.PlaceLaws.upto_row}
 use Rattle.yq_edit_laws.{proofs.NodeRowLaws.{NodeRows, entry, limit, rest, rows_there}, proofs.NodeTaken.TakesNode}
 use Rattle.yq_outline.specs.Outline as outline
 
 upto_fit : {s r : Row} → IsUpto s r → MarkIsFit r.mark → MarkIsFit s.mark
-upto_fit (at_mark {r} e) h = h
-upto_fit (at_dash {r} {ns} n ms is) h = tt
+upto_fit e h = search rules
 
 pub upto_gap : {s r : Row} → IsUpto s r → s.gap ≡ r.gap
-upto_gap (at_mark {r} e) = refl
-upto_gap (at_dash {r} {ns} n ms is) = refl
-
-within : (n k : ℕ) → k ≤ n → allows (record { column = Some (suc n) }) k ≡ true
-within n k h = lt-ltb k (suc n) (omega (arith, h))
+upto_gap e = search rules
 
 module _ (doc : ℕ) (s : Step) (ss : List Step) (c : Cut) (h : NodeRows doc s ss c) where
   pub mark_fit : MarkIsFit h.mark.mark
@@ -39,7 +34,7 @@ module _ (doc : ℕ) (s : Step) (ss : List Step) (c : Cut) (h : NodeRows doc s s
 
   -- what is after it may begin at any column up to that of the key or dash
   follow : (x : Content) (k : ℕ) → k ≤ mark_column h.mark → allows (limit_behind (parent_indent h.mark) x) k ≡ true
-  follow x k h1 = search (rules, deeper_entry, entry, within)
+  follow x k h1 = search (rules, deeper_entry, entry, lt-ltb)
 
   module _ (v : Node) (new : Content) (is : IsContentFor v new) where
     replaces : Replaces (limit doc s ss c h) (mark_column h.mark) h.row (rows_text (h.under ++ h.back) (h.p.end ++ behind_document doc c)) (with_content new h.mark ∷ []) (rest doc s ss c h)

@@ -12,11 +12,12 @@ use Rattle.yq_row_table.proofs.PlaceLaws.{row_front-append}
 use Rattle.yq_documents.specs.Reading.{part_outline, read_at, root_of}
 use Rattle.yq_places.{specs.RowPieces.upto_dash, specs.PrintedLines.{last_break, less_break}}
 use Rattle.yq_places.{specs.Standings.{Compact, RowsOfEntry, compact_in, dash_text, rows_of_entry}, proofs.PrintedTexts.less_is}
-use Rattle.yq_edit_rules.{specs.Appends.inserted, specs.Changed.put_document, specs.SoundRoots.MayReplace, specs.StandingLaws.StandsThere}
-use Rattle.yq_edit_rules.{specs.TextPieces.IsPiece, specs.Unders.spaced_content, proofs.TextPieceLaws.pieces_joined}
-use Rattle.yq_edit_rules.{specs.declared.layout.Layout.Layout, specs.BlockReading.is_filled, specs.BlockRows.{item_column, node_rows}}
-use Rattle.yq_edit_rules.{specs.BlockText.block_value, specs.BlockValues.IsFilledValue, proofs.TextLaws.value_spelled, specs.Done.ArePieces}
-use Rattle.yq_edit_rules.{specs.EditLaws.CarriedOut, specs.Layouts.layout_of, specs.Local.InFirst, specs.ReplaceEdits.compact_put}
+use Rattle.yq_edit_rules.{proofs.AppendEntryLaws.none_uncommented, specs.Appends.inserted, specs.Changed.put_document}
+use Rattle.yq_edit_rules.{specs.SoundRoots.MayReplace, specs.StandingLaws.StandsThere, specs.TextPieces.IsPiece}
+use Rattle.yq_edit_rules.{specs.Unders.spaced_content, proofs.TextPieceLaws.pieces_joined, specs.declared.layout.Layout.Layout}
+use Rattle.yq_edit_rules.{specs.BlockReading.is_filled, specs.BlockRows.{item_column, node_rows}, specs.BlockText.block_value}
+use Rattle.yq_edit_rules.{specs.BlockValues.IsFilledValue, proofs.TextLaws.value_spelled, specs.Done.ArePieces, specs.EditLaws.CarriedOut}
+use Rattle.yq_edit_rules.{specs.Layouts.layout_of, specs.Local.InFirst, specs.ReplaceEdits.compact_put}
 use Rattle.yq_edit_rules.specs.WrittenValues.{Written, compact_text, inline, lines, lines_in, takes_compact, value_text, written_at}
 use Rattle.yq_edit_rules.{proofs.BreakLaws.last_is, proofs.BrokenTails.uncommented_tail, proofs.CommentPieceLaws.{break_piece, byte_then}}
 use Rattle.yq_edit_rules.{proofs.CommentReadLaws.break_is, proofs.EditsFitLaws.FitsReplace, proofs.HeldCuts.break_is_piece}
@@ -27,7 +28,7 @@ use Rattle.yq_edit_laws.proofs.DashNodes.{dash_behind, dash_last_ends, dash_node
 use Rattle.yq_edit_laws.proofs.DashValueLaws.{behind_first, behind_rows, behind_spelled, takes_behind}
 use Rattle.yq_edit_laws.{proofs.HeldLines.{block_piece, break_tail, lines_piece}, proofs.MarkKinds.filled_is}
 use Rattle.yq_edit_laws.{proofs.NodeCarriedLaws.{KeepsNode, node_carried}, proofs.NodeLeads.{content_first, upto_long}}
-use Rattle.yq_edit_laws.{proofs.NodeRowLaws.{NodeRows, rest}, proofs.RowLines.no_comment, proofs.NodeTaken.{TakesNode, q_text}}
+use Rattle.yq_edit_laws.{proofs.NodeRowLaws.{NodeRows, rest}, proofs.NodeTaken.{TakesNode, q_text}}
 use Rattle.yq_edit_laws.proofs.NodeValueLaws.{IsHolding, end_is, rows_beside, rows_under, takes_beside, takes_under}
 
 module _ (n : ℕ) (s : Step) (ss : List Step) (c : Cut) (e : RowsOfEntry) (there : StandsThere n s ss c e) (less : e.line < length e.row.dashes) (read : read_at (cut_text c) ≡ Some c) (at : rows_of_entry n (s ∷ ss) c ≡ Some e) where
@@ -89,7 +90,7 @@ module _ (n : ℕ) (s : Step) (ss : List Step) (c : Cut) (e : RowsOfEntry) (ther
 
   -- what may come after the dash: the end of its line, without a comment
   holding : (t more : List ℕ) → IsTail t more → line_comment t ≡ None → IsHolding n s ss c h (Nothing t) more
-  holding t more tail none = record { holds = refl; stands = tail; apart = tail_apart t more tail; comment = none ∙ sym no_comment; anchor = sym (dash_unnamed n s ss c e there less) }
+  holding t more tail none = record { holds = refl; stands = tail; apart = tail_apart t more tail; comment = none ∙ sym none_uncommented; anchor = sym (dash_unnamed n s ss c e there less) }
 
   module _ (v : Node) (tree : IsValueTree v) (f : FitsReplace n (s ∷ ss) v c there.part) where
     abbrev op : Operation
@@ -137,13 +138,13 @@ module _ (n : ℕ) (s : Step) (ss : List Step) (c : Cut) (e : RowsOfEntry) (ther
 
       -- the first one on the line of the dash
       abbrev behind : List Row
-      behind = behind_rows n s ss c h l (mapping_least n c) v filled f.near last refl (end_is n s ss c h last last_tail) uncommented no_comment (dash_unnamed n s ss c e there less)
+      behind = behind_rows n s ss c h l (mapping_least n c) v filled f.near last refl (end_is n s ss c h last last_tail) uncommented none_uncommented (dash_unnamed n s ss c e there less)
 
       behind_carried : CarriedWith (32 ∷ block_value l column v)
       behind_carried =
-          carried_as behind (takes_behind n s ss c h l (mapping_least n c) v filled f.near last refl (end_is n s ss c h last last_tail) uncommented no_comment (dash_unnamed n s ss c e there less)) (32 ∷ block_value l column v)
-          (behind_spelled n s ss c h l (mapping_least n c) v filled f.near last refl (end_is n s ss c h last last_tail) uncommented no_comment (dash_unnamed n s ss c e there less))
-          (behind_first n s ss c h l (mapping_least n c) v filled f.near last refl (end_is n s ss c h last last_tail) uncommented no_comment (dash_unnamed n s ss c e there less))
+          carried_as behind (takes_behind n s ss c h l (mapping_least n c) v filled f.near last refl (end_is n s ss c h last last_tail) uncommented none_uncommented (dash_unnamed n s ss c e there less)) (32 ∷ block_value l column v)
+          (behind_spelled n s ss c h l (mapping_least n c) v filled f.near last refl (end_is n s ss c h last last_tail) uncommented none_uncommented (dash_unnamed n s ss c e there less))
+          (behind_first n s ss c h l (mapping_least n c) v filled f.near last refl (end_is n s ss c h last last_tail) uncommented none_uncommented (dash_unnamed n s ss c e there less))
           (byte_then 32 (block_value l column v) refl (block_piece l column v tree))
 
       -- all on lines under it

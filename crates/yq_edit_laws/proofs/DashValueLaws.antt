@@ -1,12 +1,13 @@
 -- A value in rows on the line of an item's dash.
-use Rattle.std.proofs.Common.{◌≡◌, ℕ, ◌*◌, ◌+◌, ◌<◌, ◌≤◌, List, [], ◌∷◌, ◌++◌, None, refl, sym, ap, ◌∙◌, subst, arith, append_assoc, rules}
-use Rattle.yq_core.{specs.Paths.Step, specs.Text.upto, specs.Tree.{Node, anchor_of}}
+use Rattle.std.proofs.Common.{◌≡◌, ℕ, ◌*◌, ◌+◌, ◌<◌, ◌≤◌, List, [], ◌∷◌, ◌++◌, None, sym, ap, ◌∙◌, subst, arith, append_assoc, rules}
+use Rattle.yq_core.{specs.Paths.Step, specs.Tree.{Node, anchor_of}}
 use Rattle.yq_outline.{specs.LineAnchors.HaveOneAnchorEach, specs.Comments.line_comment, specs.Outline.{level, Stands}}
 use Rattle.yq_outline.{specs.Places.content_under, proofs.ByRules.rules_give, specs.Lines.{lines_of_rows, tail_of}}
 use Rattle.yq_row_table.{specs.Exchange.row_front, specs.Rows.{Nothing, Row, mark_column, rows_text, Cut}, specs.Items.rows_items}
-use Rattle.yq_edit_rules.{specs.DocumentRows.behind_document, proofs.LineLaws.{above_mark, mark_behind}}
-use Rattle.yq_edit_rules.{proofs.UnderLaws.{dashes_of, line_with}, specs.declared.layout.Layout.Layout}
-use Rattle.yq_edit_rules.{specs.BlockPlaces.{compact_rows, Replaces}, specs.BlockRows.{item_column, node_rows}, specs.BlockText.block_value}
+use Rattle.yq_edit_rules.{proofs.AppendEntryLaws.none_uncommented, specs.DocumentRows.behind_document}
+use Rattle.yq_edit_rules.{proofs.LineLaws.{above_mark, mark_behind}, proofs.UnderLaws.{dashes_of, line_with}}
+use Rattle.yq_edit_rules.{specs.declared.layout.Layout.Layout, specs.BlockPlaces.{compact_rows, Replaces}}
+use Rattle.yq_edit_rules.{specs.BlockRows.{item_column, node_rows}, specs.BlockText.block_value}
 use Rattle.yq_edit_rules.specs.BlockValues.{HasNearKeys, IsFilledValue, IsEnd, entry_level, level_at}
 use Rattle.yq_edit_rules.proofs.FitLaws.{anchors_fit, keys_fit, node_fit}
 use Rattle.yq_edit_rules.proofs.BlockLineLaws.{BeginAt, lines_deeper, node_begun, node_stands}
@@ -15,10 +16,6 @@ use Rattle.yq_edit_rules.specs.Local.{InFirst}
 use Rattle.yq_edit_laws.proofs.BehindDashLaws.{behind_lead, behind_text, first_row, gap_same, keys_same, more_rows, rows_are}
 use Rattle.yq_edit_laws.{proofs.ContentRows.upto_gap, proofs.NodeRowLaws.{NodeRows, limit, rest, rows_there}, proofs.NodeTaken.TakesNode}
 use Rattle.yq_row_table.specs.Rows as rows
-
-no_comment : line_comment [] ≡ None
-unfolding upto
-no_comment = refl
 
 -- in the place of what comes after the dash, which has neither an anchor nor a comment: before an end of the line without a comment
 module _ (doc : ℕ) (s : Step) (ss : List Step) (c : Cut) (h : NodeRows doc s ss c) (l : Layout) (step : 1 ≤ l.mapping) (v : Node) (filled : IsFilledValue v) (near_keys : HasNearKeys v) (last : List ℕ) (dash : h.mark.mark ≡ rows.Dash)
@@ -62,7 +59,7 @@ module _ (doc : ℕ) (s : Step) (ss : List Step) (c : Cut) (h : NodeRows doc s s
         content = Nothing [];
         level = level_at below v;
         under = stands.outline;
-        comment = no_comment ∙ sym none;
+        comment = none_uncommented ∙ sym none;
         anchor = sym unnamed;
         open' = tt;
         value_is = stands.node_is;

@@ -1,6 +1,6 @@
 -- A collection that ends before one from which an item or entry is taken out is there after that, before another text.
-use Rattle.std.proofs.Common.{◌≡◌, ◌⊎◌, inl, inr, ℕ, ◌<◌, ◌≤◌, Bool, true, false, cond, List, [], ◌∷◌, ◌++◌, length, Some, None, option_map}
-use Rattle.std.proofs.Common.{refl, sym, ap, ◌∙◌, subst, arith, append_assoc, append-nil, length-append}
+use Rattle.std.proofs.Common.{rules, ◌≡◌, ◌⊎◌, inl, inr, ℕ, ◌<◌, ◌≤◌, Bool, true, false, cond, List, [], ◌∷◌, ◌++◌, length, Some, None}
+use Rattle.std.proofs.Common.{option_map, refl, sym, ap, ◌∙◌, subst, arith, append_assoc, append-nil, length-append}
 use Rattle.std.{proofs.lemmas.List.append_cancel_right, proofs.lemmas.Option.{none-some, same_Some}, specs.Option.option_or}
 use Rattle.yq_core.{specs.Paths.{Step, is_here, further}, specs.Alike.fresh}
 use Rattle.yq_core.{specs.Collections.{CollPieces, coll_along, coll_in, collection_put}, specs.Entries.{EntryPieces, item_at}}
@@ -48,13 +48,7 @@ last_outs k rest g key n sep key2 n2 sep2 left old lead behind h longer = record
     go : (r : Step) (u : EntryPieces) (b : Bool) → is_here r (key_label (key_content key)) ≡ b →
         cond b (Some (record { key = key; node = n; rest = sep_text sep (key_text key2 (node_text n2 (sep_text sep2 (k ∷ rest)))) })) (item_at k (further r) (item key2 n2 sep2 none) rest) ≡ Some u →
         length (old ++ behind) < length (node_text u.node u.rest) → ComesBefore (old ++ behind) ((lead ++ []) ++ behind) u (item_at k r (item key n left none) rest)
-    go r u true is there long = (
-      [],
-      ap (λ (z : EntryPieces). z.rest) (sym (same_Some _ _ there)) ∙ sym h.was,
-      ap (λ (b : Bool). cond b (Some (record { key = key; node = n; rest = sep_text left (k ∷ rest) })) None) is
-          ∙ (ap (λ (l : List ℕ). Some (record { key = key; node = n; rest = l })) (sym h.is ∙ ap (λ (l : List ℕ). l ++ behind) (sym (append-nil lead)))
-          ∙ ap (λ (z : EntryPieces). Some (record z { rest = (lead ++ []) ++ behind })) (same_Some _ _ there)),
-    )
+    go r u true is there long = search (rules, same_Some, append-nil)
     go r u false is there long =
         absurd (omega (arith, long, node_in_items k (further r) (item key2 n2 sep2 none) rest u there, sep_longer sep (key_text key2 (node_text n2 (sep_text sep2 (k ∷ rest)))), ap length h.was))
 
@@ -71,9 +65,6 @@ sep_with : (h : List ℕ) (sep : Sep) (x : List ℕ) → sep_text (with_gap h se
 sep_with h (last b) x = append_assoc b h x
 sep_with h (comma b g) x = sym (append_assoc b (44 ∷ []) (h ++ x))
 
-sep_long : (k : ℕ) (sep : Sep) (rest : List ℕ) → length rest < length (sep_text sep (k ∷ rest))
-sep_long k sep rest = omega (arith, sep_longer sep (k ∷ rest))
-
 ended_outs : (k : ℕ) (rest : List ℕ) (s : Step) (g : List ℕ) (key : Key) (n : FlowNode) (sep : Sep) (is : Items) (e : FlowEdit) → last_out k rest s g key n sep is ≡ Some e → Outs k rest (item key n sep is) e
 ended_outs k rest s g key n sep none e at = absurd (none-some _ at)
 ended_outs k rest s g key n sep (item key2 n2 sep2 (item key3 n3 sep3 is)) e at = absurd (none-some _ at)
@@ -85,7 +76,7 @@ ended_outs k rest s g key n sep (item key2 n2 sep2 none) e at = go (is_here s (k
 
     known : (b : Bool) → Outs k rest (item key n sep (item key2 n2 sep2 none)) (cond b (comma_left k rest g key n sep key2 n2 sep2) (last_gone k rest g key n sep key2 n2 sep2))
     known true = commas sep2
-    known false = last_outs k rest g key n sep key2 n2 sep2 sep2 _ _ _ (gone_bytes k rest sep key2 n2 sep2) (sep_long k sep2 rest)
+    known false = last_outs k rest g key n sep key2 n2 sep2 sep2 _ _ _ (gone_bytes k rest sep key2 n2 sep2) (omega (arith, sep_longer sep2 (k ∷ rest)))
 
     go : (b : Bool) → cond b (Some (last_removed k rest g key n sep key2 n2 sep2)) None ≡ Some e → Outs k rest (item key n sep (item key2 n2 sep2 none)) e
     go true at = subst (Outs k rest (item key n sep (item key2 n2 sep2 none))) (same_Some _ _ at) (known (ends_marked (fresh false g) (key_text key (node_text n []))))
@@ -112,9 +103,7 @@ later_outs k rest s g key n sep is e at h = record { longer = h.longer; before =
               ∙ (ap (λ (l : List ℕ). Some (own l)) (sep_with e.gap sep (flow_items_text k e.items rest) ∙ (ap (λ (l : List ℕ). f ++ l) b.is ∙ sym (append_assoc f b.before (left_text e))))
               ∙ ap (λ (z : EntryPieces). Some (record z { rest = (f ++ b.before) ++ left_text e })) (same_Some _ _ there)),
         )
-    go r u false is_r there long =
-        let w = h.before (further r) u there long in
-        (w.0, w.1, ap (λ (b : Bool). cond b (Some (own (sep_text others (flow_items_text k e.items rest)))) (item_at k (further r) e.items rest)) is_r ∙ w.2)
+    go r u false is_r there long = search (rules, h.before (further r) u there long)
 
 outs : (k : ℕ) (rest : List ℕ) (s : Step) (g : List ℕ) (is : Items) (e : FlowEdit) → removing_from k rest s g is ≡ Some e → Outs k rest is e
 outs k rest s g none e at = absurd (none-some _ at)

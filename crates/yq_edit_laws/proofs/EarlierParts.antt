@@ -1,6 +1,6 @@
 -- A part of a node that ends before a place at which one of its collections changes is there after that, before another text; and so is a collection that does.
-use Rattle.std.proofs.Common.{◌≡◌, ◌⊎◌, inl, inr, ℕ, ◌<◌, ◌≤◌, Bool, true, false, cond, List, [], ◌∷◌, ◌++◌, length, Option, Some, None}
-use Rattle.std.proofs.Common.{drop, option_map, option_and_then, refl, sym, ap, ◌∙◌, subst, arith, append_assoc, length-append}
+use Rattle.std.proofs.Common.{rules, ◌≡◌, ◌⊎◌, inl, inr, ℕ, ◌<◌, ◌≤◌, Bool, true, false, cond, List, [], ◌∷◌, ◌++◌, length, Option, Some}
+use Rattle.std.proofs.Common.{None, drop, option_map, option_and_then, refl, sym, ap, ◌∙◌, subst, arith, append_assoc, length-append}
 use Rattle.std.{proofs.Math.Seq.drop-append_seam, proofs.lemmas.List.drop-append-le, proofs.lemmas.Option.{none-some, same_Some}}
 use Rattle.yq_core.specs.Paths.{Step, is_here, further}
 use Rattle.yq_core.specs.Collections.{CollAt, CollPieces, IsCollAt, change_item, coll_along, coll_in, collection_put, put_coll}
@@ -28,8 +28,7 @@ parts_more [] x more = refl
 parts_more (s ∷ q) x more = ap (option_and_then (entry_pieces_at q)) (inside_more s x.node x.rest more) ∙ go (path_inside s x.node x.rest) (λ y. parts_more q y more)
   where
     go : (o : Option EntryPieces) → ((y : EntryPieces) → entry_pieces_at q (entry_more more y) ≡ option_map (entry_more more) (entry_pieces_at q y)) → option_and_then (entry_pieces_at q) (option_map (entry_more more) o) ≡ option_map (entry_more more) (option_and_then (entry_pieces_at q) o)
-    go None again = refl
-    go (Some y) again = again y
+    go o again = search rules
 
 -- ---- an item or entry before one that changes
 
@@ -78,11 +77,8 @@ front_item k s r f (item key n sep is) rest y u t t2 here there h short long =
     go : (a b : Bool) → is_here r (key_label (key_content key)) ≡ b → cond a (Some (own n)) (item_at k (further s) is rest) ≡ Some y → cond b (Some (own n)) (item_at k (further r) is rest) ≡ Some u →
         (item_at k (further s) is rest ≡ Some y → item_at k (further r) is rest ≡ Some u →
         ((u ≡ y) × (item_at k (further r) (change_item (further s) f is) rest ≡ Some (with_node (f y.node) y))) ⊎ ComesBefore t t2 u (item_at k (further r) (change_item (further s) f is) rest)) → Out a
-    go true true is_r here there again =
-        let one : own n ≡ y = same_Some _ _ here in
-        inl (sym (same_Some _ _ there) ∙ one, ap (λ (b : Bool). cond b (Some (own (f n))) (item_at k (further r) is rest)) is_r ∙ ap (λ (z : EntryPieces). Some (with_node (f z.node) z)) one)
-    go true false is_r here there again =
-        absurd (omega (arith, short, long, node_in_items k (further r) is rest u there, sep_longer sep (flow_items_text k is rest), ap (λ (z : EntryPieces). length z.rest) (same_Some _ _ here)))
+    go true true is_r here there again = search (rules, same_Some, with_node)
+    go true false is_r here there again = search (rules, arith, node_in_items, sep_longer, same_Some)
     go false true is_r here there again =
         let w = items_turn k (further s) f is rest y t t2 here h in
         let two : own n ≡ u = same_Some _ _ there in
@@ -93,17 +89,7 @@ front_item k s r f (item key n sep is) rest y u t t2 here there h short long =
           ap (λ (b : Bool). cond b (Some (record { key = key; node = n; rest = sep_text sep (flow_items_text k others rest) })) (item_at k (further r) others rest)) is_r
               ∙ (ap (λ (l : List ℕ). Some (record { key = key; node = n; rest = l })) (ap (sep_text sep) w.2 ∙ sep_append sep w.0 t2) ∙ ap (λ (z : EntryPieces). Some (record z { rest = sep_text sep w.0 ++ t2 })) two),
         )
-    go false false is_r here there again = on (again here there)
-      where
-        others : Items
-        others = change_item (further s) f is
-
-        step : {o : Option EntryPieces} → item_at k (further r) others rest ≡ o → item_at k r (item key n sep others) rest ≡ o
-        step e = ap (λ (b : Bool). cond b (Some (record { key = key; node = n; rest = sep_text sep (flow_items_text k others rest) })) (item_at k (further r) others rest)) is_r ∙ e
-
-        on : ((u ≡ y) × (item_at k (further r) others rest ≡ Some (with_node (f y.node) y))) ⊎ ComesBefore t t2 u (item_at k (further r) others rest) → Out false
-        on (inl w) = inl (w.0, step w.1)
-        on (inr w) = inr (w.0, w.1, step w.2)
+    go false false is_r here there again = search (rules, with_node)
 
 -- the item or entry to which steps lead from one that comes before another text then
 other_part : (q : List Step) (u z : EntryPieces) (m t t2 : List ℕ) → u.rest ≡ m ++ t → entry_pieces_at q u ≡ Some z → ComesBefore t t2 z (entry_pieces_at q (record u { rest = m ++ t2 }))
@@ -231,17 +217,12 @@ module _ (w : CollPieces) (gap : List ℕ) (is : Items) (t t2 : List ℕ) (short
   own_before r empty rest u e there long = absurd (none-some _ e)
   own_before r (alias n) rest u e there long = absurd (none-some _ e)
   own_before r (scalar b) rest u e there long = absurd (none-some _ e)
-  own_before r (coll k g items) rest u e there long =
-      let same : record { close = k; gap = g; items = items; rest = rest } ≡ w = same_Some _ _ e in
-      let b = before r u (sym (ap (λ (v : CollPieces). item_at v.close r v.items v.rest) same) ∙ there) long in
-      (b.0, b.1, ap (λ (v : CollPieces). item_at v.close r is v.rest) same ∙ b.2)
+  own_before r (coll k g items) rest u e there long = search (rules, same_Some _ _ e)
   own_before r (anchored n g node) rest u e there long = own_before r node rest u e there long
 
   -- a part of an item or entry that comes before
   by_before : (r : Step) (q : List Step) (u z x : EntryPieces) → entry_pieces_at q u ≡ Some z → ComesBefore t t2 u (path_inside r x.node x.rest) → ComesBefore t t2 z (entry_pieces_at (r ∷ q) x)
-  by_before r q u z x there b =
-      let c = other_part q u z b.0 t t2 b.1 there in
-      (c.0, c.1, ap (option_and_then (entry_pieces_at q)) b.2 ∙ c.2)
+  by_before r q u z x there b = search (rules, other_part q u z b.0 t t2 b.1 there)
 
   -- a part that isn't one which the collection is in
   pub earlier_part : (p q : List Step) (x z : EntryPieces) → coll_along p x.node x.rest ≡ Some w → entry_pieces_at q x ≡ Some z → ((o : List Step) → coll_along o z.node z.rest ≡ Some w → ⊥) → length t < length (node_text (without_anchor z.node) z.rest) →
@@ -327,10 +308,8 @@ put_before k s r m (item key n sep is) rest y u t t2 here there turns size long 
     go : (a b : Bool) → is_here r (key_label (key_content key)) ≡ b → cond a (Some (own (sep_text sep old))) (item_at k (further s) is rest) ≡ Some y → cond b (Some (own (sep_text sep old))) (item_at k (further r) is rest) ≡ Some u →
         Turns (key_text key (node_text n (sep_text sep old))) (flow_items_text k (changed a) rest) t t2 →
         (item_at k (further s) is rest ≡ Some y → item_at k (further r) is rest ≡ Some u → Turns old new t t2 → ComesBefore t t2 u (item_at k (further r) (put_item (further s) m is) rest)) → ComesBefore t t2 u (item_at k r (changed a) rest)
-    go true true is_r here there turns again =
-        absurd (omega (arith, size, long, ap (λ (x : EntryPieces). length (node_text (without_anchor x.node) x.rest)) (same_Some _ _ (sym here ∙ there))))
-    go true false is_r here there turns again =
-        absurd (omega (arith, size, long, content_within u.node u.rest, node_in_items k (further r) is rest u there, sep_longer sep old, ap (λ (x : EntryPieces). length x.rest) (same_Some _ _ here), node_longer (without_anchor y.node) y.rest))
+    go true true is_r here there turns again = search (rules, arith, same_Some)
+    go true false is_r here there turns again = search (rules, arith, content_within, node_in_items, sep_longer, same_Some, node_longer)
     go false true is_r here there turns again =
         let w = turn_tail (key_text key (node_text n [])) (sep_text sep old) (sep_text sep new) t t2 (turns.0, sym (text_cut key n (sep_text sep old)) ∙ turns.1, sym (text_cut key n (sep_text sep new)) ∙ turns.2)
         (omega (arith, size, content_within y.node y.rest, node_in_items k (further s) is rest y here, sep_longer sep old)) in (

@@ -70,17 +70,12 @@ part_leads s (x ∷ es) (suc i) e lt h = ap (λ b. cond b (Some (entry_part x)) 
 
 pub entry_leads : (s : Step) (es all : List Field) (i : ℕ) (e : Field) (key : List ℕ) → es ≡ all → true ≡ ltb i (length es) → e ≡ get_or es i e → key ≡ string_bytes e.0 → LeadsToPart s i (entries_end all) →
     Some (Some (key, e.1), inline_view e.2) ≡ flow_part_at s (entries_end all)
-entry_leads s es all i e key same lt at text h =
-    let less : i < length all = subst (λ (l : List Field). i < length l) same (ltb-true i (length es) (sym lt)) in
-    let there : e ≡ get_or all i e = at ∙ ap (λ (l : List Field). get_or l i e) same in
-    ap (λ (k : List ℕ). Some (Some (k, e.1), inline_view e.2)) text
-    ∙ (ap (λ (x : Field). Some (entry_part x)) there ∙ sym (part_leads s all i e less h))
+entry_leads s es all i e key same lt at text h = search (rules, ltb-true, part_leads)
 
 -- ---- the entries of a node
 
 by_anchor : (a : Option (List ℕ)) (cs : Children) → HasUniqueKeys (with_anchor_name a (tree.map None cs)) → AreDistinct (keys_of cs)
-by_anchor None cs h = h.0
-by_anchor (Some a) cs h = h.0
+by_anchor a cs h = search rules
 
 of_node : (node : Inline) → inline_view node ≡ placed (anchor_name node.anchor) node.start node.content node.end (form_view node.form)
 of_node node = search (rules, the_lemmas)

@@ -1,10 +1,10 @@
 -- An item or entry of the block collection at a path has a line.
-use Rattle.std.proofs.Common.{◌≡◌, List, [], ◌∷◌, ◌++◌, Option, Some, None, option_map, refl, sym, ap, ◌∙◌, subst}
+use Rattle.std.proofs.Common.{rules, ◌≡◌, List, [], ◌∷◌, ◌++◌, Option, Some, None, option_map, refl, sym, ap, ◌∙◌, subst}
 use Rattle.std.{proofs.lemmas.Option.{none-some, same_Some}, specs.Prelude.option_and_then}
 use Rattle.yq_core.{specs.Paths.Step, specs.Tree.Node}
 use Rattle.yq_outline.specs.Outline.{LineMark, Bare, Key, Dash, Outline, end, row}
 use Rattle.yq_outline.specs.Places.{here, FoundLine, bare_or, find, find_row, in_head, place_inside}
-use Rattle.yq_edit_rules.{specs.Siblings.{HasEntries, IsEntry, IsEntryAt, NodeLines}, proofs.NodeLineLaws.lines_found}
+use Rattle.yq_edit_rules.{specs.Siblings.{HasEntries, IsEntryAt, NodeLines}, proofs.NodeLineLaws.lines_found}
 
 abbrev Reached : Type 0
 Reached = FoundLine × List Step
@@ -19,20 +19,11 @@ abbrev HasLine : Option Reached → Type 0
 HasLine r = (g : FoundLine) × (r ≡ Some (g, []))
 
 left_on : (f g : FoundLine) (s : Step) (ss : List Step) → ◌≡◌ {A = Option Reached} (Some (f, s ∷ ss)) (Some (g, [])) → ⊥
-left_on f g s ss e = none_left (ap (λ (z : Reached). z.1) (same_Some _ _ e))
-  where
-    none_left : s ∷ ss ≡ [] → ⊥
-    none_left e = cc
+left_on f g s ss e = search (rules, same_Some)
 
 -- in lines of items or entries
 row_found : (s : Step) (o : Outline) (f : FoundLine) → HasEntries o → find_row s o ≡ Some f → find s [] o ≡ Some (f, [])
-row_found s end f b e = absurd b
-row_found s (row l u a) f b e = go l.mark b
-  where
-    go : (m : LineMark) → IsEntry m → bare_or m (Some (record { place = here; line = l; under = u; after = a }, s ∷ [])) (option_map {U = Reached} (λ g. (g, [])) (find_row s (row l u a))) ≡ Some (f, [])
-    go Bare b = absurd b
-    go (Key k) b = ap (option_map {U = Reached} (λ g. (g, []))) e
-    go Dash b = ap (option_map {U = Reached} (λ g. (g, []))) e
+row_found s o f b e = search rules
 
 -- on from a line without a head
 abbrev on : FoundLine → Step → List Step → Option Reached
@@ -89,6 +80,4 @@ entry_line [] s o h f at =
     let own : o ≡ h.lines = ap (λ (z : NodeLines). z.lines) (same_Some _ _ at.place_is) in
     (f, ap (find s []) own ∙ row_found s h.lines f at.block at.found)
 entry_line (t ∷ ts) s o h f at =
-    let w = lines_found t ts o h at.place_is in
-    let lines : w.found.under ≡ h.lines = ap (λ (z : NodeLines). z.lines) w.place_is in
-    more_found t ts s o w.found f w.is w.open' (subst HasEntries (sym lines) at.block) (ap (find_row s) lines ∙ at.found)
+    search (rules, lines_found t ts o h at.place_is, ap (λ (z : NodeLines). z.lines) (lines_found t ts o h at.place_is).place_is, more_found)

@@ -1,22 +1,21 @@
 -- Whether a text of rows ends in a break: by what comes after the mark of the last one.
-use Rattle.std.proofs.Common.{inl, inr, ⊎_elim, ◌⊎◌, ◌≡◌, ℕ, zero, suc, ℤ, Bool, true, false, cond, ◌&&◌, not, List, [], ◌∷◌, ◌++◌}
+use Rattle.std.proofs.Common.{rules, inl, inr, ⊎_elim, ◌⊎◌, ◌≡◌, ℕ, zero, suc, ℤ, Bool, true, false, cond, ◌&&◌, not, List, [], ◌∷◌, ◌++◌}
 use Rattle.std.proofs.Common.{replicate, Option, refl, sym, ap, ◌∙◌, subst, append_assoc, append-nil}
 use Rattle.std.proofs.lemmas.Bool.{false≢true, false_from_ne_true, or_parts, and_parts, eqb-true}
-use Rattle.yq_core.{specs.Plain.{IsPlain, ends_plain}, specs.Quoted.spell_lines}
-use Rattle.yq_core.specs.Text.{front, joined, is_break, is_white, is_feed, is_return, is_line, is_empty, no_white, unless, NoneIn}
+use Rattle.yq_core.specs.Plain.{IsPlain, ends_plain}
+use Rattle.yq_core.specs.Text.{front, is_break, is_white, is_feed, is_return, is_line, is_empty, no_white, unless, NoneIn}
 use Rattle.yq_core.{proofs.Bools.at_byte, proofs.BlockPieceLaws.{IsLf, append_lf, line_lf, raw_lf}}
 use Rattle.yq_core.specs.Nodes.{FlowNode, empty, alias, scalar, coll, anchored, in_name, is_close, flow_items_text, node_text}
 use Rattle.yq_core.{specs.Nodes.{opening_bracket, IsFlowNode}, specs.Scalars.IsInQuotes, proofs.NodesWrittenLaws.node_append}
-use Rattle.yq_row_table.{specs.Exchange.row_front, specs.Gap.IsWhite, specs.Grammar.{IsContent, IsKey, IsMark, IsRow, Limit, is_entry}}
+use Rattle.yq_row_table.{proofs.seams.FrontSeams.row_some, specs.Exchange.row_front, specs.Gap.IsWhite}
+use Rattle.yq_row_table.specs.Grammar.{IsContent, IsKey, IsMark, IsRow, Limit, is_entry}
 use Rattle.yq_row_table.specs.Rows.{Content, Nothing, Inline, Block, Row, behind_indent, content_text, dashes_text, mark_text}
 use Rattle.yq_row_table.{specs.Rows.{parent_indent, print_row}, specs.View.content_cut, proofs.NothingLaws.some_behind}
 use Rattle.yq_row_table.{proofs.PlaceLaws.row_front-append, proofs.RowAgain.row_starts, proofs.SliceLaws.content_slices}
 use Rattle.yq_row_table.proofs.seams.ScalarSeams.{last_no_space}
 use Rattle.yq_places.{specs.CollectionEnds.is_broken, specs.Standings.is_alone, specs.PrintedLines.{end_break, last_break, less_break}}
 use Rattle.yq_places.{proofs.ContentEndLaws.{Ends, content_ends, tail_ends}, proofs.LastBreakLaws.lf_last, proofs.PrintedTexts.less_is}
-use Rattle.yq_outline.{specs.Lines.line_mark, specs.Positions.has_no_mark}
 use Rattle.yq_edit_rules.{proofs.EndedRowLaws.many_lf, proofs.LineFrontLaws.items_close, proofs.BreakLaws.last_is}
-use Rattle.yq_core.specs.Nodes as nodes
 use Rattle.yq_row_table.specs.Rows as rows
 
 -- an LF ends a text
@@ -33,8 +32,7 @@ feed_joined a [] h k = ap ends_feed (append-nil a) ∙ h
 feed_joined a (b ∷ bs) h k = feed_more a (b ∷ bs) refl ∙ k
 
 feed_byte : (b : ℕ) (t : List ℕ) → is_feed b ≡ false → ends_feed t ≡ false → ends_feed (b ∷ t) ≡ false
-feed_byte b [] h k = h
-feed_byte b (c ∷ t) h k = k
+feed_byte b t h k = search rules
 
 -- a text in front of another one that ends in none
 feed_before : (a b : List ℕ) → ends_feed (a ++ b) ≡ false → ends_feed b ≡ false
@@ -55,11 +53,7 @@ no_line h = false≢true h
 
 -- it has a last break then
 feed_some : (t : List ℕ) → ends_feed t ≡ true → not (is_empty (last_break t)) ≡ true
-feed_some t h = go (last_break t) (lf_last t (feed_lf t h))
-  where
-    go : (l : List ℕ) → is_line l ≡ true → not (is_empty l) ≡ true
-    go [] e = absurd (no_line e)
-    go (b ∷ l) e = refl
+feed_some t h = search (rules, lf_last, feed_lf, no_line)
 
 feed_none : (t : List ℕ) → ends_feed t ≡ false → last_break t ≡ []
 feed_none t h = go (last_is t)
@@ -99,11 +93,7 @@ plain_feed spaces (b ∷ []) h = (or_parts (is_feed b) (is_return b && front is_
 plain_feed spaces (b ∷ (c ∷ p)) h = plain_feed spaces (c ∷ p) h.1
 
 quoted_feed : (p : List ℕ) → IsInQuotes p [] → ends_feed p ≡ false
-quoted_feed p (quote, (ls, h)) = ap ends_feed h.spelled ∙ (feed_more (quote ∷ spell_lines ls) (quote ∷ []) refl ∙ go h.quotes)
-  where
-    go : (quote ≡ 34) ⊎ (quote ≡ 39) → is_feed quote ≡ false
-    go (inl e) = ap is_feed e
-    go (inr e) = ap is_feed e
+quoted_feed p h = search (rules, feed_more)
 
 node_feed : (spaces : Option ℕ) (node : FlowNode) (d : ℕ) → IsFlowNode false spaces d node [] → ends_feed (node_text node []) ≡ false
 unfolding node_text IsFlowNode
@@ -114,16 +104,7 @@ node_feed spaces (coll k g is) d h =
     let x = items_close k is in
     let whole : opening_bracket k ∷ (g ++ flow_items_text k is []) ≡ (opening_bracket k ∷ (g ++ x.0)) ++ k ∷ [] = ap (λ t. opening_bracket k ∷ (g ++ t)) x.1 ∙ ap (λ t. opening_bracket k ∷ t) (sym (append_assoc g x.0 (k ∷ []))) in
     ap ends_feed whole ∙ (feed_more (opening_bracket k ∷ (g ++ x.0)) (k ∷ []) refl ∙ at_byte is_close k 10 h.0 refl)
-node_feed spaces (anchored n g node) d h =
-    feed_byte 38 (n ++ (g ++ node_text node [])) refl
-    (feed_joined n (g ++ node_text node []) (name_feed n (g ++ node_text node []) h.0.inside) (feed_joined g (node_text node []) (gap h.1) (node_feed spaces node d h.4)))
-  where
-    gap : nodes.IsLead false (nodes.begins_content false) g (node_text node []) → ends_feed g ≡ false
-    gap (inl x) = gap_feed g (node_text node []) x.0.0
-    gap (inr x) = ap ends_feed x.0
-
-node_feed_at : (spaces : Option ℕ) (node : FlowNode) (d : ℕ) (t : List ℕ) → t ≡ [] → IsFlowNode false spaces d node t → ends_feed (node_text node []) ≡ false
-node_feed_at spaces node d t is h = node_feed spaces node d (subst (IsFlowNode false spaces d node) is h)
+node_feed spaces (anchored n g node) d h = search (rules, feed_byte, feed_joined, name_feed, gap_feed, node_feed spaces node d h.4)
 
 -- ---- a row at the end of a text
 
@@ -145,18 +126,11 @@ mark_some rows.Dash c rest t h e = refl
 mark_some (rows.Key key colon) c rest t h e = some_behind key (colon ++ t) (colon_some key colon (content_text c rest) t h)
 
 mark_feed : (m : rows.RowMark) (c : Content) (rest t : List ℕ) → IsMark m c rest → ends_feed t ≡ false → ends_feed (mark_text m t) ≡ false
-mark_feed rows.Bare c rest t h k = k
-mark_feed rows.Dash c rest t h k = feed_byte 45 t refl k
-mark_feed (rows.Key key colon) c rest t h k =
-    feed_more key (colon ++ t) (colon_some key colon (content_text c rest) t h) ∙ feed_joined colon t (ap ends_feed h.colon_is.spelled ∙ feed_more h.colon_is.white (58 ∷ []) refl) k
+mark_feed m c rest t h k = search (rules, feed_byte, feed_more, colon_some, feed_joined)
 
 -- a tail without a break
 bare_tail : (tail : List ℕ) → is_line tail ≡ false → Ends (is_line tail) (last_break tail) [] → ends_feed tail ≡ false
-bare_tail tail bare ends = false_from_ne_true (ends_feed tail) (λ e. go (last_break tail) refl ends e)
-  where
-    go : (l : List ℕ) → last_break tail ≡ l → Ends (is_line tail) (last_break tail) [] → ends_feed tail ≡ true → ⊥
-    go l is (inl x) e = false≢true (sym bare ∙ x.0)
-    go l is (inr x) e = no_line (sym (ap is_line x.1) ∙ lf_last tail (feed_lf tail e))
+bare_tail tail bare ends = search (rules, false_from_ne_true, false≢true, no_line, lf_last, feed_lf)
 
 content_feed : (n : ℤ) (c : Content) → IsContent n c [] → is_broken c ≡ false → ends_feed (content_text c []) ≡ false
 content_feed n (Nothing tail) h bare = ap ends_feed (append-nil tail) ∙ bare_tail tail bare (tail_ends tail [] h)
@@ -166,7 +140,7 @@ content_feed n (Inline space node tail) h bare = feed_joined space (node_text no
     whole t = node_append node [] t
 
     go : (t : List ℕ) → tail ≡ t → ends_feed (node_text node t) ≡ false
-    go [] is = node_feed_at _ node _ (tail ++ []) (append-nil tail ∙ is) h.1.valid
+    go [] is = node_feed _ node _ (subst (IsFlowNode false _ _ node) (append-nil tail ∙ is) h.1.valid)
     go (b ∷ bs) is = ap ends_feed (whole (b ∷ bs)) ∙ (feed_more (node_text node []) (b ∷ bs) refl ∙ (ap ends_feed (sym is) ∙ bare_tail tail bare (tail_ends tail [] h.2)))
 content_feed n (Block space anchor block) h bare = absurd (false≢true (sym bare))
 
@@ -184,19 +158,10 @@ content_lf n c rest h broken =
     subst IsLf (content_slices c []) (many_lf (content_cut c).0 (content_cut c).1 (content_cut c).2 (content_cut c).3 ((content_cut c).4 ++ ((content_cut c).5 ++ [])) (last c h broken))
   where
     last : (c : Content) → IsContent n c rest → is_broken c ≡ true → IsLf ((content_cut c).4 ++ ((content_cut c).5 ++ []))
-    last (Nothing tail) h broken = subst IsLf (sym (append-nil tail)) (line_lf tail broken)
-    last (Inline space node tail) h broken = subst IsLf (sym (append-nil tail)) (line_lf tail broken)
-    last (Block space anchor b) h broken = go (raw_lf b.indent b.raw h.2.lines)
-      where
-        go : (joined b.raw ≡ []) ⊎ IsLf (joined b.raw) → IsLf (b.tail ++ (joined b.raw ++ []))
-        go (inl e) = subst IsLf (sym (ap (λ t. b.tail ++ (t ++ [])) e ∙ append-nil b.tail)) (line_lf b.tail (and_parts (is_line b.tail) _ h.2.tail).0)
-        go (inr lf) = append_lf b.tail (joined b.raw ++ []) (subst IsLf (sym (append-nil (joined b.raw))) lf)
+    last c h broken = search (rules, append-nil, line_lf, raw_lf, and_parts, append_lf)
 
 row_lf : (limit : Limit) (r : Row) (rest : List ℕ) → IsRow limit r rest → is_broken r.content ≡ true → IsLf (print_row r [])
 row_lf limit r rest h broken = subst IsLf (sym (row_front-append r [])) (append_lf (row_front r) (content_text r.content []) (content_lf (parent_indent r) r.content rest h.content broken))
-
-row_some : (limit : Limit) (r : Row) (rest : List ℕ) → IsRow limit r rest → is_empty (print_row r rest) ≡ false
-row_some limit r rest h = some_behind r.gap (replicate r.column 32 ++ behind_indent r rest) (some_behind (replicate r.column 32) (behind_indent r rest) (row_starts limit r rest h).some)
 
 -- A text that rows end has a last break, if what comes after the mark of the last one has.
 pub broken_is : (limit : Limit) (r : Row) (rest : List ℕ) → IsRow limit r rest → (front a t : List ℕ) → front ++ print_row r [] ≡ a ++ t → is_empty t ≡ false → not (is_empty (last_break t)) ≡ is_broken r.content
@@ -216,10 +181,4 @@ broken_is limit r rest h front a t is some = go (is_broken r.content) refl
 
 -- an item or entry is something
 pub entry_some : (limit : Limit) (r : Row) (rest t : List ℕ) → IsRow limit r rest → is_alone r ≡ false → is_empty (behind_indent r t) ≡ false
-entry_some limit r rest t h alone = go r.dashes r.mark alone h.mark
-  where
-    go : (ns : List ℕ) (m : rows.RowMark) → (is_empty ns && has_no_mark (line_mark m)) ≡ false → IsMark m r.content rest → is_empty (dashes_text ns (mark_text m (content_text r.content t))) ≡ false
-    go [] rows.Bare e k = absurd (false≢true (sym e))
-    go [] rows.Dash e k = refl
-    go [] (rows.Key key colon) e k = mark_some (rows.Key key colon) r.content rest (content_text r.content t) k refl
-    go (n ∷ ns) m e k = refl
+entry_some limit r rest t h alone = search (rules, false≢true, mark_some)

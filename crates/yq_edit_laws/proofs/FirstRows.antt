@@ -1,29 +1,21 @@
 -- The first row of a block collection, the line that it begins, and the break that ends a text.
-use Rattle.std.proofs.Common.{◌≡◌, ◌⊎◌, inl, inr, ℕ, ◌<◌, List, [], ◌∷◌, length, true, false, refl, sym, append_assoc, arith, rules}
+use Rattle.std.proofs.Common.{◌≡◌, ◌⊎◌, ℕ, ◌<◌, List, [], ◌∷◌, length, true, false, sym, append_assoc, arith, rules}
 use Rattle.std.proofs.lemmas.Bool.{false≢true}
-use Rattle.yq_core.specs.Text.{is_empty, is_line}
-use Rattle.yq_outline.{specs.Positions.has_no_mark, specs.Lines.{lines_of_rows, line_mark}}
-use Rattle.yq_row_table.{specs.Grammar.IsMark, specs.Rows.{Content, Row, behind_indent, content_text, mark_text}}
-use Rattle.yq_row_table.{proofs.PlaceLaws.content_then, proofs.NothingLaws.some_behind, proofs.GapLaws.some_more}
+use Rattle.yq_core.specs.Text.{is_empty}
+use Rattle.yq_outline.specs.Lines.{lines_of_rows}
+use Rattle.yq_row_table.{specs.Grammar.IsMark, specs.Rows.{Row, behind_indent}, proofs.PlaceLaws.content_then}
+use Rattle.yq_row_table.{proofs.NothingLaws.some_behind, proofs.GapLaws.some_more}
 use Rattle.yq_documents.specs.Ready.{begins_no_node}
 use Rattle.yq_places.{specs.PrintedLines.last_break, specs.Standings.is_alone, proofs.CommentPieceLaws.Ended, proofs.LastBreakLaws.lf_last}
 use Rattle.yq_edit_rules.{proofs.FirstBreakLaws.IsOneBreak, proofs.BreakLaws.last_is}
-use Rattle.yq_row_table.specs.Rows as rows
-
-no_line : is_line [] ≡ false
-unfolding is_line
-no_line = refl
+use Rattle.yq_edit_laws.proofs.HeldRows.{no_line}
 
 pub some_length : (t : List ℕ) → is_empty t ≡ false → 0 < length t
 some_length [] h = absurd (false≢true (sym h))
 some_length (b ∷ t) h = omega arith
 
--- a row that isn't a node alone on its line has a dash or a mark
-mark_some : (m : rows.RowMark) (x : Content) (rest : List ℕ) → IsMark m x rest → has_no_mark (line_mark m) ≡ false → is_empty (mark_text m (content_text x [])) ≡ false
-mark_some m x rest h1 h2 = search (rules, false≢true, some_behind)
-
 pub row_some : (r : Row) (rest t : List ℕ) → IsMark r.mark r.content rest → is_alone r ≡ false → is_empty (behind_indent r t) ≡ false
-row_some r rest t h alone = search (rules, some_more, mark_some, content_then, append_assoc)
+row_some r rest t h alone = search (rules, some_more, false≢true, some_behind, content_then, append_assoc)
 
 -- its line is that of a key or dash
 pub row_entry : (r : Row) (rs : List Row) → is_alone r ≡ false → begins_no_node (lines_of_rows (r ∷ rs)) ≡ true
@@ -34,5 +26,4 @@ pub ends_with : (t more : List ℕ) → Ended t more → (IsOneBreak (last_break
 ends_with t more h1 = search (rules, last_is, false≢true, no_line, lf_last)
 
 pub empty_cases : (t : List ℕ) → (t ≡ []) ⊎ (is_empty t ≡ false)
-empty_cases [] = inl refl
-empty_cases (b ∷ t) = inr refl
+empty_cases t = search rules

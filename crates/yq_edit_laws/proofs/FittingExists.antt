@@ -1,6 +1,6 @@
 -- An operation that fits has its edit: where a node is, something is.
-use Rattle.std.proofs.Common.{◌≡◌, ◌⊎◌, inl, inr, ltb, ℕ, Bool, true, false, cond, List, [], ◌∷◌, Option, Some, None, option_map, refl, sym}
-use Rattle.std.{proofs.Common.{ap, ◌∙◌, subst}, proofs.lemmas.Bool.{cond-true, false≢true}, proofs.lemmas.Option.none-some}
+use Rattle.std.proofs.Common.{rules, ◌≡◌, ◌⊎◌, inl, inr, ltb, ℕ, Bool, true, false, cond, List, [], ◌∷◌, Option, Some, None, option_map}
+use Rattle.std.{proofs.Common.{refl, sym, ap, ◌∙◌, subst}, proofs.lemmas.Bool.{cond-true, false≢true}, proofs.lemmas.Option.none-some}
 use Rattle.std.{specs.List.slice_get, specs.Option.option_or}
 use Rattle.yq_core.{specs.Answers.◌>>=◌, specs.BlockWritten.break_text, specs.Paths.{Step, child_at, further, is_here, node_at}}
 use Rattle.yq_core.{specs.Tree.{Node, children_of, key_label}, proofs.Bools.bind_some, specs.Collections.CollPieces}
@@ -52,9 +52,7 @@ is_several (item key n sep (item key2 n2 sep2 is)) = true
 
 several_items : (is : Items) → ltb 1 (count (items_tree is)) ≡ true → is_several is ≡ true
 unfolding is_several items_tree
-several_items none h = h
-several_items (item key n sep none) h = h
-several_items (item key n sep (item key2 n2 sep2 is)) h = refl
+several_items is h = search rules
 
 removing_there : (k : ℕ) (rest : List ℕ) (s : Step) (g : List ℕ) (is : Items) (y : EntryPieces) → item_at k s is rest ≡ Some y → is_several is ≡ true → (e : FlowEdit) × (removing_from k rest s g is ≡ Some e)
 unfolding is_several

@@ -1,7 +1,7 @@
 -- One item or entry more in a flow collection.
-use Rattle.std.proofs.Common.{◌≡◌, ℕ, suc, ◌-◌, ◌<◌, ◌≤◌, Bool, true, false, not, eqb, cond, List, [], ◌∷◌, ◌++◌, length, Option, Some}
+use Rattle.std.proofs.Common.{rules, ◌≡◌, ℕ, suc, ◌-◌, ◌<◌, ◌≤◌, Bool, true, false, eqb, cond, List, [], ◌∷◌, ◌++◌, length, Option, Some}
 use Rattle.std.{proofs.Common.{None, refl, sym, ap, ◌∙◌, subst, arith}, proofs.lemmas.Bool.{cond_both, false≢true}}
-use Rattle.std.{proofs.lemmas.Option.{none-some, same_Some}, specs.Prelude.is_some, specs.Str.IsCharBoundary}
+use Rattle.std.{proofs.lemmas.Option.{none-some, same_Some}, specs.Str.IsCharBoundary}
 use Rattle.yq_text.{specs.Limit.text_limit, specs.Script.new_text}
 use Rattle.yq_core.{specs.Keys.{depth, keys_of}, specs.Paths.{Step, append_child, node_at}, specs.Tree.{children_of, key_label}}
 use Rattle.yq_core.{specs.Collections.{CollAt, CollPieces, IsCollAt, room_in}, specs.Entries.EntryPieces}
@@ -13,13 +13,14 @@ use Rattle.yq_row_table.specs.Rows.{Cut, cut_text}
 use Rattle.yq_documents.specs.Documents.{Document, EachHasFitKeys, HasFitKey, HasFitKeys, document_parts}
 use Rattle.yq_documents.specs.Reading.{documents, read_at, root_of}
 use Rattle.yq_places.{specs.FlowNodes.flow_collection, specs.FlowViews.LeadsToHead}
-use Rattle.yq_edit_rules.{specs.FlowRows.FlowAt, specs.SoundRoots.{IsNewKey, IsNewValue, IsSoundRoot}, specs.TextPieces.IsPiece}
-use Rattle.yq_edit_rules.{proofs.FlowKeptLaws.flow_keys, proofs.PartLaws.document_known, proofs.SoundRootLaws.append_keeps}
-use Rattle.yq_edit_rules.{specs.EditLaws.{CarriedOut, FlowMoreIsPut, IsEdit}, specs.FlowParts.{flow_segments, takes_key}}
-use Rattle.yq_edit_rules.{specs.Operands.KeyIsUtf8, proofs.DoneLaws.nth_map, proofs.EditsFitLaws.{new_key, new_value, tree_unique}}
-use Rattle.yq_edit_rules.{proofs.FlowWritten.{flow_fits, key_fits}, proofs.ValueNodes.{comma_piece, flow_piece, key_piece}}
+use Rattle.yq_edit_rules.{proofs.CommentPieceLaws.nothing, specs.FlowRows.FlowAt, specs.SoundRoots.{IsNewKey, IsNewValue, IsSoundRoot}}
+use Rattle.yq_edit_rules.{specs.TextPieces.IsPiece, proofs.FlowKeptLaws.flow_keys, proofs.PartLaws.document_known}
+use Rattle.yq_edit_rules.{proofs.SoundRootLaws.append_keeps, specs.EditLaws.{CarriedOut, FlowMoreIsPut, IsEdit}}
+use Rattle.yq_edit_rules.{specs.FlowParts.{flow_segments, takes_key}, specs.Operands.KeyIsUtf8, proofs.DoneLaws.nth_map}
+use Rattle.yq_edit_rules.{proofs.EditsFitLaws.{new_key, new_value, tree_unique}, proofs.FlowWritten.{flow_fits, key_fits}}
+use Rattle.yq_edit_rules.proofs.ValueNodes.{comma_piece, flow_piece, key_piece}
 use Rattle.yq_semantics.{specs.Fits.{Fits, Takes}, specs.Operations.append, specs.Rooms.room_of}
-use Rattle.yq_edit_laws.proofs.FlowPieceLaws.{edit_pieces, nothing_piece}
+use Rattle.yq_edit_laws.proofs.FlowPieceLaws.{edit_pieces}
 use Rattle.yq_edit_laws.proofs.FlowEditLaws.{FlowCarried, before_is, flow_carried, made_cut, made_reads, segments_old}
 use Rattle.yq_edit_laws.{specs.PartPuts.{EndsAfter, EndsAsIn, IsPartOf}, proofs.FlowWholeLaws.{StandsBefore, appended_stands}}
 use Rattle.yq_edit_laws.{proofs.LaterCuts.{end_after, part_after, slot}, proofs.LaterEnds.{end_after_more, part_after_more}}
@@ -30,9 +31,6 @@ use Rattle.yq_edit_laws.proofs.FlowStandings as standing
 
 -- ---- the edit
 
-lead_piece : (w : CollPieces) → IsPiece (cond (is_none w.items) [] (44 ∷ (32 ∷ [])))
-lead_piece w = cond_both (is_none w.items) [] (44 ∷ (32 ∷ [])) IsPiece (λ _. nothing_piece) (λ _. comma_piece)
-
 add_fit : (key : Key) (m : FlowNode) (gap : List ℕ) (is : Items) → HasFitKey key → HasFitKeys m → EachHasFitKeys is → EachHasFitKeys (add_item key m gap is)
 add_fit key m gap none h k f = (h, k, tt)
 add_fit key m gap (item j n sep none) h k f = (f.0, f.1, (h, k, tt))
@@ -41,13 +39,7 @@ add_fit key m gap (item j n sep (item j2 n2 sep2 is)) h k f = (f.0, f.1, add_fit
 -- ---- the key
 
 label_is : (close : ℕ) (key : Option (List ℕ)) → KeyIsUtf8 key → takes_key close key ≡ true → IsLabel (eqb close 125) (key_label key)
-label_is close key u h = go (eqb close 125) key u h
-  where
-    go : (b : Bool) (key : Option (List ℕ)) → KeyIsUtf8 key → cond b (is_some key) (not (is_some key)) ≡ true → IsLabel b (key_label key)
-    go true None u h = absurd (false≢true h)
-    go true (Some k) u h = (k, refl, u)
-    go false None u h = refl
-    go false (Some k) u h = absurd (false≢true h)
+label_is close key u h = search (rules, false≢true)
 
 key_new : (key : Option (List ℕ)) (n : tree.Node) → Takes key n → IsNewKey key (keys_of (children_of n))
 key_new None n t = tt
@@ -97,7 +89,7 @@ module _ (c : Cut) (doc : ℕ) (steps : List Step) (key : Option (List ℕ)) (v 
           pieces = (
             subst IsPiece (sym (before_is (cut_text c) there.before (e.old ++ e.behind) there.text)) parts.0,
             (
-              lead_piece w,
+              cond_both (is_none w.items) [] (44 ∷ (32 ∷ [])) IsPiece (λ _. nothing) (λ _. comma_piece),
               (key_piece (eqb w.close 125) (key_label key) (node_text (flow_of v) []) (label_is w.close key u takes) (flow_piece v h), (parts.1, tt)),
             ),
           );

@@ -1,13 +1,12 @@
 -- An edit of a flow collection carries out an operation, where it makes of the document what that does.
-use Rattle.std.proofs.Common.{◌+◌, [], ◌∷◌, refl, ◌≡◌, ℕ, ◌-◌, ◌≤◌, List, ◌++◌, length, take, Some, sym, ap, ◌∙◌, arith, append_assoc}
+use Rattle.std.proofs.Common.{rules, ◌+◌, [], refl, ◌≡◌, ℕ, ◌-◌, ◌≤◌, List, ◌++◌, length, take, Some, sym, ap, ◌∙◌, arith, append_assoc}
 use Rattle.std.{proofs.Common.{append-nil, length-append}, proofs.Math.Seq.take-append_seam}
 use Rattle.yq_text.{specs.Limit.text_limit, specs.Script.{Segment, old_text, new_text, script_text_before, kept_front, kept_back}}
 use Rattle.yq_core.{specs.Paths.{Step, changed_at, within}, specs.Tree.Children, specs.Collections.CollPieces}
 use Rattle.yq_core.specs.Nodes.{FlowNode, node_text}
 use Rattle.yq_flow_edits.specs.FlowEdits.{FlowEdit, IsFlowEdited, edited_node}
-use Rattle.yq_row_table.specs.Exchange.{row_front, with_content}
-use Rattle.yq_row_table.{specs.Rows.{Inline, Row, content_text, print_row, rows_text, Cut, cut_text}, proofs.PlaceLaws.row_front-append}
-use Rattle.yq_row_table.proofs.seams.SeamLaws.{rows_text-append}
+use Rattle.yq_row_table.{specs.Exchange.{row_front, with_content}, specs.Rows.{Inline, Row, rows_text, Cut, cut_text}}
+use Rattle.yq_row_table.{proofs.PlaceLaws.row_front-append, proofs.seams.SeamLaws.rows_text-append}
 use Rattle.yq_documents.{specs.Documents.{HasFitKeys, lead_of}, specs.Reading.{read_at, root_of}}
 use Rattle.yq_edit_rules.{specs.Changed.put_document, specs.DocumentRows.behind_document}
 use Rattle.yq_edit_rules.{specs.FlowRows.{behind_node, row_collection, with_node, FlowAt}, proofs.PlaceTextLaws.{IsAround, around}}
@@ -70,14 +69,7 @@ segments_new t u before e was is =
 -- the row in the text
 row_there : (c : Cut) (k : ℕ) (steps : List Step) (w : CollPieces) (at : FlowAt c k steps w) (a : IsAround k c at.part) →
     cut_text c ≡ (a.start ++ rows_text at.row.front []) ++ ((row_front at.row.row ++ at.row.space) ++ node_text at.row.node (behind_node c k at.part at.row))
-row_there c k steps w at a =
-    let z : List ℕ = at.part.end ++ behind_document k c in
-    let back : List ℕ = rows_text at.row.back z in
-    let own : print_row at.row.row back ≡ (row_front at.row.row ++ at.row.space) ++ node_text at.row.node (behind_node c k at.part at.row) =
-    row_front-append at.row.row back ∙ (ap (λ x. row_front at.row.row ++ content_text x back) at.at.content_is ∙ sym (append_assoc (row_front at.row.row) at.row.space (node_text at.row.node (behind_node c k at.part at.row)))) in
-    a.text
-    ∙ (ap (λ rs. a.start ++ rows_text rs z) at.at.rows_are
-    ∙ (ap (λ t. a.start ++ t) (rows_text-append at.row.front (at.row.row ∷ at.row.back) z ∙ ap (rows_text at.row.front) own) ∙ at_row a.start at.row.front _))
+row_there c k steps w at a = search (rules, row_front-append, append_assoc, rows_text-append, at_row)
 
 -- the row in its document
 abbrev row_here : (c : Cut) (k : ℕ) (steps : List Step) (w : CollPieces) (at : FlowAt c k steps w) → read_at (cut_text c) ≡ Some c → RowIn k c

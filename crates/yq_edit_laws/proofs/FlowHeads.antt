@@ -1,9 +1,9 @@
 -- What the code finds in the head of a row, and what of that the text has.
-use Rattle.std.proofs.Common.{◌≡◌, ℕ, ◌+◌, ◌≤◌, true, List, [], ◌++◌, length, Option, Some, None, option_map, refl, sym, ap, ◌∙◌, subst}
-use Rattle.std.{proofs.Common.{arith, length-append}, proofs.lemmas.Option.{none-some, same_Some}}
-use Rattle.yq_core.{specs.Paths.Step, specs.Collections.{CollAt, CollPieces, IsCollAt}, specs.Entries.{EntryPieces, item_at}}
-use Rattle.yq_core.{specs.Nodes.{Key, FlowNode, coll, node_text, flow_items_text, IsFlowNode}, specs.Places.{Placed, locate}}
-use Rattle.yq_core.proofs.PathLaws.{items_hold}
+use Rattle.std.proofs.Common.{rules, ◌≡◌, ℕ, ◌+◌, ◌≤◌, true, List, [], ◌++◌, length, Option, Some, None, option_map, refl, sym, ap, ◌∙◌}
+use Rattle.std.{proofs.Common.arith, proofs.lemmas.Option.{none-some, same_Some}}
+use Rattle.yq_core.{proofs.NodeLaws.behind, specs.Paths.Step, specs.Collections.{CollAt, CollPieces, IsCollAt}}
+use Rattle.yq_core.{specs.Entries.{EntryPieces, item_at}, specs.Nodes.{Key, FlowNode, coll, node_text, flow_items_text, IsFlowNode}}
+use Rattle.yq_core.{specs.Places.{Placed, locate}, proofs.PathLaws.items_hold}
 use Rattle.yq_flow_edits.specs.FlowEdits.{FlowEdit, appending, replacing}
 use Rattle.yq_flow_edits.{specs.FlowPlaces.{append_place, place_edit, remove_place, replace_place}, specs.Removals.removing}
 use Rattle.yq_flow_edits.{proofs.EditLaws.{Around, around_is}, proofs.PlacedEdits.{append_placed, replace_placed}}
@@ -15,11 +15,8 @@ use Rattle.yq_edit_laws.proofs.FlowWholeLaws.{StandsBefore, appended_stands, rep
 
 -- ---- lengths
 
-longer_behind : (t before all : List ℕ) → t ≡ before ++ all → length all ≤ length t
-longer_behind t before all is = omega (arith, ap length is, length-append before all)
-
 stands_within : (t all : List ℕ) → StandsBefore t all → length all ≤ length t
-stands_within t all h = longer_behind t h.before all h.text
+stands_within t all h = behind t h.before all h.text
 
 -- ---- a collection in the node of a row alone
 
@@ -48,7 +45,7 @@ module _ (z : CollAt) (is : IsCollAt z) where
   replaced_within s y m at = stands_within t _ (replaced_stands z [] is s y at)
 
   pub append_found : (key : Key) (m : FlowNode) → append_place (placed_collection (length t) w) ≡ Some (place_edit (length t) (appending key m w))
-  append_found key m = append_placed (length t) (coll w.close w.gap w.items) w.rest w key m (longer_behind t around.before _ whole) refl
+  append_found key m = append_placed (length t) (coll w.close w.gap w.items) w.rest w key m (behind t around.before _ whole) refl
 
   pub replace_found : (s : Step) (y : EntryPieces) (m : FlowNode) → item_at w.close s w.items w.rest ≡ Some y → replace_place (locate (length t) y.node y.rest) ≡ place_edit (length t) (replacing s y m w)
   replace_found s y m at = replace_placed true (Some 0) around.inner_depth (length t) s y m w (items_hold around.inner_depth w.close s w.items w.rest y around.items at)
@@ -59,7 +56,7 @@ module _ (z : CollAt) (is : IsCollAt z) where
   pub removed_within : (s : Step) (e : FlowEdit) → removing s w ≡ Some e → length (e.old ++ e.behind) ≤ length t
   removed_within s e at =
       let h = (removed_text w.close w.rest s w.gap w.items e at).text in
-      omega (arith, longer_behind (w.gap ++ flow_items_text w.close w.items w.rest) h.before (e.old ++ e.behind) h.was, longer_behind t around.before _ around.text)
+      omega (arith, behind (w.gap ++ flow_items_text w.close w.items w.rest) h.before (e.old ++ e.behind) h.was, behind t around.before _ around.text)
 
 -- ---- the collection in the text
 
@@ -79,10 +76,7 @@ module _ (t : List ℕ) (w : CollPieces) (x : FlowHead) (h : IsHeadOfSteps t w x
 
   -- an edit in the text
   pub in_text : (e f : FlowEdit) → e ≡ edit_more h.behind f → length (f.old ++ f.behind) ≤ length (node_text h.at.node h.at.rest) → place_edit (length t) e ≡ moved_on x.before (place_edit (length row) f)
-  in_text e f same within =
-      (λ i. place_edit (length (h.text i)) (same i))
-      ∙ (place_moved h.front row h.behind f (subst (λ (l : List ℕ). length (f.old ++ f.behind) ≤ length l) (sym h.node_is) within)
-      ∙ ap (λ (n : ℕ). moved_on n (place_edit (length row) f)) (sym h.before))
+  in_text e f same within = search (rules, place_moved)
 
   -- an item or entry in the row alone, and in the text
   pub item_whole : (s : Step) → item_at w.close s w.items w.rest ≡ option_map (entry_more h.behind) (item_at own.close s own.items own.rest)

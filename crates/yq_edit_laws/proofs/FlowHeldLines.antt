@@ -1,15 +1,14 @@
 -- The line in whose head a path goes on holds the collection to which the path leads, in an inline node of its row.
-use Rattle.std.proofs.Common.{◌≡◌, inl, inr, ℕ, ◌+◌, true, cond, List, [], ◌∷◌, ◌++◌, length, Option, Some, None, option_map, refl, sym, ap}
-use Rattle.std.{proofs.Common.{◌∙◌, subst, length-append}, proofs.lemmas.Bool.false≢true, proofs.lemmas.Option.{none-some, same_Some}}
-use Rattle.std.{specs.List.slice_get, specs.Prelude.{is_some, option_and_then}}
+use Rattle.std.proofs.Common.{rules, ◌≡◌, ℕ, ◌+◌, List, [], ◌∷◌, ◌++◌, length, Option, Some, None, option_map, refl, sym, ap, ◌∙◌, subst}
+use Rattle.std.{proofs.Common.length-append, proofs.lemmas.Bool.false≢true, proofs.lemmas.Option.{none-some, same_Some}}
+use Rattle.std.{specs.List.slice_get, specs.Prelude.option_and_then}
 use mathlib.Core.List.{head-eq_of_cons-eq}
 use Rattle.yq_core.{specs.Answers.◌>>=◌, specs.Paths.{Step, node_at}, specs.Collections.CollPieces, specs.Trees.tree_of}
 use Rattle.yq_outline.{specs.Comments.head_comment, specs.Group.level_or}
-use Rattle.yq_outline.specs.Outline.{LineMark, Bare, Key, Dash, Line, level, Outline, end, row, flatten, IsEven, IsWhole, anchored}
-use Rattle.yq_outline.specs.Outline.{outline_node, head_or, children, value}
-use Rattle.yq_outline.specs.Places.{here, lines_before, lines_after, FoundLine, find, in_head, place_inside, content_under}
-use Rattle.yq_outline.{specs.Positions.has_no_mark, proofs.Decides.flatten-group, proofs.Finding.path_node, proofs.PlaceLaws.placed}
-use Rattle.yq_outline.{proofs.Plug.allows_from, specs.Lines.{content_anchor, head_of, lines_of_rows, mark_line}}
+use Rattle.yq_outline.specs.Outline.{Line, level, Outline, row, flatten, IsEven, IsWhole, anchored, head_or, value}
+use Rattle.yq_outline.specs.Places.{lines_before, lines_after, FoundLine, find, in_head, place_inside, content_under}
+use Rattle.yq_outline.{proofs.Decides.flatten-group, proofs.Finding.path_node, proofs.PlaceLaws.placed, proofs.Plug.allows_from}
+use Rattle.yq_outline.specs.Lines.{content_anchor, head_of, lines_of_rows, mark_line}
 use Rattle.yq_row_table.{specs.Exchange.behind_row, specs.Rows.{Content, Nothing, Inline, Block, Row, Part, Cut, cut_text, mark_column}}
 use Rattle.yq_documents.{specs.Documents.document_parts, specs.Reading.{part_outline, read_at, root_of}}
 use Rattle.yq_documents.specs.LinesInRows.{document_row, RowLine, row_line}
@@ -33,16 +32,7 @@ HeldIn x y = HeldAt y.1 (content_under y.0.line y.0.under) x
 -- from the lines of a node, if the first of them is the node itself, under an anchor
 bare_held : (a : Option (List ℕ)) (g : FoundLine → FoundLine) → ((b : FoundLine) → (content_under (g b).line (g b).under ≡ content_under b.line b.under)) → (o : Outline) (x : FlowContent) (y : Reached) → held (anchored a (value o)) ≡ Some x →
     option_map {U = Reached} (λ b. (g b, [])) (bare_line o) ≡ Some y → HeldIn x y
-bare_held a g same end x y is e = absurd (none-some _ e)
-bare_held a g same (row l u v) x y is e = go l.mark refl e
-  where
-    go : (m : LineMark) → l.mark ≡ m → option_map {U = Reached} (λ b. (g b, [])) (cond (has_no_mark m) (Some (record { place = here; line = l; under = u; after = v })) None) ≡ Some y → HeldIn x y
-    go (Key k) mark e = absurd (none-some _ e)
-    go Dash mark e = absurd (none-some _ e)
-    go Bare mark e =
-        let b : FoundLine = record { place = here; line = l; under = u; after = v } in
-        let own : value (row l u v) ≡ content_under l u = ap (λ (m : LineMark). outline_node m (children (row l u v))) mark in
-        subst (HeldIn x) (same_Some _ _ e) (content_under (g b).line (g b).under, refl, ap held (same b ∙ sym own) ∙ (sym (held_anchored a (value (row l u v))) ∙ is))
+bare_held a g same o x y is e = search (rules, none-some, same_Some, held, held_anchored)
 
 head_held : (f : FoundLine) (left : List Step) (x : FlowContent) (y : Reached) → HeldIn x (f, left) → head_line f left ≡ Some y → HeldIn x y
 head_held f (s ∷ ss) x y h e = subst (HeldIn x) (same_Some _ _ e) h
@@ -51,8 +41,7 @@ head_held f [] x y h e = go f.line.head refl e
     go : (o : Option tree.Node) → f.line.head ≡ o → in_head o (Some (f, [])) (option_map {U = Reached} (λ b. (place_inside f b, [])) (bare_line f.under)) ≡ Some y → HeldIn x y
     go (Some n) head e = subst (HeldIn x) (same_Some _ _ e) h
     go None head e =
-        let own : held (anchored f.line.anchor (value f.under)) ≡ Some x = ap (λ o. held (anchored f.line.anchor (head_or o (value f.under)))) (sym head) ∙ (ap held (same_Some _ _ h.1) ∙ h.2) in
-        bare_held f.line.anchor (place_inside f) (λ b. refl) f.under x y own e
+        search (rules, ap (λ o. held (anchored f.line.anchor (head_or o (value f.under)))) (sym head) ∙ (ap held (same_Some _ _ h.1) ∙ h.2), bare_held)
 
 -- A collection at a path is that to which steps lead on from the line.
 line_holds : (steps : List Step) (o : Outline) (y : FoundLine × List Step) (x : FlowContent) → find_head steps o ≡ Some y → HeldAt steps (value o) x → HeldAt y.1 (content_under y.0.line y.0.under) x
@@ -79,8 +68,7 @@ held_row_line rs front r back before tail l rows lines size =
     let dashes : List Line = dash_lines (head_comment r.gap) r.column r.dashes in
     let own : Line = mark_line (above_mark (head_comment r.gap) r.dashes) (mark_column r) r.mark r.content in
     let olds : (lines_of_rows front ++ dashes) ++ (own ∷ lines_of_rows back) ≡ before ++ (l ∷ tail) = sym (ap lines_of_rows rows ∙ last_lines front r back r.content) ∙ lines in
-    let count : length (lines_of_rows front ++ dashes) ≡ length before =
-    length-append (lines_of_rows front) dashes ∙ (ap (λ (j : ℕ). length (lines_of_rows front) + j) (dashes_count (head_comment r.gap) r.column r.dashes) ∙ sym size) in
+    let count : length (lines_of_rows front ++ dashes) ≡ length before = search (rules, length-append, dashes_count) in
     head-eq_of_cons-eq (same_parts (lines_of_rows front ++ dashes) (own ∷ []) (lines_of_rows back) before (l ∷ []) tail olds count refl).1
 
 pub head_row : (n : ℕ) (p : Part) (steps : List Step) (f : FoundLine) (rest : List Step) → IsEven n (part_outline p) → find_head steps (part_outline p) ≡ Some (f, rest) → HeadRow p f
@@ -102,18 +90,7 @@ head_row n p steps f rest even found =
 
 -- the line has a head
 pub head_there : (f : FoundLine) → TakesSteps f.line → IsWhole f.line.mark f.line.head f.after → (h : tree.Node) × (f.line.head ≡ Some h)
-head_there f (inl bare) whole = go f.line.mark f.line.head bare whole
-  where
-    go : (m : LineMark) (o : Option tree.Node) → has_no_mark m ≡ true → IsWhole m o f.after → (h : tree.Node) × (o ≡ Some h)
-    go Bare None bare whole = absurd whole
-    go Bare (Some h) bare whole = (h, refl)
-    go (Key k) o bare whole = absurd (false≢true bare)
-    go Dash o bare whole = absurd (false≢true bare)
-head_there f (inr some) whole = go f.line.head some
-  where
-    go : (o : Option tree.Node) → is_some o ≡ true → (h : tree.Node) × (o ≡ Some h)
-    go None some = absurd (false≢true some)
-    go (Some h) some = (h, refl)
+head_there f bare whole = search (rules, false≢true)
 
 -- ---- the row's content is an inline node with the collection
 

@@ -1,10 +1,10 @@
 -- Steps lead to a flow collection in an inline node where they lead to a collection in its tree.
-use Rattle.std.proofs.Common.{◌≡◌, ℕ, Bool, true, false, cond, eqb, List, [], ◌∷◌, Option, Some, None, option_map, refl, sym, ap, ◌∙◌}
-use Rattle.std.{proofs.lemmas.Option.{none-some, same_Some}, specs.Prelude.option_and_then}
-use Rattle.yq_core.{specs.Paths.{Step, is_here, further, child_at, node_at}, specs.Tree.{Children, children_of, key_label}}
+use Rattle.std.proofs.Common.{rules, ◌≡◌, ℕ, Bool, true, false, cond, eqb, List, [], ◌∷◌, Option, Some, None, option_map, refl, sym, ap}
+use Rattle.std.{proofs.Common.◌∙◌, proofs.lemmas.Option.{none-some, same_Some}, specs.Prelude.option_and_then}
+use Rattle.yq_core.{specs.Paths.{Step, further, child_at, node_at}, specs.Tree.{Children, children_of}}
 use Rattle.yq_core.{specs.Collections.{CollPieces, coll_along, coll_in}, specs.Entries.{EntryPieces, path_inside, item_at}}
-use Rattle.yq_core.specs.Nodes.{FlowNode, empty, alias, scalar, coll, anchored, Items, none, item, sep_text, flow_items_text}
-use Rattle.yq_core.specs.Trees.{tree_collection, items_tree, key_content, tree_of, with_name}
+use Rattle.yq_core.specs.Nodes.{FlowNode, empty, alias, scalar, coll, anchored, Items, none, item}
+use Rattle.yq_core.specs.Trees.{tree_collection, items_tree, tree_of, with_name}
 use Rattle.yq_core.specs.Tree as tree
 use Rattle.yq_outline.specs.Outline as outlines
 
@@ -27,16 +27,10 @@ coll_held w = (eqb w.close 125, items_tree w.items)
 
 -- an anchor changes nothing of it
 pub held_anchored : (a : Option (List ℕ)) (n : tree.Node) → held (outlines.anchored a n) ≡ held n
-held_anchored a (tree.alias n) = refl
-held_anchored a (tree.scalar b kind text) = refl
-held_anchored a (tree.list b cs) = refl
-held_anchored a (tree.map b cs) = refl
+held_anchored a n = search rules
 
 pub held_named : (n : List ℕ) (v : tree.Node) → held (with_name n v) ≡ held v
-held_named n (tree.alias m) = refl
-held_named n (tree.scalar a kind text) = refl
-held_named n (tree.list a cs) = refl
-held_named n (tree.map a cs) = refl
+held_named n v = search rules
 
 pub held_coll : (k : ℕ) (cs : Children) → held (tree_collection k cs) ≡ Some (eqb k 125, cs)
 held_coll k cs = elim (eqb k 125) as (λ b. held (cond b (tree.map None cs) (tree.list None cs)) ≡ Some (b, cs)) [ true ↦ refl | false ↦ refl ]
@@ -46,10 +40,7 @@ kids None = tree.none
 kids (Some x) = x.1
 
 pub kids_held : (n : tree.Node) → children_of n ≡ kids (held n)
-kids_held (tree.alias n) = refl
-kids_held (tree.scalar a kind text) = refl
-kids_held (tree.list a cs) = refl
-kids_held (tree.map a cs) = refl
+kids_held n = search rules
 
 -- ---- a collection at a path
 
@@ -60,9 +51,7 @@ HeldAt ss root x = (n : tree.Node) × (node_at ss root ≡ Some n) × (held n �
 -- the same from another node that holds the same
 pub same_held : (ss : List Step) (a b : tree.Node) (x : FlowContent) → held a ≡ held b → HeldAt ss a x → HeldAt ss b x
 same_held [] a b x same h = (b, refl, sym same ∙ (ap held (same_Some _ _ h.1) ∙ h.2))
-same_held (s ∷ ss) a b x same h =
-    let cs : children_of b ≡ children_of a = kids_held b ∙ (ap kids (sym same) ∙ sym (kids_held a)) in
-    (h.0, ap (λ (k : Children). option_and_then (node_at ss) (child_at s k)) cs ∙ h.1, h.2)
+same_held (s ∷ ss) a b x same h = search (rules, kids_held b ∙ (ap kids (sym same) ∙ sym (kids_held a)))
 
 -- ---- in an inline node
 
@@ -81,11 +70,7 @@ entry_tree y = tree_of y.node
 pub item_child : (k : ℕ) (s : Step) (is : Items) (rest : List ℕ) → option_map entry_tree (item_at k s is rest) ≡ child_at s (items_tree is)
 unfolding items_tree
 item_child k s none rest = refl
-item_child k s (item key n sep is) rest =
-    let y : EntryPieces = record { key = key; node = n; rest = sep_text sep (flow_items_text k is rest) } in
-    elim (is_here s (key_label (key_content key)))
-    as (λ b. option_map entry_tree (cond b (Some y) (item_at k (further s) is rest)) ≡ cond b (Some (tree_of n)) (child_at (further s) (items_tree is)))
-    [ true ↦ refl | false ↦ item_child k (further s) is rest ]
+item_child k s (item key n sep is) rest = search (rules, item_child k (further s) is rest)
 
 pub inside_child : (s : Step) (node : FlowNode) (rest : List ℕ) → option_map entry_tree (path_inside s node rest) ≡ child_at s (kids (held (tree_of node)))
 unfolding tree_of

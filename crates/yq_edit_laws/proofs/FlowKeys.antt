@@ -1,14 +1,12 @@
 -- No flow collection of a text that reads has a key twice.
-use Rattle.std.proofs.Common.{◌≡◌, ℕ, ◌+◌, ◌++◌, true, cond, List, [], ◌∷◌, length, Option, Some, None, option_map, refl, sym, ap, ◌∙◌}
+use Rattle.std.proofs.Common.{rules, ◌≡◌, ℕ, ◌+◌, ◌++◌, true, List, [], ◌∷◌, length, Option, Some, None, option_map, refl, sym, ap, ◌∙◌}
 use Rattle.std.{proofs.Common.subst, specs.Prelude.⊤, proofs.lemmas.Bool.false≢true, proofs.lemmas.Option.{none-some, same_Some}}
 use Rattle.yq_core.{specs.Answers.◌>>=◌, specs.Keys.{AreDistinct, EachHasUniqueKeys, HasUniqueKeys, keys_of}, specs.Paths.{Step, node_at}}
 use Rattle.yq_core.{specs.Collections.CollPieces, specs.Nodes.coll, specs.Places.{Placed, placed}}
 use Rattle.yq_core.{specs.Trees.{content_tree, items_tree, placed_tree, tree_collection, tree_of}, proofs.TreeLaws.node_tree}
-use Rattle.yq_outline.specs.Group.{level_or}
-use Rattle.yq_outline.specs.Outline.{LineMark, Bare, Key, Dash, Outline, end, row, IsEven, anchored, level, children, head_or, outline_node}
-use Rattle.yq_outline.{specs.Outline.value, specs.Places.{here, FoundLine, find, in_head, place_inside, content_under}}
-use Rattle.yq_outline.{specs.Positions.has_no_mark, proofs.Finding.{FoundNode, path_node}, proofs.Plug.allows_from}
-use Rattle.yq_outline.specs.Lines.{content_anchor, head_of}
+use Rattle.yq_outline.{specs.Group.level_or, specs.Outline.{Outline, row, IsEven, anchored, level, head_or, value}}
+use Rattle.yq_outline.{specs.Places.{FoundLine, find, in_head, place_inside, content_under}, proofs.Finding.{FoundNode, path_node}}
+use Rattle.yq_outline.{proofs.Plug.allows_from, specs.Lines.{content_anchor, head_of}}
 use Rattle.yq_row_table.{specs.Exchange.behind_row, specs.Rows.{Content, Nothing, Inline, Block, Cut, cut_text}}
 use Rattle.yq_documents.{specs.LinesInRows.{RowLine, document_row}, specs.Reading.{cut_of, part_outline, read_at}}
 use Rattle.yq_places.specs.FlowNodes.{bare_line, content_flow, find_head, flow_collection, head_line}
@@ -28,16 +26,10 @@ UniqueContent None = ⊤
 UniqueContent (Some x) = (x.0 ≡ true → AreDistinct (keys_of x.1)) × EachHasUniqueKeys x.1
 
 unique_content : (n : tree.Node) → HasUniqueKeys n → UniqueContent (held n)
-unique_content (tree.alias name) h = tt
-unique_content (tree.scalar a kind text) h = tt
-unique_content (tree.list a cs) h = (λ e. absurd (false≢true e), h)
-unique_content (tree.map a cs) h = (λ _. h.0, h.1)
+unique_content n h = search (rules, false≢true)
 
 content_unique : (n : tree.Node) → UniqueContent (held n) → HasUniqueKeys n
-content_unique (tree.alias name) h = tt
-content_unique (tree.scalar a kind text) h = tt
-content_unique (tree.list a cs) h = h.1
-content_unique (tree.map a cs) h = (h.0 refl, h.1)
+content_unique n h = search rules
 
 -- of nodes that hold the same
 same_unique : (a b : tree.Node) → held a ≡ held b → HasUniqueKeys a → HasUniqueKeys b
@@ -55,16 +47,7 @@ UniqueOn y = (m : tree.Node) → node_at y.1 (content_under y.0.line y.0.under) 
 -- from the lines of a node, if the first of them is the node itself
 bare_unique : (g : FoundLine → FoundLine) → ((b : FoundLine) → (content_under (g b).line (g b).under ≡ content_under b.line b.under)) → (o : Outline) (y : Reached) → HasUniqueKeys (value o) →
     option_map {U = Reached} (λ b. (g b, [])) (bare_line o) ≡ Some y → UniqueOn y
-bare_unique g same end y unique e = absurd (none-some _ e)
-bare_unique g same (row l u v) y unique e = go l.mark refl e
-  where
-    go : (m : LineMark) → l.mark ≡ m → option_map {U = Reached} (λ b. (g b, [])) (cond (has_no_mark m) (Some (record { place = here; line = l; under = u; after = v })) None) ≡ Some y → UniqueOn y
-    go (Key k) mark e = absurd (none-some _ e)
-    go Dash mark e = absurd (none-some _ e)
-    go Bare mark e =
-        let b : FoundLine = record { place = here; line = l; under = u; after = v } in
-        let own : value (row l u v) ≡ content_under l u = ap (λ (m : LineMark). outline_node m (children (row l u v))) mark in
-        subst UniqueOn (same_Some _ _ e) (λ m at. subst HasUniqueKeys (own ∙ (sym (same b) ∙ same_Some _ _ at)) unique)
+bare_unique g same o y unique e = search (rules, none-some, same_Some)
 
 head_unique : (f : FoundLine) (left : List Step) (y : Reached) → UniqueOn (f, left) → head_line f left ≡ Some y → UniqueOn y
 head_unique f (s ∷ ss) y h e = subst UniqueOn (same_Some _ _ e) h

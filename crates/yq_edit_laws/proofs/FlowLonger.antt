@@ -1,13 +1,12 @@
 -- Edits of a flow collection in a part of a text, as edits of the text.
-use Rattle.std.proofs.Common.{◌≡◌, ℕ, ◌+◌, ◌-◌, ◌≤◌, Bool, true, false, cond, List, [], ◌∷◌, ◌++◌, length, Option, Some, None, option_map}
-use Rattle.std.{proofs.Common.{refl, sym, ap, ◌∙◌, arith, append_assoc, length-append}, specs.Option.option_or}
-use Rattle.yq_core.{specs.Paths.{Step, is_here, further}, specs.Alike.fresh, specs.Collections.CollPieces}
-use Rattle.yq_core.specs.Entries.{EntryPieces, item_at}
-use Rattle.yq_core.specs.Nodes.{Key, Sep, last, comma, FlowNode, Items, none, item, flow_items_text, key_text, node_text, sep_text}
-use Rattle.yq_core.{specs.Trees.key_content, specs.Tree.key_label, proofs.NodesWrittenLaws.{items_append, sep_append}}
+use Rattle.std.proofs.Common.{rules, ◌≡◌, ℕ, ◌≤◌, true, false, cond, List, [], ◌∷◌, ◌++◌, length, Option, Some, None, option_map, refl, sym}
+use Rattle.std.{proofs.Common.{ap, ◌∙◌, arith, append_assoc, length-append}, specs.Option.option_or}
+use Rattle.yq_core.{specs.Paths.{Step, is_here, further}, specs.Collections.CollPieces, specs.Entries.{EntryPieces, item_at}}
+use Rattle.yq_core.{specs.Nodes.{Key, Sep, FlowNode, Items, none, item}, specs.Trees.key_content, specs.Tree.key_label}
+use Rattle.yq_core.proofs.NodesWrittenLaws.{items_append, sep_append}
 use Rattle.yq_flow_edits.{specs.FlowEdits.{FlowEdit, appending, behind_last}, specs.FlowPlaces.place_edit}
-use Rattle.yq_flow_edits.specs.Removals.{before_next, edit_from_item, comma_left, ends_marked, gap_of, gap_to, last_gone, last_out}
-use Rattle.yq_flow_edits.{specs.Removals.{last_removed, next_text, removing_from, space_to}, proofs.RemovePlaces.or_mapped}
+use Rattle.yq_flow_edits.specs.Removals.{before_next, edit_from_item, comma_left, gap_of, last_gone, last_out, last_removed, next_text}
+use Rattle.yq_flow_edits.{specs.Removals.removing_from, proofs.RemovePlaces.or_mapped}
 use Rattle.yq_edit_laws.specs.EditPlaces.{moved_on}
 
 -- ---- more text after a collection
@@ -26,12 +25,7 @@ as_entry key n rest = Some (record { key = key; node = n; rest = rest })
 pub item_more : (k : ℕ) (s : Step) (is : Items) (rest more : List ℕ) → item_at k s is (rest ++ more) ≡ option_map (entry_more more) (item_at k s is rest)
 unfolding as_entry
 item_more k s none rest more = refl
-item_more k s (item key n sep is) rest more = go (is_here s (key_label (key_content key))) (item_more k (further s) is rest more)
-  where
-    go : (b : Bool) → item_at k (further s) is (rest ++ more) ≡ option_map (entry_more more) (item_at k (further s) is rest) →
-        cond b (as_entry key n (sep_text sep (flow_items_text k is (rest ++ more)))) (item_at k (further s) is (rest ++ more)) ≡ option_map (entry_more more) (cond b (as_entry key n (sep_text sep (flow_items_text k is rest))) (item_at k (further s) is rest))
-    go true again = ap (as_entry key n) (ap (sep_text sep) (items_append k is rest more) ∙ sep_append sep (flow_items_text k is rest) more)
-    go false again = again
+item_more k s (item key n sep is) rest more = search (rules, items_append, sep_append, item_more k (further s) is rest more)
 
 -- ---- the same edit before a longer rest
 
@@ -40,12 +34,7 @@ abbrev pub edit_more : List ℕ → FlowEdit → FlowEdit
 edit_more more e = record { gap = e.gap; items = e.items; old = e.old; lead = e.lead; written = e.written; behind = e.behind ++ more }
 
 pub place_moved : (front u more : List ℕ) (f : FlowEdit) → length (f.old ++ f.behind) ≤ length u → place_edit (length (front ++ (u ++ more))) (edit_more more f) ≡ moved_on (length front) (place_edit (length u) f)
-place_moved front u more f within =
-    let total : length (front ++ (u ++ more)) ≡ length front + (length u + length more) = omega (arith, length-append front (u ++ more), length-append u more) in
-    let all : length (f.old ++ (f.behind ++ more)) ≡ length (f.old ++ f.behind) + length more = omega (arith, length-append f.old (f.behind ++ more), length-append f.old f.behind, length-append f.behind more) in
-    let start : length (front ++ (u ++ more)) - length (f.old ++ (f.behind ++ more)) ≡ length front + (length u - length (f.old ++ f.behind)) = omega (arith, total, all, within) in
-    let end_ : length (front ++ (u ++ more)) - length (f.behind ++ more) ≡ length front + (length u - length f.behind) = omega (arith, total, within, length-append f.old f.behind, length-append f.behind more) in
-    λ i. record { start = start i; end = end_ i; lead = f.lead }
+place_moved front u more f within = search (rules, arith, length-append)
 
 -- ---- what is put into a collection
 
@@ -60,16 +49,10 @@ appending_more key m more w = ap (λ (l : List ℕ). record (appending key m w) 
 -- ---- what is taken out of a collection
 
 next_more : (k : ℕ) (g : List ℕ) (key : Key) (n : FlowNode) (sep : Sep) (is : Items) (rest more : List ℕ) → before_next k (rest ++ more) g key n sep is ≡ option_map (edit_more more) (before_next k rest g key n sep is)
-next_more k g key n sep none rest more = refl
-next_more k g key n sep (item key2 n2 sep2 is) rest more =
-    let own : List ℕ = key_text key2 (node_text n2 []) in
-    ap (λ (l : List ℕ). Some (record { gap = gap_to g own; items = item key2 n2 sep2 is; old = key_text key (node_text n (sep_text sep [])); lead = space_to g own; written = []; behind = l })) (items_append k (item key2 n2 sep2 is) rest more)
+next_more k g key n sep is rest more = search (rules, items_append)
 
 comma_more : (k : ℕ) (g : List ℕ) (key : Key) (n : FlowNode) (sep : Sep) (key2 : Key) (n2 : FlowNode) (sep2 : Sep) (rest more : List ℕ) → comma_left k (rest ++ more) g key n sep key2 n2 sep2 ≡ edit_more more (comma_left k rest g key n sep key2 n2 sep2)
-comma_more k g key n sep key2 n2 (last b) rest more =
-    ap (λ (l : List ℕ). record { gap = g; items = item key n (comma [] b) none; old = next_text sep key2 n2; lead = 44 ∷ []; written = []; behind = l }) (sym (append_assoc b (k ∷ rest) more))
-comma_more k g key n sep key2 n2 (comma b h) rest more =
-    ap (λ (l : List ℕ). record { gap = g; items = item key n (comma [] h) none; old = next_text sep key2 n2 ++ b; lead = []; written = []; behind = 44 ∷ l }) (sym (append_assoc h (k ∷ rest) more))
+comma_more k g key n sep key2 n2 sep2 rest more = search (rules, append_assoc)
 
 out_more : (k : ℕ) (s : Step) (g : List ℕ) (key : Key) (n : FlowNode) (sep : Sep) (is : Items) (rest more : List ℕ) → last_out k (rest ++ more) s g key n sep is ≡ option_map (edit_more more) (last_out k rest s g key n sep is)
 out_more k s g key n sep none rest more = refl
@@ -78,15 +61,11 @@ out_more k s g key n sep (item key2 n2 sep2 none) rest more =
     let new : List ℕ → FlowEdit = λ r. last_removed k r g key n sep key2 n2 sep2 in
     let gone : last_gone k (rest ++ more) g key n sep key2 n2 sep2 ≡ edit_more more (last_gone k rest g key n sep key2 n2 sep2) =
     ap (λ (l : List ℕ). record { gap = g; items = item key n sep2 none; old = next_text sep key2 n2; lead = []; written = []; behind = l }) (sep_append sep2 (k ∷ rest) more) in
-    let one : new (rest ++ more) ≡ edit_more more (new rest) =
-    elim (ends_marked (fresh false g) (key_text key (node_text n [])))
-    as (λ v. cond v (comma_left k (rest ++ more) g key n sep key2 n2 sep2) (last_gone k (rest ++ more) g key n sep key2 n2 sep2) ≡ edit_more more (cond v (comma_left k rest g key n sep key2 n2 sep2) (last_gone k rest g key n sep key2 n2 sep2)))
-    [ true ↦ comma_more k g key n sep key2 n2 sep2 rest more | false ↦ gone ] in
+    let one : new (rest ++ more) ≡ edit_more more (new rest) = search (rules, comma_more) in
     elim (is_here s (key_label (key_content key2))) as (λ v. cond v (Some (new (rest ++ more))) None ≡ option_map (edit_more more) (cond v (Some (new rest)) None)) [ true ↦ ap Some one | false ↦ refl ]
 
 behind_more : (g : List ℕ) (key : Key) (n : FlowNode) (sep : Sep) (more : List ℕ) (o : Option FlowEdit) → option_map (edit_from_item g key n sep) (option_map (edit_more more) o) ≡ option_map (edit_more more) (option_map (edit_from_item g key n sep) o)
-behind_more g key n sep more None = refl
-behind_more g key n sep more (Some e) = refl
+behind_more g key n sep more o = search rules
 
 pub removing_more : (k : ℕ) (s : Step) (g : List ℕ) (is : Items) (rest more : List ℕ) → removing_from k (rest ++ more) s g is ≡ option_map (edit_more more) (removing_from k rest s g is)
 removing_more k s g none rest more = refl

@@ -1,5 +1,5 @@
 -- What is at a path that leads to an item or entry of a flow collection: its node, and nothing outside flow collections.
-use Rattle.std.proofs.Common.{◌≡◌, ℕ, ◌+◌, List, [], ◌∷◌, ◌++◌, length, Option, Some, None, option_map, refl, sym, ap, ◌∙◌, subst}
+use Rattle.std.proofs.Common.{rules, ◌≡◌, ℕ, ◌+◌, List, [], ◌∷◌, ◌++◌, length, Option, Some, None, option_map, refl, sym, ap, ◌∙◌, subst}
 use Rattle.std.{proofs.lemmas.Option.{none-some, same_Some, slice_get-map}, specs.List.slice_get, specs.Prelude.option_and_then}
 use Rattle.yq_core.{specs.Answers.◌>>=◌, specs.Paths.{Step, child_at, node_at}, specs.Tree.children_of, proofs.Bools.bind_some}
 use Rattle.yq_core.{specs.Collections.{CollPieces, coll_along}, specs.Entries.{EntryPieces, path_inside, item_at}, specs.Nodes.FlowNode}
@@ -22,8 +22,7 @@ use Rattle.yq_core.specs.Tree as tree
 -- ---- in an inline node
 
 one_node : (o : Option tree.Node) → option_and_then (node_at []) o ≡ o
-one_node None = refl
-one_node (Some n) = refl
+one_node o = search rules
 
 -- a step into a node leads to the item or entry there
 child_is : (s : Step) (node : FlowNode) (rest : List ℕ) → child_at s (children_of (tree_of node)) ≡ option_map entry_tree (path_inside s node rest)
@@ -110,8 +109,7 @@ none_standing n [] c x last h = absurd (none-some _ last)
 none_standing n (t ∷ ts) c x last h = go (placed_document n c) h
   where
     go : (o : Option PlacedPart) → ((d : PlacedPart) → o ≡ Some d → row_line_of (t ∷ ts) d.part.rows ≡ None) → option_map entry_standing (o >>= λ d. option_map (entry_rows_at d) (row_line_of (t ∷ ts) d.part.rows)) ≡ None
-    go None h = refl
-    go (Some d) h = ap (λ (s : Option RowLine). option_map entry_standing (option_map (entry_rows_at d) s)) (h d refl)
+    go o h = search rules
 
 -- ---- at a path
 

@@ -1,13 +1,13 @@
 -- The pieces of a text from which an item or entry of a flow collection is taken out.
-use Rattle.std.proofs.Common.{◌≡◌, ◌⊎◌, inl, inr, ℕ, ◌-◌, Bool, true, false, ◌&&◌, cond, List, [], ◌∷◌, ◌++◌, length, take, refl, sym, ap}
-use Rattle.std.{proofs.Common.{◌∙◌, subst, arith, append_assoc, length-append}, proofs.Math.Seq.{take-append_seam, drop-append_seam}}
-use Rattle.std.proofs.lemmas.Bool.{false≢true, and_from, and_parts}
-use Rattle.std.proofs.lemmas.Str.{IsUtf8-drop, IsUtf8-take, IsUtf8-nil, IsUtf8-from_ascii}
-use Rattle.std.{proofs.lemmas.Str.Ascii.{IsAscii-cons, IsAscii-nil}, specs.Str.{chars, IsUtf8, IsCharBoundary}}
+use Rattle.std.proofs.Common.{rules, ◌≡◌, ◌⊎◌, inl, inr, ℕ, ◌-◌, Bool, true, false, ◌&&◌, cond, List, [], ◌∷◌, ◌++◌, length, take, refl}
+use Rattle.std.proofs.Common.{sym, ap, ◌∙◌, subst, arith, append_assoc, length-append}
+use Rattle.std.{proofs.Math.Seq.{take-append_seam, drop-append_seam}, proofs.lemmas.Bool.{false≢true, and_from, and_parts}}
+use Rattle.std.{proofs.lemmas.Str.{IsUtf8-drop, IsUtf8-take, IsUtf8-from_ascii}, proofs.lemmas.Str.Ascii.{IsAscii-cons, IsAscii-nil}}
+use Rattle.std.specs.Str.{chars, IsUtf8, IsCharBoundary}
 use Rattle.yq_core.{specs.Characters.pairs_returns, specs.Text.{front, is_feed, is_return}}
 use Rattle.yq_flow_edits.{specs.FlowEdits.FlowEdit, proofs.ReturnLaws.Whole}
 use Rattle.yq_row_table.proofs.CharacterLaws.{all_text, all_join, pairs_back}
-use Rattle.yq_edit_rules.specs.TextPieces.{IsPiece}
+use Rattle.yq_edit_rules.{proofs.CommentPieceLaws.nothing, specs.TextPieces.IsPiece}
 
 -- ---- a text cut in two
 
@@ -36,16 +36,10 @@ behind_utf8 : (a b : List ℕ) → IsUtf8 (a ++ b) → IsCharBoundary (a ++ b) (
 behind_utf8 a b u at = subst IsUtf8 (drop-append_seam a b) (IsUtf8-drop (a ++ b) (length a) u at)
 
 pub piece_front : (a b : List ℕ) → IsPiece (a ++ b) → IsUtf8 a → Whole a b → IsPiece a
-piece_front a b h u w =
-    let x = and_parts (all_text (a ++ b)) (pairs_returns (a ++ b)) h.characters in
-    let y = and_parts (all_text a) (all_text b) (sym (all_join a b u) ∙ x.0) in
-    record { utf8 = u; characters = and_from _ _ y.0 (pairs_whole a b x.1 w) }
+piece_front a b h u w = search (rules, and_parts, all_text, all_join, and_from, pairs_whole)
 
 pub piece_behind : (a b : List ℕ) → IsPiece (a ++ b) → IsUtf8 a → IsCharBoundary (a ++ b) (length a) → IsPiece b
-piece_behind a b h u at =
-    let x = and_parts (all_text (a ++ b)) (pairs_returns (a ++ b)) h.characters in
-    let y = and_parts (all_text a) (all_text b) (sym (all_join a b u) ∙ x.0) in
-    record { utf8 = behind_utf8 a b h.utf8 at; characters = and_from _ _ y.1 (pairs_back a b x.1) }
+piece_behind a b h u at = search (rules, and_parts, all_text, all_join, behind_utf8, and_from, pairs_back)
 
 -- Of an edit that begins and ends at whole characters, where no CR comes before an LF, the text before and after it are pieces.
 pub edit_pieces : (t before : List ℕ) (e : FlowEdit) → IsPiece t → t ≡ before ++ (e.old ++ e.behind) → IsCharBoundary t (length t - length (e.old ++ e.behind)) → IsCharBoundary t (length t - length e.behind) →
@@ -69,11 +63,7 @@ ascii_piece b (inr e) = subst (λ (x : ℕ). IsPiece (x ∷ [])) (sym e) (record
 pub one_space : IsPiece (32 ∷ [])
 one_space = ascii_piece 32 (inl refl)
 
-pub nothing_piece : IsPiece []
-unfolding chars pairs_returns
-nothing_piece = record { utf8 = IsUtf8-nil; characters = refl }
-
 pub lead_piece : (l : List ℕ) → (l ≡ []) ⊎ ((l ≡ 32 ∷ []) ⊎ (l ≡ 44 ∷ [])) → IsPiece l
-lead_piece l (inl e) = subst IsPiece (sym e) nothing_piece
+lead_piece l (inl e) = subst IsPiece (sym e) nothing
 lead_piece l (inr (inl e)) = subst IsPiece (sym e) one_space
 lead_piece l (inr (inr e)) = subst IsPiece (sym e) (ascii_piece 44 (inr refl))

@@ -1,34 +1,32 @@
 -- The content of an item or entry of a flow collection is replaced by a value.
-use Rattle.std.proofs.Common.{◌≡◌, ℕ, ◌-◌, ◌<◌, ◌≤◌, Bool, true, false, List, [], ◌∷◌, ◌++◌, length, Option, Some, None, sym, ap, ◌∙◌}
+use Rattle.std.proofs.Common.{rules, ◌≡◌, ℕ, ◌-◌, ◌<◌, ◌≤◌, Bool, true, false, List, [], ◌∷◌, ◌++◌, length, Option, Some, sym, ap, ◌∙◌}
 use Rattle.std.{proofs.Common.{subst, arith, ◌+◌, append-nil, length-append}, proofs.lemmas.Bool.cond_both, proofs.lemmas.Option.none-some}
 use Rattle.std.specs.Str.{IsCharBoundary}
-use Rattle.yq_core.{specs.Keys.depth, specs.Paths.{Step, changed_at, change_child, is_here, further, within}, specs.Scalar.ScalarText}
-use Rattle.yq_core.{specs.Tree.{anchor_of, key_label}, specs.declared.style.Place.TheVariants.Flow}
-use Rattle.yq_core.{specs.Collections.{CollAt, CollPieces, IsCollAt, item_in, room_in}, specs.Entries.EntryPieces}
-use Rattle.yq_core.{specs.Nodes.{Key, bare, keyed, Items, none, item, is_empty_node, node_text, without_anchor}, specs.Places.locate}
-use Rattle.yq_core.{specs.Scalars.scalar_style, specs.Trees.{key_content, with_anchor_name, scalar_node}, proofs.PathLaws.items_hold}
+use Rattle.yq_core.{specs.Keys.depth, specs.Paths.{Step, changed_at, change_child, further, within}, specs.Scalar.ScalarText}
+use Rattle.yq_core.{specs.declared.style.Place.TheVariants.Flow, specs.Collections.{CollAt, CollPieces, IsCollAt, item_in, room_in}}
+use Rattle.yq_core.{specs.Entries.EntryPieces, specs.Nodes.{Key, Items, none, item, is_empty_node, node_text, without_anchor}}
+use Rattle.yq_core.{specs.Places.locate, specs.Scalars.scalar_style, specs.Trees.scalar_node, proofs.PathLaws.items_hold}
 use Rattle.yq_text.{specs.Limit.text_limit, specs.Script.new_text}
 use Rattle.yq_flow_edits.specs.FlowEdits.{FlowEdit, IsFlowEdited, behind_appended, put_content, put_item, put_value, replacing, space_for}
 use Rattle.yq_flow_edits.{specs.FlowEdits.spaced_key, specs.Valued.IsValueTree, proofs.EditLaws.around_is}
 use Rattle.yq_flow_edits.{proofs.EditSpans.{EditIsSpan, replace_spans}, proofs.PlacedEdits.replace_placed}
 use Rattle.yq_flow_edits.{proofs.ValueEdits.{change_last, scalar_replaced, value_replaced}, proofs.ValueFits.scalar_block}
 use Rattle.yq_flow_edits.proofs.ItemPlaces.{item_rest}
-use Rattle.yq_outline.specs.Outline.{anchored}
 use Rattle.yq_row_table.specs.Rows.{Cut, cut_text}
 use Rattle.yq_documents.{specs.Documents.{EachHasFitKeys, HasFitKey, HasFitKeys, lead_of}, specs.TreeEdits.replaced_node}
 use Rattle.yq_documents.specs.Reading.{documents, read_at, root_of}
 use Rattle.yq_places.{specs.FlowNodes.flow_collection, specs.FlowViews.LeadsToHead, proofs.FlowPieces.{named_is, none_anchored}}
 use Rattle.yq_places.specs.Standings.{FlowPart, last_step}
-use Rattle.yq_edit_rules.{specs.FlowRows.FlowAt, specs.Rooms.is_block_root, specs.SoundRoots.IsSoundRoot, specs.TextPieces.IsPiece}
-use Rattle.yq_edit_rules.{proofs.FlowKeptLaws.flow_keys, proofs.PartLaws.document_known, proofs.SoundRootLaws.replace_keeps}
-use Rattle.yq_edit_rules.specs.EditLaws.{CarriedOut, FlowValuesArePut, IsEdit}
+use Rattle.yq_edit_rules.{proofs.CommentPieceLaws.nothing, specs.FlowRows.FlowAt, specs.Rooms.is_block_root, specs.SoundRoots.IsSoundRoot}
+use Rattle.yq_edit_rules.{specs.TextPieces.IsPiece, proofs.FlowKeptLaws.flow_keys, proofs.PartLaws.document_known}
+use Rattle.yq_edit_rules.{proofs.SoundRootLaws.replace_keeps, specs.EditLaws.{CarriedOut, FlowValuesArePut, IsEdit}}
 use Rattle.yq_edit_rules.{specs.FlowParts.{content_written, flow_put, flow_segments, flow_value}, specs.Style.style_in}
 use Rattle.yq_edit_rules.{proofs.EditsFitLaws.{FitsReplace, fits_replace}, proofs.FlowWritten.flow_fits, proofs.KeptLaws.led_same}
 use Rattle.yq_edit_rules.{proofs.ValueTexts.style_line, proofs.StyleLaws.{style_inline, style_writes}}
 use Rattle.yq_edit_rules.proofs.ValueNodes.{flow_piece, scalar_is}
 use Rattle.yq_semantics.{specs.Changes.has_long_key, specs.Fits.Fits, specs.Operations.replace, specs.Rooms.room_of}
-use Rattle.yq_edit_laws.{specs.PartPuts.{EndsAsIn, IsPartOf}, proofs.FlowPieceLaws.{edit_pieces, nothing_piece, one_space}}
-use Rattle.yq_edit_laws.{proofs.FlowSoundLaws.last_is, proofs.FlowStandings.{EntryAt, entry_found, entry_placed}}
+use Rattle.yq_edit_laws.{specs.PartPuts.{EndsAsIn, IsPartOf}, proofs.FlowPieceLaws.{edit_pieces, one_space}, proofs.FlowSoundLaws.last_is}
+use Rattle.yq_edit_laws.proofs.FlowStandings.{EntryAt, entry_found, entry_placed}
 use Rattle.yq_edit_laws.proofs.FlowEditLaws.{FlowCarried, before_is, flow_carried, made_cut, made_reads, segments_old}
 use Rattle.yq_edit_laws.{proofs.FlowWholeLaws.{StandsBefore, replaced_stands}, proofs.LaterParts.later_part}
 use Rattle.yq_edit_laws.{proofs.LaterCuts.{end_after, part_after, slot}, proofs.LaterEnds.later_end}
@@ -67,37 +65,22 @@ written_piece old (tree.map a cs) v = flow_piece (tree.map a cs) v
 -- ---- keys
 
 value_keys : (old : List ℕ) (v : tree.Node) → has_long_key v ≡ false → HasFitKeys (flow_value old v)
-value_keys old (tree.alias name) h = tt
-value_keys old (tree.scalar a kind t) h = tt
-value_keys old (tree.list a cs) h = flow_fits (tree.list a cs) h
-value_keys old (tree.map a cs) h = flow_fits (tree.map a cs) h
+value_keys old v h = search (rules, flow_fits)
 
 spaced_fit : (key : Key) → HasFitKey key → HasFitKey (spaced_key key)
-spaced_fit bare h = tt
-spaced_fit (keyed p b g) h = h
+spaced_fit key h = search rules
 
 content_fit : (m : inline.FlowNode) (key : Key) (n : inline.FlowNode) → HasFitKeys m → HasFitKey key → HasFitKey (put_content m key n).0 × HasFitKeys (put_content m key n).1
-content_fit m key inline.empty h k = (spaced_fit key k, h)
-content_fit m key (inline.alias n) h k = (k, h)
-content_fit m key (inline.scalar p) h k = (k, h)
-content_fit m key (inline.coll close gap is) h k = (k, h)
-content_fit m key (inline.anchored n gap node) h k = (k, h)
+content_fit m key n h k = search (rules, spaced_fit)
 
 put_fit : (s : Step) (m : inline.FlowNode) (is : Items) → HasFitKeys m → EachHasFitKeys is → EachHasFitKeys (put_item s m is)
 put_fit s m none h k = tt
-put_fit s m (item key n sep is) h k =
-    let x = content_fit m key n h k.0 in
-    cond_both (is_here s (key_label (key_content key))) (item (put_content m key n).0 (put_content m key n).1 sep is) (item key n sep (put_item (further s) m is)) EachHasFitKeys
-    (λ _. (x.0, x.1, k.2)) (λ _. (k.0, k.1, put_fit (further s) m is h k.2))
+put_fit s m (item key n sep is) h k = search (rules, content_fit m key n h k.0, cond_both, put_fit (further s) m is h k.2)
 
 -- ---- the tree
 
 put_is : (v old : tree.Node) → put_value v old ≡ replaced_node v old
-put_is v old = go (anchor_of old)
-  where
-    go : (a : Option (List ℕ)) → with_anchor_name a v ≡ anchored a v
-    go None = none_anchored v
-    go (Some a) = named_is a v
+put_is v old = search (rules, none_anchored, named_is)
 
 -- the change at the last step of a path
 step_change : (path init : List Step) (s : Step) (f : tree.Node → tree.Node) → last_step path ≡ Some (init, s) → changed_at init (within (change_child s f)) ≡ changed_at path f
@@ -107,7 +90,7 @@ below_root : (block : Bool) (path init : List Step) (s : Step) → last_step pat
 below_root block path init s last none_left = absurd (none-some _ (ap last_step (sym none_left) ∙ last))
 
 space_there : (n : inline.FlowNode) → IsPiece (space_for n)
-space_there n = cond_both (is_empty_node n) (32 ∷ []) [] IsPiece (λ _. one_space) (λ _. nothing_piece)
+space_there n = cond_both (is_empty_node n) (32 ∷ []) [] IsPiece (λ _. one_space) (λ _. nothing)
 
 -- ---- at an item or entry
 

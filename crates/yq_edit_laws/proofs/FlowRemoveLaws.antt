@@ -10,13 +10,13 @@ use Rattle.yq_flow_edits.{proofs.RemovePlaces.remove_placed, proofs.RemoveTexts.
 use Rattle.yq_flow_edits.proofs.ReturnLaws.{pairs_behind}
 use Rattle.yq_row_table.specs.Rows.{Cut, cut_text}
 use Rattle.yq_documents.{specs.Documents.{Document, document_parts}, specs.Reading.{documents, read_at, root_of}}
-use Rattle.yq_edit_rules.{specs.Changed.put_document, specs.FlowRows.{behind_node, with_node, FlowAt, NodeStands}}
-use Rattle.yq_edit_rules.{specs.SoundRoots.IsSoundRoot, specs.TextPieces.IsPiece, proofs.FlowKeptLaws.{flow_keys, left_keys}}
-use Rattle.yq_edit_rules.{proofs.PartLaws.document_known, specs.EditLaws.{CarriedOut, FlowPartIsRemoved, IsEdit}}
-use Rattle.yq_edit_rules.{specs.FlowParts.flow_segments, proofs.DoneLaws.nth_map}
+use Rattle.yq_edit_rules.{proofs.CommentPieceLaws.nothing, specs.Changed.put_document}
+use Rattle.yq_edit_rules.{specs.FlowRows.{behind_node, with_node, FlowAt, NodeStands}, specs.SoundRoots.IsSoundRoot}
+use Rattle.yq_edit_rules.{specs.TextPieces.IsPiece, proofs.FlowKeptLaws.{flow_keys, left_keys}, proofs.PartLaws.document_known}
+use Rattle.yq_edit_rules.{specs.EditLaws.{CarriedOut, FlowPartIsRemoved, IsEdit}, specs.FlowParts.flow_segments, proofs.DoneLaws.nth_map}
 use Rattle.yq_semantics.{specs.Fits.Fits, specs.Operations.remove, specs.Rooms.room_of}
 use Rattle.yq_places.{specs.FlowNodes.flow_collection, specs.FlowViews.LeadsToHead, specs.Standings.last_step}
-use Rattle.yq_edit_laws.{proofs.FlowPieceLaws.{edit_pieces, lead_piece, nothing_piece}, proofs.FlowSoundLaws.{remove_root, remove_sound}}
+use Rattle.yq_edit_laws.{proofs.FlowPieceLaws.{edit_pieces, lead_piece}, proofs.FlowSoundLaws.{remove_root, remove_sound}}
 use Rattle.yq_edit_laws.proofs.FlowEditLaws.{FlowCarried, FlowTexts, before_is, edited_at, flow_carried, flow_texts, made_cut, made_reads}
 use Rattle.yq_edit_laws.{proofs.FlowEditLaws.segments_old, proofs.EarlierCollections.earlier, proofs.LaterCuts.slot}
 use Rattle.yq_edit_rules.proofs.FlowStayLaws as stay
@@ -71,7 +71,7 @@ module _ (c : Cut) (doc : ℕ) (path init : List Step) (s : Step) (w : CollPiece
           root = remove_root path init s (root_of at.part) last;
           pieces = (
             subst IsPiece (sym (before_is (cut_text c) texts.before (e.old ++ e.behind) texts.old)) parts.0,
-            (lead_piece e.lead bytes.lead, (subst IsPiece (sym bytes.none_written) nothing_piece, (parts.1, tt))),
+            (lead_piece e.lead bytes.lead, (subst IsPiece (sym bytes.none_written) nothing, (parts.1, tt))),
           );
           stays = omega (arith, (around_is x stands).longer, bytes.longer);
         }

@@ -73,11 +73,8 @@ entry_found c doc path x e = go (last_step path) refl e
 
 -- the items or entries of a node are those of its collection
 pub node_entry : (s : Step) (node : inline.FlowNode) (rest : List ℕ) → (coll_in node rest >>= λ w. item_at w.close s w.items w.rest) ≡ path_inside s node rest
-node_entry s inline.empty rest = refl
-node_entry s (inline.alias n) rest = refl
-node_entry s (inline.scalar p) rest = refl
-node_entry s (inline.coll k gap is) rest = refl
 node_entry s (inline.anchored n gap node) rest = node_entry s node rest
+node_entry s _ rest = refl
 
 pub coll_entry : (s : Step) (node : inline.FlowNode) (rest : List ℕ) (w : CollPieces) → coll_in node rest ≡ Some w → path_inside s node rest ≡ item_at w.close s w.items w.rest
 coll_entry s node rest w e = sym (node_entry s node rest) ∙ ap (λ (o : Option CollPieces). o >>= λ w. item_at w.close s w.items w.rest) e

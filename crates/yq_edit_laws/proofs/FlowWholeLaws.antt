@@ -1,10 +1,10 @@
 -- Where something is written in a flow collection, no CR comes before an LF.
-use Rattle.std.proofs.Common.{◌≡◌, ℕ, Bool, true, false, not, ◌&&◌, cond, eqb, List, [], ◌∷◌, ◌++◌, Some, refl, sym, ap, ◌∙◌, subst}
+use Rattle.std.proofs.Common.{rules, ◌≡◌, ℕ, Bool, true, false, not, ◌&&◌, cond, eqb, List, [], ◌∷◌, ◌++◌, Some, refl, sym, ap, ◌∙◌, subst}
 use Rattle.std.{proofs.Common.append_assoc, proofs.lemmas.Bool.false≢true}
 use Rattle.yq_core.{specs.Paths.Step, specs.Text.{front, is_feed}, specs.Collections.{CollAt, IsCollAt, item_in}}
 use Rattle.yq_core.specs.Entries.{EntryPieces, pieces_text}
-use Rattle.yq_core.specs.Nodes.{bare, FlowNode, empty, alias, scalar, coll, anchored, Items, none, item, key_text, node_text}
-use Rattle.yq_core.specs.Nodes.{flow_items_text, AreFlowItems, is_close, is_empty_node, IsFlowNode, opening_bracket, without_anchor}
+use Rattle.yq_core.specs.Nodes.{bare, FlowNode, anchored, Items, none, item, key_text, node_text, flow_items_text, AreFlowItems, is_close}
+use Rattle.yq_core.specs.Nodes.{is_empty_node, IsFlowNode, opening_bracket, without_anchor}
 use Rattle.yq_core.proofs.NodesWrittenLaws.{key_append, node_then}
 use Rattle.yq_flow_edits.{specs.FlowEdits.{behind_appended, behind_last}, specs.Removals.ends_return, proofs.EditLaws.{Around, around_is}}
 use Rattle.yq_flow_edits.{proofs.ItemLaws.{item_begins, item_some}, proofs.ItemPlaces.{Behind, further_behind, item_behind, last_behind}}
@@ -31,11 +31,8 @@ rest_stands d k t y c h =
 -- its content, with what comes after it
 content_split : (n : FlowNode) (rest : List ℕ) → (p : List ℕ) × (node_text n rest ≡ p ++ node_text (without_anchor n) rest)
 unfolding node_text
-content_split empty rest = ([], refl)
-content_split (alias m) rest = ([], refl)
-content_split (scalar p) rest = ([], refl)
-content_split (coll k gap is) rest = ([], refl)
 content_split (anchored m gap node) rest = (38 ∷ (m ++ gap), ap (λ (l : List ℕ). 38 ∷ l) (sym (append_assoc m gap (node_text node rest))))
+content_split _ rest = ([], refl)
 
 -- before a content
 content_no_feed : (d : ℕ) (n : FlowNode) (rest : List ℕ) → IsFlowNode true (Some 0) d n rest → is_empty_node (without_anchor n) ≡ false → front is_feed (node_text (without_anchor n) [] ++ rest) ≡ false
@@ -46,19 +43,11 @@ content_no_feed d n rest h some = ap (front is_feed) (sym (node_then (without_an
     begins m h some = node_no_feed (node_text m rest) (item_begins d 93 bare m rest refl (ap not some) h)
 
     go : (n : FlowNode) → IsFlowNode true (Some 0) d n rest → is_empty_node (without_anchor n) ≡ false → front is_feed (node_text (without_anchor n) rest) ≡ false
-    go empty h some = absurd (false≢true (sym some))
-    go (alias m) h some = begins (alias m) h some
-    go (scalar p) h some = begins (scalar p) h some
-    go (coll k gap is) h some = begins (coll k gap is) h some
-    go (anchored m gap node) h some = begins node h.4 some
+    go n h some = search (rules, false≢true, begins)
 
 bare_written : (n : FlowNode) → is_empty_node n ≡ true → node_text n [] ≡ []
 unfolding node_text
-bare_written empty e = refl
-bare_written (alias m) e = absurd (false≢true e)
-bare_written (scalar p) e = absurd (false≢true e)
-bare_written (coll k gap is) e = absurd (false≢true e)
-bare_written (anchored m gap node) e = absurd (false≢true e)
+bare_written n e = search (rules, false≢true)
 
 open_return : (k : ℕ) → ends_return (opening_bracket k ∷ []) ≡ false
 open_return k = elim (eqb k 125) as (λ c. ends_return (cond c 123 91 ∷ []) ≡ false) [ true ↦ refl | false ↦ refl ]
@@ -88,8 +77,7 @@ content_stands d k t y c h = go (is_empty_node (without_anchor y.node)) refl
     go true e = subst (StandsBefore t) (sym (ap (λ (l : List ℕ). l ++ y.rest) (bare_written (without_anchor y.node) e))) (rest_stands d k t y c h)
     go false e =
         let x = content_split y.node y.rest in
-        let pieces : pieces_text y ≡ key_text y.key x.0 ++ content =
-        ap (key_text y.key) (x.1 ∙ ap (λ (l : List ℕ). x.0 ++ l) (node_then (without_anchor y.node) y.rest)) ∙ key_append y.key x.0 content in
+        let pieces : pieces_text y ≡ key_text y.key x.0 ++ content = search (rules, node_then, key_append) in
         record {
           before = h.before ++ key_text y.key x.0;
           text = h.text ∙ (ap (λ (l : List ℕ). h.before ++ l) pieces ∙ sym (append_assoc h.before (key_text y.key x.0) content));
@@ -107,9 +95,7 @@ module _ (x : CollAt) (text : List ℕ) (h : IsCollAt x) where
   opened = text ++ (around.before ++ (opening_bracket x.coll.close ∷ x.coll.gap))
 
   split : t ≡ opened ++ flow_items_text x.coll.close x.coll.items x.coll.rest
-  split =
-      let items : List ℕ = flow_items_text x.coll.close x.coll.items x.coll.rest in
-      ap (λ (l : List ℕ). text ++ l) (around.text ∙ sym (append_assoc around.before (opening_bracket x.coll.close ∷ x.coll.gap) items)) ∙ sym (append_assoc text (around.before ++ (opening_bracket x.coll.close ∷ x.coll.gap)) items)
+  split = search (rules, append_assoc)
 
   in_text : (y : EntryPieces) → Behind around.inner_depth x.coll.close (flow_items_text x.coll.close x.coll.items x.coll.rest) y → Behind around.inner_depth x.coll.close t y
   in_text y b = further_behind around.inner_depth x.coll.close t (flow_items_text x.coll.close x.coll.items x.coll.rest) opened y split b

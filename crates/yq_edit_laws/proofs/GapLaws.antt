@@ -1,5 +1,5 @@
 -- Rows of a document taken out, and the gap after them exchanged: the item that begins with that goes with them.
-use Rattle.std.proofs.Common.{◌≡◌, ℕ, ◌+◌, ◌≤◌, List, [], ◌∷◌, ◌++◌, length, refl, sym, ap, ◌∙◌, append_assoc, arith}
+use Rattle.std.proofs.Common.{rules, ◌≡◌, ℕ, ◌+◌, ◌≤◌, List, [], ◌∷◌, ◌++◌, length, refl, sym, ap, ◌∙◌, append_assoc, arith}
 use Rattle.std.{proofs.lemmas.List.length-append, specs.List.slice_get}
 use Rattle.yq_row_table.{specs.Items.{Item, end_item, rows_items, items_text}, specs.ItemSplices.first_item}
 use Rattle.yq_row_table.specs.Rows.{Row, print_row, behind_gap, rows_text, Part, part_text, Cut, cut_text}
@@ -19,13 +19,11 @@ later_items [] end marker below = below
 later_items (b ∷ bs) end marker below = rows_items bs (end_item end marker ∷ below)
 
 first_later : (back : List Row) (end marker : List ℕ) (below : List Item) → rows_items back (end_item end marker ∷ below) ≡ first_item back end marker ∷ later_items back end marker below
-first_later [] end marker below = refl
-first_later (b ∷ bs) end marker below = refl
+first_later back end marker below = search rules
 
 -- the same with another gap
 later_same : (gap : List ℕ) (back : List Row) (end marker : List ℕ) (below : List Item) → later_items (with_first_gap gap back) (end_gap gap back end) marker below ≡ later_items back end marker below
-later_same gap [] end marker below = refl
-later_same gap (b ∷ bs) end marker below = refl
+later_same gap back end marker below = search rules
 
 -- what comes after the gap of that first one
 abbrev behind_first_gap : List Row → (marker : List ℕ) → List ℕ
@@ -33,8 +31,7 @@ behind_first_gap [] marker = marker
 behind_first_gap (b ∷ bs) marker = behind_gap b []
 
 gap_apart : (back : List Row) (end marker : List ℕ) → item_text (first_item back end marker) ≡ first_gap back end ++ behind_first_gap back marker
-gap_apart [] end marker = refl
-gap_apart (b ∷ bs) end marker = refl
+gap_apart back end marker = search rules
 
 later_text : (back : List Row) (end marker : List ℕ) (below : List Item) → behind_first back end (marker ++ items_text below []) ≡ behind_first_gap back marker ++ items_text (later_items back end marker below) []
 later_text [] end marker below = refl

@@ -1,13 +1,13 @@
 -- A head comment set: the text reads as the documents after that.
-use Rattle.std.proofs.Common.{◌≡◌, ◌⊎◌, inl, inr, ℕ, zero, suc, ◌≤◌, Bool, true, false, cond, eqb, List, [], ◌∷◌, ◌++◌, length, replicate}
-use Rattle.std.proofs.Common.{Some, refl, sym, ap, ◌∙◌, subst, append_assoc, append-nil, arith, length-append}
-use Rattle.std.{proofs.Math.Seq.take-append_seam, proofs.lemmas.Bool.{false≢true, eqb-true, and_parts, cases_Bool}}
-use Rattle.std.{proofs.lemmas.Option.same_Some, proofs.lemmas.Str.IsUtf8-take, specs.Str.{IsCharBoundary, IsUtf8}}
+use Rattle.std.proofs.Common.{rules, ◌≡◌, ℕ, zero, suc, ◌≤◌, true, false, eqb, List, [], ◌∷◌, ◌++◌, length, replicate, Some, refl, sym, ap}
+use Rattle.std.{proofs.Common.{◌∙◌, subst, append_assoc, append-nil, arith, length-append}, proofs.Math.Seq.take-append_seam}
+use Rattle.std.{proofs.lemmas.Bool.{false≢true, eqb-true, and_parts, cases_Bool}, proofs.lemmas.Option.same_Some}
+use Rattle.std.{proofs.lemmas.Str.IsUtf8-take, specs.Str.{IsCharBoundary, IsUtf8}}
 use Rattle.yq_core.{specs.BlockWritten.break_text, specs.Paths.{Step, changed_at, relabel_child, within}, specs.Tree.Node}
 use Rattle.yq_core.{specs.Text.{front, is_feed, past_white, joined, text_lines}, specs.declared.block_types.Break.Break}
 use Rattle.yq_core.proofs.Bools.{guard_then}
 use Rattle.yq_text.{specs.Limit.text_limit, specs.Script.{Segment, old_text, new_text}}
-use Rattle.yq_outline.specs.Comments.{are_comments, head_comment as comment_in}
+use Rattle.yq_outline.specs.Comments.{head_comment as comment_in}
 use Rattle.yq_row_table.{specs.Exchange.asked_behind, specs.Grammar.{IsRow, unlimited}}
 use Rattle.yq_row_table.{specs.Rows.{Row, behind_gap, behind_indent, print_row, rows_text, Part, Cut, cut_text}, specs.Splices.with_row_gap}
 use Rattle.yq_row_table.{proofs.Fronts.Starts, proofs.PlaceLaws.row_then, proofs.NodePieces.before_ascii, proofs.RowAgain.row_starts}
@@ -38,20 +38,11 @@ front_utf8 a b utf8 at = subst IsUtf8 (take-append_seam a b) (IsUtf8-take (a ++ 
 
 comment_no_feed : (l rest : List ℕ) → front (λ b. eqb b 35) (past_white l) ≡ true → front is_feed (l ++ rest) ≡ false
 unfolding text.upto
-comment_no_feed [] rest h = absurd (false≢true h)
-comment_no_feed (b ∷ l) rest h = go (cases_Bool (is_feed b))
-  where
-    go : (is_feed b ≡ true) ⊎ (is_feed b ≡ false) → is_feed b ≡ false
-    go (inr e) = e
-    go (inl e) = absurd (false≢true (subst (λ (x : ℕ). front (λ b. eqb b 35) (past_white (x ∷ l)) ≡ true) (eqb-true b 10 e) h))
+comment_no_feed l rest h = search (rules, false≢true, cases_Bool, eqb-true)
 
 run_no_feed : (ls : List (List ℕ)) (rest : List ℕ) → front is_feed rest ≡ false → front is_feed (joined (last_run ls) ++ rest) ≡ false
 run_no_feed [] rest h = h
-run_no_feed (l ∷ ls) rest h = go (are_comments (l ∷ ls)) refl (run_no_feed ls rest h)
-  where
-    go : (b : Bool) → are_comments (l ∷ ls) ≡ b → front is_feed (joined (last_run ls) ++ rest) ≡ false → front is_feed (joined (cond b (l ∷ ls) (last_run ls)) ++ rest) ≡ false
-    go true e k = ap (front is_feed) (append_assoc l (joined ls) rest) ∙ comment_no_feed l (joined ls ++ rest) (and_parts (front (λ b. eqb b 35) (past_white l)) (are_comments ls) e).0
-    go false e k = k
+run_no_feed (l ∷ ls) rest h = search (rules, append_assoc, comment_no_feed, and_parts, run_no_feed ls rest h)
 
 row_no_feed : (n : ℕ) (t : List ℕ) → Starts t → front is_feed (replicate n 32 ++ t) ≡ false
 row_no_feed zero t s = starts_no_feed t s

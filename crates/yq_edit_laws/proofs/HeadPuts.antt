@@ -36,8 +36,7 @@ module _ (n : ℕ) (s : Step) (ss : List Step) (c : Cut) (e : RowsOfEntry) (ther
 -- ---- another one in its place
 
 apart_then : (old t u : List ℕ) → spaced_text old (t ++ u) ≡ spaced_text old t ++ u
-apart_then [] t u = refl
-apart_then (b ∷ old) t u = refl
+apart_then old t u = search rules
 
 module _ (n : ℕ) (s : Step) (ss : List Step) (c : Cut) (e : RowsOfEntry) (there : StandsThere n s ss c e) (last : e.line ≡ length e.row.dashes) (k : KnowsHeld n s ss c e there last)
     (br : Break) (v : Node) (f : FitsReplace n (s ∷ ss) v c there.part) (t : List ℕ) (for : IsWrittenFor v t) (x : Content) (is : IsContentFor n s ss c (mark_node n s ss c e there last) v x)

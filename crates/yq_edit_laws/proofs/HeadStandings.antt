@@ -1,15 +1,14 @@
 -- Where a flow collection is at a path, no block collection is there, which gets rows more.
-use Rattle.std.proofs.Common.{◌≡◌, ℕ, cond, List, [], ◌∷◌, Option, Some, None, option_map, refl, sym, ap, ◌∙◌, subst}
+use Rattle.std.proofs.Common.{rules, ◌≡◌, ℕ, List, [], ◌∷◌, Option, Some, None, option_map, refl, sym, ap, ◌∙◌, subst}
 use Rattle.std.{proofs.lemmas.Option.{none-some, same_Some}, specs.Prelude.option_and_then}
 use Rattle.yq_core.{specs.Answers.◌>>=◌, specs.Paths.Step, specs.Tree.Node, specs.Collections.CollPieces}
 use Rattle.yq_text.specs.Script.{Segment}
-use Rattle.yq_outline.specs.Outline.{LineMark, Bare, Key, Dash, Outline, end, row}
-use Rattle.yq_outline.{specs.Places.{here, FoundLine, find, in_head, place_inside}, specs.Positions.has_no_mark}
+use Rattle.yq_outline.{specs.Outline.Outline, specs.Places.{FoundLine, find}}
 use Rattle.yq_row_table.specs.Rows.{Cut, Part, cut_text}
 use Rattle.yq_documents.specs.Reading.{part_outline, read_at}
 use Rattle.yq_places.specs.FlowNodes.{bare_line, find_head, flow_collection, head_line}
 use Rattle.yq_edit_rules.{specs.EntryEdits.more_at, specs.FlowRows.FlowAt}
-use Rattle.yq_edit_rules.specs.Siblings.{HasEntries, IsCollectionAt, IsEntry, NodeLines, lines_below}
+use Rattle.yq_edit_rules.specs.Siblings.{HasEntries, IsCollectionAt, NodeLines, lines_below}
 use Rattle.yq_edit_laws.proofs.MoreLaws.{more_place}
 use Rattle.yq_edit_laws.proofs.FlowStandings as standing
 
@@ -18,16 +17,7 @@ Reached = FoundLine × List Step
 
 -- the first line of a block collection isn't a node itself
 none_bare : (o : Outline) → HasEntries o → bare_line o ≡ None
-none_bare end h = refl
-none_bare (row l u v) h = go l.mark h
-  where
-    own : FoundLine
-    own = record { place = here; line = l; under = u; after = v }
-
-    go : (m : LineMark) → IsEntry m → cond (has_no_mark m) (Some own) None ≡ None
-    go Bare h = absurd h
-    go (Key k) h = refl
-    go Dash h = refl
+none_bare o h = search rules
 
 -- no head is that of a block collection
 none_headed : (steps : List Step) (o : Outline) (h : NodeLines) → IsCollectionAt steps o h → find_head steps o ≡ None
@@ -35,11 +25,7 @@ none_headed [] o h at = ap (option_map (λ (f : FoundLine). (f, []))) (none_bare
 none_headed (s ∷ ss) o h at = go (find s ss o) at.place_is
   where
     below : (f : FoundLine) (left : List Step) (head : Option Node) → lines_below head left f ≡ Some h → f.line.head ≡ head → head_line f left ≡ None
-    below f left (Some n) e is = absurd (none-some _ e)
-    below f (t ∷ ts) None e is = absurd (none-some _ e)
-    below f [] None e is =
-        ap (λ (k : Option Node). in_head k (Some (f, [])) (option_map {U = Reached} (λ (b : FoundLine). (place_inside f b, [])) (bare_line f.under))) is
-        ∙ ap (option_map {U = Reached} (λ (b : FoundLine). (place_inside f b, []))) (none_bare f.under (subst HasEntries (sym (ap (λ (z : NodeLines). z.lines) (same_Some _ _ e))) at.block))
+    below f left head e is = search (rules, none-some, none_bare, same_Some)
 
     go : (r : Option Reached) → option_and_then (λ (x : Reached). lines_below x.0.line.head x.1 x.0) r ≡ Some h → (r >>= λ x. head_line x.0 x.1) ≡ None
     go None e = refl

@@ -70,16 +70,7 @@ module _ (n : ℕ) (s : Step) (ss : List Step) (c : Cut) (e : RowsOfEntry) (ther
         ArePieces us → length (new_text us) ≤ text_limit → CarriedOut (replace n (s ∷ ss) v) c us
     put_carried us new x trail back one puts old pieces size =
         let node = mark_node n s ss c e there last in
-        let keeps : KeepsNode n s ss c node us = record {
-          lead = x.lead;
-          trail = trail;
-          before_is = x.before_is;
-          behind_is = back ∙ ap (λ b. trail ++ b) (behind_is n s ss c e there last);
-          one = one;
-          begins = x.within;
-          puts = puts;
-          old_is = old;
-        } in
+        let keeps : KeepsNode n s ss c node us = search (rules, behind_is) in
         node_carried n s ss c node v new x.takes us keeps may (segments_readable us pieces size) (q_text n s ss c node v new x.takes ∙ x.text) x.begins
 
     pub held_carried : (br : Break) (w : Written) (new : List Row) → Spells v (held_put (break_text br) h w) new → IsPiece (text_of w) → length (new_text (held_put (break_text br) h w)) ≤ text_limit →

@@ -1,5 +1,5 @@
 -- A value on the line of a key or dash, in the place of what this holds.
-use Rattle.std.proofs.Common.{◌≡◌, ⊎_elim, ℕ, ◌≤◌, true, false, cond, List, [], ◌∷◌, ◌++◌, length, Some, refl, sym, ap, ◌∙◌}
+use Rattle.std.proofs.Common.{rules, ◌≡◌, ⊎_elim, ℕ, ◌≤◌, true, false, cond, List, [], ◌∷◌, ◌++◌, length, Some, refl, sym, ap, ◌∙◌}
 use Rattle.std.proofs.lemmas.Bool.{cases_Bool}
 use Rattle.yq_core.{specs.BlockWritten.break_text, specs.Paths.Step, specs.Text.is_empty, specs.Tree.Node}
 use Rattle.yq_core.{specs.declared.block_types.Break.Break, proofs.LineLaws.is_empty_is, specs.Nodes.node_text}
@@ -9,7 +9,6 @@ use Rattle.yq_row_table.{specs.Rows.{Content, Part, content_text, parent_indent,
 use Rattle.yq_row_table.proofs.PlaceLaws.{row_front-append}
 use Rattle.yq_outline.specs.Lines.{head_of}
 use Rattle.yq_documents.specs.Reading.{read_at}
-use Rattle.yq_places.{specs.CommentPlaces.{LineEnd, end_in_line}, specs.PrintedLines.last_break}
 use Rattle.yq_places.specs.Standings.{Held, RowsOfEntry, before_entry, held}
 use Rattle.yq_edit_rules.{specs.Appends.inserted, specs.Changed.put_document, specs.StandingLaws.StandsThere, proofs.CoreLaws.put_core}
 use Rattle.yq_edit_rules.{specs.EditLaws.CarriedOut, specs.ReplaceEdits.{spaced_text, held_put}, specs.WrittenValues.inline}
@@ -78,10 +77,7 @@ module _ (n : ℕ) (s : Step) (ss : List Step) (c : Cut) (e : RowsOfEntry) (ther
 
     -- no other lines are there, so that the end of its line is what was held
     tail_is : (slices e.row).tail ≡ w.white ++ (w.comment ++ w.last)
-    tail_is =
-        let a : LineEnd = end_in_line [] (slices e.row).tail in
-        let end : w.last ≡ a.behind = λ i. let below : List ℕ = no_raw e.row.content block i ++ rows_text (k.headless some i) [] in cond (is_empty below) a.behind (last_break below) in
-        end_parts [] (slices e.row).tail ∙ ap (λ b. a.white ++ (a.comment ++ b)) (sym end)
+    tail_is = search (rules, no_raw, end_parts)
 
     -- the text before another rest
     text_there : (u : List ℕ) → e.start ++ (front ++ rows_text (with_content (put_core for.node x) e.row ∷ []) u) ≡ w.before ++ (w.space ++ spaced_text w.head (node_text for.node ((w.white ++ (w.comment ++ w.last)) ++ u)))

@@ -1,5 +1,5 @@
 -- What is kept after the head of a key or dash is a part of its line.
-use Rattle.std.proofs.Common.{◌≡◌, ◌⊎◌, inl, inr, ℕ, Bool, true, false, cond, ◌&&◌, List, [], ◌∷◌, ◌++◌, Some, refl, sym, ap, ◌∙◌, subst}
+use Rattle.std.proofs.Common.{rules, ◌≡◌, ◌⊎◌, ℕ, Bool, true, false, cond, ◌&&◌, List, [], ◌∷◌, ◌++◌, Some, refl, sym, ap, ◌∙◌, subst}
 use Rattle.std.{proofs.Common.{append_assoc, append-nil}, proofs.lemmas.Bool.or_parts}
 use Rattle.yq_core.{specs.Paths.Step, specs.Text.{NoneIn, ends_line, front, is_empty, is_feed, is_return, is_white}, proofs.Bools.at_byte}
 use Rattle.yq_row_table.{specs.Exchange.asked_behind, specs.Gap.{IsComment, IsWhite}, specs.Grammar.{IsRow, IsTail, unlimited}}
@@ -36,9 +36,7 @@ nothing_line = refl
 
 break_line : (b : List ℕ) → (b ≡ []) ⊎ IsLfOrCrLf b → is_one_line b ≡ true
 unfolding is_one_line
-break_line b (inl e) = ap is_one_line e
-break_line b (inr (inl e)) = ap is_one_line e
-break_line b (inr (inr e)) = ap is_one_line e
+break_line b e = search rules
 
 -- ---- a key or dash
 
@@ -52,12 +50,7 @@ in_line white comment b blank break as_comment h = ap is_one_line (append_assoc 
 
 -- the break of its line
 break_there : (x : Bool) (b l : List ℕ) → is_one_line b ≡ true → is_one_line l ≡ true → is_one_line (cond (is_empty (cond x [] b)) (cond x b l) (cond x [] b)) ≡ true
-break_there true b l h k = h
-break_there false b l h k = go (is_empty b)
-  where
-    go : (x : Bool) → is_one_line (cond x l b) ≡ true
-    go true = k
-    go false = h
+break_there x b l h k = search rules
 
 pub held_in_line : (n : ℕ) (s : Step) (ss : List Step) (c : Cut) (e : RowsOfEntry) → read_at (cut_text c) ≡ Some c → rows_of_entry n (s ∷ ss) c ≡ Some e → IsInLine (held e)
 held_in_line n s ss c e read at =
@@ -71,6 +64,5 @@ held_in_line n s ss c e read at =
     let at_end : is_one_line last ≡ true = break_line last (last_is below) in
     record {
       ends = subst (λ (x : LineEnd). is_one_line (x.white ++ x.comment) ≡ true) (sym agrees) (white_before tail.white tail.comment tail.line.blank (ap is_one_line (sym (append-nil tail.comment)) ∙ comment_before tail.comment tail.line.break [] tail.line.as_comment nothing_line));
-      broken = subst (λ (x : LineEnd). is_one_line ((x.white ++ x.comment) ++ cond (is_empty (cond (is_empty below) [] x.behind)) (cond (is_empty below) x.behind last) (cond (is_empty below) [] x.behind)) ≡ true) (sym agrees)
-          (in_line tail.white tail.comment _ tail.line.blank tail.line.break tail.line.as_comment (break_there (is_empty below) tail.line.break last own at_end));
+      broken = search (rules, in_line, break_there);
     }

@@ -1,6 +1,6 @@
 -- What is known of what the key or dash of rows holds.
-use Rattle.std.proofs.Common.{◌≡◌, inl, inr, ℕ, ℤ, true, false, cond, ◌&&◌, List, [], ◌∷◌, ◌++◌, length, Option, Some, None, is_some, refl}
-use Rattle.std.{proofs.Common.{sym, ap, ◌∙◌, subst, arith, append_assoc, length-append, rules}, proofs.lemmas.Bool.{false≢true, and_parts}}
+use Rattle.std.proofs.Common.{◌≡◌, inl, ℕ, ℤ, true, false, cond, ◌&&◌, List, [], ◌∷◌, ◌++◌, length, Option, Some, None, is_some, refl, sym}
+use Rattle.std.{proofs.Common.{ap, ◌∙◌, subst, arith, append_assoc, length-append, rules}, proofs.lemmas.Bool.{false≢true, and_parts}}
 use Rattle.yq_core.{specs.BlockWritten.break_text, specs.Characters.pairs_returns, specs.Paths.Step}
 use Rattle.yq_core.{specs.Text.{is_break, is_empty, is_line}, specs.Tree.{Node, anchor_of}, specs.Nodes.{node_text, IsFlowNode}}
 use Rattle.yq_outline.{specs.Comments.line_comment, specs.Outline.{IsOpen, Line, Outline, anchored, flatten, head_or, value}}
@@ -26,10 +26,9 @@ use Rattle.yq_outline.specs.Outline as outline
 
 break_line : (b : List ℕ) → IsLfOrCrLf b → (is_break b && is_line b) ≡ true
 unfolding is_line
-break_line b (inl e) = ap (λ x. is_break x && is_line x) e
-break_line b (inr e) = ap (λ x. is_break x && is_line x) e
+break_line b e = search rules
 
-no_line : is_line [] ≡ false
+pub no_line : is_line [] ≡ false
 unfolding is_line
 no_line = refl
 
@@ -102,8 +101,7 @@ module _ (n : ℕ) (s : Step) (ss : List Step) (c : Cut) (e : RowsOfEntry) (ther
   named_there beside = go there.found.under refl
     where
       open_row : (o : Option Node) (l : Line) (u after : Outline) → IsOpen o (outline.row l u after) → o ≡ None
-      open_row None l u after h = refl
-      open_row (Some k) l u after h = absurd h
+      open_row o l u after h = search rules
 
       go : (u : Outline) → there.found.under ≡ u → anchor_of (content_under there.found.line there.found.under) ≡ content_anchor e.row.content
       go outline.end is = (λ i. anchor_of (content_under (sym line_there i) (is i))) ∙ content_named (parent_indent e.row) e.row.content _ row.content

@@ -1,10 +1,10 @@
 -- Items of a cut end in an LF, where something is after them; and which of them lie at the bytes that a change keeps.
-use Rattle.std.proofs.Common.{◌≡◌, ◌⊎◌, inl, inr, ℕ, ◌+◌, ◌-◌, ◌≤◌, Bool, true, false, cond, ltb, List, [], ◌∷◌, ◌++◌, length, refl, sym}
-use Rattle.std.{proofs.Common.{ap, ◌∙◌, subst, arith, append-nil}, proofs.lemmas.Bool.{false≢true, ltb-false}}
+use Rattle.std.proofs.Common.{rules, ◌≡◌, ◌⊎◌, inl, inr, ℕ, ◌+◌, ◌-◌, ◌≤◌, Bool, true, false, cond, ltb, List, [], ◌∷◌, ◌++◌, length, refl}
+use Rattle.std.{proofs.Common.{sym, ap, ◌∙◌, subst, arith, append-nil}, proofs.lemmas.Bool.{false≢true, ltb-false}}
 use Rattle.std.proofs.lemmas.List.{length-append}
-use mathlib.Core.List.{head-eq_of_cons-eq, tail-eq_of_cons-eq}
+use mathlib.Core.List.{tail-eq_of_cons-eq}
 use Rattle.yq_core.{specs.Text.is_empty, proofs.BlockPieceLaws.{IsLf, append_lf, line_lf}}
-use Rattle.yq_row_table.specs.Items.{Item, row_item, end_item, items_text, Asked, asked_by, IsPartEnd, IsItem, AreRowItems}
+use Rattle.yq_row_table.specs.Items.{Item, row_item, end_item, items_text, Asked, asked_by, IsItem, AreRowItems}
 use Rattle.yq_row_table.{specs.Touched.{item_text, in_back, in_front}, proofs.ItemLaws.items_text-append, proofs.KeptLaws.items_apart}
 use Rattle.yq_row_table.{proofs.NothingLaws.some_behind, proofs.seams.MarkerSeams.marker_line_is}
 use Rattle.yq_places.proofs.CommentPieceLaws.{Ended}
@@ -19,11 +19,7 @@ item_ended asked (row_item r) xs h some = go (row_ended asked.limit r (items_tex
     go : Ended (item_text (row_item r)) (items_text xs []) → IsLf (item_text (row_item r))
     go (inl lf) = lf
     go (inr none) = absurd (false≢true (sym some ∙ ap is_empty none))
-item_ended asked (end_item gap marker) xs h some = go h.1
-  where
-    go : IsPartEnd marker xs [] → IsLf (gap ++ marker)
-    go (inl line) = append_lf gap marker (line_lf marker (marker_line_is marker (items_text xs []) line some))
-    go (inr none) = absurd (false≢true (sym some ∙ ap (λ (l : List Item). is_empty (items_text l [])) none.1))
+item_ended asked (end_item gap marker) xs h some = search (rules, append_lf, line_lf, marker_line_is, false≢true)
 
 -- several of them
 pub items_ended : (asked : Asked) (xs ys : List Item) → AreRowItems asked (xs ++ ys) [] → is_empty (items_text ys []) ≡ false → (xs ≡ []) ⊎ IsLf (items_text xs [])
@@ -45,12 +41,7 @@ items_ended asked (x ∷ xs) ys h some = inr (subst IsLf (sym (item_apart x xs [
 -- the first item that isn't in front of an offset reaches it
 pub front_stop : (n : ℕ) (is : List Item) (y : Item) (ys : List Item) → is ≡ in_front n is ++ (y ∷ ys) → n ≤ length (items_text (in_front n is) []) + length (item_text y)
 front_stop n [] y ys e = absurd (let no : [] ≡ y ∷ ys = e in cc)
-front_stop n (i ∷ is) y ys e = go (in_front (n - length (item_text i)) is) (front_stop (n - length (item_text i)) is y ys) (ltb (length (item_text i)) n) refl e
-  where
-    go : (rest : List Item) → (is ≡ rest ++ (y ∷ ys) → n - length (item_text i) ≤ length (items_text rest []) + length (item_text y)) → (b : Bool) → ltb (length (item_text i)) n ≡ b →
-        i ∷ is ≡ cond b (i ∷ rest) [] ++ (y ∷ ys) → n ≤ length (items_text (cond b (i ∷ rest) []) []) + length (item_text y)
-    go rest again true less k = let more = again (tail-eq_of_cons-eq k) in omega (arith, more, size_one i rest)
-    go rest again false less k = let own : i ≡ y = head-eq_of_cons-eq k in omega (arith, ltb-false (length (item_text i)) n less, ap (λ (x : Item). length (item_text x)) own)
+front_stop n (i ∷ is) y ys e = search (rules, arith, size_one, ltb-false, front_stop (n - length (item_text i)) is y ys)
 
 -- an item in front of those that are after a place begins at it or in front of it
 pub back_stop : (n : ℕ) (is xs : List Item) (w : Item) (ws : List Item) → is ≡ xs ++ (w ∷ (ws ++ in_back n is)) → n ≤ length (items_text (w ∷ (ws ++ in_back n is)) [])

@@ -1,6 +1,6 @@
 -- The end of a collection stays as it is where a content before it is another one, or a collection before it or itself has one more item or entry; so do the parts
 -- that come after such a collection.
-use Rattle.std.proofs.Common.{◌≡◌, ℕ, ◌<◌, ◌≤◌, Bool, true, false, cond, List, [], ◌∷◌, ◌++◌, length, Some, None, option_and_then, refl}
+use Rattle.std.proofs.Common.{rules, ◌≡◌, ℕ, ◌<◌, ◌≤◌, Bool, true, false, cond, List, [], ◌∷◌, ◌++◌, length, Some, option_and_then, refl}
 use Rattle.std.{proofs.Common.{sym, ap, ◌∙◌, subst, arith, length-append}, proofs.lemmas.Bool.false≢true}
 use Rattle.std.{proofs.lemmas.Option.{none-some, same_Some}, specs.Prelude.⊤}
 use Rattle.yq_core.specs.Paths.{Step, is_here, further}
@@ -9,7 +9,7 @@ use Rattle.yq_core.specs.Entries.{EntryPieces, entry_pieces_at, path_inside, ite
 use Rattle.yq_core.specs.Nodes.{Key, FlowNode, empty, alias, scalar, coll, anchored, Items, none, item, Sep, flow_items_text, node_text}
 use Rattle.yq_core.{specs.Nodes.{sep_text, without_anchor}, specs.Trees.key_content, specs.Tree.key_label}
 use Rattle.yq_core.{proofs.NodeAgain.{key_longer, node_longer, sep_longer}, proofs.PathLaws.then_some}
-use Rattle.yq_flow_edits.specs.FlowEdits.{add_item, behind_appended, behind_last, is_none, put_content, put_item}
+use Rattle.yq_flow_edits.specs.FlowEdits.{add_item, behind_appended, behind_last, is_none, put_item}
 use Rattle.yq_edit_laws.specs.PartPuts.{EndsAfter, EndsAs}
 use Rattle.yq_edit_laws.proofs.LaterParts.{Leads, content_within, inside_within, later, leads_part, node_put, part_leads, part_stays}
 use Rattle.yq_edit_laws.proofs.LaterParts.{with_node}
@@ -28,34 +28,18 @@ alike_same (item key n sep is) = (refl, alike_same is)
 
 alike_put : (s : Step) (m : FlowNode) (is : Items) → EndAlike is (put_item s m is)
 alike_put s m none = tt
-alike_put s m (item key n sep is) = go (is_here s (key_label (key_content key))) (alike_put (further s) m is)
-  where
-    go : (b : Bool) → EndAlike is (put_item (further s) m is) → EndAlike (item key n sep is) (cond b (item (put_content m key n).0 (put_content m key n).1 sep is) (item key n sep (put_item (further s) m is)))
-    go true again = (refl, alike_same is)
-    go false again = (refl, again)
+alike_put s m (item key n sep is) = search (rules, alike_same, alike_put (further s) m is)
 
 alike_changed : (s : Step) (f : FlowNode → FlowNode) (is : Items) → EndAlike is (change_item s f is)
 alike_changed s f none = tt
-alike_changed s f (item key n sep is) = go (is_here s (key_label (key_content key))) (alike_changed (further s) f is)
-  where
-    go : (b : Bool) → EndAlike is (change_item (further s) f is) → EndAlike (item key n sep is) (cond b (item key (f n) sep is) (item key n sep (change_item (further s) f is)))
-    go true again = (refl, alike_same is)
-    go false again = (refl, again)
+alike_changed s f (item key n sep is) = search (rules, alike_same, alike_changed (further s) f is)
 
 alike_none : (is js : Items) → EndAlike is js → is_none js ≡ is_none is
-alike_none none none h = refl
-alike_none none (item key n sep js) h = absurd h
-alike_none (item key n sep is) none h = absurd h
-alike_none (item key n sep is) (item key2 n2 sep2 js) h = refl
+alike_none is js h = search rules
 
 alike_behind : (k : ℕ) (gap : List ℕ) (is js : Items) (rest : List ℕ) → EndAlike is js → behind_last k gap js rest ≡ behind_last k gap is rest
-alike_behind k gap none none rest h = refl
-alike_behind k gap none (item key n sep js) rest h = absurd h
-alike_behind k gap (item key n sep is) none rest h = absurd h
-alike_behind k gap (item key n sep none) (item key2 n2 sep2 none) rest h = ap (λ (s : Sep). sep_text s (k ∷ rest)) (sym h.0)
-alike_behind k gap (item key n sep none) (item key2 n2 sep2 (item key3 n3 sep3 js)) rest h = absurd h.1
-alike_behind k gap (item key n sep (item key3 n3 sep3 is)) (item key2 n2 sep2 none) rest h = absurd h.1
 alike_behind k gap (item key n sep (item key3 n3 sep3 is)) (item key2 n2 sep2 (item key4 n4 sep4 js)) rest h = alike_behind k gap (item key3 n3 sep3 is) (item key4 n4 sep4 js) rest h.1
+alike_behind k gap is js rest h = search rules
 
 -- ---- one more
 
@@ -81,18 +65,13 @@ unfolding flow_items_text
 items_end k gap none rest some = absurd (false≢true (sym some))
 items_end k gap (item key n sep none) rest some = omega (arith, key_longer key (node_text n (sep_text sep (k ∷ rest))), node_longer n (sep_text sep (k ∷ rest)))
 items_end k gap (item key n sep (item key2 n2 sep2 is)) rest some =
-    let behind : List ℕ = flow_items_text k (item key2 n2 sep2 is) rest in
-    omega (arith, items_end k gap (item key2 n2 sep2 is) rest refl, sep_longer sep behind, node_longer n (sep_text sep behind), key_longer key (node_text n (sep_text sep behind)))
+    search (rules, arith, sep_longer, node_longer, key_longer, items_end k gap (item key2 n2 sep2 is) rest refl)
 
 -- no item or entry ends after the last one
 pub item_end : (k : ℕ) (gap : List ℕ) (s : Step) (is : Items) (rest : List ℕ) (y : EntryPieces) → item_at k s is rest ≡ Some y → length (behind_last k gap is rest) ≤ length y.rest
 unfolding flow_items_text
 item_end k gap s none rest y e = absurd (none-some _ e)
-item_end k gap s (item key n sep none) rest y e = go (is_here s (key_label (key_content key))) e
-  where
-    go : (b : Bool) → cond b (Some (record { key = key; node = n; rest = sep_text sep (k ∷ rest) })) None ≡ Some y → length (sep_text sep (k ∷ rest)) ≤ length y.rest
-    go true e = omega (arith, ap (λ (z : EntryPieces). length z.rest) (same_Some _ _ e))
-    go false e = absurd (none-some _ e)
+item_end k gap s (item key n sep none) rest y e = search (rules, arith, same_Some, none-some)
 item_end k gap s (item key n sep (item key2 n2 sep2 is)) rest y e = go (is_here s (key_label (key_content key))) e (item_end k gap (further s) (item key2 n2 sep2 is) rest y)
   where
     others : Items
@@ -104,11 +83,8 @@ item_end k gap s (item key n sep (item key2 n2 sep2 is)) rest y e = go (is_here 
     go false e again = again e
 
 pub node_end : (s : Step) (node : FlowNode) (rest : List ℕ) (w : CollPieces) (y : EntryPieces) → coll_in node rest ≡ Some w → path_inside s node rest ≡ Some y → length (behind_appended w) ≤ length y.rest
-node_end s empty rest w y e at = absurd (none-some _ e)
-node_end s (alias n) rest w y e at = absurd (none-some _ e)
-node_end s (scalar p) rest w y e at = absurd (none-some _ e)
-node_end s (coll k gap is) rest w y e at = omega (arith, item_end k gap s is rest y at, ap (λ (v : CollPieces). length (behind_appended v)) (same_Some _ _ e))
 node_end s (anchored n gap node) rest w y e at = node_end s node rest w y e at
+node_end s node rest w y e at = search (rules, arith, none-some, item_end, same_Some)
 
 pub coll_end : (k : ℕ) (gap : List ℕ) (is : Items) (rest : List ℕ) → length (behind_last k gap is rest) ≤ length (gap ++ flow_items_text k is rest)
 unfolding flow_items_text
@@ -117,11 +93,8 @@ coll_end k gap (item key n sep is) rest = omega (arith, items_end k gap (item ke
 
 pub own_end : (node : FlowNode) (rest : List ℕ) (w : CollPieces) → coll_in node rest ≡ Some w → length (behind_appended w) < length (node_text (without_anchor node) rest)
 unfolding node_text
-own_end empty rest w e = absurd (none-some _ e)
-own_end (alias n) rest w e = absurd (none-some _ e)
-own_end (scalar p) rest w e = absurd (none-some _ e)
-own_end (coll k gap is) rest w e = omega (arith, coll_end k gap is rest, ap (λ (v : CollPieces). length (behind_appended v)) (same_Some _ _ e))
 own_end (anchored n gap node) rest w e = omega (arith, own_end node rest w e, content_within node rest)
+own_end node rest w e = search (rules, arith, none-some, coll_end, same_Some)
 
 -- a collection ends inside each node that holds it
 end_within : (p : List Step) (u : EntryPieces) (w : CollPieces) → coll_along p u.node u.rest ≡ Some w → length (behind_appended w) < length (node_text (without_anchor u.node) u.rest)
@@ -132,20 +105,13 @@ end_within (t ∷ p) u w e =
 
 -- the text after a collection is that after its node
 pub rest_in : (node : FlowNode) (rest : List ℕ) (w : CollPieces) → coll_in node rest ≡ Some w → w.rest ≡ rest
-rest_in empty rest w e = absurd (none-some _ e)
-rest_in (alias n) rest w e = absurd (none-some _ e)
-rest_in (scalar p) rest w e = absurd (none-some _ e)
-rest_in (coll k gap is) rest w e = ap (λ (v : CollPieces). v.rest) (sym (same_Some _ _ e))
 rest_in (anchored n gap node) rest w e = rest_in node rest w e
+rest_in node rest w e = search (rules, none-some, same_Some)
 
 pub last_longer : (k : ℕ) (gap : List ℕ) (is : Items) (rest : List ℕ) → length rest < length (behind_last k gap is rest)
 last_longer k gap none rest = omega (arith, length-append gap (k ∷ rest))
 last_longer k gap (item j n sep none) rest = omega (arith, sep_longer sep (k ∷ rest))
 last_longer k gap (item j n sep (item j2 n2 sep2 is)) rest = last_longer k gap (item j2 n2 sep2 is) rest
-
--- the text after a collection is shorter than each node that holds it
-pub rest_shorter : (p : List Step) (u : EntryPieces) (w : CollPieces) → coll_along p u.node u.rest ≡ Some w → length w.rest < length (node_text u.node u.rest)
-rest_shorter p u w e = omega (arith, last_longer w.close w.gap w.items w.rest, end_within p u w e, content_within u.node u.rest)
 
 -- ---- a collection with other items or entries
 

@@ -1,11 +1,11 @@
 -- A part of a node that comes after one whose content were replaced by another stays as it is, in whichever collections the two are.
-use Rattle.std.proofs.Common.{◌≡◌, ℕ, ◌<◌, ◌≤◌, Bool, true, false, cond, List, [], ◌∷◌, ◌++◌, length, Option, Some, None, option_and_then}
-use Rattle.std.{proofs.Common.{refl, sym, ap, ◌∙◌, subst, arith, length-append}, proofs.lemmas.Option.{none-some, same_Some}}
+use Rattle.std.proofs.Common.{rules, ◌≡◌, ℕ, ◌<◌, ◌≤◌, Bool, true, false, cond, List, [], ◌∷◌, ◌++◌, length, Option, Some, option_and_then}
+use Rattle.std.{proofs.Common.{refl, ap, ◌∙◌, arith, length-append}, proofs.lemmas.Option.{none-some, same_Some}}
 use Rattle.yq_core.{specs.Answers.◌>>=◌, specs.Paths.{Step, is_here, further}}
 use Rattle.yq_core.specs.Collections.{CollPieces, change_item, coll_along, coll_in, collection_put, put_coll, within_items}
 use Rattle.yq_core.specs.Entries.{EntryPieces, entry_pieces_at, path_inside, item_at}
-use Rattle.yq_core.specs.Nodes.{Key, bare, keyed, FlowNode, empty, alias, scalar, coll, anchored, Items, none, item, flow_items_text}
-use Rattle.yq_core.{specs.Nodes.{key_text, node_text, sep_text, without_anchor}, specs.Trees.key_content, specs.Tree.key_label}
+use Rattle.yq_core.specs.Nodes.{Key, FlowNode, empty, alias, scalar, coll, anchored, Items, none, item, flow_items_text, node_text}
+use Rattle.yq_core.{specs.Nodes.{sep_text, without_anchor}, specs.Trees.key_content, specs.Tree.key_label}
 use Rattle.yq_core.{proofs.NodeAgain.{key_longer, node_longer, sep_longer}, proofs.PathLaws.then_some}
 use Rattle.yq_flow_edits.{specs.FlowEdits.{put_content, put_item, spaced_key}, proofs.ItemPlaces.item_rest}
 use Rattle.yq_edit_laws.proofs.FlowStandings.{coll_entry, node_entry}
@@ -16,33 +16,18 @@ use Rattle.yq_edit_laws.proofs.FlowStandings.{coll_entry, node_entry}
 pub node_in_items : (k : ℕ) (s : Step) (is : Items) (rest : List ℕ) (y : EntryPieces) → item_at k s is rest ≡ Some y → length (node_text y.node y.rest) ≤ length (flow_items_text k is rest)
 unfolding flow_items_text
 node_in_items k s none rest y e = absurd (none-some _ e)
-node_in_items k s (item key n sep is) rest y e = go (is_here s (key_label (key_content key))) (node_in_items k (further s) is rest y) e
-  where
-    behind : List ℕ
-    behind = sep_text sep (flow_items_text k is rest)
-
-    go : (b : Bool) → (item_at k (further s) is rest ≡ Some y → length (node_text y.node y.rest) ≤ length (flow_items_text k is rest)) → cond b (Some (record { key = key; node = n; rest = behind })) (item_at k (further s) is rest) ≡ Some y →
-        length (node_text y.node y.rest) ≤ length (key_text key (node_text n behind))
-    go true again e = omega (arith, key_longer key (node_text n behind), ap (λ (z : EntryPieces). length (node_text z.node z.rest)) (same_Some _ _ e))
-    go false again e = omega (arith, again e, sep_longer sep (flow_items_text k is rest), node_longer n behind, key_longer key (node_text n behind))
+node_in_items k s (item key n sep is) rest y e = search (rules, arith, key_longer, same_Some, sep_longer, node_longer, node_in_items k (further s) is rest y)
 
 -- a content is no longer than its node
 pub content_within : (node : FlowNode) (rest : List ℕ) → length (node_text (without_anchor node) rest) ≤ length (node_text node rest)
 unfolding node_text
-content_within empty rest = omega arith
-content_within (alias n) rest = omega arith
-content_within (scalar p) rest = omega arith
-content_within (coll k gap is) rest = omega arith
-content_within (anchored n gap node) rest = omega (arith, length-append n (gap ++ node_text node rest), length-append gap (node_text node rest))
+content_within node rest = search (rules, arith, length-append)
 
 -- an item or entry is shorter than the content that holds it
 pub inside_within : (s : Step) (node : FlowNode) (rest : List ℕ) (y : EntryPieces) → path_inside s node rest ≡ Some y → (length (node_text y.node y.rest) < length (node_text (without_anchor node) rest)) × (length rest ≤ length y.rest)
 unfolding node_text
-inside_within s empty rest y e = absurd (none-some _ e)
-inside_within s (alias n) rest y e = absurd (none-some _ e)
-inside_within s (scalar p) rest y e = absurd (none-some _ e)
-inside_within s (coll k gap is) rest y e = (omega (arith, node_in_items k s is rest y e, length-append gap (flow_items_text k is rest)), item_rest k s is rest y e)
 inside_within s (anchored n gap node) rest y e = let within = inside_within s node rest y e in (omega (arith, within.0, content_within node rest), within.1)
+inside_within s node rest y e = search (rules, arith, none-some, node_in_items, length-append, item_rest)
 
 part_within : (p : List Step) (s : Step) (x : EntryPieces) (w : CollPieces) (y : EntryPieces) → coll_along p x.node x.rest ≡ Some w → item_at w.close s w.items w.rest ≡ Some y → length (node_text y.node y.rest) < length (node_text (without_anchor x.node) x.rest)
 part_within [] s x w y e at = (inside_within s x.node x.rest y (coll_entry s x.node x.rest w e ∙ at)).0
@@ -54,15 +39,10 @@ part_within (t ∷ p) s x w y e at =
 
 -- a key's content stays
 spaced_content : (key : Key) → key_content (spaced_key key) ≡ key_content key
-spaced_content bare = refl
-spaced_content (keyed p b g) = refl
+spaced_content key = search rules
 
 put_key : (m : FlowNode) (key : Key) (n : FlowNode) → key_content (put_content m key n).0 ≡ key_content key
-put_key m key empty = spaced_content key
-put_key m key (alias n) = refl
-put_key m key (scalar p) = refl
-put_key m key (coll k gap is) = refl
-put_key m key (anchored n gap node) = refl
+put_key m key n = search (rules, spaced_content)
 
 later_item : (k : ℕ) (s r : Step) (m : FlowNode) (is : Items) (rest : List ℕ) (y z : EntryPieces) → item_at k s is rest ≡ Some y → item_at k r is rest ≡ Some z → length z.rest < length y.rest → item_at k r (put_item s m is) rest ≡ Some z
 later_item k s r m none rest y z here there less = absurd (none-some _ here)
@@ -76,23 +56,17 @@ later_item k s r m (item key n sep is) rest y z here there less =
         (item_at k (further s) is rest ≡ Some y → item_at k (further r) is rest ≡ Some z → item_at k (further r) (put_item (further s) m is) rest ≡ Some z) →
         item_at k r (cond a (item (put_content m key n).0 (put_content m key n).1 sep is) (item key n sep (put_item (further s) m is))) rest ≡ Some z
     go true true is_r here there again = absurd (omega (arith, less, ap (λ (x : EntryPieces). length x.rest) (same_Some _ _ here), ap (λ (x : EntryPieces). length x.rest) (same_Some _ _ there)))
-    go true false is_r here there again =
-        let other : is_here r (key_label (key_content (put_content m key n).0)) ≡ false = ap (λ (c : Option (List ℕ)). is_here r (key_label c)) (put_key m key n) ∙ is_r in
-        ap (λ (b : Bool). cond b (Some (record { key = (put_content m key n).0; node = (put_content m key n).1; rest = sep_text sep (flow_items_text k is rest) })) (item_at k (further r) is rest)) other ∙ there
+    go true false is_r here there again = search (rules, ap (λ (c : Option (List ℕ)). is_here r (key_label c)) (put_key m key n) ∙ is_r)
     go false true is_r here there again =
         absurd (omega (arith, less, node_in_items k (further s) is rest y here, node_longer y.node y.rest, sep_longer sep (flow_items_text k is rest), ap (λ (x : EntryPieces). length x.rest) (same_Some _ _ there)))
-    go false false is_r here there again =
-        let later : Items = put_item (further s) m is in
-        ap (λ (b : Bool). cond b (Some (record { key = key; node = n; rest = sep_text sep (flow_items_text k later rest) })) (item_at k (further r) later rest)) is_r ∙ again here there
+    go false false is_r here there again = search rules
 
 pub node_put : (s r : Step) (m node : FlowNode) (rest : List ℕ) (w : CollPieces) (y z : EntryPieces) → coll_in node rest ≡ Some w → item_at w.close s w.items w.rest ≡ Some y → path_inside r node rest ≡ Some z → length z.rest < length y.rest →
     path_inside r (put_coll w.gap (put_item s m w.items) node) rest ≡ Some z
 node_put s r m empty rest w y z e here there less = absurd (none-some _ e)
 node_put s r m (alias n) rest w y z e here there less = absurd (none-some _ e)
 node_put s r m (scalar p) rest w y z e here there less = absurd (none-some _ e)
-node_put s r m (coll k gap is) rest w y z e here there less =
-    let same = same_Some _ _ e in
-    sym (ap (λ (x : CollPieces). item_at k r (put_item s m x.items) rest) same) ∙ later_item k s r m is rest y z (ap (λ (x : CollPieces). item_at x.close s x.items x.rest) same ∙ here) there less
+node_put s r m (coll k gap is) rest w y z e here there less = search (rules, same_Some _ _ e, later_item)
 node_put s r m (anchored n gap node) rest w y z e here there less = node_put s r m node rest w y z e here there less
 
 -- ---- in nested ones
@@ -122,20 +96,7 @@ item_changed k s r f Q (item key n sep is) rest y here there less own_stays =
     go : (a b : Bool) → is_here r (key_label (key_content key)) ≡ b → cond a (Some (own n)) (item_at k (further s) is rest) ≡ Some y → cond b (Some (own n)) (item_at k (further r) is rest) ≡ Some there.0 →
         (item_at k (further s) is rest ≡ Some y → item_at k (further r) is rest ≡ Some there.0 → HoldsOf Q (item_at k (further r) (change_item (further s) f is) rest)) →
         HoldsOf Q (item_at k r (cond a (item key (f n) sep is) (item key n sep (change_item (further s) f is))) rest)
-    go true true is_r here at again =
-        let one : own n ≡ y = same_Some _ _ here in
-        let two : own n ≡ there.0 = same_Some _ _ at in (
-          own (f n),
-          ap (λ (b : Bool). cond b (Some (own (f n))) (item_at k (further r) is rest)) is_r,
-          subst (λ (x : EntryPieces). Q (with_node (f x.node) x)) (sym one) (own_stays (subst Q (sym two ∙ one) there.2)),
-        )
-    go true false is_r here at again = (there.0, ap (λ (b : Bool). cond b (Some (own (f n))) (item_at k (further r) is rest)) is_r ∙ at, there.2)
-    go false true is_r here at again =
-        absurd (omega (arith, less there.0 there.2, ap (λ (x : EntryPieces). length x.rest) (same_Some _ _ at), node_in_items k (further s) is rest y here, sep_longer sep (flow_items_text k is rest)))
-    go false false is_r here at again =
-        let others : Items = change_item (further s) f is in
-        let w = again here at in
-        (w.0, ap (λ (b : Bool). cond b (Some (record { key = key; node = n; rest = sep_text sep (flow_items_text k others rest) })) (item_at k (further r) others rest)) is_r ∙ w.1, w.2)
+    go a b is_r here at again = search (rules, arith, same_Some, node_in_items, sep_longer)
 
 node_changed : (s r : Step) (f : FlowNode → FlowNode) (Q : EntryPieces → Type 0) (node : FlowNode) (rest : List ℕ) (y : EntryPieces) → path_inside s node rest ≡ Some y → HoldsOf Q (path_inside r node rest) →
     ((u : EntryPieces) → Q u → length u.rest < length (node_text y.node y.rest)) → (Q y → Q (with_node (f y.node) y)) → HoldsOf Q (path_inside r (within_items (change_item s f) node) rest)
@@ -188,14 +149,9 @@ later_part p q s m x w y z e here there less begins =
 
 -- the parts of a collection are those to which one step more leads
 pub parts_along : (p : List Step) (s : Step) (x : EntryPieces) → (coll_along p x.node x.rest >>= λ w. item_at w.close s w.items w.rest) ≡ entry_pieces_at (p ++ (s ∷ [])) x
-parts_along [] s x = node_entry s x.node x.rest ∙ own (path_inside s x.node x.rest)
-  where
-    own : (o : Option EntryPieces) → o ≡ option_and_then (entry_pieces_at []) o
-    own None = refl
-    own (Some y) = refl
+parts_along [] s x = search (rules, node_entry)
 parts_along (t ∷ p) s x = go (path_inside t x.node x.rest) (λ u. parts_along p s u)
   where
     go : (o : Option EntryPieces) → ((u : EntryPieces) → (coll_along p u.node u.rest >>= λ w. item_at w.close s w.items w.rest) ≡ entry_pieces_at (p ++ (s ∷ [])) u) →
         (option_and_then (λ (u : EntryPieces). coll_along p u.node u.rest) o >>= λ w. item_at w.close s w.items w.rest) ≡ option_and_then (entry_pieces_at (p ++ (s ∷ []))) o
-    go None again = refl
-    go (Some u) again = again u
+    go o again = search rules

@@ -1,12 +1,12 @@
 -- What literal block scalars hold and how they are written: line breaks alone without a known indentation, pieces of a text.
-use Rattle.std.proofs.Common.{◌≡◌, ◌⊎◌, inl, inr, ℕ, zero, suc, ◌+◌, ◌≤◌, cond, eqb, not, ◌&&◌, List, [], ◌∷◌, ◌++◌, length, replicate}
-use Rattle.std.proofs.Common.{Option, Some, None, Bool, true, false, refl, sym, ap, ◌∙◌, subst, arith, append-nil, eqb-true, rules}
+use Rattle.std.proofs.Common.{◌≡◌, ◌⊎◌, inl, inr, ℕ, zero, suc, ◌+◌, ◌≤◌, not, ◌&&◌, List, [], ◌∷◌, ◌++◌, replicate, Option, Some, None}
+use Rattle.std.proofs.Common.{Bool, true, false, refl, sym, ap, ◌∙◌, subst, arith, append-nil, eqb-true, rules}
 use Rattle.std.{proofs.lemmas.Bool.{false≢true, and_parts, cases_Bool}, proofs.lemmas.List.Folds.list_all-append}
 use Rattle.std.{specs.List.{list_all, list_any}, specs.Str.{IsUtf8, chars}}
-use Rattle.yq_core.specs.Block.{BlockText, no_lines, RawLines, AreRaw, IsDetected, IsDigit, IsRawLine, IsTextIndent, ends_block}
-use Rattle.yq_core.specs.BlockContent.{block_content, optional_break, folded, is_spaced_line, joint, literal, text_of_line, part_of}
+use Rattle.yq_core.specs.Block.{BlockText, RawLines, AreRaw, IsDetected, IsDigit, IsRawLine, IsTextIndent, ends_block}
+use Rattle.yq_core.specs.BlockContent.{block_content, optional_break, folded, literal, text_of_line, part_of}
 use Rattle.yq_core.{specs.BlockWritten.{break_text, header_text, indented_text, raw_written, written_line}, specs.Characters.is_text_char}
-use Rattle.yq_core.{specs.Scalar.ScalarText, specs.Text.{ends_line, front, is_white, is_feed, is_line, joined, text_lines, upto}}
+use Rattle.yq_core.{specs.Scalar.ScalarText, specs.Text.{ends_line, is_feed, is_line, joined, text_lines, upto}}
 use Rattle.yq_core.specs.Writable.{can_write, is_literal_char, is_literal_text, is_string}
 use Rattle.yq_core.{specs.declared.block_types.LineBefore.LineBefore, specs.declared.block_header.Chomping.Chomping}
 use Rattle.yq_core.{specs.declared.block_lines.TextIndent.TextIndent, specs.declared.block_types.Break.Break}
@@ -22,8 +22,7 @@ use Rattle.yq_core.specs.declared.style.Style.TheVariants as styles
 
 no_part : (t : List ℕ) → ends_line t ≡ true → text_of_line t ≡ []
 unfolding upto
-no_part [] h = refl
-no_part (b ∷ t) h = rw h refl
+no_part t h = search rules
 
 part_none : (f : TextIndent) (l : List ℕ) → f.known ≡ false → IsRawLine f l → part_of f l ≡ []
 part_none f l known raw = search (rules, no_part, and_parts, false≢true)
@@ -33,23 +32,17 @@ feeds zero = refl
 feeds (suc k) = feeds k
 
 broken_feeds : (b : Bool) → list_all is_feed (optional_break b) ≡ true
-broken_feeds true = refl
-broken_feeds false = refl
+broken_feeds b = search rules
 
 literal_feeds : (strip : Bool) (f : TextIndent) (ls : RawLines) → f.known ≡ false → AreRaw f ls → list_all is_feed (literal strip f ls) ≡ true
 unfolding literal
 literal_feeds strip f [] known raw = refl
-literal_feeds strip f (l ∷ ls) known raw =
-    let b : Bool = not (strip && no_lines ls) in
-    ap (λ x. list_all is_feed ((x ++ optional_break b) ++ literal strip f ls)) (part_none f l known raw.0)
-    ∙ (list_all-append is_feed (optional_break b) (literal strip f ls) ∙ rw (broken_feeds b, literal_feeds strip f ls known raw.1) refl)
+literal_feeds strip f (l ∷ ls) known raw = search (rules, part_none, list_all-append, broken_feeds, literal_feeds strip f ls known raw.1)
 
 folded_feeds : (c : Chomping) (f : TextIndent) (b : LineBefore) (k : ℕ) (ls : RawLines) → f.known ≡ false → AreRaw f ls → list_all is_feed (folded c f b k ls) ≡ true
 unfolding folded
 folded_feeds c f b k [] known raw = search (rules, feeds)
-folded_feeds c f b k (l ∷ ls) known raw =
-    ap (λ x. list_all is_feed (cond (eqb (length x) 0) (folded c f b (k + 1) ls) (joint b (front is_white x) k ++ (x ++ folded c f (is_spaced_line x) 0 ls)))) (part_none f l known raw.0)
-    ∙ folded_feeds c f b (k + 1) ls known raw.1
+folded_feeds c f b k (l ∷ ls) known raw = search (rules, part_none, folded_feeds c f b (k + 1) ls known raw.1)
 
 no_others : (t : List ℕ) → list_all is_feed t ≡ true → list_any (λ b. not (is_feed b)) t ≡ false
 no_others [] h = refl
@@ -113,10 +106,7 @@ written_piece m br (l ∷ ls) are good h =
         let cut = line_cut (text_of_line l) (joined ls) (subst IsPiece (ap (λ x. x ++ joined ls) own) h) in
         join (front_piece (text_of_line l) cut.0 (text_no_return (text_of_line l) good.0.0)) cut.1
     go join false e (inl more) = absurd (false≢true (sym e ∙ more))
-    go join false e (inr none) =
-        let own : l ≡ text_of_line l = good.0.1 ∙ (ap (λ b. text_of_line l ++ optional_break b) e ∙ append-nil (text_of_line l)) in
-        let alone : l ++ joined ls ≡ text_of_line l = ap (λ x. l ++ joined x) none ∙ (append-nil l ∙ own) in
-        join (subst IsPiece alone h) (subst (λ x. IsPiece (joined x)) (sym none) nothing)
+    go join false e (inr none) = search (rules, append-nil, nothing)
 
 pub raw_piece : (m : ℕ) (br : Break) (s : ScalarText) → IsUtf8 s.text → can_write s styles.Literal places.Block ≡ true → IsPiece (joined (raw_written m (break_text br) (text_lines s.text)))
 raw_piece m br s u can =

@@ -1,6 +1,6 @@
 -- What is written in a row that is alone on its line.
-use Rattle.std.proofs.Common.{◌≡◌, ◌⊎◌, ℕ, ℤ, ◌<◌, eqb, ◌||◌, Bool, true, false, not, List, [], ◌∷◌, ◌++◌, refl, sym, ap, ◌∙◌, subst, arith}
-use Rattle.std.{proofs.Common.{append_assoc, append-nil, eqb-true, rules}, proofs.lemmas.Bool.{false≢true, not-true}}
+use Rattle.std.proofs.Common.{◌≡◌, ◌⊎◌, ℕ, ℤ, ◌<◌, ◌||◌, true, false, not, List, [], ◌∷◌, ◌++◌, refl, sym, ap, ◌∙◌, subst, arith}
+use Rattle.std.{proofs.Common.{append_assoc, append-nil, rules}, proofs.lemmas.Bool.{false≢true, not-true}}
 use Rattle.yq_core.{specs.Text.{is_empty, is_return, is_white}, specs.Nodes.{node_text, IsFlowNode}, proofs.NodesPieceLaws.scalar_some}
 use Rattle.yq_row_table.{specs.Gap.IsWhite, specs.Grammar.{IsContent, may_be_alone}, specs.Rows.{Content, Inline, content_text}}
 use Rattle.yq_row_table.{specs.Seams.is_block, specs.View.content_cut, proofs.CharacterLaws.EndsBlack, proofs.NodePieces.EndsAscii}
@@ -10,12 +10,7 @@ use Rattle.yq_core.specs.Nodes as inline
 -- ---- white space
 
 white_low : (b : ℕ) → is_white b ≡ true → (b < 128) × (is_return b ≡ false)
-white_low b h = go (eqb b 32) refl (eqb b 9) refl h
-  where
-    go : (x : Bool) → eqb b 32 ≡ x → (y : Bool) → eqb b 9 ≡ y → (x || y) ≡ true → (b < 128) × (is_return b ≡ false)
-    go true e y f h = let is : b ≡ 32 = eqb-true b 32 e in (omega (arith, is), ap is_return is)
-    go false e true f h = let is : b ≡ 9 = eqb-true b 9 f in (omega (arith, is), ap is_return is)
-    go false e false f h = absurd (false≢true h)
+white_low b h = search (rules, arith, false≢true)
 
 -- a text that ends in an ASCII byte that is no CR
 abbrev pub EndsLow : List ℕ → Type 0
@@ -39,9 +34,6 @@ pub record IsLoneHead (x : Content) : Type 0 where
   pub front : (before_head x ≡ []) ⊎ EndsLow (before_head x)
   pub text : (b : List ℕ) (core : inline.FlowNode) (z : List ℕ) → b ++ content_text (put_core core x) z ≡ (b ++ before_head x) ++ node_text core ((content_cut x).4 ++ z)
 
-regroup : (b m g y : List ℕ) → b ++ (38 ∷ (m ++ (g ++ y))) ≡ (b ++ (38 ∷ (m ++ g))) ++ y
-regroup b m g y = simp append_assoc refl
-
 anchor_front : (n : ℤ) (m g : List ℕ) (node : inline.FlowNode) (tail rest : List ℕ) → IsContent n (Inline [] (inline.anchored m g node) tail) rest → inline.is_empty_node node ≡ false → EndsLow (38 ∷ (m ++ g))
 unfolding IsFlowNode
 anchor_front n m g node tail rest h full =
@@ -49,4 +41,4 @@ anchor_front n m g node tail rest h full =
 
 pub lone_head : (n : ℤ) (x : Content) (rest : List ℕ) → IsContent n x rest → may_be_alone x ≡ true → IsLoneHead x
 unfolding IsFlowNode node_text
-lone_head n x rest h1 h2 = search (rules, false≢true, append-nil, scalar_some, anchor_front, regroup)
+lone_head n x rest h1 h2 = search (rules, false≢true, append-nil, scalar_some, anchor_front, append_assoc)

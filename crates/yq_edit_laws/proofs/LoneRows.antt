@@ -4,9 +4,8 @@ use Rattle.std.{proofs.Common.{ap, ◌∙◌, subst, arith, append_assoc, length
 use Rattle.std.proofs.lemmas.Option.{same_Some}
 use Rattle.yq_core.{specs.Answers.◌>>=◌, specs.Paths.Step, specs.Text.is_empty, specs.Tree.Node, proofs.Bools.bind_some}
 use Rattle.yq_core.proofs.LineLaws.{is_empty_is}
-use Rattle.yq_outline.{specs.Comments.head_comment, specs.Group.level_or}
-use Rattle.yq_outline.{specs.Outline.{Line, Outline, end, row, flatten, IsEven, IsOpen, IsWhole}, specs.Places.find}
-use Rattle.yq_outline.{specs.Positions.has_no_mark, proofs.Decides.flatten-group}
+use Rattle.yq_outline.{specs.Comments.head_comment, specs.Group.level_or, specs.Outline.{Line, Outline, end, row, flatten, IsEven, IsOpen}}
+use Rattle.yq_outline.{specs.Places.find, specs.Positions.has_no_mark, proofs.Decides.flatten-group}
 use Rattle.yq_outline.{specs.Lines.{lines_from, lines_of_rows, mark_line, line_mark, row_lines}, proofs.Plug.headless}
 use Rattle.yq_row_table.{specs.Grammar.{AreRows, unlimited}, specs.Rows.{Row, rows_text, print_row, Part, Cut, cut_text}}
 use Rattle.yq_row_table.proofs.seams.SeamLaws.{rows_text-append}
@@ -39,14 +38,10 @@ alone_line r h = let p = alone_row r h in go r.dashes r.mark p.1 p.0
     go [] m e is = (mark_line (head_comment r.gap) r.column m r.content, refl, ap line_mark is)
     go (n ∷ ns) m e is = absurd (let no : n ∷ ns ≡ [] = e in cc)
 
--- a node on a line of its own is there, and is alone
-whole_bare : (m : outline.LineMark) (h : Option Node) (a b : Outline) → m ≡ outline.Bare → IsOpen h a → IsWhole m h b → (a ≡ end) × (b ≡ end)
-whole_bare m h a b h1 h2 h3 = search (rules, false≢true)
-
 -- an outline of lines of which the first one is bare is of one line
 one_line : (m : ℕ) (o : Outline) (l : Line) (ls : List Line) → IsEven m o → l ∷ ls ≡ flatten o → l.mark ≡ outline.Bare → length (flatten o) ≡ 1
 one_line m end l ls even e bare = absurd (let no : l ∷ ls ≡ [] = e in cc)
-one_line m (row x u a) l ls even e bare = search (rules, whole_bare)
+one_line m (row x u a) l ls even e bare = search (rules, false≢true)
 
 -- ---- under a key or dash
 
@@ -99,16 +94,7 @@ module _ (n : ℕ) (s : Step) (ss : List Step) (v : Node) (c : Cut) (read : read
     open' = no_head;
     count = one_line below.1 there.found.under one.0 (lines_of_rows rs) below.2 first one.2;
     mark = (alone_row r alone).0;
-    number = omega (
-      arith,
-      there.number,
-      last,
-      ap length (lines_append e.front (e.row ∷ [])),
-      length-append (lines_of_rows e.front) (lines_of_rows (e.row ∷ [])),
-      length-append (row_lines e.row) [],
-      row_count e.row,
-      ap length (alone_row r alone).1,
-    );
+    number = search (rules, arith, lines_append, length-append, row_count, alone_row);
   }
 
   rows_are : d.part.rows ≡ front ++ (r ∷ (rs ++ e.back))

@@ -38,16 +38,13 @@ abbrev pub anchor_left : Content → List ℕ → Content
 anchor_left x tail = left (content_cut x).0 (content_anchor x) tail
 
 pub left_anchor : (space : List ℕ) (a : Option (List ℕ)) (tail : List ℕ) → content_anchor (left space a tail) ≡ a
-left_anchor space None tail = refl
-left_anchor space (Some m) tail = refl
+left_anchor space a tail = search rules
 
 pub left_nothing : (space : List ℕ) (a : Option (List ℕ)) (tail : List ℕ) → holds_nothing (left space a tail) ≡ true
-left_nothing space None tail = refl
-left_nothing space (Some m) tail = refl
+left_nothing space a tail = search rules
 
 pub left_tail : (space : List ℕ) (a : Option (List ℕ)) (tail : List ℕ) → tail_of (left space a tail) ≡ tail
-left_tail space None tail = refl
-left_tail space (Some m) tail = refl
+left_tail space a tail = search rules
 
 -- it comes before a tail
 pub left_content : (n : ℤ) (space : List ℕ) (a : Option (List ℕ)) (text tail rest : List ℕ) → Named space a text → IsTail tail rest → IsContent n (left space a tail) rest

@@ -1,5 +1,5 @@
 -- What an update comes to on a text that reads, once its operations are planned.
-use Rattle.std.proofs.Common.{◌≡◌, inl, inr, ℕ, List, [], ◌∷◌, Some, ap, subst}
+use Rattle.std.proofs.Common.{rules, ◌≡◌, inl, inr, ℕ, List, [], ◌∷◌, Some, ap, subst}
 use Rattle.yq_row_table.specs.Rows.{Cut}
 use Rattle.yq_documents.{specs.Reading.{read_at, documents}, proofs.ReadLaws.read_takes, proofs.ReadyLaws.read_ready}
 use Rattle.yq_outline.proofs.ShapeLaws.{shaped_by_lines, shaped_is_tree}
@@ -37,23 +37,10 @@ module _ (u : Update) (t : List ℕ) (c : Cut) (read : read_at t ≡ Some c) whe
       h.0,
       record { before = documents c; read = read_takes t c read; operations = ops; planned = planned; stops = h.1 },
     )
-    update_by (gives new cs) h = record {
-      before = documents c;
-      read = read_takes t c read;
-      operations = ops;
-      planned = planned;
-      leads = h.0;
-      after = all_after (room_of t) ops (documents c);
-      meant = plan_means u (room_of t) (documents c) ops (ready t c read) planned;
-      reads = h.1;
-    }
+    update_by (gives new cs) h = search (rules, read_takes, plan_means, ready)
 
     pub plan_serves : HaveOperands ops → UpdatesHold (u ∷ []) → Serves (documents c) ops t
-    plan_serves operands holds = record {
-      read = read_takes t c read;
-      operands = operands;
-      follow = plan_follows u (room_of t) (documents c) ops (ready t c read) holds planned;
-    }
+    plan_serves operands holds = search (rules, read_takes, plan_follows, ready)
 
     pub plan_comes : HaveOperands ops → UpdatesHold (u ∷ []) → UpdateComes u t (carry_all ops t)
     plan_comes operands holds = update_by (carry_all ops t) (all_come (documents c) ops t (plan_serves operands holds))

@@ -1,14 +1,11 @@
 -- One more item or entry that fits has a place in a flow collection, or at the end of a block collection.
-use Rattle.std.proofs.Common.{◌≡◌, ◌⊎◌, inl, inr, ℕ, Bool, true, false, not, cond, eqb, eqb-true, List, [], ◌∷◌, ◌++◌, length, Option, Some}
+use Rattle.std.proofs.Common.{rules, ◌≡◌, ◌⊎◌, inl, inr, ℕ, Bool, true, false, cond, eqb, eqb-true, List, [], ◌∷◌, length, Option, Some}
 use Rattle.std.{proofs.Common.{None, option_map, refl, sym, ap, ◌∙◌, subst}, proofs.lemmas.Bool.{cond-false, cond-true, false≢true}}
-use Rattle.std.{proofs.lemmas.Option.{none-some, same_Some}, specs.List.slice_get, specs.Option.option_or, specs.Prelude.{is_some, ◌&&◌}}
-use mathlib.Core.List.{head-eq_of_cons-eq}
+use Rattle.std.{proofs.lemmas.Option.{none-some, same_Some}, specs.List.slice_get, specs.Option.option_or, specs.Prelude.is_some}
 use Rattle.yq_core.{specs.Answers.◌>>=◌, specs.Paths.{Step, node_at}, specs.Text.is_empty, specs.Collections.CollPieces}
-use Rattle.yq_core.specs.Nodes.{IsFlowNode, FlowNode, empty, alias, scalar, coll, anchored, node_text, takes_anchor}
-use Rattle.yq_core.specs.Trees.{node_head}
-use Rattle.yq_outline.{specs.Comments.head_comment, specs.Outline.{Line, Outline, flatten}, specs.Places.{FoundLine, find}}
-use Rattle.yq_outline.{specs.Positions.has_no_mark, proofs.Decides.flatten-group}
-use Rattle.yq_outline.specs.Lines.{head_of, lines_from, lines_of_rows, line_mark}
+use Rattle.yq_core.{specs.Nodes.{IsFlowNode, FlowNode, node_text}, specs.Trees.node_head}
+use Rattle.yq_outline.{specs.Outline.{Line, Outline, flatten}, specs.Places.{FoundLine, find}, specs.Positions.has_no_mark}
+use Rattle.yq_outline.{proofs.Decides.flatten-group, specs.Lines.{head_of, lines_of_rows}}
 use Rattle.yq_row_table.{specs.Exchange.asked_behind, specs.Grammar.{IsContent, IsRow, Limit, unlimited}}
 use Rattle.yq_row_table.specs.Rows.{Content, Nothing, Inline, Block, Cut, Part, Row, cut_text, parent_indent, rows_text}
 use Rattle.yq_row_table.specs.View.{anchor_cut, content_cut, slices}
@@ -31,28 +28,17 @@ use Rattle.yq_outline.specs.Outline as outlines
 -- ---- lines of items or entries
 
 none_there : (o : Outline) → HasEntries o → [] ≡ flatten o → ⊥
-none_there outlines.end h e = h
-none_there (outlines.row k u v) h e = cc
+none_there o h e = search rules
 
 first_is : (o : Outline) (l : Line) (ls : List Line) → HasEntries o → l ∷ ls ≡ flatten o → IsEntry l.mark
-first_is outlines.end l ls h e = absurd h
-first_is (outlines.row k u v) l ls h e = subst (λ (z : Line). IsEntry z.mark) (sym (head-eq_of_cons-eq e)) h
+first_is o l ls h e = search rules
 
 no_bare : (m : outlines.LineMark) → IsEntry m → has_no_mark m ≡ false
-no_bare outlines.Bare h = absurd h
-no_bare (outlines.Key k) h = refl
-no_bare outlines.Dash h = refl
+no_bare m h = search rules
 
 -- their first row isn't a node alone on its line
 not_alone : (r : Row) (rs : List Row) (o : Outline) → HasEntries o → lines_of_rows (r ∷ rs) ≡ flatten o → is_alone r ≡ false
-not_alone r rs o block lines = go r.dashes refl
-  where
-    go : (ds : List ℕ) → r.dashes ≡ ds → is_alone r ≡ false
-    go [] none =
-        let first = ap (λ (ds : List ℕ). lines_from (head_comment r.gap) r.column ds r.mark r.content) none in
-        let own : has_no_mark (line_mark r.mark) ≡ false = no_bare (line_mark r.mark) (first_is o _ (lines_of_rows rs) block (sym (ap (λ (ls : List Line). ls ++ lines_of_rows rs) first) ∙ lines)) in
-        (λ i. is_empty (none i) && own i)
-    go (d ∷ ds) some = ap (λ (xs : List ℕ). is_empty xs && has_no_mark (line_mark r.mark)) some
+not_alone r rs o block lines = search (rules, no_bare, first_is)
 
 -- ---- at the end of a block collection
 
@@ -63,18 +49,7 @@ IsPut l key v s = (ss : List Segment) × (block_more l key v s ≡ Some ss)
 -- nothing but an anchor is written of a node without a head
 head_bare : (flow : Bool) (spaces : Option ℕ) (d : ℕ) (node : FlowNode) (rest : List ℕ) → IsFlowNode flow spaces d node rest → node_head node ≡ None → (anchor_cut node).2 ≡ []
 unfolding IsFlowNode node_text
-head_bare flow spaces d empty rest h e = refl
-head_bare flow spaces d (alias n) rest h e = absurd (none-some _ (sym e))
-head_bare flow spaces d (scalar p) rest h e = absurd (none-some _ (sym e))
-head_bare flow spaces d (coll k g is) rest h e = absurd (none-some _ (sym e))
-head_bare flow spaces d (anchored n g node) rest h e = bare node h.3 e
-  where
-    bare : (m : FlowNode) → takes_anchor m ≡ true → node_head m ≡ None → node_text m [] ≡ []
-    bare empty t e = refl
-    bare (alias n) t e = absurd (none-some _ (sym e))
-    bare (scalar p) t e = absurd (none-some _ (sym e))
-    bare (coll k g is) t e = absurd (none-some _ (sym e))
-    bare (anchored n g node) t e = absurd (false≢true t)
+head_bare flow spaces d node rest h e = search (rules, none-some, false≢true)
 
 module _ (l : Layout) (key : Option (List ℕ)) (v : tree.Node) where
   below_put : (e : RowsOfEntry) (us : List Row) (o : Outline) → HasEntries o → lines_of_rows us ≡ flatten o → IsPut l key v (below e us)
@@ -137,8 +112,7 @@ taken None n h = ((false, h.1), ap held_in h.2, refl)
 taken (Some k) n h = ((true, h.1), ap held_in h.2, refl)
 
 bracket_takes : (key : Option (List ℕ)) (w : CollPieces) → eqb w.close 125 ≡ is_some key → takes_key w.close key ≡ true
-bracket_takes None w e = ap (λ (b : Bool). cond b false (not false)) e
-bracket_takes (Some k) w e = ap (λ (b : Bool). cond b true (not true)) e
+bracket_takes key w e = search rules
 
 -- ---- either
 
@@ -159,6 +133,4 @@ takers_have_edit n steps key v c read fits =
         let w = flow_there c n steps x (record { read = read; part = p; there = there; line = y.0.0; rest = y.0.1; found = y.1; at = (fits.2.2.0, at, holds) }) in
         let own : takes_key w.0.close key ≡ true = bracket_takes key w.0 (ap (λ (z : Holds). z.0) w.2 ∙ takes) in
         or_second (standing_at n steps c >>= block_more (layout_of n c) key v) (flow_collection n steps c >>= flow_more (cut_text c) key v) _ (ap (λ (o : Option CollPieces). o >>= flow_more (cut_text c) key v) w.1 ∙ cond-true _ _ _ own)
-    go p there at x holds takes (inr b) =
-        let w = block_put (layout_of n c) key v n steps c p b.0 read there b.1 in
-        (w.0, ap (λ (o : Option (List Segment)). option_or o (flow_collection n steps c >>= flow_more (cut_text c) key v)) w.1)
+    go p there at x holds takes (inr b) = search (rules, block_put (layout_of n c) key v n steps c p b.0 read there b.1)

@@ -1,6 +1,6 @@
 -- One item or entry more at the end of a block collection: what is put there reads as the documents after the operation.
-use Rattle.std.proofs.Common.{inl, inr, ◌⊎◌, ◌≡◌, ℕ, zero, suc, ◌<◌, ◌≤◌, Bool, true, false, cond, eqb, not, List, [], ◌∷◌, ◌++◌, length}
-use Rattle.std.proofs.Common.{drop, replicate, Option, Some, refl, sym, ap, ◌∙◌, subst, arith, append_assoc, append-nil}
+use Rattle.std.proofs.Common.{rules, inl, inr, ◌⊎◌, ◌≡◌, ℕ, zero, suc, ◌<◌, ◌≤◌, Bool, true, false, cond, eqb, not, List, [], ◌∷◌, ◌++◌}
+use Rattle.std.proofs.Common.{length, drop, replicate, Option, Some, refl, sym, ap, ◌∙◌, subst, arith, append_assoc, append-nil}
 use Rattle.std.{proofs.lemmas.Bool.{cases_lt, cond-false, eqb-true, eqb-false}, proofs.lemmas.Option.{none-some, same_Some}}
 use Rattle.yq_core.{specs.BlockWritten.break_text, specs.Paths.Step, specs.Text.is_empty, specs.Tree.Node, proofs.Bools.bind_some}
 use Rattle.yq_row_table.{specs.Exchange.row_front, specs.Grammar.{AreDashes, AreRows, IsRow, Limit, unlimited}}
@@ -57,13 +57,11 @@ module _ (n : ℕ) (s : Step) (ss : List Step) (key : Option (List ℕ)) (v : No
       let below_text : List ℕ = (slices e.row).raw ++ rows_text e.under [] in
       let first : IsRow _ r _ = (row_there unlimited (e.front ++ (e.row ∷ [])) r (rs ++ e.back) there.part.end (behind_document n c)
       (subst (λ us. AreRows unlimited us there.part.end (behind_document n c)) (there.rows_are ∙ (ap (λ us. e.front ++ (e.row ∷ (us ++ e.back))) is ∙ sym (append_assoc e.front (e.row ∷ []) (r ∷ (rs ++ e.back))))) (are n s ss c e there))).1 in
-      let own : is_empty (print_row r (rows_text rs [])) ≡ false =
-      some_behind r.gap (replicate r.column 32 ++ behind_indent r (rows_text rs [])) (some_behind (replicate r.column 32) (behind_indent r (rows_text rs [])) (entry_some _ r _ (rows_text rs []) first single)) in
+      let own : is_empty (print_row r (rows_text rs [])) ≡ false = search (rules, some_behind, entry_some) in
       let some : is_empty below_text ≡ false = ap (λ us. is_empty ((slices e.row).raw ++ rows_text us [])) is ∙ some_behind (slices e.row).raw (print_row r (rows_text rs [])) own in
       let last_is : (held e).last ≡ last_break below_text = cond-false _ _ _ some in
       let text : rows_text (e.front ++ (e.row ∷ e.under)) [] ≡ (rows_text e.front [] ++ (text_to_line_end e.row ++ (slices e.row).tail)) ++ below_text =
-      rows_front e.front (e.row ∷ e.under) []
-      ∙ (ap (λ t. rows_text e.front [] ++ t) (row_text_parts e.row (rows_text e.under []) ∙ sym (append_assoc (text_to_line_end e.row) (slices e.row).tail below_text)) ∙ sym (append_assoc (rows_text e.front []) (text_to_line_end e.row ++ (slices e.row).tail) below_text)) in
+      search (rules, rows_front, row_text_parts, append_assoc) in
       let broken : not (is_empty (held e).last) ≡ is_broken rows.last.content = ap (λ t. not (is_empty t)) last_is ∙ broken_by _ below_text text some in
       let end = ends_there n s ss c e there r.column (not (is_empty (held e).last)) (headless_mark n s ss c e there last none) (begins_under n s ss c e there r rs last is single) broken in
       let bare : RowsOfEntry = record { start = e.start; front = e.front; row = e.row; line = e.line; under = e.under; back = []; end = []; behind = [] } in
@@ -85,8 +83,7 @@ module _ (n : ℕ) (s : Step) (ss : List Step) (key : Option (List ℕ)) (v : No
       let some : is_empty t ≡ false = dash_some e.line e.row.dashes less row_is.1.dashes row_is.1 in
       let broken : not (is_empty w.last) ≡ is_broken rows.last.content = broken_by _ t text some in
       let end = ends_there n s ss c e there w.column (not (is_empty w.last)) (headless_dash n s ss c e there less) (begins_behind n s ss c e there less) broken in
-      let spelled : w.before ++ (w.old ++ w.last) ≡ before_entry e ++ print_row e.row (rows_text e.under []) =
-      ap (λ z. w.before ++ z) (less_is t) ∙ (append_assoc (before_entry e) (row_front (upto_dash e.line e.row)) t ∙ ap (λ z. before_entry e ++ z) (sym cut_is)) in
+      let spelled : w.before ++ (w.old ++ w.last) ≡ before_entry e ++ print_row e.row (rows_text e.under []) = search (rules, less_is, append_assoc) in
       more_edit_at n (s ∷ ss) key v c (end_at n s ss c e there w.column (not (is_empty w.last))) _ read (place w.column (not (is_empty w.last)) end) (lines_put_at w.before w.old w.last w.behind w.column _ _ _ spelled)
     where
       dashed : (ns ms : List ℕ) (limit : Limit) (rest : List ℕ) → IsRow limit e.row rest → (1 ≤ length ns) → AreDashes ns e.row.mark → is_empty (dashes_text ms (behind_dashes e.row (rows_text e.under []))) ≡ false
@@ -167,8 +164,7 @@ root_edit n key v c d us read at is = go d.part.rows refl is
             let x : CollectionEnd = record { column = r.column; before = d.before ++ rows_text d.part.rows []; broken = not (is_empty w.last); behind = d.part.end ++ rest } in
             let end : IsCollectionEnd c n d.part [] x =
             root_ends n c d.part d.before r rs (not (is_empty w.last)) stands.there are_rows a (λ q. stands.put q ∙ ap (λ u. d.before ++ part_text q u) (sym stands.behind)) broken in
-            let spelled : w.before ++ (w.old ++ w.last) ≡ x.before =
-            ap (λ z. w.before ++ z) (less_is t) ∙ (append_assoc d.before (r.gap ++ replicate r.column 32) t ∙ (ap (λ z. d.before ++ z) (sym text) ∙ ap (λ us. d.before ++ rows_text us []) (sym are_rows))) in
+            let spelled : w.before ++ (w.old ++ w.last) ≡ x.before = search (rules, less_is, append_assoc) in
             more_edit_at n [] key v c x _ read (record { part = d.part; there = stands.there; end = end })
             (subst (λ (z : List ℕ). IsPutAt (record { column = r.column; before = x.before; broken = x.broken; behind = d.part.end ++ z }) (more_lines (layout_of n c) key v r.column w.last) (behind_lines w.before w.old w.last (more_lines (layout_of n c) key v r.column w.last) w.behind)) (sym stands.behind)
             (lines_put_at w.before w.old w.last w.behind r.column _ _ _ spelled))

@@ -1,10 +1,10 @@
 -- One item or entry more at the end of a block collection: the segments that put it there, and what they come to.
-use Rattle.std.proofs.Common.{inl, ◌≡◌, ℕ, ◌≤◌, Bool, true, false, List, [], ◌++◌, length, Option, Some, refl, sym, ap, ◌∙◌, subst}
+use Rattle.std.proofs.Common.{rules, inl, ◌≡◌, ℕ, ◌≤◌, Bool, true, false, List, ◌++◌, length, Option, Some, refl, sym, ap, ◌∙◌, subst}
 use Rattle.std.{proofs.Common.{append_assoc, append-nil}, proofs.lemmas.Option.same_Some}
-use Rattle.yq_core.{specs.BlockWritten.break_text, specs.Paths.{Step, node_at}, specs.Tree.Node}
+use Rattle.yq_core.{specs.BlockWritten.break_text, specs.Paths.Step, specs.Tree.Node}
 use Rattle.yq_text.{specs.Limit.text_limit, specs.Script.{Segment, kept_back, kept_front, new_text, old_text}}
 use Rattle.yq_row_table.specs.Rows.{Cut, cut_text}
-use Rattle.yq_documents.{specs.Documents.{Document, document_parts}, specs.Reading.{documents, read_at}}
+use Rattle.yq_documents.specs.Reading.{documents, read_at}
 use Rattle.yq_semantics.{specs.Fits.Fits, specs.Operations.append, specs.Rooms.room_of}
 use Rattle.yq_places.{specs.CollectionEnds.CollectionEnd, specs.Standings.Held}
 use Rattle.yq_edit_rules.{specs.ClosedTexts.lines_put_behind, specs.EditLaws.IsEdit}
@@ -13,7 +13,6 @@ use Rattle.yq_edit_rules.{specs.Operands.HasOperand, specs.ReadsAfter.ReadsAfter
 use Rattle.yq_edit_rules.{proofs.AppendPlaces.{IsAppendPlace, IsAsked, old_is, p, put_segments}, proofs.DoneLaws.nth_map}
 use Rattle.yq_edit_rules.proofs.EditsFitLaws.{tree_unique}
 use Rattle.yq_edit_laws.proofs.AppendInside.{inside_both}
-use Rattle.yq_documents.specs.Reading as reading
 
 -- ---- at the end of a collection
 
@@ -31,19 +30,7 @@ put_both n steps key v c x read at g = go x.broken refl
 
 asked : (n : ℕ) (steps : List Step) (key : Option (List ℕ)) (v : Node) (c : Cut) (x : CollectionEnd) (read : read_at (cut_text c) ≡ Some c) (at : IsAppendPlace n steps c x) → HasOperand (append n steps key v) → Fits (room_of (cut_text c)) (append n steps key v) (documents c) →
     IsAsked steps key v (p n steps c x read at)
-asked n steps key v c x read at operand fits =
-    let d : reading.part_document at.part ≡ fits.0 = same_Some _ _ (sym (nth_map n at.part reading.part_document (document_parts c) at.there) ∙ fits.1) in
-    record {
-      key_utf8 = operand.0;
-      value_tree = operand.1;
-      unique = tree_unique v fits.2.1.0;
-      short = fits.2.0;
-      near = fits.2.1.1;
-      deep = fits.2.1.2;
-      node = fits.2.2.0;
-      node_is = ap (λ (y : Document). node_at steps y.root) d ∙ fits.2.2.1;
-      takes = fits.2.2.2;
-    }
+asked n steps key v c x read at operand fits = search (rules, same_Some, nth_map, tree_unique)
 
 -- Segments put a text at the end of a collection.
 pub record IsPutAt (x : CollectionEnd) (new : List ℕ) (ss : List Segment) : Type 0 where
@@ -86,24 +73,8 @@ edit_at n steps key v c x ss read at is = record {
 
 pub held_put_at : (h : Held) (column : ℕ) (new : List ℕ) (before : List ℕ) (broken : Bool) → h.before ++ (h.space ++ (h.head ++ (h.white ++ (h.comment ++ (h.break ++ (h.lines ++ h.last)))))) ≡ before →
     IsPutAt (record { column = column; before = before; broken = broken; behind = h.behind }) new (behind_held h new)
-held_put_at h column new before broken is =
-    let front : List ℕ = h.before ++ (h.space ++ (h.head ++ (h.white ++ (h.comment ++ (h.break ++ (h.lines ++ h.last)))))) in
-    let kept : kept_front (behind_held h new) ≡ front = simp append-nil refl in
-    let all : (t : List ℕ) → h.before ++ (h.space ++ (h.head ++ (h.white ++ (h.comment ++ (h.break ++ (h.lines ++ (h.last ++ t))))))) ≡ front ++ t = λ t. simp append_assoc refl in
-    record {
-      before = kept ∙ is;
-      behind = append-nil h.behind;
-      old = all (h.behind ++ []) ∙ (λ i. is i ++ append-nil h.behind i);
-      text = all (new ++ (h.behind ++ [])) ∙ (λ i. is i ++ (new ++ append-nil h.behind i));
-    }
+held_put_at h column new before broken is = search (rules, append-nil, append_assoc)
 
 pub lines_put_at : (before old last behind : List ℕ) (column : ℕ) (new text : List ℕ) (broken : Bool) → before ++ (old ++ last) ≡ text →
     IsPutAt (record { column = column; before = text; broken = broken; behind = behind }) new (behind_lines before old last new behind)
-lines_put_at before old last behind column new text broken is =
-    let all : (t : List ℕ) → before ++ (old ++ (last ++ t)) ≡ (before ++ (old ++ last)) ++ t = λ t. simp append_assoc refl in
-    record {
-      before = ap (λ t. before ++ (old ++ t)) (append-nil last) ∙ is;
-      behind = append-nil behind;
-      old = all (behind ++ []) ∙ (λ i. is i ++ append-nil behind i);
-      text = all (new ++ (behind ++ [])) ∙ (λ i. is i ++ (new ++ append-nil behind i));
-    }
+lines_put_at before old last behind column new text broken is = search (rules, append_assoc, append-nil)

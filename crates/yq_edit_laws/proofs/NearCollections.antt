@@ -1,11 +1,10 @@
 -- Collections to which steps lead in a node, each item or entry found on its own.
-use Rattle.std.proofs.Common.{◌≡◌, ◌-◌, ◌<◌, ◌≤◌, List, [], ◌∷◌, Option, Some, None, Bool, true, false, cond, drop, length, map}
-use Rattle.std.proofs.Common.{slice_index_or, take, arith, refl, sym, ap, ◌∙◌, subst, take_all}
-use Rattle.std.{proofs.lemmas.Option.{none-some, same_Some}, proofs.lemmas.Bool.false≢true, specs.Prelude.option_and_then}
+use Rattle.std.proofs.Common.{rules, ◌≡◌, ◌-◌, ◌<◌, ◌≤◌, List, [], ◌∷◌, Option, Some, None, Bool, true, false, cond, drop, length, map}
+use Rattle.std.{proofs.Common.{slice_index_or, take, arith, sym, ap, ◌∙◌, subst, take_all}, proofs.lemmas.Option.{none-some, same_Some}}
+use Rattle.std.{proofs.lemmas.Bool.false≢true, specs.Prelude.option_and_then}
 use Rattle.yq_core.{specs.Answers.◌>>=◌, specs.Entries.{PlacedEntry, flow_part_at, parts_of, placed_entry_at, tree_step}}
 use Rattle.yq_core.{specs.Keys.{EachHasUniqueKeys, HasUniqueKeys}, specs.Paths.{Step, further, is_here}, specs.Tree.key_label}
-use Rattle.yq_core.specs.Places.{Parts, Placed, end, mapping, name, nothing, part, placed, sequence, text}
-use Rattle.yq_core.specs.Trees.{parts_tree, placed_tree, unplaced_key}
+use Rattle.yq_core.{specs.Places.{Parts, Placed, end, part}, specs.Trees.{parts_tree, placed_tree, unplaced_key}}
 use Rattle.yq_places.specs.FlowViews.{behind_anchor, collection_along, collection_of}
 use Rattle.yq_edit_laws.specs.NearParts.{IsUniqueNode, is_collection}
 use Rattle.yq_core.specs.declared.path.Step as declared
@@ -31,13 +30,7 @@ unique_part s (part key n ps) e at h = go (is_here s (key_label (unplaced_key ke
     go false there own again = again there
 
 parts_unique : (p : Placed) → IsUniqueNode p → (s : Step) (e : PlacedEntry) → flow_part_at s (parts_of p) ≡ Some e → HasUniqueKeys (placed_tree e.1)
-parts_unique (placed a i c j nothing) h s e at = absurd (none-some _ at)
-parts_unique (placed a i c j (name n)) h s e at = absurd (none-some _ at)
-parts_unique (placed a i c j (text k q)) h s e at = absurd (none-some _ at)
-parts_unique (placed None i c j (sequence ps)) h s e at = unique_part s ps e at (h refl)
-parts_unique (placed (Some a) i c j (sequence ps)) h s e at = unique_part s ps e at (h refl)
-parts_unique (placed None i c j (mapping ps)) h s e at = unique_part s ps e at (h refl).1
-parts_unique (placed (Some a) i c j (mapping ps)) h s e at = unique_part s ps e at (h refl).1
+parts_unique p h s e at = search (rules, none-some, unique_part)
 
 pub part_unique : (p : Placed) (s : Step) (e : PlacedEntry) → IsUniqueNode p → Some e ≡ flow_part_at s (parts_of p) → IsUniqueNode e.1
 part_unique p s e h at is = parts_unique p h s e (sym at)
@@ -69,18 +62,10 @@ pub none_along : (steps : List Step) (p : Placed) → None ≡ placed_entry_at s
 none_along steps p e = ap coll_or_none e
 
 is_own : (p : Placed) → is_collection p ≡ true → collection_of p ≡ Some (behind_anchor p)
-is_own (placed a s c e nothing) h = absurd (false≢true h)
-is_own (placed a s c e (name n)) h = absurd (false≢true h)
-is_own (placed a s c e (text k q)) h = absurd (false≢true h)
-is_own (placed a s c e (sequence ps)) h = refl
-is_own (placed a s c e (mapping ps)) h = refl
+is_own p h = search (rules, false≢true)
 
 is_no_own : (p : Placed) → is_collection p ≡ false → collection_of p ≡ None
-is_no_own (placed a s c e nothing) h = refl
-is_no_own (placed a s c e (name n)) h = refl
-is_no_own (placed a s c e (text k q)) h = refl
-is_no_own (placed a s c e (sequence ps)) h = absurd (false≢true (sym h))
-is_no_own (placed a s c e (mapping ps)) h = absurd (false≢true (sym h))
+is_no_own p h = search (rules, false≢true)
 
 pub own_along : (steps : List Step) (p : Placed) (e : PlacedEntry) → Some e ≡ placed_entry_at steps (None, p) → is_collection e.1 ≡ true → Some (behind_anchor e.1) ≡ collection_along steps p
 own_along steps p e at is = sym (is_own e.1 is) ∙ ap coll_or_none at

@@ -1,31 +1,29 @@
 -- What each operation puts is near.
-use Rattle.std.proofs.Common.{◌≡◌, ◌⊎◌, inl, inr, ℕ, ◌≤◌, Bool, true, false, cond, ◌&&◌, not, eqb, List, [], ◌∷◌, length, Option, Some}
-use Rattle.std.{proofs.Common.{None, option_map, refl, sym, subst}, specs.Prelude.⊤, proofs.lemmas.Option.{none-some, same_Some}}
+use Rattle.std.proofs.Common.{rules, ◌≡◌, ◌⊎◌, inl, inr, ℕ, ◌≤◌, Bool, true, false, cond, eqb, List, [], ◌∷◌, length, Option, Some, None}
+use Rattle.std.{proofs.Common.{option_map, refl, subst}, specs.Prelude.⊤, proofs.lemmas.Option.{none-some, same_Some}}
 use Rattle.std.specs.Option.{option_or}
-use Rattle.yq_core.{specs.Answers.◌>>=◌, specs.BlockWritten.break_text, specs.Paths.Step, specs.Scalar.ScalarText, specs.Text.is_empty}
-use Rattle.yq_core.{specs.Tree.Node, specs.Writable.{can_write, is_string}, specs.Written.double}
-use Rattle.yq_core.{specs.declared.style.Place.TheVariants.Block as InBlock, specs.declared.style.Style.TheVariants.Literal}
-use Rattle.yq_core.{proofs.Bools.bind_some, specs.Collections.CollPieces, specs.NodesWritten.{flow_key, flow_of}}
-use Rattle.yq_text.{specs.Limit.text_limit, specs.Script.{Segment, from_first, keep, new_text, put}}
-use Rattle.yq_row_table.{specs.Rows.{Content, Nothing, Inline, Block, Cut, Row, cut_text}, specs.View.slices}
+use Rattle.yq_core.{specs.Answers.◌>>=◌, specs.Paths.Step, specs.Scalar.ScalarText, specs.Tree.Node, specs.Writable.can_write}
+use Rattle.yq_core.{specs.Written.double, specs.declared.style.Place.TheVariants.Block as InBlock}
+use Rattle.yq_core.{specs.declared.style.Style.TheVariants.Literal, proofs.Bools.bind_some, specs.Collections.CollPieces}
+use Rattle.yq_core.specs.NodesWritten.{flow_key, flow_of}
+use Rattle.yq_text.{specs.Limit.text_limit, specs.Script.{Segment, from_first, keep, new_text}}
+use Rattle.yq_row_table.specs.Rows.{Content, Cut, Row, cut_text}
 use Rattle.yq_documents.specs.Reading.{documents, read_at}
 use Rattle.yq_flow_edits.{specs.FlowEdits.{FlowEdit, appending}, specs.Removals.removing, proofs.RemoveTexts.either}
-use Rattle.yq_places.{specs.FirstPlaces.first_removal, specs.FlowNodes.flow_collection, specs.NodesAt.{node_in, scalar_in}}
+use Rattle.yq_places.{specs.FirstPlaces.first_removal, specs.FlowNodes.flow_collection, specs.NodesAt.node_in}
 use Rattle.yq_places.{specs.PlacedRows.{PlacedPart, placed_document}, specs.RemovalPlaces.{has_others_at, removal_place}}
-use Rattle.yq_places.specs.Standings.{BlockRoot, Compact, FlowPart, Held, Lone, RowsOfEntry, Standing, alone, behind_mark, below, beside}
-use Rattle.yq_places.specs.Standings.{block, compact, compact_in, entry_standing, flow_standing, held, is_alone, last_step, no_rows}
-use Rattle.yq_places.{specs.Standings.{rows_of_entry, root, root_standing, standing_at, under}, proofs.PrintedTexts.map_some}
+use Rattle.yq_places.specs.Standings.{Compact, Held, RowsOfEntry, Standing, alone, behind_mark, below, beside, block, compact}
+use Rattle.yq_places.specs.Standings.{entry_standing, flow_standing, held, last_step, no_rows, rows_of_entry, root, root_standing}
+use Rattle.yq_places.{specs.Standings.{standing_at, under}, proofs.PrintedTexts.map_some}
 use Rattle.yq_semantics.{specs.Fits.Fits, specs.Operations.{replace, append, remove, line_comment, head_comment}, specs.Rooms.room_of}
-use Rattle.yq_edit_rules.specs.declared.layout.Layout.{Layout}
-use Rattle.yq_edit_rules.specs.CommentEdits.{above_rows, comment_put, comment_written, head_comment_put, head_comment_segments}
-use Rattle.yq_edit_rules.specs.CommentEdits.{line_comment_put}
-use Rattle.yq_edit_rules.specs.Edits.{empty_collection, part_removed, replace_segments, rows_or_sole, sole_removed}
+use Rattle.yq_edit_rules.{specs.declared.layout.Layout.Layout, specs.CommentEdits.{comment_put, head_comment_put, line_comment_put}}
+use Rattle.yq_edit_rules.specs.Edits.{part_removed, replace_segments, rows_or_sole, sole_removed}
 use Rattle.yq_edit_rules.specs.EntryEdits.{block_more, one_removed}
 use Rattle.yq_edit_rules.{specs.FlowParts.{flow_more, flow_put, flow_removed, flow_segments, takes_key}, specs.Layouts.layout_of}
 use Rattle.yq_edit_rules.{specs.Removing.rows_removed, specs.RemovingFirst.first_removed}
 use Rattle.yq_edit_rules.specs.ReplaceEdits.{block_put, compact_put, has_text, held_put, literal_put, block_scalar_put, string_put}
 use Rattle.yq_edit_rules.{specs.ReplaceEdits.value_put, specs.Replacing.keeps_scalar}
-use Rattle.yq_edit_rules.specs.WrittenValues.{Written, compact_text, inline, lines, written_at, written_under}
+use Rattle.yq_edit_rules.specs.WrittenValues.{Written, compact_text, inline, lines}
 use Rattle.yq_edit_laws.specs.TouchedRanges.{AreInLines, EditsAreNear, IsLocalEdit}
 use Rattle.yq_edit_laws.{proofs.HeldRanges.{IsInLine, held_in_line, nothing_line}, proofs.RemovingLaws.rows_near}
 
@@ -40,14 +38,11 @@ held_near br h (inline t) k = (nothing_line, (k.ends, (nothing_line, tt)))
 held_near br h (compact_text t) k = (nothing_line, (k.ends, (nothing_line, tt)))
 held_near br h (lines t) k = (nothing_line, (k.ends, (nothing_line, tt)))
 
-literal_near : (br : List ℕ) (h : Held) (indent : ℕ) (t : List ℕ) → IsInLine h → InLines (literal_put br h indent t)
-literal_near br h indent t k = (nothing_line, (k.broken, (nothing_line, tt)))
-
 string_near : (br : List ℕ) (h : Held) (indent : ℕ) (s : ScalarText) → IsInLine h → InLines (string_put br h indent s)
 string_near br h indent s k = go (can_write s Literal InBlock)
   where
     go : (b : Bool) → InLines (cond b (literal_put br h indent s.text) (held_put br h (inline (double s.text))))
-    go true = literal_near br h indent s.text k
+    go true = (nothing_line, (k.broken, (nothing_line, tt)))
     go false = held_near br h (inline (double s.text)) k
 
 block_near : (br : List ℕ) (h : Held) (w : Written) → IsInLine h → InLines (block_put br h w)
@@ -56,12 +51,7 @@ block_near br h (compact_text t) k = held_near br h (compact_text t) k
 block_near br h (lines t) k = (nothing_line, (nothing_line, (k.broken, (nothing_line, tt))))
 
 scalar_near : (text : Bool) (br : List ℕ) (h : Held) (indent : ℕ) (w : Written) (s : Option ScalarText) → IsInLine h → InLines (block_scalar_put text br h indent w s)
-scalar_near text br h indent w None k = block_near br h w k
-scalar_near text br h indent w (Some s) k = go (text && is_string s.kind)
-  where
-    go : (b : Bool) → InLines (cond b (string_put br h indent s) (block_put br h w))
-    go true = string_near br h indent s k
-    go false = block_near br h w k
+scalar_near text br h indent w s k = search (rules, block_near, string_near)
 
 dash_near : (br : List ℕ) (p : Compact) (w : Written) → InLines (compact_put br p w)
 dash_near br p (inline t) = (nothing_line, tt)
@@ -79,45 +69,19 @@ StandsInLine (root w) = ⊤
 StandsInLine (no_rows w) = ⊤
 
 value_near : (text : Bool) (l : Layout) (v : Node) (t : Standing) → StandsInLine t → InLines (value_put text l v t)
-value_near text l v (alone w) k = (nothing_line, tt)
-value_near text l v (beside h) k = held_near (break_text l.br) h (written_at l h.mark h.head v) k
-value_near text l v (under h column) k = held_near (break_text l.br) h (written_under l h.mark v) k
-value_near text l v (compact p) k = dash_near (break_text l.br) p (written_at l p.mark [] v)
-value_near text l v (block h indent) k = scalar_near text (break_text l.br) h indent (written_at l h.mark [] v) (scalar_in v) k
-value_near text l v (root w) k = (nothing_line, tt)
-value_near text l v (no_rows w) k = (nothing_line, tt)
+value_near text l v t k = search (rules, nothing_line, held_near, dash_near, scalar_near)
 
 below_in_line : (e : RowsOfEntry) → IsInLine (held e) → (rs : List Row) → StandsInLine (below e rs)
-below_in_line e k [] = k
-below_in_line e k (r ∷ rs) = go _ (is_alone r)
-  where
-    go : (w : Lone) (b : Bool) → StandsInLine (cond b (alone w) (under (held e) r.column))
-    go w true = tt
-    go w false = k
+below_in_line e k rs = search rules
 
 mark_in_line : (e : RowsOfEntry) → IsInLine (held e) → (x : Content) → StandsInLine (behind_mark e x)
-mark_in_line e k (Nothing tail) = below_in_line e k e.under
-mark_in_line e k (Inline space node tail) = go (is_empty (slices e.row).head)
-  where
-    go : (b : Bool) → StandsInLine (cond b (below e e.under) (beside (held e)))
-    go true = below_in_line e k e.under
-    go false = k
-mark_in_line e k (Block space anchor b) = k
+mark_in_line e k x = search (rules, below_in_line)
 
 entry_in_line : (e : RowsOfEntry) → IsInLine (held e) → StandsInLine (entry_standing e)
-entry_in_line e k = go (eqb e.line (length e.row.dashes))
-  where
-    go : (b : Bool) → StandsInLine (cond b (behind_mark e e.row.content) (compact (compact_in e)))
-    go true = mark_in_line e k e.row.content
-    go false = tt
+entry_in_line e k = search (rules, mark_in_line)
 
 root_in_line : (d : PlacedPart) (rs : List Row) → StandsInLine (root_standing d rs)
-root_in_line d [] = tt
-root_in_line d (r ∷ rs) = go _ _ (is_alone r)
-  where
-    go : (w : Lone) (b : BlockRoot) (x : Bool) → StandsInLine (cond x (alone w) (root b))
-    go w b true = tt
-    go w b false = tt
+root_in_line d rs = search rules
 
 stands_in_line : (n : ℕ) (steps : List Step) (c : Cut) (t : Standing) → read_at (cut_text c) ≡ Some c → standing_at n steps c ≡ Some t → StandsInLine t
 stands_in_line n [] c t read at = let d = map_some (placed_document n c) at in subst StandsInLine d.2 (root_in_line d.0 d.0.part.rows)
@@ -127,9 +91,6 @@ stands_in_line n (s ∷ ss) c t read at = let e = map_some (rows_of_entry n (s �
 
 flow_near : (t : List ℕ) (e : FlowEdit) → InLines (flow_segments t e)
 flow_near t e = (nothing_line, (nothing_line, tt))
-
-flow_put_near : (t : List ℕ) (v : Node) (x : FlowPart) → InLines (flow_put t v x)
-flow_put_near t v x = (nothing_line, (nothing_line, tt))
 
 flow_removed_near : (t : List ℕ) (s : Step) (w : CollPieces) (ss : List Segment) → flow_removed t s w ≡ Some ss → InLines ss
 flow_removed_near t s w ss is = let e = map_some (removing s w) is in subst InLines e.2 (flow_near t e.0)
@@ -142,23 +103,10 @@ flow_more_near t key v w ss = go (appending (flow_key key) (flow_of v) w) (takes
     go e false is = absurd (none-some _ is)
 
 more_near : (l : Layout) (key : Option (List ℕ)) (v : Node) (t : Standing) (ss : List Segment) → block_more l key v t ≡ Some ss → InLines ss
-more_near l key v (alone w) ss is = absurd (none-some _ is)
-more_near l key v (beside h) ss is = absurd (none-some _ is)
-more_near l key v (under h column) ss is = subst InLines (same_Some _ _ is) (nothing_line, tt)
-more_near l key v (compact p) ss is = subst InLines (same_Some _ _ is) (nothing_line, tt)
-more_near l key v (block h indent) ss is = absurd (none-some _ is)
-more_near l key v (root w) ss is = subst InLines (same_Some _ _ is) (nothing_line, tt)
-more_near l key v (no_rows w) ss is = absurd (none-some _ is)
+more_near l key v t ss is = search (rules, none-some, same_Some, nothing_line)
 
 comment_near : (text : List ℕ) (h : Held) → InLines (comment_put text h)
-comment_near text h = go (is_empty text && not (is_empty h.comment))
-  where
-    behind : List Segment
-    behind = put h.comment (comment_written text h.comment) ∷ (keep h.break ∷ (keep h.lines ∷ (keep h.last ∷ (keep h.behind ∷ []))))
-
-    go : (b : Bool) → InLines (keep h.before ∷ (keep h.space ∷ (keep h.head ∷ (cond b (put h.white []) (keep h.white) ∷ behind))))
-    go true = (nothing_line, (nothing_line, tt))
-    go false = (nothing_line, tt)
+comment_near text h = search (rules, nothing_line)
 
 line_near : (text : List ℕ) (e : RowsOfEntry) (ss : List Segment) → line_comment_put text e ≡ Some ss → InLines ss
 line_near text e ss = go (eqb e.line (length e.row.dashes))
@@ -168,11 +116,7 @@ line_near text e ss = go (eqb e.line (length e.row.dashes))
     go false is = absurd (none-some _ is)
 
 head_near : (br text : List ℕ) (e : RowsOfEntry) (ss : List Segment) → head_comment_put br text e ≡ Some ss → InLines ss
-head_near br text e ss = go (eqb e.line 0)
-  where
-    go : (b : Bool) → cond b (Some (head_comment_segments br text (above_rows e))) None ≡ Some ss → InLines ss
-    go true is = subst InLines (same_Some _ _ is) (nothing_line, tt)
-    go false is = absurd (none-some _ is)
+head_near br text e ss = search (rules, same_Some, nothing_line, none-some)
 
 -- ---- the table
 
@@ -181,7 +125,7 @@ replaced_near n steps v c ss read is = go (keeps_scalar (node_in n steps c) v) i
   where
     there : (option_map (value_put (has_text (node_in n steps c)) (layout_of n c) v) (standing_at n steps c) ≡ Some ss) ⊎ (option_map (flow_put (cut_text c) v) (flow_standing n c (last_step steps)) ≡ Some ss) → InLines ss
     there (inl e) = let t = map_some (standing_at n steps c) e in subst InLines t.2 (value_near (has_text (node_in n steps c)) (layout_of n c) v t.0 (stands_in_line n steps c t.0 read t.1))
-    there (inr e) = let x = map_some (flow_standing n c (last_step steps)) e in subst InLines x.2 (flow_put_near (cut_text c) v x.0)
+    there (inr e) = let x = map_some (flow_standing n c (last_step steps)) e in subst InLines x.2 ((nothing_line, (nothing_line, tt)))
 
     go : (b : Bool) → cond b (Some (keep (cut_text c) ∷ [])) (option_or (option_map (value_put (has_text (node_in n steps c)) (layout_of n c) v) (standing_at n steps c)) (option_map (flow_put (cut_text c) v) (flow_standing n c (last_step steps)))) ≡ Some ss →
         InLines ss
@@ -195,9 +139,7 @@ appended_near n steps key v c ss (inr e) = let w = bind_some (flow_collection n 
 
 module _ (n : ℕ) (steps : List Step) (c : Cut) (ss : List Segment) (read : read_at (cut_text c) ≡ Some c) (fits : Fits (room_of (cut_text c)) (remove n steps) (documents c)) (size : length (new_text ss) ≤ text_limit) where
   one_near : has_others_at n steps c ≡ true → (option_map rows_removed (removal_place n steps c) ≡ Some ss) ⊎ (option_map first_removed (first_removal n steps c) ≡ Some ss) → IsLocalEdit ss
-  one_near others (inl e) =
-      let x = map_some (removal_place n steps c) e in
-      subst IsLocalEdit x.2 (inr (rows_near n steps c x.0 read others x.1 fits (subst (λ (s : List Segment). length (new_text s) ≤ text_limit) (sym x.2) size)))
+  one_near others (inl e) = search (rules, map_some (removal_place n steps c) e, rows_near)
   one_near others (inr e) = let x = map_some (first_removal n steps c) e in subst IsLocalEdit x.2 (inl (nothing_line, (nothing_line, (nothing_line, (nothing_line, tt)))))
 
   part_near : (o : Option (List Step × Step)) → part_removed n c o ≡ Some ss → IsLocalEdit ss
@@ -206,9 +148,7 @@ module _ (n : ℕ) (steps : List Step) (c : Cut) (ss : List Segment) (read : rea
 
   sole_near : (o : Option (List Step × Step)) → sole_removed n c o ≡ Some ss → IsLocalEdit ss
   sole_near None e = absurd (none-some _ e)
-  sole_near (Some x) e =
-      let v = bind_some {f = λ (u : Node). replace_segments n x.0 u c} (node_in n x.0 c >>= empty_collection) e in
-      inl (replaced_near n x.0 v.0 c ss read v.2)
+  sole_near (Some x) e = search (rules, bind_some, replaced_near)
 
   rows_near_or_sole : (b : Bool) → has_others_at n steps c ≡ b → cond b (one_removed n steps c) (sole_removed n c (last_step steps)) ≡ Some ss → IsLocalEdit ss
   rows_near_or_sole true others is = one_near others (either _ _ is)

@@ -91,8 +91,7 @@ module _ (doc : ℕ) (s : Step) (ss : List Step) (c : Cut) (h : NodeRows doc s s
       rank_high outline.Dash = omega arith
 
       begins : (ls : List Line) → StartsAt (level h.found.line) ls → Begins (level h.found.line) ls
-      begins [] s = tt
-      begins (l ∷ ls) s = s
+      begins ls s = search rules
 
   pub rows_there : AreRows (asked_behind unlimited h.front) (h.row ∷ (h.under ++ h.back)) h.p.end (behind_document doc c)
   rows_there = own_rows (cut_text c) c doc h.p h.front h.row (h.under ++ h.back) h.old h.rows_are

@@ -29,8 +29,7 @@ follow_first limit column [] f h = refl
 follow_first limit column (b ∷ bs) f h = f b.column (let less = ltb-true b.column (suc column) h in omega (arith, less))
 
 led_below : (block : Bool) (lead : List (List ℕ)) (s : Step) (ss : List Step) (v : Node) → led block lead (s ∷ ss) v ≡ v
-led_below true lead s ss v = refl
-led_below false lead s ss v = refl
+led_below block lead s ss v = search rules
 
 -- Rows that are written for a value in the place of those of an item or entry: they may be there; the first begins as that one does; their lines are those of its dashes, the line of its mark with what then comes after that, and lines under it, and together these mean the value.
 pub record TakesNode (doc : ℕ) (s : Step) (ss : List Step) (c : Cut) (h : NodeRows doc s ss c) (v : Node) (new : List Row) : Type 0 where
@@ -76,14 +75,7 @@ module _ (doc : ℕ) (s : Step) (ss : List Step) (c : Cut) (h : NodeRows doc s s
 
   -- their lines
   takes_lines : TakesLines h.found h.front (h.row ∷ h.under) new (dashes_of h.mark) (line_with h.mark h.mark.content ∷ (lines_upto h.upto h.under).0) (line_with h.mark t.content) t.under
-  takes_lines = record {
-    before_are = before_are doc s ss c h;
-    old_lines = known_lines doc s ss c h;
-    size_is = size_is doc s ss c h;
-    new_lines = t.lines;
-    keys = t.keys;
-    anchors = t.anchors;
-  }
+  takes_lines = search (rules, before_are, known_lines, size_is)
 
   fits : LineFits [] h.found (replaced_node v) t.level (line_with h.mark t.content) t.under
   unfolding level

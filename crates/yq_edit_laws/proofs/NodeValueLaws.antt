@@ -1,11 +1,11 @@
 -- The rows that are written for a value in the place of those of an item or entry: after its key or dash, or under it.
-use Rattle.std.proofs.Common.{◌≡◌, ℕ, suc, ◌+◌, ◌*◌, ◌<◌, ◌≤◌, true, false, List, [], ◌∷◌, ◌++◌, Option, Some, None, refl, sym, ap, ◌∙◌}
-use Rattle.std.{proofs.Common.{subst, rules}, proofs.lemmas.Bool.false≢true}
+use Rattle.std.proofs.Common.{◌≡◌, ℕ, suc, ◌<◌, ◌≤◌, true, false, List, [], ◌∷◌, ◌++◌, Option, Some, None, refl, sym, ap, ◌∙◌, subst, rules}
+use Rattle.std.proofs.lemmas.Bool.{false≢true}
 use Rattle.yq_core.{specs.Paths.Step, specs.Piece.deeper, specs.Plain.ends_plain, specs.Text.separates, specs.Tree.{Node, anchor_of}}
 use Rattle.yq_outline.{specs.LineAnchors.HaveOneAnchorEach, specs.Comments.line_comment}
 use Rattle.yq_outline.{specs.Outline.{end, IsOpen, level, head_or, Stands, value}, specs.Places.content_under, proofs.ByRules.rules_give}
-use Rattle.yq_outline.specs.Lines.{content_anchor, head_of, tail_of, lines_of_rows, line_mark}
-use Rattle.yq_row_table.{specs.Alone.holds_nothing, specs.Exchange.with_content, specs.Grammar.{IsContent, IsTail, is_entry}}
+use Rattle.yq_outline.specs.Lines.{content_anchor, head_of, tail_of, lines_of_rows}
+use Rattle.yq_row_table.{specs.Alone.holds_nothing, specs.Exchange.with_content, specs.Grammar.{IsContent, IsTail}}
 use Rattle.yq_row_table.specs.Rows.{Content, content_text, Row, mark_column, parent_indent, rows_text, Cut, cut_text}
 use Rattle.yq_row_table.{specs.Seams.is_block, proofs.NodeExchange.{inline_starts, space_apart}, proofs.splices.PartPlaces.part_ends}
 use Rattle.yq_documents.{specs.Documents.ContentHasFitKeys, specs.PartNumbers.part_number}
@@ -14,9 +14,9 @@ use Rattle.yq_edit_rules.{proofs.InlineReplaceLaws.{deeper_entry, tail_ends_plai
 use Rattle.yq_edit_rules.proofs.UnderLaws.{line_with, gone_lines}
 use Rattle.yq_edit_rules.proofs.ValueContentLaws.{content_is, content_head, content_named, content_tail, content_keys}
 use Rattle.yq_edit_rules.{specs.declared.layout.Layout.Layout, specs.BlockPlaces.IsAbove, specs.BlockRows.{column_below, node_rows}}
-use Rattle.yq_edit_rules.specs.BlockValues.{HasNearKeys, IsFilledValue, IsEnd, entry_level, level_at}
-use Rattle.yq_edit_rules.{proofs.FitLaws.{anchors_fit, keys_fit, node_fit}, proofs.LaidRows.AreLaid}
-use Rattle.yq_edit_rules.{proofs.BlockLineLaws.{lines_deeper, node_stands}, proofs.PlaceLaws.under_laid, proofs.RowLaws.deeper_laid}
+use Rattle.yq_edit_rules.{specs.BlockValues.{HasNearKeys, IsFilledValue, IsEnd, level_at}, proofs.FitLaws.{anchors_fit, keys_fit, node_fit}}
+use Rattle.yq_edit_rules.{proofs.LaidRows.AreLaid, proofs.BlockLineLaws.{lines_deeper, node_stands}, proofs.PlaceLaws.under_laid}
+use Rattle.yq_edit_rules.proofs.RowLaws.{deeper_laid}
 use Rattle.yq_edit_laws.{proofs.ContentRows.{IsContentFor, mark_fit, takes_content, upto_gap}, proofs.MarkContentLaws.laid_free}
 use Rattle.yq_edit_laws.{proofs.NodeRowLaws.{NodeRows, back_there, entry, limit, near, rest, rows_there}, proofs.NodeTaken.TakesNode}
 use Rattle.yq_core.specs.Nodes as inline
@@ -30,9 +30,6 @@ abbrev pub mark_key : rows.RowMark → Option (List ℕ)
 mark_key rows.Bare = None
 mark_key rows.Dash = None
 mark_key (rows.Key key colon) = Some key
-
-mark_level : (m : rows.RowMark) (n : ℕ) → is_entry m ≡ true → 3 * n + outline.rank (line_mark m) ≡ entry_level (mark_key m) n
-mark_level m n h1 = search (rules, false≢true)
 
 -- ---- nothing but an anchor after a mark
 
@@ -95,7 +92,7 @@ module _ (doc : ℕ) (s : Step) (ss : List Step) (c : Cut) (h : NodeRows doc s s
 
     deep : outline.level (line_with h.mark x) < level_at below v
     unfolding level
-    deep = search (rules, mark_level, entry, lines_deeper)
+    deep = search (rules, false≢true, entry, lines_deeper)
 
     pub takes_under : TakesNode doc s ss c h v rows_under
     takes_under =

@@ -1,5 +1,5 @@
 -- One row of a document in the place of another.
-use Rattle.std.proofs.Common.{◌≡◌, ⊎_elim, inl, ℕ, ◌≤◌, true, false, List, [], ◌∷◌, ◌++◌, length, map, refl, sym, ap, ◌∙◌, subst}
+use Rattle.std.proofs.Common.{rules, ◌≡◌, ⊎_elim, inl, ℕ, ◌≤◌, true, false, List, [], ◌∷◌, ◌++◌, length, map, refl, sym, ap, ◌∙◌, subst}
 use Rattle.std.{proofs.Common.{append_assoc, Some}, proofs.lemmas.Bool.false≢true, proofs.lemmas.List.map-append}
 use Rattle.yq_core.{specs.Paths.{Step, changed_at, within}, specs.Tree.{Children, Node}}
 use Rattle.yq_text.{specs.Limit.text_limit, specs.Script.{Segment, old_text, new_text, are_kept, kept_front, kept_back}}
@@ -48,10 +48,7 @@ module _ (op : Operation) (c : Cut) (h : RowIn (op_document op) c) (new : Row) w
   rows_now = ap (λ (b : List Row). h.front ++ (new ∷ b)) (own_gap h.back h.part.end)
 
   pub text_now : cut_text (put_document (op_document op) row_put c) ≡ (h.start ++ rows_text h.front []) ++ print_row new (rows_text h.back (h.part.end ++ behind_document (op_document op) c))
-  text_now =
-      h.put row_put
-      ∙ (ap (λ l. h.start ++ l) ((λ i. rows_text (rows_now i) (own_end h.back h.part.end i ++ behind_document (op_document op) c)) ∙ rows_front h.front (new ∷ h.back) _)
-      ∙ sym (append_assoc h.start (rows_text h.front []) _))
+  text_now = search (rules, rows_now, own_end, rows_front, append_assoc)
 
   -- Segments of the text make that with the new row, and keep what is before the row and after it.
   pub record PutsRow (us : List Segment) : Type 0 where
@@ -71,9 +68,7 @@ module _ (op : Operation) (c : Cut) (h : RowIn (op_document op) c) (new : Row) w
   -- in a block root, where the row has the shape of the old one
   pub shape_keeps : row_shape new ≡ row_shape h.row → is_block_root h.part ≡ true → KeepsRoom
   shape_keeps shape block =
-      let all : map row_shape row_put.rows ≡ map row_shape h.part.rows =
-      ap (map row_shape) rows_now
-      ∙ (map-append row_shape h.front (new ∷ h.back) ∙ (ap (λ x. map row_shape h.front ++ (x ∷ map row_shape h.back)) shape ∙ sym (ap (map row_shape) h.rows_are ∙ map-append row_shape h.front (h.row ∷ h.back)))) in
+      let all : map row_shape row_put.rows ≡ map row_shape h.part.rows = search (rules, rows_now, map-append) in
       let alike = shapes_are_alike h.part row_put all in
       record { block = alike.1; lead = block_lead_goes h.part row_put block (has_entries h.front new h.back row_put rows_now (alike.1 ∙ block)); room = λ sets. alike.0 }
 

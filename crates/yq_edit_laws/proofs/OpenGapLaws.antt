@@ -1,5 +1,5 @@
 -- A gap without a final break, with one after it: it is a gap before any text, and ends in the same comment.
-use Rattle.std.proofs.Common.{◌≡◌, ◌&&◌, inl, inr, eqb, List, [], ◌∷◌, ◌++◌, ℕ, is_some, true, false, cond, refl, sym, ap, ◌∙◌, subst}
+use Rattle.std.proofs.Common.{◌≡◌, ◌&&◌, inr, eqb, List, [], ◌∷◌, ◌++◌, ℕ, is_some, true, false, cond, refl, sym, ap, ◌∙◌, subst}
 use Rattle.std.{proofs.Common.{append_assoc, append-nil, ⊎_elim, rules}, proofs.lemmas.Bool.false≢true}
 use Rattle.yq_core.{specs.BlockWritten.break_text, specs.Characters.pairs_returns}
 use Rattle.yq_core.{specs.Text.{front, is_empty, joined, past_white, with_first}, specs.declared.block_types.Break.Break}
@@ -46,12 +46,7 @@ module _ (l : List ℕ) (h : IsGapLine l []) (open' : is_closed_text l ≡ false
   spelled = ap (λ x. x ++ break_text br) bare ∙ append_assoc h.white h.comment (break_text br)
 
   last_broken : (x : List ℕ) → IsGapLine (l ++ break_text br) x
-  last_broken x = record {
-    white = h.white;
-    comment = h.comment;
-    line = record { break = break_text br; spelled = spelled; blank = h.line.blank; as_comment = as_comment; ends = inl (break_is br) };
-    some = some_more l (break_text br) h.some;
-  }
+  last_broken x = search (rules, spelled, as_comment, break_is, some_more)
 
   same_text : comment_text (l ++ break_text br) ≡ comment_text l
   same_text = search (rules, spelled, comment_is, as_comment, break_is, old_comment, append-nil, bare)

@@ -74,8 +74,7 @@ is_last break (suc i) (marked q m2 c) started p m h none =
       before_is = ap (λ t. part_text p m ++ t) r.before_is ∙ sym (append_assoc (part_text p m) r.pre (last_marker next));
       part_is = r.part_is;
       long = r.long;
-      placed = (λ j. record { before = part_text p m ++ (r.placed j).before; part = (r.placed j).part; behind = (r.placed j).behind })
-          ∙ (λ j. record { before = sym (append_assoc (part_text p m) (before_part (suc i) next) break) j; part = nth_part (suc i) next; behind = [] });
+      placed = search (rules, append_assoc);
       numbers_are = numbers_later p m _ next r.numbers_are;
       parts_are = λ b. ap (with_part b p) (r.parts_are (begins_document m));
       begins = ap (λ b. begins_document m || b) r.begins;
@@ -101,8 +100,7 @@ pub record IsBehindMarker (break : List ℕ) (n : ℕ) (c : Cut) (d : PlacedPart
   pub new_are : (q : Part) → items_of_cut (with_last_part break q c) ≡ above ++ (end_item gap (last_marker c ++ break) ∷ rows_items q.rows (end_item q.end [] ∷ []))
 
 bare_same : (break : List ℕ) (q p : Part) (m : List ℕ) (c : Cut) → begins_bare (with_last_part break q (marked p m c)) ≡ begins_bare (marked p m c)
-bare_same break q p m (last x) = refl
-bare_same break q p m (marked x m2 c) = refl
+bare_same break q p m c = search rules
 
 pub behind_marker : (break : List ℕ) (n : ℕ) (c : Cut) (d : PlacedPart) → AreParts true c → placed_document n c ≡ Some d → d.behind ≡ [] → is_empty d.before ≡ false → IsBehindMarker break n c d
 behind_marker break n (last p) d h at none some = absurd (false≢true (sym some ∙ ap (λ (y : PlacedPart). is_empty y.before) (sym (part_stands n (last p) d at).is)))

@@ -1,5 +1,5 @@
 -- Where the root of a document comes that has no rows, after a text that doesn't end in a break: on a line of its own, after a break that comes first.
-use Rattle.std.proofs.Common.{◌≡◌, ◌⊎◌, inl, inr, ℕ, ◌≤◌, List, [], ◌∷◌, ◌++◌, length, Some, true, false, refl, sym, ap, ◌∙◌, subst, arith}
+use Rattle.std.proofs.Common.{◌≡◌, inl, inr, ℕ, ◌≤◌, List, [], ◌∷◌, ◌++◌, length, Some, true, false, refl, sym, ap, ◌∙◌, subst, arith}
 use Rattle.std.proofs.Common.{append_assoc, append-nil, length-append, rules}
 use Rattle.std.{proofs.lemmas.Bool.{false≢true, cond-true, false_from_ne_true, and_parts}, proofs.lemmas.Str.is_utf8-from_IsUtf8}
 use Rattle.std.{specs.List.list_all, specs.Str.{chars, is_utf8}}
@@ -143,9 +143,7 @@ module _ (n : ℕ) (c : Cut) (w : NoRows) (read : read_at (cut_text c) ≡ Some 
 
       takes_behind_marker : TakesValue n (with_last_part (break_text br) h.d.part c) (broken_before (break_text br) h.d) h.d.part.end [] []
       unfolding other_root
-      takes_behind_marker =
-          let t = takes_unwritten n other place other_read other_root other_closed br in
-          record { stands = t.stands; old = t.old; block = t.block; room = room_at_end h.d.part.end t.room.front; lead = t.lead; starts = t.starts }
+      takes_behind_marker = search (rules, takes_unwritten n other place other_read other_root other_closed br, room_at_end)
 
   -- ---- both
 
@@ -204,8 +202,4 @@ module _ (n : ℕ) (c : Cut) (w : NoRows) (read : read_at (cut_text c) ≡ Some 
         (before ∙ h.before_is) (behind ∙ (h.behind_is ∙ sym st.behind)))
 
     pub open_carried : CarriedOut (replace n [] v) c ss
-    open_carried = go (empty_cases h.d.part.end)
-      where
-        go : (h.d.part.end ≡ []) ⊎ (is_empty h.d.part.end ≡ false) → CarriedOut (replace n [] v) c ss
-        go (inl none) = carried_behind_marker none
-        go (inr some) = carried_behind_gap some
+    open_carried = search (rules, empty_cases, carried_behind_marker, carried_behind_gap)

@@ -1,5 +1,5 @@
 -- Operations of a plan, the first of them apart.
-use Rattle.std.proofs.Common.{◌≡◌, ℕ, ◌-◌, ◌≤◌, List, [], ◌∷◌, ◌++◌, length, take, drop, slice_index_or, refl, sym, ap, ◌∙◌, subst}
+use Rattle.std.proofs.Common.{rules, ◌≡◌, ℕ, ◌-◌, ◌≤◌, List, [], ◌∷◌, ◌++◌, length, take, drop, slice_index_or, refl, sym, ap, subst}
 use Rattle.std.proofs.Common.{take_all, append-nil, arith}
 use Rattle.yq_semantics.{specs.Operations.{operation_of, operations_of}, specs.declared.op.Op.Op}
 use Rattle.yq_text.specs.Splice.{Splice}
@@ -23,20 +23,12 @@ first_apart (x ∷ os) op some at = (λ i. sym at i ∷ sym (take_all (length (x
 
 -- one that is the last one
 pub last_comes : (os : List Op) (op : Op) (t : List ℕ) → 1 ≤ length os → op ≡ slice_index_or os 0 op → length (later os) ≡ 0 → carried (operation_of op) t ≡ carry_all (operations_of os) t
-last_comes os op t some at none = sym (ap (λ (x : List Op). carry_all (operations_of x) t) (first_apart os op some at) ∙ go (later os) none)
-  where
-    go : (ls : List Op) → length ls ≡ 0 → carry_all (operations_of (op ∷ ls)) t ≡ carried (operation_of op) t
-    go [] e = then_nothing (carried (operation_of op) t)
-    go (l ∷ ls) e = absurd (omega (arith, e))
+last_comes os op t some at h5 = search (rules, arith, first_apart, then_nothing)
 
 -- one that others follow
 pub others_come : (os : List Op) (op : Op) (t m : List ℕ) (bs cs all : List Splice) → 1 ≤ length os → op ≡ slice_index_or os 0 op → carried (operation_of op) t ≡ gives m cs → all ≡ bs ++ cs →
     edit_after all (carry_all (operations_of (later os)) m) ≡ edit_after bs (carry_all (operations_of os) t)
-others_come os op t m bs cs all some at new_bytes joined =
-    ap (λ (x : List Splice). edit_after x (carry_all (operations_of (later os)) m)) joined
-    ∙ (behind_both bs cs (carry_all (operations_of (later os)) m)
-    ∙ (ap (λ (x : Edit). edit_after bs (edit_then (carry_all (operations_of (later os))) x)) (sym new_bytes)
-    ∙ ap (λ (x : List Op). edit_after bs (carry_all (operations_of x) t)) (sym (first_apart os op some at))))
+others_come os op t m bs cs all some at new_bytes joined = search (rules, behind_both, first_apart)
 
 pub others_served : (os : List Op) (op : Op) (t m : List ℕ) (cs : List Splice) → 1 ≤ length os → op ≡ slice_index_or os 0 op → AreServed (operations_of os) t → IsApplied (operation_of op) t m cs →
     AreServed (operations_of (later os)) m
@@ -56,6 +48,4 @@ none_come [] t bs e = ap (gives t) (append-nil bs)
 none_come (o ∷ os) t bs e = absurd (omega (arith, e))
 
 pub first_fits : (os : List Op) (op : Op) (t : List ℕ) → 1 ≤ length os → op ≡ slice_index_or os 0 op → AreServed (operations_of os) t → IsFitting (operation_of op) t
-first_fits os op t some at h =
-    let s = subst (λ (x : List Op). AreServed (operations_of x) t) (first_apart os op some at) h in
-    fits s.0 (operation_of op) (operations_of (later os)) t s.1
+first_fits os op t some at h = search (rules, subst (λ (x : List Op). AreServed (operations_of x) t) (first_apart os op some at) h, fits)

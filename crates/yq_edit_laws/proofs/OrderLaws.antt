@@ -1,9 +1,8 @@
 -- Edits one after the other lead from text to text.
-use Rattle.std.proofs.Common.{◌≡◌, inl, inr, ℕ, List, [], ◌∷◌, ◌++◌, refl, sym, ap, ◌∙◌, subst, append_assoc, append-nil}
+use Rattle.std.proofs.Common.{rules, ◌≡◌, inl, inr, ℕ, List, [], ◌∷◌, ◌++◌, refl, sym, ap, ◌∙◌, subst, append_assoc, append-nil}
 use Rattle.yq_text.specs.Splice.{Splice}
 use Rattle.yq_edit_laws.{specs.Answers.EditFails, specs.Edit.{Edit, unreadable, refuses, gives, edit_after, edit_then, in_order}}
 use Rattle.yq_edit_laws.{specs.Theorems.{InOrder, Leading, StopsInOrder}, specs.declared.edit_error.EditError.EditError}
-use Rattle.yq_edit_laws.specs.declared.edit_error.EditError.TheVariants as error
 
 -- what is known of each step, said otherwise
 pub leads_so : {A : Type 0} (R S : Leading A) → ((x : A) (t new : List ℕ) (cs : List Splice) → R x t new cs → S x t new cs) →
@@ -14,11 +13,8 @@ leads_so R S each (x ∷ xs) t new cs h = (h.0, h.1, h.2, each x t h.0 h.1 h.3, 
 -- one step more
 pub leads_on : {A : Type 0} (R : Leading A) (xs : List A) (x : A) (t m new : List ℕ) (cs ds : List Splice) → InOrder R xs t m cs →
     R x m new ds → InOrder R (xs ++ x ∷ []) t new (cs ++ ds)
-leads_on R [] x t m new cs ds h step =
-    let all : cs ++ ds ≡ ds ++ [] = ap (λ l. l ++ ds) h.1 ∙ sym (append-nil ds) in
-    (new, ds, [], subst (λ s. R x s new ds) (sym h.0) step, (refl, refl), all)
-leads_on R (y ∷ xs) x t m new cs ds h step =
-    (h.0, h.1, h.2 ++ ds, h.3, leads_on R xs x h.0 m new h.2 ds h.4 step, ap (λ l. l ++ ds) h.5 ∙ append_assoc h.1 h.2 ds)
+leads_on R [] x t m new cs ds h step = search (rules, ap (λ l. l ++ ds) h.1 ∙ sym (append-nil ds))
+leads_on R (y ∷ xs) x t m new cs ds h step = search (rules, append_assoc, leads_on R xs x h.0 m new h.2 ds h.4 step)
 
 -- steps that give texts give the last one
 pub leads_give : {A : Type 0} (f : A → List ℕ → Edit) (R : Leading A) → ((x : A) (t new : List ℕ) (cs : List Splice) → R x t new cs → f x t ≡ gives new cs) →
@@ -30,25 +26,15 @@ leads_give f R each (x ∷ xs) t new cs h =
 
 -- an edit that fails, also after splices
 pub fails_behind : (e : EditError) (cs : List Splice) (r : Edit) → EditFails e r → EditFails e (edit_after cs r)
-fails_behind (error.Read fault) cs r h = (ap (edit_after cs) h.0, h.1)
-fails_behind (error.Refused why) cs r h = ap (edit_after cs) h
-fails_behind error.Memory cs r h = tt
+fails_behind e cs r h = search rules
 
 -- and without these
 pub fails_itself : (e : EditError) (cs : List Splice) (r : Edit) → EditFails e (edit_after cs r) → EditFails e r
-fails_itself (error.Read fault) cs unreadable h = h
-fails_itself (error.Read fault) cs (refuses why) h = absurd (let f = h.0 in cc)
-fails_itself (error.Read fault) cs (gives t ds) h = absurd (let f = h.0 in cc)
-fails_itself (error.Refused why) cs unreadable h = absurd (cc)
-fails_itself (error.Refused why) cs (refuses other) h = h
-fails_itself (error.Refused why) cs (gives t ds) h = absurd (cc)
-fails_itself error.Memory cs r h = tt
+fails_itself e cs r h = search rules
 
 -- an edit after no splices
 pub behind_none : (r : Edit) → edit_after [] r ≡ r
-behind_none unreadable = refl
-behind_none (refuses why) = refl
-behind_none (gives t cs) = refl
+behind_none r = search rules
 
 -- an edit after splices, after others
 pub behind_both : (bs cs : List Splice) (r : Edit) → edit_after (bs ++ cs) r ≡ edit_after bs (edit_after cs r)
@@ -58,17 +44,13 @@ behind_both bs cs (gives t ds) = ap (gives t) (append_assoc bs cs ds)
 
 -- a step that fails fails all that come after it
 pub fails_on : (e : EditError) (g : List ℕ → Edit) (r : Edit) → EditFails e r → EditFails e (edit_then g r)
-fails_on (error.Read fault) g r h = (ap (edit_then g) h.0, h.1)
-fails_on (error.Refused why) g r h = ap (edit_then g) h
-fails_on error.Memory g r h = tt
+fails_on e g r h = search rules
 
 -- and those that came before it
 pub leads_fail : {A : Type 0} (f : A → List ℕ → Edit) (R : Leading A) → ((x : A) (t new : List ℕ) (cs : List Splice) → R x t new cs → f x t ≡ gives new cs) →
     (xs : List A) (y : A) (ys : List A) (t m : List ℕ) (cs : List Splice) (e : EditError) → InOrder R xs t m cs → EditFails e (f y m) → EditFails e (in_order f (xs ++ y ∷ ys) t)
 leads_fail f R each [] y ys t m cs e h fails = fails_on e (in_order f ys) (f y t) (subst (λ s. EditFails e (f y s)) (sym h.0) fails)
-leads_fail f R each (x ∷ xs) y ys t m cs e h fails =
-    subst (EditFails e) (ap (edit_then (in_order f (xs ++ y ∷ ys))) (sym (each x t h.0 h.1 h.3)))
-    (fails_behind e h.1 (in_order f (xs ++ y ∷ ys) h.0) (leads_fail f R each xs y ys h.0 m h.2 e h.4 fails))
+leads_fail f R each (x ∷ xs) y ys t m cs e h fails = search (rules, fails_behind, leads_fail f R each xs y ys h.0 m h.2 e h.4 fails)
 
 -- a thing that is refused stops those that come after others
 pub leads_stop : {A : Type 0} (R : Leading A) (S : A → List ℕ → Type 0) (xs : List A) (y : A) (ys : List A) (t m : List ℕ) (cs : List Splice) → InOrder R xs t m cs →

@@ -1,8 +1,8 @@
 -- What putting a value into a flow collection comes to, by what the code finds.
-use Rattle.std.proofs.Common.{◌≡◌, ℕ, ◌-◌, List, [], ◌∷◌, ◌++◌, length, take, drop, Option, Some, None, option_map, refl, sym, ap, ◌∙◌}
-use Rattle.std.{proofs.Common.{subst, arith, append_assoc, append-nil, length-append}, proofs.Math.Seq.{take-append_seam, drop-append_seam}}
-use Rattle.std.{proofs.lemmas.Option.{none-some, same_Some}, specs.Prelude.{option_and_then, String, string_bytes}}
-use Rattle.std.specs.declared.alloc.Global.{Global}
+use Rattle.std.proofs.Common.{rules, ◌≡◌, ℕ, ◌-◌, List, [], ◌∷◌, ◌++◌, length, take, drop, Option, Some, None, option_map, refl, sym, ap}
+use Rattle.std.proofs.Common.{◌∙◌, subst, arith, append_assoc, append-nil, length-append}
+use Rattle.std.{proofs.Math.Seq.{take-append_seam, drop-append_seam}, proofs.lemmas.Option.{none-some, same_Some}}
+use Rattle.std.{specs.Prelude.{option_and_then, String, string_bytes}, specs.declared.alloc.Global.Global}
 use Rattle.yq_core.{specs.Paths.Step, specs.declared.style.Place.TheVariants.Flow as InFlow, specs.Collections.CollPieces}
 use Rattle.yq_core.specs.Entries.{EntryPieces, PlacedEntry, entry_pieces_at, item_at, locate_entry, flow_part_at, parts_of, placed_entry_at}
 use Rattle.yq_core.{specs.Nodes.{bare, coll, node_text}, specs.Places.{Placed, placed, locate}, specs.Trees.placed_tree}
@@ -29,12 +29,10 @@ core_parts : (q : Placed) → parts_of (behind_anchor q) ≡ parts_of q
 core_parts (placed a b c e f) = refl
 
 one_step : (o : Option PlacedEntry) → option_and_then (placed_entry_at []) o ≡ o
-one_step None = refl
-one_step (Some y) = refl
+one_step o = search rules
 
 one_piece : (o : Option EntryPieces) → option_and_then (entry_pieces_at []) o ≡ o
-one_piece None = refl
-one_piece (Some y) = refl
+one_piece o = search rules
 
 part_placed : (total : ℕ) (s : Step) (w : CollPieces) → flow_part_at s (parts_of (placed_collection total w)) ≡ option_map (locate_entry total) (item_at w.close s w.items w.rest)
 part_placed total s w =
@@ -53,10 +51,7 @@ old_at t before e is =
 -- how a value is written is the text of its node
 value_is : (old : List ℕ) (v : tree.Node) → value_text InFlow old v ≡ node_text (flow_value old v) []
 unfolding node_text flow_of
-value_is old (tree.alias name) = refl
-value_is old (tree.scalar a kind t) = sym (append-nil _)
-value_is old (tree.list a cs) = refl
-value_is old (tree.map a cs) = refl
+value_is old v = search (rules, append-nil)
 
 -- ---- the answers
 
@@ -91,11 +86,7 @@ module _ (c : Cut) (n : ℕ) (path init : List Step) (s : Step) (x : FlowHead) (
     pub placed_is : p ≡ locate_entry (length row) item
 
   pub part_found : (p : PlacedEntry) → o ≡ Some p → PartFound p
-  part_found p some = go (item_at own.close s own.items own.rest) refl (sym some ∙ part_is)
-    where
-      go : (y : Option EntryPieces) → item_at own.close s own.items own.rest ≡ y → Some p ≡ option_map (locate_entry (length row)) y → PartFound p
-      go None at e = absurd (none-some _ (sym e))
-      go (Some y) at e = record { item = y; at = at; placed_is = same_Some _ _ e }
+  part_found p some = search (rules, part_is, e, none-some, same_Some)
 
   module _ (p : PlacedEntry) (some : o ≡ Some p) where
     abbrev y : EntryPieces
@@ -173,6 +164,4 @@ puts_written n path v c before p written whole some all h =
     ∙ ap Some (sym (segments_at t w.before (put_edit v h.0) w.text) ∙ (λ i. edit_segments (sym all i) (sym w.place_is i) (sym k.1 i)))
 
 pub puts_kept : (n : ℕ) (path : List Step) (v : tree.Node) (c : Cut) (before : ℕ) (p : PartPut) → p.written ≡ None → ArePuts n path v c before (Some p) → part_replaced n path v c ≡ Some (keep (cut_text c) ∷ [])
-puts_kept n path v c before p none h =
-    let k = subst (IsWrittenPart (node_in n path c) v h.0) none h.3 in
-    λ i. option_map (part_put (cut_text c) (k i) v) (h.1 i)
+puts_kept n path v c before p h6 h = search rules

@@ -1,8 +1,8 @@
 -- The ranges of what segments put touch what is between two offsets of the text that they make.
-use Rattle.std.proofs.Common.{◌≡◌, ◌⊎◌, inl, inr, ℕ, ◌+◌, ◌<◌, ◌≤◌, Bool, true, false, cond, List, [], ◌∷◌, ◌++◌, length, refl, sym, ap}
+use Rattle.std.proofs.Common.{rules, ◌≡◌, ◌⊎◌, inl, inr, ℕ, ◌+◌, ◌<◌, ◌≤◌, Bool, true, false, List, [], ◌∷◌, ◌++◌, length, refl, sym, ap}
 use Rattle.std.{proofs.Common.{◌∙◌, subst, append_assoc, arith}, proofs.lemmas.Bool.{cases_lt, false≢true}}
 use Rattle.std.proofs.lemmas.List.{append_cancel_left, length-append}
-use Rattle.yq_core.{specs.Text.{is_empty, is_feed}, proofs.BlockPieceLaws.IsLf}
+use Rattle.yq_core.{specs.Text.is_empty, proofs.BlockPieceLaws.IsLf}
 use Rattle.yq_row_table.proofs.NothingLaws.{some_behind}
 use Rattle.yq_text.specs.Script.{Segment, keep, put, are_kept, extents, from_first, kept_back, kept_front, new_text, swapped_segments}
 use Rattle.yq_text.proofs.KeptSegments.{new_kept, one_kept}
@@ -14,11 +14,7 @@ use Rattle.yq_edit_rules.{proofs.HeldPieces.suffix_lf, proofs.LocalLaws.longer_f
 line_no_more : (f : List ℕ) (d : ℕ) (rest : List ℕ) → is_one_line (f ++ (10 ∷ (d ∷ rest))) ≡ true → ⊥
 unfolding is_one_line
 line_no_more [] d rest e = false≢true e
-line_no_more (b ∷ f) d rest e = go (line_no_more f d rest) (is_feed b) e
-  where
-    go : (is_one_line (f ++ (10 ∷ (d ∷ rest))) ≡ true → ⊥) → (x : Bool) → cond x (is_empty (f ++ (10 ∷ (d ∷ rest)))) (is_one_line (f ++ (10 ∷ (d ∷ rest)))) ≡ true → ⊥
-    go again true h = false≢true (sym (some_behind f (10 ∷ (d ∷ rest)) refl) ∙ h)
-    go again false h = again h
+line_no_more (b ∷ f) d rest e = search (rules, false≢true, some_behind, line_no_more f d rest)
 
 -- ---- offsets of a text that is cut in two
 
@@ -85,11 +81,7 @@ module _ (before behind : List ℕ) (to : ℕ) (ended : is_empty behind ≡ fals
 
       go : (length (lead ++ run) + length w < length before → are_kept ss ≡ false → IsTouched (length before) to (extents (length ((lead ++ run) ++ w) + 0) (swapped_segments ss))) →
           (to < length lead + length run) ⊎ (length lead + length run ≤ to) → IsTouched (length before) to (extents (length lead + length run) (swapped_segments (put o w ∷ ss)))
-      go later (inl k) = absurd (inside lead run (w ++ new_text ss) text first k within lines.0)
-      go later (inr k) =
-          let n : length ((lead ++ run) ++ w) + 0 ≡ length (lead ++ run) + length w = omega (arith, length-append (lead ++ run) w) in
-          subst (λ (n : ℕ). IsTouched (length before) to (extents n (swapped_segments (put o w ∷ ss)))) at
-          (begun (lead ++ run) o w ss whole (omega (arith, k, at)) back (λ less more. subst (λ (n : ℕ). IsTouched (length before) to (extents n (swapped_segments ss))) n (later less more)))
+      go later k = search (rules, arith, inside, length-append, begun, whole)
 
   -- from the first one on
   pub from_front : (lead : List ℕ) (ss : List Segment) → lead ++ new_text ss ≡ before ++ behind → AreInLines [] (from_first ss) → are_kept ss ≡ false → length lead + length (kept_front ss) ≤ to → length (kept_back ss) ≤ length behind →

@@ -1,5 +1,5 @@
 -- What removing from a flow collection comes to, by what the code finds.
-use Rattle.std.proofs.Common.{◌≡◌, ℕ, List, [], length, Option, Some, None, option_map, sym, ap, ◌∙◌, subst, refl}
+use Rattle.std.proofs.Common.{rules, ◌≡◌, ℕ, List, [], length, Option, Some, None, option_map, sym, ap, ◌∙◌, subst, refl}
 use Rattle.std.proofs.lemmas.Option.{none-some, same_Some}
 use Rattle.yq_core.{specs.Answers.◌>>=◌, specs.Paths.Step, specs.Collections.CollPieces, specs.Places.{Placed, placed}}
 use Rattle.yq_flow_edits.{specs.FlowEdits.FlowEdit, specs.FlowPlaces.{PlacedEdit, place_edit, remove_place}, specs.Removals.removing}
@@ -54,8 +54,4 @@ module _ (c : Cut) (n : ℕ) (path init : List Step) (s : Step) (x : FlowHead) (
           }
 
   pub removal_missing : None ≡ remove_place row s q → part_removed n c (last_step path) ≡ None
-  removal_missing is = go (removing s own) refl
-    where
-      go : (o : Option FlowEdit) → removing s own ≡ o → part_removed n c (last_step path) ≡ None
-      go None at = part_is ∙ ap (option_map (flow_segments (cut_text c))) (all_is ∙ ap (option_map (edit_more f.agrees.behind)) at)
-      go (Some e) at = absurd (none-some _ (is ∙ (place_is ∙ ap (option_map (place_edit (length row))) at)))
+  removal_missing is = search (rules, part_is, all_is, edit_more, none-some, place_is)

@@ -1,5 +1,5 @@
 -- An item or entry that is in rows can be taken out.
-use Rattle.std.proofs.Common.{◌≡◌, ◌-◌, Bool, true, false, cond, eqb, ℕ, List, [], ◌∷◌, ◌++◌, length, drop, map, Option, Some, None}
+use Rattle.std.proofs.Common.{rules, ◌≡◌, ◌-◌, Bool, true, false, cond, eqb, ℕ, List, [], ◌∷◌, ◌++◌, length, drop, map, Option, Some, None}
 use Rattle.std.{proofs.Common.{option_map, option_and_then, refl, ap, ◌∙◌}, proofs.lemmas.Bool.{cond-true, cond-false}}
 use Rattle.std.{specs.List.slice_get, specs.Option.option_or}
 use Rattle.yq_core.{specs.Answers.◌>>=◌, specs.Paths.Step}
@@ -10,8 +10,7 @@ use Rattle.yq_documents.{specs.declared.path.Part.TheVariants.Entry, specs.Piece
 use Rattle.yq_documents.specs.LinesInRows.{RowLine, row_line, row_line_of}
 use Rattle.yq_places.specs.FirstPlaces.{first_entry, first_out, first_removal}
 use Rattle.yq_places.specs.PathPieces.{BlockEntry, PrintedDocument, entry_piece, found_entry, piece_in, piece_in_entry, printed_document}
-use Rattle.yq_places.{specs.PlacedRows.PlacedPart, specs.PrintedLines.line_in}
-use Rattle.yq_places.specs.RemovalPlaces.{OwnRows, in_three, own_rows, removal_place, row_count, rows_out}
+use Rattle.yq_places.{specs.PrintedLines.line_in, specs.RemovalPlaces.{OwnRows, in_three, own_rows, removal_place, row_count, rows_out}}
 use Rattle.yq_places.{specs.Standings.{RowsOfEntry, rows_of_entry}, proofs.FoundEntries.{entry_there, middle}, proofs.PrintedLaws.lines_are}
 use Rattle.yq_places.{proofs.RowPathLaws.found_lines, proofs.DashLineLaws.row_line_found}
 use Rattle.yq_edit_rules.{specs.StandingLaws.StandsThere, proofs.StandingRows.rows_stand, specs.EntryEdits.one_removed}
@@ -36,8 +35,7 @@ module _ (n : ℕ) (s : Step) (ss : List Step) (c : Cut) (e : RowsOfEntry) (read
   printed_line : (w : RowLine) × (row_line (length (lines_before x.found.place)) x.part.rows ≡ Some w)
   printed_line =
       let lines : ls ≡ lines_before x.found.place ++ (x.found.line ∷ (flatten x.found.under ++ (flatten x.found.after ++ lines_after x.found.place))) = found_lines ls s ss [] x.found x.is in
-      let there : slice_get ls at ≡ Some x.found.line =
-      ap (λ (l : List Line). slice_get l at) lines ∙ middle (lines_before x.found.place) (flatten x.found.under ++ (flatten x.found.after ++ lines_after x.found.place)) x.found.line in
+      let there : slice_get ls at ≡ Some x.found.line = search (rules, middle) in
       let w = row_line_found p.rows at x.found.line there in
       (w.0, w.1)
 
@@ -49,8 +47,7 @@ module _ (n : ℕ) (s : Step) (ss : List Step) (c : Cut) (e : RowsOfEntry) (read
       let rows : own_rows (s ∷ ss) p.rows ≡ Some own =
       ap (λ (o : Option ℕ). o >>= λ k. row_line k p.rows >>= λ y. cond (eqb y.line 0) (Some (in_three y.before (row_count (lines_end k ls - k) (drop y.before p.rows)) p.rows)) None) number
       ∙ (ap (λ (o : Option RowLine). o >>= λ y. cond (eqb y.line 0) (Some (in_three y.before (row_count (lines_end at ls - at) (drop y.before p.rows)) p.rows)) None) is ∙ cond-true _ _ _ first) in
-      let place : removal_place n (s ∷ ss) c ≡ Some (rows_out d.0 own) =
-      ap (λ (o : Option PlacedPart). o >>= λ q. option_map (rows_out q) (own_rows (s ∷ ss) q.part.rows)) d.1 ∙ ap (option_map (rows_out d.0)) (ap (λ (q : Part). own_rows (s ∷ ss) q.rows) d.2 ∙ rows) in
+      let place : removal_place n (s ∷ ss) c ≡ Some (rows_out d.0 own) = search rules in
       (rows_removed (rows_out d.0 own), ap (option_map rows_removed) place)
 
   -- a line after a dash
@@ -68,9 +65,7 @@ module _ (n : ℕ) (s : Step) (ss : List Step) (c : Cut) (e : RowsOfEntry) (read
   by_first w is later =
       let y = piece_there in
       let row_found : row_line_of (s ∷ ss) p.rows ≡ Some w = ap (λ (o : Option ℕ). o >>= λ k. row_line k p.rows) number ∙ is in
-      let line : first_entry n (s ∷ ss) c ≡ Some y.0 =
-      ap (λ (o : Option Part). o >>= (λ (q : Part). row_line_of (s ∷ ss) q.rows) >>= λ z. cond (eqb z.line 0) None (printed_document n c >>= piece_in Entry (s ∷ ss))) x.old.there
-      ∙ (ap (λ (o : Option RowLine). o >>= λ z. cond (eqb z.line 0) None (printed_document n c >>= piece_in Entry (s ∷ ss))) row_found ∙ (cond-false _ _ _ later ∙ y.1)) in
+      let line : first_entry n (s ∷ ss) c ≡ Some y.0 = search (rules, cond-false) in
       (first_removed (first_out y.0), ap (λ (o : Option TextPiece). option_map first_removed (option_map first_out o)) line)
 
   either : (w : RowLine) → row_line at p.rows ≡ Some w → (b : Bool) → eqb w.line 0 ≡ b → (us : List Segment) × (one_removed n (s ∷ ss) c ≡ Some us)

@@ -1,9 +1,9 @@
 -- The first of several items or entries of a compact collection taken out of a text, by its segments.
-use Rattle.std.proofs.Common.{◌≡◌, ◌⊎◌, inl, inr, refl, ◌∷◌, [], ℕ, ◌≤◌, true, List, ◌++◌, length, Option, Some, None, option_map, sym, ap}
-use Rattle.std.{proofs.Common.{◌∙◌, subst, append-nil}, proofs.lemmas.Option.{none-some, same_Some}, specs.Option.option_or}
+use Rattle.std.proofs.Common.{rules, ◌≡◌, ◌⊎◌, inl, inr, refl, ◌∷◌, [], ℕ, ◌≤◌, true, List, ◌++◌, length, Option, Some, None, option_map}
+use Rattle.std.{proofs.Common.{sym, ap, ◌∙◌, subst, append-nil}, proofs.lemmas.Option.{none-some, same_Some}, specs.Option.option_or}
 use Rattle.yq_text.{specs.Limit.text_limit, specs.Script.{Segment, old_text, new_text}}
 use Rattle.yq_core.specs.Paths.{Step}
-use Rattle.yq_row_table.{specs.Rows.{Row, Cut, cut_text}, specs.Items.{row_item, rows_items}}
+use Rattle.yq_row_table.{specs.Rows.{Cut, cut_text}, specs.Items.rows_items}
 use Rattle.yq_places.{specs.FirstPlaces.{FirstOut, first_removal}, specs.RemovalPlaces.{Removal, has_others_at, removal_place}}
 use Rattle.yq_documents.specs.Reading.{read_at}
 use Rattle.yq_edit_rules.{specs.Changed.put_document, specs.RemovalChanges.IsTakenOut, proofs.DocumentItemLaws.rows_joined}
@@ -14,9 +14,6 @@ use Rattle.yq_edit_rules.{specs.ReadsAfter.ReadsAfter, proofs.LastRows.gone_last
 use Rattle.yq_edit_rules.proofs.LocalLaws.{cut_known, RowsGiveWay, one_local}
 use Rattle.yq_semantics.specs.Operations.{remove}
 use Rattle.yq_edit_laws.proofs.RemovingLaws.{may_take, rows_out, taken_reads}
-
-removed_old : (x : FirstOut) → old_text (first_removed x) ≡ x.before ++ (x.space ++ (x.entry ++ (x.break ++ (x.indent ++ x.behind))))
-removed_old x = ap (λ (t : List ℕ). x.before ++ (x.space ++ (x.entry ++ (x.break ++ (x.indent ++ t))))) (append-nil x.behind)
 
 removed_new : (x : FirstOut) → new_text (first_removed x) ≡ x.before ++ x.behind
 removed_new x = ap (λ (t : List ℕ). x.before ++ t) (append-nil x.behind)
@@ -55,14 +52,13 @@ left_local doc steps c x read old out a =
   where
     go : (e : RowsGiveWay (first_removed x) c doc out.new) → IsOneBreak e.trail ⊎ EndLastRow e.trail e.gone → InLast e.trail (rows_items e.gone [])
     go e (inl one) = gone_last (first_removed x) c doc out.new e read (one_break e.trail one)
-    go e (inr h) =
-        subst (λ (rs : List Row). InLast e.trail (rows_items rs [])) (sym h.2)
-        (subst (InLast e.trail) (sym (rows_joined h.0 (h.1 ∷ []) [])) (rows_last h.0 (row_item h.1) e.trail h.3))
+    go e (inr h) = search (rules, rows_joined, rows_last)
 
 -- the first item or entry of a compact collection taken out
 first_is_out : (n : ℕ) (steps : List Step) (c : Cut) (x : FirstOut) → read_at (cut_text c) ≡ Some c → has_others_at n steps c ≡ true → first_removal n steps c ≡ Some x → IsEdit (remove n steps) c (first_removed x)
 first_is_out n steps c x read others place =
-    let old : old_text (first_removed x) ≡ cut_text c = removed_old x ∙ sym (first_stands c n steps x place) in
+    let old : old_text (first_removed x) ≡ cut_text c =
+    (ap (λ (t : List ℕ). x.before ++ (x.space ++ (x.entry ++ (x.break ++ (x.indent ++ t))))) (append-nil x.behind)) ∙ sym (first_stands c n steps x place) in
     record {
       old = old;
       carried = λ operand fits size.

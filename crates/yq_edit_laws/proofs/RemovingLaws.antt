@@ -1,21 +1,18 @@
 -- One of several items or entries taken out of a text, by its segments.
-use Rattle.std.proofs.Common.{inl, arith, ◌≡◌, ℕ, ◌-◌, ◌≤◌, Bool, true, false, cond, List, [], ◌∷◌, ◌++◌, length, take, replicate, Option}
-use Rattle.std.proofs.Common.{Some, None, refl, sym, ap, ◌∙◌, subst, append_assoc, append-nil}
+use Rattle.std.proofs.Common.{rules, inl, arith, ◌≡◌, ℕ, ◌≤◌, Bool, true, false, cond, List, [], ◌∷◌, ◌++◌, length, replicate, Option, Some}
+use Rattle.std.proofs.Common.{None, refl, sym, ap, ◌∙◌, subst, append_assoc, append-nil}
 use Rattle.std.{proofs.lemmas.List.{take-append-drop, length-append}, proofs.lemmas.Option.same_Some}
-use Rattle.yq_core.{specs.Answers.◌>>=◌, specs.Block.RawLines, specs.BlockRepair.{is_short, is_outdented_comment, repair}}
-use Rattle.yq_core.{specs.Lines.is_blank, specs.Paths.{Step, node_at, remove_child}}
-use Rattle.yq_core.{specs.Text.{cut, no_white, past_white, upto, joined, text_lines}, specs.Tree.Node, proofs.LineLaws.joined_lines}
-use Rattle.yq_core.specs.Anchors.{names_of}
+use Rattle.yq_core.{specs.Block.RawLines, specs.BlockRepair.{is_short, is_outdented_comment, repair}, specs.Lines.is_blank}
+use Rattle.yq_core.{specs.Paths.Step, specs.Text.{cut, no_white, past_white, upto, joined, text_lines}, proofs.LineLaws.joined_lines}
 use Rattle.yq_text.{specs.Limit.text_limit, specs.Script.{Segment, keep, put, old_text, new_text, kept_back}}
 use Rattle.yq_text.proofs.KeptSegments.{IsBehind, behind, back_last}
-use Rattle.yq_row_table.{specs.Rows.{Row, print_row, behind_gap, Part, Cut, cut_text}, specs.Splices.first_gap}
-use Rattle.yq_documents.{specs.Documents.{Document, document_parts, lead_of}, specs.Reading.{documents, read_at, root_of}}
-use Rattle.yq_documents.{specs.TreeEdits.at_end, specs.Pieces.{before_run, last_run}, proofs.RunLaws.run_split}
-use Rattle.yq_places.specs.RemovalPlaces.{kept_gap, Seam, Removal, removal_place, has_several, has_others, has_others_at}
-use Rattle.yq_edit_rules.{specs.Conditions.AreSpared, specs.RemovalChanges.{mended, MayTakeOut, IsTakenOut}}
-use Rattle.yq_edit_rules.{proofs.LeadLaws.block_lead_goes, proofs.RemovalChangeLaws.{AreRowsTaken, removal_stands, entry_taken}}
-use Rattle.yq_edit_rules.{specs.Changed.put_document, specs.Removes.{left_gap, without}, specs.Done.IsDone, specs.EditLaws.IsEdit}
-use Rattle.yq_edit_rules.{specs.Removing.{put_indent, lines_mended, gap_mended, rows_removed}, specs.Local.{IsLocal, IsLocalTo}}
+use Rattle.yq_row_table.{specs.Rows.{Row, print_row, Part, Cut, cut_text}, specs.Splices.first_gap}
+use Rattle.yq_documents.{specs.Reading.{documents, read_at}, proofs.RunLaws.run_split}
+use Rattle.yq_places.specs.RemovalPlaces.{kept_gap, Seam, Removal, removal_place, has_others_at}
+use Rattle.yq_edit_rules.{specs.RemovalChanges.{mended, MayTakeOut, IsTakenOut}, proofs.LeadLaws.block_lead_goes}
+use Rattle.yq_edit_rules.{proofs.RemovalChangeLaws.{AreRowsTaken, removal_stands, entry_taken}, specs.Changed.put_document}
+use Rattle.yq_edit_rules.{specs.Removes.left_gap, specs.EditLaws.IsEdit}
+use Rattle.yq_edit_rules.{specs.Removing.{put_indent, lines_mended, gap_mended, rows_removed}, specs.Local.IsLocalTo}
 use Rattle.yq_edit_rules.{specs.ReadsAfter.ReadsAfter, proofs.ItemsLocal.last_within, proofs.LocalLaws.{at_row, cut_known}}
 use Rattle.yq_edit_rules.{proofs.DoneLaws.{document_done, part_of}, proofs.EditsFitLaws.not_used}
 use Rattle.yq_semantics.{specs.Fits.Fits, specs.Operations.remove, specs.Rooms.room_of}
@@ -61,12 +58,7 @@ gap_old (Some s) gap = lines_old s (text_lines gap) ∙ joined_lines gap
 line_new : (b k sh out : Bool) (column : ℕ) (l : List ℕ) (ls rs : RawLines) (ms : List Segment) → new_text ms ≡ joined rs →
     new_text (cond b (cond k (put l [] ∷ []) (cond sh (keep l ∷ []) (put_indent 0 l)) ++ ms) (cond out (keep l ∷ []) (put_indent column l) ++ (keep (joined ls) ∷ [])))
     ≡ joined (cond b (cond k rs (cond sh l (past_white l) ∷ rs)) (cond out l (replicate column 32 ++ past_white l) ∷ ls))
-line_new true true sh out column l ls rs ms h = h
-line_new true false true out column l ls rs ms h = ap (λ (x : List ℕ). l ++ x) h
-line_new true false false out column l ls rs ms h = ap (λ (x : List ℕ). past_white l ++ x) h
-line_new false k sh true column l ls rs ms h = ap (λ (x : List ℕ). l ++ x) (append-nil (joined ls))
-line_new false k sh false column l ls rs ms h =
-    ap (λ (x : List ℕ). replicate column 32 ++ (past_white l ++ x)) (append-nil (joined ls)) ∙ sym (append_assoc (replicate column 32) (past_white l) (joined ls))
+line_new b k sh out column l ls rs ms h = search (rules, append-nil, append_assoc)
 
 lines_new : (s : Seam) (ls : RawLines) → new_text (lines_mended s ls) ≡ joined (repair s.keeps s.indent s.column ls)
 unfolding repair
@@ -92,50 +84,22 @@ removed_new x =
 -- ---- the documents after it
 
 pub may_take : (doc : ℕ) (steps : List Step) (c : Cut) → has_others_at doc steps c ≡ true → Fits (room_of (cut_text c)) (remove doc steps) (documents c) → MayTakeOut c doc steps
-may_take doc steps c others fits =
-    let d : Document = fits.0 in
-    let p = part_of (document_parts c) doc d fits.1 in
-    let root : d.root ≡ root_of p.0 = ap (λ (x : Document). x.root) (sym p.2) in
-    let n : Node = fits.2.1.0 in
-    record {
-      part = p.0;
-      there = p.1;
-      others = (λ i. has_others steps (sym root i)) ∙ (sym (ap (λ o. has_several (o >>= λ (y : Document). node_at (take (length steps - 1) steps) y.root)) fits.1) ∙ others);
-      node = n;
-      node_is = (λ i. node_at steps (sym root i)) ∙ fits.2.1.1;
-      spared = subst (λ (r : Node). AreSpared (names_of n) [] (names_of r)) root (not_used (names_of d.root) (names_of n) fits.2.1.2);
-    }
+may_take doc steps c others fits = search (rules, part_of, not_used)
 
 -- the text without an item or entry reads so
 pub taken_reads : (doc : ℕ) (steps : List Step) (c : Cut) (t : List ℕ) → read_at (cut_text c) ≡ Some c → IsTakenOut c doc steps t → ReadsAfter (remove doc steps) c t
-taken_reads doc steps c t read out =
-    let done : IsDone (remove doc steps) c out.old out.new (lead_of out.new) (at_end remove_child steps) = record {
-      read = read;
-      there = out.there;
-      rows = out.rows;
-      changed = out.changed;
-      root = refl;
-      lead_goes = block_lead_goes out.old out.new out.old_block out.new_entries;
-      block = λ k. out.new_block ∙ sym out.old_block;
-      equal_room = λ k. absurd k;
-    } in
-    subst (ReadsAfter (remove doc steps) c) out.text (document_done (remove doc steps) c out.old out.new (lead_of out.new) (at_end remove_child steps) done)
+taken_reads doc steps c t read out = search (rules, block_lead_goes, document_done)
 
 -- ---- the items that go
 
 gap_no_longer : (rs : List Row) (end : List ℕ) (first : Row) (others : List Row) → rs ≡ first ∷ others → length (kept_gap rs end) ≤ length (print_row first [])
 gap_no_longer rs end first others e =
-    let parts : joined (before_run (text_lines first.gap)) ++ joined (last_run (text_lines first.gap)) ≡ first.gap = run_split (text_lines first.gap) ∙ joined_lines first.gap in
-    let kept : length (kept_gap rs end) ≡ length (joined (before_run (text_lines first.gap))) = ap (λ (xs : List Row). length (kept_gap xs end)) e in
-    omega (arith, kept, length-append (joined (before_run (text_lines first.gap))) (joined (last_run (text_lines first.gap))), ap length parts, length-append first.gap (behind_gap first []))
+    search (rules, arith, run_split (text_lines first.gap) ∙ joined_lines first.gap, ap (λ (xs : List Row). length (kept_gap xs end)) e, length-append)
 
 module _ (doc : ℕ) (steps : List Step) (c : Cut) (x : Removal) (old : old_text (rows_removed x) ≡ cut_text c) (out : IsTakenOut c doc steps (x.before ++ (mended x.seam x.gap ++ x.behind))) (a : AreRowsTaken c doc x out.old out.new) where
   -- the rows that go, with the gap after them
   abbrev own : List Row
   own = a.first ∷ a.others
-
-  new_text_is : cut_text (put_document doc (without a.front own a.back out.old) c) ≡ new_text (rows_removed x)
-  new_text_is = ap (λ (q : Part). cut_text (put_document doc q c)) (sym a.new_is) ∙ (out.text ∙ sym (removed_new x))
 
   went_out : RowsGoOut (rows_removed x) c doc out.old
   went_out =
@@ -161,24 +125,18 @@ module _ (doc : ℕ) (steps : List Step) (c : Cut) (x : Removal) (old : old_text
         ends = last_within (first_gap a.back p.end) m.old u (sym a.gap_is ∙ (sym (gap_old x.seam x.gap) ∙ m.old_is));
         puts = refl;
         old_is = old;
-        new_is = sym new_text_is;
+        new_is = sym (ap (λ (q : Part). cut_text (put_document doc q c)) (sym a.new_is) ∙ (out.text ∙ sym (removed_new x)));
       }
 
   taken_local : IsLocalTo (rows_removed x) c
   unfolding went_out
-  taken_local =
-      let local : IsLocal (rows_removed x) c (put_document doc (without a.front own a.back out.old) c) = out_local (rows_removed x) c doc out.old went_out in
-      cut_known (rows_removed x) c (put_document doc out.new c) out.changed.read (out.text ∙ sym (removed_new x)) (subst (λ (q : Part). IsLocal (rows_removed x) c (put_document doc q c)) (sym a.new_is) local)
-
-  -- All that is written lies in the item that begins with the gap.
-  lies_there : LiesInOne (rows_removed x) (put_document doc (without a.front own a.back out.old) c)
-  unfolding went_out
-  lies_there = out_in_one (rows_removed x) c doc out.old went_out
+  taken_local = search (rules, out_local (rows_removed x) c doc out.old went_out, cut_known, removed_new)
 
   pub lies_in_one : (new : Cut) → read_at (new_text (rows_removed x)) ≡ Some new → LiesInOne (rows_removed x) new
+  unfolding went_out
   lies_in_one new read =
       subst (LiesInOne (rows_removed x)) (same_Some _ _ (sym out.changed.read ∙ (ap read_at (out.text ∙ sym (removed_new x)) ∙ read)))
-      (subst (λ (q : Part). LiesInOne (rows_removed x) (put_document doc q c)) (sym a.new_is) lies_there)
+      (subst (λ (q : Part). LiesInOne (rows_removed x) (put_document doc q c)) (sym a.new_is) (out_in_one (rows_removed x) c doc out.old went_out))
 
 -- an item or entry taken out with its rows
 pub rows_out : (n : ℕ) (steps : List Step) (c : Cut) (x : Removal) → read_at (cut_text c) ≡ Some c → has_others_at n steps c ≡ true → removal_place n steps c ≡ Some x → IsEdit (remove n steps) c (rows_removed x)

@@ -9,20 +9,17 @@ use Rattle.yq_documents.specs.Reading.{documents, read_at}
 use Rattle.yq_places.{specs.RowPaths.IsReadable, specs.Standings.{BlockRoot, NoRows}}
 use Rattle.yq_edit_rules.{specs.Replaces.rooted, specs.TextPieces.IsPiece, proofs.FirstBreakLaws.IsOneBreak}
 use Rattle.yq_edit_rules.{proofs.TextPieceLaws.pieces_joined, specs.declared.layout.Layout.Layout, specs.BlockText.block_value}
-use Rattle.yq_edit_rules.{proofs.CharacterLaws.value_sound, specs.ClosedTexts.{is_closed_text, lines_put_behind}}
-use Rattle.yq_edit_rules.{specs.EditLaws.{CarriedOut, IsEdit}, specs.Layouts.layout_of, specs.ReplaceEdits.{no_rows_put, root_put}}
-use Rattle.yq_edit_rules.{proofs.CommentPieceLaws.break_piece, proofs.LastRows.lines_local, proofs.LayoutLaws.mapping_least}
-use Rattle.yq_edit_rules.{proofs.OneLines.is_one_line, proofs.SegmentLaws.segments_readable}
+use Rattle.yq_edit_rules.{specs.ClosedTexts.{is_closed_text, lines_put_behind}, specs.EditLaws.{CarriedOut, IsEdit}}
+use Rattle.yq_edit_rules.{specs.Layouts.layout_of, specs.ReplaceEdits.{no_rows_put, root_put}, proofs.CommentPieceLaws.break_piece}
+use Rattle.yq_edit_rules.{proofs.LastRows.lines_local, proofs.LayoutLaws.mapping_least, proofs.OneLines.is_one_line}
+use Rattle.yq_edit_rules.proofs.SegmentLaws.{segments_readable}
 use Rattle.yq_semantics.{specs.Fits.Fits, specs.Operations.replace, specs.Rooms.room_of}
 use Rattle.yq_edit_laws.specs.RootEdits.{NoRowsArePut, RootsArePut}
 use Rattle.yq_edit_laws.proofs.BlockRootLaws.{IsBlockRoot, block_root_at, takes_value, before_piece, last_piece, behind_piece}
 use Rattle.yq_edit_laws.{proofs.OpenRootLaws.open_carried, proofs.RootFits.{FitsPart, LocalRoot, fits_part, value_carried}}
 use Rattle.yq_edit_laws.{proofs.RootLocalLaws.{gap_moves, root_first}, proofs.RootReadLaws.are, proofs.RootRows.root_rows}
-use Rattle.yq_edit_laws.proofs.StandingRoots.{IsUnwrittenRoot, has_root, has_no_rows}
+use Rattle.yq_edit_laws.{proofs.StandingRoots.{IsUnwrittenRoot, has_root, has_no_rows}, proofs.HeldLines.block_piece}
 use Rattle.yq_edit_laws.proofs.UnwrittenRootLaws.{stands, whole, pieces, takes_unwritten}
-
-value_piece : (v : Node) (l : Layout) (column : ℕ) → IsValueTree v → IsPiece (block_value l column v)
-value_piece v l column h = let x = value_sound v l column h in record { utf8 = x.0; characters = x.1 }
 
 -- ---- in the place of a block collection
 
@@ -82,7 +79,7 @@ module _ (n : ℕ) (v : Node) (c : Cut) (w : BlockRoot) (read : read_at (cut_tex
     carried size =
         let takes = takes_value n c w read h in
         let readable : IsReadable (new_text (root_put l v w)) =
-        segments_readable (root_put l v w) (before_piece n c w read h, (value_piece v l w.column value_tree, (last_piece n c w read h, (behind_piece n c w read h, tt)))) size in
+        segments_readable (root_put l v w) (before_piece n c w read h, (block_piece l w.column v value_tree, (last_piece n c w read h, (behind_piece n c w read h, tt)))) size in
         value_carried n c h.d h.row.gap w.last h.d.part.end v l w.column (root_put l v w) takes (mapping_least n c) value_tree (fits_part n v c h.d.part takes.old.there value_tree fits) text_there readable local
 
 -- ---- where none is written
@@ -125,7 +122,7 @@ module _ (n : ℕ) (v : Node) (c : Cut) (w : NoRows) (read : read_at (cut_text c
     first_carried size =
         let kept = pieces n c w read h in
         let put_there : IsPiece (lines_put_behind (is_closed_text w.before) br (block_value (layout_of n c) 0 v)) =
-        put_piece (is_closed_text w.before) br (block_value (layout_of n c) 0 v) (break_piece (layout_of n c).br) (value_piece v (layout_of n c) 0 value_tree) in
+        put_piece (is_closed_text w.before) br (block_value (layout_of n c) 0 v) (break_piece (layout_of n c).br) (block_piece (layout_of n c) 0 v value_tree) in
         by_break (is_closed_text w.before) refl (segments_readable (no_rows_put (layout_of n c) v w) (kept.0, (put_there, (kept.1, tt))) size)
 
 -- ---- both

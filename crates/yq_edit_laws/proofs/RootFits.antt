@@ -1,5 +1,5 @@
 -- A value that fits as the root of a document: what that says of it, and the text in which it comes there.
-use Rattle.std.{proofs.Common.{inl, ◌≡◌, ℕ, ◌≤◌, List, [], ◌++◌, replicate, Some, sym, ◌∙◌, subst}, proofs.lemmas.Option.same_Some}
+use Rattle.std.{proofs.Common.{rules, ◌≡◌, ℕ, ◌≤◌, List, [], ◌++◌, replicate, Some, sym, subst}, proofs.lemmas.Option.same_Some}
 use Rattle.std.specs.List.{slice_get}
 use Rattle.yq_core.{specs.Tree.Node, specs.Anchors.names_of}
 use Rattle.yq_flow_edits.specs.Valued.{IsValueTree}
@@ -8,8 +8,8 @@ use Rattle.yq_documents.{specs.Documents.document_parts, specs.Reading.{document
 use Rattle.yq_places.{specs.PlacedRows.PlacedPart, specs.RowPaths.IsReadable}
 use Rattle.yq_edit_rules.{specs.declared.layout.Layout.Layout, specs.BlockText.block_value, specs.BlockValues.HasNearKeys}
 use Rattle.yq_edit_rules.{specs.Changed.put_document, specs.Conditions.AreSpared, specs.Replaces.rooted}
-use Rattle.yq_edit_rules.{specs.SoundRoots.{inner_names, IsNewValue}, specs.Local.IsLocal, specs.ReadsAfter.ReadsAfter}
-use Rattle.yq_edit_rules.{specs.EditLaws.CarriedOut, proofs.LocalLaws.cut_known, proofs.EditsFitLaws.fits_replace}
+use Rattle.yq_edit_rules.{specs.SoundRoots.{inner_names, IsNewValue}, specs.Local.IsLocal, specs.EditLaws.CarriedOut}
+use Rattle.yq_edit_rules.{proofs.LocalLaws.cut_known, proofs.EditsFitLaws.fits_replace}
 use Rattle.yq_semantics.{specs.Fits.Fits, specs.Operations.replace, specs.Rooms.room_of}
 use Rattle.yq_text.specs.Script.{Segment, new_text}
 use Rattle.yq_edit_laws.{proofs.RootRows.root_rows, proofs.RootReadLaws.{TakesValue, text_is, root_read, root_reads}}
@@ -33,10 +33,4 @@ LocalRoot n c d rs back ss =
 pub value_carried : (n : ℕ) (c : Cut) (d : PlacedPart) (gap last back : List ℕ) (v : Node) (l : Layout) (column : ℕ) (ss : List Segment) → TakesValue n c d gap last back → 1 ≤ l.mapping → IsValueTree v → FitsPart v d.part →
     d.before ++ (gap ++ (replicate column 32 ++ (block_value l column v ++ (last ++ (back ++ d.behind))))) ≡ new_text ss → IsReadable (new_text ss) → LocalRoot n c d (root_rows l gap column last v) back ss → CarriedOut (replace n [] v) c ss
 value_carried n c d gap last back v l column ss takes step value_tree fits text readable local =
-    let whole = text_is n c d gap last back takes v l column step value_tree fits.near ∙ text in
-    let there : IsReadable (cut_text (put_document n (rooted (root_rows l gap column last v) back d.part) c)) = subst IsReadable (sym whole) readable in
-    let read = root_read n c d gap last back takes v l column step value_tree fits.near fits.value_is fits.spared there in
-    record {
-      reads = subst (ReadsAfter (replace n [] v) c) whole (root_reads n c d gap last back takes v l column step value_tree fits.near fits.value_is fits.spared there);
-      local = inl (cut_known ss c (put_document n (rooted (root_rows l gap column last v) back d.part) c) read whole (local (sym whole) read));
-    }
+    search (rules, text_is, root_rows, root_read, root_reads, cut_known)

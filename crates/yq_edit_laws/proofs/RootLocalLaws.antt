@@ -3,8 +3,8 @@ use Rattle.std.proofs.Common.{◌≡◌, ℕ, false, List, [], ◌∷◌, ◌++�
 use Rattle.std.{proofs.lemmas.Bool.false≢true, proofs.lemmas.List.length-append, specs.List.slice_get}
 use Rattle.yq_core.specs.Tree.{Node}
 use Rattle.yq_flow_edits.specs.Valued.{IsValueTree}
-use Rattle.yq_row_table.{specs.Grammar.no_rows, specs.Rows.{Row, behind_gap, behind_indent, Part, part_text, Cut, cut_text}}
-use Rattle.yq_row_table.{specs.Splices.first_gap, specs.Items.{end_item, rows_items, Item}}
+use Rattle.yq_row_table.{specs.Grammar.no_rows, specs.Rows.{Row, behind_gap, Part, part_text, Cut, cut_text}, specs.Splices.first_gap}
+use Rattle.yq_row_table.specs.Items.{end_item, rows_items, Item}
 use Rattle.yq_documents.specs.Documents.{document_parts}
 use Rattle.yq_edit_rules.{specs.Changed.put_document, specs.DocumentRows.behind_document, specs.Replaces.rooted}
 use Rattle.yq_edit_rules.{specs.declared.layout.Layout.Layout, proofs.BlockLineLaws.node_begun, specs.Local.{InFirst, IsLocal}}
@@ -16,13 +16,7 @@ use Rattle.yq_core.specs.Nodes as inline
 -- ---- the first row
 
 lone_first : (gap : List ℕ) (column : ℕ) (node : inline.FlowNode) (last : List ℕ) → InFirst (gap ++ replicate column 32) (rows_items (lone_row gap column node last ∷ []) [])
-lone_first gap column node last =
-    omega (
-      arith,
-      length-append gap (behind_gap (lone_row gap column node last) []),
-      length-append (replicate column 32) (behind_indent (lone_row gap column node last) []),
-      length-append gap (replicate {A = ℕ} column 32),
-    )
+lone_first gap column node last = search (rules, arith, length-append, lone_row)
 
 pub root_first : (v : Node) (l : Layout) (gap : List ℕ) (column : ℕ) (last : List ℕ) → IsValueTree v → InFirst (gap ++ replicate column 32) (rows_items (root_rows l gap column last v) [])
 root_first v l gap column last h1 = search (rules, h, lone_first, length-append, node_begun)

@@ -1,7 +1,7 @@
 -- A value as the root of a document in which that is a block collection, or isn't written: what the text then reads as.
-use Rattle.std.proofs.Common.{Some, ◌≡◌, ℕ, ◌+◌, ◌≤◌, List, [], ◌∷◌, ◌++◌, map, replicate, None, true, false, sym, ap, ◌∙◌, subst}
-use Rattle.std.{proofs.Common.{append-nil, rules}, proofs.lemmas.Bool.false≢true}
-use Rattle.yq_core.{specs.Paths.within, specs.Tree.{Node, children_of, anchor_of}, specs.Inline.depth_limit, specs.Anchors.names_of}
+use Rattle.std.proofs.Common.{Some, ◌≡◌, ℕ, ◌≤◌, List, [], ◌∷◌, ◌++◌, map, replicate, None, true, false, sym, ap, ◌∙◌, subst, append-nil}
+use Rattle.std.{proofs.Common.rules, proofs.lemmas.Bool.false≢true}
+use Rattle.yq_core.{specs.Paths.within, specs.Tree.{Node, children_of, anchor_of}, specs.Anchors.names_of}
 use Rattle.yq_flow_edits.specs.Valued.{IsValueTree}
 use Rattle.yq_outline.{specs.Comments.head_comment, specs.Outline.anchored, proofs.NodeLaws.anchored_none}
 use Rattle.yq_row_table.{specs.Grammar.{unlimited, AreRows, no_rows}, specs.Rows.{Row, rows_text, Part, Cut, cut_text}}
@@ -25,9 +25,7 @@ block_unnamed p h = search (rules, false≢true)
 
 -- a new value under a lead
 headed_new : (above : List (List ℕ)) (v : Node) → IsNewValue v 0 → IsNewValue (within (headed above) v) 0
-headed_new above v h =
-    let w = led_same above v in
-    record { bare = w.0 ∙ h.bare; unique = w.2 h.unique; nested = subst (λ k. k ≤ depth_limit) (ap (λ d. 0 + d) (sym w.1)) h.nested }
+headed_new above v h = search (rules, led_same above v)
 
 -- A value may come as the root of document n, between a gap that tells its lead and the end of the document.
 pub record TakesValue (n : ℕ) (c : Cut) (d : PlacedPart) (gap last back : List ℕ) : Type 0 where

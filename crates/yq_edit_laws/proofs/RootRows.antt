@@ -1,12 +1,12 @@
 -- The rows in which a value is written as a root.
-use Rattle.std.proofs.Common.{◌≡◌, ℕ, zero, suc, eqb, ◌+◌, ◌*◌, ◌<◌, ◌≤◌, true, false, List, [], ◌∷◌, ◌++◌, replicate, Option, Some, None}
-use Rattle.std.{proofs.Common.{refl, sym, ap, ◌∙◌, subst, arith, rules}, proofs.Math.Bool.and-false, proofs.lemmas.Bool.false≢true}
-use Rattle.yq_core.{specs.Paths.within, specs.Piece.deeper, specs.Plain.ends_plain, specs.Text.{is_empty, separates}, specs.Tree.Node}
-use Rattle.yq_core.{specs.Nodes.node_text, proofs.NodesWrittenLaws.node_then}
+use Rattle.std.proofs.Common.{◌≡◌, ℕ, suc, ◌<◌, ◌≤◌, true, false, List, [], ◌∷◌, ◌++◌, replicate, Option, Some, None, refl, sym, ap, ◌∙◌}
+use Rattle.std.{proofs.Common.{subst, arith, rules}, proofs.Math.Bool.and-false, proofs.lemmas.Bool.false≢true}
+use Rattle.yq_core.{specs.Paths.within, specs.Plain.ends_plain, specs.Text.{is_empty, separates}, specs.Tree.Node, specs.Nodes.node_text}
+use Rattle.yq_core.proofs.NodesWrittenLaws.{node_then}
 use Rattle.yq_flow_edits.specs.Valued.{IsValueTree}
 use Rattle.yq_outline.{specs.LineAnchors.HaveOneAnchorEach, specs.Comments.{head_comment, line_comment}}
-use Rattle.yq_outline.specs.Outline.{Line, level, rank, LineMark, Outline, end, row, flatten, IsEven, Stands, value}
-use Rattle.yq_outline.{proofs.ByRules.rules_give, proofs.NodeLaws.anchored_none, specs.Lines.{mark_line, lines_from, lines_of_rows}}
+use Rattle.yq_outline.{specs.Outline.{Line, level, Outline, end, row, flatten, IsEven, Stands, value}, proofs.ByRules.rules_give}
+use Rattle.yq_outline.{proofs.NodeLaws.anchored_none, specs.Lines.{mark_line, lines_from, lines_of_rows}}
 use Rattle.yq_row_table.{specs.Gap.IsGap, specs.Grammar.{is_entry, IsTail, IsRow, unlimited, AreRows, no_rows, ends_part}}
 use Rattle.yq_row_table.{specs.Rows.{Bare, Inline, Row, behind_gap, rows_text}, specs.Splices.{with_first_gap, with_row_gap, first_gap}}
 use Rattle.yq_row_table.{proofs.PlainEnds.{tail_ends, gap_line}, proofs.seams.FrontSeams.behind_row_some, proofs.seams.SeamLaws.part_line}
@@ -17,7 +17,6 @@ use Rattle.yq_edit_rules.{proofs.LaidRows.{AreLaid, laid_rows, no_gap_here}, pro
 use Rattle.yq_edit_rules.{proofs.TextLaws.node_spelled, specs.Edited.with_lead, specs.InlineRows.IsValueNode, specs.Siblings.HasEntries}
 use Rattle.yq_edit_rules.{proofs.ContentLaws.{free_alone, alone_even, alone_value}, proofs.EditedLaws.lead_is_above}
 use Rattle.yq_edit_rules.{proofs.NodeLineLaws.low_level, proofs.AppendEntryLaws.rows_gap}
-use Rattle.yq_core.specs.Tree as tree
 use Rattle.yq_core.specs.Nodes as inline
 use Rattle.yq_outline.specs.Outline as outline
 use Rattle.yq_row_table.specs.Rows as rows
@@ -88,8 +87,7 @@ module _ (v : Node) (l : Layout) (gap : List ℕ) (column : ℕ) (last back rest
     led_row c d k (n ∷ ns) m x more = refl
 
     led_outline : (c : List (List ℕ)) (o : Outline) → flatten (with_lead c o) ≡ first_led c (flatten o)
-    led_outline c end = refl
-    led_outline c (row x u a) = refl
+    led_outline c o = search rules
 
     entries : (o : Outline) → flatten o ≡ lines_of_rows old → IsEven (level_at column v) o → HasEntries o
     unfolding level
@@ -102,18 +100,7 @@ module _ (v : Node) (l : Layout) (gap : List ℕ) (column : ℕ) (last back rest
             go : (ns : List ℕ) → lines_from (head_comment r.gap) r.column ns r.mark r.content ++ lines_of_rows rs ≡ [] → ⊥
             go [] e = cc
             go (n ∷ ns) e = cc
-    entries (row x u a) is even = go x.mark refl
-      where
-        go : (m : LineMark) → x.mark ≡ m → HasEntries (row (record x { mark = m }) u a)
-        go outline.Bare e = absurd (not_bare v filled (sym even.0 ∙ ap (λ (k : LineMark). 3 * x.column + rank k) e))
-          where
-            not_bare : (v : Node) → IsFilled v → level_at column v ≡ 3 * x.column + 1 → ⊥
-            not_bare (tree.alias n) f e = f
-            not_bare (tree.scalar b k t) f e = f
-            not_bare (tree.list b cs) f e = omega (arith, e)
-            not_bare (tree.map b cs) f e = omega (arith, e)
-        go (outline.Key k) e = tt
-        go outline.Dash e = tt
+    entries (row x u a) is even = search (rules, arith)
 
     laid_first : (rs : List Row) → AreLaid column rs (back ++ rest) → AreRows unlimited rs [] (back ++ rest) → (o : Outline) → flatten o ≡ lines_of_rows rs → IsEven (level_at column v) o → HasEntries o → value o ≡ v → RowsAreFit rs →
         rows_text rs (back ++ rest) ≡ replicate column 32 ++ (block_node l column v ++ (last ++ (back ++ rest))) →
@@ -175,18 +162,7 @@ module _ (v : Node) (l : Layout) (gap : List ℕ) (column : ℕ) (last back rest
     line = mark_line (head_comment gap) column Bare (Inline [] node last)
 
     row_is : (g : List ℕ) → IsGap g (behind_gap (lone_row g column node last) (back ++ rest)) → IsRow unlimited (lone_row g column node last) (back ++ rest)
-    row_is g h = record {
-      gap = h;
-      allowed = refl;
-      unmarked = rw (is.unmarked (last ++ (back ++ rest)) room.apart) (and-false (eqb column 0));
-      dashes = tt;
-      mark = is.more;
-      content = (tt, is.stands (rows.before_column column) (last ++ (back ++ rest)) (before_deeper column), room.tail);
-    }
-      where
-        before_deeper : (k : ℕ) → ends_plain false (Some (deeper (rows.before_column k))) (last ++ (back ++ rest)) ≡ true
-        before_deeper zero = plain _
-        before_deeper (suc k) = plain _
+    row_is g h = search (rules, and-false, plain)
 
     pub lone_root_rows : AreRootRows v gap (replicate column 32 ++ (node_text node [] ++ (last ++ (back ++ rest)))) (lone ∷ []) back rest
     lone_root_rows = record {

@@ -1,5 +1,5 @@
 -- The rows of any value as a root.
-use Rattle.std.proofs.Common.{◌≡◌, ℕ, ◌≤◌, Bool, true, false, cond, List, [], ◌++◌, replicate, Option, refl, arith}
+use Rattle.std.proofs.Common.{rules, ◌≡◌, ℕ, ◌≤◌, Bool, true, false, cond, List, [], ◌++◌, replicate, Option, refl, arith}
 use Rattle.yq_core.{specs.declared.kind.Kind.Kind, specs.Tree.Node, specs.Writable.can_write, specs.Written.written_scalar}
 use Rattle.yq_core.{specs.NodesWritten.{scalar_text, flow_of, flow_items}, proofs.NodesWrittenLaws.double_when}
 use Rattle.yq_flow_edits.specs.Valued.{IsValueTree}
@@ -32,8 +32,7 @@ map_node a h = map_is a tree.none h (omega arith) refl
 pub value_root_rows : (v : Node) (l : Layout) (gap : List ℕ) (column : ℕ) (last back rest : List ℕ) → 1 ≤ l.mapping → IsValueTree v → HasNearKeys v → HasRoom gap last back rest →
     AreRootRows v gap (replicate column 32 ++ (block_value l column v ++ (last ++ (back ++ rest)))) (root_rows l gap column last v) back rest
 value_root_rows (tree.alias n) l gap column last back rest step h near room = absurd h
-value_root_rows (tree.scalar a kind t) l gap column last back rest step h near room =
-    lone_root_rows (tree.scalar a kind t) l gap column last back rest step h room (inline.scalar (scalar_text (record { kind = kind; text = t }) places.Block)) (scalar_node a kind t h) (λ c. refl)
+value_root_rows (tree.scalar a kind t) l gap column last back rest step h near room = search (rules, lone_root_rows, scalar_node)
 value_root_rows (tree.list a tree.none) l gap column last back rest step h near room = lone_root_rows (tree.list a tree.none) l gap column last back rest step h room (inline.coll 93 [] inline.none) (list_node a h) (λ c. refl)
 value_root_rows (tree.list a (tree.child label n cs)) l gap column last back rest step h near room = block_root_rows (tree.list a (tree.child label n cs)) l gap column last back rest step h room tt near
 value_root_rows (tree.map a tree.none) l gap column last back rest step h near room = lone_root_rows (tree.map a tree.none) l gap column last back rest step h room (inline.coll 125 [] inline.none) (map_node a h) (λ c. refl)

@@ -1,23 +1,19 @@
 -- The lines of a row up to a key or dash, and those after it.
-use Rattle.std.proofs.Common.{◌≡◌, ℕ, suc, ◌+◌, ◌<◌, true, List, [], ◌∷◌, ◌++◌, length, None, refl, sym, ap, ◌∙◌, subst, arith}
-use Rattle.std.{proofs.Common.append_assoc, proofs.lemmas.Bool.false≢true}
+use Rattle.std.proofs.Common.{◌≡◌, ℕ, suc, ◌+◌, ◌<◌, true, List, [], ◌∷◌, ◌++◌, length, None, sym, ap, ◌∙◌, subst, arith, append_assoc}
+use Rattle.std.proofs.lemmas.Bool.{false≢true}
 use mathlib.Core.List.{head-eq_of_cons-eq}
-use Rattle.yq_core.specs.Text.{upto}
-use Rattle.yq_outline.{specs.Comments.{head_comment, line_comment}, specs.Outline.{Line, Outline, flatten}}
+use Rattle.yq_outline.{specs.Comments.head_comment, specs.Outline.{Line, Outline, flatten}}
 use Rattle.yq_outline.specs.Lines.{dash_line, lines_from, mark_line, lines_of_rows}
 use Rattle.yq_row_table.{specs.Grammar.is_entry, specs.Rows.{Content, Nothing, Row, behind_columns}}
-use Rattle.yq_edit_rules.{specs.Moved.dash_lines, specs.Siblings.{HasEntries, IsEntry}, proofs.LineLaws.above_mark}
-use Rattle.yq_edit_rules.{proofs.UnderLaws.{line_with, dashes_of, gone_lines}, specs.BlockPlaces.{IsUpto, at_mark, at_dash}}
+use Rattle.yq_edit_rules.{proofs.AppendEntryLaws.none_uncommented, specs.Moved.dash_lines, specs.Siblings.{HasEntries, IsEntry}}
+use Rattle.yq_edit_rules.{proofs.LineLaws.above_mark, proofs.UnderLaws.{line_with, dashes_of, gone_lines}}
+use Rattle.yq_edit_rules.specs.BlockPlaces.{IsUpto, at_mark, at_dash}
 use Rattle.yq_outline.specs.Outline as outline
 use Rattle.yq_row_table.specs.Rows as rows
 
-pub no_comment : line_comment [] ≡ None
-unfolding upto
-no_comment = refl
-
 lines_behind : (above : List (List ℕ)) (column : ℕ) (ns : List ℕ) (n : ℕ) (ms : List ℕ) (m : rows.RowMark) (x : Content) →
     lines_from above column (ns ++ (n ∷ ms)) m x ≡ dash_lines above column ns ++ (mark_line (above_mark above ns) (behind_columns column ns) rows.Dash (Nothing []) ∷ lines_from [] (suc (behind_columns column ns + n)) ms m x)
-lines_behind above column [] n ms m x = λ i. record { column = column; mark = outline.Dash; anchor = None; head = None; head_comment = above; line_comment = sym no_comment i } ∷ lines_from [] (suc (column + n)) ms m x
+lines_behind above column [] n ms m x = λ i. record { column = column; mark = outline.Dash; anchor = None; head = None; head_comment = above; line_comment = sym none_uncommented i } ∷ lines_from [] (suc (column + n)) ms m x
 lines_behind above column (k ∷ []) n ms m x = ap (λ (ls : List Line). dash_line above column ∷ ls) (lines_behind [] (suc (column + k)) [] n ms m x)
 lines_behind above column (k ∷ (j ∷ ns)) n ms m x = ap (λ (ls : List Line). dash_line above column ∷ ls) (lines_behind [] (suc (column + k)) (j ∷ ns) n ms m x)
 

@@ -39,13 +39,10 @@ gone_of b below = cond (is_empty below) [] b
 abbrev final_of : List ℕ → List ℕ → List ℕ
 final_of b below = cond (is_empty below) b (last_break below)
 
-no_break : less_break [] ≡ []
-unfolding less_break
-no_break = refl
-
 lines_old : (b below u : List ℕ) → IsLfOrCrLf b →
     b ++ (less_break below ++ (cond (is_empty (gone_of b below)) [] (final_of b below) ++ u)) ≡ gone_of b below ++ (less_break below ++ (final_of b below ++ u))
-lines_old b below u h1 = search (rules, no_break)
+unfolding less_break
+lines_old b below u h1 = search rules
 
 -- ---- the text up to a header
 
@@ -109,7 +106,4 @@ module _ (n : ℕ) (s : Step) (ss : List Step) (c : Cut) (e : RowsOfEntry) (ther
 
   -- the old text
   pub raw_old : (held e).before ++ ((held e).space ++ ((held e).head ++ ((held e).white ++ ((held e).comment ++ (line_break (held e) ++ ((held e).lines ++ (raw_last (held e) ++ ((held e).behind ++ [])))))))) ≡ cut_text c
-  raw_old =
-      let h = held e in
-      (λ i. h.before ++ (h.space ++ (h.head ++ (h.white ++ (h.comment ++ (line_is i ++ (h.lines ++ (raw_last h ++ append-nil h.behind i))))))))
-      ∙ (ap (λ q. h.before ++ (h.space ++ (h.head ++ (h.white ++ (h.comment ++ q))))) (lines_old (end_in_line [] (slices e.row).tail).behind below h.behind break_there) ∙ sym knows.spells)
+  raw_old = search (rules, line_is, append-nil, lines_old, break_there)

@@ -1,6 +1,6 @@
 -- A block scalar is replaced by a value on one line.
-use Rattle.std.proofs.Common.{◌≡◌, cond, inl, ℕ, ◌≤◌, not, List, [], ◌∷◌, ◌++◌, length, Option, Some, None, false, true, refl, sym, ap, ◌∙◌}
-use Rattle.std.proofs.Common.{subst}
+use Rattle.std.proofs.Common.{rules, ◌≡◌, cond, inl, ℕ, ◌≤◌, not, List, [], ◌∷◌, ◌++◌, length, Option, Some, None, false, true, refl, sym}
+use Rattle.std.proofs.Common.{ap, ◌∙◌, subst}
 use Rattle.yq_core.{specs.Block.{BlockText, block_text}, specs.BlockWritten.break_text, specs.Paths.Step, specs.Piece.deeper}
 use Rattle.yq_core.{specs.Plain.ends_plain, specs.Tree.Node, specs.declared.block_types.Break.Break, specs.Nodes.{node_text, IsFlowNode}}
 use Rattle.yq_core.specs.Trees.{node_anchor}
@@ -32,8 +32,7 @@ carrier None = inline.coll 93 [] inline.none
 carrier (Some a) = inline.anchored a.name a.gap (inline.coll 93 [] inline.none)
 
 carrier_anchor : (a : Option Anchor) → node_anchor (carrier a) ≡ block_anchor a
-carrier_anchor None = refl
-carrier_anchor (Some a) = refl
+carrier_anchor a = search rules
 
 named_node : (anchor : Option Anchor) (v : Node) (node : inline.FlowNode) (spaces : Option ℕ) (d : ℕ) (old u : List ℕ) → IsAnchor anchor old → IsValueNode v node → IsFlowNode false spaces d node u → IsFlowNode false spaces d (recore node (carrier anchor)) u
 named_node None v node spaces d old u h is stands = stands
@@ -42,8 +41,7 @@ named_node (Some a) v node spaces d old u h is stands =
 
 named_text : (anchor : Option Anchor) (node : inline.FlowNode) (u : List ℕ) → node_text (recore node (carrier anchor)) u ≡ anchor_text anchor (node_text node u)
 unfolding node_text
-named_text None node u = refl
-named_text (Some a) node u = refl
+named_text anchor node u = search rules
 
 -- ---- on the line of its header
 

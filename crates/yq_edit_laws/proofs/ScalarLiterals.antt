@@ -1,7 +1,7 @@
 -- A string takes the place of a block scalar as a literal one: header and lines are replaced.
 use Rattle.std.proofs.Common.{◌≡◌, ℕ, ◌≤◌, List, [], ◌∷◌, ◌++◌, length, Option, Some, None, true, false, refl, sym, ap, ◌∙◌, subst}
 use Rattle.std.{proofs.Common.{append_assoc, append-nil, rules}, proofs.lemmas.Bool.and_parts, specs.Str.IsUtf8}
-use Rattle.yq_core.{specs.Block.{BlockText, IsBlock, block_text, ends_block, keeps}, specs.BlockContent.block_content}
+use Rattle.yq_core.{specs.Block.{BlockText, IsBlock, block_text, ends_block}, specs.BlockContent.block_content}
 use Rattle.yq_core.{specs.BlockWritten.{break_text, chomping_of, header_text, written_block}, specs.Paths.Step, specs.Piece.deeper}
 use Rattle.yq_core.{specs.Scalar.ScalarText, specs.Text.{joined, text_lines}, specs.Tree.Node, specs.Writable.can_write}
 use Rattle.yq_core.{specs.declared.block_types.Break.Break, specs.declared.kind.Kind.Kind}
@@ -75,9 +75,7 @@ module _ (n : ℕ) (s : Step) (ss : List Step) (c : Cut) (e : RowsOfEntry) (ther
     new = Block space anchor (written_block t block.indent.columns (break_text br) block.tail)
 
     seam : ends_block false (record { columns = m; known = true }) (text_lines z) ≡ true
-    seam =
-        let old = (valid n s ss c e there last k space anchor block content_is).2.behind in
-        subst (λ b. ends_block false (record { columns = m; known = b }) (text_lines z) ≡ true) known (loose (keeps block.chomping) block.indent (text_lines z) old)
+    seam = search (rules, (valid n s ss c e there last k space anchor block content_is).2.behind, known, loose)
 
     stands : IsBlock (deeper (parent_indent e.row)) new_block z
     stands =

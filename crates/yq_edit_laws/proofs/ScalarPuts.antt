@@ -1,5 +1,5 @@
 -- What is put in the place of a block scalar carries out the replacement.
-use Rattle.std.proofs.Common.{◌≡◌, ℕ, ◌≤◌, ◌&&◌, cond, List, [], ◌∷◌, length, Option, Some, None, Bool, true, false, refl, sym, ◌∙◌}
+use Rattle.std.proofs.Common.{rules, ◌≡◌, ℕ, ◌≤◌, ◌&&◌, cond, List, [], ◌∷◌, length, Option, Some, None, Bool, true, false, refl, sym, ◌∙◌}
 use Rattle.std.proofs.lemmas.Bool.{cond_both}
 use Rattle.yq_core.{specs.Block.BlockText, specs.BlockWritten.break_text, specs.Paths.Step, specs.Scalar.ScalarText, specs.Tree.Node}
 use Rattle.yq_core.{specs.Writable.{can_write, is_string}, specs.Written.double, specs.declared.kind.Kind.Kind}
@@ -86,7 +86,4 @@ module _ (n : ℕ) (s : Step) (ss : List Step) (c : Cut) (e : RowsOfEntry) (ther
 
   -- A value in the place of the block scalar.
   pub scalar_edit : (v : Node) → IsEdit (replace n (s ∷ ss) v) c (value_put (has_text (node_in n (s ∷ ss) c)) l v (standings.block w block.indent.columns))
-  scalar_edit v = record {
-    old = scalar_old (has_text (node_in n (s ∷ ss) c)) (written_at l w.mark [] v) (scalar_in v);
-    carried = λ tree fits. value_done v tree (fits_replace n (s ∷ ss) v c there.part there.old.there tree fits);
-  }
+  scalar_edit v = search (rules, scalar_old, value_done, fits_replace)

@@ -1,5 +1,5 @@
 -- Operations that may follow one another are carried out on a text that reads.
-use Rattle.std.proofs.Common.{◌≡◌, inl, inr, ℕ, List, [], ◌∷◌, refl, subst}
+use Rattle.std.proofs.Common.{rules, ◌≡◌, ℕ, List, [], ◌∷◌, refl, subst}
 use Rattle.yq_documents.{specs.Documents.{Document, ReadsDocuments}, proofs.ReadLaws.one_reading}
 use Rattle.yq_semantics.{specs.After.{after_op, all_after}, specs.Operations.Operation, specs.Rooms.room_of, specs.RoomsKept.LeavesRooms}
 use Rattle.yq_semantics.{specs.declared.refusal.Refusal.TheVariants.TooLarge, proofs.updates.AlikeRooms.{rest_follow, rest_after}}
@@ -42,17 +42,11 @@ module _ (docs : List Document) (op : Operation) (ops : List Operation) (t : Lis
     others_come = rest_after op ops (room_of t) (room_of m) docs left s.follow
 
     comes_behind : (e : Edit) → OperationsCome last ops m e → OperationsCome last (op ∷ ops) t (edit_after cs e)
-    comes_behind unreadable h = h
-    comes_behind (refuses why) h = (h.0, inr (m, cs, a, h.1))
-    comes_behind (gives new es) h = ((m, cs, es, a, h.0, refl), h.1)
+    comes_behind e h = search rules
 
   comes_more : ((m : List ℕ) → Serves next ops m → OperationsCome (all_after (room_of m) ops next) ops m (carry_all ops m)) →
       (e : Edit) → OperationComes op t e → OperationsCome last (op ∷ ops) t (edit_then (carry_all ops) e)
-  comes_more others unreadable h = h
-  comes_more others (refuses why) h = (h.0, inl h.1)
-  comes_more others (gives m cs) a =
-      comes_behind m cs a (carry_all ops m)
-      (subst (λ (ds : List Document). OperationsCome ds ops m (carry_all ops m)) (others_come m cs a) (others m (others_serve m cs a)))
+  comes_more others e h = search (rules, comes_behind, others_come, others_serve)
 
 pub all_come : (docs : List Document) (ops : List Operation) (t : List ℕ) → Serves docs ops t →
     OperationsCome (all_after (room_of t) ops docs) ops t (carry_all ops t)

@@ -1,11 +1,11 @@
 -- A sole item or entry taken out: an empty collection in the place of its own is what is left of that.
-use Rattle.std.proofs.Common.{◌≡◌, ℕ, zero, suc, ◌+◌, ◌≤◌, cond, ltb, Bool, true, false, List, [], ◌∷◌, ◌++◌, length, Option, Some, None}
+use Rattle.std.proofs.Common.{rules, ◌≡◌, ℕ, zero, suc, ◌+◌, ◌≤◌, cond, ltb, Bool, false, List, [], ◌∷◌, ◌++◌, length, Option, Some, None}
 use Rattle.std.{proofs.Common.{option_and_then, refl, sym, ap, ◌∙◌, subst, arith, append-nil}, proofs.lemmas.Bool.{le-ltb, ltb-false}}
 use Rattle.std.{proofs.lemmas.Option.{none-some, same_Some}, specs.List.{list_any, slice_get}}
 use Rattle.yq_core.{specs.Answers.◌>>=◌, specs.Keys.depth}
 use Rattle.yq_core.specs.Paths.{Step, changed_at, change_child, child_at, further, is_here, node_at, remove_child, within}
 use Rattle.yq_core.{specs.Shapes.IsTree, specs.Tree.{Label, Node, Children, none, child, children_of}, proofs.Bools.bind_some}
-use Rattle.yq_core.{specs.Inline.depth_limit, specs.Anchors.{Name, names_in, names_of}}
+use Rattle.yq_core.{specs.Inline.depth_limit, specs.Anchors.{names_in, names_of}}
 use Rattle.yq_flow_edits.specs.Valued.{IsValueTree}
 use Rattle.yq_outline.specs.Counts.{count}
 use Rattle.yq_row_table.specs.Rows.{Cut, cut_text}
@@ -34,40 +34,16 @@ record IsEmptied (o v : Node) : Type 0 where
   left : (s : Step) → remove_child s (children_of o) ≡ none → replaced_node v o ≡ within (remove_child s) o
 
 first_none : (a : Option (List ℕ)) → Rattle.yq_outline.specs.Outline.first_anchor a None ≡ a
-first_none None = refl
-first_none (Some x) = refl
+first_none a = search rules
 
 led_list : (block : Bool) (lead : List (List ℕ)) (path : List Step) → led block lead path (tree.list None none) ≡ tree.list None none
-led_list true lead [] = refl
-led_list false lead [] = refl
-led_list block lead (s ∷ path) = refl
+led_list block lead path = search rules
 
 led_map : (block : Bool) (lead : List (List ℕ)) (path : List Step) → led block lead path (tree.map None none) ≡ tree.map None none
-led_map true lead [] = refl
-led_map false lead [] = refl
-led_map block lead (s ∷ path) = refl
+led_map block lead path = search rules
 
 is_emptied : (o v : Node) → empty_collection o ≡ Some v → IsEmptied o v
-is_emptied (tree.alias name) v e = absurd (none-some _ e)
-is_emptied (tree.scalar a kind text) v e = absurd (none-some _ e)
-is_emptied (tree.list a cs) v e = subst (IsEmptied (tree.list a cs)) (same_Some _ _ e) (record {
-  value = (refl, tt);
-  shape = (tt, tt);
-  short = refl;
-  flat = omega arith;
-  led_same = led_list;
-  bare = refl;
-  left = λ s h. λ i. tree.list (first_none a i) (sym h i);
-})
-is_emptied (tree.map a cs) v e = subst (IsEmptied (tree.map a cs)) (same_Some _ _ e) (record {
-  value = (refl, tt);
-  shape = (tt, tt);
-  short = refl;
-  flat = omega arith;
-  led_same = led_map;
-  bare = refl;
-  left = λ s h. λ i. tree.map (first_none a i) (sym h i);
-})
+is_emptied o v e = search (rules, arith, none-some, same_Some, led_list, first_none, led_map)
 
 -- ---- a sole item or entry
 
@@ -79,16 +55,8 @@ record IsSole (s : Step) (cs : Children) (m : Node) : Type 0 where
 
 sole : (s : Step) (cs : Children) (m : Node) → child_at s cs ≡ Some m → ltb 1 (count cs) ≡ false → IsSole s cs m
 sole s none m e h = absurd (none-some _ e)
-sole s (child l n none) m e h = go (is_here s l) refl e
-  where
-    go : (b : Bool) → is_here s l ≡ b → cond b (Some n) None ≡ Some m → IsSole s (child l n none) m
-    go true here e = record { label = l; is = ap (λ x. child l x none) (same_Some _ _ e); gone = ap (λ b. cond b none (child l n none)) here }
-    go false here e = absurd (none-some _ e)
+sole s (child l n none) m e h = search (rules, same_Some, none-some)
 sole s (child l n (child k o cs)) m e h = absurd (omega (arith, ltb-false 1 (count (child l n (child k o cs))) h))
-
--- the anchors that go
-inside_unused : (names : List Name) (cs : Children) (m : Node) (label : Label) → cs ≡ child label m none → list_any (is_used names) (names_of m) ≡ false → list_any (is_used names) (names_in cs) ≡ false
-inside_unused names cs m label is e = ap (list_any (is_used names)) (ap names_in is ∙ append-nil (names_of m)) ∙ e
 
 -- ---- changes that do the same
 
@@ -98,8 +66,7 @@ child_alike s f g at (child label m cs) n h e = go (is_here s label) (child_alik
   where
     go : (b : Bool) → (option_and_then at (child_at (further s) cs) ≡ Some n → change_child (further s) f cs ≡ change_child (further s) g cs) → option_and_then at (cond b (Some m) (child_at (further s) cs)) ≡ Some n →
         cond b (child label (f m) cs) (child label m (change_child (further s) f cs)) ≡ cond b (child label (g m) cs) (child label m (change_child (further s) g cs))
-    go true later e = ap (λ x. child label x cs) (h m e)
-    go false later e = ap (child label m) (later e)
+    go b later e = search rules
 
 change_alike : (ss : List Step) (f g : Node → Node) (root n : Node) → node_at ss root ≡ Some n → f n ≡ g n → changed_at ss f root ≡ changed_at ss g root
 change_alike [] f g root n e h = subst (λ m. f m ≡ g m) (sym (same_Some _ _ e)) h
@@ -163,7 +130,7 @@ module _ (doc : ℕ) (init : List Step) (s : Step) (v : Node) (c : Cut) (h : Sta
     h.document,
     (
       (h.empty.shape, h.empty.short, not_deep),
-      (h.old, at_init, inside_unused (names_of h.d.root) (children_of h.old) h.node is_sole.label is_sole.is h.unused),
+      (h.old, at_init, (ap (list_any (is_used (names_of h.d.root))) (ap names_in is_sole.is ∙ append-nil (names_of h.node)) ∙ h.unused)),
     ),
   )
 

@@ -1,5 +1,5 @@
 -- Where a node is, something is.
-use Rattle.std.proofs.Common.{◌≡◌, ◌⊎◌, inl, inr, ltb, ℕ, true, false, List, [], ◌∷◌, ◌++◌, length, Option, Some, None, option_map}
+use Rattle.std.proofs.Common.{rules, ◌≡◌, ◌⊎◌, inl, inr, ltb, ℕ, true, false, List, [], ◌∷◌, ◌++◌, length, Option, Some, None, option_map}
 use Rattle.std.{proofs.Common.{option_and_then, refl, sym, ap, ◌∙◌}, proofs.lemmas.Option.{none-some, same_Some}, specs.List.slice_get}
 use Rattle.yq_core.{specs.Answers.◌>>=◌, specs.Paths.{Step, child_at, node_at}, specs.Tree.{Node, children_of}, proofs.Bools.bind_some}
 use Rattle.yq_core.{specs.Collections.CollPieces, specs.Entries.{EntryPieces, item_at}, specs.Trees.items_tree}
@@ -25,11 +25,7 @@ use Rattle.yq_edit_laws.proofs.DocumentParts as parts
 -- ---- roots
 
 pub placed_there : (c : Cut) (n : ℕ) (p : Part) → slice_get (document_parts c) n ≡ Some p → (d : PlacedPart) × (placed_document n c ≡ Some d) × (d.part ≡ p)
-placed_there c n p there = go (placed_document n c) refl (sym (document_placed n c) ∙ there)
-  where
-    go : (o : Option PlacedPart) → placed_document n c ≡ o → part_of o ≡ Some p → (d : PlacedPart) × (placed_document n c ≡ Some d) × (d.part ≡ p)
-    go None is e = absurd (none-some _ e)
-    go (Some d) is e = (d, is, same_Some _ _ e)
+placed_there c n p there = search (rules, document_placed, part_of, none-some, same_Some)
 
 pub roots_stand : RootsStand
 roots_stand n c p there = let d = placed_there c n p there in (root_standing d.0 d.0.part.rows, ap (option_map (λ (d : PlacedPart). root_standing d d.part.rows)) d.1)
@@ -86,8 +82,7 @@ part_there : (c : Cut) (n : ℕ) (path : List Step) (v : Node) (h : NodeIn c n p
 part_there c n path v h y found =
     let x = holds_child h.step h.old v h.child in
     let w = flow_there c n h.init x.0 (record { read = h.read; part = h.part; there = h.there; line = y.0; rest = y.1; found = found; at = (h.old, h.above, x.1) }) in
-    let items : option_map entry_tree (item_at w.0.close h.step w.0.items w.0.rest) ≡ Some v =
-    item_child w.0.close h.step w.0.items w.0.rest ∙ (ap (child_at h.step) (ap (λ (z : FlowContent). z.1) w.2 ∙ sym x.2) ∙ h.child) in
+    let items : option_map entry_tree (item_at w.0.close h.step w.0.items w.0.rest) ≡ Some v = search (rules, item_child) in
     let item = entry_of (item_at w.0.close h.step w.0.items w.0.rest) v items in
     let g : EntryPieces → FlowPart = λ z. record { step = h.step; collection = w.0; part = z } in
     let others : has_others_at n path c ≡ ltb 1 (count (children_of h.old)) =

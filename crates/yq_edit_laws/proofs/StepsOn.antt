@@ -1,9 +1,9 @@
 -- One step more on a path to the line in whose head a node is goes on in that head.
-use Rattle.std.proofs.Common.{◌≡◌, ◌<◌, List, [], ◌∷◌, ◌++◌, length, Option, Some, None, option_map, ap, ◌∙◌, append_assoc, arith}
+use Rattle.std.proofs.Common.{rules, ◌≡◌, ◌<◌, List, [], ◌∷◌, ◌++◌, length, Option, Some, None, option_map, ap, ◌∙◌, append_assoc, arith}
 use Rattle.std.{proofs.Common.length-append, proofs.lemmas.Option.{none-some, same_Some}}
-use Rattle.yq_core.{specs.Answers.◌>>=◌, specs.Paths.Step, specs.Tree.Node}
-use Rattle.yq_outline.{specs.Outline.Outline, specs.Places.{FoundLine, find, in_head, place_inside}}
-use Rattle.yq_places.{specs.FlowNodes.{bare_line, find_head, head_line}, proofs.HeadSteps.stem_found}
+use Rattle.yq_core.{specs.Paths.Step, specs.Tree.Node}
+use Rattle.yq_outline.{specs.Outline.Outline, specs.Places.{FoundLine, in_head, place_inside}}
+use Rattle.yq_places.{specs.FlowNodes.{bare_line, find_head}, proofs.HeadSteps.stem_found}
 use Rattle.yq_edit_laws.proofs.EntryLines.{found_at}
 
 abbrev Reached : Type 0
@@ -20,13 +20,7 @@ module _ (y : Reached) (some : 0 < length y.1) where
 
   -- steps that go on in a head lead to its line
   left_found : (ss : List Step) (o : Outline) → find_head ss o ≡ Some y → found_at ss o ≡ Some y
-  left_found [] o e = absurd (none_left (λ f. f) (bare_line o) e)
-  left_found (s ∷ ss) o e = go (find s ss o) e
-    where
-      go : (r : Option Reached) → (r >>= λ x. head_line x.0 x.1) ≡ Some y → r ≡ Some y
-      go None e = absurd (none-some _ e)
-      go (Some (f, [])) e = absurd (line_left f f.line.head e)
-      go (Some (f, t ∷ ts)) e = e
+  left_found ss o e = search (rules, none_left, none-some, line_left)
 
 -- the line in whose head a node is is that to which one step more leads
 pub head_on : (steps : List Step) (s : Step) (o : Outline) (y : FoundLine × List Step) → find_head steps o ≡ Some y → found_at (steps ++ (s ∷ [])) o ≡ Some (y.0, y.1 ++ (s ∷ []))

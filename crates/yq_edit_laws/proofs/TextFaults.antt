@@ -1,5 +1,5 @@
 -- A text that isn't read, which is never since it is no UTF-8, and one that is.
-use Rattle.std.{proofs.Common.{◌≡◌, ◌≢◌, ◌↔◌, List, ℕ, Some, None, Err, false, sym, ap, ◌∙◌}, specs.Str.{IsUtf8, is_utf8}}
+use Rattle.std.{proofs.Common.{rules, ◌≡◌, ◌≢◌, ◌↔◌, List, ℕ, Some, None, Err, false}, specs.Str.{IsUtf8, is_utf8}}
 use Rattle.std.{proofs.lemmas.Bool.false≢true, proofs.lemmas.Str.{IsUtf8-from_is_utf8, is_utf8-from_IsUtf8}}
 use Rattle.yq_core.{proofs.Bools.guard_then, specs.Answers.{ReadFails as FailsReading, ReadError}, specs.declared.ReadFault.ReadFault}
 use Rattle.yq_core.specs.declared.fault.FaultKind.TheVariants.{NotUtf8}
@@ -15,10 +15,7 @@ pub record FailsToRead (e : ReadError) (bytes : List ℕ) : Type 0 where
   pub utf8 : IsNotUtf8 {X = List ℕ} (Err e) ↔ (is_utf8 bytes ≡ false)
 
 pub text_unread : (bytes t : List ℕ) (fault : ReadFault) → bytes ≡ t → IsUtf8 t → FailsToRead (reading.Fault fault) bytes → (read_at t ≡ None) × (fault.kind ≢ NotUtf8)
-text_unread bytes t fault same utf8 h = (
-  ap read_at (sym same) ∙ h.none,
-  λ is. false≢true (sym (h.utf8.0 is) ∙ (ap is_utf8 same ∙ is_utf8-from_IsUtf8 t utf8)),
-)
+text_unread bytes t fault same utf8 h = search (rules, false≢true, is_utf8-from_IsUtf8)
 
 -- an edit of a text that isn't read
 pub edit_not_read : (e : ReadError) (bytes t : List ℕ) (edit : Edit) → bytes ≡ t → IsUtf8 t → FailsToRead e bytes → (read_at t ≡ None → edit ≡ unreadable) → EditFails (error_of_reading e) edit

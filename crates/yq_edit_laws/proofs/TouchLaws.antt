@@ -1,6 +1,6 @@
 -- The items that segments touch are those that they exchange.
-use Rattle.std.proofs.Common.{◌≡◌, ℕ, ◌+◌, ◌-◌, ◌≤◌, ltb, cond, Bool, true, false, List, [], ◌∷◌, ◌++◌, length, refl, sym, ap, ◌∙◌, subst}
-use Rattle.std.{proofs.Common.{append_assoc, arith}, proofs.lemmas.Bool.le-ltb, proofs.lemmas.List.length-append}
+use Rattle.std.proofs.Common.{rules, ◌≡◌, ℕ, ◌+◌, ◌-◌, ◌≤◌, ltb, cond, Bool, true, false, List, [], ◌∷◌, ◌++◌, length, refl, sym, ap, ◌∙◌}
+use Rattle.std.{proofs.Common.{subst, append_assoc, arith}, proofs.lemmas.Bool.le-ltb, proofs.lemmas.List.length-append}
 use Rattle.yq_row_table.{specs.Items.{Item, items_of_cut, items_text}, proofs.ItemLaws.items_text-append, proofs.KeptLaws.items_apart}
 use Rattle.yq_row_table.specs.Touched.{item_text, in_front, in_back}
 use Rattle.yq_text.specs.Script.{kept_front, kept_back}
@@ -63,8 +63,7 @@ back_only (i ∷ (j ∷ is)) back n trail e h =
 -- the same with more items in front
 back_behind : (front is back : List Item) (n : ℕ) (trail : List ℕ) → n ≡ length trail + length (items_text back []) → InLast trail is → in_back n (front ++ (is ++ back)) ≡ in_back n back
 back_behind [] is back n trail e h = back_only is back n trail e h
-back_behind (f ∷ front) is back n trail e h =
-    skipped f (front ++ (is ++ back)) n (omega (arith, e, last_long trail is h, size_one f (front ++ (is ++ back)), size_joined front (is ++ back), size_joined is back)) ∙ back_behind front is back n trail e h
+back_behind (f ∷ front) is back n trail e h = search (rules, arith, skipped, last_long, size_one, size_joined, back_behind front is back n trail e h)
 
 back_left : (n : ℕ) (is : List Item) → (more : List Item) × (is ≡ more ++ in_back n is)
 back_left n [] = ([], refl)

@@ -1,41 +1,28 @@
 -- Each item that segments write is touched by what they put, where that is near.
-use Rattle.std.proofs.Common.{◌≡◌, ◌⊎◌, inl, inr, ℕ, ◌+◌, ◌≤◌, true, false, List, [], ◌∷◌, ◌++◌, length, Some, sym, ap, ◌∙◌, subst}
-use Rattle.std.{proofs.Common.{append_assoc, arith}, proofs.lemmas.List.length-append, specs.Str.is_utf8}
-use mathlib.Core.List.{head-eq_of_cons-eq, tail-eq_of_cons-eq}
-use Rattle.yq_core.{specs.Text.is_empty, proofs.BlockPieceLaws.IsLf, proofs.Bools.guard_then}
+use Rattle.std.proofs.Common.{rules, ◌≡◌, ◌⊎◌, inl, inr, ℕ, ◌+◌, ◌≤◌, true, false, List, [], ◌∷◌, ◌++◌, length, Some, sym, ap, ◌∙◌, subst}
+use Rattle.std.{proofs.Common.{append_assoc, arith}, proofs.lemmas.List.length-append}
+use mathlib.Core.List.{tail-eq_of_cons-eq}
+use Rattle.yq_core.{specs.Text.is_empty, proofs.BlockPieceLaws.IsLf}
 use Rattle.yq_row_table.{specs.Grammar.IsCut, specs.Items.{Item, AreRowItems, items_of_cut, items_text, nothing_asked}, specs.Rows.Cut}
 use Rattle.yq_row_table.{specs.Touched.{in_back, in_front, item_text}, proofs.ItemLaws.{items_of_text, items_text-append, parts_are_items}}
 use Rattle.yq_row_table.proofs.KeptLaws.{items_apart}
-use Rattle.yq_documents.{specs.Reading.read_at, proofs.ReadLaws.text_takes}
+use Rattle.yq_documents.specs.Reading.{read_at}
 use Rattle.yq_text.specs.Script.{Segment, are_kept, kept_back, kept_front, new_text}
+use Rattle.yq_edit_laws.proofs.CutLaws.{cut_read}
 use Rattle.yq_edit_laws.specs.TouchedRanges.{AreTouched, IsLocalEdit, IsTouched, LiesInOne, NearAreTouched, put_ranges}
 use Rattle.yq_edit_laws.{proofs.ItemEnds.{back_stop, front_stop, items_ended}, proofs.RangeLaws.{at_first, at_last, from_front}}
 use Rattle.yq_edit_laws.proofs.TouchLaws.{size_joined, size_one}
-
-text_cut : (t : List ℕ) (c : Cut) → read_at t ≡ Some c → IsCut t c
-unfolding read_at
-text_cut t c h = (text_takes t c (guard_then (is_utf8 t) h).1).0
 
 -- items of a list that is cut at another place too: they are in front of that, or after it
 apart : (done front : List Item) (w own : Item) (ws back : List Item) → done ++ (w ∷ ws) ≡ front ++ (own ∷ back) →
     (length (items_text done []) ≤ length (items_text front [])) ⊎ (length (items_text (w ∷ ws) []) ≤ length (items_text back []))
 apart [] front w own ws back e = inl (omega arith)
-apart (x ∷ done) [] w own ws back e =
-    let tail : done ++ (w ∷ ws) ≡ back = tail-eq_of_cons-eq e in
-    inr (let size = ap (λ (l : List Item). length (items_text l [])) tail in omega (arith, size, size_joined done (w ∷ ws)))
-apart (x ∷ done) (y ∷ front) w own ws back e = go (apart done front w own ws back (tail-eq_of_cons-eq e))
-  where
-    same : x ≡ y
-    same = head-eq_of_cons-eq e
-
-    go : (length (items_text done []) ≤ length (items_text front [])) ⊎ (length (items_text (w ∷ ws) []) ≤ length (items_text back [])) →
-        (length (items_text (x ∷ done) []) ≤ length (items_text (y ∷ front) [])) ⊎ (length (items_text (w ∷ ws) []) ≤ length (items_text back []))
-    go (inl k) = inl (omega (arith, k, size_one x done, size_one y front, ap (λ (i : Item). length (item_text i)) same))
-    go (inr k) = inr k
+apart (x ∷ done) [] w own ws back e = search (rules, arith, size_joined)
+apart (x ∷ done) (y ∷ front) w own ws back e = search (rules, arith, size_one, apart done front w own ws back (tail-eq_of_cons-eq e))
 
 module _ (ss : List Segment) (new : Cut) (near : IsLocalEdit ss) (kept : are_kept ss ≡ false) (read : read_at (new_text ss) ≡ Some new) where
   cut : IsCut (new_text ss) new
-  cut = text_cut (new_text ss) new read
+  cut = cut_read (new_text ss) new read
 
   items : AreRowItems nothing_asked (items_of_cut new) []
   items = parts_are_items new true cut.parts
@@ -61,18 +48,10 @@ module _ (ss : List Segment) (new : Cut) (near : IsLocalEdit ss) (kept : are_kep
       size = ap length whole ∙ length-append before behind
 
       ended : is_empty behind ≡ false → (before ≡ []) ⊎ IsLf before
-      ended some = go (items_ended nothing_asked done (w ∷ ws) (subst (λ (l : List Item). AreRowItems nothing_asked l []) are items) some)
-        where
-          go : (done ≡ []) ⊎ IsLf before → (before ≡ []) ⊎ IsLf before
-          go (inl none) = inl (ap (λ (l : List Item). items_text l []) none)
-          go (inr lf) = inr lf
+      ended some = search (rules, items_ended, items)
 
       side : LiesInOne ss new → (length before ≤ length (kept_front ss)) ⊎ (length behind ≤ length (kept_back ss))
-      side one = go (apart done one.front w one.own ws one.back (sym are ∙ one.items_are))
-        where
-          go : (length before ≤ length (items_text one.front [])) ⊎ (length behind ≤ length (items_text one.back [])) → (length before ≤ length (kept_front ss)) ⊎ (length behind ≤ length (kept_back ss))
-          go (inl k) = inl (omega (arith, k, one.begins))
-          go (inr k) = inr (omega (arith, k, one.ends))
+      side one = search (rules, arith, apart)
 
       by_side : (length before ≤ length (kept_front ss)) ⊎ (length behind ≤ length (kept_back ss)) → IsTouched (length before) (length before + length (item_text w)) (put_ranges ss)
       by_side (inl k) = at_first 0 (length before) (length before + length (item_text w)) ss kept (omega (arith, k)) (omega (arith, front))
@@ -101,9 +80,7 @@ module _ (ss : List Segment) (new : Cut) (near : IsLocalEdit ss) (kept : are_kep
   all_touched front back before behind [] are = tt
   all_touched front back before behind (w ∷ ws) are =
       let n : length (items_text (front ++ (w ∷ [])) []) ≡ length (items_text front []) + length (item_text w) = omega (arith, size_joined front (w ∷ []), size_one w []) in
-      let front_long : length (kept_front ss) ≤ length (items_text front []) + length (item_text w) =
-      subst (λ (f : List Item). length (kept_front ss) ≤ length (items_text f []) + length (item_text w)) (sym before)
-      (front_stop (length (kept_front ss)) (items_of_cut new) w (ws ++ back) (are ∙ ap (λ (f : List Item). f ++ ((w ∷ ws) ++ back)) before)) in
+      let front_long : length (kept_front ss) ≤ length (items_text front []) + length (item_text w) = search (rules, front_stop) in
       let back_long : length (kept_back ss) ≤ length (items_text (w ∷ (ws ++ back)) []) =
       subst (λ (b : List Item). length (kept_back ss) ≤ length (items_text (w ∷ (ws ++ b)) [])) (sym behind) (back_stop (length (kept_back ss)) (items_of_cut new) front w ws (are ∙ ap (λ (b : List Item). front ++ (w ∷ (ws ++ b))) behind)) in (
         item_touched front w (ws ++ back) are front_long back_long,

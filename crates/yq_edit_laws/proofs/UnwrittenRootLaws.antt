@@ -155,25 +155,20 @@ module _ (n : ℕ) (c : Cut) (w : NoRows) (read : read_at (cut_text c) ≡ Some 
   abbrev marker : List ℕ
   marker = marker_before [] (part_number n c) c
 
-  own_line : IsMarkerLine marker (part_text (nth_part (part_number n c) c) (behind_part (part_number n c) c)) → IsMarkerLine marker (h.d.part.end ++ h.d.behind)
-  own_line = subst (IsMarkerLine marker) ((λ i. part_text ((part_numbered c n h.d.part stands.there).0 i) (stands.behind i)) ∙ part_is h.d.behind)
-
   -- rows may come after the marker in front, where the text before them is closed or some comes after that
   pub starts_at : (h.d.part.end ++ h.d.behind ≡ [] → is_closed_text (h.d.before ++ h.d.part.end) ≡ true) → (t : List ℕ) → is_after marker t ≡ true
   starts_at closed t = go (marker_at c (part_number n c) true cut.parts)
     where
       ends_closed : IsMarkerLine marker (h.d.part.end ++ h.d.behind) → h.d.part.end ++ h.d.behind ≡ [] → is_closed_text marker ≡ true
-      ends_closed own none =
-          let front = ends_in_marker n c h.d h.placed in
-          let before : h.d.before ≡ h.d.before ++ h.d.part.end = sym (append-nil h.d.before) ∙ ap (λ x. h.d.before ++ x) (sym (nil_from_length h.d.part.end (omega (arith, ap length none, length-append h.d.part.end h.d.behind)))) in
-          sym (closed_behind front.0 marker (long_some marker own.long)) ∙ (ap is_closed_text (sym front.1 ∙ before) ∙ closed none)
+      ends_closed own h1 = search (rules, arith, ends_in_marker, append-nil, nil_from_length, length-append, closed_behind, long_some)
 
       by_line : IsMarkerLine marker (h.d.part.end ++ h.d.behind) → is_after marker t ≡ true
       by_line own = after_closed marker (h.d.part.end ++ h.d.behind) t own (empty_cases (h.d.part.end ++ h.d.behind)) (ends_closed own)
 
       go : (marker ≡ []) ⊎ IsMarkerLine marker (part_text (nth_part (part_number n c) c) (behind_part (part_number n c) c)) → is_after marker t ≡ true
       go (inl e) = ap (λ m. is_after m t) e
-      go (inr line) = by_line (own_line line)
+      go (inr line) =
+          by_line ((subst (IsMarkerLine marker) ((λ i. part_text ((part_numbered c n h.d.part stands.there).0 i) (stands.behind i)) ∙ part_is h.d.behind)) line)
 
   module _ (closed : is_closed_text w.before ≡ true) (br : Break) where
     all_closed : is_closed_text (h.d.before ++ h.d.part.end) ≡ true

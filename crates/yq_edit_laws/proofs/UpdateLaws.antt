@@ -1,15 +1,15 @@
 -- An update that is planned on the documents of a text and carried out.
-use Rattle.std.proofs.Common.{◌≡◌, ◌≢◌, ℕ, zero, suc, ◌<◌, List, [], ◌∷◌, ◌++◌, slice_get, Some, None, Result, Ok, Err, IfOk, IfErr}
+use Rattle.std.proofs.Common.{rules, ◌≡◌, ◌≢◌, ℕ, zero, suc, ◌<◌, List, [], ◌∷◌, ◌++◌, slice_get, Some, None, Result, Ok, Err, IfOk, IfErr}
 use Rattle.std.{proofs.Common.{string_bytes, sym, ap, ◌∙◌, subst, arith}, proofs.lemmas.Option.{none-some, same_Some}, specs.Str.IsUtf8}
 use Rattle.yq_core.{specs.declared.ReadFault.ReadFault, specs.declared.fault.FaultKind.TheVariants.NotUtf8, specs.Answers.ReadError}
 use Rattle.yq_row_table.specs.Rows.{Cut}
 use Rattle.yq_documents.{specs.Reading.{documents, documents_of, cut_of, read_at}, proofs.ReadLaws.parts_read}
 use Rattle.yq_semantics.{specs.Judgement.{Judges, ExprError}, specs.Operations.Operation, specs.Plans.plan}
-use Rattle.yq_semantics.specs.Program.{Program, Update, assign, delete, comment, read, updates, update_at, update_count, UpdatesHold}
-use Rattle.yq_semantics.{specs.Program.LiteralsHold, specs.Rooms.room_of, specs.declared.refusal.Refusal.Refusal}
+use Rattle.yq_semantics.specs.Program.{Program, Update, read, updates, update_at, update_count, UpdatesHold, LiteralsHold}
+use Rattle.yq_semantics.{specs.Rooms.room_of, specs.declared.refusal.Refusal.Refusal}
 use Rattle.yq_text.{specs.Splice.Splice, proofs.PlaceInList.get_some, specs.declared.edited.Edited.Edited}
 use Rattle.yq_edit_laws.{specs.Answers.{Edits, EditFails, of_planning, error_of_reading}, specs.Carried.{carry_all, carry_out, updated}}
-use Rattle.yq_edit_laws.{specs.Edit.{Edit, unreadable, refuses, gives, edit_after, by_reading}, specs.Theorems.{HasReading, IsUpdated}}
+use Rattle.yq_edit_laws.{specs.Edit.{Edit, unreadable, gives, edit_after, by_reading}, specs.Theorems.HasReading}
 use Rattle.yq_edit_laws.{specs.Valid.{HaveOperands, IsStep, UpdateFails, FailsAt}, specs.declared.edit_error.EditError.EditError}
 use Rattle.yq_edit_laws.{proofs.MeaningLaws.{UpdateComes, plan_comes, plan_stops}, proofs.OrderLaws.fails_itself}
 use Rattle.yq_edit_laws.proofs.TextFaults.{FailsToRead, text_unread}
@@ -38,12 +38,7 @@ module _ (u : Update) (t : List ℕ) (c : Cut) (ops : List Operation) (is : read
   comes = plan_comes u t c is ops planned operands holds
 
   step_so : (ds : List Splice) (x : Edit) (new : List ℕ) (all : List Splice) → updated u t ≡ x → UpdateComes u t x → edit_after ds x ≡ gives new all → (cs : List Splice) × IsStep u t new cs × (all ≡ ds ++ cs)
-  step_so ds unreadable new all is_done means h = absurd (cc)
-  step_so ds (refuses why) new all is_done means h = absurd (cc)
-  step_so ds (gives m cs) new all is_done means h =
-      let text : m ≡ new = cc in
-      let splices : ds ++ cs ≡ all = cc in
-      (cs, record { exact = is_done ∙ ap (λ (x : List ℕ). gives x cs) text; is = subst (λ (x : List ℕ). IsUpdated u t x cs) text means }, sym splices)
+  step_so ds x new all is_done means h = search rules
 
   pub update_ok : (r : Result Edited EditError) (ds : List Splice) → Edits r (edit_after ds (carry_all ops t)) →
       IfOk r (λ e. (cs : List Splice) × IsStep u t (string_bytes e.text) cs × (e.splices.items ≡ ds ++ cs))
@@ -91,14 +86,10 @@ update_planned u t d ops same h = ap (λ (x : List ℕ). plan u (room_of x) (doc
 
 -- those of the first of updates, and of the others
 first_holds : (u : Update) (us : List Update) → UpdatesHold (u ∷ us) → UpdatesHold (u ∷ [])
-first_holds (assign left operator right) us h = (h.0, tt)
-first_holds (delete left) us h = tt
-first_holds (comment left place text) us h = tt
+first_holds u us h = search rules
 
 others_hold : (u : Update) (us : List Update) → UpdatesHold (u ∷ us) → UpdatesHold us
-others_hold (assign left operator right) us h = h.1
-others_hold (delete left) us h = h
-others_hold (comment left place text) us h = h
+others_hold u us h = search rules
 
 nth_holds : (us : List Update) (n : ℕ) (u : Update) → UpdatesHold us → slice_get us n ≡ Some u → UpdatesHold (u ∷ [])
 nth_holds [] n u h at = absurd (none-some _ at)

@@ -1,20 +1,16 @@
-use Rattle.std.proofs.Common.{ℕ, List, Some, map, refl, sym, subst}
+use Rattle.std.proofs.Common.{ℕ, List, Some, map, refl, sym, subst, rules}
 use Rattle.yq_text.specs.Halves.{whole}
 use Rattle.yq_core.{specs.Entries.tree_step, specs.Values.value_node, specs.View.inline_view}
 use Rattle.yq_outline.specs.Bodies.{borrowed}
-use Rattle.yq_row_table.specs.Rows.{cut_text}
 use Rattle.yq_documents.{specs.Located.steps_of, specs.Reading.cut_of}
 use Rattle.yq_places.{specs.FlowNodes.flow_collection, specs.FlowViews.FlowAgrees}
-use Rattle.yq_edit_rules.{specs.Answers.GivesSegments, specs.FlowParts.flow_more}
+use Rattle.yq_edit_rules.specs.Answers.{GivesSegments}
 use Rattle.yq_edit_laws.{specs.EditPlaces.LiesIn, specs.PartPuts.{AreMore, place_after}}
 use Rattle.yq_edit_laws.{proofs.AppendAnswers.{more_found, more_written, no_more}, proofs.FlowAnswers.{coll_found, whole_text}}
 use Rattle.yq_edit_laws.proofs.append.append_in_flow.Goals as goal
 
 pub returns-in_default-collection_in : goal.returns-in_default-collection_in
-returns-in_default-collection_in c =
-    let raw = subst (FlowAgrees c.args.cut.now (flow_collection c.args.path.now.doc (map tree_step c.deref.result.now) (cut_of c.args.cut.now))) c.in-Some.is c.in_ok-found.ensures.found in
-    let agrees = subst (λ ss. FlowAgrees c.args.cut.now (flow_collection c.args.path.now.doc (map tree_step ss) (cut_of c.args.cut.now)) (Some c.in-Some.head)) c.deref.ensures.value raw in
-    no_more c.args.cut.now _ c.in-Some.head (flow_more (cut_text (cut_of c.args.cut.now)) (borrowed c.args.key) (value_node c.args.value.now)) agrees c.in_default-collection_in.ensures
+returns-in_default-collection_in c = search (rules, no_more)
 
 pub returns-in_default-put : goal.returns-in_default-put
 returns-in_default-put c =

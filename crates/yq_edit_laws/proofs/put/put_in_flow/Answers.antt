@@ -1,9 +1,8 @@
-use Rattle.std.proofs.Common.{◌∙◌, ℕ, List, Option, Some, map, refl, sym, ap, subst}
+use Rattle.std.proofs.Common.{◌∙◌, ℕ, List, Some, map, refl, sym, ap, subst, rules}
 use Rattle.yq_text.specs.Halves.{whole}
-use Rattle.yq_core.{specs.Answers.◌>>=◌, specs.Collections.CollPieces, specs.Entries.{entry_view, tree_step}, specs.Values.value_node}
-use Rattle.yq_core.specs.View.{inline_view}
+use Rattle.yq_core.{specs.Entries.{entry_view, tree_step}, specs.Values.value_node, specs.View.inline_view}
 use Rattle.yq_documents.{specs.Located.steps_of, specs.Reading.cut_of}
-use Rattle.yq_places.{specs.FlowNodes.flow_collection, specs.FlowViews.FlowAgrees, specs.Standings.{flow_part, flow_standing, last_step}}
+use Rattle.yq_places.{specs.FlowNodes.flow_collection, specs.FlowViews.FlowAgrees, specs.Standings.last_step}
 use Rattle.yq_edit_rules.specs.Answers.{GivesSegments}
 use Rattle.yq_edit_laws.{specs.EditPlaces.LiesIn, specs.PartPuts.place_after, proofs.FlowAnswers.{coll_found, whole_text}}
 use Rattle.yq_edit_laws.proofs.FlowKeys.{collection_unique}
@@ -11,11 +10,7 @@ use Rattle.yq_edit_laws.proofs.PutAnswers.{content_missing, no_collection, puts_
 use Rattle.yq_edit_laws.proofs.put.put_in_flow.Goals as goal
 
 pub returns-in_default-collection_in : goal.returns-in_default-collection_in
-returns-in_default-collection_in c =
-    let last = c.in-Some.ensures ∙ ap (λ ss. last_step (map tree_step ss)) c.deref.ensures.value in
-    let agrees = subst (FlowAgrees c.args.cut.now (flow_collection c.args.path.now.doc (map tree_step c.in-Some.above.now) (cut_of c.args.cut.now))) c.in-Some-found.is c.in_ok-found.ensures.found in
-    puts_none c.args.path.now.doc (steps_of c.args.path.now) (value_node c.args.value.now) (cut_of c.args.cut.now)
-    (ap (flow_standing c.args.path.now.doc (cut_of c.args.cut.now)) (sym last) ∙ ap (λ (o : Option CollPieces). o >>= flow_part (tree_step c.in-Some.last.now)) (no_collection c.args.cut.now _ c.in-Some-found.head agrees c.in_default-collection_in.ensures))
+returns-in_default-collection_in c = search (rules, puts_none, no_collection)
 
 pub part_near-requires : goal.part_near-requires
 part_near-requires c =
