@@ -82,7 +82,9 @@ module _ (doc : ℕ) (steps : List Step) (key : Option (List ℕ)) (v : Node) (c
       place.new_text q
       ∙ (ap (λ z. place.start ++ z)
       ((λ i. rows_text (q_rows i) (own_end place.back part.end i ++ rest))
-      ∙ (rows_text-append place.front (new ++ place.back) (part.end ++ rest) ∙ (rows_then place.front (rows_text (new ++ place.back) (part.end ++ rest)) ∙ ap (λ z. rows_text place.front [] ++ z) (rows_text-append new place.back (part.end ++ rest)))))
+      ∙ (rows_text-append place.front (new ++ place.back) (part.end ++ rest)
+          ∙ (rows_then place.front (rows_text (new ++ place.back) (part.end ++ rest))
+          ∙ ap (λ z. rows_text place.front [] ++ z) (rows_text-append new place.back (part.end ++ rest)))))
       ∙ (sym (append_assoc place.start (rows_text place.front []) (rows_text new (rows_text place.back (part.end ++ rest))))
       ∙ ((λ i. sym place.before_is i ++ rows_text new (sym place.behind_is i))
       ∙ ap (λ z. x.before ++ z)

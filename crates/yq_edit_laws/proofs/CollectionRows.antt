@@ -47,7 +47,8 @@ no_bare (outlines.Key k) e = tt
 no_bare outlines.Dash e = tt
 
 -- what a text of rows ends in, by the last of them
-pub text_broken : (front back : List Row) (gap rest : List ℕ) (h : EndIn front) → AreRows unlimited (front ++ back) gap rest → (a t : List ℕ) → rows_text front [] ≡ a ++ t → is_empty t ≡ false → not (is_empty (last_break t)) ≡ is_broken h.last.content
+pub text_broken : (front back : List Row) (gap rest : List ℕ) (h : EndIn front) → AreRows unlimited (front ++ back) gap rest → (a t : List ℕ) →
+    rows_text front [] ≡ a ++ t → is_empty t ≡ false → not (is_empty (last_break t)) ≡ is_broken h.last.content
 text_broken front back gap rest h rows a t is some =
     let all : AreRows unlimited (h.others ++ (h.last ∷ back)) gap rest = subst (λ rs. AreRows unlimited rs gap rest) (ap (λ rs. rs ++ back) h.is ∙ append_assoc h.others (h.last ∷ []) back) rows in
     let at = row_there unlimited h.others h.last back gap rest all in

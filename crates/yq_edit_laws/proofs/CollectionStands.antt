@@ -69,7 +69,8 @@ module _ (n : ℕ) (s : Step) (ss : List Step) (c : Cut) (e : RowsOfEntry) (ther
       ap (λ (x : Line). x.head) (sym same) ∙ (l.2.dash less).1
 
   -- the first line under it
-  begins : (x : Line) (column : ℕ) → slice_get (row_lines e.row ++ (lines_of_rows e.under ++ lines_of_rows e.back)) (e.line + 1) ≡ Some x → IsEntry x.mark → x.column ≡ column → 0 < length (flatten f.under) → HasEntries f.under × BeginsAt column f.under
+  begins : (x : Line) (column : ℕ) → slice_get (row_lines e.row ++ (lines_of_rows e.under ++ lines_of_rows e.back)) (e.line + 1) ≡ Some x →
+      IsEntry x.mark → x.column ≡ column → 0 < length (flatten f.under) → HasEntries f.under × BeginsAt column f.under
   begins x column at entry col some = search (rules, arith, lines_there, same_Some)
 
   -- a collection on the lines under the key or dash
@@ -120,7 +121,8 @@ module _ (n : ℕ) (s : Step) (ss : List Step) (c : Cut) (e : RowsOfEntry) (ther
   abbrev pub end_at : ℕ → Bool → CollectionEnd
   end_at column broken = record { column = column; before = before_entry e ++ print_row e.row (rows_text e.under []); broken = broken; behind = behind_entry e }
 
-  pub ends_there : (column : ℕ) (broken : Bool) → f.line.head ≡ None → HasEntries f.under × BeginsAt column f.under → broken ≡ is_broken (behind_front e.front e.row e.under).last.content → IsCollectionEnd c n p (s ∷ ss) (end_at column broken)
+  pub ends_there : (column : ℕ) (broken : Bool) → f.line.head ≡ None → HasEntries f.under × BeginsAt column f.under →
+      broken ≡ is_broken (behind_front e.front e.row e.under).last.content → IsCollectionEnd c n p (s ∷ ss) (end_at column broken)
   ends_there column broken none begin last =
       let h = behind_front e.front e.row e.under in
       let above : length (lines_before (under_line f).place) ≡ length (lines_before f.place) + 1 = ap length (before_under f.place f.line f.after) ∙ length-append (lines_before f.place) (f.line ∷ []) in
@@ -170,7 +172,9 @@ root_ends n c part start r rs broken at are_rows alone put last =
       new_text = put;
     }
   where
-    first : (above : List (List ℕ)) (column : ℕ) (ns : List ℕ) (m : rows.RowMark) (x : rows.Content) (more : List Line) → (is_empty ns && has_no_mark (line_mark m)) ≡ false → (o : Outline) → flatten o ≡ lines_from above column ns m x ++ more → HasEntries o × BeginsAt column o
+    first : (above : List (List ℕ)) (column : ℕ) (ns : List ℕ) (m : rows.RowMark) (x : rows.Content) (more : List Line) →
+        (is_empty ns && has_no_mark (line_mark m)) ≡ false → (o : Outline) → flatten o ≡ lines_from above column ns m x ++ more → HasEntries o
+        × BeginsAt column o
     first above column ns m x more e o is = search (rules, no_bare)
 
     begins : (o : Outline) → flatten o ≡ lines_of_rows (r ∷ rs) → HasEntries o × BeginsAt r.column o

@@ -83,7 +83,8 @@ ended_outs k rest s g key n sep (item key2 n2 sep2 none) e at = go (is_here s (k
     go false at = absurd (none-some _ at)
 
 -- one after the first one
-later_outs : (k : ℕ) (rest : List ℕ) (s : Step) (g : List ℕ) (key : Key) (n : FlowNode) (sep : Sep) (is : Items) (e : FlowEdit) → removing_from k rest s (gap_of sep) is ≡ Some e → Outs k rest is e → Outs k rest (item key n sep is) (edit_from_item g key n sep e)
+later_outs : (k : ℕ) (rest : List ℕ) (s : Step) (g : List ℕ) (key : Key) (n : FlowNode) (sep : Sep) (is : Items) (e : FlowEdit) →
+    removing_from k rest s (gap_of sep) is ≡ Some e → Outs k rest is e → Outs k rest (item key n sep is) (edit_from_item g key n sep e)
 later_outs k rest s g key n sep is e at h = record { longer = h.longer; before = λ r u there long. go r u (is_here r (key_label (key_content key))) refl there long }
   where
     others : Sep
@@ -92,7 +93,9 @@ later_outs k rest s g key n sep is e at h = record { longer = h.longer; before =
     own : List ℕ → EntryPieces
     own l = record { key = key; node = n; rest = l }
 
-    go : (r : Step) (u : EntryPieces) (b : Bool) → is_here r (key_label (key_content key)) ≡ b → cond b (Some (own (sep_text sep (flow_items_text k is rest)))) (item_at k (further r) is rest) ≡ Some u → length (gone_text e) < length (node_text u.node u.rest) →
+    go : (r : Step) (u : EntryPieces) (b : Bool) → is_here r (key_label (key_content key)) ≡ b →
+        cond b (Some (own (sep_text sep (flow_items_text k is rest)))) (item_at k (further r) is rest) ≡ Some u →
+        length (gone_text e) < length (node_text u.node u.rest) →
         ComesBefore (gone_text e) (left_text e) u (item_at k r (item key n others e.items) rest)
     go r u true is_r there long =
         let b = (removed_text k rest s (gap_of sep) is e at).text in
@@ -117,7 +120,9 @@ outs k rest s g (item key n sep is) e at = go (is_here s (key_label (key_content
         subst (Outs k rest (item key n sep is)) x.2 (later_outs k rest (further s) g key n sep is x.0 x.1 (again x.0 x.1))
 
     go : (b : Bool) → ((x : FlowEdit) → removing_from k rest (further s) (gap_of sep) is ≡ Some x → Outs k rest is x) →
-        cond b (before_next k rest g key n sep is) (option_or (last_out k rest (further s) g key n sep is) (option_map (edit_from_item g key n sep) (removing_from k rest (further s) (gap_of sep) is))) ≡ Some e → Outs k rest (item key n sep is) e
+        cond b (before_next k rest g key n sep is)
+            (option_or (last_out k rest (further s) g key n sep is)
+            (option_map (edit_from_item g key n sep) (removing_from k rest (further s) (gap_of sep) is))) ≡ Some e → Outs k rest (item key n sep is) e
     go true again at = next_outs k rest g key n sep is e at
     go false again at = behind again (either _ _ at)
 

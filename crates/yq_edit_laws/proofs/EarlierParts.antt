@@ -27,7 +27,9 @@ parts_more : (q : List Step) (x : EntryPieces) (more : List ℕ) → entry_piece
 parts_more [] x more = refl
 parts_more (s ∷ q) x more = ap (option_and_then (entry_pieces_at q)) (inside_more s x.node x.rest more) ∙ go (path_inside s x.node x.rest) (λ y. parts_more q y more)
   where
-    go : (o : Option EntryPieces) → ((y : EntryPieces) → entry_pieces_at q (entry_more more y) ≡ option_map (entry_more more) (entry_pieces_at q y)) → option_and_then (entry_pieces_at q) (option_map (entry_more more) o) ≡ option_map (entry_more more) (option_and_then (entry_pieces_at q) o)
+    go : (o : Option EntryPieces) →
+        ((y : EntryPieces) → entry_pieces_at q (entry_more more y) ≡ option_map (entry_more more) (entry_pieces_at q y)) →
+        option_and_then (entry_pieces_at q) (option_map (entry_more more) o) ≡ option_map (entry_more more) (option_and_then (entry_pieces_at q) o)
     go o again = search rules
 
 -- ---- an item or entry before one that changes
@@ -60,7 +62,8 @@ items_turn k s f (item key n sep is) rest y t t2 here h = go (is_here s (key_lab
         let one : (tail l : List ℕ) → tail ≡ w.0 ++ l → key_text key (node_text n (sep_text sep tail)) ≡ (front ++ w.0) ++ l = λ tail l is. item_cut key n sep tail ∙ (ap (λ (r : List ℕ). front ++ r) is ∙ sym (append_assoc front w.0 l)) in
         (front ++ w.0, one (flow_items_text k is rest) t w.1, one (flow_items_text k (change_item (further s) f is) rest) t2 w.2)
 
-front_item : (k : ℕ) (s r : Step) (f : FlowNode → FlowNode) (is : Items) (rest : List ℕ) (y u : EntryPieces) (t t2 : List ℕ) → item_at k s is rest ≡ Some y → item_at k r is rest ≡ Some u → Turns (node_text y.node y.rest) (node_text (f y.node) y.rest) t t2 →
+front_item : (k : ℕ) (s r : Step) (f : FlowNode → FlowNode) (is : Items) (rest : List ℕ) (y u : EntryPieces) (t t2 : List ℕ) →
+    item_at k s is rest ≡ Some y → item_at k r is rest ≡ Some u → Turns (node_text y.node y.rest) (node_text (f y.node) y.rest) t t2 →
     length y.rest ≤ length t → length t < length (node_text u.node u.rest) → ((u ≡ y) × (item_at k r (change_item s f is) rest ≡ Some (with_node (f y.node) y))) ⊎ ComesBefore t t2 u (item_at k r (change_item s f is) rest)
 front_item k s r f none rest y u t t2 here there h short long = absurd (none-some _ here)
 front_item k s r f (item key n sep is) rest y u t t2 here there h short long =
@@ -170,7 +173,8 @@ node_turn s f (scalar p) rest y t t2 here h = absurd (none-some _ here)
 node_turn s f (coll k gap is) rest y t t2 here h = bracket_turn (opening_bracket k) gap (flow_items_text k is rest) (flow_items_text k (change_item s f is) rest) t t2 (items_turn k s f is rest y t t2 here h)
 node_turn s f (anchored n gap node) rest y t t2 here h = anchor_turn n gap (node_text node rest) (node_text (within_items (change_item s f) node) rest) t t2 (node_turn s f node rest y t t2 here h)
 
-front_node : (s r : Step) (f : FlowNode → FlowNode) (node : FlowNode) (rest : List ℕ) (y u : EntryPieces) (t t2 : List ℕ) → path_inside s node rest ≡ Some y → path_inside r node rest ≡ Some u → Turns (node_text y.node y.rest) (node_text (f y.node) y.rest) t t2 →
+front_node : (s r : Step) (f : FlowNode → FlowNode) (node : FlowNode) (rest : List ℕ) (y u : EntryPieces) (t t2 : List ℕ) →
+    path_inside s node rest ≡ Some y → path_inside r node rest ≡ Some u → Turns (node_text y.node y.rest) (node_text (f y.node) y.rest) t t2 →
     length y.rest ≤ length t → length t < length (node_text u.node u.rest) →
     ((u ≡ y) × (path_inside r (within_items (change_item s f) node) rest ≡ Some (with_node (f y.node) y))) ⊎ ComesBefore t t2 u (path_inside r (within_items (change_item s f) node) rest)
 front_node s r f empty rest y u t t2 here there h short long = absurd (none-some _ here)
@@ -213,7 +217,8 @@ module _ (w : CollPieces) (gap : List ℕ) (is : Items) (t t2 : List ℕ) (short
       let u = then_some (path_inside s x.node x.rest) at in
       node_turn s (collection_put p gap is) x.node x.rest u.0 t t2 u.1 (turned p u.0 u.2)
 
-  own_before : (r : Step) (node : FlowNode) (rest : List ℕ) (u : EntryPieces) → coll_in node rest ≡ Some w → path_inside r node rest ≡ Some u → length t < length (node_text (without_anchor u.node) u.rest) → ComesBefore t t2 u (path_inside r (put_coll gap is node) rest)
+  own_before : (r : Step) (node : FlowNode) (rest : List ℕ) (u : EntryPieces) → coll_in node rest ≡ Some w → path_inside r node rest ≡ Some u →
+      length t < length (node_text (without_anchor u.node) u.rest) → ComesBefore t t2 u (path_inside r (put_coll gap is node) rest)
   own_before r empty rest u e there long = absurd (none-some _ e)
   own_before r (alias n) rest u e there long = absurd (none-some _ e)
   own_before r (scalar b) rest u e there long = absurd (none-some _ e)
@@ -225,7 +230,8 @@ module _ (w : CollPieces) (gap : List ℕ) (is : Items) (t t2 : List ℕ) (short
   by_before r q u z x there b = search (rules, other_part q u z b.0 t t2 b.1 there)
 
   -- a part that isn't one which the collection is in
-  pub earlier_part : (p q : List Step) (x z : EntryPieces) → coll_along p x.node x.rest ≡ Some w → entry_pieces_at q x ≡ Some z → ((o : List Step) → coll_along o z.node z.rest ≡ Some w → ⊥) → length t < length (node_text (without_anchor z.node) z.rest) →
+  pub earlier_part : (p q : List Step) (x z : EntryPieces) → coll_along p x.node x.rest ≡ Some w → entry_pieces_at q x ≡ Some z →
+      ((o : List Step) → coll_along o z.node z.rest ≡ Some w → ⊥) → length t < length (node_text (without_anchor z.node) z.rest) →
       ComesBefore t t2 z (entry_pieces_at q (with_node (collection_put p gap is x.node) x))
   earlier_part p [] x z at there apart long = absurd (apart p (subst (λ (v : EntryPieces). coll_along p v.node v.rest ≡ Some w) (same_Some _ _ there) at))
   earlier_part [] (r ∷ q) x z at there apart long =
@@ -286,7 +292,8 @@ coll_turn x e changed stands edited short =
 
 -- ---- before a content that is another one
 
-pub put_before : (k : ℕ) (s r : Step) (m : FlowNode) (is : Items) (rest : List ℕ) (y u : EntryPieces) (t t2 : List ℕ) → item_at k s is rest ≡ Some y → item_at k r is rest ≡ Some u → Turns (flow_items_text k is rest) (flow_items_text k (put_item s m is) rest) t t2 →
+pub put_before : (k : ℕ) (s r : Step) (m : FlowNode) (is : Items) (rest : List ℕ) (y u : EntryPieces) (t t2 : List ℕ) →
+    item_at k s is rest ≡ Some y → item_at k r is rest ≡ Some u → Turns (flow_items_text k is rest) (flow_items_text k (put_item s m is) rest) t t2 →
     length t ≡ length (node_text (without_anchor y.node) y.rest) → length t < length (node_text (without_anchor u.node) u.rest) → ComesBefore t t2 u (item_at k r (put_item s m is) rest)
 unfolding flow_items_text
 put_before k s r m none rest y u t t2 here there turns size long = absurd (none-some _ here)
@@ -325,7 +332,8 @@ put_before k s r m (item key n sep is) rest y u t t2 here there turns size long 
 
 -- ---- before one more item or entry
 
-pub more_before : (k : ℕ) (r : Step) (key : Key) (m : FlowNode) (gap : List ℕ) (is : Items) (rest : List ℕ) (u : EntryPieces) (t t2 : List ℕ) → item_at k r is rest ≡ Some u → Turns (flow_items_text k is rest) (flow_items_text k (add_item key m gap is) rest) t t2 →
+pub more_before : (k : ℕ) (r : Step) (key : Key) (m : FlowNode) (gap : List ℕ) (is : Items) (rest : List ℕ) (u : EntryPieces) (t t2 : List ℕ) →
+    item_at k r is rest ≡ Some u → Turns (flow_items_text k is rest) (flow_items_text k (add_item key m gap is) rest) t t2 →
     length t ≡ length (behind_last k gap is rest) → ComesBefore t t2 u (item_at k r (add_item key m gap is) rest)
 unfolding flow_items_text
 more_before k r key m gap none rest u t t2 there turns size = absurd (none-some _ there)
@@ -369,7 +377,9 @@ more_before k r key m gap (item j n sep (item j2 n2 sep2 is)) rest u t t2 there 
     go : (b : Bool) → is_here r (key_label (key_content j)) ≡ b → cond b (Some (own (sep_text sep old))) (item_at k (further r) others rest) ≡ Some u →
         (item_at k (further r) others rest ≡ Some u → Turns old new t t2 → ComesBefore t t2 u (item_at k (further r) (add_item key m gap others) rest)) → ComesBefore t t2 u (item_at k r (item j n sep (add_item key m gap others)) rest)
     go true is there again =
-        let w = turn_tail (key_text j (node_text n [])) (sep_text sep old) (sep_text sep new) t t2 (turns.0, sym (text_cut j n (sep_text sep old)) ∙ turns.1, sym (text_cut j n (sep_text sep new)) ∙ turns.2) (omega (arith, ends, sep_longer sep old)) in (
+        let w = turn_tail (key_text j (node_text n [])) (sep_text sep old) (sep_text sep new) t t2
+            (turns.0, sym (text_cut j n (sep_text sep old)) ∙ turns.1, sym (text_cut j n (sep_text sep new)) ∙ turns.2)
+            (omega (arith, ends, sep_longer sep old)) in (
           w.0,
           ap (λ (x : EntryPieces). x.rest) (sym (same_Some _ _ there)) ∙ w.1,
           ap (λ (b : Bool). cond b (Some (own (sep_text sep new))) (item_at k (further r) (add_item key m gap others) rest)) is

@@ -63,17 +63,21 @@ removing_there k rest s g (item key n sep (item key2 n2 sep2 none)) y at more = 
     others : Option FlowEdit
     others = option_map (edit_from_item g key n sep) (removing_from k rest (further s) (gap_of sep) (item key2 n2 sep2 none))
 
-    go : (a b : Bool) → cond a (Some (record { key = key; node = n; rest = sep_text sep (flow_items_text k (item key2 n2 sep2 none) rest) })) (cond b (Some (record { key = key2; node = n2; rest = sep_text sep2 (flow_items_text k none rest) })) None) ≡ Some y →
+    go : (a b : Bool) → cond a (Some (record { key = key; node = n; rest = sep_text sep (flow_items_text k (item key2 n2 sep2 none) rest) }))
+        (cond b (Some (record { key = key2; node = n2; rest = sep_text sep2 (flow_items_text k none rest) })) None) ≡ Some y →
         (e : FlowEdit) × (cond a (before_next k rest g key n sep (item key2 n2 sep2 none)) (option_or (cond b (Some (last_removed k rest g key n sep key2 n2 sep2)) None) others) ≡ Some e)
     go true b at = (_, refl)
     go false true at = (_, refl)
     go false false at = absurd (none-some _ at)
-removing_there k rest s g (item key n sep (item key2 n2 sep2 (item key3 n3 sep3 is))) y at more = go (is_here s (key_label (key_content key))) (λ x. removing_there k rest (further s) (gap_of sep) (item key2 n2 sep2 (item key3 n3 sep3 is)) y x refl) at
+removing_there k rest s g (item key n sep (item key2 n2 sep2 (item key3 n3 sep3 is))) y at more =
+    go (is_here s (key_label (key_content key)))
+    (λ x. removing_there k rest (further s) (gap_of sep) (item key2 n2 sep2 (item key3 n3 sep3 is)) y x refl) at
   where
     tail : Items
     tail = item key2 n2 sep2 (item key3 n3 sep3 is)
 
-    go : (a : Bool) → (item_at k (further s) tail rest ≡ Some y → (e : FlowEdit) × (removing_from k rest (further s) (gap_of sep) tail ≡ Some e)) → cond a (Some (record { key = key; node = n; rest = sep_text sep (flow_items_text k tail rest) })) (item_at k (further s) tail rest) ≡ Some y →
+    go : (a : Bool) → (item_at k (further s) tail rest ≡ Some y → (e : FlowEdit) × (removing_from k rest (further s) (gap_of sep) tail ≡ Some e)) →
+        cond a (Some (record { key = key; node = n; rest = sep_text sep (flow_items_text k tail rest) })) (item_at k (further s) tail rest) ≡ Some y →
         (e : FlowEdit) × (cond a (before_next k rest g key n sep tail) (option_map (edit_from_item g key n sep) (removing_from k rest (further s) (gap_of sep) tail)) ≡ Some e)
     go true again at = (_, refl)
     go false again at = let e = again at in (edit_from_item g key n sep e.0, ap (option_map (edit_from_item g key n sep)) e.1)
@@ -111,7 +115,8 @@ module _ (roots : RootsStand) (entries : EntriesStand) where
       go false = put_there (stands n steps c w read at)
 
   -- one of several is taken out
-  several_there : (n : ℕ) (s : Step) (ss : List Step) (c : Cut) (w : Node) → read_at (cut_text c) ≡ Some c → node_in n (s ∷ ss) c ≡ Some w → has_others_at n (s ∷ ss) c ≡ true → IsThere (part_removed n c (last_step (s ∷ ss))) ⊎ IsThere (one_removed n (s ∷ ss) c)
+  several_there : (n : ℕ) (s : Step) (ss : List Step) (c : Cut) (w : Node) → read_at (cut_text c) ≡ Some c → node_in n (s ∷ ss) c ≡ Some w →
+      has_others_at n (s ∷ ss) c ≡ true → IsThere (part_removed n c (last_step (s ∷ ss))) ⊎ IsThere (one_removed n (s ∷ ss) c)
   several_there n s ss c w read at others = go (entries n s ss c w read at)
     where
       part : (o : Option (List Step × Step)) (x : FlowPart) → flow_standing n c o ≡ Some x → ltb 1 (count (items_tree x.collection.items)) ≡ true → IsThere (part_removed n c o)

@@ -62,7 +62,8 @@ pub record CollFound (c : Cut) (n : ℕ) (steps : List Step) (x : FlowHead) (q :
   pub node : behind_anchor q ≡ placed_collection (length x.text.now) agrees.at.coll
 
 -- by what it tells
-pub coll_found : (t : List ℕ) (n : ℕ) (steps : List Step) (o : Option FlowHead) (x : FlowHead) (q : Placed) → read_at t ≡ Some (cut_of t) → FlowAgrees t (flow_collection n steps (cut_of t)) o → o ≡ Some x → Some (behind_anchor q) ≡ collection_view x →
+pub coll_found : (t : List ℕ) (n : ℕ) (steps : List Step) (o : Option FlowHead) (x : FlowHead) (q : Placed) → read_at t ≡ Some (cut_of t) →
+    FlowAgrees t (flow_collection n steps (cut_of t)) o → o ≡ Some x → Some (behind_anchor q) ≡ collection_view x →
     CollFound (cut_of t) n steps x q
 coll_found t n steps o x q read agrees is node = go (cut_of t) read (subst (FlowAgrees t (flow_collection n steps (cut_of t))) is agrees)
   where
@@ -92,7 +93,9 @@ module _ (c : Cut) (n : ℕ) (steps : List Step) (x : FlowHead) (q : Placed) (f 
   t = cut_text c
 
   -- An edit that the text has as the row alone has its own: its place,
-  pub edit_moved : (e own : FlowEdit) (p : PlacedEdit) → e ≡ edit_more f.agrees.behind own → length (own.old ++ own.behind) ≤ length (node_text f.agrees.at.node f.agrees.at.rest) → p ≡ place_edit (length x.text.now) own → moved_on x.before p ≡ place_edit (length t) e
+  pub edit_moved : (e own : FlowEdit) (p : PlacedEdit) → e ≡ edit_more f.agrees.behind own →
+      length (own.old ++ own.behind) ≤ length (node_text f.agrees.at.node f.agrees.at.rest) → p ≡ place_edit (length x.text.now) own →
+      moved_on x.before p ≡ place_edit (length t) e
   edit_moved e own p same within is = ap (moved_on x.before) is ∙ sym (in_text t f.coll x f.agrees e own same within)
 
   pub edit_lies : (e : FlowEdit) (p : PlacedEdit) → HasBounds (cut_text c) e → moved_on x.before p ≡ place_edit (length t) e → LiesIn t (moved_on x.before p)

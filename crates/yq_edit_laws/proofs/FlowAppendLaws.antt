@@ -83,7 +83,8 @@ module _ (c : Cut) (doc : ℕ) (steps : List Step) (key : Option (List ℕ)) (v 
         let parts = edit_pieces (cut_text c) there.before e p there.text bounds.0 bounds.1 there.whole in
         record {
           edited = value_appended x (key_label key) v stands (label_is w.close key u takes) h room;
-          keys = flow_keys (cut_text c) c doc at.part steps at.line at.rest at.row w e.gap e.items (standing.old c doc steps w read found) at.at (add_fit (flow_key key) (flow_of v) w.gap w.items (key_fits key fits.2.0) (flow_fits v fits.2.1.1));
+          keys = flow_keys (cut_text c) c doc at.part steps at.line at.rest at.row w e.gap e.items (standing.old c doc steps w read found) at.at
+              (add_fit (flow_key key) (flow_of v) w.gap w.items (key_fits key fits.2.0) (flow_fits v fits.2.1.1));
           sound = append_keeps steps (root_of at.part) fits.2.2.0 v (key_label key) old node new (key_new key fits.2.2.0 fits.2.2.2);
           root = refl;
           pieces = (
@@ -114,7 +115,8 @@ module _ (c : Cut) (doc : ℕ) (steps : List Step) (key : Option (List ℕ)) (v 
     pub head_behind : LeadsToHead next doc stem
     head_behind = stay.head_behind c doc steps w at e.gap e.items stem left init h
 
-    pub part_behind : (ss : List Step) (r : Step) (z : EntryPieces) → IsPartOf c doc (stem ++ ss) r z → length z.rest < length (behind_appended w) → length (node_text (without_anchor z.node) z.rest) ≤ length (behind_appended w) → IsPartOf next doc (stem ++ ss) r z
+    pub part_behind : (ss : List Step) (r : Step) (z : EntryPieces) → IsPartOf c doc (stem ++ ss) r z → length z.rest < length (behind_appended w) →
+        length (node_text (without_anchor z.node) z.rest) ≤ length (behind_appended w) → IsPartOf next doc (stem ++ ss) r z
     part_behind ss r z part less begins =
         part_after c doc steps w at e.gap e.items stem left init h ss r z part (λ before. part_after_more (flow_key key) (flow_of v) e.gap w at.rest (ss ++ (r ∷ [])) own z at.at.along before less begins)
 

@@ -30,7 +30,9 @@ abbrev HeldIn : FlowContent → Reached → Type 0
 HeldIn x y = HeldAt y.1 (content_under y.0.line y.0.under) x
 
 -- from the lines of a node, if the first of them is the node itself, under an anchor
-bare_held : (a : Option (List ℕ)) (g : FoundLine → FoundLine) → ((b : FoundLine) → (content_under (g b).line (g b).under ≡ content_under b.line b.under)) → (o : Outline) (x : FlowContent) (y : Reached) → held (anchored a (value o)) ≡ Some x →
+bare_held : (a : Option (List ℕ)) (g : FoundLine → FoundLine) →
+    ((b : FoundLine) → (content_under (g b).line (g b).under ≡ content_under b.line b.under)) → (o : Outline) (x : FlowContent) (y : Reached) →
+    held (anchored a (value o)) ≡ Some x →
     option_map {U = Reached} (λ b. (g b, [])) (bare_line o) ≡ Some y → HeldIn x y
 bare_held a g same o x y is e = search (rules, none-some, same_Some, held, held_anchored)
 

@@ -111,7 +111,9 @@ coll_holds (s ∷ ss) node rest w e =
     let child : option_map entry_tree (path_inside s node rest) ≡ child_at s (children_of (tree_of node)) = inside_child s node rest ∙ ap (child_at s) (sym (kids_held (tree_of node))) in
     go (path_inside s node rest) (ap (option_and_then (node_at ss)) (sym child)) e (λ y found. coll_holds ss y.node y.rest w found)
   where
-    go : (o : Option EntryPieces) → option_and_then (node_at ss) (child_at s (children_of (tree_of node))) ≡ option_and_then (node_at ss) (option_map entry_tree o) → option_and_then (λ (y : EntryPieces). coll_along ss y.node y.rest) o ≡ Some w →
+    go : (o : Option EntryPieces) →
+        option_and_then (node_at ss) (child_at s (children_of (tree_of node))) ≡ option_and_then (node_at ss) (option_map entry_tree o) →
+        option_and_then (λ (y : EntryPieces). coll_along ss y.node y.rest) o ≡ Some w →
         ((y : EntryPieces) → coll_along ss y.node y.rest ≡ Some w → HeldAt ss (entry_tree y) (coll_held w)) → HeldAt (s ∷ ss) (tree_of node) (coll_held w)
     go None is e again = absurd (none-some _ e)
     go (Some y) is e again = let h = again y e in (h.0, is ∙ h.1, h.2)

@@ -51,7 +51,8 @@ appending_more key m more w = ap (λ (l : List ℕ). record (appending key m w) 
 next_more : (k : ℕ) (g : List ℕ) (key : Key) (n : FlowNode) (sep : Sep) (is : Items) (rest more : List ℕ) → before_next k (rest ++ more) g key n sep is ≡ option_map (edit_more more) (before_next k rest g key n sep is)
 next_more k g key n sep is rest more = search (rules, items_append)
 
-comma_more : (k : ℕ) (g : List ℕ) (key : Key) (n : FlowNode) (sep : Sep) (key2 : Key) (n2 : FlowNode) (sep2 : Sep) (rest more : List ℕ) → comma_left k (rest ++ more) g key n sep key2 n2 sep2 ≡ edit_more more (comma_left k rest g key n sep key2 n2 sep2)
+comma_more : (k : ℕ) (g : List ℕ) (key : Key) (n : FlowNode) (sep : Sep) (key2 : Key) (n2 : FlowNode) (sep2 : Sep) (rest more : List ℕ) →
+    comma_left k (rest ++ more) g key n sep key2 n2 sep2 ≡ edit_more more (comma_left k rest g key n sep key2 n2 sep2)
 comma_more k g key n sep key2 n2 sep2 rest more = search (rules, append_assoc)
 
 out_more : (k : ℕ) (s : Step) (g : List ℕ) (key : Key) (n : FlowNode) (sep : Sep) (is : Items) (rest more : List ℕ) → last_out k (rest ++ more) s g key n sep is ≡ option_map (edit_more more) (last_out k rest s g key n sep is)
@@ -64,7 +65,8 @@ out_more k s g key n sep (item key2 n2 sep2 none) rest more =
     let one : new (rest ++ more) ≡ edit_more more (new rest) = search (rules, comma_more) in
     elim (is_here s (key_label (key_content key2))) as (λ v. cond v (Some (new (rest ++ more))) None ≡ option_map (edit_more more) (cond v (Some (new rest)) None)) [ true ↦ ap Some one | false ↦ refl ]
 
-behind_more : (g : List ℕ) (key : Key) (n : FlowNode) (sep : Sep) (more : List ℕ) (o : Option FlowEdit) → option_map (edit_from_item g key n sep) (option_map (edit_more more) o) ≡ option_map (edit_more more) (option_map (edit_from_item g key n sep) o)
+behind_more : (g : List ℕ) (key : Key) (n : FlowNode) (sep : Sep) (more : List ℕ) (o : Option FlowEdit) →
+    option_map (edit_from_item g key n sep) (option_map (edit_more more) o) ≡ option_map (edit_more more) (option_map (edit_from_item g key n sep) o)
 behind_more g key n sep more o = search rules
 
 pub removing_more : (k : ℕ) (s : Step) (g : List ℕ) (is : Items) (rest more : List ℕ) → removing_from k (rest ++ more) s g is ≡ option_map (edit_more more) (removing_from k rest s g is)
@@ -75,4 +77,6 @@ removing_more k s g (item key n sep is) rest more =
     elim (is_here s (key_label (key_content key)))
     as (λ b. cond b (before_next k (rest ++ more) g key n sep is) (option_or (last_out k (rest ++ more) t g key n sep is) (option_map (edit_from_item g key n sep) (removing_from k (rest ++ more) t (gap_of sep) is)))
     ≡ option_map (edit_more more) (cond b (before_next k rest g key n sep is) (option_or (last_out k rest t g key n sep is) (option_map (edit_from_item g key n sep) (removing_from k rest t (gap_of sep) is)))))
-    [ true ↦ next_more k g key n sep is rest more | false ↦ (λ i. option_or (out_more k t g key n sep is rest more i) (again i)) ∙ or_mapped (edit_more more) (last_out k rest t g key n sep is) (option_map (edit_from_item g key n sep) (removing_from k rest t (gap_of sep) is)) ]
+    [ true ↦ next_more k g key n sep is rest more | false ↦ (λ i. option_or (out_more k t g key n sep is rest more i) (again i))
+        ∙ or_mapped (edit_more more) (last_out k rest t g key n sep is)
+        (option_map (edit_from_item g key n sep) (removing_from k rest t (gap_of sep) is)) ]

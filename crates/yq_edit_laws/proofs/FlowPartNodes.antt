@@ -78,7 +78,8 @@ node_found : (steps : List Step) (s : Step) (o : Outline) → node_at (steps ++ 
 node_found [] s o = path_node s [] o
 node_found (t ∷ ts) s o = path_node t (ts ++ (s ∷ [])) o
 
-line_node : (c : Cut) (n : ℕ) (steps : List Step) (s : Step) (w : CollPieces) (h : LineAt c n steps w) → read_at (cut_text c) ≡ Some c → node_at (steps ++ (s ∷ [])) (value (part_outline h.part)) ≡ option_map entry_tree (item_at w.close s w.items w.rest)
+line_node : (c : Cut) (n : ℕ) (steps : List Step) (s : Step) (w : CollPieces) (h : LineAt c n steps w) → read_at (cut_text c) ≡ Some c →
+    node_at (steps ++ (s ∷ [])) (value (part_outline h.part)) ≡ option_map entry_tree (item_at w.close s w.items w.rest)
 line_node c n steps s w h read =
     let o : Outline = part_outline h.part in
     let f : FoundLine = h.line.0 in
@@ -88,7 +89,8 @@ line_node c n steps s w h read =
     let even : IsEven (level f.line) (row f.line f.under f.after) = (allows_from m f.place f.line f.under f.after (subst (IsEven m) (sym (head_whole m o steps f h.line.1 known.even h.found)) known.even)).1 in
     let head = head_there f (head_takes m o steps f h.line.1 known.even h.found) even.2 in
     let same : r.row_line_is ≡ h.row_line_is = same_Some _ _ (sym r.there ∙ h.printed_line) in
-    let flow : content_flow h.line.1 r.row_line_is.row.content (behind_row (document_row n c + h.row_line_is.before) c) ≡ Some w = ap (λ (z : RowLine). content_flow h.line.1 z.row.content (behind_row (document_row n c + h.row_line_is.before) c)) same ∙ h.flow in
+    let flow : content_flow h.line.1 r.row_line_is.row.content (behind_row (document_row n c + h.row_line_is.before) c) ≡ Some w =
+        ap (λ (z : RowLine). content_flow h.line.1 z.row.content (behind_row (document_row n c + h.row_line_is.before) c)) same ∙ h.flow in
     node_found steps s o
     ∙ (ap FoundNode (head_on steps s o h.line h.found)
     ∙ ((λ i. node_at (h.line.1 ++ (s ∷ [])) (anchored (sym r.anchor i) (head_or (head.1 i) (value f.under))))
@@ -130,4 +132,7 @@ module _ (c : Cut) (n : ℕ) (path : List Step) (a : EntryAt c n path) where
   pub none_there : standing_at n path c ≡ None
   none_there = none_standing n path c (a.init, a.step) a.last (λ d is.
       let same : d.part ≡ line.part = same_Some _ _ (ap part_of (sym is) ∙ (sym (document_placed n c) ∙ line.there)) in
-      none_seat path a.step d.part line.line (ap (λ (ss : List Step). found_at ss (part_outline d.part)) path_is ∙ (ap (λ (q : Part). found_at (a.init ++ (a.step ∷ [])) (part_outline q)) same ∙ head_on a.init a.step (part_outline line.part) line.line line.found)))
+      none_seat path a.step d.part line.line
+          (ap (λ (ss : List Step). found_at ss (part_outline d.part)) path_is
+          ∙ (ap (λ (q : Part). found_at (a.init ++ (a.step ∷ [])) (part_outline q)) same
+          ∙ head_on a.init a.step (part_outline line.part) line.line line.found)))

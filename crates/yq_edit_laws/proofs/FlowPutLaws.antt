@@ -150,7 +150,9 @@ module _ (c : Cut) (doc : ℕ) (path : List Step) (v : tree.Node) (read : read_a
         let parts = edit_pieces (cut_text c) there.before e p there.text bounds.0 bounds.1 there.whole in
         record {
           edited = edited;
-          keys = flow_keys (cut_text c) c doc at.part a.init at.line at.rest at.row a.coll e.gap e.items (standing.old c doc a.init a.coll read a.found) at.at (put_fit a.step m a.coll.items (value_keys (content_written a.item.node) v fitting.long));
+          keys = flow_keys (cut_text c) c doc at.part a.init at.line at.rest at.row a.coll e.gap e.items
+              (standing.old c doc a.init a.coll read a.found) at.at
+              (put_fit a.step m a.coll.items (value_keys (content_written a.item.node) v fitting.long));
           sound = sound;
           root =
               ap (λ (f : tree.Node → tree.Node). f (root_of at.part)) (step_change path a.init a.step (replaced_node v) a.last)
@@ -184,7 +186,8 @@ module _ (c : Cut) (doc : ℕ) (path : List Step) (v : tree.Node) (read : read_a
     abbrev own : EntryPieces
     own = slot c doc a.init a.coll at a.coll.gap items stem left init h
 
-    pub part_behind : (ss : List Step) (r : Step) (z : EntryPieces) → IsPartOf c doc (stem ++ ss) r z → length z.rest < length a.item.rest → length (node_text (without_anchor z.node) z.rest) ≤ length a.item.rest → IsPartOf next doc (stem ++ ss) r z
+    pub part_behind : (ss : List Step) (r : Step) (z : EntryPieces) → IsPartOf c doc (stem ++ ss) r z → length z.rest < length a.item.rest →
+        length (node_text (without_anchor z.node) z.rest) ≤ length a.item.rest → IsPartOf next doc (stem ++ ss) r z
     part_behind ss r z part less begins =
         part_after c doc a.init a.coll at a.coll.gap items stem left init h ss r z part (λ before. later_part at.rest (ss ++ (r ∷ [])) a.step m own a.coll a.item z at.at.along a.at before less begins)
 
@@ -198,4 +201,6 @@ pub flow_values_put : FlowValuesArePut
 flow_values_put n steps v c y read there_is new =
     let a = entry_found c n steps y there_is in
     let w = there c n steps v read a.0 in
-    subst (λ (z : FlowPart). IsEdit (replace n steps v) c (flow_put (cut_text c) v z)) a.1 (record { old = segments_old (cut_text c) w.before (e c n steps v read a.0) w.text; carried = λ h fits size. replaced_carried c n steps v read a.0 h fits size })
+    subst (λ (z : FlowPart). IsEdit (replace n steps v) c (flow_put (cut_text c) v z)) a.1
+        (record { old = segments_old (cut_text c) w.before (e c n steps v read a.0) w.text; carried =
+        λ h fits size. replaced_carried c n steps v read a.0 h fits size })

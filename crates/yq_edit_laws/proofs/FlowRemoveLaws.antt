@@ -23,7 +23,8 @@ use Rattle.yq_edit_rules.proofs.FlowStayLaws as stay
 use Rattle.yq_documents.specs.Reading as reading
 use Rattle.yq_edit_laws.proofs.FlowStandings as standing
 
-module _ (c : Cut) (doc : ℕ) (path init : List Step) (s : Step) (w : CollPieces) (e : FlowEdit) (read : read_at (cut_text c) ≡ Some c) (last : last_step path ≡ Some (init, s)) (found : flow_collection doc init c ≡ Some w) (gone : removing s w ≡ Some e) where
+module _ (c : Cut) (doc : ℕ) (path init : List Step) (s : Step) (w : CollPieces) (e : FlowEdit) (read : read_at (cut_text c) ≡ Some c)
+    (last : last_step path ≡ Some (init, s)) (found : flow_collection doc init c ≡ Some w) (gone : removing s w ≡ Some e) where
   abbrev at : FlowAt c doc init w
   at = standing.at c doc init w read found
 
@@ -60,7 +61,9 @@ module _ (c : Cut) (doc : ℕ) (path init : List Step) (s : Step) (w : CollPiece
         let old = standing.old c doc init w read found in
         let known = document_known (cut_text c) c doc at.part old in
         let root : fits.0.root ≡ root_of at.part = ap (λ (d : Document). d.root) (same_Some _ _ (sym fits.1 ∙ nth_map doc at.part reading.part_document (document_parts c) at.there)) in
-        let n = subst (λ r. (n : Rattle.yq_core.specs.Tree.Node) × (Rattle.yq_core.specs.Paths.node_at path r ≡ Some n) × (Rattle.yq_semantics.specs.Changes.is_used_in (Rattle.yq_core.specs.Anchors.names_of r) (Some n) ≡ Rattle.std.proofs.Common.false)) root fits.2.1 in
+        let n = subst (λ r. (n : Rattle.yq_core.specs.Tree.Node) × (Rattle.yq_core.specs.Paths.node_at path r ≡ Some n)
+            × (Rattle.yq_semantics.specs.Changes.is_used_in (Rattle.yq_core.specs.Anchors.names_of r) (Some n) ≡ Rattle.std.proofs.Common.false))
+            root fits.2.1 in
         let sound : IsSoundRoot (root_of at.part) = record { unique = known.document.unique; nested = known.document.nested; bound = known.document.bound } in
         let whole = removed_whole x s e stands gone row_text.before texts.before pairs (sym row_text.old ∙ texts.old) in
         let parts = edit_pieces (cut_text c) texts.before e (standing.piece c doc init w read found) texts.old bounds.0 bounds.1 whole in
@@ -91,7 +94,8 @@ module _ (c : Cut) (doc : ℕ) (path init : List Step) (s : Step) (w : CollPiece
     pub head_behind : LeadsToHead next doc stem
     head_behind = stay.head_behind c doc init w at e.gap e.items stem left there h
 
-    pub collection_before : (ss : List Step) (z : CollPieces) (mid : List ℕ) → flow_collection doc (stem ++ ss) c ≡ Some z → z.rest ≡ mid ++ (e.old ++ e.behind) → flow_collection doc (stem ++ ss) next ≡ Some (record z { rest = mid ++ ((e.lead ++ e.written) ++ e.behind) })
+    pub collection_before : (ss : List Step) (z : CollPieces) (mid : List ℕ) → flow_collection doc (stem ++ ss) c ≡ Some z → z.rest ≡ mid
+        ++ (e.old ++ e.behind) → flow_collection doc (stem ++ ss) next ≡ Some (record z { rest = mid ++ ((e.lead ++ e.written) ++ e.behind) })
     collection_before ss z mid found is =
         stay.collection_behind c doc init w at e.gap e.items stem left there h ss
         ∙ earlier s w e gone at.rest ss (slot c doc init w at e.gap e.items stem left there h) z mid at.at.along (sym (stay.collection_before c doc init w at e.gap e.items stem left there h ss) ∙ found) is

@@ -17,7 +17,9 @@ last_is [] init s e = absurd (none-some _ e)
 last_is (t ∷ []) init s e = ap (λ (y : List Step × Step). y.0 ++ (y.1 ∷ [])) (same_Some _ _ e)
 last_is (t ∷ (u ∷ path)) init s e = go (last_step (u ∷ path)) refl e (λ a b is. last_is (u ∷ path) a b is)
   where
-    go : (o : Option (List Step × Step)) → last_step (u ∷ path) ≡ o → option_map {U = List Step × Step} (λ (x : List Step × Step). (t ∷ x.0, x.1)) o ≡ Some (init, s) → ((a : List Step) (b : Step) → last_step (u ∷ path) ≡ Some (a, b) → u ∷ path ≡ a ++ (b ∷ [])) →
+    go : (o : Option (List Step × Step)) → last_step (u ∷ path) ≡ o →
+        option_map {U = List Step × Step} (λ (x : List Step × Step). (t ∷ x.0, x.1)) o ≡ Some (init, s) →
+        ((a : List Step) (b : Step) → last_step (u ∷ path) ≡ Some (a, b) → u ∷ path ≡ a ++ (b ∷ [])) →
         t ∷ (u ∷ path) ≡ init ++ (s ∷ [])
     go None is e again = absurd (none-some _ e)
     go (Some x) is e again = ap (λ (l : List Step). t ∷ l) (again x.0 x.1 is) ∙ ap (λ (y : List Step × Step). y.0 ++ (y.1 ∷ [])) (same_Some _ _ e)
@@ -47,7 +49,8 @@ spared_of gone names e a h r = not_used a gone names e h r
 
 -- ---- an item or entry taken out
 
-pub remove_sound : (path init : List Step) (s : Step) (root n : Node) → IsSoundRoot root → last_step path ≡ Some (init, s) → node_at path root ≡ Some n → is_used_in (names_of root) (Some n) ≡ false → IsSoundRoot (changed_at init (within (remove_child s)) root)
+pub remove_sound : (path init : List Step) (s : Step) (root n : Node) → IsSoundRoot root → last_step path ≡ Some (init, s) →
+    node_at path root ≡ Some n → is_used_in (names_of root) (Some n) ≡ false → IsSoundRoot (changed_at init (within (remove_child s)) root)
 remove_sound path init s root n sound last there free =
     let a = above_is init s root n (subst (λ (x : List Step). node_at x root ≡ Some n) (last_is path init s last) there) in
     remove_keeps init root a.0 n s sound a.1 a.2 (spared_of (names_of n) (names_of root) free)

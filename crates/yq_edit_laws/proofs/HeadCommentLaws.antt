@@ -124,7 +124,9 @@ module _ (n : ℕ) (s : Step) (ss : List Step) (text : List ℕ) (br : Break) (c
     puts : PutsRow op c (first_row n s ss c e there) new us
     puts = record {
       old = old_is;
-      text = ap (λ l. (before_entry e ++ kept) ++ (run ++ l)) (append-nil z) ∙ (regroup (before_entry e) kept run z ∙ sym (text_now op c (first_row n s ss c e there) new ∙ ap (λ l. before_entry e ++ print_row new l) (under_there n s ss c e there)));
+      text = ap (λ l. (before_entry e ++ kept) ++ (run ++ l)) (append-nil z)
+          ∙ (regroup (before_entry e) kept run z
+          ∙ sym (text_now op c (first_row n s ss c e there) new ∙ ap (λ l. before_entry e ++ print_row new l) (under_there n s ss c e there)));
       puts = refl;
       front = omega (arith, length-append (before_entry e ++ kept) [], length-append (before_entry e) kept);
       behind = omega (arith, ap length (under_there n s ss c e there), length-append z [], ap length behind_gap_is, length-append (behind_gap e.row []) u);

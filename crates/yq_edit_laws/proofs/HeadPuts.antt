@@ -64,7 +64,9 @@ module _ (n : ℕ) (s : Step) (ss : List Step) (c : Cut) (e : RowsOfEntry) (ther
   lead = row_front e.row ++ (anchor_before (slices e.row) ++ space_before (slices e.row))
 
   place_is : w.before ++ w.space ≡ (e.start ++ front) ++ lead
-  place_is = let parts : (((e.start ++ front) ++ row_front e.row) ++ anchor_before (slices e.row)) ++ space_before (slices e.row) ≡ (e.start ++ front) ++ (row_front e.row ++ (anchor_before (slices e.row) ++ space_before (slices e.row))) = simp append_assoc refl in parts
+  place_is = let parts : (((e.start ++ front) ++ row_front e.row) ++ anchor_before (slices e.row))
+      ++ space_before (slices e.row) ≡ (e.start ++ front) ++ (row_front e.row ++ (anchor_before (slices e.row) ++ space_before (slices e.row))) =
+      simp append_assoc refl in parts
 
   spells : Spells n s ss c e there last k v us new
   spells = record {

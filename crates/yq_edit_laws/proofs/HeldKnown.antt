@@ -14,7 +14,9 @@ first_alone [] = false
 first_alone (r ∷ rs) = is_alone r
 
 module _ (n : ℕ) (s : Step) (ss : List Step) (c : Cut) (e : RowsOfEntry) (there : StandsThere n s ss c e) (last : e.line ≡ length e.row.dashes) where
-  -- What is known of what the key or dash of rows holds, under which no node is alone: the pieces spell the text; each is a piece of a text; the last line ends before the rows after; with another break after it the white space and the comment are a tail with that comment, and so with the last break; where a head is written, no rows are under it; and the anchor of the node is that of the row.
+  -- What is known of what the key or dash of rows holds, under which no node is alone: the pieces spell the text; each is a piece of a text; the last
+  -- line ends before the rows after; with another break after it the white space and the comment are a tail with that comment, and so with the last
+  -- break; where a head is written, no rows are under it; and the anchor of the node is that of the row.
   pub record KnowsHeld : Type 0 where
     pub spells : cut_text c ≡ held_text (held e)
     pub pieces : HoldsPieces (held e)

@@ -63,6 +63,8 @@ held_in_line n s ss c e read at =
     let own : is_one_line tail.line.break ≡ true = break_line tail.line.break (break_cases tail.line.break _ tail.line.ends) in
     let at_end : is_one_line last ≡ true = break_line last (last_is below) in
     record {
-      ends = subst (λ (x : LineEnd). is_one_line (x.white ++ x.comment) ≡ true) (sym agrees) (white_before tail.white tail.comment tail.line.blank (ap is_one_line (sym (append-nil tail.comment)) ∙ comment_before tail.comment tail.line.break [] tail.line.as_comment nothing_line));
+      ends = subst (λ (x : LineEnd). is_one_line (x.white ++ x.comment) ≡ true) (sym agrees)
+          (white_before tail.white tail.comment tail.line.blank
+          (ap is_one_line (sym (append-nil tail.comment)) ∙ comment_before tail.comment tail.line.break [] tail.line.as_comment nothing_line));
       broken = search (rules, in_line, break_there);
     }

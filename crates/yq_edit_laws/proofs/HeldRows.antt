@@ -77,7 +77,8 @@ module _ (n : ℕ) (s : Step) (ss : List Step) (c : Cut) (e : RowsOfEntry) (ther
 
   -- the last line ends before what is after
   last_line_ends : IsBreak (held e).last (behind_entry e)
-  last_line_ends = subst (λ (x : LineEnd). IsBreak (cond (is_empty below) x.behind (last_break below)) (behind_entry e)) (sym mark_end) (go below (below_ended n s ss c e there) (subst (IsBreak mark_tail.line.break) more_is mark_tail.line.ends))
+  last_line_ends = subst (λ (x : LineEnd). IsBreak (cond (is_empty below) x.behind (last_break below)) (behind_entry e)) (sym mark_end)
+      (go below (below_ended n s ss c e there) (subst (IsBreak mark_tail.line.break) more_is mark_tail.line.ends))
     where
       go : (b : List ℕ) → (is_empty b ≡ false → Ended b (behind_entry e)) → IsBreak mark_tail.line.break (b ++ behind_entry e) → IsBreak (cond (is_empty b) mark_tail.line.break (last_break b)) (behind_entry e)
       go [] ended h = h

@@ -46,7 +46,9 @@ module _ (n : ℕ) (s : Step) (ss : List Step) (c : Cut) (e : RowsOfEntry) (ther
       ∙ (regroup e.start b (row_front e.row) (content_text left (rows_text rs z)) ∙ left_text lead e.row.content tail (rows_text rs z))
 
   -- the same with a node in front of the end of the line
-  pub text_beside : (node : inline.FlowNode) (tail z : List ℕ) → e.start ++ (rows_text e.front [] ++ rows_text (with_content (put_core node (anchor_left e.row.content tail)) e.row ∷ []) z) ≡ (held e).before ++ (32 ∷ node_text node (tail ++ z))
+  pub text_beside : (node : inline.FlowNode) (tail z : List ℕ) → e.start
+      ++ (rows_text e.front [] ++ rows_text (with_content (put_core node (anchor_left e.row.content tail)) e.row ∷ []) z) ≡ (held e).before
+      ++ (32 ∷ node_text node (tail ++ z))
   text_beside node tail z =
       let b : List ℕ = rows_text e.front [] in
       let new = put_core node (anchor_left e.row.content tail) in

@@ -57,6 +57,8 @@ back_stop n (i ∷ is) xs w ws e = go (λ ys k. back_stop n is ys w ws k) (ltb (
     less again [] k h = subst (λ (l : List Item). n ≤ length (items_text l [])) k h
     less again (x ∷ xs) k h = again xs (tail-eq_of_cons-eq k)
 
-    go : ((ys : List Item) → is ≡ ys ++ (w ∷ (ws ++ in_back n is)) → n ≤ length (items_text (w ∷ (ws ++ in_back n is)) [])) → (b : Bool) → ltb (length (items_text (i ∷ is) [])) n ≡ b → i ∷ is ≡ xs ++ (w ∷ (ws ++ cond b (i ∷ is) (in_back n is))) → n ≤ length (items_text (w ∷ (ws ++ cond b (i ∷ is) (in_back n is))) [])
+    go : ((ys : List Item) → is ≡ ys ++ (w ∷ (ws ++ in_back n is)) → n ≤ length (items_text (w ∷ (ws ++ in_back n is)) [])) → (b : Bool) →
+        ltb (length (items_text (i ∷ is) [])) n ≡ b → i ∷ is ≡ xs ++ (w ∷ (ws ++ cond b (i ∷ is) (in_back n is))) →
+        n ≤ length (items_text (w ∷ (ws ++ cond b (i ∷ is) (in_back n is))) [])
     go again true long k = absurd (whole xs k)
     go again false long k = less again xs k (ltb-false (length (items_text (i ∷ is) [])) n long)

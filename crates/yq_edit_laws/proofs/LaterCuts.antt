@@ -24,7 +24,8 @@ module _ (c : Cut) (doc : ℕ) (steps : List Step) (w : CollPieces) (at : FlowAt
   part_in r o = o >>= λ w. item_at w.close r w.items w.rest
 
   -- a part in the head, which may come before another text then
-  pub part_then : (ss : List Step) (r : Step) (z z2 : EntryPieces) → IsPartOf c doc (stem ++ ss) r z → (entry_pieces_at (ss ++ (r ∷ [])) slot ≡ Some z → entry_pieces_at (ss ++ (r ∷ [])) new_slot ≡ Some z2) → IsPartOf next doc (stem ++ ss) r z2
+  pub part_then : (ss : List Step) (r : Step) (z z2 : EntryPieces) → IsPartOf c doc (stem ++ ss) r z →
+      (entry_pieces_at (ss ++ (r ∷ [])) slot ≡ Some z → entry_pieces_at (ss ++ (r ∷ [])) new_slot ≡ Some z2) → IsPartOf next doc (stem ++ ss) r z2
   part_then ss r z z2 part then =
       let before = sym (parts_along ss r slot) ∙ (sym (ap (part_in r) (stay.collection_before c doc steps w at gap is stem left init h ss)) ∙ part) in
       ap (part_in r) (stay.collection_behind c doc steps w at gap is stem left init h ss) ∙ (parts_along ss r new_slot ∙ then before)
@@ -34,7 +35,9 @@ module _ (c : Cut) (doc : ℕ) (steps : List Step) (w : CollPieces) (at : FlowAt
   part_after ss r z part stays = part_then ss r z z part stays
 
   -- a part that comes before another text then
-  pub part_turned : (ss : List Step) (r : Step) (z : EntryPieces) (t t2 : List ℕ) → IsPartOf c doc (stem ++ ss) r z → (entry_pieces_at (ss ++ (r ∷ [])) slot ≡ Some z → ComesBefore t t2 z (entry_pieces_at (ss ++ (r ∷ [])) new_slot)) → IsPartBefore next doc (stem ++ ss) r z t t2
+  pub part_turned : (ss : List Step) (r : Step) (z : EntryPieces) (t t2 : List ℕ) → IsPartOf c doc (stem ++ ss) r z →
+      (entry_pieces_at (ss ++ (r ∷ [])) slot ≡ Some z → ComesBefore t t2 z (entry_pieces_at (ss ++ (r ∷ [])) new_slot)) →
+      IsPartBefore next doc (stem ++ ss) r z t t2
   part_turned ss r z t t2 part turned =
       let before = sym (parts_along ss r slot) ∙ (sym (ap (part_in r) (stay.collection_before c doc steps w at gap is stem left init h ss)) ∙ part) in
       let b = turned before in

@@ -29,7 +29,8 @@ unfolding node_text
 inside_within s (anchored n gap node) rest y e = let within = inside_within s node rest y e in (omega (arith, within.0, content_within node rest), within.1)
 inside_within s node rest y e = search (rules, arith, none-some, node_in_items, length-append, item_rest)
 
-part_within : (p : List Step) (s : Step) (x : EntryPieces) (w : CollPieces) (y : EntryPieces) → coll_along p x.node x.rest ≡ Some w → item_at w.close s w.items w.rest ≡ Some y → length (node_text y.node y.rest) < length (node_text (without_anchor x.node) x.rest)
+part_within : (p : List Step) (s : Step) (x : EntryPieces) (w : CollPieces) (y : EntryPieces) → coll_along p x.node x.rest ≡ Some w →
+    item_at w.close s w.items w.rest ≡ Some y → length (node_text y.node y.rest) < length (node_text (without_anchor x.node) x.rest)
 part_within [] s x w y e at = (inside_within s x.node x.rest y (coll_entry s x.node x.rest w e ∙ at)).0
 part_within (t ∷ p) s x w y e at =
     let u = then_some (path_inside t x.node x.rest) e in
@@ -61,7 +62,8 @@ later_item k s r m (item key n sep is) rest y z here there less =
         absurd (omega (arith, less, node_in_items k (further s) is rest y here, node_longer y.node y.rest, sep_longer sep (flow_items_text k is rest), ap (λ (x : EntryPieces). length x.rest) (same_Some _ _ there)))
     go false false is_r here there again = search rules
 
-pub node_put : (s r : Step) (m node : FlowNode) (rest : List ℕ) (w : CollPieces) (y z : EntryPieces) → coll_in node rest ≡ Some w → item_at w.close s w.items w.rest ≡ Some y → path_inside r node rest ≡ Some z → length z.rest < length y.rest →
+pub node_put : (s r : Step) (m node : FlowNode) (rest : List ℕ) (w : CollPieces) (y z : EntryPieces) → coll_in node rest ≡ Some w →
+    item_at w.close s w.items w.rest ≡ Some y → path_inside r node rest ≡ Some z → length z.rest < length y.rest →
     path_inside r (put_coll w.gap (put_item s m w.items) node) rest ≡ Some z
 node_put s r m empty rest w y z e here there less = absurd (none-some _ e)
 node_put s r m (alias n) rest w y z e here there less = absurd (none-some _ e)

@@ -116,7 +116,10 @@ module _ (n : ℕ) (s : Step) (ss : List Step) (text : List ℕ) (c : Cut) (e : 
       more : IsPiece (comment_written text (held e).comment) × ArePieces (keep w.break ∷ (keep w.lines ∷ (keep w.last ∷ (keep w.behind ∷ []))))
       more = (comment_piece text w.comment no_breaks.1, (p.break, (p.lines, (p.last, (p.behind, tt)))))
 
-      go : (b : Bool) → ArePieces (keep w.before ∷ (keep w.space ∷ (keep w.head ∷ (cond b (put w.white []) (keep w.white) ∷ (put w.comment (comment_written text w.comment) ∷ (keep w.break ∷ (keep w.lines ∷ (keep w.last ∷ (keep w.behind ∷ [])))))))))
+      go : (b : Bool) → ArePieces
+          (keep w.before ∷ (keep w.space
+          ∷ (keep w.head ∷ (cond b (put w.white []) (keep w.white)
+          ∷ (put w.comment (comment_written text w.comment) ∷ (keep w.break ∷ (keep w.lines ∷ (keep w.last ∷ (keep w.behind ∷ [])))))))))
       go true = (p.before, (p.space, (p.head, (nothing, more))))
       go false = (p.before, (p.space, (p.head, (subst (λ (a : LineEnd). IsPiece a.white) (sym ends) (white_piece h.white h.line.blank), more))))
 

@@ -27,7 +27,8 @@ use Rattle.yq_edit_laws.proofs.OneRows.{PutsRow, RowIn, row_carried}
 use Rattle.yq_edit_laws.proofs.LoneContents as contents
 
 -- A row that is alone on its line, among the rows of a document, to whose content steps lead; the rows before it end in an LF.
-module _ (n : ℕ) (steps : List Step) (v : Node) (c : Cut) (read : read_at (cut_text c) ≡ Some c) (d : PlacedPart) (placed : placed_document n c ≡ Some d) (front : List Row) (r : Row) (back : List Row) (rows_are : d.part.rows ≡ front ++ (r ∷ back))
+module _ (n : ℕ) (steps : List Step) (v : Node) (c : Cut) (read : read_at (cut_text c) ≡ Some c) (d : PlacedPart)
+    (placed : placed_document n c ≡ Some d) (front : List Row) (r : Row) (back : List Row) (rows_are : d.part.rows ≡ front ++ (r ∷ back))
     (mark : r.mark ≡ Bare) (no_dashes : r.dashes ≡ []) (leads : LeadsToLone d.part steps front r) (ended : LineSeam (rows_text front []) (rows_text (r ∷ back) (d.part.end ++ d.behind))) where
   abbrev z : List ℕ
   z = rows_text back (d.part.end ++ d.behind)

@@ -94,7 +94,9 @@ module _ (c : Cut) (n : ℕ) (p : Part) (old : IsDocumentPart (cut_text c) c n p
       let parts : start ++ (rows_text front [] ++ (row_front r ++ t)) ≡ ((start ++ rows_text front []) ++ row_front r) ++ t = simp append_assoc refl in
       put q
       ∙ ((λ i. start ++ rows_text (there i) (same_end i ++ behind_document n c))
-      ∙ (ap (λ x. start ++ x) (rows_text-append front (with_content new r ∷ back) (p.end ++ behind_document n c) ∙ (rows_then front (print_row (with_content new r) rest) ∙ ap (λ x. rows_text front [] ++ x) (row_front-append (with_content new r) rest)))
+      ∙ (ap (λ x. start ++ x)
+          (rows_text-append front (with_content new r ∷ back) (p.end ++ behind_document n c)
+          ∙ (rows_then front (print_row (with_content new r) rest) ∙ ap (λ x. rows_text front [] ++ x) (row_front-append (with_content new r) rest)))
       ∙ (parts ∙ (head.text (b ++ row_front r) node rest ∙ ap (λ x. x ++ node_text node ((content_cut r.content).4 ++ rest)) (append_assoc b (row_front r) (before_head r.content))))))
 
   -- ---- the document
@@ -112,7 +114,8 @@ module _ (c : Cut) (n : ℕ) (p : Part) (old : IsDocumentPart (cut_text c) c n p
     text = readable;
   }
 
-  pub lone_changed : IsReadable (cut_text (put_document n q c)) → (m : Node) → node_at steps (root_of p) ≡ Some m → MayReplace v m (root_of p) (length steps) → IsChanged c (put_document n q c) n (lead_of p) (changed_at steps (replaced_node v))
+  pub lone_changed : IsReadable (cut_text (put_document n q c)) → (m : Node) → node_at steps (root_of p) ≡ Some m →
+      MayReplace v m (root_of p) (length steps) → IsChanged c (put_document n q c) n (lead_of p) (changed_at steps (replaced_node v))
   lone_changed readable = go steps leads
     where
       go : (ss : List Step) → LeadsToLone p ss front r → (m : Node) → node_at ss (root_of p) ≡ Some m → MayReplace v m (root_of p) (length ss) → IsChanged c (put_document n q c) n (lead_of p) (changed_at ss (replaced_node v))

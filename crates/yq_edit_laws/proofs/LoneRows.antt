@@ -45,7 +45,8 @@ one_line m (row x u a) l ls even e bare = search (rules, false≢true)
 
 -- ---- under a key or dash
 
-module _ (n : ℕ) (s : Step) (ss : List Step) (v : Node) (c : Cut) (read : read_at (cut_text c) ≡ Some c) (d : PlacedPart) (placed : placed_document n c ≡ Some d) (x : RowLine) (printed_line : row_line_of (s ∷ ss) d.part.rows ≡ Some x) (r : Row) (rs : List Row)
+module _ (n : ℕ) (s : Step) (ss : List Step) (v : Node) (c : Cut) (read : read_at (cut_text c) ≡ Some c) (d : PlacedPart)
+    (placed : placed_document n c ≡ Some d) (x : RowLine) (printed_line : row_line_of (s ∷ ss) d.part.rows ≡ Some x) (r : Row) (rs : List Row)
     (last : (entry_rows_at d x).line ≡ length (entry_rows_at d x).row.dashes) (under : (entry_rows_at d x).under ≡ r ∷ rs) (alone : is_alone r ≡ true) where
   abbrev e : RowsOfEntry
   e = entry_rows_at d x

@@ -67,7 +67,8 @@ marked_values n [] v c t read at marked kept =
     let d = map_some (placed_document n c) at in
     subst (λ (t : Standing). is_marked t ≡ true → IsEdit (replace n [] v) c (value_put (has_text (node_in n [] c)) (layout_of n c) v t)) d.2 (by_rows d.0 d.1 d.0.part.rows refl) marked
   where
-    by_rows : (d : PlacedPart) → placed_document n c ≡ Some d → (rs : List Row) → d.part.rows ≡ rs → is_marked (root_standing d rs) ≡ true → IsEdit (replace n [] v) c (value_put (has_text (node_in n [] c)) (layout_of n c) v (root_standing d rs))
+    by_rows : (d : PlacedPart) → placed_document n c ≡ Some d → (rs : List Row) → d.part.rows ≡ rs → is_marked (root_standing d rs) ≡ true →
+        IsEdit (replace n [] v) c (value_put (has_text (node_in n [] c)) (layout_of n c) v (root_standing d rs))
     by_rows d placed [] is marked = absurd (false≢true marked)
     by_rows d placed (r ∷ rs) is marked =
         cond_both (is_alone r) (standings.alone (lone d.before r (rows_text rs (d.part.end ++ d.behind)))) (standings.root (standings.block_root d r rs))

@@ -56,7 +56,9 @@ module _ (n : ℕ) (s : Step) (ss : List Step) (key : Option (List ℕ)) (v : No
   under_edit r rs last none is single =
       let below_text : List ℕ = (slices e.row).raw ++ rows_text e.under [] in
       let first : IsRow _ r _ = (row_there unlimited (e.front ++ (e.row ∷ [])) r (rs ++ e.back) there.part.end (behind_document n c)
-      (subst (λ us. AreRows unlimited us there.part.end (behind_document n c)) (there.rows_are ∙ (ap (λ us. e.front ++ (e.row ∷ (us ++ e.back))) is ∙ sym (append_assoc e.front (e.row ∷ []) (r ∷ (rs ++ e.back))))) (are n s ss c e there))).1 in
+      (subst (λ us. AreRows unlimited us there.part.end (behind_document n c))
+          (there.rows_are ∙ (ap (λ us. e.front ++ (e.row ∷ (us ++ e.back))) is ∙ sym (append_assoc e.front (e.row ∷ []) (r ∷ (rs ++ e.back)))))
+          (are n s ss c e there))).1 in
       let own : is_empty (print_row r (rows_text rs [])) ≡ false = search (rules, some_behind, entry_some) in
       let some : is_empty below_text ≡ false = ap (λ us. is_empty ((slices e.row).raw ++ rows_text us [])) is ∙ some_behind (slices e.row).raw (print_row r (rows_text rs [])) own in
       let last_is : (held e).last ≡ last_break below_text = cond-false _ _ _ some in
@@ -71,7 +73,10 @@ module _ (n : ℕ) (s : Step) (ss : List Step) (key : Option (List ℕ)) (v : No
       more_edit_at n (s ∷ ss) key v c (end_at n s ss c e there r.column (not (is_empty h.last))) _ read (place r.column (not (is_empty h.last)) end) (held_put_at h r.column _ _ _ spelled)
 
   -- a compact collection
-  compact_edit : e.line < length e.row.dashes → IsMore n (s ∷ ss) key v c (behind_lines (compact_in e).before (compact_in e).old (compact_in e).last (more_lines (layout_of n c) key v (compact_in e).column (compact_in e).last) (compact_in e).behind)
+  compact_edit : e.line < length e.row.dashes →
+      IsMore n (s ∷ ss) key v c
+      (behind_lines (compact_in e).before (compact_in e).old (compact_in e).last
+      (more_lines (layout_of n c) key v (compact_in e).column (compact_in e).last) (compact_in e).behind)
   compact_edit less =
       let w : Compact = compact_in e in
       let t : List ℕ = dash_text e in
@@ -120,7 +125,10 @@ module _ (n : ℕ) (s : Step) (ss : List Step) (key : Option (List ℕ)) (v : No
       under_by [] at last none h = absurd (none-some _ h)
       under_by (r ∷ rs) at last none h = by (is_alone r) refl h
         where
-          by : (b : Bool) → is_alone r ≡ b → block_more (layout_of n c) key v (cond b (alone (lone (before_entry e ++ print_row e.row []) r (rows_text rs (behind_entry e)))) (under (held e) r.column)) ≡ Some us → IsMore n (s ∷ ss) key v c us
+          by : (b : Bool) → is_alone r ≡ b →
+              block_more (layout_of n c) key v
+              (cond b (alone (lone (before_entry e ++ print_row e.row []) r (rows_text rs (behind_entry e)))) (under (held e) r.column)) ≡ Some us →
+              IsMore n (s ∷ ss) key v c us
           by true a h = absurd (none-some _ h)
           by false a h = subst (IsMore n (s ∷ ss) key v c) (same_Some _ _ h) (under_edit r rs last none at a)
 
@@ -139,7 +147,8 @@ module _ (n : ℕ) (s : Step) (ss : List Step) (key : Option (List ℕ)) (v : No
           subst (IsMore n (s ∷ ss) key v c) (same_Some _ _ h) (compact_edit (within (eqb-false e.line (length e.row.dashes) b)))
 
 -- a root
-root_edit : (n : ℕ) (key : Option (List ℕ)) (v : Node) (c : Cut) (d : PlacedPart) (us : List Segment) → read_at (cut_text c) ≡ Some c → placed_document n c ≡ Some d → block_more (layout_of n c) key v (root_standing d d.part.rows) ≡ Some us → IsMore n [] key v c us
+root_edit : (n : ℕ) (key : Option (List ℕ)) (v : Node) (c : Cut) (d : PlacedPart) (us : List Segment) → read_at (cut_text c) ≡ Some c →
+    placed_document n c ≡ Some d → block_more (layout_of n c) key v (root_standing d d.part.rows) ≡ Some us → IsMore n [] key v c us
 root_edit n key v c d us read at is = go d.part.rows refl is
   where
     stands : StandsAt c n d
@@ -149,7 +158,9 @@ root_edit n key v c d us read at is = go d.part.rows refl is
     go [] are_rows h = absurd (none-some _ h)
     go (r ∷ rs) are_rows h = by (is_alone r) refl h
       where
-        edit : is_alone r ≡ false → IsMore n [] key v c (behind_lines (block_root d r rs).before (block_root d r rs).old (block_root d r rs).last (more_lines (layout_of n c) key v r.column (block_root d r rs).last) (block_root d r rs).behind)
+        edit : is_alone r ≡ false →
+            IsMore n [] key v c (behind_lines (block_root d r rs).before (block_root d r rs).old (block_root d r rs).last
+            (more_lines (layout_of n c) key v r.column (block_root d r rs).last) (block_root d r rs).behind)
         edit a =
             let w : BlockRoot = block_root d r rs in
             let t : List ℕ = behind_indent r (rows_text rs []) in
@@ -166,14 +177,17 @@ root_edit n key v c d us read at is = go d.part.rows refl is
             root_ends n c d.part d.before r rs (not (is_empty w.last)) stands.there are_rows a (λ q. stands.put q ∙ ap (λ u. d.before ++ part_text q u) (sym stands.behind)) broken in
             let spelled : w.before ++ (w.old ++ w.last) ≡ x.before = search (rules, less_is, append_assoc) in
             more_edit_at n [] key v c x _ read (record { part = d.part; there = stands.there; end = end })
-            (subst (λ (z : List ℕ). IsPutAt (record { column = r.column; before = x.before; broken = x.broken; behind = d.part.end ++ z }) (more_lines (layout_of n c) key v r.column w.last) (behind_lines w.before w.old w.last (more_lines (layout_of n c) key v r.column w.last) w.behind)) (sym stands.behind)
+            (subst (λ (z : List ℕ). IsPutAt (record { column = r.column; before = x.before; broken = x.broken; behind = d.part.end ++ z })
+                (more_lines (layout_of n c) key v r.column w.last)
+                (behind_lines w.before w.old w.last (more_lines (layout_of n c) key v r.column w.last) w.behind)) (sym stands.behind)
             (lines_put_at w.before w.old w.last w.behind r.column _ _ _ spelled))
 
         by : (b : Bool) → is_alone r ≡ b → block_more (layout_of n c) key v (cond b (alone (lone d.before r (rows_text rs (d.part.end ++ d.behind)))) (root (block_root d r rs))) ≡ Some us → IsMore n [] key v c us
         by true a h = absurd (none-some _ h)
         by false a h = subst (IsMore n [] key v c) (same_Some _ _ h) (edit a)
 
-more_there : (n : ℕ) (steps : List Step) (key : Option (List ℕ)) (v : Node) (c : Cut) (t : Standing) (us : List Segment) → read_at (cut_text c) ≡ Some c → standing_at n steps c ≡ Some t → block_more (layout_of n c) key v t ≡ Some us → IsMore n steps key v c us
+more_there : (n : ℕ) (steps : List Step) (key : Option (List ℕ)) (v : Node) (c : Cut) (t : Standing) (us : List Segment) →
+    read_at (cut_text c) ≡ Some c → standing_at n steps c ≡ Some t → block_more (layout_of n c) key v t ≡ Some us → IsMore n steps key v c us
 more_there n [] key v c t us read at is =
     let d = map_some (placed_document n c) at in
     root_edit n key v c d.0 us read d.1 (ap (block_more (layout_of n c) key v) d.2 ∙ is)

@@ -127,7 +127,9 @@ replaced_near n steps v c ss read is = go (keeps_scalar (node_in n steps c) v) i
     there (inl e) = let t = map_some (standing_at n steps c) e in subst InLines t.2 (value_near (has_text (node_in n steps c)) (layout_of n c) v t.0 (stands_in_line n steps c t.0 read t.1))
     there (inr e) = let x = map_some (flow_standing n c (last_step steps)) e in subst InLines x.2 ((nothing_line, (nothing_line, tt)))
 
-    go : (b : Bool) → cond b (Some (keep (cut_text c) ∷ [])) (option_or (option_map (value_put (has_text (node_in n steps c)) (layout_of n c) v) (standing_at n steps c)) (option_map (flow_put (cut_text c) v) (flow_standing n c (last_step steps)))) ≡ Some ss →
+    go : (b : Bool) → cond b (Some (keep (cut_text c) ∷ []))
+        (option_or (option_map (value_put (has_text (node_in n steps c)) (layout_of n c) v) (standing_at n steps c))
+        (option_map (flow_put (cut_text c) v) (flow_standing n c (last_step steps)))) ≡ Some ss →
         InLines ss
     go true e = subst InLines (same_Some _ _ e) tt
     go false e = there (either _ _ e)

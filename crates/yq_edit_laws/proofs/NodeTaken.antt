@@ -31,7 +31,8 @@ follow_first limit column (b ∷ bs) f h = f b.column (let less = ltb-true b.col
 led_below : (block : Bool) (lead : List (List ℕ)) (s : Step) (ss : List Step) (v : Node) → led block lead (s ∷ ss) v ≡ v
 led_below block lead s ss v = search rules
 
--- Rows that are written for a value in the place of those of an item or entry: they may be there; the first begins as that one does; their lines are those of its dashes, the line of its mark with what then comes after that, and lines under it, and together these mean the value.
+-- Rows that are written for a value in the place of those of an item or entry: they may be there; the first begins as that one does; their lines are
+-- those of its dashes, the line of its mark with what then comes after that, and lines under it, and together these mean the value.
 pub record TakesNode (doc : ℕ) (s : Step) (ss : List Step) (c : Cut) (h : NodeRows doc s ss c) (v : Node) (new : List Row) : Type 0 where
   pub first : Row
   pub more : List Row
@@ -101,7 +102,9 @@ module _ (doc : ℕ) (s : Step) (ss : List Step) (c : Cut) (h : NodeRows doc s s
       let was : Line = line_with h.mark h.mark.content in
       let lines : lines_of_rows q.rows ≡ (lines_of_rows h.front ++ dashes_of h.mark) ++ ((now ∷ flatten t.under) ++ lines_of_rows h.back) =
       ap lines_of_rows q_rows
-      ∙ (rows_in_parts h.front new h.back ∙ (ap (λ (ls : List Line). lines_of_rows h.front ++ (ls ++ lines_of_rows h.back)) t.lines ∙ sym (around (lines_of_rows h.front) (dashes_of h.mark) (now ∷ flatten t.under) (lines_of_rows h.back)))) in
+      ∙ (rows_in_parts h.front new h.back
+          ∙ (ap (λ (ls : List Line). lines_of_rows h.front ++ (ls ++ lines_of_rows h.back)) t.lines
+          ∙ sym (around (lines_of_rows h.front) (dashes_of h.mark) (now ∷ flatten t.under) (lines_of_rows h.back)))) in
       ap begins_no_node lines
       ∙ (no_node_first (lines_of_rows h.front ++ dashes_of h.mark) now was (flatten t.under ++ lines_of_rows h.back) ((lines_upto h.upto h.under).0 ++ lines_of_rows h.back) refl ∙ sym (ap begins_no_node (old_lines doc s ss c h)))
 

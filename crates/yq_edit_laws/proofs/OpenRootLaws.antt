@@ -180,7 +180,9 @@ module _ (n : ℕ) (c : Cut) (w : NoRows) (read : read_at (cut_text c) ≡ Some 
           new_are = ap items_of_cut (m.put q)
               ∙ (m.new_are q
               ∙ ap (λ xs. front ++ xs) (ap (λ xs. end_item m.gap (last_marker c ++ break_text br) ∷ rows_items xs (end_item [] [] ∷ [])) (append-nil rs) ∙ sym (append-nil (end_item m.gap (last_marker c ++ break_text br) ∷ last))));
-          before_is = before ∙ (sym (append-nil w.before) ∙ (ap (λ t. w.before ++ t) (sym (h.behind_is ∙ nothing_behind)) ∙ (unwritten_root.whole n c w read h ∙ (sym (items_of_text c) ∙ (ap (λ xs. items_text xs []) old_are ∙ front_text)))));
+          before_is = before ∙ (sym (append-nil w.before)
+              ∙ (ap (λ t. w.before ++ t) (sym (h.behind_is ∙ nothing_behind))
+              ∙ (unwritten_root.whole n c w read h ∙ (sym (items_of_text c) ∙ (ap (λ xs. items_text xs []) old_are ∙ front_text)))));
           behind_is = behind ∙ (h.behind_is ∙ nothing_behind);
           begins = (omega arith, omega (arith, length-append m.gap (last_marker c), length-append m.gap (last_marker c ++ break_text br), length-append (last_marker c) (break_text br)));
           ends = (omega arith, last_nothing (end_item m.gap (last_marker c ++ break_text br) ∷ last));

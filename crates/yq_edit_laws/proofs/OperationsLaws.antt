@@ -37,7 +37,8 @@ others_served os op t m cs some at h a =
     (_, others_serve s.0 (operation_of op) (operations_of (later os)) t s.1 m cs a)
 
 -- one that fails
-pub first_fails : (os : List Op) (op : Op) (t : List ℕ) (bs : List Splice) (e : EditError) → 1 ≤ length os → op ≡ slice_index_or os 0 op → EditFails e (carried (operation_of op) t) → EditFails e (edit_after bs (carry_all (operations_of os) t))
+pub first_fails : (os : List Op) (op : Op) (t : List ℕ) (bs : List Splice) (e : EditError) → 1 ≤ length os → op ≡ slice_index_or os 0 op →
+    EditFails e (carried (operation_of op) t) → EditFails e (edit_after bs (carry_all (operations_of os) t))
 first_fails os op t bs e some at h =
     fails_behind e bs (carry_all (operations_of os) t)
     (subst (λ (x : List Op). EditFails e (carry_all (operations_of x) t)) (sym (first_apart os op some at)) (fails_on e (carry_all (operations_of (later os))) (carried (operation_of op) t) h))

@@ -89,7 +89,9 @@ module _ (before behind : List ℕ) (to : ℕ) (ended : is_empty behind ≡ fals
   from_front lead [] text lines kept front back within = absurd (false≢true (sym kept))
   from_front lead (keep t ∷ ss) text lines kept front back within =
       subst (λ (n : ℕ). IsTouched (length before) to (extents n (swapped_segments ss))) (length-append lead t)
-      (from_front (lead ++ t) ss (append_assoc lead t (new_text ss) ∙ text) lines kept (omega (arith, front, length-append lead t, length-append t (kept_front ss))) (subst (λ (x : List ℕ). length x ≤ length behind) (one_kept t ss false kept) back) within)
+      (from_front (lead ++ t) ss (append_assoc lead t (new_text ss) ∙ text) lines kept
+          (omega (arith, front, length-append lead t, length-append t (kept_front ss)))
+          (subst (λ (x : List ℕ). length x ≤ length behind) (one_kept t ss false kept) back) within)
   from_front lead (put o w ∷ ss) text lines kept front back within =
       begun lead o w ss text (omega (arith, front)) back
       (λ k more.
@@ -104,7 +106,8 @@ at_first n from to [] kept a b = absurd (false≢true (sym kept))
 at_first n from to (keep t ∷ ss) kept a b = at_first (n + length t) from to ss kept (omega (arith, a, length-append t (kept_front ss))) (omega (arith, b, length-append t (kept_front ss)))
 at_first n from to (put o w ∷ ss) kept a b = inl (omega (arith, b), omega (arith, a))
 
-pub at_last : (n from to : ℕ) (ss : List Segment) → are_kept ss ≡ false → from + length (kept_back ss) ≤ n + length (new_text ss) → n + length (new_text ss) ≤ from + length (kept_back ss) → from ≤ to → IsTouched from to (extents n (swapped_segments ss))
+pub at_last : (n from to : ℕ) (ss : List Segment) → are_kept ss ≡ false → from + length (kept_back ss) ≤ n + length (new_text ss) →
+    n + length (new_text ss) ≤ from + length (kept_back ss) → from ≤ to → IsTouched from to (extents n (swapped_segments ss))
 at_last n from to [] kept a b less = absurd (false≢true (sym kept))
 at_last n from to (keep t ∷ ss) kept a b less =
     let back : length (kept_back (keep t ∷ ss)) ≡ length (kept_back ss) = ap length (one_kept t ss false kept) in

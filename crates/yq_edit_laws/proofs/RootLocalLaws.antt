@@ -29,7 +29,8 @@ gap_first (r ∷ rs) xs g u some e = omega (arith, ap length e, length-append g 
 -- ---- a document without rows
 
 -- Rows come where a document has none, and the gap at its end ends up in front of them.
-pub gap_moves : (n : ℕ) (c : Cut) (p : Part) (there : slice_get (document_parts c) n ≡ Some p) (start : List ℕ) (put : (x : Part) → cut_text (put_document n x c) ≡ start ++ part_text x (behind_document n c)) (ss : List Segment) (rs : List Row)
+pub gap_moves : (n : ℕ) (c : Cut) (p : Part) (there : slice_get (document_parts c) n ≡ Some p) (start : List ℕ)
+    (put : (x : Part) → cut_text (put_document n x c) ≡ start ++ part_text x (behind_document n c)) (ss : List Segment) (rs : List Row)
     (u : List ℕ) → p.rows ≡ [] → no_rows rs ≡ false → first_gap rs [] ≡ p.end ++ u → kept_front ss ≡ start ++ p.end → kept_back ss ≡ behind_document n c → IsLocal ss c (put_document n (rooted rs [] p) c)
 gap_moves n c p there start put ss rs u none some gap before behind =
     let k = h c n p there start put in

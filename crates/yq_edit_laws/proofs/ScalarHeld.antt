@@ -26,7 +26,9 @@ unfolding is_line
 has_break tail more line h = go h.line.ends
   where
     same : is_line tail ≡ is_line h.line.break
-    same = ap is_line (h.line.spelled ∙ sym (append_assoc h.white h.comment h.line.break)) ∙ text_line (h.white ++ h.comment) h.line.break (white_none h.white h.comment h.line.break h.line.blank (comment_none h.comment h.line.break h.line.as_comment))
+    same = ap is_line (h.line.spelled ∙ sym (append_assoc h.white h.comment h.line.break))
+        ∙ text_line (h.white ++ h.comment) h.line.break
+        (white_none h.white h.comment h.line.break h.line.blank (comment_none h.comment h.line.break h.line.as_comment))
 
     go : IsBreak h.line.break more → IsLfOrCrLf h.line.break
     go (inl k) = break_is h.line.break k

@@ -62,7 +62,8 @@ module _ (n : ℕ) (s : Step) (ss : List Step) (c : Cut) (e : RowsOfEntry) (ther
       cond_both (takes_compact w.mark) (compact_text (block_value l (item_column w.mark.column) v)) (lines (lines_in l (column_under l w.mark v) v)) (λ y. Done v (block_put br w y))
       (λ free. held_compact n s ss c e there last k v tree f full free) (λ other. raw_rows n s ss c e there last k space anchor block content_is v tree f full)
 
-  string_done : (a : Option (List ℕ)) (kind : Kind) (t : List ℕ) (value : IsValueTree (tree.scalar a kind t)) (f : FitsReplace n (s ∷ ss) (tree.scalar a kind t) c there.part) → has_text (node_in n (s ∷ ss) c) ≡ true → is_string kind ≡ true →
+  string_done : (a : Option (List ℕ)) (kind : Kind) (t : List ℕ) (value : IsValueTree (tree.scalar a kind t))
+      (f : FitsReplace n (s ∷ ss) (tree.scalar a kind t) c there.part) → has_text (node_in n (s ∷ ss) c) ≡ true → is_string kind ≡ true →
       Done (tree.scalar a kind t) (string_put br w block.indent.columns (record { kind = kind; text = t }))
   string_done a kind t value f has string =
       cond_both (can_write (record { kind = kind; text = t }) styles.Literal places.Block) (literal_put br w block.indent.columns t) (held_put br w (inline (double t))) (Done (tree.scalar a kind t))

@@ -24,16 +24,19 @@ use Rattle.yq_core.specs.Tree as tree
 
 -- ---- the collection that an item or entry is
 
-along_on : (ss : List Step) (s : Step) (node : FlowNode) (rest : List ℕ) (w : CollPieces) (y : EntryPieces) → coll_along ss node rest ≡ Some w → item_at w.close s w.items w.rest ≡ Some y → coll_along (ss ++ (s ∷ [])) node rest ≡ coll_in y.node y.rest
+along_on : (ss : List Step) (s : Step) (node : FlowNode) (rest : List ℕ) (w : CollPieces) (y : EntryPieces) → coll_along ss node rest ≡ Some w →
+    item_at w.close s w.items w.rest ≡ Some y → coll_along (ss ++ (s ∷ [])) node rest ≡ coll_in y.node y.rest
 along_on [] s node rest w y found at = ap (option_and_then (λ (z : EntryPieces). coll_in z.node z.rest)) (coll_entry s node rest w found ∙ at)
 along_on (t ∷ ss) s node rest w y found at = go (path_inside t node rest) found (λ z own. along_on ss s z.node z.rest w y own at)
   where
-    go : (o : Option EntryPieces) → option_and_then (λ (z : EntryPieces). coll_along ss z.node z.rest) o ≡ Some w → ((z : EntryPieces) → coll_along ss z.node z.rest ≡ Some w → coll_along (ss ++ (s ∷ [])) z.node z.rest ≡ coll_in y.node y.rest) →
+    go : (o : Option EntryPieces) → option_and_then (λ (z : EntryPieces). coll_along ss z.node z.rest) o ≡ Some w →
+        ((z : EntryPieces) → coll_along ss z.node z.rest ≡ Some w → coll_along (ss ++ (s ∷ [])) z.node z.rest ≡ coll_in y.node y.rest) →
         option_and_then (λ (z : EntryPieces). coll_along (ss ++ (s ∷ [])) z.node z.rest) o ≡ coll_in y.node y.rest
     go None e again = absurd (none-some _ e)
     go (Some z) e again = again z e
 
-content_on : (x : Content) (ss : List Step) (s : Step) (behind : List ℕ) (w : CollPieces) (y : EntryPieces) → content_flow ss x behind ≡ Some w → item_at w.close s w.items w.rest ≡ Some y → content_flow (ss ++ (s ∷ [])) x behind ≡ coll_in y.node y.rest
+content_on : (x : Content) (ss : List Step) (s : Step) (behind : List ℕ) (w : CollPieces) (y : EntryPieces) → content_flow ss x behind ≡ Some w →
+    item_at w.close s w.items w.rest ≡ Some y → content_flow (ss ++ (s ∷ [])) x behind ≡ coll_in y.node y.rest
 content_on (Nothing tail) ss s behind w y e at = absurd (none-some _ e)
 content_on (Inline space node tail) ss s behind w y e at = along_on ss s node (tail ++ behind) w y e at
 content_on (Block space anchor block) ss s behind w y e at = absurd (none-some _ e)
