@@ -166,7 +166,11 @@ fn comment_above_row(
 
 /// What an operation puts in a row, if it does no more than that. From then on it is known what is on
 /// its way.
-fn row_put(alloc: Global, cut: &mut CutText<'_, '_>, op: &Op) -> Result<Option<RowPut>, AllocError>
+fn row_put<'d>(
+    alloc: Global,
+    cut: &mut CutText<'d, '_>,
+    op: &'d Op,
+) -> Result<Option<RowPut>, AllocError>
     ensures same { cut.new ≡ cut.old }
     ensures puts { IfOk result (λ o. IfSome o (spec.PutsInRow (operation_of op.now)
         (cut_of cut.old))) }
@@ -182,7 +186,7 @@ fn row_put(alloc: Global, cut: &mut CutText<'_, '_>, op: &Op) -> Result<Option<R
             None => Ok(None),
         },
         Op::HeadComment(path, text) => {
-            cut.go_along(alloc, path);
+            cut.go_to_line(alloc, path);
             comment_above_row(alloc, cut, path, text)
         }
         Op::Append(_, _, _) | Op::Remove(_) => Ok(None),
@@ -233,10 +237,10 @@ pub(crate) fn is_behind(last: Option<(usize, usize)>, doc: usize, row: usize) ->
 
 /// Carries out an operation on the text of a run, if it changes one row, after the last one that was
 /// changed; and tells which one that is then.
-fn put_one(
+fn put_one<'d>(
     alloc: Global,
-    cut: &mut CutText<'_, '_>,
-    op: &Op,
+    cut: &mut CutText<'d, '_>,
+    op: &'d Op,
     last: Option<(usize, usize)>,
     run: &mut PutRun,
 ) -> Result<Option<Option<(usize, usize)>>, EditError>
