@@ -72,8 +72,8 @@ simple_refused name s rest t none file fit = file_refused name s rest t (require
 
 count_refused : (name : Text) (s : Shape) (rest : List Text) → Taken name s rest → is_some (first_of (codes "file") (rows_after s.rules [] rest)) ≡ true → is_some (first_of (codes "n") (rows_after s.rules [] rest)) ≡ true →
     ((rows : List Row) → words_fit s.name rows ≡ is_some (option_and_then count_in (first_of (codes "n") rows))) →
-        finds (subcommand_of yq (codes "yq" ∷ name ∷ rest)) ≡ false →
-        option_map_or (λ found. checks found.1) (subcommand_of yq (codes "yq" ∷ name ∷ rest)) true ≡ false
+    finds (subcommand_of yq (codes "yq" ∷ name ∷ rest)) ≡ false →
+    option_map_or (λ found. checks found.1) (subcommand_of yq (codes "yq" ∷ name ∷ rest)) true ≡ false
 count_refused name s rest t file count fit e = search rules
 
 eval_refused : (rest : List Text) → Refused (codes "yq" ∷ codes "eval" ∷ rest)

@@ -105,9 +105,10 @@ module _ (c : Cut) (n : ℕ) (stem left : List Step) (key : Option (List ℕ)) (
           stays = λ ss r y part less begins. part_behind run.cut n path key v z read f.found stem left refl run.leads ss r y (run.stays ss r y part less begins) (omega (arith, less, size)) (omega (arith, begins, size));
           ends = λ ss u at_end after.
               let d = run.ends ss u at_end after in
-              let g = end_behind run.cut n path key v z read f.found stem left refl run.leads ss d.0 d.1
-                  (omega (arith, after.0, size, ap length d.2.behind),
-                  λ none. omega (arith, after.1 (sym d.2.none ∙ none), size, ap length d.2.behind)) in
+              let g = end_behind run.cut n path key v z read f.found stem left refl run.leads ss d.0 d.1 (
+                omega (arith, after.0, size, ap length d.2.behind),
+                λ none. omega (arith, after.1 (sym d.2.none ∙ none), size, ap length d.2.behind),
+              ) in
               (g.0, g.1, ends_on u d.0 g.0 d.2 g.2);
           row =
               let y : FlowEdit = more.e run.cut n path key v z read f.found in

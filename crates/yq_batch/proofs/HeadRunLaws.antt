@@ -98,8 +98,8 @@ module _ (c d : Cut) (k : ℕ) (steps : List Step) (w : CollPieces) (at : FlowAt
         λ l path f found after.
             let first : StandsStill f l path d = b.1 l path f found after in
             let from : IsBehind k (suc (length i.front)) l (length first.front) =
-                subst (λ (a : ℕ). IsBehind k (suc a) l (length first.front)) (own_row n b.0)
-                (sized k (suc n) l (length f.front) (length first.front) (sym first.size) after) in
+            subst (λ (a : ℕ). IsBehind k (suc a) l (length first.front)) (own_row n b.0)
+            (sized k (suc n) l (length f.front) (length first.front) (sym first.size) after) in
             let z = rows_stay_there.entries d k (suc (length i.front)) p q l path (record f { start = first.start; front = first.front }) at.there stays first.found from in
             record { start = z.start; front = z.front; found = z.found; size = z.size ∙ first.size },
       )

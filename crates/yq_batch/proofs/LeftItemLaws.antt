@@ -83,8 +83,8 @@ more_follow k rest g s zero (suc j) (item key n sep is) e key2 n2 sep2 os here a
       edit = record { gap = gap_to g next; items = item key2 n2 sep2 os; old = a; lead = space_to g next; written = []; behind = flow_items_text k (item key2 n2 sep2 os) rest };
       removes =
           (λ i. cond (here i) (before_next k rest g key n (same i) (after i))
-              (option_or (last_out k rest (further s) g key n (same i) (after i))
-              (option_map (edit_from_item g key n (same i)) (removing_from k rest (further s) (gap_of (same i)) (after i)))));
+          (option_or (last_out k rest (further s) g key n (same i) (after i))
+          (option_map (edit_from_item g key n (same i)) (removing_from k rest (further s) (gap_of (same i)) (after i)))));
       gap = ap (λ (l : List ℕ). g ++ l) space ∙ append-nil g;
       items = refl;
       lead = space;
@@ -99,12 +99,12 @@ more_follow k rest g s (suc i) (suc j) (item key n sep is) e key2 n2 sep2 os lea
     let w = one_in_front k rest g s key n sep (left_items j is e) (left_items i is (others key2 n2 sep2 os)) (front_text i is) (front_text (suc i) is) leads.0
     (two_left k rest (further s) g key n sep i j is e key2 n2 sep2 os after) h in
     subst (λ (x : Sep). TakesOut k rest g s (item key n x (left_items j is e))
-        (item key n (sep_left i sep (others key2 n2 sep2 os)) (left_items i is (others key2 n2 sep2 os)))
-        (key_text key (node_text n (sep_text sep [])) ++ front_text i is) (key_text key (node_text n (sep_text sep [])) ++ front_text (suc i) is))
-        (sym same)
+    (item key n (sep_left i sep (others key2 n2 sep2 os)) (left_items i is (others key2 n2 sep2 os)))
+    (key_text key (node_text n (sep_text sep [])) ++ front_text i is) (key_text key (node_text n (sep_text sep [])) ++ front_text (suc i) is))
+    (sym same)
     (subst (λ (x : Sep). TakesOut k rest g s (item key n sep (left_items j is e)) (item key n x (left_items i is (others key2 n2 sep2 os)))
-        (key_text key (node_text n (sep_text sep [])) ++ front_text i is) (key_text key (node_text n (sep_text sep [])) ++ front_text (suc i) is))
-        (sym (kept i sep)) w)
+    (key_text key (node_text n (sep_text sep [])) ++ front_text i is) (key_text key (node_text n (sep_text sep [])) ++ front_text (suc i) is))
+    (sym (kept i sep)) w)
   where
     kept : (i : ℕ) (sep : Sep) → sep_left i sep (others key2 n2 sep2 os) ≡ sep
     kept zero sep = refl
@@ -126,8 +126,8 @@ none_follow k rest g s zero (item key n sep (item key2 n2 sep2 is)) s2 leads apa
       edit = out;
       removes =
           (λ i. cond (leads.0 i) (before_next k rest g key n sep (item key2 n2 s2 none))
-              (option_or (cond (leads.1 i) (Some (cond (apart i) (comma_left k rest g key n sep key2 n2 s2) out)) None)
-              (option_map (edit_from_item g key n sep) (removing_from k rest (further s) (gap_of sep) (item key2 n2 s2 none)))));
+          (option_or (cond (leads.1 i) (Some (cond (apart i) (comma_left k rest g key n sep key2 n2 s2) out)) None)
+          (option_map (edit_from_item g key n sep) (removing_from k rest (further s) (gap_of sep) (item key2 n2 s2 none)))));
       gap = refl;
       items = refl;
       lead = refl;

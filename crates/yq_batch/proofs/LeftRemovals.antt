@@ -166,9 +166,9 @@ module _ (c : Cut) (n : ℕ) (steps : List Step) (x : FlowHead) (q : Placed) (f 
       | inl less ↦
           let w = after_as_read total own.close i j own.items own.rest e h.next h.next_at less in
           by w.0 w.1 w.2 w.3 w.4
-              (λ own_marked. sym (h.as_read less)
-              ∙ laws.own_marked around.inner_depth own.close own.gap own.items own.rest row around.before (opening_bracket own.close) around.closes
-              around.items (open_feed own.close) text (suc i) h.next h.next_at (ap begins_marker w.5 ∙ own_marked))
+          (λ own_marked. sym (h.as_read less)
+          ∙ laws.own_marked around.inner_depth own.close own.gap own.items own.rest row around.before (opening_bracket own.close) around.closes
+          around.items (open_feed own.close) text (suc i) h.next h.next_at (ap begins_marker w.5 ∙ own_marked))
       | inr least ↦ last_of e ends refl (omega (arith, h.within, least))
     ]
       where

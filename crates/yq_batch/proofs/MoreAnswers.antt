@@ -89,7 +89,7 @@ module _ (x : HeadInText) (u : List ℕ) (all : u ≡ cut_text (cut_with x)) (op
       (fill_on x u all own before y.place.start y.place.end new h.valid own_fits known
       (more_put_there (cut_with x) x.doc (stem_of x) h.left h.key h.value (string_bytes before.text) before.done run h.collection h.found h.takes (change_place y) h.placed behind opens (string_bytes s) written_is)
       (λ small. let r = more_goes_on (cut_with x) x.doc (stem_of x) h.left h.key h.value (string_bytes before.text) before.done run h.collection
-          h.found h.takes (change_place y) h.placed behind opens (string_bytes s) written_is h.valid own_fits small in
+      h.found h.takes (change_place y) h.placed behind opens (string_bytes s) written_is h.valid own_fits small in
       (r.0, known_then known fills r.0.cut r.1)) after has_put)
 
   pub more_fails : (e : EditError) → PutFails e u y.place.start y.place.end new before → EditFails e (carried op (now_text (cut_with x) before))

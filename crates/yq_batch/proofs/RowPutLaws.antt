@@ -116,9 +116,16 @@ value_fits t n (s ∷ ss) v x read is inline plain =
     let w : Held = held is.entry in
     let text = ap length (value_text_is n s ss v c is.entry again is.found h plain) in
     let size = (cut_read (cut_text c) c again).size in
-    omega (arith, size, text, is.start, ap length is.head,
-        length-append (w.before ++ w.space) (w.head ++ (w.white ++ (w.comment ++ (w.last ++ w.behind)))), length-append w.before w.space,
-        length-append w.head (w.white ++ (w.comment ++ (w.last ++ w.behind))))
+    omega (
+      arith,
+      size,
+      text,
+      is.start,
+      ap length is.head,
+      length-append (w.before ++ w.space) (w.head ++ (w.white ++ (w.comment ++ (w.last ++ w.behind)))),
+      length-append w.before w.space,
+      length-append w.head (w.white ++ (w.comment ++ (w.last ++ w.behind))),
+    )
 
 -- what the code tells of a value that is put in a row
 pub value_puts : (t : List ℕ) (n : ℕ) (steps : List Step) (v : Node) (x : HeldRow) (put : RowPut) → read_at t ≡ Some (cut_of t) → IsHeldRow n steps (cut_of t) x → x.inline ≡ true → is_filled v ≡ false → HasOperand (replace n steps v) →

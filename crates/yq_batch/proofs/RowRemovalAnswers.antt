@@ -190,7 +190,7 @@ can_take t n (z ∷ zs) x least next before read place run others fitting short 
 -- where the lines begin and end in the text of a cut
 pub found_rows : (t u : List ℕ) (n : ℕ) (steps : List Step) (x : Removal) (least next : Option ℕ) (before : RemovalRun) (start size : ℕ) → u ≡ t → read_at u ≡ Some (cut_of u) → Some x ≡ removal_place n steps (cut_of u) →
     RemovesRows (cut_of t) n (above_of steps) least before → HasOthersNow n steps (buffer_text before.text) →
-        IsFitting (remove n steps) (buffer_text before.text) → start ≡ length x.before → size ≡ length x.gone → start + size ≤ before.keep →
+    IsFitting (remove n steps) (buffer_text before.text) → start ≡ length x.before → size ≡ length x.gone → start + size ≤ before.keep →
     StaysAt x.seam next → IsLeast least x.gap next → IsUtf8 x.before → IsUtf8 x.gone → CanTake (remove n steps) (cut_of t) n (above_of steps) before next start (start + size)
 found_rows t u n steps x least next before start size same read place run others fitting starts sizes within stays low utf8 gone_utf8 =
     let read_t : read_at t ≡ Some (cut_of t) = subst (λ (v : List ℕ). read_at v ≡ Some (cut_of v)) same read in

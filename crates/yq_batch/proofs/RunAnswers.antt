@@ -174,8 +174,11 @@ module _ (x : HeadInText) (u : List ℕ) (all : u ≡ cut_text (cut_with x)) (op
         subst (λ (o : Operation). RunsOn o x before after) (sym h.operation)
         (fill_on x u all own before y.place.start y.place.end new h.valid own_fits None
         (put_there (cut_with x) x.doc (stem_of x) h.path h.value (string_bytes before.text) before.done again run h.ends h.part h.standing (change_place y) h.placed behind passes (string_bytes s) is.0 is.1)
-        (λ small. (goes_on (cut_with x) x.doc (stem_of x) h.path h.value (string_bytes before.text) before.done again run h.ends h.part h.standing
-            (change_place y) h.placed behind passes (string_bytes s) is.0 is.1 h.valid own_fits small, tt))
+        (λ small. (
+          goes_on (cut_with x) x.doc (stem_of x) h.path h.value (string_bytes before.text) before.done again run h.ends h.part h.standing
+              (change_place y) h.placed behind passes (string_bytes s) is.0 is.1 h.valid own_fits small,
+          tt,
+        ))
         after has_put).0
 
     -- too large a text

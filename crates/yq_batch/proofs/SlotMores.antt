@@ -233,8 +233,8 @@ module _ (c : Cut) (n : ℕ) (stem left : List Step) (key : Option (List ℕ)) (
         edges =
             subst (AreCharEdges t) (sym put.new_is)
             (edges_put t front s s2 back (subst (AreCharEdges t) put.old_is run.edges)
-                (subst (λ (q : SlotPlace). IsCharBoundary t q.start) (sym put.put.same) there.lies.start)
-                (subst (λ (q : SlotPlace). IsCharBoundary t q.end) (sym put.put.same) there.lies.end));
+            (subst (λ (q : SlotPlace). IsCharBoundary t q.start) (sym put.put.same) there.lies.start)
+            (subst (λ (q : SlotPlace). IsCharBoundary t q.end) (sym put.put.same) there.lies.end));
         cut = following;
         read = ap read_at (sym (new_is (cut_text run.cut) before_text e2 split ∙ made_is))
             ∙ appended_reads run.cut n path key v z read ends.is operand.0 operand.1 takes_now fit
@@ -244,6 +244,6 @@ module _ (c : Cut) (n : ℕ) (stem left : List Step) (key : Option (List ℕ)) (
             subst (AreStill c following n stem) (sym put.new_is)
             (stills c run.cut following n stem (e2.old ++ e2.behind) ((e2.lead ++ e2.written) ++ e2.behind) (length rest) 1 leaves s s2 back same_place before [] (lead ++ written) slot_old slot_new ends.behind (sym new_is_made) own_after
             (room_more c run.cut following n stem (e2.old ++ e2.behind) ((e2.lead ++ e2.written) ++ e2.behind) (length rest) 1 leaves s.place back
-                (ap (λ (q : SlotPlace). q.more) s_place) (order_at 0 (length t) front s back order).2 (order_at 0 (length t) front s back order).3
-                (omega arith) (omega arith)) 0 front order still);
+            (ap (λ (q : SlotPlace). q.more) s_place) (order_at 0 (length t) front s back order).2 (order_at 0 (length t) front s back order).3
+            (omega arith) (omega arith)) 0 front order still);
       }

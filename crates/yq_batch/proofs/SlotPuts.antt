@@ -216,8 +216,8 @@ module _ (c : Cut) (n : ℕ) (stem path : List Step) (v : Node) (slots slots2 : 
   edges2 =
       subst (AreCharEdges t) (sym put.new_is)
       (edges_put t front s s2 back (subst (AreCharEdges t) put.old_is run.edges)
-          (subst (λ (q : SlotPlace). IsCharBoundary t q.start) (sym put.put.same) there.lies.start)
-          (subst (λ (q : SlotPlace). IsCharBoundary t q.end) (sym put.put.same) there.lies.end))
+      (subst (λ (q : SlotPlace). IsCharBoundary t q.start) (sym put.put.same) there.lies.start)
+      (subst (λ (q : SlotPlace). IsCharBoundary t q.end) (sym put.put.same) there.lies.end))
 
   -- what is known of its own place after it: nothing
   own_after : (k : Cut) → IsStill c k n stem s2 rest
@@ -280,7 +280,7 @@ module _ (c : Cut) (n : ℕ) (stem path : List Step) (v : Node) (slots slots2 : 
           subst (AreStill c following n stem) (sym put.new_is)
           (stills c run.cut following n stem (e2.old ++ e2.behind) ((e2.lead ++ e2.written) ++ e2.behind) (length rest) 0 leaves s s2 back same_place [] e.old (lead ++ written) slot_old slot_new refl (sym new_is_made) (own_after following)
           (room_next c run.cut following n stem (e2.old ++ e2.behind) ((e2.lead ++ e2.written) ++ e2.behind) (length rest) 0 leaves s.place back
-              (order_at 0 (length t) front s back order).2 (order_at 0 (length t) front s back order).3 (omega arith)) 0 front order still);
+          (order_at 0 (length t) front s back order).2 (order_at 0 (length t) front s back order).3 (omega arith)) 0 front order still);
     }
 
   -- the bytes of an equal scalar are put there again

@@ -30,8 +30,15 @@ last_then k gap (item key n sep (item key2 n2 sep2 is)) rest more = last_then k 
 -- the length of a content before another text
 content_length : (y : EntryPieces) (l : List ℕ) (n size : ℕ) → length y.rest ≡ n → length (node_text (without_anchor y.node) y.rest) ≡ size + n → length (node_text (without_anchor y.node) l) ≡ size + length l
 content_length y l n size rest all =
-    omega (arith, rest, all, ap length (node_then (without_anchor y.node) y.rest), ap length (node_then (without_anchor y.node) l),
-        length-append (node_text (without_anchor y.node) []) y.rest, length-append (node_text (without_anchor y.node) []) l)
+    omega (
+      arith,
+      rest,
+      all,
+      ap length (node_then (without_anchor y.node) y.rest),
+      ap length (node_then (without_anchor y.node) l),
+      length-append (node_text (without_anchor y.node) []) y.rest,
+      length-append (node_text (without_anchor y.node) []) l,
+    )
 
 -- ---- the text around a place at which something else is
 

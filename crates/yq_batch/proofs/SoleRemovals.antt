@@ -152,7 +152,7 @@ module _ (c : Cut) (n : ℕ) (stem left path : List Step) (s : Step) (keep : ℕ
     pub sole_goes_on : IsFitting (remove n path) now → length (text_exchanged now start finish new) ≤ text_limit → IsRemovalRun c n stem start (new ++ e.behind)
     sole_goes_on fitting small =
         let own_fits = sole_fitting run.cut n steps s (v run.cut n steps z read y.entry y.inside) read y.entry emptied
-            (subst (λ (p : List Step). IsFitting (remove n p) (cut_text run.cut)) path_is (subst (IsFitting (remove n path)) (sym text) fitting)) in
+        (subst (λ (p : List Step). IsFitting (remove n p) (cut_text run.cut)) path_is (subst (IsFitting (remove n path)) (sym text) fitting)) in
         let fits = fits_now (replace n steps (v run.cut n steps z read y.entry y.inside)) (cut_text run.cut) run.cut value own_fits read in
         let new_bytes = back_new c n stem keep tail run e before now_is start finish start_is finish_is short in
         let reads = replaced_reads run.cut n steps (v run.cut n steps z read y.entry y.inside) read y.entry value fits (omega (arith, small, ap length new_bytes)) in

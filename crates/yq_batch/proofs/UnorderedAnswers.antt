@@ -27,9 +27,15 @@ pub opens_on : (op own : Operation) (x : HeadInText) (before after : SlotRun) (c
     after.splices.items ≡ before.splices.items ++ cs → RunsOpen x after → OpensOn op x before after
 opens_on op own x before after cs same comes fitting operand splices run =
     subst (λ (o : Operation). OpensOn o x before after) (sym same)
-    (record { new_bytes = cs; comes = comes; applied =
-        applied_by own (open_text (cut_with x) before) operand (subst (λ (o : Operation). IsFitting o (open_text (cut_with x) before)) same fitting)
-        (open_text (cut_with x) after) cs comes; splices = splices; run = run })
+    (record {
+      new_bytes = cs;
+      comes = comes;
+      applied =
+          applied_by own (open_text (cut_with x) before) operand (subst (λ (o : Operation). IsFitting o (open_text (cut_with x) before)) same fitting)
+          (open_text (cut_with x) after) cs comes;
+      splices = splices;
+      run = run;
+    })
 
 module _ (x : HeadInText) (u : List ℕ) (all : u ≡ cut_text (cut_with x)) (op : Operation) (before : SlotRun) (y : HeadChange) (there : IsInText x) (run : RunsOpen x before) (fitting : IsFitting op (open_text (cut_with x) before)) where
   abbrev c : Cut
@@ -46,14 +52,18 @@ module _ (x : HeadInText) (u : List ℕ) (all : u ≡ cut_text (cut_with x)) (op
   put_on h s some after a =
       let is = subst (IsWrittenPart (node_in x.doc h.path c) h.value h.part) some h.written in
       let size : after.size ≡ length (open_text c after) =
-      omega (arith, a.size, run.size,
-          put.new_size c x.doc (stem_of x) h.path h.value (slots_of before.slots) (slots_of after.slots) again run.run h.ends h.part h.standing
-          (change_place y) h.placed y.lead.now (string_bytes s) a.at a.was a.put) in
+      omega (
+        arith,
+        a.size,
+        run.size,
+        put.new_size c x.doc (stem_of x) h.path h.value (slots_of before.slots) (slots_of after.slots) again run.run h.ends h.part h.standing
+            (change_place y) h.placed y.lead.now (string_bytes s) a.at a.was a.put,
+      ) in
       let small : length (open_text c after) ≤ text_limit = omega (arith, a.small, size) in
       let fits = subst (λ (o : Operation). IsFitting o (open_text c before)) h.operation fitting in
       opens_on op (replace x.doc h.path h.value) x before after (splice_at a.at (drop y.place.start (take y.place.end (cut_text c))) (y.lead.now ++ string_bytes s)) h.operation
       (put.put_there c x.doc (stem_of x) h.path h.value (slots_of before.slots) (slots_of after.slots) again run.run h.ends h.part h.standing
-          (change_place y) h.placed y.lead.now (string_bytes s) a.at a.was a.put is.0 refl is.1 h.valid fits small)
+      (change_place y) h.placed y.lead.now (string_bytes s) a.at a.was a.put is.0 refl is.1 h.valid fits small)
       fitting h.valid a.splices
       (record {
         run = put.put_goes_on c x.doc (stem_of x) h.path h.value (slots_of before.slots) (slots_of after.slots) again run.run h.ends h.part
@@ -68,11 +78,11 @@ module _ (x : HeadInText) (u : List ℕ) (all : u ≡ cut_text (cut_with x)) (op
       let bytes : List ℕ = drop y.place.start (take y.place.end (cut_text c)) in
       let kept = subst (IsWrittenPart (node_in x.doc h.path c) h.value h.part) none h.written in
       let same : open_text c after ≡ open_text c before =
-          put.same_text c x.doc (stem_of x) h.path h.value (slots_of before.slots) (slots_of after.slots) again run.run h.ends h.part h.standing
-          (change_place y) h.placed [] bytes a.at a.was a.put refl refl in
+      put.same_text c x.doc (stem_of x) h.path h.value (slots_of before.slots) (slots_of after.slots) again run.run h.ends h.part h.standing
+      (change_place y) h.placed [] bytes a.at a.was a.put refl refl in
       opens_on op (replace x.doc h.path h.value) x before after [] h.operation
       (put.kept_there c x.doc (stem_of x) h.path h.value (slots_of before.slots) (slots_of after.slots) again run.run h.ends h.part h.standing
-          (change_place y) h.placed [] bytes a.at a.was a.put kept ∙ ap (λ (l : List ℕ). gives l []) (sym same))
+      (change_place y) h.placed [] bytes a.at a.was a.put kept ∙ ap (λ (l : List ℕ). gives l []) (sym same))
       fitting h.valid (a.splices ∙ sym (append-nil before.splices.items))
       (record {
         run = put.kept_goes_on c x.doc (stem_of x) h.path h.value (slots_of before.slots) (slots_of after.slots) again run.run h.ends h.part h.standing (change_place y) h.placed [] bytes a.at a.was a.put refl refl;
@@ -85,9 +95,13 @@ module _ (x : HeadInText) (u : List ℕ) (all : u ≡ cut_text (cut_with x)) (op
   more_on h s some after a =
       let written_is : string_bytes s ≡ (more_edit h.key h.value h.collection).written = same_Some _ _ (sym (ap (option_map string_bytes) some) ∙ h.written) in
       let size : after.size ≡ length (open_text c after) =
-      omega (arith, a.size, run.size,
-          more.new_size c x.doc (stem_of x) h.left h.key h.value (slots_of before.slots) (slots_of after.slots) run.run h.collection h.found h.takes
-          (change_place y) h.placed (string_bytes s) written_is a.at a.was a.put) in
+      omega (
+        arith,
+        a.size,
+        run.size,
+        more.new_size c x.doc (stem_of x) h.left h.key h.value (slots_of before.slots) (slots_of after.slots) run.run h.collection h.found h.takes
+            (change_place y) h.placed (string_bytes s) written_is a.at a.was a.put,
+      ) in
       let small : length (open_text c after) ≤ text_limit = omega (arith, a.small, size) in
       let fits = subst (λ (o : Operation). IsFitting o (open_text c before)) h.operation fitting in
       opens_on op (append x.doc (stem_of x ++ h.left) h.key h.value) x before after (splice_at a.at (drop y.place.start (take y.place.end (cut_text c))) (y.lead.now ++ string_bytes s)) h.operation

@@ -19,8 +19,16 @@ raw_within keep f t n h =
 pub piece_is : (start least : ℕ) (t u r tail raw : List ℕ) (s : BlockStyle) (d : Option ℕ) (c : Chomping) (f : TextIndent) (k : Bool) (n : ℕ) (z : Style) →
     read_style t ≡ Some (s, u) → (d, c, r) ≡ values (indicators_at u) → read_header_tail r ≡ Some (tail, raw) → indent_at least d (text_lines raw) ≡ Some f → k ≡ keeps c → len_at k f raw ≡ Some n → z ≡ as_style s →
     read_block_piece start least t ≡ Some
-        (record { style = z; start = start; head_end = start + (length t - length r); raw_start = start + (length t - length r) + length tail; end =
-        start + (length t - length r) + length tail + n; indent = f.columns; keep = k })
+    (record {
+      style = z;
+      start = start;
+      head_end = start + (length t - length r);
+      raw_start = start + (length t - length r) + length tail;
+      end =
+          start + (length t - length r) + length tail + n;
+      indent = f.columns;
+      keep = k;
+    })
 unfolding block_at block_behind
 piece_is start least t u r tail raw s d c f k n z h m g e q l y =
     let head = head_length t u r s d c h m in

@@ -132,8 +132,8 @@ gap_ends false f column (l ∷ ls) rest cut are behind lt = ⊎_elim {0, 0, 0}
     let empty = blank_empty f l b in
     let again : Ends false f (gone ++ rest) = gap_ends false f column ls rest cut.1 are.1 behind lt in
     let whole : Ends false f ((x ++ gone) ++ rest) =
-        cut_front false f x ls gone rest (blank_cut f.columns l ls rest cut.0) (no_repair f.columns column ls)
-        (ends_blank f x (text_lines (gone ++ rest)) empty again) (ends_blank f x [] empty refl) in
+    cut_front false f x ls gone rest (blank_cut f.columns l ls rest cut.0) (no_repair f.columns column ls)
+    (ends_blank f x (text_lines (gone ++ rest)) empty again) (ends_blank f x [] empty refl) in
     rw b whole)
     (λ b. rw b (ends_comment false f column l ls rest cut.0 b are.0 lt))
     (cases_Bool (is_blank l))

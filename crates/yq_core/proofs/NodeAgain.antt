@@ -135,8 +135,8 @@ mutual
       (coll_content flow spaces (kids_by n (suc d)) k g is rest h.0 h.1 (items_again is n d k rest h.0 h.2 (omega (arith, length-append g (flow_items_text k is rest)))))
   node_again flow spaces (anchored a g node) n d rest h short =
       anchored_node flow spaces (kids_by n d) a g node rest h.0 h.1 h.2 h.3
-          (content_again flow spaces node n d rest (takes_unanchored node h.3) h.4
-          (omega (arith, length-append a (g ++ node_text node rest), length-append g (node_text node rest))))
+      (content_again flow spaces node n d rest (takes_unanchored node h.3) h.4
+      (omega (arith, length-append a (g ++ node_text node rest), length-append g (node_text node rest))))
 
   pub items_again : (is : Items) (n d k : ℕ) (rest : List ℕ) → is_close k ≡ true → AreFlowItems d k is rest → length (flow_items_text k is rest) < n → items_at n d k (flow_items_text k is rest) ≡ Some (is, rest)
   items_again is zero d k rest c h short = absurd (omega arith)
@@ -150,6 +150,6 @@ mutual
       let inner_short = key_longer key inner in
       rw (item_front true (Some 0) d k key node behind c h.1 h.0 h.2)
       (ap (λ o. o >>= λ key. read_node true (Some 0) (kids_by n d) key.1 >>= λ node. cond (is_keyed key.0 || not (is_empty_node node.0))
-          (sep_at k node.1) None >>= λ sep. items_at n d k sep.1 >>= λ rest. Some (item key.0 node.0 sep.0 rest.0, rest.1))
-          (key_in_again k key inner h.0)
+      (sep_at k node.1) None >>= λ sep. items_at n d k sep.1 >>= λ rest. Some (item key.0 node.0 sep.0 rest.0, rest.1))
+      (key_in_again k key inner h.0)
       ∙ rw (node_again true (Some 0) node n d behind h.2 (omega arith)) (rw h.1 (rw (sep_again k s tail (close_letter k c).1 h.3) (rw (items_again is n d k rest c h.4 (omega arith)) refl))))

@@ -56,8 +56,8 @@ lead_behind k d g node t u c e h keeps a x y lead = elim (cases_Bool (is_empty_n
   | inl z ↦ (let no : begins_content true t ≡ false = (or_parts (begins_with 38 t) (begins_content true t) (ends_node k t c e)).1 in
       let none_ : g ≡ [] = lead_none (begins_content true) g t no (subst (λ (l : List ℕ). IsLead true (begins_content true) g l) (bare_text node t z) lead) in
       subst (λ (l : List ℕ). IsLead true (begins_content true) l (node_text node u)) (sym none_)
-          (subst (λ (l : List ℕ). IsLead true (begins_content true) [] l) (sym (bare_text node u z))
-          (ends_lead (begins_content true) k u c h (λ r. refl) (λ r. refl) (λ r. refl))))
+      (subst (λ (l : List ℕ). IsLead true (begins_content true) [] l) (sym (bare_text node u z))
+      (ends_lead (begins_content true) k u c h (λ r. refl) (λ r. refl) (λ r. refl))))
   | inr z ↦ inl (gap_node g d node t u z x keeps (lead_gap (begins_content true) g (node_text node t) (taken_begins true (Some 0) d node t z a x) (some_begins true (Some 0) d node t z x) lead), taken_begins true (Some 0) d node u z a y)
 ]
 
@@ -72,9 +72,9 @@ mutual
   node_keeps k (coll j g is) (suc d) f t u c e h keeps x = (x.0, gap_alike (Some true) g (flow_items_text j is t) (flow_items_text j is u) (items_text_alike j is t u x.0) x.1, items_any is d j t u x.0 x.2)
   node_keeps k (anchored n g node) d f t u c e h keeps x =
       let inner : KeepsApart (fresh false g) (node_text node []) t u =
-          keeps_append g false (node_text node []) t u
-          (subst (λ (l : Bool). KeepsApart l (g ++ node_text node []) t u) (name_fresh false n (g ++ node_text node t) x.0.inside refl)
-          (keeps_append n false (g ++ node_text node []) t u keeps.2)) in
+      keeps_append g false (node_text node []) t u
+      (subst (λ (l : Bool). KeepsApart l (g ++ node_text node []) t u) (name_fresh false n (g ++ node_text node t) x.0.inside refl)
+      (keeps_append n false (g ++ node_text node []) t u keeps.2)) in
       let new = node_keeps k node d (fresh false g) t u c e h inner x.4 in
       (name_behind k n g node t u c h x.2 x.0, lead_behind k d g node t u c e h inner x.3 x.4 new x.1, x.2, x.3, new)
 

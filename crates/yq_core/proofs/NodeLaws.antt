@@ -42,8 +42,8 @@ node_same flow spaces kids others (b ∷ t) h =
     ap (λ o. o >>= λ node. cond ((is_empty_node node.0 || not (is_empty gap.0)) && takes_anchor node.0) (Some (anchored name.0 gap.0 node.0, node.1)) None)
     (content_same flow spaces kids others gap.1 (λ k r short. h k r (omega arith))))) in
     ap (λ o. cond (eqb b 38) o (read_core flow spaces kids s)) one
-        ∙ ap (λ o. cond (eqb b 38) (name_at t >>= λ name. lead_at flow (begins_content flow) name.1 >>= after_gap flow spaces others name.0) o)
-        (content_same flow spaces kids others s h)
+    ∙ ap (λ o. cond (eqb b 38) (name_at t >>= λ name. lead_at flow (begins_content flow) name.1 >>= after_gap flow spaces others name.0) o)
+    (content_same flow spaces kids others s h)
 
 -- one item and those after it
 abbrev pub behind_sep : ℕ → ℕ → ℕ → Key → FlowNode → Sep × List ℕ → Option (Items × List ℕ)

@@ -58,8 +58,8 @@ none_inside flow spaces (b ∷ bs) rest q h =
           let p = or_parts (is_empty bs) (front (λ c. eqb c 35) bs) g in
           let s : is_space (b ∷ (bs ++ rest)) ≡ true = rw e refl in
           let a : is_none (across flow spaces true (b ∷ (bs ++ rest))) ≡ false =
-              ap is_none (across_white flow spaces true b (bs ++ rest) (rw e refl))
-              ∙ (is_none_more (across flow spaces true (bs ++ rest)) ∙ across_inside flow spaces bs rest q.1 f.rest p.0 p.1) in
+          ap is_none (across_white flow spaces true b (bs ++ rest) (rw e refl))
+          ∙ (is_none_more (across flow spaces true (bs ++ rest)) ∙ across_inside flow spaces bs rest q.1 f.rest p.0 p.1) in
           ends_space flow spaces (b ∷ (bs ++ rest)) s ∙ a)
       | inr e ↦ rw (no_control_space b (bs ++ rest) q.0 e, text_inside flow b bs rest q h) refl
     ] in

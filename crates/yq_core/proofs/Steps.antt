@@ -63,7 +63,7 @@ sep_step total d k t key node is some = rw some
     let text = (sep_takes k node.1 sep e).0 in
     bind_bind (all_items d k sep.1) (λ rest. Some (item key node.0 sep.0 rest.0, rest.1)) (λ x. Some (locate_items total k x.0 x.1, x.1))
     ∙ (bind_same (λ rest. Some (locate_items total k (item key node.0 sep.0 rest.0) rest.1, rest.1))
-        (λ rest. Some (part (key_placed total t key) (locate total node.0 node.1) (locate_items total k rest.0 rest.1), rest.1)) (all_items d k sep.1)
+    (λ rest. Some (part (key_placed total t key) (locate total node.0 node.1) (locate_items total k rest.0 rest.1), rest.1)) (all_items d k sep.1)
     (λ rest f. let whole : node.1 ≡ sep_text sep.0 (flow_items_text k rest.0 rest.1) = text ∙ ap (sep_text sep.0) (items_text_is d k sep.1 rest f) in
     ap (λ (r : List ℕ). Some (part (key_placed total (key_text key (node_text node.0 r)) key) (locate total node.0 r) (locate_items total k rest.0 rest.1), rest.1)) (sym whole)
     ∙ ap (λ (u : List ℕ). Some (part (key_placed total u key) (locate total node.0 node.1) (locate_items total k rest.0 rest.1), rest.1)) (sym is))
@@ -85,8 +85,8 @@ items_by_node total d t h =
     ap (λ o. o >>= λ x. Some (locate_items total 93 x.0 x.1, x.1)) (items_step d 93 t h)
     ∙ (bind_bind (all_node true (Some 0) d t) (then_sep d 93 bare) (λ x. Some (locate_items total 93 x.0 x.1, x.1))
     ∙ (bind_same (λ node. then_sep d 93 bare node >>= λ x. Some (locate_items total 93 x.0 x.1, x.1))
-        (λ node. cond (bare_placed (locate total node.0 node.1)) None (then_value total d 93 None (locate total node.0 node.1, node.1)))
-        (all_node true (Some 0) d t)
+    (λ node. cond (bare_placed (locate total node.0 node.1)) None (then_value total d 93 None (locate total node.0 node.1, node.1)))
+    (all_node true (Some 0) d t)
     (λ node e. bare_step total d t node)
     ∙ sym (bind_bind (all_node true (Some 0) d t) (λ x. Some (locate total x.0 x.1, x.1)) (λ x. cond (bare_placed x.0) None (then_value total d 93 None x)))))
 
@@ -128,8 +128,8 @@ entry_step total d t key e =
     let place = keyed_place total t key.0 (key_keyed t key e) in
     bind_bind (all_node true (Some 0) d key.1) (then_sep d 125 key.0) (λ x. Some (locate_items total 125 x.0 x.1, x.1))
     ∙ (bind_same (λ node. then_sep d 125 key.0 node >>= λ x. Some (locate_items total 125 x.0 x.1, x.1))
-        (λ node. then_value total d 125 (Some (key_here total t (key_piece key.0))) (locate total node.0 node.1, node.1))
-        (all_node true (Some 0) d key.1)
+    (λ node. then_value total d 125 (Some (key_here total t (key_piece key.0))) (locate total node.0 node.1, node.1))
+    (all_node true (Some 0) d key.1)
     (λ node f.
     let is : t ≡ key_text key.0 (node_text node.0 node.1) = (key_takes t key e).0 ∙ ap (key_text key.0) (all_takes true (Some 0) d key.1 node f).0 in
     sep_step total d 125 t key.0 node is (rw (key_keyed t key e) refl)
@@ -159,8 +159,8 @@ node_plain flow spaces total d t h = rw h
 
 anchored_step : (total d : ℕ) (t n r g s : List ℕ) (x : FlowNode × List ℕ) → t ≡ 38 ∷ (n ++ r) → r ≡ g ++ s → s ≡ node_text x.0 x.1 → is_anchored x.0 ≡ false →
     (◌>>=◌ {A = FlowNode × List ℕ} {B = Placed × List ℕ}
-        (cond ((is_empty_node x.0 || not (is_empty g)) && takes_anchor x.0) (Some (anchored n g x.0, x.1)) None)
-        (λ x. Some (locate total x.0 x.1, x.1))) ≡ then_anchored total t n g (placed_between total s x.1 (core_between total s x.0 x.1), x.1)
+    (cond ((is_empty_node x.0 || not (is_empty g)) && takes_anchor x.0) (Some (anchored n g x.0, x.1)) None)
+    (λ x. Some (locate total x.0 x.1, x.1))) ≡ then_anchored total t n g (placed_between total s x.1 (core_between total s x.0 x.1), x.1)
 unfolding locate node_text
 anchored_step total d t n r g s x e f h a =
     let same = bare_in_place total x.0 x.1 s a in

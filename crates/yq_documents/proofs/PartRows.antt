@@ -49,7 +49,7 @@ rows_stand t s c n p d cut is at first end =
     let pieces : take (d.end - d.first) (drop d.first s.rows) ≡ map slices p.rows =
     (λ i. take (size i) (there i)) ∙ take_at (map slices p.rows) (map slices b.0) (length p.rows) (length-map p.rows slices) in
     let long : length s.rows - d.first ≡ length p.rows + length b.0 = sym (length-drop d.first s.rows)
-        ∙ (ap length there ∙ (length-append (map slices p.rows) (map slices b.0) ∙ (λ i. length-map p.rows slices i + length-map b.0 slices i))) in
+    ∙ (ap length there ∙ (length-append (map slices p.rows) (map slices b.0) ∙ (λ i. length-map p.rows slices i + length-map b.0 slices i))) in
     let all : length s.rows ≡ length (rows_of c) = ap (λ (x : RowsView). length x.rows) is ∙ length-map (rows_of c) slices in
     let upto : k + length (nth_part (part_number n c) c).rows ≤ length (rows_of c) = rows_within (part_number n c) c in (
       record {

@@ -169,8 +169,8 @@ module _ (n : ℕ) (s : Step) (ss : List Step) (c : Cut) (e : RowsOfEntry) (ther
       under_carried : CarriedWith (br ++ lines_in l column v)
       under_carried =
           carried_as under (takes_under n s ss c h l (mapping_least n c) v filled f.near (Nothing br) last break_holds
-              (end_is n s ss c h last last_tail) uncommented) (br ++ lines_in l column v) under_text (content_first (Nothing br) mark)
-              (pieces_joined br (lines_in l column v) (break_piece l.br) (lines_piece l column v tree))
+          (end_is n s ss c h last last_tail) uncommented) (br ++ lines_in l column v) under_text (content_first (Nothing br) mark)
+          (pieces_joined br (lines_in l column v) (break_piece l.br) (lines_piece l column v tree))
 
     pub dash_carried : length (new_text (compact_put (break_text l.br) (compact_in e) (written_at l (compact_in e).mark [] v))) ≤ text_limit →
         CarriedOut (replace n (s ∷ ss) v) c (compact_put (break_text l.br) (compact_in e) (written_at l (compact_in e).mark [] v))
@@ -178,8 +178,8 @@ module _ (n : ℕ) (s : Step) (ss : List Step) (c : Cut) (e : RowsOfEntry) (ther
       where
         go : (b d : Bool) → is_filled v ≡ b →
             length (new_text (compact_put (break_text l.br) p
-                (cond b (cond d (compact_text (block_value l (item_column p.mark.column) v)) (lines (lines_in l (item_column p.mark.column) v)))
-                (inline (value_text InBlock [] v))))) ≤ text_limit →
+            (cond b (cond d (compact_text (block_value l (item_column p.mark.column) v)) (lines (lines_in l (item_column p.mark.column) v)))
+            (inline (value_text InBlock [] v))))) ≤ text_limit →
             CarriedOut op c (compact_put (break_text l.br) p (cond b (cond d (compact_text (block_value l (item_column p.mark.column) v)) (lines (lines_in l (item_column p.mark.column) v))) (inline (value_text InBlock [] v))))
         go true true full = behind_carried full
         go true false full = under_carried full

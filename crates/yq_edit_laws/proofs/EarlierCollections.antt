@@ -121,8 +121,8 @@ outs k rest s g (item key n sep is) e at = go (is_here s (key_label (key_content
 
     go : (b : Bool) → ((x : FlowEdit) → removing_from k rest (further s) (gap_of sep) is ≡ Some x → Outs k rest is x) →
         cond b (before_next k rest g key n sep is)
-            (option_or (last_out k rest (further s) g key n sep is)
-            (option_map (edit_from_item g key n sep) (removing_from k rest (further s) (gap_of sep) is))) ≡ Some e → Outs k rest (item key n sep is) e
+        (option_or (last_out k rest (further s) g key n sep is)
+        (option_map (edit_from_item g key n sep) (removing_from k rest (further s) (gap_of sep) is))) ≡ Some e → Outs k rest (item key n sep is) e
     go true again at = next_outs k rest g key n sep is e at
     go false again at = behind again (either _ _ at)
 

@@ -378,8 +378,8 @@ more_before k r key m gap (item j n sep (item j2 n2 sep2 is)) rest u t t2 there 
         (item_at k (further r) others rest ≡ Some u → Turns old new t t2 → ComesBefore t t2 u (item_at k (further r) (add_item key m gap others) rest)) → ComesBefore t t2 u (item_at k r (item j n sep (add_item key m gap others)) rest)
     go true is there again =
         let w = turn_tail (key_text j (node_text n [])) (sep_text sep old) (sep_text sep new) t t2
-            (turns.0, sym (text_cut j n (sep_text sep old)) ∙ turns.1, sym (text_cut j n (sep_text sep new)) ∙ turns.2)
-            (omega (arith, ends, sep_longer sep old)) in (
+        (turns.0, sym (text_cut j n (sep_text sep old)) ∙ turns.1, sym (text_cut j n (sep_text sep new)) ∙ turns.2)
+        (omega (arith, ends, sep_longer sep old)) in (
           w.0,
           ap (λ (x : EntryPieces). x.rest) (sym (same_Some _ _ there)) ∙ w.1,
           ap (λ (b : Bool). cond b (Some (own (sep_text sep new))) (item_at k (further r) (add_item key m gap others) rest)) is

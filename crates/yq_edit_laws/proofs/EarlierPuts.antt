@@ -102,7 +102,7 @@ module _ (c : Cut) (doc : ℕ) (steps : List Step) (key : Option (List ℕ)) (v 
   more_turns : Turns (w.gap ++ items_text) (more_edit.gap ++ flow_items_text w.close more_edit.items w.rest) here made_more
   more_turns =
       coll_turn (more.x c doc steps key v w read found) more_edit (changed_at more_rest (within (append_child (key_label key) v)))
-          (more.stands c doc steps key v w read found) (more.append_done c doc steps key v w read found utf8 value takes fits).edited
+      (more.stands c doc steps key v w read found) (more.append_done c doc steps key v w read found utf8 value takes fits).edited
       (coll_end w.close w.gap w.items w.rest)
 
   more_items_before : PartsBefore here made_more w more_edit.items
@@ -111,8 +111,8 @@ module _ (c : Cut) (doc : ℕ) (steps : List Step) (key : Option (List ℕ)) (v 
       let kept : more_edit.gap ≡ w.gap = ap (λ (b : Bool). cond b [] w.gap) some in
       more_before w.close r (flow_key key) (flow_of v) w.gap w.items w.rest u here made_more there
       (turn_tail w.gap items_text (flow_items_text w.close more_edit.items w.rest) here made_more
-          (subst (λ (g : List ℕ). Turns (w.gap ++ items_text) (g ++ flow_items_text w.close more_edit.items w.rest) here made_more) kept more_turns)
-          (items_end w.close w.gap w.items w.rest some))
+      (subst (λ (g : List ℕ). Turns (w.gap ++ items_text) (g ++ flow_items_text w.close more_edit.items w.rest) here made_more) kept more_turns)
+      (items_end w.close w.gap w.items w.rest some))
       (omega arith)
 
   pub part_before_more : (ss : List Step) (r : Step) (z : EntryPieces) → IsPartOf c doc (stem ++ ss) r z → length here ≤ length z.rest → length here < length (node_text (without_anchor z.node) z.rest) →
@@ -120,11 +120,11 @@ module _ (c : Cut) (doc : ℕ) (steps : List Step) (key : Option (List ℕ)) (v 
   part_before_more ss r z part behind long =
       part_turned c doc steps w (more.at c doc steps key v w read found) more_edit.gap more_edit.items stem left init h ss r z here made_more part
       (λ there. part_earlier w more_edit.gap more_edit.items here made_more (last_longer w.close w.gap w.items w.rest) more_turns more_items_before
-          more_rest (ss ++ (r ∷ [])) more_slot z (more.at c doc steps key v w read found).at.along there behind long)
+      more_rest (ss ++ (r ∷ [])) more_slot z (more.at c doc steps key v w read found).at.along there behind long)
 
   pub coll_before_more : (ss : List Step) (z : CollPieces) → flow_collection doc (stem ++ ss) c ≡ Some z → length here < length (behind_appended z) →
       IsCollBefore (more.next c doc steps key v w read found stem left init h) doc (stem ++ ss) z here made_more
   coll_before_more ss z there long =
       coll_turned c doc steps w (more.at c doc steps key v w read found) more_edit.gap more_edit.items stem left init h ss z here made_more there
       (λ there. end_earlier w more_edit.gap more_edit.items here made_more (last_longer w.close w.gap w.items w.rest) more_turns more_items_before
-          more_rest ss more_slot z (more.at c doc steps key v w read found).at.along there (omega arith) long)
+      more_rest ss more_slot z (more.at c doc steps key v w read found).at.along there (omega arith) long)

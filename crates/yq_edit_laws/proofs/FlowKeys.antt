@@ -90,7 +90,7 @@ flow_unique c n steps w read found =
     let head = head_there f (head_takes m o steps f h.line.1 known.even h.found) even.2 in
     let same : r.row_line_is ≡ h.row_line_is = same_Some _ _ (sym r.there ∙ h.printed_line) in
     let flow : content_flow h.line.1 r.row_line_is.row.content (behind_row (document_row n c + h.row_line_is.before) c) ≡ Some w =
-        ap (λ (z : RowLine). content_flow h.line.1 z.row.content (behind_row (document_row n c + h.row_line_is.before) c)) same ∙ h.flow in
+    ap (λ (z : RowLine). content_flow h.line.1 z.row.content (behind_row (document_row n c + h.row_line_is.before) c)) same ∙ h.flow in
     let at = content_held r.row_line_is.row.content head.0 h.line.1 _ w (r.head ∙ head.1) flow in
     let own : HeldAt h.line.1 (content_under f.line f.under) (coll_held w) = subst (λ (m : tree.Node). HeldAt h.line.1 m (coll_held w)) (λ i. anchored (r.anchor i) (head_or (sym head.1 i) (value f.under))) at in
     same_unique own.0 (tree_collection w.close (items_tree w.items)) (own.2 ∙ sym (held_coll w.close (items_tree w.items))) (line_unique steps o h.line h.found known.document.unique own.0 own.1)

@@ -76,7 +76,9 @@ removing_more k s g (item key n sep is) rest more =
     let again = ap (option_map (edit_from_item g key n sep)) (removing_more k t (gap_of sep) is rest more) ∙ behind_more g key n sep more (removing_from k rest t (gap_of sep) is) in
     elim (is_here s (key_label (key_content key)))
     as (λ b. cond b (before_next k (rest ++ more) g key n sep is) (option_or (last_out k (rest ++ more) t g key n sep is) (option_map (edit_from_item g key n sep) (removing_from k (rest ++ more) t (gap_of sep) is)))
-    ≡ option_map (edit_more more) (cond b (before_next k rest g key n sep is) (option_or (last_out k rest t g key n sep is) (option_map (edit_from_item g key n sep) (removing_from k rest t (gap_of sep) is)))))
-    [ true ↦ next_more k g key n sep is rest more | false ↦ (λ i. option_or (out_more k t g key n sep is rest more i) (again i))
-        ∙ or_mapped (edit_more more) (last_out k rest t g key n sep is)
-        (option_map (edit_from_item g key n sep) (removing_from k rest t (gap_of sep) is)) ]
+    ≡ option_map (edit_more more) (cond b (before_next k rest g key n sep is) (option_or (last_out k rest t g key n sep is) (option_map (edit_from_item g key n sep) (removing_from k rest t (gap_of sep) is))))) [
+      | true ↦ next_more k g key n sep is rest more
+      | false ↦ (λ i. option_or (out_more k t g key n sep is rest more i) (again i))
+          ∙ or_mapped (edit_more more) (last_out k rest t g key n sep is)
+          (option_map (edit_from_item g key n sep) (removing_from k rest t (gap_of sep) is))
+    ]

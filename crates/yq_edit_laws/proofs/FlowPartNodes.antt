@@ -90,7 +90,7 @@ line_node c n steps s w h read =
     let head = head_there f (head_takes m o steps f h.line.1 known.even h.found) even.2 in
     let same : r.row_line_is ≡ h.row_line_is = same_Some _ _ (sym r.there ∙ h.printed_line) in
     let flow : content_flow h.line.1 r.row_line_is.row.content (behind_row (document_row n c + h.row_line_is.before) c) ≡ Some w =
-        ap (λ (z : RowLine). content_flow h.line.1 z.row.content (behind_row (document_row n c + h.row_line_is.before) c)) same ∙ h.flow in
+    ap (λ (z : RowLine). content_flow h.line.1 z.row.content (behind_row (document_row n c + h.row_line_is.before) c)) same ∙ h.flow in
     node_found steps s o
     ∙ (ap FoundNode (head_on steps s o h.line h.found)
     ∙ ((λ i. node_at (h.line.1 ++ (s ∷ [])) (anchored (sym r.anchor i) (head_or (head.1 i) (value f.under))))
@@ -133,6 +133,6 @@ module _ (c : Cut) (n : ℕ) (path : List Step) (a : EntryAt c n path) where
   none_there = none_standing n path c (a.init, a.step) a.last (λ d is.
       let same : d.part ≡ line.part = same_Some _ _ (ap part_of (sym is) ∙ (sym (document_placed n c) ∙ line.there)) in
       none_seat path a.step d.part line.line
-          (ap (λ (ss : List Step). found_at ss (part_outline d.part)) path_is
-          ∙ (ap (λ (q : Part). found_at (a.init ++ (a.step ∷ [])) (part_outline q)) same
-          ∙ head_on a.init a.step (part_outline line.part) line.line line.found)))
+      (ap (λ (ss : List Step). found_at ss (part_outline d.part)) path_is
+      ∙ (ap (λ (q : Part). found_at (a.init ++ (a.step ∷ [])) (part_outline q)) same
+      ∙ head_on a.init a.step (part_outline line.part) line.line line.found)))

@@ -202,5 +202,8 @@ flow_values_put n steps v c y read there_is new =
     let a = entry_found c n steps y there_is in
     let w = there c n steps v read a.0 in
     subst (λ (z : FlowPart). IsEdit (replace n steps v) c (flow_put (cut_text c) v z)) a.1
-        (record { old = segments_old (cut_text c) w.before (e c n steps v read a.0) w.text; carried =
-        λ h fits size. replaced_carried c n steps v read a.0 h fits size })
+    (record {
+      old = segments_old (cut_text c) w.before (e c n steps v read a.0) w.text;
+      carried =
+          λ h fits size. replaced_carried c n steps v read a.0 h fits size;
+    })

@@ -62,8 +62,8 @@ module _ (c : Cut) (doc : ℕ) (path init : List Step) (s : Step) (w : CollPiece
         let known = document_known (cut_text c) c doc at.part old in
         let root : fits.0.root ≡ root_of at.part = ap (λ (d : Document). d.root) (same_Some _ _ (sym fits.1 ∙ nth_map doc at.part reading.part_document (document_parts c) at.there)) in
         let n = subst (λ r. (n : Rattle.yq_core.specs.Tree.Node) × (Rattle.yq_core.specs.Paths.node_at path r ≡ Some n)
-            × (Rattle.yq_semantics.specs.Changes.is_used_in (Rattle.yq_core.specs.Anchors.names_of r) (Some n) ≡ Rattle.std.proofs.Common.false))
-            root fits.2.1 in
+        × (Rattle.yq_semantics.specs.Changes.is_used_in (Rattle.yq_core.specs.Anchors.names_of r) (Some n) ≡ Rattle.std.proofs.Common.false))
+        root fits.2.1 in
         let sound : IsSoundRoot (root_of at.part) = record { unique = known.document.unique; nested = known.document.nested; bound = known.document.bound } in
         let whole = removed_whole x s e stands gone row_text.before texts.before pairs (sym row_text.old ∙ texts.old) in
         let parts = edit_pieces (cut_text c) texts.before e (standing.piece c doc init w read found) texts.old bounds.0 bounds.1 whole in

@@ -100,8 +100,8 @@ module _ (text tail more : List ℕ) (h : IsTail tail more) (no_breaks : Rattle.
       let new_line : is_line tail_then ≡ true =
       ap is_line (sym (append_assoc (new_white text h.white h.comment) (new_comment text) h.line.break))
       ∙ (text_line (new_white text h.white h.comment ++ new_comment text) h.line.break
-          (white_none (new_white text h.white h.comment) (new_comment text) h.line.break blank
-          (Rattle.yq_row_table.proofs.LineEnds.comment_none (new_comment text) h.line.break as_comment)) ∙ break_line) in
+      (white_none (new_white text h.white h.comment) (new_comment text) h.line.break blank
+      (Rattle.yq_row_table.proofs.LineEnds.comment_none (new_comment text) h.line.break as_comment)) ∙ break_line) in
       let parts = behind_comment (new_comment text) h.line.break [] as_comment (alone h.line.ends) in
       let no_front : no_white (new_comment text ++ h.line.break) ≡ true = ap (λ x. no_white (new_comment text ++ x)) (sym (append-nil h.line.break)) ∙ parts.0 in
       let past : past_white tail_then ≡ new_comment text ++ h.line.break = ap (λ (x : List ℕ × List ℕ). x.1) (white_again (new_white text h.white h.comment) (new_comment text ++ h.line.break) blank no_front) in
@@ -111,8 +111,8 @@ module _ (text tail more : List ℕ) (h : IsTail tail more) (no_breaks : Rattle.
       (λ (e : is_empty (new_comment text) ≡ false).
       let some : is_empty (new_white text h.white h.comment) ≡ false = not-true (is_empty (new_white text h.white h.comment)) (ap (λ x. x || not (is_empty (new_white text h.white h.comment))) (sym e) ∙ apart) in
       let k : (front is_white tail_then && is_hash (past_white tail_then)) ≡ true =
-          rw (white_front (new_white text h.white h.comment) (new_comment text ++ h.line.break) blank some)
-          (ap is_hash past ∙ hash_front (new_comment text) as_comment e) in
+      rw (white_front (new_white text h.white h.comment) (new_comment text ++ h.line.break) blank some)
+      (ap is_hash past ∙ hash_front (new_comment text) as_comment e) in
       rw (new_line, k) (Rattle.std.proofs.lemmas.Bool.or_right (is_blank tail_then) true refl))
       (cases_Bool (is_empty (new_comment text)))
 

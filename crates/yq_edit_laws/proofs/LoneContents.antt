@@ -95,8 +95,8 @@ module _ (c : Cut) (n : ℕ) (p : Part) (old : IsDocumentPart (cut_text c) c n p
       put q
       ∙ ((λ i. start ++ rows_text (there i) (same_end i ++ behind_document n c))
       ∙ (ap (λ x. start ++ x)
-          (rows_text-append front (with_content new r ∷ back) (p.end ++ behind_document n c)
-          ∙ (rows_then front (print_row (with_content new r) rest) ∙ ap (λ x. rows_text front [] ++ x) (row_front-append (with_content new r) rest)))
+      (rows_text-append front (with_content new r ∷ back) (p.end ++ behind_document n c)
+      ∙ (rows_then front (print_row (with_content new r) rest) ∙ ap (λ x. rows_text front [] ++ x) (row_front-append (with_content new r) rest)))
       ∙ (parts ∙ (head.text (b ++ row_front r) node rest ∙ ap (λ x. x ++ node_text node ((content_cut r.content).4 ++ rest)) (append_assoc b (row_front r) (before_head r.content))))))
 
   -- ---- the document

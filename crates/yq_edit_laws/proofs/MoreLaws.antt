@@ -57,8 +57,8 @@ module _ (n : ℕ) (s : Step) (ss : List Step) (key : Option (List ℕ)) (v : No
       let below_text : List ℕ = (slices e.row).raw ++ rows_text e.under [] in
       let first : IsRow _ r _ = (row_there unlimited (e.front ++ (e.row ∷ [])) r (rs ++ e.back) there.part.end (behind_document n c)
       (subst (λ us. AreRows unlimited us there.part.end (behind_document n c))
-          (there.rows_are ∙ (ap (λ us. e.front ++ (e.row ∷ (us ++ e.back))) is ∙ sym (append_assoc e.front (e.row ∷ []) (r ∷ (rs ++ e.back)))))
-          (are n s ss c e there))).1 in
+      (there.rows_are ∙ (ap (λ us. e.front ++ (e.row ∷ (us ++ e.back))) is ∙ sym (append_assoc e.front (e.row ∷ []) (r ∷ (rs ++ e.back)))))
+      (are n s ss c e there))).1 in
       let own : is_empty (print_row r (rows_text rs [])) ≡ false = search (rules, some_behind, entry_some) in
       let some : is_empty below_text ≡ false = ap (λ us. is_empty ((slices e.row).raw ++ rows_text us [])) is ∙ some_behind (slices e.row).raw (print_row r (rows_text rs [])) own in
       let last_is : (held e).last ≡ last_break below_text = cond-false _ _ _ some in
@@ -178,8 +178,8 @@ root_edit n key v c d us read at is = go d.part.rows refl is
             let spelled : w.before ++ (w.old ++ w.last) ≡ x.before = search (rules, less_is, append_assoc) in
             more_edit_at n [] key v c x _ read (record { part = d.part; there = stands.there; end = end })
             (subst (λ (z : List ℕ). IsPutAt (record { column = r.column; before = x.before; broken = x.broken; behind = d.part.end ++ z })
-                (more_lines (layout_of n c) key v r.column w.last)
-                (behind_lines w.before w.old w.last (more_lines (layout_of n c) key v r.column w.last) w.behind)) (sym stands.behind)
+            (more_lines (layout_of n c) key v r.column w.last)
+            (behind_lines w.before w.old w.last (more_lines (layout_of n c) key v r.column w.last) w.behind)) (sym stands.behind)
             (lines_put_at w.before w.old w.last w.behind r.column _ _ _ spelled))
 
         by : (b : Bool) → is_alone r ≡ b → block_more (layout_of n c) key v (cond b (alone (lone d.before r (rows_text rs (d.part.end ++ d.behind)))) (root (block_root d r rs))) ≡ Some us → IsMore n [] key v c us

@@ -57,8 +57,8 @@ module _ (doc : ℕ) (s : Step) (ss : List Step) (c : Cut) (h : NodeRows doc s s
       ap lines_of_rows h.rows_are
       ∙ (rows_in_parts h.front (h.row ∷ h.under) h.back
       ∙ (ap (λ (ls : List Line). lines_of_rows h.front ++ (ls ++ lines_of_rows h.back)) known_lines
-          ∙ sym (around (lines_of_rows h.front) (dashes_of h.mark) (line_with h.mark h.mark.content ∷ (lines_upto h.upto h.under).0)
-          (lines_of_rows h.back))))
+      ∙ sym (around (lines_of_rows h.front) (dashes_of h.mark) (line_with h.mark h.mark.content ∷ (lines_upto h.upto h.under).0)
+      (lines_of_rows h.back))))
 
   pub parts : (lines_of_rows h.front ++ dashes_of h.mark ≡ lines_before h.found.place) × (line_with h.mark h.mark.content ∷ (lines_upto h.upto h.under).0 ≡ h.found.line ∷ flatten h.found.under) ×
       (lines_of_rows h.back ≡ flatten h.found.after ++ lines_after h.found.place)

@@ -103,8 +103,8 @@ module _ (doc : ℕ) (s : Step) (ss : List Step) (c : Cut) (h : NodeRows doc s s
       let lines : lines_of_rows q.rows ≡ (lines_of_rows h.front ++ dashes_of h.mark) ++ ((now ∷ flatten t.under) ++ lines_of_rows h.back) =
       ap lines_of_rows q_rows
       ∙ (rows_in_parts h.front new h.back
-          ∙ (ap (λ (ls : List Line). lines_of_rows h.front ++ (ls ++ lines_of_rows h.back)) t.lines
-          ∙ sym (around (lines_of_rows h.front) (dashes_of h.mark) (now ∷ flatten t.under) (lines_of_rows h.back)))) in
+      ∙ (ap (λ (ls : List Line). lines_of_rows h.front ++ (ls ++ lines_of_rows h.back)) t.lines
+      ∙ sym (around (lines_of_rows h.front) (dashes_of h.mark) (now ∷ flatten t.under) (lines_of_rows h.back)))) in
       ap begins_no_node lines
       ∙ (no_node_first (lines_of_rows h.front ++ dashes_of h.mark) now was (flatten t.under ++ lines_of_rows h.back) ((lines_upto h.upto h.under).0 ++ lines_of_rows h.back) refl ∙ sym (ap begins_no_node (old_lines doc s ss c h)))
 

@@ -62,7 +62,7 @@ module _ (doc : ℕ) (s : Step) (ss : List Step) (c : Cut) (h : NodeRows doc s s
 
   module _ (l : Layout) (step : 1 ≤ l.mapping) (v : Node) (filled : IsFilledValue v) (near_keys : HasNearKeys v) (x : Content) (last : List ℕ)
       (held : IsHolding x (rows_text (node_rows l (column_below l (mark_column h.mark) (mark_key h.mark.mark) v) last v) (rest doc s ss c h)))
-          (ends : IsEnd (mark_column h.mark) last (rest doc s ss c h)) (uncommented : line_comment last ≡ None) where
+      (ends : IsEnd (mark_column h.mark) last (rest doc s ss c h)) (uncommented : line_comment last ≡ None) where
     abbrev pub below : ℕ
     below = column_below l (mark_column h.mark) (mark_key h.mark.mark) v
 

@@ -90,8 +90,8 @@ module _ (before behind : List ℕ) (to : ℕ) (ended : is_empty behind ≡ fals
   from_front lead (keep t ∷ ss) text lines kept front back within =
       subst (λ (n : ℕ). IsTouched (length before) to (extents n (swapped_segments ss))) (length-append lead t)
       (from_front (lead ++ t) ss (append_assoc lead t (new_text ss) ∙ text) lines kept
-          (omega (arith, front, length-append lead t, length-append t (kept_front ss)))
-          (subst (λ (x : List ℕ). length x ≤ length behind) (one_kept t ss false kept) back) within)
+      (omega (arith, front, length-append lead t, length-append t (kept_front ss)))
+      (subst (λ (x : List ℕ). length x ≤ length behind) (one_kept t ss false kept) back) within)
   from_front lead (put o w ∷ ss) text lines kept front back within =
       begun lead o w ss text (omega (arith, front)) back
       (λ k more.

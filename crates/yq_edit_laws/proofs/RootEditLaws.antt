@@ -113,7 +113,7 @@ module _ (n : ℕ) (v : Node) (c : Cut) (w : NoRows) (read : read_at (cut_text c
         value_carried n c h.d h.d.part.end br [] v (layout_of n c) 0 (no_rows_put (layout_of n c) v w) takes (mapping_least n c) value_tree there
         (sym (new_is ∙ ((λ i. h.d.before ++ (h.d.part.end ++ (lines_put_behind (e i) br lines ++ h.d.behind))) ∙ ap (λ t. h.d.before ++ (h.d.part.end ++ t)) (append_assoc lines br h.d.behind)))) readable
         (λ new known. gap_moves n c h.d.part st.there h.d.before (λ x. st.put x ∙ ap (λ t. h.d.before ++ part_text x t) (sym st.behind))
-            (no_rows_put (layout_of n c) v w) (root_rows (layout_of n c) h.d.part.end 0 br v) [] h.rows_are rows.some
+        (no_rows_put (layout_of n c) v w) (root_rows (layout_of n c) h.d.part.end 0 br v) [] h.rows_are rows.some
         (rows.first ∙ sym (append-nil h.d.part.end)) (append-nil w.before ∙ h.before_is) (append-nil w.behind ∙ (h.behind_is ∙ sym st.behind)))
     by_break false e readable =
         open_carried n c w read h e (layout_of n c).br v (layout_of n c) (mapping_least n c) value_tree there (no_rows_put (layout_of n c) v w) (append-nil w.before) (append-nil w.behind)

@@ -29,8 +29,8 @@ fits_part n v c p there value_tree fits =
 abbrev pub LocalRoot : (n : ℕ) (c : Cut) (d : PlacedPart) (rs : List Row) (back : List ℕ) (ss : List Segment) → Type 0
 LocalRoot n c d rs back ss =
     new_text ss ≡ cut_text (put_document n (rooted rs back d.part) c) →
-        read_at (cut_text (put_document n (rooted rs back d.part) c)) ≡ Some (put_document n (rooted rs back d.part) c) →
-        IsLocal ss c (put_document n (rooted rs back d.part) c)
+    read_at (cut_text (put_document n (rooted rs back d.part) c)) ≡ Some (put_document n (rooted rs back d.part) c) →
+    IsLocal ss c (put_document n (rooted rs back d.part) c)
 
 pub value_carried : (n : ℕ) (c : Cut) (d : PlacedPart) (gap last back : List ℕ) (v : Node) (l : Layout) (column : ℕ) (ss : List Segment) → TakesValue n c d gap last back → 1 ≤ l.mapping → IsValueTree v → FitsPart v d.part →
     d.before ++ (gap ++ (replicate column 32 ++ (block_value l column v ++ (last ++ (back ++ d.behind))))) ≡ new_text ss → IsReadable (new_text ss) → LocalRoot n c d (root_rows l gap column last v) back ss → CarriedOut (replace n [] v) c ss

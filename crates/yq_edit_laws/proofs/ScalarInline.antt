@@ -39,7 +39,7 @@ named_node : (anchor : Option Anchor) (v : Node) (node : inline.FlowNode) (space
 named_node None v node spaces d old u h is stands = stands
 named_node (Some a) v node spaces d old u h is stands =
     anchored_node spaces d node u is.unnamed (more_some node is.more) is.takes stands a.name a.gap (inline.coll 93 [] inline.none) (91 ∷ []) refl
-        (anchor_other (Some a) old (91 ∷ []) h).0 (inl ((none_in_white a.gap (91 ∷ []) h.1, refl), refl)) (ap not h.2)
+    (anchor_other (Some a) old (91 ∷ []) h).0 (inl ((none_in_white a.gap (91 ∷ []) h.1, refl), refl)) (ap not h.2)
 
 named_text : (anchor : Option Anchor) (node : inline.FlowNode) (u : List ℕ) → node_text (recore node (carrier anchor)) u ≡ anchor_text anchor (node_text node u)
 unfolding node_text

@@ -70,7 +70,7 @@ module _ (ss : List Segment) (new : Cut) (near : IsLocalEdit ss) (kept : are_kep
       let n : length (items_text (done ++ (w ∷ [])) []) ≡ length (items_text done []) + length (item_text w) = omega (arith, size_joined done (w ∷ []), size_one w []) in
       let back_long : length (kept_back ss) ≤ length (items_text (w ∷ (ws ++ back)) []) =
       subst (λ (b : List Item). length (kept_back ss) ≤ length (items_text (w ∷ (ws ++ b)) [])) (sym behind)
-          (back_stop (length (kept_back ss)) (items_of_cut new) done w ws (are ∙ ap (λ (b : List Item). done ++ (w ∷ (ws ++ b))) behind)) in (
+      (back_stop (length (kept_back ss)) (items_of_cut new) done w ws (are ∙ ap (λ (b : List Item). done ++ (w ∷ (ws ++ b))) behind)) in (
         item_touched done w (ws ++ back) are (omega (arith, front)) back_long,
         subst (λ (k : ℕ). AreTouched k ws (put_ranges ss)) n (later_touched back behind (done ++ (w ∷ [])) ws (are ∙ sym (append_assoc done (w ∷ []) (ws ++ back))) (omega (arith, n, front))),
       )
@@ -84,7 +84,7 @@ module _ (ss : List Segment) (new : Cut) (near : IsLocalEdit ss) (kept : are_kep
       let front_long : length (kept_front ss) ≤ length (items_text front []) + length (item_text w) = search (rules, front_stop) in
       let back_long : length (kept_back ss) ≤ length (items_text (w ∷ (ws ++ back)) []) =
       subst (λ (b : List Item). length (kept_back ss) ≤ length (items_text (w ∷ (ws ++ b)) [])) (sym behind)
-          (back_stop (length (kept_back ss)) (items_of_cut new) front w ws (are ∙ ap (λ (b : List Item). front ++ (w ∷ (ws ++ b))) behind)) in (
+      (back_stop (length (kept_back ss)) (items_of_cut new) front w ws (are ∙ ap (λ (b : List Item). front ++ (w ∷ (ws ++ b))) behind)) in (
         item_touched front w (ws ++ back) are front_long back_long,
         subst (λ (k : ℕ). AreTouched k ws (put_ranges ss)) n (later_touched back behind (front ++ (w ∷ [])) ws (are ∙ sym (append_assoc front (w ∷ []) (ws ++ back))) (omega (arith, n, front_long))),
       )
@@ -92,5 +92,5 @@ module _ (ss : List Segment) (new : Cut) (near : IsLocalEdit ss) (kept : are_kep
 pub near_touched : NearAreTouched
 near_touched ss c new near kept read front back is behind t =
     all_touched ss new near kept read (in_front front (items_of_cut c)) (in_back back (items_of_cut c))
-        (sym t.front_same ∙ ap (λ n. in_front n (items_of_cut new)) is) (sym t.back_same ∙ ap (λ n. in_back n (items_of_cut new)) behind) t.written
-        t.new_are
+    (sym t.front_same ∙ ap (λ n. in_front n (items_of_cut new)) is) (sym t.back_same ∙ ap (λ n. in_back n (items_of_cut new)) behind) t.written
+    t.new_are

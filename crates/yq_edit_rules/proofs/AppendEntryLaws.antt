@@ -71,8 +71,8 @@ entry_of key v l column last uncommented step u h =
     let w = alone_value key v u h in
     let rs : List Row = node_rows l column last (singleton key v) in
     let s : Stands (lines_of_rows rs) (singleton key v) (level_at column (singleton key v)) =
-        rules_give (level_at column (singleton key v)) (lines_of_rows rs) (singleton key v)
-        (node_stands (singleton key v) l column last step w.filled w.value uncommented) in
+    rules_give (level_at column (singleton key v)) (lines_of_rows rs) (singleton key v)
+    (node_stands (singleton key v) l column last step w.filled w.value uncommented) in
     one_row key v column s.outline rs (subst (λ n. IsEven n s.outline) (search rules) s.even) s.lines_are s.node_is
 
 -- its keys and anchors
@@ -103,7 +103,7 @@ mutual
   each_bare l column last (tree.child own_label n cs) =
       first_bare (entry_rows l column (end_of_line_before l last cs) own_label.key (inline_of n) (node_rows l (column_below l column own_label.key n) (end_of_line_before l last cs) n)) (children_rows l column last cs)
       (by own_label.key (inline_of n) (node_rows l (column_below l column own_label.key n) (end_of_line_before l last cs) n)
-          (rows_bare l (column_below l column own_label.key n) (end_of_line_before l last cs) n)) (λ e. each_bare l column last cs)
+      (rows_bare l (column_below l column own_label.key n) (end_of_line_before l last cs) n)) (λ e. each_bare l column last cs)
     where
       by : (key : Option (List ℕ)) (node : Option inline.FlowNode) (rs : List Row) → first_gap rs [] ≡ [] → first_gap (entry_rows l column (end_of_line_before l last cs) key node rs) [] ≡ []
       by (Some k) (Some node) rs e = refl

@@ -53,7 +53,7 @@ lead_retail (x ∷ front) r back tail p q e n = ap (λ (rs : List Row). head_com
 -- the lines of rows, of which one has another tail
 pub last_lines : (front : List Row) (r : Row) (back : List Row) (c : Content) →
     lines_of_rows (front ++ (record r { content = c } ∷ back)) ≡ (lines_of_rows front ++ dash_lines (head_comment r.gap) r.column r.dashes)
-        ++ (mark_line (above_mark (head_comment r.gap) r.dashes) (mark_column r) r.mark c ∷ lines_of_rows back)
+    ++ (mark_line (above_mark (head_comment r.gap) r.dashes) (mark_column r) r.mark c ∷ lines_of_rows back)
 last_lines front r back c = simp (above_mark, lines_append, mark_behind, append_assoc)
 
 -- the cut

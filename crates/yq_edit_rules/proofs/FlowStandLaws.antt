@@ -66,8 +66,8 @@ coll_stands c k steps w read at =
       text =
           texts.old
           ∙ (ap (λ (l : List ℕ). texts.before ++ l)
-              (inside'.text ∙ (ap (λ (l : List ℕ). inside'.before ++ l) (key_append y.0.key [] (node_text y.0.node y.0.rest))
-              ∙ sym (append_assoc inside'.before (key_text y.0.key []) (node_text y.0.node y.0.rest))))
+          (inside'.text ∙ (ap (λ (l : List ℕ). inside'.before ++ l) (key_append y.0.key [] (node_text y.0.node y.0.rest))
+          ∙ sym (append_assoc inside'.before (key_text y.0.key []) (node_text y.0.node y.0.rest))))
           ∙ sym (append_assoc texts.before (inside'.before ++ key_text y.0.key []) (node_text y.0.node y.0.rest)));
       is = y.2;
       valid = entry_valid at.rest slot y.0 (record { flow = _; spaces = _; depth = _; is = stands.inline.valid }) y.1;

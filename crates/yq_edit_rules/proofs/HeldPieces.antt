@@ -20,9 +20,13 @@ use Rattle.yq_edit_rules.{proofs.HeldCuts.{low_last, mark_ends, space_white}, pr
 pub end_agrees : (tail more : List ℕ) (h : IsTail tail more) → end_in_line [] tail ≡ record { before = []; white = h.white; comment = h.comment; behind = h.line.break }
 end_agrees tail more h =
     let alone : IsTail tail [] =
-        record { white = h.white; comment = h.comment; line =
-        record { break = h.line.break; spelled = h.line.spelled; blank = h.line.blank; as_comment = h.line.as_comment; ends = ends h.line.ends };
-        apart = h.apart } in
+    record {
+      white = h.white;
+      comment = h.comment;
+      line =
+          record { break = h.line.break; spelled = h.line.spelled; blank = h.line.blank; as_comment = h.line.as_comment; ends = ends h.line.ends };
+      apart = h.apart;
+    } in
     ap (end_in_line []) (sym (append-nil tail)) ∙ (tail_is_end [] tail [] alone ∙ ap (λ t. record { before = []; white = h.white; comment = h.comment; behind = t }) (append-nil h.line.break))
   where
     ends : IsBreak h.line.break more → IsBreak h.line.break []
@@ -106,9 +110,9 @@ module _ (n : ℕ) (s : Step) (ss : List Step) (c : Cut) (e : RowsOfEntry) (read
       let base : List ℕ = before_entry e ++ row_front e.row in
       let ends : EndsIn (last_of m) base =
       ends_behind (last_of m) (before_entry e) (row_front e.row)
-          (ends_behind (last_of m) e.row.gap _
-          (ends_behind (last_of m) (replicate e.row.column 32) _
-          (dashes_end (last_of m) e.row.dashes (mark_text m []) (mark_ends m e.row.content _ (entry_there n s ss c e there last) row.mark)))) in
+      (ends_behind (last_of m) e.row.gap _
+      (ends_behind (last_of m) (replicate e.row.column 32) _
+      (dashes_end (last_of m) e.row.dashes (mark_text m []) (mark_ends m e.row.content _ (entry_there n s ss c e there last) row.mark)))) in
       let front = anchor_cut (last_of m) base sl ends (low_last m) (λ some. anchor_ends (parent_indent e.row) e.row.content _ some row.content) (subst IsPiece (front_is (before_entry e) e.row) k.before) in
       let space : IsPiece (space_before sl) = white_piece (space_before sl) (space_white (parent_indent e.row) e.row.content _ row.content) in
       let end : end_in_line [] sl.tail ≡ record { before = []; white = tail.white; comment = tail.comment; behind = tail.line.break } = end_agrees sl.tail _ tail in

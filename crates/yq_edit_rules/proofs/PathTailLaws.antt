@@ -73,8 +73,12 @@ module _ (t : List ℕ) (c : Cut) (k : ℕ) (p : Part) (steps : List Step) (s : 
       let all = own_rows t c k p front x.row back old there in
       let ends : ends_part (behind_document k c) ≡ true = part_ends c (part_number k c) true (document_known t c k p old).cut.parts in
       path_line_commented t c k p steps s x front back tail old row_line_is last
-          (record { rows_are = there; inline = inline; fits =
-          fits_by (parent_indent x.row) x.row.content tail back p.end (behind_document k c) inline h all.1 ends }) before
+      (record {
+        rows_are = there;
+        inline = inline;
+        fits =
+            fits_by (parent_indent x.row) x.row.content tail back p.end (behind_document k c) inline h all.1 ends;
+      }) before
 
   in_header : (space : List ℕ) (anchor : Option rows.Anchor) (block : BlockText) → x.row.content ≡ Block space anchor block →
       Rattle.yq_core.specs.Block.is_tail tail ≡ true →

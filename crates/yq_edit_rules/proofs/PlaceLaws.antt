@@ -92,8 +92,8 @@ on_line limit r old ds q rs rest h seams laid =
     let alone = laid.laid unlimited refl in
     let dashes = are_dashes ds q.dashes Dash q.mark laid.entry seam.1 (omega arith, laid.entry, alone.0.dashes) in
     let first = like_row limit r old (ds ++ 1 ∷ q.dashes) q.mark q.content t h
-        (subst (λ (l : List ℕ). Alike (Some false) (behind_indent r old) l) joined seam.0) dashes alone.0.mark
-        (subst (λ n. IsContent n q.content t) same alone.0.content) in
+    (subst (λ (l : List ℕ). Alike (Some false) (behind_indent r old) l) joined seam.0) dashes alone.0.mark
+    (subst (λ n. IsContent n q.content t) same alone.0.content) in
     search (rules, first, limits, alone)
 
 upto_line : {limit : Limit} {r s : Row} {old : List ℕ} (q : Row) (rs : List Row) (rest : List ℕ) → IsRow limit r old → IsUpto s r → s.mark ≡ Dash →

@@ -36,7 +36,7 @@ module _ (p : Part) (s : Step) (ss : List Step) (front : List Row) (r : Row) (un
   parts : (lines_of_rows front ++ dashes_of r ≡ lines_before w.found.place) × (line_with r r.content ∷ lines_of_rows under ≡ w.found.line ∷ flatten w.found.under) × (lines_of_rows back ≡ flatten w.found.after ++ lines_after w.found.place)
   parts =
       same_parts (lines_of_rows front ++ dashes_of r) (line_with r r.content ∷ lines_of_rows under) (lines_of_rows back) (lines_before w.found.place)
-          (w.found.line ∷ flatten w.found.under) (flatten w.found.after ++ lines_after w.found.place)
+      (w.found.line ∷ flatten w.found.under) (flatten w.found.after ++ lines_after w.found.place)
       (sym old_lines ∙ (sym (flatten-group (lines_of_rows p.rows)) ∙ whole_line (part_outline p) s ss [] w.found w.is)) (length-append (lines_of_rows front) (dashes_of r) ∙ before_are) (ap suc w.count)
 
   pub line_is : line_with r r.content ≡ w.found.line

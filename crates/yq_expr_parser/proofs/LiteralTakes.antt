@@ -71,8 +71,8 @@ literal_takes (suc depth) ts x h = elim (either_cases (after (codes "[") ts) h) 
         let y = bind_some (listed_at (codes "}") (field_at (literal_at depth)) opened.0) opened.2 in
         mapping_takes depth ts y.0 x
         (listed_takes (codes "{") (codes "}") (field_at (literal_at depth)) (IsField (IsLiteral depth))
-            (field_takes (literal_at depth) (IsLiteral depth) (literal_takes depth)) ts opened.0 y.0
-            (after_takes (codes "{") ts opened.0 opened.1) y.1)
+        (field_takes (literal_at depth) (IsLiteral depth) (literal_takes depth)) ts opened.0 y.0
+        (after_takes (codes "{") ts opened.0 opened.1) y.1)
         y.2
     | inr other ↦ inl (scalar_node_takes ts x other.1)
   ]

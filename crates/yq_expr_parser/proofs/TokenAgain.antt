@@ -120,16 +120,36 @@ dot_alone rest h1 = search (rules, or_parts)
 
 -- marks, foreign characters, digits and the first bytes of names are apart
 pub name_no_mark : (b : ℕ) → begins_name b ≡ true → is_mark_character b ≡ false
-name_no_mark b h = rw
-    (at_byte begins_name b 46 h refl, at_byte begins_name b 91 h refl, at_byte begins_name b 93 h refl, at_byte begins_name b 40 h refl,
-    at_byte begins_name b 41 h refl, at_byte begins_name b 123 h refl, at_byte begins_name b 125 h refl, at_byte begins_name b 44 h refl,
-    at_byte begins_name b 58 h refl, at_byte begins_name b 124 h refl, at_byte begins_name b 61 h refl, at_byte begins_name b 43 h refl) refl
+name_no_mark b h = rw (
+  at_byte begins_name b 46 h refl,
+  at_byte begins_name b 91 h refl,
+  at_byte begins_name b 93 h refl,
+  at_byte begins_name b 40 h refl,
+  at_byte begins_name b 41 h refl,
+  at_byte begins_name b 123 h refl,
+  at_byte begins_name b 125 h refl,
+  at_byte begins_name b 44 h refl,
+  at_byte begins_name b 58 h refl,
+  at_byte begins_name b 124 h refl,
+  at_byte begins_name b 61 h refl,
+  at_byte begins_name b 43 h refl,
+) refl
 
 pub digit_no_mark : (b : ℕ) → is_ascii_digit b ≡ true → is_mark_character b ≡ false
-digit_no_mark b h = rw
-    (at_byte is_ascii_digit b 46 h refl, at_byte is_ascii_digit b 91 h refl, at_byte is_ascii_digit b 93 h refl, at_byte is_ascii_digit b 40 h refl,
-    at_byte is_ascii_digit b 41 h refl, at_byte is_ascii_digit b 123 h refl, at_byte is_ascii_digit b 125 h refl, at_byte is_ascii_digit b 44 h refl,
-    at_byte is_ascii_digit b 58 h refl, at_byte is_ascii_digit b 124 h refl, at_byte is_ascii_digit b 61 h refl, at_byte is_ascii_digit b 43 h refl)
+digit_no_mark b h = rw (
+  at_byte is_ascii_digit b 46 h refl,
+  at_byte is_ascii_digit b 91 h refl,
+  at_byte is_ascii_digit b 93 h refl,
+  at_byte is_ascii_digit b 40 h refl,
+  at_byte is_ascii_digit b 41 h refl,
+  at_byte is_ascii_digit b 123 h refl,
+  at_byte is_ascii_digit b 125 h refl,
+  at_byte is_ascii_digit b 44 h refl,
+  at_byte is_ascii_digit b 58 h refl,
+  at_byte is_ascii_digit b 124 h refl,
+  at_byte is_ascii_digit b 61 h refl,
+  at_byte is_ascii_digit b 43 h refl,
+)
     refl
 
 pub name_not_before : (b : ℕ) → begins_name b ≡ true → is_mark_before b ≡ false
@@ -140,23 +160,58 @@ digit_not_before b h = rw (at_byte is_ascii_digit b 124 h refl, at_byte is_ascii
 
 pub name_no_foreign : (b : ℕ) → begins_name b ≡ true → is_foreign b ≡ false
 name_no_foreign b h =
-    rw (at_byte begins_name b 42 h refl, at_byte begins_name b 47 h refl, at_byte begins_name b 37 h refl, at_byte begins_name b 60 h refl,
-    at_byte begins_name b 62 h refl, at_byte begins_name b 36 h refl, at_byte begins_name b 59 h refl, at_byte begins_name b 63 h refl,
-    at_byte begins_name b 64 h refl, at_byte begins_name b 38 h refl, at_byte begins_name b 126 h refl, at_byte begins_name b 94 h refl,
-    at_byte begins_name b 33 h refl, at_byte begins_name b 45 h refl) refl
+    rw (
+      at_byte begins_name b 42 h refl,
+      at_byte begins_name b 47 h refl,
+      at_byte begins_name b 37 h refl,
+      at_byte begins_name b 60 h refl,
+      at_byte begins_name b 62 h refl,
+      at_byte begins_name b 36 h refl,
+      at_byte begins_name b 59 h refl,
+      at_byte begins_name b 63 h refl,
+      at_byte begins_name b 64 h refl,
+      at_byte begins_name b 38 h refl,
+      at_byte begins_name b 126 h refl,
+      at_byte begins_name b 94 h refl,
+      at_byte begins_name b 33 h refl,
+      at_byte begins_name b 45 h refl,
+    ) refl
 
 pub digit_no_foreign : (b : ℕ) → is_ascii_digit b ≡ true → is_foreign b ≡ false
 digit_no_foreign b h =
-    rw (at_byte is_ascii_digit b 42 h refl, at_byte is_ascii_digit b 47 h refl, at_byte is_ascii_digit b 37 h refl,
-    at_byte is_ascii_digit b 60 h refl, at_byte is_ascii_digit b 62 h refl, at_byte is_ascii_digit b 36 h refl, at_byte is_ascii_digit b 59 h refl,
-    at_byte is_ascii_digit b 63 h refl, at_byte is_ascii_digit b 64 h refl, at_byte is_ascii_digit b 38 h refl, at_byte is_ascii_digit b 126 h refl,
-    at_byte is_ascii_digit b 94 h refl, at_byte is_ascii_digit b 33 h refl, at_byte is_ascii_digit b 45 h refl) refl
+    rw (
+      at_byte is_ascii_digit b 42 h refl,
+      at_byte is_ascii_digit b 47 h refl,
+      at_byte is_ascii_digit b 37 h refl,
+      at_byte is_ascii_digit b 60 h refl,
+      at_byte is_ascii_digit b 62 h refl,
+      at_byte is_ascii_digit b 36 h refl,
+      at_byte is_ascii_digit b 59 h refl,
+      at_byte is_ascii_digit b 63 h refl,
+      at_byte is_ascii_digit b 64 h refl,
+      at_byte is_ascii_digit b 38 h refl,
+      at_byte is_ascii_digit b 126 h refl,
+      at_byte is_ascii_digit b 94 h refl,
+      at_byte is_ascii_digit b 33 h refl,
+      at_byte is_ascii_digit b 45 h refl,
+    ) refl
 
 pub foreign_no_mark : (b : ℕ) → is_foreign b ≡ true → is_mark_character b ≡ false
 foreign_no_mark b h =
-    rw (at_byte is_foreign b 46 h refl, at_byte is_foreign b 91 h refl, at_byte is_foreign b 93 h refl, at_byte is_foreign b 40 h refl,
-    at_byte is_foreign b 41 h refl, at_byte is_foreign b 123 h refl, at_byte is_foreign b 125 h refl, at_byte is_foreign b 44 h refl,
-    at_byte is_foreign b 58 h refl, at_byte is_foreign b 124 h refl, at_byte is_foreign b 61 h refl, at_byte is_foreign b 43 h refl) refl
+    rw (
+      at_byte is_foreign b 46 h refl,
+      at_byte is_foreign b 91 h refl,
+      at_byte is_foreign b 93 h refl,
+      at_byte is_foreign b 40 h refl,
+      at_byte is_foreign b 41 h refl,
+      at_byte is_foreign b 123 h refl,
+      at_byte is_foreign b 125 h refl,
+      at_byte is_foreign b 44 h refl,
+      at_byte is_foreign b 58 h refl,
+      at_byte is_foreign b 124 h refl,
+      at_byte is_foreign b 61 h refl,
+      at_byte is_foreign b 43 h refl,
+    ) refl
 
 -- what has the one test fails the other
 pub apart : (p q : ℕ → Bool) (b : ℕ) → ((c : ℕ) → q c ≡ true → p c ≡ false) → p b ≡ true → q b ≡ false

@@ -84,20 +84,24 @@ coll_stands flow spaces zero (anchored n g (coll k q is)) rest c x h = absurd x.
 coll_stands flow spaces (suc d) (anchored n g (coll k q is)) rest c x h =
     subst (λ (c : CollPieces). Stands flow spaces (suc d) (anchored n g (coll k q is)) rest c 0 (λ g2 is2. anchored n g (coll k g2 is2)) within)
     (same_Some _ _ h) (record {
-  inner_depth = d;
-  depths = omega arith;
-  closes = x.4.0;
-  gap = x.4.1;
-  items = x.4.2;
-  before = 38 ∷ (n ++ g);
-  text = ap (λ l. 38 ∷ l) (sym (append_assoc n g (coll_text k q is rest)));
-  some = refl;
-  longer = omega arith;
-  new = λ g2 is2 gap are.
-      (name_open n g k (q ++ flow_items_text k is rest) (g2 ++ flow_items_text k is2 rest) x.0,
-      lead_open flow g k (q ++ flow_items_text k is rest) (g2 ++ flow_items_text k is2 rest) x.2 x.1, x.2, x.3, (x.4.0, gap, are));
-  new_text = λ g2 is2. ap (λ l. 38 ∷ l) (sym (append_assoc n g (coll_text k g2 is2 rest)));
-  new_some = λ g2 is2. refl;
-  like = λ g2 is2. stop refl;
-  new_tree = λ g2 is2 f e. ap (with_name n) (collection_within k f (items_tree is) (items_tree is2) e) ∙ named_within n f (tree_collection k (items_tree is));
-})
+      inner_depth = d;
+      depths = omega arith;
+      closes = x.4.0;
+      gap = x.4.1;
+      items = x.4.2;
+      before = 38 ∷ (n ++ g);
+      text = ap (λ l. 38 ∷ l) (sym (append_assoc n g (coll_text k q is rest)));
+      some = refl;
+      longer = omega arith;
+      new = λ g2 is2 gap are. (
+        name_open n g k (q ++ flow_items_text k is rest) (g2 ++ flow_items_text k is2 rest) x.0,
+        lead_open flow g k (q ++ flow_items_text k is rest) (g2 ++ flow_items_text k is2 rest) x.2 x.1,
+        x.2,
+        x.3,
+        (x.4.0, gap, are),
+      );
+      new_text = λ g2 is2. ap (λ l. 38 ∷ l) (sym (append_assoc n g (coll_text k g2 is2 rest)));
+      new_some = λ g2 is2. refl;
+      like = λ g2 is2. stop refl;
+      new_tree = λ g2 is2 f e. ap (with_name n) (collection_within k f (items_tree is) (items_tree is2) e) ∙ named_within n f (tree_collection k (items_tree is));
+    })

@@ -33,7 +33,7 @@ ascii_boundary t n k low h = let x = there t n h in IsCharBoundary-before_ascii 
 pub ends_bound : (k : ℕ) (t a u : List ℕ) → is_close k ≡ true → EndsItem k u → t ≡ a ++ u → IsCharBoundary t (length t - length u)
 ends_bound k t a u c ends is =
     let x = ends_by (λ (l : List ℕ). (b : ℕ) × (r : List ℕ) × (l ≡ b ∷ r) × (b < 128)) k u c ends (λ r. (44, r, refl, omega arith))
-        (λ r. (93, r, refl, omega arith)) (λ r. (125, r, refl, omega arith)) (λ b r s. (b, r, refl, space_ascii b r s)) in
+    (λ r. (93, r, refl, omega arith)) (λ r. (125, r, refl, omega arith)) (λ b r s. (b, r, refl, space_ascii b r s)) in
     ascii_boundary t (length t - length u) x.0 x.3 (ap (begins_with x.0) (drop_end t a u is ∙ x.2) ∙ eq-eqb x.0 x.0 refl)
 
 -- one that is taken out
@@ -73,8 +73,8 @@ part_spans t s (part key n ps) e h is = go (is_here s (key_label (unplaced_key k
 
     go : (c : Bool) → (remove_part t (further s) ps ≡ Some e → EditIsSpan t e) →
         cond c (option_map (remove_before t (entry_start (key, n))) (first_start ps))
-            (option_or (option_map (remove_end t (entry_start (key, n)) (end_of n)) (only_end (further s) ps)) (remove_part t (further s) ps)) ≡ Some
-            e → EditIsSpan t e
+        (option_or (option_map (remove_end t (entry_start (key, n)) (end_of n)) (only_end (further s) ps)) (remove_part t (further s) ps)) ≡ Some
+        e → EditIsSpan t e
     go true again is = before_spans t (entry_start (key, n)) ps e (entry_begins t key n h.0 h.1) h.2 is
     go false again is = other again (either _ _ is)
 

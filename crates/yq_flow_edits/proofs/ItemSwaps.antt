@@ -64,16 +64,27 @@ items_swap d k s f (item key n sep is) rest y c a h w = go (is_here s (key_label
       Swapped d k (item key n sep is) (cond b (item key (f n) sep is) (item key n sep (change_item (further s) f is))) rest y (f y.node)
   go true again e =
       let v : Swaps d n (f n) (sep_text sep tail) = subst (λ (z : EntryPieces). Swaps d z.node (f z.node) z.rest) (sym (same_Some _ _ e)) w in
-      record { are = (key_like k d key n (f n) (sep_text sep tail) a.2 v a.0, some_or (is_keyed key) (is_empty_node (f n)) v.new_some, v.is, a.3,
-          a.4); like = key_text_alike key (node_text n (sep_text sep tail)) (node_text (f n) (sep_text sep tail)) v.like }
+      record {
+        are = (
+          key_like k d key n (f n) (sep_text sep tail) a.2 v a.0,
+          some_or (is_keyed key) (is_empty_node (f n)) v.new_some,
+          v.is,
+          a.3,
+          a.4,
+        );
+        like = key_text_alike key (node_text n (sep_text sep tail)) (node_text (f n) (sep_text sep tail)) v.like;
+      }
   go false again e =
       let more = again e w in
       let new : List ℕ = flow_items_text k (change_item (further s) f is) rest in
       let like = sep_text_alike sep tail new more.like in
       let kept = item_kept d k key n sep tail new c like (sep_alike k sep tail new more.like a.3) a.0 a.2 a.3 in
-      record { are = (kept.key_is, a.1, kept.node_is, kept.sep_is, more.are); like =
-          key_text_alike key (node_text n (sep_text sep tail)) (node_text n (sep_text sep new))
-          (node_text_alike (Some true) n (sep_text sep tail) (sep_text sep new) like) }
+      record {
+        are = (kept.key_is, a.1, kept.node_is, kept.sep_is, more.are);
+        like =
+            key_text_alike key (node_text n (sep_text sep tail)) (node_text n (sep_text sep new))
+            (node_text_alike (Some true) n (sep_text sep tail) (sep_text sep new) like);
+      }
 
 pub text_cut : (key : Key) (n : FlowNode) (t : List ℕ) → key_text key (node_text n t) ≡ key_text key (node_text n []) ++ t
 text_cut key n t = ap (key_text key) (node_then n t) ∙ key_append key (node_text n []) t
@@ -124,7 +135,7 @@ items_change k s f g (item key n sep is) rest y h e = go (is_here s (key_label (
   go : (b : Bool) → (item_at k (further s) is rest ≡ Some y → tree_of (f y.node) ≡ g (tree_of y.node) → items_tree (change_item (further s) f is) ≡ change_child (further s) g (items_tree is)) →
       cond b (Some (record { key = key; node = n; rest = sep_text sep (flow_items_text k is rest) })) (item_at k (further s) is rest) ≡ Some y →
       items_tree (cond b (item key (f n) sep is) (item key n sep (change_item (further s) f is))) ≡ cond b
-          (tree.child (key_label (key_content key)) (g (tree_of n)) (items_tree is))
-          (tree.child (key_label (key_content key)) (tree_of n) (change_child (further s) g (items_tree is)))
+      (tree.child (key_label (key_content key)) (g (tree_of n)) (items_tree is))
+      (tree.child (key_label (key_content key)) (tree_of n) (change_child (further s) g (items_tree is)))
   go true again x = ap (λ (v : tree.Node). tree.child (key_label (key_content key)) v (items_tree is)) (subst (λ (z : EntryPieces). tree_of (f z.node) ≡ g (tree_of z.node)) (sym (same_Some _ _ x)) e)
   go false again x = ap (tree.child (key_label (key_content key)) (tree_of n)) (again x e)

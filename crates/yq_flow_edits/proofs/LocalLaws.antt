@@ -131,9 +131,13 @@ anchored_filled d k m key n g node rest some takes tree f h x =
 -- in the place of nothing after a `:`
 spaced : (k : ℕ) (p b x y : List ℕ) → is_close k ≡ true → begins_node true x ≡ false → begins_node true y ≡ true → is_safe true x ≡ false → IsInlineKey k (keyed p b []) x → IsInlineKey k (keyed p b (32 ∷ [])) y
 spaced k p b x y c bx by unsafe h =
-    let like : Alike (Some true) (58 ∷ x) (58 ∷ (32 ∷ y)) = colon unsafe refl in
-    (h.0, scalar_alike true None p (b ++ (58 ∷ x)) (b ++ (58 ∷ (32 ∷ y))) (alike_append (Some true) b (58 ∷ x) (58 ∷ (32 ∷ y)) like) h.1,
-        gap_alike (Some true) b (58 ∷ x) (58 ∷ (32 ∷ y)) like h.2, or-true (is_quoted p), inl (space_before y by, by))
+    let like : Alike (Some true) (58 ∷ x) (58 ∷ (32 ∷ y)) = colon unsafe refl in (
+      h.0,
+      scalar_alike true None p (b ++ (58 ∷ x)) (b ++ (58 ∷ (32 ∷ y))) (alike_append (Some true) b (58 ∷ x) (58 ∷ (32 ∷ y)) like) h.1,
+      gap_alike (Some true) b (58 ∷ x) (58 ∷ (32 ∷ y)) like h.2,
+      or-true (is_quoted p),
+      inl (space_before y by, by),
+    )
 
 pub filled : (d k : ℕ) (m : FlowNode) (key : Key) (n : FlowNode) (rest : List ℕ) → is_close k ≡ true → EndsItem k rest → FitsNode d m rest →
     IsInlineKey k key (node_text n rest) → (is_keyed key || not (is_empty_node n)) ≡ true → IsFlowNode true (Some 0) d n rest →
@@ -163,8 +167,16 @@ filled d k m key (alias n) rest c e f h s x = let y = filled_by d k m key (alias
 filled d k m key (scalar p) rest c e f h s x = let y = filled_by d k m key (scalar p) rest refl f h x in
     record { key_is = y.0; some = rw f.some (or-true (is_keyed key)); node_is = f.is; front = y.1; text = swap_text key (scalar p) m rest; tree = refl; label = refl }
 filled d k m key (coll j g is) rest c e f h s x = let y = filled_by d k m key (coll j g is) rest refl f h x in
-    record { key_is = y.0; some = rw f.some (or-true (is_keyed key)); node_is = f.is; front = y.1; text = swap_text key (coll j g is) m rest; tree =
-        ap (λ (a : Option (List ℕ)). with_anchor_name a (tree_of m)) (sym (coll_no_anchor j (items_tree is))); label = refl }
+    record {
+      key_is = y.0;
+      some = rw f.some (or-true (is_keyed key));
+      node_is = f.is;
+      front = y.1;
+      text = swap_text key (coll j g is) m rest;
+      tree =
+          ap (λ (a : Option (List ℕ)). with_anchor_name a (tree_of m)) (sym (coll_no_anchor j (items_tree is)));
+      label = refl;
+    }
 filled d k m key (anchored n g empty) rest c e f h s x =
     let nothing : g ≡ [] = lead_none (begins_content true) g rest x.4.0 x.1 in
     let new : List ℕ = node_text m rest in

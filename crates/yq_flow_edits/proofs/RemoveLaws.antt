@@ -92,8 +92,8 @@ before_left d k s g key n sep (item key2 n2 sep2 is) rest e c here gap a at =
 -- the item after another one, where that has another separator
 last_left : (d k : ℕ) (s : Step) (g : List ℕ) (key : Key) (n : FlowNode) (sep : Sep) (key2 : Key) (n2 : FlowNode) (sep2 left : Sep) (rest old lead behind_ : List ℕ) → is_close k ≡ true →
     is_here s (key_label (key_content key)) ≡ false → is_here (further s) (key_label (key_content key2)) ≡ true →
-        IsInlineGap g (flow_items_text k (item key n sep (item key2 n2 sep2 none)) rest) →
-        AreFlowItems d k (item key n sep (item key2 n2 sep2 none)) rest →
+    IsInlineGap g (flow_items_text k (item key n sep (item key2 n2 sep2 none)) rest) →
+    AreFlowItems d k (item key n sep (item key2 n2 sep2 none)) rest →
     ends_return (key_text key (node_text n [])) ≡ false → IsSep k left (k ∷ rest) → IsApartFrom (fresh false g) (key_text key (node_text n [])) (sep_text left (k ∷ rest)) → LastBytes k rest sep key2 n2 sep2 left old lead behind_ →
     Left d k s g (item key n sep (item key2 n2 sep2 none)) rest (record { gap = g; items = item key n left none; old = old; lead = lead; written = []; behind = behind_ })
 unfolding flow_items_text AreFlowItems items_tree
@@ -150,8 +150,8 @@ last_of d k s g key n sep (item key2 n2 sep2 none) rest e c here ends gap a at =
 -- one of the items after another one
 behind_left : (d k : ℕ) (s : Step) (g : List ℕ) (key : Key) (n : FlowNode) (sep : Sep) (is : Items) (rest : List ℕ) (e : FlowEdit) → is_close k ≡ true → is_here s (key_label (key_content key)) ≡ false →
     IsInlineGap g (flow_items_text k (item key n sep is) rest) → AreFlowItems d k (item key n sep is) rest →
-        removing_from k rest (further s) (gap_of sep) is ≡ Some e →
-        (IsInlineGap (gap_of sep) (flow_items_text k is rest) → Left d k (further s) (gap_of sep) is rest e) →
+    removing_from k rest (further s) (gap_of sep) is ≡ Some e →
+    (IsInlineGap (gap_of sep) (flow_items_text k is rest) → Left d k (further s) (gap_of sep) is rest e) →
     Left d k s g (item key n sep is) rest (edit_from_item g key n sep e)
 unfolding flow_items_text AreFlowItems items_tree
 behind_left d k s g key n sep none rest e c here gap a at l = absurd (none-some _ at)
@@ -202,9 +202,9 @@ left d k s g (item key n sep is) rest e c pairs gap a at = go (is_here s (key_la
       ((x : FlowEdit) → pairs_returns (flow_items_text k is rest) ≡ true → IsInlineGap (gap_of sep) (flow_items_text k is rest) →
       removing_from k rest (further s) (gap_of sep) is ≡ Some x → Left d k (further s) (gap_of sep) is rest x) →
       cond b (before_next k rest g key n sep is)
-          (option_or (last_out k rest (further s) g key n sep is)
-          (option_map (edit_from_item g key n sep) (removing_from k rest (further s) (gap_of sep) is))) ≡ Some e →
-          Left d k s g (item key n sep is) rest e
+      (option_or (last_out k rest (further s) g key n sep is)
+      (option_map (edit_from_item g key n sep) (removing_from k rest (further s) (gap_of sep) is))) ≡ Some e →
+      Left d k s g (item key n sep is) rest e
   go true here again at = before_left d k s g key n sep is rest e c here gap a at
   go false here again at = other here again (either _ _ at)
 

@@ -192,8 +192,8 @@ part_removed d k s g (item key n sep is) rest t w b c a feed text =
     (λ i. option_or (last_placed d k (further s) g key n sep is rest t w b c a.4 feed text i) ((again ∙ same_place total g key n sep (removing_from k rest (further s) (gap_of sep) is)) i))
     ∙ or_mapped (place_edit total) (last_out k rest (further s) g key n sep is) (option_map (edit_from_item g key n sep) (removing_from k rest (further s) (gap_of sep) is)) in
     (λ i. cond (is_here s (key_label (key_tree total own key i))) (option_map (remove_before t (start i)) (first_start parts))
-        (option_or (option_map (remove_end t (start i) (end_placed total n behind i)) (only_end (further s) parts))
-        (remove_part t (further s) parts)))
+    (option_or (option_map (remove_end t (start i) (end_placed total n behind i)) (only_end (further s) parts))
+    (remove_part t (further s) parts)))
     ∙ elim (is_here s (key_label (key_content key)))
     as (λ v. cond v (option_map (remove_before t (total - length own)) (first_start parts)) (option_or (option_map (remove_end t (total - length own) (total - length behind)) (only_end (further s) parts)) (remove_part t (further s) parts))
     ≡ option_map (place_edit total) (cond v (before_next k rest g key n sep is) (option_or (last_out k rest (further s) g key n sep is) (option_map (edit_from_item g key n sep) (removing_from k rest (further s) (gap_of sep) is)))))
@@ -223,5 +223,5 @@ pub remove_placed : (flow : Bool) (spaces : Option ℕ) (d : ℕ) (t w : List �
 remove_placed flow spaces d t w node rest c s is at text =
     let i = coll_stands flow spaces d node rest c is at in
     let t_is : t ≡ (w ++ i.before) ++ (opening_bracket c.close ∷ (c.gap ++ flow_items_text c.close c.items c.rest)) = text
-        ∙ (ap (λ l. w ++ l) i.text ∙ sym (append_assoc w i.before (opening_bracket c.close ∷ (c.gap ++ flow_items_text c.close c.items c.rest)))) in
+    ∙ (ap (λ l. w ++ l) i.text ∙ sym (append_assoc w i.before (opening_bracket c.close ∷ (c.gap ++ flow_items_text c.close c.items c.rest)))) in
     ap (remove_part t s) (coll_parts (length t) node rest c at) ∙ part_removed i.inner_depth c.close s c.gap c.items c.rest t (w ++ i.before) (opening_bracket c.close) i.closes i.items (open_feed c.close) t_is

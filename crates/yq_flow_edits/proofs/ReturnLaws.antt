@@ -81,13 +81,13 @@ node_return k (anchored n g node) d t c e h = elim (cases_Bool (is_empty_node no
   | inl z ↦ (let no : begins_content true t ≡ false = (or_parts (begins_with 38 t) (begins_content true t) (ends_node k t c e)).1 in
       let nothing : g ≡ [] = lead_none (begins_content true) g t no (subst (λ (l : List ℕ). IsLead true (begins_content true) g l) (bare_text node t z) h.1) in
       whole_by (38 ∷ (n ++ (g ++ node_text node []))) t
-          (ap (λ (l : List ℕ). ends_return (38 ∷ (n ++ (l ++ node_text node [])))) nothing
-          ∙ (ap (λ (l : List ℕ). ends_return (38 ∷ (n ++ l))) (bare_text node [] z)
-          ∙ (ap (λ (l : List ℕ). ends_return (38 ∷ l)) (append-nil n) ∙ front_name 38 n (g ++ node_text node t) refl h.0.inside))))
+      (ap (λ (l : List ℕ). ends_return (38 ∷ (n ++ (l ++ node_text node [])))) nothing
+      ∙ (ap (λ (l : List ℕ). ends_return (38 ∷ (n ++ l))) (bare_text node [] z)
+      ∙ (ap (λ (l : List ℕ). ends_return (38 ∷ l)) (append-nil n) ∙ front_name 38 n (g ++ node_text node t) refl h.0.inside))))
   | inr z ↦ (let s = some_text d node t z h.4 in
       let same : ends_return (38 ∷ (n ++ (g ++ node_text node []))) ≡ ends_return (node_text node []) =
-          ap (λ (l : List ℕ). ends_return (38 ∷ l)) (sym (append_assoc n g (node_text node [])))
-          ∙ return_some (38 ∷ (n ++ g)) (node_text node []) s in
+      ap (λ (l : List ℕ). ends_return (38 ∷ l)) (sym (append_assoc n g (node_text node [])))
+      ∙ return_some (38 ∷ (n ++ g)) (node_text node []) s in
       subst (λ (b : Bool). (b && front is_feed t) ≡ false) (sym same) (node_return k node d t c e h.4))
 ]
 

@@ -63,6 +63,6 @@ value_appended x label v h is value deep =
     let i = around_is x h in
     let fits = item_fits x.coll.close (room_in x) label v (behind_appended x.coll) i.closes (appended_ends x i) is value deep in
     let same : changed_at x.steps (within (append_child (key_label (key_content (flow_key label.key))) (tree_of (flow_of v)))) ≡ changed_at x.steps
-        (within (append_child label v)) =
-        λ j. changed_at x.steps (within (append_child ((fit_of x.coll.close i.closes).same label is j) (written_tree v value j))) in
+    (within (append_child label v)) =
+    λ j. changed_at x.steps (within (append_child ((fit_of x.coll.close i.closes).same label is j) (written_tree v value j))) in
     edited_same x (appending (flow_key label.key) (flow_of v) x.coll) _ _ same (appended x (flow_key label.key) (flow_of v) h fits)

@@ -101,8 +101,8 @@ inside_of total d k t (alias n) rest close opens stands valid borrows unique = a
 inside_of total d k t (scalar p) rest close opens stands valid borrows unique =
     let begins = scalar_begins true (Some 0) p rest valid in
     absurd (bracket_of k (λ b. begins_with b t ≡ true → ⊥) close
-        (λ e. false≢true (sym (ap (begins_with 91) stands ∙ no_list true (p ++ rest) begins) ∙ e))
-        (λ e. false≢true (sym (ap (begins_with 123) stands ∙ no_map true (p ++ rest) begins) ∙ e)) opens)
+    (λ e. false≢true (sym (ap (begins_with 91) stands ∙ no_list true (p ++ rest) begins) ∙ e))
+    (λ e. false≢true (sym (ap (begins_with 123) stands ∙ no_map true (p ++ rest) begins) ∙ e)) opens)
 inside_of total d k t (coll j g is) rest close opens stands valid borrows unique =
     let same : j ≡ k = same_bracket j k valid.0 close (sym (ap (begins_with (opening_bracket k)) stands) ∙ opens) in
     coll_inside total d k t g is rest close (subst (λ m. t ≡ node_text (coll m g is) rest) same stands) (subst (λ m. IsFlowNode true (Some 0) d (coll m g is) rest) same valid) borrows (each_unique j (items_tree is) unique)

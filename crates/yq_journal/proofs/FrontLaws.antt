@@ -50,9 +50,12 @@ pub splice_in_front : (s : Splice) (t x₁ x₂ x₃ x₄ x₅ : List ℕ) → s
     → x₃ ≡ escape (encode_of standard s.old) ++ x₄ → x₄ ≡ codes "\"}" ++ x₅ → IsInFront change_data splice_of s t x₅
 splice_in_front s t x₁ x₂ x₃ x₄ x₅ h n o e₁ e₂ e₃ e₄ e₅ =
     let added = splice_adds s [] _ _ _ _ _ _ h n o refl refl refl refl refl refl in
-    record { text_is = five
-        ((codes "{\"at\":" ++ decimal s.at) ++ codes ",\"new\":\"") (escape (encode_of standard s.new)) (codes "\",\"old\":\"")
-        (escape (encode_of standard s.old)) (codes "\"}") t x₁ x₂ x₃ x₄ x₅ e₁ e₂ e₃ e₄ e₅ ∙ ap (λ l. l ++ x₅) added.text_is; kept = added.kept }
+    record {
+      text_is = five
+          ((codes "{\"at\":" ++ decimal s.at) ++ codes ",\"new\":\"") (escape (encode_of standard s.new)) (codes "\",\"old\":\"")
+          (escape (encode_of standard s.old)) (codes "\"}") t x₁ x₂ x₃ x₄ x₅ e₁ e₂ e₃ e₄ e₅ ∙ ap (λ l. l ++ x₅) added.text_is;
+      kept = added.kept;
+    }
 
 led : (o : Option ℕ) (n : ℕ) → is_length o n ≡ true → o ≡ Some n
 led o n h = search rules

@@ -114,9 +114,9 @@ undo_fault s t h k =
 pub redo_fault : (s : State) (t : List ℕ) (h : History) → AtRest s t h → way_fault s.records s.at Redo t ≡ step_fault h Redo
 redo_fault s t h k =
     elim (nat_le (length s.records) s.at) as
-        (λ b. nat_le (length s.records) s.at ≡ b →
-        option_or (if b then Some fault.NothingToRedo else None)
-        (if_moves (moved_text s.records s.at Redo t)) ≡ (if b then Some fault.NothingToRedo else None)) [
+    (λ b. nat_le (length s.records) s.at ≡ b →
+    option_or (if b then Some fault.NothingToRedo else None)
+    (if_moves (moved_text s.records s.at Redo t)) ≡ (if b then Some fault.NothingToRedo else None)) [
       | true ↦ λ e. refl
       | false ↦ λ e. let fits : s.at < length s.records = grind (arith, nat_tests) in ap if_moves (redo_stands s h t k fits)
     ] refl

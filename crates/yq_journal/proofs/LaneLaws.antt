@@ -38,8 +38,8 @@ on_true b P f = search rules
 -- the tests of sixteen bytes, as the code makes them
 pub bare_from_lanes : (limit : ℕ) (d : List ℕ) (i : ℕ) → i + 16 ≤ length d
     → OnTrue (mask_l (map (top 7)
-        (zip2 bit_or (zip2 bit_or (zip2 bit_or (zip2 below (chunk i 16 d) (replicate 16 32)) (zip2 hit (chunk i 16 d) (replicate 16 34)))
-        (zip2 hit (chunk i 16 d) (replicate 16 92))) (zip2 at_most (replicate 16 limit) (chunk i 16 d)))) % 2 ^ 64 == 0)
+    (zip2 bit_or (zip2 bit_or (zip2 bit_or (zip2 below (chunk i 16 d) (replicate 16 32)) (zip2 hit (chunk i 16 d) (replicate 16 34)))
+    (zip2 hit (chunk i 16 d) (replicate 16 92))) (zip2 at_most (replicate 16 limit) (chunk i 16 d)))) % 2 ^ 64 == 0)
     (IsBareBetween limit d i (i + 16))
 bare_from_lanes limit d i room =
     let v = chunk i 16 d in

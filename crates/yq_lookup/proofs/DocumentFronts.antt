@@ -172,8 +172,8 @@ pub view_document_stays : (s : RowsView) (k : KnownDocument) (front : ℕ) (b : 
     DocumentStays front c k
 view_document_stays s k front b known some at less c is =
     document_stays c k front b (subst (λ (x : RowsView). IsKnownDocument x.bounds k) is known) some
-        (subst (λ (x : RowsView). slice_get x.bounds (k.part - 1) ≡ Some b) is at)
-        (subst (λ (x : RowsView). part_end (k.part - 1) b x + length b.marker < front) is less)
+    (subst (λ (x : RowsView). slice_get x.bounds (k.part - 1) ≡ Some b) is at)
+    (subst (λ (x : RowsView). part_end (k.part - 1) b x + length b.marker < front) is less)
 
 -- a document, if there is one, stays known in a text that keeps what is in front
 pub one_stays : (front back : ℕ) (s : RowsView) (c new : Cut) (k : Option KnownDocument) → s ≡ rows_view c →

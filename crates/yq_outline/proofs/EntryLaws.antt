@@ -43,7 +43,7 @@ pub one_fails : (ls : List Line) (at floor next d n : ℕ) (keys : List (List �
     (all : Bool) → all ≡ asked d n keys (part ls at floor) → false ≡ (line_is_sound d n l (part ls (at + 1) (level l)) && is_sound_outline d (part ls (at + 1) (level l))) → false ≡ all
 one_fails ls at floor next d n keys l is deep ends entries all so_far e =
     both_fail all (line_is_sound d n l (part ls (at + 1) (level l))) (is_sound_outline d (part ls (at + 1) (level l)))
-        (asked d n (keys_with keys l.mark) (part ls next floor)) (so_far ∙ one_line ls at floor next d n keys l is deep ends entries) e
+    (asked d n (keys_with keys l.mark) (part ls next floor)) (so_far ∙ one_line ls at floor next d n keys l is deep ends entries) e
 
 -- a line that passes, under which lines pass
 both_pass : (all x y z : Bool) → all ≡ (x && (y && z)) → true ≡ (x && y) → all ≡ z
@@ -53,7 +53,7 @@ pub one_passes : (ls : List Line) (at floor next d n : ℕ) (keys : List (List �
     (all : Bool) → all ≡ asked d n keys (part ls at floor) → true ≡ (line_is_sound d n l (part ls (at + 1) (level l)) && is_sound_outline d (part ls (at + 1) (level l))) → all ≡ asked d n (keys_with keys l.mark) (part ls next floor)
 one_passes ls at floor next d n keys l is deep ends entries all so_far e =
     both_pass all (line_is_sound d n l (part ls (at + 1) (level l))) (is_sound_outline d (part ls (at + 1) (level l)))
-        (asked d n (keys_with keys l.mark) (part ls next floor)) (so_far ∙ one_line ls at floor next d n keys l is deep ends entries) e
+    (asked d n (keys_with keys l.mark) (part ls next floor)) (so_far ∙ one_line ls at floor next d n keys l is deep ends entries) e
 
 -- after the last line the keys are left to ask of
 pub no_more : (d n : ℕ) (keys : List (List ℕ)) (o : Outline) → false ≡ not (has_no_lines o) → asked d n keys o ≡ are_distinct keys

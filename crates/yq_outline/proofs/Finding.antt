@@ -74,8 +74,8 @@ path_node s (t ∷ ts) (row k v a) = go (λ u. path_node t ts u) k.mark
 
     head : ((u : Outline) → node_at (t ∷ ts) (value u) ≡ FoundNode (find t ts u)) → (f : FoundLine) (h : Option Node) →
         node_at (t ∷ ts) (anchored f.line.anchor (head_or h (value f.under))) ≡ FoundNode
-            (in_head h (Some (record { place = f.place; line = record f.line { head = h }; under = f.under; after = f.after }, t ∷ ts))
-            (option_map (λ x. (place_inside f x.0, x.1)) (find t ts f.under)))
+        (in_head h (Some (record { place = f.place; line = record f.line { head = h }; under = f.under; after = f.after }, t ∷ ts))
+        (option_map (λ x. (place_inside f x.0, x.1)) (find t ts f.under)))
     head ih f h = search (rules, f, node-anchored, deep)
 
     found : ((u : Outline) → node_at (t ∷ ts) (value u) ≡ FoundNode (find t ts u)) → (r : Option FoundLine) →

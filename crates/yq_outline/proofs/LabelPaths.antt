@@ -27,8 +27,8 @@ path_entry s (t ∷ ts) (row k v a) = go (λ u. path_entry t ts u) k.mark
 
     head : ((u : Outline) → reach t ts (value u) ≡ FoundEntry (find t ts u)) → (f : FoundLine) (h : Option Node) →
         reach t ts (anchored f.line.anchor (head_or h (value f.under))) ≡ FoundEntry
-            (in_head h (Some (record { place = f.place; line = record f.line { head = h }; under = f.under; after = f.after }, t ∷ ts))
-            (option_map (λ x. (place_inside f x.0, x.1)) (find t ts f.under)))
+        (in_head h (Some (record { place = f.place; line = record f.line { head = h }; under = f.under; after = f.after }, t ∷ ts))
+        (option_map (λ x. (place_inside f x.0, x.1)) (find t ts f.under)))
     head ih f h = search (rules, f, reach-anchored, deep)
 
     found : ((u : Outline) → reach t ts (value u) ≡ FoundEntry (find t ts u)) → (r : Option FoundLine) →

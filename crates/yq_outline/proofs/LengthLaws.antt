@@ -94,8 +94,8 @@ content-length n i (marked p marker c) r is = go (cases_lt i (length p.rows)) (�
 
     go : (i < length p.rows) ⊎ (length p.rows ≤ i) →
         (slice_get (rows_of c) (i - length p.rows) ≡ Some r →
-            length (before_content (i - length p.rows) c) ≡ rows_first (i - length p.rows) c + sum_by
-            (passed_length (n + length p.rows + (i - length p.rows))) (bounds_from (n + length p.rows) c) + begin_length (slices r)) →
+        length (before_content (i - length p.rows) c) ≡ rows_first (i - length p.rows) c + sum_by
+        (passed_length (n + length p.rows + (i - length p.rows))) (bounds_from (n + length p.rows) c) + begin_length (slices r)) →
         length (before_content i (marked p marker c)) ≡ rows_first i (marked p marker c) + sum_by (passed_length (n + i)) (bounds_from n (marked p marker c)) + begin_length (slices r)
     go (inl here) again =
         let text : length (before_content i (marked p marker c)) ≡ length (before_at i p.rows) = ap length (cond-true _ _ _ (lt-ltb i (length p.rows) here)) in
@@ -104,7 +104,7 @@ content-length n i (marked p marker c) r is = go (cases_lt i (length p.rows)) (�
     go (inr past) again =
         let text : length (before_content i (marked p marker c)) ≡ length (part_text p (marker ++ before_content (i - length p.rows) c)) = ap length (cond-false _ _ _ (le-ltb i (length p.rows) past)) in
         let all : passed_length (n + i) (record { rows = n + length p.rows; end = p.end; marker = marker }) ≡ length p.end + length marker =
-            is_passed (n + i) (record { rows = n + length p.rows; end = p.end; marker = marker }) (omega (arith, past)) in
+        is_passed (n + i) (record { rows = n + length p.rows; end = p.end; marker = marker }) (omega (arith, past)) in
         let same : n + length p.rows + (i - length p.rows) ≡ n + i = omega (arith, past) in
         let deep : length (before_content (i - length p.rows) c) ≡ rows_first (i - length p.rows) c + sum_by (passed_length (n + i)) (bounds_from (n + length p.rows) c) + begin_length (slices r) =
         again (slice_back p.rows (rows_of c) i r past is) ∙ ap (λ (k : ℕ). rows_first (i - length p.rows) c + sum_by (passed_length k) (bounds_from (n + length p.rows) c) + begin_length (slices r)) same in

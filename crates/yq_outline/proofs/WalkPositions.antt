@@ -67,8 +67,8 @@ pub end_agrees : (s : RowsView) (d : Stretch) (h : HasRows s d) (q : Position) (
 end_agrees s d h q floor at past =
     let n = end_number s d h q at past in
     sym (ap (λ (k : ℕ). not (has_no_lines (part (lines_of_rows h.rows) k floor))) n
-        ∙ ap (λ (ls : List Line). not (has_no_lines (Rattle.yq_outline.specs.Group.deeper_lines floor (Rattle.yq_outline.specs.Group.group ls))))
-        (all (lines_of_rows h.rows)))
+    ∙ ap (λ (ls : List Line). not (has_no_lines (Rattle.yq_outline.specs.Group.deeper_lines floor (Rattle.yq_outline.specs.Group.group ls))))
+    (all (lines_of_rows h.rows)))
   where
     all : (ls : List Line) → drop (length ls) ls ≡ []
     all [] = refl

@@ -80,8 +80,8 @@ module _ (t : List ℕ) (start : ℕ) (gap run : List ℕ) (h : GapStands t star
       let whole : front ≡ (h.before ++ kept) ++ run = e ∙ parts in
       let first : before ≡ h.before ++ kept = b ∙ ((λ i. take (size i) (whole i)) ∙ take-append_seam (h.before ++ kept) run) in
       let ends : h.before ≡ k.before =
-          sym (ap (λ n. take n t) (h.start_is) ∙ (ap (take (length h.before)) h.text ∙ take-append_seam h.before (gap ++ h.rest)))
-          ∙ (ap (λ n. take n t) k.start_is ∙ (ap (take (length k.before)) k.text ∙ take-append_seam k.before (gap ++ k.rest))) in
+      sym (ap (λ n. take n t) (h.start_is) ∙ (ap (take (length h.before)) h.text ∙ take-append_seam h.before (gap ++ h.rest)))
+      ∙ (ap (λ n. take n t) k.start_is ∙ (ap (take (length k.before)) k.text ∙ take-append_seam k.before (gap ++ k.rest))) in
       let n : start + length gap ≡ length (k.before ++ gap) = omega (arith, k.start_is, length-append k.before gap) in
       search (rules, append_assoc, drop-append_seam, run_is, first, ends, n)
 

@@ -21,9 +21,9 @@ tail_view before tail behind = go (past_white tail)
 
     test : (c : Bool) (b : ℕ) (bs : List ℕ) → eqb b 35 ≡ c →
         option_map comment_of
-            (cond c (Some (record
-            { before = before ++ (cut no_white tail).0; text = (cut ends_line (b ∷ bs)).0; behind = (cut ends_line (b ∷ bs)).1 ++ behind }))
-            None) ≡ cond c (Some (less_space (cut ends_line bs).0)) None
+        (cond c (Some (record
+        { before = before ++ (cut no_white tail).0; text = (cut ends_line (b ∷ bs)).0; behind = (cut ends_line (b ∷ bs)).1 ++ behind }))
+        None) ≡ cond c (Some (less_space (cut ends_line bs).0)) None
     test true b bs e = ap Some (marked b bs (eqb-true b 35 e))
     test false b bs e = refl
 

@@ -111,8 +111,8 @@ module _ (t : List ℕ) (s : RowsView) (e : RowsOfEntry) (row end : ℕ) (h : Ar
       let whole : h.part.part.rows ≡ rows ++ e.back = h.rows_are ∙ sym (append_assoc e.front (e.row ∷ e.under) e.back) in
       let inner : LineSeam (rows_text rows []) (behind_entry e) =
       subst (LineSeam (rows_text rows [])) (λ i. rows_text e.back (sym h.end_is i ++ sym h.behind_is i))
-          (rows_seam rows e.back _ h.part.part.end h.part.behind
-          (subst (λ (x : List Row). AreRows unlimited x h.part.part.end h.part.behind) whole lies.rows)) in
+      (rows_seam rows e.back _ h.part.part.end h.part.behind
+      (subst (λ (x : List Row). AreRows unlimited x h.part.part.end h.part.behind) whole lies.rows)) in
       let text_is : part_text h.part.part h.part.behind ≡ rows_text rows [] ++ behind_entry e =
       (λ i. rows_text (whole i) (sym h.end_is i ++ sym h.behind_is i)) ∙ (rows_text-append rows e.back (e.end ++ e.behind) ∙ texts_then rows [] (behind_entry e)) in
       let outer = seam_join h.part.before (rows_text rows []) (behind_entry e) (subst (LineSeam h.part.before) text_is lies.seam) inner in

@@ -102,8 +102,8 @@ content_order (marked p marker c) i j r q h is at = go (cases_lt i (length p.row
 
     go : (i < length p.rows) ⊎ (length p.rows ≤ i) → (j < length p.rows) ⊎ (length p.rows ≤ j) →
         (i - length p.rows ≤ j - length p.rows → slice_get (rows_of c) (i - length p.rows) ≡ Some r →
-            slice_get (rows_of c) (j - length p.rows) ≡ Some q →
-            length (before_content (i - length p.rows) c) ≤ length (before_content (j - length p.rows) c)) →
+        slice_get (rows_of c) (j - length p.rows) ≡ Some q →
+        length (before_content (i - length p.rows) c) ≤ length (before_content (j - length p.rows) c)) →
         length (before_content i (marked p marker c)) ≤ length (before_content j (marked p marker c))
     go h1 h2 h3 = search (rules, at_order, slice_front, at_fits, slice_back, part-length, length-append)
 

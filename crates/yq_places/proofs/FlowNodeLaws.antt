@@ -80,7 +80,7 @@ item_more k s (item key n sep is) rest more = go (is_here s (key_label (key_cont
   where
     go : (b : Bool) → item_at k (further s) is (rest ++ more) ≡ option_map (entry_more more) (item_at k (further s) is rest) →
         cond b (as_entry key n (sep_text sep (flow_items_text k is (rest ++ more)))) (item_at k (further s) is (rest ++ more)) ≡ option_map
-            (entry_more more) (cond b (as_entry key n (sep_text sep (flow_items_text k is rest))) (item_at k (further s) is rest))
+        (entry_more more) (cond b (as_entry key n (sep_text sep (flow_items_text k is rest))) (item_at k (further s) is rest))
     go true again = ap (as_entry key n) (ap (sep_text sep) (items_append k is rest more) ∙ sep_append sep (flow_items_text k is rest) more)
     go false again = again
 

@@ -100,8 +100,8 @@ path_found s (t ∷ ts) (row l u a) ls first floor e = go (λ v n deep is. path_
 
     go : ((v : Outline) (n deep : ℕ) → part ls n deep ≡ v → If (find t ts v) (λ x. IsFound ls n x.0)) → (m : LineMark) (r : Option FoundLine) → If r (IsFound ls first) →
         If (bare_or m (Some (record { place = here; line = l; under = u; after = a }, s ∷ (t ∷ ts)))
-            (option_and_then (λ f. in_head f.line.head (Some (f, t ∷ ts)) (option_map (λ x. (place_inside f x.0, x.1)) (find t ts f.under))) r))
-            (λ x. IsFound ls first x.0)
+        (option_and_then (λ f. in_head f.line.head (Some (f, t ∷ ts)) (option_map (λ x. (place_inside f x.0, x.1)) (find t ts f.under))) r))
+        (λ x. IsFound ls first x.0)
     go again Bare r h = found_first ls first floor l u a (first_is ls first floor l u a e)
     go again x r h = found again r h
 

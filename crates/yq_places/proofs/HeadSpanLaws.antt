@@ -111,8 +111,8 @@ module _ (c : Cut) (i : ℕ) (r : Row) (u : IsUtf8 (cut_text c)) (cut : IsCut (c
       let whole : cut_text c ≡ (before ++ last) ++ behind_row i c = tail_place c i r is ∙ grouped before s.tail s.raw (behind_row i c) in
       subst (IsCharBoundary (cut_text c)) (omega (arith, tail_length, length-append before last, length-append s.tail (s.raw ++ []), length-append s.raw []))
       (subst (λ (q : List ℕ). IsCharBoundary q (length (before ++ last))) (sym whole)
-          (seam_boundary (before ++ last) (behind_row i c) (subst IsUtf8 whole u)
-          (ended_seam (before ++ last) (behind_row i c) (ended_after before last (behind_row i c) ended))))
+      (seam_boundary (before ++ last) (behind_row i c) (subst IsUtf8 whole u)
+      (ended_seam (before ++ last) (behind_row i c) (ended_after before last (behind_row i c) ended))))
 
   inline_span : (space : List ℕ) (node : FlowNode) (tail : List ℕ) → r.content ≡ Inline space node tail → IsSpan (cut_text c) start (start + length (slices r).head)
   inline_span space node tail content =

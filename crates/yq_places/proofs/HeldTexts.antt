@@ -147,9 +147,19 @@ module _ (t : List ℕ) (s : RowsView) (e : RowsOfEntry) (row end : ℕ) (h : Ar
       column ≡ line_column dashes y → dashes ≡ length e.row.dashes → keyed ≡ not (is_empty y.colon) → tail ≡ end_in_line [] y.tail →
       noted ≡ (not (is_empty y.anchor) || not (is_empty tail.comment)) → lower ≡ lines_between ((before_entry e ++ text_to_line_end e.row) ++ (slices e.row).tail) ((slices e.row).raw ++ rows_text e.under []) (behind_entry e) →
       space ≡ space_before y → head ≡ y.head → before ≡ take (place.1 - (length space + length head)) lower.before → break ≡ cond lower.none [] tail.behind → last ≡ cond lower.none tail.behind lower.last →
-      ◌≡◌ {A = Held} (record
-          { mark = record { column = column; keyed = keyed; noted = noted }; before = before; space = space; head = head; white =
-          tail.white; comment = tail.comment; break = break; lines = lower.lines; last = last; behind = lower.behind }) (held e)
+      ◌≡◌ {A = Held} (record {
+        mark = record { column = column; keyed = keyed; noted = noted };
+        before = before;
+        space = space;
+        head = head;
+        white =
+            tail.white;
+        comment = tail.comment;
+        break = break;
+        lines = lower.lines;
+        last = last;
+        behind = lower.behind;
+      }) (held e)
   held_is column dashes keyed noted before space head break last tail lower columns_are dashes_are keyed_is tail_is noted_is lower_is space_is head_is before_cut break_is last_is_it =
       let r : Row = e.row in
       let end : tail ≡ end_in_line [] (slices r).tail = tail_is ∙ ap (λ (z : Slices). end_in_line [] z.tail) (sym same) in
@@ -161,7 +171,7 @@ module _ (t : List ℕ) (s : RowsView) (e : RowsOfEntry) (row end : ℕ) (h : Ar
       let k : head ≡ (slices r).head = head_is ∙ ap (λ (z : Slices). z.head) (sym same) in
       let m : break ≡ cond (is_empty ((slices r).raw ++ rows_text e.under [])) [] (end_in_line [] (slices r).tail).behind = break_is ∙ (λ i. cond (lower_is i).none [] (end i).behind) in
       let n : last ≡ cond (is_empty ((slices r).raw ++ rows_text e.under [])) (end_in_line [] (slices r).tail).behind
-          (last_break ((slices r).raw ++ rows_text e.under [])) = last_is_it ∙ (λ i. cond (lower_is i).none (end i).behind (lower_is i).last) in
+      (last_break ((slices r).raw ++ rows_text e.under [])) = last_is_it ∙ (λ i. cond (lower_is i).none (end i).behind (lower_is i).last) in
       λ i. record {
         mark = record { column = a i; keyed = b i; noted = d i };
         before = f i;

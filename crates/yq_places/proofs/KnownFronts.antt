@@ -58,7 +58,7 @@ rows_stay c i front within before new back touched =
     let there : slice_get (rows_in_items (items_of_cut c)) i ≡ Some r.0 = ap (λ (x : RowsView). slice_get x.rows i) (items_view_is c) ∙ r.1 in
     let n = near_at (items_of_cut c) 0 0 i r.0 there in
     let start : 0 + (sum_by row_length (take i (rows_in_items (items_of_cut c))) + sum_by (passed_length (0 + i))
-        (bounds_in_items 0 (items_of_cut c))) ≡ row_start i (rows_view c) = begins_at (items_of_cut c) i ∙ ap (row_start i) (items_view_is c) in
+    (bounds_in_items 0 (items_of_cut c))) ≡ row_start i (rows_view c) = begins_at (items_of_cut c) i ∙ ap (row_start i) (items_view_is c) in
     let first : i ≤ length (rows_in_items (in_front front (items_of_cut c))) = rows_in_front (items_of_cut c) 0 front i _ n (omega (arith, before, start)) in
     first_rows new (in_front front (items_of_cut c)) _ i touched.new_are first ∙ sym (first_rows c (in_front front (items_of_cut c)) _ i touched.old_are first)
 

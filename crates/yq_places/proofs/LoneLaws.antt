@@ -109,8 +109,8 @@ module _ (t : List ℕ) (s : RowsView) (e : RowsOfEntry) (row end : ℕ) (h : Ar
       let own : List ℕ = e.row.gap ++ (replicate e.row.column 32 ++ dashes_text (take e.line e.row.dashes) []) in
       let begins : start ≡ length (before_entry e ++ own) =
       start_agrees (slices e.row) (pieces_at t s e row end h)
-          ∙ ((λ i. line_begin (row_start row (h.rows_view_is i)) (slices e.row) (line_is i))
-          ∙ (line_begins c row e.line e.row at.there (omega (arith, less)) ∙ ap (λ (z : List ℕ). length (z ++ own)) at.before_is)) in
+      ∙ ((λ i. line_begin (row_start row (h.rows_view_is i)) (slices e.row) (line_is i))
+      ∙ (line_begins c row e.line e.row at.there (omega (arith, less)) ∙ ap (λ (z : List ℕ). length (z ++ own)) at.before_is)) in
       omega (arith, begins, ap length dash_is, length-append upto (45 ∷ []))
 
   pub dash_fits : start + 1 ≤ text_limit

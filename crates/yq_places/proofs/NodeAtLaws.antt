@@ -49,15 +49,15 @@ pub items_agrees : (node : Inline) (v : Vec Inline Global) (n : ℕ) → node.fo
 items_agrees node v n is size =
     ap (λ (k : ℕ). list (ltb 1 k)) (size ∙ (v.ok.0 ∙ sym (items_count v.items)))
     ∙ (sym (named_summary (anchor_name node.anchor) (tree.list None (parts_tree (items_end v.items))))
-        ∙ sym (ap (λ (p : Placed). node_summary (placed_tree p)) (view_of_node node)
-        ∙ ap (λ (x : CoreNode). node_summary (with_anchor_name (anchor_name node.anchor) (content_tree x))) (ap form_view is ∙ view_of_list v)))
+    ∙ sym (ap (λ (p : Placed). node_summary (placed_tree p)) (view_of_node node)
+    ∙ ap (λ (x : CoreNode). node_summary (with_anchor_name (anchor_name node.anchor) (content_tree x))) (ap form_view is ∙ view_of_list v)))
 
 pub entries_agrees : (node : Inline) (v : Vec Field Global) (n : ℕ) → node.form ≡ forms.TheVariants.Map v → n ≡ vec_len v → mapping (ltb 1 n) ≡ node_summary (placed_tree (inline_view node))
 entries_agrees node v n is size =
     ap (λ (k : ℕ). mapping (ltb 1 k)) (size ∙ (v.ok.0 ∙ sym (entries_count v.items)))
     ∙ (sym (named_summary (anchor_name node.anchor) (tree.map None (parts_tree (entries_end v.items))))
-        ∙ sym (ap (λ (p : Placed). node_summary (placed_tree p)) (view_of_node node)
-        ∙ ap (λ (x : CoreNode). node_summary (with_anchor_name (anchor_name node.anchor) (content_tree x))) (ap form_view is ∙ view_of_map v)))
+    ∙ sym (ap (λ (p : Placed). node_summary (placed_tree p)) (view_of_node node)
+    ∙ ap (λ (x : CoreNode). node_summary (with_anchor_name (anchor_name node.anchor) (content_tree x))) (ap form_view is ∙ view_of_map v)))
 
 -- no steps lead on from a scalar
 pub scalar_steps : (ss : List Step) (kind : Kind) (text : List ℕ) → false ≡ eqb (length ss) 0 → None ≡ summary_in_head ss (Some (tree.scalar None kind text))

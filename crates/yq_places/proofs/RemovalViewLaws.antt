@@ -147,10 +147,10 @@ agrees_first t s d front r rs back m h =
       gap = (λ i. gap_counts ((end_is ∙ sizes front own k) i) (h.rows_view_is i))
           ∙ gap_behind n c d (front ++ own) back h.placed (h.rows_are ∙ sym (append_assoc front own back)) (omega (arith, length-append front own))
           (λ q qs is. ap (slice_get (rows_of c)) (sym (sizes front own k) ∙ three k front own)
-              ∙ there (length front + length own) q
-              (ap (λ (z : List Row). slice_get z (length front + length own))
-              (h.rows_are ∙ (sym (append_assoc front own back) ∙ ap (λ (z : List Row). (front ++ own) ++ z) is))
-              ∙ (ap (slice_get ((front ++ own) ++ (q ∷ qs))) (sym (length-append front own)) ∙ slice_seam (front ++ own) q qs)));
+          ∙ there (length front + length own) q
+          (ap (λ (z : List Row). slice_get z (length front + length own))
+          (h.rows_are ∙ (sym (append_assoc front own back) ∙ ap (λ (z : List Row). (front ++ own) ++ z) is))
+          ∙ (ap (slice_get ((front ++ own) ++ (q ∷ qs))) (sym (length-append front own)) ∙ slice_seam (front ++ own) q qs)));
       more = begin.0;
       rows = ap (λ (j : ℕ). drop j (rows_of c)) first_is ∙ begin.1;
       front_size = omega (arith, first_is, at_is, total);

@@ -100,8 +100,8 @@ row_seam (marked p marker c) i started r h is = go (cases_lt i (length p.rows)) 
         let whole : cut_text c ≡ before ++ text = row_place c (i - length p.rows) r there in
         let inner : IsSeam (marker ++ before) text = seam_then marker before text (subst (IsSeam marker) whole (marker_seam marker (cut_text c) h.1)) (again there) in
         let first : IsSeam (part_text p []) ((marker ++ before) ++ text) =
-            subst (IsSeam (part_text p [])) (ap (λ (x : List ℕ). marker ++ x) whole ∙ sym (append_assoc marker before text))
-            (part_seam p.rows unlimited p.end (marker ++ cut_text c) h.0.rows) in
+        subst (IsSeam (part_text p [])) (ap (λ (x : List ℕ). marker ++ x) whole ∙ sym (append_assoc marker before text))
+        (part_seam p.rows unlimited p.end (marker ++ cut_text c) h.0.rows) in
         rw test (subst (λ (q : List ℕ). IsSeam q text) (sym (part_then p [] (marker ++ before))) (seam_then (part_text p []) (marker ++ before) text first inner))
 
 -- the beginning of a line

@@ -104,9 +104,9 @@ in_front spaces d (scalar p) rest h =
     unanchored (scalar p) rest (front_not (begins_scalar false) 38 (λ cs. refl) (p ++ rest) begins) (node_starts (p ++ rest) (scalar_node (p ++ rest) begins)).no_white refl refl
 in_front spaces d (coll k g is) rest h =
     let front : (begins_with 38 (node_text (coll k g is) rest) ≡ false) × (no_white (node_text (coll k g is) rest) ≡ true) =
-        cond_both (eqb k 125) 123 91
-        (λ (b : ℕ). (begins_with 38 (b ∷ (g ++ flow_items_text k is rest)) ≡ false) × (no_white (b ∷ (g ++ flow_items_text k is rest)) ≡ true))
-        (λ _. (refl, refl)) (λ _. (refl, refl)) in
+    cond_both (eqb k 125) 123 91
+    (λ (b : ℕ). (begins_with 38 (b ∷ (g ++ flow_items_text k is rest)) ≡ false) × (no_white (b ∷ (g ++ flow_items_text k is rest)) ≡ true))
+    (λ _. (refl, refl)) (λ _. (refl, refl)) in
     unanchored (coll k g is) rest front.0 front.1 refl refl
 in_front spaces d (anchored n g node) rest h = search (rules, upto-append, take-append_seam, drop-append_seam, lead_front, node_then)
 

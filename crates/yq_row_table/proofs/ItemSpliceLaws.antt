@@ -44,7 +44,7 @@ gap_later rs new_gap gap marker xs = search rules
 
 part_new : (i j : ℕ) (rs new : List Row) (new_gap gap marker : List ℕ) (xs : List Item) →
     rows_items (take i rs ++ (new ++ with_first_gap new_gap (drop j rs))) (end_item (end_gap new_gap (drop j rs) gap) marker ∷ xs) ≡ rows_items
-        (take i rs) [] ++ (rows_items new (regapped new_gap (drop j rs) marker ∷ []) ++ later_items (drop j rs) gap marker xs)
+    (take i rs) [] ++ (rows_items new (regapped new_gap (drop j rs) marker ∷ []) ++ later_items (drop j rs) gap marker xs)
 part_new i j rs new new_gap gap marker xs = search (rules, rows_joined, gap_later, rows_front, rows_then)
 
 -- a cut

@@ -67,9 +67,10 @@ near_kept (row_item r ∷ xs) pre rest h u =
     let long : length (pre ++ print_row r []) ≡ length pre + length (print_row r []) = length-append pre (print_row r []) in
     let more : KeptRows ((pre ++ print_row r []) ++ t) (near (length (pre ++ print_row r [])) xs) (rows_in_items xs) = near_kept xs (pre ++ print_row r []) rest h.1 u in
     let moved : KeptRows (pre ++ print_row r t) (near (length pre + length (print_row r [])) xs) (rows_in_items xs) =
-    subst (λ (n : ℕ). KeptRows (pre ++ print_row r t) (near n xs) (rows_in_items xs)) long (subst (λ (w : List ℕ). KeptRows w (near (length (pre ++ print_row r [])) xs) (rows_in_items xs)) (sym (row_apart pre r t)) more) in
-    (ap (λ s. s ∷ rows_in (pre ++ print_row r t) (near (length pre + length (print_row r [])) xs)) one.0 ∙ ap (λ l. slices r ∷ l) moved.0,
-        All-cons (IsCutIn (pre ++ print_row r t)) (offsets_of (length pre) (slices r)) (near (length pre + length (print_row r [])) xs) one.1 moved.1)
+    subst (λ (n : ℕ). KeptRows (pre ++ print_row r t) (near n xs) (rows_in_items xs)) long (subst (λ (w : List ℕ). KeptRows w (near (length (pre ++ print_row r [])) xs) (rows_in_items xs)) (sym (row_apart pre r t)) more) in (
+      ap (λ s. s ∷ rows_in (pre ++ print_row r t) (near (length pre + length (print_row r [])) xs)) one.0 ∙ ap (λ l. slices r ∷ l) moved.0,
+      All-cons (IsCutIn (pre ++ print_row r t)) (offsets_of (length pre) (slices r)) (near (length pre + length (print_row r [])) xs) one.1 moved.1,
+    )
 near_kept (end_item gap marker ∷ xs) pre rest h u =
     let t = items_text xs rest in
     let long : length (pre ++ (gap ++ marker)) ≡ length pre + length (gap ++ marker) = length-append pre (gap ++ marker) in

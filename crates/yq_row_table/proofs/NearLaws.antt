@@ -41,15 +41,15 @@ next_place whole t p rest h e = search (rules, front_le, front_join, length-appe
 pub rows_placed_step : (os items : List declared.Offsets) (o : declared.Offsets) (whole : List ℕ) (limit next : Limit) (t g r : List ℕ) (s : Slices)
     (after : List ℕ) (all : Option (List declared.Offsets)) → Ends t whole → (g, r) ≡ cut_gap t → ends_part r ≡ false →
     row_sliced limit g r ≡ Some (s, next, after) → items ≡ os ++ o ∷ [] → o ≡ offsets_of (length whole - length t) s →
-        rows_placed os (length whole - length t) (all_rows limit t) ≡ all →
-        rows_placed items (length whole - length after) (all_rows next after) ≡ all
+    rows_placed os (length whole - length t) (all_rows limit t) ≡ all →
+    rows_placed items (length whole - length after) (all_rows next after) ≡ all
 rows_placed_step os items o whole limit next t g r s after all ends e more h pushed place so_far =
     let n = length whole - length t in
     let x = bind_some (row_at limit g r) h in
     let is : sliced x.0 ≡ (s, next, after) = same_Some _ _ x.2 in
     let read : all_rows limit t ≡ with_front (x.0.0 ∷ []) (all_rows (limit_after x.0.0) x.0.1) = gap_read limit t g r e ∙ (rows_step limit g r x.0 more x.1 ∙ ap (with_front (x.0.0 ∷ [])) (sym (rows_cut (limit_after x.0.0) x.0.1))) in
     let one : rows_placed os n (all_rows limit t) ≡ rows_placed (os ++ offsets_of n (slices x.0.0) ∷ []) (n + length (slices_text (slices x.0.0) []))
-        (all_rows (limit_after x.0.0) x.0.1) = ap (rows_placed os n) read ∙ front_placed os n x.0.0 (all_rows (limit_after x.0.0) x.0.1) in
+    (all_rows (limit_after x.0.0) x.0.1) = ap (rows_placed os n) read ∙ front_placed os n x.0.0 (all_rows (limit_after x.0.0) x.0.1) in
     search (rules, next_place, row_joined, row_then)
 
 -- parts
@@ -87,8 +87,8 @@ pub record ReadMarked (started : Bool) (t after marker next : List ℕ) : Type 0
 
 pub parts_placed_step : (os items : List declared.Offsets) (whole : List ℕ) (started : Bool) (t after marker next : List ℕ) (all : Option (List declared.Offsets)) → Ends t whole → ReadMarked started t after marker next →
     rows_placed os (length whole - length t) (read_cut_part started t) ≡ Some items →
-        parts_placed os (length whole - length t) (all_parts started t) ≡ all →
-        parts_placed items (length whole - length next) (all_parts (begins_document marker) next) ≡ all
+    parts_placed os (length whole - length t) (all_parts started t) ≡ all →
+    parts_placed items (length whole - length next) (all_parts (begins_document marker) next) ≡ all
 parts_placed_step os items whole started t after marker next all ends m placed so_far =
     let n = length whole - length t in
     let p = m.part in

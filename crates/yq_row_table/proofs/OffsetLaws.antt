@@ -60,8 +60,8 @@ row_stands whole t rest s h text e each =
       front_boundary whole (take start whole) t split text,
       subst (λ (u : List ℕ). AreCuts u (length s.gap ∷ s.column ∷ length s.dashes ∷ length s.key ∷ length s.colon ∷ length s.space ∷ length s.anchor ∷ length s.apart ∷ length s.head ∷ length s.tail ∷ length s.raw ∷ [])) (sym h)
           (subst (λ (n : ℕ). AreCuts t
-              (length s.gap ∷ n ∷ length s.dashes ∷ length s.key ∷ length s.colon ∷ length s.space ∷ length s.anchor ∷ length s.apart ∷ length s.head
-              ∷ length s.tail ∷ length s.raw ∷ [])) (length-replicate {A = ℕ} s.column 32)
+          (length s.gap ∷ n ∷ length s.dashes ∷ length s.key ∷ length s.colon ∷ length s.space ∷ length s.anchor ∷ length s.apart ∷ length s.head
+          ∷ length s.tail ∷ length s.raw ∷ [])) (length-replicate {A = ℕ} s.column 32)
           (cuts (pieces s) t rest e text (texts s each))),
     )
 

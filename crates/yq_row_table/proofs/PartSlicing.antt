@@ -101,9 +101,9 @@ pub end_ends : (whole t end after : List ℕ) (started : Bool) (p : Part) → En
 end_ends whole t end after started p h read e =
     let text : t ≡ rows_text p.rows (p.end ++ after) = (part_takes started t (p, after) read).text in
     let front : t ≡ items_text (rows_items p.rows []) [] ++ (end ++ after) = text
-        ∙ (sym (rows_items_text p.rows [] (p.end ++ after))
-        ∙ (items_apart (rows_items p.rows []) (p.end ++ after)
-        ∙ ap (λ (l : List ℕ). items_text (rows_items p.rows []) [] ++ (l ++ after)) (sym e))) in
+    ∙ (sym (rows_items_text p.rows [] (p.end ++ after))
+    ∙ (items_apart (rows_items p.rows []) (p.end ++ after)
+    ∙ ap (λ (l : List ℕ). items_text (rows_items p.rows []) [] ++ (l ++ after)) (sym e))) in
     ends_next whole t (items_text (rows_items p.rows []) []) (end ++ after) h front
 
 pub empty_by : (t : List ℕ) (b c : Bool) → b ≡ eqb (length t) 0 → b ≡ c → is_empty t ≡ c

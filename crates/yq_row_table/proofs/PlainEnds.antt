@@ -212,9 +212,9 @@ tail_ends d white [] p rest e apart a = ⊎_elim {0, 0, 0}
     (subst (λ (l : List ℕ). ends_plain false (Some d) l ≡ true) (sym b.spelled)
     (ends_behind d (b.before ++ 10 ∷ b.behind) b.text (some_white b.before b.behind) b.inside b.here (line_follows d b.before b.behind b.text b.stop))))
     (λ h. subst (λ (l : List ℕ). ends_plain false (Some d) l ≡ true)
-        (sym (ap (λ l. l ++ rest) e.spelled
-        ∙ (ap (λ l. (white ++ l) ++ rest) h.0 ∙ (ap (λ l. (white ++ []) ++ l) h.1 ∙ (append-nil (white ++ []) ∙ append-nil white)))))
-        (white_ends d white e.blank))
+    (sym (ap (λ l. l ++ rest) e.spelled
+    ∙ (ap (λ l. (white ++ l) ++ rest) h.0 ∙ (ap (λ l. (white ++ []) ++ l) h.1 ∙ (append-nil (white ++ []) ∙ append-nil white)))))
+    (white_ends d white e.blank))
     e.ends
 tail_ends d white (b ∷ c) p rest e apart a = search (rules, not-true, append_assoc, comment_ends)
 

@@ -105,8 +105,13 @@ region_end xs back gap marker s =
     let mine : AreRowItems asked (xs ++ cut_end gap) [] = ⊎_elim {0, 0, 0}
     (λ line.
     let before : Before gap marker back =
-        record { line = line; some = some_marker marker (items_text back []) line; was = own.0.0; last =
-        end_last gap (marker ++ items_text back []) (some_marker marker (items_text back []) line) own.0.0 } in
+    record {
+      line = line;
+      some = some_marker marker (items_text back []) line;
+      was = own.0.0;
+      last =
+          end_last gap (marker ++ items_text back []) (some_marker marker (items_text back []) line) own.0.0;
+    } in
     (cut_items xs asked gap marker back before behind).0)
     (λ none. subst (λ (m : List ℕ). AreRowItems asked (xs ++ (end_item gap m ∷ [])) []) none.0 (subst (λ (l : List Item). AreRowItems asked (xs ++ (end_item gap marker ∷ l)) []) none.1 behind))
     own.0.1 in

@@ -167,7 +167,7 @@ ByEnds p ends before bytes = ((length p.ends ≤ ends) × (bytes ≡ before)) �
 
 pub behind_is : (p : Places) (xs : List Item) (at back rows ends before bytes : ℕ) → AreAt p xs → IsSplitAt at (text_length xs) p → at + back ≤ text_length xs → rows ≡ length (nearer back (reverse p.behind.items)) →
     ends ≡ ends_before ((text_length xs - back) + 1) p.ends → ByRows p (text_length xs) rows before → ByEnds p ends before bytes →
-        record { rows = length p.front.items + (length p.behind.items - rows); ends = ends; bytes = bytes } ≡ side_of (not_in_back back xs)
+    record { rows = length p.front.items + (length p.behind.items - rows); ends = ends; bytes = bytes } ≡ side_of (not_in_back back xs)
 behind_is p xs at back rows ends before bytes placed gap apart many count by_rows by_ends =
     let len : ℕ = text_length xs in
     let h = back_found xs 0 back in

@@ -135,10 +135,10 @@ module _ (t new : List ℕ) (kept : Kept) (p : Places) (x : Touched) (h : Follow
           let m : ℕ = 0 + text_length (f ++ tch) in
           let k : ℕ = 0 + length (near 0 (f ++ tch)) in
           ap length at_xs.ends_are
-              ∙ (ap (λ (l : List Item). length (ends_near 0 0 l)) group
-              ∙ (ap length (ends_joined 0 0 (f ++ tch) z)
-              ∙ (length-append (ends_near 0 0 (f ++ tch)) (ends_near m k z)
-              ∙ ap (λ (n : ℕ). length (ends_near 0 0 (f ++ tch)) + n) (ends_count m k 0 0 z))))
+          ∙ (ap (λ (l : List Item). length (ends_near 0 0 l)) group
+          ∙ (ap length (ends_joined 0 0 (f ++ tch) z)
+          ∙ (length-append (ends_near 0 0 (f ++ tch)) (ends_near m k z)
+          ∙ ap (λ (n : ℕ). length (ends_near 0 0 (f ++ tch)) + n) (ends_count m k 0 0 z))))
 
       go : (l : List Item) → length (kept_rows p) ≡ x.old.rows + length (near 0 l) → length p.ends ≡ x.old.ends + length (ends_near 0 0 l) → (ltb x.old.rows (length (kept_rows p)) || ltb x.old.ends (length p.ends)) ≡ not (no_items l)
       go l h1 h2 = search (rules, le-ltb, ⊎_elim, lt-ltb, some_behind, cases_lt, or_right)
@@ -181,10 +181,12 @@ module _ (t new : List ℕ) (kept : Kept) (p : Places) (x : Touched) (h : Follow
     ends_so : (lead : List ℕ) × (items_text w [] ≡ lead ++ k.marker)
     ends_so =
         let y : List ℕ = items_text f [] ++ inner in
-        let low : length t - kept.back ≤ length y = omega (arith, k.within, pieces.last, long, size, joined_long f tch, ap length touched_ends, length-append y k.marker, length-append (items_text f []) (items_text tch [])) in
-        (drop x.front.bytes (take kept.front t) ++ (new ++ drop (length t - kept.back) y), sym part_is
-            ∙ region_ends t (items_text f []) (items_text tch []) (items_text z []) kept.front kept.back pieces new y k.marker x.front.bytes
-            x.old.bytes end touched_ends low)
+        let low : length t - kept.back ≤ length y = omega (arith, k.within, pieces.last, long, size, joined_long f tch, ap length touched_ends, length-append y k.marker, length-append (items_text f []) (items_text tch [])) in (
+          drop x.front.bytes (take kept.front t) ++ (new ++ drop (length t - kept.back) y),
+          sym part_is
+              ∙ region_ends t (items_text f []) (items_text tch []) (items_text z []) kept.front kept.back pieces new y k.marker x.front.bytes
+              x.old.bytes end touched_ends low,
+        )
 
     stays : begins_line (items_text w []) (length (items_text w []) - e.marker) ≡ true → (front : List Item) × (gap : List ℕ) × (w ≡ ended front gap k.marker)
     stays begins =

@@ -177,8 +177,20 @@ module _ (t new : List ℕ) (kept : Kept) (p : Places) (h : Follows t p kept new
     read = end_read i.gap i.marker y u own.0.0 line ends alone.cut (ap (all_parts true) come ∙ alone.read)
 
     many : 0 < text_length w
-    many = omega (arith, new_size, back_long kept.back xs, low, i.some, i.long, length-append i.gap i.marker, length-append (take kept.front t) u,
-        length-append new (drop (length t - kept.back) t), length-take kept.front t, length-drop (length t - kept.back) t, h.within)
+    many = omega (
+      arith,
+      new_size,
+      back_long kept.back xs,
+      low,
+      i.some,
+      i.long,
+      length-append i.gap i.marker,
+      length-append (take kept.front t) u,
+      length-append new (drop (length t - kept.back) t),
+      length-take kept.front t,
+      length-drop (length t - kept.back) t,
+      h.within,
+    )
 
     later : (rest : List Item) × (w ≡ end_item i.gap i.marker ∷ rest) × (rest ++ z ≡ items_of_cut read.0)
     later = uncons w z (end_item i.gap i.marker) (items_of_cut read.0) (sym alone.items ∙ ap items_of_cut read.1) many

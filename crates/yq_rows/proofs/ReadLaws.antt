@@ -114,7 +114,7 @@ part_short region (Some e) = omega (arith, length-take (length region - e.marker
 pub comes : (region text : List ℕ) (x : Touched) (u : Option EndPlace) (p : Places) (s : RowsView) (ends : List EndPlace) (come : NewRows)
     (h : IsRead region x) → (k : Parted text h.written u x.more) → IsPlaced p s → s ≡ view_of_items (region_items k.items k.back) →
     ends ≡ settled_ends p.ends u x.more → come.places.front.items ≡ p.front.items → come.places.behind.items ≡ p.behind.items →
-        come.places.ends ≡ ends → come.read ≡ length text → come.len ≡ length region → text ≡ without_marker region u → ArePlacesRead h.written come
+    come.places.ends ≡ ends → come.read ≡ length text → come.len ≡ length region → text ≡ without_marker region u → ArePlacesRead h.written come
 comes region text x u p s ends come h k placed shows ends_are front behind own read long part =
     let at = places_are p s (region_items k.items k.back) placed shows in
     search (rules, part_short, alone_are, at)

@@ -173,6 +173,6 @@ front_taken p xs at placed gap within =
     ⊎_elim {0, 0, 0}
     (λ (k : Nothing p xs at). ap (λ (l : List Item). take (length (near 0 l)) p.front.items) k.2 ∙ ap (near 0) (sym k.2))
     (λ (k : Kept p xs at). ap (λ (l : List Item). take (length (near 0 l)) p.front.items) k.2
-        ∙ (ap (take (length (near 0 k.0))) (k.3.rows_are ∙ near_joined 0 k.0 (k.1 ∷ []))
-        ∙ (take_at (near 0 k.0) (near (0 + text_length k.0) (k.1 ∷ [])) (length (near 0 k.0)) refl ∙ ap (near 0) (sym k.2))))
+    ∙ (ap (take (length (near 0 k.0))) (k.3.rows_are ∙ near_joined 0 k.0 (k.1 ∷ []))
+    ∙ (take_at (near 0 k.0) (near (0 + text_length k.0) (k.1 ∷ [])) (length (near 0 k.0)) refl ∙ ap (near 0) (sym k.2))))
     (found p xs at placed gap within)

@@ -170,7 +170,7 @@ module _ (t new : List ℕ) (kept : Kept) (es : List Extent) where
 
   module _ (n : ℕ) (w : List Item)
       (passed : (u : List Item) (gap marker : List ℕ) (ws : List Item) → w ≡ u ++ (end_item gap marker ∷ ws) → 0 < length marker →
-          (n + text_length u) + length (gap ++ marker) ≤ kept.front → begins_line new ((n + text_length u) + length (gap ++ marker)) ≡ true → ⊥)
+      (n + text_length u) + length (gap ++ marker) ≤ kept.front → begins_line new ((n + text_length u) + length (gap ++ marker)) ≡ true → ⊥)
       (last : (u : List Item) (gap marker : List ℕ) (ws : List Item) → w ≡ u ++ (end_item gap marker ∷ ws) → 0 < length marker → length new ≤ ((n + text_length u) + length gap) + kept.back →
       (ws ≡ []) × (IsTouched (n + text_length u) ((n + text_length u) + length (gap ++ marker)) es → IsTouched (n + text_length u) ((n + text_length u) + length gap) es)) where
     one_by_one : (u ws : List Item) → w ≡ u ++ ws → Owned n u → AreTouched (n + text_length u) ws es → Within n w
@@ -191,10 +191,10 @@ module _ (t new : List ℕ) (kept : Kept) (es : List Extent) where
         decide again (row_item r) is here more = next again (row_item r) is here more refl
         decide again (end_item gap marker) is here more = ⊎_elim {0, 0, 0}
             (λ (stays : keeps_line t new kept (m + length gap) (m + length (gap ++ marker)) ≡ true). ⊎_elim {0, 0, 0}
-                (λ (some : 0 < length marker). by_side stays some)
-                (λ (none : length marker ≤ 0). next again (end_item gap marker) is here more (nothing stays none)) (cases_lt 0 (length marker)))
+            (λ (some : 0 < length marker). by_side stays some)
+            (λ (none : length marker ≤ 0). next again (end_item gap marker) is here more (nothing stays none)) (cases_lt 0 (length marker)))
             (λ (goes : keeps_line t new kept (m + length gap) (m + length (gap ++ marker)) ≡ false). next again (end_item gap marker) is here more
-                (cond-false (keeps_line t new kept (m + length gap) (m + length (gap ++ marker))) gap (gap ++ marker) goes))
+            (cond-false (keeps_line t new kept (m + length gap) (m + length (gap ++ marker))) gap (gap ++ marker) goes))
             (cases_Bool (keeps_line t new kept (m + length gap) (m + length (gap ++ marker))))
           where
             behind : Bool
@@ -421,9 +421,20 @@ module _ (t new : List ℕ) (kept : Kept) (c d : Cut) (ss : List Segment) (h : C
             ap (λ (l : List Item). pre ++ l) (append_assoc u (end_item gap marker ∷ (i ∷ ws)) z ∙ sym (append_assoc u (end_item gap marker ∷ []) (i ∷ (ws ++ z)))) ∙ sym (append_assoc pre (u ++ (end_item gap marker ∷ [])) (i ∷ (ws ++ z))) in
             let all : items_of_cut d ≡ lead ++ (i ∷ (ws ++ z)) = are ∙ (ap (λ (l : List Item). pre ++ (l ++ z)) e ∙ group) in
             let stop = back_stop kept.back (items_of_cut d) lead i ws (all ∙ ap (λ (l : List Item). lead ++ (i ∷ (ws ++ l))) (sym back_same)) in
-            absurd (omega (arith, stop, ap (λ (l : List Item). text_length (i ∷ (ws ++ l))) back_same, cut_long new d h.new_is, ap text_length all,
-                joined_long lead (i ∷ (ws ++ z)), joined_long pre (u ++ (end_item gap marker ∷ [])), joined_long u (end_item gap marker ∷ []),
-                first_long (end_item gap marker) [], length-append gap marker, far, some))
+            absurd (omega (
+              arith,
+              stop,
+              ap (λ (l : List Item). text_length (i ∷ (ws ++ l))) back_same,
+              cut_long new d h.new_is,
+              ap text_length all,
+              joined_long lead (i ∷ (ws ++ z)),
+              joined_long pre (u ++ (end_item gap marker ∷ [])),
+              joined_long u (end_item gap marker ∷ []),
+              first_long (end_item gap marker) [],
+              length-append gap marker,
+              far,
+              some,
+            ))
 
     -- the lines of what is read are those of items between others
     among : Lines t new kept es (text_length pre) written ≤ Lines t new kept es 0 (items_of_cut d)
@@ -502,7 +513,7 @@ module _ (t new : List ℕ) (kept : Kept) (c d : Cut) (ss : List Segment) (h : C
           let text : t ≡ lead_bytes ++ (k.marker ++ items_text z []) =
           old_split ∙ (ap (λ l. take (length t - kept.back) t ++ l) cut_back.1 ∙ sym (append_assoc (take (length t - kept.back) t) cut_back.0 (k.marker ++ items_text z []))) in
           let whole : fresh true lead_bytes ≡ true = sym (begins_at lead_bytes (k.marker ++ items_text z []) (length t - (length new - from)) place)
-              ∙ (ap (λ (l : List ℕ). begins_line l (length t - (length new - from))) (sym text) ∙ k.began) in
+          ∙ (ap (λ (l : List ℕ). begins_line l (length t - (length new - from))) (sym text) ∙ k.began) in
           let own : fresh true lead ≡ true = fresh_any (fresh true (items_text f [])) lead (sym (fresh_joined true (items_text f []) lead) ∙ (ap (fresh true) (sym cut_tch.2) ∙ whole)) in
           ap (λ (l : List ℕ). begins_line l (length lead)) cut_tch.1 ∙ (begins_is lead k.marker ∙ own)
 

@@ -21,4 +21,4 @@ flow_found t s i d q steps left flow found cut is place sound line leads decoded
     let own : row_flow (length t) row_line'.row (behind_row q.row (cut_of t)) ≡ row_flow (length (cut_text (cut_of t))) row_line'.row (behind_row (d.first + row_line'.before) (cut_of t)) =
     λ j. row_flow (length (cut.text j)) row_line'.row (behind_row (sym (before_is s d (cut_of t) k q line) j) (cut_of t)) in
     flow_left d.first (cut_of t) k.document.stand.rows steps left (line_number d k.document.stand.rows q) row_line' flow found
-        (row_line_is s d (cut_of t) k q line) (decoded row_line'.row (row_in_cut s d (cut_of t) k q line) ∙ own) agrees (leads k.document) some)
+    (row_line_is s d (cut_of t) k q line) (decoded row_line'.row (row_in_cut s d (cut_of t) k q line) ∙ own) agrees (leads k.document) some)

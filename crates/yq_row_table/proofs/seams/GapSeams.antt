@@ -103,9 +103,18 @@ comment_line : (m column : ℕ) (l rest : List ℕ) → IsGapLine l rest → End
 comment_line m column l rest h =
     cond_both (is_outdented_comment m l) l (replicate column 32 ++ past_white l) (λ x. EndOf x rest)
     (λ _. (h.white, h.comment, h.line))
-    (λ _. (replicate column 32, h.comment,
-        record { break = h.line.break; spelled = ap (λ x. replicate column 32 ++ x) (past_line h.white h.comment l rest h.line).0; blank =
-        white_spaces column; as_comment = h.line.as_comment; ends = h.line.ends }))
+    (λ _. (
+      replicate column 32,
+      h.comment,
+      record {
+        break = h.line.break;
+        spelled = ap (λ x. replicate column 32 ++ x) (past_line h.white h.comment l rest h.line).0;
+        blank =
+            white_spaces column;
+        as_comment = h.line.as_comment;
+        ends = h.line.ends;
+      },
+    ))
 
 pub repaired_gap : (keep : Bool) (m column : ℕ) (ls : RawLines) (rest : List ℕ) → AreGapLines ls rest → IsGap (joined (repair keep m column ls)) rest
 unfolding repair

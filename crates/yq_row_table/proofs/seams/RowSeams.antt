@@ -86,8 +86,8 @@ bare_row limit r t new u e h f j =
     let n = parent_indent r in
     let text = alone_text n r.content t new u (search (rules, false≢true)) h.content f j in
     takes_place limit r t r.dashes r.mark (with_tail new r.content) u h (dashes_text_alike r.dashes _ _ (bare_text r.mark _ _ e text)) h.dashes
-        (bare_mark r.mark r.content t (with_tail new r.content) u e h.mark (alone_tail r.content new))
-        (content_seam n r.content t new u h.content f j)
+    (bare_mark r.mark r.content t (with_tail new r.content) u e h.mark (alone_tail r.content new))
+    (content_seam n r.content t new u h.content f j)
 
 -- a row with another tail, before another text
 pub row_tail : (limit : Limit) (r : Row) (t new u : List ℕ) → IsRow limit r t → TailFits (parent_indent r) new r.content u → Joined r.content t new u → TakesPlace limit r t (retail new r) u

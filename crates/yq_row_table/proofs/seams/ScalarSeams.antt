@@ -79,8 +79,8 @@ not_followed spaces b t h = elim (cases_Bool (is_space t)) [
       let here : not (follows false spaces g x) ≡ true = rw e at h in
       false_from_ne_true (follows false spaces (b ∷ g) x) (λ f.
       let more : follows false spaces g x ≡ true =
-          follow_more (is_empty x) (front (λ c. eqb c 35) x) (ends_text false x) (plain_may_follow spaces (last_line (b ∷ g)) x)
-          (plain_may_follow spaces (last_line g) x) (may_more spaces (last_line g) g x (is_feed b)) f in
+      follow_more (is_empty x) (front (λ c. eqb c 35) x) (ends_text false x) (plain_may_follow spaces (last_line (b ∷ g)) x)
+      (plain_may_follow spaces (last_line g) x) (may_more spaces (last_line g) g x (is_feed b)) f in
       false≢true (ap not (sym more) ∙ here)))
   | inr e ↦ (
       let here : (is_empty t || ends_text false t) ≡ true = rw e at h in

@@ -122,8 +122,8 @@ pub rows_appended : (front : List Row) (r : Row) (break : List ℕ) (new : List 
 rows_appended front r break new limit end h f pairs n =
     let own = rows_drop (length front) (front ++ (r ∷ [])) limit [] [] h in
     let asked : AreRows (asked_behind limit (take (length front) (front ++ (r ∷ [])))) (r ∷ []) [] [] =
-        subst (λ (rs : List Row). AreRows (asked_behind limit (take (length front) (front ++ (r ∷ [])))) rs [] []) (drop-append_seam front (r ∷ []))
-        own in
+    subst (λ (rs : List Row). AreRows (asked_behind limit (take (length front) (front ++ (r ∷ [])))) rs [] []) (drop-append_seam front (r ∷ []))
+    own in
     let last : AreRows (asked_behind limit front) (r ∷ []) [] [] = subst (λ (rs : List Row). AreRows (asked_behind limit rs) (r ∷ []) [] []) (take-append_seam front (r ∷ [])) asked in
     let kept = row_closed (asked_behind limit front) r break new end [] last.0 f pairs n refl in
     let behind : AreRows (limit_after (closed_by break r)) new end [] = subst (λ (l : Limit). AreRows l new end []) (sym (limit_closed break r)) n in

@@ -66,8 +66,8 @@ pub front_text : (c : Cut) (k i : ℕ) → cut_text c ≡ before_rows k i c ++ r
 front_text c k i =
     let p = nth_part k c in
     old_text c k i i (omega arith)
-        ∙ (ap (λ (rs : List Row). before_rows k i c ++ rows_text rs (first_gap (drop i p.rows) p.end ++ behind_rows k i c)) (none_between i p.rows)
-        ∙ ap (λ (x : List ℕ). before_rows k i c ++ x) (sym (first_text (drop i p.rows) p.end (behind_part k c))))
+    ∙ (ap (λ (rs : List Row). before_rows k i c ++ rows_text rs (first_gap (drop i p.rows) p.end ++ behind_rows k i c)) (none_between i p.rows)
+    ∙ ap (λ (x : List ℕ). before_rows k i c ++ x) (sym (first_text (drop i p.rows) p.end (behind_part k c))))
 
 -- in a cut an LF comes after each CR, so also from a row on
 pub row_pairs : (t : List ℕ) (c : Cut) (k i : ℕ) → IsCut t c → pairs_returns (rows_text (back_rows k i c) ((nth_part k c).end ++ behind_part k c)) ≡ true

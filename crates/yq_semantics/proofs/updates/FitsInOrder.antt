@@ -116,9 +116,9 @@ module _ (block : Bool) (lead : List (List ℕ)) (room : Room) (doc : ℕ) (root
       let r : Node = at_once (node_edits_of block lead cs) root in
       let one : AllFitRoot block lead room (change_ops doc c) r =
       change_fits c r (node_spared c.0 (node_edits_of block lead cs) root tree s.0)
-          (at_once_no_more (node_edits_of block lead cs)
-          (all_bring block lead cs (each_weaker (λ (d : Changed). MayChange room root d × WritesNone d.1) (λ d. WritesNone d.1) (λ d m. m.1) cs h.1))
-          root) h.0.1 h.0.0 in
+      (at_once_no_more (node_edits_of block lead cs)
+      (all_bring block lead cs (each_weaker (λ (d : Changed). MayChange room root d × WritesNone d.1) (λ d. WritesNone d.1) (λ d m. m.1) cs h.1))
+      root) h.0.1 h.0.0 in
       subst (λ (xs : List Changed). AllFitRoot block lead room (ops_of doc xs) root) (sym (reverse-cons c cs))
       (subst (λ (ops : List Operation). AllFitRoot block lead room ops root) (sym (ops_join block lead doc (reverse cs) (c ∷ [])))
       (fit_join block lead room (ops_of doc (reverse cs)) (change_ops doc c ++ []) root (fits_back tree cs s.1 h.1)

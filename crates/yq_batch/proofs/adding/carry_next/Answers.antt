@@ -56,4 +56,4 @@ returns-clause-ok c =
     let h = subst (λ (o : Option HeadChange). IfSome o (ChangesAt (operation_of c.args.op.now) c.args.at.now)) c.in-Some.is c.in_ok-found.ensures in
     λ _. change_on c.args.at.now (operation_of c.args.op.now) c.args.run.now c.in-Some.change c.requires.there c.requires.run h (c.comes_before.ensures c.if-not-comes_before.false) c.requires.fits
     (whole c.text_around-2.result) c.text_around-2.ensures c.in-Some-written-2.written c.in-Some-written-2.is (string_bytes c.in_ok-new-2.new)
-        c.in_ok-new-2.ensures c.filled_now-run.result c.filled_now-run.ensures c.put-2.new.self c.in_ok-put-2.ensures.ok
+    c.in_ok-new-2.ensures c.filled_now-run.result c.filled_now-run.ensures c.put-2.new.self c.in_ok-put-2.ensures.ok

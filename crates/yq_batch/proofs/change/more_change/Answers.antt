@@ -18,9 +18,9 @@ moved_place-requires c =
     let x = head_with c.args.at.now.head c.in-Some.left in
     let q = inline_view c.in-Some-collection_near.node.now in
     let f = coll_found c.args.at.now.cut.now c.in-Append.path.doc (steps_of c.in-Append.path) (Some x) x q c.requires.read
-        (more_head c.args.at.now c.requires c.in-Append.path.doc (steps_of c.in-Append.path) c.in-Some.left c.if-path-at.false steps) refl
-        (c.in-Some-collection_near.ensures
-        ∙ ap (λ (b : Inline). collection_along (map tree_step c.in-Some.left.now) (inline_view b)) c.deref-2.ensures) in
+    (more_head c.args.at.now c.requires c.in-Append.path.doc (steps_of c.in-Append.path) c.in-Some.left c.if-path-at.false steps) refl
+    (c.in-Some-collection_near.ensures
+    ∙ ap (λ (b : Inline). collection_along (map tree_step c.in-Some.left.now) (inline_view b)) c.deref-2.ensures) in
     let h =
     subst (AreMore c.in-Append.path.doc (steps_of c.in-Append.path) (borrowed c.as_deref.result) (value_node c.in-Append.value) (cut_with c.args.at.now) c.args.at.now.head.before) c.in-Some-put.is
     (more_found _ _ _ (borrowed c.as_deref.result) (value_node c.in-Append.value) x q f c.in_ok-put.put c.in_ok-put.ensures) in
@@ -32,18 +32,23 @@ returns c =
     let x = head_with c.args.at.now.head c.in-Some.left in
     let q = inline_view c.in-Some-collection_near.node.now in
     let f = coll_found c.args.at.now.cut.now c.in-Append.path.doc (steps_of c.in-Append.path) (Some x) x q c.requires.read
-        (more_head c.args.at.now c.requires c.in-Append.path.doc (steps_of c.in-Append.path) c.in-Some.left c.if-path-at.false steps) refl
-        (c.in-Some-collection_near.ensures
-        ∙ ap (λ (b : Inline). collection_along (map tree_step c.in-Some.left.now) (inline_view b)) c.deref-2.ensures) in
+    (more_head c.args.at.now c.requires c.in-Append.path.doc (steps_of c.in-Append.path) c.in-Some.left c.if-path-at.false steps) refl
+    (c.in-Some-collection_near.ensures
+    ∙ ap (λ (b : Inline). collection_along (map tree_step c.in-Some.left.now) (inline_view b)) c.deref-2.ensures) in
     let h =
     subst (AreMore c.in-Append.path.doc (steps_of c.in-Append.path) (borrowed c.as_deref.result) (value_node c.in-Append.value) (cut_with c.args.at.now) c.args.at.now.head.before) c.in-Some-put.is
     (more_found _ _ _ (borrowed c.as_deref.result) (value_node c.in-Append.value) x q f c.in_ok-put.put c.in_ok-put.ensures) in
     let place = c.moved_place.ensures in
     subst (λ (b : Bool). ChangesBy b (operation_of c.args.op.now) c.args.at.now
-        (record { place = c.moved_place.result; lead = c.in-Some-put.field-0.place.lead; written = Some c.in-Some-put.field-0.written; steps =
-        c.in-Some.left })) (sym place.more)
+    (record {
+      place = c.moved_place.result;
+      lead = c.in-Some-put.field-0.place.lead;
+      written = Some c.in-Some-put.field-0.written;
+      steps =
+          c.in-Some.left;
+    })) (sym place.more)
     (adds_at c.args.at.now (operation_of c.args.op.now) c.in-Append.path.doc (steps_of c.in-Append.path) (map tree_step c.in-Some.left.now) (borrowed c.as_deref.result) (value_node c.in-Append.value) c.in-Some-put.field-0 _
     (ap operation_of c.in-Append.is
-        ∙ ap (λ (k : Option (List ℕ)). append c.in-Append.path.doc (steps_of c.in-Append.path) k (value_node c.in-Append.value))
-        (sym c.as_deref.ensures.value)) c.operand_holds.ensures c.if-path-at.false steps h refl
+    ∙ ap (λ (k : Option (List ℕ)). append c.in-Append.path.doc (steps_of c.in-Append.path) k (value_node c.in-Append.value))
+    (sym c.as_deref.ensures.value)) c.operand_holds.ensures c.if-path-at.false steps h refl
     (λ i. record { start = place.start i; end = place.end i; lead = c.in-Some-put.field-0.place.lead.now }) refl)

@@ -16,9 +16,9 @@ pub part_near-requires : goal.part_near-requires
 part_near-requires c =
     let last = c.in-Some-last_step.ensures ∙ ap (λ ss. last_step (map tree_step ss)) c.deref.ensures.value in
     collection_unique c.args.at.now.cut.now c.in-Replace.path.doc _ (head_with c.args.at.now.head c.in-Some.left) c.requires.read
-        (head_there c.args.at.now c.requires c.in-Replace.path.doc _ _ (steps_of c.in-Replace.path) c.in-Some.left last c.in-Some.ensures) _
-        (c.in-Some-collection_near.ensures
-        ∙ ap (λ (b : Inline). collection_along (map tree_step c.in-Some.left.now) (inline_view b)) c.deref-2.ensures)
+    (head_there c.args.at.now c.requires c.in-Replace.path.doc _ _ (steps_of c.in-Replace.path) c.in-Some.left last c.in-Some.ensures) _
+    (c.in-Some-collection_near.ensures
+    ∙ ap (λ (b : Inline). collection_along (map tree_step c.in-Some.left.now) (inline_view b)) c.deref-2.ensures)
 
 pub moved_place-requires : goal.moved_place-requires
 moved_place-requires c =
@@ -27,10 +27,10 @@ moved_place-requires c =
     let x = head_with c.args.at.now.head c.in-Some.left in
     let q = inline_view c.in-Some-collection_near.node.now in
     let f = coll_found c.args.at.now.cut.now c.in-Replace.path.doc _ (Some x) x q c.requires.read agrees refl
-        (c.in-Some-collection_near.ensures
-        ∙ ap (λ (b : Inline). collection_along (map tree_step c.in-Some.left.now) (inline_view b)) c.deref-2.ensures) in
+    (c.in-Some-collection_near.ensures
+    ∙ ap (λ (b : Inline). collection_along (map tree_step c.in-Some.left.now) (inline_view b)) c.deref-2.ensures) in
     let h = puts_found _ _ (steps_of c.in-Replace.path) _ (tree_step c.in-Some-last_step.last.now) x q last f _ c.in-Some-part_near.ensures
-        (entry_view c.in-Some-part_near.entry) refl (value_node c.in-Replace.value) c.in_ok-put.put c.in_ok-put.ensures in
+    (entry_view c.in-Some-part_near.entry) refl (value_node c.in-Replace.value) c.in_ok-put.put c.in_ok-put.ensures in
     record { order = omega (arith, h.2.lies.order); small = omega (arith, h.2.lies.small, h.2.lies.end.0) }
 
 pub returns : goal.returns
@@ -40,10 +40,10 @@ returns c =
     let x = head_with c.args.at.now.head c.in-Some.left in
     let q = inline_view c.in-Some-collection_near.node.now in
     let f = coll_found c.args.at.now.cut.now c.in-Replace.path.doc _ (Some x) x q c.requires.read agrees refl
-        (c.in-Some-collection_near.ensures
-        ∙ ap (λ (b : Inline). collection_along (map tree_step c.in-Some.left.now) (inline_view b)) c.deref-2.ensures) in
+    (c.in-Some-collection_near.ensures
+    ∙ ap (λ (b : Inline). collection_along (map tree_step c.in-Some.left.now) (inline_view b)) c.deref-2.ensures) in
     let h = puts_found _ _ (steps_of c.in-Replace.path) _ (tree_step c.in-Some-last_step.last.now) x q last f _ c.in-Some-part_near.ensures
-        (entry_view c.in-Some-part_near.entry) refl (value_node c.in-Replace.value) c.in_ok-put.put c.in_ok-put.ensures in
+    (entry_view c.in-Some-part_near.entry) refl (value_node c.in-Replace.value) c.in_ok-put.put c.in_ok-put.ensures in
     let place = c.moved_place.ensures in
     subst (λ (b : Bool). ChangesBy b (operation_of c.args.op.now) c.args.at.now (record { place = c.moved_place.result; lead = c.in_ok-put.put.place.lead; written = c.in_ok-put.put.written; steps = c.in-Some.left })) (sym place.more)
     (puts_at c.args.at.now (operation_of c.args.op.now) c.in-Replace.path.doc (steps_of c.in-Replace.path) (value_node c.in-Replace.value) c.in_ok-put.put _

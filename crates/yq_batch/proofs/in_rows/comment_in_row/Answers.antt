@@ -6,7 +6,7 @@ use Rattle.yq_batch.proofs.in_rows.comment_in_row.Goals as goal
 pub overflow_add-at : goal.overflow_add-at
 overflow_add-at c =
     let fits = comment_fits c.args.cut.now c.args.path.now.doc (steps_of c.args.path.now) c.line_end.result.0.now c.line_end.result.1.now
-        c.args.at.now c.text-text.ensures.read c.requires.row c.line_end.ensures.white c.line_end.ensures.comment in
+    c.args.at.now c.text-text.ensures.read c.requires.row c.line_end.ensures.white c.line_end.ensures.comment in
     omega (arith, fits)
 
 pub comment_place-start-requires : goal.comment_place-start-requires

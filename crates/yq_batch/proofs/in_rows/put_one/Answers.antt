@@ -36,13 +36,13 @@ returns-in_err-put-clause-err c =
     let p = err_from_is_err_and c.from_residual-in_err-put.result c.from_residual-in_err-put.ensures.1 in
     rw (p.1, p.2) (row_put_fails c.args.cut.now (whole c.text-text.result) (operation_of c.args.op.now) c.args.last c.args.run.now c.in-Some.found c.text-text.ensures.read c.text-text.ensures.text c.requires.run h
     (c.is_behind.ensures c.if-not-is_behind.false) (omega (arith, c.if-start-run.false)) c.requires.fits
-        (c.writes_same_break.ensures c.if-not-writes_same_break.false) c.in-Some-written.written c.in-Some-written.is c.in_err-put.field-0.0
-        c.in_err-put.ensures.err)
+    (c.writes_same_break.ensures c.if-not-writes_same_break.false) c.in-Some-written.written c.in-Some-written.is c.in_err-put.field-0.0
+    c.in_err-put.ensures.err)
 
 pub returns-clause-ok : goal.returns-clause-ok
 returns-clause-ok c =
     let h = subst (λ (o : Option RowPut). IfSome o (PutsInRow (operation_of c.args.op.now) (cut_of c.args.cut.now))) c.in-Some.is c.in_ok-found.ensures.puts in
     row_put_on c.args.cut.now (whole c.text-text.result) (operation_of c.args.op.now) c.args.last c.args.run.now c.in-Some.found c.text-text.ensures.read c.text-text.ensures.text c.requires.run h
     (c.is_behind.ensures c.if-not-is_behind.false) (omega (arith, c.if-start-run.false)) c.requires.fits
-        (c.writes_same_break.ensures c.if-not-writes_same_break.false) c.in-Some-written.written c.in-Some-written.is c.put.new.self
-        c.in_ok-put.ensures.ok
+    (c.writes_same_break.ensures c.if-not-writes_same_break.false) c.in-Some-written.written c.in-Some-written.is c.put.new.self
+    c.in_ok-put.ensures.ok

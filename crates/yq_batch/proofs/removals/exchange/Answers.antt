@@ -22,8 +22,8 @@ returns-clause-ok c =
       splices =
           c.in_ok-push_splice.ensures
           ∙ λ i. c.args.run.now.splices.items
-              ++ splice_at c.args.start
-              ((c.in_ok-old.ensures ∙ (c.between.ensures ∙ ap (λ (l : List ℕ). drop c.args.start (take c.args.end l)) whole_is)) i)
-              ((c.in_ok-written.ensures.items ∙ c.as_bytes.ensures.value) i);
+          ++ splice_at c.args.start
+          ((c.in_ok-old.ensures ∙ (c.between.ensures ∙ ap (λ (l : List ℕ). drop c.args.start (take c.args.end l)) whole_is)) i)
+          ((c.in_ok-written.ensures.items ∙ c.as_bytes.ensures.value) i);
       size = omega (arith, ap length text, c.len.ensures, c.if-len-gt-TEXT_LIMIT.false);
     }

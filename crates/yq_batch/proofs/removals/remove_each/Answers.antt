@@ -28,8 +28,8 @@ operations-preserved c =
     let t : List ℕ = buffer_text c.operations.run.text in
     let m : List ℕ = buffer_text c.remove_one.new.run.text in
     let on = subst (λ (o : Option (Option LeftOf)). IfSome o
-        (λ k. RemovesOn (operation_of c.op-item.result) (cut_with c.args.at.now) c.args.at.now.doc (stem_of c.args.at.now) c.operations.run k
-        c.remove_one.new.run)) c.in-Some.is c.in_ok-found.ensures.ok in
+    (λ k. RemovesOn (operation_of c.op-item.result) (cut_with c.args.at.now) c.args.at.now.doc (stem_of c.args.at.now) c.operations.run k
+    c.remove_one.new.run)) c.in-Some.is c.in_ok-found.ensures.ok in
     record {
       whole =
           others_come c.operations.rest.now c.op-item.result t m c.operations.run.splices.items on.new_bytes c.remove_one.new.run.splices.items c.in-len1-up.len_at_least c.op-item.is on.comes on.splices

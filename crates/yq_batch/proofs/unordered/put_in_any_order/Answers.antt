@@ -20,7 +20,7 @@ operations-preserved c =
     let m : List ℕ = open_text (cut_with c.args.at.now) c.put.new.self in
     let fits = first_fits c.operations.rest.now c.op-item.result t c.in-len1-up.len_at_least c.op-item.is c.operations.invariant.serves in
     let on = opens c.args.at.now (whole c.text_around-text.result) c.text_around-text.ensures (operation_of c.op-item.result) c.operations.run
-        c.in-Some-found.change c.requires.there c.operations.invariant.runs fits h c.put.new.self (c.in_ok-put.ensures c.if-not-branch.false) in
+    c.in-Some-found.change c.requires.there c.operations.invariant.runs fits h c.put.new.self (c.in_ok-put.ensures c.if-not-branch.false) in
     record {
       whole =
           others_come c.operations.rest.now c.op-item.result t m c.operations.run.splices.items on.new_bytes c.put.new.self.splices.items c.in-len1-up.len_at_least c.op-item.is on.comes on.splices
@@ -36,7 +36,7 @@ operations-preserved-else-not-branch c =
     let m : List ℕ = open_text (cut_with c.args.at.now) c.put.new.self in
     let fits = first_fits c.operations.rest.now c.op-item.result t c.in-len1-up.len_at_least c.op-item.is c.operations.invariant.serves in
     let on = opens c.args.at.now (whole c.text_around-text.result) c.text_around-text.ensures (operation_of c.op-item.result) c.operations.run
-        c.in-Some-found.change c.requires.there c.operations.invariant.runs fits h c.put.new.self (c.in_ok-put.ensures c.if-not-branch.false) in
+    c.in-Some-found.change c.requires.there c.operations.invariant.runs fits h c.put.new.self (c.in_ok-put.ensures c.if-not-branch.false) in
     record {
       whole =
           others_come c.operations.rest.now c.op-item.result t m c.operations.run.splices.items on.new_bytes c.put.new.self.splices.items c.in-len1-up.len_at_least c.op-item.is on.comes on.splices

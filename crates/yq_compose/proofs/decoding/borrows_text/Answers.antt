@@ -9,5 +9,5 @@ returns-then-is_quoted_line c = sym (ap lent (sym c.as_bytes.ensures.value) ∙ 
 pub returns : goal.returns
 returns c =
     borrows_quoted c.args.piece.now c.borrowed_text.result.now c.holds_escape.result (sym c.holds_break.ensures ∙ c.if-holds_break.false)
-        (ap is_quoted (sym c.as_bytes-2.ensures.value) ∙ (sym c.is_quoted.ensures ∙ c.if-not-is_quoted.false)) c.borrowed_text.ensures
+    (ap is_quoted (sym c.as_bytes-2.ensures.value) ∙ (sym c.is_quoted.ensures ∙ c.if-not-is_quoted.false)) c.borrowed_text.ensures
     (c.holds_escape.ensures ∙ ap (λ (x : Bool). list_any (λ b. eqb b (cond x 92 39)) c.borrowed_text.result.now) (c.first_is-is_double.ensures ∙ ap (begins_with 34) c.as_bytes-3.ensures.value))

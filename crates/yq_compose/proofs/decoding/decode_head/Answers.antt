@@ -98,7 +98,7 @@ returns-in-Ok-clause-agrees c = λ r is.
     let f : SFits w64 c.parent_indent-parent.result = search rules in
     let parent = to_z-of_z w64 c.parent_indent-parent.result f ∙ (c.parent_indent-parent.ensures ∙ ap (λ (x : Slices). x.parent) (same_Some _ _ (sym c.row.ensures ∙ pieces))) in
     read_decoded c.args.text.now c.args.rows.now k c.args.i r is c.split_at.result.1.now c.head_place-start.result.0 c.split_at.ensures.back start _
-        c.head-head.result.now parent head (kept.TheVariants.Owned c.in-Ok.head) c.in-Ok.ensures.view c.in-Ok.ensures.flow
+    c.head-head.result.now parent head (kept.TheVariants.Owned c.in-Ok.head) c.in-Ok.ensures.view c.in-Ok.ensures.flow
 
 pub returns-in-Err-clause-fits : goal.returns-in-Err-clause-fits
 returns-in-Err-clause-fits c = λ r is.
@@ -126,7 +126,7 @@ returns-in-Some-clause-fits c = λ r is.
     let head = c.head-head.ensures (slices r) (pieces_there c.args.text.now c.args.rows.now k c.args.i r is) in
     let start = ap (λ (x : ℕ × ℕ). x.0) (c.head_place-start.ensures (cut_of c.args.text.now) k.rows r is) in
     fit_agrees _ _ _ _ (head_read c.args.text.now c.args.rows.now k c.args.i r is c.split_at.result.1.now c.head_place-start.result.0
-        c.split_at.ensures.back start (parent_indent r) c.head-head.result.now refl head) (c.in-Some.ensures.view (parent_indent r))
+    c.split_at.ensures.back start (parent_indent r) c.head-head.result.now refl head) (c.in-Some.ensures.view (parent_indent r))
 
 pub returns-in-Some-clause-agrees : goal.returns-in-Some-clause-agrees
 returns-in-Some-clause-agrees c = λ r is.
@@ -134,5 +134,5 @@ returns-in-Some-clause-agrees c = λ r is.
     let head = c.head-head.ensures (slices r) (pieces_there c.args.text.now c.args.rows.now k c.args.i r is) in
     let start = ap (λ (x : ℕ × ℕ). x.0) (c.head_place-start.ensures (cut_of c.args.text.now) k.rows r is) in
     read_decoded c.args.text.now c.args.rows.now k c.args.i r is c.split_at.result.1.now c.head_place-start.result.0 c.split_at.ensures.back start
-        (parent_indent r) c.head-head.result.now refl head (kept.TheVariants.Borrowed c.in-Some.node) (c.in-Some.ensures.view (parent_indent r))
-        (c.in-Some.ensures.flow (parent_indent r))
+    (parent_indent r) c.head-head.result.now refl head (kept.TheVariants.Borrowed c.in-Some.node) (c.in-Some.ensures.view (parent_indent r))
+    (c.in-Some.ensures.flow (parent_indent r))

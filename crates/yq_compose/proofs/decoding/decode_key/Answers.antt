@@ -56,8 +56,8 @@ quoted_content-requires c =
     let k = c.requires.cut in
     let r = row_at c.args.text.now c.args.rows.now k c.args.i c.requires.within in
     key_quoted c.args.text.now c.args.rows.now k c.args.i r.0 r.1 c.key-key.result.now
-        (c.key-key.ensures (slices r.0) (pieces_there c.args.text.now c.args.rows.now k c.args.i r.0 r.1))
-        (ap is_quoted (sym c.as_bytes-2.ensures.value) ∙ (sym c.is_quoted.ensures ∙ c.if-not-is_quoted.false))
+    (c.key-key.ensures (slices r.0) (pieces_there c.args.text.now c.args.rows.now k c.args.i r.0 r.1))
+    (ap is_quoted (sym c.as_bytes-2.ensures.value) ∙ (sym c.is_quoted.ensures ∙ c.if-not-is_quoted.false))
 
 pub returns-clause-fits : goal.returns-clause-fits
 returns-clause-fits c = λ r is.

@@ -21,9 +21,9 @@ returns-in-Err-clause-sound c = λ k.
     denies_as c.in-Err.e _ _
     (λ bad.
     let unsound = lines_unsound ls
-        (sym (ap (λ (n : ℕ). is_sound_outline depth_limit (part ls n 0))
-        (first_number c.args.x.document k.document.rows
-        ∙ ap (line_number c.args.x.document k.document.rows) (sym c.with_level-start.ensures.position)) ∙ bad)) in
+    (sym (ap (λ (n : ℕ). is_sound_outline depth_limit (part ls n 0))
+    (first_number c.args.x.document k.document.rows
+    ∙ ap (line_number c.args.x.document k.document.rows) (sym c.with_level-start.ensures.position)) ∙ bad)) in
     (λ i. sym (c.if-not-has_short_root.ensures k.document) i && sym unsound i))
     (c.in-Err.ensures.sound k)
 

@@ -8,7 +8,7 @@ parts-preserved c = record {
   within = omega (arith, c.parts-test.true, c.parts-in-parts.ensures);
   so_far = part_step c.args.rows.now.rows c.parts.is_document c.parts.from c.parts.at c.args.rows.now.bounds (bound_view c.part-bound.result) c.part-bound.ensures c.begins_document-is_document.result
       (c.begins_document-is_document.ensures ∙ ap begins_document c.as_bytes.ensures.value) (documents_view c.parts.documents.items)
-          (documents_view c.in_ok-documents-2.documents.items) _ c.parts.invariant.so_far c.in_ok-documents-2.ensures;
+      (documents_view c.in_ok-documents-2.documents.items) _ c.parts.invariant.so_far c.in_ok-documents-2.ensures;
 }
 
 pub returns : goal.returns

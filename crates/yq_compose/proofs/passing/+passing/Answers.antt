@@ -71,5 +71,5 @@ pass_entries-each-preserved t c =
           subst (λ (ks : List (List ℕ)). ArePassedParts d 125 ks c.args.text.now r) (sym (keys_more c.each.keys.items key more) ∙ ap (λ ks. map (λ k. k.now) ks ++ more) (sym c.in-Ok-push.ensures.ok))
           (c.each.invariant.so_far d (key.now ∷ more) r (omega (arith, c.max-nested.ensures, le))
           (entry_passed node.nested d c.each.rest.now key.now c.in_ok-key.value.now node.rest.now c.in-Ok.after.now r more
-              (omega (arith, c.max-nested.ensures, le)) c.in_ok-key.ensures.passed c.in_ok-node.ensures.passed c.in-Ok.ensures.read a));
+          (omega (arith, c.max-nested.ensures, le)) c.in_ok-key.ensures.passed c.in_ok-node.ensures.passed c.in-Ok.ensures.read a));
     }

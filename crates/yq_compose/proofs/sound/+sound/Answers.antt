@@ -91,7 +91,7 @@ check_lines-returns-then-depth-eq0-clause-sound t c = λ r.
     let h = r.document in
     let k = located c.args.x.rows.now c.args.x.document h c.args.start.position (position_line c.args.x.rows.now c.args.x.document c.args.start.position c.requires.start.position (c.if-not-is_deeper.ensures.some refl)) in
     start_deep (lines_of_rows h.rows) (line_number c.args.x.document h.rows c.args.start.position) c.args.floor c.args.depth k.line k.is
-        (c.if-not-is_deeper.ensures.test h) (entry_is k.line.mark (c.if-is_bare.ensures h k.line k.is)) c.if-depth-eq0.true
+    (c.if-not-is_deeper.ensures.test h) (entry_is k.line.mark (c.if-is_bare.ensures h k.line k.is)) c.if-depth-eq0.true
 
 pub check_lines-lines-init : goal.check_lines-lines-init
 check_lines-lines-init t c =
@@ -107,9 +107,9 @@ check_lines-lines-init t c =
           let h = r.document in
           let k = located c.args.x.rows.now c.args.x.document h c.args.start.position at in
           rw (c.requires.start.agrees at.upto h k.line k.is, c.new-keys.ensures.items)
-              (start_asked (lines_of_rows h.rows) (line_number c.args.x.document h.rows c.args.start.position) c.args.floor c.args.depth k.line k.is
-              (c.if-not-is_deeper.ensures.test h) (c.args.depth - 1) (entry_is k.line.mark (c.if-is_bare.ensures h k.line k.is))
-              (omega (arith, c.if-depth-eq0.false)));
+          (start_asked (lines_of_rows h.rows) (line_number c.args.x.document h.rows c.args.start.position) c.args.floor c.args.depth k.line k.is
+          (c.if-not-is_deeper.ensures.test h) (c.args.depth - 1) (entry_is k.line.mark (c.if-is_bare.ensures h k.line k.is))
+          (omega (arith, c.if-depth-eq0.false)));
       stop = λ h. refl;
     }
 
@@ -125,8 +125,8 @@ check_lines-returns-in-Err-clause-sound t c = λ r.
     denies_as c.in-Err.e _ _
     (λ bad.
     sym (one_fails (lines_of_rows h.rows) (num c.lines.at.position) c.args.floor _ (c.args.depth - 1) c.args.start.level
-        (map (λ k. k.now) c.lines.keys.items) k.line k.is (c.lines-test.ensures.test h) ends c.lines.invariant.entries _ (c.lines.invariant.so_far r)
-        (sym bad)))
+    (map (λ k. k.now) c.lines.keys.items) k.line k.is (c.lines-test.ensures.test h) ends c.lines.invariant.entries _ (c.lines.invariant.so_far r)
+    (sym bad)))
     (c.in-Err.ensures.sound r k.line k.is)
 
 pub check_lines-lines-preserved : goal.check_lines-lines-preserved
@@ -144,9 +144,9 @@ check_lines-lines-preserved t c =
           let k = located x.rows.now x.document h c.lines.at.position at in
           let num = line_number x.document h.rows in
           rw (c.in_ok-push_key.ensures h k.line k.is)
-              (one_passes (lines_of_rows h.rows) (num c.lines.at.position) c.args.floor (num c.in-Ok.after.position) (c.args.depth - 1)
-              c.args.start.level (map (λ k. k.now) c.lines.keys.items) k.line k.is (c.lines-test.ensures.test h) (g.end h) c.lines.invariant.entries
-              _ (c.lines.invariant.so_far r) (sym (c.in-Ok.ensures.sound r k.line k.is)));
+          (one_passes (lines_of_rows h.rows) (num c.lines.at.position) c.args.floor (num c.in-Ok.after.position) (c.args.depth - 1)
+          c.args.start.level (map (λ k. k.now) c.lines.keys.items) k.line k.is (c.lines-test.ensures.test h) (g.end h) c.lines.invariant.entries
+          _ (c.lines.invariant.so_far r) (sym (c.in-Ok.ensures.sound r k.line k.is)));
       stop = λ h. stop_same x.rows.now x.document h c.args.start.position c.lines.at.position c.in-Ok.after.position c.args.floor at (c.lines.invariant.stop h) (not_end _ (c.lines-test.ensures.test h)) g;
     }
 

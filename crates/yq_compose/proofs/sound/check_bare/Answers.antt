@@ -32,7 +32,7 @@ returns-in-Ok-clause-sound c = λ r l is.
 pub returns-in-Ok-clause-behind : goal.returns-in-Ok-clause-behind
 returns-in-Ok-clause-behind c =
     gives_bare c.args.x.rows.now c.args.x.document c.args.at.position c.line_behind-after.result.position c.args.floor c.requires.line
-        c.line_behind-after.ensures.reached.position c.line_behind-after.ensures.number c.if-not-has_head.ensures c.requires.deep
+    c.line_behind-after.ensures.reached.position c.line_behind-after.ensures.number c.if-not-has_head.ensures c.requires.deep
     (λ h. is_at_end _ (c.if-is_deeper.ensures.test h))
 
 pub returns-in-Ok-clause-reached : goal.returns-in-Ok-clause-reached

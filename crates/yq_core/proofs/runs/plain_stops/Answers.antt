@@ -9,8 +9,8 @@ returns c =
     let long = c.fits-v.0 in
     lanes_mask _ (is_stop Plain) v _ long
     (zip2_of_maps bit_or _ _ v
-        (zip2_of_maps bit_or _ _ v
-        (zip2_of_maps bit_or _ _ v (zip2_of_maps bit_or _ _ v (zip2_splat _ v 16 32 long) (zip2_splat _ v 16 58 long)) (zip2_splat _ v 16 44 long))
-        (zip2_of_maps _ _ _ v (zip2_splat bit_or v 16 32 long) (splat_is_map v 16 123 long)))
-        (zip2_of_maps _ _ _ v (zip2_splat bit_or v 16 32 long) (splat_is_map v 16 125 long)))
+    (zip2_of_maps bit_or _ _ v
+    (zip2_of_maps bit_or _ _ v (zip2_of_maps bit_or _ _ v (zip2_splat _ v 16 32 long) (zip2_splat _ v 16 58 long)) (zip2_splat _ v 16 44 long))
+    (zip2_of_maps _ _ _ v (zip2_splat bit_or v 16 32 long) (splat_is_map v 16 123 long)))
+    (zip2_of_maps _ _ _ v (zip2_splat bit_or v 16 32 long) (splat_is_map v 16 125 long)))
     (each_byte _ (is_stop Plain) refl v c.fits-v.1)

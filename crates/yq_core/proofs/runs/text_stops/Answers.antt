@@ -9,9 +9,9 @@ returns c =
     let long = c.fits-v.0 in
     lanes_mask _ (is_stop Text) v _ long
     (zip2_of_maps bit_or _ _ v
-        (zip2_of_maps bit_or _ _ v
-        (zip2_of_maps bit_or _ _ v
-        (zip2_of_maps bit_and _ _ v
-        (zip2_of_maps bit_and _ _ v (zip2_of_maps bit_and _ _ v (zip2_splat _ v 16 32 long) (zip2_splat _ v 16 9 long)) (zip2_splat _ v 16 10 long))
-        (zip2_splat _ v 16 13 long)) (zip2_splat _ v 16 127 long)) (zip2_splat _ v 16 194 long)) (zip2_splat _ v 16 239 long))
+    (zip2_of_maps bit_or _ _ v
+    (zip2_of_maps bit_or _ _ v
+    (zip2_of_maps bit_and _ _ v
+    (zip2_of_maps bit_and _ _ v (zip2_of_maps bit_and _ _ v (zip2_splat _ v 16 32 long) (zip2_splat _ v 16 9 long)) (zip2_splat _ v 16 10 long))
+    (zip2_splat _ v 16 13 long)) (zip2_splat _ v 16 127 long)) (zip2_splat _ v 16 194 long)) (zip2_splat _ v 16 239 long))
     (each_byte _ (is_stop Text) refl v c.fits-v.1)

@@ -6,8 +6,8 @@ use Rattle.yq_documents.proofs.parts.some_begin.Goals as goal
 pub returns-then-begins_document : goal.returns-then-begins_document
 returns-then-begins_document c =
     sym (sym c.parts.invariant.so_far
-        ∙ begin_here c.args.rows.now.bounds c.parts.at (bound_view c.part.result) c.part.ensures
-        (ap begins_document (sym c.as_bytes.ensures.value) ∙ (sym c.begins_document.ensures ∙ c.if-begins_document.true)))
+    ∙ begin_here c.args.rows.now.bounds c.parts.at (bound_view c.part.result) c.part.ensures
+    (ap begins_document (sym c.as_bytes.ensures.value) ∙ (sym c.begins_document.ensures ∙ c.if-begins_document.true)))
 
 pub parts-preserved : goal.parts-preserved
 parts-preserved c = record {

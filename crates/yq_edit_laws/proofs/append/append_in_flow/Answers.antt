@@ -42,5 +42,5 @@ returns c =
     let h = subst (AreMore c.args.path.now.doc (steps_of c.args.path.now) (borrowed c.args.key) (value_node c.args.value.now) (cut_of c.args.cut.now) c.in-Some.head.before) c.in-Some-put.is more in
     let all = whole_text c.args.cut.now (whole c.text-text.result) c.text-text.ensures.read c.text-text.ensures.text in
     subst (GivesSegments c.edit_at.result)
-        (sym (more_written c.args.path.now.doc (steps_of c.args.path.now) (borrowed c.args.key) (value_node c.args.value.now) (cut_of c.args.cut.now)
-        c.in-Some.head.before c.in-Some-put.field-0 (whole c.text-text.result) all h)) c.edit_at.ensures
+    (sym (more_written c.args.path.now.doc (steps_of c.args.path.now) (borrowed c.args.key) (value_node c.args.value.now) (cut_of c.args.cut.now)
+    c.in-Some.head.before c.in-Some-put.field-0 (whole c.text-text.result) all h)) c.edit_at.ensures

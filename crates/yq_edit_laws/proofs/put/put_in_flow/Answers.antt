@@ -31,7 +31,7 @@ edit_at-requires c =
     let q = inline_view c.in-Some-collection_in.node.now in
     let f = coll_found c.args.cut.now c.args.path.now.doc (map tree_step c.in-Some.above.now) _ c.in-Some-found.head q c.text-text.ensures.read c.in_ok-found.ensures.found c.in-Some-found.is c.in-Some-collection_in.ensures in
     let h = puts_found _ _ (steps_of c.args.path.now) _ (tree_step c.in-Some.last.now) c.in-Some-found.head q last f _ c.in-Some-part_near.ensures
-        (entry_view c.in-Some-part_near.entry) refl (value_node c.args.value.now) c.in_ok-put.put c.in_ok-put.ensures in
+    (entry_view c.in-Some-part_near.entry) refl (value_node c.args.value.now) c.in_ok-put.put c.in_ok-put.ensures in
     let all = whole_text c.args.cut.now (whole c.text-text.result) c.text-text.ensures.read c.text-text.ensures.text in
     record { lies = subst (λ (t : List ℕ). LiesIn t (place_after c.in-Some-found.head.before c.in_ok-put.put.place)) (sym all) h.2.lies }
 
@@ -41,12 +41,12 @@ returns-in-Some-written c =
     let q = inline_view c.in-Some-collection_in.node.now in
     let f = coll_found c.args.cut.now c.args.path.now.doc (map tree_step c.in-Some.above.now) _ c.in-Some-found.head q c.text-text.ensures.read c.in_ok-found.ensures.found c.in-Some-found.is c.in-Some-collection_in.ensures in
     let h = puts_found _ _ (steps_of c.args.path.now) _ (tree_step c.in-Some.last.now) c.in-Some-found.head q last f _ c.in-Some-part_near.ensures
-        (entry_view c.in-Some-part_near.entry) refl (value_node c.args.value.now) c.in_ok-put.put c.in_ok-put.ensures in
+    (entry_view c.in-Some-part_near.entry) refl (value_node c.args.value.now) c.in_ok-put.put c.in_ok-put.ensures in
     let all = whole_text c.args.cut.now (whole c.text-text.result) c.text-text.ensures.read c.text-text.ensures.text in
     subst (GivesSegments c.edit_at.result)
-        (sym (puts_written c.args.path.now.doc (steps_of c.args.path.now) (value_node c.args.value.now) (cut_of c.args.cut.now)
-        c.in-Some-found.head.before c.in_ok-put.put c.in-Some-written.written (whole c.text-text.result) c.in-Some-written.is all h))
-        c.edit_at.ensures
+    (sym (puts_written c.args.path.now.doc (steps_of c.args.path.now) (value_node c.args.value.now) (cut_of c.args.cut.now)
+    c.in-Some-found.head.before c.in_ok-put.put c.in-Some-written.written (whole c.text-text.result) c.in-Some-written.is all h))
+    c.edit_at.ensures
 
 pub returns : goal.returns
 returns c =
@@ -54,5 +54,5 @@ returns c =
     let q = inline_view c.in-Some-collection_in.node.now in
     let f = coll_found c.args.cut.now c.args.path.now.doc (map tree_step c.in-Some.above.now) _ c.in-Some-found.head q c.text-text.ensures.read c.in_ok-found.ensures.found c.in-Some-found.is c.in-Some-collection_in.ensures in
     let h = puts_found _ _ (steps_of c.args.path.now) _ (tree_step c.in-Some.last.now) c.in-Some-found.head q last f _ c.in-Some-part_near.ensures
-        (entry_view c.in-Some-part_near.entry) refl (value_node c.args.value.now) c.in_ok-put.put c.in_ok-put.ensures in
+    (entry_view c.in-Some-part_near.entry) refl (value_node c.args.value.now) c.in_ok-put.put c.in_ok-put.ensures in
     puts_kept c.args.path.now.doc (steps_of c.args.path.now) (value_node c.args.value.now) (cut_of c.args.cut.now) c.in-Some-found.head.before c.in_ok-put.put c.in-None.is h ∙ ap Some (sym c.in_ok-unchanged-in-None.ensures)

@@ -23,8 +23,8 @@ returns-in_err-push_document c =
     failed _ _ _ _ (p.1 ∙ ap Err p.2)
     (document_fails (map stage_of c.args.pipe.now) docs c.documents.doc d.0 (matches_of c.documents.matches.items) _ _ d.2
     (subst (λ (n : Node). MatchFails c.in_err-push_document.field-0.0
-        (put_behind (matches_of c.documents.matches.items) (matches_in c.documents.doc (map stage_of c.args.pipe.now) n)))
-        (c.root.ensures.node d.0 d.1) c.in_err-push_document.ensures)
+    (put_behind (matches_of c.documents.matches.items) (matches_in c.documents.doc (map stage_of c.args.pipe.now) n)))
+    (c.root.ensures.node d.0 d.1) c.in_err-push_document.ensures)
     c.documents.invariant)
 
 pub documents-preserved : goal.documents-preserved

@@ -42,8 +42,8 @@ children-preserved c =
       so_far = λ root named within.
           let f : FoundPlace → Judgement (List Changed) = λ q. and_then (all_allowed root) (effect_of c.args.effect.now c.args.documents.now q) in
           child_more f p c.children.before (left_of c.children.children) (left_of c.next.new.self) (label_of c.in-Some.child)
-              (node_of c.in-Some.child) (map changed_of c.children.changes.items) (map changed_of c.push_effect.new.changes.items) _
-              c.in-Some.ensures.steps
+          (node_of c.in-Some.child) (map changed_of c.children.changes.items) (map changed_of c.push_effect.new.changes.items) _
+          c.in-Some.ensures.steps
           (subst (λ (q : FoundPlace). put_behind (map changed_of c.children.changes.items) (f q) ≡ gives (map changed_of c.push_effect.new.changes.items)) here
           ((rw c.children.invariant.same at c.in_ok-push_effect.ensures.change) root named (subst (IsIn root) (sym here) (subst (AreIn root) first (c.children.invariant.within root within)).0)))
           (c.children.invariant.so_far root named within);

@@ -6,5 +6,5 @@ use Rattle.yq_expr.proofs.fixed.plan_by_rows.Goals as goal
 pub returns-clause-plans : goal.returns-clause-plans
 returns-clause-plans c = λ u at.
     fixed_only c.args.cut.now u (operation_of c.in-Some.op) c.text-text.ensures.read c.requires
-        (subst (λ o. IfSome o (λ x. IsFixedOp u (operation_of x))) c.in-Some.is (c.in_ok-planned.ensures u at))
-        (c.in_ok-reaches.ensures.is c.if-not-branch.false)
+    (subst (λ o. IfSome o (λ x. IsFixedOp u (operation_of x))) c.in-Some.is (c.in_ok-planned.ensures u at))
+    (c.in_ok-reaches.ensures.is c.if-not-branch.false)

@@ -10,7 +10,7 @@ pub returns : goal.returns
 returns c =
     subst (Judges (λ _. tt) c.judge_right.result)
     (ap verdict (assigned c.args.found.now.document.doc (room_of c.args.found.now.document.documents.now c.args.found.now.document.doc)
-        (node_of c.args.found.now.document.root) (map stage_of c.args.assignment.now.left.items) c.args.assignment.now.operator
-        (map term_of c.args.assignment.now.right.items) (map term_of c.deref-right.result.now) (found_places c.args.found.now.places) c.args.adds
-        c.requires.operator (ap (map term_of) c.deref-right.ensures.value)))
+    (node_of c.args.found.now.document.root) (map stage_of c.args.assignment.now.left.items) c.args.assignment.now.operator
+    (map term_of c.args.assignment.now.right.items) (map term_of c.deref-right.result.now) (found_places c.args.found.now.places) c.args.adds
+    c.requires.operator (ap (map term_of) c.deref-right.ensures.value)))
     c.judge_right.ensures

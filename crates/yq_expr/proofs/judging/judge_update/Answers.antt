@@ -19,8 +19,8 @@ returns-in_err-judge_in c =
     failed _ _ _ _ (p.1 ∙ ap Err p.2)
     (document_refused (update_of c.args.update.now) (room_of c.args.documents.now) docs c.documents.doc d.0 _ _ d.2
     (subst (λ (n : Node). MatchFails c.in_err-judge_in.field-0.0
-        (verdict (changes_in (update_of c.args.update.now) c.documents.doc (room_of c.args.documents.now c.documents.doc) n)))
-        (c.root-root.ensures.node d.0 d.1) c.in_err-judge_in.ensures)
+    (verdict (changes_in (update_of c.args.update.now) c.documents.doc (room_of c.args.documents.now c.documents.doc) n)))
+    (c.root-root.ensures.node d.0 d.1) c.in_err-judge_in.ensures)
     c.documents.invariant)
 
 pub documents-preserved : goal.documents-preserved

@@ -12,8 +12,8 @@ returns-in-Some c = λ root named within.
     subst (λ (o : Option Value). IfSome o (λ w. IsStandIn (value_node c.args.value.now) (value_node w))) c.in-Some.is c.in_ok-small.ensures.small in
     let free : c.args.adds ≡ true → is_mapping (value_node c.args.value.now) ≡ true → (names : List Name) → HasAliases names c.args.aliases.now → HaveNoAlias names =
     subst (λ (o : Option Value). IfSome o
-        (λ _. c.args.adds ≡ true → is_mapping (value_node c.args.value.now) ≡ true → (names : List Name) → HasAliases names c.args.aliases.now →
-        HaveNoAlias names)) c.in-Some.is c.in_ok-small.ensures.free in
+    (λ _. c.args.adds ≡ true → is_mapping (value_node c.args.value.now) ≡ true → (names : List Name) → HasAliases names c.args.aliases.now →
+    HaveNoAlias names)) c.in-Some.is c.in_ok-small.ensures.free in
     subst (Judges (λ _. tt) c.judge_one.result)
     (sym (places_alike root (value_node c.args.value.now) (value_node c.in-Some.small) c.args.adds (found_places c.args.found.now.places) (λ is of_map. free is of_map (names_of root) named) small))
     (c.judge_one.ensures root named within)

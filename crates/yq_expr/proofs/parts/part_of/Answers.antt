@@ -34,8 +34,8 @@ returns-in_err-next-clause-err c =
     rw (p.1, p.2)
     (document_fails (update_of c.args.update.now) (room_of c.args.documents.now) docs c.documents.at d.0 d.2 c.documents.place (operations_of c.documents.part.ops.items) _ _
     (subst (λ (n : Node). MatchFails c.in_err-next.field-0.0
-        (document_ops (update_of c.args.update.now) c.documents.at (room_of c.args.documents.now c.documents.at) n c.documents.place))
-        (c.root.ensures.node d.0 d.1) c.in_err-next.ensures.err)
+    (document_ops (update_of c.args.update.now) c.documents.at (room_of c.args.documents.now c.documents.at) n c.documents.place))
+    (c.root.ensures.node d.0 d.1) c.in_err-next.ensures.err)
     c.documents.invariant.so_far)
 
 pub returns-in-Some-clause-part : goal.returns-in-Some-clause-part
@@ -46,11 +46,11 @@ returns-in-Some-clause-part c =
     let before : List Operation = operations_of c.documents.part.ops.items in
     let after : List Operation = operations_of c.document_part.new.part.ops.items in
     let part = subst (λ (o : Option ℕ). IsPlanPart
-        (document_ops (update_of c.args.update.now) c.documents.at (room_of c.args.documents.now c.documents.at) (node_of c.root.result))
-        c.documents.place before after o) c.in-Some.is c.in_ok-next.ensures.part in
+    (document_ops (update_of c.args.update.now) c.documents.at (room_of c.args.documents.now c.documents.at) (node_of c.root.result))
+    c.documents.place before after o) c.in-Some.is c.in_ok-next.ensures.part in
     let there = subst (λ (n : Node). IsPlanPart
-        (document_ops (update_of c.args.update.now) c.documents.at (room_of c.args.documents.now c.documents.at) n) c.documents.place before after
-        (Some c.in-Some.place)) (c.root.ensures.node d.0 d.1) part in
+    (document_ops (update_of c.args.update.now) c.documents.at (room_of c.args.documents.now c.documents.at) n) c.documents.place before after
+    (Some c.in-Some.place)) (c.root.ensures.node d.0 d.1) part in
     sym c.documents.invariant.so_far ∙ same_document (update_of c.args.update.now) (room_of c.args.documents.now) docs c.documents.at d.0 d.2 c.documents.place c.in-Some.place before after there
 
 pub documents-preserved : goal.documents-preserved
@@ -61,8 +61,8 @@ documents-preserved c =
     let before : List Operation = operations_of c.documents.part.ops.items in
     let after : List Operation = operations_of c.document_part.new.part.ops.items in
     let part = subst (λ (o : Option ℕ). IsPlanPart
-        (document_ops (update_of c.args.update.now) c.documents.at (room_of c.args.documents.now c.documents.at) (node_of c.root.result))
-        c.documents.place before after o) c.in-None.is c.in_ok-next.ensures.part in
+    (document_ops (update_of c.args.update.now) c.documents.at (room_of c.args.documents.now c.documents.at) (node_of c.root.result))
+    c.documents.place before after o) c.in-None.is c.in_ok-next.ensures.part in
     let there = subst (λ (n : Node). IsPlanPart (document_ops (update_of c.args.update.now) c.documents.at (room_of c.args.documents.now c.documents.at) n) c.documents.place before after None) (c.root.ensures.node d.0 d.1) part in
     let later : c.args.doc < c.documents.at + 1 = before_next c.args.doc c.documents.at c.documents.place c.args.place c.documents.invariant.later in
     record {

@@ -5,7 +5,7 @@ use Rattle.yq_expr_parser.proofs.front.string.Goals as goal
 pub returns-in-Some-2-clause-value : goal.returns-in-Some-2-clause-value
 returns-in-Some-2-clause-value c =
     sym (taken_front as_string c.args.text.now (token_view c.in-Some.token, c.in-Some.rest.now) (Some (string_bytes c.in-Some-2.content))
-        c.in-Some.ensures.value (sym (ap (option_map string_bytes) c.in-Some-2.is) ∙ c.in_ok-content-in-Some.ensures))
+    c.in-Some.ensures.value (sym (ap (option_map string_bytes) c.in-Some-2.is) ∙ c.in_ok-content-in-Some.ensures))
 
 pub returns-in-None-2-clause-value : goal.returns-in-None-2-clause-value
 returns-in-None-2-clause-value c =

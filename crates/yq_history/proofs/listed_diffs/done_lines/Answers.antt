@@ -17,6 +17,6 @@ records-preserved c =
     c.in_ok-line.ensures ∙ ap₂ (λ (n : ℕ) (e : List ℕ). edit_line (place + 1) (nat_lt place n) e ++ c.deref-in-records.result.now) c.at-in-records.ensures expr
     ∙ ap (λ x. edit_line (place + 1) (nat_lt place s.at) r.expr ++ x) c.deref-in-records.ensures in
     let more = done_more c.args.file.now s.at c.records.left s.records r c.args.text.now _ _ c.records.lines.items c.push.new.self.items
-        c.in_ok-line.line _ c.in_ok-push.ensures.items (omega (arith, c.records-test.true)) old.within c.record-record.ensures old.near old.printed
+    c.in_ok-line.line _ c.in_ok-push.ensures.items (omega (arith, c.records-test.true)) old.within c.record-record.ensures old.near old.printed
     c.in_ok-change.ensures.old c.in_ok-change.ensures.change line in
     record { within = omega (arith, old.within); there = omega (arith, old.there); near = more.0; printed = more.1 }

@@ -6,7 +6,7 @@ use Rattle.yq_history.proofs.listed_diffs.lines_with_diffs.Goals as goal
 pub records-init : goal.records-init
 records-init c =
     let start = undone_init c.args.file.now c.args.state.now.at c.at-i.result c.args.state.now.records c.args.text.items c.deref.result.now
-        (string_bytes c.in_ok-lines.lines) _ c.at-i.ensures c.deref.ensures.value c.in_ok-lines.ensures c.in_ok-done.ensures in
+    (string_bytes c.in_ok-lines.lines) _ c.at-i.ensures c.deref.ensures.value c.in_ok-lines.ensures c.in_ok-done.ensures in
     record { begun = start.0; near = start.1; printed = start.2 }
 
 pub records-preserved : goal.records-preserved
@@ -22,7 +22,7 @@ records-preserved c =
     let pushed : string_bytes c.push_str.new.self ≡ string_bytes c.records.lines ++ string_bytes c.in_ok-line.line =
     c.in_ok-push_str.ensures.bytes ∙ ap (λ x. string_bytes c.records.lines ++ x) c.deref-in-records-3.ensures in
     let more = undone_more c.args.file.now s.at i s.records r c.args.text.items _ _ (string_bytes c.records.lines) (string_bytes c.push_str.new.self)
-        (string_bytes c.in_ok-line.line) _ pushed old.begun c.record-record.ensures old.near old.printed
+    (string_bytes c.in_ok-line.line) _ pushed old.begun c.record-record.ensures old.near old.printed
     c.in_ok-change.ensures.new c.in_ok-change.ensures.change line in
     record { begun = omega (arith, old.begun); near = more.0; printed = more.1 }
 

@@ -48,7 +48,7 @@ returns g c =
           let settled = settled_is c.args.open.state _ _ c.args.step _ _ c.requires.moves c.requires.changes c.in_ok-start_known.ensures.ok c.in_ok-finish.ensures.ok in
           let third = puts_as g.D.Store.leads c.write_journal-2.result c.args.open.pair.journal.now _ _ c.replace.new.self c.write_journal-2.new.store settled c.write_journal-2.ensures.calls in
           three_writes g.D.Store.leads c.write_journal-2.result c.args.open.pair.file.now c.args.open.pair.journal.now c.args.open.state c.args.step
-              c.args.open.text.items c.args.store.now c.write_journal-2.new.store c.args.new.now free c.requires.moves c.requires.changes
+          c.args.open.text.items c.args.store.now c.write_journal-2.new.store c.args.new.now free c.requires.moves c.requires.changes
           (inr (inr (c.write_journal.new.store, first, inr (inr (c.replace.new.self, c.in_ok-replace.ensures.call, third)))));
     }
 
@@ -94,14 +94,14 @@ pub returns-in_err-start_known-clause-calls : goal.returns-in_err-start_known-cl
 returns-in_err-start_known-clause-calls g c =
     let p = err_from_is_err_and c.from_residual.result c.from_residual.ensures.1 in
     makes_none g.D.Store.leads c.from_residual.result c.args.open.pair.file.now c.args.open.pair.journal.now c.args.open.text.items
-        (move_effect c.args.step c.args.open.text.items c.args.open.state) c.args.store.now (fails c.from_residual.result _ p.1)
+    (move_effect c.args.step c.args.open.text.items c.args.open.state) c.args.store.now (fails c.from_residual.result _ p.1)
 
 pub returns-in_err-write_journal-clause-calls : goal.returns-in_err-write_journal-clause-calls
 returns-in_err-write_journal-clause-calls g c =
     let free = way_there c.args.open.state c.args.step c.args.open.text.items _ c.args.open.at_rest c.requires.moves c.in_ok-start_known.ensures.free in
     let p = err_from_is_err_and c.from_residual-in_err-write_journal.result c.from_residual-in_err-write_journal.ensures.1 in
     three_writes g.D.Store.leads c.from_residual-in_err-write_journal.result c.args.open.pair.file.now c.args.open.pair.journal.now c.args.open.state
-        c.args.step c.args.open.text.items c.args.store.now c.write_journal.new.store c.args.new.now free c.requires.moves c.requires.changes
+    c.args.step c.args.open.text.items c.args.store.now c.write_journal.new.store c.args.new.now free c.requires.moves c.requires.changes
     (was_last g.D.Store.leads c.from_residual-in_err-write_journal.result _ _
     ((c.args.open.pair.file.now, c.args.new.now) ∷ (c.args.open.pair.journal.now, journal_text (journal_after c.args.open.state c.args.step)) ∷ []) c.args.store.now c.write_journal.new.store (p.1 ∙ ap Err p.2)
     (puts_as g.D.Store.leads _ c.args.open.pair.journal.now _ _ c.args.store.now c.write_journal.new.store c.in_ok-start_known.ensures.ok c.in_err-write_journal.ensures.calls))
@@ -112,7 +112,7 @@ returns-in_err-replace-clause-calls g c =
     let p = err_from_is_err_and c.from_residual-in_err-replace.result c.from_residual-in_err-replace.ensures.1 in
     let first = was_put_as g.D.Store.leads tt c.args.open.pair.journal.now _ _ c.args.store.now c.write_journal.new.store c.in_ok-start_known.ensures.ok c.in_ok-write_journal.ensures.calls in
     three_writes g.D.Store.leads c.from_residual-in_err-replace.result c.args.open.pair.file.now c.args.open.pair.journal.now c.args.open.state
-        c.args.step c.args.open.text.items c.args.store.now c.replace.new.self c.args.new.now free c.requires.moves c.requires.changes
+    c.args.step c.args.open.text.items c.args.store.now c.replace.new.self c.args.new.now free c.requires.moves c.requires.changes
     (inr (inr (c.write_journal.new.store, first, inr (inl (_, c.in_err-replace.ensures.fault, c.in_err-replace.ensures.call, p.1 ∙ ap Err p.2)))))
 
 pub returns-in_err-finish-clause-calls : goal.returns-in_err-finish-clause-calls
@@ -121,7 +121,7 @@ returns-in_err-finish-clause-calls g c =
     let p = err_from_is_err_and c.from_residual-in_err-finish.result c.from_residual-in_err-finish.ensures.1 in
     let first = was_put_as g.D.Store.leads tt c.args.open.pair.journal.now _ _ c.args.store.now c.write_journal.new.store c.in_ok-start_known.ensures.ok c.in_ok-write_journal.ensures.calls in
     three_writes g.D.Store.leads c.from_residual-in_err-finish.result c.args.open.pair.file.now c.args.open.pair.journal.now c.args.open.state
-        c.args.step c.args.open.text.items c.args.store.now c.replace.new.self c.args.new.now free c.requires.moves c.requires.changes
+    c.args.step c.args.open.text.items c.args.store.now c.replace.new.self c.args.new.now free c.requires.moves c.requires.changes
     (inr (inr (c.write_journal.new.store, first, inr (inr (c.replace.new.self, c.in_ok-replace.ensures.call, inl (fails c.from_residual-in_err-finish.result _ p.1, refl))))))
 
 pub returns-in_err-replace-clause-count : goal.returns-in_err-replace-clause-count

@@ -27,13 +27,13 @@ returns-in_err-squash-clause-effect g c = λ keeps apart there.
 pub returns-then-n-eq1-clause-effect : goal.returns-then-n-eq1-clause-effect
 returns-then-n-eq1-clause-effect g c = λ keeps apart there.
     squash_one_works c.args.open.pair.file.now c.args.open.pair.journal.now (g.D.Store.content c.args.store.now) c.args.open.state
-        c.args.open.text.items c.args.n {T = Unit {0}} tt (eq-eqb c.args.n 1 c.if-n-eq1.true) c.in_ok-squash.ensures.free
+    c.args.open.text.items c.args.n {T = Unit {0}} tt (eq-eqb c.args.n 1 c.if-n-eq1.true) c.in_ok-squash.ensures.free
 
 pub returns-clause-effect : goal.returns-clause-effect
 returns-clause-effect g c = λ keeps apart there.
     squash_works c.args.open.pair.file.now c.args.open.pair.journal.now (g.D.Store.content c.args.store.now) c.args.open.state c.args.open.text.items
-        c.args.n _ c.write_journal.result (ne_eqb c.args.n 1 c.if-n-eq1.false) c.in_ok-squash.ensures.free there
-        (c.write_journal.ensures.others keeps _ apart)
+    c.args.n _ c.write_journal.result (ne_eqb c.args.n 1 c.if-n-eq1.false) c.in_ok-squash.ensures.free there
+    (c.write_journal.ensures.others keeps _ apart)
     (on_ok_map _ (c.write_journal.ensures.ok keeps) (λ w. subst (IsJournal _) c.in_ok-squash.ensures.ok (journal_written _ _ _ _ w)))
     (on_err_map _ (c.write_journal.ensures.err keeps) (λ x. either x inl (λ w. inr (subst (IsJournal _) c.in_ok-squash.ensures.ok (journal_written _ _ _ _ w)))))
     c.write_journal.ensures.outside
@@ -42,15 +42,15 @@ pub returns-in_err-squash-clause-calls : goal.returns-in_err-squash-clause-calls
 returns-in_err-squash-clause-calls g c =
     let p = err_from_is_err_and c.from_residual.result c.from_residual.ensures.1 in
     makes_none g.D.Store.leads c.from_residual.result c.args.open.pair.file.now c.args.open.pair.journal.now c.args.open.text.items
-        (squash_effect c.args.n c.args.open.text.items c.args.open.state) c.args.store.now (fails c.from_residual.result _ p.1)
+    (squash_effect c.args.n c.args.open.text.items c.args.open.state) c.args.store.now (fails c.from_residual.result _ p.1)
 
 pub returns-then-n-eq1-clause-calls : goal.returns-then-n-eq1-clause-calls
 returns-then-n-eq1-clause-calls g c =
     squashed_one g.D.Store.leads {T = Unit {0}} (Ok tt) c.args.open.pair.file.now c.args.open.pair.journal.now c.args.open.text.items
-        c.args.open.state c.args.n c.args.store.now c.args.store.now (eq-eqb c.args.n 1 c.if-n-eq1.true) c.in_ok-squash.ensures.free refl
+    c.args.open.state c.args.n c.args.store.now c.args.store.now (eq-eqb c.args.n 1 c.if-n-eq1.true) c.in_ok-squash.ensures.free refl
 
 pub returns-clause-calls : goal.returns-clause-calls
 returns-clause-calls g c =
     squash_write g.D.Store.leads c.write_journal.result c.args.open.pair.file.now c.args.open.pair.journal.now c.args.open.text.items
-        c.args.open.state c.args.n c.args.store.now c.write_journal.new.store (ne_eqb c.args.n 1 c.if-n-eq1.false) c.in_ok-squash.ensures.free
+    c.args.open.state c.args.n c.args.store.now c.write_journal.new.store (ne_eqb c.args.n 1 c.if-n-eq1.false) c.in_ok-squash.ensures.free
     (puts_as g.D.Store.leads c.write_journal.result c.args.open.pair.journal.now _ _ c.args.store.now c.write_journal.new.store c.in_ok-squash.ensures.ok c.write_journal.ensures.calls)

@@ -34,7 +34,7 @@ returns-in_err-new-clause-effect g c =
     let p = err_from_is_err_and c.from_residual.result c.from_residual.ensures.1 in
     rw (← c.as_slice-old.ensures.value)
     (λ keeps apart there. move_refused c.args.open.pair.file.now c.args.open.pair.journal.now (g.D.Store.content c.args.store.now) c.args.open.state
-        c.as_slice-old.result.now c.args.dir _ c.from_residual.result p.0 _ c.step.ensures p.1 p.2 c.in_err-new.ensures.err)
+    c.as_slice-old.result.now c.args.dir _ c.from_residual.result p.0 _ c.step.ensures p.1 p.2 c.in_err-new.ensures.err)
 
 pub returns-clause-effect : goal.returns-clause-effect
 returns-clause-effect g c = λ keeps apart there.
@@ -59,7 +59,7 @@ pub returns-in_err-new-clause-calls : goal.returns-in_err-new-clause-calls
 returns-in_err-new-clause-calls g c =
     let p = err_from_is_err_and c.from_residual.result c.from_residual.ensures.1 in
     makes_none g.D.Store.leads c.from_residual.result c.args.open.pair.file.now c.args.open.pair.journal.now c.args.open.text.items
-        (move_effect (walk_move c.args.dir) c.args.open.text.items c.args.open.state) c.args.store.now (fails c.from_residual.result _ p.1)
+    (move_effect (walk_move c.args.dir) c.args.open.text.items c.args.open.state) c.args.store.now (fails c.from_residual.result _ p.1)
 
 pub returns-clause-calls : goal.returns-clause-calls
 returns-clause-calls g c =

@@ -45,7 +45,7 @@ pub returns-in_err-make-clause-calls : goal.returns-in_err-make-clause-calls
 returns-in_err-make-clause-calls g c =
     let p = err_from_is_err_and c.from_residual.result c.from_residual.ensures.1 in
     makes_none g.D.Store.leads c.from_residual.result c.args.open.pair.file.now c.args.open.pair.journal.now c.args.open.text.items
-        (move_effect (walk_move c.args.dir) c.args.open.text.items c.args.open.state) c.args.store.now (fails c.from_residual.result _ p.1)
+    (move_effect (walk_move c.args.dir) c.args.open.text.items c.args.open.state) c.args.store.now (fails c.from_residual.result _ p.1)
 
 pub returns-clause-calls : goal.returns-clause-calls
 returns-clause-calls g c =

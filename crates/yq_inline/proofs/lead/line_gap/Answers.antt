@@ -5,7 +5,7 @@ use Rattle.yq_inline.proofs.lead.line_gap.Goals as goal
 pub split_at-requires : goal.split_at-requires
 split_at-requires c =
     after_spaces c.args.text.now c.in_ok-line.line.now c.spaces_len-n.result c.in_ok-line.ensures.0 c.in_ok-line.ensures.1
-        (c.spaces_len-n.ensures.value ∙ ap (prefix_len (λ b. eqb b 32)) c.as_bytes.ensures.value) c.if-n-eq0.false c.utf8.text
+    (c.spaces_len-n.ensures.value ∙ ap (prefix_len (λ b. eqb b 32)) c.as_bytes.ensures.value) c.if-n-eq0.false c.utf8.text
 
 pub returns-clause-read : goal.returns-clause-read
 returns-clause-read c =

@@ -17,8 +17,8 @@ pub returns-in_ok-join_all-in-len1-up-clause-ok : goal.returns-in_ok-join_all-in
 returns-in_ok-join_all-in-len1-up-clause-ok c =
     let run = slice_run c.args.records.now c.args.at (c.args.at - c.args.n) (omega arith) in
     ap joined_of (sym run
-        ∙ split_first (take (c.args.at - (c.args.at - c.args.n)) (drop (c.args.at - c.args.n) c.args.records.now)) c.first-item.result
-        c.in-len1-up.len_at_least c.first-item.is) ∙ ap (λ r. r ∷ []) (sym c.in_ok-join_all-in-len1-up.ensures)
+    ∙ split_first (take (c.args.at - (c.args.at - c.args.n)) (drop (c.args.at - c.args.n) c.args.records.now)) c.first-item.result
+    c.in-len1-up.len_at_least c.first-item.is) ∙ ap (λ r. r ∷ []) (sym c.in_ok-join_all-in-len1-up.ensures)
 
 pub returns-in_err-join_all-in-len1-up-clause-err : goal.returns-in_err-join_all-in-len1-up-clause-err
 returns-in_err-join_all-in-len1-up-clause-err c = search (rules, err_from_is_err_and, slice_run, reports_memory, good_count)

@@ -10,8 +10,8 @@ rows-preserved-then-level_at-known c =
     record {
       known =
           known_less ss (moved_to k c.rows.at c.rows.row) x.0 (c.rows.at - 1) (c.rows.row - 1) c.rows.invariant.known x.1
-              (omega (arith, c.if-saturating_sub-gt1.true, c.saturating_sub.ensures))
-              (omega (arith, c.if-saturating_sub-gt1.true, c.saturating_sub.ensures))
+          (omega (arith, c.if-saturating_sub-gt1.true, c.saturating_sub.ensures))
+          (omega (arith, c.if-saturating_sub-gt1.true, c.saturating_sub.ensures))
           (omega (arith, c.rows.invariant.known.index, one_as_deep k.level x.0 (sym (c.level_at.ensures x.0 x.1) ∙ c.if-level_at-known.true)));
       upto = omega (arith, c.rows.invariant.upto);
     }
@@ -24,8 +24,8 @@ rows-preserved c =
     record {
       known =
           known_less ss (moved_to k c.rows.at c.rows.row) x.0 c.rows.at (c.rows.row - 1) c.rows.invariant.known x.1
-              (omega (arith, c.if-saturating_sub-gt1.true, c.saturating_sub.ensures))
-              (omega (arith, c.if-saturating_sub-gt1.true, c.saturating_sub.ensures))
+          (omega (arith, c.if-saturating_sub-gt1.true, c.saturating_sub.ensures))
+          (omega (arith, c.if-saturating_sub-gt1.true, c.saturating_sub.ensures))
           (omega (arith, none_as_deep k.level x.0 (λ e. c.if-level_at-known.false (c.level_at.ensures x.0 x.1 ∙ e))));
       upto = omega (arith, c.rows.invariant.upto);
     }

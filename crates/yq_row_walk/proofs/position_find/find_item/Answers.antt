@@ -19,7 +19,7 @@ returns-then-is_item_at-clause-found c = λ h.
     let k = located c.args.walk.now.rows.now c.args.walk.now.document h.stand c.lines.at (position_line c.args.walk.now.rows.now c.args.walk.now.document c.lines.at c.lines.invariant.at (c.lines-test.ensures.some refl)) in
     c.lines.invariant.found h
     ∙ position_here (lines_of_rows h.stand.rows) (line_number c.args.walk.now.document h.stand.rows c.lines.at) c.args.floor k.line k.is
-        (c.lines-test.ensures.test h.stand) (Nth c.lines.left) (here_item c.lines.left k.line ∙ sym (c.if-is_item_at.ensures h.stand k.line k.is))
+    (c.lines-test.ensures.test h.stand) (Nth c.lines.left) (here_item c.lines.left k.line ∙ sym (c.if-is_item_at.ensures h.stand k.line k.is))
 
 pub behind-at-requires-clause-position : goal.behind-at-requires-clause-position
 behind-at-requires-clause-position c = position_line c.args.walk.now.rows.now c.args.walk.now.document c.lines.at c.lines.invariant.at (c.lines-test.ensures.some refl)
@@ -32,8 +32,8 @@ lines-preserved c = record {
       let n = line_number c.args.walk.now.document h.stand.rows c.behind-at.result in
       c.lines.invariant.found h
       ∙ (position_passed (lines_of_rows h.stand.rows) (line_number c.args.walk.now.document h.stand.rows c.lines.at) c.args.floor k.line k.is
-          (c.lines-test.ensures.test h.stand) (Nth c.lines.left) n (c.behind-at.ensures.end h.stand)
-          (here_item c.lines.left k.line ∙ sym (c.if-is_item_at.ensures h.stand k.line k.is))
+      (c.lines-test.ensures.test h.stand) (Nth c.lines.left) n (c.behind-at.ensures.end h.stand)
+      (here_item c.lines.left k.line ∙ sym (c.if-is_item_at.ensures h.stand k.line k.is))
       ∙ ap (λ s. position n (find_row s (part (lines_of_rows h.stand.rows) n c.args.floor))) (further_item c.lines.left ∙ ap Nth (sym c.saturating_sub-left.ensures)));
 }
 

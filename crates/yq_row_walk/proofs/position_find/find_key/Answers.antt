@@ -17,8 +17,8 @@ pub returns-then-is_key-clause-found : goal.returns-then-is_key-clause-found
 returns-then-is_key-clause-found c = λ h.
     let k = located c.args.walk.now.rows.now c.args.walk.now.document h.stand c.lines.at (position_line c.args.walk.now.rows.now c.args.walk.now.document c.lines.at c.lines.invariant.at (c.lines-test.ensures.some refl)) in
     c.lines.invariant.found h
-        ∙ position_here (lines_of_rows h.stand.rows) (line_number c.args.walk.now.document h.stand.rows c.lines.at) c.args.floor k.line k.is
-        (c.lines-test.ensures.test h.stand) (To c.args.key.now) (sym (c.if-is_key.ensures h.stand k.line k.is))
+    ∙ position_here (lines_of_rows h.stand.rows) (line_number c.args.walk.now.document h.stand.rows c.lines.at) c.args.floor k.line k.is
+    (c.lines-test.ensures.test h.stand) (To c.args.key.now) (sym (c.if-is_key.ensures h.stand k.line k.is))
 
 pub behind-at-requires-clause-position : goal.behind-at-requires-clause-position
 behind-at-requires-clause-position c = position_line c.args.walk.now.rows.now c.args.walk.now.document c.lines.at c.lines.invariant.at (c.lines-test.ensures.some refl)
@@ -30,8 +30,8 @@ lines-preserved c = record {
       let k = located c.args.walk.now.rows.now c.args.walk.now.document h.stand c.lines.at (position_line c.args.walk.now.rows.now c.args.walk.now.document c.lines.at c.lines.invariant.at (c.lines-test.ensures.some refl)) in
       c.lines.invariant.found h
       ∙ position_passed (lines_of_rows h.stand.rows) (line_number c.args.walk.now.document h.stand.rows c.lines.at) c.args.floor k.line k.is
-          (c.lines-test.ensures.test h.stand) (To c.args.key.now) (line_number c.args.walk.now.document h.stand.rows c.behind-at.result)
-          (c.behind-at.ensures.end h.stand) (sym (c.if-is_key.ensures h.stand k.line k.is));
+      (c.lines-test.ensures.test h.stand) (To c.args.key.now) (line_number c.args.walk.now.document h.stand.rows c.behind-at.result)
+      (c.behind-at.ensures.end h.stand) (sym (c.if-is_key.ensures h.stand k.line k.is));
 }
 
 pub returns-clause-found : goal.returns-clause-found

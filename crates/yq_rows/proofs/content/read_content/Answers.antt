@@ -27,8 +27,8 @@ pub returns-then-begins_other-clause-read : goal.returns-then-begins_other-claus
 returns-then-begins_other-clause-read c =
     subst (Gives filling_view c.read_inline_content.result)
     (sym (content_inline c.args.parent c.args.text.now _ _ c.split_white.ensures (sym c.begins_block.ensures ∙ c.if-begins_block.false)
-        (other_node c.split_white.result.1.now
-        (ap begins_other (sym c.as_bytes-2.ensures.value) ∙ (sym c.begins_other.ensures ∙ c.if-begins_other.true)))))
+    (other_node c.split_white.result.1.now
+    (ap begins_other (sym c.as_bytes-2.ensures.value) ∙ (sym c.begins_other.ensures ∙ c.if-begins_other.true)))))
     (rw (to_z-of_z w64 c.args.parent c.ranges.parent) at c.read_inline_content.ensures.read)
 
 pub read_scalar_content-requires-then-begins_scalar : goal.read_scalar_content-requires-then-begins_scalar
@@ -41,20 +41,20 @@ pub returns-then-begins_scalar-clause-read : goal.returns-then-begins_scalar-cla
 returns-then-begins_scalar-clause-read c =
     subst (Gives filling_view c.read_scalar_content-then-begins_scalar.result)
     (sym (content_inline c.args.parent c.args.text.now _ _ c.split_white.ensures (sym c.begins_block.ensures ∙ c.if-begins_block.false)
-        (scalar_node c.split_white.result.1.now
-        (ap (begins_scalar false) (sym c.as_bytes-3.ensures.value) ∙ (sym c.begins_scalar.ensures ∙ c.if-begins_scalar.true)))))
+    (scalar_node c.split_white.result.1.now
+    (ap (begins_scalar false) (sym c.as_bytes-3.ensures.value) ∙ (sym c.begins_scalar.ensures ∙ c.if-begins_scalar.true)))))
     (rw (to_z-of_z w64 c.args.parent c.ranges.parent) at c.read_scalar_content-then-begins_scalar.ensures.read)
 
 pub returns-in-Some-clause-read : goal.returns-in-Some-clause-read
 returns-in-Some-clause-read c =
     content_nothing c.args.parent c.args.text.now _ _ (Some (c.in-Some.tail.now, c.in-Some.rest.now)) c.split_white.ensures (sym c.begins_block.ensures ∙ c.if-begins_block.false)
     (no_node c.split_white.result.1.now (ap begins_other (sym c.as_bytes-2.ensures.value) ∙ (sym c.begins_other.ensures ∙ c.if-begins_other.false))
-        (ap (begins_scalar false) (sym c.as_bytes-3.ensures.value) ∙ (sym c.begins_scalar.ensures ∙ c.if-begins_scalar.false)))
-        (sym c.in-Some.ensures)
+    (ap (begins_scalar false) (sym c.as_bytes-3.ensures.value) ∙ (sym c.begins_scalar.ensures ∙ c.if-begins_scalar.false)))
+    (sym c.in-Some.ensures)
 
 pub returns-in-None-clause-read : goal.returns-in-None-clause-read
 returns-in-None-clause-read c =
     content_nothing c.args.parent c.args.text.now _ _ None c.split_white.ensures (sym c.begins_block.ensures ∙ c.if-begins_block.false)
     (no_node c.split_white.result.1.now (ap begins_other (sym c.as_bytes-2.ensures.value) ∙ (sym c.begins_other.ensures ∙ c.if-begins_other.false))
-        (ap (begins_scalar false) (sym c.as_bytes-3.ensures.value) ∙ (sym c.begins_scalar.ensures ∙ c.if-begins_scalar.false)))
-        (sym c.in-None.ensures)
+    (ap (begins_scalar false) (sym c.as_bytes-3.ensures.value) ∙ (sym c.begins_scalar.ensures ∙ c.if-begins_scalar.false)))
+    (sym c.in-None.ensures)

@@ -32,8 +32,8 @@ returns-in-Some-clause-read c =
     let lead = lead_here c.args.text.now _ _ _ _ _ k.node c.split_anchor.ensures nothing c.split_lead.ensures in
     rw c.split_at.ensures.front
     (inline_some c.args.parent c.args.space.now c.args.text.now _ _ _ c.split_lead.result.1.now c.in-Ok.node.rest.now c.in-Some.tail.now
-        c.in-Some.rest.now k.node c.may_be_alone.result c.is_plain.result k.read c.split_anchor.ensures lead (sym c.in-Some.ensures)
-        (c.is_plain.ensures ∙ k.plain_is)
+    c.in-Some.rest.now k.node c.may_be_alone.result c.is_plain.result k.read c.split_anchor.ensures lead (sym c.in-Some.ensures)
+    (c.is_plain.ensures ∙ k.plain_is)
     (c.may_be_alone.ensures ∙ ap (λ (b : Bool). is_empty c.args.space.now && not b) nothing))
 
 pub returns-after-no_further_line-clause-read : goal.returns-after-no_further_line-clause-read

@@ -13,7 +13,7 @@ pub returns-in-Some-clause-read : goal.returns-in-Some-clause-read
 returns-in-Some-clause-read c =
     let spaces : c.further_spaces-spaces.result ≡ Some (deeper c.args.parent) = rw (to_z-of_z w64 c.args.parent c.ranges.parent) at c.further_spaces-spaces.ensures in
     scalar_some c.args.parent c.args.space.now c.args.text.now c.in-Ok.found.0.now c.in-Ok.found.1.now c.in-Some.tail.now c.in-Some.rest.now _
-        c.may_be_alone.result c.requires.0 c.requires.1 (rw spaces at c.in-Ok.ensures.read) (sym c.in-Some.ensures)
+    c.may_be_alone.result c.requires.0 c.requires.1 (rw spaces at c.in-Ok.ensures.read) (sym c.in-Some.ensures)
     (ap not (c.is_quoted.ensures ∙ ap is_quoted c.as_bytes.ensures.value)) c.may_be_alone.ensures
 
 pub returns-after-no_further_line-clause-read : goal.returns-after-no_further_line-clause-read

@@ -17,8 +17,8 @@ read-requires c =
     let p = c.move_split.new.places in
     let x = c.find_touched-touched.result in
     let k : TextChange t c.args.new.now c.args.kept p x =
-        c.find_touched-touched.ensures t c.args.new.now c.len.ensures c.begins_line-begins.ensures
-        (moved_follows t c.args.places.now p c.args.kept c.args.new.now c.requires c.move_split.ensures.placed) in
+    c.find_touched-touched.ensures t c.args.new.now c.len.ensures c.begins_line-begins.ensures
+    (moved_follows t c.args.places.now p c.args.kept c.args.new.now c.requires c.move_split.ensures.placed) in
     let whole = (λ i. c.halves.ensures.front i ++ c.halves.ensures.back i) ∙ refl in
     let part = c.as_str.ensures.value ∙ (c.in_ok-region.ensures ∙ ap (λ (u : List ℕ). region_text u x c.args.kept c.args.new.now) whole) in
     subst (λ (u : List ℕ). IsRead u x) (sym part) k.read
@@ -29,8 +29,8 @@ exchange-requires c =
     let p = c.move_split.new.places in
     let x = c.find_touched-touched.result in
     let k : TextChange t c.args.new.now c.args.kept p x =
-        c.find_touched-touched.ensures t c.args.new.now c.len.ensures c.begins_line-begins.ensures
-        (moved_follows t c.args.places.now p c.args.kept c.args.new.now c.requires c.move_split.ensures.placed) in
+    c.find_touched-touched.ensures t c.args.new.now c.len.ensures c.begins_line-begins.ensures
+    (moved_follows t c.args.places.now p c.args.kept c.args.new.now c.requires c.move_split.ensures.placed) in
     let whole = (λ i. c.halves.ensures.front i ++ c.halves.ensures.back i) ∙ refl in
     let part = c.as_str.ensures.value ∙ (c.in_ok-region.ensures ∙ ap (λ (u : List ℕ). region_text u x c.args.kept c.args.new.now) whole) in
     gives_way t c.args.new.now c.args.kept p x c.in_ok-come.come k (subst (λ (u : List ℕ). Comes u x c.in_ok-come.come) part c.in_ok-come.ensures.come k.read)
@@ -62,8 +62,8 @@ returns-2 c =
     let p = c.move_split.new.places in
     let x = c.find_touched-touched.result in
     let k : TextChange t c.args.new.now c.args.kept p x =
-        c.find_touched-touched.ensures t c.args.new.now c.len.ensures c.begins_line-begins.ensures
-        (moved_follows t c.args.places.now p c.args.kept c.args.new.now c.requires c.move_split.ensures.placed) in
+    c.find_touched-touched.ensures t c.args.new.now c.len.ensures c.begins_line-begins.ensures
+    (moved_follows t c.args.places.now p c.args.kept c.args.new.now c.requires c.move_split.ensures.placed) in
     let whole = (λ i. c.halves.ensures.front i ++ c.halves.ensures.back i) ∙ refl in
     let part = c.as_str.ensures.value ∙ (c.in_ok-region.ensures ∙ ap (λ (u : List ℕ). region_text u x c.args.kept c.args.new.now) whole) in
     let same = (λ i. c.reserve.ensures.front i ++ c.reserve.ensures.back i) ∙ refl in
@@ -99,8 +99,8 @@ region-requires-clause-edges c =
     let t = buffer_text c.args.text.now in
     let p = c.move_split.new.places in
     let k : TextChange t c.args.new.now c.args.kept p c.find_touched-touched.result =
-        c.find_touched-touched.ensures t c.args.new.now c.len.ensures c.begins_line-begins.ensures
-        (moved_follows t c.args.places.now p c.args.kept c.args.new.now c.requires c.move_split.ensures.placed) in
+    c.find_touched-touched.ensures t c.args.new.now c.len.ensures c.begins_line-begins.ensures
+    (moved_follows t c.args.places.now p c.args.kept c.args.new.now c.requires c.move_split.ensures.placed) in
     let whole = (λ i. c.halves.ensures.front i ++ c.halves.ensures.back i) ∙ refl in
     subst (λ (u : List ℕ). AreEdges u c.find_touched-touched.result c.args.kept) (sym whole) k.edges
 
@@ -120,6 +120,6 @@ pub drop_text-requires-clause-begin : goal.drop_text-requires-clause-begin
 drop_text-requires-clause-begin c =
     let t = buffer_text c.args.text.now in
     let k : TextChange t c.args.new.now c.args.kept c.move_split.new.places c.find_touched-touched.result =
-        c.find_touched-touched.ensures t c.args.new.now c.len.ensures c.begins_line-begins.ensures
-        (moved_follows t c.args.places.now c.move_split.new.places c.args.kept c.args.new.now c.requires c.move_split.ensures.placed) in
+    c.find_touched-touched.ensures t c.args.new.now c.len.ensures c.begins_line-begins.ensures
+    (moved_follows t c.args.places.now c.move_split.new.places c.args.kept c.args.new.now c.requires c.move_split.ensures.placed) in
     k.edges.begin

@@ -21,14 +21,14 @@ returns-clause-stands c =
     let h = c.requires.read in
     rw c.measure.ensures.lengths
     (row_stands c.args.whole.now c.args.text.now _ (read_slices c.args.gap.now c.args.column c.args.begin.now c.args.content.now) c.requires.ends
-        c.utf8.text (h.joined ∙ row_spelled h.limit c.args.gap.now h.behind _ _ _ h.read) c.measure.ensures.texts)
+    c.utf8.text (h.joined ∙ row_spelled h.limit c.args.gap.now h.behind _ _ _ h.read) c.measure.ensures.texts)
 
 pub returns-clause-same : goal.returns-clause-same
 returns-clause-same c =
     let h = c.requires.read in
     ap (spec.slices_in c.args.whole.now) c.measure.ensures.lengths
     ∙ row_same c.args.whole.now c.args.text.now _ (read_slices c.args.gap.now c.args.column c.args.begin.now c.args.content.now) c.requires.ends
-        (h.joined ∙ row_spelled h.limit c.args.gap.now h.behind _ _ _ h.read) c.measure.ensures.texts.parent
+    (h.joined ∙ row_spelled h.limit c.args.gap.now h.behind _ _ _ h.read) c.measure.ensures.texts.parent
 
 pub returns-clause-place : goal.returns-clause-place
 returns-clause-place c = c.measure.ensures.lengths

@@ -10,7 +10,7 @@ split_at-requires-in-Some c =
     let dash : is_dash c.dashes.rest.now ≡ true = ap is_dash (sym c.as_bytes.ensures.value) ∙ (sym c.is_dash.ensures ∙ c.dashes-test.true) in
     let key = key_goes c.split_spaces.result.0.now c.split_spaces.result.1.now (c.in-Some.key.now, c.in-Some.colon.now, c.in-Some.after.now) (sym c.goes_on.ensures ∙ c.if-not-goes_on.true) (sym c.in-Some.ensures) in
     let keyed = dash_keyed c.args.text.now c.dashes.rest.now c.split_at.result.1.now c.split_spaces.result.0.now c.split_spaces.result.1.now _ _ _
-        c.dashes.invariant.stands c.dashes.invariant.short c.dashes.invariant.so_far dash c.split_at.ensures.back c.split_spaces.ensures key in
+    c.dashes.invariant.stands c.dashes.invariant.short c.dashes.invariant.so_far dash c.split_at.ensures.back c.split_spaces.ensures key in
     front_boundary c.args.text.now _ c.split_spaces.result.1.now keyed.join (search rules)
 
 pub returns-in-Some-clause-read : goal.returns-in-Some-clause-read
@@ -18,7 +18,7 @@ returns-in-Some-clause-read c =
     let dash : is_dash c.dashes.rest.now ≡ true = ap is_dash (sym c.as_bytes.ensures.value) ∙ (sym c.is_dash.ensures ∙ c.dashes-test.true) in
     let key = key_goes c.split_spaces.result.0.now c.split_spaces.result.1.now (c.in-Some.key.now, c.in-Some.colon.now, c.in-Some.after.now) (sym c.goes_on.ensures ∙ c.if-not-goes_on.true) (sym c.in-Some.ensures) in
     let keyed = dash_keyed c.args.text.now c.dashes.rest.now c.split_at.result.1.now c.split_spaces.result.0.now c.split_spaces.result.1.now _ _ _
-        c.dashes.invariant.stands c.dashes.invariant.short c.dashes.invariant.so_far dash c.split_at.ensures.back c.split_spaces.ensures key in
+    c.dashes.invariant.stands c.dashes.invariant.short c.dashes.invariant.so_far dash c.split_at.ensures.back c.split_spaces.ensures key in
     rw c.split_at-in-Some.ensures.front keyed.read
 
 pub returns-in-Some-clause-shorter : goal.returns-in-Some-clause-shorter
@@ -26,7 +26,7 @@ returns-in-Some-clause-shorter c =
     let dash : is_dash c.dashes.rest.now ≡ true = ap is_dash (sym c.as_bytes.ensures.value) ∙ (sym c.is_dash.ensures ∙ c.dashes-test.true) in
     let key = key_goes c.split_spaces.result.0.now c.split_spaces.result.1.now (c.in-Some.key.now, c.in-Some.colon.now, c.in-Some.after.now) (sym c.goes_on.ensures ∙ c.if-not-goes_on.true) (sym c.in-Some.ensures) in
     let keyed = dash_keyed c.args.text.now c.dashes.rest.now c.split_at.result.1.now c.split_spaces.result.0.now c.split_spaces.result.1.now _ _ _
-        c.dashes.invariant.stands c.dashes.invariant.short c.dashes.invariant.so_far dash c.split_at.ensures.back c.split_spaces.ensures key in
+    c.dashes.invariant.stands c.dashes.invariant.short c.dashes.invariant.so_far dash c.split_at.ensures.back c.split_spaces.ensures key in
     keyed.shorter
 
 pub split_at-requires-in-None : goal.split_at-requires-in-None
@@ -39,15 +39,15 @@ returns-in-None-clause-read c =
     let dash : is_dash c.dashes.rest.now ≡ true = ap is_dash (sym c.as_bytes.ensures.value) ∙ (sym c.is_dash.ensures ∙ c.dashes-test.true) in
     rw c.split_at-in-None.ensures.front
     (dash_last c.args.text.now c.dashes.rest.now c.split_at.result.1.now c.split_spaces.result.0.now c.split_spaces.result.1.now
-        c.dashes.invariant.stands c.dashes.invariant.short c.dashes.invariant.so_far dash c.split_at.ensures.back c.split_spaces.ensures
+    c.dashes.invariant.stands c.dashes.invariant.short c.dashes.invariant.so_far dash c.split_at.ensures.back c.split_spaces.ensures
     (none_goes c.split_spaces.result.0.now c.split_spaces.result.1.now (sym c.goes_on.ensures ∙ c.if-not-goes_on.true) (sym c.in-None.ensures)))
 
 pub dashes-preserved : goal.dashes-preserved
 dashes-preserved c =
     let dash : is_dash c.dashes.rest.now ≡ true = ap is_dash (sym c.as_bytes.ensures.value) ∙ (sym c.is_dash.ensures ∙ c.dashes-test.true) in
     let step = dash_further c.args.text.now c.dashes.rest.now c.split_at.result.1.now c.split_spaces.result.0.now c.split_spaces.result.1.now
-        c.dashes.invariant.stands c.dashes.invariant.so_far dash c.split_at.ensures.back c.split_spaces.ensures
-        (dash_goes c.split_spaces.result.0.now c.split_spaces.result.1.now (sym c.goes_on.ensures ∙ c.if-not-goes_on.false)) in
+    c.dashes.invariant.stands c.dashes.invariant.so_far dash c.split_at.ensures.back c.split_spaces.ensures
+    (dash_goes c.split_spaces.result.0.now c.split_spaces.result.1.now (sym c.goes_on.ensures ∙ c.if-not-goes_on.false)) in
     record {
       text = search rules;
       short = omega (arith, step.shorter, c.dashes.invariant.short);

@@ -31,8 +31,8 @@ scanned c =
     let pushed = bounds_push whole c.parts.ends.items _ c.end_of.result _ c.in_ok-push.ensures.items c.end_of.ensures.same in
     let rows : c.len-count.result ≡ length c.parts.rows.items + length part.part.rows = count ∙ (part.count ∙ ap (λ (n : ℕ). n + length part.part.rows) (sym (rows_length whole c.parts.rows.items))) in
     let kept = kept_part c.parts.is_open whole c.parts.rest.now c.in-Ok.part.2.now [] c.in-Ok.part.2.now c.in-Ok.part.1.now
-        (length c.parts.rows.items) c.len-count.result part.part c.end_of.result c.parts.invariant.ends part.read part.end_is refl rows
-        c.end_of.ensures.place in
+    (length c.parts.rows.items) c.len-count.result part.part c.end_of.result c.parts.invariant.ends part.read part.end_is refl rows
+    c.end_of.ensures.place in
     let read = parts_end _ (rows_in whole c.in-Ok.part.0.items) _ _ _ _ _ _ _ _ c.in-Ok.ensures.found none count pushed c.parts.invariant.so_far in
     let stand = subst (EndsStand whole) (sym c.in_ok-push.ensures.items) (All-push (EndStands whole) c.parts.ends.items c.end_of.result c.parts.invariant.ends_stand c.end_of.ensures.stands) in
     subst (λ (es : List EndPlace). Scanned whole c.of-text.result (record { front = c.in-Ok.part.0; behind = c.new-behind.result; ends = es; split = length whole })) (sym c.of-ends.ensures)
@@ -75,8 +75,8 @@ returns-in-Err-read_marker-clause-read c =
     let some : is_empty c.in-Ok.part.2.now ≡ false = empty_by c.in-Ok.part.2.now _ false c.is_empty.ensures c.if-is_empty.false in
     sym c.parts.invariant.so_far
     ∙ parts_unmarked (rows_in c.args.text.now c.parts.rows.items) (bounds_in c.args.text.now c.parts.ends.items) c.parts.is_open c.parts.rest.now
-        (rows_in c.args.text.now c.in-Ok.part.0.items) c.in-Ok.part.1.now c.in-Ok.part.2.now c.in-Ok.ensures.found some
-        c.in-Err-read_marker.ensures.read
+    (rows_in c.args.text.now c.in-Ok.part.0.items) c.in-Ok.part.1.now c.in-Ok.part.2.now c.in-Ok.ensures.found some
+    c.in-Err-read_marker.ensures.read
 
 pub end_of-requires-in-parts-clause-ends : goal.end_of-requires-in-parts-clause-ends
 end_of-requires-in-parts-clause-ends c =
@@ -91,8 +91,8 @@ pub parts-smaller : goal.parts-smaller
 parts-smaller c =
     let some : is_empty c.in-Ok.part.2.now ≡ false = empty_by c.in-Ok.part.2.now _ false c.is_empty.ensures c.if-is_empty.false in
     part_smaller (rows_in c.args.text.now c.parts.rows.items) c.parts.is_open c.parts.rest.now (rows_in c.args.text.now c.in-Ok.part.0.items)
-        c.in-Ok.part.1.now c.in-Ok.part.2.now c.in-Ok-read_marker.line.0.now c.in-Ok-read_marker.line.1.now c.in-Ok.ensures.found some
-        c.in-Ok-read_marker.ensures.read
+    c.in-Ok.part.1.now c.in-Ok.part.2.now c.in-Ok-read_marker.line.0.now c.in-Ok-read_marker.line.1.now c.in-Ok.ensures.found some
+    c.in-Ok-read_marker.ensures.read
 
 pub parts-preserved : goal.parts-preserved
 parts-preserved c =
@@ -103,8 +103,8 @@ parts-preserved c =
     let line = marker_takes c.in-Ok.part.2.now (c.in-Ok-read_marker.line.0.now, c.in-Ok-read_marker.line.1.now) marker c.in-Ok-read_marker.ensures.read in
     let rows : c.len-count.result ≡ length c.parts.rows.items + length part.part.rows = count ∙ (part.count ∙ ap (λ (n : ℕ). n + length part.part.rows) (sym (rows_length c.args.text.now c.parts.rows.items))) in
     let kept = kept_part c.parts.is_open c.args.text.now c.parts.rest.now c.in-Ok.part.2.now c.in-Ok-read_marker.line.0.now
-        c.in-Ok-read_marker.line.1.now c.in-Ok.part.1.now (length c.parts.rows.items) c.len-count.result part.part c.end_of-in-parts.result
-        c.parts.invariant.ends part.read part.end_is line.0 rows c.end_of-in-parts.ensures.place in
+    c.in-Ok-read_marker.line.1.now c.in-Ok.part.1.now (length c.parts.rows.items) c.len-count.result part.part c.end_of-in-parts.result
+    c.parts.invariant.ends part.read part.end_is line.0 rows c.end_of-in-parts.ensures.place in
     let is_open : c.begins_document-is_open.result ≡ begins_document c.in-Ok-read_marker.line.0.now = c.begins_document-is_open.ensures ∙ ap begins_document c.as_bytes.ensures.value in
     record {
       text = search rules;
@@ -113,8 +113,8 @@ parts-preserved c =
       ends_stand = subst (EndsStand c.args.text.now) (sym c.in_ok-push-2.ensures.items) (All-push (EndStands c.args.text.now) c.parts.ends.items c.end_of-in-parts.result c.parts.invariant.ends_stand c.end_of-in-parts.ensures.stands);
       so_far = rw (is_open, bounds_push c.args.text.now c.parts.ends.items c.push-in-parts.new.self.items c.end_of-in-parts.result _ c.in_ok-push-2.ensures.items c.end_of-in-parts.ensures.same)
           (sym (parts_more (rows_in c.args.text.now c.parts.rows.items) (bounds_in c.args.text.now c.parts.ends.items) c.parts.is_open
-              c.parts.rest.now (rows_in c.args.text.now c.in-Ok.part.0.items) c.in-Ok.part.1.now c.in-Ok.part.2.now c.in-Ok-read_marker.line.0.now
-              c.in-Ok-read_marker.line.1.now c.len-count.result c.in-Ok.ensures.found some c.in-Ok-read_marker.ensures.read count)
+          c.parts.rest.now (rows_in c.args.text.now c.in-Ok.part.0.items) c.in-Ok.part.1.now c.in-Ok.part.2.now c.in-Ok-read_marker.line.0.now
+          c.in-Ok-read_marker.line.1.now c.len-count.result c.in-Ok.ensures.found some c.in-Ok-read_marker.ensures.read count)
           ∙ c.parts.invariant.so_far);
       placed = rw is_open (parts_placed_step c.parts.rows.items c.in-Ok.part.0.items c.args.text.now c.parts.is_open c.parts.rest.now c.in-Ok.part.2.now c.in-Ok-read_marker.line.0.now c.in-Ok-read_marker.line.1.now _ c.parts.invariant.ends
           (record { part = part.part; read = part.read; some = some; line = c.in-Ok-read_marker.ensures.read }) c.in-Ok.ensures.placed c.parts.invariant.placed);

@@ -21,5 +21,5 @@ returns-clause-come c h =
     let k = parted c.args.region.now c.read_part-text.result.now c.args.touched h c.unread-unread.result c.read_part-text.ensures c.unread-unread.ensures in
     let read = c.in-Ok.ensures.alone k.items k.back k.read k.text_is in
     comes c.args.region.now c.read_part-text.result.now c.args.touched c.unread-unread.result c.into_places-places.result c.in-Ok.rows
-        c.settle.new.ends _ h k c.into_places-places.ensures (sym (same_Some _ _ read)) c.settle.ensures refl refl refl refl refl
-        c.read_part-text.ensures
+    c.settle.new.ends _ h k c.into_places-places.ensures (sym (same_Some _ _ read)) c.settle.ensures refl refl refl refl refl
+    c.read_part-text.ensures

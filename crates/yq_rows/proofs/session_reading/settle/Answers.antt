@@ -9,6 +9,6 @@ returns-in-Some c =
     c.set_last.ensures
     ∙ (ap (slice_set es (length es - 1)) c.marked_as.ensures
     ∙ (settled_set es c.in-Some.end c.at.result (length es - 1) c.args.more refl c.requires
-        (sym (get_or_from_slice_get es (c.len.result - 1) c.at.result c.at.result c.at.ensures)
-        ∙ ap (λ (n : ℕ). get_or es (n - 1) c.at.result) c.len.ensures)
+    (sym (get_or_from_slice_get es (c.len.result - 1) c.at.result c.at.result c.at.ensures)
+    ∙ ap (λ (n : ℕ). get_or es (n - 1) c.at.result) c.len.ensures)
     ∙ ap (λ (u : Option EndPlace). settled_ends es u c.args.more) (sym c.in-Some.is)))

@@ -15,9 +15,11 @@ returns-then-rows-eq0 c xs placed gap within =
     let p = c.args.places.now in
     let count = ends_counted_at p xs c.ends_before-ends.result c.args.at c.ends_before-ends.ensures.count placed in
     let none : NoEndBehind c.len-rows.result p.ends c.ends_before-ends.result =
-        λ some. elim c.if-ends-gt0.branch
-        [ then-ends-gt0+else-end-rows w ↦ (w.at-end.result, own_end p w.at-end.result _ w.at-end.ensures, omega arith) | else-ends-gt0 w ↦
-        absurd (omega arith) ] in
+    λ some. elim c.if-ends-gt0.branch [
+      | then-ends-gt0+else-end-rows w ↦ (w.at-end.result, own_end p w.at-end.result _ w.at-end.ensures, omega arith)
+      | else-ends-gt0 w ↦
+          absurd (omega arith)
+    ] in
     before_none p xs c.args.at c.len-rows.result c.ends_before-ends.result placed gap within (omega arith) count (omega arith) none
 
 pub returns : goal.returns
@@ -25,8 +27,10 @@ returns c xs placed gap within =
     let p = c.args.places.now in
     let count = ends_counted_at p xs c.ends_before-ends.result c.args.at c.ends_before-ends.ensures.count placed in
     let none : NoEndBehind c.len-rows.result p.ends c.ends_before-ends.result =
-        λ some. elim c.if-ends-gt0.branch
-        [ then-ends-gt0+else-end-rows w ↦ (w.at-end.result, own_end p w.at-end.result _ w.at-end.ensures, omega arith) | else-ends-gt0 w ↦
-        absurd (omega arith) ] in
+    λ some. elim c.if-ends-gt0.branch [
+      | then-ends-gt0+else-end-rows w ↦ (w.at-end.result, own_end p w.at-end.result _ w.at-end.ensures, omega arith)
+      | else-ends-gt0 w ↦
+          absurd (omega arith)
+    ] in
     ap (λ (n : ℕ). record { rows = c.len-rows.result - 1; ends = c.ends_before-ends.result; bytes = n }) c.start-2.ensures
     ∙ before_row p xs c.args.at c.index.result.now c.len-rows.result c.ends_before-ends.result placed gap within (omega arith) count (omega arith) none c.index.ensures

@@ -17,9 +17,11 @@ returns c xs at placed gap apart long =
     ends_counted_at p xs ends ((c.args.len - back) + 1) c.ends_before-ends.ensures.count placed ∙ ap (λ (n : ℕ). ends_before ((n - back) + 1) p.ends) long in
     let by_rows : ByRows p len rows c.if-rows-gt0.bytes = elim c.if-rows-gt0.branch [ then-rows-gt0 w ↦ inr (w.index.result.now, omega arith, w.index.ensures, omega arith) | else-rows-gt0 w ↦ inl (omega arith, omega arith) ] in
     let by_ends : ByEnds p ends c.if-rows-gt0.bytes c.if-ends-len.bytes =
-        elim c.if-ends-len.branch
-        [ then-ends-len w ↦ inr (w.at.result, omega arith, own_end p w.at.result ends w.at.ensures, omega arith) | else-ends-len w ↦
-        inl (omega arith, omega arith) ] in
+    elim c.if-ends-len.branch [
+      | then-ends-len w ↦ inr (w.at.result, omega arith, own_end p w.at.result ends w.at.ensures, omega arith)
+      | else-ends-len w ↦
+          inl (omega arith, omega arith)
+    ] in
     let first : c.len-2.result + (c.len-3.result - rows) ≡ length p.front.items + (length p.behind.items - rows) = omega arith in
     let side : Side = record { rows = length p.front.items + (length p.behind.items - rows); ends = ends; bytes = c.if-ends-len.bytes } in
     let all : side ≡ side_of (not_in_back back xs) = behind_is p xs at back rows ends c.if-rows-gt0.bytes c.if-ends-len.bytes placed (subst (λ (n : ℕ). IsSplitAt at n p) long gap) (omega arith) many count by_rows by_ends in

@@ -23,7 +23,7 @@ split_at-requires-2 c =
     let word = ap (front is_alphanumeric) (sym c.as_bytes-2.ensures.value) ∙ (sym c.begins_word.ensures ∙ c.if-not-begins_word.false) in
     let key = word_behind c.split_spaces.result.0.now c.split_spaces.result.1.now _ (some_spaces c.split_spaces.result.0.now c.is_empty.result c.is_empty.ensures c.if-is_empty.false) word c.in_ok-key.ensures in
     let keyed = dash_keyed text text c.split_at.result.1.now c.split_spaces.result.0.now c.split_spaces.result.1.now _ _ _ (rw none refl)
-        (omega arith) (rw none (front_none (begun (read_marks text)))) dash c.split_at.ensures.back c.split_spaces.ensures key in
+    (omega arith) (rw none (front_none (begun (read_marks text)))) dash c.split_at.ensures.back c.split_spaces.ensures key in
     front_boundary text _ c.split_spaces.result.1.now keyed.join (search rules)
 
 pub returns-clause-read : goal.returns-clause-read
@@ -34,5 +34,5 @@ returns-clause-read c =
     let word = ap (front is_alphanumeric) (sym c.as_bytes-2.ensures.value) ∙ (sym c.begins_word.ensures ∙ c.if-not-begins_word.false) in
     let key = word_behind c.split_spaces.result.0.now c.split_spaces.result.1.now _ (some_spaces c.split_spaces.result.0.now c.is_empty.result c.is_empty.ensures c.if-is_empty.false) word c.in_ok-key.ensures in
     let keyed = dash_keyed text text c.split_at.result.1.now c.split_spaces.result.0.now c.split_spaces.result.1.now _ _ _ (rw none refl)
-        (omega arith) (rw none (front_none (begun (read_marks text)))) dash c.split_at.ensures.back c.split_spaces.ensures key in
+    (omega arith) (rw none (front_none (begun (read_marks text)))) dash c.split_at.ensures.back c.split_spaces.ensures key in
     rw c.split_at-2.ensures.front keyed.read

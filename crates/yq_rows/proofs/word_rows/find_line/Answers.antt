@@ -6,4 +6,4 @@ use Rattle.yq_rows.proofs.word_rows.find_line.Goals as goal
 pub returns : goal.returns
 returns c = λ n t other scalar read.
     scalar_some n c.args.space.now t c.args.head.now c.args.behind.now c.in_ok-tail.tail.now c.in_ok-tail.rest.now _ c.may_be_alone.result other
-        scalar read (sym c.in_ok-tail.ensures) (ap not (c.is_quoted.ensures ∙ ap is_quoted c.as_bytes.ensures.value)) c.may_be_alone.ensures
+    scalar read (sym c.in_ok-tail.ensures) (ap not (c.is_quoted.ensures ∙ ap is_quoted c.as_bytes.ensures.value)) c.may_be_alone.ensures

@@ -7,8 +7,8 @@ pub split_at-requires-then-ends_scalar : goal.split_at-requires-then-ends_scalar
 split_at-requires-then-ends_scalar c =
     let back = c.split_at.ensures.back ∙ ap (drop c.run_len-n.result) c.as_bytes-2.ensures.value in
     boundary_plain false c.args.spaces c.args.text.now c.run_len-n.result
-        (run_ends c.args.spaces c.args.text.now c.split_at.result.1.now c.run_len-n.result (rw c.as_bytes.ensures.value at c.run_len-n.ensures.value)
-        back (c.if-ends_scalar.ensures refl))
+    (run_ends c.args.spaces c.args.text.now c.split_at.result.1.now c.run_len-n.result (rw c.as_bytes.ensures.value at c.run_len-n.ensures.value)
+    back (c.if-ends_scalar.ensures refl))
 
 pub returns-then-ends_scalar : goal.returns-then-ends_scalar
 returns-then-ends_scalar c =

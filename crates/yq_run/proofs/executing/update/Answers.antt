@@ -25,8 +25,8 @@ returns g c =
             arrives = λ apart h good.
                 arrives_as _ _ _ c.edit_from.result (λ q. update_cause q h) (λ q. update_next c.as_str-expr.result.now q h) h _ _ (sym c.in_ok-program.ensures.ok)
                 (opened (update_cause (Ok (program_of c.in_ok-program.program)))
-                    (update_next c.as_str-expr.result.now (Ok (program_of c.in_ok-program.program))) _ _ _ _ c.edit_from.result
-                    (c.in_ok-text.text, c.in_ok-text.state) h (o.opens keeps h good) ((e.done keeps).edit apart).arrives);
+                (update_next c.as_str-expr.result.now (Ok (program_of c.in_ok-program.program))) _ _ _ _ c.edit_from.result
+                (c.in_ok-text.text, c.in_ok-text.state) h (o.opens keeps h good) ((e.done keeps).edit apart).arrives);
             effect = λ apart.
                 let does = λ (t : List ℕ) (s : State). edit_effect c.as_str-expr.result.now (program_edits (program_of c.in_ok-program.program) t) t s in
                 parsed_works _ _ (g.D.Store.content c.args.store.now) _ c.as_str-expr.result.now (program_of c.in_ok-program.program) _ _ c.edit_from.result c.in_ok-program.ensures.ok
@@ -39,7 +39,7 @@ returns g c =
                 let there = ap (λ m. get m c.as_str-file.result.now) same ∙ held in
                 both_come c.edit_from.result c.args.words.now.options.diff c.as_str-expr.result.now c.as_str-file.result.now c.in_ok-text.text.items _ _ _ held
                 (file_comes c.edit_from.result c.as_str-expr.result.now (program_of c.in_ok-program.program) c.in_ok-text.text.items _ _
-                    c.in_ok-program.ensures.ok held (on_ok_map c.edit_from.result ((e.done keeps).held apart there) (λ x. x.edited)))
+                c.in_ok-program.ensures.ok held (on_ok_map c.edit_from.result ((e.done keeps).held apart there) (λ x. x.edited)))
                 (on_ok_map c.edit_from.result ((e.done keeps).held apart there) (λ x. x.printed));
             output = λ h good.
                 on_ok_map c.edit_from.result e.shows
@@ -53,22 +53,22 @@ returns g c =
                 let diffs = c.args.words.now.options.diff in
                 on_ok_map c.edit_from.result
                 (change_output_by diffs c.as_str-file.result.now c.as_str-file.result.now c.as_str-journal.result.now c.as_str-expr.result.now
-                    c.in_ok-text.text.items (program_edits (program_of c.in_ok-program.program) c.in_ok-text.text.items) c.in_ok-text.state _ _
-                    c.edit_from.result _ ((e.done keeps).edit apart).effect (on_ok_map c.edit_from.result e.shows (λ s. s.output)))
+                c.in_ok-text.text.items (program_edits (program_of c.in_ok-program.program) c.in_ok-text.text.items) c.in_ok-text.state _ _
+                c.edit_from.result _ ((e.done keeps).edit apart).effect (on_ok_map c.edit_from.result e.shows (λ s. s.output)))
                 (subst (λ x. IsOutput c.as_str-file.result.now x (string_bytes c.edit_from.new.report.text))
                 (ap (λ o. output_by diffs o (does c.in_ok-text.text.items c.in_ok-text.state)) (sym held)
                 ∙ ap (output_by diffs (get (g.D.Store.content c.args.store.now) c.as_str-file.result.now)) (sym effect)
                 ∙ ap (λ q. output_by diffs (get (g.D.Store.content c.args.store.now) c.as_str-file.result.now)
-                    (update_effect c.as_str-expr.result.now q (get (g.D.Store.content c.args.store.now) c.as_str-file.result.now)
-                    (get (g.D.Store.content c.args.store.now) c.as_str-journal.result.now))) (sym c.in_ok-program.ensures.ok)));
+                (update_effect c.as_str-expr.result.now q (get (g.D.Store.content c.args.store.now) c.as_str-file.result.now)
+                (get (g.D.Store.content c.args.store.now) c.as_str-journal.result.now))) (sym c.in_ok-program.ensures.ok)));
             expected =
                 let does = λ (t : List ℕ) (s : State). edit_effect c.as_str-expr.result.now (program_edits (program_of c.in_ok-program.program) t) t s in
                 matched_as _ c.edit_from.result _ _ _ (on_ok_map c.edit_from.result e.shows (λ s. s.is_match))
                 (effect_expected c.args.words.now.options c.as_str-expr.result.now c.in_ok-text.text.items (program_edits (program_of c.in_ok-program.program) c.in_ok-text.text.items) c.in_ok-text.state
                 ∙ ap (works_as_expected c.args.words.now.options.expect_change) (sym (c.in_ok-text.ensures.found keeps does))
                 ∙ ap (λ q. works_as_expected c.args.words.now.options.expect_change
-                    (update_effect c.as_str-expr.result.now q (get (g.D.Store.content c.args.store.now) c.as_str-file.result.now)
-                    (get (g.D.Store.content c.args.store.now) c.as_str-journal.result.now))) (sym c.in_ok-program.ensures.ok));
+                (update_effect c.as_str-expr.result.now q (get (g.D.Store.content c.args.store.now) c.as_str-file.result.now)
+                (get (g.D.Store.content c.args.store.now) c.as_str-journal.result.now))) (sym c.in_ok-program.ensures.ok));
             kept = subst (λ m. IfErr c.edit_from.result (λ y. is_outer_fault y ≡ false → g.D.Store.content c.edit_from.new.store ≡ m)) (o.same keeps) (e.done keeps).kept;
             others = λ q apart beside. (e.done keeps).others q apart beside ∙ ap (λ m. get m q) (o.same keeps);
           });

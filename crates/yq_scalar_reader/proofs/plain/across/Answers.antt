@@ -25,7 +25,7 @@ each-preserved-then-first-eq10 c =
     let k = c.spaces_len-indent.result in
     let on =
     go_line c.args.flow c.args.spaces c.each.deep c.begins_deep-deep.result c.each.n c.each.rest.now _ c.in-len1-up.len_at_least
-        (sym c.is_white.ensures ∙ c.if-is_white.false) c.if-first-eq10.true c.begins_deep-deep.ensures c.each.invariant.so_far in
+    (sym c.is_white.ensures ∙ c.if-is_white.false) c.if-first-eq10.true c.begins_deep-deep.ensures c.each.invariant.so_far in
     let back : c.split_at-then-first-eq10.result.1.now ≡ drop k (rest_of r) = c.split_at-then-first-eq10.ensures.back in
     record {
       within = omega (arith, rest_length c.each.n r _ c.in-len1-up.len_at_least c.each.invariant.within, c.spaces_len-indent.ensures.within, c.split_at-then-first-eq10.ensures.back_len);

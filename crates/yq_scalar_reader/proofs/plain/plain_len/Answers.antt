@@ -6,8 +6,13 @@ use Rattle.yq_scalar_reader.proofs.plain.plain_len.Goals as goal
 
 pub overflow_add-n-in-Some : goal.overflow_add-n-in-Some
 overflow_add-n-in-Some c =
-    omega (arith, across_bounds c.args.flow c.args.spaces true c.split_at.result.1.now c.in-Some.k (sym c.across_words.ensures ∙ c.in-Some.is),
-    c.run_len-run.ensures.within, c.split_at.ensures.back_len, c.each.invariant.within)
+    omega (
+      arith,
+      across_bounds c.args.flow c.args.spaces true c.split_at.result.1.now c.in-Some.k (sym c.across_words.ensures ∙ c.in-Some.is),
+      c.run_len-run.ensures.within,
+      c.split_at.ensures.back_len,
+      c.each.invariant.within,
+    )
 
 pub split_at-requires-in-Some : goal.split_at-requires-in-Some
 split_at-requires-in-Some c = across_bounds c.args.flow c.args.spaces true c.split_at.result.1.now c.in-Some.k (sym c.across_words.ensures ∙ c.in-Some.is)

@@ -42,8 +42,12 @@ each-preserved c =
     let le : c.in_ok-k.k ≤ length (rest_of s) = item_within c.args.quote c.in_ok-k.k s c.in-len1-up.len_at_least (sym c.closes.ensures ∙ c.if-closes.false) (sym c.in_ok-k.ensures) in
     let so = quoted_behind c.args.quote c.each.rest.now s c.each.n c.run_len-run.result c.run_len-run.ensures.value c.split_at.ensures.back c.each.invariant.so_far in
     record {
-      within = omega (arith, le, c.split_at-in-each.ensures.back_len,
-          rest_length (c.each.n + c.run_len-run.result) s (length c.args.text.now) c.in-len1-up.len_at_least
-          (omega (arith, c.run_len-run.ensures.within, c.split_at.ensures.back_len, c.each.invariant.within)));
+      within = omega (
+        arith,
+        le,
+        c.split_at-in-each.ensures.back_len,
+        rest_length (c.each.n + c.run_len-run.result) s (length c.args.text.now) c.in-len1-up.len_at_least
+            (omega (arith, c.run_len-run.ensures.within, c.split_at.ensures.back_len, c.each.invariant.within)),
+      );
       so_far = rw (c.split_at-in-each.ensures.back) (go_item c.args.quote c.in_ok-k.k (c.each.n + c.run_len-run.result) s _ c.in-len1-up.len_at_least (sym c.closes.ensures ∙ c.if-closes.false) (sym c.in_ok-k.ensures) so);
     }

@@ -21,9 +21,9 @@ returns-in_err-left-clause-same c =
     let front : List ℕ = folded_text c.fold_item-item.result.folded in
     let tail : List ℕ = content_on c.args.quote 0 (before_of c.fold_item-item.result.joined) [] c.fold_item-item.result.rest.now in
     rw c.from_residual-in_err-left.ensures
-        (ap (λ l. bytes_eq l c.args.wanted.now)
-        (content_next c.args.quote c.args.joined c.fold_item-item.result.joined c.args.text.now _ _ _ gap front c.split_space.ensures
-        c.fold_gap.ensures c.fold_item-item.ensures.value)
+    (ap (λ l. bytes_eq l c.args.wanted.now)
+    (content_next c.args.quote c.args.joined c.fold_item-item.result.joined c.args.text.now _ _ _ gap front c.split_space.ensures
+    c.fold_gap.ensures c.fold_item-item.ensures.value)
     ∙ (same_behind gap (front ++ tail) c.args.wanted.now _ c.in_ok-behind.ensures
     ∙ other_front front tail _ c.in_err-left.ensures))
 

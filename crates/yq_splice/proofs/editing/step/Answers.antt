@@ -38,10 +38,10 @@ returns-clause-ok c =
     let is : read_at t ≡ Some (cut_of d) = c.requires.read in
     let valid : HaveOperands ops = subst (λ (x : List Op). HaveOperands (operations_of x)) c.deref.ensures.value c.operands_hold.ensures in
     let new_bytes : Edits c.carry_plan.result (edit_after c.args.splices.items (carry_all ops t)) =
-        subst (λ (x : List Op). Edits c.carry_plan.result (edit_after c.args.splices.items (carry_all (operations_of x) t))) c.deref-2.ensures.value
-        c.carry_plan.ensures in
+    subst (λ (x : List Op). Edits c.carry_plan.result (edit_after c.args.splices.items (carry_all (operations_of x) t))) c.deref-2.ensures.value
+    c.carry_plan.ensures in
     λ u at. update_ok u t (cut_of d) ops is (update_planned u t d ops text (c.in_ok-ops.ensures.exact u at))
-        (update_holds (program_of c.args.program.now) c.args.nth u c.requires.literals at) valid c.carry_plan.result c.args.splices.items new_bytes
+    (update_holds (program_of c.args.program.now) c.args.nth u c.requires.literals at) valid c.carry_plan.result c.args.splices.items new_bytes
 
 pub returns-clause-err : goal.returns-clause-err
 returns-clause-err c =
@@ -52,10 +52,10 @@ returns-clause-err c =
     let is : read_at t ≡ Some (cut_of d) = c.requires.read in
     let valid : HaveOperands ops = subst (λ (x : List Op). HaveOperands (operations_of x)) c.deref.ensures.value c.operands_hold.ensures in
     let new_bytes : Edits c.carry_plan.result (edit_after c.args.splices.items (carry_all ops t)) =
-        subst (λ (x : List Op). Edits c.carry_plan.result (edit_after c.args.splices.items (carry_all (operations_of x) t))) c.deref-2.ensures.value
-        c.carry_plan.ensures in
+    subst (λ (x : List Op). Edits c.carry_plan.result (edit_after c.args.splices.items (carry_all (operations_of x) t))) c.deref-2.ensures.value
+    c.carry_plan.ensures in
     λ u at. update_err u t (cut_of d) ops is (update_planned u t d ops text (c.in_ok-ops.ensures.exact u at))
-        (update_holds (program_of c.args.program.now) c.args.nth u c.requires.literals at) valid c.carry_plan.result c.args.splices.items new_bytes
+    (update_holds (program_of c.args.program.now) c.args.nth u c.requires.literals at) valid c.carry_plan.result c.args.splices.items new_bytes
 
 pub returns-in_err-is_heavy-clause-err : goal.returns-in_err-is_heavy-clause-err
 returns-in_err-is_heavy-clause-err c =

@@ -30,8 +30,8 @@ returns-in_err-part-clause-err c =
     let p = err_from_is_err_and c.from_residual-in_err-part.result c.from_residual-in_err-part.ensures.1 in
     rw (p.1, p.2)
     (λ u at. unplanned u c.args.documents.now c.args.splices.items c.requires.read
-        (update_holds (program_of c.args.program.now) c.args.nth u c.requires.literals at) c.parts.doc c.parts.place (string_bytes c.parts.done.text)
-        c.parts.done.splices.items (c.parts.invariant.carried u at) _ (c.in_err-part.ensures.err u at))
+    (update_holds (program_of c.args.program.now) c.args.nth u c.requires.literals at) c.parts.doc c.parts.place (string_bytes c.parts.done.text)
+    c.parts.done.splices.items (c.parts.invariant.carried u at) _ (c.in_err-part.ensures.err u at))
 
 pub carry_part-requires : goal.carry_part-requires
 carry_part-requires c =
@@ -39,8 +39,8 @@ carry_part-requires c =
     let valid = subst (λ (x : List Op). HaveOperands (operations_of x)) c.deref.ensures.value c.operands_hold.ensures in
     subst (λ (x : List Op). AreServed (operations_of x) (string_bytes c.parts.done.text)) (sym c.deref-in-parts.ensures.value)
     (part_served u.0 c.args.documents.now c.args.splices.items c.requires.read
-        (update_holds (program_of c.args.program.now) c.args.nth u.0 c.requires.literals u.1) c.parts.doc c.parts.place c.in_ok-part.part.doc
-        c.in_ok-part.part.place (string_bytes c.parts.done.text) c.parts.done.splices.items (c.parts.invariant.carried u.0 u.1)
+    (update_holds (program_of c.args.program.now) c.args.nth u.0 c.requires.literals u.1) c.parts.doc c.parts.place c.in_ok-part.part.doc
+    c.in_ok-part.part.place (string_bytes c.parts.done.text) c.parts.done.splices.items (c.parts.invariant.carried u.0 u.1)
     (operations_of c.in_ok-part.part.ops.items) (c.in_ok-part.ensures.part u.0 u.1) valid)
 
 pub returns-in_err-done-clause-err : goal.returns-in_err-done-clause-err
@@ -49,8 +49,8 @@ returns-in_err-done-clause-err c =
     let valid = subst (λ (x : List Op). HaveOperands (operations_of x)) c.deref.ensures.value c.operands_hold.ensures in
     rw (p.1, p.2)
     (λ u at. part_fails u c.args.documents.now c.args.splices.items c.requires.read
-        (update_holds (program_of c.args.program.now) c.args.nth u c.requires.literals at) c.parts.doc c.parts.place c.in_ok-part.part.doc
-        c.in_ok-part.part.place (string_bytes c.parts.done.text) c.parts.done.splices.items (c.parts.invariant.carried u at)
+    (update_holds (program_of c.args.program.now) c.args.nth u c.requires.literals at) c.parts.doc c.parts.place c.in_ok-part.part.doc
+    c.in_ok-part.part.place (string_bytes c.parts.done.text) c.parts.done.splices.items (c.parts.invariant.carried u at)
     (operations_of c.in_ok-part.part.ops.items) (c.in_ok-part.ensures.part u at) valid _
     (subst (λ (x : List Op). EditFails c.in_err-done.field-0.0 (edit_after c.parts.done.splices.items (carry_all (operations_of x) (string_bytes c.parts.done.text)))) c.deref-in-parts.ensures.value c.in_err-done.ensures))
 
@@ -74,5 +74,5 @@ pub returns-clause-ok : goal.returns-clause-ok
 returns-clause-ok c = λ u at.
     let past : length (documents_of c.args.documents.now) ≤ c.parts.doc = omega (arith, c.parts-test.false, c.parts.invariant.count) in
     all_carried u c.args.documents.now c.args.splices.items c.requires.read
-        (update_holds (program_of c.args.program.now) c.args.nth u c.requires.literals at) c.parts.doc c.parts.place (string_bytes c.parts.done.text)
-        c.parts.done.splices.items (c.parts.invariant.carried u at) past
+    (update_holds (program_of c.args.program.now) c.args.nth u c.requires.literals at) c.parts.doc c.parts.place (string_bytes c.parts.done.text)
+    c.parts.done.splices.items (c.parts.invariant.carried u at) past

@@ -29,14 +29,14 @@ returns-in_err-added-clause-err c =
     rw (p.1, p.2)
     (λ t led. led_fails (program_of c.args.program.now) c.updates.done t c.updates.session.text c.updates.splices.items _ c.updates.invariant.within (c.updates.invariant.leads t led)
     (λ u at. one_fails u c.updates.session.text (operation_of c.updates.op) c.updates.invariant.reads (c.updates.invariant.plans u at)
-        (update_holds (program_of c.args.program.now) c.updates.done u c.requires.literals at) c.operand_holds.ensures _ c.in_err-added.ensures.err))
+    (update_holds (program_of c.args.program.now) c.updates.done u c.requires.literals at) c.operand_holds.ensures _ c.in_err-added.ensures.err))
 
 pub plan-requires : goal.plan-requires
 plan-requires c =
     let u = update_there (program_of c.args.program.now) c.updates.done c.updates.invariant.within in
     let holds = update_holds (program_of c.args.program.now) c.updates.done u.0 c.requires.literals u.1 in
     let step = one_done u.0 c.updates.session.text (operation_of c.updates.op) c.updates.invariant.reads (c.updates.invariant.plans u.0 u.1) holds
-        c.operand_holds.ensures c.apply.new.self.text c.in_ok-added.added.items c.in_ok-added.ensures.ok in
+    c.operand_holds.ensures c.apply.new.self.text c.in_ok-added.added.items c.in_ok-added.ensures.ok in
     sole_on u.0 c.updates.session.text c.apply.new.self.text c.in_ok-added.added.items holds step.is c.updates.invariant.sole
 
 pub updates-preserved : goal.updates-preserved
@@ -44,7 +44,7 @@ updates-preserved c =
     let u = update_there (program_of c.args.program.now) c.updates.done c.updates.invariant.within in
     let holds = update_holds (program_of c.args.program.now) c.updates.done u.0 c.requires.literals u.1 in
     let step = one_done u.0 c.updates.session.text (operation_of c.updates.op) c.updates.invariant.reads (c.updates.invariant.plans u.0 u.1) holds
-        c.operand_holds.ensures c.apply.new.self.text c.in_ok-added.added.items c.in_ok-added.ensures.ok in
+    c.operand_holds.ensures c.apply.new.self.text c.in_ok-added.added.items c.in_ok-added.ensures.ok in
     let same : c.plan.new.self.text ≡ c.apply.new.self.text = ap (λ (s : SessionState). s.text) c.in_ok-next.ensures.same in
     let text = λ (P : List ℕ → Type 0) (x : P c.apply.new.self.text). subst P (sym same) x in
     record {
@@ -56,10 +56,13 @@ updates-preserved c =
       sole = text (λ x. IsSole (documents_of x)) (sole_on u.0 c.updates.session.text c.apply.new.self.text c.in_ok-added.added.items holds step.is c.updates.invariant.sole);
       leads = λ t led. text (λ x. HaveLed (program_of c.args.program.now) t (c.updates.done + 1) x c.append.new.self.items)
           (led_more (program_of c.args.program.now) c.updates.done t c.updates.session.text c.apply.new.self.text c.updates.splices.items c.append.new.self.items c.updates.invariant.within (c.updates.invariant.leads t led)
-          (λ v at. (c.in_ok-added.added.items,
-              one_done v c.updates.session.text (operation_of c.updates.op) c.updates.invariant.reads (c.updates.invariant.plans v at)
-              (update_holds (program_of c.args.program.now) c.updates.done v c.requires.literals at) c.operand_holds.ensures c.apply.new.self.text
-              c.in_ok-added.added.items c.in_ok-added.ensures.ok, c.in_ok-append.ensures.items)));
+          (λ v at. (
+            c.in_ok-added.added.items,
+            one_done v c.updates.session.text (operation_of c.updates.op) c.updates.invariant.reads (c.updates.invariant.plans v at)
+                (update_holds (program_of c.args.program.now) c.updates.done v c.requires.literals at) c.operand_holds.ensures c.apply.new.self.text
+                c.in_ok-added.added.items c.in_ok-added.ensures.ok,
+            c.in_ok-append.ensures.items,
+          )));
     }
 
 pub returns-clause-ok : goal.returns-clause-ok
@@ -67,7 +70,10 @@ returns-clause-ok c =
     let same : c.plan.new.self.text ≡ c.apply.new.self.text = ap (λ (s : SessionState). s.text) c.in_ok-next.ensures.same in
     λ t led. subst (λ (x : List ℕ). HaveLed (program_of c.args.program.now) t (c.updates.done + 1) x c.append.new.self.items) (sym (c.close-text.ensures ∙ same))
     (led_more (program_of c.args.program.now) c.updates.done t c.updates.session.text c.apply.new.self.text c.updates.splices.items c.append.new.self.items c.updates.invariant.within (c.updates.invariant.leads t led)
-    (λ u at. (c.in_ok-added.added.items,
-        one_done u c.updates.session.text (operation_of c.updates.op) c.updates.invariant.reads (c.updates.invariant.plans u at)
-        (update_holds (program_of c.args.program.now) c.updates.done u c.requires.literals at) c.operand_holds.ensures c.apply.new.self.text
-        c.in_ok-added.added.items c.in_ok-added.ensures.ok, c.in_ok-append.ensures.items)))
+    (λ u at. (
+      c.in_ok-added.added.items,
+      one_done u c.updates.session.text (operation_of c.updates.op) c.updates.invariant.reads (c.updates.invariant.plans u at)
+          (update_holds (program_of c.args.program.now) c.updates.done u c.requires.literals at) c.operand_holds.ensures c.apply.new.self.text
+          c.in_ok-added.added.items c.in_ok-added.ensures.ok,
+      c.in_ok-append.ensures.items,
+    )))

@@ -6,8 +6,8 @@ use Rattle.yq_batch.proofs.slots.Slots.+put.Goals as goal
 pub returns-then-place-split-clause-put : goal.returns-then-place-split-clause-put
 returns-then-place-split-clause-put t c =
     let own = subst (λ (o : Option SlotPut). IfSome o
-        (λ p. IsPutIn (slots_of c.deref_mut.result.now) (slots_of c.put-then-place-split.new.self) c.args.place c.args.lead.now c.args.written.now
-        p.at p.was)) c.in-Some.is c.in_ok-put-in-Two.ensures.put in
+    (λ p. IsPutIn (slots_of c.deref_mut.result.now) (slots_of c.put-then-place-split.new.self) c.args.place c.args.lead.now c.args.written.now
+    p.at p.was)) c.in-Some.is c.in_ok-put-in-Two.ensures.put in
     let h = subst (λ (s : Slots). IsPutIn (slots_of s) (slots_of c.put-then-place-split.new.self) c.args.place c.args.lead.now c.args.written.now c.in-Some.put.at c.in-Some.put.was) c.deref_mut.ensures.value own in
     let known : HasCounts c.args.self.now = search rules in
     let counts = subst HasCounts c.in-Two.is known in
@@ -18,8 +18,8 @@ returns-then-place-split-clause-put t c =
 pub returns-in-Some-checked_add-3-clause-counts : goal.returns-in-Some-checked_add-3-clause-counts
 returns-in-Some-checked_add-3-clause-counts t c =
     let own = subst (λ (o : Option SlotPut). IfSome o
-        (λ p. IsPutIn (slots_of c.deref_mut-in-Two.result.now) (slots_of c.put-in-Two.new.self) c.args.place c.args.lead.now c.args.written.now p.at
-        p.was)) c.in-Some-2.is c.in_ok-put-in-Two-2.ensures.put in
+    (λ p. IsPutIn (slots_of c.deref_mut-in-Two.result.now) (slots_of c.put-in-Two.new.self) c.args.place c.args.lead.now c.args.written.now p.at
+    p.was)) c.in-Some-2.is c.in_ok-put-in-Two-2.ensures.put in
     let h = subst (λ (s : Slots). IsPutIn (slots_of s) (slots_of c.put-in-Two.new.self) c.args.place c.args.lead.now c.args.written.now c.in-Some-2.put.at c.in-Some-2.put.was) c.deref_mut-in-Two.ensures.value own in
     let known = subst (λ (o : Option SlotPut). IfSome o (λ p. HasCounts c.put-in-Two.new.self)) c.in-Some-2.is c.in_ok-put-in-Two-2.ensures.counts in
     let k = counts_put c.args.place c.args.lead.now c.args.written.now (slots_of c.in-Two.left.value) (slots_of c.put-in-Two.new.self) c.in-Some-2.put.at c.in-Some-2.put.was h in

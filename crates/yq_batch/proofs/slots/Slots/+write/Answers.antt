@@ -47,6 +47,6 @@ returns-in_ok-write-in-Two t c =
     (λ u second.
     subst (λ (s : Slots). HasWritten (whole c.args.text) (slots_of s) (string_bytes c.args.out.now) c.args.done.now (string_bytes c.write-in-Two.new.out) c.write-in-Two.new.done) (sym c.in-Two.is)
     (written_both (whole c.args.text) c.args.done.now c.write.new.done c.write-in-Two.new.done (string_bytes c.args.out.now)
-        (string_bytes c.write.new.out) (string_bytes c.write-in-Two.new.out) (slots_of c.in-Two.left.value) (slots_of c.in-Two.right.value) w
+    (string_bytes c.write.new.out) (string_bytes c.write-in-Two.new.out) (slots_of c.in-Two.left.value) (slots_of c.in-Two.right.value) w
     (subst (λ (s : Slots). HasWritten (whole c.args.text) (slots_of s) (string_bytes c.write.new.out) c.write.new.done (string_bytes c.write-in-Two.new.out) c.write-in-Two.new.done) c.deref-in-Two-2.ensures second)))
     c.write-in-Two.ensures

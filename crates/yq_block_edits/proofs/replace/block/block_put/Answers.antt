@@ -11,5 +11,5 @@ returns-then-not-is_filled c =
     let h = c.args.held.now in
     let none = sym c.is_filled.ensures ∙ c.if-not-is_filled.true in
     subst (λ w. IfOk c.put_inline.result (λ ss. ss ≡ block_put (break_text l.br) (held_view h) w))
-        (ap inline c.in_ok-text.ensures ∙ sym (unfilled_at l (held_mark_view h.mark) (value_node c.args.value.now) none []))
-        (c.put_inline.ensures (break_text l.br))
+    (ap inline c.in_ok-text.ensures ∙ sym (unfilled_at l (held_mark_view h.mark) (value_node c.args.value.now) none []))
+    (c.put_inline.ensures (break_text l.br))

@@ -11,5 +11,5 @@ returns c =
     let h = c.args.held.now in
     let none = sym c.is_filled.ensures ∙ c.if-is_filled.false in
     subst (λ w. IfOk c.put_inline.result (λ ss. ss ≡ held_put (break_text l.br) (held_view h) w))
-        (ap inline c.in_ok-text.ensures ∙ sym (unfilled_below l (held_mark_view h.mark) (value_node c.args.value.now) none))
-        (c.put_inline.ensures (break_text l.br))
+    (ap inline c.in_ok-text.ensures ∙ sym (unfilled_below l (held_mark_view h.mark) (value_node c.args.value.now) none))
+    (c.put_inline.ensures (break_text l.br))

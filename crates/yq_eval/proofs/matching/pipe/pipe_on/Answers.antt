@@ -13,4 +13,4 @@ returns-in_err-places c =
 pub stages-preserved : goal.stages-preserved
 stages-preserved c =
     chain_more stage_of (spec.stage_on c.args.doc) c.args.pipe.now c.stages.stage-index c.stage-item.result (places_of c.stages.places.items)
-        (places_of c.in_ok-places.places.items) _ c.stages-test.true c.stage-item.is c.in_ok-places.ensures c.stages.invariant
+    (places_of c.in_ok-places.places.items) _ c.stages-test.true c.stage-item.is c.in_ok-places.ensures c.stages.invariant

@@ -8,13 +8,13 @@ returns-in_err-push_kept c =
     let p = err_from_is_err_and c.from_residual.result c.from_residual.ensures.1 in
     failed _ _ _ _ (p.1 ∙ ap Err p.2)
     (each_fails place_of (select_on c.args.doc (condition_of c.args.condition.now)) (places_of c.places.kept.items) c.args.places.now
-        c.places.place-index c.place-item.result _ _ c.places-test.true c.place-item.is c.in_err-push_kept.ensures c.places.invariant)
+    c.places.place-index c.place-item.result _ _ c.places-test.true c.place-item.is c.in_err-push_kept.ensures c.places.invariant)
 
 pub places-preserved : goal.places-preserved
 places-preserved c =
     each_more place_of (select_on c.args.doc (condition_of c.args.condition.now)) (places_of c.places.kept.items)
-        (places_of c.push_kept.new.places.items) c.args.places.now c.places.place-index c.place-item.result _ c.places-test.true c.place-item.is
-        c.in_ok-push_kept.ensures c.places.invariant
+    (places_of c.push_kept.new.places.items) c.args.places.now c.places.place-index c.place-item.result _ c.places-test.true c.place-item.is
+    c.in_ok-push_kept.ensures c.places.invariant
 
 pub returns : goal.returns
 returns c =

@@ -17,7 +17,7 @@ each-preserved c =
       so_far =
           ap (λ (is : _). places_of is ++ map (child_place p) (stepped (c.each.before + 1) (left_of c.next.new.self))) (c.in_ok-push.ensures.items)
           ∙ children_more p c.each.before (left_of c.each.children) (left_of c.next.new.self) (label_of c.in-Some.child) (node_of c.in-Some.child)
-              c.each.places.items c.nth_below.result _ c.in-Some.ensures.steps place c.each.invariant.so_far;
+          c.each.places.items c.nth_below.result _ c.in-Some.ensures.steps place c.each.invariant.so_far;
     }
 
 pub returns : goal.returns

@@ -73,7 +73,7 @@ pub list-returns-in-None-clause-value : goal.list-returns-in-None-clause-value
 list-returns-in-None-clause-value t c =
     gives_as _ c.closed.result _ _ (either_none _ _ _ _ (sym c.in_default.ensures.value)
     (bind_gives _ _ _ _ (parted_end value_node (codes ",") (literal_at c.args.depth) (item_lessens c.args.depth) _ (tokens c.items.rest.now) _
-        c.items.invariant.2 _ _ c.in_ok-item.ensures.value _ c.in_ok-push.ensures.items (sym c.in-None.ensures.value)) refl))
+    c.items.invariant.2 _ _ c.in_ok-item.ensures.value _ c.in_ok-push.ensures.items (sym c.in-None.ensures.value)) refl))
     (closed_reads _ c.closed.result _ _ c.closed.ensures.value)
 
 pub mapping-fields-init : goal.mapping-fields-init
@@ -101,6 +101,6 @@ pub mapping-returns-in-None-clause-value : goal.mapping-returns-in-None-clause-v
 mapping-returns-in-None-clause-value t c =
     gives_as _ c.closed.result _ _ (either_none _ _ _ _ (sym c.in_default.ensures.value)
     (bind_gives _ _ _ _ (parted_end field_of (codes ",") (field_at (literal_at c.args.depth)) (field_lessens c.args.depth) _
-        (tokens c.fields.rest.now) _ c.fields.invariant.2 _ _ c.in_ok-field.ensures.value _ c.in_ok-push.ensures.items (sym c.in-None.ensures.value))
-        refl))
+    (tokens c.fields.rest.now) _ c.fields.invariant.2 _ _ c.in_ok-field.ensures.value _ c.in_ok-push.ensures.items (sym c.in-None.ensures.value))
+    refl))
     (closed_reads _ c.closed.result _ _ c.closed.ensures.value)

@@ -12,8 +12,8 @@ pub overflow_add-start : goal.overflow_add-start
 overflow_add-start c =
     let s = c.args.self in
     let k = key_found s.depth s.text.now c.requires.some
-        (ap (λ b. are_borrowed s.depth (closing_byte b) s.text.now) (sym c.requires.keyed) ∙ s.borrowed) c.key_in_front.result.0.now
-        c.key_in_front.result.1.now c.key_in_front.ensures.split in
+    (ap (λ b. are_borrowed s.depth (closing_byte b) s.text.now) (sym c.requires.keyed) ∙ s.borrowed) c.key_in_front.result.0.now
+    c.key_in_front.result.1.now c.key_in_front.ensures.split in
     omega (arith, k.within, s.within)
 
 pub borrowed_content-requires-clause-borrows : goal.borrowed_content-requires-clause-borrows

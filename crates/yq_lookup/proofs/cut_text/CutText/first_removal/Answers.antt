@@ -20,22 +20,22 @@ pub cut_at-requires-clause-order : goal.cut_at-requires-clause-order
 cut_at-requires-clause-order c =
     let u : IsUtf8 c.args.self.now = c.whole-whole.ensures.utf8 in
     (entry_stands c.args.self.now (cut_of c.args.self.now) c.args.path.now c.in_ok-span.span.start c.in_ok-span.span.end u c.whole-whole.ensures.cut
-        c.whole-whole.ensures.documents _ (line_view c.in_ok-row_line.row_line) c.in_ok-row_line.ensures c.in_ok-span.ensures).order
+    c.whole-whole.ensures.documents _ (line_view c.in_ok-row_line.row_line) c.in_ok-row_line.ensures c.in_ok-span.ensures).order
 
 pub cut_at-requires-clause-start : goal.cut_at-requires-clause-start
 cut_at-requires-clause-start c =
     let u : IsUtf8 c.args.self.now = c.whole-whole.ensures.utf8 in
     let h = entry_stands c.args.self.now (cut_of c.args.self.now) c.args.path.now c.in_ok-span.span.start c.in_ok-span.span.end u
-        c.whole-whole.ensures.cut c.whole-whole.ensures.documents _ (line_view c.in_ok-row_line.row_line) c.in_ok-row_line.ensures
-        c.in_ok-span.ensures in
+    c.whole-whole.ensures.cut c.whole-whole.ensures.documents _ (line_view c.in_ok-row_line.row_line) c.in_ok-row_line.ensures
+    c.in_ok-span.ensures in
     subst (λ (t : List ℕ). IsCharBoundary t c.in_ok-span.span.start) (sym c.whole-whole.ensures.text) h.begins
 
 pub cut_at-requires-clause-end : goal.cut_at-requires-clause-end
 cut_at-requires-clause-end c =
     let u : IsUtf8 c.args.self.now = c.whole-whole.ensures.utf8 in
     let h = entry_stands c.args.self.now (cut_of c.args.self.now) c.args.path.now c.in_ok-span.span.start c.in_ok-span.span.end u
-        c.whole-whole.ensures.cut c.whole-whole.ensures.documents _ (line_view c.in_ok-row_line.row_line) c.in_ok-row_line.ensures
-        c.in_ok-span.ensures in
+    c.whole-whole.ensures.cut c.whole-whole.ensures.documents _ (line_view c.in_ok-row_line.row_line) c.in_ok-row_line.ensures
+    c.in_ok-span.ensures in
     subst (λ (t : List ℕ). IsCharBoundary (drop c.in_ok-span.span.start t) (c.in_ok-span.span.end - c.in_ok-span.span.start)) (sym c.whole-whole.ensures.text) h.ends
 
 pub returns : goal.returns

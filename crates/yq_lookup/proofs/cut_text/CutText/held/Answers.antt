@@ -20,7 +20,7 @@ held_in-requires c =
     let cut = subst (λ t. IsCut t (cut_of t)) (sym text) c.whole-text.ensures.cut in
     let rows = c.rows.ensures.rows ∙ ap (λ t. rows_view (cut_of t)) (sym text) in
     let f = entry_found (whole c.whole-text.result) c.rows.result.now c.args.path.now.doc (steps_of c.args.path.now) c.in_ok-entry.entry cut rows
-        (c.in_ok-entry.ensures ∙ ap (λ t. numbers_at c.args.path.now.doc (steps_of c.args.path.now) (cut_of t)) (sym text)) in
+    (c.in_ok-entry.ensures ∙ ap (λ t. numbers_at c.args.path.now.doc (steps_of c.args.path.now) (cut_of t)) (sym text)) in
     record { entry = f.entry; is = f.is }
 
 pub returns : goal.returns
@@ -29,7 +29,7 @@ returns c =
     let cut = subst (λ t. IsCut t (cut_of t)) (sym text) c.whole-text.ensures.cut in
     let rows = c.rows.ensures.rows ∙ ap (λ t. rows_view (cut_of t)) (sym text) in
     let f = entry_found (whole c.whole-text.result) c.rows.result.now c.args.path.now.doc (steps_of c.args.path.now) c.in_ok-entry.entry cut rows
-        (c.in_ok-entry.ensures ∙ ap (λ t. numbers_at c.args.path.now.doc (steps_of c.args.path.now) (cut_of t)) (sym text)) in
+    (c.in_ok-entry.ensures ∙ ap (λ t. numbers_at c.args.path.now.doc (steps_of c.args.path.now) (cut_of t)) (sym text)) in
     ap Some (c.held_in.ensures f.entry f.is)
     ∙ (held_there (whole c.whole-text.result) c.rows.result.now c.args.path.now.doc (steps_of c.args.path.now) c.in_ok-entry.entry f c.if-entry.false
     ∙ ap (λ t. held_at c.args.path.now.doc (steps_of c.args.path.now) (cut_of t)) text)

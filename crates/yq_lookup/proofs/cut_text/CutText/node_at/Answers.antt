@@ -23,8 +23,8 @@ returns-in_default-place_line c =
     walk_place t c.args.doc c.in-Some.walk _ (node_among steps) c.in-Some.ensures.cut c.in-Some.ensures.place
     (λ k. c.block_node.ensures k.document.stand (sym (c.in_default-place_line.ensures.found k.document.stand))
     ∙ block_numbers_of (lines_of_rows k.document.stand.rows) steps (map tree_step c.in-Some-node_place.left.now)
-        (place_view c.in-Some.walk.document k.document.stand.rows c.in-Some-node_place.place) (c.in-Some-node_place.ensures.found k.document)
-        (c.in_default-place_line.ensures.found k.document.stand))
+    (place_view c.in-Some.walk.document k.document.stand.rows c.in-Some-node_place.place) (c.in-Some-node_place.ensures.found k.document)
+    (c.in_default-place_line.ensures.found k.document.stand))
     ∙ node_is (cut_of t) c.args.doc steps 0 c.in-Some.ensures.cut.sound
 
 pub row_head-requires-clause-within : goal.row_head-requires-clause-within
@@ -50,7 +50,7 @@ returns c =
     let left : List Step = map tree_step c.in-Some-node_place.left.now in
     let agrees = walk_place t c.args.doc c.in-Some.walk _ (node_among steps) c.in-Some.ensures.cut c.in-Some.ensures.place
     (λ k. head_agrees rows d (cut_of t) k q at steps left (place_view d k.document.stand.rows c.in-Some-node_place.place)
-        (head_view c.in_ok-head.head.head) (c.in-Some-node_place.ensures.found k.document) (c.in-Some-place_line.ensures.found k.document.stand)
+    (head_view c.in_ok-head.head.head) (c.in-Some-node_place.ensures.found k.document) (c.in-Some-place_line.ensures.found k.document.stand)
     (c.in_ok-head.ensures (row_is rows d (cut_of t) k q at) (row_in_cut rows d (cut_of t) k q at)).view)
     ∙ node_is (cut_of t) c.args.doc steps 0 c.in-Some.ensures.cut.sound in
     IfOk-weaker c.head_node.result _ _ (λ o is. is ∙ agrees) c.head_node.ensures

@@ -16,14 +16,14 @@ rows_standing-requires c =
     let d = c.in_ok-walk-in-None.walk.document in
     let f = walk_found c.args.self.now c.args.doc c.in_ok-walk-in-None.walk c.in_ok-walk-in-None.ensures.cut c.in_ok-walk-in-None.ensures.place in
     (rw (← c.whole-text.ensures.text) at
-        (root_found c.args.self.now c.in_ok-walk-in-None.walk.rows.now c.args.doc d c.whole-text.ensures.cut c.in_ok-walk-in-None.ensures.cut.rows f
-        (sym (ap (option_map no_rows_view) c.in-None.is) ∙ c.no_rows.ensures))).is
+    (root_found c.args.self.now c.in_ok-walk-in-None.walk.rows.now c.args.doc d c.whole-text.ensures.cut c.in_ok-walk-in-None.ensures.cut.rows f
+    (sym (ap (option_map no_rows_view) c.in-None.is) ∙ c.no_rows.ensures))).is
 
 pub returns-in_ok-walk-in-None : goal.returns-in_ok-walk-in-None
 returns-in_ok-walk-in-None c =
     let d = c.in_ok-walk-in-None.walk.document in
     let f = walk_found c.args.self.now c.args.doc c.in_ok-walk-in-None.walk c.in_ok-walk-in-None.ensures.cut c.in_ok-walk-in-None.ensures.place in
     let r = rw (← c.whole-text.ensures.text) at
-        (root_found c.args.self.now c.in_ok-walk-in-None.walk.rows.now c.args.doc d c.whole-text.ensures.cut c.in_ok-walk-in-None.ensures.cut.rows f
-        (sym (ap (option_map no_rows_view) c.in-None.is) ∙ c.no_rows.ensures)) in
+    (root_found c.args.self.now c.in_ok-walk-in-None.walk.rows.now c.args.doc d c.whole-text.ensures.cut c.in_ok-walk-in-None.ensures.cut.rows f
+    (sym (ap (option_map no_rows_view) c.in-None.is) ∙ c.no_rows.ensures)) in
     ap Some (c.rows_standing.ensures r.is) ∙ (sym r.place ∙ ap (λ t. standing_at c.args.doc [] (cut_of t)) c.whole-text.ensures.text)

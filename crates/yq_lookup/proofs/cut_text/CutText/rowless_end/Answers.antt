@@ -12,16 +12,16 @@ pub returns-then-rows_to-part : goal.returns-then-rows_to-part
 returns-then-rows_to-part c =
     let cut = cut_of c.args.self.now in
     written_none c.rows-rows.result.now cut c.args.doc c.in_ok-part.part c.rows_to.result (bound_view c.part.result) c.rows-rows.ensures.rows
-        (c.in_ok-part.ensures.value cut c.rows-rows.ensures.rows) (c.rows_to.ensures cut c.rows-rows.ensures.rows) c.part.ensures
-        c.if-rows_to-part.true
+    (c.in_ok-part.ensures.value cut c.rows-rows.ensures.rows) (c.rows_to.ensures cut c.rows-rows.ensures.rows) c.part.ensures
+    c.if-rows_to-part.true
 
 pub returns : goal.returns
 returns c =
     let cut = cut_of c.args.self.now in
     ap Some (c.part_end.ensures (bound_view c.part.result) c.part.ensures)
     ∙ end_there c.rows-rows.result.now cut c.args.doc c.in_ok-part.part c.rows_to.result (bound_view c.part.result) c.rows-rows.ensures.rows
-        (c.in_ok-part.ensures.value cut c.rows-rows.ensures.rows) (c.rows_to.ensures cut c.rows-rows.ensures.rows) c.part.ensures
-        c.if-rows_to-part.false
+    (c.in_ok-part.ensures.value cut c.rows-rows.ensures.rows) (c.rows_to.ensures cut c.rows-rows.ensures.rows) c.part.ensures
+    c.if-rows_to-part.false
 
 pub part_from-requires : goal.part_from-requires
 part_from-requires c = documents_known c.args.self.now c.rows-rows.result.now c.documents.result c.rows-rows.ensures.rows c.documents.ensures

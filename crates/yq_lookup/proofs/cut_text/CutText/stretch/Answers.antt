@@ -13,7 +13,7 @@ pub returns : goal.returns
 returns c =
     let cut = cut_of c.args.self.now in
     rows_known cut c.rows-rows.result.now c.args.doc c.in_ok-part.part c.rows_to.result (bound_view c.part.result) c.rows-rows.ensures.rows
-        (c.in_ok-part.ensures.value cut c.rows-rows.ensures.rows) (c.rows_to.ensures cut c.rows-rows.ensures.rows) c.part.ensures
+    (c.in_ok-part.ensures.value cut c.rows-rows.ensures.rows) (c.rows_to.ensures cut c.rows-rows.ensures.rows) c.part.ensures
 
 pub part_from-requires : goal.part_from-requires
 part_from-requires c = documents_known c.args.self.now c.rows-rows.result.now c.documents.result c.rows-rows.ensures.rows c.documents.ensures

@@ -27,5 +27,5 @@ pub returns-clause-fewer : goal.returns-clause-fewer
 returns-clause-fewer c =
     let ls = document_lines c.args.document c.args.text.now in
     let number : number_of c.args.document c.args.text.now c.next.result ≡ number_of c.args.document c.args.text.now c.args.at + 1 =
-        agrees_rows c.document_rows.ensures (λ ls num. num c.next.result ≡ num c.args.at + 1) c.next.ensures.number in
+    agrees_rows c.document_rows.ensures (λ ls num. num c.next.result ≡ num c.args.at + 1) c.next.ensures.number in
     omega (arith, number, slice_get_within ls (number_of c.args.document c.args.text.now c.args.at) c.requires.line.line c.requires.line.there)

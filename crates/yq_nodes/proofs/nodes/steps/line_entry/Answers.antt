@@ -25,8 +25,8 @@ returns c =
     let at = line_back c.document_rows.ensures c.in_ok-at.ensures.within in
     let found = agrees_document c.document_rows.ensures (λ ms num. position (num u.first) (find_row (To c.args.key.now) (part ms (num u.first) u.floor)) ≡ line_here ms (Some (num c.in_ok-at.at))) c.in_ok-at.ensures.found in
     child_found (To c.args.key.now) ls (number_of u.document u.text.now u.first) u.floor (number_of u.document u.text.now c.in_ok-at.at) at.line
-        (label_of c.of_line.result) (node_of c.of_line.result) at.there found (c.of_line.ensures.label at.line at.there)
-        (c.of_line.ensures.node at.line at.there)
+    (label_of c.of_line.result) (node_of c.of_line.result) at.there found (c.of_line.ensures.label at.line at.there)
+    (c.of_line.ensures.node at.line at.there)
 
 pub find_key-requires-clause-walk : goal.find_key-requires-clause-walk
 find_key-requires-clause-walk c = record { rows_view = c.document_rows.ensures.small; document = (document_in c.document_rows.ensures).0; known = λ k d none. absurd (omega (arith, none)); line = tt }

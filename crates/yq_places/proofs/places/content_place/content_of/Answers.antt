@@ -27,7 +27,7 @@ returns-in-Head c = λ cut k.
     let left = map tree_step c.in_ok-place.left.now in
     let found : Some (at_head n, left) ≡ node_place (map tree_step c.args.steps.now) (lines_of_rows rs) = ap (λ p. Some (place_view d rs p, left)) (sym c.in-Head.is) ∙ c.in_ok-place.ensures.found k.document in
     row_known c.args.walk.now.rows.now d cut k c.in-Head.at (subst (IsPlace c.args.walk.now.rows.now d) c.in-Head.is c.in_ok-place.ensures.within)
-        (λ i r. Some (head_extent i r cut)) _ (λ r is. ap Some (c.head_extent.ensures k.text cut k.cut k.rows r is))
+    (λ i r. Some (head_extent i r cut)) _ (λ r is. ap Some (c.head_extent.ensures k.text cut k.cut k.rows r is))
     ∙ said_there (line_head d.first cut rs) (lines_content d.first cut rs) (lines_of_rows rs) (line_content_of d.first cut rs) refl (λ s ss. refl) (map tree_step c.args.steps.now) (at_head n) left found
     (c.if-not-is_empty.ensures ∙ sym (ap (λ m. eqb m 0) (length-map c.in_ok-place.left.now tree_step)))
 

@@ -22,8 +22,8 @@ cut_lines-lower-requires c =
     let h = c.requires.entry in
     let less : h.entry.line < length h.entry.row.dashes = omega (arith, c.requires.dash, h.is.line, h.is.dashes) in
     dash_cut (whole c.args.text) c.args.rows.now h.entry c.args.at.row c.args.at.end h.is.rows c.is_text.ensures c.args.at.line h.is.line less
-        (row_view c.row-row.result) c.row-row.ensures c.line_start.result c.row_stop-stop.result c.line_start.ensures c.row_stop-stop.ensures
-        (whole c.args.text) refl
+    (row_view c.row-row.result) c.row-row.ensures c.line_start.result c.row_stop-stop.result c.line_start.ensures c.row_stop-stop.ensures
+    (whole c.args.text) refl
 
 pub returns : goal.returns
 returns c = λ e h.
@@ -32,8 +32,8 @@ returns c = λ e h.
     let less : e.line < length e.row.dashes = omega (arith, c.requires.dash, h.line, h.dashes) in
     let row = same_Some _ _ (sym (pieces_at t s e c.args.at.row c.args.at.end h.rows) ∙ c.row-row.ensures) in
     let lower = dash_lines t s e c.args.at.row c.args.at.end h.rows c.is_text.ensures c.args.at.line h.line less (row_view c.row-row.result)
-        c.row-row.ensures c.line_start.result c.row_stop-stop.result c.line_start.ensures c.row_stop-stop.ensures t refl
-        (lines_view c.cut_lines-lower.result) c.cut_lines-lower.ensures in
+    c.row-row.ensures c.line_start.result c.row_stop-stop.result c.line_start.ensures c.row_stop-stop.ensures t refl
+    (lines_view c.cut_lines-lower.result) c.cut_lines-lower.ensures in
     let first = c.mark_of.ensures.column ∙ ((λ i. line_column (h.line i) (sym row i)) ∙ column_is e.row e.line (omega (arith, less))) in
     let next : c.args.at.line + 1 ≡ suc e.line = omega (arith, h.line) in
     let second = c.line_column.ensures.value ∙ ((λ i. line_column (next i) (sym row i)) ∙ column_is e.row (suc e.line) (omega (arith, less))) in
@@ -44,9 +44,12 @@ pub overflow_add-line_start : goal.overflow_add-line_start
 overflow_add-line_start c =
     let h = c.requires.entry in
     let less : h.entry.line < length h.entry.row.dashes = omega (arith, c.requires.dash, h.is.line, h.is.dashes) in
-    omega (arith, dash_fits (whole c.args.text) c.args.rows.now h.entry c.args.at.row c.args.at.end h.is.rows c.is_text.ensures c.args.at.line
-        h.is.line less (row_view c.row-row.result) c.row-row.ensures c.line_start.result c.row_stop-stop.result c.line_start.ensures
-        c.row_stop-stop.ensures)
+    omega (
+      arith,
+      dash_fits (whole c.args.text) c.args.rows.now h.entry c.args.at.row c.args.at.end h.is.rows c.is_text.ensures c.args.at.line
+          h.is.line less (row_view c.row-row.result) c.row-row.ensures c.line_start.result c.row_stop-stop.result c.line_start.ensures
+          c.row_stop-stop.ensures,
+    )
 
 pub mark_of-requires : goal.mark_of-requires
 mark_of-requires c = let h = c.requires.entry in column_fits (whole c.args.text) c.args.rows.now h.entry c.args.at.row c.args.at.end h.is.rows (row_view c.row-row.result) c.row-row.ensures

@@ -19,15 +19,15 @@ pub split_at-requires-2 : goal.split_at-requires-2
 split_at-requires-2 c =
     let h = c.requires in
     start_boundary (whole c.args.text) c.args.rows.now h.entry c.args.i h.end h.is (c.head_place-start.result.0, c.head_place-start.result.1)
-        c.head_place-start.ensures (row_view c.row-row.result) c.row-row.ensures (whole c.args.text) (whole c.split_at.result.0) refl
-        c.split_at.ensures.front
+    c.head_place-start.ensures (row_view c.row-row.result) c.row-row.ensures (whole c.args.text) (whole c.split_at.result.0) refl
+    c.split_at.ensures.front
     c.head-head.result.now c.head-head.ensures c.head-head.utf8
 
 pub returns : goal.returns
 returns c = λ e end h a.
     lone_is (whole c.args.text) c.args.rows.now e c.args.i end h (c.head_place-start.result.0, c.head_place-start.result.1)
-        c.head_place-start.ensures (row_view c.row-row.result) c.row-row.ensures (whole c.args.text) (whole c.split_at.result.0)
-        (whole c.split_at-2.result.0) (whole c.split_at.result.1) c.head-head.result.now
+    c.head_place-start.ensures (row_view c.row-row.result) c.row-row.ensures (whole c.args.text) (whole c.split_at.result.0)
+    (whole c.split_at-2.result.0) (whole c.split_at.result.1) c.head-head.result.now
     refl c.split_at.ensures.front c.split_at.ensures.back c.split_at-2.ensures.front c.head-head.ensures a
 
 pub head_place-start-requires-clause-rows_view : goal.head_place-start-requires-clause-rows_view

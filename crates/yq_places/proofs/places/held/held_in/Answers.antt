@@ -44,11 +44,11 @@ split_at-requires c =
     let u : IsUtf8 t = c.is_text.ensures in
     let place : ℕ × ℕ = (c.head_place-end.result.0, c.head_place-end.result.1) in
     let lower = lower_is t s h.entry c.args.at.row c.args.at.end h.is.rows u place c.head_place-end.ensures (row_view c.row-row.result)
-        c.row-row.ensures c.row_stop-stop.result c.row_stop-stop.ensures t refl c.tail.result.now c.tail.ensures
-        (lines_view c.cut_lines-lower.result) c.cut_lines-lower.ensures in
+    c.row-row.ensures c.row_stop-stop.result c.row_stop-stop.ensures t refl c.tail.result.now c.tail.ensures
+    (lines_view c.cut_lines-lower.result) c.cut_lines-lower.ensures in
     before_boundary t s h.entry c.args.at.row c.args.at.end h.is.rows u place c.head_place-end.ensures (row_view c.row-row.result) c.row-row.ensures
-        c.row_stop-stop.result c.row_stop-stop.ensures (whole c.cut_lines-lower.result.before) c.space_before-space.result.now c.head-head.result.now
-        c.tail.result.now
+    c.row_stop-stop.result c.row_stop-stop.ensures (whole c.cut_lines-lower.result.before) c.space_before-space.result.now c.head-head.result.now
+    c.tail.result.now
     (ap (λ (z : LinesIn). z.before) lower) c.space_before-space.ensures c.head-head.ensures c.tail.ensures c.space_before-space.utf8 c.head-head.utf8 c.tail.utf8
 
 pub mark_of-requires : goal.mark_of-requires
@@ -61,14 +61,14 @@ returns c = λ e h.
     let u : IsUtf8 t = c.is_text.ensures in
     let place : ℕ × ℕ = (c.head_place-end.result.0, c.head_place-end.result.1) in
     let lower = lower_is t s e c.args.at.row c.args.at.end h.rows u place c.head_place-end.ensures (row_view c.row-row.result) c.row-row.ensures
-        c.row_stop-stop.result c.row_stop-stop.ensures t refl c.tail.result.now c.tail.ensures (lines_view c.cut_lines-lower.result)
-        c.cut_lines-lower.ensures in
+    c.row_stop-stop.result c.row_stop-stop.ensures t refl c.tail.result.now c.tail.ensures (lines_view c.cut_lines-lower.result)
+    c.cut_lines-lower.ensures in
     held_is t s e c.args.at.row c.args.at.end h.rows u place c.head_place-end.ensures (row_view c.row-row.result) c.row-row.ensures c.row_stop-stop.result c.row_stop-stop.ensures
     c.mark_of.result.column c.args.at.dashes c.mark_of.result.keyed c.mark_of.result.noted (whole c.split_at.result.0)
-        c.space_before-space.result.now c.head-head.result.now c.either.result.now c.either-2.result.now (tail_view c.cut_tail-tail.result)
-        (lines_view c.cut_lines-lower.result)
+    c.space_before-space.result.now c.head-head.result.now c.either.result.now c.either-2.result.now (tail_view c.cut_tail-tail.result)
+    (lines_view c.cut_lines-lower.result)
     c.mark_of.ensures.column h.dashes (c.mark_of.ensures.keyed ∙ c.has_key.ensures) c.cut_tail-tail.ensures c.mark_of.ensures.noted lower
-        c.space_before-space.ensures c.head-head.ensures c.split_at.ensures.front c.either.ensures c.either-2.ensures
+    c.space_before-space.ensures c.head-head.ensures c.split_at.ensures.front c.either.ensures c.either-2.ensures
 
 pub row_stop-stop-requires-clause-rows_view : goal.row_stop-stop-requires-clause-rows_view
 row_stop-stop-requires-clause-rows_view c = let h = c.requires in is_view (whole c.args.text) c.args.rows.now h.entry c.args.at.row c.args.at.end h.is.rows

@@ -5,9 +5,9 @@ use Rattle.yq_places.proofs.places.known_at.keep_in_front.Goals as goal
 pub returns-then-count-len : goal.returns-then-count-len
 returns-then-count-len c = λ cut is.
     subst (StayKnown c.args.front cut)
-        (ap (take c.count_in_front-count.result) c.as_slice.ensures.value
-        ∙ take_all c.count_in_front-count.result c.args.known.now.items (omega (arith, c.if-count-len.true, c.len.ensures)))
-        (c.count_in_front-count.ensures.stay cut is)
+    (ap (take c.count_in_front-count.result) c.as_slice.ensures.value
+    ∙ take_all c.count_in_front-count.result c.args.known.now.items (omega (arith, c.if-count-len.true, c.len.ensures)))
+    (c.count_in_front-count.ensures.stay cut is)
 
 pub returns-in-Some : goal.returns-in-Some
 returns-in-Some c = λ cut is.

@@ -17,11 +17,18 @@ overflow_add-start c =
     let o = out_agrees (whole c.args.text) c.args.rows.now c.requires.part c.requires.rows _ c.requires.is in
     let kept = c.split_run.ensures.kept ∙ ap (λ g. joined (before_run (text_lines g))) c.gap.ensures in
     let own = kept ∙ o.kept (row_view c.row.result) c.row.ensures in
-    omega (arith, c.row_start.ensures, ap length own, o.start, ap length o.text,
-        length-append (rows_out c.requires.part c.requires.rows).before
-        ((rows_out c.requires.part c.requires.rows).gone
-        ++ ((rows_out c.requires.part c.requires.rows).gap ++ (rows_out c.requires.part c.requires.rows).behind)), ap length c.requires.is.cut.text,
-        c.requires.is.cut.size)
+    omega (
+      arith,
+      c.row_start.ensures,
+      ap length own,
+      o.start,
+      ap length o.text,
+      length-append (rows_out c.requires.part c.requires.rows).before
+          ((rows_out c.requires.part c.requires.rows).gone
+          ++ ((rows_out c.requires.part c.requires.rows).gap ++ (rows_out c.requires.part c.requires.rows).behind)),
+      ap length c.requires.is.cut.text,
+      c.requires.is.cut.size,
+    )
 
 pub row_stop-stop-requires-clause-within : goal.row_stop-stop-requires-clause-within
 row_stop-stop-requires-clause-within c = (out_agrees (whole c.args.text) c.args.rows.now c.requires.part c.requires.rows _ c.requires.is).last_within
@@ -34,8 +41,8 @@ split_at-requires c =
     let o = out_agrees (whole c.args.text) c.args.rows.now c.requires.part c.requires.rows _ c.requires.is in
     let kept = c.split_run.ensures.kept ∙ ap (λ g. joined (before_run (text_lines g))) c.gap.ensures in
     let agrees = code_agrees (whole c.args.text) c.args.rows.now c.requires.part c.requires.rows c.args.marks.0 c.args.marks.1 c.args.marks.2
-        (row_view c.row.result) c.split_run.result.0.now c.gap_before-column.result.0.now c.row_start.result c.row_stop-stop.result
-        c.gap_before-column.result.1
+    (row_view c.row.result) c.split_run.result.0.now c.gap_before-column.result.0.now c.row_start.result c.row_stop-stop.result
+    c.gap_before-column.result.1
     c.is_text.ensures o c.row.ensures kept c.row_start.ensures (c.row_stop-stop.ensures o.final o.final_is) c.gap_before-column.ensures in
     agrees.cuts.begins
 
@@ -44,8 +51,8 @@ overflow_sub-stop c =
     let o = out_agrees (whole c.args.text) c.args.rows.now c.requires.part c.requires.rows _ c.requires.is in
     let kept = c.split_run.ensures.kept ∙ ap (λ g. joined (before_run (text_lines g))) c.gap.ensures in
     let agrees = code_agrees (whole c.args.text) c.args.rows.now c.requires.part c.requires.rows c.args.marks.0 c.args.marks.1 c.args.marks.2
-        (row_view c.row.result) c.split_run.result.0.now c.gap_before-column.result.0.now c.row_start.result c.row_stop-stop.result
-        c.gap_before-column.result.1
+    (row_view c.row.result) c.split_run.result.0.now c.gap_before-column.result.0.now c.row_start.result c.row_stop-stop.result
+    c.gap_before-column.result.1
     c.is_text.ensures o c.row.ensures kept c.row_start.ensures (c.row_stop-stop.ensures o.final o.final_is) c.gap_before-column.ensures in
     agrees.order
 
@@ -54,8 +61,8 @@ split_at-requires-2 c =
     let o = out_agrees (whole c.args.text) c.args.rows.now c.requires.part c.requires.rows _ c.requires.is in
     let kept = c.split_run.ensures.kept ∙ ap (λ g. joined (before_run (text_lines g))) c.gap.ensures in
     let agrees = code_agrees (whole c.args.text) c.args.rows.now c.requires.part c.requires.rows c.args.marks.0 c.args.marks.1 c.args.marks.2
-        (row_view c.row.result) c.split_run.result.0.now c.gap_before-column.result.0.now c.row_start.result c.row_stop-stop.result
-        c.gap_before-column.result.1
+    (row_view c.row.result) c.split_run.result.0.now c.gap_before-column.result.0.now c.row_start.result c.row_stop-stop.result
+    c.gap_before-column.result.1
     c.is_text.ensures o c.row.ensures kept c.row_start.ensures (c.row_stop-stop.ensures o.final o.final_is) c.gap_before-column.ensures in
     rw c.split_at.ensures.back agrees.cuts.stops
 
@@ -64,8 +71,8 @@ split_at-requires-3 c =
     let o = out_agrees (whole c.args.text) c.args.rows.now c.requires.part c.requires.rows _ c.requires.is in
     let kept = c.split_run.ensures.kept ∙ ap (λ g. joined (before_run (text_lines g))) c.gap.ensures in
     let agrees = code_agrees (whole c.args.text) c.args.rows.now c.requires.part c.requires.rows c.args.marks.0 c.args.marks.1 c.args.marks.2
-        (row_view c.row.result) c.split_run.result.0.now c.gap_before-column.result.0.now c.row_start.result c.row_stop-stop.result
-        c.gap_before-column.result.1
+    (row_view c.row.result) c.split_run.result.0.now c.gap_before-column.result.0.now c.row_start.result c.row_stop-stop.result
+    c.gap_before-column.result.1
     c.is_text.ensures o c.row.ensures kept c.row_start.ensures (c.row_stop-stop.ensures o.final o.final_is) c.gap_before-column.ensures in
     rw (c.split_at-2.ensures.back, c.split_at.ensures.back) agrees.cuts.ends
 
@@ -74,7 +81,7 @@ returns c = λ d x h.
     let o = out_agrees (whole c.args.text) c.args.rows.now d x _ h in
     let kept = c.split_run.ensures.kept ∙ ap (λ g. joined (before_run (text_lines g))) c.gap.ensures in
     let agrees = code_agrees (whole c.args.text) c.args.rows.now d x c.args.marks.0 c.args.marks.1 c.args.marks.2 (row_view c.row.result)
-        c.split_run.result.0.now c.gap_before-column.result.0.now c.row_start.result c.row_stop-stop.result c.gap_before-column.result.1
+    c.split_run.result.0.now c.gap_before-column.result.0.now c.row_start.result c.row_stop-stop.result c.gap_before-column.result.1
     c.is_text.ensures o c.row.ensures kept c.row_start.ensures (c.row_stop-stop.ensures o.final o.final_is) c.gap_before-column.ensures in
     let start : ℕ = c.row_start.result + length c.split_run.result.0.now in
     let size : ℕ = c.row_stop-stop.result - start in

@@ -9,5 +9,5 @@ returns-in_err-at c = rw c.from_residual.ensures (λ h. none_along c.args.walk.n
 pub returns : goal.returns
 returns c = λ h.
     entry_row_agrees c.args.walk.now.rows.now c.args.walk.now.document h.stand c.in_ok-at.at c.in_ok-at.ensures.within
-        (map tree_step c.args.steps.now) c.level_at-level.result c.lines_before_mark-dashes.result c.row_behind.result c.level_at-level.ensures
+    (map tree_step c.args.steps.now) c.level_at-level.result c.lines_before_mark-dashes.result c.row_behind.result c.level_at-level.ensures
     c.lines_before_mark-dashes.ensures c.row_behind.ensures (c.in_ok-at.ensures.found h)

@@ -19,4 +19,4 @@ returns c = λ h.
     let found = c.search_step-found in
     let within : found.result.row < c.args.walk.now.document.end = omega (arith, c.if-found-walk.false) in
     one_found c.args.walk.now.rows.now c.args.walk.now.document h c.args.dashes found.result c.level_at-level.result found.ensures.first
-        found.ensures.order within found.ensures.searched (found.ensures.stops within within) c.level_at-level.ensures
+    found.ensures.order within found.ensures.searched (found.ensures.stops within within) c.level_at-level.ensures

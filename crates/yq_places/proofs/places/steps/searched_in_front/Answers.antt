@@ -30,5 +30,5 @@ returns-else-row-known-3 c = λ dashes searched cut is.
     search_less dashes s.rows k (row - 1) c.last_level-above.result r.0 known (omega (arith, c.if-row-known.false, c.if-row-known-3.false)) (omega (arith, next, c.row_in_front-row.ensures)) r.1 (c.last_level-above.ensures r.0 r.1)
     in
     let here : IsSearched dashes s.rows (record { first = k.first; row = row; above = c.last_level-above.result }) =
-        subst (λ (n : ℕ). IsSearched dashes s.rows (record { first = k.first; row = n; above = c.last_level-above.result })) next less in
+    subst (λ (n : ℕ). IsSearched dashes s.rows (record { first = k.first; row = n; above = c.last_level-above.result })) next less in
     search_stays dashes s (record { first = k.first; row = row; above = c.last_level-above.result }) c.args.front here within before cut is

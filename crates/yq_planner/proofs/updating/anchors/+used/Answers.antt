@@ -15,7 +15,7 @@ is_used_in-returns-else-is_named t c = λ names h.
 pub is_used_inside-returns-then-is_used_in : goal.is_used_inside-returns-then-is_used_in
 is_used_inside-returns-then-is_used_in t c = λ names h.
     used_here names (left_of c.each.children) (left_of c.next.new.self) (label_of c.in-Some.child) (node_of c.in-Some.child) _
-        c.in-Some.ensures.steps (sym (c.is_used_in.ensures names h) ∙ c.if-is_used_in.true) (c.each.invariant.so_far names h)
+    c.in-Some.ensures.steps (sym (c.is_used_in.ensures names h) ∙ c.if-is_used_in.true) (c.each.invariant.so_far names h)
 
 pub is_used_inside-each-preserved : goal.is_used_inside-each-preserved
 is_used_inside-each-preserved t c =

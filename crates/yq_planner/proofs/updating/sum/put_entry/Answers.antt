@@ -39,5 +39,5 @@ returns-in_ok-push-in-None-clause-entries c = search (rules, string_bytes, map_p
 pub returns-in_ok-push-in-None-clause-numbers : goal.returns-in_ok-push-in-None-clause-numbers
 returns-in_ok-push-in-None-clause-numbers c = λ k.
     numbered_push field_of c.args.entries.now.items _ (c.args.key, c.args.value) c.as_str-in-None.result.now k (length c.as_slice.result.now) _ _
-        c.as_str-in-None.ensures.value (ap length c.as_slice.ensures.value) (c.requires k) (c.in_ok-keep_number-in-None.ensures k)
-        c.in_ok-push-in-None.ensures.items
+    c.as_str-in-None.ensures.value (ap length c.as_slice.ensures.value) (c.requires k) (c.in_ok-keep_number-in-None.ensures k)
+    c.in_ok-push-in-None.ensures.items

@@ -88,7 +88,7 @@ returns-clause-scanned c =
     let some = some_splices c.in_ok-changed.changed.splices (sym c.is_empty.ensures ∙ c.if-is_empty.false) in
     let becomes = c.in_ok-follow.ensures.text ∙ (λ i. exchanged (record { front = c.in_ok-changed.changed.front; back = c.in_ok-changed.changed.back }) (text i) (c.deref.ensures i)) in
     let counts = subst (λ (x : List ℕ). CountsWritten x (buffer_text c.follow.new.text)
-        (record { front = c.in_ok-changed.changed.front; back = c.in_ok-changed.changed.back }) c.self.inside.meter c.follow.new.meter) text
-        c.in_ok-follow.ensures.counted in
+    (record { front = c.in_ok-changed.changed.front; back = c.in_ok-changed.changed.back }) c.self.inside.meter c.follow.new.meter) text
+    c.in_ok-follow.ensures.counted in
     scans (operation_of c.args.op.now) c.args.self.now.text c.operand_holds.ensures c.requires c.self.inside.places h c.in_ok-changed.changed c.in_ok-changed.ensures.ok some
     (buffer_text c.follow.new.text) becomes c.self.inside.meter c.args.self.now.scanned c.follow.new.meter (ap (λ (s : SessionState). s.scanned) (c.self.view_is ∙ c.in_ok-changed.ensures.same)) counts

@@ -29,27 +29,27 @@ pub change_in-changed-requires-clause-cut : goal.change_in-changed-requires-clau
 change_in-changed-requires-clause-cut c =
     let h : HasPlaces (buffer_text c.self.inside.text) c.replace-places.result = subst (HasPlaces (buffer_text c.self.inside.text)) (sym c.replace-places.ensures.value) c.self.invariant.0 in
     cut_borrowed (buffer_text c.self.inside.text) c.replace-places.result h c.halves-text.result
-        (c.halves-text.ensures.front ∙ c.move_split.ensures.front, c.halves-text.ensures.back ∙ c.move_split.ensures.back) c.rows-rows.result
-        c.rows-rows.ensures
+    (c.halves-text.ensures.front ∙ c.move_split.ensures.front, c.halves-text.ensures.back ∙ c.move_split.ensures.back) c.rows-rows.result
+    c.rows-rows.ensures
 
 pub change_in-changed-requires-clause-known : goal.change_in-changed-requires-clause-known
 change_in-changed-requires-clause-known c =
     let h : HasPlaces (buffer_text c.self.inside.text) c.replace-places.result = subst (HasPlaces (buffer_text c.self.inside.text)) (sym c.replace-places.ensures.value) c.self.invariant.0 in
     known_borrowed (buffer_text c.self.inside.text) c.replace-places.result h c.halves-text.result
-        (c.halves-text.ensures.front ∙ c.move_split.ensures.front, c.halves-text.ensures.back ∙ c.move_split.ensures.back) c.rows-rows.result
-        c.rows-rows.ensures c.replace-known.result
+    (c.halves-text.ensures.front ∙ c.move_split.ensures.front, c.halves-text.ensures.back ∙ c.move_split.ensures.back) c.rows-rows.result
+    c.rows-rows.ensures c.replace-known.result
     (subst (Knows (buffer_text c.self.inside.text)) (sym c.replace-known.ensures.value) c.self.invariant.1)
 
 pub invariant_of-self : goal.invariant_of-self
 invariant_of-self c =
     let h : HasPlaces (buffer_text c.self.inside.text) c.replace-places.result = subst (HasPlaces (buffer_text c.self.inside.text)) (sym c.replace-places.ensures.value) c.self.invariant.0 in
     let back = places_back (buffer_text c.self.inside.text) c.replace-places.result h c.halves-text.result
-        (c.halves-text.ensures.front ∙ c.move_split.ensures.front, c.halves-text.ensures.back ∙ c.move_split.ensures.back) c.rows-rows.result
-        c.rows-rows.ensures c.into_places.result c.into_places.ensures in
+    (c.halves-text.ensures.front ∙ c.move_split.ensures.front, c.halves-text.ensures.back ∙ c.move_split.ensures.back) c.rows-rows.result
+    c.rows-rows.ensures c.into_places.result c.into_places.ensures in
     let none = subst (IsKnowledge (rows_view (cut_of (buffer_text c.self.inside.text)))) (sym c.replace-known.ensures.after) (c.none.ensures (rows_view (cut_of (buffer_text c.self.inside.text)))) in
     subst (λ (x : List ℕ). HasPlaces x c.into_places.result × Knows x c.replace-known.new.dest)
-        (sym (moved_same (buffer_text c.self.inside.text) c.replace-places.result.split c.move_split.new.self c.move_split.ensures.front
-        c.move_split.ensures.back)) (back, none)
+    (sym (moved_same (buffer_text c.self.inside.text) c.replace-places.result.split c.move_split.new.self c.move_split.ensures.front
+    c.move_split.ensures.back)) (back, none)
 
 pub returns-clause-ok : goal.returns-clause-ok
 returns-clause-ok c =

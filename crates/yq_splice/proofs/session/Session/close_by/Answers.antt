@@ -35,9 +35,9 @@ carry_in-requires-clause-known c =
 pub returns-in_err-edited : goal.returns-in_err-edited
 returns-in_err-edited c =
     let all = whole_borrowed (buffer_text c.self.inside.text) c.self.inside.places c.self.invariant.0 c.halves-halves.result
-        (c.halves-halves.ensures.front ∙ c.move_split.ensures.front, c.halves-halves.ensures.back ∙ c.move_split.ensures.back) in
+    (c.halves-halves.ensures.front ∙ c.move_split.ensures.front, c.halves-halves.ensures.back ∙ c.move_split.ensures.back) in
     let same = carried_on (operation_of c.args.op.now) (buffer_text c.self.inside.text) (whole c.halves-halves.result) c.self.inside.places
-        c.self.invariant.0 all ∙ ap (λ (s : SessionState). carried (operation_of c.args.op.now) s.text) c.self.view_is in
+    c.self.invariant.0 all ∙ ap (λ (s : SessionState). carried (operation_of c.args.op.now) s.text) c.self.view_is in
     let p = err_from_is_err_and c.from_residual.result c.from_residual.ensures.1 in
     rw (p.1, p.2)
     (fails_behind c.in_err-edited.field-0.0 c.args.splices.items (carried (operation_of c.args.op.now) c.args.self.text) (subst (EditFails c.in_err-edited.field-0.0) same c.in_err-edited.ensures))
@@ -45,8 +45,8 @@ returns-in_err-edited c =
 pub returns : goal.returns
 returns c =
     let all = whole_borrowed (buffer_text c.self.inside.text) c.self.inside.places c.self.invariant.0 c.halves-halves.result
-        (c.halves-halves.ensures.front ∙ c.move_split.ensures.front, c.halves-halves.ensures.back ∙ c.move_split.ensures.back) in
+    (c.halves-halves.ensures.front ∙ c.move_split.ensures.front, c.halves-halves.ensures.back ∙ c.move_split.ensures.back) in
     let same = carried_on (operation_of c.args.op.now) (buffer_text c.self.inside.text) (whole c.halves-halves.result) c.self.inside.places
-        c.self.invariant.0 all ∙ ap (λ (s : SessionState). carried (operation_of c.args.op.now) s.text) c.self.view_is in
+    c.self.invariant.0 all ∙ ap (λ (s : SessionState). carried (operation_of c.args.op.now) s.text) c.self.view_is in
     ap (edit_after c.args.splices.items) (sym same ∙ c.in_ok-edited.ensures)
     ∙ λ i. gives (string_bytes (sym c.in_ok-edited_behind.ensures.0 i)) (sym c.in_ok-edited_behind.ensures.1 i)

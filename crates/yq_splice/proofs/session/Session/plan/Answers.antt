@@ -26,15 +26,15 @@ pub plan_in-planned-requires-clause-cut : goal.plan_in-planned-requires-clause-c
 plan_in-planned-requires-clause-cut c =
     let h : HasPlaces (buffer_text c.self.inside.text) c.replace-places.result = subst (HasPlaces (buffer_text c.self.inside.text)) (sym c.replace-places.ensures.value) c.self.invariant.0 in
     cut_borrowed (buffer_text c.self.inside.text) c.replace-places.result h c.halves-text.result
-        (c.halves-text.ensures.front ∙ c.move_split.ensures.front, c.halves-text.ensures.back ∙ c.move_split.ensures.back) c.rows-rows.result
-        c.rows-rows.ensures
+    (c.halves-text.ensures.front ∙ c.move_split.ensures.front, c.halves-text.ensures.back ∙ c.move_split.ensures.back) c.rows-rows.result
+    c.rows-rows.ensures
 
 pub plan_in-planned-requires-clause-known : goal.plan_in-planned-requires-clause-known
 plan_in-planned-requires-clause-known c =
     let h : HasPlaces (buffer_text c.self.inside.text) c.replace-places.result = subst (HasPlaces (buffer_text c.self.inside.text)) (sym c.replace-places.ensures.value) c.self.invariant.0 in
     known_borrowed (buffer_text c.self.inside.text) c.replace-places.result h c.halves-text.result
-        (c.halves-text.ensures.front ∙ c.move_split.ensures.front, c.halves-text.ensures.back ∙ c.move_split.ensures.back) c.rows-rows.result
-        c.rows-rows.ensures c.replace-known.result
+    (c.halves-text.ensures.front ∙ c.move_split.ensures.front, c.halves-text.ensures.back ∙ c.move_split.ensures.back) c.rows-rows.result
+    c.rows-rows.ensures c.replace-known.result
     (subst (Knows (buffer_text c.self.inside.text)) (sym c.replace-known.ensures.value) c.self.invariant.1)
 
 pub plan_in-planned-requires-clause-sole : goal.plan_in-planned-requires-clause-sole
@@ -55,13 +55,13 @@ pub invariant_of-self : goal.invariant_of-self
 invariant_of-self c =
     let h : HasPlaces (buffer_text c.self.inside.text) c.replace-places.result = subst (HasPlaces (buffer_text c.self.inside.text)) (sym c.replace-places.ensures.value) c.self.invariant.0 in
     let back = places_back (buffer_text c.self.inside.text) c.replace-places.result h c.halves-text.result
-        (c.halves-text.ensures.front ∙ c.move_split.ensures.front, c.halves-text.ensures.back ∙ c.move_split.ensures.back) c.rows-rows.result
-        c.rows-rows.ensures c.into_places.result c.into_places.ensures in
+    (c.halves-text.ensures.front ∙ c.move_split.ensures.front, c.halves-text.ensures.back ∙ c.move_split.ensures.back) c.rows-rows.result
+    c.rows-rows.ensures c.into_places.result c.into_places.ensures in
     let all = whole_borrowed (buffer_text c.self.inside.text) c.replace-places.result h c.halves-text.result (c.halves-text.ensures.front ∙ c.move_split.ensures.front, c.halves-text.ensures.back ∙ c.move_split.ensures.back) in
     let known = subst (λ (x : List ℕ). Knows x c.plan_in-planned.result.1) all c.plan_in-planned.ensures.known in
     subst (λ (x : List ℕ). HasPlaces x c.into_places.result × Knows x c.plan_in-planned.result.1)
-        (sym (moved_same (buffer_text c.self.inside.text) c.replace-places.result.split c.move_split.new.self c.move_split.ensures.front
-        c.move_split.ensures.back)) (back, known)
+    (sym (moved_same (buffer_text c.self.inside.text) c.replace-places.result.split c.move_split.new.self c.move_split.ensures.front
+    c.move_split.ensures.back)) (back, known)
 
 pub returns-clause-same : goal.returns-clause-same
 returns-clause-same c =
