@@ -119,3 +119,25 @@ def check_collections_emptied_in_one_row(folder):
     for items, removal in (["[1]"], "del(.[][])"), (["[1, 2]", "{a: 1}"], "del(.[][])"), (["[1]", "[1, 2]"], "del(.[][0])"):
         folder.write("f", ("[" + ", ".join(items * (MANY // len(items))) + "]\n").encode())
         each_within_a_second(folder, [removal])
+
+
+def check_sums_that_no_text_holds(folder):
+    """They aren't made: a text has a byte at least for each item."""
+    of_root, of_a = "+".join(["."] * 480), "+".join([".a"] * 320)
+    wanted = [*(("bare dashes", f". {operator} {of_root}") for operator in ("=", "|=", "+=")), ("commas", f".b = {of_a}")]
+    for name, expression, status, seconds, megabytes in runs(folder, wanted, 8 * MANY):
+        within = status, seconds <= SECONDS, megabytes <= MEGABYTES
+        equal(within, (1, True, True), (name, expression[:9], status, seconds, megabytes))
+
+
+def check_head_comments_in_a_text_with_a_long_first_line(folder):
+    """The text's first break isn't looked for again for each of them."""
+    folder.write("f", b'- "' + b"x" * 400_000 + b'"\n' + b"- 1\n" * (4 * MANY))
+    each_within_a_second(folder, ['.[] head_comment = "x"'])
+
+
+def check_an_edit_in_a_row_makes_no_tree_of_the_row(folder):
+    """Of 4 MB in one row, such a tree would take 75 MB."""
+    edits = (".items[5].id = 77", ".items[5].x = 1", "del(.items[5].on)")
+    for name, expression, status, _seconds, megabytes in runs(folder, [("JSON objects in one row", edit) for edit in edits], 4_000_000):
+        equal((status, megabytes <= MEGABYTES), (0, True), (name, expression, megabytes))

@@ -9,7 +9,7 @@ use yq_explain::{
     asked_code, asks_lines, code_of, expression_lines, names_value, place_lines, push_name,
     push_rows, push_value_line,
 };
-use yq_history::Fault;
+use yq_fault::Fault;
 use yq_run::{Out, as_slices, asked_command, own_words, purpose_of};
 use yq_semantics::Refusal;
 

@@ -12,7 +12,7 @@ use crate::explaining::report_cause;
 use crate::program::answer_to_words;
 use std::io;
 use std::process::ExitCode;
-use yq_history::Fault;
+use yq_fault::Fault;
 use yq_run::{Answer, report_usage};
 
 /// The status with which a shell shows what ended because the reader of its output closed the pipe.

@@ -8,7 +8,7 @@ use crate::hint::Hint;
 use std::io::IsTerminal;
 use std::slice;
 use yq_args::Command;
-use yq_history::Fault;
+use yq_fault::Fault;
 use yq_run::{Answer, asked_command, purpose_of, put_help, run_list};
 use yq_store::DiskStore;
 

@@ -5,8 +5,9 @@ ghost use Rattle.yq_semantics.{specs.Program.update_count, specs.View.program_of
 use crate::scanned::adds_within;
 use crate::sessions::planned;
 use std::alloc::Global;
-use yq_expr::{Program, Refusal, parse_expr};
-use yq_splice::{EditError, Session, edit};
+use yq_expr::{ExprError, Program, Refusal, parse_expr};
+use yq_fault::Fault;
+use yq_splice::{Session, edit};
 
 /// The most bytes that a text may have.
 const LONGEST: usize = 16_777_216;
@@ -37,10 +38,7 @@ fn is_too_long(alloc: Global, session: &mut Session, text: &str, program: &Progr
     let Some(op) = ops.first() else {
         return false;
     };
-    if !matches!(
-        session.apply(op),
-        Err(EditError::Refused(Refusal::TooLarge))
-    ) {
+    if !matches!(session.apply(op), Err(ExprError::Fault(Refusal::TooLarge))) {
         return false;
     }
     let halves = session.text();
@@ -54,7 +52,7 @@ fn goes_on(alloc: Global, text: &str, program: &Program, edited: &str) -> bool
 {
     if !matches!(
         edit(alloc, text, program),
-        Err(EditError::Refused(Refusal::TooLarge))
+        Err(Fault::Refused(Refusal::TooLarge))
     ) {
         return false;
     }

@@ -6,7 +6,8 @@ ghost use Rattle.yq_edit_laws.specs.Theorems.{IsFitting};
 use crate::memory::hold_memory;
 use std::alloc::Global;
 use yq_expr::{Op, Program, parse_expr, plan};
-use yq_splice::{EditError, Session, apply_op};
+use yq_fault::Fault;
+use yq_splice::{Session, apply_op};
 use yq_tree::read;
 
 /// Texts, updates, what the first operation of each makes of its text, and how many lines a session counts
@@ -45,7 +46,7 @@ static EDITS: [(&str, &str, &str, u64); 5] = [
 ];
 
 /// The operations of the first update of a program, as planned on a text, which the first of them fits.
-pub(crate) fn planned(alloc: Global, text: &str, program: &Program) -> Result<Vec<Op>, EditError>
+pub(crate) fn planned(alloc: Global, text: &str, program: &Program) -> Result<Vec<Op>, Fault>
     requires { 0 < update_count (program_of program.now) }
     ensures { IfOk result (λ ops. (op : Op) → slice_get ops.items 0 ≡ Some op →
         IsFitting (operation_of op) text.now) }

@@ -6,14 +6,14 @@ use Rattle.yq_text.{specs.Limit.text_limit, specs.Script.splice_at, specs.Splice
 use Rattle.yq_core.{specs.Paths.Step, specs.Nodes.{Items, none, item}, specs.Trees.items_tree}
 use Rattle.yq_outline.specs.Counts.{count}
 use Rattle.yq_row_table.specs.Rows.{Cut, cut_text}
-use Rattle.yq_semantics.{specs.Operations.Operation, specs.declared.refusal.Refusal.TheVariants.TooLarge}
+use Rattle.yq_semantics.{specs.Operations.Operation, specs.declared.refusal.Refusal.TheVariants.TooLarge, specs.Judgement.ExprError}
 use Rattle.yq_edit_rules.specs.Operands.{HasOperand}
 use Rattle.yq_edit_laws.{proofs.ApplyLaws.applied_by, specs.Answers.EditFails, specs.Carried.carried, specs.Edit.{gives, refuses}}
-use Rattle.yq_edit_laws.{specs.Theorems.IsFitting, specs.declared.edit_error.EditError.EditError}
+use Rattle.yq_edit_laws.specs.Theorems.{IsFitting}
 use Rattle.yq_batch.specs.LeftItems.{Ending, closing, left_items, others}
 use Rattle.yq_batch.specs.RemovalRuns.{AreAfter, ExchangeFails, HasExchanged, IsKnownLeft, IsRemovalRun, RemovesOn, text_exchanged}
 use Rattle.yq_batch.{specs.declared.gone.LeftOf.LeftOf, specs.declared.removals.RemovalRun.RemovalRun}
-use Rattle.yq_edit_laws.specs.declared.edit_error.EditError.TheVariants as error
+use Rattle.yq_failure.specs.declared.failure.Failure.TheVariants as failure
 
 -- the text that a gap buffer makes of it
 pub exchanged : (t front behind new made left : List ℕ) (start end : ℕ) → start ≤ end → front ≡ take start t → behind ≡ drop start t → made ≡ front ++ new → left ≡ drop (end - start) behind → made ++ left ≡ text_exchanged t start end new
@@ -45,13 +45,12 @@ exchange_on op c n stem before now text start finish new tail known operand fitt
 -- or not, where the text would be too large
 pub exchange_fails : (op : Operation) (before : RemovalRun) (now : List ℕ) → buffer_text before.text ≡ now → (start finish : ℕ) (new : List ℕ) →
     (text_limit < length (text_exchanged now start finish new) → carried op now ≡ refuses TooLarge) →
-    (e : EditError) → ExchangeFails e start finish new before → EditFails e (carried op (buffer_text before.text))
+    (e : ExprError) → ExchangeFails e start finish new before → EditFails e (carried op (buffer_text before.text))
 exchange_fails op before now text start finish new large e fails = subst (λ (l : List ℕ). EditFails e (carried op l)) (sym text) (go e fails)
   where
-    go : (e : EditError) → ExchangeFails e start finish new before → EditFails e (carried op now)
-    go (error.Read fault) fails = absurd fails
-    go (error.Refused why) fails = large (subst (λ (l : List ℕ). text_limit < length (text_exchanged l start finish new)) text fails.1) ∙ ap refuses (sym fails.0)
-    go error.Memory fails = tt
+    go : (e : ExprError) → ExchangeFails e start finish new before → EditFails e (carried op now)
+    go (failure.Fault why) fails = large (subst (λ (l : List ℕ). text_limit < length (text_exchanged l start finish new)) text fails.1) ∙ ap refuses (sym fails.0)
+    go failure.Memory fails = tt
 
 -- no more than one is left
 pub few_left : (e : Ending) → AreAfter None e → (is : Items) → nat_lt 1 (count (items_tree (left_items 1 is e))) ≡ false
@@ -68,4 +67,4 @@ pub record CanExchange (op : Operation) (c : Cut) (n : ℕ) (stem : List Step) (
   pub finishes : IsCharBoundary (buffer_text before.text) finish
   pub utf8 : IsUtf8 (buffer_text before.text)
   pub on : IsFitting op (buffer_text before.text) → (after : RemovalRun) → HasExchanged start finish new before after → RemovesOn op c n stem before known after
-  pub fails : (e : EditError) → ExchangeFails e start finish new before → EditFails e (carried op (buffer_text before.text))
+  pub fails : (e : ExprError) → ExchangeFails e start finish new before → EditFails e (carried op (buffer_text before.text))

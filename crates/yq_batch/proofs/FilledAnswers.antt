@@ -5,9 +5,8 @@ use Rattle.std.{specs.Prelude.{IfSome, String}, specs.declared.alloc.Global.Glob
 use Rattle.yq_core.{specs.Paths.Step, specs.Entries.tree_step}
 use Rattle.yq_row_table.specs.Rows.{Cut, cut_text}
 use Rattle.yq_places.specs.FlowNodes.{flow_collection}
-use Rattle.yq_semantics.specs.Operations.{Operation, append}
+use Rattle.yq_semantics.{specs.Operations.{Operation, append}, specs.Judgement.ExprError}
 use Rattle.yq_edit_laws.{specs.PartPuts.more_edit, specs.Answers.EditFails, specs.Carried.carried, specs.Theorems.IsFitting}
-use Rattle.yq_edit_laws.specs.declared.edit_error.EditError.{EditError}
 use Rattle.yq_batch.specs.Runs.{AddsAt, ChangesAt, ChangesBy, HasPut, IsAfterBy, IsAfterRun, IsInText, PutFails, RunsOn, cut_with, stem_of}
 use Rattle.yq_batch.specs.FilledRuns.{FillsFirst, FillsOn, FillsSo, IsFilledCollection, IsSameFilled, IsKnownFilled, filled_text}
 use Rattle.yq_batch.{specs.declared.adding.Filled.Filled, specs.declared.adding.FilledRun.FilledRun}
@@ -50,7 +49,7 @@ module _ (x : HeadInText) (op : Operation) (before : FilledRun) (y : HeadChange)
         go false h later (Some k) fills = absurd (false≢true fills.0)
 
     -- too large a text
-    pub change_fails : (e : EditError) → PutFails e u y.place.start y.place.end new before.run → EditFails e (carried op (filled_text x before))
+    pub change_fails : (e : ExprError) → PutFails e u y.place.start y.place.end new before.run → EditFails e (carried op (filled_text x before))
     change_fails e fails = go y.place.more h is_after.1 (subst (λ (l : List ℕ). PutFails e u y.place.start y.place.end l before.run) new_is fails)
       where
         go : (b : Bool) → ChangesBy b op x y → After b → PutFails e u y.place.start y.place.end (y.lead.now ++ string_bytes s) before.run → EditFails e (carried op (filled_text x before))
@@ -103,7 +102,7 @@ module _ (x : HeadInText) (u : List ℕ) (all : u ≡ cut_text (cut_with x)) (op
       (r.0, known_then r.0.cut r.1)) after (subst (λ (l : List ℕ). HasPut u done done l before.run after) new_is has_put) in
       subst (λ (o : Operation). FillsOn o x before (record { run = after; filled = before.filled })) (sym h.operation) (record { on = r.0; filled = r.1 })
 
-  pub again_fails : (e : EditError) → PutFails e u done done new before.run → EditFails e (carried op (filled_text x before))
+  pub again_fails : (e : ExprError) → PutFails e u done done new before.run → EditFails e (carried op (filled_text x before))
   again_fails e fails =
       subst (λ (o : Operation). EditFails e (carried o (filled_text x before))) (sym h.operation)
       (run_fails x u all own before.run done done put h.valid own_fits

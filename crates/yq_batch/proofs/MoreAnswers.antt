@@ -7,11 +7,10 @@ use Rattle.yq_core.{specs.Paths.Step, specs.Tree.Node, specs.Collections.CollPie
 use Rattle.yq_flow_edits.{specs.FlowEdits.is_none, specs.FlowPlaces.PlacedEdit}
 use Rattle.yq_row_table.specs.Rows.{Cut, cut_text}
 use Rattle.yq_places.{specs.FlowNodes.flow_collection, specs.FlowViews.FlowAgrees}
-use Rattle.yq_semantics.specs.Operations.{Operation, append}
+use Rattle.yq_semantics.{specs.Operations.{Operation, append}, specs.Judgement.ExprError}
 use Rattle.yq_edit_rules.specs.Operands.{HasOperand}
 use Rattle.yq_edit_laws.{specs.NearParts.head_with, specs.PartPuts.{AreMore, IsEditPlace, more_edit, place_after}}
 use Rattle.yq_edit_laws.{specs.declared.append.MorePut.MorePut, specs.Answers.EditFails, specs.Carried.carried, specs.Theorems.IsFitting}
-use Rattle.yq_edit_laws.specs.declared.edit_error.EditError.{EditError}
 use Rattle.yq_batch.specs.Runs.{AddsAt, HasPut, IsInText, PutFails, Runs, RunsOn, change_place, cut_with, now_text, stem_of}
 use Rattle.yq_batch.{specs.declared.adding.Filled.Filled, specs.declared.change.HeadChange.HeadChange}
 use Rattle.yq_batch.{specs.declared.head.HeadInText.HeadInText, specs.declared.run.PutRun.PutRun}
@@ -92,7 +91,7 @@ module _ (x : HeadInText) (u : List ℕ) (all : u ≡ cut_text (cut_with x)) (op
       h.found h.takes (change_place y) h.placed behind opens (string_bytes s) written_is h.valid own_fits small in
       (r.0, known_then known fills r.0.cut r.1)) after has_put)
 
-  pub more_fails : (e : EditError) → PutFails e u y.place.start y.place.end new before → EditFails e (carried op (now_text (cut_with x) before))
+  pub more_fails : (e : ExprError) → PutFails e u y.place.start y.place.end new before → EditFails e (carried op (now_text (cut_with x) before))
   more_fails e fails =
       subst (λ (o : Operation). EditFails e (carried o (now_text (cut_with x) before))) (sym h.operation)
       (run_fails x u all own before y.place.start y.place.end new h.valid own_fits

@@ -13,14 +13,15 @@ use Rattle.yq_places.specs.RemovalPlaces.{OwnRows, Removal, has_others_at, has_s
 use Rattle.yq_edit_rules.proofs.RemovalChangeLaws.{removal_stands, snoc, take_init}
 use Rattle.yq_semantics.{specs.After.{after_op, done_to}, specs.Changes.Room, specs.Fits.Fits, specs.Rooms.room_of}
 use Rattle.yq_semantics.{specs.Operations.{Operation, operation_of, operations_of, remove}, specs.declared.op.Op.Op}
+use Rattle.yq_semantics.specs.Judgement.{ExprError}
 use Rattle.yq_edit_laws.{proofs.ApplyLaws.applied_by, proofs.CutLaws.{text_read, text_small}, proofs.FlowSoundLaws.last_is}
 use Rattle.yq_edit_laws.{proofs.TextFaults.text_utf8, specs.Answers.EditFails, specs.Carried.carried, specs.Edit.gives}
-use Rattle.yq_edit_laws.{specs.Theorems.IsFitting, specs.Valid.AreServed, specs.declared.edit_error.EditError.EditError}
+use Rattle.yq_edit_laws.{specs.Theorems.IsFitting, specs.Valid.AreServed}
 use Rattle.yq_batch.{specs.RemovalRuns.{HasExchanged, ExchangeFails, text_exchanged}, specs.declared.removals.RemovalRun.RemovalRun}
 use Rattle.yq_batch.specs.RowRemovals.{HasOthersNow, IsLeast, IsRowRemovalRun, RemovesBeside, RemovesRows, RemovesRowsOn, StaysAt}
 use Rattle.yq_batch.{specs.RowRemovals.{TakesFirst, above_of, removal_of}, proofs.OthersFollow.others_follow, proofs.RowRunGoesOn.goes_on}
 use Rattle.yq_batch.proofs.RunEdits.{fits_now}
-use Rattle.yq_edit_laws.specs.declared.edit_error.EditError.TheVariants as error
+use Rattle.yq_failure.specs.declared.failure.Failure.TheVariants as failure
 use Rattle.yq_batch.proofs.RowsTaken as taken
 
 -- The lines of an item or entry can be taken out of the text of a run: it is cut at characters there, and the run goes on.
@@ -29,7 +30,7 @@ pub record CanTake (op : Operation) (c : Cut) (n : ℕ) (above : List Step) (bef
   pub starts : IsCharBoundary (buffer_text before.text) start
   pub finishes : IsCharBoundary (buffer_text before.text) finish
   pub on : (after : RemovalRun) → HasExchanged start finish [] before after → RemovesRowsOn op c n above before next after
-  pub fails : (e : EditError) → ExchangeFails e start finish [] before → EditFails e (carried op (buffer_text before.text))
+  pub fails : (e : ExprError) → ExchangeFails e start finish [] before → EditFails e (carried op (buffer_text before.text))
 
 -- where lines are in a text that is small
 pub out_small : (t : List ℕ) (n : ℕ) (steps : List Step) (x : Removal) → read_at t ≡ Some (cut_of t) → removal_place n steps (cut_of t) ≡ Some x → length x.before + length x.gone < 2 ^ 64
@@ -144,12 +145,11 @@ module _ (c : Cut) (n : ℕ) (above : List Step) (s : Step) (least next : Option
     small_now =
         subst (λ (l : List ℕ). length l ≤ text_limit) (sym left_is) (taken.small c n above s least next before.keep run.tail run.run read d placed x own short others_at stays low)
 
-    fails_now : (e : EditError) → ExchangeFails e start finish [] before → EditFails e (carried (remove n steps) (buffer_text before.text))
-    fails_now (error.Read fault) fails = absurd fails
-    fails_now (error.Refused why) fails =
+    fails_now : (e : ExprError) → ExchangeFails e start finish [] before → EditFails e (carried (remove n steps) (buffer_text before.text))
+    fails_now (failure.Fault why) fails =
         let large = subst (λ (l : List ℕ). text_limit < length (text_exchanged l start finish [])) run.text fails.1 in
         absurd (omega (arith, large, small_now))
-    fails_now error.Memory fails = tt
+    fails_now failure.Memory fails = tt
 
     can_take_rows : IsUtf8 (rows_out d x).before → IsUtf8 (rows_out d x).gone → CanTake (remove n steps) c n above before next start finish
     can_take_rows utf8 gone_utf8 = record {

@@ -5,16 +5,15 @@ use Rattle.std.{specs.Str.IsCharBoundary, specs.Prelude.String, specs.declared.a
 use Rattle.yq_row_table.specs.Rows.{Cut, cut_text}
 use Rattle.yq_documents.{specs.Reading.{cut_of, read_at}, specs.LinesInRows.document_row}
 use Rattle.yq_edit_rules.specs.RowStays.{IsBehind, StandsStill}
-use Rattle.yq_semantics.{specs.After.op_document, specs.Operations.Operation}
+use Rattle.yq_semantics.{specs.After.op_document, specs.Operations.Operation, specs.Judgement.ExprError}
 use Rattle.yq_text.{specs.Script.splice_at, specs.Splice.Splice}
 use Rattle.yq_edit_laws.{proofs.CutLaws.text_read, proofs.FlowAnswers.whole_text, specs.Answers.EditFails, specs.Carried.carried}
-use Rattle.yq_edit_laws.{specs.Edit.{gives, refuses}, specs.Theorems.IsFitting, specs.declared.edit_error.EditError.EditError}
-use Rattle.yq_edit_laws.{proofs.ApplyLaws.applied_by, proofs.TextFaults.text_utf8}
+use Rattle.yq_edit_laws.{specs.Edit.{gives, refuses}, specs.Theorems.IsFitting, proofs.ApplyLaws.applied_by, proofs.TextFaults.text_utf8}
 use Rattle.yq_batch.specs.RowRuns.{IsLast, IsRowRun, IsRowsRun, Passed, PutsInRow, PutsSo, PutsText, RowsGoOn, WritesSameBreak, bytes_in}
 use Rattle.yq_batch.{specs.RowRuns.rows_still, specs.Runs.{HasPut, PutFails, now_text, run_front, text_with_run}}
 use Rattle.yq_batch.{specs.declared.in_rows.RowPut.RowPut, specs.declared.run.PutRun.PutRun}
 use Rattle.yq_batch.proofs.RowRunLaws.{old_is, read_now, row_goes_on, row_put_comes, row_put_large, row_stays, text_now}
-use Rattle.yq_edit_laws.specs.declared.edit_error.EditError.TheVariants as error
+use Rattle.yq_failure.specs.declared.failure.Failure.TheVariants as failure
 
 -- nothing was changed yet
 pub rows_begin : (t : List ℕ) (r : PutRun) → read_at t ≡ Some (cut_of t) → string_bytes r.text ≡ [] → r.done ≡ 0 → IsRowsRun (cut_of t) None r
@@ -136,15 +135,14 @@ module _ (t u : List ℕ) (op : Operation) (o : Option (ℕ × ℕ)) (before : P
         put_at_row after (subst (λ (l : List ℕ). HasPut l (length h.before) (length h.before + length h.old) new before after) whole_is
         (subst (λ (i : ℕ). HasPut u (length h.before) i new before after) h.finish (subst (λ (i : ℕ). HasPut u i x.end new before after) h.start a)))
 
-    large : (e : EditError) → PutFails e (cut_text c) (length h.before) (length h.before + length h.old) new before → EditFails e (carried op (now_text c before))
-    large (error.Read fault) fails = absurd fails
-    large (error.Refused why) fails =
+    large : (e : ExprError) → PutFails e (cut_text c) (length h.before) (length h.before + length h.old) new before → EditFails e (carried op (now_text c before))
+    large (failure.Fault why) fails =
         row_put_large c run.document run.row (string_bytes before.text) before.done run.run op h.steps h.entry h.found later h.before h.old new h.behind h.text behind_done puts fails.1
         ∙ ap refuses (sym fails.0)
-    large error.Memory fails = tt
+    large failure.Memory fails = tt
 
     -- too large a text
-    pub row_put_fails : (e : EditError) → PutFails e u x.start x.end new before → EditFails e (carried op (now_text c before))
+    pub row_put_fails : (e : ExprError) → PutFails e u x.start x.end new before → EditFails e (carried op (now_text c before))
     row_put_fails e fails =
         large e (subst (λ (l : List ℕ). PutFails e l (length h.before) (length h.before + length h.old) new before) whole_is
         (subst (λ (i : ℕ). PutFails e u (length h.before) i new before) h.finish (subst (λ (i : ℕ). PutFails e u i x.end new before) h.start fails)))

@@ -9,20 +9,21 @@ use Rattle.yq_documents.specs.Reading.{cut_of, read_at}
 use Rattle.yq_places.{specs.FlowNodes.flow_collection, specs.FlowViews.{FlowAgrees, LeadsToHead}, specs.NodesAt.node_in}
 use Rattle.yq_places.{specs.Standings.last_step, specs.declared.places.flow_node.FlowHead.FlowHead}
 use Rattle.yq_semantics.{specs.Operations.{Operation, replace}, specs.declared.refusal.Refusal.TheVariants.TooLarge}
+use Rattle.yq_semantics.specs.Judgement.{ExprError}
 use Rattle.yq_text.{specs.Limit.text_limit, specs.Script.splice_at, specs.Splice.Splice}
 use Rattle.yq_edit_rules.{specs.Operands.HasOperand, specs.Replacing.keeps_scalar}
 use Rattle.yq_edit_laws.{specs.EditPlaces.LiesIn, specs.PartPuts.{IsPlaceOf, ArePuts, IsWrittenPart, place_after, put_edit}}
 use Rattle.yq_edit_laws.{specs.declared.put.PartPut.PartPut, proofs.CutLaws.text_read, specs.Carried.carried, specs.Answers.EditFails}
-use Rattle.yq_edit_laws.{specs.Edit.{gives, refuses}, specs.Theorems.IsFitting, specs.declared.edit_error.EditError.EditError}
-use Rattle.yq_edit_laws.{proofs.ApplyLaws.applied_by, proofs.TextFaults.text_utf8, proofs.LaterEnds.ends_same}
-use Rattle.yq_edit_laws.{specs.NearParts.{IsUniqueNode, head_with}, proofs.FlowKeys.collection_unique, proofs.NearCollections.own_along}
+use Rattle.yq_edit_laws.{specs.Edit.{gives, refuses}, specs.Theorems.IsFitting, proofs.ApplyLaws.applied_by, proofs.TextFaults.text_utf8}
+use Rattle.yq_edit_laws.{proofs.LaterEnds.ends_same, specs.NearParts.{IsUniqueNode, head_with}, proofs.FlowKeys.collection_unique}
+use Rattle.yq_edit_laws.proofs.NearCollections.{own_along}
 use Rattle.yq_batch.specs.Runs.{ChangesAt, ChangesBy, EndsAt, EndsInCollection, HasPut, IsInText, IsPutRun, PutFails, PutsAt, Runs, RunsOn}
 use Rattle.yq_batch.{specs.Runs.{change_place, cut_with, now_text, run_front, stem_of, text_with_run}, specs.FilledRuns.IsKnownFilled}
 use Rattle.yq_batch.{specs.declared.adding.Filled.Filled, specs.declared.change.HeadChange.HeadChange}
 use Rattle.yq_batch.{specs.declared.head.HeadInText.HeadInText, specs.declared.run.PutRun.PutRun}
 use Rattle.yq_batch.proofs.RunLaws.{goes_on, kept_there, large_there, put_there}
 use Rattle.yq_core.specs.declared.path.Step as declared
-use Rattle.yq_edit_laws.specs.declared.edit_error.EditError.TheVariants as error
+use Rattle.yq_failure.specs.declared.failure.Failure.TheVariants as failure
 
 -- a run of nothing
 pub run_begins : (t : List ℕ) (n : ℕ) (stem : List Step) → read_at t ≡ Some (cut_of t) → LeadsToHead (cut_of t) n stem → IsPutRun (cut_of t) n stem [] 0
@@ -130,13 +131,12 @@ module _ (x : HeadInText) (u : List ℕ) (all : u ≡ cut_text (cut_with x)) (op
       (record { new_bytes = cs; comes = comes; applied = applied_by op (now_text (cut_with x) before) operand fitting (now_text (cut_with x) after) cs comes; splices = a.splices; run = r.0 }, r.1)
 
   -- too large a text
-  pub run_fails : (text_limit < length made → carried op (now_text (cut_with x) before) ≡ refuses TooLarge) → (e : EditError) → PutFails e u start finish new before → EditFails e (carried op (now_text (cut_with x) before))
+  pub run_fails : (text_limit < length made → carried op (now_text (cut_with x) before) ≡ refuses TooLarge) → (e : ExprError) → PutFails e u start finish new before → EditFails e (carried op (now_text (cut_with x) before))
   run_fails large e fails = go e (subst (λ (l : List ℕ). PutFails e l start finish new before) all fails)
     where
-      go : (e : EditError) → PutFails e (cut_text (cut_with x)) start finish new before → EditFails e (carried op (now_text (cut_with x) before))
-      go (error.Read fault) fails = absurd fails
-      go (error.Refused why) fails = large fails.1 ∙ ap refuses (sym fails.0)
-      go error.Memory fails = tt
+      go : (e : ExprError) → PutFails e (cut_text (cut_with x)) start finish new before → EditFails e (carried op (now_text (cut_with x) before))
+      go (failure.Fault why) fails = large fails.1 ∙ ap refuses (sym fails.0)
+      go failure.Memory fails = tt
 
 -- a value comes at a part
 module _ (x : HeadInText) (u : List ℕ) (all : u ≡ cut_text (cut_with x)) (op : Operation) (before : PutRun) (y : HeadChange) (there : IsInText x) (run : Runs x before) (h : PutsAt op x y)
@@ -182,7 +182,7 @@ module _ (x : HeadInText) (u : List ℕ) (all : u ≡ cut_text (cut_with x)) (op
         after has_put).0
 
     -- too large a text
-    pub put_fails : (e : EditError) → PutFails e u y.place.start y.place.end new before → EditFails e (carried op now)
+    pub put_fails : (e : ExprError) → PutFails e u y.place.start y.place.end new before → EditFails e (carried op now)
     put_fails e fails =
         subst (λ (o : Operation). EditFails e (carried o now)) (sym h.operation)
         (run_fails x u all own before y.place.start y.place.end new h.valid own_fits

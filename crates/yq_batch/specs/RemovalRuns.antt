@@ -11,16 +11,16 @@ use Rattle.yq_documents.specs.Reading.{read_at}
 use Rattle.yq_places.{specs.FlowNodes.flow_collection, specs.FlowViews.{LeadsToHead, behind_anchor, collection_view}}
 use Rattle.yq_places.{specs.Standings.last_step, specs.declared.places.flow_node.FlowHead.FlowHead}
 use Rattle.yq_semantics.{specs.declared.op.Op.Op, specs.Operations.{Operation, operations_of}}
-use Rattle.yq_semantics.specs.declared.refusal.Refusal.TheVariants.{TooLarge}
+use Rattle.yq_semantics.{specs.declared.refusal.Refusal.TheVariants.TooLarge, specs.Judgement.ExprError}
 use Rattle.yq_edit_laws.{specs.Carried.{carried, carry_all}, specs.Edit.{edit_after, gives}, specs.Theorems.IsApplied}
-use Rattle.yq_edit_laws.{specs.NearParts.{LeadsToPart, head_with}, specs.Valid.AreServed, specs.declared.edit_error.EditError.EditError}
+use Rattle.yq_edit_laws.{specs.NearParts.{LeadsToPart, head_with}, specs.Valid.AreServed}
 use Rattle.yq_batch.specs.LeftItems.{Ending, closing, count_parts, others, left_items, upto_text}
 use Rattle.yq_batch.{specs.declared.removals.RemovalRun.RemovalRun, specs.LeftPlaces.IsLeftPlace, specs.declared.left.LeftPlace.LeftPlace}
 use Rattle.yq_batch.{specs.declared.gone.LeftOf.LeftOf, specs.declared.gone.Removed.Removed, specs.declared.together.Together.Together}
 use Rattle.yq_batch.specs.declared.head.HeadInText.{HeadInText}
 use denote.Bor.{Bor}
 use Rattle.yq_core.specs.declared.path.Step as declared
-use Rattle.yq_edit_laws.specs.declared.edit_error.EditError.TheVariants as error
+use Rattle.yq_failure.specs.declared.failure.Failure.TheVariants as failure
 
 -- ---- runs
 
@@ -157,10 +157,9 @@ pub record HasExchanged (start end : ℕ) (new : List ℕ) (before after : Remov
   pub size : length (text_exchanged (buffer_text before.text) start end new) ≤ text_limit
 
 -- why it has not: the whole would be too large, or memory ran out (own)
-abbrev pub ExchangeFails : EditError → (start end : ℕ) → List ℕ → RemovalRun → Type 0
-ExchangeFails (error.Read fault) start end new r = ⊥
-ExchangeFails (error.Refused why) start end new r = (why ≡ TooLarge) × (text_limit < length (text_exchanged (buffer_text r.text) start end new))
-ExchangeFails error.Memory start end new r = ⊤
+abbrev pub ExchangeFails : ExprError → (start end : ℕ) → List ℕ → RemovalRun → Type 0
+ExchangeFails (failure.Fault why) start end new r = (why ≡ TooLarge) × (text_limit < length (text_exchanged (buffer_text r.text) start end new))
+ExchangeFails failure.Memory start end new r = ⊤
 
 -- An operation is carried out on the text of a run, which goes on after it (own).
 pub record RemovesOn (op : Operation) (c : Cut) (n : ℕ) (stem : List Step) (before : RemovalRun) (known : Option LeftOf) (after : RemovalRun) : Type 0 where

@@ -8,8 +8,9 @@ use Rattle.yq_documents.{specs.Located.steps_of, specs.Reading.read_at, specs.de
 use Rattle.yq_places.specs.PlacedRows.{PlacedPart, placed_document}
 use Rattle.yq_places.{specs.RemovalPlaces.{OwnRows, own_rows, rows_out, Seam, has_others_at}, specs.Standings.last_step}
 use Rattle.yq_semantics.{specs.declared.op.Op.Op, specs.Operations.{Operation, operation_of, operations_of, remove}}
+use Rattle.yq_semantics.specs.Judgement.{ExprError}
 use Rattle.yq_edit_laws.{specs.Answers.EditFails, specs.Carried.{carried, carry_all}, specs.Edit.{Edit, edit_after, gives}}
-use Rattle.yq_edit_laws.{specs.Theorems.IsApplied, specs.Valid.AreServed, specs.declared.edit_error.EditError.EditError}
+use Rattle.yq_edit_laws.{specs.Theorems.IsApplied, specs.Valid.AreServed}
 use Rattle.yq_batch.{specs.declared.removals.RemovalRun.RemovalRun, specs.declared.together.Together.Together}
 
 -- ---- gaps that stay after a block scalar
@@ -116,7 +117,7 @@ GoesOnWithout p c before found after =
     IfSome found (λ least. RemovesRowsOn (removal_of p) c p.doc (above_of (steps_of p)) before least after)
 
 -- an operation fails on the text of a run (own)
-abbrev pub FailsOn : EditError → Operation → RemovalRun → Type 0
+abbrev pub FailsOn : ExprError → Operation → RemovalRun → Type 0
 FailsOn e op r = EditFails e (carried op (buffer_text r.text))
 
 -- ---- operations carried out together

@@ -10,12 +10,13 @@ use Rattle.yq_documents.specs.Reading.{cut_of, read_at}
 use Rattle.yq_places.{specs.FlowNodes.flow_collection, specs.FlowViews.{LeadsToHead, ReportsHead}, specs.NodesAt.node_in}
 use Rattle.yq_places.specs.Standings.{FlowPart, flow_standing, last_step}
 use Rattle.yq_semantics.{specs.Operations.{Operation, append, replace}, specs.declared.refusal.Refusal.TheVariants.TooLarge}
+use Rattle.yq_semantics.specs.Judgement.{ExprError}
 use Rattle.yq_edit_rules.{specs.FlowParts.takes_key, specs.Operands.HasOperand}
 use Rattle.yq_edit_laws.specs.PartPuts.{EndsAfter, EndsAsIn, IsEditPlace, IsPartOf, IsPlaceOf, IsWrittenPart, more_edit}
-use Rattle.yq_edit_laws.{specs.Carried.carried, specs.Edit.gives, specs.Theorems.IsApplied, specs.declared.edit_error.EditError.EditError}
+use Rattle.yq_edit_laws.{specs.Carried.carried, specs.Edit.gives, specs.Theorems.IsApplied}
 use Rattle.yq_batch.{specs.HeadRows.HeadRowStays, specs.declared.change.HeadChange.HeadChange, specs.declared.head.HeadInText.HeadInText}
 use Rattle.yq_batch.{specs.declared.run.PutRun.PutRun, specs.declared.slots.SlotPlace.SlotPlace}
-use Rattle.yq_edit_laws.specs.declared.edit_error.EditError.TheVariants as error
+use Rattle.yq_failure.specs.declared.failure.Failure.TheVariants as failure
 
 -- a text whose first bytes were replaced by others (own)
 abbrev pub text_with_run : List ℕ → (out : List ℕ) → (done : ℕ) → List ℕ
@@ -128,10 +129,9 @@ pub record HasPut (t : List ℕ) (start end : ℕ) (new : List ℕ) (before afte
   pub size : length (text_with_run t (run_front t before start ++ new) end) ≤ text_limit
 
 -- why it has not: the whole would be too large, or memory ran out (own)
-abbrev pub PutFails : EditError → List ℕ → (start end : ℕ) → List ℕ → PutRun → Type 0
-PutFails (error.Read fault) t start end new r = ⊥
-PutFails (error.Refused why) t start end new r = (why ≡ TooLarge) × (text_limit < length (text_with_run t (run_front t r start ++ new) end))
-PutFails error.Memory t start end new r = ⊤
+abbrev pub PutFails : ExprError → List ℕ → (start end : ℕ) → List ℕ → PutRun → Type 0
+PutFails (failure.Fault why) t start end new r = (why ≡ TooLarge) × (text_limit < length (text_with_run t (run_front t r start ++ new) end))
+PutFails failure.Memory t start end new r = ⊤
 
 -- An operation is carried out on the text of a run, which goes on after it (own).
 pub record RunsOn (op : Operation) (x : HeadInText) (before after : PutRun) : Type 0 where

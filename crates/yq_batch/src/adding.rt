@@ -12,8 +12,7 @@ use crate::near::Near;
 use crate::run::PutRun;
 use std::alloc::{AllocError, Global};
 use yq_core::Step;
-use yq_edit_laws::EditError;
-use yq_semantics::Op;
+use yq_semantics::{ExprError, Op};
 
 /// A flow collection of a head that was empty, into which a run put the last item or entry.
 #[derive(Clone, Copy)]
@@ -82,7 +81,7 @@ pub(crate) fn carry_next<'s>(
     op: &'s Op,
     run: &mut FilledRun<'s>,
     near: &mut Near<'s>,
-) -> Result<bool, EditError>
+) -> Result<bool, ExprError>
     requires there { runs.IsInText at.now }
     requires run { spec.FillsSo at.now run.old }
     requires fits { IsFitting (operation_of op.now) (spec.filled_text at.now run.old) }

@@ -1,11 +1,9 @@
 //! What goes where an item or entry is taken out of what is left of a flow collection of a head.
-ghost use Rattle.std.specs.Prelude.{◌≡◌, ◌+◌, Some, None, length, map, IfSome};
-ghost use Rattle.yq_text.specs.TextGapBuffer.{buffer_text};
-ghost use Rattle.yq_core.{specs.Entries.{end_of, parts_of, tree_step}, specs.Keys.HasUniqueKeys, specs.Trees.placed_tree};
-ghost use Rattle.yq_core.specs.View.{inline_view};
+ghost use Rattle.std.specs.Prelude.{◌≡◌, Some, None, IfSome};
+ghost use Rattle.yq_core.{specs.Entries.end_of, specs.Keys.HasUniqueKeys, specs.Trees.placed_tree, specs.View.inline_view};
 ghost use Rattle.yq_documents.specs.Located.{steps_of};
 ghost use Rattle.yq_edit_laws.specs.NearParts.{head_with};
-ghost use Rattle.yq_batch.{specs.LeftItems.count_parts, specs.Runs.IsInText};
+ghost use Rattle.yq_batch.specs.Runs.{IsInText};
 ghost use Rattle.yq_batch.specs.RemovalRuns as spec;
 
 use crate::change::are_same_steps;

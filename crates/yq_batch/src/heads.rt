@@ -17,10 +17,9 @@ use crate::together::changed_collection;
 use std::alloc::{AllocError, Global};
 use yq_core::Step;
 use yq_documents::Path;
-use yq_edit_laws::EditError;
 use yq_lookup::CutText;
 use yq_places::FlowHead;
-use yq_semantics::{Op, copied_steps};
+use yq_semantics::{ExprError, Op, copied_steps};
 use yq_text::Edited;
 
 /// A head with the steps that lead to it in a document, and how many rows come before its own.
@@ -47,7 +46,7 @@ fn put_in_head<'s>(
     at: &HeadInText<'_, '_, '_, '_, '_, '_>,
     ops: &'s [Op],
     run: &mut FilledRun<'s>,
-) -> Result<Option<&'s [Op]>, EditError>
+) -> Result<Option<&'s [Op]>, ExprError>
     requires there { IsInText at.now }
     requires run { Runs at.now run.old.run }
     requires serves { AreServed (operations_of ops.now) (filled_text at.now run.old) }
@@ -77,7 +76,7 @@ fn put_in_found<'s>(
     found: FoundHead<'s, '_>,
     ops: &'s [Op],
     run: &mut FilledRun<'s>,
-) -> Result<Option<&'s [Op]>, EditError>
+) -> Result<Option<&'s [Op]>, ExprError>
     requires head { spec.IsFoundHead cut.now found }
     requires run { spec.RunsIn cut.now found run.old.run }
     requires serves { AreServed (operations_of ops.now) (now_text (cut_of cut.now) run.old.run) }
@@ -169,7 +168,7 @@ fn carry_head<'o>(
     ops: &'o [Op],
     last: Option<(usize, usize)>,
     run: &mut FilledRun<'o>,
-) -> Result<Option<(&'o [Op], (usize, usize))>, EditError>
+) -> Result<Option<(&'o [Op], (usize, usize))>, ExprError>
     requires run { IsRowsRun (cut_of cut.old) last run.old.run }
     requires serves { AreServed (operations_of ops.now) (now_text (cut_of cut.old) run.old.run) }
     ensures same { cut.new ≡ cut.old }
@@ -201,7 +200,7 @@ pub fn carry_in_heads<'o>(
     alloc: Global,
     cut: &CutText<'_, '_>,
     ops: &'o [Op],
-) -> Result<Option<Edited>, EditError>
+) -> Result<Option<Edited>, ExprError>
     requires { AreServed (operations_of ops.now) cut.now }
     ensures ok { IfOk result (spec.MayGive ops.now cut.now) }
     ensures err { IfErr result (λ e. EditFails e (carry_all (operations_of ops.now) cut.now)) }

@@ -18,11 +18,11 @@ use yq_block_edits::{comment_written, head_comment_written, is_kept_in_row};
 use yq_core::lines::text_len;
 use yq_core::{Break, Place, Value, first_is};
 use yq_documents::Path;
-use yq_edit_laws::{EditError, operand_holds};
+use yq_edit_laws::operand_holds;
 use yq_edit_rules::{is_filled, value_text};
 use yq_lookup::CutText;
 use yq_places::{HeldRow, is_text};
-use yq_semantics::Op;
+use yq_semantics::{ExprError, Op};
 use yq_text::{Edited, Halves};
 
 /// Among how many of the first bytes of a text its first break is looked for.
@@ -215,6 +215,10 @@ fn writes_same_break(cut: &CutText<'_, '_>, op: &Op, run: &PutRun) -> bool
     let Op::HeadComment(_, text) = op else {
         return true;
     };
+    // Each head comment looks for the text's first break, so that has to be near.
+    if near_break(cut.text().front.as_bytes()).is_none() {
+        return false;
+    }
     if text.is_empty() || (run.text.is_empty() && run.done == 0) {
         return true;
     }
@@ -243,7 +247,7 @@ fn put_one<'d>(
     op: &'d Op,
     last: Option<(usize, usize)>,
     run: &mut PutRun,
-) -> Result<Option<Option<(usize, usize)>>, EditError>
+) -> Result<Option<Option<(usize, usize)>>, ExprError>
     requires run { spec.IsRowsRun (cut_of cut.old) last run.old }
     requires fits { IsFitting (operation_of op.now) (now_text (cut_of cut.old) run.old) }
     ensures same { cut.new ≡ cut.old }
@@ -290,7 +294,7 @@ pub fn carry_in_rows<'d>(
     alloc: Global,
     cut: &CutText<'d, '_>,
     ops: &'d [Op],
-) -> Result<Option<Edited>, EditError>
+) -> Result<Option<Edited>, ExprError>
     requires { AreServed (operations_of ops.now) cut.now }
     ensures ok { IfOk result (MayGive ops.now cut.now) }
     ensures err { IfErr result (λ e. EditFails e (carry_all (operations_of ops.now) cut.now)) }

@@ -15,8 +15,7 @@ use crate::head::HeadInText;
 use crate::run::{between, bytes_of, push_splice};
 use crate::together::Together;
 use std::alloc::{AllocError, Global};
-use yq_edit_laws::EditError;
-use yq_semantics::{Op, Refusal};
+use yq_semantics::{ExprError, Op, Refusal};
 use yq_text::{Edited, Halves, Splice, TEXT_LIMIT, TextGapBuffer};
 
 /// What is left of a text from which items and entries were taken out, one before the other.
@@ -53,7 +52,7 @@ pub(crate) fn exchange(
     start: usize,
     end: usize,
     new: &str,
-) -> Result<(), EditError>
+) -> Result<(), ExprError>
     requires order { start ≤ end }
     requires room { length new.now ≤ end - start }
     requires utf8 { IsUtf8 (buffer_text run.old.text) }
@@ -68,7 +67,7 @@ pub(crate) fn exchange(
     run.text.exchange(end - start, new);
     run.keep = start;
     if run.text.len() > TEXT_LIMIT {
-        return Err(EditError::Refused(Refusal::TooLarge));
+        return Err(ExprError::Fault(Refusal::TooLarge));
     }
     Ok(push_splice(&mut run.splices, start, old, written)?)
 }
@@ -81,7 +80,7 @@ fn remove_one<'s>(
     op: &'s Op,
     known: Option<LeftOf<'s>>,
     run: &mut RemovalRun,
-) -> Result<Option<Option<LeftOf<'s>>>, EditError>
+) -> Result<Option<Option<LeftOf<'s>>>, ExprError>
     requires there { IsInText at.now }
     requires run { spec.RemovesSo (cut_with at.now) at.now.doc (stem_of at.now) known run.old }
     requires fits { IsFitting (operation_of op.now) (buffer_text run.old.text) }
@@ -135,7 +134,7 @@ pub(crate) fn remove_each<'s>(
     alloc: Global,
     at: &HeadInText<'_, '_, '_, '_, '_, '_>,
     ops: &'s [Op],
-) -> Result<Option<Together<'s>>, EditError>
+) -> Result<Option<Together<'s>>, ExprError>
     requires there { IsInText at.now }
     requires serves { AreServed (operations_of ops.now) at.now.cut.now }
     ensures ok { IfOk result (CarriesTogether ops.now at.now.cut.now) }

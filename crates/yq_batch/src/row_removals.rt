@@ -16,10 +16,10 @@ use std::alloc::Global;
 use yq_core::lines::split_line;
 use yq_core::{Step, behind_spaces, ends_line, first_is, is_blank, spaces_len};
 use yq_documents::Path;
-use yq_edit_laws::{EditError, last_step};
+use yq_edit_laws::last_step;
 use yq_lookup::CutText;
 use yq_places::{Seam, is_text};
-use yq_semantics::Op;
+use yq_semantics::{ExprError, Op};
 use yq_text::Edited;
 
 /// The path of the item or entry that an operation takes out of the collection at some steps, if it does.
@@ -111,7 +111,7 @@ fn take_rows<'d>(
     path: &'d Path,
     least: Option<usize>,
     run: &mut RemovalRun,
-) -> Result<Option<Option<usize>>, EditError>
+) -> Result<Option<Option<usize>>, ExprError>
     requires run { spec.RemovesBeside path.now (cut_of cut.old) least run.old }
     requires others { spec.HasOthersNow path.now.doc (steps_of path.now)
         (buffer_text run.old.text) }
@@ -162,7 +162,7 @@ fn remove_rows<'d, 'o: 'd>(
     doc: usize,
     above: &[Step],
     ops: &'o [Op],
-) -> Result<Together<'o>, EditError>
+) -> Result<Together<'o>, ExprError>
     requires { AreServed (operations_of ops.now) cut.now }
     ensures ok { IfOk result (λ x. spec.CarriesFirst ops.now cut.now x) }
     ensures err { IfErr result (λ e. EditFails e (carry_all (operations_of ops.now) cut.now)) }
@@ -212,7 +212,7 @@ pub fn carry_beside<'d, 'o: 'd>(
     alloc: Global,
     cut: &CutText<'d, '_>,
     ops: &'o [Op],
-) -> Result<Option<Together<'o>>, EditError>
+) -> Result<Option<Together<'o>>, ExprError>
     requires { AreServed (operations_of ops.now) cut.now }
     ensures ok { IfOk result (λ o. IfSome o (λ x. spec.CarriesFirst ops.now cut.now x)) }
     ensures err { IfErr result (λ e. EditFails e (carry_all (operations_of ops.now) cut.now)) }

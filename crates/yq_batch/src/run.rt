@@ -6,8 +6,7 @@ ghost use Rattle.yq_batch.specs.Runs as spec;
 use crate::slots::SlotPlace;
 use std::alloc::{AllocError, Global};
 use std::ops::Range;
-use yq_edit_laws::EditError;
-use yq_semantics::Refusal;
+use yq_semantics::{ExprError, Refusal};
 use yq_text::{Edited, Halves, Splice, TEXT_LIMIT};
 
 /// What values put one after the other made of a text so far.
@@ -108,7 +107,7 @@ impl PutRun {
         text: Halves<'_>,
         range: Range<usize>,
         written: String,
-    ) -> Result<(), EditError>
+    ) -> Result<(), ExprError>
         requires done { self.old.done ≤ range.start }
         requires order { range.start ≤ range.end }
         requires edge { IsCharBoundary (whole text) self.old.done }
@@ -128,7 +127,7 @@ impl PutRun {
         self.done = end;
         let rest = text.split_at(end).1.len();
         if rest > TEXT_LIMIT || self.text.len() > TEXT_LIMIT - rest {
-            return Err(EditError::Refused(Refusal::TooLarge));
+            return Err(ExprError::Fault(Refusal::TooLarge));
         }
         let old = bytes_of(alloc, between(text, start, end))?;
         Ok(push_splice(&mut self.splices, at, old, written.into_bytes())?)

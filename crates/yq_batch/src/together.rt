@@ -12,9 +12,9 @@ use crate::removals::remove_each;
 use crate::unordered::put_in_any_order;
 use std::alloc::Global;
 use yq_core::Step;
-use yq_edit_laws::{EditError, last_step};
+use yq_edit_laws::last_step;
 use yq_lookup::CutText;
-use yq_semantics::Op;
+use yq_semantics::{ExprError, Op};
 use yq_text::Edited;
 
 /// What operations that were carried out together made of a text.
@@ -31,7 +31,7 @@ fn put_each<'s>(
     alloc: Global,
     at: &HeadInText<'_, '_, '_, '_, '_, '_>,
     ops: &'s [Op],
-) -> Result<Option<Together<'s>>, EditError>
+) -> Result<Option<Together<'s>>, ExprError>
     requires there { IsInText at.now }
     requires serves { AreServed (operations_of ops.now) at.now.cut.now }
     ensures ok { IfOk result (CarriesTogether ops.now at.now.cut.now) }
@@ -57,7 +57,7 @@ fn put_all<'s>(
     alloc: Global,
     at: &HeadInText<'_, '_, '_, '_, '_, '_>,
     ops: &'s [Op],
-) -> Result<Option<Together<'s>>, EditError>
+) -> Result<Option<Together<'s>>, ExprError>
     requires there { IsInText at.now }
     requires serves { AreServed (operations_of ops.now) at.now.cut.now }
     ensures ok { IfOk result (CarriesTogether ops.now at.now.cut.now) }
@@ -76,7 +76,7 @@ fn carry_in_head<'o>(
     alloc: Global,
     at: &HeadInText<'_, '_, '_, '_, '_, '_>,
     ops: &'o [Op],
-) -> Result<Option<Together<'o>>, EditError>
+) -> Result<Option<Together<'o>>, ExprError>
     requires there { IsInText at.now }
     requires serves { AreServed (operations_of ops.now) at.now.cut.now }
     ensures ok { IfOk result (CarriesTogether ops.now at.now.cut.now) }
@@ -109,7 +109,7 @@ pub fn carry_together<'o>(
     alloc: Global,
     cut: &CutText<'_, '_>,
     ops: &'o [Op],
-) -> Result<Option<Together<'o>>, EditError>
+) -> Result<Option<Together<'o>>, ExprError>
     requires { AreServed (operations_of ops.now) cut.now }
     ensures ok { IfOk result (CarriesTogether ops.now cut.now) }
     ensures err { IfErr result (λ e. EditFails e (carry_all (operations_of ops.now) cut.now)) }

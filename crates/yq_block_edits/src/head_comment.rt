@@ -1,8 +1,5 @@
 //! HeadComment: comments on lines above a key or dash.
-ghost use Rattle.yq_core.{specs.BlockWritten.break_text, specs.Strings.{AddsText, GivesText}};
-ghost use Rattle.yq_row_table.specs.Rows.{cut_text};
-ghost use Rattle.yq_documents.specs.Reading.{cut_of};
-ghost use Rattle.yq_places.specs.FirstBreak.{first_break};
+ghost use Rattle.yq_core.specs.Strings.{AddsText, GivesText};
 ghost use Rattle.yq_semantics.specs.Meaning.{head_comment_lines};
 ghost use Rattle.yq_edit_rules.specs.Answers.{GivesSegments};
 ghost use Rattle.yq_block_edits.specs.TextsPut.{at_path};

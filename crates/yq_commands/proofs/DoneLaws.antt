@@ -5,15 +5,15 @@ use Rattle.yq_semantics.specs.Program.{Program}
 use Rattle.yq_journal.{specs.History.History, specs.State.State}
 use Rattle.yq_args.{specs.declared.eval_options.EvalOptions.EvalOptions, specs.declared.eval_words.EvalWords.EvalWords}
 use Rattle.yq_store.{specs.FileMap.FileMap, specs.Count.FileError}
-use Rattle.yq_history.{specs.declared.fault.Fault.Fault, specs.Causes.{Cause, IsFor, named}, specs.Faults.{is_outer_fault, of_store}}
-use Rattle.yq_history.{specs.Effects.{Effect, from_names, refuses}, specs.Output.Showing, specs.Pair.{Arrives, GoodIn, Opens}}
-use Rattle.yq_history.{specs.declared.opened.OpenPair.OpenPair, specs.Report.Report, proofs.EffectLaws.not_opened}
-use Rattle.yq_history.proofs.PairLaws.{same_pair}
+use Rattle.yq_history.{specs.Causes.{Cause, IsFor, named}, specs.Effects.{Effect, from_names, refuses}, specs.Output.Showing}
+use Rattle.yq_history.{specs.Pair.{Arrives, GoodIn, Opens}, specs.declared.opened.OpenPair.OpenPair, specs.Report.Report}
+use Rattle.yq_history.{proofs.EffectLaws.not_opened, proofs.PairLaws.same_pair}
+use Rattle.yq_fault.{specs.declared.fault.Fault.Fault, specs.Faults.{is_outer_fault, of_store}}
 use Rattle.yq_commands.{specs.CommandDone.{EditsFrom, EditsInPlace, EditsOpened, Evaluates}, specs.CommandEffects.edit_effect}
 use Rattle.yq_commands.{specs.CommandSteps.{update_cause, update_next}, specs.Editing.{Refuses, program_edits, program_in}}
 use Rattle.yq_commands.{specs.Evaluation.{cause_in, evaluated, of_file, shows}, proofs.EditEffects.parsed_works}
 use Rattle.yq_commands.proofs.OutcomeLaws.{arrives_as, each_error, unopened}
-use Rattle.yq_history.specs.declared.fault.Fault.TheVariants as fault
+use Rattle.yq_fault.specs.declared.fault.Fault.TheVariants as fault
 use Rattle.yq_failure.specs.declared.failure.Failure.TheVariants as failure
 use Rattle.yq_store.specs.declared.store.FileFault.TheVariants as file
 

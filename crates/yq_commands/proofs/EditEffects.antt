@@ -5,7 +5,7 @@ use Rattle.yq_semantics.specs.Program.{Program}
 use Rattle.yq_text.specs.Splice.{Splice}
 use Rattle.yq_journal.{specs.Record.Record, specs.Refusals.{most_records, no_way}}
 use Rattle.yq_journal.specs.State.{State, journal_after, moved_text, with_move}
-use Rattle.yq_history.specs.declared.fault.Fault.{Fault}
+use Rattle.yq_fault.specs.declared.fault.Fault.{Fault}
 use Rattle.yq_history.{specs.Effects.{Effect, refuses, writes_nothing, from_pair, goes_to, move_effect, Works}, specs.Output.bytes}
 use Rattle.yq_history.{specs.Causes.named, proofs.EffectLaws.works_carried, proofs.MoveLaws.{IsMove, bytes_differ}}
 use Rattle.yq_store.specs.FileMap.{FileMap}
@@ -13,7 +13,7 @@ use Rattle.yq_commands.specs.CommandEffects.{edit_effect, edit_writes, update_ef
 use Rattle.yq_commands.{specs.Editing.{EditOutcome, edited, Refuses, program_in, program_edits}, specs.Edits.edit_record}
 use Rattle.yq_journal.specs.declared.fault.JournalFault.TheVariants as journal
 use Rattle.yq_journal.specs.declared.moves.Move.TheVariants as move
-use Rattle.yq_history.specs.declared.fault.Fault.TheVariants as fault
+use Rattle.yq_fault.specs.declared.fault.Fault.TheVariants as fault
 
 module _ (f j : List ℕ) (c : FileMap) (expr : List ℕ) (s : State) (t : List ℕ) where
   -- the edit was refused

@@ -6,13 +6,14 @@ use Rattle.yq_text.specs.Splice.{Splice, all_done}
 use Rattle.yq_journal.{specs.declared.moves.Move.TheVariants.Edit, specs.Good.after_move, specs.History.{History, text_at, after_edit}}
 use Rattle.yq_journal.{specs.Record.{Record, done}, specs.Refusals.{no_way, most_records}, specs.State.State}
 use Rattle.yq_journal.specs.declared.fault.JournalFault.TheVariants.{JournalFull}
-use Rattle.yq_history.{specs.declared.fault.Fault.Fault, specs.Causes.{IsFor, named}, specs.Pair.{Arrives, PairAtRest, PairStands}}
+use Rattle.yq_history.{specs.Causes.{IsFor, named}, specs.Pair.{Arrives, PairAtRest, PairStands}}
 use Rattle.yq_history.proofs.MoveLaws.{IsMove, bytes_differ, is_refused, ends, same_content, fault_outside}
+use Rattle.yq_fault.specs.declared.fault.Fault.{Fault}
 use Rattle.yq_store.specs.FileMap.{FileMap}
 use Rattle.yq_commands.{specs.Editing.{edited, program_edits}, specs.Edits.edit_record}
 use Rattle.yq_commands.specs.CommandSteps.{edit_cause, edit_next, update_cause, update_next}
 use Rattle.yq_journal.specs.declared.fault.JournalFault.TheVariants as journal
-use Rattle.yq_history.specs.declared.fault.Fault.TheVariants as fault
+use Rattle.yq_fault.specs.declared.fault.Fault.TheVariants as fault
 
 -- the record of an edit leads to its text
 pub edit_done : (expr : List ℕ) (cs : List Splice) (t u : List ℕ) → all_done cs t ≡ Some u → done (edit_record expr cs (length t) (length u)) t ≡ Some u

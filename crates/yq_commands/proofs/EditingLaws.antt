@@ -4,12 +4,10 @@ use Rattle.std.specs.Str.{is_utf8}
 use Rattle.yq_core.{specs.declared.ReadFault.ReadFault, specs.declared.fault.FaultKind.TheVariants.NotUtf8}
 use Rattle.yq_documents.specs.Reading.{read_at, checked_at}
 use Rattle.yq_semantics.specs.Program.{Program}
-use Rattle.yq_edit_laws.{specs.Carried.{edit_of, program_done}, specs.Edit.by_reading, specs.Answers.EditFails}
-use Rattle.yq_edit_laws.specs.declared.edit_error.EditError.{EditError}
-use Rattle.yq_history.{specs.declared.fault.Fault.Fault, specs.declared.fault.Fault.TheVariants.{OutOfMemory, Unreadable}}
+use Rattle.yq_edit_laws.{specs.Carried.{edit_of, program_done}, specs.Edit.by_reading}
+use Rattle.yq_fault.{specs.declared.fault.Fault.Fault, specs.declared.fault.Fault.TheVariants.{OutOfMemory, Unreadable}}
 use Rattle.yq_history.specs.Causes.{IsUnreadable}
-use Rattle.yq_commands.specs.Editing.{Refuses, program_edits, program_in, unreadable, edit_outcome}
-use Rattle.yq_commands.specs.CommandFaults.{of_edit, of_parse}
+use Rattle.yq_commands.{specs.Editing.{Refuses, program_edits, program_in, unreadable, edit_outcome}, specs.CommandFaults.of_parse}
 use Rattle.yq_expr_parser.{specs.Outcome.{AnswersError, ParseError}, specs.Parse.outcome}
 
 -- bytes that are no UTF-8
@@ -39,8 +37,3 @@ no_utf8_fault t f other kind = (λ is. other, λ is. kind)
 -- and of UTF-8 it doesn't
 pub unread_text : (t : List ℕ) (f : ReadFault) → is_utf8 t ≡ true → f.kind ≢ NotUtf8 → IsUnreadable t (Unreadable f)
 unread_text t f utf8 other = (λ is. absurd (other is), λ no. absurd (true≢false (sym utf8 ∙ no)))
-
--- why a program is refused on a text
-pub edit_refuses : (p : Program) (s t : List ℕ) (e : EditError) → s ≡ t → is_utf8 t ≡ true → EditFails e (edit_of p s) → of_edit e ≢ OutOfMemory → Refuses (program_edits p t) (of_edit e)
-unfolding program_edits
-edit_refuses p s t e same utf8 fails other = search rules

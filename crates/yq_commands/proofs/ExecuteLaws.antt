@@ -1,9 +1,10 @@
 -- What a command comes to, by the contract of the call that carries it out.
 use Rattle.std.{proofs.Common.{rules, ap, ◌≡◌, ◌≢◌, ℕ, Bool, List, Option, Result, Ok, Err, OnOk, refl, ◌∙◌, subst}, specs.FinMap.get}
 use Rattle.yq_journal.{specs.State.State, specs.History.History}
-use Rattle.yq_history.{specs.declared.fault.Fault.Fault, specs.Causes.Cause}
-use Rattle.yq_history.{specs.Effects.{Effect, Works, from_names, listing_effect, printed_by}, specs.Pair.{Arrives, GoodIn, OthersStay}}
-use Rattle.yq_history.{specs.Report.{Report, nothing}, specs.Output.{IsOutput, Shows, listing_output, showing, showing_nothing}}
+use Rattle.yq_history.{specs.Causes.Cause, specs.Effects.{Effect, Works, from_names, listing_effect, printed_by}}
+use Rattle.yq_history.{specs.Pair.{Arrives, GoodIn, OthersStay}, specs.Report.{Report, nothing}}
+use Rattle.yq_history.specs.Output.{IsOutput, Shows, listing_output, showing, showing_nothing}
+use Rattle.yq_fault.specs.declared.fault.Fault.{Fault}
 use Rattle.yq_args.specs.declared.eval_options.EvalOptions.{EvalOptions}
 use Rattle.yq_store.specs.FileMap.{FileMap}
 use Rattle.yq_commands.{specs.CommandEffects.{update_effect, output_by}, specs.CommandNames.Differs, specs.Editing.program_in}

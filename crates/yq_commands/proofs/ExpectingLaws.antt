@@ -5,11 +5,12 @@ use Rattle.yq_semantics.specs.Program.{Program}
 use Rattle.yq_journal.{specs.History.History, specs.State.State}
 use Rattle.yq_args.specs.declared.eval_options.EvalOptions.{EvalOptions}
 use Rattle.yq_history.{specs.Causes.named, specs.Effects.{Effect, refuses, writes_nothing}, specs.Pair.GoodIn, specs.Output.bytes}
-use Rattle.yq_history.{specs.declared.fault.Fault.Fault, proofs.PairLaws.good_text}
+use Rattle.yq_history.proofs.PairLaws.{good_text}
+use Rattle.yq_fault.specs.declared.fault.Fault.{Fault}
 use Rattle.yq_store.specs.FileMap.{FileMap}
 use Rattle.yq_commands.{specs.CommandEffects.edit_effect, specs.Editing.{EditOutcome, program_edits}}
 use Rattle.yq_commands.specs.Expecting.{changes_as_expected, edits_as_expected, report_edit, showing_change, works_as_expected}
-use Rattle.yq_history.specs.declared.fault.Fault.TheVariants as fault
+use Rattle.yq_fault.specs.declared.fault.Fault.TheVariants as fault
 use Rattle.yq_journal.specs.declared.fault.JournalFault.TheVariants as journal
 
 -- where no change is expected, every effect is as expected

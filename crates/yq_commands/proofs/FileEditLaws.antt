@@ -3,8 +3,8 @@ use Rattle.std.proofs.Common.{rules, Bool, true, ◌≡◌, ◌≢◌, ℕ, List
 use Rattle.std.proofs.lemmas.Option.{none-some}
 use Rattle.yq_semantics.specs.Program.{Program, is_read}
 use Rattle.yq_text.specs.Splice.{Splice}
-use Rattle.yq_history.{specs.declared.fault.Fault.Fault, specs.declared.fault.Fault.TheVariants.OutOfMemory, specs.Effects.Works}
-use Rattle.yq_history.{specs.Output.IsOutput, specs.Unified.IsPrintedDiff}
+use Rattle.yq_history.{specs.Effects.Works, specs.Output.IsOutput, specs.Unified.IsPrintedDiff}
+use Rattle.yq_fault.{specs.declared.fault.Fault.Fault, specs.declared.fault.Fault.TheVariants.OutOfMemory}
 use Rattle.yq_commands.specs.CommandEffects.{IsUnparsed, fault_of, edit_effect, output_by}
 use Rattle.yq_commands.specs.Editing.{program_in, EditOutcome, edited}
 use Rattle.yq_commands.{specs.FileEdits.{HoldsEdited, IsFileEdited, PrintsChange, PrintsEdit, PrintsUpdate}, specs.Expecting.change_output}

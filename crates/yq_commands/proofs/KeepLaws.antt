@@ -11,8 +11,9 @@ use Rattle.yq_commands.{specs.Lists.{ReportsUnparsed, is_accepted, leaves_names}
 use Rattle.yq_commands.{specs.Expecting.{expects_change, works_as_expected}, specs.Prints.{prints, prints_change}}
 use Rattle.yq_commands.{proofs.ReplyLaws.{reply, reply-answer}, proofs.ListLaws.arrived}
 use Rattle.yq_args.{specs.declared.command.Command.Command, specs.declared.command.Command.TheVariants.Eval}
-use Rattle.yq_history.{specs.declared.fault.Fault.Fault, specs.Effects.{Effect, Works}, specs.Faults.{is_outer_fault, is_output}}
-use Rattle.yq_history.{specs.Output.IsOutput, specs.Pair.GoodIn, specs.Report.Report, proofs.PairLaws.same_pair}
+use Rattle.yq_history.{specs.Effects.{Effect, Works}, specs.Output.IsOutput, specs.Pair.GoodIn, specs.Report.Report}
+use Rattle.yq_history.proofs.PairLaws.{same_pair}
+use Rattle.yq_fault.{specs.declared.fault.Fault.Fault, specs.Faults.{is_outer_fault, is_output}}
 use Rattle.yq_store.specs.FileMap.{FileMap}
 
 -- an edit in place is of a file and a journal of two names

@@ -9,10 +9,10 @@ use Rattle.yq_commands.specs.Lists.{IsReply, StepsExactly, GoesExactly, RunExact
 use Rattle.yq_commands.{specs.Lists.{failures_in, output_failures_in, has_memory}, specs.Prints.report_of, specs.CommandNames.file_of}
 use Rattle.yq_commands.{specs.CommandSteps.{cause_of, next_of}, proofs.ReplyLaws.reply}
 use Rattle.yq_args.specs.declared.command.Command.{Command}
-use Rattle.yq_history.{specs.declared.fault.Fault.Fault, specs.Causes.{Cause, IsFor, named}, specs.Faults.{is_outer_fault, is_output}}
-use Rattle.yq_history.{specs.Output.{Showing, Shows}, specs.Pair.{GoodIn, Arrives}, specs.Report.Report}
+use Rattle.yq_history.{specs.Causes.{Cause, IsFor, named}, specs.Output.{Showing, Shows}, specs.Pair.{GoodIn, Arrives}, specs.Report.Report}
+use Rattle.yq_fault.{specs.declared.fault.Fault.Fault, specs.Faults.{is_outer_fault, is_output}}
 use Rattle.yq_store.specs.FileMap.{FileMap}
-use Rattle.yq_history.specs.declared.fault.Fault.TheVariants as fault
+use Rattle.yq_fault.specs.declared.fault.Fault.TheVariants as fault
 use Rattle.yq_journal.specs.declared.fault.JournalFault.TheVariants as journal
 
 module _ (e : FileMap) (f j : List ℕ) (c : Command) (h : Option History) where

@@ -3,7 +3,8 @@ use Rattle.std.proofs.Common.{rules, ◌≡◌, ℕ, ◌+◌, ◌-◌, ◌^◌, 
 use Rattle.std.{proofs.Common.{MatchResult, sym, ap, ap₂, ◌∙◌, refl}, proofs.lemmas.List.append-nil}
 use Rattle.yq_commands.{specs.declared.answer.Answer.Answer, specs.declared.answer.Answer.TheVariants.{Done, NoMatch, Refused}}
 use Rattle.yq_commands.specs.Lists.{answer_by, Reply, answers_in, printed_in, IsAnswer, reports_failure, reports_output}
-use Rattle.yq_history.{specs.declared.fault.Fault.Fault, specs.Report.Report}
+use Rattle.yq_history.specs.Report.{Report}
+use Rattle.yq_fault.specs.declared.fault.Fault.{Fault}
 use Rattle.yq_store.specs.Count.{count_plus_one}
 
 -- the reply of an answer: only what is carried out prints

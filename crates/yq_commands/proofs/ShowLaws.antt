@@ -8,20 +8,21 @@ use Rattle.yq_documents.{specs.Documents.Document, specs.Reading.{documents, rea
 use Rattle.yq_semantics.{specs.Copies.matches, specs.Judgement.{Judgement, refuses, ExprError}}
 use Rattle.yq_semantics.specs.Program.{Program, Stage, is_read, read}
 use Rattle.yq_journal.specs.History.{History, text_at}
-use Rattle.yq_history.{specs.declared.fault.Fault.Fault, specs.declared.fault.Fault.TheVariants.OutOfMemory}
-use Rattle.yq_history.{specs.Causes.{Cause, IsFor, named, no_reading, IsUnreadable}, specs.Faults.{is_outer_fault, fault_of_reading}}
-use Rattle.yq_history.{specs.Pair.{Arrives, GoodIn}, specs.Report.{Report, report_by}, proofs.MoveLaws.{cut, is_refused}}
+use Rattle.yq_fault.{specs.declared.fault.Fault.Fault, specs.declared.fault.Fault.TheVariants.OutOfMemory}
+use Rattle.yq_fault.specs.Faults.{is_outer_fault, fault_of_reading, fault_of_refusal}
+use Rattle.yq_history.{specs.Causes.{Cause, IsFor, named, no_reading, IsUnreadable}, specs.Pair.{Arrives, GoodIn}}
+use Rattle.yq_history.{specs.Report.{Report, report_by}, proofs.MoveLaws.{cut, is_refused}}
 use Rattle.yq_history.{specs.Output.{Showing, Shows, showing_by, IsOutput, bytes, diff}, proofs.PairLaws.{good_text, same_pair}}
 use Rattle.yq_store.specs.FileMap.{FileMap}
 use Rattle.yq_args.specs.declared.eval_options.EvalOptions.{EvalOptions}
-use Rattle.yq_commands.{specs.Editing.{EditOutcome, edited, Refuses, program_edits}, specs.CommandFaults.of_matching}
+use Rattle.yq_commands.specs.Editing.{EditOutcome, edited, Refuses, program_edits}
 use Rattle.yq_commands.specs.Evaluation.{of_file, IsShowing, show_edit, show_found, show_read, shows, cause_in, report_in, edit_output}
 use Rattle.yq_commands.{proofs.EditingLaws.unread_text, specs.Expecting.{change_output, changes_as_expected}}
 use Rattle.yq_text.specs.Splice.{Splice}
 use Rattle.yq_history.specs.declared.report.Report as declared
 use Rattle.yq_semantics.specs.Judgement as judgement
 use Rattle.yq_failure.specs.declared.failure.Failure.TheVariants as matching
-use Rattle.yq_history.specs.declared.fault.Fault.TheVariants as fault
+use Rattle.yq_fault.specs.declared.fault.Fault.TheVariants as fault
 
 -- the fault of an edit tells why its text isn't shown
 pub reports_edit : (options : EvalOptions) (t : List ℕ) (o : EditOutcome) (x : Fault) → Refuses o x → IsFor (cause_in (show_edit options t o)) x
@@ -66,7 +67,7 @@ module _ (options : EvalOptions) (t : List ℕ) where
 
   -- documents on which matching is refused
   pub matching_fails : (p : Program) (docs : List Document) {T : Type 0} (r : Result T Fault) (e : ExprError) → is_read p ≡ true →
-      r ≡ Err (of_matching e) → option_map documents (read_at t) ≡ Some docs → ((pipe : List Stage) → p ≡ read pipe → judgement.MatchFails e (matches pipe docs)) → HasFault p r
+      r ≡ Err (fault_of_refusal e) → option_map documents (read_at t) ≡ Some docs → ((pipe : List Stage) → p ≡ read pipe → judgement.MatchFails e (matches pipe docs)) → HasFault p r
   matching_fails p docs r matching.Memory is fails reads why = for_cause p (no_reading t) r OutOfMemory fails (λ memory. absurd (memory refl))
   matching_fails p docs r (matching.Fault x) is fails reads why =
       for_cause p (named (fault.Refused x)) r (fault.Refused x) fails (λ memory. (found_shows p docs (refuses x) is reads why, refl))

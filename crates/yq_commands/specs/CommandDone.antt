@@ -6,10 +6,10 @@ use Rattle.yq_semantics.specs.Program.{Program}
 use Rattle.yq_args.{specs.declared.command.Command.Command, specs.declared.eval_options.EvalOptions.EvalOptions}
 use Rattle.yq_store.{specs.Calls.Call, specs.FileMap.FileMap}
 use Rattle.yq_text.specs.declared.edited.Edited.{Edited}
-use Rattle.yq_history.{specs.declared.fault.Fault.Fault, specs.Causes.Cause, specs.Effects.{Effect, Works}}
-use Rattle.yq_history.{specs.Leaves.{ArrivesBy, HoldsBytes, LeavesRefused}, specs.Output.{IsOutput, Showing, Shows}}
-use Rattle.yq_history.{specs.OpenedAnswers.{IsHeld, MakesFrom}, specs.Pair.{NamesDiffer, Arrives, GoodIn, OthersStay}, specs.Report.Report}
-use Rattle.yq_history.specs.declared.opened.OpenPair.{OpenPair}
+use Rattle.yq_history.{specs.Causes.Cause, specs.Effects.{Effect, Works}, specs.Leaves.{ArrivesBy, HoldsBytes, LeavesRefused}}
+use Rattle.yq_history.{specs.Output.{IsOutput, Showing, Shows}, specs.OpenedAnswers.{IsHeld, MakesFrom}}
+use Rattle.yq_history.{specs.Pair.{NamesDiffer, Arrives, GoodIn, OthersStay}, specs.Report.Report, specs.declared.opened.OpenPair.OpenPair}
+use Rattle.yq_fault.specs.declared.fault.Fault.{Fault}
 use Rattle.yq_commands.specs.CommandEffects.{IsListing, OfEffect, edit_effect, output_by, update_effect}
 use Rattle.yq_commands.{specs.CommandNames.{IsNotNamed, IsOn, file_of}, specs.CommandSteps.{cause_of, next_of, update_cause, update_next}}
 use Rattle.yq_commands.{specs.Editing.{EachProgram, program_edits, program_in}, specs.Evaluation.{cause_in, report_in}}

@@ -6,12 +6,12 @@ use Rattle.yq_journal.{specs.Record.Record, specs.Refusals.most_records, specs.S
 use Rattle.yq_journal.specs.declared.fault.JournalFault.TheVariants.{JournalFull}
 use Rattle.yq_args.specs.declared.command.Command.{Command}
 use Rattle.yq_args.specs.declared.command.Command.TheVariants.{Eval, Undo, Redo, History as Lists, Squash}
-use Rattle.yq_history.{specs.declared.fault.Fault.Fault, specs.declared.fault.Fault.TheVariants.OutOfMemory}
+use Rattle.yq_fault.{specs.declared.fault.Fault.Fault, specs.declared.fault.Fault.TheVariants.OutOfMemory}
 use Rattle.yq_history.specs.Effects.{Effect, refuses, writes_nothing, writes_both, from_pair, move_effect, squash_effect, listing_effect}
 use Rattle.yq_history.{specs.Effects.printed_by, specs.Causes.{named, no_reading}, specs.Output.{IsOutput, Output, bytes, diff}}
 use Rattle.yq_commands.{specs.Editing.{EditOutcome, unreadable, refused, edited, program_in, program_edits}, specs.Edits.record_between}
 use Rattle.yq_journal.specs.declared.moves.Move.TheVariants as move
-use Rattle.yq_history.specs.declared.fault.Fault.TheVariants as fault
+use Rattle.yq_fault.specs.declared.fault.Fault.TheVariants as fault
 
 -- what the edit of a record does from one text to another
 abbrev pub edit_writes : Record → List ℕ → List ℕ → State → Effect

@@ -6,13 +6,13 @@ use Rattle.yq_journal.{specs.History.{History, text_at, after_edit}, specs.Refus
 use Rattle.yq_journal.specs.declared.fault.JournalFault.TheVariants.{JournalFull}
 use Rattle.yq_args.specs.declared.command.Command.{Command}
 use Rattle.yq_args.specs.declared.command.Command.TheVariants.{Eval, Undo, Redo, History as Lists, Squash, Help}
-use Rattle.yq_history.{specs.declared.fault.Fault.Fault, specs.declared.fault.Fault.TheVariants.NotThere}
+use Rattle.yq_fault.{specs.declared.fault.Fault.Fault, specs.Faults.not_there}
 use Rattle.yq_history.specs.Causes.{Cause, named, no_reading}
 use Rattle.yq_history.specs.Steps.{move_cause, move_next, squash_cause, squash_next, listing_cause}
 use Rattle.yq_commands.specs.Editing.{EditOutcome, unreadable, refused, edited, program_in, program_edits}
 use Rattle.yq_commands.specs.Evaluation.{evaluated, cause_in}
 use Rattle.yq_journal.specs.declared.moves.Move.TheVariants as move
-use Rattle.yq_history.specs.declared.fault.Fault.TheVariants as fault
+use Rattle.yq_fault.specs.declared.fault.Fault.TheVariants as fault
 
 -- an edit to another text wants room in the journal
 abbrev pub room_cause : History → List ℕ → Option Cause
@@ -37,7 +37,7 @@ edit_next h expr (edited text changes) =
 -- why the edit of a file is refused, by what its expression is
 abbrev pub update_cause : Result Program Fault → Option History → Option Cause
 update_cause (Err f) h = Some (named f)
-update_cause (Ok p) None = Some (named NotThere)
+update_cause (Ok p) None = Some (named not_there)
 update_cause (Ok p) (Some h) = edit_cause h (program_edits p (text_at h))
 
 -- the history after it

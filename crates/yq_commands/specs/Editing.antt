@@ -4,11 +4,12 @@ use Rattle.yq_semantics.specs.Program.{Program}
 use Rattle.yq_expr_parser.specs.Parse.{outcome}
 use Rattle.yq_text.{specs.Splice.{Splice, all_done, lengths_done}, specs.declared.edited.Edited.Edited}
 use Rattle.yq_edit_laws.{specs.Carried.edit_of, specs.Edit.Edit}
-use Rattle.yq_history.{specs.declared.fault.Fault.Fault, specs.declared.fault.Fault.TheVariants.OutOfMemory, specs.Causes.IsUnreadable}
+use Rattle.yq_history.specs.Causes.{IsUnreadable}
+use Rattle.yq_fault.{specs.declared.fault.Fault.Fault, specs.declared.fault.Fault.TheVariants.OutOfMemory}
 use Rattle.yq_commands.specs.CommandFaults.{of_parse_kind}
 use Rattle.yq_expr_parser.specs.Outcome as expr
 use Rattle.yq_edit_laws.specs.Edit as edit
-use Rattle.yq_history.specs.declared.fault.Fault.TheVariants as fault
+use Rattle.yq_fault.specs.declared.fault.Fault.TheVariants as fault
 
 -- what an edit gives: this text has no reading, or the program is refused on it, or it gives a text by splices (own)
 pub data EditOutcome : Type 0 where

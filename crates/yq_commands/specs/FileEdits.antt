@@ -4,7 +4,8 @@ use Rattle.std.specs.String.{string_bytes}
 use Rattle.yq_semantics.specs.Program.{Program, Update, updates}
 use Rattle.yq_text.{specs.Splice.Splice, specs.declared.edited.Edited.Edited}
 use Rattle.yq_edit_laws.{specs.Carried.edit_of, specs.Edit.gives, specs.Theorems.IsEdited}
-use Rattle.yq_history.{specs.Unified.IsPrintedDiff, specs.declared.fault.Fault.Fault, specs.declared.report.Report.Report}
+use Rattle.yq_history.{specs.Unified.IsPrintedDiff, specs.declared.report.Report.Report}
+use Rattle.yq_fault.specs.declared.fault.Fault.{Fault}
 use Rattle.yq_store.specs.FileMap.{FileMap}
 use Rattle.yq_args.{specs.declared.command.Command.Command, specs.declared.command.Command.TheVariants.Eval}
 use Rattle.yq_commands.specs.Editing.{program_in}

@@ -1,7 +1,7 @@
 -- What help prints, and how it is answered (own).
 use Rattle.std.specs.Prelude.{◌≡◌, ◌⊎◌, ℕ, true, List, [], ◌∷◌, ◌++◌, Result, MatchResult}
 use Rattle.yq_args.{specs.Named.named, specs.declared.command.Command.Command, specs.declared.command.Command.TheVariants.Help}
-use Rattle.yq_history.{specs.declared.fault.Fault.Fault, specs.declared.fault.Fault.TheVariants.{OutFailed, OutOfMemory}}
+use Rattle.yq_fault.{specs.declared.fault.Fault.Fault, specs.declared.fault.Fault.TheVariants.{OutFailed, OutOfMemory}}
 use Rattle.yq_history.specs.Report.{Report}
 use Rattle.yq_commands.{specs.declared.answer.Answer.Answer, specs.declared.answer.Answer.TheVariants.{Done, NoMatch, Refused}}
 use Rattle.yq_commands.specs.declared.help.TheConstants.{USAGE, DETAILS}

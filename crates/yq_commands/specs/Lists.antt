@@ -7,9 +7,10 @@ use Rattle.yq_commands.{specs.CommandNames.{IsOn, IsNotNamed, file_of}, specs.Co
 use Rattle.yq_commands.{specs.FileEdits.HasEdited, specs.Expecting.{expects_change, works_as_expected}, specs.Help.AnswersHelp}
 use Rattle.yq_commands.{specs.Prints.{prints, prints_change, report_of}, specs.CommandSteps.{cause_of, next_of}}
 use Rattle.yq_args.specs.declared.command.Command.{Command}
-use Rattle.yq_history.{specs.declared.fault.Fault.Fault, specs.declared.fault.Fault.TheVariants.{OutFailed, OutOfMemory}}
-use Rattle.yq_history.{specs.Causes.{Cause, IsFor}, specs.Effects.{Effect, Works}, specs.Output.{IsOutput, Showing}}
-use Rattle.yq_history.{specs.Faults.{is_failure, is_outer_fault, is_output}, specs.Pair.GoodIn, specs.Report.Report}
+use Rattle.yq_fault.{specs.declared.fault.Fault.Fault, specs.declared.fault.Fault.TheVariants.{OutFailed, OutOfMemory}}
+use Rattle.yq_fault.specs.Faults.{is_failure, is_outer_fault, is_output}
+use Rattle.yq_history.{specs.Causes.{Cause, IsFor}, specs.Effects.{Effect, Works}, specs.Output.{IsOutput, Showing}, specs.Pair.GoodIn}
+use Rattle.yq_history.specs.Report.{Report}
 use Rattle.yq_store.{specs.Count.count_plus_one, specs.FileMap.FileMap}
 
 -- the command shares no name with the file and the journal; or it isn't on them, and prints and writes no name

@@ -8,8 +8,9 @@ use Rattle.yq_commands.specs.CommandDone.{CarriesOut, EditsInPlace, EditsOpened,
 use Rattle.yq_commands.{specs.Editing.{EditOutcome, program_edits, program_in}, specs.Evaluation.{evaluated, shows}}
 use Rattle.yq_commands.{specs.Expecting.IsChangeOutput, specs.FileEdits.{GivesEdit, PrintsHeldEdit, PrintsUpdate}, specs.Reads.with_match}
 use Rattle.yq_eval.specs.declared.matched.Match.{Match}
-use Rattle.yq_history.{specs.declared.fault.Fault.Fault, specs.declared.opened.OpenPair.OpenPair, specs.Causes.Cause, specs.Effects.Effect}
+use Rattle.yq_history.{specs.declared.opened.OpenPair.OpenPair, specs.Causes.Cause, specs.Effects.Effect}
 use Rattle.yq_history.{specs.Output.{Showing, Shows, showing_by}, specs.Report.report_by}
+use Rattle.yq_fault.specs.declared.fault.Fault.{Fault}
 use Rattle.yq_journal.specs.State.{State}
 use Rattle.yq_semantics.{specs.Program.is_read, specs.View.program_of, specs.declared.program.Syntax.Syntax}
 use Rattle.yq_store.specs.FileMap.{FileMap}

@@ -2,7 +2,7 @@
 use Rattle.std.specs.Prelude.{◌≡◌, List}
 use Rattle.clap.specs.Words.{Text}
 use Rattle.yq_args.specs.Asked.{WordsError, WordsRefused, full_words}
-use Rattle.yq_history.{specs.declared.fault.Fault.Fault, specs.declared.fault.Fault.TheVariants.{Usage, OutOfMemory}}
+use Rattle.yq_fault.{specs.declared.fault.Fault.Fault, specs.declared.fault.Fault.TheVariants.{Usage, OutOfMemory}}
 use Rattle.yq_failure.specs.declared.failure.Failure.TheVariants as words
 
 -- why words are no command

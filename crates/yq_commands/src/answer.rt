@@ -1,6 +1,6 @@
 //! Answers to commands.
 
-use yq_history::Fault;
+use yq_fault::Fault;
 
 /// The answer to a command.
 #[derive(Clone, Copy, Debug, PartialEq, Eq)]

@@ -5,7 +5,8 @@ ghost use Rattle.yq_history.specs.Report.{report_by};
 ghost use Rattle.yq_commands.specs.Lists as spec;
 
 use crate::{Answer, Out};
-use yq_history::{Fault, Report};
+use yq_fault::Fault;
+use yq_history::Report;
 
 /// The answer to a command that was carried out.
 fn answer_by(is_match: bool) -> Answer

@@ -12,7 +12,7 @@ use std::io;
 use std::io::ErrorKind;
 use std::path::Path;
 use yq_args::{Command, UsageCause, first_name, push_named, usage_text};
-use yq_history::Fault;
+use yq_fault::Fault;
 
 /// The program's words, less its own name.
 pub fn own_words(rt: &HostRuntime) -> Result<Vec<String>, Fault> {

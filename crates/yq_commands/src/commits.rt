@@ -3,10 +3,12 @@ ghost use Rattle.std.specs.Prelude.{◌≡◌, Some, IfOk, IfErr, IsTrue, false,
 ghost use Rattle.yq_text.specs.Splice.{lengths_done};
 ghost use Rattle.yq_commands.{specs.CommandDone.{CallsOfEdit, EditsByAny, LeavesText}, specs.Editing.{LengthsLead, SplicesLead}};
 ghost use Rattle.yq_commands.specs.Edits.{record_between};
-ghost use Rattle.yq_history.{specs.Faults.{is_output, failures_after}, specs.Leaves.{LeavesRefused, KeepsOthers}};
+ghost use Rattle.yq_history.specs.Leaves.{LeavesRefused, KeepsOthers};
+ghost use Rattle.yq_fault.specs.Faults.{is_output, failures_after};
 
 use std::alloc::{AllocError, Global};
-use yq_history::{Fault, OpenPair, carry_out};
+use yq_fault::Fault;
+use yq_history::{OpenPair, carry_out};
 use yq_journal::{Move, Record};
 use yq_store::Store;
 use yq_text::{Edited, Splice};

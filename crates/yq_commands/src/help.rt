@@ -5,7 +5,8 @@ ghost use Rattle.yq_history.specs.Report.{nothing, report_by};
 
 use std::alloc::{AllocError, Global};
 use yq_args::push_named;
-use yq_history::{Fault, Report};
+use yq_fault::Fault;
+use yq_history::Report;
 
 /// The ways to call the program, whose name means `%`.
 pub const USAGE: &str = "\

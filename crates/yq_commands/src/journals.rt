@@ -5,7 +5,7 @@ use std::env::VarError;
 use std::io::ErrorKind;
 use std::{env, fs};
 use yq_args::{Command, UsageCause, journal_in_folder, names_journal};
-use yq_history::Fault;
+use yq_fault::Fault;
 
 /// What the environment sets to the folder of journals.
 const JOURNALS: &str = "YQ_JOURNALS";

@@ -2,15 +2,31 @@
 ghost use Rattle.std.{specs.Prelude.{◌≡◌, ◌≢◌, None, Ok, IfOk, IfErr, OnErr, true, false}, specs.Str.is_utf8};
 ghost use Rattle.yq_semantics.specs.View.{program_of};
 ghost use Rattle.yq_documents.specs.Reading.{read_at};
-ghost use Rattle.yq_history.{specs.Causes.IsUnreadable, specs.Faults.{is_failure, is_output}};
-ghost use Rattle.yq_commands.specs.Editing.{program_in};
+ghost use Rattle.yq_history.specs.Causes.{IsUnreadable};
+ghost use Rattle.yq_fault.specs.Faults.{is_failure, is_output};
+ghost use Rattle.yq_commands.{specs.CommandFaults.of_parse, specs.Editing.program_in};
 
-use crate::faults::parse_fault;
 use std::alloc::Global;
-use yq_expr_parser::parse_expr;
-use yq_history::Fault;
+use yq_expr_parser::{ParseError, ParseKind, parse_expr};
+use yq_fault::Fault;
 use yq_semantics::Program;
 use yq_tree::text_of;
+
+/// Why an expression has no program.
+fn parse_fault(error: ParseError) -> Fault
+    ensures value { result ≡ of_parse error }
+    ensures inside { is_failure result ≡ false }
+    ensures no_output { is_output result ≡ false }
+{
+    match error {
+        ParseError::Memory => Fault::OutOfMemory,
+        ParseError::Fault(fault) => match fault.kind {
+            ParseKind::Syntax => Fault::Syntax,
+            ParseKind::NotInProfile => Fault::NotInProfile,
+            ParseKind::Pattern => Fault::Pattern,
+        },
+    }
+}
 
 /// The program of an expression.
 #[tactic(auto, using(crate::proofs::EditingLaws::parse_refused), unfolding(crate::specs::Editing::program_in))]

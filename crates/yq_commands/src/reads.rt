@@ -3,18 +3,19 @@ ghost use Rattle.std.{specs.Prelude.{◌≡◌, IfOk, IfErr, true, false}, specs
 ghost use Rattle.yq_core.{specs.Values.value_node, specs.Strings.AddsText};
 ghost use Rattle.yq_eval.specs.MatchView.{matches_of};
 ghost use Rattle.yq_semantics.{specs.Program.is_read, specs.View.program_of};
-ghost use Rattle.yq_history.{specs.Faults.{is_failure, is_output}, specs.Output.showing_by};
+ghost use Rattle.yq_history.specs.Output.{showing_by};
+ghost use Rattle.yq_fault.specs.Faults.{is_failure, is_output};
 ghost use Rattle.yq_commands.{specs.Evaluation.{FailsFor, shows}, specs.ProgramAnswers.{PrintsMatch, ShowsProgram}};
 ghost use Rattle.yq_commands.specs.Reads as spec;
 
-use crate::faults::match_fault;
 use crate::reading::utf8_text;
 use std::alloc::{AllocError, Global};
 use yq_args::EvalOptions;
 use yq_core::{Kind, Value, is_true_word};
 use yq_edit_rules::print;
 use yq_eval::{Match, matches};
-use yq_history::{Fault, Report};
+use yq_fault::Fault;
+use yq_history::Report;
 use yq_semantics::Program;
 use yq_tree::read;
 
@@ -120,9 +121,6 @@ pub fn show_read(
 {
     let text = utf8_text(text)?;
     let documents = read(alloc, text.as_bytes())?;
-    let found = match matches(alloc, program, &documents) {
-        Ok(found) => found,
-        Err(error) => return Err(match_fault(error)),
-    };
+    let found = matches(alloc, program, &documents)?;
     Ok(report_matches(alloc, options, &found)?)
 }

@@ -2,12 +2,12 @@
 ghost use Rattle.std.specs.Prelude.{◌≡◌, ◌≢◌, IfOk, IfErr, map, true, Ok};
 ghost use Rattle.yq_commands.specs.WordFaults.{RefusesWords, of_words};
 ghost use Rattle.yq_args.specs.declared.command.Command.TheVariants.{Help};
-ghost use Rattle.yq_history.specs.declared.fault.Fault.TheVariants.{OutOfMemory};
+ghost use Rattle.yq_fault.specs.declared.fault.Fault.TheVariants.{OutOfMemory};
 ghost use Rattle.yq_args.specs.Asked as spec;
 
 use std::alloc::Global;
 use yq_args::{Command, WordsError, read_words};
-use yq_history::Fault;
+use yq_fault::Fault;
 
 /// Why words are no command.
 pub fn words_fault(error: WordsError) -> Fault

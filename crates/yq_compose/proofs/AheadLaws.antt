@@ -9,7 +9,7 @@ pub ahead_all : (ms : List Decoded) → Rise 0 ms → IsAhead ms 0 ms
 ahead_all ms r = record { rise = r; same = λ i le. refl }
 
 -- the first of them apart
-first_apart : (ms : List Decoded) (m : Decoded) → 1 ≤ length ms → m ≡ slice_index_or ms 0 m → ms ≡ m ∷ take (length ms - 1) (drop 1 ms)
+pub first_apart : {A : Type 0} (ms : List A) (m : A) → 1 ≤ length ms → m ≡ slice_index_or ms 0 m → ms ≡ m ∷ take (length ms - 1) (drop 1 ms)
 first_apart [] m some is = absurd (omega (arith, some))
 first_apart (y ∷ ys) m some is = ap (λ z. z ∷ ys) (sym is) ∙ ap (λ zs. m ∷ zs) (sym (take_rest (y ∷ ys) 1))
 

@@ -27,4 +27,4 @@ pub mod PassedLaws
 pub mod BorrowedHeads
 pub mod BorrowedDepths
 pub mod WordHeads
-pub mod QuotedLines
+pub mod WordRowLaws

@@ -1,9 +1,9 @@
--- Heads that begin with a letter or a digit and are on one line.
+-- Heads that begin with a letter, a digit or no ASCII and are on one line.
 use Rattle.std.proofs.Common.{◌≡◌, ℕ, suc, ◌≤◌, true, false, List, [], ◌∷◌, ◌++◌, length, refl, ap, ◌∙◌, arith, inl, inr}
 use Rattle.std.{proofs.lemmas.Bool.cases_Bool, specs.List.prefix_len}
-use Rattle.yq_core.{specs.Plain.holds_break, specs.Runs.run_goes_on, specs.Text.{front, is_feed}}
+use Rattle.yq_core.{specs.Plain.holds_break, specs.Runs.{is_word_byte, run_goes_on}, specs.Text.{front, is_feed}}
 use Rattle.yq_core.{specs.declared.runs.Run.TheVariants.Quoted, proofs.Bools.at_byte}
-use Rattle.yq_row_table.{specs.Reading.is_alphanumeric, proofs.WordFronts.word_unquoted}
+use Rattle.yq_row_table.proofs.WordFronts.{word_unquoted}
 use Rattle.yq_compose.specs.Checking.{begins_tree, borrows_head}
 
 -- no break is where the run goes on
@@ -19,18 +19,18 @@ one_line (b ∷ h) rest n run long = elim (cases_Bool (run_goes_on (Quoted 10) b
       absurd (omega (arith, none, run, long))
 ]
 
-no_tree : (h : List ℕ) → front is_alphanumeric h ≡ true → begins_tree h ≡ false
+pub no_tree : (h : List ℕ) → front is_word_byte h ≡ true → begins_tree h ≡ false
 no_tree [] word = refl
 no_tree (b ∷ bs) word =
     rw (
-      at_byte is_alphanumeric b 124 word refl,
-      at_byte is_alphanumeric b 62 word refl,
-      at_byte is_alphanumeric b 42 word refl,
-      at_byte is_alphanumeric b 91 word refl,
-      at_byte is_alphanumeric b 123 word refl,
+      at_byte is_word_byte b 124 word refl,
+      at_byte is_word_byte b 62 word refl,
+      at_byte is_word_byte b 42 word refl,
+      at_byte is_word_byte b 91 word refl,
+      at_byte is_word_byte b 123 word refl,
     ) refl
 
-pub word_borrowed : (h rest t : List ℕ) (n : ℕ) → front is_alphanumeric h ≡ true → t ≡ h ++ rest → n ≡ prefix_len (run_goes_on (Quoted 10)) t → length h ≤ n → borrows_head h ≡ true
+pub word_borrowed : (h rest t : List ℕ) (n : ℕ) → front is_word_byte h ≡ true → t ≡ h ++ rest → n ≡ prefix_len (run_goes_on (Quoted 10)) t → length h ≤ n → borrows_head h ≡ true
 word_borrowed h rest t n word is run long =
     let line : holds_break h ≡ false = one_line h rest n (run ∙ ap (prefix_len (run_goes_on (Quoted 10))) is) long in
     rw (no_tree h word, line, word_unquoted h word) refl

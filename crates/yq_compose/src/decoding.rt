@@ -3,9 +3,7 @@ ghost use Rattle.std.specs.List.{list_any};
 ghost use Rattle.std.specs.Prelude.{◌≡◌, ◌<◌, ◌++◌, ◌==◌, if◌then◌else◌, length, option_and_then, option_map, string_bytes, true, IfErr};
 ghost use Rattle.std.specs.Prelude.{IfOk, IfSome, IsTrue, List, ℕ};
 ghost use Rattle.yq_core.{specs.Answers.IsOfText, specs.Text.front, specs.Borrowed.borrows_text as is_borrowed_text};
-ghost use Rattle.yq_core.{specs.Nodes.begins_with, specs.Quoted.IsQuotedText, specs.QuotedReading.is_quote};
-ghost use Rattle.yq_core.specs.Scalars.{is_quoted as is_in_quotes};
-ghost use Rattle.yq_row_table.specs.Reading.{is_alphanumeric};
+ghost use Rattle.yq_core.{specs.Quoted.IsQuotedText, specs.Runs.is_word_byte, specs.Scalars.is_quoted as is_in_quotes};
 ghost use Rattle.yq_documents.specs.Decoded.{IsDecodedBy, decoded_view, decoded_head_flow};
 ghost use Rattle.yq_documents.{specs.Reading.{content_is_fit, cut_of, mark_is_fit}, specs.RowReading.row_fits};
 ghost use Rattle.yq_compose.{specs.Deciding.Decides, specs.Decoding.{IsCutInto, IsHeadDecoded, IsKeyDecoded, OfRow}};
@@ -23,6 +21,7 @@ use yq_row_table::Rows;
 use yq_row_walk::head_place;
 use yq_scalar_reader::folding::quoted_content;
 use yq_scalar_reader::plain::holds_break;
+use yq_scalar_reader::quoted_line::is_quoted_line;
 
 /// Whether a backslash is in what is between double quotes, or a quote between single ones.
 fn holds_escape(is_double: bool, inner: &str) -> bool
@@ -30,32 +29,6 @@ fn holds_escape(is_double: bool, inner: &str) -> bool
 {
     let sign = if is_double { b'\\' } else { b'\'' };
     inner.as_bytes().iter().any(|b| *b == sign)
-}
-
-/// Whether the quote in front, one on the same line and no quote, LF or backslash between them are the text.
-#[inline(always)]
-fn is_quoted_run(quote: u8, text: &[u8]) -> bool
-    requires quote { is_quote quote ≡ true }
-    requires front { begins_with quote text.now ≡ true }
-    ensures { IsTrue result → is_borrowed_text text.now ≡ true }
-{
-    let rest = text.split_at(1).1;
-    let n = run_len(Run::Quoted(quote), rest);
-    n + 2 == text.len() && first_is(quote, rest.split_at(n).1)
-}
-
-/// Whether a key or scalar is in quotes on one line, and has no escapes, as sixteen bytes at a time tell.
-#[inline(always)]
-fn is_quoted_line(piece: &[u8]) -> bool
-    ensures { IsTrue result → is_borrowed_text piece.now ≡ true }
-{
-    if first_is(b'"', piece) {
-        return is_quoted_run(b'"', piece);
-    }
-    if first_is(b'\'', piece) {
-        return is_quoted_run(b'\'', piece);
-    }
-    false
 }
 
 /// Whether the text lends what a key or scalar means: it is on one line, and has no escapes.
@@ -91,14 +64,14 @@ fn borrows_head(head: &str) -> bool
     !begins_tree(head.as_bytes()) && borrows_text(head)
 }
 
-/// Whether a letter or a digit is in front.
+/// Whether a letter, a digit or no ASCII is in front.
 fn begins_word(text: &[u8]) -> bool
-    ensures { result ≡ front is_alphanumeric text.now }
+    ensures { result ≡ front is_word_byte text.now }
 {
-    matches!(text, [b'a'..=b'z' | b'A'..=b'Z' | b'0'..=b'9', ..])
+    matches!(text, [b'a'..=b'z' | b'A'..=b'Z' | b'0'..=b'9' | 128..=255, ..])
 }
 
-/// Whether a head with which a text begins begins with a letter or a digit and is on one line: most often
+/// Whether a head with which a text begins begins with a letter, a digit or no ASCII and is on one line: most often
 /// sixteen bytes tell it.
 #[inline(always)]
 fn is_word_head(head: &str, text: &str) -> bool
@@ -194,6 +167,7 @@ fn decoded_row<'t>(
 }
 
 /// What is made of row `i`, where its keys are fit; nothing where its text lends all it spells.
+#[inline(always)]
 pub(crate) fn decoded_of<'t>(
     alloc: Global,
     text: &'t str,

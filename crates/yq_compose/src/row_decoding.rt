@@ -1,7 +1,7 @@
 //! What rows spell, made one after the other where their text doesn't lend it.
 ghost use Rattle.std.specs.Prelude.{◌≡◌, ◌++◌, IfErr, IfOk};
 ghost use Rattle.yq_core.specs.Answers.{IsOfText};
-ghost use Rattle.yq_row_table.specs.View.{rows_of};
+ghost use Rattle.yq_row_table.{specs.View.rows_of, specs.WordRows.AreOtherRows};
 ghost use Rattle.yq_documents.specs.Reading.{cut_of, have_fit_keys};
 ghost use Rattle.yq_compose.{specs.Deciding.Decides, specs.Decoding.{AreDecoded, IsCutInto, list_of_option}};
 
@@ -12,6 +12,7 @@ use yq_documents::Decoded;
 use yq_row_table::Rows;
 
 /// Adds what is made of one more row, if anything is.
+#[inline(always)]
 fn push_decoded<'t>(
     decoded: Vec<Decoded<'t>>,
     row: Option<Decoded<'t>>,
@@ -28,8 +29,35 @@ fn push_decoded<'t>(
     }
 }
 
+/// What is made of the rows of a text that are no word rows, where the keys of each are fit.
+fn decode_others<'t>(
+    alloc: Global,
+    text: &'t str,
+    rows: &Rows<'t>,
+    others: &[usize],
+) -> Result<Vec<Decoded<'t>>, ReadError>
+    requires cut { IsCutInto text.now rows.now }
+    requires others { AreOtherRows rows.now.rows 0 others.now }
+    ensures fits { Decides result (have_fit_keys (rows_of (cut_of text.now))) }
+    ensures decoded { IfOk result (λ ms. AreDecoded text.now ms.items) }
+    ensures fault { IfErr result IsOfText }
+{
+    let mut decoded = Vec::new(alloc);
+    let mut left = others;
+    'rows: while let [row, behind @ ..] = left {
+        let found = match decoded_of(alloc, text, rows, *row) {
+            Ok(found) => found,
+            Err(e) => return Err(e),
+        };
+        decoded = push_decoded(decoded, found)?;
+        left = behind;
+    }
+    decoded.shrink_to_fit();
+    Ok(decoded)
+}
+
 /// What is made of the rows of a text, where the keys of each are fit.
-pub(crate) fn decode_rows<'t>(
+fn decode_each<'t>(
     alloc: Global,
     text: &'t str,
     rows: &Rows<'t>,
@@ -51,4 +79,21 @@ pub(crate) fn decode_rows<'t>(
     }
     decoded.shrink_to_fit();
     Ok(decoded)
+}
+
+/// What is made of the rows of a text, where the keys of each are fit.
+pub(crate) fn decode_rows<'t>(
+    alloc: Global,
+    text: &'t str,
+    rows: &Rows<'t>,
+) -> Result<Vec<Decoded<'t>>, ReadError>
+    requires cut { IsCutInto text.now rows.now }
+    ensures fits { Decides result (have_fit_keys (rows_of (cut_of text.now))) }
+    ensures decoded { IfOk result (λ ms. AreDecoded text.now ms.items) }
+    ensures fault { IfErr result IsOfText }
+{
+    match rows.others() {
+        Some(others) => decode_others(alloc, text, rows, others),
+        None => decode_each(alloc, text, rows),
+    }
 }

@@ -1,5 +1,5 @@
 -- Runs of bytes (own; a reader may skip it: only private clauses cite it).
-use Rattle.std.{specs.Prelude.{ℕ, Bool, ◌||◌, not, ◌==◌, nat_le, if◌then◌else◌}, specs.Int.{w64, trailing_zeros}}
+use Rattle.std.{specs.Prelude.{ℕ, Bool, ◌||◌, ◌&&◌, not, ◌==◌, nat_le, if◌then◌else◌}, specs.Int.{w64, trailing_zeros}}
 use Rattle.yq_core.{specs.Characters.is_text_byte, specs.Text.is_feed, specs.Plain.is_flow_indicator, specs.declared.runs.Run.Run}
 use Rattle.yq_core.specs.declared.runs.Run.TheVariants.{Text, Spaces, Plain, Quoted}
 
@@ -13,6 +13,10 @@ is_stop (Quoted quote) b = b == quote || b == 92 || is_feed b
 -- a byte over which a run goes (own)
 abbrev pub run_goes_on : Run → ℕ → Bool
 run_goes_on run b = not (is_stop run b)
+
+-- an ASCII letter or digit, or a byte of another character than ASCII (own)
+abbrev pub is_word_byte : ℕ → Bool
+is_word_byte b = (nat_le 97 b && nat_le b 122) || (nat_le 65 b && nat_le b 90) || (nat_le 48 b && nat_le b 57) || nat_le 128 b
 
 -- how many of sixteen lanes come before the first one whose bit is set (own)
 abbrev pub first_set : ℕ → ℕ

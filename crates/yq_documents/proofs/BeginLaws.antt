@@ -1,6 +1,6 @@
 -- Which parts of a text are documents, by where its parts end.
-use Rattle.std.proofs.Common.{◌≡◌, ℕ, suc, ◌+◌, true, false, ◌||◌, not, eqb, List, [], ◌∷◌, length, drop, Some, refl, sym, ap, ◌∙◌, arith}
-use Rattle.std.{proofs.Common.eqb-true, proofs.lemmas.Bool.false_from_ne_true, specs.List.slice_get}
+use Rattle.std.proofs.Common.{rules, ◌≡◌, ℕ, ◌+◌, true, false, ◌||◌, not, eqb, List, length, drop, Some, refl, sym, ap, ◌∙◌}
+use Rattle.std.{proofs.lemmas.Bool.false_from_ne_true, specs.List.slice_get}
 use Rattle.yq_outline.proofs.EndsLaws.{drop_at}
 use Rattle.yq_row_table.{specs.Grammar.{begins_document, no_rows}, specs.Rows.{Row, Cut, last, marked}}
 use Rattle.yq_row_table.specs.View.{Bound, bounds_from, bounds_of, RowsView, rows_view}
@@ -19,12 +19,10 @@ begin_is n (last p) = refl
 begin_is n (marked p marker c) = ap (λ b. begins_document marker || b) (begin_is (n + length p.rows) c)
 
 bare_is : (rows : List Row) → not (eqb (0 + length rows) 0) ≡ not (no_rows rows)
-bare_is [] = refl
-bare_is (r ∷ rs) = ap not (false_from_ne_true (eqb (0 + suc (length rs)) 0) (λ e. absurd (omega (arith, eqb-true (0 + suc (length rs)) 0 e))))
+bare_is rows = search (rules, false_from_ne_true)
 
 first_is : (c : Cut) → first_rows (bounds_of c) ≡ begins_bare c
-first_is (last p) = bare_is p.rows
-first_is (marked p marker c) = bare_is p.rows
+first_is c = search (rules, bare_is)
 
 pub document_is : (c : Cut) (s : RowsView) → s ≡ rows_view c → (first_rows s.bounds || not (some_begin s.bounds)) ≡ (begins_bare c || not (has_begin c))
 document_is c s e = ap (λ (x : RowsView). first_rows x.bounds || not (some_begin x.bounds)) e ∙ (λ i. first_is c i || not (begin_is 0 c i))

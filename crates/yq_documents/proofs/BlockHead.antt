@@ -1,13 +1,12 @@
 -- The head that a block scalar is.
-use Rattle.std.proofs.Common.{◌≡◌, ℕ, ℤ, List, drop, Option, Some, None, refl, sym, ap, ◌∙◌, subst}
+use Rattle.std.proofs.Common.{rules, ◌≡◌, ℕ, ℤ, List, drop, Option, Some, None, sym, ap, ◌∙◌, subst}
 use Rattle.yq_core.{specs.Answers.◌>>=◌, specs.Block.{BlockText, block_piece, IsBlockPiece}, specs.BlockContent.block_content}
 use Rattle.yq_core.{specs.BlockReading.{block_at, block_from}, specs.Piece.deeper, specs.declared.piece.Piece.Piece}
 use Rattle.yq_core.proofs.BlockLaws.{block_again}
 use Rattle.yq_documents.specs.RowReading.{string_head, block_head_at}
 
 none_then : (o : Option (BlockText × List ℕ)) → (o >>= λ x. Some (block_piece 0 x.0)) ≡ None → (o >>= λ x. Some (string_head (block_content x.0))) ≡ None
-none_then (Some x) h = cc
-none_then None h = refl
+none_then o h = search rules
 
 pub block_refused : (n : ℤ) (t : List ℕ) → block_from n 0 t ≡ None → block_head_at n t ≡ None
 unfolding block_from

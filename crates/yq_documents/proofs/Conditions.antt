@@ -1,28 +1,19 @@
 -- What is asked of a document, as a test and as a fact.
-use Rattle.std.proofs.Common.{◌≡◌, ℕ, leb, List, [], ◌∷◌, length, true, not, ◌&&◌, refl, ap, bytes_eq, codes, rules}
-use Rattle.std.{proofs.lemmas.Bool.{and_parts, and_from, leb-true, le-leb, not-true}, specs.Str.chars}
+use Rattle.std.{proofs.Common.{◌≡◌, List, [], ◌∷◌, true, ◌&&◌, refl, rules}, proofs.lemmas.Bool.{and_parts, and_from, le-leb, not-true}}
 use Rattle.yq_core.specs.Nodes.{Items, none, item}
-use Rattle.yq_row_table.{specs.Grammar.key_limit, specs.Rows.{Content, Inline, Row}}
-use Rattle.yq_documents.specs.Documents.{IsFit, HasFitKey, HasFitKeys, EachHasFitKeys, ContentHasFitKeys, MarkIsFit, HaveFitKeys}
-use Rattle.yq_documents.specs.Documents.{HasShortRoot}
-use Rattle.yq_documents.specs.Reading.{is_fit, has_fit_key, has_fit_keys, each_has_fit_keys, content_is_fit, mark_is_fit, have_fit_keys}
+use Rattle.yq_row_table.specs.Rows.{Content, Inline, Row}
+use Rattle.yq_documents.specs.Documents.{HasFitKey, HasFitKeys, EachHasFitKeys, ContentHasFitKeys, MarkIsFit, HaveFitKeys, HasShortRoot}
+use Rattle.yq_documents.specs.Reading.{has_fit_key, has_fit_keys, each_has_fit_keys, content_is_fit, mark_is_fit, have_fit_keys}
 use Rattle.yq_documents.specs.Reading.{has_short_root}
 use Rattle.yq_outline.proofs.KeyLaws.{differ, differs}
 use Rattle.yq_core.specs.Nodes as inline
 use Rattle.yq_row_table.specs.Rows as rows
 
--- keys
-fit_is : (key : List ℕ) → is_fit key ≡ true → IsFit key
-fit_is key e = let p = and_parts (not (bytes_eq key (codes "<<"))) (leb (length (chars key)) key_limit) e in (differ key (codes "<<") (not-true _ p.0), leb-true _ _ p.1)
-
-is_fit_of : (key : List ℕ) → IsFit key → is_fit key ≡ true
-is_fit_of key h = and_from (not (bytes_eq key (codes "<<"))) (leb (length (chars key)) key_limit) (ap not (differs key (codes "<<") h.0)) (le-leb _ key_limit h.1)
-
 fit_key_is : (key : inline.Key) → has_fit_key key ≡ true → HasFitKey key
-fit_key_is key h1 = search (rules, fit_is)
+fit_key_is key h1 = search rules
 
 is_fit_key : (key : inline.Key) → HasFitKey key → has_fit_key key ≡ true
-is_fit_key key h1 = search (rules, is_fit_of)
+is_fit_key key h1 = search (rules, and_from, differs, le-leb)
 
 mutual
   fit_keys_are : (n : inline.FlowNode) → has_fit_keys n ≡ true → HasFitKeys n
@@ -58,9 +49,6 @@ is_content_fit : (c : Content) → ContentHasFitKeys c → content_is_fit c ≡ 
 is_content_fit (Inline space node tail) h = are_fit_keys node h
 is_content_fit x h = refl
 
-mark_fit_is : (m : rows.RowMark) → mark_is_fit m ≡ true → MarkIsFit m
-mark_fit_is m h1 = search (rules, differ, not-true)
-
 is_mark_fit : (m : rows.RowMark) → MarkIsFit m → mark_is_fit m ≡ true
 is_mark_fit m h1 = search (rules, differs)
 
@@ -68,7 +56,7 @@ pub keys_are : (rs : List Row) → have_fit_keys rs ≡ true → HaveFitKeys rs
 keys_are [] e = tt
 keys_are (r ∷ rs) e =
     let p = and_parts (mark_is_fit r.mark) (content_is_fit r.content && have_fit_keys rs) e in
-    let q = and_parts (content_is_fit r.content) (have_fit_keys rs) p.1 in (mark_fit_is r.mark p.0, content_fit_is r.content q.0, keys_are rs q.1)
+    let q = and_parts (content_is_fit r.content) (have_fit_keys rs) p.1 in (search (rules, differ, not-true), content_fit_is r.content q.0, keys_are rs q.1)
 
 pub are_keys : (rs : List Row) → HaveFitKeys rs → have_fit_keys rs ≡ true
 are_keys [] h = refl

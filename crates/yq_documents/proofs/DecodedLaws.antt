@@ -1,6 +1,6 @@
 -- What a search finds among what is made of rows.
-use Rattle.std.proofs.Common.{◌≡◌, ℕ, zero, suc, ◌<◌, ◌≤◌, true, false, ltb, List, [], ◌∷◌, length, slice_index_or, Some, None, sym, refl}
-use Rattle.std.{proofs.Common.{ap, ◌∙◌, arith, ltb-true, ltb-false, eq-eqb, ne_eqb}, proofs.lemmas.Bool.{cond-false, cond-true}}
+use Rattle.std.proofs.Common.{rules, ◌≡◌, ℕ, zero, suc, ◌<◌, ◌≤◌, true, false, ltb, List, [], ◌∷◌, length, slice_index_or, Some, None, sym}
+use Rattle.std.{proofs.Common.{refl, ◌∙◌, arith, ltb-true, ltb-false, ne_eqb}, proofs.lemmas.Bool.{cond-false, cond-true}}
 use Rattle.std.{proofs.lemmas.Option.same_Some, specs.List.slice_get, specs.List.Sorted.{IsNonDecreasingBy, IsPartitionPoint}}
 use Rattle.yq_documents.{specs.Decoded.{Rise, decoded_at}, specs.declared.decoded.Decoded.Decoded}
 
@@ -11,11 +11,10 @@ rise_above n (m ∷ ms) zero d r lt = r.0
 rise_above n (m ∷ ms) (suc j) d r lt = let above = rise_above (suc m.row) ms j d r.1 (omega arith) in omega (arith, above, r.0)
 
 pub rises : (n : ℕ) (ms : List Decoded) → Rise n ms → IsNonDecreasingBy (λ m. m.row) ms
-rises n [] r i j d le lt = absurd (omega arith)
 rises n (m ∷ ms) r zero zero d le lt = omega arith
-rises n (m ∷ ms) r (suc i) zero d le lt = absurd (omega arith)
 rises n (m ∷ ms) r zero (suc j) d le lt = let above = rise_above (suc m.row) ms j d r.1 (omega arith) in omega (arith, above)
 rises n (m ∷ ms) r (suc i) (suc j) d le lt = rises (suc m.row) ms r.1 i j d (omega arith) (omega arith)
+rises n _ r _ _ d le lt = absurd (omega arith)
 
 -- nothing is made of a row in front of them
 none_above : (n : ℕ) (ms : List Decoded) (row : ℕ) → Rise n ms → row < n → None ≡ decoded_at row ms
@@ -25,9 +24,7 @@ none_above n (m ∷ ms) row r less = none_above (suc m.row) ms row r.1 (omega (a
 -- what is where the search ends is made of the row, or nothing is
 pub decoded_found : (ms : List Decoded) (row at : ℕ) (m : Decoded) → IsPartitionPoint (λ x. ltb x.row row ≡ true) (λ x. ltb x.row row ≡ false) ms at → slice_get ms at ≡ Some m → m.row ≡ row → Some m ≡ decoded_at row ms
 decoded_found [] row at m h e is = absurd (cc)
-decoded_found (x ∷ ms) row zero m h e is =
-    let same : x ≡ m = same_Some _ _ e in
-    sym e ∙ sym (cond-true _ (Some x) (decoded_at row ms) (eq-eqb row x.row (sym is ∙ ap (λ (y : Decoded). y.row) (sym same))))
+decoded_found (x ∷ ms) row zero m h e is = search (rules, same_Some, cond-true)
 decoded_found (x ∷ ms) row (suc at) m h e is =
     let less = ltb-true _ _ (h.0 0 x (omega arith) (omega arith)) in
     decoded_found ms row at m ((λ k d low lt. h.0 (suc k) d (omega arith) (omega arith)), (λ k d low lt. h.1 (suc k) d (omega arith) (omega arith))) e is

@@ -1,5 +1,5 @@
 -- Documents, read from parts and given by them.
-use Rattle.std.proofs.Common.{◌≡◌, List, [], ◌∷◌, map, Bool, true, ◌&&◌, refl, sym, rules}
+use Rattle.std.proofs.Common.{◌≡◌, List, [], ◌∷◌, map, true, refl, sym, rules}
 use Rattle.std.{proofs.lemmas.Bool.{and_parts, and_from, leb-true, le-leb, cond-true}, proofs.lemmas.Option.cond_some, specs.List.list_all}
 use Rattle.yq_core.specs.Tree.{Node}
 use Rattle.yq_row_table.specs.Rows.{Part}
@@ -19,21 +19,11 @@ is_root : (ls : List Line) (node : Node) → IsRoot ls node → (is_fine (group 
 is_root [] node h = (refl, sym h)
 is_root (l ∷ ls) node h = cond_some (is_fine (group (l ∷ ls))) (value (group (l ∷ ls))) node (stand-complete (l ∷ ls) node h.0 (rules_give h.0 (l ∷ ls) node h.1))
 
--- what the tests of a document are, one after the other
-abbrev Tests : Bool → Bool → Bool → Bool → Bool → Type 0
-Tests a b c d e = (a ≡ true) × (b ≡ true) × (c ≡ true) × (d ≡ true) × (e ≡ true)
-
-tests_are : (a b c d e : Bool) → (a && (b && (c && (d && e)))) ≡ true → Tests a b c d e
-tests_are a b c d e h = search (rules, and_parts)
-
-are_tests : (a b c d e : Bool) → Tests a b c d e → (a && (b && (c && (d && e)))) ≡ true
-are_tests a b c d e h = and_from a _ h.0 (and_from b _ h.1 (and_from c _ h.2 (and_from d e h.3 h.4)))
-
 pub document_is : (p : Part) → is_document p ≡ true → IsDocument p (part_document p)
-document_is p e = search (rules, tests_are, and_parts, root_is, keys_are, unique_is, leb-true, anchors_are, bound_are, short_is)
+document_is p e = search (rules, and_parts, root_is, keys_are, unique_is, leb-true, anchors_are, bound_are, short_is)
 
 pub is_document_of : (p : Part) (d : Document) → IsDocument p d → (is_document p ≡ true) × (part_document p ≡ d)
-is_document_of p d h = search (rules, is_root, le-leb, is_unique, are_bound_of, and_from, are_tests, are_keys, is_short, are_anchors)
+is_document_of p d h = search (rules, is_root, le-leb, is_unique, are_bound_of, and_from, are_keys, is_short, are_anchors)
 
 pub documents_take : (ps : List Part) → list_all is_document ps ≡ true → AreDocuments ps (map part_document ps)
 documents_take [] e = tt
@@ -43,7 +33,4 @@ pub documents_again : (ps : List Part) (ds : List Document) → AreDocuments ps 
 documents_again [] [] h = (refl, refl)
 documents_again [] (d ∷ ds) h = absurd h
 documents_again (p ∷ ps) [] h = absurd h
-documents_again (p ∷ ps) (d ∷ ds) h =
-    let one = is_document_of p d h.0 in
-    let more = documents_again ps ds h.1 in
-    (and_from (is_document p) (list_all is_document ps) one.0 more.0, λ i. one.1 i ∷ more.1 i)
+documents_again (p ∷ ps) (d ∷ ds) h = search (rules, is_document_of, and_from, documents_again ps ds h.1)

@@ -1,13 +1,13 @@
 -- The keys of a node by their places are its keys.
-use Rattle.std.proofs.Common.{◌≡◌, ℕ, ◌+◌, ◌-◌, true, false, cond, ◌&&◌, eqb, List, [], ◌∷◌, ◌++◌, length, take, drop, refl, sym, ap, ◌∙◌}
-use Rattle.std.{proofs.Common.{arith, append_assoc, length-append, get_or, subst, ◌<◌}, specs.Prelude.String}
-use Rattle.std.{specs.declared.alloc.Global.Global, proofs.lemmas.List.{take_at, drop_at, drop_more}}
+use Rattle.std.proofs.Common.{rules, ◌≡◌, ℕ, ◌+◌, ◌-◌, true, false, cond, ◌&&◌, eqb, List, [], ◌∷◌, ◌++◌, length, take, drop, refl, sym, ap}
+use Rattle.std.{proofs.Common.{◌∙◌, append_assoc, length-append, get_or, ◌<◌}, specs.Prelude.String, specs.declared.alloc.Global.Global}
+use Rattle.std.proofs.lemmas.List.{take_at, drop_at, drop_more}
 use Rattle.yq_core.{specs.declared.piece.Piece.Piece, specs.declared.inline.Inline.Inline, specs.View.{inline_view, items_end, entries_end}}
 use Rattle.yq_core.specs.Nodes.{Key, bare, keyed, Sep, last, comma, FlowNode, empty, alias, scalar, coll, anchored, Items, none, item}
 use Rattle.yq_core.specs.Nodes.{key_text, sep_text, node_text, flow_items_text, opening_bracket}
 use Rattle.yq_core.specs.Places.{Placed, placed, sequence, mapping, Parts, holder, key_placed, anchored_node, locate, locate_items}
 use Rattle.yq_core.{proofs.NodesWrittenLaws.node_then, specs.Spans.{HasSpans, PartsHaveSpans}}
-use Rattle.yq_documents.specs.Reading.{is_fit, has_fit_key, has_fit_keys, each_has_fit_keys}
+use Rattle.yq_documents.specs.Reading.{has_fit_key, has_fit_keys, each_has_fit_keys}
 use Rattle.yq_documents.specs.KeyReading.{EndsIn, key_place_fits, node_fits, form_fits, parts_fit}
 
 pub past : (whole a t : List ℕ) → EndsIn whole (a ++ t) → EndsIn whole t
@@ -26,16 +26,10 @@ past_key whole (keyed p b g) t h = past whole g t (past whole (58 ∷ []) (g ++ 
 
 -- a key is where its place says
 piece_there : (whole p rest : List ℕ) → EndsIn whole (p ++ rest) → take (length whole - length (p ++ rest) + length p - (length whole - length (p ++ rest))) (drop (length whole - length (p ++ rest)) whole) ≡ p
-piece_there whole p rest h =
-    let long : length whole ≡ length h.0 + length (p ++ rest) = ap length h.1 ∙ length-append h.0 (p ++ rest) in
-    let start : length whole - length (p ++ rest) ≡ length h.0 = omega (arith, long) in
-    let size : length whole - length (p ++ rest) + length p - (length whole - length (p ++ rest)) ≡ length p = omega arith in
-    let there : drop (length whole - length (p ++ rest)) whole ≡ p ++ rest = (λ i. drop (start i) (h.1 i)) ∙ drop_at h.0 (p ++ rest) (length h.0) refl in
-    (λ i. take (size i) (there i)) ∙ take_at p rest (length p) refl
+piece_there whole p rest h = search (rules, length-append, drop_at, take_at)
 
 key_there : (whole : List ℕ) (key : Key) (t : List ℕ) → EndsIn whole (key_text key t) → key_place_fits whole (key_placed (length whole) (key_text key t) key) ≡ has_fit_key key
-key_there whole bare t h = refl
-key_there whole (keyed p b g) t h = ap is_fit (piece_there whole p (b ++ (58 ∷ (g ++ t))) h)
+key_there whole key t h = search (rules, piece_there)
 
 -- the same of nodes
 held : (whole : List ℕ) (k : ℕ) (parts : Parts) → form_fits whole (holder k parts) ≡ parts_fit whole parts
@@ -69,13 +63,7 @@ mutual
 
 -- an entry of the code is one of those that are
 pub entry_stands : (t : List ℕ) (xs : List (String Global × Piece × Inline)) (i : ℕ) (x : String Global × Piece × Inline) → i < length xs → x ≡ get_or xs i x → PartsHaveSpans t (entries_end (drop i xs)) → HasSpans t (inline_view x.2)
-entry_stands t xs i x within is h =
-    let e : drop i xs ≡ x ∷ drop (i + 1) xs = drop_more xs i x within ∙ ap (λ y. y ∷ drop (i + 1) xs) (sym is) in
-    let here : PartsHaveSpans t (entries_end (x ∷ drop (i + 1) xs)) = subst (λ l. PartsHaveSpans t (entries_end l)) e h in
-    here.1
+entry_stands t xs i x within is h = search (rules, drop_more)
 
 pub item_stands : (t : List ℕ) (xs : List Inline) (i : ℕ) (x : Inline) → i < length xs → x ≡ get_or xs i x → PartsHaveSpans t (items_end (drop i xs)) → HasSpans t (inline_view x)
-item_stands t xs i x within is h =
-    let e : drop i xs ≡ x ∷ drop (i + 1) xs = drop_more xs i x within ∙ ap (λ y. y ∷ drop (i + 1) xs) (sym is) in
-    let here : PartsHaveSpans t (items_end (x ∷ drop (i + 1) xs)) = subst (λ l. PartsHaveSpans t (items_end l)) e h in
-    here.1
+item_stands t xs i x within is h = search (rules, drop_more)

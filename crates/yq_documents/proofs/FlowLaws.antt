@@ -1,6 +1,6 @@
 -- The items and entries of flow collections, one after the other.
-use Rattle.std.proofs.Common.{◌≡◌, ℕ, zero, suc, ◌+◌, ◌<◌, ◌≤◌, true, false, ltb, List, [], ◌∷◌, length, drop, get_or, Option, Some, None}
-use Rattle.std.proofs.Common.{refl, sym, ap, ◌∙◌, ⊎_elim, arith, String, string_bytes}
+use Rattle.std.proofs.Common.{rules, ◌≡◌, ℕ, zero, suc, ◌+◌, ◌<◌, ◌≤◌, true, false, ltb, List, [], ◌∷◌, length, drop, get_or, Option, Some}
+use Rattle.std.proofs.Common.{None, refl, sym, ap, ◌∙◌, ⊎_elim, arith, String, string_bytes}
 use Rattle.std.{proofs.lemmas.Bool.{false≢true, ltb-true, lt-ltb, cases_lt}, proofs.lemmas.List.{drop_more, drop_all}}
 use Rattle.std.{specs.declared.alloc.Global.Global, specs.Str.bytes_eq}
 use Rattle.yq_core.{specs.declared.piece.Piece.Piece, specs.Paths.{To, Nth}, specs.Tree.{Children, key_label}}
@@ -23,10 +23,9 @@ item_there (x ∷ is) zero d lt = refl
 item_there (x ∷ is) (suc i) d lt = item_there is i d (omega (arith, lt))
 
 no_item : (is : List Inline) (i : ℕ) → length is ≤ i → labelled_at (Nth i) (items_tree is) ≡ None
-no_item [] zero h = refl
-no_item [] (suc i) h = refl
 no_item (x ∷ is) zero h = absurd (omega (arith, h))
 no_item (x ∷ is) (suc i) h = no_item is i (omega (arith, h))
+no_item [] _ h = refl
 
 pub item_found : (is : List Inline) (i : ℕ) (x d : Inline) → true ≡ ltb i (length is) → x ≡ get_or is i d → Some (key_label None, placed_tree (inline_view x)) ≡ labelled_at (Nth i) (items_tree is)
 item_found is i x d lt at = ap (λ (y : Inline). Some (key_label None, placed_tree (inline_view y))) at ∙ sym (item_there is i d (ltb-true i (length is) (sym lt)))
@@ -36,17 +35,11 @@ item_missing is i ge = ⊎_elim (λ lt. absurd (false≢true (ge ∙ lt-ltb i (l
 
 pub entry_found : (key : List ℕ) (es : List Field) (i : ℕ) (e d : Field) (s : List ℕ) (all : Option Labelled) → i < length es → e ≡ get_or es i d → s ≡ string_bytes e.0 → bytes_eq s key ≡ true →
     labelled_at (To key) (entries_tree (drop i es)) ≡ all → Some (key_label (Some s), placed_tree (inline_view e.2)) ≡ all
-entry_found key es i e d s all lt at text same so_far =
-    let next : drop i es ≡ e ∷ drop (i + 1) es = drop_more es i d lt ∙ ap (λ (f : Field). f ∷ drop (i + 1) es) (sym at) in
-    let here : labelled_at (To key) (entries_tree (e ∷ drop (i + 1) es)) ≡ Some (key_label (Some s), placed_tree (inline_view e.2)) = rw (text, rw text at same) refl in
-    sym here ∙ (ap (λ (l : List Field). labelled_at (To key) (entries_tree l)) (sym next) ∙ so_far)
+entry_found key es i e d s all lt at text same so_far = search (rules, drop_more)
 
 pub entry_past : (key : List ℕ) (es : List Field) (i : ℕ) (e d : Field) (s : List ℕ) (all : Option Labelled) → i < length es → e ≡ get_or es i d → s ≡ string_bytes e.0 → bytes_eq s key ≡ false →
     labelled_at (To key) (entries_tree (drop i es)) ≡ all → labelled_at (To key) (entries_tree (drop (i + 1) es)) ≡ all
-entry_past key es i e d s all lt at text other so_far =
-    let next : drop i es ≡ e ∷ drop (i + 1) es = drop_more es i d lt ∙ ap (λ (f : Field). f ∷ drop (i + 1) es) (sym at) in
-    let on : labelled_at (To key) (entries_tree (e ∷ drop (i + 1) es)) ≡ labelled_at (To key) (entries_tree (drop (i + 1) es)) = rw (rw text at other) refl in
-    sym on ∙ (ap (λ (l : List Field). labelled_at (To key) (entries_tree l)) (sym next) ∙ so_far)
+entry_past key es i e d s all lt at text other so_far = search (rules, drop_more)
 
 pub entry_missing : (key : List ℕ) (es : List Field) (i : ℕ) (all : Option Labelled) → length es ≤ i → labelled_at (To key) (entries_tree (drop i es)) ≡ all → None ≡ all
 entry_missing key es i all ge so_far = ap (λ (l : List Field). labelled_at (To key) (entries_tree l)) (sym (drop_all i es ge)) ∙ so_far
@@ -57,7 +50,6 @@ no_key key [] = refl
 no_key key (x ∷ is) = no_key key is
 
 pub no_index : (i : ℕ) (es : List Field) → labelled_at (Nth i) (entries_tree es) ≡ None
-no_index zero [] = refl
-no_index (suc i) [] = refl
 no_index zero (e ∷ es) = no_index zero es
 no_index (suc i) (e ∷ es) = no_index i es
+no_index _ [] = refl

@@ -1,45 +1,38 @@
 -- The head of a row is that of its content.
-use Rattle.std.proofs.Common.{◌≡◌, ℕ, ℤ, ◌-◌, arith, Bool, true, false, cond, not, eqb, List, [], ◌∷◌, ◌++◌, length, drop, Option, Some}
-use Rattle.std.proofs.Common.{None, refl, sym, ap, ◌∙◌, ⊎_elim, append-nil, length-append, subst}
+use Rattle.std.proofs.Common.{rules, ◌≡◌, ℕ, ℤ, ◌-◌, Bool, true, false, cond, eqb, List, [], ◌∷◌, ◌++◌, length, drop, Option, Some, None}
+use Rattle.std.proofs.Common.{refl, sym, ap, ◌∙◌, ⊎_elim, append-nil, length-append, subst}
 use Rattle.std.{proofs.lemmas.Bool.{false≢true, cond_both, and_parts, cases_Bool}, proofs.lemmas.List.drop_at}
 use Rattle.std.{proofs.lemmas.Str.IsCharBoundary-at_seam, specs.Str.{IsUtf8, IsCharBoundary}}
 use Rattle.yq_core.{specs.declared.block_header.BlockStyle.BlockStyle, specs.Block.{style_indicator, BlockText, block_text, IsBlock}}
-use Rattle.yq_core.{specs.Answers.◌>>=◌, specs.Piece.deeper, specs.Plain.holds_break, specs.Scalar.plain_of, specs.Text.is_empty}
-use Rattle.yq_core.{proofs.BlockLaws.block_again, specs.Inline.{depth_limit, IsInlineAt}}
-use Rattle.yq_core.specs.Nodes.{FlowNode, empty, alias, scalar, coll, anchored, node_text, flow_items_text, is_empty_node, IsFlowNode}
-use Rattle.yq_core.specs.Places.{placed, mapping, sequence, Parts, holder, locate, locate_items}
-use Rattle.yq_core.specs.Scalars.{IsScalarAt, is_quoted, begins_scalar, scalar_content, scalar_of}
+use Rattle.yq_core.{specs.Answers.◌>>=◌, specs.Piece.deeper, specs.Scalar.plain_of, specs.Text.is_empty, proofs.BlockLaws.block_again}
+use Rattle.yq_core.specs.Inline.{depth_limit, IsInlineAt}
+use Rattle.yq_core.specs.Nodes.{FlowNode, scalar, coll, anchored, node_text, is_empty_node, IsFlowNode}
+use Rattle.yq_core.specs.Places.{placed, Parts, holder, locate, locate_items}
+use Rattle.yq_core.specs.Scalars.{IsScalarAt, is_quoted, scalar_content, scalar_of}
 use Rattle.yq_core.{specs.Trees.{scalar_node, placed_tree, tree_of, node_head}, proofs.NodeAgain.{is_anchored, takes_unanchored}}
 use Rattle.yq_core.{proofs.InlineLaws.inline_again, proofs.NodesPieceLaws.{front_not, scalar_begins, scalar_some}}
 use Rattle.yq_core.{proofs.TreeLaws.node_tree, proofs.NodesWrittenLaws.node_then, proofs.OneLine.one_line}
-use Rattle.yq_row_table.{specs.Grammar.IsContent, specs.Rows.{Content, Nothing, Inline, Block}, specs.View.{anchor_cut, content_cut}}
+use Rattle.yq_row_table.{specs.Grammar.IsContent, specs.Rows.{Content, Block}, specs.View.{anchor_cut, content_cut}}
 use Rattle.yq_documents.{specs.KeyReading.EndsIn, specs.Reading.{has_fit_keys, content_is_fit}}
 use Rattle.yq_documents.specs.RowReading.{placed_head, is_short_plain, is_block_head, string_head, block_head_at, fit_head, node_head_at}
 use Rattle.yq_documents.{specs.RowReading.read_head, proofs.FlowKeyLaws.keys_there}
 use Rattle.yq_outline.specs.Lines.{head_of}
-use Rattle.yq_core.specs.declared.block_header.BlockStyle.TheVariants as styles
 use Rattle.yq_core.specs.declared.style.Place.TheVariants as places
 use Rattle.yq_core.specs.Tree as trees
 
 -- an inline node that is read is its head
 holder_head : (s c e k : ℕ) (parts : Parts) → placed_head (placed None s c e (holder k parts)) ≡ Some (placed_tree (placed None s c e (holder k parts)))
-holder_head s c e k parts =
-    elim (eqb k 125) as (λ x. placed_head (placed None s c e (cond x (mapping parts) (sequence parts))) ≡ Some
-    (placed_tree (placed None s c e (cond x (mapping parts) (sequence parts))))) [ true ↦ refl | false ↦ refl ]
+holder_head s c e k parts = search rules
 
 placed_head_is : (total : ℕ) (node : FlowNode) (rest : List ℕ) → is_anchored node ≡ false → placed_head (locate total node rest) ≡ node_head node
 unfolding locate tree_of
-placed_head_is total empty rest a = refl
-placed_head_is total (alias n) rest a = refl
-placed_head_is total (scalar p) rest a = refl
 placed_head_is total (coll k g is) rest a = (let t = node_text (coll k g is) rest in holder_head (total - length t) (total - length t) (total - length rest) k (locate_items total k is rest)) ∙ ap Some (node_tree total (coll k g is) rest)
 placed_head_is total (anchored n g node) rest a = absurd (false≢true (sym a))
+placed_head_is total _ rest a = refl
 
 -- where a text ends
 pub ends_drop : (whole t : List ℕ) → EndsIn whole t → drop (length whole - length t) whole ≡ t
-ends_drop whole t h =
-    let start : length whole - length t ≡ length h.0 = omega (arith, ap length h.1, length-append h.0 t) in
-    (λ i. drop (start i) (h.1 i)) ∙ drop_at h.0 t (length h.0) refl
+ends_drop whole t h = search (rules, length-append, drop_at)
 
 -- a head, where keys are fit
 abbrev pub fitting : Bool → Option trees.Node → Option (Option trees.Node)
@@ -50,13 +43,7 @@ pub node_again : (whole : List ℕ) (n : ℤ) (node : FlowNode) (rest : List ℕ
 node_again whole n node rest a some ends h =
     let at : ℕ = length whole - length (node_text node rest) in
     let p = locate (length whole) node rest in
-    let is : IsInlineAt places.Block n 0 at whole p = record {
-      node = node;
-      rest = rest;
-      stands = ends_drop whole (node_text node rest) ends;
-      inline = record { valid = h; something = ap not some };
-      places = refl;
-    } in
+    let is : IsInlineAt places.Block n 0 at whole p = search (rules, ends_drop) in
     ap (λ o. o >>= fit_head whole) (inline_again places.Block n 0 at whole p is)
     ∙ (λ i. fitting (keys_there whole node rest ends i) (placed_head_is (length whole) node rest a i))
 
@@ -84,34 +71,21 @@ by_nothing whole n t = refl
 -- a scalar's head
 short_is : (p : List ℕ) → is_quoted p ≡ false → is_short_plain p ≡ true → scalar_of p ≡ plain_of p
 unfolding scalar_of
-short_is p quoted h =
-    let broken : holds_break p ≡ false = ⊎_elim {0, 0, 0} (λ e. absurd (false≢true (sym (ap not e) ∙ (and_parts _ (not (holds_break p)) h).1))) (λ e. e) (cases_Bool (holds_break p)) in
-    rw quoted (ap plain_of (one_line p broken))
+short_is p quoted h = search (rules, ⊎_elim, false≢true, and_parts, cases_Bool, one_line)
 
 string_is : (p : List ℕ) → is_quoted p ≡ true → string_head (scalar_content p) ≡ Some (scalar_node (scalar_of p))
 unfolding scalar_of scalar_content
 string_is p q = rw q refl
 
 pub scalar_some_is : (n : ℤ) (p rest : List ℕ) → IsScalarAt false (Some (deeper n)) p rest → (is_empty p ≡ false) × (is_block_head p ≡ false)
-scalar_some_is n [] rest h = absurd (omega (arith, scalar_some false (Some (deeper n)) [] rest h))
-scalar_some_is n (b ∷ bs) rest h =
-    let begins = scalar_begins false (Some (deeper n)) (b ∷ bs) rest h in
-    let bar : eqb b 124 ≡ false = front_not (begins_scalar false) 124 (λ cs. refl) (b ∷ (bs ++ rest)) begins in
-    let more : eqb b 62 ≡ false = front_not (begins_scalar false) 62 (λ cs. refl) (b ∷ (bs ++ rest)) begins in
-    (refl, rw (bar, more) refl)
+scalar_some_is n p rest h = search (rules, scalar_some, scalar_begins, front_not)
 
 scalar_is : (whole : List ℕ) (n : ℤ) (p rest : List ℕ) → EndsIn whole (node_text (scalar p) rest) →
     IsFlowNode false (Some (deeper n)) depth_limit (scalar p) rest → read_head whole n p (node_text (scalar p) rest) ≡ Some (node_head (scalar p))
 unfolding IsFlowNode tree_of
 scalar_is whole n p rest ends h =
     let s = scalar_some_is n p rest h in
-    ⊎_elim {0, 0, 0}
-    (λ q. by_quotes whole n p (node_text (scalar p) rest) s.0 s.1 q ∙ ap (λ x. Some x) (string_is p q))
-    (λ q. ⊎_elim {0, 0, 0}
-    (λ e. by_plain whole n p (node_text (scalar p) rest) s.0 s.1 q e ∙ ap (λ x. Some (Some (scalar_node x))) (sym (short_is p q e)))
-    (λ e. by_node whole n p (node_text (scalar p) rest) s.0 s.1 q e ∙ node_again whole n (scalar p) rest refl refl ends h)
-    (cases_Bool (is_short_plain p)))
-    (cases_Bool (is_quoted p))
+    search (rules, ⊎_elim, by_quotes, string_is, by_plain, short_is, by_node, node_again, cases_Bool)
 
 -- the head of a node without an anchor
 abbrev pub Opens : ℕ → Type 0
@@ -123,13 +97,7 @@ opens k = cond_both (eqb k 125) 123 91 Opens (λ _ t. (refl, (refl, refl))) (λ 
 unnamed_is : (whole : List ℕ) (n : ℤ) (node : FlowNode) (rest : List ℕ) → is_anchored node ≡ false → EndsIn whole (node_text node rest) → IsFlowNode false (Some (deeper n)) depth_limit node rest →
     read_head whole n (node_text node []) (node_text node rest) ≡ fitting (has_fit_keys node) (node_head node)
 unfolding node_text
-unnamed_is whole n empty rest a ends h = by_nothing whole n rest
-unnamed_is whole n (alias name) rest a ends h = by_node whole n (42 ∷ (name ++ [])) (42 ∷ (name ++ rest)) refl refl refl refl ∙ node_again whole n (alias name) rest refl refl ends h
-unnamed_is whole n (scalar p) rest a ends h = ap (λ q. read_head whole n q (p ++ rest)) (append-nil p) ∙ scalar_is whole n p rest ends h
-unnamed_is whole n (coll k g is) rest a ends h =
-    let o = opens k (g ++ flow_items_text k is []) in
-    by_node whole n (node_text (coll k g is) []) (node_text (coll k g is) rest) refl o.0 o.1.0 o.1.1 ∙ node_again whole n (coll k g is) rest refl refl ends h
-unnamed_is whole n (anchored name g node) rest a ends h = absurd (false≢true (sym a))
+unnamed_is whole n node rest a ends h = search (rules, by_nothing, by_node, node_again, append-nil, scalar_is, opens, false≢true)
 
 written_is : (whole : List ℕ) (n : ℤ) (node : FlowNode) (rest : List ℕ) → is_anchored node ≡ false → EndsIn whole (node_text node [] ++ rest) → IsFlowNode false (Some (deeper n)) depth_limit node rest →
     read_head whole n (node_text node []) (node_text node [] ++ rest) ≡ fitting (has_fit_keys node) (node_head node)
@@ -139,21 +107,14 @@ written_is whole n node rest a ends h =
 node_is : (whole : List ℕ) (n : ℤ) (node : FlowNode) (rest : List ℕ) → EndsIn whole ((anchor_cut node).2 ++ rest) → IsFlowNode false (Some (deeper n)) depth_limit node rest →
     read_head whole n (anchor_cut node).2 ((anchor_cut node).2 ++ rest) ≡ fitting (has_fit_keys node) (node_head node)
 unfolding IsFlowNode
-node_is whole n empty rest ends h = by_nothing whole n rest
-node_is whole n (alias name) rest ends h = written_is whole n (alias name) rest refl ends h
-node_is whole n (scalar p) rest ends h = written_is whole n (scalar p) rest refl ends h
-node_is whole n (coll k g is) rest ends h = written_is whole n (coll k g is) rest refl ends h
-node_is whole n (anchored name g node) rest ends h = written_is whole n node rest (takes_unanchored node h.3) ends h.4
+node_is whole n node rest ends h = search (rules, by_nothing, written_is, takes_unanchored)
 
 -- a block scalar's
 pub block_marks : (style : BlockStyle) (t : List ℕ) → is_block_head (style_indicator style ∷ t) ≡ true
-block_marks styles.Literal t = refl
-block_marks styles.Folded t = refl
+block_marks style t = search rules
 
 block_is : (whole : List ℕ) (n : ℤ) (space : List ℕ) (b : BlockText) (rest : List ℕ) → IsBlock (deeper n) b rest → read_head whole n (style_indicator b.style ∷ b.indicators) (block_text b rest) ≡ Some (head_of (Block space None b))
-block_is whole n space b rest h =
-    by_block whole n (style_indicator b.style ∷ b.indicators) (block_text b rest) refl (block_marks b.style b.indicators)
-    ∙ rw (block_again (deeper n) b rest h) refl
+block_is whole n space b rest h = search (rules, by_block, block_marks, block_again)
 
 -- the text of a row's content from its head on
 abbrev pub head_text : Content → List ℕ → List ℕ
@@ -161,12 +122,8 @@ head_text c rest = (content_cut c).3 ++ ((content_cut c).4 ++ ((content_cut c).5
 
 -- the head of a row's content, where its keys are fit
 pub head_is : (whole : List ℕ) (n : ℤ) (c : Content) (rest : List ℕ) → EndsIn whole (head_text c rest) → IsContent n c rest → read_head whole n (content_cut c).3 (head_text c rest) ≡ fitting (content_is_fit c) (head_of c)
-head_is whole n (Nothing tail) rest ends h = by_nothing whole n (tail ++ rest)
-head_is whole n (Inline space node tail) rest ends h = node_is whole n node (tail ++ rest) ends h.1.valid
-head_is whole n (Block space anchor block) rest ends h = block_is whole n space block rest h.2
+head_is whole n c rest ends h = search (rules, by_nothing, node_is, block_is)
 
 -- where a text ends in a whole one
 pub ends_seam : (whole t : List ℕ) → EndsIn whole t → IsUtf8 t → IsCharBoundary whole (length whole - length t)
-ends_seam whole t h u =
-    let there : length h.0 ≡ length whole - length t = omega (arith, ap length h.1, length-append h.0 t) in
-    subst (λ (n : ℕ). IsCharBoundary whole n) there (IsCharBoundary-at_seam whole h.0 t h.1 u)
+ends_seam whole t h u = search (rules, length-append, IsCharBoundary-at_seam)

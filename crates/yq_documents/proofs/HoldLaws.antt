@@ -1,5 +1,5 @@
 -- What is kept of a text that reads as documents tells it.
-use Rattle.std.proofs.Common.{◌≡◌, ℕ, ◌<◌, ◌≤◌, List, length, Option, Some, option_map, Bool, true, false, sym, ap, ◌∙◌, subst, arith}
+use Rattle.std.proofs.Common.{rules, ◌≡◌, ℕ, ◌<◌, ◌≤◌, List, length, Some, option_map, Bool, true, false, sym, ap, ◌∙◌, subst, arith}
 use Rattle.std.{proofs.lemmas.List.length-map, proofs.lemmas.Option.{same_Some, slice_get-map, slice_get_within}}
 use Rattle.std.specs.List.{list_any, slice_get}
 use Rattle.yq_outline.{specs.Comments.head_comment, specs.Names.{is_reference, line_names}, specs.Extents.IsRowsView}
@@ -8,7 +8,7 @@ use Rattle.yq_row_table.{specs.Grammar.IsCut, specs.Rows.{Row, Part}, specs.View
 use Rattle.yq_text.specs.Limit.{text_limit}
 use Rattle.yq_documents.{specs.Documents.{Document, document_parts}, specs.Holding.Holds, specs.Located.document_at}
 use Rattle.yq_documents.{specs.Decoded.IsDecoded, specs.Reading.{all_documents, cut_of, part_document, documents_of}}
-use Rattle.yq_documents.{specs.Stretches.{HasText, document_lines, part_rows, stretch_of}, specs.declared.decoded.Decoded.Decoded}
+use Rattle.yq_documents.{specs.Stretches.{HasText, document_lines}, specs.declared.decoded.Decoded.Decoded}
 use Rattle.yq_documents.{specs.declared.documents.DocumentRows.DocumentRows, proofs.PartRows.has_part}
 
 same_stretch : (x y : Stretch) → x.first ≡ y.first → x.end ≡ y.end → x ≡ y
@@ -43,16 +43,7 @@ module _ {t u : List ℕ} {s : RowsView} {ds : List DocumentRows} {ms : List Dec
     pub place_held : (x : Stretch) → x.first ≡ d.first → x.end ≡ d.end → n < length (documents_of u) → HasText u n s x
     place_held x first end within =
         let p = h.places n d part.0 there part.1 in
-        let rows : length (part_rows (slice_get (document_parts (cut_of t)) n)) ≡ length part.0.rows = ap (λ (o : Option Part). length (part_rows o)) part.1 in
-        let stop : x.end ≡ (stretch_of n t).end = omega (arith, end, p.end, p.first, rows) in
-        record {
-          cut = cut_held;
-          sound = sound_held;
-          rows = rows_held;
-          small = view_held;
-          place = same_stretch x (stretch_of n t) (first ∙ p.first) stop ∙ ap (stretch_of n) e;
-          there = within;
-        }
+        search (rules, part, cut_held, sound_held, rows_held, view_held, same_stretch)
 
   pub agrees_held : (i : ℕ) (r : Row) → slice_get (rows_of (cut_of u)) i ≡ Some r → IsDecoded (length u) (cut_of u) ms i r
   agrees_held = subst (λ (x : List ℕ). (i : ℕ) (r : Row) → slice_get (rows_of (cut_of x)) i ≡ Some r → IsDecoded (length x) (cut_of x) ms i r) e h.agrees

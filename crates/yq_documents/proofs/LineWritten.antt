@@ -1,38 +1,27 @@
 -- What is written in the lines of a document, by the pieces of their rows.
-use Rattle.std.proofs.Common.{◌≡◌, ◌⊎◌, inl, inr, ◌<◌, ◌≤◌, ◌-◌, ℕ, zero, suc, List, [], ◌∷◌, ◌++◌, length, Option, Some, None, true, false}
-use Rattle.std.{proofs.Common.{refl, sym, ap, ◌∙◌, subst, arith}, proofs.lemmas.Bool.{cases_lt, false≢true}, proofs.lemmas.Option.same_Some}
-use Rattle.std.{specs.List.slice_get, specs.Prelude.is_some}
+use Rattle.std.proofs.Common.{rules, ◌≡◌, ◌<◌, ◌≤◌, ℕ, zero, suc, List, [], ◌∷◌, length, Option, Some, None, true, false, refl, sym, ap}
+use Rattle.std.{proofs.Common.{◌∙◌, arith}, proofs.lemmas.Bool.{cases_lt, false≢true}, proofs.lemmas.Option.same_Some, specs.List.slice_get}
+use Rattle.std.specs.Prelude.{is_some}
 use Rattle.yq_core.{specs.Scalars.{scalar_content, is_quoted}, specs.Quoted.IsQuotedText, specs.Text.upto, specs.Tree.Node}
 use Rattle.yq_outline.{specs.Outline.{Line, key_of}, specs.Extents.lines_before_mark, specs.Lines.head_of, specs.RowWalk.line_rank}
 use Rattle.yq_outline.{specs.declared.line_position.Position.Position, specs.declared.line_position.Stretch.Stretch}
 use Rattle.yq_outline.{proofs.RowLaws.{IsBeside, beside_in, no_comments}, proofs.WalkMarks.{key_here, key_none}}
 use Rattle.yq_outline.proofs.WalkPositions.{Located}
-use Rattle.yq_row_table.{specs.Grammar.{AreRows, Limit, limit_after}, specs.Rows.{Row, parent_indent, rows_text}}
-use Rattle.yq_row_table.specs.View.{RowsView, Slices, slices}
+use Rattle.yq_row_table.{specs.Grammar.{AreRows, Limit, limit_after}, specs.Rows.Row, specs.View.{RowsView, Slices, slices}}
 use Rattle.yq_documents.{specs.RowReading.name_in, specs.Stretches.{HasText, IsLineIn, document_lines, number_of}}
 use Rattle.yq_documents.proofs.WalkedRows.{line_here, located_in, own_line, stands}
 use Rattle.yq_documents.proofs.RowLineLaws.{anchor_is, content_quoted, tail_is}
 use Rattle.yq_outline.specs.Comments as comments
 
--- of no text there is no comment
-no_line_comment : comments.line_comment [] ≡ None
-unfolding upto
-no_line_comment = refl
-
 -- a quoted head is a quoted scalar
 rows_quoted : (limit : Limit) (rs : List Row) (end rest : List ℕ) → AreRows limit rs end rest → (i : ℕ) (r : Row) → slice_get rs i ≡ Some r → is_quoted (slices r).head ≡ true → IsQuotedText (slices r).head
 rows_quoted limit [] end rest h i r e = absurd (cc)
-rows_quoted limit (x ∷ rs) end rest h zero r e =
-    let same : x ≡ r = same_Some _ _ e in
-    subst (λ (y : Row). is_quoted (slices y).head ≡ true → IsQuotedText (slices y).head) same (content_quoted (parent_indent x) x.content (rows_text rs (end ++ rest)) h.0.content)
+rows_quoted limit (x ∷ rs) end rest h zero r e = search (rules, same_Some, content_quoted)
 rows_quoted limit (x ∷ rs) end rest h (suc i) r e = rows_quoted (limit_after x) rs end rest h.1 i r e
 
 module _ {t : List ℕ} {n : ℕ} {s : RowsView} {d : Stretch} (x : HasText t n s d) {q : Position} (at : IsLineIn t n q) where
   pub head_quoted : is_quoted (slices (located_in x at).row).head ≡ true → IsQuotedText (slices (located_in x at).row).head
-  head_quoted =
-      let h = stands x in
-      let k = located_in x at in
-      rows_quoted h.limit h.rows h.end h.rest h.valid (q.row - d.first) k.row k.there
+  head_quoted = search (rules, stands, located_in, rows_quoted)
 
   module _ (l : Line) (e : slice_get (document_lines n t) (number_of n t q) ≡ Some l) where
     abbrev k : Located s d (stands x) q
@@ -61,11 +50,7 @@ module _ {t : List ℕ} {n : ℕ} {s : RowsView} {d : Stretch} (x : HasText t n 
 
     -- a head
     pub head_some : true ≡ is_some l.head → head_of (located_in x at).row.content ≡ l.head
-    head_some some = go (cases_lt q.line (length k.row.dashes))
-      where
-        go : (q.line < length k.row.dashes) ⊎ (length k.row.dashes ≤ q.line) → head_of k.row.content ≡ l.head
-        go (inl less) = absurd (false≢true (sym (some ∙ ap is_some (ap (λ (y : Line). y.head) (sym own) ∙ (k.agrees.dash less).1))))
-        go (inr past) = sym (k.agrees.mark (omega (arith, past, k.within))).1 ∙ ap (λ (y : Line). y.head) own
+    head_some some = search (rules, cases_lt, false≢true, own)
 
     -- an anchor and a tail
     module _ (b : ℕ) (agrees : (y : Slices) → slice_get s.rows q.row ≡ Some y → b ≡ lines_before_mark y) where
@@ -79,12 +64,12 @@ module _ {t : List ℕ} {n : ℕ} {s : RowsView} {d : Stretch} (x : HasText t n 
       anchor_last past piece is = ap name_in (is (slices k.row) k.pieces) ∙ (anchor_is k.row.content ∙ sym (beside.mark (omega (arith, past, counted, k.within))).0)
 
       pub tail_before : q.line < b → comments.line_comment [] ≡ l.line_comment
-      tail_before less = no_line_comment ∙ sym (beside.dash (omega (arith, less, counted))).1
+      unfolding upto
+      tail_before less = refl ∙ sym (beside.dash (omega (arith, less, counted))).1
 
       pub tail_last : b ≤ q.line → (piece : List ℕ) → ((y : Slices) → slice_get s.rows q.row ≡ Some y → piece ≡ y.tail) → comments.line_comment piece ≡ l.line_comment
       tail_last past piece is = ap comments.line_comment (is (slices k.row) k.pieces ∙ tail_is k.row.content) ∙ sym (beside.mark (omega (arith, past, counted, k.within))).1
 
 -- a head that isn't there
 pub head_none : (o : Option Node) → false ≡ is_some o → None ≡ o
-head_none None e = refl
-head_none (Some a) e = absurd (false≢true e)
+head_none o e = search (rules, false≢true)

@@ -1,6 +1,6 @@
 -- Documents by the numbers of their parts, and where parts are.
-use Rattle.std.proofs.Common.{◌≡◌, ℕ, zero, suc, ◌+◌, ◌-◌, ◌<◌, ◌≤◌, eqb, List, [], ◌∷◌, ◌++◌, length, drop, Option, Some, None, option_map}
-use Rattle.std.proofs.Common.{Bool, true, false, cond, ◌&&◌, ◌||◌, not, refl, sym, ap, ◌∙◌, arith, append-nil, length-append}
+use Rattle.std.proofs.Common.{rules, ◌≡◌, ℕ, zero, suc, ◌+◌, ◌-◌, ◌<◌, ◌≤◌, eqb, List, [], ◌∷◌, ◌++◌, length, drop, Option, Some, None}
+use Rattle.std.proofs.Common.{option_map, Bool, true, false, cond, ◌&&◌, ◌||◌, not, refl, sym, ap, ◌∙◌, arith, append-nil, length-append}
 use Rattle.std.{proofs.Math.Seq.drop-append-add, proofs.lemmas.Bool.{eq-eqb, eqb-true, false≢true}, proofs.lemmas.Option.same_Some}
 use Rattle.std.specs.List.{slice_get}
 use Rattle.yq_row_table.{specs.Grammar.begins_document, specs.Rows.{Row, Part, Cut, last, marked}, specs.Splices.nth_part}
@@ -24,20 +24,10 @@ part_there c k p e = number_is (begins_bare c || not (has_begin c)) k c p e
 -- ---- the number by the bounds of parts
 
 pub part_here : (is : Bool) (n k : ℕ) (b : Bound) (bs rest : List Bound) → bs ≡ b ∷ rest → true ≡ (is && eqb n 0) → Some k ≡ number_in is n k bs
-part_here is n k b bs rest e found = go is n found ∙ sym (ap (number_in is n k) e)
-  where
-    go : (is : Bool) (n : ℕ) → true ≡ (is && eqb n 0) → Some k ≡ number_in is n k (b ∷ rest)
-    go true zero f = refl
-    go true (suc n) f = absurd (omega (arith, eqb-true (suc n) 0 (sym f)))
-    go false n f = absurd (false≢true (sym f))
+part_here is n k b bs rest e found = search (rules, eqb-true, false≢true)
 
 pub part_later : (is : Bool) (n k : ℕ) (b : Bound) (bs rest : List Bound) → bs ≡ b ∷ rest → false ≡ (is && eqb n 0) → number_in is n k bs ≡ number_in (begins_document b.marker) (cond is (n - 1) n) (k + 1) rest
-part_later is n k b bs rest e other = ap (number_in is n k) e ∙ go is n other
-  where
-    go : (is : Bool) (n : ℕ) → false ≡ (is && eqb n 0) → number_in is n k (b ∷ rest) ≡ number_in (begins_document b.marker) (cond is (n - 1) n) (k + 1) rest
-    go true zero f = absurd (false≢true (f ∙ eq-eqb 0 0 refl))
-    go true (suc n) f = ap (λ (j : ℕ). number_in (begins_document b.marker) j (k + 1) rest) (omega arith)
-    go false n f = refl
+part_later is n k b bs rest e other = search (rules, false≢true, eq-eqb)
 
 -- this number, if there is such a document
 abbrev if_there : ℕ → Option Part → Option ℕ
@@ -52,24 +42,14 @@ number_told true (suc n) k m (marked q marker c) = number_told (begins_document 
 number_told false n k m (marked q marker c) = number_told (begins_document marker) n (k + 1) (m + length q.rows) c ∙ ap (λ (j : ℕ). if_there j (slice_get (parts_from (begins_document marker) c) n)) (omega arith)
 
 pub document_told : (c : Cut) (s : RowsView) (n : ℕ) → s ≡ rows_view c → number_in (first_rows s.bounds || not (some_begin s.bounds)) n 0 s.bounds ≡ document_part n c
-document_told c s n is =
-    (λ i. number_in (document_is c s is i) n 0 (is i).bounds)
-    ∙ (number_told (begins_bare c || not (has_begin c)) n 0 0 c ∙ ap (λ (j : ℕ). if_there j (slice_get (document_parts c) n)) (omega arith))
+document_told c s n is = search (rules, document_is, number_told)
 
 -- a document that has a number
 pub document_found : (c : Cut) (n k : ℕ) → Some k ≡ document_part n c → (p : Part) × (slice_get (document_parts c) n ≡ Some p) × (k ≡ part_number n c)
-document_found c n k e = go (slice_get (document_parts c) n) refl e
-  where
-    go : (o : Option Part) → slice_get (document_parts c) n ≡ o → Some k ≡ if_there (part_number n c) o → (p : Part) × (slice_get (document_parts c) n ≡ Some p) × (k ≡ part_number n c)
-    go None at e = absurd (cc)
-    go (Some p) at e = (p, at, same_Some _ _ e)
+document_found c n k e = search (rules, same_Some)
 
 pub document_missing : (c : Cut) (n : ℕ) → None ≡ document_part n c → slice_get (document_parts c) n ≡ None
-document_missing c n e = go (slice_get (document_parts c) n) e
-  where
-    go : (o : Option Part) → None ≡ if_there (part_number n c) o → o ≡ None
-    go None e = refl
-    go (Some p) e = absurd (cc)
+document_missing c n e = search rules
 
 -- ---- the rows of parts
 
@@ -101,7 +81,4 @@ next_told zero n (marked p marker c) b e h = ap (λ (x : Bound). x.rows) (sym (s
 next_told (suc i) n (marked p marker c) b e h = next_told i (n + length p.rows) c b e (omega (arith, h)) ∙ omega arith
 
 pub start_agrees : (s : RowsView) (c : Cut) (i : ℕ) (b : Bound) → s ≡ rows_view c → (i ≡ 0 → ⊥) → i < length s.bounds → slice_get s.bounds (i - 1) ≡ Some b → b.rows ≡ rows_to i c
-start_agrees s c i b is some within at =
-    let before : suc (i - 1) ≡ i = omega (arith, some) in
-    next_told (i - 1) 0 c b (ap (λ (x : RowsView). slice_get x.bounds (i - 1)) (sym is) ∙ at) (omega (arith, before, within, ap (λ (x : RowsView). length x.bounds) is))
-    ∙ omega (arith, ap (λ j. rows_to j c) before)
+start_agrees s c i b is some within at = search (rules, next_told)

@@ -1,15 +1,14 @@
 -- The rows of a document among those of a text.
-use Rattle.std.proofs.Common.{◌≡◌, ℕ, zero, suc, ◌+◌, ◌-◌, ◌<◌, ◌≤◌, List, [], ◌∷◌, ◌++◌, length, map, take, drop, Some, true, refl, sym}
-use Rattle.std.{proofs.Common.{ap, ◌∙◌, subst, arith, length-append}, proofs.lemmas.Bool.and_parts}
+use Rattle.std.proofs.Common.{rules, ◌≡◌, ℕ, zero, suc, ◌+◌, ◌-◌, ◌<◌, ◌≤◌, List, [], ◌∷◌, ◌++◌, length, map, take, drop, Some, true, refl}
+use Rattle.std.{proofs.Common.{sym, ap, ◌∙◌, subst, arith, length-append}, proofs.lemmas.Bool.and_parts}
 use Rattle.std.{proofs.lemmas.List.{drop-map, length-map, length-drop, take_at, map-append}, specs.List.{list_all, slice_get}}
-use Rattle.yq_core.{specs.Inline.depth_limit, specs.Anchors.names_of}
-use Rattle.yq_outline.{specs.Group.group, specs.LinesReading.{have_one_anchor_each, are_bound}, specs.Sound.is_sound_outline}
-use Rattle.yq_outline.{specs.Lines.lines_of_rows, specs.RowWalk.{HasDocument, HasRows}, specs.declared.line_position.Stretch.Stretch}
+use Rattle.yq_core.specs.Inline.{depth_limit}
+use Rattle.yq_outline.{specs.Group.group, specs.Sound.is_sound_outline, specs.Lines.lines_of_rows, specs.RowWalk.{HasDocument, HasRows}}
+use Rattle.yq_outline.specs.declared.line_position.Stretch.{Stretch}
 use Rattle.yq_row_table.{specs.Grammar.{IsCut, unlimited, AreRows}, specs.Rows.{Row, Part, Cut}, specs.Splices.{nth_part, behind_part}}
 use Rattle.yq_row_table.{specs.View.{slices, rows_of, RowsView, rows_view}, proofs.splices.PartPlaces.part_in}
-use Rattle.yq_documents.{specs.Documents.document_parts, specs.Reading.{all_documents, is_document, have_fit_keys, has_short_root, root_of}}
-use Rattle.yq_documents.{specs.PartNumbers.part_number, specs.LinesInRows.document_row}
-use Rattle.yq_documents.proofs.PartNumberLaws.{part_there, rows_there, rows_within}
+use Rattle.yq_documents.{specs.Documents.document_parts, specs.Reading.{all_documents, is_document}, specs.PartNumbers.part_number}
+use Rattle.yq_documents.{specs.LinesInRows.document_row, proofs.PartNumberLaws.{part_there, rows_there, rows_within}}
 
 -- a document's rows are among those of a cut, after so many others
 pub part_begins : (c : Cut) (n : ℕ) (p : Part) → slice_get (document_parts c) n ≡ Some p → (more : List Row) × (drop (document_row n c) (rows_of c) ≡ p.rows ++ more)
@@ -17,11 +16,7 @@ part_begins c n p at = let b = rows_there (part_number n c) c in (b.0, b.1 ∙ a
 
 -- a document's lines are sound
 sound_part : (p : Part) → is_document p ≡ true → is_sound_outline depth_limit (group (lines_of_rows p.rows)) ≡ true
-sound_part p e =
-    let fit = and_parts (have_fit_keys p.rows) _ e in
-    let short = and_parts (has_short_root p.rows) _ fit.1 in
-    let one = and_parts (have_one_anchor_each (lines_of_rows p.rows)) _ short.1 in
-    (and_parts (are_bound [] (names_of (root_of p))) _ one.1).1
+sound_part p e = search (rules, and_parts)
 
 -- each part is a document
 pub each : (ps : List Part) → list_all is_document ps ≡ true → (i : ℕ) (p : Part) → slice_get ps i ≡ Some p → is_document p ≡ true

@@ -29,13 +29,9 @@ cut_is t c h = ap cut_or (scan_again t c h)
 pub text_read : (t : List ℕ) (c : Cut) → IsCut t c → all_documents c ≡ true → checked_at t ≡ Some (cut_of t)
 text_read t c h e = text_again t c h e ∙ ap Some (sym (cut_is t c h))
 
--- a text without a cut
-not_cut : (o : Option Cut) → read_view o ≡ None → (o >>= checked) ≡ None
-not_cut o h1 = search rules
-
 pub scan_fails : (t : List ℕ) (e : ReadError) → ReadFails e (read_view (scan_at t)) → ReadFails e (checked_at t)
 unfolding checked_at
-scan_fails t e h1 = search (rules, not_cut)
+scan_fails t e h1 = search (rules)
 
 pub read_takes : (bytes : List ℕ) (c : Cut) → read_at bytes ≡ Some c → ReadsDocuments bytes (documents c)
 unfolding read_at

@@ -1,14 +1,14 @@
 -- Documents that are read are ready for the meaning of updates.
 use Rattle.std.proofs.Common.{◌≡◌, ℕ, ℤ, zero, suc, ◌+◌, eqb, Bool, true, false, cond, List, [], ◌∷◌, ◌++◌, map, Option, Some, None, refl}
-use Rattle.std.{proofs.Common.{sym, ap, ◌∙◌, subst, rules}, specs.List.{list_all, slice_get}, proofs.lemmas.Bool.{and_parts, false≢true}}
+use Rattle.std.{proofs.Common.{sym, ◌∙◌, subst, rules}, specs.List.{list_all, slice_get}, proofs.lemmas.Bool.{and_parts, false≢true}}
 use Rattle.std.proofs.lemmas.Option.{none-some}
 use Rattle.yq_core.{specs.Shapes.{IsShaped, AreShaped, AreItems, AreKeyed}, specs.Tree.{Node, Children, children_of}}
 use Rattle.yq_core.{specs.Nodes.{Items, IsFlowNode}, specs.Trees.{tree_of, items_tree, with_name, node_head}}
-use Rattle.yq_outline.{specs.Outline.{LineMark, Bare, Line}, specs.ShapedLines.{HeadIsShaped, HeadsAreShaped, ShapedByLines, ShapedIsTree}}
-use Rattle.yq_outline.{specs.Sound.is_entry_line, specs.Lines.{head_of, lines_from, row_lines, lines_of_rows}}
+use Rattle.yq_outline.{specs.Outline.Line, specs.ShapedLines.{HeadIsShaped, HeadsAreShaped, ShapedByLines, ShapedIsTree}}
+use Rattle.yq_outline.{specs.Sound.is_entry_line, specs.Lines.{head_of, lines_from, lines_of_rows}}
 use Rattle.yq_row_table.specs.Grammar.{Limit, limit_after, IsContent, AreRows, AreParts, IsCut, begins_document}
-use Rattle.yq_row_table.specs.Rows.{Content, Row, Part, Cut, last, marked, parent_indent}
-use Rattle.yq_documents.specs.Documents.{Document, IsRoot, IsDocument, ReadsDocuments, with_part, parts_from, document_parts, lead_of}
+use Rattle.yq_row_table.specs.Rows.{Content, Row, Part, Cut, last, marked}
+use Rattle.yq_documents.specs.Documents.{Document, IsDocument, ReadsDocuments, with_part, parts_from, document_parts, lead_of}
 use Rattle.yq_documents.{specs.Reading.{part_document, is_document, all_documents, cut_of}, specs.TreeEdits.lead_by}
 use Rattle.yq_documents.specs.Ready.{begins_no_node, part_is_block, IsReady, TextIsReady}
 use Rattle.yq_documents.{proofs.DocumentLaws.{document_is, documents_again}, proofs.ReadLaws.cut_is}
@@ -75,8 +75,7 @@ both_shaped (l ∷ xs) ys h k = (h.0, both_shaped xs ys h.1 k)
 
 rows_shaped : (limit : Limit) (rs : List Row) (end rest : List ℕ) → AreRows limit rs end rest → HeadsAreShaped (lines_of_rows rs)
 rows_shaped limit [] end rest h = tt
-rows_shaped limit (r ∷ rs) end rest h =
-    both_shaped (row_lines r) (lines_of_rows rs) (from_shaped _ r.column r.dashes r.mark r.content (head_shaped (parent_indent r) r.content _ h.0.content)) (rows_shaped (limit_after r) rs end rest h.1)
+rows_shaped limit (r ∷ rs) end rest h = search (rules, both_shaped, from_shaped, head_shaped, rows_shaped (limit_after r) rs end rest h.1)
 
 -- ---- parts of a cut
 
@@ -96,11 +95,8 @@ parts_shaped started is (marked p marker c) h = with_shaped is p _ (rows_shaped 
 first_lead : {n : ℕ} {l : Line} {ls : List Line} {cs : Children} (lead : List (List ℕ)) → lines.AreEntryLines n (l ∷ ls) cs → lead_by true cs lead ≡ l.head_comment
 first_lead lead (lines.entry lev mark u es is) = refl
 
-bare_entry : {m : LineMark} → m ≡ Bare → is_entry_line m ≡ true → ⊥
-bare_entry e h = false≢true (sym (ap is_entry_line e) ∙ h)
-
 node_lead : {n : ℕ} {l : Line} {ls : List Line} {v : Node} (lead : List (List ℕ)) → lines.IsNodeOutline n (l ∷ ls) v → is_entry_line l.mark ≡ true → lead_by true (children_of v) lead ≡ l.head_comment
-node_lead lead h1 h2 = search (rules, bare_entry, first_lead)
+node_lead lead h1 h2 = search (rules, false≢true, first_lead)
 
 -- the first line has the lead as its head comment
 abbrev LeadAbove : List (List ℕ) → List Line → Type 0
@@ -112,21 +108,12 @@ row_above above column [] mark c ls = refl
 row_above above column (n ∷ ns) mark c ls = refl
 
 rows_above : (p : Part) → LeadAbove (lead_of p) (lines_of_rows p.rows)
-rows_above p = go p.rows
-  where
-    go : (rs : List Row) → LeadAbove (lead_of (record p { rows = rs })) (lines_of_rows rs)
-    go rs = search (rules, row_above)
-
-root_led : (ls : List Line) (v : Node) (lead : List (List ℕ)) → IsRoot ls v → LeadAbove lead ls → lead_by (begins_no_node ls) (children_of v) lead ≡ lead
-root_led ls v lead h1 h2 = search (rules, node_lead)
+rows_above p = search (rules, row_above)
 
 -- ---- documents
 
-root_shaped : ShapedByLines → (ls : List Line) (v : Node) → IsRoot ls v → HeadsAreShaped ls → IsShaped v
-root_shaped h1 ls v h2 h3 = search rules
-
 part_ready : ShapedByLines → ShapedIsTree → (p : Part) (d : Document) → IsDocument p d → HeadsAreShaped (lines_of_rows p.rows) → IsReady (begins_no_node (lines_of_rows p.rows)) d
-part_ready shaped law p d h heads = search (rules, root_shaped, root_led, rows_above)
+part_ready shaped law p d h heads = search (rules, node_lead, rows_above)
 
 parts_ready : ShapedByLines → ShapedIsTree → (ps : List Part) → PartsAreShaped ps → list_all is_document ps ≡ true → (i : ℕ) (d : Document) → slice_get (map part_document ps) i ≡ Some d →
     IsReady (part_is_block (slice_get ps i)) d

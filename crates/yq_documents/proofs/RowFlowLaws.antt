@@ -1,13 +1,11 @@
 -- The alias or flow collection in a row's head is where its pieces say.
-use Rattle.std.proofs.Common.{◌≡◌, ℕ, ℤ, ◌-◌, true, false, not, List, [], ◌∷◌, ◌++◌, length, Some, None, refl, sym, ap, ◌∙◌, ⊎_elim}
+use Rattle.std.proofs.Common.{rules, ◌≡◌, ℕ, ℤ, ◌-◌, true, false, List, [], ◌++◌, length, Some, None, refl, sym, ap, ◌∙◌, ⊎_elim}
 use Rattle.std.{proofs.Common.{append-nil, subst}, proofs.lemmas.Bool.{false≢true, cases_Bool}}
-use Rattle.yq_core.{specs.Answers.◌>>=◌, specs.Block.style_indicator, specs.Piece.deeper, specs.Text.is_empty}
-use Rattle.yq_core.specs.Inline.{depth_limit, IsInlineAt}
-use Rattle.yq_core.specs.Nodes.{FlowNode, empty, alias, scalar, coll, anchored, node_text, flow_items_text, is_empty_node, IsFlowNode}
-use Rattle.yq_core.{specs.Nodes.without_anchor, specs.Places.locate, specs.Scalars.is_quoted, proofs.InlineLaws.inline_again}
-use Rattle.yq_core.{proofs.NodeAgain.{is_anchored, takes_unanchored}, proofs.NodesWrittenLaws.node_then}
-use Rattle.yq_row_table.{specs.Grammar.IsContent, specs.Rows.{Content, Nothing, Inline, Block, parent_indent}}
-use Rattle.yq_row_table.specs.View.{Slices, anchor_cut, content_cut}
+use Rattle.yq_core.{specs.Answers.◌>>=◌, specs.Piece.deeper, specs.Text.is_empty, specs.Inline.{depth_limit, IsInlineAt}}
+use Rattle.yq_core.{specs.Nodes.{FlowNode, empty, scalar, node_text, is_empty_node, IsFlowNode, without_anchor}, specs.Places.locate}
+use Rattle.yq_core.{specs.Scalars.is_quoted, proofs.InlineLaws.inline_again, proofs.NodeAgain.{is_anchored, takes_unanchored}}
+use Rattle.yq_core.proofs.NodesWrittenLaws.{node_then}
+use Rattle.yq_row_table.{specs.Grammar.IsContent, specs.Rows.{Content, parent_indent}, specs.View.{Slices, anchor_cut, content_cut}}
 use Rattle.yq_documents.specs.FlowReading.{alias_or_collection, node_flow_at, head_flow_at, content_core, row_flow}
 use Rattle.yq_documents.{specs.KeyReading.EndsIn, specs.RowReading.{is_short_plain, is_block_head, HasHead}}
 use Rattle.yq_documents.proofs.HeadLaws.{ends_drop, head_text, opens, block_marks, scalar_some_is}
@@ -21,13 +19,7 @@ pub node_again : (whole : List ℕ) (n : ℤ) (node : FlowNode) (rest : List ℕ
 node_again whole n node rest some ends h =
     let at : ℕ = length whole - length (node_text node rest) in
     let p = locate (length whole) node rest in
-    let is : IsInlineAt places.Block n 0 at whole p = record {
-      node = node;
-      rest = rest;
-      stands = ends_drop whole (node_text node rest) ends;
-      inline = record { valid = h; something = ap not some };
-      places = refl;
-    } in
+    let is : IsInlineAt places.Block n 0 at whole p = search (rules, ends_drop) in
     ap (λ o. o >>= alias_or_collection) (inline_again places.Block n 0 at whole p is)
 
 -- which head a text is
@@ -66,25 +58,13 @@ scalar_is : (whole : List ℕ) (n : ℤ) (p rest : List ℕ) → EndsIn whole (n
 unfolding IsFlowNode
 scalar_is whole n p rest ends h =
     let s = scalar_some_is n p rest h in
-    ⊎_elim {0, 0, 0}
-    (λ q. by_quotes whole n p (node_text (scalar p) rest) s.0 s.1 q ∙ scalar_none (length whole) p rest)
-    (λ q. ⊎_elim {0, 0, 0}
-    (λ e. by_plain whole n p (node_text (scalar p) rest) s.0 s.1 q e ∙ scalar_none (length whole) p rest)
-    (λ e. by_node whole n p (node_text (scalar p) rest) s.0 s.1 q e ∙ node_again whole n (scalar p) rest refl ends h)
-    (cases_Bool (is_short_plain p)))
-    (cases_Bool (is_quoted p))
+    search (rules, ⊎_elim, by_quotes, scalar_none, by_plain, by_node, node_again, cases_Bool)
 
 -- a node without an anchor
 unnamed_is : (whole : List ℕ) (n : ℤ) (node : FlowNode) (rest : List ℕ) → is_anchored node ≡ false → EndsIn whole (node_text node rest) → IsFlowNode false (Some (deeper n)) depth_limit node rest →
     head_flow_at whole n (node_text node []) (node_text node rest) ≡ alias_or_collection (locate (length whole) node rest)
 unfolding node_text
-unnamed_is whole n empty rest a ends h = by_nothing whole n rest ∙ empty_none (length whole) rest
-unnamed_is whole n (alias name) rest a ends h = by_node whole n (42 ∷ (name ++ [])) (42 ∷ (name ++ rest)) refl refl refl refl ∙ node_again whole n (alias name) rest refl ends h
-unnamed_is whole n (scalar p) rest a ends h = ap (λ q. head_flow_at whole n q (p ++ rest)) (append-nil p) ∙ scalar_is whole n p rest ends h
-unnamed_is whole n (coll k g is) rest a ends h =
-    let o = opens k (g ++ flow_items_text k is []) in
-    by_node whole n (node_text (coll k g is) []) (node_text (coll k g is) rest) refl o.0 o.1.0 o.1.1 ∙ node_again whole n (coll k g is) rest refl ends h
-unnamed_is whole n (anchored name g node) rest a ends h = absurd (false≢true (sym a))
+unnamed_is whole n node rest a ends h = search (rules, by_nothing, empty_none, by_node, node_again, append-nil, scalar_is, opens, false≢true)
 
 written_is : (whole : List ℕ) (n : ℤ) (node : FlowNode) (rest : List ℕ) → is_anchored node ≡ false → EndsIn whole (node_text node [] ++ rest) → IsFlowNode false (Some (deeper n)) depth_limit node rest →
     head_flow_at whole n (node_text node []) (node_text node [] ++ rest) ≡ alias_or_collection (locate (length whole) node rest)
@@ -94,19 +74,12 @@ written_is whole n node rest a ends h =
 node_is : (whole : List ℕ) (n : ℤ) (node : FlowNode) (rest : List ℕ) → EndsIn whole ((anchor_cut node).2 ++ rest) → IsFlowNode false (Some (deeper n)) depth_limit node rest →
     head_flow_at whole n (anchor_cut node).2 ((anchor_cut node).2 ++ rest) ≡ alias_or_collection (locate (length whole) (without_anchor node) rest)
 unfolding IsFlowNode
-node_is whole n empty rest ends h = by_nothing whole n rest ∙ empty_none (length whole) rest
-node_is whole n (alias name) rest ends h = written_is whole n (alias name) rest refl ends h
-node_is whole n (scalar p) rest ends h = written_is whole n (scalar p) rest refl ends h
-node_is whole n (coll k g is) rest ends h = written_is whole n (coll k g is) rest refl ends h
-node_is whole n (anchored name g node) rest ends h = written_is whole n node rest (takes_unanchored node h.3) ends h.4
+node_is whole n node rest ends h = search (rules, by_nothing, empty_none, written_is, takes_unanchored)
 
 -- that of a row's content
 pub flow_is : (whole : List ℕ) (n : ℤ) (c : Content) (rest : List ℕ) → EndsIn whole (head_text c rest) → IsContent n c rest →
     head_flow_at whole n (content_cut c).3 (head_text c rest) ≡ alias_or_collection (locate (length whole) (content_core c) (tail_of c ++ rest))
-flow_is whole n (Nothing tail) rest ends h = by_nothing whole n (tail ++ rest) ∙ empty_none (length whole) (tail ++ rest)
-flow_is whole n (Inline space node tail) rest ends h = node_is whole n node (tail ++ rest) ends h.1.valid
-flow_is whole n (Block space anchor block) rest ends h =
-    by_block whole n (style_indicator block.style ∷ block.indicators) (head_text (Block space anchor block) rest) refl (block_marks block.style block.indicators) ∙ empty_none (length whole) (block.tail ++ rest)
+flow_is whole n c rest ends h = search (rules, by_nothing, empty_none, node_is, by_block, head_text, block_marks)
 
 -- the alias or flow collection in a row's head that is read again
 pub flow_again : (whole : List ℕ) (s : Slices) (t : List ℕ) (h : HasHead s t) → EndsIn whole t → head_flow_at whole s.parent s.head t ≡ row_flow (length whole) h.row h.rest

@@ -1,5 +1,5 @@
 -- What walks over the rows of a text tell of the lines of a document.
-use Rattle.std.proofs.Common.{◌≡◌, ℕ, ◌+◌, ◌-◌, ◌<◌, List, length, Option, Some, None, option_map, sym, ap, ◌∙◌, subst, arith}
+use Rattle.std.proofs.Common.{rules, ◌≡◌, ℕ, ◌+◌, ◌-◌, ◌<◌, List, length, Option, Some, option_map, sym, ap, ◌∙◌, subst, arith}
 use Rattle.std.{proofs.lemmas.List.length-map, proofs.lemmas.Option.{same_Some, slice_get-map}, specs.List.slice_get}
 use Rattle.yq_outline.{specs.Group.group, specs.Outline.{Line, value}, specs.Lines.lines_of_rows}
 use Rattle.yq_outline.specs.RowWalk.{HasDocument, HasRows, IsLine, IsPosition, OfLine, line_number}
@@ -49,17 +49,11 @@ module _ {t : List ℕ} {n : ℕ} {s : RowsView} {d : Stretch} (x : HasText t n 
   pub line_back : {q : Position} → IsLine s d q → IsLineIn t n q
   line_back {q} at =
       let k = located s d stands q at in
-      record {
-        place = subst (λ (y : RowsView × Stretch). IsLine y.0 y.1 q) (λ i. (x.rows i, x.place i)) at;
-        line = k.line;
-        there = agrees_lines (λ ls num. slice_get ls (num q) ≡ Some k.line) k.is;
-      }
+      search (rules, agrees_lines, x.rows, x.place)
 
   -- the line of that number is that of the row
   pub own_line : {q : Position} (at : IsLineIn t n q) (l : Line) → slice_get (document_lines n t) (number_of n t q) ≡ Some l → (located_in at).line ≡ l
-  own_line {q} at l e =
-      let k = located_in at in
-      same_Some _ _ (sym (agrees_lines (λ ls num. slice_get ls (num q) ≡ Some k.line) k.is) ∙ e)
+  own_line at l e = search (rules, same_Some, agrees_lines)
 
   -- a row of the document is one of the text
   pub row_in : {q : Position} → IsLineIn t n q → q.row < length s.rows
@@ -76,9 +70,7 @@ module _ {t : List ℕ} {n : ℕ} {s : RowsView} {d : Stretch} (x : HasText t n 
       let first : d.first ≡ document_row n c = ap (λ (e : Stretch). e.first) x.place in
       let mine : slice_get p.0.rows (q.row - d.first) ≡ Some k.row = ap (λ (rs : List Row). slice_get rs (q.row - d.first)) (sym ((document_in x).1 ∙ is)) ∙ k.there in
       let whole : document_row n c + (q.row - d.first) ≡ q.row = omega (arith, first, (line_here at).from) in
-      ap (slice_get (rows_of c)) (sym whole)
-      ∙ (sym (get_dropped (rows_of c) (document_row n c) (q.row - d.first))
-      ∙ (ap (λ (rs : List Row). slice_get rs (q.row - d.first)) b.1 ∙ get_front p.0.rows b.0 (q.row - d.first) k.row mine))
+      search (rules, get_dropped, get_front)
 
   -- the first line of a document
   pub first_is : number_of n t (record { row = d.first; line = 0 }) ≡ 0
@@ -86,8 +78,7 @@ module _ {t : List ℕ} {n : ℕ} {s : RowsView} {d : Stretch} (x : HasText t n 
 
 -- the root of a document
 part_root : (o : Option Part) (d : Document) → option_map part_document o ≡ Some d → value (group (lines_of_rows (part_rows o))) ≡ d.root
-part_root None d e = absurd (cc)
-part_root (Some p) d e = ap (λ (y : Document). y.root) (same_Some _ _ e)
+part_root o d e = search (rules, same_Some)
 
 pub root_is : (t : List ℕ) (n : ℕ) (d : Document) → slice_get (documents_of t) n ≡ Some d → value (group (document_lines n t)) ≡ d.root
 root_is t n d e = part_root (slice_get (document_parts (cut_of t)) n) d (sym (slice_get-map part_document (document_parts (cut_of t)) n) ∙ e)

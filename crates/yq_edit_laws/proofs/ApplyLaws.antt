@@ -8,15 +8,15 @@ use Rattle.yq_row_table.specs.Rows.{Cut, cut_text}
 use Rattle.yq_documents.{specs.Documents.ReadsDocuments, specs.Reading.{cut_of, documents, documents_of, read_at}}
 use Rattle.yq_documents.proofs.ReadLaws.{parts_read, read_takes}
 use Rattle.yq_semantics.{specs.After.after_op, specs.Fits.Fits, specs.Operations.Operation, specs.Rooms.room_of}
-use Rattle.yq_semantics.{specs.RoomsKept.LeavesRooms, specs.declared.refusal.Refusal.TheVariants.TooLarge}
+use Rattle.yq_semantics.{specs.RoomsKept.LeavesRooms, specs.declared.refusal.Refusal.TheVariants.TooLarge, specs.Judgement.ExprError}
 use Rattle.yq_edit_rules.{specs.Operands.HasOperand, specs.EditLaws.IsEdit, specs.Edits.{op_edits, or_stay}, specs.ReadsAfter.ReadsAfter}
 use Rattle.yq_edit_laws.{proofs.CutLaws.{cut_read, cut_same, text_read}, specs.Answers.{Edits, EditFails}}
 use Rattle.yq_edit_laws.specs.Carried.{carry_one, carried}
 use Rattle.yq_edit_laws.specs.Edit.{Edit, unreadable, refuses, gives, by_reading, edit_of_segments, exchange_edit}
 use Rattle.yq_edit_laws.{specs.Theorems.{IsFitting, IsApplied, IsLarge, OpRefused}, specs.Valid.segments_by}
-use Rattle.yq_edit_laws.{specs.declared.edit_error.EditError.EditError, proofs.EditsHold.{edit_is, edit_there}}
+use Rattle.yq_edit_laws.proofs.EditsHold.{edit_is, edit_there}
 use Rattle.yq_text.specs.Exchanging as exchange
-use Rattle.yq_edit_laws.specs.declared.edit_error.EditError.TheVariants as error
+use Rattle.yq_failure.specs.declared.failure.Failure.TheVariants as failure
 
 -- what an operation that fits comes to: it is carried out, or its text is too large
 abbrev pub OperationComes : Operation → List ℕ → Edit → Type 0
@@ -93,16 +93,15 @@ module _ (op : Operation) (t : List ℕ) (operand : HasOperand op) (k : IsFittin
   pub applied_by : (new : List ℕ) (cs : List Splice) → carried op t ≡ gives new cs → IsApplied op t new cs
   applied_by new cs h = subst (OperationComes op t) h operation_comes
 
-  pub op_applied : (r : Result Edited EditError) → Edits r (carried op t) → IfOk r (λ e. IsApplied op t (string_bytes e.text) e.splices.items)
+  pub op_applied : (r : Result Edited ExprError) → Edits r (carried op t) → IfOk r (λ e. IsApplied op t (string_bytes e.text) e.splices.items)
   op_applied (Ok e) h = applied_by (string_bytes e.text) e.splices.items h
   op_applied (Err e) h = tt
 
-  pub refused_by : (e : EditError) → EditFails e (carried op t) → OpRefused e op t
-  refused_by (error.Read fault) h = subst (OperationComes op t) h.0 operation_comes
-  refused_by (error.Refused why) h = subst (OperationComes op t) h operation_comes
-  refused_by error.Memory h = tt
+  pub refused_by : (e : ExprError) → EditFails e (carried op t) → OpRefused e op t
+  refused_by (failure.Fault why) h = subst (OperationComes op t) h operation_comes
+  refused_by failure.Memory h = tt
 
-  pub op_refused : (r : Result Edited EditError) → Edits r (carried op t) → IfErr r (λ e. OpRefused e op t)
+  pub op_refused : (r : Result Edited ExprError) → Edits r (carried op t) → IfErr r (λ e. OpRefused e op t)
   op_refused (Ok e) h = tt
   op_refused (Err e) h = refused_by e h
 

@@ -88,6 +88,11 @@ pub record EditFound (o : Option (List Segment)) (t : List ℕ) (p : PlacedEdit)
 abbrev pub HasBounds : List ℕ → FlowEdit → Type 0
 HasBounds t e = IsCharBoundary t (length t - length (e.old ++ e.behind)) × IsCharBoundary t (length t - length e.behind)
 
+-- the place of such an edit lies in the text
+pub bounds_lie : (c : Cut) (e : FlowEdit) (p : PlacedEdit) → read_at (cut_text c) ≡ Some c → HasBounds (cut_text c) e → p ≡ place_edit (length (cut_text c)) e → LiesIn (cut_text c) p
+bounds_lie c e p read bounds is =
+    subst (LiesIn (cut_text c)) (sym is) (record { small = text_small (cut_text c) c read; order = edit_order (cut_text c) e; start = bounds.0; end = bounds.1 })
+
 module _ (c : Cut) (n : ℕ) (steps : List Step) (x : FlowHead) (q : Placed) (f : CollFound c n steps x q) where
   abbrev t : List ℕ
   t = cut_text c
@@ -99,7 +104,7 @@ module _ (c : Cut) (n : ℕ) (steps : List Step) (x : FlowHead) (q : Placed) (f 
   edit_moved e own p same within is = ap (moved_on x.before) is ∙ sym (in_text t f.coll x f.agrees e own same within)
 
   pub edit_lies : (e : FlowEdit) (p : PlacedEdit) → HasBounds (cut_text c) e → moved_on x.before p ≡ place_edit (length t) e → LiesIn t (moved_on x.before p)
-  edit_lies e p bounds moved = subst (LiesIn t) (sym moved) (record { small = text_small t c f.read; order = edit_order t e; start = bounds.0; end = bounds.1 })
+  edit_lies e p bounds moved = bounds_lie c e (moved_on x.before p) f.read bounds moved
 
   -- and its segments.
   pub edit_found : (e own : FlowEdit) (before whole : List ℕ) (p : PlacedEdit) → e ≡ edit_more f.agrees.behind own → length (own.old ++ own.behind) ≤ length (node_text f.agrees.at.node f.agrees.at.rest) →

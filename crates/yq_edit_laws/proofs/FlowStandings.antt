@@ -9,6 +9,7 @@ use Rattle.yq_core.{specs.Nodes.{bare, node_text}, specs.Places.locate, specs.Sp
 use Rattle.yq_row_table.{specs.Rows.{Cut, cut_text}, proofs.CharacterLaws.all_text}
 use Rattle.yq_places.{specs.FlowNodes.flow_collection, specs.Standings.{FlowPart, flow_standing, last_step}}
 use Rattle.yq_places.{proofs.FlowSpanLaws.entry_spans, proofs.HeadSteps.stem_found}
+use Rattle.yq_lookup.proofs.RowParts.{node_entry}
 use Rattle.yq_documents.specs.Reading.{part_outline, read_at}
 use Rattle.yq_edit_rules.{specs.DocumentRows.IsDocumentPart, specs.FlowRows.{row_collection, FlowAt, NodeStands}, specs.TextPieces.IsPiece}
 use Rattle.yq_edit_rules.{proofs.FlowPathLaws.{flow_found, row_texts}, proofs.FlowRowLaws.flow_stands}
@@ -70,11 +71,6 @@ entry_found c doc path x e = go (last_step path) refl e
     go : (o : Option (List Step × Step)) → last_step path ≡ o → flow_standing doc c o ≡ Some x → (a : EntryAt c doc path) × (record { step = a.step; collection = a.coll; part = a.item } ≡ x)
     go None is e = absurd (none-some _ e)
     go (Some y) is e = let w = bind_some (flow_collection doc y.0 c) e in here' y is w.0 w.1 (item_at w.0.close y.1 w.0.items w.0.rest) refl w.2
-
--- the items or entries of a node are those of its collection
-pub node_entry : (s : Step) (node : inline.FlowNode) (rest : List ℕ) → (coll_in node rest >>= λ w. item_at w.close s w.items w.rest) ≡ path_inside s node rest
-node_entry s (inline.anchored n gap node) rest = node_entry s node rest
-node_entry s _ rest = refl
 
 pub coll_entry : (s : Step) (node : inline.FlowNode) (rest : List ℕ) (w : CollPieces) → coll_in node rest ≡ Some w → path_inside s node rest ≡ item_at w.close s w.items w.rest
 coll_entry s node rest w e = sym (node_entry s node rest) ∙ ap (λ (o : Option CollPieces). o >>= λ w. item_at w.close s w.items w.rest) e

@@ -6,7 +6,8 @@ use Rattle.yq_row_table.specs.Rows.{Cut}
 use Rattle.yq_places.{specs.FlowNodes.flow_collection, specs.FlowViews.LeadsToHead}
 use Rattle.yq_edit_rules.{specs.Changed.put_document, specs.FlowRows.{FlowAt, behind_node, with_node}}
 use Rattle.yq_edit_laws.{specs.PartPuts.{EndsAsIn, IsCollBefore, IsPartBefore, IsPartOf}, proofs.EarlierParts.ComesBefore}
-use Rattle.yq_edit_laws.{proofs.LaterEnds.EndsThere, proofs.LaterParts.parts_along}
+use Rattle.yq_edit_laws.proofs.LaterEnds.{EndsThere}
+use Rattle.yq_lookup.proofs.RowParts.{parts_along}
 use Rattle.yq_edit_rules.proofs.FlowStayLaws as stay
 
 module _ (c : Cut) (doc : ℕ) (steps : List Step) (w : CollPieces) (at : FlowAt c doc steps w) (gap : List ℕ) (is : Items)

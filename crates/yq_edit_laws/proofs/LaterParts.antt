@@ -1,14 +1,14 @@
 -- A part of a node that comes after one whose content were replaced by another stays as it is, in whichever collections the two are.
-use Rattle.std.proofs.Common.{rules, ◌≡◌, ℕ, ◌<◌, ◌≤◌, Bool, true, false, cond, List, [], ◌∷◌, ◌++◌, length, Option, Some, option_and_then}
-use Rattle.std.{proofs.Common.{refl, ap, ◌∙◌, arith, length-append}, proofs.lemmas.Option.{none-some, same_Some}}
-use Rattle.yq_core.{specs.Answers.◌>>=◌, specs.Paths.{Step, is_here, further}}
+use Rattle.std.proofs.Common.{rules, ◌≡◌, ℕ, ◌<◌, ◌≤◌, Bool, true, false, cond, List, [], ◌∷◌, length, Option, Some, option_and_then, refl}
+use Rattle.std.{proofs.Common.{ap, ◌∙◌, arith, length-append}, proofs.lemmas.Option.{none-some, same_Some}}
+use Rattle.yq_core.specs.Paths.{Step, is_here, further}
 use Rattle.yq_core.specs.Collections.{CollPieces, change_item, coll_along, coll_in, collection_put, put_coll, within_items}
 use Rattle.yq_core.specs.Entries.{EntryPieces, entry_pieces_at, path_inside, item_at}
 use Rattle.yq_core.specs.Nodes.{Key, FlowNode, empty, alias, scalar, coll, anchored, Items, none, item, flow_items_text, node_text}
 use Rattle.yq_core.{specs.Nodes.{sep_text, without_anchor}, specs.Trees.key_content, specs.Tree.key_label}
 use Rattle.yq_core.{proofs.NodeAgain.{key_longer, node_longer, sep_longer}, proofs.PathLaws.then_some}
 use Rattle.yq_flow_edits.{specs.FlowEdits.{put_content, put_item, spaced_key}, proofs.ItemPlaces.item_rest}
-use Rattle.yq_edit_laws.proofs.FlowStandings.{coll_entry, node_entry}
+use Rattle.yq_edit_laws.proofs.FlowStandings.{coll_entry}
 
 -- ---- where parts are
 
@@ -148,12 +148,3 @@ later_part p q s m x w y z e here there less begins =
     (λ p u at. omega (arith, part_stays p s w y u here at, content_within u.node u.rest))
     (λ p u at is. absurd (omega (arith, begins, part_stays p s w y u here at, ap (λ (v : EntryPieces). length (node_text (without_anchor v.node) v.rest)) is)))
     (λ r u v at inside less. node_put s r m u.node u.rest w y v at here inside less) p q x e (part_leads q x z there))
-
--- the parts of a collection are those to which one step more leads
-pub parts_along : (p : List Step) (s : Step) (x : EntryPieces) → (coll_along p x.node x.rest >>= λ w. item_at w.close s w.items w.rest) ≡ entry_pieces_at (p ++ (s ∷ [])) x
-parts_along [] s x = search (rules, node_entry)
-parts_along (t ∷ p) s x = go (path_inside t x.node x.rest) (λ u. parts_along p s u)
-  where
-    go : (o : Option EntryPieces) → ((u : EntryPieces) → (coll_along p u.node u.rest >>= λ w. item_at w.close s w.items w.rest) ≡ entry_pieces_at (p ++ (s ∷ [])) u) →
-        (option_and_then (λ (u : EntryPieces). coll_along p u.node u.rest) o >>= λ w. item_at w.close s w.items w.rest) ≡ option_and_then (entry_pieces_at (p ++ (s ∷ []))) o
-    go o again = search rules

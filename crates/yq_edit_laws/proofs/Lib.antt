@@ -21,6 +21,7 @@ pub mod EarlierCollections
 pub mod FlowHeads
 pub mod FlowAnswers
 pub mod PutAnswers
+mod PartAnswers
 pub mod AppendAnswers
 pub mod RemoveAnswers
 pub mod EmptyingAnswers

@@ -1,12 +1,12 @@
 -- Operations of a plan, the first of them apart.
 use Rattle.std.proofs.Common.{rules, ◌≡◌, ℕ, ◌-◌, ◌≤◌, List, [], ◌∷◌, ◌++◌, length, take, drop, slice_index_or, refl, sym, ap, subst}
 use Rattle.std.proofs.Common.{take_all, append-nil, arith}
-use Rattle.yq_semantics.{specs.Operations.{operation_of, operations_of}, specs.declared.op.Op.Op}
+use Rattle.yq_semantics.{specs.Operations.{operation_of, operations_of}, specs.declared.op.Op.Op, specs.Judgement.ExprError}
 use Rattle.yq_text.specs.Splice.{Splice}
 use Rattle.yq_edit_laws.{specs.Answers.EditFails, specs.Carried.{carried, carry_all}}
 use Rattle.yq_edit_laws.{specs.Edit.{Edit, unreadable, refuses, gives, edit_after, edit_then}, specs.Theorems.{IsApplied, IsFitting}}
-use Rattle.yq_edit_laws.{specs.Valid.AreServed, specs.declared.edit_error.EditError.EditError}
-use Rattle.yq_edit_laws.{proofs.OrderLaws.{behind_both, fails_behind, fails_on}, proofs.ServeLaws.{fits, others_serve}}
+use Rattle.yq_edit_laws.{specs.Valid.AreServed, proofs.OrderLaws.{behind_both, fails_behind, fails_on}}
+use Rattle.yq_edit_laws.proofs.ServeLaws.{fits, others_serve}
 
 -- an edit, and then nothing more
 then_nothing : (e : Edit) → edit_then (carry_all []) e ≡ e
@@ -37,7 +37,7 @@ others_served os op t m cs some at h a =
     (_, others_serve s.0 (operation_of op) (operations_of (later os)) t s.1 m cs a)
 
 -- one that fails
-pub first_fails : (os : List Op) (op : Op) (t : List ℕ) (bs : List Splice) (e : EditError) → 1 ≤ length os → op ≡ slice_index_or os 0 op →
+pub first_fails : (os : List Op) (op : Op) (t : List ℕ) (bs : List Splice) (e : ExprError) → 1 ≤ length os → op ≡ slice_index_or os 0 op →
     EditFails e (carried (operation_of op) t) → EditFails e (edit_after bs (carry_all (operations_of os) t))
 first_fails os op t bs e some at h =
     fails_behind e bs (carry_all (operations_of os) t)

@@ -2,7 +2,8 @@
 use Rattle.std.proofs.Common.{rules, ◌≡◌, inl, inr, ℕ, List, [], ◌∷◌, ◌++◌, refl, sym, ap, ◌∙◌, subst, append_assoc, append-nil}
 use Rattle.yq_text.specs.Splice.{Splice}
 use Rattle.yq_edit_laws.{specs.Answers.EditFails, specs.Edit.{Edit, unreadable, refuses, gives, edit_after, edit_then, in_order}}
-use Rattle.yq_edit_laws.{specs.Theorems.{InOrder, Leading, StopsInOrder}, specs.declared.edit_error.EditError.EditError}
+use Rattle.yq_edit_laws.specs.Theorems.{InOrder, Leading, StopsInOrder}
+use Rattle.yq_semantics.specs.Judgement.{ExprError}
 
 -- what is known of each step, said otherwise
 pub leads_so : {A : Type 0} (R S : Leading A) → ((x : A) (t new : List ℕ) (cs : List Splice) → R x t new cs → S x t new cs) →
@@ -25,11 +26,11 @@ leads_give f R each (x ∷ xs) t new cs h =
     ∙ (ap (edit_after h.1) (leads_give f R each xs h.0 new h.2 h.4) ∙ ap (gives new) (sym h.5))
 
 -- an edit that fails, also after splices
-pub fails_behind : (e : EditError) (cs : List Splice) (r : Edit) → EditFails e r → EditFails e (edit_after cs r)
+pub fails_behind : (e : ExprError) (cs : List Splice) (r : Edit) → EditFails e r → EditFails e (edit_after cs r)
 fails_behind e cs r h = search rules
 
 -- and without these
-pub fails_itself : (e : EditError) (cs : List Splice) (r : Edit) → EditFails e (edit_after cs r) → EditFails e r
+pub fails_itself : (e : ExprError) (cs : List Splice) (r : Edit) → EditFails e (edit_after cs r) → EditFails e r
 fails_itself e cs r h = search rules
 
 -- an edit after no splices
@@ -43,12 +44,12 @@ behind_both bs cs (refuses why) = refl
 behind_both bs cs (gives t ds) = ap (gives t) (append_assoc bs cs ds)
 
 -- a step that fails fails all that come after it
-pub fails_on : (e : EditError) (g : List ℕ → Edit) (r : Edit) → EditFails e r → EditFails e (edit_then g r)
+pub fails_on : (e : ExprError) (g : List ℕ → Edit) (r : Edit) → EditFails e r → EditFails e (edit_then g r)
 fails_on e g r h = search rules
 
 -- and those that came before it
 pub leads_fail : {A : Type 0} (f : A → List ℕ → Edit) (R : Leading A) → ((x : A) (t new : List ℕ) (cs : List Splice) → R x t new cs → f x t ≡ gives new cs) →
-    (xs : List A) (y : A) (ys : List A) (t m : List ℕ) (cs : List Splice) (e : EditError) → InOrder R xs t m cs → EditFails e (f y m) → EditFails e (in_order f (xs ++ y ∷ ys) t)
+    (xs : List A) (y : A) (ys : List A) (t m : List ℕ) (cs : List Splice) (e : ExprError) → InOrder R xs t m cs → EditFails e (f y m) → EditFails e (in_order f (xs ++ y ∷ ys) t)
 leads_fail f R each [] y ys t m cs e h fails = fails_on e (in_order f ys) (f y t) (subst (λ s. EditFails e (f y s)) (sym h.0) fails)
 leads_fail f R each (x ∷ xs) y ys t m cs e h fails = search (rules, fails_behind, leads_fail f R each xs y ys h.0 m h.2 e h.4 fails)
 

@@ -1,6 +1,6 @@
 -- What putting a value into a flow collection comes to, by what the code finds.
-use Rattle.std.proofs.Common.{rules, ◌≡◌, ℕ, ◌-◌, List, [], ◌∷◌, ◌++◌, length, take, drop, Option, Some, None, option_map, refl, sym, ap}
-use Rattle.std.proofs.Common.{◌∙◌, subst, arith, append_assoc, append-nil, length-append}
+use Rattle.std.proofs.Common.{rules, ◌≡◌, ℕ, Bool, ◌-◌, List, [], ◌∷◌, ◌++◌, length, take, drop, Option, Some, None, option_map, refl, sym}
+use Rattle.std.proofs.Common.{ap, ◌∙◌, subst, arith, append_assoc, append-nil, length-append}
 use Rattle.std.{proofs.Math.Seq.{take-append_seam, drop-append_seam}, proofs.lemmas.Option.{none-some, same_Some}}
 use Rattle.std.{specs.Prelude.{option_and_then, String, string_bytes}, specs.declared.alloc.Global.Global}
 use Rattle.yq_core.{specs.Paths.Step, specs.declared.style.Place.TheVariants.Flow as InFlow, specs.Collections.CollPieces}
@@ -40,7 +40,7 @@ part_placed total s w =
     sym (one_step (flow_part_at s (parts_of (placed_collection total w)))) ∙ (path_places total (s ∷ []) slot ∙ ap (option_map (locate_entry total)) (one_piece (item_at w.close s w.items w.rest)))
 
 -- what is at the place of an edit
-old_at : (t before : List ℕ) (e : FlowEdit) → t ≡ before ++ (e.old ++ e.behind) → drop (length t - length (e.old ++ e.behind)) (take (length t - length e.behind) t) ≡ e.old
+pub old_at : (t before : List ℕ) (e : FlowEdit) → t ≡ before ++ (e.old ++ e.behind) → drop (length t - length (e.old ++ e.behind)) (take (length t - length e.behind) t) ≡ e.old
 old_at t before e is =
     let whole : t ≡ (before ++ e.old) ++ e.behind = is ∙ sym (append_assoc before e.old e.behind) in
     let start : length t - length (e.old ++ e.behind) ≡ length before = omega (arith, ap length is, length-append before (e.old ++ e.behind)) in
@@ -49,9 +49,15 @@ old_at t before e is =
     (λ i. drop (start i) (front i)) ∙ drop-append_seam before e.old
 
 -- how a value is written is the text of its node
-value_is : (old : List ℕ) (v : tree.Node) → value_text InFlow old v ≡ node_text (flow_value old v) []
+pub value_is : (old : List ℕ) (v : tree.Node) → value_text InFlow old v ≡ node_text (flow_value old v) []
 unfolding node_text flow_of
 value_is old v = search (rules, append-nil)
+
+-- what is written at a part, by whether the scalar there is kept
+pub written_found : (old : Option tree.Node) (v : tree.Node) (z : FlowPart) (kept : Bool) (new : List ℕ) → keeps_scalar old v ≡ kept →
+    new ≡ (put_edit v z).written → (o : Option (String Global)) → IsWrittenFor kept new o → IsWrittenPart old v z o
+written_found old v z kept new keeps is None h = keeps ∙ h
+written_found old v z kept new keeps is (Some s) h = (keeps ∙ h.0, h.1 ∙ is)
 
 -- ---- the answers
 
@@ -137,11 +143,8 @@ module _ (c : Cut) (n : ℕ) (path init : List Step) (s : Step) (x : FlowHead) (
 
     -- so what the code puts there is what is put at the part
     pub puts_found : (v : tree.Node) (r : PartPut) → PutsInNode row p.1 v r → ArePuts n path v c x.before (Some r)
-    puts_found v r h = (z, standing_there, place_found v r.place h.place, go r.written h.written)
-      where
-        go : (o : Option (String Global)) → IsWrittenFor (keeps_scalar (Some (placed_tree p.1)) v) (value_text InFlow (drop r.place.start (take r.place.end row)) v) o → IsWrittenPart (node_in n path c) v z o
-        go None kept = ap (λ (m : Option tree.Node). keeps_scalar m v) node_there ∙ kept
-        go (Some s) w = (ap (λ (m : Option tree.Node). keeps_scalar m v) node_there ∙ w.0, w.1 ∙ text_found v r.place h.place)
+    puts_found v r h =
+        (z, standing_there, place_found v r.place h.place, written_found (node_in n path c) v z _ _ (ap (λ (m : Option tree.Node). keeps_scalar m v) node_there) (text_found v r.place h.place) r.written h.written)
 
 -- ---- no collection
 

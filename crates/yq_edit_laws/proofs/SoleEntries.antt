@@ -14,7 +14,8 @@ use Rattle.yq_documents.specs.Reading.{read_at}
 use Rattle.yq_places.{specs.FlowNodes.flow_collection, specs.FlowViews.LeadsToHead, specs.RemovalPlaces.has_several}
 use Rattle.yq_places.specs.Standings.{last_step}
 use Rattle.yq_edit_rules.{specs.Edits.empty_collection, specs.FlowRows.{FlowAt, behind_node}, specs.Replacing.keeps_scalar}
-use Rattle.yq_edit_laws.{proofs.FlowSoundLaws.last_is, proofs.FlowStandings.{EntryAt, node_entry}, proofs.SoleParts.{IsEmptiedBy, last_of}}
+use Rattle.yq_lookup.proofs.RowParts.{node_entry}
+use Rattle.yq_edit_laws.{proofs.FlowSoundLaws.last_is, proofs.FlowStandings.EntryAt, proofs.SoleParts.{IsEmptiedBy, last_of}}
 use Rattle.yq_core.specs.Tree as tree
 use Rattle.yq_edit_laws.proofs.FlowPutLaws as put
 use Rattle.yq_edit_laws.proofs.FlowStandings as standing

@@ -6,7 +6,6 @@ use Rattle.yq_core.specs.declared.fault.FaultKind.TheVariants.{NotUtf8}
 use Rattle.yq_row_table.specs.Rows.{Cut}
 use Rattle.yq_places.specs.Answers.{IsNotUtf8}
 use Rattle.yq_documents.specs.Reading.{read_at}
-use Rattle.yq_edit_laws.{specs.Answers.{EditFails, error_of_reading}, specs.Edit.{Edit, unreadable}}
 use Rattle.yq_failure.specs.declared.failure.Failure.TheVariants as reading
 
 -- What is known where bytes aren't read.
@@ -16,11 +15,6 @@ pub record FailsToRead (e : ReadError) (bytes : List ℕ) : Type 0 where
 
 pub text_unread : (bytes t : List ℕ) (fault : ReadFault) → bytes ≡ t → IsUtf8 t → FailsToRead (reading.Fault fault) bytes → (read_at t ≡ None) × (fault.kind ≢ NotUtf8)
 text_unread bytes t fault same utf8 h = search (rules, false≢true, is_utf8-from_IsUtf8)
-
--- an edit of a text that isn't read
-pub edit_not_read : (e : ReadError) (bytes t : List ℕ) (edit : Edit) → bytes ≡ t → IsUtf8 t → FailsToRead e bytes → (read_at t ≡ None → edit ≡ unreadable) → EditFails (error_of_reading e) edit
-edit_not_read reading.Memory bytes t edit same utf8 h unread = tt
-edit_not_read (reading.Fault fault) bytes t edit same utf8 h unread = let k = text_unread bytes t fault same utf8 h in (unread k.0, k.1)
 
 -- a text that is read is UTF-8
 pub text_utf8 : (t : List ℕ) (c : Cut) → read_at t ≡ Some c → IsUtf8 t

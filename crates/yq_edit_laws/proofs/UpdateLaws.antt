@@ -8,14 +8,12 @@ use Rattle.yq_semantics.{specs.Judgement.{Judges, ExprError}, specs.Operations.O
 use Rattle.yq_semantics.specs.Program.{Program, Update, read, updates, update_at, update_count, UpdatesHold, LiteralsHold}
 use Rattle.yq_semantics.{specs.Rooms.room_of, specs.declared.refusal.Refusal.Refusal}
 use Rattle.yq_text.{specs.Splice.Splice, proofs.PlaceInList.get_some, specs.declared.edited.Edited.Edited}
-use Rattle.yq_edit_laws.{specs.Answers.{Edits, EditFails, of_planning, error_of_reading}, specs.Carried.{carry_all, carry_out, updated}}
+use Rattle.yq_edit_laws.{specs.Answers.{Edits, EditFails}, specs.Carried.{carry_all, carry_out, updated}}
 use Rattle.yq_edit_laws.{specs.Edit.{Edit, unreadable, gives, edit_after, by_reading}, specs.Theorems.HasReading}
-use Rattle.yq_edit_laws.{specs.Valid.{HaveOperands, IsStep, UpdateFails, FailsAt}, specs.declared.edit_error.EditError.EditError}
-use Rattle.yq_edit_laws.{proofs.MeaningLaws.{UpdateComes, plan_comes, plan_stops}, proofs.OrderLaws.fails_itself}
-use Rattle.yq_edit_laws.proofs.TextFaults.{FailsToRead, text_unread}
+use Rattle.yq_edit_laws.{specs.Valid.{HaveOperands, IsStep, UpdateFails, FailsAt}, proofs.MeaningLaws.{UpdateComes, plan_comes, plan_stops}}
+use Rattle.yq_edit_laws.{proofs.OrderLaws.fails_itself, proofs.TextFaults.{FailsToRead, text_unread}}
 use Rattle.yq_failure.specs.declared.failure.Failure.TheVariants as failure
 use Rattle.yq_semantics.specs.Judgement as judgement
-use Rattle.yq_edit_laws.specs.declared.edit_error.EditError.TheVariants as error
 
 -- a text that isn't read has no reading
 pub no_reading : (t : List ℕ) → read_at t ≡ None → ¬ HasReading t
@@ -24,9 +22,6 @@ no_reading t none h = none-some _ (sym none ∙ (parts_read t h.0 h.1).0)
 -- an update by the reading of the text
 read_updated : (u : Update) (t : List ℕ) (c : Cut) → read_at t ≡ Some c → updated u t ≡ carry_out t (plan u (room_of t) (documents c))
 read_updated u t c is = ap (by_reading (λ k. carry_out t (plan u (room_of t) (documents k)))) is
-
-pub unread_updated : (u : Update) (t : List ℕ) → read_at t ≡ None → updated u t ≡ unreadable
-unread_updated u t is = ap (by_reading (λ k. carry_out t (plan u (room_of t) (documents k)))) is
 
 -- an update that is planned, and whose literals and operands are valid
 module _ (u : Update) (t : List ℕ) (c : Cut) (ops : List Operation) (is : read_at t ≡ Some c) (planned : plan u (room_of t) (documents c) ≡ judgement.gives ops)
@@ -40,42 +35,32 @@ module _ (u : Update) (t : List ℕ) (c : Cut) (ops : List Operation) (is : read
   step_so : (ds : List Splice) (x : Edit) (new : List ℕ) (all : List Splice) → updated u t ≡ x → UpdateComes u t x → edit_after ds x ≡ gives new all → (cs : List Splice) × IsStep u t new cs × (all ≡ ds ++ cs)
   step_so ds x new all is_done means h = search rules
 
-  pub update_ok : (r : Result Edited EditError) (ds : List Splice) → Edits r (edit_after ds (carry_all ops t)) →
+  pub update_ok : (r : Result Edited ExprError) (ds : List Splice) → Edits r (edit_after ds (carry_all ops t)) →
       IfOk r (λ e. (cs : List Splice) × IsStep u t (string_bytes e.text) cs × (e.splices.items ≡ ds ++ cs))
   update_ok (Ok e) ds h = step_so ds (carry_all ops t) (string_bytes e.text) e.splices.items done comes h
   update_ok (Err e) ds h = tt
 
-  fails_so : (e : EditError) → EditFails e (carry_all ops t) → UpdateFails e u t
-  fails_so (error.Read fault) h = absurd (subst (UpdateComes u t) h.0 comes)
-  fails_so (error.Refused why) h = subst (UpdateComes u t) h comes
-  fails_so error.Memory h = tt
+  fails_so : (e : ExprError) → EditFails e (carry_all ops t) → UpdateFails e u t
+  fails_so (failure.Fault why) h = subst (UpdateComes u t) h comes
+  fails_so failure.Memory h = tt
 
-  pub update_err : (r : Result Edited EditError) (ds : List Splice) → Edits r (edit_after ds (carry_all ops t)) → IfErr r (λ e. FailsAt e u t)
+  pub update_err : (r : Result Edited ExprError) (ds : List Splice) → Edits r (edit_after ds (carry_all ops t)) → IfErr r (λ e. FailsAt e u t)
   update_err (Ok e) ds h = tt
   update_err (Err e) ds h = let own = fails_itself e ds (carry_all ops t) h in record { fails = subst (EditFails e) (sym done) own; why = fails_so e own }
 
 -- an update that is refused
-update_refused : (u : Update) (t : List ℕ) (c : Cut) (why : Refusal) → read_at t ≡ Some c → plan u (room_of t) (documents c) ≡ judgement.refuses why → FailsAt (error.Refused why) u t
+update_refused : (u : Update) (t : List ℕ) (c : Cut) (why : Refusal) → read_at t ≡ Some c → plan u (room_of t) (documents c) ≡ judgement.refuses why → FailsAt (failure.Fault why) u t
 update_refused u t c why is refused = record { fails = read_updated u t c is ∙ ap (carry_out t) refused; why = plan_stops u t c is why refused }
 
--- a text that has no reading
-update_unread : (u : Update) (t : List ℕ) (fault : ReadFault) → read_at t ≡ None → fault.kind ≢ NotUtf8 → FailsAt (error.Read fault) u t
-update_unread u t fault none text = record { fails = (unread_updated u t none, text); why = no_reading t none }
-
 -- memory that ran out
-update_refused_memory : (u : Update) (t : List ℕ) → FailsAt error.Memory u t
-update_refused_memory u t = record { fails = tt; why = tt }
-
--- an update of a text that isn't read
-pub update_not_read : (u : Update) (bytes t : List ℕ) (e : ReadError) → bytes ≡ t → IsUtf8 t → FailsToRead e bytes → FailsAt (error_of_reading e) u t
-update_not_read u bytes t failure.Memory same utf8 h = update_refused_memory u t
-update_not_read u bytes t (failure.Fault fault) same utf8 h = let k = text_unread bytes t fault same utf8 h in update_unread u t fault k.0 k.1
+pub memory_fails : (u : Update) (t : List ℕ) → FailsAt failure.Memory u t
+memory_fails u t = record { fails = tt; why = tt }
 
 -- an update that is not planned, by the documents of a text
 pub update_unplanned : {X : Type 0} (view : X → List Operation) (u : Update) (t d : List ℕ) (p : ExprError) → read_at t ≡ Some (cut_of d) → d ≡ t →
-    Judges view (Err p) (plan u (room_of d) (documents_of d)) → FailsAt (of_planning p) u t
+    Judges view (Err p) (plan u (room_of d) (documents_of d)) → FailsAt p u t
 update_unplanned view u t d (failure.Fault why) is same h = update_refused u t (cut_of d) why is (ap (λ (x : List ℕ). plan u (room_of x) (documents_of d)) (sym same) ∙ h)
-update_unplanned view u t d failure.Memory is same h = update_refused_memory u t
+update_unplanned view u t d failure.Memory is same h = memory_fails u t
 
 -- and one that is
 pub update_planned : (u : Update) (t d : List ℕ) (ops : List Operation) → d ≡ t → plan u (room_of d) (documents_of d) ≡ judgement.gives ops →

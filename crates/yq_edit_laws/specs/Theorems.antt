@@ -3,13 +3,12 @@ use Rattle.std.specs.Prelude.{◌≡◌, ⊤, ◌⊎◌, ℕ, ◌<◌, List, [],
 use Rattle.yq_text.{specs.Limit.text_limit, specs.Splice.{Splice, all_done, lengths_done}}
 use Rattle.yq_text.specs.Script.{Segment, old_text, new_text, changes}
 use Rattle.yq_documents.specs.Documents.{Document, ReadsDocuments}
-use Rattle.yq_semantics.{specs.After.after_op, specs.Fits.Fits, specs.Judgement.{gives, refuses}, specs.Meaning.meaning}
+use Rattle.yq_semantics.{specs.After.after_op, specs.Fits.Fits, specs.Judgement.{ExprError, gives, refuses}, specs.Meaning.meaning}
 use Rattle.yq_semantics.{specs.Operations.Operation, specs.Rooms.room_of, specs.RoomsKept.LeavesRooms}
 use Rattle.yq_semantics.{specs.declared.refusal.Refusal.Refusal, specs.declared.refusal.Refusal.TheVariants.{NotAnUpdate, TooLarge}}
 use Rattle.yq_semantics.{specs.Plans.plan, specs.Program.{Program, Update, read, updates}}
 use Rattle.yq_edit_rules.specs.Edits.{op_edits}
-use Rattle.yq_edit_laws.specs.declared.edit_error.EditError.{EditError}
-use Rattle.yq_edit_laws.specs.declared.edit_error.EditError.TheVariants as error
+use Rattle.yq_failure.specs.declared.failure.Failure.TheVariants as failure
 
 -- what leads from a text to another one by splices, for each thing of a kind (own)
 abbrev pub Leading : Type 0 → Type 1
@@ -63,10 +62,9 @@ pub record IsLarge (op : Operation) (t : List ℕ) : Type 0 where
   pub size : text_limit < length (new_text segments)
 
 -- what refuses an operation that fits: the size of the new text, or want of memory (own)
-abbrev pub OpRefused : EditError → Operation → List ℕ → Type 0
-OpRefused (error.Read fault) op t = ⊥
-OpRefused (error.Refused why) op t = (why ≡ TooLarge) × IsLarge op t
-OpRefused error.Memory op t = ⊤
+abbrev pub OpRefused : ExprError → Operation → List ℕ → Type 0
+OpRefused (failure.Fault why) op t = (why ≡ TooLarge) × IsLarge op t
+OpRefused failure.Memory op t = ⊤
 
 -- ---- one update
 
@@ -117,9 +115,3 @@ HasReading t = (docs : List Document) × ReadsDocuments t docs
 abbrev pub ProgramRefused : Program → Refusal → List ℕ → Type 0
 ProgramRefused (read stages) why t = (why ≡ NotAnUpdate) × HasReading t
 ProgramRefused (updates us) why t = StopsInOrder IsUpdated (UpdateRefused why) us t
-
--- why a text isn't edited: it has no reading, or the program is refused, or memory ran out (own)
-abbrev pub EditRefused : EditError → Program → List ℕ → Type 0
-EditRefused (error.Read fault) p t = ¬ HasReading t
-EditRefused (error.Refused why) p t = ProgramRefused p why t
-EditRefused error.Memory p t = ⊤

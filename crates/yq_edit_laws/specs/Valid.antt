@@ -2,13 +2,14 @@
 use Rattle.std.specs.Prelude.{◌≡◌, ℕ, List, [], ◌∷◌, ⊤}
 use Rattle.yq_row_table.specs.Rows.{Cut}
 use Rattle.yq_documents.specs.Documents.{Document, ReadsDocuments}
-use Rattle.yq_semantics.{specs.Operations.Operation, specs.Rooms.room_of, specs.RoomsKept.MayFollow, specs.Program.{Update, updates}}
+use Rattle.yq_semantics.{specs.Operations.Operation, specs.Rooms.room_of, specs.RoomsKept.MayFollow}
+use Rattle.yq_semantics.{specs.Program.{Program, Update, updates}, specs.Judgement.ExprError}
 use Rattle.yq_text.{specs.Splice.Splice, specs.Script.Segment}
 use Rattle.yq_edit_rules.{specs.Edits.{op_edits, or_stay}, specs.Operands.HasOperand}
 use Rattle.yq_edit_laws.{specs.Answers.EditFails, specs.Carried.updated, specs.Edit.in_order}
-use Rattle.yq_edit_laws.{specs.Theorems.{IsUpdated, UpdateRefused, HasReading, EditRefused}, specs.declared.edit_error.EditError.EditError}
+use Rattle.yq_edit_laws.specs.Theorems.{IsUpdated, ProgramRefused, UpdateRefused}
 use Rattle.yq_edit_laws.specs.Edit as edit
-use Rattle.yq_edit_laws.specs.declared.edit_error.EditError.TheVariants as error
+use Rattle.yq_failure.specs.declared.failure.Failure.TheVariants as failure
 
 -- the operands of operations are valid, since the code holds no others (own)
 abbrev pub HaveOperands : List Operation → Type 0
@@ -34,18 +35,22 @@ pub record IsStep (u : Update) (t new : List ℕ) (cs : List Splice) : Type 0 wh
   pub exact : updated u t ≡ edit.gives new cs
   pub is : IsUpdated u t new cs
 
--- why an update fails on a text: that has no reading, or the update is refused, or memory ran out (own)
-abbrev pub UpdateFails : EditError → Update → List ℕ → Type 0
-UpdateFails (error.Read fault) u t = ¬ HasReading t
-UpdateFails (error.Refused why) u t = UpdateRefused why u t
-UpdateFails error.Memory u t = ⊤
+-- why an update fails on a text that reads: it is refused, or memory ran out (own)
+abbrev pub UpdateFails : ExprError → Update → List ℕ → Type 0
+UpdateFails (failure.Fault why) u t = UpdateRefused why u t
+UpdateFails failure.Memory u t = ⊤
 
 -- An error is what an update gives on a text, and says why (own).
-pub record FailsAt (e : EditError) (u : Update) (t : List ℕ) : Type 0 where
+pub record FailsAt (e : ExprError) (u : Update) (t : List ℕ) : Type 0 where
   pub fails : EditFails e (updated u t)
   pub why : UpdateFails e u t
 
+-- the same of a program (own)
+abbrev pub ProgramFails : ExprError → Program → List ℕ → Type 0
+ProgramFails (failure.Fault why) p t = ProgramRefused p why t
+ProgramFails failure.Memory p t = ⊤
+
 -- An error is what updates in order give, and says why (own).
-pub record FailsEach (e : EditError) (us : List Update) (t : List ℕ) : Type 0 where
+pub record FailsEach (e : ExprError) (us : List Update) (t : List ℕ) : Type 0 where
   pub fails : EditFails e (in_order updated us t)
-  pub why : EditRefused e (updates us) t
+  pub why : ProgramFails e (updates us) t

@@ -85,7 +85,7 @@ pub fn append_in_flow<'d>(
     ensures { GivesSegments result (spec.appended_in_flow path.now.doc (steps_of path.now)
         (borrowed key.entry) (value_node value.now) (cut_of cut.now)) }
 {
-    let found = cut.flow_head(alloc, path.doc, &path.steps)?;
+    let found = cut.flow_collection(alloc, path.doc, &path.steps)?;
     let Some(head) = found else {
         return Ok(None);
     };

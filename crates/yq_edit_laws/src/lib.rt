@@ -5,7 +5,6 @@
 
 mod append;
 mod edit;
-mod edit_error;
 pub mod edit_laws;
 pub mod laws;
 mod near;
@@ -19,7 +18,6 @@ mod ways;
 
 pub use append::{MorePut, append_in_flow, more_in_node};
 pub use edit::{last_step, unchanged};
-pub use edit_error::EditError;
 pub use near::{collection_near, part_index, part_near};
 pub use operands::{operand_holds, operands_hold};
 pub use put::{PartPut, put_in_flow, put_in_node};

@@ -6,8 +6,7 @@ ghost use Rattle.yq_places.specs.NodesAt.{scalar_in};
 ghost use Rattle.yq_edit_rules.{specs.Answers.GivesSegments, specs.Replacing.{are_same, keeps_scalar}};
 ghost use Rattle.yq_edit_laws.specs.PartPuts as spec;
 
-use crate::edit::{bytes_at, collection_in, edit_at, last_step, unchanged};
-use crate::near::part_near;
+use crate::edit::{bytes_at, edit_at, last_step, unchanged};
 use std::alloc::{AllocError, Global};
 use yq_core::{Form, Inline, Kind, Place, Value};
 use yq_documents::Path;
@@ -95,22 +94,15 @@ pub fn put_in_flow<'d>(
     let Some((above, last)) = last_step(&path.steps) else {
         return Ok(None);
     };
-    let found = cut.flow_head(alloc, path.doc, above)?;
-    let Some(head) = found else {
-        return Ok(None);
-    };
-    let Some(node) = collection_in(&head) else {
+    let found = cut.flow_part(alloc, path.doc, above, last)?;
+    let Some(part) = found else {
         return Ok(None);
     };
     let text = cut.text();
-    let mut near = 0;
-    let Some(entry) = part_near(node, last, &mut near) else {
-        return Ok(None);
-    };
-    let put = put_in_node(alloc, head.text, entry.node, value)?;
+    let put = put_in_node(alloc, part.text, &part.node, value)?;
     let PartPut { place, written } = put;
     match written {
-        Some(written) => edit_at(alloc, text, head.before, place, written),
+        Some(written) => edit_at(alloc, text, part.before, place, written),
         None => Ok(Some(unchanged(alloc, cut)?)),
     }
 }

@@ -26,7 +26,7 @@ pub fn remove_in_flow<'d>(
     let Some((above, last)) = last_step(&path.steps) else {
         return Ok(None);
     };
-    let found = cut.flow_head(alloc, path.doc, above)?;
+    let found = cut.flow_collection(alloc, path.doc, above)?;
     let Some(head) = found else {
         return Ok(None);
     };

@@ -2,7 +2,7 @@
 
 use crate::codes::ROWS;
 use std::alloc::{AllocError, Global};
-use yq_history::Fault;
+use yq_fault::Fault;
 
 /// The code with which the line of a fault begins.
 pub fn code_of(alloc: Global, fault: Fault) -> Result<String, AllocError> {

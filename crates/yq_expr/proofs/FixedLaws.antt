@@ -1,11 +1,11 @@
 -- What an update of one node at a fixed path plans, and that no update brings an alias.
-use Rattle.std.proofs.Common.{rules, not, ◌==◌, ◌≡◌, ℕ, zero, suc, cond, nat_lt, ◌+◌, ◌≤◌, pos, Bool, true, false, List, [], ◌∷◌, ◌++◌}
-use Rattle.std.proofs.Common.{length, map, slice_get, Option, Some, None, if◌then◌else◌, is_some, option_and_then, option_map, refl, sym}
-use Rattle.std.{proofs.Common.{ap, subst, ◌∙◌, arith, append-nil, append_assoc}, proofs.lemmas.Bool.false≢true}
-use Rattle.std.{proofs.lemmas.Bool.Decides.nat_tests, proofs.lemmas.Option.{none-some, same_Some}, proofs.lemmas.Simd.map-map}
-use Rattle.std.{specs.List.list_any, specs.Borrow.Bor, specs.Prelude.IfSome}
-use Rattle.yq_core.{specs.Scalar.ScalarText, specs.Entries.tree_step, specs.Anchors.names_of, specs.Answers.◌>>=◌}
-use Rattle.yq_core.{specs.Shapes.{AreEntries, AreItems, IsTree}, specs.Paths.{Step, To, Nth, child_at, is_item, key_is, node_at}}
+use Rattle.std.proofs.Common.{rules, not, ◌==◌, ◌≡◌, ℕ, zero, suc, cond, pos, Bool, true, false, List, [], ◌∷◌, ◌++◌, length, map}
+use Rattle.std.proofs.Common.{slice_get, Option, Some, None, if◌then◌else◌, is_some, option_map, refl, sym, ap, subst, ◌∙◌, arith}
+use Rattle.std.{proofs.Common.{append-nil, append_assoc}, proofs.lemmas.Bool.false≢true, proofs.lemmas.Bool.Decides.nat_tests}
+use Rattle.std.{proofs.lemmas.Option.{none-some, same_Some}, proofs.lemmas.Simd.map-map, specs.List.list_any, specs.Borrow.Bor}
+use Rattle.std.specs.Prelude.{IfSome}
+use Rattle.yq_core.{specs.Scalar.ScalarText, specs.Entries.tree_step, specs.Anchors.names_of, specs.Shapes.{AreEntries, AreItems, IsTree}}
+use Rattle.yq_core.specs.Paths.{Step, To, Nth, child_at, is_item, key_is, node_at}
 use Rattle.yq_core.specs.Tree.{Node, scalar, list, Children, none, child, children_of}
 use Rattle.yq_semantics.{specs.View.{stage_of, term_of, program_step}, specs.declared.program.CommentPlace.CommentPlace}
 use Rattle.yq_semantics.specs.Judgement.{Judgement, and_then, gives, refuses}
@@ -13,8 +13,7 @@ use Rattle.yq_semantics.specs.Changes.{replaces, Changed, Room, allowed, at_each
 use Rattle.yq_semantics.specs.Changes.{is_too_deep, is_too_long, is_used_in, is_used_inside, put_with_path, takes_used, update_changes}
 use Rattle.yq_semantics.{specs.Fits.IsBelow, specs.Meaning.{AreReady, all_changed, changed_at_once, meaning, placed_edit}}
 use Rattle.yq_semantics.{specs.NodeEdits.done_by, specs.Operations.Operation, specs.Pipes.places}
-use Rattle.yq_semantics.specs.Plans.{all_ops, comment_op, is_removal, plan}
-use Rattle.yq_semantics.specs.Places.{FoundPlace, chained, for_each, step_on, step_there, traverse}
+use Rattle.yq_semantics.{specs.Plans.{all_ops, comment_op, is_removal, plan}, specs.Places.{FoundPlace, step_there, traverse}}
 use Rattle.yq_semantics.specs.Program.{PathStep, key, index, Stage, path, literal, Update, UpdatesHold, assign, delete, comment}
 use Rattle.yq_semantics.{specs.Rooms.room_of, specs.declared.refusal.Refusal.TheVariants.BadCommentText}
 use Rattle.yq_semantics.{proofs.ChildPlaces.{child_tree, children_tree}, proofs.JudgementLaws.{gives_same, then_gives}}
@@ -28,7 +27,6 @@ use Rattle.yq_places.specs.NodesAt.{NodeAt, node_in, node_summary}
 use Rattle.yq_planner.proofs.UsedLaws.{none_refer, none_used}
 use Rattle.yq_expr.specs.FixedPaths.{AreFixed, CommentsOne, IsFixed, IsFixedOp, FindsNode, IsSole, LeadsToOne, PlansOnly, fixed_step}
 use Rattle.yq_core.specs.declared.path.Step as core_step
-use Rattle.yq_core.specs.Tree as trees
 use Rattle.yq_semantics.specs.declared.program.PathStep as declared_step
 use Rattle.yq_semantics.specs.declared.program.Stage as declared_stage
 use Rattle.yq_semantics.specs.declared.program.Term as declared_term
@@ -63,34 +61,19 @@ fixed_there s x y m k is tree at = search (rules, same_Some, key_there, item_the
 
 -- the child on a path to a node
 on_way : (x : Step) (xs : List Step) (m n : Node) → node_at (x ∷ xs) m ≡ Some n → (k : Node) × (child_at x (children_of m) ≡ Some k) × (node_at xs k ≡ Some n)
-on_way x xs m n at = go (child_at x (children_of m)) refl at
-  where
-    go : (o : Option Node) → child_at x (children_of m) ≡ o → option_and_then (node_at xs) o ≡ Some n → (k : Node) × (child_at x (children_of m) ≡ Some k) × (node_at xs k ≡ Some n)
-    go None is h = absurd (none-some _ h)
-    go (Some k) is h = (k, is, h)
+on_way x xs m n at = search (rules, none-some)
 
 walked : (ss : List PathStep) (xs y : List Step) (m n : Node) → IsTree m → map fixed_step ss ≡ map (λ s. Some s) xs → node_at xs m ≡ Some n → traverse ss (there y m ∷ []) ≡ gives (there (y ++ xs) n ∷ [])
 walked [] [] y m n tree same at = (λ i. gives (there (sym (append-nil y) i) (same_Some _ _ at i) ∷ []))
 walked [] (x ∷ xs) y m n tree same at = absurd (cc)
 walked (s ∷ ss) [] y m n tree same at = absurd (cc)
-walked (s ∷ ss) (x ∷ xs) y m n tree same at =
-    let first : fixed_step s ≡ Some x = cc in
-    let others : map fixed_step ss ≡ map (λ z. Some z) xs = cc in
-    let w = on_way x xs m n at in
-    let below : IsTree w.0 = child_tree x (children_of m) w.0 (children_tree m tree) w.1 in
-    ap (λ (j : Judgement (List FoundPlace)). and_then (chained (λ z. for_each (step_on z)) ss) (and_then (λ a. and_then (λ b. gives (a ++ b)) (gives [])) j)) (fixed_there s x y m w.0 first tree w.1)
-    ∙ (walked ss xs (y ++ x ∷ []) w.0 n below others w.2
-    ∙ ap (λ (z : List Step). gives (there z n ∷ [])) (append_assoc y (x ∷ []) xs))
+walked (s ∷ ss) (x ∷ xs) y m n tree same at = search (rules, on_way, child_tree, children_tree, fixed_there, append_assoc, walked ss xs (y ++ x ∷ []))
 
 -- where a pipe leads that is one fixed path
 pub place_found : (pipe : List Stage) (xs : List Step) (root n : Node) → IsTree root → IsFixed pipe xs → node_at xs root ≡ Some n → places 0 pipe root ≡ gives (there xs n ∷ [])
 place_found pipe xs root n tree h at = search (rules, walked)
 
 -- ---- one change
-
--- a change that nothing refuses
-allowed_so : (root : Node) (c : Changed) → is_too_long c.1 ≡ false → is_too_deep (length c.0) c.1 ≡ false → takes_used root c.0 c.1 ≡ false → allowed root c ≡ gives c
-allowed_so root c short near free = search rules
 
 -- the one change at a place
 at_one : (root : Node) (f : FoundPlace → Judgement (List Changed)) (p : FoundPlace) (c : Changed) → f p ≡ gives (c ∷ []) → allowed root c ≡ gives c → at_each root f (p ∷ []) ≡ gives (c ∷ [])
@@ -101,10 +84,6 @@ plan_one : (u : Update) (rooms : ℕ → Room) (d : Document) (c : Changed) → 
 plan_one u rooms d c can is = search rules
 
 -- ---- what an update of one node plans
-
--- so many steps are no more than may be nested
-near_enough : (n : ℕ) → n ≤ 64 → nat_lt 64 (n + 0) ≡ false
-near_enough n h = grind (arith, nat_tests, h)
 
 module _ (rooms : ℕ → Room) (d : Document) (tree : IsTree d.root) (free : (n : Node) → is_used_in (names_of d.root) (Some n) ≡ false) where
   -- the node to which a path leads in the one document
@@ -118,21 +97,21 @@ module _ (rooms : ℕ → Room) (d : Document) (tree : IsTree d.root) (free : (n
       let taken : takes_used d.root xs (replaces v) ≡ false = ap (λ (o : Option Node). is_used_inside (names_of d.root) o) at ∙ free (list None (children_of n)) in
       let one : changes_in u 0 (rooms 0) d.root ≡ gives ((xs, replaces v) ∷ []) =
       ap (and_then (changes_at 0 (rooms 0) d.root u)) (place_found left xs d.root n tree fixed at)
-      ∙ at_one d.root (λ q. put_with_path q v) (there xs n) (xs, replaces v) refl (allowed_so d.root (xs, replaces v) short near taken) in
+      ∙ at_one d.root (λ q. put_with_path q v) (there xs n) (xs, replaces v) refl (search rules) in
       plan_one u rooms d (xs, replaces v) refl one
 
   removal_planned : (left : List Stage) (xs : List Step) (n : Node) → IsBelow xs → IsFixed left xs → node_at xs d.root ≡ Some n → plan (delete left) rooms (d ∷ []) ≡ gives (operations.remove 0 xs ∷ [])
-  removal_planned left xs n below fixed at = search (rules, place_found, at_one, allowed_so, plan_one)
+  removal_planned left xs n below fixed at = search (rules, place_found, at_one, plan_one)
 
   comment_planned : (left : List Stage) (xs : List Step) (n : Node) (place : CommentPlace) (text : List ℕ) → can_be_comment place text ≡ true → IsFixed left xs →
       node_at xs d.root ≡ Some n → (rooms 0).has place xs ≡ true → plan (comment left place text) rooms (d ∷ []) ≡ gives (comment_op 0 xs place text ∷ [])
-  comment_planned left xs n place text can fixed at room = search (rules, place_found, at_one, allowed_so, plan_one)
+  comment_planned left xs n place text can fixed at room = search (rules, place_found, at_one, plan_one)
 
   -- an update of one node at a fixed path that is there plans its operation
   pub fixed_plans : (u : Update) (op : Operation) → IsFixedOp u op → FindsNode rooms (d ∷ []) op → plan u rooms (d ∷ []) ≡ gives (op ∷ [])
   fixed_plans u (operations.replace doc xs v) h r =
       let at = in_document xs (subst (λ (k : ℕ). LeadsToOne (d ∷ []) k xs) h.first r) in
-      let near : is_too_deep (length xs) (replaces (scalar None h.kind h.text)) ≡ false = near_enough (length xs) h.near in
+      let near : is_too_deep (length xs) (replaces (scalar None h.kind h.text)) ≡ false = grind (arith, nat_tests, h.near) in
       ap (λ (w : Update). plan w rooms (d ∷ [])) (h.is ∙ ap (λ (w : Node). assign h.left operator.Set (literal w ∷ [])) h.scalar)
       ∙ (put_planned h.left xs at.0 (scalar None h.kind h.text) h.fixed at.1 refl near
       ∙ (λ i. gives (operations.replace (sym h.first i) xs (sym h.scalar i) ∷ [])))
@@ -158,20 +137,11 @@ text_ready t is = rooms_are_ready t (read_ready shaped_by_lines shaped_is_tree t
 pub fixed_only : (t : List ℕ) (u : Update) (op : Operation) → read_at t ≡ Some (cut_of t) → IsSole (documents_of t) → IsFixedOp u op → FindsNode (room_of t) (documents_of t) op → PlansOnly u t op
 fixed_only t u op is sole h r =
     let ready : AreReady (room_of t) 0 (sole.document ∷ []) = subst (AreReady (room_of t) 0) sole.is (text_ready t is) in
-    ap (λ (ds : List Document). plan u (room_of t) ds) sole.is
-    ∙ fixed_plans (room_of t) sole.document ready.0.0 sole.free u op h (subst (λ (ds : List Document). FindsNode (room_of t) ds op) sole.is r)
+    search (rules, fixed_plans)
 
 -- a node of a document that is there
 pub one_there : (t : List ℕ) (doc : ℕ) (xs : List Step) → is_some (node_in doc xs (cut_of t)) ≡ true → LeadsToOne (documents_of t) doc xs
-one_there t doc xs h = go (slice_get (documents_of t) doc) refl h
-  where
-    at_it : (d : Document) → slice_get (documents_of t) doc ≡ Some d → (o : Option Node) → node_at xs d.root ≡ o → is_some o ≡ true → LeadsToOne (documents_of t) doc xs
-    at_it d is None at h = absurd (false≢true h)
-    at_it d is (Some n) at h = record { document = d; there = is; node = n; at = at }
-
-    go : (o : Option Document) → slice_get (documents_of t) doc ≡ o → is_some (o >>= λ d. node_at xs d.root) ≡ true → LeadsToOne (documents_of t) doc xs
-    go None is h = absurd (false≢true h)
-    go (Some d) is h = at_it d is (node_at xs d.root) refl h
+one_there t doc xs h = search (rules, false≢true)
 
 -- documents of which one is read, without aliases
 pub sole_of : (docs : List Document) (d : Document) → docs ≡ d ∷ [] → list_any is_reference (names_of d.root) ≡ false → IsSole docs
@@ -206,9 +176,8 @@ sole_stays u rooms docs after ready holds meant sole =
 
 -- one document of a text, without aliases
 pub sole_by : (docs : List Document) → length docs ≡ 1 → ((d : Document) → slice_get docs 0 ≡ Some d → list_any is_reference (names_of d.root) ≡ false) → IsSole docs
-sole_by [] one all = absurd (omega (arith, one))
 sole_by (d ∷ []) one all = sole_of (d ∷ []) d refl (all d refl)
-sole_by (d ∷ (e ∷ ds)) one all = absurd (omega (arith, one))
+sole_by _ one all = absurd (omega (arith, one))
 
 -- what isn't so
 pub not_so : (b : Bool) → not b ≡ true → b ≡ false
@@ -221,9 +190,7 @@ both_there f g a b e h = search rules
 -- a node of which something is known in a text
 pub leads_so : {A : Type 0} (f : A → NodeAt) (o : Option A) (t u : List ℕ) (doc : ℕ) (xs ys : List Step) → u ≡ t → ys ≡ xs → option_map f o ≡ option_map node_summary (node_in doc ys (cut_of u)) → is_some o ≡ true →
     LeadsToOne (documents_of t) doc xs
-leads_so f o t u doc xs ys text steps e h =
-    one_there t doc xs (subst (λ (x : List ℕ). is_some (node_in doc xs (cut_of x)) ≡ true) text
-    (subst (λ (z : List Step). is_some (node_in doc z (cut_of u)) ≡ true) steps (both_there f node_summary o (node_in doc ys (cut_of u)) e h)))
+leads_so f o t u doc xs ys text steps e h = search (rules, one_there, both_there)
 
 -- the steps of a pipe that is one path
 pub fixed_by : (own : List declared_step.PathStep) (steps : List core_step.Step) → AreFixed own steps → map fixed_step (map program_step own) ≡ map (λ s. Some s) (map tree_step steps)

@@ -9,3 +9,5 @@ pub mod ManyKeysLaws
 pub mod StandInLaws
 pub mod VerdictLaws
 pub mod FixedLaws
+pub mod OversizedLaws
+pub mod OversizedOps

@@ -1,20 +1,16 @@
 -- A plan that is made part by part.
-use Rattle.std.proofs.Common.{rules, ◌≡◌, ℕ, zero, suc, ◌+◌, ◌<◌, ◌≤◌, ◌-◌, false, if◌then◌else◌, List, [], ◌∷◌, ◌++◌, length, take, drop}
-use Rattle.std.proofs.Common.{Some, None, refl, sym, ap, ◌∙◌, append_assoc, append-nil, add-one, arith, subst}
+use Rattle.std.proofs.Common.{rules, ◌≡◌, ℕ, zero, suc, ◌+◌, ◌<◌, ◌≤◌, ◌-◌, false, List, [], ◌∷◌, ◌++◌, length, take, drop, Some, None}
+use Rattle.std.proofs.Common.{refl, sym, ap, ◌∙◌, append_assoc, append-nil, add-one, arith, subst}
 use Rattle.std.proofs.lemmas.List.{drop-drop, drop-map, drop_all, length-drop, take-append-drop, take-map, take_rest}
 use Rattle.yq_core.specs.Tree.{Node}
 use Rattle.yq_documents.specs.Documents.{Document}
-use Rattle.yq_semantics.specs.Changes.{Room, Changed, add_at, all_allowed, at_each, changes_at, changes_from, comment_at, left_pipe}
-use Rattle.yq_semantics.specs.Changes.{put_with_path, remove_at, with_value}
+use Rattle.yq_semantics.specs.Changes.{Room, Changed, all_allowed, changes_at, changes_from, left_pipe, with_value}
 use Rattle.yq_semantics.{specs.Judgement.{Judgement, MatchFails, and_then, gives, refuses, ExprError}, specs.Meaning.roots_of}
-use Rattle.yq_semantics.{specs.Operations.Operation, specs.Pipes.places, specs.Places.{FoundPlace, for_each, root_place}}
-use Rattle.yq_semantics.{specs.Plans.{all_ops, change_ops, ops_of, plan}, specs.PlacesApart.AreIn}
-use Rattle.yq_semantics.{specs.Program.{Update, assign, comment, delete}, specs.declared.refusal.Refusal.TheVariants.BadCommentText}
-use Rattle.yq_semantics.specs.RightValues.{right_value}
+use Rattle.yq_semantics.{specs.Operations.Operation, specs.Pipes.places, specs.Places.{FoundPlace, for_each}}
+use Rattle.yq_semantics.{specs.Plans.{all_ops, change_ops, ops_of, plan}, specs.PlacesApart.AreIn, specs.Program.Update}
 use Rattle.yq_eval.{specs.PlaceView.{places_of, put_behind}, specs.TreeScalars.HaveScalars, proofs.EachLaws.{fails_then, put_both}}
 use Rattle.yq_expr.specs.Parts.{IsInOrder, IsPlanPart, document_ops, ops_from, rest_ops}
 use Rattle.yq_eval.specs.declared.matching.place.FoundPlace as declared
-use Rattle.yq_semantics.specs.declared.program.Operator.TheVariants as operator
 
 -- what comes of two, one after the other
 abbrev both : {A : Type 0} → Judgement (List A) → Judgement (List A) → Judgement (List A)
@@ -28,9 +24,8 @@ drop_have (suc n) [] h = tt
 drop_have (suc n) (p ∷ ps) h = drop_have n ps h.1
 
 take_have : (n : ℕ) (ps : List FoundPlace) → HaveScalars ps → HaveScalars (take n ps)
-take_have zero ps h = tt
-take_have (suc n) [] h = tt
 take_have (suc n) (p ∷ ps) h = (h.0, take_have n ps h.1)
+take_have _ _ h = tt
 
 drop_in : (root : Node) (n : ℕ) (ps : List FoundPlace) → AreIn root ps → AreIn root (drop n ps)
 drop_in root zero ps h = h
@@ -38,9 +33,8 @@ drop_in root (suc n) [] h = tt
 drop_in root (suc n) (p ∷ ps) h = drop_in root n ps h.1
 
 take_in : (root : Node) (n : ℕ) (ps : List FoundPlace) → AreIn root ps → AreIn root (take n ps)
-take_in root zero ps h = tt
-take_in root (suc n) [] h = tt
 take_in root (suc n) (p ∷ ps) h = (h.0, take_in root n ps h.1)
+take_in root _ _ h = tt
 
 -- some places of those that have such scalars have them, too
 pub some_have : (m n : ℕ) (ps : List FoundPlace) → HaveScalars ps → HaveScalars (take m (drop n ps))
@@ -73,33 +67,17 @@ each_both f (x ∷ xs) ys = ap (both (f x)) (each_both f xs ys) ∙ both_assoc (
 value_both : (root : Node) (right : Judgement Node) (f : FoundPlace → Node → Judgement (List Changed)) (ps qs : List FoundPlace) → with_value root right f (ps ++ qs) ≡ both (with_value root right f ps) (with_value root right f qs)
 value_both root right f [] qs = sym (both_none (with_value root right f qs))
 value_both root (refuses why) f (p ∷ ps) qs = refl
-value_both root (gives v) f (p ∷ ps) [] = ap (λ (xs : List FoundPlace). at_each root (λ q. f q v) (p ∷ xs)) (append-nil ps) ∙ sym (both_nothing (at_each root (λ q. f q v) (p ∷ ps)))
-  where
-    both_nothing : (j : Judgement (List Changed)) → both j (gives []) ≡ j
-    both_nothing (gives x) = ap gives (append-nil x)
-    both_nothing (refuses why) = refl
+value_both root (gives v) f (p ∷ ps) [] = search (rules, append-nil)
 value_both root (gives v) f (p ∷ ps) (q ∷ qs) = each_both (λ x. and_then (all_allowed root) (f x v)) (p ∷ ps) (q ∷ qs)
 
-changes_both : (doc : ℕ) (room : Room) (root : Node) (u : Update) (ps qs : List FoundPlace) → changes_at doc room root u (ps ++ qs) ≡ both (changes_at doc room root u ps) (changes_at doc room root u qs)
-changes_both doc room root (assign left operator.Set right) ps qs = value_both root (right_value doc right (root_place root)) put_with_path ps qs
-changes_both doc room root (assign left operator.Modify right) ps qs = each_both (λ p. and_then (all_allowed root) (and_then (put_with_path p) (right_value doc right p))) ps qs
-changes_both doc room root (assign left operator.Add right) ps qs = value_both root (right_value doc right (root_place root)) add_at ps qs
-changes_both doc room root (delete left) ps qs = each_both (λ p. and_then (all_allowed root) (remove_at p)) ps qs
-changes_both doc room root (comment left place text) ps qs = each_both (λ p. and_then (all_allowed root) (comment_at room place text p)) ps qs
-
-pub changes_none : (doc : ℕ) (room : Room) (root : Node) (u : Update) → changes_at doc room root u [] ≡ gives []
-changes_none doc room root u = search rules
+pub changes_both : (doc : ℕ) (room : Room) (root : Node) (u : Update) (ps qs : List FoundPlace) → changes_at doc room root u (ps ++ qs) ≡ both (changes_at doc room root u ps) (changes_at doc room root u qs)
+changes_both doc room root u ps qs = search (rules, value_both, each_both)
 
 -- ---- the operations of a part
 
-ops_join : (doc : ℕ) (cs ds : List Changed) → ops_of doc (cs ++ ds) ≡ ops_of doc cs ++ ops_of doc ds
+pub ops_join : (doc : ℕ) (cs ds : List Changed) → ops_of doc (cs ++ ds) ≡ ops_of doc cs ++ ops_of doc ds
 ops_join doc [] ds = refl
 ops_join doc (c ∷ cs) ds = ap (λ ops. change_ops doc c ++ ops) (ops_join doc cs ds) ∙ sym (append_assoc (change_ops doc c) (ops_of doc cs) (ops_of doc ds))
-
--- those of changes after others
-ops_behind : (doc : ℕ) (before : List Operation) (cs : List Changed) (j : Judgement (List Changed)) →
-    put_behind before (and_then (λ xs. gives (ops_of doc xs)) (both (gives cs) j)) ≡ put_behind (before ++ ops_of doc cs) (and_then (λ xs. gives (ops_of doc xs)) j)
-ops_behind doc before cs j = search (rules, ops_join, append_assoc)
 
 split_places : (place to : ℕ) (ps : List FoundPlace) → place ≤ to → drop place ps ≡ take (to - place) (drop place ps) ++ drop to ps
 split_places place to ps h =
@@ -108,30 +86,29 @@ split_places place to ps h =
     ∙ ap (λ (qs : List FoundPlace). take (to - place) (drop place ps) ++ qs) (drop-drop (to - place) place ps ∙ ap (λ (n : ℕ). drop n ps) end)
 
 module _ (u : Update) (doc : ℕ) (room : Room) (root : Node) (ps : List FoundPlace) (found : places doc (left_pipe u) root ≡ gives ps) where
-  ops_there : (place : ℕ) → document_ops u doc room root place ≡ and_then (λ cs. gives (ops_of doc cs)) (changes_at doc room root u (drop place ps))
+  pub ops_there : (place : ℕ) → document_ops u doc room root place ≡ and_then (λ cs. gives (ops_of doc cs)) (changes_at doc room root u (drop place ps))
   ops_there place = ap (and_then (λ qs. and_then (λ cs. gives (ops_of doc cs)) (changes_at doc room root u (drop place qs)))) found
 
   -- from the end of the places on nothing is left
   none_left : (place : ℕ) → length ps ≤ place → document_ops u doc room root place ≡ gives []
-  none_left place past = search (rules, ops_there, drop_all, changes_none)
+  none_left place past = search (rules, ops_there, drop_all)
 
   pub none_part : (before after : List Operation) (place : ℕ) → length ps ≤ place → after ≡ before → IsPlanPart (document_ops u doc room root) place before after None
   none_part before after place past same = ap (put_behind before) (none_left place past) ∙ ap gives (append-nil before ∙ sym same)
 
   -- the operations at some places, and those of the others
-  module _ (before after : List Operation) (place to : ℕ) (cs : List Changed) (order : place < to) (changed : changes_at doc room root u (take (to - place) (drop place ps)) ≡ gives cs) (is : after ≡ before ++ ops_of doc cs) where
+  module _ (before after : List Operation) (place to : ℕ) (cs : List Changed) (order : place ≤ to) (changed : changes_at doc room root u (take (to - place) (drop place ps)) ≡ gives cs) (is : after ≡ before ++ ops_of doc cs) where
     goes_on : put_behind before (document_ops u doc room root place) ≡ put_behind after (document_ops u doc room root to)
     goes_on =
-        let le : place ≤ to = omega (arith, order) in
         ap (put_behind before) (ops_there place)
-        ∙ (ap (λ (qs : List FoundPlace). put_behind before (and_then (λ xs. gives (ops_of doc xs)) (changes_at doc room root u qs))) (split_places place to ps le)
+        ∙ (ap (λ (qs : List FoundPlace). put_behind before (and_then (λ xs. gives (ops_of doc xs)) (changes_at doc room root u qs))) (split_places place to ps order)
         ∙ (ap (λ j. put_behind before (and_then (λ xs. gives (ops_of doc xs)) j)) (changes_both doc room root u (take (to - place) (drop place ps)) (drop to ps))
         ∙ (ap (λ j. put_behind before (and_then (λ xs. gives (ops_of doc xs)) (both j (changes_at doc room root u (drop to ps))))) changed
-        ∙ (ops_behind doc before cs (changes_at doc room root u (drop to ps))
+        ∙ ((search (rules, ops_join, append_assoc))
         ∙ (λ i. put_behind (sym is i) (sym (ops_there to) i))))))
 
     pub more_part : IsPlanPart (document_ops u doc room root) place before after (Some to)
-    more_part = (order, goes_on)
+    more_part = goes_on
 
     pub last_part : length ps ≤ to → IsPlanPart (document_ops u doc room root) place before after None
     last_part past = goes_on ∙ (ap (put_behind after) (none_left to past) ∙ ap gives (append-nil after))
@@ -153,7 +130,7 @@ module _ (u : Update) (rooms : ℕ → Room) (docs : List Document) (doc : ℕ) 
   abbrev later : Judgement (List Operation)
   later = rest_ops u rooms docs (suc doc) 0
 
-  rest_there : (place : ℕ) → rest_ops u rooms docs doc place ≡ both (here place) later
+  pub rest_there : (place : ℕ) → rest_ops u rooms docs doc place ≡ both (here place) later
   rest_there place = ap (λ (ds : List Document). ops_from u rooms doc place (roots_of ds)) at
 
   -- after a document the next one comes
@@ -174,26 +151,15 @@ module _ (u : Update) (rooms : ℕ → Room) (docs : List Document) (doc : ℕ) 
 one_document : (n : ℕ) (j : Judgement (List FoundPlace)) (f : List FoundPlace → Judgement (List Changed)) (k : Judgement (List (List Changed))) →
     and_then (λ css. gives (all_ops false n css)) (and_then (λ first. and_then (λ others. gives (first ∷ others)) k) (and_then f j))
     ≡ both (and_then (λ ps. and_then (λ cs. gives (ops_of n cs)) (f ps)) j) (and_then (λ css. gives (all_ops false (suc n) css)) k)
-one_document n (refuses why) f k = refl
-one_document n (gives ps) f k = go (f ps) k
-  where
-    go : (i : Judgement (List Changed)) (l : Judgement (List (List Changed))) → and_then (λ css. gives (all_ops false n css)) (and_then (λ first. and_then (λ others. gives (first ∷ others)) l) i)
-        ≡ both (and_then (λ cs. gives (ops_of n cs)) i) (and_then (λ css. gives (all_ops false (suc n) css)) l)
-    go (refuses why) l = refl
-    go (gives cs) (refuses why) = refl
-    go (gives cs) (gives css) = refl
+one_document n j f k = search rules
 
 all_from : (u : Update) (rooms : ℕ → Room) (n : ℕ) (roots : List Node) → and_then (λ css. gives (all_ops false n css)) (changes_from u rooms n roots) ≡ ops_from u rooms n 0 roots
 all_from u rooms n [] = refl
-all_from u rooms n (root ∷ roots) =
-    one_document n (places n (left_pipe u) root) (changes_at n (rooms n) root u) (changes_from u rooms (suc n) roots)
-    ∙ ap (both (document_ops u n (rooms n) root 0)) (all_from u rooms (suc n) roots)
+all_from u rooms n (root ∷ roots) = search (rules, one_document, all_from u rooms (suc n) roots)
 
 -- it is what is left from the first place on
 pub whole_plan : (u : Update) (rooms : ℕ → Room) (docs : List Document) → IsInOrder u → plan u rooms docs ≡ rest_ops u rooms docs 0 0
-whole_plan u rooms docs h =
-    (λ i. and_then (λ css. gives (all_ops (h.stays i) 0 css)) (if h.comment i then changes_from u rooms 0 (roots_of docs) else refuses BadCommentText))
-    ∙ all_from u rooms 0 (roots_of docs)
+whole_plan u rooms docs h = search (rules, all_from, h.stays, h.comment)
 
 -- after the last document nothing is left
 pub nothing_left : (u : Update) (rooms : ℕ → Room) (docs : List Document) (doc place : ℕ) → length docs ≤ doc → rest_ops u rooms docs doc place ≡ gives []

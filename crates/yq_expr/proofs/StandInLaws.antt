@@ -1,27 +1,19 @@
 -- A value is refused at a place where another one is that is nested as deep: which changes are refused alike.
-use Rattle.std.proofs.Common.{◌≡◌, ℕ, suc, ◌+◌, ◌<◌, ◌≤◌, min, max, nat_lt, Bool, true, false, ◌||◌, List, [], ◌∷◌, ◌++◌, length}
-use Rattle.std.proofs.Common.{if◌then◌else◌, refl, sym, ap, ◌∙◌, arith, rules, Option, Some, None, is_some}
-use Rattle.std.{proofs.lemmas.Bool.Decides.nat_tests, specs.List.list_any}
-use Rattle.yq_core.{specs.Inline.depth_limit, specs.Keys.{depth, deepest}, specs.Paths.{Step, To, child_at, node_at}}
+use Rattle.std.proofs.Common.{◌≡◌, ℕ, suc, ◌+◌, ◌<◌, ◌≤◌, min, max, nat_lt, Bool, true, false, ◌||◌, List, [], ◌∷◌, ◌++◌, length, refl, sym}
+use Rattle.std.{proofs.Common.{ap, ◌∙◌, arith, rules, Option, Some, None}, proofs.lemmas.Bool.Decides.nat_tests, specs.List.list_any}
+use Rattle.yq_core.{specs.Inline.depth_limit, specs.Keys.{depth, deepest}, specs.Paths.{Step, To, node_at}}
 use Rattle.yq_core.{specs.Anchors.{names_in, names_of}, specs.Tree.{Label, Node, alias, scalar, list, Children, none, child, children_of}}
 use Rattle.yq_planner.{specs.StandIns.{AreOneKind, texts, lists, maps, HaveNoAlias, IsStandIn, verdict}, proofs.UsedLaws.none_used}
-use Rattle.yq_semantics.specs.Changes.{Addition, appends, overwrites, Change, replaces, adds, Changed, added, addition, additions, add_at}
-use Rattle.yq_semantics.specs.Changes.{add_below, all_allowed, created, has_long_key, have_long_key, is_deep, is_overlong_key, is_too_deep}
-use Rattle.yq_semantics.specs.Changes.{is_too_long, is_used_inside, nested, overwrites_used, put_below, put_with_path, step_key, takes_used}
-use Rattle.yq_semantics.{specs.Changes.{value_in, writes_long_key}, specs.Judgement.{Judgement, and_then, gives, refuses}}
-use Rattle.yq_semantics.{specs.Places.FoundPlace, specs.Program.{PathStep, key, index, each, is_index}}
-use Rattle.yq_semantics.specs.declared.refusal.Refusal.TheVariants.{AnchorInUse, IndexOutOfRange, KeyTooLong, TooDeep}
+use Rattle.yq_semantics.specs.Changes.{Addition, appends, overwrites, Change, replaces, adds, added, addition, additions, add_at, add_below}
+use Rattle.yq_semantics.specs.Changes.{all_allowed, created, has_long_key, have_long_key, is_deep, is_overlong_key, is_too_deep}
+use Rattle.yq_semantics.specs.Changes.{is_too_long, is_used_inside, nested, overwrites_used, put_below, put_with_path, takes_used, value_in}
+use Rattle.yq_semantics.{specs.Changes.writes_long_key, specs.Judgement.{and_then, gives}, specs.Places.FoundPlace}
+use Rattle.yq_semantics.specs.Program.{PathStep, key, index, each}
 use Rattle.yq_expr.specs.EffectView.{is_mapping}
 use Rattle.yq_core.specs.Tree as tree
 use Rattle.yq_core.specs.declared.kind.Kind.TheVariants as kinds
 
 -- ---- one change
-
--- by what is found of it
-abbrev judged : Bool → Bool → Bool → Changed → Judgement (List Changed)
-judged l d u c =
-    and_then (λ first. and_then (λ others. gives (first ++ others)) (gives []))
-    (and_then (λ e. gives (e ∷ [])) (if l then refuses KeyTooLong else (if d then refuses TooDeep else (if u then refuses AnchorInUse else gives c))))
 
 allowed_alike : (root : Node) (x : List Step) (c e : Change) → is_too_long c ≡ is_too_long e → is_too_deep (length x) c ≡ is_too_deep (length x) e → takes_used root x c ≡ takes_used root x e →
     verdict (all_allowed root ((x, c) ∷ [])) ≡ verdict (all_allowed root ((x, e) ∷ []))
@@ -47,11 +39,7 @@ false_lt : (a b : ℕ) → nat_lt a b ≡ false → b ≤ a
 false_lt a b h = grind (arith, nat_tests)
 
 capped : (n a b : ℕ) → b ≡ min (suc depth_limit) a → nat_lt depth_limit (n + a) ≡ nat_lt depth_limit (n + b)
-capped n a b is = go (nat_lt depth_limit (n + a)) refl
-  where
-    go : (x : Bool) → nat_lt depth_limit (n + a) ≡ x → x ≡ nat_lt depth_limit (n + b)
-    go true h = let more = true_lt depth_limit (n + a) h in sym (lt_true depth_limit (n + b) (omega (arith, is, more)))
-    go false h = let few = false_lt depth_limit (n + a) h in sym (lt_false depth_limit (n + b) (omega (arith, is, few)))
+capped n a b is = search (rules, true_lt, lt_true, false_lt, lt_false)
 
 alike : (v w : Node) → IsStandIn v w → AreAlike v w
 alike v w h = record { long = h.fit ∙ sym h.short; deep = λ n. capped n (depth v) (depth w) h.deep }
@@ -60,10 +48,7 @@ nested_alike : (ms : List PathStep) (v w : Node) → AreAlike v w → AreAlike (
 nested_alike [] v w h = h
 nested_alike (key k ∷ ms) v w h =
     let below = nested_alike ms v w h in
-    record {
-      long = ap (λ b. is_overlong_key (Some k) || (b || false)) below.long;
-      deep = λ n. ap (nat_lt depth_limit) (more n (depth (nested ms v))) ∙ (below.deep (suc n) ∙ sym (ap (nat_lt depth_limit) (more n (depth (nested ms w)))));
-    }
+    search (rules, more, below.deep)
   where
     more : (n d : ℕ) → n + suc (max d 0) ≡ suc n + d
     more n d = omega arith
@@ -71,16 +56,11 @@ nested_alike (index i ∷ ms) v w h = nested_alike ms v w h
 nested_alike (each ∷ ms) v w h = nested_alike ms v w h
 
 created_long : (n : Node) (m : PathStep) (ms : List PathStep) (v w : Node) → AreAlike v w → is_too_long (created n m ms v) ≡ is_too_long (created n m ms w)
-created_long (tree.map anchor cs) m ms v w h = ap (λ b. (is_overlong_key (step_key m) || b) || false) (nested_alike ms v w h).long
-created_long (alias name) m ms v w h = (nested_alike (m ∷ ms) v w h).long
-created_long (scalar anchor kind text) m ms v w h = (nested_alike (m ∷ ms) v w h).long
-created_long (list anchor cs) m ms v w h = (nested_alike (m ∷ ms) v w h).long
+created_long n m ms v w h = search (rules, nested_alike)
 
 created_deep : (outer : ℕ) (n : Node) (m : PathStep) (ms : List PathStep) (v w : Node) → AreAlike v w → is_too_deep outer (created n m ms v) ≡ is_too_deep outer (created n m ms w)
 created_deep outer (tree.map anchor cs) m ms v w h = ap (λ b. b || false) ((nested_alike ms v w h).deep (suc outer))
-created_deep outer (alias name) m ms v w h = (nested_alike (m ∷ ms) v w h).deep outer
-created_deep outer (scalar anchor kind text) m ms v w h = (nested_alike (m ∷ ms) v w h).deep outer
-created_deep outer (list anchor cs) m ms v w h = (nested_alike (m ∷ ms) v w h).deep outer
+created_deep outer _ m ms v w h = (nested_alike (m ∷ ms) v w h).deep outer
 
 created_used : (root : Node) (x : List Step) (n : Node) (m : PathStep) (ms : List PathStep) (v w : Node) → takes_used root x (created n m ms v) ≡ takes_used root x (created n m ms w)
 created_used root x n m ms v w = search rules
@@ -91,12 +71,7 @@ below_alike : (root : Node) (x : List Step) (n : Node) (ms : List PathStep) (v w
     verdict (and_then (all_allowed root) (and_then (λ c. gives ((x, c) ∷ [])) (put_below n ms v)))
     ≡ verdict (and_then (all_allowed root) (and_then (λ c. gives ((x, c) ∷ [])) (put_below n ms w)))
 below_alike root x n [] v w h = allowed_alike root x (replaces v) (replaces w) h.long (h.deep (length x)) refl
-below_alike root x n (m ∷ ms) v w h = go (list_any is_index (m ∷ ms))
-  where
-    go : (b : Bool) → verdict (and_then (all_allowed root) (and_then (λ c. gives ((x, c) ∷ [])) (if b then refuses IndexOutOfRange else gives (created n m ms v))))
-        ≡ verdict (and_then (all_allowed root) (and_then (λ c. gives ((x, c) ∷ [])) (if b then refuses IndexOutOfRange else gives (created n m ms w))))
-    go true = refl
-    go false = allowed_alike root x (created n m ms v) (created n m ms w) (created_long n m ms v w h) (created_deep (length x) n m ms v w h) (created_used root x n m ms v w)
+below_alike root x n (m ∷ ms) v w h = search (rules, allowed_alike, created_long, created_deep, created_used)
 
 pub put_alike : (root : Node) (p : FoundPlace) (v w : Node) → IsStandIn v w →
     verdict (and_then (all_allowed root) (put_with_path p v)) ≡ verdict (and_then (all_allowed root) (put_with_path p w))
@@ -108,49 +83,23 @@ or_parts : (a b c : Bool) → (a || (b || c)) ≡ false → (a ≡ false) × ((b
 or_parts a b c h = search rules
 
 value_added : (cs : Children) (k : Option (List ℕ)) (v : Node) → value_in (addition cs k v) ≡ v
-value_added cs None v = refl
-value_added cs (Some k) v = go (is_some (child_at (To k) cs))
-  where
-    go : (b : Bool) → value_in (if b then overwrites k v else appends (Some k) v) ≡ v
-    go true = refl
-    go false = refl
+value_added cs k v = search rules
 
 short_added : (cs : Children) (k : Option (List ℕ)) (v : Node) → is_overlong_key k ≡ false → has_long_key v ≡ false → writes_long_key (addition cs k v) ≡ false
-short_added cs None v short fit = fit
-short_added cs (Some k) v short fit = go (is_some (child_at (To k) cs))
-  where
-    go : (b : Bool) → writes_long_key (if b then overwrites k v else appends (Some k) v) ≡ false
-    go true = fit
-    go false = ap (λ b. b || has_long_key v) short ∙ fit
+short_added cs k v short fit = search rules
 
 -- none of several has too long a key
 all_short : (cs ds : Children) → have_long_key ds ≡ false → list_any writes_long_key (additions cs ds) ≡ false
 all_short cs none h = refl
-all_short cs (child label n ds) h =
-    let parts = or_parts (is_overlong_key label.key) (has_long_key n) (have_long_key ds) h in
-    ap (λ b. b || list_any writes_long_key (additions cs ds)) (short_added cs label.key n parts.0 parts.1.0) ∙ all_short cs ds parts.1.1
+all_short cs (child label n ds) h = search (rules, or_parts, short_added, all_short cs ds)
 
 lt_either : (l m a b : ℕ) → (nat_lt l (m + a) || nat_lt l (m + b)) ≡ nat_lt l (m + max a b)
-lt_either l m a b = go (nat_lt l (m + a)) (nat_lt l (m + b)) refl refl
-  where
-    go : (x y : Bool) → nat_lt l (m + a) ≡ x → nat_lt l (m + b) ≡ y → (x || y) ≡ nat_lt l (m + max a b)
-    go true y h k = let more = true_lt l (m + a) h in sym (lt_true l (m + max a b) (omega (arith, more)))
-    go false true h k = let more = true_lt l (m + b) k in sym (lt_true l (m + max a b) (omega (arith, more)))
-    go false false h k = let few = false_lt l (m + a) h in let less = false_lt l (m + b) k in sym (lt_false l (m + max a b) (omega (arith, few, less)))
+lt_either l m a b = search (rules, true_lt, lt_true, false_lt, lt_false)
 
 -- the deepest of several is too deep
 any_deep : (m : ℕ) (cs : Children) (label : Label) (n : Node) (ds : Children) → list_any (λ x. is_deep m (value_in x)) (additions cs (child label n ds)) ≡ nat_lt depth_limit (m + deepest (child label n ds))
-any_deep m cs label n none = ap (λ v. is_deep m v || false) (value_added cs label.key n) ∙ alone (nat_lt depth_limit (m + depth n)) ∙ ap (nat_lt depth_limit) (none_more m (depth n))
-  where
-    alone : (b : Bool) → (b || false) ≡ b
-    alone true = refl
-    alone false = refl
-
-    none_more : (a d : ℕ) → a + d ≡ a + max d 0
-    none_more a d = omega arith
-any_deep m cs label n (child next o ds) =
-    (λ i. is_deep m (value_added cs label.key n i) || any_deep m cs next o ds i)
-    ∙ lt_either depth_limit m (depth n) (deepest (child next o ds))
+any_deep m cs label n none = search (rules, value_added)
+any_deep m cs label n (child next o ds) = search (rules, value_added, lt_either, any_deep m cs next o ds)
 
 module _ (root : Node) (x : List Step) where
   unused : HaveNoAlias (names_of root) → (o : Option Node) → is_used_inside (names_of root) o ≡ false
@@ -175,6 +124,7 @@ module _ (root : Node) (x : List Step) where
       suc (deepest (child m o es)) ≡ min (suc depth_limit) (suc (deepest (child l n ds))) →
       verdict (all_allowed root ((x, adds (additions cs (child l n ds))) ∷ [])) ≡ verdict (all_allowed root ((x, adds (additions cs (child m o es))) ∷ []))
   adds_alike cs l m n o ds es unused fit short deep =
+      let one_more : (a d : ℕ) → suc a + d ≡ a + suc d = λ a d. omega arith in
       allowed_alike root x (adds (additions cs (child l n ds))) (adds (additions cs (child m o es)))
       (all_short cs (child l n ds) fit ∙ sym (all_short cs (child m o es) short))
       (any_deep (suc (length x)) cs l n ds
@@ -182,9 +132,6 @@ module _ (root : Node) (x : List Step) where
       ∙ (capped (length x) (suc (deepest (child l n ds))) (suc (deepest (child m o es))) deep
       ∙ (ap (nat_lt depth_limit) (sym (one_more (length x) (deepest (child m o es)))) ∙ sym (any_deep (suc (length x)) cs m o es)))))
       (unused (child l n ds) ∙ sym (unused (child m o es)))
-    where
-      one_more : (a d : ℕ) → suc a + d ≡ a + suc d
-      one_more a d = omega arith
 
   replaced : (v w : Node) → AreAlike v w → verdict (all_allowed root ((x, replaces v) ∷ [])) ≡ verdict (all_allowed root ((x, replaces w) ∷ []))
   replaced v w same = allowed_alike root x (replaces v) (replaces w) same.long (same.deep (length x)) refl
@@ -199,8 +146,7 @@ module _ (root : Node) (x : List Step) where
   added_alike (scalar anchor kinds.Null text) free (texts {a} {b} {t} {u}) h = replaced (scalar a kinds.Text t) (scalar b kinds.Text u) (alike _ _ h)
   added_alike (scalar anchor kinds.Null text) free (lists {a} {b} {l} {m} {n} {o} {cs} {ds}) h = replaced (list a (child l n cs)) (list b (child m o ds)) (alike _ _ h)
   added_alike (scalar anchor kinds.Null text) free (maps {a} {b} {l} {m} {n} {o} {cs} {ds}) h = replaced (tree.map a (child l n cs)) (tree.map b (child m o ds)) (alike _ _ h)
-  added_alike (scalar anchor kinds.Text text) free (texts {a} {b} {t} {u}) h =
-      allowed_alike root x (replaces (scalar None kinds.Text (text ++ t))) (replaces (scalar None kinds.Text (text ++ u))) refl refl refl
+  added_alike (scalar anchor kinds.Text text) free (texts {a} {b} {t} {u}) h = search (rules, allowed_alike)
   added_alike (scalar anchor kinds.Text text) free lists h = refl
   added_alike (scalar anchor kinds.Text text) free maps h = refl
   added_alike (scalar anchor kinds.Bool text) free texts h = refl

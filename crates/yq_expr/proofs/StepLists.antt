@@ -1,5 +1,5 @@
 -- Steps that are walked back, the last one first.
-use Rattle.std.proofs.Common.{rules, ◌≡◌, List, [], ◌∷◌, ◌++◌, map, reverse, ◌∙◌, append_assoc, refl, false}
+use Rattle.std.proofs.Common.{rules, ◌≡◌, List, [], ◌∷◌, ◌++◌, map, reverse, append_assoc, refl, false}
 use Rattle.std.proofs.lemmas.List.{map-append, reverse-append}
 use Rattle.yq_core.specs.Tree.{Node}
 use Rattle.yq_semantics.{specs.Changes.{add_below, is_there, put_with_path}, specs.Places.FoundPlace, specs.Program.PathStep}

@@ -1,5 +1,5 @@
 -- The sum of two scalars with which a right side begins.
-use Rattle.std.proofs.Common.{rules, ◌≡◌, ℕ, false, List, [], ◌∷◌, length, map, get_or, None, sym, ap, ◌∙◌, arith}
+use Rattle.std.proofs.Common.{rules, ◌≡◌, ℕ, false, List, [], ◌∷◌, length, map, get_or, None, arith}
 use Rattle.yq_core.{specs.declared.kind.Kind.Kind, specs.Tree.{Node, scalar}}
 use Rattle.yq_nodes.specs.Nodes.{kind_of, text_of}
 use Rattle.yq_expr.specs.Summand.{IsSummand}
@@ -20,13 +20,7 @@ pub two_added : {X : Type 0} (view : X → Term) (doc : ℕ) (p : FoundPlace) (x
     IsSummand k s (term_value doc p (view x)) → IsSummand l r (term_value doc p (view y)) → right_value doc (map view xs) p ≡ scalar_sum k s l r
 two_added view doc p [] x y k l s r long is at one two = absurd (omega (arith, long))
 two_added view doc p (a ∷ []) x y k l s r long is at one two = absurd (omega (arith, long))
-two_added {X} view doc p (a ∷ (b ∷ [])) x y k l s r long is at one two =
-    let added = λ (v w : Node). and_then (λ (u : Node). gives u) (sum v w) in
-    ap (λ (z : X). and_then (λ v. and_then (added v) (term_value doc p (view b))) (term_value doc p (view z))) (sym is)
-    ∙ (ap (λ (z : X). and_then (λ v. and_then (added v) (term_value doc p (view z))) (term_value doc p (view x))) (sym at)
-    ∙ (ap (and_then (λ v. and_then (added v) (term_value doc p (view y)))) one.0
-    ∙ (ap (and_then (added (scalar None k s))) two.0
-    ∙ (then_same (sum (scalar None k s) (scalar None l r)) ∙ scalars_added k l s r one.1 two.1))))
+two_added {X} view doc p (a ∷ (b ∷ [])) x y k l s r long is at one two = search (rules, then_same, scalars_added)
 two_added view doc p (a ∷ (b ∷ (c ∷ cs))) x y k l s r long is at one two = absurd (omega (arith, long))
 
 -- a scalar is copied as it is

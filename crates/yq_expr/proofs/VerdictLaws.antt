@@ -1,6 +1,7 @@
 -- Whether something comes of an update, place by place and document by document.
 use Rattle.std.proofs.Common.{rules, Result, Option, IfOk, IfSome, ◌≡◌, ℕ, suc, ◌+◌, ◌<◌, ◌≤◌, Bool, true, false, List, [], ◌∷◌, ◌++◌}
 use Rattle.std.{proofs.Common.{length, drop, if◌then◌else◌, refl, sym, ap, ◌∙◌, subst, add-one}, proofs.lemmas.List.drop_all}
+use Rattle.std.proofs.lemmas.Bool.{false≢true}
 use Rattle.yq_core.{specs.Anchors.names_of, specs.Tree.Node}
 use Rattle.yq_documents.specs.Documents.{Document}
 use Rattle.yq_eval.{specs.PlaceView.put_behind, proofs.EachLaws.fails_then}
@@ -8,10 +9,10 @@ use Rattle.yq_planner.specs.StandIns.{HaveNoAlias, IsStandIn, verdict}
 use Rattle.yq_semantics.specs.Changes.{Room, add_at, all_allowed, at_each, changes_at, changes_from, changes_in, put_with_path}
 use Rattle.yq_semantics.specs.Changes.{update_changes, with_value}
 use Rattle.yq_semantics.{specs.Judgement.{Judgement, MatchFails, and_then, gives, refuses, ExprError}, specs.Meaning.roots_of}
-use Rattle.yq_semantics.{specs.Places.{FoundPlace, for_each, root_place}, specs.Plans.{all_ops, is_removal, plan}}
-use Rattle.yq_semantics.{specs.RightValues.right_value, specs.Program.{Stage, Term, Update, assign}}
-use Rattle.yq_semantics.specs.declared.program.Operator.{Operator}
+use Rattle.yq_semantics.{specs.Places.{FoundPlace, for_each, root_place}, specs.Plans.plan, specs.RightValues.right_value}
+use Rattle.yq_semantics.{specs.Program.{Stage, Term, Update, assign}, specs.declared.program.Operator.Operator}
 use Rattle.yq_expr.{specs.EffectView.{is_mapping, value_at}, proofs.AllChanges.value_there, proofs.StandInLaws.{add_alike, put_alike}}
+use Rattle.yq_expr.specs.Oversized.{StandsForOversized}
 use Rattle.yq_failure.specs.declared.failure.Failure.TheVariants as error
 use Rattle.yq_semantics.specs.declared.program.Operator.TheVariants as operator
 
@@ -37,10 +38,6 @@ behind_given before j h = let x = given j h in (before ++ x.0, ap (put_behind be
 pub behind_fails : {B : Type 0} (before : List B) (j : Judgement (List B)) (e : ExprError) → MatchFails e (verdict j) → MatchFails e (put_behind before j)
 behind_fails before j e h = fails_then (λ xs. gives (before ++ xs)) j e (fails_back e j h)
 
--- the same of what is made of it
-pub verdict_of : {A B : Type 0} (f : A → B) (j : Judgement A) → verdict (and_then (λ x. gives (f x)) j) ≡ verdict j
-verdict_of f j = search rules
-
 -- ---- places
 
 abbrev both_verdict : Judgement (Unit {0}) → Judgement (Unit {0}) → Judgement (Unit {0})
@@ -52,9 +49,7 @@ verdict_both g j k = search rules
 
 each_alike : {A B : Type 0} (f h : A → Judgement (List B)) → ((x : A) → verdict (f x) ≡ verdict (h x)) → (xs : List A) → verdict (for_each f xs) ≡ verdict (for_each h xs)
 each_alike f h same [] = refl
-each_alike f h same (x ∷ xs) =
-    verdict_both (λ first others. first ++ others) (f x) (for_each f xs)
-    ∙ ((λ i. both_verdict (same x i) (each_alike f h same xs i)) ∙ sym (verdict_both (λ first others. first ++ others) (h x) (for_each h xs)))
+each_alike f h same (x ∷ xs) = search (rules, verdict_both, each_alike f h same xs)
 
 -- a value that is added, or put, at each of places is refused where its stand-in is
 pub places_alike : (root v w : Node) (adds : Bool) (ps : List FoundPlace) → (adds ≡ true → is_mapping v ≡ true → HaveNoAlias (names_of root)) → IsStandIn v w →
@@ -67,6 +62,17 @@ pub value_judged : (root : Node) (right : Judgement Node) (adds : Bool) (ps : Li
     with_value root right (if adds then add_at else put_with_path) ps ≡ at_each root (value_at adds v) ps
 value_judged root right true ps v some is = value_there root right add_at ps v some is
 value_judged root right false ps v some is = value_there root right put_with_path ps v some is
+
+-- a value that no text can hold is refused where its stand-in is: one value for all places, and one that is put at a place
+pub oversized_judged : (root : Node) (right : Judgement Node) (adds : Bool) (ps : List FoundPlace) (w : Node) → 0 < length ps → StandsForOversized right w →
+    verdict (with_value root right (if adds then add_at else put_with_path) ps) ≡ verdict (at_each root (value_at adds w) ps)
+oversized_judged root right adds ps w some h =
+    ap verdict (value_judged root right adds ps h.0 some h.1)
+    ∙ places_alike root h.0 w adds ps (λ _ mapping. absurd (false≢true (sym (ap is_mapping h.2.is) ∙ mapping))) h.3
+
+pub oversized_put : (root : Node) (p : FoundPlace) (right : Judgement Node) (w : Node) → StandsForOversized right w →
+    verdict (and_then (all_allowed root) (and_then (put_with_path p) right)) ≡ verdict (and_then (all_allowed root) (put_with_path p w))
+oversized_put root p right w h = ap (λ j. verdict (and_then (all_allowed root) (and_then (put_with_path p) j))) h.1 ∙ put_alike root p h.0 w h.3
 
 -- an answer of which something is asked where it gives something
 pub ok_some : {A E B : Type 0} (r : Result (Option A) E) → B → IfOk r (λ o. IfSome o (λ _. B))
@@ -97,8 +103,7 @@ module _ (u : Update) (rooms : ℕ → Room) where
   document_refused docs i d all e at h so_far = subst (MatchFails e) (sym (from_document docs i d at) ∙ so_far) (go e (verdict (changes_in u i (rooms i) d.root)) h)
     where
       go : (x : ExprError) (j : Judgement (Unit {0})) → MatchFails x j → MatchFails x (both_verdict j (verdict (changes_from u rooms (i + 1) (roots_of (drop (i + 1) docs)))))
-      go (error.Fault why) j k = ap (λ l. both_verdict l (verdict (changes_from u rooms (i + 1) (roots_of (drop (i + 1) docs))))) k
-      go error.Memory j k = tt
+      go x j k = search rules
 
   -- after the last one nothing is refused
   pub documents_judged : (docs : List Document) (i : ℕ) (all : Judgement (Unit {0})) → length docs ≤ i → verdict (changes_from u rooms i (roots_of (drop i docs))) ≡ all → all ≡ gives tt
@@ -106,7 +111,7 @@ module _ (u : Update) (rooms : ℕ → Room) where
 
 -- the plan
 pub plan_judged : (u : Update) (rooms : ℕ → Room) (docs : List Document) → verdict (plan u rooms docs) ≡ verdict (update_changes u rooms (roots_of docs))
-plan_judged u rooms docs = verdict_of (all_ops (is_removal u) 0) (update_changes u rooms (roots_of docs))
+plan_judged u rooms docs = search rules
 
 -- an assignment by one value for all places
 pub assigned : (doc : ℕ) (room : Room) (root : Node) (left : List Stage) (op : Operator) (right ts : List Term) (ps : List FoundPlace) (adds : Bool) → op ≡ (if adds then operator.Add else operator.Set) → ts ≡ right →

@@ -6,5 +6,6 @@ pub mod Summand
 pub mod ManyKeys
 pub mod Parts
 pub mod JudgedChanges
+pub mod Oversized
 pub mod PlannedUpdates
 pub mod FixedPaths

@@ -7,6 +7,10 @@ use Rattle.yq_semantics.{specs.Meaning.roots_of, specs.Operations.Operation, spe
 use Rattle.yq_semantics.specs.Program.{Update}
 use Rattle.yq_eval.specs.PlaceView.{put_behind}
 
+-- how many bytes the values of a part may take, more or less (own)
+abbrev pub values_limit : ℕ
+values_limit = 2 ^ 28
+
 -- the operations of an update in the document of that number, at its places from the one of an index on (own)
 abbrev pub document_ops : Update → ℕ → Room → Node → ℕ → Judgement (List Operation)
 document_ops u doc room root place =
@@ -25,7 +29,7 @@ rest_ops u rooms docs doc place = ops_from u rooms doc place (roots_of (drop doc
 -- operations after others are what is left from a place on: all of it, or, where there is a next place, all but what is left from there on (own)
 abbrev pub IsPlanPart : (ℕ → Judgement (List Operation)) → ℕ → List Operation → List Operation → Option ℕ → Type 0
 IsPlanPart rest place before after None = put_behind before (rest place) ≡ gives after
-IsPlanPart rest place before after (Some next) = (place < next) × (put_behind before (rest place) ≡ put_behind after (rest next))
+IsPlanPart rest place before after (Some next) = put_behind before (rest place) ≡ put_behind after (rest next)
 
 -- operations are what is left of a plan from a place on, but for what is left from another one on (own)
 abbrev pub LeavesOps : Update → (ℕ → Room) → List Document → ℕ → ℕ → List Operation → ℕ → ℕ → Type 0

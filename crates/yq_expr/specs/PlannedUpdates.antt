@@ -14,6 +14,10 @@ use Rattle.yq_semantics.specs.declared.program.Update as declared
 abbrev pub IsUpdateAt : ℕ → Syntax → Update → Type 0
 IsUpdateAt nth program u = update_at nth (program_of program) ≡ Some u
 
+-- something is so of the update of that number of a program (own)
+abbrev pub ForUpdate : ℕ → Syntax → (Update → Type 0) → Type 0
+ForUpdate nth program P = (u : Update) → IsUpdateAt nth program u → P u
+
 -- what an update makes of the documents of a text, or why it is refused, by the room that the text has (own)
 abbrev pub meaning_in : Update → List ℕ → Judgement (List Document)
 meaning_in u t = meaning u (room_of t) (documents_of t)

@@ -9,6 +9,7 @@ ghost use Rattle.yq_eval.specs.TreeScalars.{HasScalars, HaveScalars};
 use crate::at_places::push_effect;
 use crate::document::{DocumentEffect, DocumentPlaces};
 use crate::effect::Action;
+use crate::oversized::oversized;
 use std::alloc::Global;
 use yq_documents::Documents;
 use yq_eval::{FoundPlace, FoundPlaces};
@@ -17,7 +18,7 @@ use yq_planner::Aliases;
 use yq_semantics::ExprError;
 
 /// Judges what is changed at a place.
-fn judge_place<'a, 't>(
+fn judge_effect<'a, 't>(
     alloc: Global,
     cut: &mut CutText<'_, '_>,
     effect: &DocumentEffect<'a, '_, '_>,
@@ -30,6 +31,31 @@ fn judge_place<'a, 't>(
     let mut changes = Vec::new(alloc);
     push_effect(alloc, cut, effect, place, &mut changes)?;
     Ok(())
+}
+
+/// The same, where the value that a place gets is found from there: by a small value, if no text can hold it.
+fn judge_place<'a, 't>(
+    alloc: Global,
+    cut: &mut CutText<'_, '_>,
+    effect: &DocumentEffect<'a, '_, '_>,
+    place: &FoundPlace<'a, 't>,
+) -> Result<(), ExprError>
+    requires { HasScalars (place_of place.now).node }
+    ensures same { cut.new ≡ cut.old }
+    ensures verdict { JudgesEffect effect.now cut.old (place_of place.now) result }
+{
+    let Action::Modify(terms) = effect.action else {
+        return judge_effect(alloc, cut, effect, place);
+    };
+    let text = cut.text();
+    let length = text.front.len().saturating_add(text.back.len());
+    match oversized(alloc, effect.doc, terms, place, length)? {
+        None => judge_effect(alloc, cut, effect, place),
+        Some(small) => {
+            let put = DocumentEffect::of(effect.doc, effect.aliases, Action::Put(&small));
+            judge_effect(alloc, cut, &put, place)
+        }
+    }
 }
 
 /// Judges what is changed at each of places.

@@ -14,6 +14,7 @@ use crate::changes::{changes_at, left};
 use crate::document::{DocumentPlaces, DocumentRoot};
 use crate::effect::Action;
 use crate::judged_places::judge_found;
+use crate::oversized::oversized;
 use crate::right_value::right_value;
 use bumpalo::Bump;
 use std::alloc::{AllocError, Global};
@@ -139,6 +140,10 @@ fn judge_right<'a, 't>(
     ensures { JudgesVerdict result (with_right found.now adds right.now) }
 {
     let from = FoundPlace::of_root(&found.document.root);
+    let length = found.document.text_length();
+    if let Some(small) = oversized(alloc, found.document.doc, right, &from, length)? {
+        return judge_one(alloc, found, aliases, adds, &small);
+    }
     let value = right_value(alloc, found.document.doc, right, &from)?;
     judge_value(alloc, found, aliases, adds, &value)
 }

@@ -10,6 +10,7 @@ mod judged_places;
 mod judging;
 mod many_keys;
 mod modified;
+mod oversized;
 mod parts;
 mod placed;
 mod planning;

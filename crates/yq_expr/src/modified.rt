@@ -3,10 +3,13 @@ ghost use Rattle.std.specs.Prelude.{◌≡◌, ◌<◌, ◌≤◌, IfErr, IfOk, 
 ghost use Rattle.yq_nodes.specs.Nodes.{node_of};
 ghost use Rattle.yq_semantics.specs.Judgement.{ExprError};
 ghost use Rattle.yq_eval.{specs.PlaceView.{place_of, places_of}, specs.TreeScalars.{HasScalars, HaveScalars}};
+ghost use Rattle.yq_expr.specs.Parts.{values_limit};
 ghost use Rattle.yq_failure.specs.declared.failure.Failure.TheVariants as failure;
 
+use crate::document::DocumentRoot;
+use crate::oversized::oversized;
 use crate::right_value::right_value;
-use crate::weights::weight;
+use crate::weights::{VALUES_LIMIT, weight};
 use bumpalo::Bump;
 use std::alloc::Global;
 use yq_documents::Documents;
@@ -14,66 +17,69 @@ use yq_eval::{FoundPlace, find};
 use yq_nodes::Node;
 use yq_semantics::{Assignment, ExprError, Stage, Term};
 
-/// How many bytes the value takes that terms give from a place in document `doc`; nothing, where they are
-/// refused.
+/// How many bytes the value takes that terms give from a place in a document: as many as a number may say, where
+/// no text can hold it; nothing, where they are refused.
 fn weight_there<'a, 't>(
     alloc: Global,
-    doc: usize,
+    document: &DocumentRoot<'a, 't>,
     right: &'a [Term],
     place: &FoundPlace<'a, 't>,
 ) -> Result<usize, ExprError>
     requires { HasScalars (place_of place.now).node }
     ensures { IfErr result (λ e. e ≡ failure.Memory) }
 {
-    match right_value(alloc, doc, right, place) {
+    if let Some(_small) = oversized(alloc, document.doc, right, place, document.text_length())? {
+        return Ok(usize::MAX);
+    }
+    match right_value(alloc, document.doc, right, place) {
         Ok(value) => Ok(weight(&value)),
         Err(ExprError::Fault(_)) => Ok(0),
         Err(ExprError::Memory) => Err(ExprError::Memory),
     }
 }
 
-/// For the values of how many of the first places there is room, one at least; and how many bytes of room
-/// are left then.
+/// For the values of how many of the first places there is room; and how many bytes of room are left then. Where
+/// all the room is left that a part has, there is room for one value at least.
 pub(crate) fn count_within<'a, 't>(
     alloc: Global,
-    doc: usize,
+    document: &DocumentRoot<'a, 't>,
     right: &'a [Term],
     places: &[FoundPlace<'a, 't>],
     room: usize,
 ) -> Result<(usize, usize), ExprError>
     requires { HaveScalars (places_of places.now) }
-    ensures some { IfOk result (λ x. 0 < length places.now → 0 < x.0) }
+    ensures some { room ≡ values_limit → IfOk result (λ x. 0 < length places.now → 0 < x.0) }
     ensures within { IfOk result (λ x. x.0 ≤ length places.now) }
     ensures err { IfErr result (λ e. e ≡ failure.Memory) }
 {
     let mut count = 0;
     let mut left = room;
     'places: for place in places {
-        if count > 0 && left == 0 {
-            return Ok((count, left));
+        let weight = weight_there(alloc, document, right, place)?;
+        if weight >= left && left < VALUES_LIMIT {
+            return Ok((count, 0));
         }
-        left = left.saturating_sub(weight_there(alloc, doc, right, place)?);
+        left = left.saturating_sub(weight);
         count += 1;
     }
     Ok((count, left))
 }
 
-/// How many bytes of room are left after the values of an assignment at all places of a document with that root,
-/// if there is room for them.
-fn rest_after(
+/// How many bytes of room are left after the values of an assignment at all places of a document, if there is
+/// room for them.
+fn rest_after<'a>(
     alloc: Global,
-    doc: usize,
-    assignment: &Assignment,
-    root: Node<'_, '_>,
+    document: DocumentRoot<'a, '_>,
+    assignment: &'a Assignment,
     room: usize,
 ) -> Result<Option<usize>, ExprError>
-    requires { HasScalars (node_of root) }
+    requires { HasScalars (node_of document.root) }
 {
     let bump = Bump::new(alloc);
     let left: &[Stage] = &assignment.left;
     let right: &[Term] = &assignment.right;
-    let places = find(alloc, &bump, doc, left, root)?;
-    let (count, rest) = count_within(alloc, doc, right, &places, room)?;
+    let places = find(alloc, &bump, document.doc, left, document.root)?;
+    let (count, rest) = count_within(alloc, &document, right, &places, room)?;
     if count < places.len() || rest == 0 {
         return Ok(None);
     }
@@ -81,17 +87,16 @@ fn rest_after(
 }
 
 /// The same, where a refusal is left to the plan.
-fn room_after(
+fn room_after<'a>(
     alloc: Global,
-    doc: usize,
-    assignment: &Assignment,
-    root: Node<'_, '_>,
+    document: DocumentRoot<'a, '_>,
+    assignment: &'a Assignment,
     room: usize,
 ) -> Result<Option<usize>, ExprError>
-    requires { HasScalars (node_of root) }
+    requires { HasScalars (node_of document.root) }
     ensures { IfErr result (λ e. e ≡ failure.Memory) }
 {
-    match rest_after(alloc, doc, assignment, root, room) {
+    match rest_after(alloc, document, assignment, room) {
         Ok(rest) => Ok(rest),
         Err(ExprError::Fault(_)) => Ok(Some(room)),
         Err(ExprError::Memory) => Err(ExprError::Memory),
@@ -109,7 +114,13 @@ pub(crate) fn are_many(
 {
     let mut rest = room;
     'documents: for doc in 0..documents.count() {
-        match room_after(alloc, doc, assignment, Node::root(documents, doc), rest)? {
+        let root = Node::root(documents, doc);
+        let document = DocumentRoot {
+            documents,
+            doc,
+            root,
+        };
+        match room_after(alloc, document, assignment, rest)? {
             Some(room) => rest = room,
             None => return Ok(true),
         }

@@ -1,17 +1,19 @@
 //! Plans made part by part, where the values of one update would take too much memory at once.
-ghost use Rattle.std.specs.Prelude.{◌≡◌, ◌<◌, ◌≤◌, ◌-◌, IfErr, IfOk, drop, length, take};
+ghost use Rattle.std.specs.Prelude.{◌≡◌, ◌<◌, ◌≤◌, ◌-◌, IfErr, IfOk, IfSome, None, true, false, drop, length, take};
 ghost use Rattle.yq_documents.specs.Reading.{documents_of};
 ghost use Rattle.yq_nodes.specs.Nodes.{node_of};
 ghost use Rattle.yq_eval.{specs.FoundView.found_places, specs.PlaceView.places_of, specs.TreeScalars.{HasScalars, HaveScalars}};
 ghost use Rattle.yq_semantics.{specs.Judgement.{ExprError, MatchFails}, specs.Operations.operations_of, specs.View.{program_of, update_of}};
-ghost use Rattle.yq_expr.{specs.DocumentPlaces.IsDocumentRoot, specs.Parts.{IsLater, IsPlanPart}};
-ghost use Rattle.yq_expr.specs.PlannedUpdates.{IsPartOfPlan, IsUpdateAt, ops_inside, rest_in};
+ghost use Rattle.yq_expr.{specs.DocumentPlaces.IsDocumentRoot, specs.Parts.{IsPlanPart, values_limit}};
+ghost use Rattle.yq_expr.specs.PlannedUpdates.{ForUpdate, IsPartOfPlan, IsUpdateAt, ops_inside, rest_in};
+ghost use Rattle.yq_expr.specs.Oversized.{EndsPart, PartGoesOn, ReportsOversized};
 ghost use Rattle.yq_semantics.specs.Program as spec;
 ghost use Rattle.yq_failure.specs.declared.failure.Failure.TheVariants as failure;
 
 use crate::changes::{changes_at, left};
 use crate::document::{DocumentPlaces, DocumentRoot};
 use crate::modified::count_within;
+use crate::oversized::begins_oversized;
 use crate::weights::{VALUES_LIMIT, modified, weight_at};
 use bumpalo::Bump;
 use std::alloc::{AllocError, Global};
@@ -29,23 +31,27 @@ pub struct PlanPart {
     pub doc: usize,
     /// How many places of that one come before.
     pub place: usize,
+    /// Whether the operations after it begin with what no text can hold.
+    pub is_oversized: bool,
 }
 
-/// The operations of a part so far, and how many bytes of room are left for values.
+/// The operations of a part so far, how many bytes of room are left for values, and whether the operations after
+/// it are known to begin with what no text can hold.
 #[derive(Drop)]
 struct OpenPart {
     ops: Vec<Op>,
     room: usize,
+    is_oversized: bool,
 }
 
 /// How many of so many places a part has, where there is room for values of so many bytes, each of which takes
-/// some.
+/// some: where all the room is left that a part has, one at least.
 fn few_of(count: usize, room: usize, weight: usize) -> usize
-    ensures some { 0 < count → 0 < result }
+    ensures some { room ≡ values_limit → 0 < count → 0 < result }
     ensures within { result ≤ count }
 {
     let few = if weight == 0 { count } else { room / weight };
-    if few < 1 {
+    if few < 1 && room == VALUES_LIMIT {
         count.min(1)
     } else {
         count.min(few)
@@ -63,15 +69,18 @@ fn part_count<'a, 't>(
 ) -> Result<(usize, usize), ExprError>
     requires root { HasScalars (node_of document.now.root) }
     requires scalars { HaveScalars (places_of places.now) }
-    ensures some { IfOk result (λ x. 0 < length places.now → 0 < x.0) }
+    ensures some { room ≡ values_limit → IfOk result (λ x. 0 < length places.now → 0 < x.0) }
     ensures within { IfOk result (λ x. x.0 ≤ length places.now) }
     ensures err { IfErr result (λ e. e ≡ failure.Memory) }
 {
     if let Some(right) = modified(update) {
-        return count_within(alloc, document.doc, right, places, room);
+        return count_within(alloc, document, right, places, room);
     }
-    let weight = weight_at(alloc, document.doc, update, &document.root)?;
+    let weight = weight_at(alloc, update, document)?;
     let few = few_of(places.len(), room, weight);
+    if few == 0 {
+        return Ok((0, 0));
+    }
     Ok((few, room.saturating_sub(few.saturating_mul(weight))))
 }
 
@@ -91,7 +100,7 @@ fn some_places<'a, 't>(
 }
 
 /// Puts the operations of an update at places of a document into a part: from a place on, as many as there is
-/// room for. The answer is the place after them, if there are more.
+/// room for; none, where what comes there no text can hold. The answer is the place after them, if there are more.
 fn document_part<'a>(
     alloc: Global,
     update: &'a Update,
@@ -99,18 +108,27 @@ fn document_part<'a>(
     place: usize,
     part: &mut OpenPart,
 ) -> Result<Option<usize>, ExprError>
-    requires { IsDocumentRoot document }
+    requires document { IsDocumentRoot document }
+    requires fresh { part.now.is_oversized ≡ false }
     ensures part { IfOk result (IsPlanPart (ops_inside document.entry update.now) place
         (operations_of part.old.ops.items) (operations_of part.new.ops.items)) }
+    ensures ends { EndsPart document.entry update.now place part.old part.new result }
+    ensures fresh { IfOk result (λ o. o ≡ None → part.new.is_oversized ≡ false) }
     ensures err { IfErr result (λ e. MatchFails e (ops_inside document.entry update.now place)) }
 {
     let bump = Bump::new(alloc);
-    let places = find(alloc, &bump, document.doc, left(update), document.root)?;
+    let pipe = left(update);
+    let places = find(alloc, &bump, document.doc, pipe, document.root)?;
     let count = places.len();
     if count <= place {
         return Ok(None);
     }
-    let (few, room) = part_count(alloc, update, &document, &places[place..], part.room)?;
+    let left = &places[place..];
+    if part.room == VALUES_LIMIT && begins_oversized(alloc, update, &document, left)? {
+        part.is_oversized = true;
+        return Ok(Some(place));
+    }
+    let (few, room) = part_count(alloc, update, &document, left, part.room)?;
     let end = place + few;
     let places = some_places(alloc, &places, place, end)?;
     let changes = changes_at(alloc, &DocumentPlaces { document, places }, update)?;
@@ -130,7 +148,8 @@ fn part_of(
 ) -> Result<PlanPart, ExprError>
     requires { doc < length (documents_of documents.now) }
     ensures part { IfOk result (IsPartOfPlan (update_of update.now) documents.now doc place) }
-    ensures later { IfOk result (λ p. IsLater doc place p.doc p.place) }
+    ensures later { IfOk result (PartGoesOn doc place) }
+    ensures large { IfOk result (ReportsOversized (update_of update.now) documents.now) }
     ensures err { IfErr result (λ e.
         MatchFails e (rest_in (update_of update.now) documents.now doc place)) }
 {
@@ -138,6 +157,7 @@ fn part_of(
     let mut part = OpenPart {
         ops: Vec::new(alloc),
         room: VALUES_LIMIT,
+        is_oversized: false,
     };
     let mut at = doc;
     let mut place = place;
@@ -154,6 +174,7 @@ fn part_of(
                     ops: part.ops,
                     doc: at,
                     place,
+                    is_oversized: part.is_oversized,
                 });
             }
             None => {
@@ -166,6 +187,7 @@ fn part_of(
         ops: part.ops,
         doc: at,
         place,
+        is_oversized: false,
     })
 }
 
@@ -184,7 +206,9 @@ pub fn plan_part(
     // The operations are what is left of the plan there, but for what is left after them.
     ensures part { (u : spec.Update) → IsUpdateAt nth program.now u →
         IfOk result (IsPartOfPlan u documents.now doc place) }
-    ensures later { IfOk result (λ p. IsLater doc place p.doc p.place) }
+    ensures later { IfOk result (PartGoesOn doc place) }
+    // What is left after it begins with what no text can hold, where that is said.
+    ensures large { ForUpdate nth program.now (λ u. IfOk result (ReportsOversized u documents.now)) }
     ensures err { (u : spec.Update) → IsUpdateAt nth program.now u →
         IfErr result (λ e. MatchFails e (rest_in u documents.now doc place)) }
 {
@@ -193,6 +217,7 @@ pub fn plan_part(
             ops: Vec::new(alloc),
             doc: documents.count(),
             place: 0,
+            is_oversized: false,
         }),
         Syntax::Updates(updates) => part_of(alloc, &updates[nth], documents, doc, place),
     }

@@ -45,7 +45,7 @@ fn found_value<'a, 't>(
 }
 
 /// The value of a term, from a place in document `doc`.
-fn term_value<'a, 't>(
+pub(crate) fn term_value<'a, 't>(
     alloc: Global,
     doc: usize,
     term: &'a Term,

@@ -9,10 +9,12 @@ ghost use Rattle.yq_semantics.specs.Program as spec;
 ghost use Rattle.yq_failure.specs.declared.failure.Failure.TheVariants as failure;
 
 use crate::changes::left;
+use crate::document::DocumentRoot;
 use crate::modified::are_many;
+use crate::oversized::oversized;
 use crate::right_value::right_value;
 use bumpalo::Bump;
-use std::alloc::Global;
+use std::alloc::{AllocError, Global};
 use yq_core::Value;
 use yq_documents::Documents;
 use yq_eval::{FoundPlace, FoundPlaces, find_places};
@@ -75,8 +77,9 @@ fn additions_weight(value: &Value) -> usize {
 }
 
 /// An update that is an assignment.
-fn assignment(update: &Update) -> Option<&Assignment>
-    ensures { IfSome result (λ _. IsInOrder (update_of update.now)) }
+pub(crate) fn assignment(update: &Update) -> Option<&Assignment>
+    ensures order { IfSome result (λ _. IsInOrder (update_of update.now)) }
+    ensures is { IfSome result (λ a. update.now ≡ Update.Assign a.now) }
 {
     match update {
         Update::Assign(assignment) => Some(assignment),
@@ -142,19 +145,23 @@ fn adds(update: &Update) -> bool {
     assignment.operator == Operator::Add
 }
 
-/// How many bytes the value takes that an update has for each place of a document with that root.
-fn value_weight(
+/// How many bytes the value takes that an update has for each place of a document: as many as a number may say,
+/// where no text can hold it.
+fn value_weight<'a>(
     alloc: Global,
-    doc: usize,
-    update: &Update,
-    root: &Node<'_, '_>,
+    update: &'a Update,
+    document: &DocumentRoot<'a, '_>,
 ) -> Result<usize, ExprError>
-    requires { HasScalars (node_of root.now) }
+    requires { HasScalars (node_of document.now.root) }
 {
     let Some(right) = shared(update) else {
         return Ok(0);
     };
-    let value = right_value(alloc, doc, right, &FoundPlace::of_root(root))?;
+    let from = FoundPlace::of_root(&document.root);
+    if let Some(_small) = oversized(alloc, document.doc, right, &from, document.text_length())? {
+        return Ok(usize::MAX);
+    }
+    let value = right_value(alloc, document.doc, right, &from)?;
     if adds(update) {
         return Ok(weight(&value).saturating_add(additions_weight(&value)));
     }
@@ -162,19 +169,37 @@ fn value_weight(
 }
 
 /// The same, where a refusal is left to the plan.
-pub(crate) fn weight_at(
+pub(crate) fn weight_at<'a>(
     alloc: Global,
-    doc: usize,
-    update: &Update,
-    root: &Node<'_, '_>,
+    update: &'a Update,
+    document: &DocumentRoot<'a, '_>,
 ) -> Result<usize, ExprError>
-    requires { HasScalars (node_of root.now) }
+    requires { HasScalars (node_of document.now.root) }
     ensures { IfErr result (λ e. e ≡ failure.Memory) }
 {
-    match value_weight(alloc, doc, update, root) {
+    match value_weight(alloc, update, document) {
         Ok(weight) => Ok(weight),
         Err(ExprError::Fault(_)) => Ok(0),
         Err(ExprError::Memory) => Err(ExprError::Memory),
+    }
+}
+
+/// How many bytes the value of an update takes that is made for one place of a document, as far as that matters:
+/// as many as a number may say, where no text can hold it.
+fn sole_weight<'a>(
+    alloc: Global,
+    update: &'a Update,
+    document: &DocumentRoot<'a, '_>,
+) -> Result<usize, AllocError>
+    requires { HasScalars (node_of document.now.root) }
+{
+    let Some(right) = shared(update) else {
+        return Ok(0);
+    };
+    let from = FoundPlace::of_root(&document.root);
+    match oversized(alloc, document.doc, right, &from, document.text_length())? {
+        Some(_) => Ok(usize::MAX),
+        None => Ok(0),
     }
 }
 
@@ -186,32 +211,30 @@ fn place_count(places: &FoundPlaces<'_, '_>) -> usize {
     }
 }
 
-/// How many bytes the values of an update take that are made for a document with that root, of the first one
-/// but for one of them; nothing, where it is refused.
-fn document_weight(
+/// How many bytes the values of an update take that are made for a document, of the first one but for one of
+/// them; nothing, where it is refused.
+fn document_weight<'a>(
     alloc: Global,
-    doc: usize,
-    update: &Update,
-    root: Node<'_, '_>,
+    update: &'a Update,
+    document: &DocumentRoot<'a, '_>,
 ) -> Result<Option<usize>, ExprError>
-    requires { HasScalars (node_of root) }
+    requires { HasScalars (node_of document.now.root) }
     ensures { IfErr result (λ e. e ≡ failure.Memory) }
 {
     let bump = Bump::new(alloc);
-    let count = match find_places(alloc, &bump, doc, left(update), root) {
+    let count = match find_places(alloc, &bump, document.doc, left(update), document.root) {
         Ok(places) => place_count(&places),
         Err(ExprError::Fault(_)) => return Ok(None),
         Err(ExprError::Memory) => return Err(ExprError::Memory),
     };
-    let others = if doc == 0 {
-        count.saturating_sub(1)
-    } else {
-        count
-    };
-    if others == 0 {
+    if count == 0 {
         return Ok(Some(0));
     }
-    let weight = weight_at(alloc, doc, update, &root)?;
+    if document.doc == 0 && count == 1 {
+        return Ok(Some(sole_weight(alloc, update, document)?));
+    }
+    let others = if document.doc == 0 { count - 1 } else { count };
+    let weight = weight_at(alloc, update, document)?;
     Ok(Some(weight.saturating_mul(others)))
 }
 
@@ -221,7 +244,13 @@ fn are_heavy(alloc: Global, update: &Update, documents: &Documents<'_>) -> Resul
 {
     let mut sum = 0usize;
     'documents: for doc in 0..documents.count() {
-        match document_weight(alloc, doc, update, Node::root(documents, doc))? {
+        let root = Node::root(documents, doc);
+        let document = DocumentRoot {
+            documents,
+            doc,
+            root,
+        };
+        match document_weight(alloc, update, &document)? {
             Some(weight) => sum = sum.saturating_add(weight),
             None => break,
         }

@@ -1,7 +1,7 @@
 -- The collection of a node, exchanged for another one.
-use Rattle.std.proofs.Common.{◌≡◌, inl, inr, ℕ, zero, suc, ◌+◌, ◌≤◌, Bool, true, false, not, eqb, cond, List, [], ◌∷◌, ◌++◌, length, Option}
-use Rattle.std.proofs.Common.{Some, None, refl, sym, ap, ◌∙◌, subst, arith, append_assoc, rules}
-use Rattle.std.{proofs.lemmas.Bool.{false≢true, cond_both}, proofs.lemmas.Option.same_Some}
+use Rattle.std.proofs.Common.{◌≡◌, ℕ, zero, suc, ◌+◌, ◌≤◌, Bool, true, false, not, eqb, cond, List, [], ◌∷◌, ◌++◌, length, Option, Some}
+use Rattle.std.{proofs.Common.{None, refl, sym, ap, ◌∙◌, subst, arith, append_assoc, rules}, proofs.lemmas.Bool.{false≢true, cond_both}}
+use Rattle.std.proofs.lemmas.Option.{same_Some}
 use Rattle.yq_core.{specs.Paths.within, specs.Text.{is_empty, is_white}, specs.Alike.{ends_lookahead, Alike, stop}, specs.Gaps.IsInlineGap}
 use Rattle.yq_core.specs.Nodes.{FlowNode, empty, alias, scalar, coll, anchored, Items, node_text, flow_items_text, opening_bracket}
 use Rattle.yq_core.specs.Nodes.{begins_content, is_close, IsApart, IsLead, IsName, is_empty_node, IsFlowNode, AreFlowItems}
@@ -49,8 +49,7 @@ apart_open true g k t u h = gap_alike (Some true) g (opening_bracket k ∷ t) (o
 apart_open false g k t u h = (none_unless is_white g (opening_bracket k ∷ t) (opening_bracket k ∷ u) h.0, h.1)
 
 lead_open : (flow : Bool) (g : List ℕ) (k : ℕ) (t u : List ℕ) → not (is_empty g) ≡ true → IsLead flow (begins_content flow) g (opening_bracket k ∷ t) → IsLead flow (begins_content flow) g (opening_bracket k ∷ u)
-lead_open flow g k t u some (inl h) = inl (apart_open flow g k t u h.0, open_begins flow k u)
-lead_open flow g k t u some (inr h) = absurd (false≢true (sym (ap (λ (l : List ℕ). not (is_empty l)) h.0) ∙ some))
+lead_open flow g k t u some h = search (rules, apart_open, open_begins, false≢true)
 
 -- the collection of a node
 pub coll_stands : (flow : Bool) (spaces : Option ℕ) (d : ℕ) (node : FlowNode) (rest : List ℕ) (c : CollPieces) → IsFlowNode flow spaces d node rest →
@@ -93,13 +92,7 @@ coll_stands flow spaces (suc d) (anchored n g (coll k q is)) rest c x h =
       text = ap (λ l. 38 ∷ l) (sym (append_assoc n g (coll_text k q is rest)));
       some = refl;
       longer = omega arith;
-      new = λ g2 is2 gap are. (
-        name_open n g k (q ++ flow_items_text k is rest) (g2 ++ flow_items_text k is2 rest) x.0,
-        lead_open flow g k (q ++ flow_items_text k is rest) (g2 ++ flow_items_text k is2 rest) x.2 x.1,
-        x.2,
-        x.3,
-        (x.4.0, gap, are),
-      );
+      new = λ g2 is2 gap are. search (rules, name_open, lead_open);
       new_text = λ g2 is2. ap (λ l. 38 ∷ l) (sym (append_assoc n g (coll_text k g2 is2 rest)));
       new_some = λ g2 is2. refl;
       like = λ g2 is2. stop refl;

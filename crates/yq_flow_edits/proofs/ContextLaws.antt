@@ -2,8 +2,8 @@
 use Rattle.std.proofs.Common.{◌≡◌, ℕ, Bool, true, false, List, [], ◌∷◌, ◌++◌, length, Option, Some, refl, sym, ap, ◌∙◌, subst, arith}
 use Rattle.std.{proofs.Common.append_assoc, proofs.lemmas.Option.same_Some}
 use Rattle.yq_core.{specs.Paths.{Step, change_child, within, changed_at}, specs.Alike.Alike, specs.Gaps.IsInlineGap}
-use Rattle.yq_core.specs.Nodes.{FlowNode, empty, alias, scalar, coll, anchored, Items, node_text, flow_items_text, opening_bracket}
-use Rattle.yq_core.{specs.Nodes.{is_empty_node, IsFlowNode, AreFlowItems}, specs.Entries.{EntryPieces, item_at, path_inside}}
+use Rattle.yq_core.specs.Nodes.{FlowNode, coll, anchored, Items, node_text, flow_items_text, opening_bracket, is_empty_node, IsFlowNode}
+use Rattle.yq_core.{specs.Nodes.AreFlowItems, specs.Entries.{EntryPieces, item_at, path_inside}}
 use Rattle.yq_core.specs.Collections.{CollPieces, coll_text, coll_in, coll_along, put_coll, within_items, change_item, collection_put}
 use Rattle.yq_core.{specs.Trees.tree_of, proofs.AlikePieces.gap_alike, proofs.PathLaws.{then_some, items_hold}}
 use Rattle.yq_flow_edits.{proofs.ItemPlaces.item_rest, proofs.ItemSwaps.{items_change, in_items, Swapped, InItems, items_swap}}
@@ -11,18 +11,14 @@ use Rattle.yq_flow_edits.proofs.CollLaws.{coll_stands, Stands}
 
 -- the collection in which a step finds its item
 pub inside_coll : (s : Step) (node : FlowNode) (rest : List ℕ) (y : EntryPieces) → path_inside s node rest ≡ Some y → (c : CollPieces) × (coll_in node rest ≡ Some c) × (item_at c.close s c.items c.rest ≡ Some y)
-inside_coll s empty rest y h = cc
-inside_coll s (alias n) rest y h = cc
-inside_coll s (scalar p) rest y h = cc
 inside_coll s (coll k g is) rest y h = (record { close = k; gap = g; items = is; rest = rest }, refl, h)
 inside_coll s (anchored n g node) rest y h = inside_coll s node rest y h
+inside_coll s _ rest y h = cc
 
 within_put : (f : Items → Items) (node : FlowNode) (rest : List ℕ) (c : CollPieces) → coll_in node rest ≡ Some c → within_items f node ≡ put_coll c.gap (f c.items) node
-within_put f empty rest c h = cc
-within_put f (alias n) rest c h = cc
-within_put f (scalar p) rest c h = cc
 within_put f (coll k g is) rest c h = ap (λ (z : CollPieces). coll k z.gap (f z.items)) (same_Some _ _ h)
 within_put f (anchored n g node) rest c h = ap (anchored n g) (within_put f node rest c h)
+within_put f _ rest c h = cc
 
 regroup : (a b c d x : List ℕ) → a ++ (b ++ (c ++ (d ++ x))) ≡ ((a ++ b) ++ (c ++ d)) ++ x
 regroup a b c d x = ap (λ l. a ++ (b ++ l)) (sym (append_assoc c d x)) ∙ (sym (append_assoc a b ((c ++ d) ++ x)) ∙ sym (append_assoc (a ++ b) (c ++ d) x))

@@ -1,13 +1,13 @@
 -- Edits of a collection inside an inline node: a node replaced, an item or entry appended.
-use Rattle.std.proofs.Common.{◌≡◌, ℕ, ◌-◌, Bool, true, not, List, [], ◌∷◌, ◌++◌, length, Some, refl, sym, ap, ◌∙◌, subst, arith, eq-eqb}
+use Rattle.std.proofs.Common.{rules, ◌≡◌, ℕ, ◌-◌, true, List, [], ◌∷◌, ◌++◌, length, Some, refl, subst, arith}
 use Rattle.yq_core.{specs.Paths.{Step, change_child, append_child, within, changed_at}, specs.Piece.further_spaces, specs.Writable.in_flow}
 use Rattle.yq_core.{specs.Gaps.IsInlineGap, specs.Inline.depth_limit}
 use Rattle.yq_core.specs.Nodes.{Key, FlowNode, Items, none, item, key_text, node_text, flow_items_text, opening_bracket, is_close}
 use Rattle.yq_core.{specs.Nodes.AreFlowItems, specs.Collections.{coll_text, collection_put, room_in, CollAt, item_in, IsCollAt}}
 use Rattle.yq_core.{specs.Entries.EntryPieces, specs.Trees.{key_content, tree_of, items_tree}}
 use Rattle.yq_core.{proofs.NodesWrittenLaws.{node_then, key_append}, specs.Tree.key_label}
-use Rattle.yq_flow_edits.specs.FlowEdits.{Becomes, put_item, put_value, FitsNode, behind_last, FitsItem, replacing, appending, IsFlowEdited}
-use Rattle.yq_flow_edits.{specs.FlowEdits.{FlowEdit, behind_appended}, proofs.CollLaws.Stands, proofs.ContextLaws.path_stands}
+use Rattle.yq_flow_edits.specs.FlowEdits.{Becomes, put_value, FitsNode, behind_last, FitsItem, replacing, appending, IsFlowEdited, FlowEdit}
+use Rattle.yq_flow_edits.{specs.FlowEdits.behind_appended, proofs.CollLaws.Stands, proofs.ContextLaws.path_stands}
 use Rattle.yq_flow_edits.{proofs.ItemLaws.{put_local, put_before, becomes_same, add_local, item_begins}, proofs.LocalLaws.no_gap_before}
 use Rattle.yq_core.specs.Tree as tree
 
@@ -26,14 +26,8 @@ pub edited : (x : CollAt) (e : FlowEdit) (h : tree.Children → tree.Children) �
     IsInlineGap e.gap (flow_items_text x.coll.close e.items x.coll.rest) → AreFlowItems s.inner_depth x.coll.close e.items x.coll.rest →
     items_tree e.items ≡ h (items_tree x.coll.items) →
     Becomes (coll_text x.coll.close x.coll.gap x.coll.items x.coll.rest) (coll_text x.coll.close e.gap e.items x.coll.rest) e.old (e.lead ++ e.written) e.behind → IsFlowEdited x e (changed_at x.steps (within h))
-edited x e h s gap are same text = record {
-  inline = record {
-    valid = s.new e.gap e.items gap are;
-    something = subst (λ (b : Bool). not b ≡ true) (sym (s.new_some e.gap e.items)) refl;
-  };
-  text = becomes_same _ _ _ _ e.old (e.lead ++ e.written) e.behind s.text (s.new_text e.gap e.items) (put_before s.before _ _ e.old (e.lead ++ e.written) e.behind text);
-  tree = s.new_tree e.gap e.items h same;
-}
+edited x e h s gap are same text =
+    search (rules, becomes_same, put_before, s.new, s.new_some, s.new_text, s.new_tree, s.text)
 
 -- after the opening bracket
 pub opened : (k : ℕ) (g h : List ℕ) (is new : Items) (rest old fresh_ behind : List ℕ) →
@@ -55,8 +49,7 @@ replaced x s y m h found fits =
     let i = around_is x h in
     let f : FitsNode i.inner_depth m y.rest = subst (λ (e : ℕ). FitsNode e m y.rest) (room_is x i) fits in
     let l = put_local i.inner_depth c.close s m c.items c.rest y i.closes i.items found f in
-    edited x (replacing s y m x.coll) (change_child s (put_value (tree_of m))) i (l.front c.gap i.gap) l.are l.tree
-    (behind_gap c.close c.gap c.items (put_item s m c.items) c.rest _ _ y.rest l.text)
+    search (rules, edited, behind_gap, l.front)
 
 -- What is known of a collection with one more item or entry.
 record Added (d k : ℕ) (key : Key) (m : FlowNode) (gap : List ℕ) (is : Items) (rest : List ℕ) (e : FlowEdit) : Type 0 where
@@ -68,14 +61,7 @@ record Added (d k : ℕ) (key : Key) (m : FlowNode) (gap : List ℕ) (is : Items
 added : (d k : ℕ) (key : Key) (m : FlowNode) (gap : List ℕ) (is : Items) (rest : List ℕ) → is_close k ≡ true → IsInlineGap gap (flow_items_text k is rest) → AreFlowItems d k is rest → FitsItem d k key m (behind_last k gap is rest) →
     Added d k key m gap is rest (appending key m (record { close = k; gap = gap; items = is; rest = rest }))
 unfolding flow_items_text AreFlowItems items_tree
-added d k key m gap none rest c front a f =
-    let t : List ℕ = gap ++ (k ∷ rest) in
-    record {
-      front = no_gap_before (key_text key (node_text m t)) (item_begins d k key m t f.key_is f.some f.is);
-      are = (f.key_is, f.some, f.is, (front, eq-eqb k k refl), tt);
-      tree = refl;
-      text = record { before = []; was = refl; is = ap (key_text key) (node_then m t) ∙ key_append key (node_text m []) t };
-    }
+added d k key m gap none rest c front a f = search (rules, no_gap_before, item_begins, node_then, key_append)
 added d k key m gap (item j n sep is) rest c front a f =
     let l = add_local d k key m gap (item j n sep is) rest c refl a f in
     record { front = l.front gap front; are = l.are; tree = l.tree; text = put_before gap _ _ [] (44 ∷ (32 ∷ key_text key (node_text m []))) (behind_last k gap (item j n sep is) rest) l.text }

@@ -1,16 +1,14 @@
 -- The bytes of an edit of a flow collection go from one whole character to another.
-use Rattle.std.proofs.Common.{◌≡◌, ◌⊎◌, inl, inr, ⊎_elim, ℕ, zero, suc, ◌-◌, ◌<◌, Bool, true, false, cond, eqb-true, eq-eqb, List, [], ◌∷◌}
-use Rattle.std.proofs.Common.{◌++◌, length, drop, Option, Some, None, option_map, refl, ap, ◌∙◌, subst, arith, rules}
-use Rattle.std.{proofs.lemmas.Bool.{false≢true, and_parts, or_cases}, proofs.lemmas.Option.{none-some, same_Some}}
-use Rattle.std.{proofs.lemmas.Str.IsCharBoundary-before_ascii, specs.Option.option_or, specs.Prelude.get_or, specs.Str.IsCharBoundary}
-use Rattle.yq_core.{specs.Paths.{Step, is_here, further}, specs.Text.is_space, specs.declared.piece.Piece.Piece}
-use Rattle.yq_core.{proofs.Boundaries.space_ascii, specs.Alike.EndsItem, specs.Entries.{end_of, entry_start, parts_in}}
-use Rattle.yq_core.{specs.Nodes.{begins_with, is_close}, specs.Places.{Placed, placed, CoreNode, Parts, end, part}}
-use Rattle.yq_core.{specs.Spans.{ContentHasSpans, HasKeySpan, HasSpans, PartsHaveSpans}, specs.Trees.unplaced_key, specs.Tree.key_label}
-use Rattle.yq_core.proofs.EndLaws.{ends_by}
-use Rattle.yq_flow_edits.specs.FlowPlaces.{PlacedEdit, first_start, marks_before, only_end, past_gap, remove_before, remove_end}
-use Rattle.yq_flow_edits.{specs.FlowPlaces.{remove_part, remove_place, replace_place}, proofs.RemovePlaces.drop_end}
-use Rattle.yq_flow_edits.proofs.RemoveTexts.{either}
+use Rattle.std.proofs.Common.{◌≡◌, ◌⊎◌, inl, inr, ℕ, zero, suc, ◌-◌, ◌<◌, Bool, true, cond, eqb-true, eq-eqb, List, [], ◌∷◌, ◌++◌, length}
+use Rattle.std.{proofs.Common.{drop, Option, Some, option_map, refl, ap, ◌∙◌, arith, rules}, proofs.lemmas.Bool.false≢true}
+use Rattle.std.{proofs.lemmas.Option.{none-some, same_Some}, proofs.lemmas.Str.IsCharBoundary-before_ascii, specs.Option.option_or}
+use Rattle.std.{specs.Prelude.get_or, specs.Str.IsCharBoundary}
+use Rattle.yq_core.{specs.Paths.{Step, is_here, further}, specs.declared.piece.Piece.Piece, proofs.Boundaries.space_ascii}
+use Rattle.yq_core.{specs.Alike.EndsItem, specs.Entries.{end_of, entry_start, parts_in}, specs.Nodes.{begins_with, is_close}}
+use Rattle.yq_core.{specs.Places.{Placed, placed, Parts, end, part}, specs.Spans.{HasKeySpan, HasSpans, PartsHaveSpans}}
+use Rattle.yq_core.{specs.Trees.unplaced_key, specs.Tree.key_label, proofs.EndLaws.ends_by}
+use Rattle.yq_flow_edits.specs.FlowPlaces.{PlacedEdit, first_start, only_end, remove_before, remove_end, remove_part, remove_place}
+use Rattle.yq_flow_edits.{specs.FlowPlaces.replace_place, proofs.RemovePlaces.drop_end, proofs.RemoveTexts.either}
 
 -- an edit begins and ends at whole characters
 abbrev pub EditIsSpan : List ℕ → PlacedEdit → Type 0
@@ -38,48 +36,30 @@ ends_bound k t a u c ends is =
 
 -- one that is taken out
 entry_begins : (t : List ℕ) (key : Option (List ℕ × Piece)) (n : Placed) → HasKeySpan t key → HasSpans t n → IsCharBoundary t (entry_start (key, n))
-entry_begins t None (placed a s c e f) k h = h.0.begins
-entry_begins t (Some key) n k h = k.begins
+entry_begins t key n k h = search rules
 
 node_ends : (t : List ℕ) (n : Placed) → HasSpans t n → IsCharBoundary t (end_of n)
 node_ends t (placed a s c e f) h = h.1.ends
 
 end_spans : (t : List ℕ) (from before e : ℕ) → IsCharBoundary t before → IsCharBoundary t e → EditIsSpan t (remove_end t from before e)
-end_spans t from before e b x = marked (marks_before t from before)
-  where
-    comma : (c : Bool) → begins_with 44 (drop (past_gap t e) t) ≡ c → EditIsSpan t (cond c (record { start = before; end = past_gap t e; lead = [] }) (record { start = before; end = e; lead = 44 ∷ [] }))
-    comma true is = (b, ascii_boundary t (past_gap t e) 44 (omega arith) is)
-    comma false is = (b, x)
-
-    marked : (c : Bool) →
-        EditIsSpan t (cond c (cond (begins_with 44 (drop (past_gap t e) t)) (record { start = before; end = past_gap t e; lead = [] }) (record { start = before; end = e; lead = 44 ∷ [] })) (record { start = before; end = e; lead = [] }))
-    marked true = comma (begins_with 44 (drop (past_gap t e) t)) refl
-    marked false = (b, x)
+end_spans t from before e b x = search (rules, ascii_boundary)
 
 before_spans : (t : List ℕ) (start : ℕ) (ps : Parts) (e : PlacedEdit) → IsCharBoundary t start → PartsHaveSpans t ps → option_map (remove_before t start) (first_start ps) ≡ Some e → EditIsSpan t e
-before_spans t start end e b h is = absurd (none-some _ is)
-before_spans t start (part key n ps) e b h is = subst (EditIsSpan t) (same_Some _ _ is) (b, entry_begins t key n h.0 h.1)
-
-only_spans : (t : List ℕ) (from before : ℕ) (s : Step) (ps : Parts) (e : PlacedEdit) → IsCharBoundary t before → PartsHaveSpans t ps → option_map (remove_end t from before) (only_end s ps) ≡ Some e → EditIsSpan t e
-only_spans t from before s ps e h1 h2 h3 = search (rules, none-some, same_Some, end_spans, node_ends)
+before_spans t start ps e b h is = search (rules, none-some, same_Some, entry_begins)
 
 part_spans : (t : List ℕ) (s : Step) (ps : Parts) (e : PlacedEdit) → PartsHaveSpans t ps → remove_part t s ps ≡ Some e → EditIsSpan t e
 part_spans t s end e h is = absurd (none-some _ is)
 part_spans t s (part key n ps) e h is = go (is_here s (key_label (unplaced_key key))) (λ again. part_spans t (further s) ps e h.2 again) is
   where
     other : (remove_part t (further s) ps ≡ Some e → EditIsSpan t e) → (option_map (remove_end t (entry_start (key, n)) (end_of n)) (only_end (further s) ps) ≡ Some e) ⊎ (remove_part t (further s) ps ≡ Some e) → EditIsSpan t e
-    other again (inl is) = only_spans t (entry_start (key, n)) (end_of n) (further s) ps e (node_ends t n h.1) h.2 is
+    other again (inl is) = search (rules, none-some, same_Some, end_spans, node_ends)
     other again (inr is) = again is
 
     go : (c : Bool) → (remove_part t (further s) ps ≡ Some e → EditIsSpan t e) →
         cond c (option_map (remove_before t (entry_start (key, n))) (first_start ps))
         (option_or (option_map (remove_end t (entry_start (key, n)) (end_of n)) (only_end (further s) ps)) (remove_part t (further s) ps)) ≡ Some
         e → EditIsSpan t e
-    go true again is = before_spans t (entry_start (key, n)) ps e (entry_begins t key n h.0 h.1) h.2 is
-    go false again is = other again (either _ _ is)
-
-content_spans : (t : List ℕ) (f : CoreNode) → ContentHasSpans t f → PartsHaveSpans t (parts_in f)
-content_spans t f h1 = search rules
+    go c again is = search (rules, before_spans, entry_begins, other, either)
 
 pub remove_spans : (t : List ℕ) (s : Step) (p : Placed) (e : PlacedEdit) → HasSpans t p → remove_place t s p ≡ Some e → EditIsSpan t e
-remove_spans t s (placed a b c x f) e h is = part_spans t s (parts_in f) e (content_spans t f h.2) is
+remove_spans t s (placed a b c x f) e h is = part_spans t s (parts_in f) e (search rules) is

@@ -1,10 +1,9 @@
 -- The items and entries of the code.
-use Rattle.std.proofs.Common.{◌≡◌, ℕ, zero, suc, ◌-◌, ◌≤◌, List, [], ◌∷◌, length, take, drop, slice_index_or, Option, Some, None}
-use Rattle.std.{proofs.Common.{option_map, refl, sym, ap, ◌∙◌, arith, String, string_bytes}, proofs.lemmas.List.take_all}
-use Rattle.std.{specs.Option.option_or, specs.declared.alloc.Global.Global}
-use Rattle.yq_core.{specs.Paths.{To, Nth}, specs.declared.inline.Inline.Inline, specs.Entries.{end_of, entry_start, tree_step}}
+use Rattle.std.proofs.Common.{rules, ◌≡◌, ℕ, zero, suc, ◌-◌, ◌≤◌, List, [], ◌∷◌, length, take, drop, slice_index_or, Some, None, refl, sym}
+use Rattle.std.{proofs.Common.{ap, ◌∙◌, arith, String, string_bytes}, proofs.lemmas.List.take_all, specs.declared.alloc.Global.Global}
+use Rattle.yq_core.{specs.Paths.{To, Nth}, specs.declared.inline.Inline.Inline, specs.Entries.{end_of, tree_step}}
 use Rattle.yq_core.{specs.View.{inline_view, items_end, entries_end}, proofs.PathLoops.Field}
-use Rattle.yq_flow_edits.specs.FlowPlaces.{last_end, only_end, remove_end, remove_part}
+use Rattle.yq_flow_edits.specs.FlowPlaces.{last_end, only_end, remove_part}
 use Rattle.yq_core.specs.declared.path.Step as declared
 
 last_item : (is : List Inline) (x d : Inline) → last_end (items_end (x ∷ is)) ≡ Some (end_of (inline_view (slice_index_or (x ∷ is) (length is) d)))
@@ -29,10 +28,8 @@ entries_last (g ∷ es) f e is_end some at =
 
 -- a key leads to no item, and an index to no entry
 no_key : (t key : List ℕ) (is : List Inline) → remove_part t (To key) (items_end is) ≡ None
-no_key t key [] = refl
-no_key t key (x ∷ []) = refl
-no_key t key (x ∷ (y ∷ [])) = refl
 no_key t key (x ∷ (y ∷ (z ∷ is))) = no_key t key (y ∷ (z ∷ is))
+no_key t key _ = refl
 
 no_index : (t : List ℕ) (i : ℕ) (es : List Field) → remove_part t (Nth i) (entries_end es) ≡ None
 no_index t zero [] = refl
@@ -59,5 +56,4 @@ item_further t zero (x ∷ is) some more none = absurd (more refl)
 item_further t (suc n) (x ∷ is) some more none =
     let tail : take (length (x ∷ is) - 1) is ≡ is = take_all (length (x ∷ is) - 1) is (omega arith) in
     let less : suc n - 1 ≡ n = omega arith in
-    let only : only_end (Nth n) (items_end is) ≡ None = sym (none ∙ (λ j. only_end (Nth (less j)) (items_end (tail j)))) in
-    (λ j. remove_part t (Nth (less j)) (items_end (tail j))) ∙ sym (ap (λ (o : Option ℕ). option_or (option_map (remove_end t (entry_start (None, inline_view x)) (end_of (inline_view x))) o) (remove_part t (Nth n) (items_end is))) only)
+    search rules

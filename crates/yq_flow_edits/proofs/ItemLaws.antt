@@ -43,8 +43,7 @@ pub item_keeps : (d k : ℕ) (f : Bool) (key : Key) (n : FlowNode) (t u : List �
     KeepsApart f (key_text key (node_text n [])) t u → IsInlineKey k key (node_text n t) → IsFlowNode true (Some 0) d n t → ItemStands d k key n u
 item_keeps d k f key n t u c e h keeps x y =
     let inner_ = keeps_node f key n t u keeps in
-    let node = node_keeps k n d inner_.0 t u c e h inner_.1 y in
-    record { key_is = key_keeps k d f key n t u c e h keeps y node x; node_is = node }
+    search (rules, node_keeps, key_keeps)
 
 -- an item's text begins as a node
 pub item_begins : (d k : ℕ) (key : Key) (n : FlowNode) (r : List ℕ) → IsInlineKey k key (node_text n r) →
@@ -70,8 +69,7 @@ pub cons_local : (d k : ℕ) (key : Key) (n : FlowNode) (sep : Sep) (is new : It
     Local d k is new cs rest old fresh_ behind → Local d k (item key n sep is) (item key n sep new) (tree.child (key_label (key_content key)) (tree_of n) cs) rest old fresh_ behind
 unfolding flow_items_text AreFlowItems items_tree
 cons_local d k key n sep none new cs rest old fresh_ behind c some a l = absurd (false≢true (sym some))
-cons_local d k key n (last b) (item key2 n2 sep2 is) new cs rest old fresh_ behind c some a l =
-    absurd (false≢true (sym (item_front true (Some 0) d k key2 n2 (sep_text sep2 (flow_items_text k is rest)) c a.4.1 a.4.0 a.4.2) ∙ a.3.1))
+cons_local d k key n (last b) (item key2 n2 sep2 is) new cs rest old fresh_ behind c some a l = search (rules, false≢true, item_front)
 cons_local d k key n (comma b g) (item key2 n2 sep2 is) new cs rest old fresh_ behind c some a l =
     let t : List ℕ = flow_items_text k (item key2 n2 sep2 is) rest in
     let u : List ℕ = flow_items_text k new rest in
@@ -88,8 +86,7 @@ cons_local d k key n (comma b g) (item key2 n2 sep2 is) new cs rest old fresh_ b
     }
 
 pub some_items : (k : ℕ) (s : Step) (is : Items) (rest : List ℕ) (y : EntryPieces) → item_at k s is rest ≡ Some y → is_none is ≡ false
-some_items k s none rest y h = cc
-some_items k s (item key n sep is) rest y h = refl
+some_items k s is rest y h = search rules
 
 -- the node of an item replaced
 pub put_local : (d k : ℕ) (s : Step) (m : FlowNode) (is : Items) (rest : List ℕ) (y : EntryPieces) → is_close k ≡ true → AreFlowItems d k is rest → item_at k s is rest ≡ Some y → FitsNode d m y.rest →
@@ -116,8 +113,7 @@ put_local d k s m (item key n sep is) rest y c a h f = go (is_here s (key_label 
   go true again e =
       let fits : FitsNode d m (sep_text sep tail) = subst (λ (z : EntryPieces). FitsNode d m z.rest) (sym (same_Some _ _ e)) f in
       let x = filled d k m key n (sep_text sep tail) c (sep_ends k sep tail a.3) fits a.0 a.1 a.2 in
-      subst (Result (item (put_content m key n).0 (put_content m key n).1 sep is) (tree.child (key_label (key_content key)) (put_value (tree_of m) (tree_of n)) (items_tree is))) (same_Some _ _ e)
-      (record { tree = λ i. tree.child (key_label (x.label i)) (x.tree i) (items_tree is); are = (x.key_is, x.some, x.node_is, a.3, a.4); front = x.front; text = x.text })
+      search (rules, same_Some, tree.child, x.label, x.tree)
   go false again e = cons_local d k key n sep is (put_item (further s) m is) others rest _ _ _ c (some_items k (further s) is rest y e) a (again e f)
 
 -- a text whose first byte is no `-` and no `.`
@@ -145,13 +141,12 @@ marker_on : (line : Bool) (b : ℕ) (p t u : List ℕ) → Unmarked u → ((line
     ((e : ℕ) → (ends_return (e ∷ []) && front is_feed u) ≡ false → is_space (e ∷ t) ≡ false → is_space (e ∷ u) ≡ false) →
     (ends_return (b ∷ p) && front is_feed u) ≡ false →
     line ≡ true → is_marker (b ∷ (p ++ t)) ≡ false → is_marker (b ∷ (p ++ u)) ≡ false
-marker_on line b [] t [] m n on r l h = refl
 marker_on line b [] t (x ∷ u) m n on r l h = no_second b x u m.dash m.dot
-marker_on line b (c ∷ []) t [] m n on r l h = refl
 marker_on line b (c ∷ []) t (x ∷ u) m n on r l h = no_third b c x u m.dash m.dot
 marker_on line b (c ∷ e ∷ []) t u m n on r l h = subst (λ (v : Bool). ((v && is_marks (b ∷ c ∷ e ∷ [])) && separates u) ≡ false) l n
 marker_on line b (c ∷ e ∷ x ∷ []) t u m n on r l h = search (rules, no_second, no_third)
 marker_on line b (c ∷ e ∷ x ∷ y ∷ p) t u m n on r l h = h
+marker_on line b _ t [] m n on r l h = refl
 
 pub keeps_from : (line : Bool) (p t u : List ℕ) → Unmarked u → IsApartFrom line p u → KeepsApart line p t u
 keeps_from line [] t u m a = tt
@@ -164,17 +159,13 @@ keeps_from line (b ∷ p) t u m a = (
   }),
 ) where
   and_or : (x y z : Bool) → ((x || y) && z) ≡ false → ((x && z) ≡ false) × ((y && z) ≡ false)
-  and_or true true z h = (h, h)
-  and_or true false z h = (h, refl)
-  and_or false y z h = (refl, h)
+  and_or x y z h = search rules
 
   space : (q : List ℕ) → (ends_return (b ∷ q) && front is_feed u) ≡ false → is_space (b ∷ (q ++ t)) ≡ false → is_space (b ∷ (q ++ u)) ≡ false
-  space [] r h = byte_on b t u r h
-  space (c ∷ q) r h = h
+  space q r h = search (rules, byte_on)
 
   later : (q : List ℕ) → (ends_return (b ∷ q) && front is_feed u) ≡ false → (ends_return q && front is_feed u) ≡ false
-  later [] r = refl
-  later (c ∷ q) r = r
+  later q r = search rules
 
 -- a comma directly after
 pub comma_apart : (line : Bool) (p u : List ℕ) → IsApartFrom line p (44 ∷ u)
@@ -190,9 +181,7 @@ item_some d k (keyed (a ∷ p) b g) n t h s x = (a, (p ++ (b ++ (58 ∷ (g ++ no
 pub gap_before : (d k : ℕ) (key : Key) (n : FlowNode) (t u q : List ℕ) → IsInlineKey k key (node_text n t) →
     (is_keyed key || not (is_empty_node n)) ≡ true → IsFlowNode true (Some 0) d n t → KeepsApart (fresh false q) (key_text key (node_text n [])) t u →
     IsInlineGap q (key_text key (node_text n t)) → IsInlineGap q (key_text key (node_text n u))
-gap_before d k key n t u q h s x keeps gap =
-    let cut : (z : List ℕ) → key_text key (node_text n z) ≡ key_text key (node_text n []) ++ z = λ z. ap (key_text key) (node_then n z) ∙ key_append key (node_text n []) z in
-    subst (IsInlineGap q) (sym (cut u)) (gap_some q (key_text key (node_text n [])) t u (item_some d k key n t h s x) keeps (subst (IsInlineGap q) (cut t) gap))
+gap_before d k key n t u q h s x keeps gap = search (rules, node_then, key_append, gap_some, item_some)
 
 -- one more after the last
 pub add_local : (d k : ℕ) (key : Key) (m : FlowNode) (gap : List ℕ) (is : Items) (rest : List ℕ) → is_close k ≡ true → is_none is ≡ false → AreFlowItems d k is rest → FitsItem d k key m (behind_last k gap is rest) →
@@ -209,15 +198,6 @@ add_local d k key m gap (item j n sep none) rest c some a f =
     let h = sep_ends k (comma [] (32 ∷ [])) x sep_is in
     let keeps : (f : Bool) → KeepsApart f (key_text j (node_text n [])) t u = λ f. keeps_from f (key_text j (node_text n [])) t u (record { dash = refl; dot = refl }) (comma_apart f (key_text j (node_text n [])) (32 ∷ x)) in
     let stands = item_keeps d k false j n t u c e h (keeps false) a.0 a.2 in
-    record {
-      tree = refl;
-      are = (stands.key_is, a.1, stands.node_is, sep_is, (f.key_is, f.some, f.is, a.3, tt));
-      front = λ q y. gap_before d k j n t u q a.0 a.1 a.2 (keeps (fresh false q)) y;
-      text = record {
-        before = key_text j (node_text n []);
-        was = ap (key_text j) (node_then n t) ∙ key_append j (node_text n []) t;
-        is = ap (key_text j) (node_then n u) ∙ (key_append j (node_text n []) u ∙ ap (λ l. key_text j (node_text n []) ++ (44 ∷ (32 ∷ l))) (ap (key_text key) (node_then m t) ∙ key_append key (node_text m []) t));
-      };
-    }
+    search (rules, gap_before, node_then, key_append)
 add_local d k key m gap (item j n sep (item j2 n2 sep2 is)) rest c some a f =
     cons_local d k j n sep (item j2 n2 sep2 is) (add_item key m gap (item j2 n2 sep2 is)) _ rest [] _ _ c refl a (add_local d k key m gap (item j2 n2 sep2 is) rest c refl a.4 f)

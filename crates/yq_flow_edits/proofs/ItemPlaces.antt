@@ -1,6 +1,7 @@
 -- Where an item or entry is among others, and what ends it.
-use Rattle.std.proofs.Common.{◌≡◌, ℕ, ◌≤◌, length, arith, length-append, Bool, true, false, cond, List, [], ◌∷◌, ◌++◌, Some, refl, sym, ap}
-use Rattle.std.{proofs.Common.{◌∙◌, subst, append_assoc}, proofs.lemmas.Bool.false≢true, proofs.lemmas.Option.{none-some, same_Some}}
+use Rattle.std.proofs.Common.{rules, ◌≡◌, ℕ, ◌≤◌, length, arith, length-append, Bool, true, false, cond, List, [], ◌∷◌, ◌++◌, Some, refl}
+use Rattle.std.{proofs.Common.{sym, ap, ◌∙◌, subst, append_assoc}, proofs.lemmas.Bool.false≢true}
+use Rattle.std.proofs.lemmas.Option.{none-some, same_Some}
 use Rattle.yq_core.{specs.Paths.{Step, is_here, further}, specs.Alike.EndsItem, specs.Entries.{EntryPieces, item_at, pieces_text}}
 use Rattle.yq_core.{specs.Nodes.{Items, none, item, key_text, sep_text, node_text, flow_items_text, AreFlowItems}, specs.Trees.key_content}
 use Rattle.yq_core.{specs.Tree.key_label, proofs.NodeAgain.{items_longer, sep_longer}, proofs.NodeKeeps.sep_ends}
@@ -49,13 +50,7 @@ last_behind d k gap (item key n sep (item key2 n2 sep2 is)) rest some a =
 
 pub item_rest : (k : ℕ) (s : Step) (is : Items) (rest : List ℕ) (y : EntryPieces) → item_at k s is rest ≡ Some y → length rest ≤ length y.rest
 item_rest k s none rest y e = absurd (none-some _ e)
-item_rest k s (item key n sep is) rest y e = go (item_rest k (further s) is rest y) (is_here s (key_label (key_content key))) e
-  where
-    go : (item_at k (further s) is rest ≡ Some y → length rest ≤ length y.rest) → (b : Bool) →
-        cond b (Some (record { key = key; node = n; rest = sep_text sep (flow_items_text k is rest) })) (item_at k (further s) is rest) ≡ Some y →
-        length rest ≤ length y.rest
-    go again true e = subst (λ (z : EntryPieces). length rest ≤ length z.rest) (same_Some _ _ e) (omega (arith, sep_longer sep (flow_items_text k is rest), items_longer k is rest))
-    go again false e = again e
+item_rest k s (item key n sep is) rest y e = search (rules, same_Some, sep_longer, items_longer, item_rest k (further s) is rest y)
 
 pub last_rest : (k : ℕ) (gap : List ℕ) (is : Items) (rest : List ℕ) → length rest ≤ length (behind_last k gap is rest)
 last_rest k gap none rest = omega (arith, length-append gap (k ∷ rest))

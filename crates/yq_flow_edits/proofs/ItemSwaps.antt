@@ -1,9 +1,9 @@
 -- The node of an item, exchanged for one that begins like it.
-use Rattle.std.proofs.Common.{◌≡◌, ℕ, Bool, true, false, not, ◌||◌, cond, List, [], ◌++◌, Some, refl, sym, ap, ◌∙◌, subst, append_assoc}
-use Rattle.std.proofs.lemmas.Option.{same_Some}
+use Rattle.std.proofs.Common.{rules, ◌≡◌, ℕ, Bool, true, false, not, ◌||◌, cond, List, [], ◌++◌, Some, refl, sym, ap, ◌∙◌, subst}
+use Rattle.std.{proofs.Common.append_assoc, proofs.lemmas.Option.same_Some}
 use Rattle.yq_core.{specs.Paths.{Step, is_here, further, change_child}, specs.Alike.Alike}
 use Rattle.yq_core.specs.Nodes.{Key, bare, keyed, Sep, FlowNode, Items, none, item, key_text, sep_text, node_text, flow_items_text}
-use Rattle.yq_core.specs.Nodes.{begins_node, is_close, IsInlineKey, IsSep, is_empty_node, is_keyed, IsFlowNode, AreFlowItems}
+use Rattle.yq_core.specs.Nodes.{is_close, IsInlineKey, IsSep, is_empty_node, IsFlowNode, AreFlowItems}
 use Rattle.yq_core.{specs.Entries.{EntryPieces, item_at}, specs.Collections.change_item, specs.Trees.{key_content, tree_of, items_tree}}
 use Rattle.yq_core.{proofs.AlikePieces.gap_alike, proofs.KeepLaws.{keeps_alike, some_begins}}
 use Rattle.yq_core.proofs.KeyKeeps.{lead_gap, key_front, key_keeps}
@@ -41,13 +41,10 @@ pub record Swapped (d k : ℕ) (is new : Items) (rest : List ℕ) (y : EntryPiec
 
 key_like : (k d : ℕ) (key : Key) (n m : FlowNode) (r : List ℕ) → IsFlowNode true (Some 0) d n r → Swaps d n m r → IsInlineKey k key (node_text n r) → IsInlineKey k key (node_text m r)
 key_like k d bare n m r x s h = h
-key_like k d (keyed p b g) n m r x s h =
-    let bx = some_begins true (Some 0) d n r s.old_some x in
-    key_front k p b g (node_text n r) (node_text m r) bx (some_begins true (Some 0) d m r s.new_some s.is) (gap_alike (Some true) g (node_text n r) (node_text m r) s.like (lead_gap (begins_node true) g (node_text n r) bx bx h.4)) h
+key_like k d (keyed p b g) n m r x s h = search (rules, some_begins, key_front, gap_alike, lead_gap)
 
 some_or : (a b : Bool) → b ≡ false → (a || not b) ≡ true
-some_or true b h = refl
-some_or false b h = rw h refl
+some_or a b h = search rules
 
 pub items_swap : (d k : ℕ) (s : Step) (f : FlowNode → FlowNode) (is : Items) (rest : List ℕ) (y : EntryPieces) → is_close k ≡ true →
     AreFlowItems d k is rest → item_at k s is rest ≡ Some y → Swaps d y.node (f y.node) y.rest → Swapped d k is (change_item s f is) rest y (f y.node)
@@ -62,29 +59,13 @@ items_swap d k s f (item key n sep is) rest y c a h w = go (is_here s (key_label
 
   go : (b : Bool) → (item_at k (further s) is rest ≡ Some y → Swaps d y.node (f y.node) y.rest → Swapped d k is (change_item (further s) f is) rest y (f y.node)) → cond b (Some here) (item_at k (further s) is rest) ≡ Some y →
       Swapped d k (item key n sep is) (cond b (item key (f n) sep is) (item key n sep (change_item (further s) f is))) rest y (f y.node)
-  go true again e =
-      let v : Swaps d n (f n) (sep_text sep tail) = subst (λ (z : EntryPieces). Swaps d z.node (f z.node) z.rest) (sym (same_Some _ _ e)) w in
-      record {
-        are = (
-          key_like k d key n (f n) (sep_text sep tail) a.2 v a.0,
-          some_or (is_keyed key) (is_empty_node (f n)) v.new_some,
-          v.is,
-          a.3,
-          a.4,
-        );
-        like = key_text_alike key (node_text n (sep_text sep tail)) (node_text (f n) (sep_text sep tail)) v.like;
-      }
+  go true again e = search (rules, tail, same_Some, key_like, some_or, key_text_alike)
   go false again e =
       let more = again e w in
       let new : List ℕ = flow_items_text k (change_item (further s) f is) rest in
       let like = sep_text_alike sep tail new more.like in
       let kept = item_kept d k key n sep tail new c like (sep_alike k sep tail new more.like a.3) a.0 a.2 a.3 in
-      record {
-        are = (kept.key_is, a.1, kept.node_is, kept.sep_is, more.are);
-        like =
-            key_text_alike key (node_text n (sep_text sep tail)) (node_text n (sep_text sep new))
-            (node_text_alike (Some true) n (sep_text sep tail) (sep_text sep new) like);
-      }
+      search (rules, key_text_alike, tail, node_text_alike)
 
 pub text_cut : (key : Key) (n : FlowNode) (t : List ℕ) → key_text key (node_text n t) ≡ key_text key (node_text n []) ++ t
 text_cut key n t = ap (key_text key) (node_then n t) ∙ key_append key (node_text n []) t
@@ -131,11 +112,4 @@ pub items_change : (k : ℕ) (s : Step) (f : FlowNode → FlowNode) (g : tree.No
     item_at k s is rest ≡ Some y → tree_of (f y.node) ≡ g (tree_of y.node) → items_tree (change_item s f is) ≡ change_child s g (items_tree is)
 unfolding items_tree
 items_change k s f g none rest y h e = cc
-items_change k s f g (item key n sep is) rest y h e = go (is_here s (key_label (key_content key))) (items_change k (further s) f g is rest y) h where
-  go : (b : Bool) → (item_at k (further s) is rest ≡ Some y → tree_of (f y.node) ≡ g (tree_of y.node) → items_tree (change_item (further s) f is) ≡ change_child (further s) g (items_tree is)) →
-      cond b (Some (record { key = key; node = n; rest = sep_text sep (flow_items_text k is rest) })) (item_at k (further s) is rest) ≡ Some y →
-      items_tree (cond b (item key (f n) sep is) (item key n sep (change_item (further s) f is))) ≡ cond b
-      (tree.child (key_label (key_content key)) (g (tree_of n)) (items_tree is))
-      (tree.child (key_label (key_content key)) (tree_of n) (change_child (further s) g (items_tree is)))
-  go true again x = ap (λ (v : tree.Node). tree.child (key_label (key_content key)) v (items_tree is)) (subst (λ (z : EntryPieces). tree_of (f z.node) ≡ g (tree_of z.node)) (sym (same_Some _ _ x)) e)
-  go false again x = ap (tree.child (key_label (key_content key)) (tree_of n)) (again x e)
+items_change k s f g (item key n sep is) rest y h e = search (rules, same_Some, items_change k (further s) f g is rest y)

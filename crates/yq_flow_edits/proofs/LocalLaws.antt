@@ -1,15 +1,14 @@
 -- Items of one collection, edited.
-use Rattle.std.proofs.Common.{◌≡◌, inl, ℕ, true, false, not, ◌&&◌, ◌||◌, eqb, cond, List, [], ◌∷◌, ◌++◌, Option, Some, None, refl, sym, ap}
-use Rattle.std.{proofs.Common.{◌∙◌, subst, append_assoc, Bool, rules}, proofs.Math.Bool.{and-false, or-true}}
+use Rattle.std.proofs.Common.{◌≡◌, inl, ℕ, true, false, not, ◌&&◌, ◌||◌, eqb, cond, List, [], ◌∷◌, ◌++◌, Some, None, refl, sym, ap, ◌∙◌}
+use Rattle.std.{proofs.Common.{subst, append_assoc, Bool, rules}, proofs.Math.Bool.{and-false, or-true}}
 use Rattle.std.proofs.lemmas.Bool.{false≢true, or_from}
 use Rattle.yq_core.{specs.Plain.is_safe, specs.Scalars.is_quoted, specs.Text.{front, is_feed, is_marker, is_empty}}
-use Rattle.yq_core.{specs.declared.gap.GapPlace.GapPlace, specs.declared.gap.GapPlace.TheVariants.{Token, White, Break, Comment}}
+use Rattle.yq_core.{specs.declared.gap.GapPlace.GapPlace, specs.declared.gap.GapPlace.TheVariants.{Token, Comment}}
 use Rattle.yq_core.specs.Alike.{Alike, colon, any_colon, EndsItem}
 use Rattle.yq_core.specs.Gaps.{gap_place_after, at_line_start as at_break, stops, IsInlineGap}
 use Rattle.yq_core.specs.Nodes.{Key, bare, keyed, FlowNode, empty, alias, scalar, coll, anchored, key_text, node_text, begins_with}
 use Rattle.yq_core.specs.Nodes.{begins_content, begins_node, is_close, IsName, IsInlineKey, is_empty_node, is_keyed, IsFlowNode}
-use Rattle.yq_core.specs.Nodes.{takes_anchor, without_anchor}
-use Rattle.yq_core.specs.Trees.{tree_collection, with_name, with_anchor_name, key_content, tree_of, items_tree}
+use Rattle.yq_core.{specs.Nodes.{takes_anchor, without_anchor}, specs.Trees.{tree_collection, with_name, key_content, tree_of}}
 use Rattle.yq_core.{proofs.Alikes.{no_first, alike_append}, proofs.AlikePieces.{scalar_alike, gap_alike, name_by}}
 use Rattle.yq_core.{proofs.EndLaws.{ends_safe, node_no_space}, proofs.GapLaws.none_gap}
 use Rattle.yq_core.{proofs.KeepLaws.{go_front, some_begins, taken_begins}, proofs.KeyKeeps.{lead_gap, lead_none, key_front}}
@@ -19,35 +18,23 @@ use Rattle.yq_core.specs.Tree as tree
 
 -- gaps before what begins a node
 pub node_no_feed : (t : List ℕ) → begins_node true t ≡ true → front is_feed t ≡ false
-node_no_feed [] h = refl
-node_no_feed (b ∷ t) h = front_not (begins_node true) 10 (λ cs. refl) (b ∷ t) h
+node_no_feed t h = search (rules, front_not)
 
 pub node_stops : (s : GapPlace) (x y : List ℕ) → begins_node true x ≡ true → begins_node true y ≡ true → stops s x ≡ true → stops s y ≡ true
 node_stops s [] y bx by h = absurd (false≢true bx)
 node_stops s (a ∷ x) [] bx by h = refl
 node_stops Token (a ∷ x) (b ∷ y) bx by h = rw (node_no_space b y by) refl
-node_stops White (a ∷ x) (b ∷ y) bx by h = rw (node_no_space b y by, front_not (begins_node true) 35 (λ cs. refl) (b ∷ y) by) refl
-node_stops Break (a ∷ x) (b ∷ y) bx by h = rw (node_no_space b y by, front_not (begins_node true) 35 (λ cs. refl) (b ∷ y) by) refl
 node_stops Comment (a ∷ x) (b ∷ y) bx by h = absurd (false≢true h)
+node_stops _ (a ∷ x) (b ∷ y) bx by h = rw (node_no_space b y by, front_not (begins_node true) 35 (λ cs. refl) (b ∷ y) by) refl
 
 pub gap_new : (g x y : List ℕ) → begins_node true x ≡ true → begins_node true y ≡ true → (at_break (gap_place_after Token g) && is_marker y) ≡ false → IsInlineGap g x → IsInlineGap g y
-gap_new g x y bx by m h = record {
-  inside = go_front Token g x y (node_no_feed x bx ∙ sym (node_no_feed y by)) h.inside;
-  ends = node_stops (gap_place_after Token g) x y bx by h.ends;
-  unmarked = m;
-}
+gap_new g x y bx by m h = search (rules, go_front, node_no_feed, node_stops)
 
 pub space_before : (y : List ℕ) → begins_node true y ≡ true → IsInlineGap (32 ∷ []) y
-space_before y by = record { inside = (refl, tt); ends = go y by; unmarked = refl } where
-  go : (y : List ℕ) → begins_node true y ≡ true → stops White y ≡ true
-  go [] h = refl
-  go (b ∷ y) h = rw (node_no_space b y h, front_not (begins_node true) 35 (λ cs. refl) (b ∷ y) h) refl
+space_before y by = search (rules, node_no_space, front_not)
 
 pub no_gap_before : (y : List ℕ) → begins_node true y ≡ true → IsInlineGap [] y
-no_gap_before y by = none_gap y (go y by) where
-  go : (y : List ℕ) → begins_node true y ≡ true → stops Token y ≡ true
-  go [] h = refl
-  go (b ∷ y) h = rw (node_no_space b y h) refl
+no_gap_before y by = search (rules, none_gap, node_no_space)
 
 unmarked_gap : (g y : List ℕ) → is_marker y ≡ false → (at_break (gap_place_after Token g) && is_marker y) ≡ false
 unmarked_gap g y m = rw m (and-false (at_break (gap_place_after Token g)))
@@ -84,8 +71,7 @@ anchor_text : (key : Key) (n g h : List ℕ) (x : List ℕ) → key_text key (38
 anchor_text key n g h x = search (rules, key_append, append_assoc)
 
 name_again : (n g x y : List ℕ) → not (is_empty g) ≡ true → IsName n (g ++ x) → IsName n (g ++ y)
-name_again n [] x y s h = absurd (false≢true s)
-name_again n (b ∷ g) x y s h = name_by n (b ∷ (g ++ x)) (b ∷ (g ++ y)) h.ends h
+name_again n g x y s h = search (rules, false≢true, name_by)
 
 name_space : (n x y : List ℕ) → IsName n x → IsName n (32 ∷ y)
 name_space n x y h = name_by n x (32 ∷ y) refl h
@@ -112,21 +98,7 @@ anchored_filled d k m key n g node rest some takes tree f h x =
     let new : List ℕ = node_text m rest in
     let y = refit k key (38 ∷ (n ++ (g ++ old))) (38 ∷ (n ++ (g ++ new))) refl refl (no_first 38 (n ++ (g ++ new)) refl refl) h in
     let apart : not (is_empty g) ≡ true = subst (λ (b : Bool). (b || not (is_empty g)) ≡ true) some x.2 in
-    let begins = some_begins true (Some 0) d node rest some x.4 in
-    let gap = gap_new g old new begins (some_begins true (Some 0) d m rest f.some f.is) (unmarked_gap g new f.unmarked) (lead_gap (begins_content true) g old (taken_begins true (Some 0) d node rest some takes x.4) begins x.1) in
-    record {
-      key_is = y.0;
-      some = or-true (is_keyed key);
-      node_is = (name_again n g old new apart x.0, inl (gap, taken_begins true (Some 0) d m rest f.some f.takes f.is), rw f.some apart, f.takes, f.is);
-      front = y.1;
-      text = rw some (record {
-        before = key_text key [] ++ (38 ∷ (n ++ g));
-        was = ap (λ l. key_text key (38 ∷ (n ++ (g ++ l)))) (node_then node rest) ∙ anchor_text key n g [] (node_text node [] ++ rest);
-        is = ap (λ l. key_text key (38 ∷ (n ++ (g ++ l)))) (node_then m rest) ∙ anchor_text key n g [] (node_text m [] ++ rest);
-      });
-      tree = tree;
-      label = refl;
-    }
+    search (rules, some_begins, gap_new, unmarked_gap, lead_gap, taken_begins, or-true, name_again, node_then, anchor_text)
 
 -- in the place of nothing after a `:`
 spaced : (k : ℕ) (p b x y : List ℕ) → is_close k ≡ true → begins_node true x ≡ false → begins_node true y ≡ true → is_safe true x ≡ false → IsInlineKey k (keyed p b []) x → IsInlineKey k (keyed p b (32 ∷ [])) y
@@ -154,11 +126,7 @@ filled d k m (keyed p b g) empty rest c e f h s x =
       some = refl;
       node_is = f.is;
       front = λ q a. gap_alike None q _ _ (alike_append None p _ _ (alike_append None b (58 ∷ (g ++ rest)) (58 ∷ (32 ∷ node_text m rest)) any_colon)) a;
-      text = record {
-        before = p ++ (b ++ (58 ∷ []));
-        was = was;
-        is = ap (λ l. p ++ (b ++ (58 ∷ (32 ∷ l)))) (node_then m rest) ∙ (ap (λ l. p ++ l) (sym (append_assoc b (58 ∷ []) (32 ∷ (node_text m [] ++ rest)))) ∙ sym (append_assoc p (b ++ (58 ∷ [])) (32 ∷ (node_text m [] ++ rest))));
-      };
+      text = search (rules, node_then, append_assoc);
       tree = refl;
       label = refl;
     }
@@ -173,8 +141,7 @@ filled d k m key (coll j g is) rest c e f h s x = let y = filled_by d k m key (c
       node_is = f.is;
       front = y.1;
       text = swap_text key (coll j g is) m rest;
-      tree =
-          ap (λ (a : Option (List ℕ)). with_anchor_name a (tree_of m)) (sym (coll_no_anchor j (items_tree is)));
+      tree = search (rules, coll_no_anchor);
       label = refl;
     }
 filled d k m key (anchored n g empty) rest c e f h s x =
@@ -198,5 +165,4 @@ filled d k m key (anchored n g empty) rest c e f h s x =
 filled d k m key (anchored n g (alias a)) rest c e f h s x = absurd (false≢true x.3)
 filled d k m key (anchored n g (anchored a q node)) rest c e f h s x = absurd (false≢true x.3)
 filled d k m key (anchored n g (scalar p)) rest c e f h s x = anchored_filled d k m key n g (scalar p) rest refl refl refl f h x
-filled d k m key (anchored n g (coll j q is)) rest c e f h s x =
-    anchored_filled d k m key n g (coll j q is) rest refl refl (ap (λ (a : Option (List ℕ)). with_anchor_name a (tree_of m)) (sym (coll_anchor j n (items_tree is)))) f h x
+filled d k m key (anchored n g (coll j q is)) rest c e f h s x = search (rules, anchored_filled, coll_anchor)

@@ -1,7 +1,6 @@
 -- Where another content, and one more item or entry, are written: in the bytes of the edit.
 use Rattle.std.proofs.Common.{◌≡◌, ℕ, suc, ◌+◌, ◌-◌, ◌≤◌, min, Bool, true, false, eqb, cond, List, [], ◌∷◌, ◌++◌, length, Option, Some}
-use Rattle.std.{proofs.Common.{None, refl, sym, ap, ◌∙◌, subst, arith, rules}, proofs.lemmas.Bool.false≢true}
-use Rattle.std.proofs.lemmas.Option.{same_Some}
+use Rattle.std.{proofs.Common.{refl, sym, ap, ◌∙◌, arith, rules}, proofs.lemmas.Bool.false≢true, proofs.lemmas.Option.same_Some}
 use Rattle.yq_core.{specs.Paths.Step, specs.Collections.{CollPieces, coll_in}, specs.Entries.{EntryPieces, place_in}}
 use Rattle.yq_core.specs.Nodes.{Key, FlowNode, empty, alias, scalar, coll, anchored, Items, none, item, sep_text, node_text}
 use Rattle.yq_core.specs.Nodes.{flow_items_text, IsFlowNode, without_anchor}
@@ -73,12 +72,5 @@ append_placed total (scalar p) rest c key m h at = cc
 append_placed total (anchored n g node) rest c key m h at =
     let shorter = anchor_length n g (node_text node rest) in
     append_anchor n _ (locate total node rest) ∙ append_placed total node rest c key m (omega arith) at
-append_placed total (coll k g none) rest c key m h at =
-    let t : List ℕ = g ++ (k ∷ rest) in
-    let inner_ = behind_open total (length t) (length rest) h (close_in k g rest) in
-    subst (λ (x : CollPieces). append_place (locate total (coll k g none) rest) ≡ Some (place_edit total (appending key m x))) (same_Some _ _ at)
-    (holder_append k _ _ _ ∙ ap (λ a. Some (append_at a None)) inner_)
-append_placed total (coll k g (item key2 n2 sep2 is)) rest c key m h at =
-    let inner_ : ℕ = min ((total - length (node_text (coll k g (item key2 n2 sep2 is)) rest)) + 1) (total - length rest) in
-    subst (λ (x : CollPieces). append_place (locate total (coll k g (item key2 n2 sep2 is)) rest) ≡ Some (place_edit total (appending key m x))) (same_Some _ _ at)
-    (holder_append k _ _ _ ∙ ap (λ (o : Option ℕ). Some (append_at inner_ o)) (last_placed total k g (item key2 n2 sep2 is) rest refl))
+append_placed total (coll k g none) rest c key m h at = search (rules, behind_open, close_in, same_Some, holder_append)
+append_placed total (coll k g (item key2 n2 sep2 is)) rest c key m h at = search (rules, same_Some, holder_append, last_placed)

@@ -3,7 +3,7 @@ use Rattle.std.proofs.Common.{◌≡◌, ◌⊎◌, inl, inr, ℕ, Bool, true, f
 use Rattle.std.{proofs.Common.{ap, ◌∙◌, subst, append_assoc, append-nil, rules}, proofs.lemmas.Bool.{false≢true, and_parts}}
 use Rattle.std.{proofs.lemmas.List.append_cancel_right, proofs.lemmas.Option.{none-some, same_Some}, specs.Option.option_or}
 use Rattle.yq_core.{specs.Characters.pairs_returns, specs.Paths.{Step, is_here, further, remove_child, within, changed_at}}
-use Rattle.yq_core.{specs.PlainText.begins_marker, specs.Text.{front, is_feed, is_marker}, specs.declared.gap.GapPlace.GapPlace}
+use Rattle.yq_core.{specs.PlainText.begins_marker, specs.Text.is_marker, specs.declared.gap.GapPlace.GapPlace}
 use Rattle.yq_core.{specs.declared.gap.GapPlace.TheVariants.{Token, White, Break}, specs.Alike.{stop, fresh}}
 use Rattle.yq_core.specs.Collections.{CollAt, IsCollAt}
 use Rattle.yq_core.specs.Gaps.{goes, next_gap_place, gap_place_after, at_line_start as at_break, AllGo, IsInlineGap}
@@ -48,8 +48,7 @@ gap_moves g x own u bx by m h = go (fresh false g && begins_marker own) refl whe
   go : (c : Bool) → (fresh false g && begins_marker own) ≡ c → IsInlineGap (g ++ cond c (32 ∷ []) []) y
   go false e = subst (λ (l : List ℕ). IsInlineGap l y) (sym (append-nil g)) (gap_new g x y bx by (rw at (unmarked (fresh false g) e)) h) where
     unmarked : (f : Bool) → (f && begins_marker own) ≡ false → (f && is_marker (own ++ u)) ≡ false
-    unmarked true q = marker_append own u q m
-    unmarked false q = refl
+    unmarked f q = search (rules, marker_append)
   go true e =
       let line : gap_place_after Token g ≡ Break = break_is (gap_place_after Token g) (at ∙ (and_parts (fresh false g) (begins_marker own) e).0) in
       let last_ : gap_place_after Token (g ++ (32 ∷ [])) ≡ White = behind_append Token g 32 ∙ ap (λ s. next_gap_place s 32) line in
@@ -82,12 +81,7 @@ before_left d k s g key n sep (item key2 n2 sep2 is) rest e c here gap a at =
     let cut : y ≡ own ++ u = text_cut key2 n2 u in
     let by = subst (λ (l : List ℕ). begins_node true l ≡ true) cut (item_begins d k key2 n2 u a.4.0 a.4.1 a.4.2) in
     let moved = gap_moves g (key_text key (node_text n (sep_text sep y))) own u bx by (ends_mark k u c (sep_ends k sep2 (flow_items_text k is rest) a.4.3)) gap in
-    subst (Left d k s g (item key n sep (item key2 n2 sep2 is)) rest) (same_Some _ _ at) (record {
-      are = a.4;
-      gap = subst (IsInlineGap (gap_to g own)) (sym cut) moved;
-      tree = rw here refl;
-      whole = λ x b same. whole_front b (key_text key (node_text n (sep_text sep [])) ++ y) (ap (front is_feed) (sym (item_cut key n sep y)) ∙ node_no_feed (key_text key (node_text n (sep_text sep y))) bx);
-    })
+    search (rules, same_Some, whole_front, item_cut, node_no_feed)
 
 -- the item after another one, where that has another separator
 last_left : (d k : ℕ) (s : Step) (g : List ℕ) (key : Key) (n : FlowNode) (sep : Sep) (key2 : Key) (n2 : FlowNode) (sep2 left : Sep) (rest old lead behind_ : List ℕ) → is_close k ≡ true →
@@ -133,9 +127,7 @@ last_of d k s g key n sep (item key2 n2 sep2 none) rest e c here ends gap a at =
       AreFlowItems d k (item key n sep (item key2 n2 sep2 none)) rest →
       Left d k s g (item key n sep (item key2 n2 sep2 none)) rest (comma_left k rest g key n sep key2 n2 sep2)
   marked there (last b) h gap a = last_left d k s g key n sep key2 n2 (last b) (comma [] b) rest _ _ _ c here there gap a ends (comma_is b h.0) (comma_apart (fresh false g) own (b ++ (k ∷ rest))) (comma_new_bytes k rest sep key2 n2 b)
-  marked there (comma b q) h gap a =
-      last_left d k s g key n sep key2 n2 (comma b q) (comma [] q) rest _ _ _ c here there gap a ends (comma_is q h.1)
-      (comma_apart (fresh false g) own (q ++ (k ∷ rest))) (comma_old_bytes k rest sep key2 n2 b q)
+  marked there (comma b q) h gap a = search (rules, last_left, comma_is, comma_apart, comma_old_bytes)
 
   one : is_here (further s) (key_label (key_content key2)) ≡ true → (m : Bool) → ends_marked (fresh false g) own ≡ m →
       Left d k s g (item key n sep (item key2 n2 sep2 none)) rest
@@ -144,8 +136,7 @@ last_of d k s g key n sep (item key2 n2 sep2 none) rest e c here ends gap a at =
   one there false is = last_left d k s g key n sep key2 n2 sep2 sep2 rest _ _ _ c here there gap a ends a.4.3 (record { unmarked = rw is refl; unbroken = rw ends refl }) (gone_bytes k rest sep key2 n2 sep2)
 
   go : (b : Bool) → is_here (further s) (key_label (key_content key2)) ≡ b → cond b (Some (last_removed k rest g key n sep key2 n2 sep2)) None ≡ Some e → Left d k s g (item key n sep (item key2 n2 sep2 none)) rest e
-  go true there at = subst (Left d k s g (item key n sep (item key2 n2 sep2 none)) rest) (same_Some _ _ at) (one there (ends_marked (fresh false g) own) refl)
-  go false there at = absurd (none-some _ at)
+  go b there at = search (rules, same_Some, one, own, none-some)
 
 -- one of the items after another one
 behind_left : (d k : ℕ) (s : Step) (g : List ℕ) (key : Key) (n : FlowNode) (sep : Sep) (is : Items) (rest : List ℕ) (e : FlowEdit) → is_close k ≡ true → is_here s (key_label (key_content key)) ≡ false →
@@ -155,8 +146,7 @@ behind_left : (d k : ℕ) (s : Step) (g : List ℕ) (key : Key) (n : FlowNode) (
     Left d k s g (item key n sep is) rest (edit_from_item g key n sep e)
 unfolding flow_items_text AreFlowItems items_tree
 behind_left d k s g key n sep none rest e c here gap a at l = absurd (none-some _ at)
-behind_left d k s g key n (last b) (item key2 n2 sep2 is) rest e c here gap a at l =
-    absurd (false≢true (sym (item_front true (Some 0) d k key2 n2 (sep_text sep2 (flow_items_text k is rest)) c a.4.1 a.4.0 a.4.2) ∙ a.3.1))
+behind_left d k s g key n (last b) (item key2 n2 sep2 is) rest e c here gap a at l = search (rules, false≢true, item_front)
 behind_left d k s g key n (comma b q) (item key2 n2 sep2 is) rest e c here gap a at l =
     let x = l a.3.1 in
     let h : List ℕ = e.gap in

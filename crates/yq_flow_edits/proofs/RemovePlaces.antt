@@ -1,14 +1,12 @@
 -- What the code tells of an item or entry that is taken out is where the bytes of the edit are.
-use Rattle.std.proofs.Common.{◌≡◌, ⊎_elim, ℕ, suc, ◌+◌, ◌-◌, Bool, true, false, ◌&&◌, eqb, cond, List, [], ◌∷◌, ◌++◌, length, drop, Option}
-use Rattle.std.proofs.Common.{Some, None, option_map, refl, sym, ap, ◌∙◌, arith, append_assoc, length-append, eqb-true, rules}
+use Rattle.std.proofs.Common.{◌≡◌, ⊎_elim, ℕ, suc, ◌+◌, ◌-◌, Bool, true, false, eqb, cond, List, [], ◌∷◌, ◌++◌, length, drop, Option, Some}
+use Rattle.std.proofs.Common.{option_map, refl, sym, ap, ◌∙◌, arith, append_assoc, length-append, eqb-true, rules}
 use Rattle.std.{proofs.Math.Seq.drop-append_seam, proofs.lemmas.Bool.{false≢true, or_cases}, proofs.lemmas.Option.same_Some}
 use Rattle.std.specs.Option.{option_or}
-use Rattle.yq_core.{specs.Paths.{Step, is_here, further}, specs.PlainText.begins_marker, specs.Text.is_feed, specs.Alike.fresh}
-use Rattle.yq_core.{specs.Collections.{CollPieces, coll_in}, specs.Entries.{entry_start, parts_in, parts_of}, specs.Gaps.IsInlineGap}
-use Rattle.yq_core.specs.declared.gap.GapPlace.TheVariants.{Token}
-use Rattle.yq_core.specs.Nodes.{Key, Sep, last, comma, FlowNode, empty, alias, scalar, coll, anchored, Items, none, item, key_text}
-use Rattle.yq_core.specs.Nodes.{sep_text, node_text, flow_items_text, begins_with, opening_bracket, is_close, IsFlowNode, IsSep}
-use Rattle.yq_core.specs.Nodes.{AreFlowItems}
+use Rattle.yq_core.{specs.Paths.{Step, is_here, further}, specs.Text.is_feed, specs.Alike.fresh, specs.Collections.{CollPieces, coll_in}}
+use Rattle.yq_core.{specs.Entries.{entry_start, parts_in, parts_of}, specs.Gaps.IsInlineGap, specs.declared.gap.GapPlace.TheVariants.Token}
+use Rattle.yq_core.specs.Nodes.{Key, Sep, last, comma, FlowNode, coll, anchored, Items, none, item, key_text, sep_text, node_text}
+use Rattle.yq_core.specs.Nodes.{flow_items_text, begins_with, opening_bracket, is_close, IsFlowNode, IsSep, AreFlowItems}
 use Rattle.yq_core.specs.Places.{Parts, Placed, placed, key_placed, holder, locate, locate_items, mapping, sequence, anchored_node}
 use Rattle.yq_core.{specs.Reading.flow_gap_len, specs.Trees.key_content, specs.Tree.key_label, proofs.EditPlaces.{end_placed, entry_placed}}
 use Rattle.yq_core.{proofs.GapLaws.gap_append, proofs.NodeAgain.item_front, proofs.NodeKeeps.sep_ends, proofs.TreeLaws.key_tree}
@@ -37,8 +35,7 @@ spaced_here t w b g front own u feed m is =
     let at : length t - length x ≡ suc (length w + length g) = omega (arith, ap length is, length-append w (b ∷ (g ++ x)), length-append g x) in
     let line : behind_feed t (length t - length x) ≡ fresh false g = ap (λ l. behind_feed l (length t - length x)) is ∙ (line_behind g w b x (length t - length x) at ∙ ap (λ f. fresh f g) feed) in
     let whole : t ≡ (w ++ (b ∷ (g ++ front))) ++ tail = is ∙ (ap (λ l. w ++ (b ∷ l)) (sym (append_assoc g front tail)) ∙ sym (append_assoc w (b ∷ (g ++ front)) tail)) in
-    let next : begins_marker (drop (length t - length tail) t) ≡ begins_marker own = ap begins_marker (drop_end t (w ++ (b ∷ (g ++ front))) tail whole) ∙ marks_own own u m in
-    λ i. cond (line i && next i) (32 ∷ []) []
+    search (rules, drop_end, marks_own)
 
 next_placed : (d k : ℕ) (g : List ℕ) (key : Key) (n : FlowNode) (sep : Sep) (is : Items) (rest t w : List ℕ) (b : ℕ) → is_close k ≡ true →
     AreFlowItems d k is rest → is_feed b ≡ false → t ≡ w ++ (b ∷ (g ++ flow_items_text k (item key n sep is) rest)) →
@@ -82,83 +79,70 @@ end_placed_at : (k : ℕ) (g : List ℕ) (key : Key) (n : FlowNode) (sep : Sep) 
     (length t - length (sep_text sep2 (k ∷ rest)))
     ≡ place_edit (length t) (last_removed k rest g key n sep key2 n2 sep2)
 unfolding comma_part
-end_placed_at k g key n sep key2 n2 sep2 rest t w b c sep_is feed text = ap (λ v. cond v (comma_part t at end_) (record { start = at; end = end_; lead = [] })) marks ∙ go (ends_marked (fresh false g) own) where
-  own : List ℕ
-  own = key_text key (node_text n [])
+end_placed_at k g key n sep key2 n2 sep2 rest t w b c sep_is feed text =
+    let from : ℕ = length t - length y in
+    let first : from ≡ suc (length w + length g) = omega (arith, ap length text, length-append w (b ∷ (g ++ y)), length-append g y) in
+    let behind_front : from ≡ length front = first ∙ omega (arith, length-append w (b ∷ g)) in
+    let second : at ≡ from + length own = omega (arith, behind_front, ap length whole, length-append front (own ++ u), length-append own u) in
+    let line : behind_feed t from ≡ fresh false g = ap (λ l. behind_feed l from) text ∙ (line_behind g w b y from first ∙ ap (λ f. fresh f g) feed) in
+    let marks : marks_before t from at ≡ ends_marked (fresh false g) own =
+    marks_are own front u t from at whole behind_front second ∙ ap (λ f. ends_marked f own) line in
+    ap (λ v. cond v (comma_part t at end_) (record { start = at; end = end_; lead = [] })) marks ∙ go (ends_marked (fresh false g) own) where
+      own : List ℕ
+      own = key_text key (node_text n [])
 
-  z : List ℕ
-  z = sep_text sep2 (k ∷ rest)
+      z : List ℕ
+      z = sep_text sep2 (k ∷ rest)
 
-  u : List ℕ
-  u = sep_text sep (key_text key2 (node_text n2 (sep_text sep2 (k ∷ rest))))
+      u : List ℕ
+      u = sep_text sep (key_text key2 (node_text n2 (sep_text sep2 (k ∷ rest))))
 
-  y : List ℕ
-  y = key_text key (node_text n (sep_text sep (key_text key2 (node_text n2 (sep_text sep2 (k ∷ rest))))))
+      y : List ℕ
+      y = key_text key (node_text n (sep_text sep (key_text key2 (node_text n2 (sep_text sep2 (k ∷ rest))))))
 
-  from : ℕ
-  from = length t - length y
+      at : ℕ
+      at = length t - length u
 
-  at : ℕ
-  at = length t - length u
+      end_ : ℕ
+      end_ = length t - length z
 
-  end_ : ℕ
-  end_ = length t - length z
+      front : List ℕ
+      front = w ++ (b ∷ g)
 
-  front : List ℕ
-  front = w ++ (b ∷ g)
+      cut : y ≡ own ++ u
+      cut = text_cut key n u
 
-  cut : y ≡ own ++ u
-  cut = text_cut key n u
+      whole : t ≡ front ++ (own ++ u)
+      whole = text ∙ (sym (append_assoc w (b ∷ g) y) ∙ ap (λ l. front ++ l) cut)
 
-  whole : t ≡ front ++ (own ++ u)
-  whole = text ∙ (sym (append_assoc w (b ∷ g) y) ∙ ap (λ l. front ++ l) cut)
+      old : List ℕ
+      old = sep_text sep (key_text key2 (node_text n2 []))
 
-  first : from ≡ suc (length w + length g)
-  first = omega (arith, ap length text, length-append w (b ∷ (g ++ y)), length-append g y)
+      was : old ++ z ≡ u
+      was = (gone_bytes k rest sep key2 n2 sep2).was
 
-  behind_front : from ≡ length front
-  behind_front = first ∙ omega (arith, length-append w (b ∷ g))
+      before_sep : t ≡ ((front ++ own) ++ old) ++ z
+      before_sep = whole ∙ (sym (append_assoc front own u) ∙ (ap (λ l. (front ++ own) ++ l) (sym was) ∙ sym (append_assoc (front ++ own) old z)))
 
-  second : at ≡ from + length own
-  second = omega (arith, behind_front, ap length whole, length-append front (own ++ u), length-append own u)
-
-  line : behind_feed t from ≡ fresh false g
-  line = ap (λ l. behind_feed l from) text ∙ (line_behind g w b y from first ∙ ap (λ f. fresh f g) feed)
-
-  marks : marks_before t from at ≡ ends_marked (fresh false g) own
-  marks = marks_are own front u t from at whole behind_front second ∙ ap (λ f. ends_marked f own) line
-
-  old : List ℕ
-  old = sep_text sep (key_text key2 (node_text n2 []))
-
-  was : old ++ z ≡ u
-  was = (gone_bytes k rest sep key2 n2 sep2).was
-
-  before_sep : t ≡ ((front ++ own) ++ old) ++ z
-  before_sep = whole ∙ (sym (append_assoc front own u) ∙ (ap (λ l. (front ++ own) ++ l) (sym was) ∙ sym (append_assoc (front ++ own) old z)))
-
-  go : (v : Bool) → cond v (comma_part t at end_) (record { start = at; end = end_; lead = [] }) ≡ place_edit (length t) (cond v (comma_left k rest g key n sep key2 n2 sep2) (last_gone k rest g key n sep key2 n2 sep2))
-  go true = comma_placed k rest g key n sep key2 n2 sep2 t ((front ++ own) ++ old) c sep_is before_sep
-  go false = ap (λ l. record { start = length t - length l; end = end_; lead = [] }) (sym was)
+      go : (v : Bool) → cond v (comma_part t at end_) (record { start = at; end = end_; lead = [] }) ≡ place_edit (length t) (cond v (comma_left k rest g key n sep key2 n2 sep2) (last_gone k rest g key n sep key2 n2 sep2))
+      go true = comma_placed k rest g key n sep key2 n2 sep2 t ((front ++ own) ++ old) c sep_is before_sep
+      go false = ap (λ l. record { start = length t - length l; end = end_; lead = [] }) (sym was)
 
 last_placed : (d k : ℕ) (s : Step) (g : List ℕ) (key : Key) (n : FlowNode) (sep : Sep) (is : Items) (rest t w : List ℕ) (b : ℕ) → is_close k ≡ true →
     AreFlowItems d k is rest → is_feed b ≡ false → t ≡ w ++ (b ∷ (g ++ flow_items_text k (item key n sep is) rest)) →
     option_map (remove_end t (length t - length (flow_items_text k (item key n sep is) rest)) (length t - length (sep_text sep (flow_items_text k is rest)))) (only_end s (locate_items (length t) k is rest))
     ≡ option_map (place_edit (length t)) (last_out k rest s g key n sep is)
 unfolding flow_items_text locate_items AreFlowItems
-last_placed d k s g key n sep none rest t w b c a feed text = refl
-last_placed d k s g key n sep (item key2 n2 sep2 (item key3 n3 sep3 is)) rest t w b c a feed text = refl
 last_placed d k s g key n sep (item key2 n2 sep2 none) rest t w b c a feed text = search (rules, key_tree, end_placed, end_placed_at)
+last_placed d k s g key n sep _ rest t w b c a feed text = refl
 
 -- ---- among items
 
 pub or_mapped : {A B : Type 0} (f : A → B) (x y : Option A) → option_or (option_map f x) (option_map f y) ≡ option_map f (option_or x y)
-or_mapped f None y = refl
-or_mapped f (Some a) y = refl
+or_mapped f x y = search rules
 
 same_place : (total : ℕ) (g : List ℕ) (key : Key) (n : FlowNode) (sep : Sep) (o : Option FlowEdit) → option_map (place_edit total) o ≡ option_map (place_edit total) (option_map (edit_from_item g key n sep) o)
-same_place total g key n sep None = refl
-same_place total g key n sep (Some e) = refl
+same_place total g key n sep o = search rules
 
 -- after an item are a comma and the gap before the next one
 further_placed : (d k : ℕ) (s : Step) (g : List ℕ) (key : Key) (n : FlowNode) (sep : Sep) (is : Items) (rest t w : List ℕ) (b : ℕ) →
@@ -209,11 +193,9 @@ anchor_parts n start (placed a s c e f) = refl
 
 coll_parts : (total : ℕ) (node : FlowNode) (rest : List ℕ) (c : CollPieces) → coll_in node rest ≡ Some c → parts_of (locate total node rest) ≡ locate_items total c.close c.items c.rest
 unfolding locate
-coll_parts total empty rest c at = cc
-coll_parts total (alias n) rest c at = cc
-coll_parts total (scalar p) rest c at = cc
 coll_parts total (coll k g is) rest c at = holder_parts k (locate_items total k is rest) ∙ ap (λ (z : CollPieces). locate_items total z.close z.items z.rest) (same_Some _ _ at)
 coll_parts total (anchored n g node) rest c at = anchor_parts n _ (locate total node rest) ∙ coll_parts total node rest c at
+coll_parts total _ rest c at = cc
 
 open_feed : (k : ℕ) → is_feed (opening_bracket k) ≡ false
 open_feed k = elim (eqb k 125) as (λ c. is_feed (cond c 123 91) ≡ false) [ true ↦ refl | false ↦ refl ]
@@ -222,6 +204,5 @@ pub remove_placed : (flow : Bool) (spaces : Option ℕ) (d : ℕ) (t w : List �
     remove_place t s (locate (length t) node rest) ≡ option_map (place_edit (length t)) (removing s c)
 remove_placed flow spaces d t w node rest c s is at text =
     let i = coll_stands flow spaces d node rest c is at in
-    let t_is : t ≡ (w ++ i.before) ++ (opening_bracket c.close ∷ (c.gap ++ flow_items_text c.close c.items c.rest)) = text
-    ∙ (ap (λ l. w ++ l) i.text ∙ sym (append_assoc w i.before (opening_bracket c.close ∷ (c.gap ++ flow_items_text c.close c.items c.rest)))) in
+    let t_is : t ≡ (w ++ i.before) ++ (opening_bracket c.close ∷ (c.gap ++ flow_items_text c.close c.items c.rest)) = search (rules, append_assoc) in
     ap (remove_part t s) (coll_parts (length t) node rest c at) ∙ part_removed i.inner_depth c.close s c.gap c.items c.rest t (w ++ i.before) (opening_bracket c.close) i.closes i.items (open_feed c.close) t_is

@@ -1,5 +1,5 @@
 -- The bytes of an item that is taken out.
-use Rattle.std.proofs.Common.{◌≡◌, ◌⊎◌, inl, inr, ℕ, ◌≤◌, Bool, true, false, ◌&&◌, cond, List, [], ◌∷◌, ◌++◌, length, Option, Some, None}
+use Rattle.std.proofs.Common.{◌≡◌, ◌⊎◌, inl, inr, ℕ, ◌≤◌, Bool, false, ◌&&◌, cond, List, [], ◌∷◌, ◌++◌, length, Option, Some, None}
 use Rattle.std.proofs.Common.{option_map, refl, sym, ap, ◌∙◌, subst, arith, append_assoc, append-nil, length-append, rules}
 use Rattle.std.{proofs.lemmas.Bool.cond_both, proofs.lemmas.Option.{none-some, same_Some}, specs.Option.option_or}
 use Rattle.yq_core.{specs.Paths.{Step, is_here, further}, specs.PlainText.begins_marker, specs.Alike.fresh}
@@ -7,18 +7,16 @@ use Rattle.yq_core.specs.Nodes.{Key, Sep, last, comma, FlowNode, Items, none, it
 use Rattle.yq_core.{specs.Trees.key_content, specs.Tree.key_label, proofs.NodeAgain.items_longer, proofs.NodesWrittenLaws.sep_append}
 use Rattle.yq_flow_edits.specs.FlowEdits.{Becomes, FlowEdit}
 use Rattle.yq_flow_edits.specs.Removals.{before_next, edit_from_item, comma_left, ends_marked, gap_of, last_gone, last_out, last_removed}
-use Rattle.yq_flow_edits.{specs.Removals.{next_text, removing_from, space_to, with_gap}, proofs.ItemLaws.{put_before, becomes_same}}
+use Rattle.yq_flow_edits.{specs.Removals.{next_text, removing_from, with_gap}, proofs.ItemLaws.{put_before, becomes_same}}
 use Rattle.yq_flow_edits.proofs.ItemSwaps.{item_cut, text_cut}
 
 -- ---- one of two, and what is made of one
 
 pub either : {A : Type 0} {y : A} (a b : Option A) → option_or a b ≡ Some y → (a ≡ Some y) ⊎ (b ≡ Some y)
-either None b is = inr is
-either (Some x) b is = inl is
+either a b is = search rules
 
 pub option_some : {A B : Type 0} (f : A → B) (o : Option A) (y : B) → option_map f o ≡ Some y → (x : A) × (o ≡ Some x) × (f x ≡ y)
-option_some f None y e = absurd (none-some _ e)
-option_some f (Some x) y e = (x, refl, same_Some _ _ e)
+option_some f o y e = search (rules, none-some, same_Some)
 
 -- ---- what comes after an item
 
@@ -29,13 +27,11 @@ sep_front (comma b g) = b ++ (44 ∷ [])
 
 sep_with : (h : List ℕ) (sep : Sep) (x : List ℕ) → sep_text (with_gap h sep) x ≡ sep_front sep ++ (h ++ x)
 unfolding sep_front
-sep_with h (last b) x = append_assoc b h x
-sep_with h (comma b g) x = sym (append_assoc b (44 ∷ []) (h ++ x))
+sep_with h sep x = search (rules, append_assoc)
 
 sep_own : (sep : Sep) (x : List ℕ) → sep_text sep x ≡ sep_front sep ++ (gap_of sep ++ x)
 unfolding sep_front
-sep_own (last b) x = refl
-sep_own (comma b g) x = sym (append_assoc b (44 ∷ []) (g ++ x))
+sep_own sep x = search (rules, append_assoc)
 
 -- the text of items after a gap, from the gap before the next one on
 front_cut : (g : List ℕ) (key : Key) (n : FlowNode) (f z : List ℕ) → g ++ key_text key (node_text n (f ++ z)) ≡ (g ++ (key_text key (node_text n []) ++ f)) ++ z
@@ -61,11 +57,7 @@ before_text k rest g key n sep (item key2 n2 sep2 is) e at =
     let y : List ℕ = flow_items_text k (item key2 n2 sep2 is) rest in
     let own : List ℕ = key_text key2 (node_text n2 []) in
     subst (RemovedText k rest g (item key n sep (item key2 n2 sep2 is))) (same_Some _ _ at) (record {
-      text = record {
-        before = g;
-        was = ap (λ l. g ++ l) (item_cut key n sep y);
-        is = append_assoc g (space_to g own) y ∙ ap (λ l. g ++ (l ++ y)) (sym (append-nil (space_to g own)));
-      };
+      text = search (rules, item_cut, append_assoc, append-nil);
       none_written = refl;
       longer = omega (arith, items_longer k (item key2 n2 sep2 is) rest);
       lead = cond_both (fresh false g && begins_marker own) (32 ∷ []) [] (λ (l : List ℕ). (l ≡ []) ⊎ ((l ≡ 32 ∷ []) ⊎ (l ≡ 44 ∷ []))) (λ _. inr (inl refl)) (λ _. inl refl);
@@ -83,22 +75,13 @@ pub record LastBytes (k : ℕ) (rest : List ℕ) (sep : Sep) (key : Key) (n : Fl
   pub lead_is : (lead ≡ []) ⊎ ((lead ≡ 32 ∷ []) ⊎ (lead ≡ 44 ∷ []))
 
 pub gone_bytes : (k : ℕ) (rest : List ℕ) (sep : Sep) (key : Key) (n : FlowNode) (sep2 : Sep) → LastBytes k rest sep key n sep2 sep2 (next_text sep key n) [] (sep_text sep2 (k ∷ rest))
-gone_bytes k rest sep key n sep2 = record { was = next_is sep key n (sep_text sep2 (k ∷ rest)); is = refl; longer = longer sep2; lead_is = inl refl }
-  where
-    longer : (s : Sep) → length rest ≤ length (sep_text s (k ∷ rest))
-    longer (last b) = omega (arith, length-append b (k ∷ rest))
-    longer (comma b h) = omega (arith, length-append b (44 ∷ (h ++ (k ∷ rest))), length-append h (k ∷ rest))
+gone_bytes k rest sep key n sep2 = search (rules, next_is, length-append)
 
 pub comma_new_bytes : (k : ℕ) (rest : List ℕ) (sep : Sep) (key : Key) (n : FlowNode) (b : List ℕ) → LastBytes k rest sep key n (last b) (comma [] b) (next_text sep key n) (44 ∷ []) (b ++ (k ∷ rest))
 comma_new_bytes k rest sep key n b = record { was = next_is sep key n (b ++ (k ∷ rest)); is = refl; longer = omega (arith, length-append b (k ∷ rest)); lead_is = inr (inr refl) }
 
 pub comma_old_bytes : (k : ℕ) (rest : List ℕ) (sep : Sep) (key : Key) (n : FlowNode) (b h : List ℕ) → LastBytes k rest sep key n (comma b h) (comma [] h) (next_text sep key n ++ b) [] (44 ∷ (h ++ (k ∷ rest)))
-comma_old_bytes k rest sep key n b h = record {
-  was = append_assoc (next_text sep key n) b (44 ∷ (h ++ (k ∷ rest))) ∙ next_is sep key n (b ++ (44 ∷ (h ++ (k ∷ rest))));
-  is = refl;
-  longer = omega (arith, length-append h (k ∷ rest));
-  lead_is = inl refl;
-}
+comma_old_bytes k rest sep key n b h = search (rules, append_assoc, next_is, length-append)
 
 last_bytes : (k : ℕ) (rest g : List ℕ) (key : Key) (n : FlowNode) (sep : Sep) (key2 : Key) (n2 : FlowNode) (sep2 left : Sep) (old lead behind : List ℕ) → LastBytes k rest sep key2 n2 sep2 left old lead behind →
     RemovedText k rest g (item key n sep (item key2 n2 sep2 none)) (record { gap = g; items = item key n left none; old = old; lead = lead; written = []; behind = behind })
@@ -106,16 +89,7 @@ unfolding flow_items_text
 last_bytes k rest g key n sep key2 n2 sep2 left old lead behind h =
     let own : List ℕ = key_text key (node_text n []) in
     let cut : (t : List ℕ) → g ++ key_text key (node_text n t) ≡ (g ++ own) ++ t = λ t. ap (λ l. g ++ l) (text_cut key n t) ∙ sym (append_assoc g own t) in
-    record {
-      text = record {
-        before = g ++ own;
-        was = cut (sep_text sep (key_text key2 (node_text n2 (sep_text sep2 (k ∷ rest))))) ∙ ap (λ l. (g ++ own) ++ l) (sym h.was);
-        is = cut (sep_text left (k ∷ rest)) ∙ (ap (λ l. (g ++ own) ++ l) (sym h.is) ∙ ap (λ l. (g ++ own) ++ (l ++ behind)) (sym (append-nil lead)));
-      };
-      none_written = refl;
-      longer = h.longer;
-      lead = h.lead_is;
-    }
+    search (rules, append-nil)
 
 last_text : (k : ℕ) (rest : List ℕ) (s : Step) (g : List ℕ) (key : Key) (n : FlowNode) (sep : Sep) (is : Items) (e : FlowEdit) → last_out k rest s g key n sep is ≡ Some e → RemovedText k rest g (item key n sep is) e
 last_text k rest s g key n sep none e at = absurd (none-some _ at)
@@ -132,24 +106,12 @@ last_text k rest s g key n sep (item key2 n2 sep2 none) e at = go (is_here s (ke
         (RemovedText k rest g (item key n sep (item key2 n2 sep2 none))) (λ _. commas sep2) (λ _. last_bytes k rest g key n sep key2 n2 sep2 sep2 _ _ _ (gone_bytes k rest sep key2 n2 sep2))
 
     go : (b : Bool) → cond b (Some (last_removed k rest g key n sep key2 n2 sep2)) None ≡ Some e → RemovedText k rest g (item key n sep (item key2 n2 sep2 none)) e
-    go true at = subst (RemovedText k rest g (item key n sep (item key2 n2 sep2 none))) (same_Some _ _ at) known
-    go false at = absurd (none-some _ at)
+    go b at = search (rules, same_Some, known, none-some)
 
 -- of the items from another one on
 behind_text : (k : ℕ) (rest g : List ℕ) (key : Key) (n : FlowNode) (sep : Sep) (is : Items) (e : FlowEdit) → RemovedText k rest (gap_of sep) is e → RemovedText k rest g (item key n sep is) (edit_from_item g key n sep e)
 unfolding flow_items_text
-behind_text k rest g key n sep is e h =
-    let f : List ℕ = sep_front sep in
-    let new : g ++ key_text key (node_text n (sep_text (with_gap e.gap sep) (flow_items_text k e.items rest))) ≡ (g ++ (key_text key (node_text n []) ++ f)) ++ (e.gap ++ flow_items_text k e.items rest) =
-    ap (λ l. g ++ key_text key (node_text n l)) (sep_with e.gap sep (flow_items_text k e.items rest)) ∙ front_cut g key n f (e.gap ++ flow_items_text k e.items rest) in
-    record {
-      text = becomes_same _ _ _ _ e.old (e.lead ++ e.written) e.behind (behind_cut g key n sep (flow_items_text k is rest)) new
-          (put_before (g ++ (key_text key (node_text n []) ++ f)) (gap_of sep ++ flow_items_text k is rest) (e.gap ++ flow_items_text k e.items rest)
-          e.old (e.lead ++ e.written) e.behind h.text);
-      none_written = h.none_written;
-      longer = h.longer;
-      lead = h.lead;
-    }
+behind_text k rest g key n sep is e h = search (rules, sep_front, sep_with, front_cut, becomes_same, behind_cut, put_before)
 
 pub removed_text : (k : ℕ) (rest : List ℕ) (s : Step) (g : List ℕ) (is : Items) (e : FlowEdit) → removing_from k rest s g is ≡ Some e → RemovedText k rest g is e
 removed_text k rest s g none e at = absurd (none-some _ at)
@@ -165,5 +127,4 @@ removed_text k rest s g (item key n sep is) e at = go (is_here s (key_label (key
     go : (b : Bool) → ((x : FlowEdit) → removing_from k rest (further s) (gap_of sep) is ≡ Some x → RemovedText k rest (gap_of sep) is x) →
         cond b (before_next k rest g key n sep is) (option_or (last_out k rest (further s) g key n sep is) (option_map (edit_from_item g key n sep) (removing_from k rest (further s) (gap_of sep) is))) ≡ Some e →
         RemovedText k rest g (item key n sep is) e
-    go true again at = before_text k rest g key n sep is e at
-    go false again at = behind again (either _ _ at)
+    go b again at = search (rules, before_text, behind, either)

@@ -1,8 +1,8 @@
 -- In a text with whole breaks no CR ends an item before an LF.
-use Rattle.std.proofs.Common.{◌≡◌, ◌⊎◌, inl, inr, ℕ, Bool, true, false, ◌&&◌, ◌||◌, eqb, cond, List, [], ◌∷◌, ◌++◌, Some, refl, sym, ap}
-use Rattle.std.{proofs.Common.{◌∙◌, subst, append_assoc, append-nil, eq-eqb, rules}, proofs.Math.Bool.and-false}
+use Rattle.std.proofs.Common.{◌≡◌, inl, inr, ℕ, Bool, true, false, ◌&&◌, eqb, cond, List, [], ◌∷◌, ◌++◌, Some, refl, sym, ap, ◌∙◌, subst}
+use Rattle.std.{proofs.Common.{append_assoc, append-nil, eq-eqb, rules}, proofs.Math.Bool.and-false}
 use Rattle.std.proofs.lemmas.Bool.{false≢true, not-false, or_right, and_parts, cases_Bool, or_parts}
-use Rattle.yq_core.{specs.Characters.pairs_returns, specs.Text.{NoneIn, unless, front, is_white, is_feed, is_return}, proofs.Bools.at_byte}
+use Rattle.yq_core.{specs.Characters.pairs_returns, specs.Text.{NoneIn, unless, front, is_feed, is_return}, proofs.Bools.at_byte}
 use Rattle.yq_core.specs.Alike.{EndsItem}
 use Rattle.yq_core.specs.Nodes.{Key, bare, keyed, FlowNode, empty, alias, scalar, coll, anchored, Items, none, item, key_text, sep_text}
 use Rattle.yq_core.specs.Nodes.{node_text, flow_items_text, opening_bracket, in_name, begins_content, begins_node, is_close, IsInlineKey}
@@ -12,9 +12,8 @@ use Rattle.yq_core.proofs.KeyKeeps.{lead_none}
 use Rattle.yq_flow_edits.{specs.Removals.ends_return, proofs.ItemSwaps.item_cut}
 
 return_append : (x : List ℕ) (b : ℕ) (y : List ℕ) → ends_return (x ++ (b ∷ y)) ≡ ends_return (b ∷ y)
-return_append [] b y = refl
-return_append (a ∷ []) b y = refl
 return_append (a ∷ c ∷ x) b y = return_append (c ∷ x) b y
+return_append _ b y = refl
 
 append_some : (x : List ℕ) (b : ℕ) (y : List ℕ) → NotEmpty (x ++ (b ∷ y))
 append_some [] b y = (b, (y, refl))
@@ -41,23 +40,15 @@ name_return (b ∷ []) r h = at_byte in_name b 13 (not-false (in_name b) h.0) re
 name_return (b ∷ c ∷ n) r h = name_return (c ∷ n) r h.1
 
 front_name : (k : ℕ) (n r : List ℕ) → is_return k ≡ false → NoneIn (unless in_name) n r → ends_return (k ∷ n) ≡ false
-front_name k [] r e h = e
-front_name k (b ∷ n) r e h = name_return (b ∷ n) r h
+front_name k n r e h = search (rules, name_return)
 
 plain_return : (k : ℕ) (p t : List ℕ) → is_close k ≡ true → EndsItem k t → NoneIn stops_here p t → Whole p t
 plain_return k [] t c e h = refl
-plain_return k (b ∷ []) t c e h =
-    let s = last_space k t b c e h.0 in
-    let x = or_parts (is_white b) (is_feed b || (is_return b && front is_feed t)) s in
-    (or_parts (is_feed b) (is_return b && front is_feed t) x.1).1
+plain_return k (b ∷ []) t c e h = search (rules, last_space, or_parts)
 plain_return k (b ∷ d ∷ p) t c e h = plain_return k (d ∷ p) t c e h.1
 
-quote_return : (q : ℕ) → (q ≡ 34) ⊎ (q ≡ 39) → is_return q ≡ false
-quote_return q (inl e) = rw e refl
-quote_return q (inr e) = rw e refl
-
 scalar_return : (k : ℕ) (p t : List ℕ) → is_close k ≡ true → EndsItem k t → IsScalarAt true (Some 0) p t → Whole p t
-scalar_return k p t h1 h2 h3 = search (rules, plain_return, whole_by, return_append, quote_return)
+scalar_return k p t h1 h2 h3 = search (rules, plain_return, whole_by, return_append)
 
 -- items end in their closing bracket
 items_return : (k : ℕ) (is : Items) → is_close k ≡ true → NotEmpty (flow_items_text k is []) × (ends_return (flow_items_text k is []) ≡ false)
@@ -108,14 +99,12 @@ unfolding pairs_returns
 pairs_behind [] t h = h
 pairs_behind (b ∷ x) t h = pairs_behind x t (go (is_return b) h) where
   go : (r : Bool) → cond r (front is_feed (x ++ t) && pairs_returns (x ++ t)) (pairs_returns (x ++ t)) ≡ true → pairs_returns (x ++ t) ≡ true
-  go true e = (and_parts (front is_feed (x ++ t)) (pairs_returns (x ++ t)) e).1
-  go false e = e
+  go r e = search (rules, and_parts)
 
 pub pairs_end : (x t : List ℕ) → pairs_returns (x ++ t) ≡ true → Whole x t → ends_return x ≡ false
 unfolding pairs_returns
 pairs_end [] t h w = refl
 pairs_end (b ∷ []) t h w = go (is_return b) h w where
   go : (r : Bool) → cond r (front is_feed t && pairs_returns t) (pairs_returns t) ≡ true → (r && front is_feed t) ≡ false → r ≡ false
-  go true e f = absurd (false≢true (sym f ∙ (and_parts (front is_feed t) (pairs_returns t) e).0))
-  go false e f = refl
+  go r e f = search (rules, false≢true, and_parts)
 pairs_end (b ∷ c ∷ x) t h w = pairs_end (c ∷ x) t (pairs_behind (b ∷ []) (c ∷ (x ++ t)) h) w

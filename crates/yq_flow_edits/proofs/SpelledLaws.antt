@@ -34,12 +34,10 @@ no_gap (b ∷ t) h = ⊎_elim (begins_here 42 (b ∷ t) (λ bs. refl))
     (or_cases (begins_with 42 (b ∷ t)) (begins_with 91 (b ∷ t) || (begins_with 123 (b ∷ t) || begins_scalar true (b ∷ t))) h)
 
 no_token_gap : (t : List ℕ) → is_space t ≡ false → stops Token t ≡ true
-no_token_gap [] h = refl
-no_token_gap (b ∷ t) h = rw h refl
+no_token_gap t h = search rules
 
 no_white_gap : (t : List ℕ) → begins_content true t ≡ true → stops White t ≡ true
-no_white_gap [] h = refl
-no_white_gap (b ∷ t) h = rw (no_gap (b ∷ t) h, front_not (begins_content true) 35 (λ bs. refl) (b ∷ t) h) refl
+no_white_gap t h = search (rules, no_gap, front_not)
 
 -- a space before a content is a gap
 space_gap : (t : List ℕ) → begins_content true t ≡ true → IsInlineGap (32 ∷ []) t
@@ -60,9 +58,6 @@ flow_key_text : (s : ScalarText) → IsValid s → IsWritten s (scalar_text s pl
 unfolding scalar_text
 flow_key_text s v = written_by s (can_write_plain s true) refl v
 
-string_valid : (k : List ℕ) → IsUtf8 k → IsValid (string_of k)
-string_valid k u = record { kind = tt; utf8 = u }
-
 -- what the labels of items or entries with this closing bracket give
 pub record Fits (k : ℕ) (keyed : Bool) : Type 0 where
   pub key : (label : tree.Label) → IsLabel keyed label → (t : List ℕ) → begins_content true t ≡ true → IsInlineKey k (flow_key label.key) t × (begins_content true (key_text (flow_key label.key) t) ≡ true)
@@ -71,38 +66,26 @@ pub record Fits (k : ℕ) (keyed : Bool) : Type 0 where
   pub apart : (l : List ℕ) → is_space (k ∷ l) ≡ false
 
 pub items_fit : Fits 93 false
-items_fit = record {
-  key = λ label is t h. rw is (refl, h);
-  same = λ label is. rw is refl;
-  ends = λ l. refl;
-  apart = λ l. refl;
-}
+items_fit = search rules
 
 entry_key : (k : List ℕ) → IsUtf8 k → (t : List ℕ) → begins_content true t ≡ true → IsInlineKey 125 (flow_key (Some k)) t × (begins_content true (key_text (flow_key (Some k)) t) ≡ true)
 entry_key k u t h =
-    let w = flow_key_text (string_of k) (string_valid k u) in
+    let w = flow_key_text (string_of k) (record { kind = tt; utf8 = u }) in
     let p : List ℕ = scalar_text (string_of k) places.FlowKey in
     let is : IsScalarAt true None p (58 ∷ 32 ∷ t) = w.piece true None (58 ∷ 32 ∷ t) refl in
     ((refl, is, none_gap (58 ∷ 32 ∷ t) refl, or_right (is_quoted p) true refl, inl (space_gap t h, or_right (begins_with 38 t) (begins_content true t) h)), scalar_content (p ++ 58 ∷ 32 ∷ t) (scalar_begins true None p (58 ∷ 32 ∷ t) is))
 
 entry_same : (k : List ℕ) → IsUtf8 k → key_label (key_content (flow_key (Some k))) ≡ key_label (Some k)
-entry_same k u = ap (λ (c : List ℕ). key_label (Some c)) (flow_key_text (string_of k) (string_valid k u)).content
+entry_same k u = ap (λ (c : List ℕ). key_label (Some c)) (flow_key_text (string_of k) (record { kind = tt; utf8 = u })).content
 
 pub entries_fit : Fits 125 true
-entries_fit = record {
-  key = λ label is t h. rw is.1 (entry_key is.0 is.2 t h);
-  same = λ label is. rw is.1 (entry_same is.0 is.2);
-  ends = λ l. refl;
-  apart = λ l. refl;
-}
+entries_fit = search (rules, entry_key, entry_same)
 
 -- nodes as they are written
 pub no_bare : (v : tree.Node) → IsValueTree v → is_empty_node (flow_of v) ≡ false
 unfolding flow_of
 no_bare (tree.alias n) h = absurd h
-no_bare (tree.scalar a kind t) h = refl
-no_bare (tree.list a cs) h = refl
-no_bare (tree.map a cs) h = refl
+no_bare _ h = refl
 
 pub node_begins : (v : tree.Node) (rest : List ℕ) → IsValueTree v → ends_plain true (Some 0) rest ≡ true → begins_content true (node_text (flow_of v) rest) ≡ true
 unfolding flow_of node_text
@@ -111,28 +94,21 @@ node_begins (tree.scalar a kind t) rest h ends =
     let s : ScalarText = record { kind = kind; text = t } in
     let p : List ℕ = scalar_text s places.Flow in
     scalar_content (p ++ rest) (scalar_begins true (Some 0) p rest ((flow_scalar s h.1).piece true (Some 0) rest ends))
-node_begins (tree.list a cs) rest h ends = refl
-node_begins (tree.map a cs) rest h ends = refl
+node_begins _ rest h ends = refl
 
 sep_ends : (k : ℕ) (keyed : Bool) → Fits k keyed → (cs : tree.Children) (rest : List ℕ) → ends_plain true (Some 0) (sep_text (flow_sep cs) (flow_items_text k (flow_items cs) rest)) ≡ true
 unfolding flow_items_text flow_items
-sep_ends k keyed fits tree.none rest = fits.ends rest
-sep_ends k keyed fits (tree.child label n cs) rest = refl
-
-items_begin : (k : ℕ) (keyed : Bool) → Fits k keyed → (label : tree.Label) (n : tree.Node) (cs : tree.Children) (rest : List ℕ) →
-    AreValueTrees keyed (tree.child label n cs) → begins_content true (flow_items_text k (flow_items (tree.child label n cs)) rest) ≡ true
-unfolding flow_items_text flow_items
-items_begin k keyed fits label n cs rest h = search (rules, node_begins, sep_ends)
+sep_ends k keyed fits cs rest = search (rules, fits.ends)
 
 items_gap : (k : ℕ) (keyed : Bool) → Fits k keyed → (cs : tree.Children) (rest : List ℕ) → AreValueTrees keyed cs → IsInlineGap [] (flow_items_text k (flow_items cs) rest)
 unfolding flow_items_text flow_items
 items_gap k keyed fits tree.none rest h = none_gap (k ∷ rest) (no_token_gap (k ∷ rest) (fits.apart rest))
-items_gap k keyed fits (tree.child label n cs) rest h = content_gap _ (items_begin k keyed fits label n cs rest h)
+items_gap k keyed fits (tree.child label n cs) rest h = content_gap _ (search (rules, node_begins, sep_ends))
 
 sep_is : (k : ℕ) (keyed : Bool) → Fits k keyed → (cs : tree.Children) (rest : List ℕ) → AreValueTrees keyed cs → IsSep k (flow_sep cs) (flow_items_text k (flow_items cs) rest)
 unfolding flow_items_text flow_items
 sep_is k keyed fits tree.none rest h = (none_gap (k ∷ rest) (no_token_gap (k ∷ rest) (fits.apart rest)), eq-eqb k k refl)
-sep_is k keyed fits (tree.child label n cs) rest h = (none_gap _ refl, space_gap _ (items_begin k keyed fits label n cs rest h))
+sep_is k keyed fits (tree.child label n cs) rest h = (none_gap _ refl, space_gap _ (search (rules, node_begins, sep_ends)))
 
 mutual
   unfolding IsFlowNode AreFlowItems flow_of flow_items node_text flow_items_text

@@ -1,13 +1,13 @@
 -- Scalars that are written are read as they were.
 use Rattle.std.proofs.Common.{◌≡◌, ℕ, Bool, true, false, cond, not, ◌&&◌, ◌||◌, List, [], ◌∷◌, ◌++◌, Option, Some, None, refl, sym, ap, ◌∙◌}
-use Rattle.std.{proofs.Common.{inl, inr, ⊎_elim, append_assoc, append-nil, eqb-true, rules}, proofs.Math.Bool.and-false}
+use Rattle.std.{proofs.Common.{inr, ⊎_elim, append_assoc, append-nil, eqb-true, rules}, proofs.Math.Bool.and-false}
 use Rattle.std.proofs.lemmas.Bool.{false≢true, cond_both, or_cases, and_parts, not-true, or_parts}
-use Rattle.yq_core.{specs.declared.kind.Kind.Kind, specs.ContentReading.{within, one_break_more, content_on}}
+use Rattle.yq_core.{specs.declared.kind.Kind.Kind, specs.ContentReading.{within, content_on}}
 use Rattle.yq_core.specs.Plain.{ends_plain, holds_break, is_indicator}
 use Rattle.yq_core.{specs.PlainText.{is_plain_text, begins_plainly, needs_quotes, no_rest, is_merge, begins_marker}, specs.Quoted.last}
-use Rattle.yq_core.{specs.QuotedReading.is_quote, specs.Scalar.{ScalarText, string_of, plain_of}, specs.SchemaReading.resolve}
-use Rattle.yq_core.{specs.Text.{is_white, is_feed, is_return, is_break, front}, specs.Writable.{can_write_plain, is_string}}
-use Rattle.yq_core.{specs.Written.{written_scalar, double}, proofs.ContentLaws.quoted_content_is}
+use Rattle.yq_core.{specs.QuotedReading.is_quote, specs.Scalar.{ScalarText, string_of}, specs.SchemaReading.resolve}
+use Rattle.yq_core.{specs.Text.{is_feed, front}, specs.Writable.{can_write_plain, is_string}, specs.Written.{written_scalar, double}}
+use Rattle.yq_core.proofs.ContentLaws.{quoted_content_is}
 use Rattle.yq_core.proofs.PlainSpells.{plain_line, plain_opens, writable_text, writable_same, writable_piece, string_kind}
 use Rattle.yq_core.{proofs.PlainWritten.plain_text_parts, proofs.WrittenLaws.double_spells, proofs.WrittenText.{line_holds, double_is_line}}
 use Rattle.yq_core.specs.Scalars.{is_quoted, has_its_lines, IsScalarAt, scalar_content, scalar_of}
@@ -16,8 +16,7 @@ use Rattle.yq_core.specs.declared.style.Style.TheVariants as styles
 
 -- the content of one line is the line
 front_none : (t : List ℕ) → holds_break t ≡ false → front is_feed t ≡ false
-front_none [] h = refl
-front_none (b ∷ t) h = (or_parts (is_feed b) (holds_break t) h).0
+front_none t h = search (rules, or_parts)
 
 chosen_last : {A : Type 0} (f k : Bool) (y z u : A) → f ≡ false → k ≡ false → cond f y (cond k z u) ≡ u
 chosen_last f k y z u h1 h2 = search (rules, false≢true)
@@ -25,33 +24,17 @@ chosen_last f k y z u h1 h2 = search (rules, false≢true)
 pub line_on : (white t : List ℕ) → holds_break t ≡ false → content_on 0 0 within white t ≡ white ++ t
 unfolding content_on
 line_on white [] h = sym (append-nil white)
-line_on white (b ∷ t) h =
-    let p = or_parts (is_feed b) (holds_break t) h in
-    let no_break : (is_feed b || (is_return b && front is_feed t)) ≡ false = rw p.0 (rw (front_none t p.1) (and-false (is_return b))) in
-    let on : List ℕ = white ++ (b ∷ content_on 0 0 within [] t) in
-    let here : cond (is_feed b) (content_on 0 0 (one_break_more within) [] t) (cond (is_break (b ∷ t)) (content_on 0 0 within white t) on) ≡ on =
-    chosen_last (is_feed b) (is_break (b ∷ t)) _ _ on p.0 no_break in
-    cond_both (is_white b) (content_on 0 0 within (white ++ b ∷ []) t) (cond (is_feed b) (content_on 0 0 (one_break_more within) [] t) (cond (is_break (b ∷ t)) (content_on 0 0 within white t) on)) (λ l. l ≡ white ++ (b ∷ t))
-    (λ _. line_on (white ++ b ∷ []) t p.1 ∙ append_assoc white (b ∷ []) t)
-    (λ _. here ∙ ap (λ l. white ++ (b ∷ l)) (line_on [] t p.1))
+line_on white (b ∷ t) h = search (rules, or_parts, front_none, and-false, chosen_last, cond_both, append_assoc, line_on (white ++ b ∷ []) t, line_on [] t)
 
 needs_less : (flow : Bool) (t : List ℕ) → needs_quotes true t ≡ false → needs_quotes flow t ≡ false
 needs_less flow t h1 = search (rules, or_parts, and-false)
 
 no_rest_less : (flow : Bool) (t : List ℕ) → no_rest (needs_quotes true) t ≡ true → no_rest (needs_quotes flow) t ≡ true
 no_rest_less flow [] h = refl
-no_rest_less flow (b ∷ t) h =
-    let p = and_parts (not (needs_quotes true (b ∷ t))) (no_rest (needs_quotes true) t) h in
-    let inner : needs_quotes true (b ∷ t) ≡ false = not-true (needs_quotes true (b ∷ t)) p.0 in
-    rw (needs_less flow (b ∷ t) inner) (no_rest_less flow t p.1)
+no_rest_less flow (b ∷ t) h = search (rules, and_parts, not-true, needs_less, no_rest_less flow t)
 
 third : (a b c d e f : Bool) → (c ≡ true → f ≡ true) → (a && b && c && d && e) ≡ true → (a && b && f && d && e) ≡ true
-third a b c d e f then_ h =
-    let p = and_parts (a && b && c && d) e h in
-    let q = and_parts (a && b && c) d p.0 in
-    let r = and_parts (a && b) c q.0 in
-    let s = and_parts a b r.0 in
-    rw (s.0, s.1, then_ r.1, q.1, p.1) refl
+third a b c d e f then_ h = search (rules, and_parts)
 
 text_anywhere : (flow : Bool) (t : List ℕ) → is_plain_text true t ≡ true → is_plain_text flow t ≡ true
 text_anywhere flow t h = third _ (begins_plainly t) (no_rest (needs_quotes true) t) (not (is_merge t)) (not (begins_marker t)) (no_rest (needs_quotes flow) t) (no_rest_less flow t) h
@@ -75,8 +58,7 @@ plain_text : (s : ScalarText) → IsValid s → can_write_plain s true ≡ true 
 plain_text s v h = line_on [] s.text (plain_line true s.text v.utf8 (writable_text s.kind s.text true v.kind h))
 
 string_by : (string other : Bool) → (not string || other) ≡ false → string ≡ true
-string_by true other h = refl
-string_by false other h = absurd (false≢true (sym h))
+string_by string other h = search (rules, false≢true)
 
 -- what else is quoted is a string
 quoted_string : (s : ScalarText) → can_write_plain s true ≡ false → string_of s.text ≡ s
@@ -91,13 +73,7 @@ pub record IsWritten (s : ScalarText) (p : List ℕ) : Type 0 where
 
 pub written_by : (s : ScalarText) (plain : Bool) → can_write_plain s true ≡ plain → IsValid s → IsWritten s (written_scalar (cond plain styles.Plain styles.Double) s.text)
 unfolding scalar_of scalar_content
-written_by s true h v =
-    let content = plain_text s v h in
-    record {
-      scalar = rw (plain_unquoted s v h) (ap plain_of content ∙ writable_same s.kind s.text true v.kind h);
-      content = rw (plain_unquoted s v h) content;
-      piece = λ flow spaces rest ends. inl (writable_piece s flow spaces rest v.utf8 v.kind (plain_anywhere s flow h) ends);
-    }
+written_by s true h v = search (rules, plain_text, plain_unquoted, writable_same, writable_piece, plain_anywhere)
 written_by s false h v =
     let here = double_spells s.text [] v.utf8 in
     let content = quoted_content_is 34 (last here.chars) (double s.text) [] here.is ∙ here.same in

@@ -1,5 +1,5 @@
 -- Scalars that are written outside flow collections, in each style of one line, are read as they were.
-use Rattle.std.proofs.Common.{◌≡◌, ℕ, true, false, eqb, List, [], Option, Some, None, refl, sym, ap, ◌∙◌, inl, inr, eqb-true, rules}
+use Rattle.std.proofs.Common.{◌≡◌, ℕ, true, false, eqb, List, [], Option, refl, sym, ap, ◌∙◌, inl, inr, eqb-true, rules}
 use Rattle.std.{proofs.lemmas.Bool.{false≢true, and_parts}, specs.List.list_all, specs.Str.chars}
 use Rattle.yq_core.{specs.declared.style.Place.TheVariants.Block, specs.declared.style.Style.Style, specs.Plain.{ends_plain, holds_break}}
 use Rattle.yq_core.{specs.Quoted.last, specs.QuotedReading.is_quote, specs.Scalar.{ScalarText, string_of, plain_of}, specs.Text.front}
@@ -22,8 +22,7 @@ no_quote spaces rest h1 = search (rules, eqb-true, false≢true)
 
 -- one line has its lines
 one_line : (spaces : Option ℕ) (p : List ℕ) → holds_break p ≡ false → has_its_lines spaces p ≡ true
-one_line None p h = rw h refl
-one_line (Some n) p h = refl
+one_line spaces p h = search rules
 
 plain_spelled : (s : ScalarText) → IsValid s → can_write_plain s false ≡ true → SpellsScalar s s.text
 unfolding scalar_of
@@ -72,5 +71,4 @@ pub styled_spells : (s : ScalarText) (style : Style) → IsValid s → IsOneLine
 styled_spells s styles.Plain v i h = plain_spelled s v h
 styled_spells s styles.Single v i h = let p = and_parts (is_string s.kind) (list_all is_single_char (chars s.text)) h in single_spelled s v p.0 p.1
 styled_spells s styles.Double v i h = double_spelled s v h
-styled_spells s styles.Literal v i h = absurd i
-styled_spells s styles.Folded v i h = absurd i
+styled_spells s _ v i h = absurd i

@@ -1,7 +1,6 @@
 -- What is written in flow style fits into a flow collection.
-use Rattle.std.proofs.Common.{◌≡◌, inl, inr, ⊎_elim, ℕ, ◌≤◌, Bool, true, false, not, eqb, cond, List, ◌++◌, Some, refl, sym, ap, subst}
-use Rattle.std.{proofs.Common.{eqb-true, rules}, proofs.lemmas.Bool.{or_right, or_cases, not-true, and_parts}, specs.List.list_all}
-use Rattle.std.specs.Str.{chars}
+use Rattle.std.proofs.Common.{◌≡◌, inl, inr, ⊎_elim, ℕ, ◌≤◌, Bool, true, false, not, eqb, cond, List, ◌++◌, Some, refl, ap, rules}
+use Rattle.std.{proofs.lemmas.Bool.{or_right, or_cases, not-true, and_parts}, specs.List.list_all, specs.Str.chars}
 use Rattle.yq_core.{specs.declared.style.Style.Style, specs.Keys.depth, specs.PlainText.{is_plain_text, begins_marker}, specs.Quoted.last}
 use Rattle.yq_core.{specs.Scalar.ScalarText, specs.Text.is_marker, specs.Writable.{can_write, can_write_plain, is_string, is_single_char}}
 use Rattle.yq_core.{specs.Written.written_scalar, proofs.PlainSpells.{writable_text, writable_piece}}
@@ -26,32 +25,22 @@ written_unmarked : (s : ScalarText) (plain : Bool) (rest : List ℕ) → can_wri
 written_unmarked s true rest h v m = plain_unmarked s.text rest (writable_text s.kind s.text true v.kind h) m
 written_unmarked s false rest h v m = no_first 34 _ refl refl
 
-scalar_unmarked : (s : ScalarText) (rest : List ℕ) → IsValid s → Unmarked rest → is_marker (scalar_text s places.Flow ++ rest) ≡ false
-unfolding scalar_text
-scalar_unmarked s rest v m = written_unmarked s (can_write_plain s true) rest refl v m
-
 value_unmarked : (v : tree.Node) (rest : List ℕ) → IsValueTree v → Unmarked rest → is_marker (node_text (flow_of v) rest) ≡ false
-unfolding flow_of node_text
+unfolding flow_of node_text scalar_text
 value_unmarked (tree.alias n) rest h m = absurd h
-value_unmarked (tree.scalar a kind t) rest h m = scalar_unmarked (record { kind = kind; text = t }) rest h.1 m
+value_unmarked (tree.scalar a kind t) rest h m =
+    written_unmarked (record { kind = kind; text = t }) (can_write_plain (record { kind = kind; text = t }) true) rest refl h.1 m
 value_unmarked (tree.list a cs) rest h m = no_first 91 _ refl refl
 value_unmarked (tree.map a cs) rest h m = no_first 123 _ refl refl
 
 value_takes : (v : tree.Node) → IsValueTree v → takes_anchor (flow_of v) ≡ true
 unfolding flow_of
 value_takes (tree.alias n) h = absurd h
-value_takes (tree.scalar a kind t) h = refl
-value_takes (tree.list a cs) h = refl
-value_takes (tree.map a cs) h = refl
+value_takes _ h = refl
 
 -- a value
 pub value_fits : (k e : ℕ) (v : tree.Node) (rest : List ℕ) → is_close k ≡ true → EndsItem k rest → IsValueTree v → depth v ≤ e → FitsNode e (flow_of v) rest
-value_fits k e v rest c ends h deep = record {
-  is = written_node v true (Some 0) e rest h deep (ends_plainly (Some 0) k rest c ends);
-  some = no_bare v h;
-  takes = value_takes v h;
-  unmarked = value_unmarked v rest h (ends_mark k rest c ends);
-}
+value_fits k e v rest c ends h deep = search (rules, written_node, ends_plainly, no_bare, value_takes, value_unmarked, ends_mark)
 
 -- a scalar in a style of one line
 pub scalar_fits : (k e : ℕ) (s : ScalarText) (style : Style) (rest : List ℕ) → is_close k ≡ true → EndsItem k rest → IsValid s →
@@ -70,8 +59,7 @@ scalar_fits k e s styles.Single rest c ends v i h =
 scalar_fits k e s styles.Double rest c ends v i h =
     let there = double_spells s.text rest v.utf8 in
     record { is = inr ((34, (last there.chars, there.is)), refl); some = refl; takes = refl; unmarked = no_first 34 _ refl refl }
-scalar_fits k e s styles.Literal rest c ends v i h = absurd i
-scalar_fits k e s styles.Folded rest c ends v i h = absurd i
+scalar_fits k e s _ rest c ends v i h = absurd i
 
 pub scalar_block : (s : ScalarText) (style : Style) → scalars.IsOneLine style → can_write s style places.Flow ≡ true → can_write s style places.Block ≡ true
 scalar_block s style h1 h2 = search (rules, plain_anywhere)
@@ -82,10 +70,7 @@ scalar_same s style v i h = ap scalar_node (styled_spells s style v i (scalar_bl
 
 -- an item or entry
 pub fit_of : (k : ℕ) → is_close k ≡ true → spelled.Fits k (eqb k 125)
-fit_of k h = ⊎_elim {0, 0, 0}
-    (λ e. subst (λ (j : ℕ). spelled.Fits j (eqb j 125)) (sym (eqb-true k 93 e)) items_fit)
-    (λ e. subst (λ (j : ℕ). spelled.Fits j (eqb j 125)) (sym (eqb-true k 125 e)) entries_fit)
-    (or_cases (eqb k 93) (eqb k 125) h)
+fit_of k h = search (rules, ⊎_elim, items_fit, entries_fit, or_cases)
 
 pub item_fits : (k e : ℕ) (label : tree.Label) (v : tree.Node) (rest : List ℕ) → is_close k ≡ true → EndsItem k rest → IsLabel (eqb k 125) label → IsValueTree v → depth v ≤ e → FitsItem e k (flow_key label.key) (flow_of v) rest
 item_fits k e label v rest c ends is h deep =

@@ -4,6 +4,7 @@
 mod flow_laws;
 mod flow_place;
 mod removal;
+mod valid;
 mod write;
 
 pub use flow_laws::{
@@ -12,4 +13,5 @@ pub use flow_laws::{
 };
 pub use flow_place::{EditPlace, append_place, replace_place};
 pub use removal::{behind, remove_place};
+pub use valid::{text_holds, value_holds};
 pub use write::{push_scalar, write_entry, write_inline};

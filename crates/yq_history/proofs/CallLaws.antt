@@ -1,15 +1,15 @@
 -- The calls of a command, from those of the calls of which it is made.
 use Rattle.std.proofs.Common.{rules, ◌≡◌, ◌≢◌, inl, ℕ, true, false, ◌==◌, List, [], ◌∷◌, Option, Some, None, Result, Ok, Err, IfErr, Vec}
-use Rattle.std.{proofs.Common.{is_ok, if◌then◌else◌, sym, ap, ◌∙◌, subst, refl, true≢false}, specs.declared.alloc.Global.Global}
+use Rattle.std.{proofs.Common.{is_ok, sym, ap, ◌∙◌, subst, refl, true≢false}, specs.declared.alloc.Global.Global}
 use Rattle.yq_journal.{specs.declared.moves.Move.Move, specs.Good.journal_beside, specs.Json.journal_text}
 use Rattle.yq_journal.specs.Refusals.{no_way, squash_fault, way_fault}
 use Rattle.yq_journal.specs.State.{State, journal_after, moved_text, settled_beside, squashed, with_move}
 use Rattle.yq_store.{specs.Calls.{Call, writes}, specs.Count.FileError}
-use Rattle.yq_history.{specs.declared.fault.Fault.Fault, specs.PairAnswers.IsReadFrom}
+use Rattle.yq_history.specs.PairAnswers.{IsReadFrom}
 use Rattle.yq_history.specs.Calls.{AfterFile, AfterJournal, CallsOnPair, IsOpened, Makes, Puts, PutsJournal, ReadsJournal, ReadsPair}
-use Rattle.yq_history.{specs.Calls.writes_of, specs.Output.bytes}
-use Rattle.yq_history.specs.Effects.{Effect, writes_nothing, writes_both, from_pair, goes_to, leads_to, move_effect, joins_to}
-use Rattle.yq_history.{specs.Effects.squash_effect, proofs.EffectLaws.settles, proofs.MoveLaws.{bytes_differ, bytes_same, no_way_free}}
+use Rattle.yq_history.{specs.Calls.writes_of, specs.Effects.{Effect, from_pair, move_effect, squash_effect}, proofs.EffectLaws.settles}
+use Rattle.yq_history.proofs.MoveLaws.{bytes_differ, bytes_same, no_way_free}
+use Rattle.yq_fault.specs.declared.fault.Fault.{Fault}
 use Rattle.yq_failure.specs.declared.failure.Failure.TheVariants as failure
 use Rattle.yq_store.specs.declared.store.FileFault.TheVariants as file
 
@@ -54,41 +54,28 @@ module _ {S : Type 0} (leads : S → Call → S → Type 0) where
   module _ {T : Type 0} (r : Result T Fault) (f j : List ℕ) (s : State) (step : Move) (t : List ℕ) (a e : S) where
     as_effect : (u : List ℕ) → no_way s.records s.at step ≡ None → moved_text s.records s.at step t ≡ Some u → (ps : List (List ℕ × List ℕ)) →
         writes_of f j t u (with_move s step t) (journal_after s step) ≡ ps → Puts leads r ps a e → Makes leads r f j t (move_effect step t s) a e
-    as_effect u free is ps writes_is puts =
-        subst (λ x. Makes leads r f j t x a e)
-        (sym (ap (λ o. goes_to o (moved_text s.records s.at step t) (with_move s step t) (journal_after s step)) free ∙ ap (λ o. leads_to o (with_move s step t) (journal_after s step)) is))
-        (subst (λ x. Puts leads r x a e) (sym writes_is) puts)
+    as_effect u free is ps writes_is puts = search rules
 
     -- a move in three writes
     pub three_writes : (u : List ℕ) → no_way s.records s.at step ≡ None → moved_text s.records s.at step t ≡ Some u → u ≢ t →
         Puts leads r ((j, journal_text (with_move s step t)) ∷ (f, u) ∷ (j, journal_text (journal_after s step)) ∷ []) a e → Makes leads r f j t (move_effect step t s) a e
-    three_writes u free is changes =
-        as_effect u free is ((j, journal_text (with_move s step t)) ∷ (f, u) ∷ (j, journal_text (journal_after s step)) ∷ [])
-        (ap (λ b. if b then (j, journal_text (journal_after s step)) ∷ [] else (j, journal_text (with_move s step t)) ∷ (f, u) ∷ (j, journal_text (journal_after s step)) ∷ []) (bytes_differ u t changes))
+    three_writes u free is changes = search (rules, as_effect, bytes_differ)
 
     -- one that leaves the text equal, in one
     pub one_write : way_fault s.records s.at step t ≡ None → moved_text s.records s.at step t ≡ Some t →
         PutsJournal leads r j (journal_after s step) a e → Makes leads r f j t (move_effect step t s) a e
-    one_write free is =
-        as_effect t (no_way_free s.records s.at step t free) is ((j, journal_text (journal_after s step)) ∷ [])
-        (ap (λ b. if b then (j, journal_text (journal_after s step)) ∷ [] else (j, journal_text (with_move s step t)) ∷ (f, t) ∷ (j, journal_text (journal_after s step)) ∷ []) (bytes_same t))
+    one_write free is = search (rules, as_effect, no_way_free, bytes_same)
 
   -- ---- squashes
 
   module _ {T : Type 0} (r : Result T Fault) (f j t : List ℕ) (s : State) (n : ℕ) (a e : S) where
     -- of one edit, without a write
     pub squashed_one : (n == 1) ≡ true → squash_fault s n ≡ None → e ≡ a → Makes leads r f j t (squash_effect n t s) a e
-    squashed_one one free same =
-        subst (λ x. Makes leads r f j t x a e)
-        (sym (ap (λ o. joins_to o n t (squashed s n)) free ∙ ap (λ b. if b then writes_nothing (bytes []) else writes_both t (squashed s n) (squashed s n)) one)) same
+    squashed_one one free same = search rules
 
     -- of several
     pub squash_write : (n == 1) ≡ false → squash_fault s n ≡ None → PutsJournal leads r j (squashed s n) a e → Makes leads r f j t (squash_effect n t s) a e
-    squash_write some free puts =
-        subst (λ x. Makes leads r f j t x a e)
-        (sym (ap (λ o. joins_to o n t (squashed s n)) free ∙ ap (λ b. if b then writes_nothing (bytes []) else writes_both t (squashed s n) (squashed s n)) some))
-        (subst (λ x. Puts leads r x a e)
-        (sym (ap (λ b. if b then (j, journal_text (squashed s n)) ∷ [] else (j, journal_text (squashed s n)) ∷ (f, t) ∷ (j, journal_text (squashed s n)) ∷ []) (bytes_same t))) puts)
+    squash_write some free puts = search (rules, bytes_same)
 
   -- ---- reading a pair
 
@@ -104,11 +91,7 @@ module _ {S : Type 0} (leads : S → Call → S → Type 0) where
     opens b s t k = (k.0, refl, (λ go. settles (Some v.items) b v.items refl z k.1 y settled go))
 
     opens_after : (a : Result (List ℕ) FileError) (s t : S) → AfterJournal {T = State} leads (Ok z) IsRead a s t → AfterJournal leads pair (IsOpened pair v.items) a s t
-    opens_after (Ok b) s t k = opens (Some b) s t k
-    opens_after (Err (failure.Fault file.NotThere)) s t k = opens None s t k
-    opens_after (Err (failure.Fault file.ReadFailed)) s t k = absurd (true≢false (ap is_ok k.0))
-    opens_after (Err (failure.Fault file.WriteFailed)) s t k = absurd k
-    opens_after (Err failure.Memory) s t k = absurd (true≢false (ap is_ok k.0))
+    opens_after a s t k = search (rules, opens, true≢false)
 
     pub opens_journal : (j : List ℕ) (s t : S) → ReadsJournal {T = State} leads (Ok z) j IsRead s t → ReadsJournal leads pair j (IsOpened pair v.items) s t
     opens_journal j s t k = (k.0, k.1, k.2, opens_after k.0 k.1 t k.3)
@@ -116,11 +99,7 @@ module _ {S : Type 0} (leads : S → Call → S → Type 0) where
   -- a journal that was read, with a fault after that
   module _ (z : State) (text : List ℕ) (e : Fault) where
     misses_after : (a : Result (List ℕ) FileError) (s t : S) → AfterJournal {T = State} leads (Ok z) (IsReadFrom {E = Fault} (Ok z)) a s t → AfterJournal {T = Vec ℕ Global × State} leads (Err e) (IsOpened (Err e) text) a s t
-    misses_after (Ok b) s t k = k.0
-    misses_after (Err (failure.Fault file.NotThere)) s t k = k.0
-    misses_after (Err (failure.Fault file.ReadFailed)) s t k = absurd (true≢false (ap is_ok k.0))
-    misses_after (Err (failure.Fault file.WriteFailed)) s t k = absurd k
-    misses_after (Err failure.Memory) s t k = absurd (true≢false (ap is_ok k.0))
+    misses_after a s t k = search (rules, true≢false)
 
     pub misses_pair : (r : Result (Vec ℕ Global × State) Fault) → r ≡ Err e → (j : List ℕ) (s t : S) → ReadsJournal {T = State} leads (Ok z) j (IsReadFrom {E = Fault} (Ok z)) s t → ReadsJournal leads r j (IsOpened r text) s t
     misses_pair r is j s t k = subst (λ q. ReadsJournal leads q j (IsOpened q text) s t) (sym is) (k.0, k.1, k.2, misses_after k.0 k.1 t k.3)
@@ -141,16 +120,11 @@ module _ {S : Type 0} (leads : S → Call → S → Type 0) where
       none_then text b s t same = subst (Goes text b s) (sym same) (makes_none r f j text (from_pair (Some text) b go) s (fails r e is))
 
       unopened_journal : (text : List ℕ) (a : Result (List ℕ) FileError) (s t : S) → AfterJournal leads refusal (IsOpened refusal text) a s t → AfterJournal leads r (Goes text) a s t
-      unopened_journal text (Ok b) s t k = none_then text (Some b) s t k
-      unopened_journal text (Err (failure.Fault file.NotThere)) s t k = none_then text None s t k
-      unopened_journal text (Err (failure.Fault file.ReadFailed)) s t k = (same_refusal _ k.0, k.1)
-      unopened_journal text (Err (failure.Fault file.WriteFailed)) s t k = absurd k
-      unopened_journal text (Err failure.Memory) s t k = (same_refusal _ k.0, k.1)
+      unopened_journal text a s t k = search (rules, none_then, same_refusal)
 
       unopened_file : (a : Result (List ℕ) FileError) (s t : S) →
           AfterFile leads refusal (λ text. ReadsJournal leads refusal j (IsOpened refusal text)) a s t → AfterFile leads r (λ text. ReadsJournal leads r j (Goes text)) a s t
-      unopened_file (Ok text) s t k = (k.0, k.1, k.2, unopened_journal text k.0 k.1 t k.3)
-      unopened_file (Err x) s t k = (k.0, same_refusal _ k.1, k.2)
+      unopened_file a s t k = search (rules, unopened_journal, same_refusal)
 
       -- a pair that was not opened
       pub unopened_calls : (s t : S) → ReadsPair leads refusal f j (IsOpened refusal) s t → CallsOnPair leads r f j go s t
@@ -161,22 +135,17 @@ module _ {S : Type 0} (leads : S → Call → S → Type 0) where
       success = Ok p
 
       goes_then : (text : List ℕ) (b : Option (List ℕ)) (s : S) → IsOpened success text b s n → Goes text b s t
-      goes_then text b s k =
-          subst (λ x. Makes leads r f j text x s t) (sym (k.2 go))
-          (subst (λ (y : List ℕ). Makes leads r f j y (go y p.1) s t) k.1
-          (subst (λ x. Makes leads r f j p.0.items (go p.0.items p.1) x t) k.0 makes))
+      goes_then text b s k = search rules
 
       opened_journal : (text : List ℕ) (a : Result (List ℕ) FileError) (s : S) → AfterJournal leads success (IsOpened success text) a s n → AfterJournal leads r (Goes text) a s t
       opened_journal text (Ok b) s k = goes_then text (Some b) s k
       opened_journal text (Err (failure.Fault file.NotThere)) s k = goes_then text None s k
-      opened_journal text (Err (failure.Fault file.ReadFailed)) s k = absurd (true≢false (ap is_ok k.0))
       opened_journal text (Err (failure.Fault file.WriteFailed)) s k = absurd k
-      opened_journal text (Err failure.Memory) s k = absurd (true≢false (ap is_ok k.0))
+      opened_journal text _ s k = absurd (true≢false (ap is_ok k.0))
 
       opened_file : (a : Result (List ℕ) FileError) (s : S) →
           AfterFile leads success (λ text. ReadsJournal leads success j (IsOpened success text)) a s n → AfterFile leads r (λ text. ReadsJournal leads r j (Goes text)) a s t
-      opened_file (Ok text) s k = (k.0, k.1, k.2, opened_journal text k.0 k.1 k.3)
-      opened_file (Err x) s k = absurd (true≢false (ap is_ok k.1))
+      opened_file a s k = search (rules, opened_journal, true≢false)
 
       -- one that was, and what went on from it
       pub opened_calls : (s : S) → ReadsPair leads success f j (IsOpened success) s n → CallsOnPair leads r f j go s t

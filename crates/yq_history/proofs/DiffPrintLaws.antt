@@ -3,9 +3,8 @@ use Rattle.std.proofs.Common.{rules, ◌≡◌, ℕ, ◌+◌, List, [], ◌∷�
 use Rattle.std.{proofs.lemmas.List.length-append, proofs.lemmas.List.Concat.flat_map-append, specs.List.flat_map, specs.Prelude.codes}
 use Rattle.yq_core.specs.Text.{text_lines}
 use Rattle.yq_history.specs.Hunks.{LineChange, unchanged, deleted, added, old_side, new_side}
-use Rattle.yq_history.specs.Unified.{marked_line, print_change, print_changes, print_ranges, print_hunk}
-use Rattle.yq_history.specs.DiffParts.{closed_hunk, hunks_from}
-use Rattle.yq_history.specs.DiffPrinting.{Open, opened, with_ranges, print_closed, marked_lines, print_parts}
+use Rattle.yq_history.{specs.Unified.{marked_line, print_change, print_changes, print_hunk}, specs.DiffParts.{closed_hunk, hunks_from}}
+use Rattle.yq_history.specs.DiffPrinting.{Open, print_closed, marked_lines, print_parts}
 use Rattle.yq_history.proofs.HunkLaws.{old_side-append, new_side-append, old_unchanged, new_unchanged, old_deleted, new_deleted, old_added}
 use Rattle.yq_history.{proofs.HunkLaws.new_added, specs.declared.diff.part.Part.Part}
 use Rattle.yq_history.specs.declared.diff.part.Part.TheVariants as part
@@ -17,9 +16,6 @@ printed_open m n cs = record { old_before = m; new_before = n; old_at = m + leng
 same_open : (m n a b c d : ℕ) (x y : List ℕ) → a ≡ b → c ≡ d → x ≡ y →
     ◌≡◌ {A = Open} (record { old_before = m; new_before = n; old_at = a; new_at = c; body = x }) (record { old_before = m; new_before = n; old_at = b; new_at = d; body = y })
 same_open m n a b c d x y h i j = cc
-
-shown : (m k n l : ℕ) (c : LineChange) (cs : List LineChange) → with_ranges m k n l (print_changes (c ∷ cs)) ≡ print_ranges m k n l ++ print_changes (c ∷ cs)
-shown m k n l c cs = search rules
 
 -- a hunk that is closed
 closed_is : (m n : ℕ) (cs : List LineChange) → print_closed (printed_open m n cs) ≡ flat_map print_hunk (closed_hunk m n cs)
@@ -58,11 +54,7 @@ print_is m n cs [] = closed_is m n cs
 print_is m n cs (part.Skipped t ∷ ps) =
     let k : ℕ = m + length (old_side cs) + length (text_lines t.now) in
     let l : ℕ = n + length (new_side cs) + length (text_lines t.now) in
-    let fresh : opened k l ≡ printed_open k l [] = same_open k l k (k + 0) l (l + 0) [] [] (omega arith) (omega arith) refl in
-    ap (λ x. x ++ print_parts (opened k l) ps) (closed_is m n cs) ∙
-    (ap (λ o. flat_map print_hunk (closed_hunk m n cs) ++ print_parts o ps) fresh ∙
-    (ap (λ x. flat_map print_hunk (closed_hunk m n cs) ++ x) (print_is k l [] ps) ∙
-    sym (flat_map-append print_hunk (closed_hunk m n cs) (hunks_from k l [] ps))))
+    search (rules, same_open, closed_is, flat_map-append, print_is k l [] ps)
 print_is m n cs (part.Unchanged t ∷ ps) =
     let ls : List (List ℕ) = text_lines t.now in
     ap (λ o. print_parts o ps) (open_more m n (length ls) (length ls) cs (map unchanged ls) (marked_lines (codes " ") ls) (ap length (old_unchanged ls)) (ap length (new_unchanged ls)) (lines_unchanged ls)) ∙

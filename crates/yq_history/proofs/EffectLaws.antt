@@ -1,18 +1,18 @@
 -- The effects of commands, from the contracts of the calls of which they are made.
 use Rattle.std.proofs.Common.{rules, ◌≡◌, ◌⊎◌, ℕ, Bool, true, false, ◌==◌, List, [], Option, Some, None, Result, Ok, Err, OnOk, OnErr}
 use Rattle.std.{proofs.Common.{IfErr, IsTrue, if◌then◌else◌, sym, ap, ◌∙◌, subst, refl}, specs.FinMap.get}
-use Rattle.yq_journal.specs.Refusals.{JournalError, ErrorIs, Reports, no_way, way_fault, squash_fault}
-use Rattle.yq_journal.{specs.declared.fault.JournalFault.JournalFault, specs.declared.moves.Move.Move, specs.Good.journal_beside}
-use Rattle.yq_journal.{specs.Record.Record, specs.State.{State, journal_after, moved_text, with_move, settled_beside, squashed}}
-use Rattle.yq_history.{specs.declared.fault.Fault.Fault, specs.declared.direction.Direction.Direction}
+use Rattle.yq_journal.{specs.Refusals.{JournalError, ErrorIs, Reports, no_way, way_fault, squash_fault}, specs.declared.moves.Move.Move}
+use Rattle.yq_journal.{specs.Good.journal_beside, specs.Record.Record}
+use Rattle.yq_journal.specs.State.{State, journal_after, moved_text, with_move, settled_beside, squashed}
+use Rattle.yq_history.specs.declared.direction.Direction.{Direction}
 use Rattle.yq_history.specs.Effects.{Effect, refuses, writes_nothing, writes_both, from_pair, from_journal, from_settled, goes_to}
-use Rattle.yq_history.{specs.Effects.{move_effect, joins_to, squash_effect, IsCutShort, Works}, specs.Faults.{is_outer_fault, of_journal}}
-use Rattle.yq_history.{specs.Output.{Output, bytes}, specs.Pair.IsJournal, specs.Causes.named, specs.Directions.walk_move}
-use Rattle.yq_history.proofs.MoveLaws.{IsMove}
+use Rattle.yq_history.{specs.Effects.{move_effect, joins_to, squash_effect, IsCutShort, Works}, specs.Output.{Output, bytes}}
+use Rattle.yq_history.{specs.Pair.IsJournal, specs.Causes.named, specs.Directions.walk_move, proofs.MoveLaws.IsMove}
+use Rattle.yq_fault.{specs.declared.fault.Fault.Fault, specs.Faults.{is_outer_fault, of_journal}}
 use Rattle.yq_store.specs.FileMap.{FileMap}
 use Rattle.yq_failure.specs.declared.failure.Failure.TheVariants as error
 use Rattle.yq_journal.specs.declared.fault.JournalFault.TheVariants as journal
-use Rattle.yq_history.specs.declared.fault.Fault.TheVariants as fault
+use Rattle.yq_fault.specs.declared.fault.Fault.TheVariants as fault
 
 pub on_ok : {T E P : Type 0} (r : Result T E) → P → OnOk r P
 on_ok r p = search rules
@@ -27,9 +27,6 @@ pub record IsLeft {T : Type 0} (u : List ℕ) (started z : State) (f j : List �
   pub journal : OnOk r (IsJournal (get d j) z)
   pub outside : IfErr r (λ e. IsTrue (is_outer_fault e))
   pub cut : OnErr r (IsCutShort u started z f j c d)
-
-left : (u : List ℕ) (started z : State) (f j : List ℕ) (c d : FileMap) {T : Type 0} (r : Result T Fault) → IsLeft u started z f j c d r → Works (writes_both u started z) f j c d r
-left u started z f j c d r k = search rules
 
 -- ---- moves
 

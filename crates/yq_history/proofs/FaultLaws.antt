@@ -1,21 +1,15 @@
 -- What is reported where a call within a move failed.
-use Rattle.std.proofs.Common.{rules, ◌≡◌, ℕ, false, List, Some, None, Result, Err, OnOk, IfErr, IsTrue, IsNone, is_some, if◌then◌else◌, sym}
-use Rattle.std.proofs.Common.{ap, ◌∙◌, subst}
+use Rattle.std.proofs.Common.{rules, ◌≡◌, ℕ, false, List, Some, None, Result, Err, IfErr, IsTrue, IsNone, is_some, if◌then◌else◌, sym, ap}
+use Rattle.std.proofs.Common.{◌∙◌, subst}
 use Rattle.yq_journal.{specs.Refusals.{move_fault, no_way, way_fault}, specs.declared.moves.Move.Move, specs.State.{State, moved_text}}
 use Rattle.yq_store.specs.Count.{after_call, FileError}
-use Rattle.yq_history.{specs.declared.fault.Fault.Fault, specs.Faults.{failures_after, is_outer_fault, of_store}}
+use Rattle.yq_fault.{specs.declared.fault.Fault.Fault, specs.Faults.{failures_after, is_outer_fault, of_store}}
 use Rattle.yq_history.proofs.MoveLaws.{no_way_free, none_of}
 use Rattle.yq_journal.specs.declared.fault.JournalFault.TheVariants as journal
-use Rattle.yq_failure.specs.declared.failure.Failure.TheVariants as failure
-use Rattle.yq_store.specs.declared.store.FileFault.TheVariants as file
 
 -- what is known of an error
 pub told : {T : Type 0} (P : Fault → Type 0) (r : Result T Fault) (e : Fault) → r ≡ Err e → P e → IfErr r P
 told P r e is h = subst (λ x. IfErr x P) (sym is) h
-
--- nothing is known of a success
-pub no_success : {T : Type 0} (P : Type 0) (r : Result T Fault) (e : Fault) → r ≡ Err e → OnOk r P
-no_success P r e is = subst (λ x. OnOk x P) (sym is) tt
 
 pub all_outside : {T : Type 0} (P : Fault → Type 0) (r : Result T Fault) → IfErr r (λ e. IsTrue (is_outer_fault e)) → IfErr r (λ e. is_outer_fault e ≡ false → P e)
 all_outside P r out = search rules
@@ -24,10 +18,7 @@ all_outside P r out = search rules
 
 -- what is counted of a write that failed
 pub failed_write : {T : Type 0} (r : Result T Fault) (e : FileError) (n : ℕ) → r ≡ Err (of_store e) → after_call {T = Unit {0}} (Err e) n ≡ failures_after r n
-failed_write r failure.Memory n is = sym (ap (λ q. failures_after q n) is)
-failed_write r (failure.Fault file.NotThere) n is = sym (ap (λ q. failures_after q n) is)
-failed_write r (failure.Fault file.ReadFailed) n is = sym (ap (λ q. failures_after q n) is)
-failed_write r (failure.Fault file.WriteFailed) n is = sym (ap (λ q. failures_after q n) is)
+failed_write r e n is = search rules
 
 -- ---- the journal
 

@@ -100,10 +100,6 @@ closed_back m n (c ∷ cs) hs old new h = (
   subst (λ ls. Applies (n + length ls) (map reversed_hunk hs) new old) (sym (old_reversed (c ∷ cs))) h,
 )
 
--- the last hunk
-last_applies : (m n : ℕ) (cs : List LineChange) → Applies m (closed_hunk m n cs) (old_side cs ++ []) (new_side cs ++ [])
-last_applies m n cs = search rules
-
 last_back : (m n : ℕ) (cs : List LineChange) → Applies n (map reversed_hunk (closed_hunk m n cs)) (new_side cs ++ []) (old_side cs ++ [])
 last_back m n [] = refl
 last_back m n (c ∷ cs) = closed_back m n (c ∷ cs) [] [] [] refl
@@ -111,7 +107,7 @@ last_back m n (c ∷ cs) = closed_back m n (c ∷ cs) [] [] [] refl
 -- ---- hunks of parts
 
 pub hunks_apply : (m n : ℕ) (cs : List LineChange) (ps : List Part) → Applies m (hunks_from m n cs ps) (old_side cs ++ old_parts ps) (new_side cs ++ new_parts ps)
-hunks_apply m n cs [] = last_applies m n cs
+hunks_apply m n cs [] = search rules
 hunks_apply m n cs (part.Skipped t ∷ ps) =
     let ls : List (List ℕ) = text_lines t.now in
     closed_applies m n cs _ (ls ++ old_parts ps) (ls ++ new_parts ps)
@@ -137,21 +133,13 @@ pub hunks_back : (m n : ℕ) (cs : List LineChange) (ps : List Part) → Applies
 hunks_back m n cs [] = last_back m n cs
 hunks_back m n cs (part.Skipped t ∷ ps) =
     let ls : List (List ℕ) = text_lines t.now in
-    closed_back m n cs _ (ls ++ old_parts ps) (ls ++ new_parts ps)
-    (applies_after (n + length (new_side cs)) _ ls (new_parts ps) (old_parts ps)
-    (hunks_back (m + length (old_side cs) + length ls) (n + length (new_side cs) + length ls) [] ps))
+    search (rules, closed_back, applies_after, hunks_back (m + length (old_side cs) + length ls) (n + length (new_side cs) + length ls) [] ps)
 hunks_back m n cs (part.Unchanged t ∷ ps) =
     let ds : List LineChange = map unchanged (text_lines t.now) in
-    subst (λ x. Applies n (map reversed_hunk (hunks_from m n (cs ++ ds) ps)) (new_side cs ++ (text_lines t.now ++ new_parts ps)) x) (old_more cs ds (text_lines t.now) (old_parts ps) (old_unchanged (text_lines t.now)))
-    (subst (λ x. Applies n (map reversed_hunk (hunks_from m n (cs ++ ds) ps)) x (old_side (cs ++ ds) ++ old_parts ps)) (new_more cs ds (text_lines t.now) (new_parts ps) (new_unchanged (text_lines t.now)))
-    (hunks_back m n (cs ++ ds) ps))
+    search (rules, old_more, old_unchanged, new_more, new_unchanged, hunks_back m n (cs ++ ds) ps)
 hunks_back m n cs (part.Deleted t ∷ ps) =
     let ds : List LineChange = map deleted (text_lines t.now) in
-    subst (λ x. Applies n (map reversed_hunk (hunks_from m n (cs ++ ds) ps)) (new_side cs ++ new_parts ps) x) (old_more cs ds (text_lines t.now) (old_parts ps) (old_deleted (text_lines t.now)))
-    (subst (λ x. Applies n (map reversed_hunk (hunks_from m n (cs ++ ds) ps)) x (old_side (cs ++ ds) ++ old_parts ps)) (new_more cs ds [] (new_parts ps) (new_deleted (text_lines t.now)))
-    (hunks_back m n (cs ++ ds) ps))
+    search (rules, old_more, old_deleted, new_more, new_deleted, hunks_back m n (cs ++ ds) ps)
 hunks_back m n cs (part.Added t ∷ ps) =
     let ds : List LineChange = map added (text_lines t.now) in
-    subst (λ x. Applies n (map reversed_hunk (hunks_from m n (cs ++ ds) ps)) (new_side cs ++ (text_lines t.now ++ new_parts ps)) x) (old_more cs ds [] (old_parts ps) (old_added (text_lines t.now)))
-    (subst (λ x. Applies n (map reversed_hunk (hunks_from m n (cs ++ ds) ps)) x (old_side (cs ++ ds) ++ old_parts ps)) (new_more cs ds (text_lines t.now) (new_parts ps) (new_added (text_lines t.now)))
-    (hunks_back m n (cs ++ ds) ps))
+    search (rules, old_more, old_added, new_more, new_added, hunks_back m n (cs ++ ds) ps)

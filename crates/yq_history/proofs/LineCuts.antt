@@ -1,8 +1,7 @@
 -- Where the lines of a text are cut.
-use Rattle.std.proofs.Common.{rules, ◌≡◌, ◌<◌, ◌≤◌, ℕ, suc, ◌-◌, true, false, cond, eqb, eqb-true, List, [], ◌∷◌, ◌++◌, length, take, drop}
-use Rattle.std.proofs.Common.{get_or, drop-cons, refl, sym, ap, ap₂, ◌∙◌, arith}
-use Rattle.std.proofs.lemmas.List.{append-nil, drop_all, take-append-drop}
-use Rattle.yq_core.{specs.Text.{is_feed, put_byte, text_lines, joined}, proofs.LineLaws.{joined_lines, line_step}}
+use Rattle.std.proofs.Common.{rules, ◌≡◌, ◌<◌, ◌≤◌, ℕ, suc, ◌-◌, true, eqb, eqb-true, List, [], ◌∷◌, ◌++◌, length, take, drop, get_or}
+use Rattle.std.{proofs.Common.{drop-cons, refl, sym, ap, ap₂, ◌∙◌, arith}, proofs.lemmas.List.{append-nil, drop_all, take-append-drop}}
+use Rattle.yq_core.{specs.Text.{put_byte, text_lines, joined}, proofs.LineLaws.{joined_lines, line_step}}
 use Rattle.yq_history.specs.Hunks.{EndsInFeed}
 
 -- a text that is not empty has a line
@@ -22,11 +21,7 @@ ends_some (x ∷ f) = omega arith
 pub lines_behind : (f b : List ℕ) → text_lines ((f ++ 10 ∷ []) ++ b) ≡ text_lines (f ++ 10 ∷ []) ++ text_lines b
 unfolding text_lines
 lines_behind [] b = refl
-lines_behind (x ∷ f) b =
-    elim (is_feed x) as (λ v. cond v ((x ∷ []) ∷ text_lines ((f ++ 10 ∷ []) ++ b)) (put_byte x (text_lines ((f ++ 10 ∷ []) ++ b))) ≡ cond v ((x ∷ []) ∷ text_lines (f ++ 10 ∷ [])) (put_byte x (text_lines (f ++ 10 ∷ []))) ++ text_lines b) [
-      | true ↦ ap (λ ls. (x ∷ []) ∷ ls) (lines_behind f b)
-      | false ↦ ap (put_byte x) (lines_behind f b) ∙ put_more x (text_lines (f ++ 10 ∷ [])) (text_lines b) (lines_some (f ++ 10 ∷ []) (ends_some f))
-    ]
+lines_behind (x ∷ f) b = search (rules, put_more, lines_some, ends_some, lines_behind f b)
 
 pub lines_of_none : text_lines [] ≡ []
 unfolding text_lines
@@ -39,11 +34,7 @@ put_length x ls n h = search rules
 pub lines_within : (t : List ℕ) → length (text_lines t) ≤ length t
 unfolding text_lines
 lines_within [] = omega arith
-lines_within (x ∷ t) =
-    elim (is_feed x) as (λ v. length (cond v ((x ∷ []) ∷ text_lines t) (put_byte x (text_lines t))) ≤ suc (length t)) [
-      | true ↦ omega (arith, lines_within t)
-      | false ↦ put_length x (text_lines t) (length t) (lines_within t)
-    ]
+lines_within (x ∷ t) = search (rules, put_length, lines_within t)
 
 -- texts with the same lines are the same
 pub same_lines : (t u : List ℕ) → text_lines t ≡ text_lines u → t ≡ u

@@ -2,12 +2,11 @@
 use Rattle.std.proofs.Common.{rules, ◌≡◌, ℕ, suc, ◌+◌, ◌≤◌, List, [], ◌∷◌, ◌++◌, length, map, take, drop, nat_lt, Option, Some, None, refl}
 use Rattle.std.proofs.Common.{sym, ap, ap₂, ◌∙◌, arith, append_assoc, subst, ◌-◌, ◌<◌, ◌⊎◌, false, Result, IfOk, slice_get}
 use Rattle.std.{specs.Prelude.{option_and_then, String}, specs.String.string_bytes, specs.declared.alloc.Global.Global}
-use Rattle.std.{proofs.lemmas.List.append-nil, proofs.lemmas.Str.{is_utf8-from_IsUtf8, IsUtf8-from_is_utf8}}
-use Rattle.std.{proofs.lemmas.Bool.false_from_ne_true, specs.Str.{IsUtf8, is_utf8}}
+use Rattle.std.{proofs.lemmas.List.append-nil, proofs.lemmas.Str.IsUtf8-from_is_utf8, proofs.lemmas.Bool.false_from_ne_true}
+use Rattle.std.specs.Str.{IsUtf8, is_utf8}
 use Rattle.yq_history.specs.ListedView.{backwards, exprs_of}
 use Rattle.yq_history.specs.ListedDiffs.{IsDiffOrNote, no_text_line, AreDiffLines, IsAfterLine, text_before, texts_around, texts_back}
-use Rattle.yq_history.{specs.ListedDiffs.{texts_of, texts_on}, specs.Output.{IsOutput, Output}, specs.Unified.IsPrintedDiff}
-use Rattle.yq_history.specs.Listing.{edit_line}
+use Rattle.yq_history.{specs.ListedDiffs.{texts_of, texts_on}, specs.Output.{IsOutput, Output}, specs.Listing.edit_line}
 use Prim.Native.Nat.{zero}
 use Rattle.yq_journal.{specs.Good.{AtRest, Leads}, specs.History.{History, Revision, text_after_edits}, specs.Record.{Record, done, undone}}
 use Rattle.yq_journal.{specs.State.State, proofs.RecordLaws.undone_after_done}
@@ -19,8 +18,7 @@ on_leads : (t : List ℕ) (rs : List Record) (es : List Revision) → Leads t rs
 on_leads t [] [] l = refl
 on_leads t (r ∷ rs) (e ∷ es) l =
     ap (λ o. o ∷ texts_on rs o) l.1 ∙ ap (λ os. Some e.text ∷ os) (on_leads e.text rs es l.2)
-on_leads t [] (e ∷ es) l = absurd l
-on_leads t (r ∷ rs) [] l = absurd l
+on_leads t _ _ l = absurd l
 
 before_more : (r : Record) (rs : List Record) (t : List ℕ) (os : List (Option (List ℕ))) → text_before r (texts_back rs t) ≡ text_before r (texts_back rs t ++ os)
 before_more r [] t os = refl
@@ -37,8 +35,7 @@ around t (r ∷ rs) (e ∷ es) (suc n) l fits =
     ap₂ (λ o os. o ∷ os)
     (before_more r (take n rs) u (texts_on (drop n rs) (Some u)) ∙ ap (text_before r) rest ∙ undone_after_done r t e.text l.1)
     rest
-around t [] (e ∷ es) (suc n) l fits = absurd l
-around t (r ∷ rs) [] (suc n) l fits = absurd l
+around t _ _ (suc n) l fits = absurd l
 
 -- the texts around the records of a journal at rest
 pub history_texts : (s : State) (t : List ℕ) (h : History) → AtRest s t h → texts_around s t ≡ texts_of h
@@ -56,27 +53,17 @@ last_of (o ∷ p ∷ os) = last_of (p ∷ os)
 pub listed_more : (file : List ℕ) (n done m : ℕ) (es : List (List ℕ)) (ts : List (Option (List ℕ))) (printed e change : List ℕ) (new : Option (List ℕ)) →
     AreDiffLines file n done es ts printed → m ≡ n + length es → IsAfterLine file (last_of ts) new change →
     AreDiffLines file n done (es ++ e ∷ []) (ts ++ new ∷ []) (printed ++ (edit_line (m + 1) (nat_lt m done) e ++ change))
-listed_more file n done m [] (o ∷ []) printed e change new none is after =
-    let place : m ≡ n = omega (arith, is) in
-    (change, [], ap₂ (λ (x : List ℕ) (k : ℕ). x ++ (edit_line (k + 1) (nat_lt k done) e ++ change)) none place ∙ ap (λ x. edit_line (n + 1) (nat_lt n done) e ++ x) (sym (append-nil change)), after, refl)
-listed_more file n done m (x ∷ es) (o ∷ p ∷ ts) printed e change new (first, rest, spells, shown, more) is after = (
-  first,
-  rest ++ (edit_line (m + 1) (nat_lt m done) e ++ change),
-  ap (λ y. y ++ (edit_line (m + 1) (nat_lt m done) e ++ change)) spells
-      ∙ append_assoc (edit_line (n + 1) (nat_lt n done) x) (first ++ rest) (edit_line (m + 1) (nat_lt m done) e ++ change)
-      ∙ ap (λ y. edit_line (n + 1) (nat_lt n done) x ++ y) (append_assoc first rest (edit_line (m + 1) (nat_lt m done) e ++ change)),
-  shown,
-  listed_more file (n + 1) done m es (p ∷ ts) rest e change new more (omega (arith, is)) after,
-)
+listed_more file n done m [] (o ∷ []) printed e change new none is after = search (rules, append-nil)
+listed_more file n done m (x ∷ es) (o ∷ p ∷ ts) printed e change new (first, rest, spells, shown, more) is after =
+    search (rules, append_assoc, listed_more file (n + 1) done m es (p ∷ ts) rest e change new more (omega (arith, is)) after)
 listed_more file n done m [] [] printed e change new none is after = absurd none
 listed_more file n done m [] (o ∷ p ∷ ts) printed e change new none is after = absurd none
 listed_more file n done m (x ∷ es) [] printed e change new none is after = absurd none
 listed_more file n done m (x ∷ es) (o ∷ []) printed e change new none is after = absurd none
 
 pub last_more : (ts : List (Option (List ℕ))) (o : Option (List ℕ)) → last_of (ts ++ o ∷ []) ≡ o
-last_more [] o = refl
-last_more (p ∷ []) o = refl
 last_more (p ∷ q ∷ ts) o = last_more (q ∷ ts) o
+last_more _ o = refl
 
 -- the texts to which one record more leads
 on_more : (rs : List Record) (r : Record) (o : Option (List ℕ)) → texts_on (rs ++ r ∷ []) o ≡ texts_on rs o ++ option_and_then (done r) (last_of (o ∷ texts_on rs o)) ∷ []
@@ -84,9 +71,8 @@ on_more [] r o = refl
 on_more (q ∷ rs) r o = ap (λ os. option_and_then (done q) o ∷ os) (on_more rs r (option_and_then (done q) o))
 
 pub last_back : (rs : List Record) (t : List ℕ) (os : List (Option (List ℕ))) → last_of (texts_back rs t ++ os) ≡ last_of (Some t ∷ os)
-last_back [] t os = refl
-last_back (r ∷ []) t os = refl
 last_back (r ∷ q ∷ rs) t os = last_back (q ∷ rs) t os
+last_back _ t os = refl
 
 -- the texts around records of which one more is undone
 pub around_more : (ds us : List Record) (r : Record) (t : List ℕ) →
@@ -108,15 +94,8 @@ pub listed_before : (file : List ℕ) (n m done : ℕ) (r : Record) (rs : List R
     old ≡ option_and_then (undone r) (first_text (texts_back rs t)) → IsAfterLine file old (first_text (texts_back rs t)) change → m ≡ n + 1 →
     AreDiffLines file m done (map (λ (q : Record). q.expr) rs) (texts_back rs t) rest →
     AreDiffLines file n done (map (λ (q : Record). q.expr) (r ∷ rs)) (texts_back (r ∷ rs) t) (edit_line (n + 1) (nat_lt n done) r.expr ++ (change ++ rest))
-listed_before file n m done r [] t change rest old is after next more =
-    (change, rest, refl, subst (λ o. IsAfterLine file o (Some t) change) is after, subst (λ k. AreDiffLines file k done [] (Some t ∷ []) rest) next more)
-listed_before file n m done r (q ∷ rs) t change rest old is after next more = (
-  change,
-  rest,
-  refl,
-  subst (λ o. IsAfterLine file o (text_before q (texts_back rs t)) change) is after,
-  subst (λ k. AreDiffLines file k done (map (λ (x : Record). x.expr) (q ∷ rs)) (texts_back (q ∷ rs) t) rest) next more,
-)
+listed_before file n m done r [] t change rest old is after next more = search rules
+listed_before file n m done r (q ∷ rs) t change rest old is after next more = search rules
 
 -- ---- texts, the last one first
 
@@ -127,15 +106,13 @@ backwards_more (t ∷ ss) s = ap (λ x. x ++ string_bytes t) (backwards_more ss 
 -- ---- records by their places
 
 none_after : (n : ℕ) (rs : List Record) → drop n (take n rs) ≡ []
-none_after zero rs = refl
-none_after (suc n) [] = refl
 none_after (suc n) (r ∷ rs) = none_after n rs
+none_after _ _ = refl
 
 none_after_all : (n : ℕ) (rs : List Record) → drop (length rs) (take n rs) ≡ []
 none_after_all zero [] = refl
-none_after_all zero (r ∷ rs) = refl
-none_after_all (suc n) [] = refl
 none_after_all (suc n) (r ∷ rs) = none_after_all n rs
+none_after_all _ _ = refl
 
 pub none_at : (k n : ℕ) (rs : List Record) → k ≡ n → drop k (take n rs) ≡ []
 none_at k n rs is = ap (λ i. drop i (take n rs)) is ∙ none_after n rs
@@ -210,14 +187,9 @@ done_more file at left rs r t near far lines new line change pushed some fits fo
 abbrev pub texts_to : ℕ → List Record → List ℕ → ℕ → List (Option (List ℕ))
 texts_to at rs t i = texts_back (take at rs) t ++ texts_on (take (i - at) (drop at rs)) (Some t)
 
--- before the first undone record
-pub undone_start : (file : List ℕ) (at : ℕ) (rs : List Record) (t o : List ℕ) → AreDiffLines file 0 at (exprs_of (take at rs)) (texts_back (take at rs) t) o →
-    (Some t ≡ last_of (texts_to at rs t at)) × AreDiffLines file 0 at (exprs_of (take at rs)) (texts_to at rs t at) o
-undone_start file at rs t o lines = search (rules, append-nil, last_back)
-
 pub undone_init : (file : List ℕ) (at i : ℕ) (rs : List Record) (t u o lines : List ℕ) → i ≡ at → u ≡ t → o ≡ lines → AreDiffLines file 0 at (exprs_of (take at rs)) (texts_back (take at rs) u) lines →
     (at ≤ i) × (Some t ≡ last_of (texts_to at rs t i)) × AreDiffLines file 0 at (exprs_of (take i rs)) (texts_to at rs t i) o
-undone_init file at i rs t u o lines place text_is out printed = search (rules, undone_start)
+undone_init file at i rs t u o lines place text_is out printed = search (rules, append-nil, last_back)
 
 -- the line of an undone record more
 pub undone_more : (file : List ℕ) (at i : ℕ) (rs : List Record) (r : Record) (t : List ℕ) (near far : Option (List ℕ)) (lines new line change : List ℕ) → new ≡ lines ++ line →
@@ -229,11 +201,9 @@ undone_more file at i rs r t near far lines new line change pushed begun found n
     let place : i + 1 - at ≡ suc (i - at) = omega (arith, begun) in
     let there : at + (i - at) ≡ i = omega (arith, begun) in
     let us : List Record = take (i - at) (drop at rs) in
-    let undone_is : take (i + 1 - at) (drop at rs) ≡ us ++ r ∷ [] =
-    ap (λ k. take k (drop at rs)) place ∙ take_step (drop at rs) (i - at) r (get_dropped rs at (i - at) ∙ ap (slice_get rs) there ∙ found) in
+    let undone_is : take (i + 1 - at) (drop at rs) ≡ us ++ r ∷ [] = search (rules, take_step, get_dropped) in
     let new_is : far ≡ option_and_then (done r) (last_of (texts_to at rs t i)) = far_is ∙ ap (option_and_then (done r)) near_is in
-    let texts : texts_to at rs t i ++ far ∷ [] ≡ texts_to at rs t (i + 1) =
-    ap (λ o. texts_to at rs t i ++ o ∷ []) new_is ∙ around_more (take at rs) us r t ∙ ap (λ xs. texts_back (take at rs) t ++ texts_on xs (Some t)) (sym undone_is) in
+    let texts : texts_to at rs t i ++ far ∷ [] ≡ texts_to at rs t (i + 1) = search (rules, around_more) in
     let exprs : exprs_of (take i rs) ++ r.expr ∷ [] ≡ exprs_of (take (i + 1) rs) = sym (ap (λ k. exprs_of (take k rs)) next ∙ ap exprs_of (take_step rs i r found) ∙ exprs_more (take i rs) r) in
     let fits = within_get rs i r found in
     let taken = length_taken rs i (omega (arith, fits)) in
@@ -251,11 +221,6 @@ pub undone_end : (file : List ℕ) (at i : ℕ) (rs : List Record) (t o : List �
 undone_end file at i rs t o begun all lines = search (rules, length_dropped, take_whole)
 
 -- ---- what comes after a line
-
--- a diff of two texts
-pub diff_comes : {E : Type 0} (file old new o n : List ℕ) (r : Result (String Global) E) → o ≡ old → n ≡ new → IsUtf8 old → IsUtf8 new →
-    IfOk r (λ s. IsPrintedDiff file o n (string_bytes s)) → IfOk r (λ s. IsDiffOrNote file old new (string_bytes s))
-diff_comes file old new o n r old_is new_is first second diff = search (rules, is_utf8-from_IsUtf8)
 
 -- or the line that says that there is none
 pub note_comes : {E : Type 0} (file old new : List ℕ) (r : Result (String Global) E) → (is_utf8 old ≡ false) ⊎ (is_utf8 new ≡ false) →

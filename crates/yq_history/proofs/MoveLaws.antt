@@ -8,11 +8,12 @@ use Rattle.yq_journal.{specs.Json.journal_text, specs.Record.Record, specs.Histo
 use Rattle.yq_journal.specs.State.{State, journal_after, moved_text, with_move, settled_beside}
 use Rattle.yq_journal.proofs.GoodLaws.{describes, open_before, open_after, settled_rests, undo_fault, redo_fault}
 use Rattle.yq_journal.proofs.HistoryLaws.{move_moves}
-use Rattle.yq_history.{specs.declared.fault.Fault.Fault, specs.Causes.{Cause, IsFor}, specs.Effects.IsCutShort}
-use Rattle.yq_history.{specs.Faults.{is_outer_fault, of_journal}, specs.Pair.{Arrives, GoodIn, IsJournal, PairAtRest, PairStands, Writes}}
-use Rattle.yq_history.{specs.Steps.{move_cause, move_next}, specs.Directions.walk_move, specs.declared.direction.Direction.Direction}
+use Rattle.yq_history.{specs.Causes.{Cause, IsFor}, specs.Effects.IsCutShort}
+use Rattle.yq_history.{specs.Pair.{Arrives, GoodIn, IsJournal, PairAtRest, PairStands, Writes}, specs.Steps.{move_cause, move_next}}
+use Rattle.yq_history.{specs.Directions.walk_move, specs.declared.direction.Direction.Direction}
+use Rattle.yq_fault.{specs.declared.fault.Fault.Fault, specs.Faults.{is_outer_fault, of_journal}}
 use Rattle.yq_store.specs.FileMap.{FileMap, get_written, get_other}
-use Rattle.yq_history.specs.declared.fault.Fault.TheVariants as faults
+use Rattle.yq_fault.specs.declared.fault.Fault.TheVariants as faults
 
 moved_closed : (s : State) (step : Move) → (journal_after s step).pending ≡ None
 moved_closed s step = search rules
@@ -64,8 +65,7 @@ module _ (f j : List ℕ) (apart : f ≢ j) where
 
     -- the second: the file
     pub second_write : (z : State) (g : FileMap) → u ≢ t → z ≡ with_move s step t → Writes c e j z → g ≡ insert e f u → PairStands g f j (after_move h step u)
-    second_write z g changes is w put =
-        wrote_text c e g u (with_move s step t) (after_move h step u) (subst (Writes c e j) is w) put (open_after s h t u step k.at_rest m changes)
+    second_write z g changes is w put = search (rules, wrote_text, open_after)
 
     -- the third: the journal settled
     pub third_write : (y z : State) (g l : FileMap) → u ≢ t → y ≡ with_move s step t → g ≡ insert e f u → settled_beside y u ≡ Some z → Writes g l j z → PairStands l f j (after_move h step u)
@@ -84,9 +84,6 @@ on_err_map r p f = search rules
 
 pub either : {A B C : Type 0} → A ⊎ B → (A → C) → (B → C) → C
 either a f h = search rules
-
-pub fault_inside : (f : JournalFault) → is_outer_fault (faults.Journal f) ≡ false
-fault_inside f = search rules
 
 module _ (c : FileMap) (f j : List ℕ) (cause : Option Cause) (h k : Option History) where
   -- cut short by the store or by want of memory
@@ -150,9 +147,7 @@ module _ (f j : List ℕ) (h : History) (w : Direction) where
     free_move free = sym (move_fault_of s t h w k.at_rest) ∙ ap (λ x. way_fault s.records s.at x t) (sym is) ∙ free
 
     pub refused_move : {T : Type 0} (r : Result T Fault) (e : Fault) (x : JournalError) → r ≡ Err e → e ≡ of_journal x → ErrorIs x (way_fault s.records s.at step t) → MoveDone c r
-    refused_move r e x err of names =
-        move_fails c r x (err ∙ ap Err of)
-        (subst (ErrorIs x) (ap (λ y. way_fault s.records s.at y t) is ∙ move_fault_of s t h w k.at_rest) names) k.stands
+    refused_move r e x err of names = search (rules, move_fails, move_fault_of)
 
     pub equal_move : {T : Type 0} (r : Result T Fault) → way_fault s.records s.at step t ≡ None →
         OnOk r (PairStands d f j (after_move h (walk_move w) t)) →
@@ -161,11 +156,7 @@ module _ (f j : List ℕ) (h : History) (w : Direction) where
     equal_move r free ok err out = move_ends d r t (free_move free) ok err out
 
     pub other_move : {T : Type 0} (r : Result T Fault) (u : List ℕ) (again : Move) → again ≡ walk_move w → way_fault s.records s.at step t ≡ None → IsMove c d f j s t u again r → MoveDone d r
-    other_move r u again same free m =
-        move_ends d r u (free_move free)
-        (subst (λ x. OnOk r (PairStands d f j (after_move h x u))) same (m.ok h k))
-        (subst (λ x. OnErr r (PairStands d f j h ⊎ PairStands d f j (after_move h x u))) same (m.err h k))
-        (fault_outside r (no_way s.records s.at again) (ap (no_way s.records s.at) (same ∙ sym is) ∙ no_way_free s.records s.at step t free) m.fault)
+    other_move r u again same free m = search (rules, move_ends, free_move, fault_outside, no_way_free, m.ok, m.err)
 
 pub bytes_same : (t : List ℕ) → bytes_eq t t ≡ true
 bytes_same t = (bytes_eq-Decides t t).1 refl

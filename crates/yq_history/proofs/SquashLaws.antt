@@ -1,18 +1,16 @@
 -- How a squash of a pair ends.
-use Rattle.std.proofs.Common.{rules, ◌≡◌, ◌≢◌, ◌⊎◌, inl, inr, ℕ, ◌≤◌, true, List, Option, Some, None, Result, Ok, Err, OnOk, OnErr, IfErr}
-use Rattle.std.{proofs.Common.{IsTrue, Bool, Vec, option_map, if◌then◌else◌, sym, ap, ◌∙◌, subst, refl}, specs.declared.alloc.Global.Global}
+use Rattle.std.proofs.Common.{rules, ◌≡◌, ◌≢◌, ◌⊎◌, ℕ, ◌≤◌, List, Option, Some, None, Result, Ok, Err, OnOk, OnErr, IfErr, IsTrue, Vec}
+use Rattle.std.{proofs.Common.{option_map, sym, ap, ◌∙◌, subst, refl}, specs.declared.alloc.Global.Global}
 use Rattle.yq_journal.{specs.Refusals.{JournalError, Reports, squash_fault}, specs.Good.squash_refusal}
 use Rattle.yq_journal.{specs.History.{History, after_squash}, specs.State.{State, squashed}, proofs.GoodLaws.describes}
 use Rattle.yq_journal.proofs.SquashLaws.{squash_fault_of, squash_one, squash_rests}
-use Rattle.yq_history.{specs.declared.fault.Fault.Fault, specs.Causes.named, specs.Faults.{is_outer_fault, of_journal}}
-use Rattle.yq_history.{specs.Pair.{Arrives, Opens, PairAtRest, PairStands, Writes}, specs.Steps.{squash_cause, squash_next, unless_fault}}
-use Rattle.yq_history.proofs.MoveLaws.{cut, is_refused, ends, either, fault_inside, on_ok_map, on_err_map, same_content, wrote_journal}
+use Rattle.yq_history.{specs.Causes.named, specs.Pair.{Arrives, Opens, PairAtRest, PairStands, Writes}}
+use Rattle.yq_history.specs.Steps.{squash_cause, squash_next, unless_fault}
+use Rattle.yq_history.proofs.MoveLaws.{cut, is_refused, ends, either, on_ok_map, on_err_map, same_content, wrote_journal}
+use Rattle.yq_fault.{specs.declared.fault.Fault.Fault, specs.Faults.{is_outer_fault, of_journal}}
 use Rattle.yq_store.specs.FileMap.{FileMap}
 use Rattle.yq_journal.specs.declared.fault.JournalFault.TheVariants as journal
-use Rattle.yq_history.specs.declared.fault.Fault.TheVariants as fault
-
-passed : (b : Bool) → (if b then None else Some journal.BadCount) ≡ None → b ≡ true
-passed b e = search rules
+use Rattle.yq_fault.specs.declared.fault.Fault.TheVariants as fault
 
 -- a squash that isn't refused is of some edits, as many as are done at most
 within : (h : History) (n : ℕ) → squash_refusal h n ≡ None → (1 ≤ n) × (n ≤ h.at)
@@ -24,7 +22,7 @@ module _ (c : FileMap) (f j : List ℕ) (h : History) (n : ℕ) (s : State) (t :
 
   -- the journal refused it
   pub squash_refused : {T : Type 0} (r : Result T Fault) (e : Fault) (x : JournalError) → r ≡ Err e → e ≡ of_journal x → Reports x (squash_fault s n) → Arrives c f j (squash_cause n (Some h)) (Some h) (squash_next n (Some h)) r
-  squash_refused r e x is of reports = search (rules, cut, is_refused, fault_inside, same_fault)
+  squash_refused r e x is of reports = search (rules, cut, is_refused, same_fault)
 
   free_squash : squash_fault s n ≡ None → squash_refusal h n ≡ None
   free_squash free = sym same_fault ∙ free
@@ -49,11 +47,7 @@ module _ (c : FileMap) (f j : List ℕ) (h : History) (n : ℕ) (s : State) (t :
     -- the journal was written, or not
     pub squash_ends : {T : Type 0} (r : Result T Fault) →
         OnOk r (Writes c d j z) → OnErr r ((d ≡ c) ⊎ Writes c d j z) → IfErr r (λ e. IsTrue (is_outer_fault e)) → Arrives d f j (squash_cause n (Some h)) (Some h) (squash_next n (Some h)) r
-    squash_ends r ok err out =
-        subst (λ x. Arrives d f j (squash_cause n (Some h)) (Some h) x r) (sym (next_is free))
-        (ends d f j (squash_cause n (Some h)) (Some h) (Some (after_squash h n)) r (no_cause free)
-        (on_ok_map r ok wrote)
-        (on_err_map r err (λ x. either x (λ same. inl (same_content c d f j h same k.stands)) (λ w. inr (wrote w)))) out)
+    squash_ends r ok err out = search (rules, next_is, ends, no_cause, on_ok_map, wrote, on_err_map, either, same_content)
 
 -- a pair that was read and settled, and then squashed
 pub squash_opened : (c d : FileMap) (f j : List ℕ) (n : ℕ) (h : Option History) (v : Vec ℕ Global) (s : State) {T : Type 0} (r : Result T Fault) →

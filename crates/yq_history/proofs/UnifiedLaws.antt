@@ -21,10 +21,6 @@ printed_diff name old new out ps are differ is =
     let d = is_diff ps old new are differ in
     record { hunks = hunks_of ps; diff = d; print = is ∙ (ap (λ x. print_names name ++ x) (print_is 0 0 [] ps) ∙ sym (named (hunks_of ps) name old new d.forward differ)) }
 
--- where no byte changes nothing is printed
-pub no_diff : (name old new : List ℕ) → old ≡ new → IsPrintedDiff name old new []
-no_diff name old new same = search rules
-
 -- the lines of parts are no more than the bytes of their texts
 pub old_few : (ps : List Part) (old new : List ℕ) → ArePartsOf ps old new → length old < 2 ^ 64 → length (old_parts ps) < 2 ^ 64
 old_few ps old new are small = omega (arith, ap length are.old_lines, lines_within old, small)

@@ -3,8 +3,8 @@ use Rattle.std.specs.Prelude.{◌≡◌, ◌⊎◌, ℕ, List, [], ◌∷◌, fa
 use Rattle.std.{specs.Str.bytes_eq, specs.declared.alloc.Global.Global}
 use Rattle.yq_journal.{specs.Json.journal_text, specs.State.State}
 use Rattle.yq_store.{specs.Calls.{Call, reads, writes}, specs.Count.{FileError, IsOfRead, IsOfWrite}}
-use Rattle.yq_history.{specs.declared.fault.Fault.Fault, specs.declared.fault.Fault.TheVariants.{ReadFailed, OutOfMemory}}
-use Rattle.yq_history.{specs.Effects.{Effect, refuses, writes_nothing, writes_both, from_pair}, specs.Faults.of_store}
+use Rattle.yq_fault.{specs.declared.fault.Fault.Fault, specs.declared.fault.Fault.TheVariants.{File, OutOfMemory}, specs.Faults.of_store}
+use Rattle.yq_history.specs.Effects.{Effect, refuses, writes_nothing, writes_both, from_pair}
 use Rattle.yq_failure.specs.declared.failure.Failure.TheVariants as failure
 use Rattle.yq_store.specs.declared.store.FileFault.TheVariants as file
 
@@ -30,7 +30,7 @@ module _ {S T : Type 0} (leads : S → Call → S → Type 0) (r : Result T Faul
   abbrev pub AfterJournal : (Option (List ℕ) → S → S → Type 0) → Result (List ℕ) FileError → S → S → Type 0
   AfterJournal next (Ok b) s t = next (Some b) s t
   AfterJournal next (Err (failure.Fault file.NotThere)) s t = next None s t
-  AfterJournal next (Err (failure.Fault file.ReadFailed)) s t = (r ≡ Err ReadFailed) × (t ≡ s)
+  AfterJournal next (Err (failure.Fault file.ReadFailed)) s t = (r ≡ Err (File file.ReadFailed)) × (t ≡ s)
   AfterJournal next (Err (failure.Fault file.WriteFailed)) s t = ⊥
   AfterJournal next (Err failure.Memory) s t = (r ≡ Err OutOfMemory) × (t ≡ s)
 

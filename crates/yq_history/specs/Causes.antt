@@ -1,7 +1,7 @@
 -- Why a command is refused (own).
 use Rattle.std.{specs.Prelude.{◌≡◌, ◌↔◌, ℕ, false, List, Option, Some, None}, specs.Str.is_utf8}
 use Rattle.yq_core.specs.declared.fault.FaultKind.TheVariants.{NotUtf8}
-use Rattle.yq_history.{specs.declared.fault.Fault.Fault, specs.declared.fault.Fault.TheVariants.Unreadable}
+use Rattle.yq_fault.{specs.declared.fault.Fault.Fault, specs.declared.fault.Fault.TheVariants.Unreadable}
 
 -- a named fault, or that this text has no reading
 pub data Cause : Type 0 where

@@ -1,10 +1,10 @@
 -- What a call on a file and its journal leaves in a store, by what it answers (own).
 use Rattle.std.{specs.Prelude.{◌≡◌, ℕ, List, Option, Some, false, IfErr, Result, Err, option_map}, specs.FinMap.get}
 use Rattle.yq_journal.{specs.declared.fault.JournalFault.JournalFault, specs.Good.journal_beside, specs.History.History, specs.State.State}
-use Rattle.yq_history.{specs.declared.fault.Fault.Fault, specs.declared.opened.Pair.Pair, specs.Causes.Cause, specs.Faults.is_outer_fault}
-use Rattle.yq_history.specs.Pair.{Arrives, GoodIn, OthersStay}
+use Rattle.yq_history.{specs.declared.opened.Pair.Pair, specs.Causes.Cause, specs.Pair.{Arrives, GoodIn, OthersStay}}
+use Rattle.yq_fault.{specs.declared.fault.Fault.Fault, specs.Faults.is_outer_fault}
 use Rattle.yq_store.specs.FileMap.{FileMap}
-use Rattle.yq_history.specs.declared.fault.Fault.TheVariants as fault
+use Rattle.yq_fault.specs.declared.fault.Fault.TheVariants as fault
 
 -- where there is such a fault, the call is refused for it
 abbrev pub RefusedFor : Option JournalFault → {T : Type 0} → Result T Fault → Type 0

@@ -2,7 +2,6 @@ pub mod Causes
 pub mod DiffParts
 pub mod DiffPrinting
 pub mod Effects
-pub mod Faults
 pub mod Hunks
 pub mod ListedDiffs
 pub mod ListedView

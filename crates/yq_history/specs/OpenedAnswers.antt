@@ -3,9 +3,10 @@ use Rattle.std.{specs.Prelude.{◌≡◌, ◌≢◌, ◌⊎◌, ℕ, Bool, List,
 use Rattle.yq_journal.{specs.declared.fault.JournalFault.JournalFault, specs.declared.moves.Move.Move, specs.Good.after_move}
 use Rattle.yq_journal.{specs.History.History, specs.Refusals.no_way, specs.State.{State, journal_after}}
 use Rattle.yq_store.{specs.Calls.Call, specs.FileMap.FileMap}
-use Rattle.yq_history.{specs.declared.fault.Fault.Fault, specs.declared.opened.OpenPair.OpenPair, specs.declared.opened.Pair.Pair}
-use Rattle.yq_history.{specs.Actions.Action, specs.Calls.Makes, specs.Effects.{Effect, IsMoveCutShort, Works}, specs.Leaves.HoldsBytes}
+use Rattle.yq_history.{specs.declared.opened.OpenPair.OpenPair, specs.declared.opened.Pair.Pair, specs.Actions.Action, specs.Calls.Makes}
+use Rattle.yq_history.{specs.Effects.{Effect, IsMoveCutShort, Works}, specs.Leaves.HoldsBytes}
 use Rattle.yq_history.specs.Pair.{Arrives, NamesDiffer, IsJournal, PairAtRest, PairStands}
+use Rattle.yq_fault.specs.declared.fault.Fault.{Fault}
 
 -- the pair that was opened is what a store's names hold, and good for a history
 abbrev pub IsHeld : FileMap → OpenPair → History → Type 0

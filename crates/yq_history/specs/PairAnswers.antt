@@ -4,14 +4,14 @@ use Rattle.std.{specs.Prelude.string_bytes, specs.FinMap.get, specs.declared.all
 use Rattle.yq_journal.{specs.Good.journal_beside, specs.History.History, specs.State.State}
 use Rattle.yq_journal.specs.declared.fault.JournalFault.TheVariants.{BadJournal}
 use Rattle.yq_store.{specs.Calls.Call, specs.FileMap.FileMap}
-use Rattle.yq_history.{specs.declared.fault.Fault.Fault, specs.declared.opened.Pair.Pair, specs.Actions.Action}
-use Rattle.yq_history.{specs.Calls.{CallsOnPair, IsOpened, ReadsPair}, specs.Causes.named}
-use Rattle.yq_history.{specs.Effects.{Effect, Works, from_names, listing_effect, printed_by, refuses}, specs.Faults.is_outer_fault}
+use Rattle.yq_history.{specs.declared.opened.Pair.Pair, specs.Actions.Action, specs.Calls.{CallsOnPair, IsOpened, ReadsPair}}
+use Rattle.yq_history.{specs.Causes.named, specs.Effects.{Effect, Works, from_names, listing_effect, printed_by, refuses}}
 use Rattle.yq_history.{specs.Leaves.{ArrivesBy, HoldsBytes}, specs.Steps.listing_cause}
 use Rattle.yq_history.{specs.Output.{IsOutput, Shows, listing_output, showing}, specs.Pair.{NamesDiffer, Arrives, GoodIn, Opens, Writes}}
 use Rattle.yq_history.specs.Report.{report_by}
+use Rattle.yq_fault.{specs.declared.fault.Fault.Fault, specs.Faults.is_outer_fault}
 use Rattle.yq_history.specs.declared.report.Report as declared
-use Rattle.yq_history.specs.declared.fault.Fault.TheVariants as fault
+use Rattle.yq_fault.specs.declared.fault.Fault.TheVariants as fault
 
 -- ---- reading
 

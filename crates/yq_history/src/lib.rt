@@ -1,10 +1,8 @@
 //! The history of a file in a store: the file and its journal, moved, undone, redone, squashed and listed.
 #![tactic(auto)]
 
-mod causes;
 mod diff;
 mod direction;
-mod fault;
 mod listed_diffs;
 mod moves;
 mod opened;
@@ -17,7 +15,6 @@ mod visible;
 
 pub use diff::unified::unified_diff;
 pub use direction::Direction;
-pub use fault::Fault;
 pub use moves::carry_out;
 pub use opened::{OpenPair, Pair};
 pub use pair::{open_pair, write_journal};

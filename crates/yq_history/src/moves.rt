@@ -1,13 +1,14 @@
 //! Moves of a file and its journal.
 ghost use Rattle.yq_history.{specs.Leaves.{KeepsOthers, LeavesRefused, RefusedFor, RefusedOnlyFor}, specs.Effects.move_effect};
-ghost use Rattle.yq_history.specs.Faults.{is_output, failures_after};
 ghost use Rattle.yq_history.specs.OpenedAnswers.{CutsShort, GoodAfter, GoodAround, HasMoved, HoldsText, MakesFrom, StaysIfBarred};
 ghost use Rattle.yq_history.specs.OpenedAnswers.{way_barred};
+ghost use Rattle.yq_fault.specs.Faults.{is_output, failures_after};
 ghost use Rattle.std.specs.Prelude.{◌≡◌, ◌≢◌, false, IsTrue, IfErr};
 ghost use Rattle.yq_journal.specs.State.{MovesTo};
 
-use crate::{Fault, OpenPair, write_journal};
+use crate::{OpenPair, write_journal};
 use std::alloc::Global;
+use yq_fault::Fault;
 use yq_journal::Move;
 use yq_store::Store;
 

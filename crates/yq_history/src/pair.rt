@@ -1,13 +1,14 @@
 //! A file and its journal, read from a store and written to it.
 ghost use Rattle.yq_store.specs.Changes.{WritesOnly};
-ghost use Rattle.yq_history.{specs.Leaves.HasState, specs.Faults.{is_outer_fault, is_output, failures_after}};
-ghost use Rattle.yq_history.specs.Calls.{PutsJournal, ReadsJournal};
+ghost use Rattle.yq_history.{specs.Leaves.HasState, specs.Calls.{PutsJournal, ReadsJournal}};
 ghost use Rattle.yq_history.specs.PairAnswers.{BadOnlyIfNone, IsReadFrom, FindsPair, MissesPair, OpensText, OpensBy, OpensPair};
 ghost use Rattle.yq_history.specs.PairAnswers.{WritesState, MayWriteState};
+ghost use Rattle.yq_fault.specs.Faults.{is_outer_fault, is_output, failures_after};
 ghost use Rattle.std.specs.Prelude.{◌≡◌, false, IfOk, IfErr, IsTrue, IsNone};
 
-use crate::{Fault, Pair};
+use crate::Pair;
 use std::alloc::Global;
+use yq_fault::Fault;
 use yq_journal::Journal;
 use yq_store::{FileError, FileFault, Store};
 

@@ -1,17 +1,18 @@
 //! The lines of a history.
 ghost use Rattle.yq_core.specs.Strings.{AddsText};
 ghost use Rattle.yq_history.{specs.Output.{IsOutputText, record_output}, specs.Visible.{in_quotes, visible}};
-ghost use Rattle.yq_history.{specs.Faults.{is_output, failures_after}, specs.Report.{nothing, report_by}};
-ghost use Rattle.yq_history.specs.PairAnswers.{ArrivesListed, Lists, CallsListing, ListsPair, Prints};
+ghost use Rattle.yq_history.{specs.Report.{nothing, report_by}, specs.PairAnswers.{ArrivesListed, Lists, CallsListing, ListsPair, Prints}};
+ghost use Rattle.yq_fault.specs.Faults.{is_output, failures_after};
 ghost use Rattle.std.{specs.Prelude.{◌≡◌, IfErr, IfOk, IsTrue, false, true, decimal}, specs.String.string_bytes};
 ghost use Rattle.json.specs.Print as json;
 ghost use Rattle.yq_history.specs.Listing as spec;
 
 use crate::listed_diffs::lines_with_diffs;
 use crate::visible::{is_bare, visible};
-use crate::{Fault, Pair, Report, open_pair};
+use crate::{Pair, Report, open_pair};
 use itoa::Buffer;
 use std::alloc::{AllocError, Global};
+use yq_fault::Fault;
 use yq_journal::{Journal, push_quoted};
 use yq_store::Store;
 

@@ -1,13 +1,15 @@
 //! Squashes: the last edits of a file joined into one in its journal.
 ghost use Rattle.yq_store.specs.Changes.{WritesOnly};
-ghost use Rattle.yq_history.{specs.Actions.squashing, specs.Leaves.{LeavesRefused, RefusedFor}, specs.Faults.{is_output, failures_after}};
+ghost use Rattle.yq_history.{specs.Actions.squashing, specs.Leaves.{LeavesRefused, RefusedFor}};
 ghost use Rattle.yq_history.specs.OpenedAnswers.{ActsFrom, MakesFrom, WorksFrom};
 ghost use Rattle.yq_history.specs.PairAnswers.{ActsOnPair, CallsAction, WorksOnPair};
+ghost use Rattle.yq_fault.specs.Faults.{is_output, failures_after};
 ghost use Rattle.std.specs.Prelude.{◌≡◌, IfErr, IsTrue, false};
 ghost use Rattle.yq_journal.specs.Refusals.{squash_fault};
 
-use crate::{Fault, OpenPair, Pair, open_pair, write_journal};
+use crate::{OpenPair, Pair, open_pair, write_journal};
 use std::alloc::Global;
+use yq_fault::Fault;
 use yq_store::Store;
 
 /// Joins the last `n` done edits of a settled journal and writes it; of one edit it writes nothing.

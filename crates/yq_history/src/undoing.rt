@@ -1,13 +1,14 @@
 //! Undo and redo of a file and its journal.
 ghost use Rattle.yq_history.{specs.Actions.walking, specs.Directions.walk_move, specs.Leaves.{KeepsOthers, LeavesRefused}};
-ghost use Rattle.yq_history.{specs.Effects.move_effect, specs.Faults.{is_output, failures_after}};
-ghost use Rattle.yq_history.specs.OpenedAnswers.{ActsFrom, MakesFrom, WorksFrom};
+ghost use Rattle.yq_history.{specs.Effects.move_effect, specs.OpenedAnswers.{ActsFrom, MakesFrom, WorksFrom}};
 ghost use Rattle.yq_history.specs.PairAnswers.{ActsOnPair, CallsAction, WorksOnPair};
+ghost use Rattle.yq_fault.specs.Faults.{is_output, failures_after};
 ghost use Rattle.std.specs.Prelude.{◌≡◌, None, false, IsTrue, IfErr};
 ghost use Rattle.yq_journal.{specs.Refusals.way_fault, specs.State.MovesTo};
 
-use crate::{Direction, Fault, OpenPair, Pair, carry_out, open_pair, write_journal};
+use crate::{Direction, OpenPair, Pair, carry_out, open_pair, write_journal};
 use std::alloc::Global;
+use yq_fault::Fault;
 use yq_store::Store;
 
 /// Carries out an undo or redo that leaves the text equal: the settled journal alone is written.

@@ -15,3 +15,4 @@ pub mod Short
 pub mod BorrowedParts
 pub mod BorrowedForms
 pub mod InlineAnswers
+pub mod Along

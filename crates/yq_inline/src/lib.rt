@@ -2,22 +2,27 @@
 //! Where they end is found without memory, and those that the text lends are walked so.
 #![tactic(auto)]
 
+mod along;
 mod borrowed_entries;
 pub mod fault;
 mod forms;
+mod in_front;
 mod item;
 mod laws;
 mod lead;
 pub mod measuring;
 mod parts;
+mod parts_in_front;
 pub mod pieces;
 mod read;
 pub mod reading;
 mod scalar;
 pub mod short;
 
+pub use along::{NodeAlong, read_along, read_part};
 pub use borrowed_entries::entry_in;
 pub use forms::{BorrowedForm, form_of};
+pub use in_front::NodeInFront;
 pub use laws::{entry_places, one_inline, one_tree};
 pub use lead::read_gap;
 pub use parts::{BorrowedEntry, BorrowedParts};

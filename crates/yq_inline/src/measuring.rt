@@ -174,7 +174,11 @@ fn measure_collection<'t>(
 /// The node in front of an item or of a value.
 #[inline(always)]
 #[cycle(ends)]
-fn measure_value<'t>(whole: &str, depth: usize, text: &'t str) -> Result<Measured<'t>, ReadFault>
+pub(crate) fn measure_value<'t>(
+    whole: &str,
+    depth: usize,
+    text: &'t str,
+) -> Result<Measured<'t>, ReadFault>
     ensures shorter { IfOk result (λ m. length m.rest.now ≤ length text.now) }
     ensures read { MeasuresNode result (reading.placed_node true (Some 0) 0 depth text.now) }
     ensures fault { IfErr result (λ f. f.kind ≢ NotUtf8) }

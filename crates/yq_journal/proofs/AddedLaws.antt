@@ -7,11 +7,10 @@ use Rattle.json.{specs.Print.{escape, escape_byte, quoted}, specs.Tree.ItemsHave
 use Rattle.serde_json.{specs.Data.{Data, array, item}, specs.Read.of_items, specs.Find.as_array}
 use Rattle.serde_json.specs.Written.{comma_if, compact_text, items_outline, items_text}
 use Rattle.yq_text.specs.Splice.{Splice}
-use Rattle.yq_journal.{specs.declared.moves.Move.Move, specs.Added.{Adds, IsReadBack, changes_data, records_data}}
-use Rattle.yq_journal.specs.Json.{and_more, change_data, each_of, journal_data, kind_text, list_data, move_data, pending_data, record_data}
-use Rattle.yq_journal.specs.Json.{journal_of, move_of, pending_of, record_of, records_of, splice_of, splices_of}
-use Rattle.yq_journal.{specs.Record.{IsRecord, Record}, specs.Refusals.IsSound, specs.State.{Pending, State}}
-use Rattle.yq_journal.proofs.ReadBackLaws.{kept_journal, kept_open, kept_record, kept_splice}
+use Rattle.yq_journal.specs.Json.{open_move_of, and_more, change_data, each_of, journal_data, kind_text, list_data, move_data, pending_data}
+use Rattle.yq_journal.specs.Json.{record_data, journal_of, move_of, pending_of, record_of, records_of, splice_of, splices_of}
+use Rattle.yq_journal.{specs.Added.{Adds, IsReadBack, changes_data, records_data}, specs.Record.{IsRecord, Record}, specs.Refusals.IsSound}
+use Rattle.yq_journal.{specs.State.{Pending, State}, proofs.ReadBackLaws.{kept_journal, kept_record, kept_splice}}
 
 -- ---- the texts
 
@@ -19,16 +18,9 @@ use Rattle.yq_journal.proofs.ReadBackLaws.{kept_journal, kept_open, kept_record,
 abbrev splice_after : List ℕ → List ℕ → List ℕ → List ℕ → List ℕ
 splice_after t at new old = t ++ codes "{\"at\":" ++ at ++ codes ",\"new\":\"" ++ new ++ codes "\",\"old\":\"" ++ old ++ codes "\"}"
 
-abbrev splice_pieces : List ℕ → List ℕ → List ℕ → List ℕ
-splice_pieces at new old =
-    123 ∷ 34 ∷ (codes "at" ++ 34 ∷ 58 ∷ (at ++ (44 ∷ 34 ∷ (codes "new" ++ 34 ∷ 58 ∷ ((34 ∷ (new ++ 34 ∷ [])) ++ (44 ∷ 34 ∷ (codes "old" ++ 34 ∷ 58 ∷ ((34 ∷ (old ++ 34 ∷ [])) ++ 125 ∷ []))))))))
-
-splice_regroup : (t at new old : List ℕ) → splice_after t at new old ≡ t ++ splice_pieces at new old
-splice_regroup t at new old = simp append_assoc
-
 splice_text : (t : List ℕ) (s : Splice) → splice_after t (decimal s.at) (escape (encode_of standard s.new)) (escape (encode_of standard s.old)) ≡ t ++ compact_text (change_data s)
 unfolding escape_byte
-splice_text t s = splice_regroup t (decimal s.at) (escape (encode_of standard s.new)) (escape (encode_of standard s.old))
+splice_text t s = simp append_assoc
 
 -- what the calls for a splice add
 pub splice_adds : (s : Splice) (t t₁ t₂ t₃ t₄ t₅ t₆ : List ℕ) → s.at < 2 ^ 64 → decode_of standard (encode_of standard s.new) ≡ Ok s.new → decode_of standard (encode_of standard s.old) ≡ Ok s.old
@@ -47,17 +39,9 @@ abbrev record_after : List ℕ → List ℕ → List ℕ → List ℕ → List �
 record_after t a b n e ss =
     t ++ codes "{\"after_len\":" ++ a ++ codes ",\"before_len\":" ++ b ++ codes ",\"count\":" ++ n ++ codes ",\"expr\":" ++ e ++ codes ",\"splices\":" ++ ss ++ codes "}"
 
-abbrev record_pieces : List ℕ → List ℕ → List ℕ → List ℕ → List ℕ → List ℕ
-record_pieces a b n e ss =
-    123 ∷ 34 ∷ (codes "after_len" ++ 34 ∷ 58 ∷ (a ++ (44 ∷ 34 ∷ (codes "before_len" ++ 34 ∷ 58 ∷ (b ++ (44 ∷ 34 ∷ (codes "count" ++ 34 ∷ 58 ∷ (n
-    ++ (44 ∷ 34 ∷ (codes "expr" ++ 34 ∷ 58 ∷ (e ++ (44 ∷ 34 ∷ (codes "splices" ++ 34 ∷ 58 ∷ (ss ++ 125 ∷ []))))))))))))))
-
-record_regroup : (t a b n e ss : List ℕ) → record_after t a b n e ss ≡ t ++ record_pieces a b n e ss
-record_regroup t a b n e ss = simp append_assoc
-
 record_text : (t : List ℕ) (r : Record) → record_after t (decimal r.after_len) (decimal r.before_len) (decimal r.count) (quoted r.expr) (compact_text (changes_data r.changes)) ≡ t ++ compact_text (record_data r)
 unfolding escape_byte
-record_text t r = record_regroup t (decimal r.after_len) (decimal r.before_len) (decimal r.count) (quoted r.expr) (compact_text (changes_data r.changes))
+record_text t r = simp append_assoc
 
 -- what the calls for a record add
 pub record_adds : (r : Record) (t t₁ t₂ t₃ t₄ t₅ t₆ t₇ t₈ : List ℕ) → r.after_len < 2 ^ 64 → r.before_len < 2 ^ 64 → r.count < 2 ^ 64 → IsRecord r
@@ -75,26 +59,16 @@ record_adds r t t₁ t₂ t₃ t₄ t₅ t₆ t₇ t₈ a b n valid e₁ e₂ e�
 abbrev open_after : List ℕ → List ℕ → List ℕ → List ℕ → List ℕ
 open_after t from kind held = t ++ codes "{\"from\":\"" ++ from ++ codes "\",\"kind\":\"" ++ kind ++ codes "\",\"record\":" ++ held ++ codes "}"
 
-abbrev open_pieces : List ℕ → List ℕ → List ℕ → List ℕ
-open_pieces from kind held =
-    123 ∷ 34 ∷ (codes "from" ++ 34 ∷ 58 ∷ ((34 ∷ (from ++ 34 ∷ [])) ++ (44 ∷ 34 ∷ (codes "kind" ++ 34 ∷ 58 ∷ ((34 ∷ (kind ++ 34 ∷ [])) ++ (44 ∷ 34 ∷ (codes "record" ++ 34 ∷ 58 ∷ (held ++ 125 ∷ []))))))))
-
-open_regroup : (t from kind held : List ℕ) → open_after t from kind held ≡ t ++ open_pieces from kind held
-open_regroup t from kind held = simp append_assoc
-
-kind_kept : (step : Move) → escape (kind_text step) ≡ kind_text step
-unfolding escape_byte
-kind_kept step = search rules
-
 open_text : (t : List ℕ) (p : Pending) → open_after t (escape (encode_of standard p.from)) (kind_text p.step) (compact_text (move_data p.step)) ≡ t ++ compact_text (pending_data (Some p))
 unfolding escape_byte
-open_text t p = search (rules, open_regroup, kind_kept)
+open_text t p = search (rules, append_assoc)
 
 -- what the calls for an open move add
 pub open_adds : (p : Pending) (t t₁ t₂ t₃ t₄ t₅ t₆ t₇ : List ℕ) → decode_of standard (encode_of standard p.from) ≡ Ok p.from → t₁ ≡ t ++ codes "{\"from\":\"" → t₂ ≡ t₁ ++ escape (encode_of standard p.from)
     → t₃ ≡ t₂ ++ codes "\",\"kind\":\"" → t₄ ≡ t₃ ++ kind_text p.step → t₅ ≡ t₄ ++ codes "\",\"record\":" → Adds move_data (move_of true (kind_text p.step)) p.step t₅ t₆ → t₇ ≡ t₆ ++ codes "}"
     → Adds pending_data (pending_of true) (Some p) t t₇
-open_adds p t t₁ t₂ t₃ t₄ t₅ t₆ t₇ b e₁ e₂ e₃ e₄ e₅ e₆ e₇ = search (rules, open_text, kept_open)
+unfolding open_move_of
+open_adds p t t₁ t₂ t₃ t₄ t₅ t₆ t₇ b e₁ e₂ e₃ e₄ e₅ e₆ e₇ = search (rules, open_text)
 
 -- a journal, with its open move and its records
 abbrev journal_after : List ℕ → List ℕ → List ℕ → List ℕ → List ℕ

@@ -49,13 +49,10 @@ kept_symbols (a ∷ b ∷ c ∷ rest) h =
     let last : AreKept (slice_index symbols (c % 64) ∷ encode_symbols symbols rest) = (kept_symbol (c % 64) (omega arith), kept_symbols rest (λ i. h (suc (suc (suc i))))) in
     (kept_symbol (a / 4) (omega arith), (kept_symbol (a % 4 * 16 + b / 16) (omega arith), (kept_symbol (b % 16 * 4 + c / 64) (omega arith), last)))
 
-padding_is_kept : escape_byte 61 ≡ 61 ∷ []
-unfolding escape_byte
-padding_is_kept = refl
-
 kept_padding : (n : ℕ) → AreKept (replicate n 61)
+unfolding escape_byte
 kept_padding zero = tt
-kept_padding (suc n) = (padding_is_kept, kept_padding n)
+kept_padding (suc n) = (refl, kept_padding n)
 
 -- base64 is in a string of JSON as it is
 pub base64_escapes : (m : List ℕ) → IsBytes m → escape (encode_of standard m) ≡ encode_of standard m

@@ -1,9 +1,8 @@
 -- The pieces that a text has in front, one after the other, are the compact JSON of a splice, a record or a journal.
-use Rattle.std.proofs.Common.{rules, ◌≡◌, ◌<◌, ◌≤◌, ◌^◌, ◌-◌, ◌+◌, ℕ, List, [], ◌∷◌, ◌++◌, Bool, true, false, Option, Some, None, Ok, codes}
+use Rattle.std.proofs.Common.{rules, ◌≡◌, ◌<◌, ◌≤◌, ◌^◌, ◌-◌, ◌+◌, ℕ, List, [], ◌∷◌, ◌++◌, Bool, true, Option, Some, None, Ok, codes}
 use Rattle.std.proofs.Common.{decimal, length, take, refl, sym, ap, ap₂, ◌∙◌, subst, append_assoc, append-nil, true≢false, arith, Vec}
-use Rattle.std.{proofs.Common.{Global, get_or, drop}, proofs.Math.Seq.take-append_seam, specs.Str.IsUtf8}
-use Rattle.std.proofs.lemmas.List.{length-append, length-drop, take-append-drop, take-take, take_all, take_more}
-use Rattle.std.specs.Prelude.{MatchOption, IfSome, is_some}
+use Rattle.std.{proofs.Common.{Global, get_or}, proofs.Math.Seq.take-append_seam, specs.Str.IsUtf8}
+use Rattle.std.{proofs.lemmas.List.{length-append, take_more}, specs.Prelude.is_some}
 use Rattle.base64.{specs.Engines.standard, specs.GeneralPurpose.{decode_of, encode_of}}
 use Rattle.json.specs.Print.{escape, quoted}
 use Rattle.serde_json.{specs.Data.Data, specs.Written.{comma_if, compact_text, items_text}}
@@ -15,20 +14,11 @@ use Rattle.yq_journal.specs.State.{state}
 use Rattle.yq_journal.proofs.AddedLaws.{AreReadBack, array_of, journal_adds, list_kept, record_adds, splice_adds, things_of}
 use Rattle.yq_journal.proofs.ReadBackLaws.{kept_none, text_read}
 
--- what holds of what is there
-pub if_there : {A : Type 0} (P : Type 0) (Q : A → Type 0) (r : Option A) → MatchOption r P Q → IfSome r Q
-if_there P Q r m = search rules
-
 -- two texts that begin alike, and have the same byte next
 pub alike_more : (t bytes : List ℕ) (i : ℕ) → i < length t → i < length bytes → take i t ≡ take i bytes → get_or t i 0 ≡ get_or bytes i 0
     → take (i + 1) t ≡ take (i + 1) bytes
 alike_more t bytes i first second alike next =
     take_more t i 0 first ∙ ap₂ (λ (front : List ℕ) (b : ℕ). front ++ b ∷ []) alike next ∙ sym (take_more bytes i 0 second)
-
--- a text that begins with all of some bytes
-pub alike_end : (t bytes : List ℕ) (i : ℕ) → length bytes ≤ i → take i t ≡ take i bytes
-    → t ≡ bytes ++ take (length t - length bytes) (drop (length bytes) t)
-alike_end t bytes i all alike = search (rules, take-take, take_all, length-drop, take-append-drop)
 
 -- what comes next in the rest of a text
 pub and_then : (t front next rest last : List ℕ) → t ≡ front ++ rest → rest ≡ next ++ last → t ≡ (front ++ next) ++ last
@@ -95,9 +85,6 @@ holds_written r v valid adds = record { valid = valid; text = λ x e. (let same 
 pub record FoundSoFar {A : Type 0} (to_data : A → Data) (of_data : Data → Option A) (xs : List A) (later : Bool) (text left : List ℕ) : Type 0 where
   pub all : (ys : List A) (rest : List ℕ) → left ≡ items_text later (list_data to_data ys) ++ rest → text ≡ compact_text (array_of to_data (xs ++ ys)) ++ rest
   pub kept : AreReadBack to_data of_data xs
-
-pub found_begins : {A : Type 0} (to_data : A → Data) (of_data : Data → Option A) (text left : List ℕ) → text ≡ codes "[" ++ left → FoundSoFar to_data of_data [] false text left
-found_begins to_data of_data text left e = record { all = λ ys rest l. e ∙ ap (λ x. codes "[" ++ x) l; kept = tt }
 
 read_back_more : {A : Type 0} (to_data : A → Data) (of_data : Data → Option A) (xs : List A) (x : A) → AreReadBack to_data of_data xs → IsReadBack to_data of_data x → AreReadBack to_data of_data (xs ++ x ∷ [])
 read_back_more to_data of_data [] x k l = (l, tt)

@@ -21,13 +21,9 @@ forward_bytes-reverse [] = refl
 forward_bytes-reverse (x ∷ ps) = ap forward_bytes (reverse-append (x ∷ []) ps) ∙ forward_bytes_push (reverse ps) x
     ∙ ap (λ l. l ++ x.now) (forward_bytes-reverse ps)
 
--- the end of a piece, from a place on
-whole_end : (p : List ℕ) (n : ℕ) → take (length p - n) (drop n p) ≡ drop n p
-whole_end p n = take_all (length p - n) (drop n p) (omega (arith, length-drop n p))
-
 -- a piece in two parts
 pub in_parts : (p : List ℕ) (n : ℕ) → take n p ++ take (length p - n) (drop n p) ≡ p
-in_parts p n = ap (λ l. take n p ++ l) (whole_end p n) ∙ take-append-drop n p
+in_parts p n = ap (λ l. take n p ++ l) (take_all (length p - n) (drop n p) (omega (arith, length-drop n p))) ∙ take-append-drop n p
 
 -- a piece is parted at the cursor
 pub parted_at : (before p after : List ℕ) (n : ℕ) → (before ++ take n p) ++ (take (length p - n) (drop n p) ++ after) ≡ before ++ (p ++ after)

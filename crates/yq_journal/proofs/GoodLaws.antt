@@ -1,16 +1,15 @@
 -- What an open move, and settling it, make of a journal that describes a history.
 use Rattle.std.proofs.Common.{◌≡◌, ◌≢◌, ◌⊎◌, inl, inr, ◌==◌, ℕ, suc, ◌-◌, ◌<◌, List, [], ◌∷◌, length, Option, Some, None, true, false}
-use Rattle.std.{proofs.Common.{nat_le, refl, sym, ap, ◌∙◌, subst, arith, if◌then◌else◌, rules}, specs.Prelude.{option_and_then, slice_get}}
-use Rattle.std.{specs.Str.bytes_eq, proofs.lemmas.Bool.Decides.nat_tests, proofs.lemmas.Option.same_Some}
-use Rattle.std.{proofs.lemmas.Slice.Eq.bytes_eq-Decides, specs.Option.option_or}
+use Rattle.std.{proofs.Common.{nat_le, refl, sym, ap, ◌∙◌, subst, arith, if◌then◌else◌, rules}, specs.Prelude.slice_get, specs.Str.bytes_eq}
+use Rattle.std.{proofs.lemmas.Bool.Decides.nat_tests, proofs.lemmas.Option.same_Some, proofs.lemmas.Slice.Eq.bytes_eq-Decides}
+use Rattle.std.specs.Option.{option_or}
 use Prim.Native.Nat.{zero}
 use Rattle.yq_journal.{specs.declared.fault.JournalFault.JournalFault, specs.declared.moves.Move.Move}
 use Rattle.yq_journal.specs.declared.moves.Move.TheVariants.{Edit, Undo, Redo}
 use Rattle.yq_journal.specs.Good.{AtRest, Underway, DescribesPending, Describes, Rests, step_fault, after_move}
-use Rattle.yq_journal.{specs.History.{History, text_after_edits}, specs.Record.{Record, done, undone}}
-use Rattle.yq_journal.specs.Refusals.{no_way, if_moves, way_fault}
-use Rattle.yq_journal.specs.State.{State, Pending, moved_text, journal_after, without_move, with_move, settled_beside, settled_pending}
-use Rattle.yq_journal.{specs.State.is_reached, proofs.HistoryLaws.{same_length, leads_at, move_moves}, proofs.RecordLaws.undone_after_done}
+use Rattle.yq_journal.{specs.History.{History, text_after_edits}, specs.Record.{Record, done}, specs.Refusals.{no_way, if_moves, way_fault}}
+use Rattle.yq_journal.specs.State.{State, Pending, moved_text, journal_after, with_move, settled_beside, settled_pending}
+use Rattle.yq_journal.{proofs.HistoryLaws.{same_length, leads_at, move_moves}, proofs.RecordLaws.undone_after_done}
 use Rattle.yq_journal.specs.declared.fault.JournalFault.TheVariants as fault
 
 pub bytes_same : (t : List ℕ) → bytes_eq t t ≡ true
@@ -48,22 +47,15 @@ settles_before s p t h k is same = search (rules, bytes_same, at_rest)
 settles_after : (s : State) (p : Pending) (t : List ℕ) (h : History) (k : Underway s p t h) → t ≡ k.to → h ≡ after_move k.before p.step k.to → Rests (settled_pending s (Some p) t) t h
 settles_after s p t h k is same = record {
   rest = journal_after s p.step;
-  is =
-      ap (λ b. if b then Some (without_move s) else if is_reached (moved_text s.records s.at p.step p.from) t then Some (journal_after s p.step) else None)
-      (bytes_differ p.from t (λ e. k.changes (sym is ∙ sym e)))
-      ∙ ap (λ o. if is_reached o t then Some (journal_after s p.step) else None) k.moves
-      ∙ ap (λ b. if b then Some (journal_after s p.step) else None) (ap (bytes_eq k.to) is ∙ bytes_same k.to);
+  is = search (rules, bytes_differ, bytes_same, k.changes);
   at_rest = subst (λ g. AtRest (journal_after s p.step) t g) (sym same) (subst (λ u. AtRest (journal_after s p.step) u (after_move k.before p.step k.to)) (sym is)
       (move_moves s k.before p.from k.to p.step (record { reports = k.reports; text = k.from }) k.moves));
   closed = moved_closed s p.step;
 }
 
-settles_pending : (s : State) (o : Option Pending) (t : List ℕ) (h : History) → s.pending ≡ o → DescribesPending s o t h → Rests (settled_pending s o t) t h
-settles_pending s o t h h1 h2 = search (rules, at_rest, settles_before, settles_after)
-
 -- a journal that describes a history can be settled, and then is at rest with that history
 pub settles : (s : State) (t : List ℕ) (h : History) → Describes s t h → Rests (settled_beside s t) t h
-settles s t h d = settles_pending s s.pending t h refl d
+settles s t h d = search (rules, at_rest, settles_before, settles_after)
 
 -- what settling gives is at rest with the history
 pub settled_rests : (s r : State) (t : List ℕ) (h : History) → Describes s t h → settled_beside s t ≡ Some r → AtRest r t h × (r.pending ≡ None)
@@ -83,19 +75,14 @@ undo_stands : (s : State) (h : History) (t : List ℕ) → AtRest s t h → 0 < 
 undo_stands s h t k pos =
     let place : suc (s.at - 1) ≡ h.at = omega (arith, k.reports.cursor) in
     let found = get_at s.records (s.at - 1) (omega (arith, k.reports.within, k.reports.cursor, same_length h.first s.records h.later k.reports.leads)) in
-    let leads : done found.0 (text_after_edits h.first h.later (s.at - 1)) ≡ Some t =
-    leads_at h.first s.records h.later (s.at - 1) found.0 k.reports.leads found.1 ∙ ap (λ n. Some (text_after_edits h.first h.later n)) place ∙ ap Some (sym k.text) in
-    ap (λ b. if b then None else option_and_then (λ r. undone r t) (slice_get s.records (s.at - 1))) (not_zero s.at pos)
-    ∙ ap (option_and_then (λ r. undone r t)) found.1
-    ∙ undone_after_done found.0 (text_after_edits h.first h.later (s.at - 1)) t leads
+    let leads : done found.0 (text_after_edits h.first h.later (s.at - 1)) ≡ Some t = search (rules, leads_at) in
+    search (rules, not_zero, undone_after_done)
 
 -- and redone up to its last
 redo_stands : (s : State) (h : History) (t : List ℕ) → AtRest s t h → s.at < length s.records → moved_text s.records s.at Redo t ≡ Some (text_after_edits h.first h.later (suc s.at))
 redo_stands s h t k fits =
     let found = get_at s.records s.at fits in
-    ap (option_and_then (λ r. done r t)) found.1
-    ∙ ap (done found.0) (k.text ∙ ap (text_after_edits h.first h.later) (sym k.reports.cursor))
-    ∙ leads_at h.first s.records h.later s.at found.0 k.reports.leads found.1
+    search (rules, leads_at)
 
 -- whether a move has a way is the history's to say
 pub way_of : (s : State) (t : List ℕ) (h : History) (step : Move) → AtRest s t h → no_way s.records s.at step ≡ step_fault h step

@@ -6,7 +6,7 @@ use Rattle.std.proofs.lemmas.Option.{option_and_then_some, slice_get_within, sam
 use Prim.Native.Nat.{zero}
 use Rattle.yq_journal.{specs.declared.moves.Move.Move, specs.declared.moves.Move.TheVariants.{Edit, Undo, Redo}}
 use Rattle.yq_journal.specs.Good.{Leads, AtRest, after_move}
-use Rattle.yq_journal.specs.History.{History, Revision, text_after_edits, text_at, after_edit, after_undo, after_redo}
+use Rattle.yq_journal.specs.History.{History, Revision, text_after_edits, after_edit, after_undo, after_redo}
 use Rattle.yq_journal.{specs.Record.{Record, done, undone}, specs.State.{State, moved_text, journal_after}}
 use Rattle.yq_journal.proofs.RecordLaws.{undone_after_done}
 
@@ -38,26 +38,14 @@ text_after_suc t e (f ∷ es) (suc n) fits = text_after_suc f.text e es n (omega
 text_after : (t : List ℕ) (e : Revision) (es : List Revision) (n : ℕ) → n ≤ length es → text_after_edits t (take n es ++ e ∷ []) (n + 1) ≡ e.text
 text_after t e es n fits = rw add-one (text_after_suc t e es n fits)
 
-positive : (n : ℕ) → (n == 0) ≡ false → 0 < n
-positive n e = grind (arith, nat_tests)
-
 edit_moves : (s : State) (h : History) (t u : List ℕ) (r : Record) → AtRest s t h → done r t ≡ Some u → AtRest (journal_after s (Edit r)) u (after_edit h r.expr u)
 edit_moves s h t u r k d = search (rules, leads_on, common_steps, text_after)
 
 undo_moves : (s : State) (h : History) (t u : List ℕ) (r : Record) → AtRest s t h → 0 < s.at → slice_get s.records (s.at - 1) ≡ Some r → undone r t ≡ Some u → AtRest (journal_after s Undo) u (after_undo h)
 undo_moves s h t u r k pos is d =
     let place : suc (s.at - 1) ≡ h.at = omega (arith, k.reports.cursor) in
-    let leads : done r (text_after_edits h.first h.later (s.at - 1)) ≡ Some t =
-    leads_at h.first s.records h.later (s.at - 1) r k.reports.leads is ∙ ap (λ n. Some (text_after_edits h.first h.later n)) place ∙ ap Some (sym k.text) in
-    let back : undone r t ≡ Some (text_after_edits h.first h.later (s.at - 1)) = undone_after_done r (text_after_edits h.first h.later (s.at - 1)) t leads in
-    record {
-      reports = record {
-        leads = k.reports.leads;
-        cursor = ap (λ n. n - 1) k.reports.cursor;
-        within = omega (arith, k.reports.within);
-      };
-      text = same_Some u (text_at (after_undo h)) (sym d ∙ back ∙ ap (λ n. Some (text_after_edits h.first h.later (n - 1))) k.reports.cursor);
-    }
+    let leads : done r (text_after_edits h.first h.later (s.at - 1)) ≡ Some t = search (rules, leads_at) in
+    search (rules, undone_after_done, same_Some)
 
 redo_moves : (s : State) (h : History) (t u : List ℕ) (r : Record) → AtRest s t h → slice_get s.records s.at ≡ Some r → done r t ≡ Some u → AtRest (journal_after s Redo) u (after_redo h)
 redo_moves s h t u r k is d = search (rules, leads_at, slice_get_within, same_length, same_Some, add-one)
@@ -70,5 +58,5 @@ pub move_moves : (s : State) (h : History) (t u : List ℕ) (step : Move) → At
 move_moves s h t u (Edit r) k m = edit_moves s h t u r k m
 move_moves s h t u Undo k m =
     let p = if_not (s.at == 0) m in
-    option_and_then_some (λ r. undone r t) (slice_get s.records (s.at - 1)) u p.1 (λ r is d. undo_moves s h t u r k (positive s.at p.0) is d)
+    option_and_then_some (λ r. undone r t) (slice_get s.records (s.at - 1)) u p.1 (λ r is d. undo_moves s h t u r k (grind (arith, nat_tests)) is d)
 move_moves s h t u Redo k m = option_and_then_some (λ r. done r t) (slice_get s.records s.at) u m (λ r is d. redo_moves s h t u r k is d)

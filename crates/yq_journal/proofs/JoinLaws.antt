@@ -1,14 +1,12 @@
 -- Records joined one after the other.
-use Rattle.std.proofs.Common.{◌≡◌, ℕ, ◌≤◌, ◌<◌, List, [], ◌∷◌, ◌++◌, length, suc, Option, Some, None, Result, Err, IfErr, true, refl, ap}
-use Rattle.std.proofs.Common.{◌∙◌, subst, arith, rules, sym, get_or, take_all}
+use Rattle.std.proofs.Common.{◌≡◌, ℕ, ◌≤◌, ◌<◌, List, [], ◌∷◌, ◌++◌, length, suc, Some, None, true, refl, ap, ◌∙◌, arith, rules, sym}
+use Rattle.std.proofs.Common.{get_or, take_all}
 use Rattle.std.specs.Prelude.{◌==◌, ◌&&◌, Bool, false, slice_get, take, ◌+◌, ◌-◌, drop, if◌then◌else◌, nat_le}
 use Rattle.std.{proofs.lemmas.Bool.{eqb-true, and_parts, le-leb}, specs.Cmp.Derive.both_true, proofs.lemmas.List.drop-take}
 use Prim.Native.Nat.{zero}
 use Rattle.yq_text.proofs.SpliceLaws.{lengths_done-append}
-use Rattle.yq_journal.{specs.Refusals.{JournalError, Reports, count_fault}, specs.declared.fault.JournalFault.JournalFault}
-use Rattle.yq_journal.{specs.declared.fault.JournalFault.TheVariants.BadCount, specs.State.last_done}
+use Rattle.yq_journal.{specs.Refusals.count_fault, specs.declared.fault.JournalFault.TheVariants.BadCount, specs.State.last_done}
 use Rattle.yq_journal.specs.Record.{Record, IsRecord, join, records_joined, meet}
-use Rattle.yq_failure.specs.declared.failure.Failure.TheVariants as error
 
 -- fewer than two records meet
 pub short_meet : (rs : List Record) → length rs < 2 → meet rs ≡ true
@@ -24,14 +22,11 @@ joined-push r (p ∷ rs) q = joined-push (join r p) rs q
 pub IsRecord-join : (r q : Record) → IsRecord r → IsRecord q → r.after_len ≡ q.before_len → IsRecord (join r q)
 IsRecord-join r q h k meets = search (rules, lengths_done-append)
 
-meet_join : (r p : Record) (rs : List Record) → meet (p ∷ rs) ≡ true → meet (join r p ∷ rs) ≡ true
-meet_join r p rs h = search rules
-
 -- what is joined so far ends with the length with which the next record begins
 pub joined_meets : (r : Record) (rs : List Record) (i : ℕ) (q : Record) → meet (r ∷ rs) ≡ true → slice_get rs i ≡ Some q → (records_joined r (take i rs)).after_len ≡ q.before_len
 joined_meets r [] i q h is = cc
 joined_meets r (p ∷ rs) zero q h is = let same : p ≡ q = cc in eqb-true r.after_len p.before_len (and_parts (r.after_len == p.before_len) (meet (p ∷ rs)) h).0 ∙ ap (λ (x : Record). x.before_len) same
-joined_meets r (p ∷ rs) (suc i) q h is = joined_meets (join r p) rs i q (meet_join r p rs (and_parts (r.after_len == p.before_len) (meet (p ∷ rs)) h).1) is
+joined_meets r (p ∷ rs) (suc i) q h is = joined_meets (join r p) rs i q (search rules) is
 
 -- the records from a place up to the cursor, cut from either side
 pub slice_run : (rs : List Record) (at i : ℕ) → i ≤ at → take (at - i) (drop i rs) ≡ drop i (take at rs)
@@ -52,7 +47,3 @@ good_count rs at n some fits h = ap (λ b. if b then None else Some BadCount) (b
 -- a list that isn't empty is its first element and the rest
 pub split_first : (rs : List Record) (r : Record) → 1 ≤ length rs → r ≡ get_or rs 0 r → rs ≡ r ∷ take (length rs - 1) (drop 1 rs)
 split_first rs r h1 h2 = search (rules, take_all)
-
--- want of memory is reported where there is no fault
-pub reports_memory : {T : Type 0} (r : Result T JournalError) (e : JournalError) (o : Option JournalFault) → r ≡ Err e → e ≡ error.Memory → o ≡ None → IfErr r (λ x. Reports x o)
-reports_memory r e o is memory none = subst (λ x. IfErr x (λ y. Reports y o)) (sym (is ∙ ap Err memory)) none

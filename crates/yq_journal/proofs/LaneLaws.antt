@@ -21,16 +21,13 @@ below a b = lane (ltb a b)
 abbrev pub at_most : ℕ → ℕ → ℕ
 at_most a b = lane (leb a b)
 
-four_lanes : (p q r s : Bool) → top 7 (bit_or (bit_or (bit_or (lane p) (lane q)) (lane r)) (lane s)) ≡ (p || q || r || s)
-four_lanes p q r s = search rules
-
 -- what the code makes of a byte
 abbrev tested : ℕ → ℕ → ℕ
 tested limit x = bit_or (bit_or (bit_or (below x 32) (hit x 34)) (hit x 92)) (at_most limit x)
 
 each_tested : (limit : ℕ) (v : List ℕ) → map (top 7) (map (tested limit) v) ≡ map (is_special limit) v
 each_tested limit [] = refl
-each_tested limit (x ∷ xs) = ap₂ (λ a b. a ∷ b) (four_lanes (ltb x 32) (eqb x 34) (eqb x 92) (leb limit x)) (each_tested limit xs)
+each_tested limit (x ∷ xs) = ap₂ (λ a b. a ∷ b) (search rules) (each_tested limit xs)
 
 on_true : (b : Bool) (P : Type 0) → (b ≡ true → P) → OnTrue b P
 on_true b P f = search rules

@@ -3,7 +3,7 @@ use Rattle.std.proofs.Common.{◌≡◌, ℕ, Bool, true, false, cond, ◌&&◌,
 use Rattle.std.proofs.Common.{rules}
 use Rattle.json.specs.Token.{Token, begin_object, end_object, begin_array, end_array, key, string, number, boolean, null, bad}
 use Rattle.json.{specs.Word.{ends_word, word}, specs.Lex.{Lexeme, token, comma, colon, lex, between, fresh, punctuate, tokens}}
-use Rattle.json.specs.Print.{quoted, token_text, begins, ends, print_from, print, IsPrintable, ArePrintable}
+use Rattle.json.specs.Print.{token_text, begins, ends, print_from, print, IsPrintable, ArePrintable}
 use Rattle.json.{proofs.Printed.Numbers.{lex-number, in_word-ended}, proofs.Printed.Strings.{content-escape, lex-escape}}
 
 -- what the lexer gives of a token
@@ -30,13 +30,9 @@ ends_with [] r h = h
 ends_with (begin_object ∷ ts) r h = refl
 ends_with (_ ∷ ts) r h = refl
 
-lex-quoted : (s r : List ℕ) → lex between (quoted s ++ r) ≡ token (string s) ∷ lex between r
-unfolding lex
-lex-quoted s r = search (rules, append_assoc, content-escape, lex-escape)
-
 lex-token_text : (t : Token) (r : List ℕ) → IsPrintable t → (ends t ≡ true → ends_word r ≡ true) → lex between (token_text t ++ r) ≡ token_lexemes t ++ lex between r
 unfolding lex word
-lex-token_text t r h1 h2 = search (rules, append_assoc, lex-quoted, lex-number, ap₂, in_word-ended)
+lex-token_text t r h1 h2 = search (rules, append_assoc, content-escape, lex-escape, lex-number, ap₂, in_word-ended)
 
 lex-separator : (b : Bool) (r : List ℕ) → lex between (cond b (44 ∷ []) [] ++ r) ≡ cond b (comma ∷ []) [] ++ lex between r
 unfolding lex
@@ -45,12 +41,7 @@ lex-separator b r = search rules
 lex-print_from : (c : Bool) (ts : List Token) (r : List ℕ) → ArePrintable ts → ends_word r ≡ true → lex between r ≡ [] → lex between (print_from c ts ++ r) ≡ lexemes c ts
 unfolding print_from ArePrintable
 lex-print_from c [] r h ended none = none
-lex-print_from c (t ∷ ts) r h ended none =
-    ap (lex between) (append_assoc (cond (c && begins t) (44 ∷ []) []) (token_text t ++ print_from (ends t) ts) r ∙ ap (λ l. cond (c && begins t) (44 ∷ []) [] ++ l) (append_assoc (token_text t) (print_from (ends t) ts) r))
-    ∙ lex-separator (c && begins t) (token_text t ++ (print_from (ends t) ts ++ r))
-    ∙ ap (λ l. cond (c && begins t) (comma ∷ []) [] ++ l)
-    (lex-token_text t (print_from (ends t) ts ++ r) h.0 (λ e. ap (λ b. ends_word (print_from b ts ++ r)) e ∙ ends_with ts r ended)
-    ∙ ap (λ l. token_lexemes t ++ l) (lex-print_from (ends t) ts r h.1 ended none))
+lex-print_from c (t ∷ ts) r h ended none = search (rules, append_assoc, lex-separator, lex-token_text, ends_with, lex-print_from (ends t) ts r h.1 ended none)
 
 line_feed_lexes : lex between (10 ∷ []) ≡ []
 unfolding lex

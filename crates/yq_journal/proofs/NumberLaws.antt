@@ -1,6 +1,6 @@
 -- The digits with which a text begins are a number in decimal, where no zero comes first.
-use Rattle.std.proofs.Common.{◌≡◌, ◌<◌, ◌≤◌, ◌^◌, ◌+◌, ◌-◌, ◌*◌, ◌/◌, ◌%◌, ℕ, List, [], ◌∷◌, ◌++◌, decimal, length, take, drop, get_or, sym}
-use Rattle.std.{proofs.Common.{ap, ap₂, ◌∙◌, arith, length-drop}, proofs.lemmas.Fmt.{decimal_digit, decimal_step}}
+use Rattle.std.proofs.Common.{rules, ◌≡◌, ◌<◌, ◌≤◌, ◌^◌, ◌+◌, ◌-◌, ◌*◌, ◌%◌, ℕ, List, [], ◌∷◌, ◌++◌, decimal, length, take, drop, get_or}
+use Rattle.std.{proofs.Common.{sym, ap, ◌∙◌, arith, length-drop}, proofs.lemmas.Fmt.{decimal_digit, decimal_step}}
 use Rattle.std.proofs.lemmas.List.{take_all, take_more, take-append-drop}
 
 -- a text is its first bytes and the others
@@ -18,6 +18,5 @@ number_zero t some is = number_ends t 1 some ∙ ap (λ l. l ++ take (length t -
 -- one more digit
 pub number_more : (t : List ℕ) (i n d : ℕ) → i < length t → get_or t i 0 ≡ 48 + d → d < 10 → 0 < n → n * 10 + d < 2 ^ 64 → take i t ≡ decimal n → take (i + 1) t ≡ decimal (n * 10 + d)
 number_more t i n d within is small some fits so_far =
-    let front : (n * 10 + d) / 10 ≡ n = omega arith in
     let last : (n * 10 + d) % 10 ≡ d = omega arith in
-    take_more t i 0 within ∙ ap₂ (λ l x. l ++ x ∷ []) so_far is ∙ sym (decimal_step (n * 10 + d) (omega arith) fits ∙ ap₂ (λ m e. decimal m ++ (48 + e) ∷ []) front last)
+    search (rules, take_more, decimal_step)

@@ -1,22 +1,20 @@
 -- What is written of a splice, a record, a move or a journal is read back.
 use Rattle.std.proofs.Common.{◌≡◌, ◌≤◌, ◌<◌, ◌^◌, ℕ, suc, List, [], ◌∷◌, ◌++◌, true, Option, Some, None, Ok, codes, refl, sym, ap, ap₂, ◌∙◌}
 use Rattle.std.{proofs.Common.{subst, append-nil, arith, if◌then◌else◌, map, rules}, specs.Prelude.{max, option_and_then, option_map}}
-use Rattle.std.{specs.Cmp.Derive.both_true, specs.Result.result_ok, specs.Str.IsUtf8, proofs.lemmas.Bool.{eq-eqb, le-leb}}
-use Rattle.std.proofs.lemmas.Str.{is_utf8-from_IsUtf8}
+use Rattle.std.{specs.Cmp.Derive.both_true, specs.Str.IsUtf8, proofs.lemmas.Bool.{eq-eqb, le-leb}, proofs.lemmas.Str.is_utf8-from_IsUtf8}
 use Rattle.base64.{specs.Engines.standard, specs.GeneralPurpose.{decode_of, encode_of}}
 use Rattle.json.{specs.Lex.tokens, specs.Token.Token, specs.Tree.{HasNumbers, json_tokens}, proofs.Printed.Decimals.IsNumber-decimal}
 use Rattle.json.{proofs.Printed.Tokens.tokens-print, proofs.Printed.Trees.{value-json_tokens, ArePrintable-json_tokens}}
-use Rattle.serde_json.specs.Data.{unsigned, Data, number, string, array, object, Items, no_items, item, Members, no_members, member, put}
-use Rattle.serde_json.{specs.Data.{depth, items_depth, members_depth}, specs.Read.{read, max_depth, of_json}, specs.View.items_of}
+use Rattle.serde_json.specs.Data.{unsigned, Data, number, array, object, Items, no_items, item, Members, no_members, member, put, depth}
+use Rattle.serde_json.{specs.Data.{items_depth, members_depth}, specs.Read.{read, max_depth, of_json}, specs.View.items_of}
 use Rattle.serde_json.{specs.Written.{compact_text, outline, items_outline, members_outline}, proofs.Numbers.number_of-decimal}
 use Rattle.serde_json.proofs.Texts.{print-outline}
 use Rattle.yq_text.specs.Splice.{Splice}
-use Rattle.yq_journal.{specs.declared.moves.Move.TheVariants.{Edit, Undo, Redo}, specs.Added.{IsReadBack, changes_data, records_data}}
-use Rattle.yq_journal.specs.Json.{bytes_data, change_data, change_from, splice_of, splices_of, is_record, journal_data, journal_in}
-use Rattle.yq_journal.specs.Json.{journal_object, journal_of, journal_text, kind_text, list_data, move_data, move_of, open_move_of}
-use Rattle.yq_journal.specs.Json.{pending_data, pending_of, record_data, record_from, record_of, records_of}
-use Rattle.yq_journal.{specs.Record.{IsRecord, Record, is_length}, specs.Refusals.IsSound, specs.State.{Pending, State}}
-use Rattle.yq_journal.{proofs.JsonLaws.journal_reads, proofs.LineFeed.tokens-line_feed}
+use Rattle.yq_journal.{specs.declared.moves.Move.TheVariants.Edit, specs.Added.{IsReadBack, changes_data, records_data}}
+use Rattle.yq_journal.specs.Json.{change_data, splice_of, splices_of, is_record, journal_data, journal_in, journal_object, journal_of}
+use Rattle.yq_journal.specs.Json.{journal_text, move_data, move_of, pending_data, pending_of, record_data, record_of, records_of}
+use Rattle.yq_journal.{specs.Record.{IsRecord, Record, is_length}, specs.Refusals.IsSound, specs.State.State, proofs.JsonLaws.journal_reads}
+use Rattle.yq_journal.proofs.LineFeed.{tokens-line_feed}
 use Rattle.json.specs.Json as json
 use Rattle.json.specs.Tree as tree
 
@@ -66,16 +64,10 @@ flat_record r = let f : items_depth (items_of (map change_data r.changes)) ≤ 1
 
 flat_records : (rs : List Record) → items_depth (items_of (map record_data rs)) ≤ 3
 flat_records [] = omega arith
-flat_records (r ∷ rs) =
-    let first : depth (record_data r) ≤ 3 = flat_record r in
-    let more : items_depth (items_of (map record_data rs)) ≤ 3 = flat_records rs in
-    omega arith
-
-flat_pending : (o : Option Pending) → depth (pending_data o) ≤ 4
-flat_pending o = search (rules, flat_record)
+flat_records (r ∷ rs) = search (rules, flat_record, flat_records rs)
 
 pub shallow : (s : State) → depth (journal_data s) ≤ max_depth
-shallow s = search (rules, flat_pending, flat_records)
+shallow s = search (rules, flat_record, flat_records)
 
 -- ---- what is read of the values that are written
 
@@ -95,12 +87,7 @@ object_reads n p rs h e f =
 pub kept_splice : (s : Splice) → s.at < 2 ^ 64 → decode_of standard (encode_of standard s.new) ≡ Ok s.new → decode_of standard (encode_of standard s.old) ≡ Ok s.old
     → IsReadBack change_data splice_of s
 unfolding splice_of
-kept_splice s h n o = record {
-  numbers = (IsNumber-decimal s.at h, (tt, (tt, tt)));
-  reads =
-      ap (λ p. option_map object (option_and_then (λ a. Some (put (codes "old") (bytes_data s.old) (put (codes "new") (bytes_data s.new) (put (codes "at") a no_members)))) p)) (number_reads s.at h);
-  stands = ap₂ (λ x y. change_from (Some s.at) (result_ok x) (result_ok y)) o n;
-}
+kept_splice s h n o = search (rules, IsNumber-decimal, number_reads)
 
 is_record-from_IsRecord : (r : Record) → IsRecord r → is_record r ≡ true
 is_record-from_IsRecord r h = both_true (le-leb 1 r.count h.counted) (ap (λ o. is_length o r.after_len) h.lengths ∙ eq-eqb r.after_len r.after_len refl)
@@ -108,44 +95,19 @@ is_record-from_IsRecord r h = both_true (le-leb 1 r.count h.counted) (ap (λ o. 
 pub kept_record : (r : Record) → r.after_len < 2 ^ 64 → r.before_len < 2 ^ 64 → r.count < 2 ^ 64 → IsRecord r → IsReadBack changes_data splices_of r.changes
     → IsReadBack record_data (record_of true) r
 unfolding record_of
-kept_record r a b n h k = record {
-  numbers = (IsNumber-decimal r.after_len a, (IsNumber-decimal r.before_len b, (IsNumber-decimal r.count n, (tt, (k.numbers, tt)))));
-  reads =
-      λ i. option_map object (option_and_then (λ x. option_and_then (λ y. option_and_then (λ z. option_and_then
-      (λ w. Some (put (codes "splices") w (put (codes "expr") (string r.expr) (put (codes "count") z (put (codes "before_len") y (put (codes "after_len") x no_members))))))
-      (k.reads i)) (number_reads r.count n i)) (number_reads r.before_len b i)) (number_reads r.after_len a i));
-  stands =
-      ap (λ o. record_from (Some r.expr) o (Some r.before_len) (Some r.after_len) (Some r.count)) k.stands
-      ∙ ap (λ t. if t then Some r else None) (is_record-from_IsRecord r h);
-}
+kept_record r a b n h k =
+    search (rules, IsNumber-decimal, number_reads, is_record-from_IsRecord, k.reads, k.numbers, k.stands)
 
 pub kept_edit : (r : Record) → IsReadBack record_data (record_of true) r → IsReadBack move_data (move_of true (codes "edit")) (Edit r)
 unfolding move_of
 kept_edit r k = record { numbers = k.numbers; reads = k.reads; stands = ap (option_map Edit) k.stands }
-
-pub kept_undo : IsReadBack move_data (move_of true (codes "undo")) Undo
-unfolding move_of
-kept_undo = record { numbers = tt; reads = refl; stands = refl }
-
-pub kept_redo : IsReadBack move_data (move_of true (codes "redo")) Redo
-unfolding move_of
-kept_redo = record { numbers = tt; reads = refl; stands = refl }
-
-pub kept_open : (p : Pending) → IsReadBack move_data (move_of true (kind_text p.step)) p.step → decode_of standard (encode_of standard p.from) ≡ Ok p.from
-    → IsReadBack pending_data (pending_of true) (Some p)
-unfolding open_move_of
-kept_open p k b = search rules
 
 pub kept_none : IsReadBack pending_data (pending_of true) None
 kept_none = record { numbers = tt; reads = refl; stands = refl }
 
 pub kept_journal : (s : State) → IsSound s → s.at < 2 ^ 64 → IsReadBack pending_data (pending_of true) s.pending → IsReadBack records_data (records_of true) s.records
     → IsReadBack journal_data journal_of s
-kept_journal s sound h p rs = record {
-  numbers = (IsNumber-decimal s.at h, (p.numbers, (rs.numbers, (IsNumber-decimal 2 (omega arith), tt))));
-  reads = object_reads s.at (pending_data s.pending) (list_data record_data s.records) h p.reads rs.reads;
-  stands = journal_reads s (pending_data s.pending) (list_data record_data s.records) p.stands rs.stands sound;
-}
+kept_journal s sound h p rs = search (rules, IsNumber-decimal, object_reads, journal_reads)
 
 -- the text of a journal is that journal
 pub text_read : (s : State) → IsReadBack journal_data journal_of s → IsUtf8 (journal_text s) → journal_in (journal_text s) ≡ Some s

@@ -1,5 +1,5 @@
 -- A run of a list is replaced by one element, by turning the list.
-use Rattle.std.proofs.Common.{◌≡◌, ℕ, suc, ◌+◌, ◌-◌, ◌≤◌, ◌<◌, List, [], ◌∷◌, ◌++◌, length, take, drop, set, sym, ap, ◌∙◌, arith}
+use Rattle.std.proofs.Common.{rules, ◌≡◌, ℕ, suc, ◌+◌, ◌-◌, ◌≤◌, ◌<◌, List, [], ◌∷◌, ◌++◌, length, take, drop, set, sym, ap, ◌∙◌, arith}
 use Rattle.std.{proofs.Common.{append_assoc, length-drop}, proofs.Math.Seq.{drop-append_seam, take-append_seam}}
 use Rattle.std.{proofs.lemmas.Grind.common_steps, proofs.lemmas.List.take-take}
 use Prim.Native.Nat.{zero}
@@ -24,12 +24,4 @@ turned xs i e k y run within is =
     let front : take (i + 1) (set xs i y) ≡ take i xs ++ y ∷ [] = grind (arith, common_steps) in
     let long : k ≡ length (drop e xs) = is ∙ sym (length-drop e xs) in
     let behind_more : k + i + 1 ≡ k + (i + 1) = omega arith in
-    let kept : take (k + i + 1) (drop e (set xs i y) ++ take e (set xs i y)) ≡ drop e xs ++ (take i xs ++ y ∷ []) =
-    ap (λ n. take n (drop e (set xs i y) ++ take e (set xs i y))) behind_more
-    ∙ take_over (drop e (set xs i y)) (take e (set xs i y)) k (i + 1) (long ∙ ap length (sym behind))
-    ∙ ap (λ l. l ++ take (i + 1) (take e (set xs i y))) behind
-    ∙ ap (λ l. drop e xs ++ l) (take-take (i + 1) e (set xs i y) (omega arith) ∙ front) in
-    ap (λ l. drop k l ++ take k l) kept
-    ∙ ap (λ l. l ++ take k (drop e xs ++ (take i xs ++ y ∷ []))) (drop_seam (drop e xs) (take i xs ++ y ∷ []) k long)
-    ∙ ap (λ l. (take i xs ++ y ∷ []) ++ l) (take_seam (drop e xs) (take i xs ++ y ∷ []) k long)
-    ∙ append_assoc (take i xs) (y ∷ []) (drop e xs)
+    search (rules, take_over, take-take, drop_seam, take_seam, append_assoc)

@@ -1,18 +1,17 @@
 -- Joining the last done records of a journal is a squash of its history.
-use Rattle.std.proofs.Common.{◌≡◌, ℕ, suc, ◌+◌, ◌-◌, ◌≤◌, ◌<◌, ◌&&◌, List, [], ◌∷◌, ◌++◌, length, take, drop, Some, None, true, nat_le}
-use Rattle.std.proofs.Common.{refl, sym, ap, ap₂, ◌∙◌, subst, arith, append_assoc, length-append, length-drop, if◌then◌else◌, eq-eqb, rules}
-use Rattle.std.{specs.Prelude.{codes, is_some}, specs.Cmp.Derive.both_true, proofs.Math.Bool.and-true}
-use Rattle.std.proofs.lemmas.List.{length-take-le, take-append-drop, take-take}
+use Rattle.std.proofs.Common.{◌≡◌, ℕ, suc, ◌+◌, ◌-◌, ◌≤◌, List, [], ◌∷◌, ◌++◌, length, take, drop, Some, None, true, refl, sym, ap, ◌∙◌}
+use Rattle.std.{proofs.Common.{arith, append_assoc, length-append, length-drop, eq-eqb, rules}, specs.Prelude.codes}
+use Rattle.std.{proofs.Math.Bool.and-true, proofs.lemmas.List.{length-take-le, take-append-drop, take-take}}
 use Prim.Native.Nat.{zero}
 use Rattle.yq_text.proofs.SpliceLaws.{all_done-append}
-use Rattle.yq_journal.{specs.declared.fault.JournalFault.TheVariants.{BadCount, Unsettled}, specs.Good.{Leads, AtRest, squash_refusal}}
+use Rattle.yq_journal.specs.Good.{Leads, AtRest, squash_refusal}
 use Rattle.yq_journal.specs.History.{History, Revision, text_after_edits, text_at, latest, latest_of, after_squash}
 use Rattle.yq_journal.{specs.Record.{Record, done, join, records_joined, meet}, specs.Refusals.squash_fault}
-use Rattle.yq_journal.{specs.State.{State, joined_of, last_done, squashed}, proofs.RecordLaws.{stands_of, of_stands}}
+use Rattle.yq_journal.{specs.State.{State, joined_of, last_done, squashed}, proofs.RecordLaws.stands_of}
 
 -- one record done after the other is their join done
 done_join : (r q : Record) (b c d : List ℕ) → done r b ≡ Some c → done q c ≡ Some d → done (join r q) b ≡ Some d
-done_join r q b c d e f = search (rules, stands_of, of_stands, all_done-append)
+done_join r q b c d e f = search (rules, stands_of, eq-eqb, all_done-append)
 
 -- the text after all of these
 text_end : List ℕ → List Revision → List ℕ
@@ -58,8 +57,7 @@ leads_append t _ qs _ fs l k = absurd l
 leads_joined : (t : List ℕ) (r : Record) (rs : List Record) (e : Revision) (es : List Revision) → Leads t (r ∷ rs) (e ∷ es) → Leads t (records_joined r rs ∷ []) (latest e es ∷ [])
 leads_joined t r [] e [] l = (l.0, l.1, tt)
 leads_joined t r (q ∷ rs) e (f ∷ es) l =
-    leads_joined t (join r q) rs (record { expr = e.expr ++ codes " | " ++ f.expr; text = f.text }) es
-    (ap (λ x. x ++ codes " | " ++ q.expr) l.0 ∙ ap (λ x. e.expr ++ codes " | " ++ x) l.2.0, done_join r q t e.text f.text l.1 l.2.1, l.2.2)
+    search (rules, done_join, leads_joined t (join r q) rs (record { expr = e.expr ++ codes " | " ++ f.expr; text = f.text }) es)
 leads_joined t r _ e _ l = absurd l.2
 
 leads_joined_of : (t : List ℕ) (rs : List Record) (es : List Revision) → Leads t rs es → Leads t (joined_of rs) (latest_of es)
@@ -70,19 +68,9 @@ unfolding text_end
 latest-text e [] = refl
 latest-text e (f ∷ fs) = latest-text (record { expr = e.expr ++ codes " | " ++ f.expr; text = f.text }) fs
 
-text_end-latest_of : (t : List ℕ) (es : List Revision) → text_end t (latest_of es) ≡ text_end t es
-unfolding text_end
-text_end-latest_of t es = search (rules, latest-text)
-
-length-latest_of : (es : List Revision) → 0 < length es → length (latest_of es) ≡ 1
-length-latest_of es h = search rules
-
 -- records that lead through texts have lengths that meet
 leads_meet : (t : List ℕ) (rs : List Record) (es : List Revision) → Leads t rs es → meet rs ≡ true
-leads_meet t (r ∷ q ∷ rs) (e ∷ f ∷ es) l =
-    let h = stands_of r.before_len r.after_len r.changes t e.text l.1 in
-    let k = stands_of q.before_len q.after_len q.changes e.text f.text l.2.1 in
-    both_true (eq-eqb r.after_len q.before_len (sym h.ends ∙ k.starts)) (leads_meet e.text (q ∷ rs) (f ∷ es) l.2)
+leads_meet t (r ∷ q ∷ rs) (e ∷ f ∷ es) l = search (rules, stands_of, leads_meet e.text (q ∷ rs) (f ∷ es) l.2)
 leads_meet t (r ∷ q ∷ rs) [] l = absurd l
 leads_meet t (r ∷ q ∷ rs) (e ∷ []) l = absurd l.2
 leads_meet t _ es l = refl
@@ -95,10 +83,7 @@ last_leads s t h n k = search (rules, text_end, leads_drop, leads_take)
 pub squash_fault_of : (s : State) (t : List ℕ) (h : History) (n : ℕ) → s.pending ≡ None → AtRest s t h → squash_fault s n ≡ squash_refusal h n
 squash_fault_of s t h n none k =
     let meets : meet (last_done s.records s.at n) ≡ true = leads_meet _ _ _ (last_leads s t h n k) in
-    let way : (nat_le 1 n && nat_le n s.at && meet (last_done s.records s.at n)) ≡ (nat_le 1 n && nat_le n h.at) =
-    ap (λ b. nat_le 1 n && nat_le n s.at && b) meets ∙ and-true (nat_le 1 n && nat_le n s.at) ∙ ap (λ a. nat_le 1 n && nat_le n a) k.reports.cursor in
-    ap (λ o. if is_some o then Some Unsettled else if nat_le 1 n && nat_le n s.at && meet (last_done s.records s.at n) then None else Some BadCount) none
-    ∙ ap (λ b. if b then None else Some BadCount) way
+    search (rules, and-true)
 
 -- a history's texts up to the squashed one
 squashed_front : History → ℕ → List Revision
@@ -106,14 +91,15 @@ squashed_front h n = take (h.at - n) h.later ++ latest_of (drop (h.at - n) (take
 
 length-squashed_front : (h : History) (n : ℕ) → 1 ≤ n → n ≤ h.at → h.at ≤ length h.later → length (squashed_front h n) ≡ h.at - n + 1
 unfolding squashed_front
-length-squashed_front h n some fits within = search (rules, length-take-le, length-drop, length-latest_of, length-append)
+length-squashed_front h n some fits within = search (rules, length-take-le, length-drop, length-append)
 
 -- the text after the joined edits is that after these
 end_of_squash : (h : History) (n : ℕ)
     → text_end (text_end h.first (take (h.at - n) h.later)) (latest_of (drop (h.at - n) (take h.at h.later))) ≡ text_end h.first (take h.at h.later)
+unfolding text_end
 end_of_squash h n =
     let inner = take h.at h.later in
-    text_end-latest_of (text_end h.first (take (h.at - n) h.later)) (drop (h.at - n) inner)
+    search (rules, latest-text)
     ∙ ap (λ es. text_end (text_end h.first es) (drop (h.at - n) inner)) (sym (take-take (h.at - n) h.at h.later (omega arith)))
     ∙ sym (text_end-append h.first (take (h.at - n) inner) (drop (h.at - n) inner))
     ∙ ap (text_end h.first) (take-append-drop (h.at - n) inner)
@@ -125,18 +111,8 @@ text_end-squashed_front h n within = search (rules, text_end-append, end_of_squa
 squash_leads : (s : State) (t : List ℕ) (h : History) (n : ℕ) → AtRest s t h → Leads h.first (squashed s n).records (after_squash h n).later
 squash_leads s t h n k =
     let inner = take h.at h.later in
-    let front : text_end h.first (take (h.at - n) inner) ≡ text_end h.first (take (h.at - n) h.later) =
-    ap (text_end h.first) (take-take (h.at - n) h.at h.later (omega arith)) in
-    let run : Leads (text_end h.first (take (h.at - n) h.later)) (joined_of (last_done s.records s.at n)) (latest_of (drop (h.at - n) inner)) =
-    leads_joined_of _ (last_done s.records s.at n) (drop (h.at - n) inner)
-    (subst (λ u. Leads u (last_done s.records s.at n) (drop (h.at - n) inner)) front (last_leads s t h n k)) in
-    let tail : Leads (text_end (text_end h.first (take (h.at - n) h.later)) (latest_of (drop (h.at - n) inner))) (drop s.at s.records) (drop h.at h.later) =
-    subst (λ u. Leads u (drop s.at s.records) (drop h.at h.later)) (sym (end_of_squash h n))
-    (subst (λ a. Leads (text_end h.first inner) (drop a s.records) (drop h.at h.later)) (sym k.reports.cursor) (leads_drop h.first s.records h.later h.at k.reports.leads)) in
-    subst (λ a. Leads h.first (take (a - n) s.records ++ (joined_of (last_done s.records s.at n) ++ drop s.at s.records)) (take (h.at - n) h.later ++ (latest_of (drop (h.at - n) inner) ++ drop h.at h.later))) (sym k.reports.cursor)
-    (leads_append h.first (take (h.at - n) s.records) (joined_of (last_done s.records s.at n) ++ drop s.at s.records) (take (h.at - n) h.later) (latest_of (drop (h.at - n) inner) ++ drop h.at h.later)
-    (leads_take h.first s.records h.later (h.at - n) k.reports.leads)
-    (leads_append _ (joined_of (last_done s.records s.at n)) (drop s.at s.records) (latest_of (drop (h.at - n) inner)) (drop h.at h.later) run tail))
+    let front : text_end h.first (take (h.at - n) inner) ≡ text_end h.first (take (h.at - n) h.later) = search (rules, text_end, take-take) in
+    search (rules, text_end, leads_joined_of, last_leads, end_of_squash, leads_drop, leads_append, leads_take)
 
 -- a journal whose last records were joined is at rest with the squashed history
 pub squash_rests : (s : State) (t : List ℕ) (h : History) (n : ℕ) → AtRest s t h → 1 ≤ n → n ≤ h.at → AtRest (squashed s n) t (after_squash h n)
@@ -144,17 +120,7 @@ unfolding squashed_front
 squash_rests s t h n k some fits =
     let within : h.at ≤ length h.later = k.reports.within in
     let long = length-squashed_front h n some fits within in
-    let whole : squashed_front h n ++ drop h.at h.later ≡ (after_squash h n).later =
-    append_assoc (take (h.at - n) h.later) (latest_of (drop (h.at - n) (take h.at h.later))) (drop h.at h.later) in
-    record {
-      reports = record {
-        leads = squash_leads s t h n k;
-        cursor = ap (λ a. a - n + 1) k.reports.cursor;
-        within = omega (arith, long, ap length whole, length-append (squashed_front h n) (drop h.at h.later));
-      };
-      text = k.text ∙ sym (text_end-squashed_front h n within) ∙ sym (text_behind-length h.first (squashed_front h n) (drop h.at h.later))
-          ∙ ap (text_after_edits h.first (squashed_front h n ++ drop h.at h.later)) long ∙ ap (λ es. text_after_edits h.first es (h.at - n + 1)) whole;
-    }
+    search (rules, squashed_front, append_assoc, squash_leads, length-append, text_end-squashed_front, text_behind-length)
 
 one_latest : (es : List Revision) → length es ≡ 1 → latest_of es ≡ es
 one_latest (e ∷ []) h = refl
@@ -172,5 +138,4 @@ squash_one h some within =
     ∙ ap (λ es. (es ++ drop (h.at - 1) inner) ++ drop h.at h.later) (sym (take-take (h.at - 1) h.at h.later (omega arith)))
     ∙ ap (λ es. es ++ drop h.at h.later) (take-append-drop (h.at - 1) inner)
     ∙ take-append-drop h.at h.later in
-    let at : h.at - 1 + 1 ≡ h.at = omega arith in
-    ap₂ (λ es n. record { first = h.first; later = es; at = n }) later at
+    search rules

@@ -59,10 +59,6 @@ pub parts_of_length : (s : Splice) (n m : ℕ) → length_done s n ≡ Some m �
 unfolding length_done
 parts_of_length s n m h = search (rules, cond_some, and_parts, leb-true, ltb-true)
 
-length_of_parts : (s : Splice) (n m : ℕ) → Lengths s n m → length_done s n ≡ Some m
-unfolding length_done
-length_of_parts s n m p = search (rules, le-leb, lt-ltb)
-
 -- the lengths of a text before and after a splice
 record Grown (s : Splice) (b c : List ℕ) : Type 0 where
   within : s.at + length s.old ≤ length b
@@ -72,9 +68,7 @@ grown : (s : Splice) (b c : List ℕ) → change_done s b ≡ Some c → Grown s
 grown s b c e =
     let x = exchanges-from_done s b c e in
     let old : length b ≡ length x.front + (length s.old + length x.rest) = ap length x.before ∙ length-append x.front (s.old ++ x.rest) ∙ ap (λ n. length x.front + n) (length-append s.old x.rest) in
-    let new : length c ≡ length x.front + (length s.new + length x.rest) = ap length x.after ∙ length-append x.front (s.new ++ x.rest) ∙ ap (λ n. length x.front + n) (length-append s.new x.rest) in
-    let offset : length x.front ≡ s.at = x.offset in
-    record { within = omega (arith, old, offset); long = omega (arith, old, new, offset) }
+    search (rules, length-append)
 
 and_then_some : {A B : Type 0} (f : A → Option B) (o : Option A) → option_and_then f o ≢ None → (x : A) × (o ≡ Some x) × (f x ≢ None)
 and_then_some f o h = search rules
@@ -89,18 +83,18 @@ lengths_follow (s ∷ ss) b c e h = option_and_then_some (all_done ss) (change_d
 
 lengths_small : (ss : List Splice) (n m : ℕ) → lengths_done ss n ≡ Some m → n < 2 ^ 64 → m < 2 ^ 64
 lengths_small [] n m e h = subst (λ x. x < 2 ^ 64) (same_Some n m e) h
-lengths_small (s ∷ ss) n m e h =
-    option_and_then_some (lengths_done ss) (length_done s n) m e (λ x is k. lengths_small ss x m k (parts_of_length s n x is).small)
+lengths_small (s ∷ ss) n m e h = search (rules, option_and_then_some, parts_of_length, lengths_small ss)
 
 -- splices taken back lead back from the one length to the other
 pub lengths_flip : (ss : List Splice) (n m : ℕ) → lengths_done ss n ≡ Some m → n < 2 ^ 64 → lengths_done (flipped ss) m ≡ Some n
+unfolding length_done
 lengths_flip [] n m e h = sym e
 lengths_flip (s ∷ ss) n m e h = option_and_then_some (lengths_done ss) (length_done s n) m e (λ x is k.
     let p = parts_of_length s n x is in
     let fits : s.at + length s.old ≤ n = p.fits in
     let long : x ≡ n - length s.old + length s.new = p.is in
     let back : length_done (swapped s) x ≡ Some n =
-    length_of_parts (swapped s) x n (record { fits = omega (arith, fits, long); small = h; is = omega (arith, fits, long) }) in
+    search (rules, le-leb, lt-ltb) in
     lengths_done-append (flipped ss) (swapped s ∷ []) m
     ∙ ap (option_and_then (lengths_done (swapped s ∷ []))) (lengths_flip ss x m k p.small)
     ∙ ap (option_and_then (λ d. Some d)) back)
@@ -113,8 +107,7 @@ lengths_up_to ss rest text b h e = search (rules, and_then_some, lengths_done-ap
 pub lies_within : (ss : List Splice) (k : ℕ) (s : Splice) (text b : List ℕ) → lengths_done ss (length text) ≢ None → all_done (take k ss) text ≡ Some b → slice_get ss k ≡ Some s → s.at + length s.old ≤ length b
 lies_within ss k s text b h e is =
     let up = lengths_up_to (take k ss) (s ∷ drop (suc k) ss) text b (λ none. h (ap (λ l. lengths_done l (length text)) (split_at ss k s is) ∙ none)) e in
-    let there = and_then_some (lengths_done (drop (suc k) ss)) (length_done s (length b)) up.1 in
-    (parts_of_length s (length b) there.0 there.1).fits
+    search (rules, and_then_some, parts_of_length)
 
 -- and that text's length is held by 64 bits
 pub stays_small : (ss : List Splice) (k : ℕ) (text b : List ℕ) → lengths_done ss (length text) ≢ None → all_done (take k ss) text ≡ Some b → length text < 2 ^ 64 → length b < 2 ^ 64

@@ -1,3 +1,6 @@
 pub mod CutRows
 mod KnownDocumentLaws
 mod DocumentFronts
+mod RowCollections
+pub mod RowParts
+mod RowFrontLaws

@@ -1,2 +1,4 @@
 pub mod Knowledge
 pub mod KnownDocuments
+pub mod PartNodes
+pub mod RowFronts

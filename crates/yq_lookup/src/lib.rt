@@ -2,17 +2,20 @@
 #![tactic(auto)]
 
 mod cut_text;
+mod flow_collection;
 mod knowledge;
 mod known_at;
 mod known_document;
 mod laws;
 mod node_at;
 mod removal;
+mod row_front;
 mod spans;
 mod standing;
 mod walks;
 
 pub use cut_text::CutText;
+pub use flow_collection::PartNode;
 pub use knowledge::{Knowledge, StepSearches};
 pub use known_document::{KnownDocument, KnownDocuments};
 pub use laws::{comments_stand, contents_spell, entries_spell, pieces_exist, pieces_hold};

@@ -9,10 +9,10 @@ ghost use Rattle.yq_edit_laws.specs.Carried as spec;
 
 use crate::{change, op_segments};
 use std::alloc::Global;
-use yq_edit_laws::{EditError, on_the_way};
+use yq_edit_laws::on_the_way;
 use yq_edit_rules::is_filled;
 use yq_lookup::{CutText, Knowledge};
-use yq_semantics::Op;
+use yq_semantics::{ExprError, Op, Refusal};
 use yq_text::{ChangedMiddle, Edited, exchange};
 
 /// From now on it is known what is on the way of an operation, and how far steps were searched, if its value
@@ -37,7 +37,7 @@ pub fn change_one<'d, 'o: 'd>(
     alloc: Global,
     cut: &mut CutText<'d, '_>,
     op: &'o Op,
-) -> Result<(ChangedMiddle, Knowledge), EditError>
+) -> Result<(ChangedMiddle, Knowledge), ExprError>
     ensures ok { IfOk result (λ x. IsChange (segments_by (operation_of op.now) (cut_of cut.old))
         x.0) }
     ensures known { IfOk result (λ x. KnowledgeStays x.0.front (cut_of cut.old) x.1) }
@@ -55,12 +55,12 @@ pub fn carry_along<'d, 'o: 'd>(
     alloc: Global,
     cut: &mut CutText<'d, '_>,
     op: &'o Op,
-) -> Result<Edited, EditError>
+) -> Result<Edited, ExprError>
     ensures { Edits result (spec.carry_one (operation_of op.now) (cut_of cut.old)) }
 {
     on_the_way(alloc, cut, op);
     let segments = op_segments(alloc, cut, op)?;
-    Ok(exchange(alloc, &segments)?)
+    exchange(alloc, &segments)?.ok_or(ExprError::Fault(Refusal::TooLarge))
 }
 
 /// An operation carried out on a text with its cut.
@@ -68,7 +68,7 @@ pub fn carry_one<'d, 'o: 'd>(
     alloc: Global,
     cut: &CutText<'d, '_>,
     op: &'o Op,
-) -> Result<Edited, EditError>
+) -> Result<Edited, ExprError>
     ensures { Edits result (spec.carry_one (operation_of op.now) (cut_of cut.now)) }
 {
     let mut way = cut.again();

@@ -11,10 +11,10 @@ ghost use Rattle.yq_operation.specs.RowsGone.{IsSmall};
 use crate::exchanged::op_segments;
 use std::alloc::{AllocError, Global};
 use yq_documents::Path;
-use yq_edit_laws::{EditError, remove_in_flow};
+use yq_edit_laws::remove_in_flow;
 use yq_lookup::CutText;
 use yq_places::Removal;
-use yq_semantics::Op;
+use yq_semantics::{ExprError, Op, Refusal};
 use yq_text::{ChangedMiddle, Halves, Segments, Splice, changes};
 
 /// How many bytes a text has; they are characters.
@@ -93,18 +93,18 @@ fn changed(
     cut: &CutText<'_, '_>,
     op: &Op,
     segments: &Segments<'_>,
-) -> Result<ChangedMiddle, EditError>
+) -> Result<ChangedMiddle, ExprError>
     requires { segments.now ≡ segments_by (operation_of op.now) (cut_of cut.now) }
     ensures ok { IfOk result (IsChange (segments_by (operation_of op.now) (cut_of cut.now))) }
     ensures err { IfErr result (λ e. EditFails e (carry_one (operation_of op.now)
         (cut_of cut.now))) }
 {
     let _text = cut.text();
-    Ok(changes(alloc, segments)?)
+    changes(alloc, segments)?.ok_or(ExprError::Fault(Refusal::TooLarge))
 }
 
 /// The same of an operation of any kind.
-fn change_by(alloc: Global, cut: &CutText<'_, '_>, op: &Op) -> Result<ChangedMiddle, EditError>
+fn change_by(alloc: Global, cut: &CutText<'_, '_>, op: &Op) -> Result<ChangedMiddle, ExprError>
     ensures ok { IfOk result (IsChange (segments_by (operation_of op.now) (cut_of cut.now))) }
     ensures err { IfErr result (λ e. EditFails e (carry_one (operation_of op.now)
         (cut_of cut.now))) }
@@ -114,7 +114,7 @@ fn change_by(alloc: Global, cut: &CutText<'_, '_>, op: &Op) -> Result<ChangedMid
 }
 
 /// What an operation changes in a text with its cut.
-pub fn change(alloc: Global, cut: &CutText<'_, '_>, op: &Op) -> Result<ChangedMiddle, EditError>
+pub fn change(alloc: Global, cut: &CutText<'_, '_>, op: &Op) -> Result<ChangedMiddle, ExprError>
     ensures ok { IfOk result (IsChange (segments_by (operation_of op.now) (cut_of cut.now))) }
     ensures err { IfErr result (λ e. EditFails e (carry_one (operation_of op.now)
         (cut_of cut.now))) }

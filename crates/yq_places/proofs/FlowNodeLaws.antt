@@ -70,10 +70,10 @@ row_along total r rest ss = kept_along ss (locate total (content_core r.content)
 as_entry : Key → FlowNode → List ℕ → Option EntryPieces
 as_entry key n rest = Some (record { key = key; node = n; rest = rest })
 
-abbrev entry_more : List ℕ → EntryPieces → EntryPieces
+abbrev pub entry_more : List ℕ → EntryPieces → EntryPieces
 entry_more more y = record { key = y.key; node = y.node; rest = y.rest ++ more }
 
-item_more : (k : ℕ) (s : Step) (is : Items) (rest more : List ℕ) → item_at k s is (rest ++ more) ≡ option_map (entry_more more) (item_at k s is rest)
+pub item_more : (k : ℕ) (s : Step) (is : Items) (rest more : List ℕ) → item_at k s is (rest ++ more) ≡ option_map (entry_more more) (item_at k s is rest)
 unfolding as_entry
 item_more k s none rest more = refl
 item_more k s (item key n sep is) rest more = go (is_here s (key_label (key_content key))) (item_more k (further s) is rest more)
@@ -91,7 +91,7 @@ inside_more s (scalar p) rest more = refl
 inside_more s (coll k gap is) rest more = item_more k s is rest more
 inside_more s (anchored n gap node) rest more = inside_more s node rest more
 
-abbrev with_more : List ℕ → CollPieces → CollPieces
+abbrev pub with_more : List ℕ → CollPieces → CollPieces
 with_more more w = record { close = w.close; gap = w.gap; items = w.items; rest = w.rest ++ more }
 
 coll_in_more : (node : FlowNode) (rest more : List ℕ) → coll_in node (rest ++ more) ≡ option_map (with_more more) (coll_in node rest)
@@ -110,7 +110,7 @@ coll_more (s ∷ ss) node rest more = ap (option_and_then (λ (y : EntryPieces).
     go None again = refl
     go (Some y) again = again y
 
-content_more : (ss : List Step) (x : Content) (rest : List ℕ) → content_flow ss x rest ≡ option_map (with_more rest) (content_flow ss x [])
+pub content_more : (ss : List Step) (x : Content) (rest : List ℕ) → content_flow ss x rest ≡ option_map (with_more rest) (content_flow ss x [])
 content_more ss (Nothing tail) rest = refl
 content_more ss (Inline space node tail) rest = coll_more ss node tail rest ∙ ap (λ (l : List ℕ). option_map (with_more rest) (coll_along ss node l)) (sym (append-nil tail))
 content_more ss (rows.Block space anchor block) rest = refl
@@ -161,7 +161,7 @@ no_flow_agrees t all e = subst (λ (o : Option CollPieces). FlowAgrees t o None)
 
 -- ---- a collection in a row alone
 
-core_coll : (ss : List Step) (node : FlowNode) (rest : List ℕ) → coll_along ss node rest ≡ coll_along ss (without_anchor node) rest
+pub core_coll : (ss : List Step) (node : FlowNode) (rest : List ℕ) → coll_along ss node rest ≡ coll_along ss (without_anchor node) rest
 core_coll [] empty rest = refl
 core_coll [] (alias n) rest = refl
 core_coll [] (scalar p) rest = refl
@@ -173,7 +173,7 @@ core_coll (s ∷ ss) (scalar p) rest = refl
 core_coll (s ∷ ss) (coll k g is) rest = refl
 core_coll (s ∷ ss) (anchored n g node) rest = refl
 
-core_valid : (spaces : Option ℕ) (node : FlowNode) (rest : List ℕ) → IsFlowNode false spaces depth_limit node rest → IsFlowNode false spaces depth_limit (without_anchor node) rest
+pub core_valid : (spaces : Option ℕ) (node : FlowNode) (rest : List ℕ) → IsFlowNode false spaces depth_limit node rest → IsFlowNode false spaces depth_limit (without_anchor node) rest
 unfolding IsFlowNode
 core_valid spaces empty rest h = h
 core_valid spaces (alias n) rest h = h
@@ -189,7 +189,7 @@ some_bare ss (scalar p) rest w e = refl
 some_bare ss (coll k g is) rest w e = refl
 some_bare ss (anchored n g node) rest w e = refl
 
-core_text : (node : FlowNode) → (anchor_cut node).2 ≡ node_text (without_anchor node) []
+pub core_text : (node : FlowNode) → (anchor_cut node).2 ≡ node_text (without_anchor node) []
 unfolding node_text
 core_text empty = refl
 core_text (alias n) = refl
@@ -229,12 +229,14 @@ module _ (t : List ℕ) (s : RowsView) (c : Cut) (n : ℕ) (d : Stretch) (cut : 
   abbrev alone : Option CollPieces
   alone = content_flow left row.content []
 
-  all_is : flow_collection n steps c ≡ option_map (with_more (behind_row q.row c)) alone
-  all_is =
+  pub collection_at : flow_collection n steps c ≡ content_flow left row.content (behind_row q.row c)
+  collection_at =
       sym (collection_is c n steps)
       ∙ (ap (λ (o : Option Part). o >>= λ p. rows_collection (document_row n c) c p.rows steps) f.there
-      ∙ ((λ i. rows_collection (sym f.first i) c (sym (found_in_cut t s c n d cut is f).1 i) steps)
-      ∙ (beside_agrees s d c k q at steps left leads ∙ content_more left row.content (behind_row q.row c))))
+      ∙ ((λ i. rows_collection (sym f.first i) c (sym (found_in_cut t s c n d cut is f).1 i) steps) ∙ beside_agrees s d c k q at steps left leads))
+
+  all_is : flow_collection n steps c ≡ option_map (with_more (behind_row q.row c)) alone
+  all_is = collection_at ∙ content_more left row.content (behind_row q.row c)
 
   pub other_head : (total : ℕ) → None ≡ row_flow total row [] → FlowAgrees t (flow_collection n steps c) None
   other_head total e = no_flow_agrees t (flow_collection n steps c) (go alone (ap (λ (o : Option Placed). o >>= collection_along left) e ∙ row_along total row [] left) ∙ sym all_is)

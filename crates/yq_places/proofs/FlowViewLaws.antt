@@ -29,7 +29,7 @@ node_collection total (coll k g is) rest = sym (holder_is k (locate_items total 
 node_collection total (anchored n g node) rest = node_collection total node rest ∙ sym (anchor_kept n _ (locate total node rest))
 node_collection total x rest = refl
 
-collection_entry : (ss : List Step) (x : EntryPieces) → coll_along ss x.node x.rest ≡ (entry_pieces_at ss x >>= λ y. coll_in y.node y.rest)
+pub collection_entry : (ss : List Step) (x : EntryPieces) → coll_along ss x.node x.rest ≡ (entry_pieces_at ss x >>= λ y. coll_in y.node y.rest)
 collection_entry [] x = refl
 collection_entry (s ∷ ss) x = go (path_inside s x.node x.rest) (λ y. collection_entry ss y)
   where

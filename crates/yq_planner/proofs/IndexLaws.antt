@@ -1,6 +1,6 @@
 -- Maps by texts: one entry or alias more.
 use Rattle.std.proofs.lemmas.Bool.{cases_Bool, false≢true}
-use Rattle.std.proofs.Common.{◌≡◌, ℕ, Bool, true, false, ◌||◌, cond, List, Option, Some, is_some, option_map, sym, ap, ◌∙◌, bytes_eq, rules}
+use Rattle.std.proofs.Common.{◌≡◌, ℕ, Bool, false, ◌||◌, cond, List, Option, Some, is_some, option_map, sym, ap, ◌∙◌, bytes_eq, rules}
 use Rattle.std.{proofs.lemmas.Map.Text.btree_map_updates_str, proofs.lemmas.Slice.Eq.bytes_eq-Decides, specs.BTreeMap.BTreeMap}
 use Rattle.std.{specs.Map.lookup, specs.Borrow.Bor, specs.Cmp.Lexicographic.slice_cmp, specs.List.list_any, specs.Ordering.nat_cmp}
 use Rattle.yq_core.{specs.Tree.{Label, Node}, specs.Anchors.{Name, names_of}}

@@ -5,3 +5,4 @@ pub mod IndexLaws
 pub mod UsedLaws
 pub mod StandInLaws
 pub mod ChildDepths
+pub mod ListSizeLaws

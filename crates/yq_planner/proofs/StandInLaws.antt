@@ -18,7 +18,7 @@ text_for k j t u is same =
     (record { kind = texts; fit = refl; short = refl; deep = refl }))
 
 -- a scalar and a list of values, as nodes
-node_of-scalar : (s : ScalarText) → value_node (ScalarValue s) ≡ scalar None s.kind s.text
+pub node_of-scalar : (s : ScalarText) → value_node (ScalarValue s) ≡ scalar None s.kind s.text
 node_of-scalar s = search (rules, the_lemmas)
 
 pub node_of-list : (v : Vec Value Global) → value_node (ListValue v) ≡ list None (items (map value_node v.items))

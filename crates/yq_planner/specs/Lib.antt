@@ -5,5 +5,6 @@ pub mod ChangeView
 pub mod Indexes
 pub mod TakenNames
 pub mod StandIns
+pub mod ListSizes
 pub mod ChangedNodes
 pub mod ChangeAnswers

@@ -10,6 +10,7 @@ pub(crate) mod copied;
 pub(crate) mod entry_index;
 pub(crate) mod key_numbers;
 pub(crate) mod limits;
+pub(crate) mod list_size;
 pub(crate) mod operations;
 pub(crate) mod stand_in;
 pub(crate) mod sum;

@@ -61,3 +61,4 @@ pub mod PlacedLaws
 pub mod RegionEnds
 pub mod WordFronts
 pub mod DashSteps
+pub mod OtherRows

@@ -1,40 +1,40 @@
--- What a letter, a digit or an LF in front tells.
+-- What a letter, a digit, no ASCII or an LF in front tells.
 use Rattle.std.proofs.Common.{rules, ◌≡◌, ℕ, Bool, true, false, ◌||◌, eqb, Option, Some, List, [], ◌∷◌, take, drop, refl, sym, ap, ◌∙◌, inl}
 use Rattle.std.{proofs.Common.inr, proofs.lemmas.Bool.{false≢true, or_cases, and_right, cases_Bool}, specs.List.prefix_len}
 use Rattle.yq_core.{specs.Lines.is_hash, specs.Text.{upto, cut, front, line_len, ends_line, past_white}}
 use Rattle.yq_core.{specs.Plain.{begins_plain, ends_plain, plain_at}, proofs.Bools.at_byte, proofs.SpaceLaws.{prefix_drop, white_drop}}
-use Rattle.yq_core.{specs.Nodes.begins_with, specs.Reading.read_scalar, specs.Scalars.{is_quoted, begins_scalar}}
-use Rattle.yq_row_table.{specs.Slicing.begins_other, specs.Reading.{is_alphanumeric, begins_gap, begins_block, read_tail}}
+use Rattle.yq_core.{specs.Nodes.begins_with, specs.Reading.read_scalar, specs.Runs.is_word_byte, specs.Scalars.{is_quoted, begins_scalar}}
+use Rattle.yq_row_table.{specs.Slicing.begins_other, specs.Reading.{begins_gap, begins_block, read_tail}}
 
-isnt : (b k : ℕ) → is_alphanumeric b ≡ true → is_alphanumeric k ≡ false → eqb b k ≡ false
-isnt b k h there = at_byte is_alphanumeric b k h there
+isnt : (b k : ℕ) → is_word_byte b ≡ true → is_word_byte k ≡ false → eqb b k ≡ false
+isnt b k h there = at_byte is_word_byte b k h there
 
-pub word_unquoted : (t : List ℕ) → front is_alphanumeric t ≡ true → is_quoted t ≡ false
+pub word_unquoted : (t : List ℕ) → front is_word_byte t ≡ true → is_quoted t ≡ false
 word_unquoted t h = search (rules, isnt)
 
-pub word_plain : (t : List ℕ) → front is_alphanumeric t ≡ true → begins_plain false t ≡ true
+pub word_plain : (t : List ℕ) → front is_word_byte t ≡ true → begins_plain false t ≡ true
 word_plain t h = search (rules, false≢true, isnt)
 
-pub word_scalar : (t : List ℕ) → front is_alphanumeric t ≡ true → begins_scalar false t ≡ true
+pub word_scalar : (t : List ℕ) → front is_word_byte t ≡ true → begins_scalar false t ≡ true
 word_scalar t h = rw (word_unquoted t h) (word_plain t h)
 
-pub word_at : (spaces : Option ℕ) (t : List ℕ) → front is_alphanumeric t ≡ true → read_scalar false spaces t ≡ Some (cut (ends_plain false spaces) t)
+pub word_at : (spaces : Option ℕ) (t : List ℕ) → front is_word_byte t ≡ true → read_scalar false spaces t ≡ Some (cut (ends_plain false spaces) t)
 unfolding read_scalar plain_at
 word_at spaces t h = rw (word_unquoted t h) (rw (word_plain t h) refl)
 
-pub word_other : (t : List ℕ) → front is_alphanumeric t ≡ true → begins_other t ≡ false
+pub word_other : (t : List ℕ) → front is_word_byte t ≡ true → begins_other t ≡ false
 word_other t h = search (rules, isnt)
 
-pub word_block : (t : List ℕ) → front is_alphanumeric t ≡ true → begins_block t ≡ false
+pub word_block : (t : List ℕ) → front is_word_byte t ≡ true → begins_block t ≡ false
 word_block t h = search (rules, false≢true, isnt)
 
--- a letter, a digit or a dash is in front (own)
+-- a letter, a digit, no ASCII or a dash is in front (own)
 abbrev pub row_front : List ℕ → Bool
-row_front t = front is_alphanumeric t || begins_with 45 t
+row_front t = front is_word_byte t || begins_with 45 t
 
 pub row_gap : (t : List ℕ) → row_front t ≡ true → begins_gap t ≡ false
 unfolding upto
-row_gap t h = elim (or_cases (front is_alphanumeric t) (begins_with 45 t) h) [ inl w ↦ (search (rules, isnt)) | inr d ↦ (search rules) ]
+row_gap t h = elim (or_cases (front is_word_byte t) (begins_with 45 t) h) [ inl w ↦ (search (rules, isnt)) | inr d ↦ (search rules) ]
 
 -- past the spaces in front, and past the white space after them
 past_behind : (t : List ℕ) → past_white (drop (prefix_len (λ b. eqb b 32) t) t) ≡ past_white t

@@ -28,3 +28,4 @@ pub mod Ends
 pub mod PartEnds
 pub mod Kept
 pub mod Touched
+pub mod WordRows

@@ -11,10 +11,6 @@ use Rattle.yq_row_table.specs.Grammar.{ends_part}
 use Rattle.yq_row_table.specs.Rows.{RowMark, Bare, Dash, Key, Anchor, Content, Nothing, Inline, Block, Row, behind_columns, parent_of, Part}
 use Rattle.yq_row_table.specs.Rows.{Cut, last, marked}
 
--- a letter or a digit, as ASCII has them (own)
-abbrev pub is_alphanumeric : ℕ → Bool
-is_alphanumeric b = (nat_le 97 b && nat_le b 122) || (nat_le 65 b && nat_le b 90) || (nat_le 48 b && nat_le b 57)
-
 -- a blank line or a comment line in front (own)
 abbrev pub begins_gap : List ℕ → Bool
 begins_gap t = not (is_empty t) && (ends_line (past_white t) || is_hash (past_white t))

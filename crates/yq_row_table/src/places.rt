@@ -77,6 +77,6 @@ impl Places {
         requires placed { (c : Cut) × IsCut (whole text) c × IsPlaced self (rows_view c) }
         ensures { (c : Cut) → IsCut (whole text.entry) c → result ≡ rows_view c }
     {
-        Rows { text, places: self }
+        Rows::of(text, self)
     }
 }

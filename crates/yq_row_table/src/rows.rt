@@ -1,9 +1,10 @@
 //! The rows of a text, kept by where they are.
-ghost use Rattle.std.specs.Prelude.{◌≡◌, ◌<◌, ◌≤◌, ◌-◌, ℕ, List, drop, length, option_map, take, Some, slice_get};
+ghost use Rattle.std.specs.Prelude.{◌≡◌, ◌<◌, ◌≤◌, ◌-◌, ℕ, List, drop, length, option_map, take, IfSome, Some, slice_get};
 ghost use Rattle.yq_row_table.{specs.Grammar.IsCut, specs.Kept.{HavePlaces, IsPlaced, halves_view}};
 ghost use Rattle.yq_row_table.{specs.Offsets.{AreCuts, lengths, pieces_of}, specs.Removal.{block_numbers, block_of}};
 ghost use Rattle.yq_row_table.{specs.RowStarts.{part_end, row_level, row_start}, specs.Rows.{Cut, Row as RowOf}};
 ghost use Rattle.yq_row_table.specs.View.{bound_view, bounds_at, rows_of, rows_view, row_view, RowsView, Slices};
+ghost use Rattle.yq_row_table.specs.WordRows.{AreOtherRows, KnowOthers};
 ghost use Rattle.yq_row_table.specs.Grammar as grammar;
 ghost use Rattle.yq_row_table.specs.View as ends;
 
@@ -21,6 +22,8 @@ use yq_text::Halves;
 pub struct Rows<'t> {
     pub(crate) text: Halves<'t>,
     pub(crate) places: Places,
+    /// The rows that are no word rows, in order, where they are known.
+    pub(crate) others: Option<Vec<usize>>,
 }
 
 impl<'t> Model for Rows<'t> {
@@ -28,7 +31,7 @@ impl<'t> Model for Rows<'t> {
 
     ghost view = { λ r. halves_view r.text r.places };
 
-    ghost invariant = { λ r. HavePlaces r.text r.places };
+    ghost invariant = { λ r. HavePlaces r.text r.places × KnowOthers r.text r.places r.others };
 }
 
 impl<'t> Rows<'t> {
@@ -37,7 +40,35 @@ impl<'t> Rows<'t> {
         requires { HavePlaces text places }
         ensures { result ≡ halves_view text.entry places }
     {
-        Rows { text, places }
+        Rows {
+            text,
+            places,
+            others: None,
+        }
+    }
+
+    /// The same where it is known which of them are no word rows.
+    pub fn with_others(text: Halves<'t>, places: Places, others: Vec<usize>) -> Rows<'t>
+        requires places { HavePlaces text places }
+        requires others { AreOtherRows (halves_view text places).rows 0 others.items }
+        ensures { result ≡ halves_view text.entry places }
+    {
+        Rows {
+            text,
+            places,
+            others: Some(others),
+        }
+    }
+
+    /// The rows that are no word rows, in order, if they are known: the text of each other one lends what
+    /// it spells.
+    pub fn others(&self) -> Option<&[usize]>
+        ensures { IfSome result (λ ns. AreOtherRows self.now.rows 0 ns.now) }
+    {
+        match &self.others {
+            Some(others) => Some(others.as_slice()),
+            None => None,
+        }
     }
 
     /// Where they are, without the text.

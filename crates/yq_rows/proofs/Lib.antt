@@ -25,3 +25,4 @@ pub mod FollowLaws
 pub mod DoneLaws
 pub mod DropLaws
 pub mod WordRows
+pub mod QuotedFronts

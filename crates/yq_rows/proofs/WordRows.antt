@@ -1,19 +1,19 @@
 -- Rows whose keys and heads begin with words.
-use Rattle.std.proofs.Common.{◌≡◌, ℕ, ◌+◌, ◌≤◌, ◌<◌, cond, Bool, true, false, not, ◌&&◌, eqb, eqb-true, List, [], ◌∷◌, length, take, drop}
-use Rattle.std.{proofs.Common.{Option, Some, None, refl, sym, ap, ◌∙◌, subst, arith, inl, inr, ℤ}, specs.Prelude.{nat_le, IsTrue}}
-use Rattle.std.{specs.List.prefix_len, specs.Str.chars}
+use Rattle.std.proofs.Common.{◌≡◌, ℕ, zero, suc, ◌+◌, ◌≤◌, ◌<◌, cond, Bool, true, false, not, ◌||◌, ◌&&◌, eqb, eqb-true, List, [], ◌∷◌}
+use Rattle.std.proofs.Common.{length, take, drop, Option, Some, None, refl, sym, ap, ◌∙◌, subst, arith, inl, inr, ℤ}
+use Rattle.std.{specs.Prelude.{nat_le, IsTrue}, specs.List.prefix_len, specs.Str.chars}
 use Rattle.std.proofs.lemmas.Bool.{false≢true, false_from_ne_true, and_parts, and_right, cases_Bool, leb-true}
 use Rattle.yq_core.{specs.Text.{cut, front, is_empty, is_space, is_white, no_space, no_white, separates, upto}, specs.Nodes.begins_with}
-use Rattle.yq_core.{specs.Plain.{begins_deep, ends_plain, ends_text}, specs.PlainReading.across, specs.Answers.more, specs.Runs.run_goes_on}
-use Rattle.yq_core.{specs.declared.runs.Run.TheVariants.Plain, specs.Reading.read_scalar}
+use Rattle.yq_core.{specs.Plain.{begins_deep, ends_plain, ends_text, holds_break}, specs.PlainReading.across, specs.Answers.more}
+use Rattle.yq_core.{specs.Runs.{is_word_byte, run_goes_on}, specs.declared.runs.Run.TheVariants.Plain, specs.Reading.read_scalar}
 use Rattle.yq_core.{proofs.Across.{across_here, across_line, go_run, plain_colon, plain_stop, spaces_white}, proofs.Bools.at_byte}
 use Rattle.yq_core.{proofs.PlainRuns.run_behind, proofs.SpaceLaws.prefix_drop}
 use Rattle.yq_row_table.{specs.Grammar.{is_entry, key_limit}, specs.Rows.{Dash, Key, parent_of}}
 use Rattle.yq_row_table.specs.Slicing.{Begun, Filled, begun, filled_at, marked_sliced, row_of}
-use Rattle.yq_row_table.specs.Reading.{begins_entry, holds_colon, is_alphanumeric, is_colon, is_dash, key_mark, read_marks, read_row_key}
-use Rattle.yq_row_table.{specs.Reading.undashed, proofs.KeyLines.no_key_line, proofs.MarkAgain.scalar_no_dash}
-use Rattle.yq_row_table.{proofs.MarkLaws.{dash_is, marks_dash, marks_none}, proofs.RowSlicing.content_nothing}
-use Rattle.yq_row_table.{proofs.WordFronts.{feed_tail, word_at, word_scalar}, proofs.DashSteps.HasKey}
+use Rattle.yq_row_table.specs.Reading.{begins_entry, holds_colon, is_colon, is_dash, key_mark, read_marks, read_row_key, undashed}
+use Rattle.yq_row_table.{proofs.KeyLines.no_key_line, proofs.MarkAgain.scalar_no_dash, proofs.MarkLaws.{dash_is, marks_dash, marks_none}}
+use Rattle.yq_row_table.{proofs.RowSlicing.content_nothing, proofs.WordFronts.{feed_tail, word_at, word_scalar}, proofs.DashSteps.HasKey}
+use Rattle.yq_row_table.specs.WordRows.{borrows_quoted, is_word_head}
 use Rattle.yq_rows.proofs.Colons.{colon_found}
 
 -- a colon in front
@@ -41,13 +41,17 @@ word_ends t rest n run back h =
     let stop : upto (ends_plain false None) rest ≡ 0 = subst (λ (l : List ℕ). upto (ends_plain false None) l ≡ 0) (sym c.0) here in
     run_ends None t rest n run back stop
 
-pub word_keyed : (t key rest colon behind : List ℕ) (n : ℕ) → front is_alphanumeric t ≡ true → n ≡ upto (ends_plain false None) t → key ≡ take n t → rest ≡ drop n t → is_colon rest ≡ true → colon ≡ take 1 rest → behind ≡ drop 1 rest →
+-- a scalar is the key where a colon follows it at once
+pub scalar_keyed : (t key rest colon behind : List ℕ) → read_scalar false None t ≡ Some (key, rest) → is_colon rest ≡ true → colon ≡ take 1 rest → behind ≡ drop 1 rest →
     nat_le (length (chars key) + length (chars colon)) (key_limit + 1) ≡ true → read_row_key t ≡ Some (key, colon, behind)
 unfolding read_row_key
+scalar_keyed t key rest colon behind at is c b room = rw at (rw (sym (colon_found rest [] rest colon behind (colon_white rest is) is c b)) (rw room refl))
+
+pub word_keyed : (t key rest colon behind : List ℕ) (n : ℕ) → front is_word_byte t ≡ true → n ≡ upto (ends_plain false None) t → key ≡ take n t → rest ≡ drop n t → is_colon rest ≡ true → colon ≡ take 1 rest → behind ≡ drop 1 rest →
+    nat_le (length (chars key) + length (chars colon)) (key_limit + 1) ≡ true → read_row_key t ≡ Some (key, colon, behind)
 word_keyed t key rest colon behind n word e k r is c b room =
     let whole : cut (ends_plain false None) t ≡ (key, rest) = rw (k, r, e) refl in
-    let at : read_scalar false None t ≡ Some (key, rest) = word_at None t word ∙ ap Some whole in
-    rw at (rw (sym (colon_found rest [] rest colon behind (colon_white rest is) is c b)) (rw room refl))
+    scalar_keyed t key rest colon behind (word_at None t word ∙ ap Some whole) is c b room
 
 -- what is on the line in front of a `:`
 abbrev in_front : ℕ → Bool
@@ -71,14 +75,14 @@ pub word_line : (t rest : List ℕ) (n : ℕ) → n ≡ prefix_len (run_goes_on 
 word_line t rest n run back h = no_key_line t (feed_first t (ap (λ (k : ℕ). begins_with 10 (drop k t)) (sym run) ∙ (ap (begins_with 10) (sym back) ∙ h)))
 
 -- what a row begins with
-pub word_no_dash : (t : List ℕ) → front is_alphanumeric t ≡ true → is_dash t ≡ false
+pub word_no_dash : (t : List ℕ) → front is_word_byte t ≡ true → is_dash t ≡ false
 word_no_dash t word = scalar_no_dash t (word_scalar t word)
 
 pub key_begun : (t key colon behind : List ℕ) → is_dash t ≡ false → read_row_key t ≡ Some (key, colon, behind) → record { dashes = []; columns = 0; mark = Key key colon; rest = behind } ≡ begun (read_marks t)
 key_begun t key colon behind none h = sym (ap begun (marks_none t none ∙ ap (λ o. undashed (key_mark t o)) h))
 
 pub dash_begun : (t dash behind s next : List ℕ) → is_dash t ≡ true → dash ≡ take 1 t → behind ≡ drop 1 t → (s, next) ≡ cut no_space behind →
-    front is_alphanumeric next ≡ true → read_row_key next ≡ None →
+    front is_word_byte next ≡ true → read_row_key next ≡ None →
     record { dashes = dash; columns = 0; mark = Dash; rest = behind } ≡ begun (read_marks t)
 dash_begun t dash behind s next is one back e word none =
     let goes : (not (is_empty s) && begins_entry next) ≡ false = and_right (not (is_empty s)) (begins_entry next) (rw (word_no_dash next word, none) refl) in
@@ -87,7 +91,7 @@ dash_begun t dash behind s next is one back e word none =
     let first : dash ≡ 45 ∷ [] = one ∙ ap (take 1) (dash_is t is).0 in
     rw (first, back) (sym (ap begun (marks_dash t is neither)))
 
-pub word_behind : (s next : List ℕ) (k : List ℕ × List ℕ × List ℕ) → is_empty s ≡ false → front is_alphanumeric next ≡ true → read_row_key next ≡ Some k → HasKey s next k
+pub word_behind : (s next : List ℕ) (k : List ℕ × List ℕ × List ℕ) → is_empty s ≡ false → front is_word_byte next ≡ true → read_row_key next ≡ Some k → HasKey s next k
 word_behind s next k some word h = record { key = h; none = word_no_dash next word; goes = rw (some, word_no_dash next word, h) refl }
 
 pub some_spaces : (s : List ℕ) (b : Bool) → b ≡ eqb (length s) 0 → b ≡ false → is_empty s ≡ false
@@ -143,3 +147,20 @@ feed_content n (b ∷ bs) tail rest h a c =
 
 pub marked_entry : (gap : List ℕ) (column : ℕ) (b : Begun) (f : Filled) → is_entry b.mark ≡ true → filled_at (parent_of b.mark (column + b.columns)) b.rest ≡ Some f → marked_sliced gap column b ≡ Some (row_of gap column b f)
 marked_entry gap column b f entry h = rw h (rw entry refl)
+
+-- words up to where a scalar may end, and what comes then
+pub words_all : (spaces : Option ℕ) (t next : List ℕ) (n more : ℕ) →
+    upto (ends_plain false spaces) t ≡ n + upto (ends_plain false spaces) (drop n t) → next ≡ drop n t → more ≡ upto (ends_plain false spaces) next →
+    n + more ≡ upto (ends_plain false spaces) t
+words_all spaces t next n more value back here = sym (value ∙ ap (λ (k : ℕ). n + k) (ap (upto (ends_plain false spaces)) (sym back) ∙ sym here))
+
+-- a front of a word is a word head where it is on one line
+pub word_head : (t : List ℕ) (n : ℕ) → front is_word_byte t ≡ true → holds_break (take n t) ≡ false → is_word_head (take n t) ≡ true
+word_head t zero word line = refl
+word_head [] (suc n) word line = refl
+word_head (b ∷ bs) (suc n) word line =
+    ap (λ (x : Bool). (x && not (holds_break (b ∷ take n bs))) || borrows_quoted (b ∷ take n bs)) word
+    ∙ ap (λ (x : Bool). not x || borrows_quoted (b ∷ take n bs)) line
+
+pub and_both : {a b : Bool} → a ≡ true → b ≡ true → (a && b) ≡ true
+and_both {a} {b} one other = ap (λ (x : Bool). x && b) one ∙ other

@@ -1,14 +1,16 @@
 -- What calls that read and keep rows answer (own; a reader of the contracts may skip it).
 use Rattle.std.specs.Borrow.{Bor}
-use Rattle.std.specs.Prelude.{◌≡◌, ◌-◌, ◌==◌, ◌&&◌, ◌||◌, ℕ, Bool, List, Option, Some, None, OnOk, Result, Vec, [], is_ok, length, nat_lt}
-use Rattle.std.{specs.Prelude.{not, option_map, if◌then◌else◌, IfSome, ℤ, true, false}, specs.declared.alloc.Global.Global}
+use Rattle.std.specs.Prelude.{◌≡◌, ◌-◌, ◌==◌, ◌&&◌, ◌||◌, ℕ, Bool, List, Option, Some, None, IfOk, OnOk, Result, Vec, [], is_ok, length}
+use Rattle.std.{specs.Prelude.{nat_lt, not, option_map, if◌then◌else◌, IfSome, ℤ, true, false}, specs.declared.alloc.Global.Global}
 use Rattle.yq_core.{specs.Answers.{Gives, ReadError}, specs.Text.{is_empty, is_marker}, specs.Piece.deeper, specs.Reading.read_scalar}
 use Rattle.yq_core.specs.Scalars.{begins_scalar}
 use Rattle.yq_row_table.{specs.Grammar.allows, specs.Items.{Item, items_text, view_of_items}, specs.Kept.{kept_rows, rows_placed}}
 use Rattle.yq_row_table.{specs.Meter.{begins_line, count_after, line_count}, specs.Offsets.{offsets_of, rows_in, slices_in}}
-use Rattle.yq_row_table.{specs.Reading.read_row_key, specs.Regions.{IsReadAlone, region_items}, specs.Rows.Part}
+use Rattle.yq_row_table.{specs.Reading.{begins_block, read_row_key}, specs.Regions.{IsReadAlone, region_items}, specs.Rows.{Part, RowMark}}
 use Rattle.yq_row_table.specs.Slicing.{SlicedRow, begins_other, inline_sliced, marked_sliced, row_of, rows_sliced}
-use Rattle.yq_row_table.{specs.View.{RowsView, Slices}, specs.declared.offsets.Offsets.Offsets, specs.declared.places.Places.Places}
+use Rattle.yq_row_table.specs.WordRows.{AreOtherRows, is_word_head, is_word_key, is_word_row}
+use Rattle.yq_row_table.{specs.View.{RowsView, Slices, colon_of, key_of_mark}, specs.declared.offsets.Offsets.Offsets}
+use Rattle.yq_row_table.specs.declared.places.Places.{Places}
 use Rattle.yq_text.specs.TextGapBuffer.{TextGapView, buffer_text}
 use Rattle.yq_rows.{specs.Exchanging.TextChange, specs.Following.{CountsWritten, Follows, exchanged}}
 use Rattle.yq_rows.{specs.ReadPieces.{begin_view, filling_view, limit_view, read_slices}, specs.Sides.both_sides}
@@ -27,12 +29,28 @@ abbrev pub may_be_at : asked.Limit → ℕ → List ℕ → Bool
 may_be_at limit column text = allows (limit_view limit) column && not (column == 0 && is_marker text)
 
 -- the answer is the row that reading gives, what it asks of the next one, and what comes after it
-abbrev pub GivesRow : List ℕ → Result (Offsets × asked.Limit × Bor (List ℕ)) ReadError → Option SlicedRow → Type 0
+abbrev pub GivesRow : List ℕ → Result (Offsets × asked.Limit × Bor (List ℕ) × Bool) ReadError → Option SlicedRow → Type 0
 GivesRow whole r read = Gives (λ x. (slices_in whole x.0, limit_view x.1, x.2.now)) r read
 
 -- a row that is found is that which reading gives, with what it asks of the next one, and what comes after it
-abbrev pub FindsRow : List ℕ → Option (Offsets × asked.Limit × Bor (List ℕ)) → Option SlicedRow → Type 0
+abbrev pub FindsRow : List ℕ → Option (Offsets × asked.Limit × Bor (List ℕ) × Bool) → Option SlicedRow → Type 0
 FindsRow whole found read = IfSome found (λ x. read ≡ Some (slices_in whole x.0, limit_view x.1, x.2.now))
+
+-- the row is a word row, where the answer says so
+abbrev pub MayBeWordRow : List ℕ → Offsets × asked.Limit × Bor (List ℕ) × Bool → Type 0
+MayBeWordRow whole x = x.3 ≡ true → is_word_row (slices_in whole x.0) ≡ true
+
+-- the key of a mark, if it has one, begins with a letter, a digit or no ASCII
+abbrev pub is_word_mark : RowMark → Bool
+is_word_mark m = is_word_key (key_of_mark m) (colon_of m)
+
+-- A scalar is in front, which begins with no anchor, alias, collection or block scalar; it is a word head where the answer says so.
+pub record IsFrontScalar (spaces : Option ℕ) (t head behind : List ℕ) (is_word : Bool) : Type 0 where
+  pub block : begins_block t ≡ false
+  pub other : begins_other t ≡ false
+  pub begins : begins_scalar false t ≡ true
+  pub read : read_scalar false spaces t ≡ Some (head, behind)
+  pub word : is_word ≡ true → is_word_head head ≡ true
 
 -- a scalar after white space and its tail are found as reading gives them
 abbrev pub FindsScalar : (space head behind : List ℕ) → Option Filling → Type 0
@@ -62,6 +80,10 @@ GivesRows whole rows r read = Gives (λ x. (rows_in whole x.0.items, x.1.now, x.
 -- these are where the rows are in the whole text
 abbrev pub PlacesRows : (whole text : List ℕ) → Vec Offsets Global → Result RowsRead ReadError → Option (Part × List ℕ) → Type 0
 PlacesRows whole text rows r read = Gives (λ x. x.0.items) r (rows_placed rows.items (length whole - length text) read)
+
+-- where all rows that are no word rows are known before, they are known after
+abbrev pub KeepOthers : List ℕ → Vec Offsets Global → List ℕ → Result RowsRead ReadError → List ℕ → Type 0
+KeepOthers whole rows before r after = AreOtherRows (rows_in whole rows.items) 0 before → IfOk r (λ x. AreOtherRows (rows_in whole x.0.items) 0 after)
 
 -- the key after a dash and these spaces, with what comes after it up to its `:`, and what follows; a key needs spaces
 abbrev pub key_after : (spaces next : List ℕ) → Option (List ℕ × List ℕ × List ℕ)

@@ -3,6 +3,7 @@ ghost use Rattle.std.specs.Prelude.{◌≡◌, ◌||◌};
 ghost use Rattle.yq_core.specs.Text.{front};
 ghost use Rattle.yq_core.specs.Lines as lines;
 ghost use Rattle.yq_core.specs.Nodes as nodes;
+ghost use Rattle.yq_core.specs.Runs as runs;
 ghost use Rattle.yq_row_table.specs.Reading as spec;
 
 use crate::words::begins_word;
@@ -17,9 +18,9 @@ pub(crate) fn is_hash(text: &[u8]) -> bool
     matches!(text, [b'#', ..])
 }
 
-/// Whether a letter, a digit or a dash is in front.
+/// Whether a letter, a digit, no ASCII or a dash is in front.
 fn begins_row(text: &[u8]) -> bool
-    ensures { result ≡ (front spec.is_alphanumeric text.now || nodes.begins_with 45 text.now) }
+    ensures { result ≡ (front runs.is_word_byte text.now || nodes.begins_with 45 text.now) }
 {
     begins_word(text) || first_is(b'-', text)
 }

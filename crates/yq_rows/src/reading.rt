@@ -1,10 +1,10 @@
 //! Rows, read one after the other.
-ghost use Rattle.std.specs.Prelude.{◌≡◌, ◌≢◌, ◌<◌, ◌≤◌, ◌+◌, ◌++◌, ◌^◌, ◌||◌, length, true, IfErr, IfOk};
+ghost use Rattle.std.specs.Prelude.{◌≡◌, ◌≢◌, ◌<◌, ◌≤◌, ◌+◌, ◌++◌, ◌^◌, ◌||◌, [], ◌∷◌, if◌then◌else◌, length, true, IfErr, IfOk, OnOk};
 ghost use Rattle.yq_core.{specs.Answers.{IsOfText, ReadsAs}, specs.declared.fault.FaultKind.TheVariants.NotUtf8};
 ghost use Rattle.yq_row_table.{specs.Grammar.{unlimited, ends_part}, specs.Slicing.row_sliced};
 ghost use Rattle.yq_row_table.specs.Offsets.{Ends, Stand, IsCutIn, slices_in};
 ghost use Rattle.yq_rows.specs.ReadPieces.{limit_view};
-ghost use Rattle.yq_rows.specs.RowAnswers.{ReadsMarked, may_be_at, GivesRow, GivesRows, PlacesRows, offsets_from};
+ghost use Rattle.yq_rows.specs.RowAnswers.{ReadsMarked, may_be_at, GivesRow, GivesRows, KeepOthers, MayBeWordRow, PlacesRows, offsets_from};
 ghost use Rattle.yq_core.specs.Text;
 ghost use Rattle.yq_row_table.specs.Reading as spec;
 
@@ -15,7 +15,7 @@ use crate::limit::Limit;
 use crate::marks::{Begin, is_entry, parent_of, read_begin};
 use crate::naming::not_alone;
 use crate::word_rows::find_row;
-use std::alloc::Global;
+use std::alloc::AllocError;
 use yq_core::fault_place::fault;
 use yq_core::text::{is_marker, split_spaces};
 use yq_core::{FaultKind, ReadError, ReadFault};
@@ -48,8 +48,8 @@ pub(crate) fn may_stand(limit: Limit, column: usize, text: &[u8]) -> bool
     limit.allows(column) && !(column == 0 && is_marker(text))
 }
 
-/// Where the row in front is, whose gap is read already, what it asks of the next one, and what
-/// follows.
+/// Where the row in front is, whose gap is read already, what it asks of the next one, what follows, and
+/// whether it is a word row for sure.
 #[tactic(auto, unfolding(yq_row_table::specs::Reading::row_at))]
 #[inline]
 fn read_row<'t>(
@@ -58,7 +58,7 @@ fn read_row<'t>(
     at: &'t str,
     gap: &'t str,
     text: &'t str,
-) -> Result<(Offsets, Limit, &'t str), ReadError>
+) -> Result<(Offsets, Limit, &'t str, bool), ReadError>
     requires ends { Ends at.now whole.now }
     requires cut { at.now ≡ gap.now ++ text.now }
     requires short { length text.now ≤ length whole.now }
@@ -66,6 +66,7 @@ fn read_row<'t>(
     ensures read { GivesRow whole.now result (row_sliced (limit_view limit) gap.now text.now) }
     ensures stands { IfOk result (λ x. IsCutIn whole.now x.0) }
     ensures place { IfOk result (λ x. x.0 ≡ offsets_from whole.now at.now (slices_in whole.now x.0)) }
+    ensures word { IfOk result (MayBeWordRow whole.now) }
     ensures fault { IfErr result IsOfText }
 {
     if let Some(found) = find_row(whole, limit, at, gap, text) {
@@ -83,7 +84,8 @@ fn read_row<'t>(
     };
     let place = offsets_of(whole, at, gap, column, &begin, &content);
     let parent = parent_of(begin.mark, column + begin.columns);
-    Ok((place, Limit::behind(parent, content.plain), content.rest))
+    let limit = Limit::behind(parent, content.plain);
+    Ok((place, limit, content.rest, false))
 }
 
 /// Whether no row follows: the end is in front, or a marker.
@@ -93,11 +95,24 @@ fn ends_part(text: &[u8]) -> bool
     text.is_empty() || is_marker(text)
 }
 
-/// Adds where the rows in front are, up to a marker or the end; gives the gap after them, and what
-/// follows.
+/// Adds the number of a row to those of other rows, if it is one.
+#[inline(always)]
+fn push_other(others: &mut Vec<usize>, row: usize, is_word: bool) -> Result<(), AllocError>
+    ensures { OnOk result (others.new.items ≡ others.old.items ++
+        (if is_word then [] else row ∷ [])) }
+{
+    if is_word {
+        return Ok(());
+    }
+    others.push(row)?;
+    Ok(())
+}
+
+/// Adds where the rows in front are, up to a marker or the end, and the numbers of those that are no word
+/// rows; gives the gap after them, and what follows.
 fn read_rows<'t>(
-    alloc: Global,
     rows: Vec<Offsets>,
+    others: &mut Vec<usize>,
     whole: &'t str,
     text: &'t str,
 ) -> Result<(Vec<Offsets>, &'t str, &'t str), ReadError>
@@ -108,6 +123,7 @@ fn read_rows<'t>(
     ensures placed { PlacesRows whole.now text.now rows result (spec.all_rows unlimited text.now) }
     ensures kept { IfOk result (λ x. Stand whole.now x.0.items) }
     ensures behind { IfOk result (λ x. Ends x.2.now whole.now) }
+    ensures others { KeepOthers whole.now rows others.old.items result others.new.items }
     ensures fault { IfErr result IsOfText }
 {
     let mut rows = rows;
@@ -118,10 +134,11 @@ fn read_rows<'t>(
         if ends_part(rest.as_bytes()) {
             return Ok((rows, gap, rest));
         }
-        let (row, next, after) = match read_row(whole, limit, at, gap, rest) {
+        let (row, next, after, is_word) = match read_row(whole, limit, at, gap, rest) {
             Ok(found) => found,
             Err(e) => return Err(e),
         };
+        push_other(others, rows.len(), is_word)?;
         rows.push(row)?;
         limit = next;
         at = after;
@@ -149,8 +166,8 @@ fn may_begin(is_open: bool, text: &[u8]) -> bool
 /// is open there may be no rows.
 #[tactic(auto, unfolding(yq_row_table::specs::Reading::read_cut_part))]
 pub(crate) fn read_part<'t>(
-    alloc: Global,
     rows: Vec<Offsets>,
+    others: &mut Vec<usize>,
     is_open: bool,
     whole: &'t str,
     text: &'t str,
@@ -162,6 +179,7 @@ pub(crate) fn read_part<'t>(
     ensures placed { PlacesRows whole.now text.now rows result (spec.read_cut_part is_open text.now) }
     ensures kept { IfOk result (λ x. Stand whole.now x.0.items) }
     ensures behind { IfOk result (λ x. Ends x.2.now whole.now) }
+    ensures others { KeepOthers whole.now rows others.old.items result others.new.items }
     ensures fault { IfErr result IsOfText }
 {
     let first = split_gap(text).1;
@@ -169,7 +187,7 @@ pub(crate) fn read_part<'t>(
         let kind = no_document(first.as_bytes());
         return Err(ReadError::Fault(fault(kind, whole, first)));
     }
-    read_rows(alloc, rows, whole, text)
+    read_rows(rows, others, whole, text)
 }
 
 /// The line of the marker in front, and what follows.

@@ -1,122 +1,24 @@
 //! Most rows: a key, or one dash before a word, and a scalar without an anchor or nothing.
-ghost use Rattle.std.{specs.List.prefix_len, specs.Prelude.{◌≡◌, ◌<◌, ◌≤◌, ◌++◌, ◌^◌, length, false, true, IfSome, IsTrue, None, Some}};
-ghost use Rattle.yq_core.{specs.Plain.ends_plain, specs.Text.{cut, front, upto}, specs.Runs.run_goes_on};
-ghost use Rattle.yq_core.specs.declared.runs.Run.TheVariants.{Plain};
-ghost use Rattle.yq_row_table.{specs.Reading.{is_alphanumeric, read_marks, read_row_key}, specs.Slicing.{begun, filled_at, row_sliced}};
-ghost use Rattle.yq_row_table.{specs.Grammar.is_entry, specs.Offsets.{Ends, IsCutIn, slices_in}};
-ghost use Rattle.yq_rows.specs.ReadPieces.{begin_view, filling_view, limit_view, mark_view};
-ghost use Rattle.yq_rows.specs.RowAnswers.{FindsRow, FindsScalar, offsets_from};
+ghost use Rattle.std.specs.Prelude.{◌≡◌, ◌<◌, ◌≤◌, ◌++◌, ◌^◌, length, false, true, IfSome, IsTrue, Some};
+ghost use Rattle.yq_core.{specs.Plain.{ends_plain, holds_break}, specs.Text.{cut, upto}};
+ghost use Rattle.yq_row_table.{specs.Offsets.{Ends, IsCutIn, slices_in}, specs.Slicing.{filled_at, row_sliced}};
+ghost use Rattle.yq_row_table.specs.WordRows.{is_word_head};
+ghost use Rattle.yq_rows.specs.ReadPieces.{filling_view, limit_view, mark_view};
+ghost use Rattle.yq_rows.specs.RowAnswers.{FindsRow, FindsScalar, IsFrontScalar, MayBeWordRow, is_word_mark, offsets_from};
 
 use crate::content::{Filling, begins_block, begins_other, find_tail, may_be_alone};
 use crate::lengths::offsets_of;
 use crate::limit::Limit;
-use crate::marks::{Begin, RowMark, find_key, has_key_room, is_colon, is_dash, parent_of};
+use crate::marks::{RowMark, parent_of};
 use crate::reading::may_stand;
-use crate::words::begins_word;
+use crate::word_keys::find_begin;
+use crate::words::{begins_word, borrows_quoted};
 use yq_core::text::{is_space, spaces_len, split_spaces, split_white};
-use yq_core::{Place, Run, first_is, further_spaces, is_quoted, run_len};
+use yq_core::{Place, first_is, further_spaces, is_quoted};
 use yq_inline::pieces::{begins_scalar, read_scalar};
+use yq_inline::short::short_scalar;
 use yq_row_table::Offsets;
-use yq_scalar_reader::plain::split_plain;
-
-/// The word of so many bytes in front as a key, if its `:` follows it at once; that `:`, and what follows.
-#[inline(always)]
-fn word_key(text: &str, n: usize) -> Option<(&str, &str, &str)>
-    requires word { front is_alphanumeric text.now ≡ true }
-    requires run { n ≡ prefix_len (run_goes_on Plain) text.now }
-    requires within { n ≤ length text.now }
-    ensures { IfSome result (λ x. read_row_key text.now ≡ Some (x.0.now, x.1.now, x.2.now)) }
-{
-    if !is_colon(text.as_bytes().split_at(n).1) {
-        return None;
-    }
-    let (key, rest) = text.split_at(n);
-    let (colon, behind) = rest.split_at(1);
-    if !has_key_room(key, colon) {
-        return None;
-    }
-    Some((key, colon, behind))
-}
-
-/// Whether the word of so many bytes in front ends its line.
-#[inline(always)]
-fn ends_in_word(text: &[u8], n: usize) -> bool
-    requires run { n ≡ prefix_len (run_goes_on Plain) text.now }
-    requires within { n ≤ length text.now }
-    ensures { IsTrue result → read_row_key text.now ≡ None }
-{
-    first_is(b'\n', text.split_at(n).1)
-}
-
-/// The dash in front, and the key after it or none, where a word follows it that is a key or ends its line.
-#[inline(always)]
-fn begin_behind(text: &str) -> Option<Begin<'_>>
-    ensures read { IfSome result (λ b. begin_view b ≡ begun (read_marks text.now)) }
-    ensures entry { IfSome result (λ b. is_entry (mark_view b.mark) ≡ true) }
-    ensures within { IfSome result (λ b. b.columns ≤ length text.now) }
-{
-    if !is_dash(text.as_bytes()) {
-        return None;
-    }
-    let (dash, behind) = text.split_at(1);
-    let (spaces, next) = split_spaces(behind);
-    if spaces.is_empty() {
-        return None;
-    }
-    if !begins_word(next.as_bytes()) {
-        return None;
-    }
-    let n = run_len(Run::Plain, next.as_bytes());
-    if ends_in_word(next.as_bytes(), n) {
-        return Some(Begin {
-            dashes: dash,
-            columns: 0,
-            mark: RowMark::Dash,
-            rest: behind,
-        });
-    }
-    let (key, colon, rest) = word_key(next, n)?;
-    let columns = text.len() - next.len();
-    Some(Begin {
-        dashes: text.split_at(columns).0,
-        columns,
-        mark: RowMark::Key(key, colon),
-        rest,
-    })
-}
-
-/// The key in front, what comes after it up to its `:`, and what follows: most often a word.
-#[inline(always)]
-fn any_key(text: &str) -> Option<(&str, &str, &str)>
-    ensures { IfSome result (λ x. read_row_key text.now ≡ Some (x.0.now, x.1.now, x.2.now)) }
-{
-    if begins_word(text.as_bytes()) {
-        let n = run_len(Run::Plain, text.as_bytes());
-        if let Some(found) = word_key(text, n) {
-            return Some(found);
-        }
-    }
-    find_key(text)
-}
-
-/// The key in front as the mark, or what begins after a dash.
-#[inline(always)]
-fn find_begin(text: &str) -> Option<Begin<'_>>
-    ensures read { IfSome result (λ b. begin_view b ≡ begun (read_marks text.now)) }
-    ensures entry { IfSome result (λ b. is_entry (mark_view b.mark) ≡ true) }
-    ensures within { IfSome result (λ b. b.columns ≤ length text.now) }
-{
-    if is_dash(text.as_bytes()) {
-        return begin_behind(text);
-    }
-    let (key, colon, rest) = any_key(text)?;
-    Some(Begin {
-        dashes: "",
-        columns: 0,
-        mark: RowMark::Key(key, colon),
-        rest,
-    })
-}
+use yq_scalar_reader::plain::{plain_len, words_len};
 
 /// Whether an LF is in front before which a plain scalar ends: the next line isn't as deep as a further line of it.
 #[inline(always)]
@@ -134,22 +36,51 @@ fn ends_scalar(spaces: Option<usize>, text: &[u8]) -> bool
     indent < least && !is_space(after.split_at(indent).1)
 }
 
-/// The text cut where a plain scalar in front has to end, as `split_plain` cuts it: most often a word ends the line.
+/// How far a plain scalar goes on, in bytes: most often it ends at once, before another row.
 #[inline(always)]
-fn split_words(spaces: Option<usize>, text: &str) -> (&str, &str)
-    ensures { (result.0.now, result.1.now) ≡ cut (ends_plain false spaces) text.now }
+fn further_len(spaces: Option<usize>, text: &[u8]) -> usize
+    ensures { result ≡ upto (ends_plain false spaces) text.now }
 {
-    let n = run_len(Run::Plain, text.as_bytes());
-    if ends_scalar(spaces, text.as_bytes().split_at(n).1) {
-        return text.split_at(n);
+    if ends_scalar(spaces, text) {
+        return 0;
     }
-    split_plain(false, spaces, text)
+    plain_len(false, spaces, text)
+}
+
+/// The text cut where a plain scalar in front has to end, as `split_plain` cuts it, and whether the scalar is on one
+/// line for sure: most often words end the line.
+#[inline(always)]
+fn split_words(spaces: Option<usize>, text: &str) -> (&str, &str, bool)
+    ensures cut { (result.0.now, result.1.now) ≡ cut (ends_plain false spaces) text.now }
+    ensures line { IsTrue result.2 → holds_break result.0.now ≡ false }
+{
+    let n = words_len(text.as_bytes());
+    let more = further_len(spaces, text.as_bytes().split_at(n).1);
+    let (head, behind) = text.split_at(n + more);
+    (head, behind, more == 0)
+}
+
+/// The scalar in front and what follows it, where it begins with a word, or is in double quotes on one line without
+/// escapes; and whether it is a word head for sure.
+#[inline(always)]
+fn find_front(spaces: Option<usize>, text: &str) -> Option<(&str, &str, bool)>
+    ensures { IfSome result (λ x. IsFrontScalar spaces text.now x.0.now x.1.now x.2) }
+{
+    if begins_word(text.as_bytes()) {
+        return Some(split_words(spaces, text));
+    }
+    if !first_is(b'"', text.as_bytes()) {
+        return None;
+    }
+    let (head, behind) = short_scalar(text)?;
+    Some((head, behind, is_quoted(head.as_bytes())))
 }
 
 /// A scalar after white space and the tail after it, if one is there.
 #[inline(always)]
 fn find_line<'t>(space: &'t str, head: &'t str, behind: &'t str) -> Option<Filling<'t>>
-    ensures { FindsScalar space.now head.now behind.now result }
+    ensures scalar { FindsScalar space.now head.now behind.now result }
+    ensures head { IfSome result (λ f. f.head.now ≡ head.now) }
 {
     let (tail, rest) = find_tail(behind)?;
     Some(Filling {
@@ -165,14 +96,15 @@ fn find_line<'t>(space: &'t str, head: &'t str, behind: &'t str) -> Option<Filli
     })
 }
 
-/// A break, or a scalar and its tail, after a mark and white space.
+/// A break, or a scalar and its tail, after a mark and white space; and whether it is a word head for sure.
 #[inline(always)]
-fn find_content(parent: i64, text: &str) -> Option<Filling<'_>>
-    ensures { IfSome result (λ f. filled_at parent text.now ≡ Some (filling_view f)) }
+fn find_content(parent: i64, text: &str) -> Option<(Filling<'_>, bool)>
+    ensures read { IfSome result (λ f. filled_at parent text.now ≡ Some (filling_view f.0)) }
+    ensures word { IfSome result (λ f. IsTrue f.1 → is_word_head f.0.head.now ≡ true) }
 {
     if first_is(b'\n', text.as_bytes()) {
         let (tail, rest) = text.split_at(1);
-        return Some(Filling {
+        let content = Filling {
             space: "",
             anchor: "",
             apart: "",
@@ -182,13 +114,14 @@ fn find_content(parent: i64, text: &str) -> Option<Filling<'_>>
             plain: false,
             alone: false,
             rest,
-        });
+        };
+        return Some((content, true));
     }
     let (space, rest) = split_white(text);
     let spaces = further_spaces(Place::Block, parent);
-    if begins_word(rest.as_bytes()) {
-        let (head, behind) = split_words(spaces, rest);
-        return find_line(space, head, behind);
+    if let Some((head, behind, is_word)) = find_front(spaces, rest) {
+        let content = find_line(space, head, behind)?;
+        return Some((content, is_word));
     }
     if begins_block(rest) {
         return None;
@@ -200,12 +133,27 @@ fn find_content(parent: i64, text: &str) -> Option<Filling<'_>>
         return None;
     }
     match read_scalar(false, spaces, rest, rest) {
-        Ok((head, behind)) => find_line(space, head, behind),
+        Ok((head, behind)) => {
+            let content = find_line(space, head, behind)?;
+            Some((content, borrows_quoted(head)))
+        }
         Err(_) => None,
     }
 }
 
-/// Where the row in front is, as `read_row` answers it, if it is one of those.
+/// Whether a row with this mark is a word row for sure, by whether its head is a word head.
+#[inline(always)]
+fn is_word_row(mark: RowMark<'_>, is_head: bool) -> bool
+    ensures head { IsTrue result → IsTrue is_head }
+    ensures key { IsTrue result → is_word_mark (mark_view mark.entry) ≡ true }
+{
+    match mark {
+        RowMark::Bare | RowMark::Dash => is_head,
+        RowMark::Key(key, _) => is_head && (begins_word(key.as_bytes()) || borrows_quoted(key)),
+    }
+}
+
+/// Where the row in front is, as `read_row` answers it, if it is one of those; and whether it is a word row for sure.
 #[inline(always)]
 pub(crate) fn find_row<'t>(
     whole: &'t str,
@@ -213,7 +161,7 @@ pub(crate) fn find_row<'t>(
     at: &'t str,
     gap: &'t str,
     text: &'t str,
-) -> Option<(Offsets, Limit, &'t str)>
+) -> Option<(Offsets, Limit, &'t str, bool)>
     requires ends { Ends at.now whole.now }
     requires cut { at.now ≡ gap.now ++ text.now }
     requires short { length text.now ≤ length whole.now }
@@ -221,6 +169,7 @@ pub(crate) fn find_row<'t>(
     ensures read { FindsRow whole.now result (row_sliced (limit_view limit) gap.now text.now) }
     ensures stands { IfSome result (λ x. IsCutIn whole.now x.0) }
     ensures place { IfSome result (λ x. x.0 ≡ offsets_from whole.now at.now (slices_in whole.now x.0)) }
+    ensures word { IfSome result (MayBeWordRow whole.now) }
 {
     let (indent, rest) = split_spaces(text);
     let column = indent.len();
@@ -229,7 +178,9 @@ pub(crate) fn find_row<'t>(
     }
     let begin = find_begin(rest)?;
     let parent = parent_of(begin.mark, column + begin.columns);
-    let content = find_content(parent, begin.rest)?;
+    let (content, is_head) = find_content(parent, begin.rest)?;
     let place = offsets_of(whole, at, gap, column, &begin, &content);
-    Some((place, Limit::behind(parent, content.plain), content.rest))
+    let limit = Limit::behind(parent, content.plain);
+    let is_word = is_word_row(begin.mark, is_head);
+    Some((place, limit, content.rest, is_word))
 }

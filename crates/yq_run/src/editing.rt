@@ -5,12 +5,14 @@ ghost use Rattle.yq_commands.specs.CommandDone.{MatchesStill};
 ghost use Rattle.yq_commands.specs.Editing.{LengthsLead, RefusedBy, SplicesLead, outcome_of, program_edits};
 ghost use Rattle.yq_commands.{specs.Expecting.changes_as_expected, specs.FileEdits.IsEditedBy};
 ghost use Rattle.yq_commands.specs.ProgramAnswers.{EditsParsed, GivesChange, GivesProgramChange, ShowsEdit, parsed_effect};
-ghost use Rattle.yq_history.{specs.OpenedAnswers.MakesFrom, specs.Faults.{is_failure, is_output, failures_after}, specs.Report.report_by};
+ghost use Rattle.yq_history.{specs.OpenedAnswers.MakesFrom, specs.Report.report_by};
+ghost use Rattle.yq_fault.specs.Faults.{is_failure, is_output, failures_after};
 
 use std::alloc::{AllocError, Global};
 use yq_args::EvalOptions;
-use yq_commands::{Parsed, commit, edit_fault, utf8_text};
-use yq_history::{Fault, OpenPair, Report, unified_diff};
+use yq_commands::{Parsed, commit, utf8_text};
+use yq_fault::Fault;
+use yq_history::{OpenPair, Report, unified_diff};
 use yq_semantics::Program;
 use yq_splice::{Edited, edit};
 use yq_store::Store;
@@ -33,7 +35,7 @@ fn change_of(
 }
 
 /// Edits a file's text, which need be no UTF-8, by a program, and says with `diff` what that changes.
-#[tactic(auto, unfolding(yq_commands::specs::Editing::program_edits), using(yq_commands::proofs::EditingLaws::unread_refuses, yq_commands::proofs::EditingLaws::edit_refuses))]
+#[tactic(auto, unfolding(yq_commands::specs::Editing::program_edits), using(yq_commands::proofs::EditingLaws::unread_refuses, crate::proofs::EditFaults::edit_refuses, crate::proofs::EditFaults::edit_inside, crate::proofs::EditFaults::edit_prints))]
 pub fn edit_text(
     alloc: Global,
     file: &str,
@@ -52,10 +54,7 @@ pub fn edit_text(
     ensures no_output { IfErr result (λ e. is_output e ≡ false) }
 {
     let text = utf8_text(text)?;
-    let edited = match edit(alloc, text, program) {
-        Ok(edited) => Ok(edited),
-        Err(error) => Err(edit_fault(error)),
-    }?;
+    let edited = edit(alloc, text, program)?;
     let change = change_of(alloc, file, text, &edited, diff)?;
     Ok((edited, change))
 }

@@ -1,7 +1,8 @@
 //! Expressions that aren't carried out in place: what they show of a file.
 ghost use Rattle.std.{specs.Prelude.{◌≡◌, Some, IfErr, IsTrue, false}, specs.String.string_bytes};
 ghost use Rattle.yq_semantics.{specs.Program.is_read, specs.View.program_of};
-ghost use Rattle.yq_history.{specs.Calls.ReadsFile, specs.Faults.{is_failure, is_output, failures_after}, specs.Report.report_by};
+ghost use Rattle.yq_history.{specs.Calls.ReadsFile, specs.Report.report_by};
+ghost use Rattle.yq_fault.specs.Faults.{is_failure, is_output, failures_after};
 ghost use Rattle.yq_commands.{specs.Calls.CallsOfEvaluation, specs.CommandDone.Evaluates, specs.Editing.program_in};
 ghost use Rattle.yq_commands.{specs.CommandEffects.{IsUnparsed, fault_of}, specs.FileEdits.GivesEdit};
 ghost use Rattle.yq_commands.specs.Evaluation.{FailsFor, GivesShowing, of_file, shows};
@@ -11,7 +12,8 @@ use crate::editing::{edit_text, is_as_expected};
 use std::alloc::Global;
 use yq_args::{EvalOptions, EvalWords};
 use yq_commands::{Parsed, parse, show_read};
-use yq_history::{Fault, Report};
+use yq_fault::Fault;
+use yq_history::Report;
 use yq_semantics::Program;
 use yq_store::Store;
 

@@ -3,7 +3,8 @@ ghost use Rattle.std.{specs.Prelude.{◌≡◌, [], Some, IfErr, false}, specs.S
 ghost use Rattle.yq_commands.specs.CommandDone.{IsSilent, MatchesStill, MatchesUnasked};
 ghost use Rattle.yq_commands.{specs.CommandEffects.{IsUnparsed, expression_fault, fault_of}, specs.Editing.program_in};
 ghost use Rattle.yq_commands.{specs.Calls.{CallsOf, CallsOfUpdate}, specs.Help.Helps, specs.ProgramAnswers.{Executes, Updates}};
-ghost use Rattle.yq_history.{specs.Faults.{is_output, failures_after}, specs.Report.{nothing, report_by}};
+ghost use Rattle.yq_history.specs.Report.{nothing, report_by};
+ghost use Rattle.yq_fault.specs.Faults.{is_output, failures_after};
 
 use crate::editing::edit_from;
 use crate::evaluating::evaluate;
@@ -11,7 +12,8 @@ use std::alloc::Global;
 use yq_args::{Command, EvalWords};
 use yq_commands::help::help;
 use yq_commands::{Parsed, parse};
-use yq_history::{Direction, Fault, OpenPair, Pair, Report, listing, move_file, open_pair, squash};
+use yq_fault::Fault;
+use yq_history::{Direction, OpenPair, Pair, Report, listing, move_file, open_pair, squash};
 use yq_store::Store;
 
 /// Edits a file in place, and reports with `--diff` what changed.

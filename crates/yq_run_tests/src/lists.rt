@@ -4,12 +4,12 @@
 use crate::asked::{FILE, Request, commands, store_with_file};
 use std::alloc::{AllocError, Global};
 use std::test::Fail;
-use yq_history::Fault;
+use yq_fault::Fault;
 use yq_journal::JournalFault;
 use yq_run::Answer::{Done, NoMatch, Refused};
 use yq_run::{Answer, MemoryOut, run_list};
 use yq_semantics::Refusal;
-use yq_store::{Left, MemoryStore};
+use yq_store::{FileFault, Left, MemoryStore};
 
 /// The commands. The calls of the store that each makes: the file and the journal are read by a call each, but
 /// for what is shown, which reads the file alone; an edit, an undo and a redo write the journal twice and the
@@ -62,7 +62,7 @@ fn wanted() -> [Answer; 16] {
         Done,
         Done,
         Refused(Fault::OutFailed),
-        Refused(Fault::WriteFailed),
+        Refused(Fault::File(FileFault::WriteFailed)),
         Done,
         Done,
     ]

@@ -7,7 +7,7 @@ use std::slice;
 use std::test::Fail;
 use yq_api_tests::hold_memory;
 use yq_args::Command;
-use yq_history::Fault;
+use yq_fault::Fault;
 use yq_journal::JournalFault;
 use yq_run::Answer::{Done, Refused};
 use yq_run::{Answer, MemoryOut, run_list};

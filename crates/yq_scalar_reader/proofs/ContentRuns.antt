@@ -1,6 +1,6 @@
 -- A text over all of which a run of bytes in quotes goes means itself.
-use Rattle.std.proofs.Common.{◌≡◌, ℕ, zero, suc, ◌+◌, ◌≤◌, take, drop, Bool, true, false, ◌&&◌, ◌||◌, cond, not, eqb, eqb-true, List, []}
-use Rattle.std.proofs.Common.{◌∷◌, ◌++◌, length, refl, sym, ap, ◌∙◌, ⊎_elim, append_assoc, append-nil, arith}
+use Rattle.std.proofs.Common.{rules, ◌≡◌, ℕ, zero, suc, ◌≤◌, take, drop, Bool, true, false, ◌&&◌, ◌||◌, eqb, eqb-true, List, [], ◌∷◌, ◌++◌}
+use Rattle.std.proofs.Common.{length, refl, sym, ap, ◌∙◌, ⊎_elim, append_assoc, append-nil, arith}
 use Rattle.std.{proofs.lemmas.Bool.{cases_Bool, or_parts}, specs.List.prefix_len, specs.Prelude.slice_index}
 use Rattle.yq_core.specs.ContentReading.{within, breaks, content_on, quoted_item, item_len, item_before, space_text}
 use Rattle.yq_core.{specs.Runs.{is_stop, run_goes_on}, specs.declared.runs.Run.TheVariants.Quoted}
@@ -12,25 +12,17 @@ GoesOver q t = prefix_len (run_goes_on (Quoted q)) t ≡ length t
 
 -- over its first byte, and over those after it
 parts : (q b : ℕ) (bs : List ℕ) → GoesOver q (b ∷ bs) → (is_stop (Quoted q) b ≡ false) × GoesOver q bs
-parts q b bs h = go (is_stop (Quoted q) b) refl h where
-  go : (c : Bool) → is_stop (Quoted q) b ≡ c → cond (not c) (1 + prefix_len (run_goes_on (Quoted q)) bs) 0 ≡ suc (length bs) → (is_stop (Quoted q) b ≡ false) × GoesOver q bs
-  go true e k = absurd (omega (arith, k))
-  go false e k = (e, omega (arith, k))
+parts q b bs h = search rules
 
 -- a byte over which it goes is no quote, no backslash and no LF
 other : (q b : ℕ) → is_stop (Quoted q) b ≡ false → (eqb b q ≡ false) × (eqb b 92 ≡ false) × (is_feed b ≡ false)
-other q b h =
-    let x = or_parts (eqb b q || eqb b 92) (is_feed b) h in
-    let y = or_parts (eqb b q) (eqb b 92) x.0 in
-    (y.0, y.1, x.1)
+other q b h = search (rules, or_parts)
 
 no_feed : (q : ℕ) (bs : List ℕ) → GoesOver q bs → front is_feed bs ≡ false
-no_feed q [] h = refl
-no_feed q (b ∷ bs) h = (other q b (parts q b bs h).0).2
+no_feed q bs h = search (rules, other, parts)
 
 both : (a c : Bool) → c ≡ false → (a && c) ≡ false
-both true c h = h
-both false c h = refl
+both a c h = search rules
 
 -- no break is in front
 unbroken : (q b : ℕ) (bs : List ℕ) → GoesOver q bs → (is_return b && front is_feed bs) ≡ false
@@ -38,10 +30,7 @@ unbroken q b bs h = both (is_return b) (front is_feed bs) (no_feed q bs h)
 
 -- no two single quotes are in front
 unpaired : (q b : ℕ) → eqb b q ≡ false → (eqb q 39 && eqb b 39) ≡ false
-unpaired q b h = go (eqb q 39) refl where
-  go : (c : Bool) → eqb q 39 ≡ c → (c && eqb b 39) ≡ false
-  go true e = ap (eqb b) (sym (eqb-true q 39 e)) ∙ h
-  go false e = refl
+unpaired q b h = search rules
 
 item_itself : (q b : ℕ) (bs : List ℕ) → eqb b 92 ≡ false → quoted_item q b bs ≡ b ∷ []
 item_itself q b bs h = rw (both (eqb q 34) (eqb b 92) h) refl
@@ -69,15 +58,10 @@ means_itself q t h = goes_on q [] t h
 -- over bytes of such a run, the first of which is no stop
 first_of : (q b m : ℕ) (bs : List ℕ) → suc m ≤ prefix_len (run_goes_on (Quoted q)) (b ∷ bs) →
     (is_stop (Quoted q) b ≡ false) × (m ≤ prefix_len (run_goes_on (Quoted q)) bs)
-first_of q b m bs h = go (is_stop (Quoted q) b) refl h where
-  go : (c : Bool) → is_stop (Quoted q) b ≡ c → suc m ≤ cond (not c) (1 + prefix_len (run_goes_on (Quoted q)) bs) 0 →
-      (is_stop (Quoted q) b ≡ false) × (m ≤ prefix_len (run_goes_on (Quoted q)) bs)
-  go true e k = absurd (omega (arith, k))
-  go false e k = (e, omega (arith, k))
+first_of q b m bs h = search rules
 
 no_feed_in : (q m : ℕ) (bs : List ℕ) → suc m ≤ prefix_len (run_goes_on (Quoted q)) bs → front is_feed bs ≡ false
-no_feed_in q m [] h = absurd (omega (arith, h))
-no_feed_in q m (b ∷ bs) h = (other q b (first_of q b m bs h).0).2
+no_feed_in q m bs h = search (rules, other, first_of)
 
 -- up to a byte that is neither white space nor a CR, its bytes mean themselves
 up_to : (q m : ℕ) (white t : List ℕ) → suc m ≤ prefix_len (run_goes_on (Quoted q)) t → (is_white (slice_index t m) || is_return (slice_index t m)) ≡ false →
@@ -90,19 +74,7 @@ up_to q zero white (b ∷ bs) h e =
     rw (n.0, o.2, n.1, item_itself q b bs o.1, item_alone q b bs o.0 o.1, item_within q b bs o.1) refl
 up_to q (suc m) white (b ∷ bs) h e =
     let g = first_of q b (suc m) bs h in
-    let o = other q b g.0 in
-    ⊎_elim {0, 0, 0}
-    (λ (w : is_white b ≡ true). rw w (up_to q m (white ++ b ∷ []) bs g.1 e
-    ∙ append_assoc white (b ∷ []) (take (suc m) bs ++ content_on q 0 within [] (drop (suc m) bs))))
-    (λ (w : is_white b ≡ false). rw (
-      w,
-      o.2,
-      both (is_return b) (front is_feed bs) (no_feed_in q m bs g.1),
-      item_itself q b bs o.1,
-      item_alone q b bs o.0 o.1,
-      item_within q b bs o.1,
-    ) (ap (λ l. white ++ (b ∷ l)) (up_to q m [] bs g.1 e)))
-    (cases_Bool (is_white b))
+    search (rules, other, ⊎_elim, append_assoc, both, no_feed_in, item_itself, item_alone, item_within, cases_Bool, up_to q m, up_to q m [] bs g.1 e)
 
 words : (q n : ℕ) (t : List ℕ) → (n ≡ 0 → ⊥) → n ≤ prefix_len (run_goes_on (Quoted q)) t → is_blank_before n t ≡ false →
     content_on q 0 within [] t ≡ take n t ++ content_on q 0 within [] (drop n t)

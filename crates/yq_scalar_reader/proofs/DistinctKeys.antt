@@ -1,9 +1,9 @@
 -- Distinct keys in another order, and in a sorted list.
-use Rattle.std.proofs.Common.{◌≡◌, ◌≢◌, ℕ, ◌+◌, ◌<◌, ◌⊎◌, List, [], ◌∷◌, map, length, get_or, swap, Bool, true, false, IsPermutation}
-use Rattle.std.proofs.Common.{IsSorted, Bor, Ordering, Less, Equal, Greater, nat_cmp, is_eq, is_lt, bytes_eq, inl, inr, refl, sym, ap, ◌∙◌}
-use Rattle.std.{proofs.Common.arith, proofs.lemmas.Bool.cases_eq}
-use Rattle.std.{proofs.lemmas.Cmp.{on_total, then_total, nat_cmp_total, nat_list_cmp_total, tied_itself}, specs.Cmp.IsTotalOrder}
-use Rattle.std.{proofs.lemmas.List.{get_or-map, length-map}, proofs.lemmas.List.Edits.{Swapped, swapped_from_swap, length-swap}}
+use Rattle.std.proofs.Common.{rules, ◌≡◌, ◌≢◌, ℕ, ◌+◌, ◌<◌, ◌⊎◌, List, [], ◌∷◌, map, length, get_or, swap, Bool, false, IsPermutation}
+use Rattle.std.proofs.Common.{IsSorted, Bor, Ordering, Less, Equal, nat_cmp, is_eq, is_lt, bytes_eq, inl, inr, refl, sym, ap, ◌∙◌, arith}
+use Rattle.std.{proofs.lemmas.Bool.cases_eq, proofs.lemmas.Cmp.{on_total, then_total, nat_cmp_total, nat_list_cmp_total, tied_itself}}
+use Rattle.std.{specs.Cmp.IsTotalOrder, proofs.lemmas.List.{get_or-map, length-map}}
+use Rattle.std.proofs.lemmas.List.Edits.{Swapped, swapped_from_swap, length-swap}
 use Rattle.std.proofs.lemmas.List.Sorted.{IsPermutation-keeps, IsPermutation-map, IsPermutation-sym}
 use Rattle.std.{proofs.lemmas.Map.Keys.{sorted_from_all_adjacent, Less-from_sorted}, proofs.lemmas.Map.Text.is_eq-slice_cmp}
 use Rattle.std.{proofs.lemmas.Slice.Eq.bytes_eq-Decides, specs.Cmp.Lexicographic.slice_cmp}
@@ -24,8 +24,7 @@ apart : (a b : List ℕ) → bytes_eq a b ≡ false → a ≢ b
 apart a b other e = let same = (bytes_eq-Decides a b).1 e in cc
 
 tested : (a b : List ℕ) (t : Bool) → bytes_eq a b ≡ t → a ≢ b → t ≡ false
-tested a b true e other = absurd (other ((bytes_eq-Decides a b).0 e))
-tested a b false e other = refl
+tested a b t e other = search (rules, bytes_eq-Decides)
 
 pub AreDistinct-from_places : (ks : List Key) → ((i j : ℕ) → i < j → j < length ks → DifferAt ks i j) → AreDistinct (texts ks)
 AreDistinct-from_places [] h i j d less within e = omega arith
@@ -61,10 +60,7 @@ DiffersBefore-from_distinct ks j h within i d less e = let inside : j < length (
 -- Another order.
 
 either_way : (ks : List (List ℕ)) → AreDistinct ks → (i j : ℕ) (d : List ℕ) → i < length ks → j < length ks → get_or ks i d ≡ get_or ks j d → i ≡ j
-either_way ks h i j d p q e =
-    let not_below : i < j → ⊥ = λ less. h i j d less q e in
-    let not_above : j < i → ⊥ = λ less. h j i d less p (sym e) in
-    omega arith
+either_way ks h i j d p q e = search rules
 
 -- where a swap of a and b took the element at m from
 abbrev From : ℕ → ℕ → ℕ → ℕ → Type 0
@@ -80,9 +76,7 @@ AreDistinct-swap ks a b p q h i j d less within e =
     let len = length-swap ks a b in
     let s = swapped_from_swap ks (swap ks a b) a b d p q refl in
     let x = origin _ _ a b i s (cases_eq i a) (cases_eq i b) in
-    let y = origin _ _ a b j s (cases_eq j a) (cases_eq j b) in
-    let same = either_way ks h x.0 y.0 d (omega (arith, x.1)) (omega (arith, y.1)) (sym x.2 ∙ e ∙ y.2) in
-    omega (arith, x.1, y.1)
+    search (rules, origin, cases_eq, either_way)
 
 pub AreDistinct-permutation : (old new : List Key) → IsPermutation old new → AreDistinct (texts old) → AreDistinct (texts new)
 AreDistinct-permutation old new moved h = IsPermutation-keeps (texts old) AreDistinct h AreDistinct-swap (texts new) (IsPermutation-map (λ k. k.now) old new moved)
@@ -96,9 +90,7 @@ abbrev pub key_cmp : Key → Key → Ordering
 key_cmp a b = slice_cmp nat_cmp a.now b.now
 
 only_less : (o p : Ordering) → o ≡ ordering_reverse p → is_lt p ≡ false → is_eq o ≡ false → o ≡ Less
-only_less o Less e p q = cc
-only_less o Equal e p q = let tie = ap is_eq (sym e) ∙ q in cc
-only_less o Greater e p q = e
+only_less o p e p3 q = search rules
 
 -- the key at k is less than the next one
 abbrev pub RisesAt : List Key → ℕ → Type 0

@@ -4,4 +4,6 @@ pub mod DistinctKeys
 pub mod IntegerLaws
 pub mod LoopLaws
 pub mod SameContentLaws
+mod LineWords
 mod WordLaws
+mod QuotedLines

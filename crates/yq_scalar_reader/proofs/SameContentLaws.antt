@@ -1,21 +1,18 @@
 -- A text without what it begins with, and whether the rest is what comes after that.
-use Rattle.std.proofs.Common.{◌≡◌, ◌≢◌, ◌<◌, ◌-◌, ℕ, zero, suc, Bool, true, false, eqb, List, [], ◌∷◌, ◌++◌, length, replicate, Option}
-use Rattle.std.proofs.Common.{Some, None, refl, sym, inl, inr, ap, ◌∙◌, arith, eqb-true, bytes_eq}
+use Rattle.std.proofs.Common.{⊎_elim, rules, ◌≡◌, ◌≢◌, ◌<◌, ◌-◌, ℕ, zero, suc, Bool, true, false, eqb, List, [], ◌∷◌, ◌++◌, length}
+use Rattle.std.proofs.Common.{replicate, Option, None, refl, ap, ◌∙◌, arith, eqb-true, bytes_eq}
 use Rattle.std.{proofs.lemmas.Bool.{cases_Bool, eq-eqb, ne_eqb}, proofs.lemmas.Slice.Eq.bytes_eq-Decides, proofs.Math.Utf8.encode}
 use Rattle.std.{specs.Str.Pattern.{FindsTextPrefix, FindsCharPrefix, StripsPrefix}, specs.Prelude.MatchOption}
 use denote.Bor.{Bor}
-use mathlib.Core.List.{tail-eq_of_cons-eq}
 use Rattle.yq_core.specs.ContentReading.{content_on, before_of}
 use Rattle.yq_scalar_reader.specs.Folded.{StripsText}
 
 -- what `strip_prefix` says at a text and at a character
 pub strips_text : (p t : List ℕ) (r : Option (Bor (List ℕ))) → MatchOption r (FindsTextPrefix p t None) (λ x. StripsPrefix (FindsTextPrefix p) t x.now) → StripsText p t r
-strips_text p t None h = h
-strips_text p t (Some x) h = h.1.1 ∙ ap (λ l. p ++ l) (sym h.2)
+strips_text p t r h = search rules
 
 pub strips_char : (c : ℕ) (t : List ℕ) (r : Option (Bor (List ℕ))) → MatchOption r (FindsCharPrefix c t None) (λ x. StripsPrefix (FindsCharPrefix c) t x.now) → StripsText (encode c) t r
-strips_char c t None h = h
-strips_char c t (Some x) h = h.1.split ∙ ap (λ l. encode c ++ l) (sym h.2)
+strips_char c t r h = search (rules, encode)
 
 same_front : (p c x : List ℕ) → bytes_eq (p ++ c) (p ++ x) ≡ bytes_eq c x
 same_front [] c x = refl
@@ -27,10 +24,7 @@ same_behind p c w x e = ap (bytes_eq (p ++ c)) e ∙ same_front p c x
 
 -- one that doesn't is another
 pub other_front : (p c w : List ℕ) → ((rest : List ℕ) → w ≢ p ++ rest) → bytes_eq (p ++ c) w ≡ false
-other_front p c w other = elim (cases_Bool (bytes_eq (p ++ c) w)) [
-  | inl same ↦ absurd (other c (sym ((bytes_eq-Decides (p ++ c) w).0 same)))
-  | inr e ↦ e
-]
+other_front p c w other = search (rules, ⊎_elim, cases_Bool, bytes_eq-Decides)
 
 -- at the end of what is folded
 pub same_end : (q : ℕ) (j : Bool) (rest wanted : List ℕ) → eqb (length rest) 0 ≡ true → eqb (length wanted) 0 ≡ bytes_eq (content_on q 0 (before_of j) [] rest) wanted
@@ -51,8 +45,4 @@ feed_missing count text (suc k) rest h some other s e = other (replicate k 10 ++
 
 pub feed_stripped : (count : ℕ) (text : List ℕ) (left : ℕ) (rest behind : List ℕ) → OnlyLeft count text left rest → 0 < left → rest ≡ 10 ∷ behind → OnlyLeft count text (left - 1) behind
 feed_stripped count text zero rest behind h some is = absurd (omega (arith, some))
-feed_stripped count text (suc k) rest behind h some is =
-    let less : suc k - 1 ≡ k = omega arith in (
-      λ s e. h.0 s (is ∙ ap (λ l. 10 ∷ l) (e ∙ ap (λ (j : ℕ). replicate j 10 ++ s) less)),
-      λ s e. tail-eq_of_cons-eq (sym is ∙ h.1 s e) ∙ ap (λ (j : ℕ). replicate j 10 ++ s) (sym less),
-    )
+feed_stripped count text (suc k) rest behind h some is = search rules

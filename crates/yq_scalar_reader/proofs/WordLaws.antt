@@ -1,8 +1,9 @@
 -- A plain scalar goes on over one space before a letter or digit.
-use Rattle.std.proofs.Common.{◌≡◌, ℕ, Bool, true, false, eqb, eqb-true, List, [], ◌∷◌, Option, Some, refl, sym, subst, arith}
+use Rattle.std.proofs.Common.{rules, ◌≡◌, ℕ, Bool, true, false, eqb, List, ◌∷◌, Option, Some, refl, arith}
 use Rattle.std.{proofs.lemmas.Bool.{false≢true, and_parts}, proofs.Math.Bool.and-false}
 use Rattle.yq_core.{specs.Plain.is_flow_indicator, specs.PlainReading.across, specs.Text.{is_white, is_feed, is_return}}
-use Rattle.yq_scalar_reader.specs.Words.{begins_word, is_word_byte}
+use Rattle.yq_core.specs.Runs.{is_word_byte}
+use Rattle.yq_scalar_reader.specs.Words.{begins_word}
 
 no_white : (c : ℕ) → is_word_byte c ≡ true → is_white c ≡ false
 no_white c h = grind arith
@@ -40,8 +41,4 @@ unfolding across
 after_space flow spaces c bs h = rw (goes_on flow spaces c bs h) refl
 
 pub across_word : (flow : Bool) (spaces : Option ℕ) (t : List ℕ) → begins_word t ≡ true → across flow spaces true t ≡ Some 1
-across_word flow spaces [] h = absurd (false≢true h)
-across_word flow spaces (b ∷ []) h = absurd (false≢true (and_parts (eqb b 32) false h).1)
-across_word flow spaces (b ∷ c ∷ bs) h =
-    let p = and_parts (eqb b 32) (is_word_byte c) h in
-    subst (λ (x : ℕ). across flow spaces true (x ∷ c ∷ bs) ≡ Some 1) (sym (eqb-true b 32 p.0)) (after_space flow spaces c bs p.1)
+across_word flow spaces t h = search (rules, false≢true, and_parts, after_space)

@@ -9,6 +9,7 @@ pub mod plain;
 pub mod plain_text;
 mod pushing;
 pub mod quoted;
+pub mod quoted_line;
 pub mod same_content;
 mod writable;
 

@@ -1,5 +1,5 @@
 //! Plain scalars (YAML 1.2.2, section 7.3.3).
-ghost use Rattle.std.{specs.List.prefix_len, specs.Prelude.{◌≡◌, ◌==◌, ◌≤◌, length, true}};
+ghost use Rattle.std.{specs.List.prefix_len, specs.Prelude.{◌≡◌, ◌==◌, ◌≤◌, false, length, take, true}};
 ghost use Rattle.yq_core.specs.Text.{cut, upto};
 ghost use Rattle.yq_core.specs.Plain as spec;
 ghost use Rattle.yq_core.specs.PlainReading as reading;
@@ -164,6 +164,39 @@ pub fn plain_len(flow: bool, spaces: Option<usize>, text: &[u8]) -> usize
             n += 1;
             rest = after;
         }
+    }
+}
+
+/// Whether a plain scalar outside flow collections goes on over the byte in front, whatever the next lines are: one
+/// space before a word, or what is neither white space nor its end.
+#[inline(always)]
+fn goes_on(text: &[u8]) -> bool
+    ensures { result ≡ words.goes_on text.now }
+{
+    if begins_word(text) {
+        return true;
+    }
+    !text.is_empty() && !is_space(text) && !ends_text(false, text)
+}
+
+/// How far a plain scalar outside flow collections goes on for sure on its line, in bytes.
+#[inline(always)]
+pub fn words_len(text: &[u8]) -> usize
+    ensures value { words.GoesOnOver result text.now }
+    ensures line { spec.holds_break (take result text.now) ≡ false }
+    ensures within { result ≤ length text.now }
+{
+    let mut n = 0;
+    let mut rest = text;
+    'each: loop {
+        let run = run_len(Run::Plain, rest);
+        n += run;
+        let next = rest.split_at(run).1;
+        if !goes_on(next) {
+            return n;
+        }
+        n += 1;
+        rest = next.split_at(1).1;
     }
 }
 

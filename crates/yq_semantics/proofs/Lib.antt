@@ -8,3 +8,4 @@ pub mod ChildPlaces
 pub mod RoomLaws
 pub mod MatchTrees
 pub mod updates
+pub mod sizes

@@ -22,3 +22,4 @@ pub mod RoomsKept
 pub mod PlacesApart
 pub mod Plans
 pub mod MatchTrees
+pub mod Sizes

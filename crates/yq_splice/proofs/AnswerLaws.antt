@@ -1,23 +1,20 @@
 -- The promises of an accepted edit, and what a refused one tells.
-use Rattle.std.proofs.Common.{◌≡◌, ℕ, suc, false, ◌+◌, ◌<◌, ◌≤◌, List, [], ◌∷◌, ◌++◌, length, take, drop, Option, Some, None, Result, Ok}
-use Rattle.std.proofs.Common.{Err, IfOk, IfErr, string_bytes, refl, sym, ap, ◌∙◌, subst, take_all, arith}
+use Rattle.std.proofs.Common.{◌≡◌, ℕ, suc, true, false, ◌+◌, ◌<◌, ◌≤◌, List, [], ◌∷◌, ◌++◌, length, take, drop, Option, Some, None, Result}
+use Rattle.std.{proofs.Common.{Ok, Err, IfOk, IfErr, string_bytes, refl, sym, ap, ◌∙◌, subst, take_all, arith}, specs.Str.IsUtf8}
+use Rattle.yq_core.specs.Answers.{ReadError}
 use Rattle.yq_row_table.specs.Rows.{Cut}
-use Rattle.yq_documents.{specs.Reading.{documents, read_at}, proofs.ReadLaws.read_takes}
+use Rattle.yq_documents.specs.Reading.{read_at}
+use Rattle.yq_semantics.{specs.Judgement.ExprError, specs.declared.refusal.Refusal.TheVariants.NotAnUpdate}
 use Rattle.yq_semantics.specs.Program.{Program, Update, read, updates, update_at, update_count, is_read}
 use Rattle.yq_text.{specs.Splice.Splice, specs.declared.edited.Edited.Edited, proofs.PlaceInList.{get_some, split_at, take_next}}
-use Rattle.yq_edit_laws.{specs.Answers.{Edits, EditFails}, specs.Carried.{updated, program_done, edit_of}}
-use Rattle.yq_edit_laws.specs.Edit.{unreadable, gives, edit_then, by_reading, in_order}
-use Rattle.yq_edit_laws.specs.Theorems.{AreSplices, EditRefused, HasReading, InOrder, IsEdited, IsUpdated, UpdateRefused}
-use Rattle.yq_edit_laws.{specs.Valid.{IsStep, UpdateFails, FailsAt, FailsEach}, specs.declared.edit_error.EditError.EditError}
+use Rattle.yq_edit_laws.{specs.Answers.{Edits, EditFails}, proofs.TextFaults.{FailsToRead, text_unread}, proofs.UpdateLaws.no_reading}
+use Rattle.yq_edit_laws.{specs.Carried.{updated, program_done, edit_of}, specs.Edit.{gives, refuses, by_reading, in_order}}
+use Rattle.yq_edit_laws.specs.Theorems.{HasReading, InOrder, IsEdited, IsUpdated, ProgramRefused, UpdateRefused}
+use Rattle.yq_edit_laws.specs.Valid.{IsStep, UpdateFails, FailsAt, FailsEach, ProgramFails}
 use Rattle.yq_edit_laws.proofs.OrderLaws.{leads_on, leads_so, leads_give, leads_fail, leads_stop}
-use Rattle.yq_edit_laws.proofs.UpdateLaws.{no_reading, unread_updated}
-use Rattle.yq_splice.proofs.SpliceLaws.{program_splices}
-use Rattle.yq_edit_laws.specs.declared.edit_error.EditError.TheVariants as error
-
-pub answer_splices : (r : Result Edited EditError) (p : Program) (t : List ℕ) →
-    IfOk r (λ e. IsEdited p t (string_bytes e.text) e.splices.items) → IfOk r (λ e. AreSplices e.splices.items t (string_bytes e.text))
-answer_splices (Ok e) p t h = program_splices p t (string_bytes e.text) e.splices.items h
-answer_splices (Err e) p t h = tt
+use Rattle.yq_fault.specs.Faults.{fault_of_reading, fault_of_refusal}
+use Rattle.yq_splice.{specs.Answers.{EditRefused, TextFails}, specs.Updates.HaveLed}
+use Rattle.yq_failure.specs.declared.failure.Failure.TheVariants as failure
 
 -- ---- updates, one after the other
 
@@ -40,13 +37,12 @@ reads_on [] t m cs h r = subst HasReading h.0 r
 reads_on (u ∷ us) t m cs h r = reads_on us h.0 m h.2 h.4 (h.3.after, h.3.reads)
 
 -- where an update fails, the program does
-fails_on : (e : EditError) (us : List Update) (u : Update) (vs : List Update) (t m : List ℕ) (cs : List Splice) → InOrder IsUpdated us t m cs → UpdateFails e u m → EditRefused e (updates (us ++ u ∷ vs)) t
-fails_on (error.Read fault) us u vs t m cs h none = λ r. none (reads_on us t m cs h r)
-fails_on (error.Refused why) us u vs t m cs h stops = leads_stop IsUpdated (UpdateRefused why) us u vs t m cs h stops
-fails_on error.Memory us u vs t m cs h none = tt
+fails_on : (e : ExprError) (us : List Update) (u : Update) (vs : List Update) (t m : List ℕ) (cs : List Splice) → InOrder IsUpdated us t m cs → UpdateFails e u m → ProgramFails e (updates (us ++ u ∷ vs)) t
+fails_on (failure.Fault why) us u vs t m cs h stops = leads_stop IsUpdated (UpdateRefused why) us u vs t m cs h stops
+fails_on failure.Memory us u vs t m cs h none = tt
 
 -- an update that fails
-pub step_fails : (p : Program) (us : List Update) (n : ℕ) (t m : List ℕ) (cs : List Splice) (e : EditError) → p ≡ updates us → n < length us → InOrder IsStep (take n us) t m cs →
+pub step_fails : (p : Program) (us : List Update) (n : ℕ) (t m : List ℕ) (cs : List Splice) (e : ExprError) → p ≡ updates us → n < length us → InOrder IsStep (take n us) t m cs →
     ((u : Update) → update_at n p ≡ Some u → FailsAt e u m) → FailsEach e us t
 step_fails p us n t m cs e is below h fails =
     let x = get_some us n below in
@@ -55,7 +51,7 @@ step_fails p us n t m cs e is below h fails =
     let all : us ≡ take n us ++ u ∷ drop (suc n) us = split_at us n u x.1 in
     record {
       fails = subst (λ l. EditFails e (in_order updated l t)) (sym all) (leads_fail updated IsStep (λ v a b ds k. k.exact) (take n us) u (drop (suc n) us) t m cs e h here.fails);
-      why = subst (λ l. EditRefused e (updates l) t) (sym all) (fails_on e (take n us) u (drop (suc n) us) t m cs (are_updates (take n us) t m cs h) here.why);
+      why = subst (λ l. ProgramFails e (updates l) t) (sym all) (fails_on e (take n us) u (drop (suc n) us) t m cs (are_updates (take n us) t m cs h) here.why);
     }
 
 -- all updates are done
@@ -67,89 +63,69 @@ all_done_so p n t new cs h count us is =
 
 -- ---- a program with updates
 
--- by the reading of the text
-program_edit : (us : List Update) (t : List ℕ) → 0 < length us → by_reading (λ c. in_order updated us t) (read_at t) ≡ in_order updated us t
-program_edit [] t some = absurd (omega (arith, some))
-program_edit (u ∷ us) t some = go (read_at t) refl
-  where
-    go : (r : Option Cut) → read_at t ≡ r → by_reading (λ c. in_order updated (u ∷ us) t) r ≡ in_order updated (u ∷ us) t
-    go None is = sym (ap (edit_then (in_order updated us)) (unread_updated u t is))
-    go (Some c) is = refl
-
 has_updates : (p : Program) → 0 < update_count p → (us : List Update) × (p ≡ updates us) × (0 < length us)
 has_updates (read stages) h = absurd (omega (arith, h))
 has_updates (updates us) h = (us, refl, h)
 
-pub each_exact : (r : Result Edited EditError) (p : Program) (t : List ℕ) → 0 < update_count p →
+-- where the first ones lead from a text that reads, they lead to one
+pub led_reads : (p : Program) (n : ℕ) (t m : List ℕ) (cs : List Splice) → 0 < update_count p → HasReading t → HaveLed p t n m cs → HasReading m
+led_reads p n t m cs some reads led =
+    let x = has_updates p some in
+    reads_on (take n x.0) t m cs (are_updates (take n x.0) t m cs (led x.0 x.1)) reads
+
+pub each_exact : (r : Result Edited ExprError) (p : Program) (t : List ℕ) → 0 < update_count p →
     IfOk r (λ e. (us : List Update) → p ≡ updates us → InOrder IsStep us t (string_bytes e.text) e.splices.items) →
-    IfErr r (λ e. (us : List Update) → p ≡ updates us → FailsEach e us t) → Edits r (edit_of p t)
-unfolding edit_of
+    IfErr r (λ e. (us : List Update) → p ≡ updates us → FailsEach e us t) → Edits r (program_done p t)
 each_exact (Ok e) p t some ok err =
     let x = has_updates p some in
-    ap (λ q. by_reading (λ c. program_done q t) (read_at t)) x.1
-    ∙ (program_edit x.0 t x.2 ∙ leads_give updated IsStep (λ v a b ds k. k.exact) x.0 t (string_bytes e.text) e.splices.items (ok x.0 x.1))
-each_exact (Err e) p t some ok err =
-    let x = has_updates p some in
-    subst (EditFails e) (sym (ap (λ q. by_reading (λ c. program_done q t) (read_at t)) x.1 ∙ program_edit x.0 t x.2)) (err x.0 x.1).fails
+    ap (λ q. program_done q t) x.1 ∙ leads_give updated IsStep (λ v a b ds k. k.exact) x.0 t (string_bytes e.text) e.splices.items (ok x.0 x.1)
+each_exact (Err e) p t some ok err = let x = has_updates p some in subst (λ q. EditFails e (program_done q t)) (sym x.1) (err x.0 x.1).fails
 
-pub each_edited : (r : Result Edited EditError) (p : Program) (t : List ℕ) → 0 < update_count p →
+pub each_edited : (r : Result Edited ExprError) (p : Program) (t : List ℕ) → 0 < update_count p →
     IfOk r (λ e. (us : List Update) → p ≡ updates us → InOrder IsStep us t (string_bytes e.text) e.splices.items) → IfOk r (λ e. IsEdited p t (string_bytes e.text) e.splices.items)
 each_edited (Ok e) p t some ok =
     let x = has_updates p some in
     record { all = x.0; program = x.1; leads = are_updates x.0 t (string_bytes e.text) e.splices.items (ok x.0 x.1) }
 each_edited (Err e) p t some ok = tt
 
-pub each_refused : (r : Result Edited EditError) (p : Program) (t : List ℕ) → 0 < update_count p →
-    IfErr r (λ e. (us : List Update) → p ≡ updates us → FailsEach e us t) → IfErr r (λ e. EditRefused e p t)
+pub each_refused : (r : Result Edited ExprError) (p : Program) (t : List ℕ) → 0 < update_count p →
+    IfErr r (λ e. (us : List Update) → p ≡ updates us → FailsEach e us t) → IfErr r (λ e. ProgramFails e p t)
 each_refused (Ok e) p t some err = tt
-each_refused (Err e) p t some err = let x = has_updates p some in subst (λ q. EditRefused e q t) (sym x.1) (err x.0 x.1).why
+each_refused (Err e) p t some err = let x = has_updates p some in subst (λ q. ProgramFails e q t) (sym x.1) (err x.0 x.1).why
 
 -- ---- a program without updates
 
--- what a reading of the text makes of it
-pub none_edit : (p : Program) (t : List ℕ) (r : Option Cut) → read_at t ≡ r → edit_of p t ≡ by_reading (λ c. program_done p t) r
-unfolding edit_of
-none_edit p t r is = ap (by_reading (λ c. program_done p t)) is
+pub read_done : (p : Program) (t : List ℕ) → is_read p ≡ true → program_done p t ≡ refuses NotAnUpdate
+read_done (read stages) t h = refl
+read_done (updates us) t h = absurd (cc)
+
+pub read_refused : (p : Program) (t : List ℕ) → is_read p ≡ true → HasReading t → ProgramRefused p NotAnUpdate t
+read_refused (read stages) t h reads = (refl, reads)
+read_refused (updates us) t h reads = absurd (cc)
 
 pub none_done : (p : Program) (t : List ℕ) → is_read p ≡ false → update_count p ≡ 0 → program_done p t ≡ gives t []
 none_done (read stages) t h none = absurd (cc)
 none_done (updates []) t h none = refl
 none_done (updates (u ∷ us)) t h none = absurd (omega (arith, none))
 
--- what is known where one is carried out
-updates_none : (p : Program) (t new : List ℕ) (cs : List Splice) → update_count p ≡ 0 → program_done p t ≡ gives new cs → IsEdited p t new cs
-updates_none (read stages) t new cs none h = absurd (cc)
-updates_none (updates []) t new cs none h = record { all = []; program = refl; leads = (cc, cc) }
-updates_none (updates (u ∷ us)) t new cs none h = absurd (omega (arith, none))
+pub none_edited : (p : Program) (t new : List ℕ) (cs : List Splice) → is_read p ≡ false → update_count p ≡ 0 → new ≡ t → cs ≡ [] → IsEdited p t new cs
+none_edited (read stages) t new cs h none text splices = absurd (cc)
+none_edited (updates []) t new cs h none text splices = record { all = []; program = refl; leads = (sym text, splices) }
+none_edited (updates (u ∷ us)) t new cs h none text splices = absurd (omega (arith, none))
 
-pub none_edited : (r : Result Edited EditError) (p : Program) (t : List ℕ) → update_count p ≡ 0 → Edits r (edit_of p t) → IfOk r (λ e. IsEdited p t (string_bytes e.text) e.splices.items)
-none_edited (Err e) p t none h = tt
-none_edited (Ok e) p t none h = go (read_at t) refl
-  where
-    go : (o : Option Cut) → read_at t ≡ o → IsEdited p t (string_bytes e.text) e.splices.items
-    go None is = absurd (let f = sym (none_edit p t None is) ∙ h in cc)
-    go (Some c) is = updates_none p t (string_bytes e.text) e.splices.items none (sym (none_edit p t (Some c) is) ∙ h)
+-- ---- a text
 
--- and where one is refused, on a text that reads
-none_refused_so : (p : Program) (t : List ℕ) (e : EditError) → update_count p ≡ 0 → HasReading t → EditFails e (program_done p t) → EditRefused e p t
-none_refused_so p t error.Memory none reads h = tt
-none_refused_so (read stages) t (error.Read fault) none reads h = absurd (let f = h.0 in cc)
-none_refused_so (read stages) t (error.Refused why) none reads h = (cc, reads)
-none_refused_so (updates []) t (error.Read fault) none reads h = absurd (let f = h.0 in cc)
-none_refused_so (updates []) t (error.Refused why) none reads h = absurd (cc)
-none_refused_so (updates (u ∷ us)) t (error.Read fault) none reads h = absurd (omega (arith, none))
-none_refused_so (updates (u ∷ us)) t (error.Refused why) none reads h = absurd (omega (arith, none))
+-- what a program makes of one that is read
+pub read_edit : (p : Program) (t : List ℕ) (o : Option Cut) → read_at t ≡ o → edit_of p t ≡ by_reading (λ c. program_done p t) o
+unfolding edit_of
+read_edit p t o is = ap (by_reading (λ c. program_done p t)) is
 
--- and on one that doesn't
-unread_refused : (p : Program) (t : List ℕ) (e : EditError) → read_at t ≡ None → EditFails e unreadable → EditRefused e p t
-unread_refused p t (error.Read fault) is h = no_reading t is
-unread_refused p t (error.Refused why) is h = absurd (cc)
-unread_refused p t error.Memory is h = tt
+-- and why there is none
+pub program_fails : (e : ExprError) (p : Program) (t : List ℕ) → EditFails e (edit_of p t) → ProgramFails e p t → TextFails (fault_of_refusal e) (edit_of p t) × EditRefused (fault_of_refusal e) p t
+program_fails failure.Memory p t fails why = (tt, tt)
+program_fails (failure.Fault refusal) p t fails why = (fails, why)
 
-pub none_refused : (r : Result Edited EditError) (p : Program) (t : List ℕ) → update_count p ≡ 0 → Edits r (edit_of p t) → IfErr r (λ e. EditRefused e p t)
-none_refused (Ok e) p t none h = tt
-none_refused (Err e) p t none h = go (read_at t) refl
-  where
-    go : (o : Option Cut) → read_at t ≡ o → EditRefused e p t
-    go None is = unread_refused p t e is (subst (EditFails e) (none_edit p t None is) h)
-    go (Some c) is = none_refused_so p t e none (documents c, read_takes t c is) (subst (EditFails e) (none_edit p t (Some c) is) h)
+-- nothing of one that isn't
+pub unread_fails : (e : ReadError) (p : Program) (bytes t : List ℕ) → bytes ≡ t → IsUtf8 t → FailsToRead e bytes → TextFails (fault_of_reading e) (edit_of p t) × EditRefused (fault_of_reading e) p t
+unread_fails failure.Memory p bytes t same utf8 h = (tt, tt)
+unread_fails (failure.Fault f) p bytes t same utf8 h = let k = text_unread bytes t f same utf8 h in ((read_edit p t None k.0, k.1), no_reading t k.0)

@@ -5,3 +5,4 @@ pub mod SpliceLaws
 pub mod AnswerLaws
 pub mod PartLaws
 pub mod UpdateSteps
+pub mod OversizedParts

@@ -1,8 +1,8 @@
 -- An update that is planned and carried out part by part.
 use Rattle.std.proofs.Common.{◌≡◌, ◌⊎◌, inl, inr, ℕ, ◌≤◌, List, [], ◌∷◌, ◌++◌, length, Some, refl, sym, ap, ◌∙◌, subst, append_assoc}
-use Rattle.std.{proofs.Common.append-nil, proofs.lemmas.Option.none-some}
+use Rattle.std.proofs.Common.{append-nil}
 use Rattle.yq_documents.{specs.Documents.{Document, ReadsDocuments}, specs.Reading.{cut_of, documents, documents_of, read_at}}
-use Rattle.yq_documents.{proofs.ReadLaws.{one_reading, parts_read, read_takes}, proofs.ReadyLaws.read_ready}
+use Rattle.yq_documents.{proofs.ReadLaws.{one_reading, read_takes}, proofs.ReadyLaws.read_ready}
 use Rattle.yq_outline.proofs.ShapeLaws.{shaped_by_lines, shaped_is_tree}
 use Rattle.yq_semantics.{specs.After.{after_op, all_after, op_document}, specs.Changes.Room, specs.Fits.AllFit, specs.Meaning.AreReady}
 use Rattle.yq_semantics.{specs.Judgement.{Judgement, MatchFails, gives, refuses, ExprError}, specs.Operations.Operation, specs.Plans.plan}
@@ -13,18 +13,15 @@ use Rattle.yq_semantics.proofs.updates.RoomsLast.{plan_follows}
 use Rattle.yq_eval.specs.PlaceView.{put_behind}
 use Rattle.yq_expr.{specs.Parts.{LeavesOps, rest_ops}, proofs.PartLaws.{nothing_left, whole_plan}}
 use Rattle.yq_text.specs.Splice.{Splice}
-use Rattle.yq_edit_laws.{specs.Answers.{EditFails, error_of_reading, of_planning}, specs.Carried.{carried, carry_all, carry_out, updated}}
+use Rattle.yq_edit_laws.{specs.Answers.EditFails, specs.Carried.{carried, carry_all, carry_out, updated}}
 use Rattle.yq_edit_laws.specs.Edit.{Edit, by_reading, edit_after, edit_then, in_order, unreadable}
 use Rattle.yq_edit_laws.specs.Theorems.{IsApplied, IsFitting, IsLarge, Leading, StopsInOrder}
-use Rattle.yq_edit_laws.{specs.Valid.{AreServed, FailsAt, HaveOperands, IsStep, UpdateFails}, specs.declared.edit_error.EditError.EditError}
-use Rattle.yq_edit_laws.{proofs.ApplyLaws.applied_by, proofs.CutLaws.cut_same, proofs.MeaningLaws.{UpdateComes, plan_comes}}
-use Rattle.yq_edit_laws.{proofs.ServeLaws.{OperationsCome, all_come}, proofs.TextFaults.{FailsToRead, text_unread, text_utf8}}
-use Rattle.yq_edit_laws.proofs.OrderLaws.{behind_both, behind_none, fails_behind, fails_itself, fails_on}
-use Rattle.yq_core.specs.Answers.{ReadError}
+use Rattle.yq_edit_laws.{specs.Valid.{AreServed, FailsAt, HaveOperands, IsStep, UpdateFails}, proofs.ApplyLaws.applied_by}
+use Rattle.yq_edit_laws.{proofs.CutLaws.cut_same, proofs.MeaningLaws.{UpdateComes, plan_comes}, proofs.ServeLaws.{OperationsCome, all_come}}
+use Rattle.yq_edit_laws.{proofs.OrderLaws.{behind_both, behind_none, fails_behind, fails_itself, fails_on}, proofs.UpdateLaws.memory_fails}
 use Rattle.yq_splice.specs.Parts.{Awaits, IsJudged}
 use Rattle.yq_failure.specs.declared.failure.Failure.TheVariants as failure
 use Rattle.yq_edit_laws.specs.Edit as edits
-use Rattle.yq_edit_laws.specs.declared.edit_error.EditError.TheVariants as error
 
 -- ---- what is left of a plan
 
@@ -103,7 +100,7 @@ first_served xs ys m h operands = (
 )
 
 -- after one operation the others may follow
-next_await : (x : Operation) (xs : List Operation) (m n : List ℕ) (ds : List Splice) (h : Awaits (x ∷ xs) m) → IsApplied x m n ds → Awaits xs n
+pub next_await : (x : Operation) (xs : List Operation) (m n : List ℕ) (ds : List Splice) (h : Awaits (x ∷ xs) m) → IsApplied x m n ds → Awaits xs n
 next_await x xs m n ds h a =
     let same : a.before ≡ h.documents = one_reading m a.before h.documents a.read h.read in
     record {
@@ -113,7 +110,7 @@ next_await x xs m n ds h a =
           (subst (λ (docs : List Document). LeavesRooms x (room_of m) (room_of n) (after_op (room_of m) x docs)) same a.room) h.follow;
     }
 
-fitting : (x : Operation) (xs : List Operation) (m : List ℕ) → Awaits (x ∷ xs) m → IsFitting x m
+pub fitting : (x : Operation) (xs : List Operation) (m : List ℕ) → Awaits (x ∷ xs) m → IsFitting x m
 fitting x xs m h = record { before = h.documents; read = h.read; fits = h.follow.fit.0 }
 
 -- an edit that gives a text after splices gives it without them
@@ -123,14 +120,14 @@ behind es fs n (edits.refuses why) k = absurd (cc)
 behind es fs n (edits.gives o gs) k = (gs, cc)
 
 -- what an edit gave, where another one of that text gave one in its turn
-record GaveBetween (g : List ℕ → Edit) (r : Edit) (n : List ℕ) : Type 0 where
-  between : List ℕ
-  first : List Splice
-  later : List Splice
-  gave : r ≡ edits.gives between first
-  then_gave : g between ≡ edits.gives n later
+pub record GaveBetween (g : List ℕ → Edit) (r : Edit) (n : List ℕ) : Type 0 where
+  pub between : List ℕ
+  pub first : List Splice
+  pub later : List Splice
+  pub gave : r ≡ edits.gives between first
+  pub then_gave : g between ≡ edits.gives n later
 
-gave_between : (g : List ℕ → Edit) (r : Edit) (n : List ℕ) (ds : List Splice) → edit_then g r ≡ edits.gives n ds → GaveBetween g r n
+pub gave_between : (g : List ℕ → Edit) (r : Edit) (n : List ℕ) (ds : List Splice) → edit_then g r ≡ edits.gives n ds → GaveBetween g r n
 gave_between g unreadable n ds k = absurd (cc)
 gave_between g (edits.refuses why) n ds k = absurd (cc)
 gave_between g (edits.gives o es) n ds k =
@@ -190,82 +187,13 @@ module _ (u : Update) (t : List ℕ) (before : List Splice) (is : read_at t ≡ 
     all = sym (append-nil before);
   }
 
-  module _ (doc place doc_after place_after : ℕ) (m : List ℕ) (cs : List Splice) (h : IsUnderWay u t before doc place m cs) (ops : List Operation)
-      (leaves : LeavesOps u (room_of t) (documents_of t) doc place ops doc_after place_after) (operands : HaveOperands ops) where
-    split : SplitsOff ops h.rest (rest_ops u (room_of t) (documents_of t) doc_after place_after)
-    split = splits ops h.rest (rest_ops u (room_of t) (documents_of t) doc_after place_after) (sym leaves ∙ h.left)
-
-    pub part_served : AreServed ops m
-    part_served =
-        let await : Awaits h.rest m = others_await h.made h.rest t m h.own (all_await (h.made ++ h.rest) h.planned) h.operands h.carried in
-        first_served ops split.rest m (subst (λ (xs : List Operation). Awaits xs m) split.all await) operands
-
-    abbrev so_far : List Operation
-    so_far = h.made ++ ops
-
-    whole : plan u (room_of t) (documents_of t) ≡ gives (so_far ++ split.rest)
-    whole = h.planned ∙ ap gives (ap (λ (xs : List Operation). h.made ++ xs) split.all ∙ sym (append_assoc h.made ops split.rest))
-
-    all_operands : HaveOperands so_far
-    all_operands = join_operands h.made ops h.operands operands
-
-    comes : carry_all so_far t ≡ edit_after h.own (carry_all ops m)
-    comes = in_order_both carried h.made ops t ∙ ap (edit_then (carry_all ops)) h.carried
-
-    go_on : (n : List ℕ) (ds : List Splice) (r : Edit) → carry_all ops m ≡ r → edit_after cs r ≡ edits.gives n ds → IsUnderWay u t before doc_after place_after n ds
-    go_on n ds unreadable gone k = absurd (cc)
-    go_on n ds (edits.refuses why) gone k = absurd (cc)
-    go_on n ds (edits.gives o es) gone k =
-        let text : o ≡ n = cc in
-        let splices : cs ++ es ≡ ds = cc in
-        record {
-          made = so_far;
-          rest = split.rest;
-          own = h.own ++ es;
-          planned = whole;
-          left = split.is;
-          operands = all_operands;
-          carried = comes ∙ (ap (edit_after h.own) gone ∙ ap (λ (x : List ℕ). edits.gives x (h.own ++ es)) text);
-          all = sym splices ∙ (ap (λ (xs : List Splice). xs ++ es) h.all ∙ append_assoc before h.own es);
-        }
-
-    pub part_done : (n : List ℕ) (ds : List Splice) → edit_after cs (carry_all ops m) ≡ edits.gives n ds → IsUnderWay u t before doc_after place_after n ds
-    part_done n ds k = go_on n ds (carry_all ops m) refl k
-
-    served : AreServed so_far t
-    served = first_served so_far split.rest t (all_await (so_far ++ split.rest) whole) all_operands
-
-    come : OperationsCome (all_after (room_of t) so_far served.0) so_far t (carry_all so_far t)
-    come = all_come served.0 so_far t served.1
-
-    stopped : (e : EditError) → EditFails e (carry_all so_far t) → UpdateFails e u t
-    stopped error.Memory k = tt
-    stopped (error.Read fault) k = absurd (subst (OperationsCome (all_after (room_of t) so_far served.0) so_far t) k.0 come)
-    stopped (error.Refused why) k =
-        let large = subst (OperationsCome (all_after (room_of t) so_far served.0) so_far t) k come in
-        inr (
-          large.0,
-          record {
-            before = documents_of t;
-            read = read_takes t (cut_of t) is;
-            operations = so_far ++ split.rest;
-            planned = whole;
-            stops = stops_more IsApplied IsLarge so_far split.rest t large.1;
-          },
-        )
-
-    pub part_fails : (e : EditError) → EditFails e (edit_after cs (carry_all ops m)) → FailsAt e u t
-    part_fails e k =
-        let here : EditFails e (carry_all so_far t) = subst (EditFails e) (sym comes) (fails_behind e h.own (carry_all ops m) (fails_itself e cs (carry_all ops m) k)) in
-        record {
-          fails = subst (EditFails e) (sym (done (so_far ++ split.rest) whole ∙ in_order_both carried so_far split.rest t)) (fails_on e (carry_all split.rest) (carry_all so_far t) here);
-          why = stopped e here;
-        }
-
   module _ (doc place : ℕ) (m : List ℕ) (cs : List Splice) (h : IsUnderWay u t before doc place m cs) where
-    pub unplanned : (e : ExprError) → MatchFails e (rest_ops u (room_of t) (documents_of t) doc place) → FailsAt (of_planning e) u t
+    pub unplanned : (e : ExprError) → MatchFails e (rest_ops u (room_of t) (documents_of t) doc place) → FailsAt e u t
     unplanned (failure.Fault why) k = absurd (let left = h.left in cc)
-    unplanned failure.Memory k = record { fails = tt; why = tt }
+    unplanned failure.Memory k = memory_fails u t
+
+    pub rest_awaits : Awaits h.rest m
+    rest_awaits = others_await h.made h.rest t m h.own (all_await (h.made ++ h.rest) h.planned) h.operands h.carried
 
     pub all_carried : length (documents_of t) ≤ doc → (ds : List Splice) × IsStep u t m ds × (cs ≡ before ++ ds)
     all_carried past =
@@ -279,17 +207,85 @@ module _ (u : Update) (t : List ℕ) (before : List Splice) (is : read_at t ≡ 
           h.all,
         )
 
--- a text on which operations are served is read
-pub read_fails : (ops : List Operation) (bytes m : List ℕ) (e : ReadError) (r : Edit) → AreServed ops m → bytes ≡ m → FailsToRead e bytes → EditFails (error_of_reading e) r
-read_fails ops bytes m failure.Memory r s same h = tt
-read_fails ops bytes m (failure.Fault fault) r s same h =
-    let reads = (parts_read m s.0 s.1.read).0 in
-    absurd (none-some _ (sym (text_unread bytes m fault same (text_utf8 m s.1.read.parts reads) h).0 ∙ reads))
+  -- some of the operations that are left, and the others
+  module _ (doc place : ℕ) (m : List ℕ) (cs : List Splice) (h : IsUnderWay u t before doc place m cs) (ops others : List Operation) (split : h.rest ≡ ops ++ others) where
+    abbrev so_far : List Operation
+    so_far = h.made ++ ops
+
+    whole : plan u (room_of t) (documents_of t) ≡ gives (so_far ++ others)
+    whole = h.planned ∙ ap gives (ap (λ (xs : List Operation). h.made ++ xs) split ∙ sym (append_assoc h.made ops others))
+
+    comes : carry_all so_far t ≡ edit_after h.own (carry_all ops m)
+    comes = in_order_both carried h.made ops t ∙ ap (edit_then (carry_all ops)) h.carried
+
+    module _ (operands : HaveOperands ops) where
+      some_served : AreServed ops m
+      some_served = first_served ops others m (subst (λ (xs : List Operation). Awaits xs m) split (rest_awaits doc place m cs h)) operands
+
+      all_operands : HaveOperands so_far
+      all_operands = join_operands h.made ops h.operands operands
+
+      served : AreServed so_far t
+      served = first_served so_far others t (all_await (so_far ++ others) whole) all_operands
+
+      come : OperationsCome (all_after (room_of t) so_far served.0) so_far t (carry_all so_far t)
+      come = all_come served.0 so_far t served.1
+
+      stopped : (e : ExprError) → EditFails e (carry_all so_far t) → UpdateFails e u t
+      stopped failure.Memory k = tt
+      stopped (failure.Fault why) k =
+          let large = subst (OperationsCome (all_after (room_of t) so_far served.0) so_far t) k come in
+          inr (
+            large.0,
+            record {
+              before = documents_of t;
+              read = read_takes t (cut_of t) is;
+              operations = so_far ++ others;
+              planned = whole;
+              stops = stops_more IsApplied IsLarge so_far others t large.1;
+            },
+          )
+
+      pub some_fail : (e : ExprError) → EditFails e (edit_after cs (carry_all ops m)) → FailsAt e u t
+      some_fail e k =
+          let here : EditFails e (carry_all so_far t) = subst (EditFails e) (sym comes) (fails_behind e h.own (carry_all ops m) (fails_itself e cs (carry_all ops m) k)) in
+          record {
+            fails = subst (EditFails e) (sym (done (so_far ++ others) whole ∙ in_order_both carried so_far others t)) (fails_on e (carry_all others) (carry_all so_far t) here);
+            why = stopped e here;
+          }
+
+  -- those of a part
+  module _ (doc place doc_after place_after : ℕ) (m : List ℕ) (cs : List Splice) (h : IsUnderWay u t before doc place m cs) (ops : List Operation)
+      (leaves : LeavesOps u (room_of t) (documents_of t) doc place ops doc_after place_after) (operands : HaveOperands ops) where
+    split : SplitsOff ops h.rest (rest_ops u (room_of t) (documents_of t) doc_after place_after)
+    split = splits ops h.rest (rest_ops u (room_of t) (documents_of t) doc_after place_after) (sym leaves ∙ h.left)
+
+    pub part_served : AreServed ops m
+    part_served = some_served doc place m cs h ops split.rest split.all operands
+
+    go_on : (n : List ℕ) (ds : List Splice) (r : Edit) → carry_all ops m ≡ r → edit_after cs r ≡ edits.gives n ds → IsUnderWay u t before doc_after place_after n ds
+    go_on n ds unreadable gone k = absurd (cc)
+    go_on n ds (edits.refuses why) gone k = absurd (cc)
+    go_on n ds (edits.gives o es) gone k =
+        let text : o ≡ n = cc in
+        let splices : cs ++ es ≡ ds = cc in
+        record {
+          made = h.made ++ ops;
+          rest = split.rest;
+          own = h.own ++ es;
+          planned = whole doc place m cs h ops split.rest split.all;
+          left = split.is;
+          operands = join_operands h.made ops h.operands operands;
+          carried = comes doc place m cs h ops split.rest split.all ∙ (ap (edit_after h.own) gone ∙ ap (λ (x : List ℕ). edits.gives x (h.own ++ es)) text);
+          all = sym splices ∙ (ap (λ (xs : List Splice). xs ++ es) h.all ∙ append_assoc before h.own es);
+        }
+
+    pub part_done : (n : List ℕ) (ds : List Splice) → edit_after cs (carry_all ops m) ≡ edits.gives n ds → IsUnderWay u t before doc_after place_after n ds
+    part_done n ds k = go_on n ds (carry_all ops m) refl k
+
+    pub part_fails : (e : ExprError) → EditFails e (edit_after cs (carry_all ops m)) → FailsAt e u t
+    part_fails e k = some_fail doc place m cs h ops split.rest split.all operands e k
 
 -- memory that ran out where an update was weighed
-pub weighing_fails : (e : ExprError) (u : Update) (t : List ℕ) → e ≡ failure.Memory → FailsAt (of_planning e) u t
-weighing_fails e u t is = subst (λ (x : ExprError). FailsAt (of_planning x) u t) (sym is) (record { fails = tt; why = tt })
-
--- memory that ran out before a part was planned
-pub memory_fails : (u : Update) (t : List ℕ) → FailsAt error.Memory u t
-memory_fails u t = record { fails = tt; why = tt }
+pub weighing_fails : (e : ExprError) (u : Update) (t : List ℕ) → e ≡ failure.Memory → FailsAt e u t
+weighing_fails e u t is = subst (λ (x : ExprError). FailsAt x u t) (sym is) (memory_fails u t)

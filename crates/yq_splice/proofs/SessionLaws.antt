@@ -1,9 +1,10 @@
 -- A text with its cut, which a session keeps, and what is borrowed of it.
 use Rattle.std.proofs.Common.{◌≡◌, ℕ, ◌-◌, Bool, true, false, cond, ltb, List, [], ◌∷◌, ◌++◌, length, take, drop, Some, refl, sym, ap, ◌∙◌}
 use Rattle.std.{proofs.Common.{subst, arith, append-nil}, proofs.lemmas.Bool.le-ltb, proofs.lemmas.List.{length-take-le, take-append-drop}}
-use Rattle.std.specs.Str.{IsCharBoundary, IsUtf8, is_utf8}
+use Rattle.std.{specs.Str.{IsCharBoundary, IsUtf8, is_utf8}, specs.Prelude.Result}
 use Rattle.yq_text.{specs.Halves.whole, specs.TextGapBuffer.{TextGapView, buffer_text}, specs.declared.halves.Halves.Halves}
 use Rattle.yq_text.{specs.Changing.IsChange, specs.Script.new_text, specs.declared.changed.ChangedMiddle.ChangedMiddle}
+use Rattle.yq_text.specs.declared.edited.Edited.{Edited}
 use Rattle.yq_core.{specs.Answers.ReadError, proofs.Bools.guard_then}
 use Rattle.yq_row_table.{specs.Grammar.IsCut, specs.Items.{Item, items_of_cut, items_text}, specs.Kept.IsPlaced, specs.Rows.Cut}
 use Rattle.yq_row_table.{specs.Touched.{TouchesOnly, in_back, in_front, item_text}, specs.View.{RowsView, rows_view}}
@@ -11,11 +12,11 @@ use Rattle.yq_row_table.{specs.declared.places.Places.Places, proofs.PlacedLaws.
 use Rattle.yq_documents.{specs.Reading.{all_documents, documents, cut_of, read_at}, proofs.ReadLaws.{parts_read, text_takes, read_takes}}
 use Rattle.yq_places.specs.RowWalk.{HasCut}
 use Rattle.yq_lookup.{specs.Knowledge.{IsKnowledge, KnowledgeStays}, specs.declared.knowledge.Knowledge.Knowledge}
-use Rattle.yq_semantics.specs.Operations.{Operation}
-use Rattle.yq_rows.specs.Following.{ArePlacesOf}
-use Rattle.yq_edit_laws.{proofs.CutLaws.{cut_read, cut_same}, specs.Carried.{carry_one, carried}}
+use Rattle.yq_semantics.{specs.Judgement.ExprError, specs.Operations.Operation}
+use Rattle.yq_edit_laws.{specs.Answers.Edits, proofs.CutLaws.{cut_read, cut_same}, specs.Carried.{carry_one, carried}}
 use Rattle.yq_edit_laws.{specs.Edit.{gives, by_reading, exchange_edit}, specs.Theorems.HasReading, specs.Valid.segments_by}
 use Rattle.yq_edit_laws.{proofs.TextFaults.{FailsToRead, text_unread}, proofs.UpdateLaws.no_reading}
+use Rattle.yq_rows.specs.Following.{ArePlacesOf}
 use Rattle.yq_splice.specs.Session.{HasPlaces, Knows, NotOpened}
 use Rattle.yq_failure.specs.declared.failure.Failure.TheVariants as reading
 
@@ -124,6 +125,10 @@ known_here n t k stay = stay (cut_of t) 0 (touches_itself n (cut_of t))
 -- what it comes to, by the cut of the text and by what it changes there
 pub carried_on : (op : Operation) (t x : List ℕ) (p : Places) → HasPlaces t p → x ≡ t → carry_one op (cut_of x) ≡ carried op t
 carried_on op t x p h same = ap (λ (y : List ℕ). carry_one op (cut_of y)) same ∙ (ap (carry_one op) (cut_same t h.cut h.read) ∙ sym (ap (by_reading (carry_one op)) h.read))
+
+pub carried_again : (op : Operation) (t x : List ℕ) (r : Result Edited ExprError) → HasReading t → x ≡ t → Edits r (carry_one op (cut_of x)) → Edits r (carried op t)
+carried_again op t x r h same e =
+    subst (Edits r) (ap (λ (y : List ℕ). carry_one op (cut_of y)) same ∙ sym (ap (by_reading (carry_one op)) (reading_cut t h))) e
 
 pub carried_by : (op : Operation) (t : List ℕ) (p : Places) (x : ChangedMiddle) → HasPlaces t p → IsChange (segments_by op (cut_of t)) x → carried op t ≡ gives (new_text (segments_by op (cut_of t))) x.splices.items
 carried_by op t p x h change = sym (carried_on op t t p h refl) ∙ ap exchange_edit change.exact

@@ -3,18 +3,19 @@ use Rattle.std.proofs.Common.{◌≡◌, ℕ, ◌+◌, ◌<◌, List, [], ◌∷
 use Rattle.std.{proofs.Common.{append-nil, arith}, specs.declared.alloc.AllocError.AllocError}
 use Rattle.yq_documents.{specs.Documents.Document, specs.Reading.{cut_of, documents, documents_of, read_at}}
 use Rattle.yq_documents.proofs.ReadLaws.{one_reading, read_takes}
-use Rattle.yq_semantics.{specs.Judgement.gives, specs.Meaning.meaning, specs.Operations.Operation, specs.Plans.plan, specs.Rooms.room_of}
-use Rattle.yq_semantics.{specs.Program.{Program, Update, UpdatesHold, update_at, update_count}, proofs.updates.RoomsLast.plan_follows}
+use Rattle.yq_semantics.{specs.Judgement.{gives, ExprError}, specs.Meaning.meaning, specs.Operations.Operation, specs.Plans.plan}
+use Rattle.yq_semantics.{specs.Rooms.room_of, specs.Program.{Program, Update, UpdatesHold, update_at, update_count}}
+use Rattle.yq_semantics.proofs.updates.RoomsLast.{plan_follows}
 use Rattle.yq_expr.{specs.FixedPaths.{IfAny, IsSole, PlansOnly}, proofs.FixedLaws.{sole_stays, text_ready}}
 use Rattle.yq_text.specs.Splice.{Splice}
 use Rattle.yq_edit_rules.specs.Operands.{HasOperand}
 use Rattle.yq_edit_laws.{specs.Answers.EditFails, specs.Carried.{carried, carry_all, carry_out, updated}}
 use Rattle.yq_edit_laws.{specs.Edit.{by_reading, edit_then}, specs.Theorems.{HasReading, IsFitting, IsUpdated}}
-use Rattle.yq_edit_laws.{specs.Valid.{FailsAt, IsStep, UpdateFails}, specs.declared.edit_error.EditError.EditError}
-use Rattle.yq_edit_laws.{proofs.MeaningLaws.{UpdateComes, plan_comes}, proofs.OrderLaws.fails_on}
+use Rattle.yq_edit_laws.{specs.Valid.{FailsAt, IsStep, UpdateFails}, proofs.MeaningLaws.{UpdateComes, plan_comes}}
+use Rattle.yq_edit_laws.proofs.OrderLaws.{fails_on}
 use Rattle.yq_splice.{specs.Updates.{HaveFailed, HaveLed}, proofs.AnswerLaws.{step_fails, step_more}, proofs.SessionLaws.reading_cut}
 use Rattle.yq_edit_laws.specs.Edit as edits
-use Rattle.yq_edit_laws.specs.declared.edit_error.EditError.TheVariants as error
+use Rattle.yq_failure.specs.declared.failure.Failure.TheVariants as failure
 
 -- ---- an update whose plan is one operation
 
@@ -43,13 +44,12 @@ module _ (u : Update) (t : List ℕ) (op : Operation) (reads : HasReading t) (pl
         let all : carry_all (op ∷ []) t ≡ edits.gives m cs = ap (edit_then (carry_all [])) h ∙ ap (edits.gives m) (append-nil cs) in
         record { exact = done ∙ all; is = subst (UpdateComes u t) all comes }
 
-    fails_so : (e : EditError) → EditFails e (carry_all (op ∷ []) t) → UpdateFails e u t
-    fails_so (error.Read fault) h = absurd (subst (UpdateComes u t) h.0 comes)
-    fails_so (error.Refused why) h = subst (UpdateComes u t) h comes
-    fails_so error.Memory h = tt
+    fails_so : (e : ExprError) → EditFails e (carry_all (op ∷ []) t) → UpdateFails e u t
+    fails_so (failure.Fault why) h = subst (UpdateComes u t) h comes
+    fails_so failure.Memory h = tt
 
     -- where it fails, the update does
-    pub one_fails : (e : EditError) → EditFails e (carried op t) → FailsAt e u t
+    pub one_fails : (e : ExprError) → EditFails e (carried op t) → FailsAt e u t
     one_fails e h =
         let all : EditFails e (carry_all (op ∷ []) t) = fails_on e (carry_all []) (carried op t) h in
         record { fails = subst (EditFails e) (sym done) all; why = fails_so e all }
@@ -73,14 +73,14 @@ led_more p n t m new cs all within led step us is =
     step_more p us n t m new cs all is below (led us is) step
 
 -- an update that fails
-pub led_fails : (p : Program) (n : ℕ) (t m : List ℕ) (cs : List Splice) (e : EditError) → n < update_count p → HaveLed p t n m cs →
+pub led_fails : (p : Program) (n : ℕ) (t m : List ℕ) (cs : List Splice) (e : ExprError) → n < update_count p → HaveLed p t n m cs →
     ((u : Update) → update_at n p ≡ Some u → FailsAt e u m) → HaveFailed p t e
 led_fails p n t m cs e within led fails us is =
     let below : n < length us = omega (arith, within, ap update_count is) in
     step_fails p us n t m cs e is below (led us is) fails
 
 -- memory that ran out
-pub led_no_more : (p : Program) (t : List ℕ) → HaveFailed p t error.Memory
+pub led_no_more : (p : Program) (t : List ℕ) → HaveFailed p t failure.Memory
 led_no_more p t us _ = record { fails = tt; why = tt }
 
 -- what is so whatever is answered

@@ -10,12 +10,11 @@ ghost use Rattle.yq_expr.specs.FixedPaths.{IfAny, IsSole, PlansAlone};
 ghost use Rattle.yq_splice.specs.Session.{IsChangeBy, Knows, carried_by_cut};
 
 use std::alloc::{AllocError, Global};
-use yq_edit_laws::EditError;
 use yq_expr::{Program, plan_by_rows};
 use yq_lookup::{CutText, Knowledge};
 use yq_operation::{carry_along, change_one};
 use yq_row_table::Rows;
-use yq_semantics::Op;
+use yq_semantics::{ExprError, Op};
 use yq_text::{ChangedMiddle, Edited, Halves};
 
 /// What an operation changes in a text of which something is known, and what is known after it.
@@ -25,7 +24,7 @@ pub(crate) fn change_in<'d, 'o: 'd, 't>(
     rows: &'d Rows<'t>,
     known: Knowledge,
     op: &'o Op,
-) -> Result<(ChangedMiddle, Knowledge), EditError>
+) -> Result<(ChangedMiddle, Knowledge), ExprError>
     requires cut { HasCut (whole text) rows.now }
     requires known { IsKnowledge rows.now known }
     ensures ok { IfOk result (λ x. IsChangeBy (operation_of op.now) (whole text.entry) x.0) }
@@ -44,7 +43,7 @@ pub(crate) fn carry_in<'d, 'o: 'd, 't>(
     rows: &'d Rows<'t>,
     known: Knowledge,
     op: &'o Op,
-) -> Result<Edited, EditError>
+) -> Result<Edited, ExprError>
     requires cut { HasCut (whole text) rows.now }
     requires known { IsKnowledge rows.now known }
     ensures { Edits result (carried_by_cut (operation_of op.now) (whole text.entry)) }

@@ -10,9 +10,8 @@ ghost use Rattle.yq_edit_laws.specs.Carried as spec;
 use crate::carrying::{apply_op, carry_all, cut_again, edited_behind, with_last};
 use std::alloc::Global;
 use yq_batch::{Together, carry_beside, carry_in_heads, carry_in_rows};
-use yq_edit_laws::EditError;
 use yq_lookup::CutText;
-use yq_semantics::Op;
+use yq_semantics::{ExprError, Op};
 use yq_text::Edited;
 
 /// A text is cut again for a run of operations, where the run before carried out more than the last of so many
@@ -25,7 +24,7 @@ fn is_worth(before: usize, left: usize) -> bool {
 }
 
 /// What operations that were carried out together give with the next one of those that are left.
-fn with_next<'o>(alloc: Global, together: Together<'o>) -> Result<Together<'o>, EditError>
+fn with_next<'o>(alloc: Global, together: Together<'o>) -> Result<Together<'o>, ExprError>
     requires some { 1 ≤ length together.left.now }
     requires serves { runs.LeftAreServed together }
     ensures ok { IfOk result (λ x. runs.CarriesMore together.entry x) }
@@ -50,7 +49,7 @@ fn beside_again<'o>(
     alloc: Global,
     text: &str,
     ops: &'o [Op],
-) -> Result<Option<Together<'o>>, EditError>
+) -> Result<Option<Together<'o>>, ExprError>
     requires { AreServed (operations_of ops.now) text.now }
     ensures ok { IfOk result (λ o. IfSome o (λ x. CarriesFirst ops.now text.now x)) }
     ensures shorter { IfOk result (λ o. IfSome o (λ x. length x.left.now ≤ length ops.now)) }
@@ -70,7 +69,7 @@ fn beside_again<'o>(
 
 /// What operations that were carried out together give with the next one of those that are left, and with those
 /// after it that take lines out of one block collection.
-fn with_more<'o>(alloc: Global, together: Together<'o>) -> Result<Together<'o>, EditError>
+fn with_more<'o>(alloc: Global, together: Together<'o>) -> Result<Together<'o>, ExprError>
     requires some { 1 ≤ length together.left.now }
     requires serves { runs.LeftAreServed together }
     ensures ok { IfOk result (λ x. runs.CarriesMore together.entry x) }
@@ -89,7 +88,7 @@ fn with_more<'o>(alloc: Global, together: Together<'o>) -> Result<Together<'o>, 
 }
 
 /// What operations that were carried out together give with those that are left, one by one.
-fn with_each(alloc: Global, together: Together<'_>) -> Result<Edited, EditError>
+fn with_each(alloc: Global, together: Together<'_>) -> Result<Edited, ExprError>
     requires { runs.LeftAreServed together }
     ensures { Edits result (all_of together.entry) }
 {
@@ -105,7 +104,7 @@ fn with_each(alloc: Global, together: Together<'_>) -> Result<Edited, EditError>
 
 /// What so many operations give, of which the first ones were carried out together, with those that are left:
 /// in runs, as long as these are worth it, and then one by one.
-fn with_others(alloc: Global, count: usize, together: Together<'_>) -> Result<Edited, EditError>
+fn with_others(alloc: Global, count: usize, together: Together<'_>) -> Result<Edited, ExprError>
     requires { runs.LeftAreServed together }
     ensures { Edits result (all_of together.entry) }
 {
@@ -124,7 +123,7 @@ pub(crate) fn carry_by_lines<'d>(
     alloc: Global,
     cut: &CutText<'d, '_>,
     ops: &'d [Op],
-) -> Result<Option<Edited>, EditError>
+) -> Result<Option<Edited>, ExprError>
     requires { AreServed (operations_of ops.now) cut.now }
     ensures ok { IfOk result (MayGive ops.now cut.now) }
     ensures err { IfErr result (λ e. EditFails e (spec.carry_all (operations_of ops.now)

@@ -14,21 +14,22 @@ use std::alloc::{AllocError, Global};
 use yq_batch::{Together, carry_together};
 use yq_core::ReadError;
 use yq_documents::Documents;
-use yq_edit_laws::{EditError, operand_holds};
+use yq_edit_laws::operand_holds;
 use yq_lookup::CutText;
 use yq_operation::carry_one;
 use yq_row_table::{Places, Rows};
 use yq_rows::scan;
-use yq_semantics::Op;
+use yq_semantics::{ExprError, Op};
 use yq_text::{Edited, Splice};
 use yq_tree::read;
 
-/// An operation carried out on a text.
-fn carry(alloc: Global, text: &str, op: &Op) -> Result<Edited, EditError>
+/// An operation carried out on a text that has a reading.
+#[tactic(auto, using(crate::proofs::SessionLaws::carried_again))]
+fn carry(alloc: Global, text: &str, op: &Op) -> Result<Edited, ExprError>
+    requires { HasReading text.now }
     ensures { Edits result (spec.carried (operation_of op.now) text.now) }
 {
-    let documents = read(alloc, text.as_bytes())?;
-    let rows = documents.into_rows();
+    let rows = cut_again(alloc, text)?;
     carry_one(alloc, &CutText::new(text, &rows), op)
 }
 
@@ -38,7 +39,7 @@ fn carry(alloc: Global, text: &str, op: &Op) -> Result<Edited, EditError>
 ///
 /// It is refused where the new text would be larger than 16,777,216 bytes
 /// ([`Refusal::TooLarge`](yq_semantics::Refusal::TooLarge)), and for no other reason but memory.
-pub fn apply_op(alloc: Global, text: &str, op: &Op) -> Result<Edited, EditError>
+pub fn apply_op(alloc: Global, text: &str, op: &Op) -> Result<Edited, ExprError>
     requires { IsFitting (operation_of op.now) text.now }
     ensures exact { Edits result (spec.carried (operation_of op.now) text.now) }
     ensures done { IfOk result (λ e. IsApplied (operation_of op.now) text.now (string_bytes e.text)
@@ -57,7 +58,7 @@ pub(crate) fn carry_all(
     places: Places,
     splices: Vec<Splice>,
     ops: &[Op],
-) -> Result<Edited, EditError>
+) -> Result<Edited, ExprError>
     requires places { HasPlaces (string_bytes text) places }
     requires serves { AreServed (operations_of ops.now) (string_bytes text) }
     ensures { Edits result (edit_after splices.items (spec.carry_all (operations_of ops.now)
@@ -98,8 +99,9 @@ pub(crate) fn edited_behind(splices: Vec<Splice>, edited: Edited) -> Result<Edit
 }
 
 /// What operations that were carried out together give, with the one that is left.
-pub(crate) fn with_last(alloc: Global, together: Together<'_>) -> Result<Edited, EditError>
-    requires { length together.left.now ≤ 1 }
+pub(crate) fn with_last(alloc: Global, together: Together<'_>) -> Result<Edited, ExprError>
+    requires few { length together.left.now ≤ 1 }
+    requires serves { AreServed (operations_of together.left.now) (string_bytes together.edited.text) }
     ensures { Edits result (edit_after together.entry.edited.splices.items (spec.carry_all
         (operations_of together.entry.left.now) (string_bytes together.entry.edited.text))) }
 {
@@ -119,7 +121,7 @@ fn carry_at_once<'d>(
     alloc: Global,
     cut: &CutText<'d, '_>,
     ops: &'d [Op],
-) -> Result<Option<Edited>, EditError>
+) -> Result<Option<Edited>, ExprError>
     requires read { read_at cut.now ≡ Some (cut_of cut.now) }
     requires serves { AreServed (operations_of ops.now) cut.now }
     ensures ok { IfOk result (λ o. IfSome o (λ e. spec.carry_all (operations_of ops.now) cut.now ≡
@@ -146,7 +148,7 @@ fn carry_each(
     rows: Rows<'_>,
     splices: Vec<Splice>,
     ops: &[Op],
-) -> Result<Edited, EditError>
+) -> Result<Edited, ExprError>
     requires rows { rows ≡ rows_view (cut_of text.now) }
     requires read { read_at text.now ≡ Some (cut_of text.now) }
     requires serves { AreServed (operations_of ops.now) text.now }
@@ -166,7 +168,7 @@ fn carry_rows(
     rows: Rows<'_>,
     splices: Vec<Splice>,
     ops: &[Op],
-) -> Result<Edited, EditError>
+) -> Result<Edited, ExprError>
     requires rows { rows ≡ rows_view (cut_of text.now) }
     requires read { read_at text.now ≡ Some (cut_of text.now) }
     requires serves { AreServed (operations_of ops.now) text.now }
@@ -188,7 +190,7 @@ pub fn carry_plan(
     documents: Documents<'_>,
     splices: Vec<Splice>,
     ops: &[Op],
-) -> Result<Edited, EditError>
+) -> Result<Edited, ExprError>
     requires same { documents ≡ text.now }
     requires read { read_at text.now ≡ Some (cut_of documents) }
     requires serves { AreServed (operations_of ops.now) text.now }
@@ -198,6 +200,19 @@ pub fn carry_plan(
     // What is decoded is freed before an operation reads the head that it changes.
     let rows = documents.into_rows();
     carry_rows(alloc, text, rows, splices, ops)
+}
+
+/// The documents of a text that has a reading.
+pub(crate) fn read_again(alloc: Global, text: &str) -> Result<Documents<'_>, AllocError>
+    requires { HasReading text.now }
+    ensures same { IfOk result (λ d. d ≡ text.now) }
+    ensures read { IfOk result (λ d. read_at text.now ≡ Some (cut_of d)) }
+{
+    match read(alloc, text.as_bytes()) {
+        Ok(documents) => Ok(documents),
+        Err(ReadError::Memory) => Err(AllocError),
+        Err(ReadError::Fault(_)) => unreachable!(),
+    }
 }
 
 /// The rows of a text that has a reading: it is cut again, and nothing else of it is checked.
@@ -219,7 +234,7 @@ pub(crate) fn carry_on(
     text: &str,
     splices: Vec<Splice>,
     ops: &[Op],
-) -> Result<Edited, EditError>
+) -> Result<Edited, ExprError>
     requires { AreServed (operations_of ops.now) text.now }
     ensures { Edits result (edit_after splices.items (spec.carry_all (operations_of ops.now)
         text.now)) }

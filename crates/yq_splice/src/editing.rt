@@ -3,19 +3,22 @@ ghost use Rattle.std.specs.Prelude.{◌≡◌, ◌++◌, ◌<◌, ◌≤◌, ℕ
 ghost use Rattle.yq_documents.specs.Reading.{cut_of, documents_of, read_at};
 ghost use Rattle.yq_expr.{specs.FixedPaths.{IfAny, IsSole, PlansAlone}, specs.Parts.IsInOrder};
 ghost use Rattle.yq_semantics.{specs.Program.{LiteralsHold, Update, update_at, update_count, updates}, specs.View.program_of};
-ghost use Rattle.yq_edit_laws.{specs.Answers.Edits, specs.Theorems.{AreSplices, EditRefused, InOrder, IsEdited}};
-ghost use Rattle.yq_edit_laws.specs.Valid.{FailsAt, FailsEach, IsStep};
-ghost use Rattle.yq_splice.specs.Updates.{FailAfter, LeadOn};
+ghost use Rattle.yq_edit_laws.{specs.Answers.Edits, specs.Theorems.{AreSplices, InOrder, IsEdited}};
+ghost use Rattle.yq_edit_laws.specs.Valid.{FailsAt, FailsEach, IsStep, ProgramFails};
+ghost use Rattle.yq_splice.{specs.Answers.{EditRefused, EditsText}, specs.Updates.{FailAfter, LeadOn}};
 ghost use Rattle.yq_edit_laws.specs.Carried as spec;
 
+use crate::carrying::read_again;
 use crate::in_parts::carry_parts;
-use crate::updating::update_rows;
-use crate::{EditError, carry_plan, operands_hold};
+use crate::session::Session;
+use crate::updating::update_session;
+use crate::{carry_plan, operands_hold};
 use std::alloc::{AllocError, Global};
 use yq_documents::Documents;
 use yq_expr::{Program, Refusal, is_heavy, is_sole, judge, plan, plan_by_rows};
+use yq_fault::Fault;
 use yq_lookup::CutText;
-use yq_semantics::Op;
+use yq_semantics::{ExprError, Op};
 use yq_text::{Edited, Splice};
 use yq_tree::read;
 
@@ -38,7 +41,7 @@ fn step_in_parts(
     splices: Vec<Splice>,
     program: &Program,
     nth: usize,
-) -> Result<Edited, EditError>
+) -> Result<Edited, ExprError>
     requires within { nth < update_count (program_of program.now) }
     requires literals { LiteralsHold (program_of program.now) }
     requires same { documents.now ≡ text.now }
@@ -64,7 +67,7 @@ fn step(
     splices: Vec<Splice>,
     program: &Program,
     nth: usize,
-) -> Result<Edited, EditError>
+) -> Result<Edited, ExprError>
     requires within { nth < update_count (program_of program.now) }
     requires literals { LiteralsHold (program_of program.now) }
     requires same { documents ≡ text.now }
@@ -105,76 +108,87 @@ fn planned_by_rows(
     plan_by_rows(alloc, &mut cut, program, nth)
 }
 
-/// Update `nth` of a program carried out on the text that those before gave; and those after it on the rows
-/// that are kept, as far as these plan them. With the new text comes how many updates are done.
+/// Update `nth` of a program carried out on the text that those before gave, which was read; and those after
+/// it on the rows that are kept, as far as these plan them. With the new text comes how many updates are done.
 fn steps(
     alloc: Global,
     text: &str,
+    documents: Documents<'_>,
     splices: Vec<Splice>,
     program: &Program,
     nth: usize,
-) -> Result<(Edited, usize), EditError>
+) -> Result<(Edited, usize), ExprError>
     requires within { nth < update_count (program_of program.now) }
     requires literals { LiteralsHold (program_of program.now) }
+    requires same { documents ≡ text.now }
+    requires read { read_at text.now ≡ Some (cut_of documents) }
     ensures ok { LeadOn (program_of program.now) nth text.now splices.items result }
     ensures more { IfOk result (λ x. (nth < x.1) × (x.1 ≤ update_count (program_of program.now))) }
     ensures err { FailAfter (program_of program.now) nth text.now splices.items result }
 {
-    let documents = read(alloc, text.as_bytes())?;
     let planned = planned_by_rows(alloc, &documents, program, nth)?;
     if let Some(first) = planned {
-        return update_rows(alloc, text, documents, splices, program, nth, first);
+        let places = documents.into_rows().into_places();
+        let kept = String::from_str(alloc, text)?;
+        let session = Session::of(alloc, kept, places);
+        return update_session(session, splices, program, nth, first);
     }
     let _count = program.updates();
     let edited = step(alloc, text, documents, splices, program, nth)?;
     Ok((edited, nth + 1))
 }
 
-/// The updates of a program carried out on a text, one after the other.
-fn update_each(alloc: Global, text: &str, program: &Program) -> Result<Edited, EditError>
+/// The updates of a program carried out on a text that was read, one after the other.
+fn update_each(
+    alloc: Global,
+    text: &str,
+    documents: Documents<'_>,
+    program: &Program,
+) -> Result<Edited, ExprError>
     requires some { 0 < update_count (program_of program.now) }
     requires literals { LiteralsHold (program_of program.now) }
+    requires same { documents ≡ text.now }
+    requires read { read_at text.now ≡ Some (cut_of documents) }
     ensures ok { IfOk result (λ e. (us : List Update) → program_of program.now ≡ updates us →
         InOrder IsStep us text.now (string_bytes e.text) e.splices.items) }
     ensures err { IfErr result (λ e. (us : List Update) → program_of program.now ≡ updates us →
         FailsEach e us text.now) }
 {
-    let (mut edited, mut done) = steps(alloc, text, Vec::new(alloc), program, 0)?;
+    let (mut edited, mut done) = steps(alloc, text, documents, Vec::new(alloc), program, 0)?;
     let count = program.updates();
     'updates: while done < count {
         let Edited { text, splices } = edited;
-        let (next, so_many) = steps(alloc, text.as_str(), splices, program, done)?;
+        let text = text.as_str();
+        let documents = read_again(alloc, text)?;
+        let (next, so_many) = steps(alloc, text, documents, splices, program, done)?;
         edited = next;
         done = so_many;
     }
     Ok(edited)
 }
 
-/// A program without updates on a text: none is carried out.
-#[tactic(auto, unfolding(yq_edit_laws::specs::Carried::edit_of))]
-fn no_updates(alloc: Global, text: &str, program: &Program) -> Result<Edited, EditError>
-    requires { update_count (program_of program.now) ≡ 0 }
-    ensures { Edits result (spec.edit_of (program_of program.now) text.now) }
-{
-    let _documents = read(alloc, text.as_bytes())?;
-    if program.is_read() {
-        return Err(EditError::Refused(Refusal::NotAnUpdate));
-    }
-    Ok(unchanged(alloc, text)?)
-}
-
-/// A program carried out on a text.
-fn edit_text(alloc: Global, text: &str, program: &Program) -> Result<Edited, EditError>
-    requires { LiteralsHold (program_of program.now) }
-    ensures exact { Edits result (spec.edit_of (program_of program.now) text.now) }
+/// A program carried out on a text that was read.
+fn edit_read(
+    alloc: Global,
+    text: &str,
+    documents: Documents<'_>,
+    program: &Program,
+) -> Result<Edited, ExprError>
+    requires literals { LiteralsHold (program_of program.now) }
+    requires same { documents ≡ text.now }
+    requires read { read_at text.now ≡ Some (cut_of documents) }
+    ensures exact { Edits result (spec.program_done (program_of program.now) text.now) }
     ensures edited { IfOk result (λ e. IsEdited (program_of program.now) text.now
         (string_bytes e.text) e.splices.items) }
-    ensures refused { IfErr result (λ e. EditRefused e (program_of program.now) text.now) }
+    ensures refused { IfErr result (λ e. ProgramFails e (program_of program.now) text.now) }
 {
-    if program.updates() == 0 {
-        return no_updates(alloc, text, program);
+    if program.is_read() {
+        return Err(ExprError::Fault(Refusal::NotAnUpdate));
     }
-    update_each(alloc, text, program)
+    if program.updates() == 0 {
+        return Ok(unchanged(alloc, text)?);
+    }
+    update_each(alloc, text, documents, program)
 }
 
 /// Carries out a program on a text, one update after the other, and of each
@@ -186,9 +200,9 @@ fn edit_text(alloc: Global, text: &str, program: &Program) -> Result<Edited, Edi
 /// that the one before gave; a new text would be larger than 16,777,216 bytes
 /// ([`Refusal::TooLarge`]). The text is read again for an update that rows do not plan; of an update's operations
 /// each but the last one reads the rows that it wrote.
-pub fn edit(alloc: Global, text: &str, program: &Program) -> Result<Edited, EditError>
+pub fn edit(alloc: Global, text: &str, program: &Program) -> Result<Edited, Fault>
     // The new text, or why there is none.
-    ensures exact { Edits result (spec.edit_of (program_of program.now) text.now) }
+    ensures exact { EditsText result (spec.edit_of (program_of program.now) text.now) }
     // Each update exchanges segments of the text as it then is, all else stays, and the text after it
     // reads as what the update means.
     ensures edited { IfOk result (λ e. IsEdited (program_of program.now) text.now
@@ -200,5 +214,6 @@ pub fn edit(alloc: Global, text: &str, program: &Program) -> Result<Edited, Edit
     ensures refused { IfErr result (λ e. EditRefused e (program_of program.now) text.now) }
 {
     program.literals_hold();
-    edit_text(alloc, text, program)
+    let documents = read(alloc, text.as_bytes())?;
+    Ok(edit_read(alloc, text, documents, program)?)
 }

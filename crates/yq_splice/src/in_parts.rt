@@ -10,13 +10,13 @@ ghost use Rattle.yq_splice.specs.Parts.{IsJudged};
 use crate::carrying::carry_on;
 use std::alloc::Global;
 use yq_documents::Documents;
-use yq_edit_laws::{EditError, operands_hold};
+use yq_edit_laws::operands_hold;
 use yq_expr::{Program, plan_part};
-use yq_semantics::Op;
+use yq_semantics::{ExprError, Op, Refusal};
 use yq_text::{Edited, Splice};
 
 /// Operations carried out on the text of an edit; their splices come after its own.
-fn carry_part(alloc: Global, done: Edited, ops: &[Op]) -> Result<Edited, EditError>
+fn carry_part(alloc: Global, done: Edited, ops: &[Op]) -> Result<Edited, ExprError>
     requires { AreServed (operations_of ops.now) (string_bytes done.text) }
     ensures { Edits result (edit_after done.splices.items (carry_all (operations_of ops.now)
         (string_bytes done.text))) }
@@ -38,7 +38,7 @@ pub(crate) fn carry_parts(
     splices: Vec<Splice>,
     program: &Program,
     nth: usize,
-) -> Result<Edited, EditError>
+) -> Result<Edited, ExprError>
     requires within { nth < update_count (program_of program.now) }
     requires literals { LiteralsHold (program_of program.now) }
     requires same { documents.now ≡ text.now }
@@ -63,6 +63,9 @@ pub(crate) fn carry_parts(
         let part = plan_part(alloc, program, nth, documents, doc, place)?;
         operands_hold(&part.ops);
         done = carry_part(alloc, done, &part.ops)?;
+        if part.is_oversized {
+            return Err(ExprError::Fault(Refusal::TooLarge));
+        }
         doc = part.doc;
         place = part.place;
     }

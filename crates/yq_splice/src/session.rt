@@ -17,12 +17,12 @@ use std::alloc::{AllocError, Global};
 use std::marker::Model;
 use std::mem;
 use yq_core::ReadError;
-use yq_edit_laws::{EditError, operand_holds};
+use yq_edit_laws::operand_holds;
 use yq_expr::Program;
 use yq_lookup::Knowledge;
 use yq_row_table::Places;
 use yq_rows::{Kept, Meter, count_lines, follow};
-use yq_semantics::Op;
+use yq_semantics::{ExprError, Op};
 use yq_text::{ChangedMiddle, Edited, Halves, Splice, TextGapBuffer};
 use yq_tree::read;
 
@@ -91,7 +91,7 @@ impl Session {
     }
 
     /// What an operation changes in the text, and what is known after it, from which the next one may go on.
-    fn change(&mut self, op: &Op) -> Result<(ChangedMiddle, Knowledge), EditError>
+    fn change(&mut self, op: &Op) -> Result<(ChangedMiddle, Knowledge), ExprError>
         ensures same { self.new ≡ self.old }
         ensures ok { IfOk result (λ x. IsChangeBy (operation_of op.now) self.old.text x.0) }
         ensures known { IfOk result (λ x. KnowledgeStays x.0.front (cut_of self.old.text) x.1) }
@@ -132,7 +132,7 @@ impl Session {
     /// # Errors
     /// It is refused where the new text would be larger than 16,777,216 bytes
     /// ([`Refusal::TooLarge`](yq_semantics::Refusal::TooLarge)), and for no other reason but memory.
-    pub fn apply(&mut self, op: &Op) -> Result<Vec<Splice>, EditError>
+    pub fn apply(&mut self, op: &Op) -> Result<Vec<Splice>, ExprError>
         requires { IsFitting (operation_of op.now) self.old.text }
         // What the operation gives by itself.
         ensures ok { IfOk result (λ cs. carried (operation_of op.now) self.old.text ≡
@@ -199,7 +199,7 @@ impl Session {
     }
 
     /// Ends the session by an operation, whose splices come after others. The rows need not follow it.
-    pub(crate) fn close_by(self, op: &Op, splices: Vec<Splice>) -> Result<Edited, EditError>
+    pub(crate) fn close_by(self, op: &Op, splices: Vec<Splice>) -> Result<Edited, ExprError>
         ensures { Edits result (edit_after splices.items
             (carried (operation_of op.now) self.text)) }
     {

@@ -1,29 +1,27 @@
 //! Updates of a program carried out on a session, each as rows plan it.
-ghost use Rattle.std.specs.Prelude.{◌≡◌, ◌≤◌, ◌<◌, Some, IfOk};
-ghost use Rattle.yq_documents.specs.Reading.{cut_of, documents_of, read_at};
+ghost use Rattle.std.specs.Prelude.{◌≤◌, ◌<◌, IfOk};
+ghost use Rattle.yq_documents.specs.Reading.{documents_of};
 ghost use Rattle.yq_semantics.{specs.Program.{LiteralsHold, update_count}, specs.View.program_of};
 ghost use Rattle.yq_expr.specs.FixedPaths.{IsSole, PlansAlone};
 ghost use Rattle.yq_edit_laws.specs.Theorems.{HasReading};
 ghost use Rattle.yq_splice.specs.Updates.{FailAfter, LeadOn};
 
 use crate::session::Session;
-use std::alloc::Global;
-use yq_documents::Documents;
-use yq_edit_laws::{EditError, operand_holds};
+use yq_edit_laws::operand_holds;
 use yq_expr::Program;
-use yq_semantics::Op;
+use yq_semantics::{ExprError, Op};
 use yq_text::{Edited, Splice};
 
 /// Update `nth` of a program and those after it, as far as rows plan them, carried out on a session; the
 /// first one by its operation. Their splices come after others. With the new text comes how many updates
 /// are done.
-fn update_session(
+pub(crate) fn update_session(
     session: Session,
     splices: Vec<Splice>,
     program: &Program,
     nth: usize,
     first: Op,
-) -> Result<(Edited, usize), EditError>
+) -> Result<(Edited, usize), ExprError>
     requires within { nth < update_count (program_of program.now) }
     requires literals { LiteralsHold (program_of program.now) }
     requires read { HasReading session.text }
@@ -51,30 +49,4 @@ fn update_session(
     }
     let text = session.close();
     Ok((Edited { text, splices }, done))
-}
-
-/// The same of a text that was read, on a session of its own.
-pub(crate) fn update_rows(
-    alloc: Global,
-    text: &str,
-    documents: Documents<'_>,
-    splices: Vec<Splice>,
-    program: &Program,
-    nth: usize,
-    first: Op,
-) -> Result<(Edited, usize), EditError>
-    requires within { nth < update_count (program_of program.now) }
-    requires literals { LiteralsHold (program_of program.now) }
-    requires same { documents ≡ text.now }
-    requires read { read_at text.now ≡ Some (cut_of documents) }
-    requires sole { IsSole (documents_of text.now) }
-    requires plans { PlansAlone nth program.now text.now first }
-    ensures ok { LeadOn (program_of program.now) nth text.now splices.items result }
-    ensures more { IfOk result (λ x. (nth < x.1) × (x.1 ≤ update_count (program_of program.now))) }
-    ensures err { FailAfter (program_of program.now) nth text.now splices.items result }
-{
-    let places = documents.into_rows().into_places();
-    let kept = String::from_str(alloc, text)?;
-    let session = Session::of(alloc, kept, places);
-    update_session(session, splices, program, nth, first)
 }

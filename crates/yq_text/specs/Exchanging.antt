@@ -1,13 +1,8 @@
 -- What the exchange of segments of a text comes to, and what an answer says of that.
 use Rattle.std.specs.Prelude.{◌≡◌, ℕ, List, length, nat_le, if◌then◌else◌, Option, Some, None, Result, Ok, Err, string_bytes}
-use Rattle.yq_text.{specs.Limit.text_limit, specs.Splice.Splice, specs.Script.{Segment, new_text, changes}}
-use Rattle.yq_text.{specs.declared.edited.Edited.Edited, specs.declared.exchange_error.TooLarge.TooLarge}
-use Rattle.yq_failure.specs.declared.failure.Failure.{Failure}
-use Rattle.yq_failure.specs.declared.failure.Failure.TheVariants as error
-
--- Why a text is not made of its segments (own).
-abbrev pub ExchangeError : Type 0
-ExchangeError = Failure TooLarge
+use Rattle.std.specs.declared.alloc.AllocError.{AllocError}
+use Rattle.yq_text.{specs.Limit.text_limit, specs.Splice.Splice, specs.Script.{Segment, new_text, changes, changes_behind}}
+use Rattle.yq_text.specs.declared.edited.Edited.{Edited}
 
 -- What an exchange comes to: it gives a new text by these changes, or that would be too large (own).
 pub data Exchange : Type 0 where
@@ -22,12 +17,12 @@ within_limit n = if nat_le n text_limit then Some n else None
 abbrev pub exchange_of : List Segment → Exchange
 exchange_of ss = if nat_le (length (new_text ss)) text_limit then gives (new_text ss) (changes ss) else too_large
 
--- what an error says of the exchange; want of memory says nothing (own)
-abbrev pub NotExchanged : ExchangeError → Exchange → Type 0
-NotExchanged (error.Fault e) x = x ≡ too_large
-NotExchanged error.Memory x = Unit {0}
+-- these are the new text of segments and its splices, after so many bytes that stay (own)
+abbrev pub IsBuilt : ℕ → List Segment → Edited → Type 0
+IsBuilt front ss e = gives (new_text ss) (changes_behind front ss) ≡ gives (string_bytes e.text) e.splices.items
 
--- the answer is what the exchange comes to (own)
-abbrev pub Exchanged : Result Edited ExchangeError → Exchange → Type 0
-Exchanged (Ok e) x = x ≡ gives (string_bytes e.text) e.splices.items
-Exchanged (Err e) x = NotExchanged e x
+-- the answer is what the exchange comes to; want of memory says nothing (own)
+abbrev pub Exchanged : Result (Option Edited) AllocError → Exchange → Type 0
+Exchanged (Ok (Some e)) x = x ≡ gives (string_bytes e.text) e.splices.items
+Exchanged (Ok None) x = x ≡ too_large
+Exchanged (Err e) x = Unit {0}

@@ -6,10 +6,9 @@ ghost use Rattle.yq_text.specs.Script as script;
 use crate::Halves;
 use crate::changed::ChangedMiddle;
 use crate::edited::Edited;
-use crate::exchange_error::{ExchangeError, TooLarge};
 use crate::exchanging::{build, new_len};
 use crate::segment::{Segment, Segments};
-use std::alloc::Global;
+use std::alloc::{AllocError, Global};
 
 /// How many bytes a text has that is kept; they are characters.
 #[tactic(auto, using(crate::proofs::LoopLaws::texts_joined))]
@@ -75,23 +74,23 @@ fn kept_back(segments: &[Segment<'_>]) -> usize
 /// What segments change of their text, and the splices of that ([`exchange`](crate::exchange)). Bytes
 /// that stay in front of all that is replaced or after it are not moved.
 ///
-/// The new text may have 16,777,216 bytes at most ([`TooLarge`]).
-pub fn changes(alloc: Global, segments: &Segments<'_>) -> Result<ChangedMiddle, ExchangeError>
+/// Nothing, where the new text would be larger than 16,777,216 bytes.
+pub fn changes(alloc: Global, segments: &Segments<'_>) -> Result<Option<ChangedMiddle>, AllocError>
     requires { length (script.old_text segments.now) < 2 ^ 64 }
     ensures { Changes result segments.now }
 {
     let segments = segments.segments.as_slice();
     let Some(len) = new_len(segments) else {
-        return Err(ExchangeError::Fault(TooLarge));
+        return Ok(None);
     };
     let back = kept_back(segments);
     let (front, rest) = from_first(segments);
     let len = len.saturating_sub(front).saturating_sub(back);
     let Edited { text, splices } = build(alloc, to_last(rest), front, len)?;
-    Ok(ChangedMiddle {
+    Ok(Some(ChangedMiddle {
         front,
         back,
         new: text,
         splices,
-    })
+    }))
 }

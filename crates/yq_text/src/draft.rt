@@ -1,11 +1,9 @@
 //! What is made of the segments of a text, one after the other.
-ghost use Rattle.std.specs.Prelude.{◌≡◌, ℕ, ◌+◌, ◌<◌, ◌^◌, ◌++◌, [], List, IfErr, OnOk, length, string_bytes};
+ghost use Rattle.std.specs.Prelude.{◌≡◌, ℕ, ◌+◌, ◌<◌, ◌^◌, ◌++◌, [], List, OnOk, length, string_bytes};
 ghost use Rattle.yq_text.specs.Halves.{whole};
-ghost use Rattle.yq_failure.specs.declared.failure.Failure.TheVariants.{Memory};
 ghost use Rattle.yq_text.specs.Script as script;
 
 use crate::Halves;
-use crate::exchange_error::ExchangeError;
 use crate::splice::Splice;
 use std::alloc::{AllocError, Global};
 use std::mem::replace;
@@ -27,10 +25,9 @@ pub(crate) fn push_splice(
     at: usize,
     old: Vec<u8>,
     new: Vec<u8>,
-) -> Result<(), ExchangeError>
-    ensures ok { OnOk result (splices.new.items ≡
+) -> Result<(), AllocError>
+    ensures { OnOk result (splices.new.items ≡
         splices.old.items ++ script.splice_at at old.items new.items) }
-    ensures err { IfErr result (λ e. e ≡ Memory) }
 {
     if old.as_slice() == new.as_slice() {
         return Ok(());
@@ -80,7 +77,7 @@ fn push_gone(bytes: &mut Vec<u8>, gone: Halves<'_>) -> Result<(), AllocError>
 
 impl Draft {
     /// Adds a segment that stays, which has bytes.
-    pub(crate) fn keep(&mut self, alloc: Global, kept: Halves<'_>) -> Result<(), ExchangeError>
+    pub(crate) fn keep(&mut self, alloc: Global, kept: Halves<'_>) -> Result<(), AllocError>
         requires { self.old.at + length self.old.come.items + length (whole kept) < 2 ^ 64 }
         ensures text { OnOk result (string_bytes self.new.text ≡
             string_bytes self.old.text ++ whole kept.entry) }
@@ -91,7 +88,6 @@ impl Draft {
             self.old.at + length self.old.come.items + length (whole kept.entry)) }
         ensures gone { OnOk result (self.new.gone.items ≡ []) }
         ensures come { OnOk result (self.new.come.items ≡ []) }
-        ensures err { IfErr result (λ e. e ≡ Memory) }
     {
         let old = replace(&mut self.gone, Vec::new(alloc));
         let new = replace(&mut self.come, Vec::new(alloc));

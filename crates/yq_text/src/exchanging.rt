@@ -1,15 +1,14 @@
 //! A text made anew of its segments.
-ghost use Rattle.std.specs.Prelude.{◌≡◌, ◌+◌, ◌<◌, ◌^◌, ◌++◌, ◌∷◌, List, length};
-ghost use Rattle.yq_text.{specs.Halves.whole, specs.Exchanging.{Exchanged, exchange_of, gives, within_limit}};
+ghost use Rattle.std.specs.Prelude.{◌≡◌, ◌+◌, ◌<◌, ◌^◌, ◌++◌, ◌∷◌, List, IfOk, length};
+ghost use Rattle.yq_text.{specs.Halves.whole, specs.Exchanging.{Exchanged, IsBuilt, exchange_of, within_limit}};
 ghost use Rattle.yq_text.specs.Segments.{segment_of, segments_of};
 ghost use Rattle.yq_text.specs.Script as script;
 
 use crate::draft::{Draft, push_splice};
 use crate::edited::Edited;
-use crate::exchange_error::{ExchangeError, TooLarge};
 use crate::segment::{Segment, Segments};
 use crate::{Halves, TEXT_LIMIT};
-use std::alloc::Global;
+use std::alloc::{AllocError, Global};
 
 /// What is in the new text for a segment.
 fn new_of<'s>(segment: &'s Segment<'_>) -> Halves<'s>
@@ -47,10 +46,9 @@ pub(crate) fn build(
     segments: &[Segment<'_>],
     front: usize,
     len: usize,
-) -> Result<Edited, ExchangeError>
+) -> Result<Edited, AllocError>
     requires { front + length (script.new_text (segments_of segments.now)) < 2 ^ 64 }
-    ensures { Exchanged result (gives (script.new_text (segments_of segments.now))
-        (script.changes_behind front (segments_of segments.now))) }
+    ensures { IfOk result (IsBuilt front (segments_of segments.now)) }
 {
     let mut draft = Draft {
         text: String::with_capacity(alloc, len)?,
@@ -83,14 +81,15 @@ pub(crate) fn build(
 /// touch are one, and one that changes no byte is none. One pass counts the
 /// new text's bytes, and one moves each of them once.
 ///
-/// The new text may have 16,777,216 bytes at most ([`TooLarge`]).
+/// Nothing, where the new text would be larger than 16,777,216 bytes.
 #[tactic(auto, unfolding(crate::specs::Script::changes))]
-pub fn exchange(alloc: Global, segments: &Segments<'_>) -> Result<Edited, ExchangeError>
+pub fn exchange(alloc: Global, segments: &Segments<'_>) -> Result<Option<Edited>, AllocError>
     ensures { Exchanged result (exchange_of segments.now) }
 {
     let segments = segments.segments.as_slice();
-    match new_len(segments) {
-        Some(len) => build(alloc, segments, 0, len),
-        None => Err(ExchangeError::Fault(TooLarge)),
-    }
+    let Some(len) = new_len(segments) else {
+        return Ok(None);
+    };
+    let edited = build(alloc, segments, 0, len)?;
+    Ok(Some(edited))
 }

@@ -1,5 +1,5 @@
 //! Conditions, stages and pipes.
-ghost use Rattle.std.specs.Prelude.{◌≡◌, ◌<◌, codes, length, map, option_map, IfOk};
+ghost use Rattle.std.specs.Prelude.{◌<◌, map};
 ghost use Rattle.yq_expr_parser.{specs.ReadAnswers.{ReadsForm, Shortens}, specs.Lexing.tokens};
 ghost use Rattle.yq_semantics.specs.View.{operand_of, condition_of, stage_of};
 ghost use Rattle.yq_expr_parser.specs.Parse as spec;

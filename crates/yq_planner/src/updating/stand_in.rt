@@ -9,7 +9,7 @@ use std::alloc::{AllocError, Global};
 use yq_core::{DEPTH_LIMIT, Kind, Scalar, Value};
 
 /// How many collections are nested in a value: at most one more than may be.
-fn depth_of(value: &Value) -> usize
+pub(crate) fn depth_of(value: &Value) -> usize
     ensures { result ≡ min (suc depth_limit) (depth (value_node value.now)) }
 {
     let mut depth = 0;
@@ -23,7 +23,7 @@ fn depth_of(value: &Value) -> usize
 }
 
 /// A list of one item.
-fn in_list(alloc: Global, item: Value) -> Result<Value, AllocError>
+pub(crate) fn in_list(alloc: Global, item: Value) -> Result<Value, AllocError>
     ensures { IfOk result (λ v. value_node v ≡
         list None (child plain_label (value_node item) none)) }
 {
@@ -47,7 +47,7 @@ fn in_map(alloc: Global, value: Value) -> Result<Option<Value>, AllocError>
 }
 
 /// An empty text in so many lists.
-fn nested_lists(alloc: Global, count: usize) -> Result<Value, AllocError>
+pub(crate) fn nested_lists(alloc: Global, count: usize) -> Result<Value, AllocError>
     ensures depth { IfOk result (λ v. depth (value_node v) ≡ count) }
     ensures short { IfOk result (λ v. spec.has_long_key (value_node v) ≡ false) }
 {

@@ -32,7 +32,7 @@ one_pairs p cs ds h1 h2 h3 = search rules
 
 -- ---- at several places
 
-all_same : (root : Node) (cs ds : List Changed) → all_allowed root cs ≡ gives ds → cs ≡ ds
+pub all_same : (root : Node) (cs ds : List Changed) → all_allowed root cs ≡ gives ds → cs ≡ ds
 all_same root [] ds h = gives_same h
 all_same root (c ∷ cs) ds h =
     let w = joined_gives (and_then (λ d. gives (d ∷ [])) (allowed root c)) (all_allowed root cs) ds h in

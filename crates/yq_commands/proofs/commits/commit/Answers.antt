@@ -1,7 +1,7 @@
 use Rattle.std.proofs.Common.{◌≡◌, ◌≢◌, ℕ, List, Some, length, string_bytes, ◌∙◌, sym, ap, subst, true≢false}
 use Rattle.std.{proofs.lemmas.Result.err_from_is_err_and, proofs.lemmas.Slice.Eq.bytes_eq-Decides}
-use Rattle.yq_history.{specs.Calls.Makes, proofs.CallLaws.{fails, makes_none}, specs.Faults.is_outer_fault}
-use Rattle.yq_history.proofs.MoveLaws.{IsMove, on_ok_map}
+use Rattle.yq_history.{specs.Calls.Makes, proofs.CallLaws.{fails, makes_none}, proofs.MoveLaws.{IsMove, on_ok_map}}
+use Rattle.yq_fault.specs.Faults.{is_outer_fault}
 use Rattle.yq_commands.{specs.CommandEffects.edit_effect, specs.Editing.{edited, program_edits}, specs.Edits.edit_record}
 use Rattle.yq_commands.{proofs.EditLaws.{edit_done, edit_ends}, proofs.EditEffects.{edit_moves, edit_works}, proofs.DoneLaws.cut_edits}
 use Rattle.yq_journal.{specs.Record.{Record, done}, specs.declared.moves.Move.TheVariants.Edit}

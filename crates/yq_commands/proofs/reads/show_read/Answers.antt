@@ -20,14 +20,15 @@ returns-in_err-documents-clause-err c =
     c.in_ok-text.ensures.utf8 (p.1 ∙ ap Err p.2) (subst (λ t. ReadFails c.in_err-documents.field-0.0 (read_at t)) (c.as_bytes.ensures.value ∙ c.in_ok-text.ensures.ok) c.in_err-documents.ensures.exact)
     (λ no. sym (ap is_utf8 (c.as_bytes.ensures.value ∙ c.in_ok-text.ensures.ok)) ∙ c.in_err-documents.ensures.not_utf8.0 no)
 
-pub returns-in-Err-clause-err : goal.returns-in-Err-clause-err
-returns-in-Err-clause-err c =
-    matching_fails c.args.options c.args.text.now (program_of c.args.program.now) _ {T = Unit {0}} (Err c.match_fault.result) c.in-Err.error c.requires
-    (ap Err c.match_fault.ensures) (ap (option_map documents) (ap read_at (sym (c.as_bytes.ensures.value ∙ c.in_ok-text.ensures.ok)) ∙ c.in_ok-documents.ensures.exact)) c.in-Err.ensures.exact
+pub returns-in_err-found-clause-err : goal.returns-in_err-found-clause-err
+returns-in_err-found-clause-err c =
+    let p = err_from_is_err_and c.from_residual-in_err-found.result c.from_residual-in_err-found.ensures.1 in
+    matching_fails c.args.options c.args.text.now (program_of c.args.program.now) _ c.from_residual-in_err-found.result c.in_err-found.field-0.0 c.requires
+    (p.1 ∙ ap Err p.2) (ap (option_map documents) (ap read_at (sym (c.as_bytes.ensures.value ∙ c.in_ok-text.ensures.ok)) ∙ c.in_ok-documents.ensures.exact)) c.in_err-found.ensures.exact
 
 pub returns-clause-ok : goal.returns-clause-ok
 returns-clause-ok c =
-    found_shows c.args.options c.args.text.now (program_of c.args.program.now) _ (gives (matches_of c.in-Ok.found.items)) c.requires
-    (ap (option_map documents) (ap read_at (sym (c.as_bytes.ensures.value ∙ c.in_ok-text.ensures.ok)) ∙ c.in_ok-documents.ensures.exact)) c.in-Ok.ensures.exact
+    found_shows c.args.options c.args.text.now (program_of c.args.program.now) _ (gives (matches_of c.in_ok-found.found.items)) c.requires
+    (ap (option_map documents) (ap read_at (sym (c.as_bytes.ensures.value ∙ c.in_ok-text.ensures.ok)) ∙ c.in_ok-documents.ensures.exact)) c.in_ok-found.ensures.exact
     ∙ ap (λ ms. Ok (spec.report_matches c.args.options (matches_of ms))) (sym c.deref.ensures.value)
     ∙ ap Ok (sym c.in_ok-report_matches.ensures)

@@ -1,6 +1,6 @@
 use Rattle.std.proofs.Common.{rules, sym, ap, ◌∙◌}
 use Rattle.yq_core.{proofs.BlockSteps.{at_cut, at_end}, specs.Text.text_lines}
-use Rattle.yq_documents.proofs.RunLaws.{run_or, run_here, run_on, run_anew, run_end}
+use Rattle.yq_documents.proofs.RunLaws.{run_or, run_here, run_on, run_anew}
 use Rattle.yq_documents.proofs.comment.last_run.Goals as goal
 
 pub lines-init : goal.lines-init
@@ -28,11 +28,8 @@ lines-preserved c =
     let run = text_lines c.lines.run.now in
     let after = text_lines c.split_line.result.1.now in
     let cut = at_cut _ _ _ _ c.is_empty.ensures c.lines-test.true c.split_line.ensures in
-    record {
-      run_text = c.lines.invariant.run_text;
-      rest_text = search rules;
-      so_far = c.lines.invariant.so_far ∙ (ap (run_or run) cut.0 ∙ run_on run after c.split_line.result.0.now (sym c.is_comment.ensures ∙ c.if-not-is_comment.false));
-    }
+    search (rules, run_or, run_on)
 
 pub returns : goal.returns
-returns c = sym (c.lines.invariant.so_far ∙ run_end (text_lines c.lines.run.now) c.lines.rest.now (at_end _ _ c.is_empty.ensures c.lines-test.false))
+unfolding text_lines
+returns c = sym (c.lines.invariant.so_far ∙ (ap (λ x. run_or (text_lines c.lines.run.now) (text_lines x)) (at_end _ _ c.is_empty.ensures c.lines-test.false)))

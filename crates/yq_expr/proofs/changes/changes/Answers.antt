@@ -1,8 +1,8 @@
-use Rattle.std.{proofs.Common.{◌<◌, List, length, map, Err, ap, sym, ◌∙◌, subst, arith}, proofs.lemmas.List.map_push}
+use Rattle.std.{proofs.Common.{◌<◌, List, length, map, ap, sym, ◌∙◌, arith, rules}, proofs.lemmas.List.map_push}
 use Rattle.std.proofs.lemmas.Result.{err_from_is_err_and}
 use Rattle.yq_core.specs.Tree.{Node}
 use Rattle.yq_documents.{specs.Documents.Document, specs.Reading.documents_of}
-use Rattle.yq_semantics.{specs.Changes.changes_in, specs.Judgement.MatchFails, specs.Rooms.room_of, specs.View.update_of}
+use Rattle.yq_semantics.{specs.Changes.changes_in, specs.Rooms.room_of, specs.View.update_of}
 use Rattle.yq_planner.specs.ChangeView.{all_changed_of, changed_of}
 use Rattle.yq_eval.{proofs.EachLaws.failed, proofs.MatchLaws.document_there}
 use Rattle.yq_expr.{proofs.AllChanges.{document_more, document_fails}, proofs.DocumentLaws.document_root}
@@ -16,11 +16,7 @@ returns-in_err-changes_in c =
     let docs : List Document = documents_of c.args.documents.now in
     let within : c.documents.doc < length docs = omega (arith, c.count-doc-end.ensures, c.documents-test.true) in
     let d = document_there docs c.documents.doc within in
-    let p = err_from_is_err_and c.from_residual.result c.from_residual.ensures.1 in
-    failed _ _ _ _ (p.1 ∙ ap Err p.2)
-    (document_fails (update_of c.args.update.now) (room_of c.args.documents.now) docs c.documents.doc d.0 (all_changed_of c.documents.changes.items) _ _ d.2
-    (subst (λ (n : Node). MatchFails c.in_err-changes_in.field-0.0 (changes_in (update_of c.args.update.now) c.documents.doc (room_of c.args.documents.now c.documents.doc) n)) (c.root-root.ensures.node d.0 d.1) c.in_err-changes_in.ensures)
-    c.documents.invariant)
+    search (rules, err_from_is_err_and, failed, document_fails, c.root-root.ensures.node)
 
 pub documents-preserved : goal.documents-preserved
 documents-preserved c =

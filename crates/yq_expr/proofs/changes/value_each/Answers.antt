@@ -1,22 +1,16 @@
-use Rattle.std.{proofs.Common.{◌≡◌, if◌then◌else◌, Err, Vec, map, sym, ap, ◌∙◌, subst}, proofs.lemmas.Result.err_from_is_err_and}
+use Rattle.std.{proofs.Common.{◌≡◌, Vec, map, sym, ap, ◌∙◌, subst, rules}, proofs.lemmas.Result.err_from_is_err_and}
 use Rattle.std.specs.declared.alloc.Global.{Global}
 use Rattle.yq_core.specs.Values.{value_node}
 use Rattle.yq_nodes.specs.Nodes.{node_of}
-use Rattle.yq_semantics.{specs.Changes.{add_at, put_with_path}, specs.Judgement.{MatchFails, Judges, gives}, specs.Places.root_place}
+use Rattle.yq_semantics.{specs.Changes.{add_at, put_with_path}, specs.Judgement.{Judges, gives}, specs.Places.root_place}
 use Rattle.yq_semantics.{specs.RightValues.right_value, specs.View.term_of}
 use Rattle.yq_planner.{specs.ChangeView.changed_of, specs.declared.updating.change.PlacedChange.PlacedChange}
 use Rattle.yq_eval.{specs.FoundView.found_places, proofs.EachLaws.failed}
-use Rattle.yq_expr.{proofs.AllChanges.{value_there, value_fails}, proofs.changes.value_each.Goals.{then-adds, else-adds}}
+use Rattle.yq_expr.{proofs.AllChanges.value_there, proofs.changes.value_each.Goals.{then-adds, else-adds}}
 use Rattle.yq_expr.proofs.changes.value_each.Goals as goal
 
 pub returns-in_err-value : goal.returns-in_err-value
-returns-in_err-value c =
-    let root = node_of c.args.found.now.document.root in
-    let ts = map term_of c.args.right.now in
-    let p = err_from_is_err_and c.from_residual.result c.from_residual.ensures.1 in
-    failed _ _ _ _ (p.1 ∙ ap Err p.2)
-    (value_fails root (right_value c.args.found.now.document.doc ts (root_place root)) (if c.args.adds then add_at else put_with_path) (found_places c.args.found.now.places) _ c.requires.some
-    (subst (MatchFails _) (ap (right_value c.args.found.now.document.doc ts) c.of_root-from.ensures) c.in_err-value.ensures))
+returns-in_err-value c = search (rules, err_from_is_err_and, failed)
 
 pub returns : goal.returns
 returns c =

@@ -1,8 +1,8 @@
-use Rattle.std.{proofs.Common.{◌≡◌, Err, List, [], map, refl, sym, ap, ◌∙◌, subst, arith}, proofs.lemmas.Result.err_from_is_err_and}
+use Rattle.std.{proofs.Common.{◌≡◌, Err, List, refl, sym, ap, ◌∙◌, subst, arith, rules}, proofs.lemmas.Result.err_from_is_err_and}
 use Rattle.yq_nodes.{specs.Children.left_of, specs.Nodes.{label_of, node_of}}
 use Rattle.yq_outline.specs.Counts.{count}
-use Rattle.yq_semantics.{specs.Changes.{Changed, all_allowed, at_each}, specs.Judgement.{Judgement, MatchFails, and_then, gives}}
-use Rattle.yq_semantics.{specs.PlacesApart.{AreIn, IsIn}, specs.Places.{FoundPlace, child_place, stepped}}
+use Rattle.yq_semantics.{specs.Changes.{Changed, all_allowed}, specs.Judgement.{Judgement, MatchFails, and_then, gives}}
+use Rattle.yq_semantics.{specs.PlacesApart.{AreIn, IsIn}, specs.Places.FoundPlace}
 use Rattle.yq_planner.specs.StandIns.{verdict}
 use Rattle.yq_expr.{specs.JudgedChanges.effect_of, proofs.ChildPlaces.{nothing_before, first_child, child_more, child_fails, children_done}}
 use Rattle.yq_expr.proofs.VerdictLaws.{behind_given, behind_fails, verdict_fails}
@@ -53,35 +53,13 @@ children-preserved c =
     }
 
 pub returns : goal.returns
-returns c = λ root named within.
-    let p : FoundPlace = place_at_path (path_of c.args.parent.now.path) (node_of c.args.parent.now.node) in
-    let f : FoundPlace → Judgement (List Changed) = λ q. and_then (all_allowed root) (effect_of c.args.effect.now c.args.documents.now q) in
-    let zero : count (left_of c.children.children) ≡ 0 = omega (arith, c.children.invariant.counted, c.children-test.false) in
-    let before = c.children.invariant.so_far root named within in
-    ap verdict (children_done f p c.children.before (left_of c.children.children) before.0 _ (none_counted (left_of c.children.children) zero) before.1)
+returns c = search (rules, children_done, none_counted, c.children.invariant.so_far)
 
 pub overflow_add-before : goal.overflow_add-before
 overflow_add-before c = omega (arith, c.children-test.true)
 
 pub children-init : goal.children-init
-children-init c =
-    let p : FoundPlace = place_at_path (path_of c.args.parent.now.path) (node_of c.args.parent.now.node) in
-    let all = c.children-children.ensures in
-    record {
-      same = c.of_document-cut.ensures;
-      counted = let counted = ap count all ∙ sym c.count-count.ensures in omega (arith, counted);
-      scalars = subst (λ cs. HaveScalars (map (child_place p) (stepped 0 cs))) (sym all) c.requires;
-      within = λ root within. subst (λ cs. AreIn root (map (child_place p) (stepped 0 cs))) (sym all) within;
-      so_far = λ root named within. (
-        [],
-        nothing_before _
-            ∙ ap (λ cs. at_each root (effect_of c.args.effect.now c.args.documents.now) (map (child_place p) (stepped 0 cs))) all,
-      );
-    }
+children-init c = search (rules, nothing_before)
 
 pub returns-in_default : goal.returns-in_default
-returns-in_default c = λ root named within.
-    let p : FoundPlace = place_at_path (path_of c.args.parent.now.path) (node_of c.args.parent.now.node) in
-    let f : FoundPlace → Judgement (List Changed) = λ q. and_then (all_allowed root) (effect_of c.args.effect.now c.args.documents.now q) in
-    let before = c.children.invariant.so_far root named within in
-    ap verdict (children_done f p c.children.before (left_of c.children.children) before.0 _ c.in_default.ensures.steps.0 before.1)
+returns-in_default c = search (rules, children_done, c.children.invariant.so_far)

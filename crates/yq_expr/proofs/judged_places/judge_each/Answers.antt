@@ -1,19 +1,13 @@
-use Rattle.std.{proofs.Common.{Err, List, [], ap, ◌∙◌, subst, arith, ◌≤◌, length}, proofs.lemmas.Result.err_from_is_err_and}
+use Rattle.std.{proofs.Common.{Err, List, ap, ◌∙◌, subst, rules}, proofs.lemmas.Result.err_from_is_err_and}
 use Rattle.yq_semantics.{specs.Changes.{Changed, all_allowed}, specs.Judgement.{Judgement, and_then}, specs.PlacesApart.AreIn}
 use Rattle.yq_semantics.specs.Places.{FoundPlace}
 use Rattle.yq_expr.{specs.JudgedChanges.effect_of, proofs.AllChanges.each_done, proofs.ChildPlaces.nothing_before}
 use Rattle.yq_expr.proofs.VerdictLaws.{behind_given, behind_fails, verdict_fails}
-use Rattle.yq_planner.specs.StandIns.{verdict}
 use Rattle.yq_eval.{specs.PlaceView.place_of, specs.TreeScalars.HaveScalars, proofs.EachLaws.{each_more, each_fails, failed, reached}}
 use Rattle.yq_expr.proofs.judged_places.judge_each.Goals as goal
 
 pub places-init : goal.places-init
-places-init c = record {
-  same = c.of_document-cut.ensures;
-  scalars = c.requires;
-  within = λ root within. within;
-  so_far = λ root named within. ([], nothing_before _);
-}
+places-init c = search (rules, nothing_before)
 
 pub returns-in_err-judge_place : goal.returns-in_err-judge_place
 returns-in_err-judge_place c = λ root named within.
@@ -44,8 +38,4 @@ places-preserved c =
     }
 
 pub returns : goal.returns
-returns c = λ root named within.
-    let f : FoundPlace → Judgement (List Changed) = λ q. and_then (all_allowed root) (effect_of c.args.effect.now c.args.documents.now q) in
-    let past : length c.args.places.now ≤ c.places.place-index = omega (arith, c.places-test.false) in
-    let before = c.places.invariant.so_far root named within in
-    ap verdict (each_done place_of f before.0 c.args.places.now c.places.place-index _ past before.1)
+returns c = search (rules, each_done, c.places.invariant.so_far)

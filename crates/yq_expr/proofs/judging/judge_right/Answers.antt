@@ -1,21 +1,15 @@
-use Rattle.std.{proofs.Common.{◌≡◌, if◌then◌else◌, Err, map, sym, ap, ◌∙◌, subst}, proofs.lemmas.Result.err_from_is_err_and}
+use Rattle.std.{proofs.Common.{rules, ◌≡◌, if◌then◌else◌, map, sym, ap, ◌∙◌, subst}, proofs.lemmas.Result.err_from_is_err_and}
 use Rattle.yq_core.specs.Values.{value_node}
 use Rattle.yq_nodes.specs.Nodes.{node_of}
 use Rattle.yq_planner.specs.StandIns.{verdict}
-use Rattle.yq_semantics.{specs.Changes.{add_at, put_with_path}, specs.Judgement.{Judges, MatchFails, gives}, specs.Places.root_place}
-use Rattle.yq_semantics.{specs.RightValues.right_value, specs.View.term_of}
+use Rattle.yq_semantics.{specs.Judgement.{Judges, gives}, specs.Places.root_place, specs.RightValues.right_value, specs.View.term_of}
 use Rattle.yq_eval.{specs.FoundView.found_places, proofs.EachLaws.failed}
-use Rattle.yq_expr.{proofs.AllChanges.value_fails, proofs.VerdictLaws.{value_judged, verdict_fails}}
+use Rattle.yq_expr.{proofs.AllChanges.value_fails, proofs.VerdictLaws.{oversized_judged, value_judged, verdict_fails}}
+use Rattle.yq_expr.specs.Oversized.{StandsForOversized}
 use Rattle.yq_expr.proofs.judging.judge_right.Goals as goal
 
 pub returns-in_err-value : goal.returns-in_err-value
-returns-in_err-value c =
-    let root = node_of c.args.found.now.document.root in
-    let ts = map term_of c.args.right.now in
-    let p = err_from_is_err_and c.from_residual.result c.from_residual.ensures.1 in
-    failed _ _ _ _ (p.1 ∙ ap Err p.2)
-    (verdict_fails _ _ (value_fails root (right_value c.args.found.now.document.doc ts (root_place root)) (if c.args.adds then add_at else put_with_path) (found_places c.args.found.now.places) _ c.requires.some
-    (subst (MatchFails _) (ap (right_value c.args.found.now.document.doc ts) c.of_root-from.ensures) c.in_err-value.ensures)))
+returns-in_err-value c = search (rules, err_from_is_err_and, failed, verdict_fails, value_fails)
 
 pub returns : goal.returns
 returns c =
@@ -25,3 +19,12 @@ returns c =
     subst (Judges (λ _. tt) c.judge_value.result)
     (ap verdict (sym (value_judged root (right_value c.args.found.now.document.doc ts (root_place root)) c.args.adds (found_places c.args.found.now.places) (value_node c.in_ok-value.value) c.requires.some value)))
     (c.judge_value.ensures root c.requires.aliases c.requires.places.within)
+
+pub returns-in-Some : goal.returns-in-Some
+returns-in-Some c =
+    let root = node_of c.args.found.now.document.root in
+    let j = right_value c.args.found.now.document.doc (map term_of c.args.right.now) (root_place root) in
+    let large : StandsForOversized j (value_node c.in-Some.small) = search (rules, c.in-Some.is, c.of_root-from.ensures) in
+    subst (Judges (λ _. tt) c.judge_one.result)
+    (sym (oversized_judged root j c.args.adds (found_places c.args.found.now.places) (value_node c.in-Some.small) c.requires.some large))
+    (c.judge_one.ensures root c.requires.aliases c.requires.places.within)

@@ -1,8 +1,8 @@
-use Rattle.std.{proofs.Common.{◌<◌, ◌≤◌, List, length, Err, ap, sym, ◌∙◌, subst, arith}, proofs.lemmas.Result.err_from_is_err_and}
+use Rattle.std.{proofs.Common.{◌<◌, List, length, ap, sym, ◌∙◌, arith, rules}, proofs.lemmas.Result.err_from_is_err_and}
 use Rattle.yq_core.specs.Tree.{Node}
 use Rattle.yq_documents.{specs.Documents.Document, specs.Reading.documents_of}
 use Rattle.yq_planner.specs.StandIns.{verdict}
-use Rattle.yq_semantics.{specs.Changes.changes_in, specs.Judgement.MatchFails, specs.Rooms.room_of, specs.View.update_of}
+use Rattle.yq_semantics.{specs.Changes.changes_in, specs.Rooms.room_of, specs.View.update_of}
 use Rattle.yq_eval.{proofs.EachLaws.failed, proofs.MatchLaws.document_there}
 use Rattle.yq_expr.{proofs.VerdictLaws.{document_judged, document_refused, documents_judged}, proofs.DocumentLaws.document_root}
 use Rattle.yq_expr.proofs.judging.judge_update.Goals as goal
@@ -15,13 +15,7 @@ returns-in_err-judge_in c =
     let docs : List Document = documents_of c.args.documents.now in
     let within : c.documents.doc < length docs = omega (arith, c.count-doc-end.ensures, c.documents-test.true) in
     let d = document_there docs c.documents.doc within in
-    let p = err_from_is_err_and c.from_residual.result c.from_residual.ensures.1 in
-    failed _ _ _ _ (p.1 ∙ ap Err p.2)
-    (document_refused (update_of c.args.update.now) (room_of c.args.documents.now) docs c.documents.doc d.0 _ _ d.2
-    (subst (λ (n : Node). MatchFails c.in_err-judge_in.field-0.0
-    (verdict (changes_in (update_of c.args.update.now) c.documents.doc (room_of c.args.documents.now c.documents.doc) n)))
-    (c.root-root.ensures.node d.0 d.1) c.in_err-judge_in.ensures)
-    c.documents.invariant)
+    search (rules, err_from_is_err_and, failed, document_refused, c.root-root.ensures.node)
 
 pub documents-preserved : goal.documents-preserved
 documents-preserved c =
@@ -33,6 +27,4 @@ documents-preserved c =
     c.documents.invariant
 
 pub returns : goal.returns
-returns c =
-    let past : length (documents_of c.args.documents.now) ≤ c.documents.doc = omega (arith, c.count-doc-end.ensures, c.documents-test.false) in
-    documents_judged (update_of c.args.update.now) (room_of c.args.documents.now) (documents_of c.args.documents.now) c.documents.doc _ past c.documents.invariant
+returns c = search (rules, documents_judged)

@@ -1,4 +1,4 @@
-use Rattle.std.proofs.Common.{true, false, sym, ◌∙◌}
+use Rattle.std.proofs.Common.{true, sym, ◌∙◌, rules}
 use Rattle.yq_core.specs.Values.{value_node}
 use Rattle.yq_eval.specs.PlaceView.{place_of}
 use Rattle.yq_semantics.specs.View.{program_step}
@@ -11,6 +11,4 @@ returns-then-branch c =
     (sym c.if-branch.true ∙ c.in_ok-some_key_is_long.ensures)
 
 pub returns : goal.returns
-returns c =
-    deep_refusal (λ s. program_step s.now) c.args.missing.now (place_of c.args.place.now) (value_node c.args.value.now) false c.requires.many c.requires.steps
-    (sym c.if-branch.false ∙ c.in_ok-some_key_is_long.ensures)
+returns c = search (rules, deep_refusal)

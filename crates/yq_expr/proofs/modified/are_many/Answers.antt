@@ -8,4 +8,4 @@ room_after-requires c =
     let docs : List Document = documents_of c.args.documents.now in
     let within : c.documents.doc < length docs = omega (arith, c.count-doc-end.ensures, c.documents-test.true) in
     let d = document_there docs c.documents.doc within in
-    subst HasScalars (sym (c.root.ensures.node d.0 d.1)) (documents_have (document_parts (cut_of c.args.documents.now)) c.documents.doc d.0 d.1)
+    subst HasScalars (sym (c.root-root.ensures.node d.0 d.1)) (documents_have (document_parts (cut_of c.args.documents.now)) c.documents.doc d.0 d.1)

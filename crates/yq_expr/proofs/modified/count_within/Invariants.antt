@@ -5,5 +5,6 @@ use Rattle.yq_expr.proofs.modified.count_within.Given as goal
 abbrev pub invariant-places : goal.invariant-places
 invariant-places l = record {
   counted : l.count ≡ l.place-index;
+  first : l.count ≡ 0 → l.left ≡ l.room;
   scalars : HaveScalars (places_of (drop l.place-index l.places));
 }

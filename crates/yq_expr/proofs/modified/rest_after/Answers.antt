@@ -8,4 +8,4 @@ use Rattle.yq_expr.proofs.modified.rest_after.Goals as goal
 pub count_within-requires : goal.count_within-requires
 count_within-requires c =
     subst (λ (xs : List FoundPlace). HaveScalars (places_of xs)) (sym c.deref.ensures.value)
-    (places_have c.args.doc (map stage_of c.deref-left.result.now) (node_of c.args.root) (places_of c.in_ok-places.places.items) c.requires c.in_ok-places.ensures)
+    (places_have c.args.document.doc (map stage_of c.deref-left.result.now) (node_of c.args.document.root) (places_of c.in_ok-places.places.items) c.requires c.in_ok-places.ensures)

@@ -1,42 +1,34 @@
-use Rattle.std.proofs.Common.{◌≡◌, ◌⊎◌, inl, inr, ℕ, ◌+◌, ◌<◌, List, length, Option, Some, None, refl, sym, ap, ◌∙◌, subst, arith}
+use Rattle.std.proofs.Common.{◌≡◌, ◌⊎◌, inr, ℕ, ◌+◌, ◌<◌, List, length, Option, Some, None, sym, ◌∙◌, subst, arith, rules}
 use Rattle.std.proofs.lemmas.Result.{err_from_is_err_and}
 use Rattle.yq_core.specs.Tree.{Node}
 use Rattle.yq_documents.{specs.Documents.Document, specs.Reading.documents_of}
 use Rattle.yq_nodes.specs.Nodes.{node_of}
-use Rattle.yq_semantics.{specs.Judgement.MatchFails, specs.Operations.{Operation, operations_of}, specs.Rooms.room_of, specs.View.update_of}
-use Rattle.yq_eval.{specs.PlaceView.put_behind, proofs.MatchLaws.document_there}
-use Rattle.yq_expr.{specs.Parts.{IsPlanPart, document_ops, rest_ops}, proofs.ChildPlaces.nothing_before}
+use Rattle.yq_semantics.{specs.Operations.{Operation, operations_of}, specs.Rooms.room_of, specs.View.update_of}
+use Rattle.yq_eval.proofs.MatchLaws.{document_there}
+use Rattle.yq_expr.{specs.Parts.{IsPlanPart, document_ops}, proofs.ChildPlaces.nothing_before}
 use Rattle.yq_expr.{proofs.PartLaws.{document_fails, next_document, same_document}, proofs.DocumentLaws.document_root}
+use Rattle.yq_expr.{specs.Oversized.GivesOversizedOps, proofs.OversizedOps.rest_begins}
 use Rattle.yq_expr.proofs.parts.part_of.Goals as goal
 
 pub documents-init : goal.documents-init
-documents-init c = record {
-  later = inl (refl, refl);
-  within = omega (arith, c.requires);
-  room = λ _. omega arith;
-  so_far = ap (λ xs. put_behind (operations_of xs) (rest_ops (update_of c.args.update.now) (room_of c.args.documents.now) (documents_of c.args.documents.now) c.args.doc c.args.place)) c.new.ensures.items ∙ nothing_before _;
-}
+documents-init c = search (rules, nothing_before)
 
 -- what is no later than one document comes before the end of it
 before_next : (doc at place first : ℕ) → (at ≡ doc) × (place ≡ first) ⊎ (doc < at) → doc < at + 1
-before_next doc at place first (inl h) = let same : at ≡ doc = h.0 in omega arith
-before_next doc at place first (inr h) = omega (arith, h)
+before_next doc at place first h = search rules
 
 pub document_part-requires : goal.document_part-requires
-document_part-requires c = document_root _ c.are_ready.ensures (omega (arith, c.count.ensures, c.documents-test.true)) c.root.ensures.node
+document_part-requires c = record {
+  document = document_root _ c.are_ready.ensures (omega (arith, c.count.ensures, c.documents-test.true)) c.root.ensures.node;
+  fresh = c.documents.invariant.fresh;
+}
 
 pub returns-in_err-next-clause-err : goal.returns-in_err-next-clause-err
 returns-in_err-next-clause-err c =
     let docs : List Document = documents_of c.args.documents.now in
     let within : c.documents.at < length docs = omega (arith, c.count.ensures, c.documents-test.true) in
     let d = document_there docs c.documents.at within in
-    let p = err_from_is_err_and c.from_residual.result c.from_residual.ensures.1 in
-    rw (p.1, p.2)
-    (document_fails (update_of c.args.update.now) (room_of c.args.documents.now) docs c.documents.at d.0 d.2 c.documents.place (operations_of c.documents.part.ops.items) _ _
-    (subst (λ (n : Node). MatchFails c.in_err-next.field-0.0
-    (document_ops (update_of c.args.update.now) c.documents.at (room_of c.args.documents.now c.documents.at) n c.documents.place))
-    (c.root.ensures.node d.0 d.1) c.in_err-next.ensures.err)
-    c.documents.invariant.so_far)
+    search (rules, err_from_is_err_and, document_fails, c.root.ensures.node)
 
 pub returns-in-Some-clause-part : goal.returns-in-Some-clause-part
 returns-in-Some-clause-part c =
@@ -68,6 +60,17 @@ documents-preserved c =
     record {
       later = inr later;
       within = omega (arith, within);
+      fresh = c.in_ok-next.ensures.fresh c.in-None.is;
       room = λ same. absurd (omega (arith, later, same));
       so_far = sym (next_document (update_of c.args.update.now) (room_of c.args.documents.now) docs c.documents.at d.0 d.2 c.documents.place before after there) ∙ c.documents.invariant.so_far;
     }
+
+pub returns-in-Some-clause-large : goal.returns-in-Some-clause-large
+returns-in-Some-clause-large c = λ is.
+    let docs : List Document = documents_of c.args.documents.now in
+    let within : c.documents.at < length docs = omega (arith, c.count.ensures, c.documents-test.true) in
+    let d = document_there docs c.documents.at within in
+    let u = update_of c.args.update.now in
+    let large = (rw c.in-Some.is at c.in_ok-next.ensures.ends).large is in
+    rest_begins u (room_of c.args.documents.now) docs c.documents.at d.0 d.2 c.in-Some.place
+    (subst (λ (n : Node). GivesOversizedOps (document_ops u c.documents.at (room_of c.args.documents.now c.documents.at) n c.in-Some.place)) (c.root.ensures.node d.0 d.1) large)

@@ -1,13 +1,11 @@
-use Rattle.std.proofs.Common.{ℕ, List}
+use Rattle.std.proofs.Common.{ℕ, List, rules}
 use Rattle.yq_documents.specs.Reading.{documents_of}
 use Rattle.yq_semantics.{specs.Operations.operations_of, specs.Rooms.room_of, specs.View.program_of, proofs.RoomLaws.rooms_are_ready}
 use Rattle.yq_semantics.proofs.updates.PlanAnswers.{answer_means, answer_fits, answer_refused, answer_refuses, literals_hold}
 use Rattle.yq_expr.proofs.planning.plan.Goals as goal
 
 pub returns-clause-meaning : goal.returns-clause-meaning
-returns-clause-meaning c =
-    let t : List ℕ = c.args.documents.now in
-    λ u e. answer_means (λ v. operations_of v.items) u (room_of t) (documents_of t) c.planned.result (rooms_are_ready t c.are_ready.ensures) (c.planned.ensures u e)
+returns-clause-meaning c = search (rules, answer_means, rooms_are_ready, c.planned.ensures, c.are_ready.ensures)
 
 pub returns-clause-fits : goal.returns-clause-fits
 returns-clause-fits c =
@@ -16,9 +14,7 @@ returns-clause-fits c =
     (literals_hold (program_of c.args.program.now) c.args.nth u c.literals_hold.ensures e) (c.planned.ensures u e)
 
 pub returns-clause-refused : goal.returns-clause-refused
-returns-clause-refused c =
-    let t : List ℕ = c.args.documents.now in
-    λ u why e is. answer_refused (λ v. operations_of v.items) u (room_of t) (documents_of t) c.planned.result why (c.planned.ensures u e) is
+returns-clause-refused c = search (rules, answer_refused, c.planned.ensures)
 
 pub returns-clause-refuses : goal.returns-clause-refuses
 returns-clause-refuses c =

@@ -1,10 +1,9 @@
-use Rattle.std.proofs.Common.{IfOk, inl, string_bytes, subst}
-use Rattle.yq_history.{specs.ListedDiffs.IsDiffOrNote, proofs.ListedLaws.{not_utf8, note_comes}}
+use Rattle.std.proofs.Common.{inl, rules}
+use Rattle.yq_history.proofs.ListedLaws.{not_utf8, note_comes}
 use Rattle.yq_history.proofs.listed_diffs.change.Goals as goal
 
 pub returns-in-Ok : goal.returns-in-Ok
-returns-in-Ok c =
-    subst (λ t. IfOk c.change_to.result (λ s. IsDiffOrNote c.args.file.now t c.args.new.now (string_bytes s))) c.in-Ok.ensures.cases.0 c.change_to.ensures
+returns-in-Ok c = search rules
 
 pub returns-in-Err : goal.returns-in-Err
 returns-in-Err c = note_comes c.args.file.now c.args.old.now c.args.new.now c.from_str.result (inl (not_utf8 c.args.old.now c.in-Err.ensures.cases.0)) c.from_str.ensures.ok

@@ -1,4 +1,4 @@
-use Rattle.std.proofs.Common.{◌≡◌, ◌++◌, ◌+◌, ◌-◌, ℕ, List, arith, ap, ap₂, ◌∙◌, nat_lt, string_bytes}
+use Rattle.std.proofs.Common.{◌≡◌, ◌++◌, ◌+◌, ◌-◌, ℕ, arith, ap, ◌∙◌, nat_lt, string_bytes, rules}
 use Rattle.yq_journal.specs.Record.{Record}
 use Rattle.yq_history.{specs.Listing.edit_line, proofs.ListedLaws.done_more}
 use Rattle.yq_history.proofs.listed_diffs.done_lines.Goals as goal
@@ -13,9 +13,7 @@ records-preserved c =
     let r = c.record-record.result.now in
     let place : ℕ = c.records.left - 1 in
     let expr : c.deref.result.now ≡ r.expr = c.deref.ensures ∙ ap (λ (p : Record). p.expr) c.record.view_is in
-    let line : string_bytes c.in_ok-line.line ≡ edit_line (place + 1) (nat_lt place s.at) r.expr ++ string_bytes c.in_ok-change.change =
-    c.in_ok-line.ensures ∙ ap₂ (λ (n : ℕ) (e : List ℕ). edit_line (place + 1) (nat_lt place n) e ++ c.deref-in-records.result.now) c.at-in-records.ensures expr
-    ∙ ap (λ x. edit_line (place + 1) (nat_lt place s.at) r.expr ++ x) c.deref-in-records.ensures in
+    let line : string_bytes c.in_ok-line.line ≡ edit_line (place + 1) (nat_lt place s.at) r.expr ++ string_bytes c.in_ok-change.change = search rules in
     let more = done_more c.args.file.now s.at c.records.left s.records r c.args.text.now _ _ c.records.lines.items c.push.new.self.items
     c.in_ok-line.line _ c.in_ok-push.ensures.items (omega (arith, c.records-test.true)) old.within c.record-record.ensures old.near old.printed
     c.in_ok-change.ensures.old c.in_ok-change.ensures.change line in

@@ -1,13 +1,10 @@
-use Rattle.std.proofs.Common.{◌≡◌, ◌≤◌, ◌+◌, ◌++◌, ℕ, List, arith, ap, ap₂, ◌∙◌, length, nat_lt, string_bytes}
+use Rattle.std.proofs.Common.{rules, ◌≡◌, ◌≤◌, ◌+◌, ◌++◌, arith, ap, ◌∙◌, length, nat_lt, string_bytes}
 use Rattle.yq_journal.specs.Record.{Record}
 use Rattle.yq_history.{specs.Listing.edit_line, proofs.ListedLaws.{undone_end, undone_init, undone_more}}
 use Rattle.yq_history.proofs.listed_diffs.lines_with_diffs.Goals as goal
 
 pub records-init : goal.records-init
-records-init c =
-    let start = undone_init c.args.file.now c.args.state.now.at c.at-i.result c.args.state.now.records c.args.text.items c.deref.result.now
-    (string_bytes c.in_ok-lines.lines) _ c.at-i.ensures c.deref.ensures.value c.in_ok-lines.ensures c.in_ok-done.ensures in
-    record { begun = start.0; near = start.1; printed = start.2 }
+records-init c = search (rules, undone_init)
 
 pub records-preserved : goal.records-preserved
 records-preserved c =
@@ -16,11 +13,8 @@ records-preserved c =
     let i = c.records.i in
     let r = c.record-record.result.now in
     let expr : c.deref-in-records.result.now ≡ r.expr = c.deref-in-records.ensures ∙ ap (λ (p : Record). p.expr) c.record.view_is in
-    let line : string_bytes c.in_ok-line.line ≡ edit_line (i + 1) (nat_lt i s.at) r.expr ++ string_bytes c.in_ok-change.change =
-    c.in_ok-line.ensures ∙ ap₂ (λ (n : ℕ) (e : List ℕ). edit_line (i + 1) (nat_lt i n) e ++ c.deref-in-records-2.result.now) c.at.ensures expr
-    ∙ ap (λ x. edit_line (i + 1) (nat_lt i s.at) r.expr ++ x) c.deref-in-records-2.ensures in
-    let pushed : string_bytes c.push_str.new.self ≡ string_bytes c.records.lines ++ string_bytes c.in_ok-line.line =
-    c.in_ok-push_str.ensures.bytes ∙ ap (λ x. string_bytes c.records.lines ++ x) c.deref-in-records-3.ensures in
+    let line : string_bytes c.in_ok-line.line ≡ edit_line (i + 1) (nat_lt i s.at) r.expr ++ string_bytes c.in_ok-change.change = search rules in
+    let pushed : string_bytes c.push_str.new.self ≡ string_bytes c.records.lines ++ string_bytes c.in_ok-line.line = search rules in
     let more = undone_more c.args.file.now s.at i s.records r c.args.text.items _ _ (string_bytes c.records.lines) (string_bytes c.push_str.new.self)
     (string_bytes c.in_ok-line.line) _ pushed old.begun c.record-record.ensures old.near old.printed
     c.in_ok-change.ensures.new c.in_ok-change.ensures.change line in

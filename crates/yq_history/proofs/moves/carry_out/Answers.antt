@@ -1,10 +1,11 @@
-use Rattle.std.{proofs.Common.{inl, inr, refl, ap, ◌∙◌, sym, Err, [], ◌∷◌}, specs.FinMap.get, proofs.lemmas.Option.none-some}
+use Rattle.std.{proofs.Common.{rules, inl, inr, refl, ap, ◌∙◌, sym, Err, [], ◌∷◌}, specs.FinMap.get, proofs.lemmas.Option.none-some}
 use Rattle.std.proofs.lemmas.Result.{err_from_is_err_and}
+use Rattle.yq_journal.{specs.Json.journal_text, specs.State.journal_after}
 use Rattle.yq_history.proofs.MoveLaws.{first_write, second_write, third_write, same_content, moved_journal, on_err, on_ok_map, on_err_map}
 use Rattle.yq_history.{proofs.MoveLaws.{either, settled_is}, proofs.CutLaws.{cut_unwritten, cut_opened, cut_changed, cut_settled}}
-use Rattle.yq_history.{proofs.EffectLaws.on_ok, specs.Faults.failures_after, proofs.FaultLaws.{all_outside, failed_write, way_there}}
-use Rattle.yq_history.{specs.Effects.move_effect, proofs.CallLaws.{fails, makes_none, puts_as, three_writes, was_last, was_put_as}}
-use Rattle.yq_journal.{specs.Json.journal_text, specs.State.journal_after}
+use Rattle.yq_history.{proofs.EffectLaws.on_ok, proofs.FaultLaws.{all_outside, failed_write, way_there}}
+use Rattle.yq_history.proofs.CallLaws.{fails, makes_none, puts_as, three_writes, was_last, was_put_as}
+use Rattle.yq_fault.specs.Faults.{failures_after}
 use Rattle.yq_store.specs.FileMap.{get_written}
 use Rattle.yq_history.proofs.moves.carry_out.Goals as goal
 
@@ -91,10 +92,7 @@ returns-in_err-finish-clause-cut g c = λ keeps apart.
     on_err _ (cut_changed _ _ _ _ _ _ apart _ _ c.in_ok-start_known.ensures.ok (c.in_ok-write_journal.ensures.ok keeps) _ (c.in_ok-replace.ensures.written keeps))
 
 pub returns-in_err-start_known-clause-calls : goal.returns-in_err-start_known-clause-calls
-returns-in_err-start_known-clause-calls g c =
-    let p = err_from_is_err_and c.from_residual.result c.from_residual.ensures.1 in
-    makes_none g.D.Store.leads c.from_residual.result c.args.open.pair.file.now c.args.open.pair.journal.now c.args.open.text.items
-    (move_effect c.args.step c.args.open.text.items c.args.open.state) c.args.store.now (fails c.from_residual.result _ p.1)
+returns-in_err-start_known-clause-calls g c = search (rules, err_from_is_err_and, makes_none, fails)
 
 pub returns-in_err-write_journal-clause-calls : goal.returns-in_err-write_journal-clause-calls
 returns-in_err-write_journal-clause-calls g c =

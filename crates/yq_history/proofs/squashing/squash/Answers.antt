@@ -1,17 +1,13 @@
-use Rattle.std.{proofs.Common.{Err, ap, ◌∙◌}, specs.FinMap.get, proofs.lemmas.Result.err_from_is_err_and}
+use Rattle.std.{proofs.Common.{Err, ap, ◌∙◌, rules}, specs.FinMap.get, proofs.lemmas.Result.err_from_is_err_and}
 use Rattle.yq_history.{proofs.SquashLaws.squash_opened, specs.Effects.squash_effect, proofs.EffectLaws.{not_opened, from_opened}}
 use Rattle.yq_history.proofs.CallLaws.{opened_calls, unopened_calls}
 use Rattle.yq_history.proofs.squashing.squash.Goals as goal
 
 pub returns-clause-arrives : goal.returns-clause-arrives
-returns-clause-arrives g c = λ keeps apart h good.
-    squash_opened _ _ _ _ c.args.n h c.in_ok-text.text c.in_ok-text.state c.squash_from.result (c.in_ok-text.ensures.opens keeps h good)
-    (c.squash_from.ensures.arrives keeps apart)
+returns-clause-arrives g c = search (rules, squash_opened, c.in_ok-text.ensures.opens, c.squash_from.ensures.arrives)
 
 pub returns-in_err-text-clause-effect : goal.returns-in_err-text-clause-effect
-returns-in_err-text-clause-effect g c = λ keeps apart.
-    let p = err_from_is_err_and c.from_residual.result c.from_residual.ensures.1 in
-    not_opened _ _ (squash_effect c.args.n) _ _ _ _ c.from_residual.result _ (p.1 ∙ ap Err p.2) (c.in_err-text.ensures.same keeps) (c.in_err-text.ensures.missed keeps)
+returns-in_err-text-clause-effect g c = search (rules, err_from_is_err_and, not_opened, c.in_err-text.ensures.same, c.in_err-text.ensures.missed)
 
 pub returns-clause-effect : goal.returns-clause-effect
 returns-clause-effect g c = λ keeps apart.

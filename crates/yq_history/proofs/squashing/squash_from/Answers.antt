@@ -1,8 +1,9 @@
-use Rattle.std.{proofs.Common.{inl, inr, ℕ, refl, subst, Ok}, proofs.lemmas.Result.err_from_is_err_and, proofs.lemmas.Bool.{eq-eqb, ne_eqb}}
+use Rattle.std.{proofs.Common.{rules, inl, inr, ℕ, refl, subst}, proofs.lemmas.Result.err_from_is_err_and}
+use Rattle.std.proofs.lemmas.Bool.{eq-eqb, ne_eqb}
 use Rattle.yq_history.proofs.MoveLaws.{none_of, either, journal_written, on_err_map, on_ok_map}
 use Rattle.yq_history.{proofs.SquashLaws.{squash_refused, squash_of_one, squash_ends}, specs.Pair.IsJournal}
 use Rattle.yq_history.proofs.EffectLaws.{squash_not_done, squash_one_works, squash_works}
-use Rattle.yq_history.{proofs.CallLaws.{fails, makes_none, puts_as, squashed_one, squash_write}, specs.Effects.squash_effect}
+use Rattle.yq_history.proofs.CallLaws.{fails, makes_none, puts_as, squashed_one, squash_write}
 use Rattle.yq_history.proofs.squashing.squash_from.Goals as goal
 
 pub returns-in_err-squash-clause-arrives : goal.returns-in_err-squash-clause-arrives
@@ -20,14 +21,10 @@ returns-clause-arrives g c = λ keeps apart h k.
     (c.write_journal.ensures.ok keeps) (c.write_journal.ensures.err keeps) c.write_journal.ensures.outside
 
 pub returns-in_err-squash-clause-effect : goal.returns-in_err-squash-clause-effect
-returns-in_err-squash-clause-effect g c = λ keeps apart there.
-    let p = err_from_is_err_and c.from_residual.result c.from_residual.ensures.1 in
-    squash_not_done c.args.open.pair.file.now c.args.open.pair.journal.now (g.D.Store.content c.args.store.now) c.args.open.state c.args.open.text.items c.args.n c.from_residual.result p.0 _ p.1 p.2 c.in_err-squash.ensures.fault
+returns-in_err-squash-clause-effect g c = search (rules, err_from_is_err_and, squash_not_done, g.D.Store.content)
 
 pub returns-then-n-eq1-clause-effect : goal.returns-then-n-eq1-clause-effect
-returns-then-n-eq1-clause-effect g c = λ keeps apart there.
-    squash_one_works c.args.open.pair.file.now c.args.open.pair.journal.now (g.D.Store.content c.args.store.now) c.args.open.state
-    c.args.open.text.items c.args.n {T = Unit {0}} tt (eq-eqb c.args.n 1 c.if-n-eq1.true) c.in_ok-squash.ensures.free
+returns-then-n-eq1-clause-effect g c = search (rules, squash_one_works, eq-eqb, g.D.Store.content)
 
 pub returns-clause-effect : goal.returns-clause-effect
 returns-clause-effect g c = λ keeps apart there.
@@ -39,15 +36,10 @@ returns-clause-effect g c = λ keeps apart there.
     c.write_journal.ensures.outside
 
 pub returns-in_err-squash-clause-calls : goal.returns-in_err-squash-clause-calls
-returns-in_err-squash-clause-calls g c =
-    let p = err_from_is_err_and c.from_residual.result c.from_residual.ensures.1 in
-    makes_none g.D.Store.leads c.from_residual.result c.args.open.pair.file.now c.args.open.pair.journal.now c.args.open.text.items
-    (squash_effect c.args.n c.args.open.text.items c.args.open.state) c.args.store.now (fails c.from_residual.result _ p.1)
+returns-in_err-squash-clause-calls g c = search (rules, err_from_is_err_and, makes_none, fails)
 
 pub returns-then-n-eq1-clause-calls : goal.returns-then-n-eq1-clause-calls
-returns-then-n-eq1-clause-calls g c =
-    squashed_one g.D.Store.leads {T = Unit {0}} (Ok tt) c.args.open.pair.file.now c.args.open.pair.journal.now c.args.open.text.items
-    c.args.open.state c.args.n c.args.store.now c.args.store.now (eq-eqb c.args.n 1 c.if-n-eq1.true) c.in_ok-squash.ensures.free refl
+returns-then-n-eq1-clause-calls g c = search (rules, squashed_one, eq-eqb)
 
 pub returns-clause-calls : goal.returns-clause-calls
 returns-clause-calls g c =

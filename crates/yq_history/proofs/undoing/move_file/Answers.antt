@@ -1,18 +1,14 @@
-use Rattle.std.{proofs.Common.{Err, ap, ◌∙◌}, specs.FinMap.get, proofs.lemmas.Result.err_from_is_err_and}
+use Rattle.std.{proofs.Common.{Err, ap, ◌∙◌, rules}, proofs.lemmas.Result.err_from_is_err_and}
 use Rattle.yq_history.{specs.Effects.move_effect, specs.Directions.walk_move, proofs.EffectLaws.{not_opened, from_opened}}
 use Rattle.yq_history.proofs.CallLaws.{opened_calls, unopened_calls}
 use Rattle.yq_history.proofs.undoing.move_file.Goals as goal
 
 pub returns-in_err-text-clause-effect : goal.returns-in_err-text-clause-effect
-returns-in_err-text-clause-effect g c = λ keeps apart.
-    let p = err_from_is_err_and c.from_residual.result c.from_residual.ensures.1 in
-    not_opened _ _ (move_effect (walk_move c.args.dir)) _ _ _ _ c.from_residual.result _ (p.1 ∙ ap Err p.2) (c.in_err-text.ensures.same keeps) (c.in_err-text.ensures.missed keeps)
+returns-in_err-text-clause-effect g c = search (rules, err_from_is_err_and, not_opened, c.in_err-text.ensures.same, c.in_err-text.ensures.missed)
 
 pub returns-clause-effect : goal.returns-clause-effect
-returns-clause-effect g c = λ keeps apart.
-    let same = c.in_ok-text.ensures.same keeps in
-    from_opened _ _ (move_effect (walk_move c.args.dir)) _ _ (g.D.Store.content c.args.store.now) _ _ c.in_ok-text.text.items c.in_ok-text.state c.move_from.result same (c.in_ok-text.ensures.found keeps (move_effect (walk_move c.args.dir)))
-    (c.move_from.ensures.effect keeps apart (ap (λ m. get m c.args.pair.now.file.now) same ∙ c.in_ok-text.ensures.text keeps))
+returns-clause-effect g c =
+    search (rules, from_opened, c.in_ok-text.ensures.same, g.D.Store.content, c.in_ok-text.ensures.found, c.move_from.ensures.effect, c.in_ok-text.ensures.text)
 
 pub returns-in_err-text-clause-calls : goal.returns-in_err-text-clause-calls
 returns-in_err-text-clause-calls g c =

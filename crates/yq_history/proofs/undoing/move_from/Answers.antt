@@ -1,7 +1,7 @@
-use Rattle.std.{proofs.Common.{Some, sym, ap, ◌∙◌, subst}, proofs.lemmas.Result.err_from_is_err_and}
+use Rattle.std.{proofs.Common.{rules, Some, sym, ap, ◌∙◌}, proofs.lemmas.Result.err_from_is_err_and}
 use Rattle.yq_journal.{specs.Refusals.way_fault, specs.State.moved_text}
-use Rattle.yq_history.{proofs.MoveLaws.{refused_move, other_move}, specs.Directions.walk_move, proofs.EffectLaws.{move_refused, move_other}}
-use Rattle.yq_history.{proofs.CallLaws.{fails, makes_none}, specs.Calls.Makes, specs.Effects.move_effect}
+use Rattle.yq_history.{proofs.MoveLaws.{refused_move, other_move}, proofs.EffectLaws.{move_refused, move_other}}
+use Rattle.yq_history.proofs.CallLaws.{fails, makes_none}
 use Rattle.yq_history.proofs.undoing.move_from.Goals as goal
 
 pub returns-in_err-new-clause-arrives : goal.returns-in_err-new-clause-arrives
@@ -56,12 +56,7 @@ returns-clause-effect g c = λ keeps apart there.
     })
 
 pub returns-in_err-new-clause-calls : goal.returns-in_err-new-clause-calls
-returns-in_err-new-clause-calls g c =
-    let p = err_from_is_err_and c.from_residual.result c.from_residual.ensures.1 in
-    makes_none g.D.Store.leads c.from_residual.result c.args.open.pair.file.now c.args.open.pair.journal.now c.args.open.text.items
-    (move_effect (walk_move c.args.dir) c.args.open.text.items c.args.open.state) c.args.store.now (fails c.from_residual.result _ p.1)
+returns-in_err-new-clause-calls g c = search (rules, err_from_is_err_and, makes_none, fails)
 
 pub returns-clause-calls : goal.returns-clause-calls
-returns-clause-calls g c =
-    subst (λ x. Makes g.D.Store.leads c.carry_out.result c.args.open.pair.file.now c.args.open.pair.journal.now c.args.open.text.items (move_effect x c.args.open.text.items c.args.open.state) c.args.store.now c.carry_out.new.store)
-    c.step-else-eq.ensures c.carry_out.ensures.calls
+returns-clause-calls g c = search rules

@@ -1,4 +1,5 @@
-use Rattle.std.{proofs.Common.{take, sym, ap, ◌∙◌, arith, take_all}, proofs.lemmas.Bool.both_ways, specs.Prelude.{is_some, option_and_then}}
+use Rattle.std.{proofs.Common.{take, sym, ap, ◌∙◌, arith, take_all, rules}, proofs.lemmas.Bool.both_ways}
+use Rattle.std.specs.Prelude.{is_some, option_and_then}
 use Rattle.yq_text.specs.Splice.{all_done, change_done}
 use Rattle.yq_journal.{specs.ByteGapBuffer.splice_of_parts, specs.Turned.turned_splices}
 use Rattle.yq_journal.proofs.StandLaws.{some_of, lies_within, stays_small, found_there, not_there, not_all, done_next, length-turned}
@@ -31,5 +32,4 @@ splices-preserved c =
     ap is_some (done_next (turned_splices c.args.turned.now) c.splices.k s c.args.text.now c.nth-at.ensures ∙ ap (option_and_then (change_done s)) b.1 ∙ found.1)
 
 pub returns : goal.returns
-returns c =
-    sym (ap (λ l. is_some (all_done l c.args.text.now)) (sym (take_all c.splices.k (turned_splices c.args.turned.now) (omega (arith, length-turned c.args.turned.now.back c.args.turned.now.splices.now)))) ∙ c.splices.invariant)
+returns c = search (rules, take_all, length-turned)

@@ -1,19 +1,19 @@
 use Rattle.std.{proofs.Common.{Some, None, false, sym, ap, ◌∙◌, subst, w64}, proofs.lemmas.Int.to_z-of_z}
-use Rattle.yq_core.{specs.Answers.Gives, specs.Text.front, specs.Scalars.begins_scalar}
-use Rattle.yq_row_table.{specs.Slicing.begins_other, specs.Reading.is_alphanumeric, proofs.MarkAgain.scalar_node}
-use Rattle.yq_row_table.{proofs.ScalarSlicing.{other_node, no_node}, proofs.RowSlicing.{content_block, content_inline, content_nothing}}
+use Rattle.yq_core.{specs.Answers.Gives, specs.Runs.is_word_byte, specs.Text.front, specs.Scalars.begins_scalar}
+use Rattle.yq_row_table.{specs.Slicing.begins_other, proofs.MarkAgain.scalar_node, proofs.ScalarSlicing.{other_node, no_node}}
+use Rattle.yq_row_table.proofs.RowSlicing.{content_block, content_inline, content_nothing}
 use Rattle.yq_row_table.proofs.WordFronts.{word_scalar, word_other, word_block}
 use Rattle.yq_rows.specs.ReadPieces.{filling_view}
 use Rattle.yq_rows.proofs.content.read_content.Goals as goal
 
 pub read_scalar_content-requires : goal.read_scalar_content-requires
 read_scalar_content-requires c =
-    let word = ap (front is_alphanumeric) (sym c.as_bytes.ensures.value) ∙ (sym c.begins_word.ensures ∙ c.if-begins_word.true) in
+    let word = ap (front is_word_byte) (sym c.as_bytes.ensures.value) ∙ (sym c.begins_word.ensures ∙ c.if-begins_word.true) in
     (word_other c.split_white.result.1.now word, word_scalar c.split_white.result.1.now word)
 
 pub returns-then-begins_word-clause-read : goal.returns-then-begins_word-clause-read
 returns-then-begins_word-clause-read c =
-    let word = ap (front is_alphanumeric) (sym c.as_bytes.ensures.value) ∙ (sym c.begins_word.ensures ∙ c.if-begins_word.true) in
+    let word = ap (front is_word_byte) (sym c.as_bytes.ensures.value) ∙ (sym c.begins_word.ensures ∙ c.if-begins_word.true) in
     subst (Gives filling_view c.read_scalar_content.result)
     (sym (content_inline c.args.parent c.args.text.now _ _ c.split_white.ensures (word_block c.split_white.result.1.now word) (scalar_node c.split_white.result.1.now (word_scalar c.split_white.result.1.now word))))
     (rw (to_z-of_z w64 c.args.parent c.ranges.parent) at c.read_scalar_content.ensures.read)

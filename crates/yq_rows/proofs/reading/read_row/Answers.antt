@@ -23,14 +23,14 @@ returns-clause-read c =
     let parent = c.parent_of-parent.result in
     let fits : SFits w64 parent = search rules in
     let content = c.in-Ok.content in
-    let asked : limit_view c.behind.result ≡ limit_by
+    let asked : limit_view c.behind-limit.result ≡ limit_by
     (parent_of (mark_view c.read_begin-begin.result.mark) (length c.split_spaces.result.0.now + c.read_begin-begin.result.columns))
-    content.plain = (rw (to_z-of_z w64 parent fits) at c.behind.ensures) ∙ ap (λ n. limit_by n content.plain) c.parent_of-parent.ensures in
+    content.plain = (rw (to_z-of_z w64 parent fits) at c.behind-limit.ensures) ∙ ap (λ n. limit_by n content.plain) c.parent_of-parent.ensures in
     row_as (limit_view c.args.limit) c.args.gap.now c.args.text.now _ _ _ _ _ _ c.split_spaces.ensures c.as_bytes.ensures.value c.may_stand.ensures
     c.if-not-may_stand.false c.read_begin-begin.ensures.read (c.in-Ok.ensures.read c.args.gap.now)
     ∙ (ap (λ (l : Limit). Some
     (read_slices c.args.gap.now (length c.split_spaces.result.0.now) c.read_begin-begin.result content, l, content.rest.now)) (sym asked)
-    ∙ ap (λ (s : Slices). Some (s, limit_view c.behind.result, content.rest.now)) (sym c.offsets_of-place.ensures.same))
+    ∙ ap (λ (s : Slices). Some (s, limit_view c.behind-limit.result, content.rest.now)) (sym c.offsets_of-place.ensures.same))
 
 pub returns-clause-place : goal.returns-clause-place
 returns-clause-place c = c.offsets_of-place.ensures.place ∙ ap (offsets_of _) (sym c.offsets_of-place.ensures.same)

@@ -1,9 +1,10 @@
 use Rattle.std.{proofs.Common.{◌≡◌, ◌-◌, length, true, false, refl, rules, sym, subst, ap, ◌∙◌}, proofs.lemmas.List.Elements.All-push}
 use Rattle.yq_row_table.{specs.Offsets.{Stand, IsCutIn, rows_in, slices_in}, proofs.Failing.fails_by}
 use Rattle.yq_row_table.proofs.NearLaws.{rows_placed_end, rows_placed_none, rows_placed_step}
-use Rattle.yq_row_table.proofs.OffsetLaws.{ends_next, row_then, rows_push}
+use Rattle.yq_row_table.proofs.OffsetLaws.{ends_next, row_then, rows_length, rows_push}
 use Rattle.yq_row_table.proofs.RowSlicing.{at_gap, gap_joined, loop_smaller, loop_step, no_row, row_joined, rows_end}
 use Rattle.yq_row_table.{specs.Grammar.{Limit, ends_part}, specs.Kept.rows_placed, specs.Reading.all_rows, specs.Slicing.rows_sliced}
+use Rattle.yq_row_table.proofs.OtherRows.{others_push}
 use Rattle.yq_rows.{specs.ReadPieces.limit_view, proofs.Columns.ends_within}
 use Rattle.yq_rows.proofs.reading.read_rows.Goals as goal
 
@@ -59,6 +60,9 @@ rows-preserved c =
       placed = rows_placed_step c.rows.rows.items _ c.in-Ok.found.0 whole (limit_view c.rows.limit) (limit_view c.in-Ok.found.1) c.rows.at.now _ _
           row after _ c.rows.invariant.ends c.split_gap.ensures more c.in-Ok.ensures.read c.in_ok-push.ensures.items c.in-Ok.ensures.place
           c.rows.invariant.placed;
+      others = λ h. others_push (rows_in whole c.rows.rows.items) _ row c.rows.others.items _ c.len.result c.in-Ok.found.3 pushed
+          (c.len.ensures ∙ (c.rows.rows.ok.0 ∙ rows_length whole c.rows.rows.items)) c.in-Ok.ensures.word c.in_ok-push_other.ensures
+          (c.rows.invariant.others h);
     }
 
 pub rows-init : goal.rows-init
@@ -72,6 +76,7 @@ rows-init c =
       stand = c.requires.stand;
       so_far = ap (λ (l : Limit). rows_sliced (rows_in whole rows) (all_rows l text)) c.none-limit.ensures;
       placed = ap (λ (l : Limit). rows_placed rows (length whole - length text) (all_rows l text)) c.none-limit.ensures;
+      others = λ h. h;
     }
 
 pub returns-then-ends_part-clause-behind : goal.returns-then-ends_part-clause-behind
@@ -80,3 +85,6 @@ returns-then-ends_part-clause-behind c = ends_next c.args.whole.now c.rows.at.no
 pub read_row-requires-clause-short : goal.read_row-requires-clause-short
 read_row-requires-clause-short c =
     ends_within c.split_gap.result.1.now c.args.whole.now (ends_next c.args.whole.now c.rows.at.now c.split_gap.result.0.now c.split_gap.result.1.now c.rows.invariant.ends (gap_joined c.rows.at.now _ _ c.split_gap.ensures))
+
+pub returns-then-ends_part-clause-others : goal.returns-then-ends_part-clause-others
+returns-then-ends_part-clause-others c = λ h. c.rows.invariant.others h

@@ -2,9 +2,10 @@ use Rattle.std.proofs.Common.{◌≡◌, ℕ, ◌+◌, List, [], ◌++◌, true,
 use Rattle.std.proofs.lemmas.List.Elements.{All-push}
 use Rattle.yq_core.specs.Text.{is_empty}
 use Rattle.yq_row_table.{specs.Grammar.begins_document, specs.Offsets.{Ends, rows_in}, specs.Ends.{EndStands, EndsStand, bounds_in}}
-use Rattle.yq_row_table.{specs.declared.ends.EndPlace.EndPlace, specs.declared.places.Places.Places}
-use Rattle.yq_row_table.{proofs.EndsNear.{ends_placed_end, ends_placed_step, kept_part}, proofs.Failing.fails_by}
-use Rattle.yq_row_table.{proofs.NearLaws.{near_read, parts_placed_end, parts_placed_step}, proofs.OffsetLaws.{ends_next, rows_length}}
+use Rattle.yq_row_table.{specs.declared.ends.EndPlace.EndPlace, specs.declared.places.Places.Places, specs.View.RowsView}
+use Rattle.yq_row_table.{specs.WordRows.AreOtherRows, proofs.EndsNear.{ends_placed_end, ends_placed_step, kept_part}}
+use Rattle.yq_row_table.{proofs.Failing.fails_by, proofs.NearLaws.{near_read, parts_placed_end, parts_placed_step}}
+use Rattle.yq_row_table.proofs.OffsetLaws.{ends_next, rows_length}
 use Rattle.yq_row_table.proofs.PartSlicing.{one_part, end_ends, empty_by, bounds_push, part_is_marker, part_smaller, parts_none}
 use Rattle.yq_row_table.{proofs.PartSlicing.{parts_unmarked, parts_end, parts_more}, proofs.PartsLaws.marker_takes}
 use Rattle.yq_row_table.proofs.PlacedLaws.{Scanned, scanned_places, scanned_view}
@@ -51,8 +52,8 @@ scanned c =
       small = c.requires;
     })
 
-pub of-requires : goal.of-requires
-of-requires c = scanned_places c.args.text.now c.of-text.result (record { front = c.in-Ok.part.0; behind = c.new-behind.result; ends = c.of-ends.result; split = length c.args.text.now }) (scanned c)
+pub with_others-requires-clause-places : goal.with_others-requires-clause-places
+with_others-requires-clause-places c = scanned_places c.args.text.now c.of-text.result (record { front = c.in-Ok.part.0; behind = c.new-behind.result; ends = c.of-ends.result; split = length c.args.text.now }) (scanned c)
 
 pub returns-then-is_empty-clause-read : goal.returns-then-is_empty-clause-read
 returns-then-is_empty-clause-read c =
@@ -63,7 +64,12 @@ returns-then-is_empty-clause-read c =
     let pushed = bounds_push whole c.parts.ends.items _ c.end_of.result _ c.in_ok-push.ensures.items c.end_of.ensures.same in
     parts_end _ (rows_in whole c.in-Ok.part.0.items) _ _ _ _ _ _ _ _ c.in-Ok.ensures.found none count pushed c.parts.invariant.so_far
     ∙ ap (λ (es : List EndPlace). Some (record { rows = rows_in whole c.in-Ok.part.0.items; bounds = bounds_in whole es })) (sym c.of-ends.ensures)
-    ∙ ap Some (sym (c.of.ensures ∙ scanned_view whole c.of-text.result p (scanned (goal.at.returns-then-is_empty-clause-read c).After-of-text)))
+    ∙ ap Some (sym (c.with_others.ensures ∙ scanned_view whole c.of-text.result p (scanned (goal.at.returns-then-is_empty-clause-read c).After-of-text)))
+
+pub with_others-requires-clause-others : goal.with_others-requires-clause-others
+with_others-requires-clause-others c =
+    let p : Places = record { front = c.in-Ok.part.0; behind = c.new-behind.result; ends = c.of-ends.result; split = length c.args.text.now } in
+    subst (λ (v : RowsView). AreOtherRows v.rows 0 c.read_part.new.others.items) (sym (scanned_view c.args.text.now c.of-text.result p (scanned c))) (c.in-Ok.ensures.others c.parts.invariant.others)
 
 pub read_marker-requires : goal.read_marker-requires
 read_marker-requires c =
@@ -122,6 +128,7 @@ parts-preserved c =
           (ends_placed_step c.parts.ends.items _ c.end_of-in-parts.result c.args.text.now c.parts.is_open c.parts.rest.now c.in-Ok.part.2.now
           c.in-Ok-read_marker.line.0.now c.in-Ok-read_marker.line.1.now (length c.parts.rows.items) (length c.in-Ok.part.0.items) _
           (record { part = part.part; read = part.read; some = some; line = c.in-Ok-read_marker.ensures.read }) kept c.in_ok-push-2.ensures.items (sym (c.in-Ok.part.0.ok.0) ∙ (sym c.len-count.ensures ∙ rows)) c.parts.invariant.ends_placed);
+      others = c.in-Ok.ensures.others c.parts.invariant.others;
     }
 
 pub parts-init : goal.parts-init
@@ -135,4 +142,5 @@ parts-init c =
       so_far = rw (c.new-rows.ensures.items, c.new-ends.ensures.items) refl;
       placed = rw c.new-rows.ensures.items refl;
       ends_placed = rw (c.new-rows.ensures.items, c.new-ends.ensures.items) refl;
+      others = rw (c.new-rows.ensures.items, c.new-others.ensures.items) (λ n s from to is. absurd (omega (arith, to)));
     }

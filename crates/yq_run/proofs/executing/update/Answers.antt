@@ -9,9 +9,9 @@ use Rattle.yq_commands.proofs.FileEditLaws.{file_comes, parsed_free, unparsed_fa
 use Rattle.yq_commands.{specs.CommandSteps.{update_cause, update_next}, proofs.ExpectingLaws.{effect_expected, matched_as, history_showing}}
 use Rattle.yq_commands.{proofs.OutcomeLaws.{arrives_as, opened}, proofs.CommandCalls.{none_yet, parsed_calls}}
 use Rattle.yq_commands.{proofs.DoneLaws.{by_words, unopened_edits, unparsed_edits}, specs.Calls.CallsToEdit, specs.CommandDone.EditsInPlace}
-use Rattle.yq_history.{specs.declared.fault.Fault.Fault, specs.Report.report_by, proofs.CallLaws.{fails, unopened_calls, opened_calls}}
-use Rattle.yq_history.{proofs.EffectLaws.from_opened, specs.Faults.{failures_after, is_outer_fault}, specs.Output.{IsOutput, Shows}}
-use Rattle.yq_history.proofs.MoveLaws.{on_ok_map}
+use Rattle.yq_history.{specs.Report.report_by, proofs.CallLaws.{fails, unopened_calls, opened_calls}, proofs.EffectLaws.from_opened}
+use Rattle.yq_history.{specs.Output.{IsOutput, Shows}, proofs.MoveLaws.on_ok_map}
+use Rattle.yq_fault.{specs.declared.fault.Fault.Fault, specs.Faults.{failures_after, is_outer_fault}}
 use Rattle.yq_run.proofs.executing.update.Goals as goal
 
 pub returns : goal.returns

@@ -1,4 +1,4 @@
-use Rattle.std.proofs.Common.{◌≡◌, ◌++◌, [], List, ℕ, take, drop, ap, ap₂, sym, ◌∙◌}
+use Rattle.std.proofs.Common.{◌≡◌, ◌++◌, [], List, ℕ, take, drop, ap, ap₂, sym, ◌∙◌, rules}
 use Rattle.yq_core.{specs.ContentReading.{content_on, within, ends_run}, specs.Text.upto}
 use Rattle.yq_core.proofs.ItemLaws.{boundary_run, content_run, cut_within, cut_shorter}
 use Rattle.yq_scalar_reader.proofs.folded.split_run.Goals as goal
@@ -15,11 +15,7 @@ returns-in-None-clause-value c =
     ∙ ap₂ ◌++◌ (sym (c.split_at.ensures.front ∙ ap (λ k. take k t) n)) (ap (content_on q 0 within []) (sym (c.split_at.ensures.back ∙ ap (λ k. drop k t) n)))
 
 pub returns-in-None-clause-within : goal.returns-in-None-clause-within
-returns-in-None-clause-within c =
-    let n : c.run_len.result ≡ upto (ends_run c.args.quote) c.args.text.now = (rw c.as_bytes.ensures.value at c.run_len.ensures) in
-    cut_within (ends_run c.args.quote) c.args.text.now _ (c.split_at.ensures.back ∙ ap (λ k. drop k c.args.text.now) n)
+returns-in-None-clause-within c = search (rules, cut_within)
 
 pub returns-in-None-clause-shorter : goal.returns-in-None-clause-shorter
-returns-in-None-clause-shorter c = λ some on.
-    let n : c.run_len.result ≡ upto (ends_run c.args.quote) c.args.text.now = (rw c.as_bytes.ensures.value at c.run_len.ensures) in
-    cut_shorter (ends_run c.args.quote) c.args.text.now _ (c.split_at.ensures.back ∙ ap (λ k. drop k c.args.text.now) n) some on
+returns-in-None-clause-shorter c = search (rules, cut_shorter)

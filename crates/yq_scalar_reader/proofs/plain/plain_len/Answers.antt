@@ -1,26 +1,17 @@
-use Rattle.std.proofs.Common.{arith, ◌≡◌, ◌+◌, drop, true, ℕ, List, ◌∙◌, sym}
+use Rattle.std.proofs.Common.{arith, true, ℕ, List, ◌∙◌, sym, rules}
 use Rattle.yq_core.specs.Plain.{ends_plain}
 use Rattle.yq_core.proofs.Across.{rest_length, across_bounds, across_some, across_upto, plain_stop, plain_colon, plain_next}
 use Rattle.yq_core.{proofs.PlainRuns.run_behind, proofs.Upto.upto_le_length}
 use Rattle.yq_scalar_reader.proofs.plain.plain_len.Goals as goal
 
 pub overflow_add-n-in-Some : goal.overflow_add-n-in-Some
-overflow_add-n-in-Some c =
-    omega (
-      arith,
-      across_bounds c.args.flow c.args.spaces true c.split_at.result.1.now c.in-Some.k (sym c.across_words.ensures ∙ c.in-Some.is),
-      c.run_len-run.ensures.within,
-      c.split_at.ensures.back_len,
-      c.each.invariant.within,
-    )
+overflow_add-n-in-Some c = search (rules, across_bounds)
 
 pub split_at-requires-in-Some : goal.split_at-requires-in-Some
 split_at-requires-in-Some c = across_bounds c.args.flow c.args.spaces true c.split_at.result.1.now c.in-Some.k (sym c.across_words.ensures ∙ c.in-Some.is)
 
 pub each-smaller-in-Some : goal.each-smaller-in-Some
-each-smaller-in-Some c =
-    let pos = across_some c.args.flow c.args.spaces c.split_at.result.1.now c.in-Some.k (sym c.is_space.ensures ∙ c.if-is_space.true) (sym c.across_words.ensures ∙ c.in-Some.is) in
-    omega (arith, pos, c.split_at.ensures.back_len, c.split_at-in-Some.ensures.back_len, c.in-len1-up.len_at_least)
+each-smaller-in-Some c = search (rules, across_some)
 
 pub each-preserved-in-Some : goal.each-preserved-in-Some
 each-preserved-in-Some c =
@@ -29,11 +20,7 @@ each-preserved-in-Some c =
     let le = across_bounds c.args.flow c.args.spaces true s k (sym c.across_words.ensures ∙ c.in-Some.is) in
     let on = across_upto c.args.flow c.args.spaces s k (sym c.across_words.ensures ∙ c.in-Some.is) in
     let run = run_behind c.args.flow c.args.spaces c.each.rest.now s c.each.n c.run_len-run.result _ c.run_len-run.ensures.value c.split_at.ensures.back c.each.invariant.so_far in
-    let back : c.split_at-in-Some.result.1.now ≡ drop k s = c.split_at-in-Some.ensures.back in
-    record {
-      within = omega (arith, le, c.run_len-run.ensures.within, c.split_at.ensures.back_len, c.split_at-in-Some.ensures.back_len, c.each.invariant.within);
-      so_far = rw back (omega (arith, on, run));
-    }
+    search rules
 
 pub returns-in_default-across_words : goal.returns-in_default-across_words
 returns-in_default-across_words c =
@@ -48,10 +35,7 @@ returns-then-ends_text c =
 pub each-preserved : goal.each-preserved
 each-preserved c =
     let run = run_behind c.args.flow c.args.spaces c.each.rest.now c.split_at.result.1.now c.each.n c.run_len-run.result _ c.run_len-run.ensures.value c.split_at.ensures.back c.each.invariant.so_far in
-    record {
-      within = rest_length (c.each.n + c.run_len-run.result) c.split_at.result.1.now _ c.in-len1-up.len_at_least (omega (arith, c.run_len-run.ensures.within, c.split_at.ensures.back_len, c.each.invariant.within));
-      so_far = omega (arith, run, plain_next c.args.flow c.args.spaces c.split_at.result.1.now c.in-len1-up.len_at_least (sym c.is_space.ensures ∙ c.if-is_space.false) (sym c.ends_text.ensures ∙ c.if-ends_text.false));
-    }
+    search (rules, rest_length, plain_next)
 
 pub returns-in_default : goal.returns-in_default
 returns-in_default c =

@@ -1,4 +1,4 @@
-use Rattle.std.proofs.Common.{ℕ, ◌+◌, ◌≤◌, List, length, sym, ◌∙◌, arith}
+use Rattle.std.proofs.Common.{ℕ, ◌+◌, ◌≤◌, List, length, sym, ◌∙◌, arith, rules}
 use Rattle.yq_core.{proofs.EscapeLaws.{item_within, go_item}, proofs.Across.{rest_of, rest_length}}
 use Rattle.yq_core.proofs.QuotedRuns.{closed_here, no_item, quoted_behind, unclosed}
 use Rattle.yq_scalar_reader.proofs.quoted.quoted_len.Goals as goal
@@ -37,17 +37,4 @@ pub split_at-requires-in-each : goal.split_at-requires-in-each
 split_at-requires-in-each c = item_within c.args.quote c.in_ok-k.k c.split_at.result.1.now c.in-len1-up.len_at_least (sym c.closes.ensures ∙ c.if-closes.false) (sym c.in_ok-k.ensures)
 
 pub each-preserved : goal.each-preserved
-each-preserved c =
-    let s : List ℕ = c.split_at.result.1.now in
-    let le : c.in_ok-k.k ≤ length (rest_of s) = item_within c.args.quote c.in_ok-k.k s c.in-len1-up.len_at_least (sym c.closes.ensures ∙ c.if-closes.false) (sym c.in_ok-k.ensures) in
-    let so = quoted_behind c.args.quote c.each.rest.now s c.each.n c.run_len-run.result c.run_len-run.ensures.value c.split_at.ensures.back c.each.invariant.so_far in
-    record {
-      within = omega (
-        arith,
-        le,
-        c.split_at-in-each.ensures.back_len,
-        rest_length (c.each.n + c.run_len-run.result) s (length c.args.text.now) c.in-len1-up.len_at_least
-            (omega (arith, c.run_len-run.ensures.within, c.split_at.ensures.back_len, c.each.invariant.within)),
-      );
-      so_far = rw (c.split_at-in-each.ensures.back) (go_item c.args.quote c.in_ok-k.k (c.each.n + c.run_len-run.result) s _ c.in-len1-up.len_at_least (sym c.closes.ensures ∙ c.if-closes.false) (sym c.in_ok-k.ensures) so);
-    }
+each-preserved c = search (rules, rest_of, item_within, quoted_behind, rest_length, go_item)

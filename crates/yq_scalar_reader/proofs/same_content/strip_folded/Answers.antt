@@ -1,14 +1,12 @@
-use Rattle.std.proofs.Common.{sym, subst}
+use Rattle.std.proofs.Common.{sym, subst, rules}
 use Rattle.yq_scalar_reader.{specs.Folded.{folded_text, StripsText}, proofs.SameContentLaws.{strips_text, strips_char}}
 use Rattle.yq_scalar_reader.proofs.same_content.strip_folded.Goals as goal
 
 pub returns-in-Text : goal.returns-in-Text
-returns-in-Text c =
-    subst (λ f. StripsText (folded_text f) c.args.text.now c.strip_prefix.result) (sym c.in-Text.is) (strips_text c.in-Text.front.now c.args.text.now c.strip_prefix.result c.strip_prefix.ensures.cases)
+returns-in-Text c = search (rules, strips_text)
 
 pub returns-in-Char : goal.returns-in-Char
-returns-in-Char c =
-    subst (λ f. StripsText (folded_text f) c.args.text.now c.strip_prefix-in-Char.result) (sym c.in-Char.is) (strips_char c.in-Char.c c.args.text.now c.strip_prefix-in-Char.result c.strip_prefix-in-Char.ensures.cases)
+returns-in-Char c = search (rules, strips_char)
 
 pub returns-in-Breaks : goal.returns-in-Breaks
 returns-in-Breaks c = subst (λ f. StripsText (folded_text f) c.args.text.now c.strip_breaks.result) (sym c.in-Breaks.is) c.strip_breaks.ensures

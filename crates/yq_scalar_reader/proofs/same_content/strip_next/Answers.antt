@@ -1,12 +1,11 @@
-use Rattle.std.proofs.Common.{◌++◌, ℕ, List, [], ap, ◌∙◌, bytes_eq}
-use Rattle.yq_core.{specs.ContentReading.{content_on, before_of, within}, specs.Plain.no_gap, specs.Text.is_space}
-use Rattle.yq_core.{proofs.FoldLaws.{content_next, gap_next, space_ends}, proofs.ItemLaws.{cut_within, shorter_still}}
+use Rattle.std.proofs.Common.{◌++◌, ℕ, List, [], ap, ◌∙◌, bytes_eq, rules}
+use Rattle.yq_core.{specs.ContentReading.{content_on, before_of, within}, proofs.FoldLaws.{content_next, gap_next, space_ends}}
+use Rattle.yq_core.proofs.ItemLaws.{cut_within, shorter_still}
 use Rattle.yq_scalar_reader.{specs.Folded.folded_text, proofs.SameContentLaws.{same_behind, other_front}}
 use Rattle.yq_scalar_reader.proofs.same_content.strip_next.Goals as goal
 
 pub fold_item-item-requires : goal.fold_item-item-requires
-fold_item-item-requires c =
-    ap is_space (ap (λ (y : List ℕ × List ℕ). y.1) c.split_space.ensures) ∙ space_ends c.args.text.now
+fold_item-item-requires c = search (rules, space_ends)
 
 pub returns-in_err-behind-clause-same : goal.returns-in_err-behind-clause-same
 returns-in_err-behind-clause-same c =
@@ -37,6 +36,4 @@ returns-clause-same c =
     ∙ same_behind front tail _ _ c.in_ok-left.ensures)
 
 pub returns-clause-shorter : goal.returns-clause-shorter
-returns-clause-shorter c = λ some.
-    let within = cut_within no_gap c.args.text.now _ (ap (λ (y : List ℕ × List ℕ). y.1) c.split_space.ensures) in
-    shorter_still _ _ _ within c.fold_item-item.ensures.within c.fold_item-item.ensures.shorter some
+returns-clause-shorter c = search (rules, cut_within, shorter_still)

@@ -22,10 +22,15 @@ returns-in-len1-clause-ok c =
     sym (last_comes c.args.ops.now c.op-item.result c.args.cut.now c.in-len1.len_at_least c.op-item.is (sole c.args.ops.now c.in-len1.len_below))
     ∙ (ap (by_reading (carry_one (operation_of c.op-item.result))) c.requires.read ∙ c.in_ok-edited.ensures)
 
-pub with_last-requires : goal.with_last-requires
-with_last-requires c =
+pub with_last-requires-clause-few : goal.with_last-requires-clause-few
+with_last-requires-clause-few c =
     let h = subst (λ (o : Option Together). IfSome o (λ x. CarriesOn c.args.ops.now c.args.cut.now x.left.now (string_bytes x.edited.text) x.edited.splices.items)) c.in-Some.is c.in_ok-found.ensures.ok in
     h.few
+
+pub with_last-requires-clause-serves : goal.with_last-requires-clause-serves
+with_last-requires-clause-serves c =
+    let h = subst (λ (o : Option Together). IfSome o (λ x. CarriesOn c.args.ops.now c.args.cut.now x.left.now (string_bytes x.edited.text) x.edited.splices.items)) c.in-Some.is c.in_ok-found.ensures.ok in
+    h.serves
 
 pub returns-in-Some-clause-ok : goal.returns-in-Some-clause-ok
 returns-in-Some-clause-ok c =

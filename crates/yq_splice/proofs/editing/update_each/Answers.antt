@@ -1,6 +1,9 @@
 use Rattle.std.{proofs.Common.{◌≡◌, ℕ, List, refl, sym, subst, arith}, specs.String.string_bytes, proofs.lemmas.Result.err_from_is_err_and}
 use Rattle.yq_semantics.{specs.Program.update_count, specs.View.program_of}
-use Rattle.yq_splice.{specs.Updates.HaveLed, proofs.AnswerLaws.all_done_so}
+use Rattle.yq_documents.specs.Reading.{cut_of}
+use Rattle.yq_edit_laws.specs.Theorems.{HasReading}
+use Rattle.yq_splice.{specs.Updates.HaveLed, proofs.AnswerLaws.{all_done_so, led_reads}, proofs.SessionLaws.has_reading}
+use Rattle.yq_splice.proofs.UpdateSteps.{led_no_more}
 use Rattle.yq_splice.proofs.editing.update_each.Goals as goal
 
 pub returns-in_err-edited-clause-err : goal.returns-in_err-edited-clause-err
@@ -16,19 +19,31 @@ updates-init c = record {
   leads = c.in_ok-edited.ensures.ok c.args.text.now (λ us is. (refl, c.new.ensures.items));
 }
 
+pub read_again-requires : goal.read_again-requires
+read_again-requires c =
+    subst HasReading (sym c.as_str-text.ensures.value)
+    (led_reads (program_of c.args.program.now) c.updates.done c.args.text.now (string_bytes c.updates.edited.text) c.updates.edited.splices.items c.requires.some
+    (has_reading c.args.text.now (cut_of c.args.documents) c.requires.read) c.updates.invariant.leads)
+
+pub returns-in_err-documents-clause-err : goal.returns-in_err-documents-clause-err
+returns-in_err-documents-clause-err c =
+    let p = err_from_is_err_and c.from_residual-in_err-documents.result c.from_residual-in_err-documents.ensures.1 in
+    rw (p.1, p.2)
+    (led_no_more (program_of c.args.program.now) c.args.text.now)
+
 pub returns-in_err-next-clause-err : goal.returns-in_err-next-clause-err
 returns-in_err-next-clause-err c =
     let p = err_from_is_err_and c.from_residual-in_err-next.result c.from_residual-in_err-next.ensures.1 in
     rw (p.1, p.2)
     (c.in_err-next.ensures.err c.args.text.now
-    (subst (λ (x : List ℕ). HaveLed (program_of c.args.program.now) c.args.text.now c.updates.done x c.updates.edited.splices.items) (sym c.as_str.ensures.value) c.updates.invariant.leads))
+    (subst (λ (x : List ℕ). HaveLed (program_of c.args.program.now) c.args.text.now c.updates.done x c.updates.edited.splices.items) (sym c.as_str-text.ensures.value) c.updates.invariant.leads))
 
 pub updates-preserved : goal.updates-preserved
 updates-preserved c = record {
   count = c.updates.invariant.count;
   bound = omega (arith, c.in_ok-next.ensures.more.1, c.updates.invariant.count);
   leads = c.in_ok-next.ensures.ok c.args.text.now
-      (subst (λ (x : List ℕ). HaveLed (program_of c.args.program.now) c.args.text.now c.updates.done x c.updates.edited.splices.items) (sym c.as_str.ensures.value) c.updates.invariant.leads);
+      (subst (λ (x : List ℕ). HaveLed (program_of c.args.program.now) c.args.text.now c.updates.done x c.updates.edited.splices.items) (sym c.as_str-text.ensures.value) c.updates.invariant.leads);
 }
 
 pub updates-smaller : goal.updates-smaller

@@ -3,8 +3,9 @@ use Rattle.std.specs.String.{string_bytes}
 use Rattle.yq_documents.specs.Reading.{documents_of}
 use Rattle.yq_semantics.{specs.Operations.operations_of, specs.View.program_of, specs.declared.op.Op.Op}
 use Rattle.yq_edit_laws.{specs.Answers.EditFails, specs.Carried.carry_all, specs.Edit.edit_after, specs.Valid.{AreServed, HaveOperands}}
-use Rattle.yq_edit_laws.proofs.UpdateLaws.{update_holds, update_there}
-use Rattle.yq_splice.proofs.PartLaws.{all_carried, begun, memory_fails, part_done, part_fails, part_served, unplanned}
+use Rattle.yq_edit_laws.proofs.UpdateLaws.{memory_fails, update_holds, update_there}
+use Rattle.yq_splice.proofs.PartLaws.{all_carried, begun, part_done, part_fails, part_served, unplanned}
+use Rattle.yq_splice.proofs.OversizedParts.{oversized_fails}
 use Rattle.yq_splice.proofs.in_parts.carry_parts.Goals as goal
 
 pub parts-init : goal.parts-init
@@ -53,6 +54,17 @@ returns-in_err-done-clause-err c =
     c.in_ok-part.part.place (string_bytes c.parts.done.text) c.parts.done.splices.items (c.parts.invariant.carried u at)
     (operations_of c.in_ok-part.part.ops.items) (c.in_ok-part.ensures.part u at) valid _
     (subst (λ (x : List Op). EditFails c.in_err-done.field-0.0 (edit_after c.parts.done.splices.items (carry_all (operations_of x) (string_bytes c.parts.done.text)))) c.deref-in-parts.ensures.value c.in_err-done.ensures))
+
+pub returns-then-part-clause-err : goal.returns-then-part-clause-err
+returns-then-part-clause-err c = λ u at.
+    let valid = subst (λ (x : List Op). HaveOperands (operations_of x)) c.deref.ensures.value c.operands_hold.ensures in
+    let holds = update_holds (program_of c.args.program.now) c.args.nth u c.requires.literals at in
+    let done = part_done u c.args.documents.now c.args.splices.items c.requires.read holds c.parts.doc c.parts.place c.in_ok-part.part.doc
+    c.in_ok-part.part.place (string_bytes c.parts.done.text) c.parts.done.splices.items (c.parts.invariant.carried u at)
+    (operations_of c.in_ok-part.part.ops.items) (c.in_ok-part.ensures.part u at) valid (string_bytes c.in_ok-done.done.text) c.in_ok-done.done.splices.items
+    (ap (λ (x : List Op). edit_after c.parts.done.splices.items (carry_all (operations_of x) (string_bytes c.parts.done.text))) (sym c.deref-in-parts.ensures.value) ∙ c.in_ok-done.ensures) in
+    oversized_fails u c.args.documents.now c.args.splices.items c.requires.read holds c.in_ok-part.part.doc c.in_ok-part.part.place
+    (string_bytes c.in_ok-done.done.text) c.in_ok-done.done.splices.items done (c.in_ok-part.ensures.large u at c.if-part.true done.rest done.left)
 
 pub parts-preserved : goal.parts-preserved
 parts-preserved c =

@@ -29,4 +29,4 @@ pub returns : goal.returns
 returns c =
     build_gives _ _ c.segments.draft.splices.items _ _ c.segments.draft.at c.segments.draft.gone.items c.segments.draft.come.items
     c.segments.rest.now c.in_default.len_below
-    c.segments.invariant.so_far c.segments.invariant.found c.in_ok-push_splice.ensures.ok
+    c.segments.invariant.so_far c.segments.invariant.found c.in_ok-push_splice.ensures

@@ -1,4 +1,4 @@
-use Rattle.std.proofs.Common.{rules, ap, arith, length}
+use Rattle.std.proofs.Common.{rules, arith}
 use Rattle.yq_core.proofs.BlockSteps.{at_cut, at_end}
 use Rattle.yq_history.proofs.LineCuts.{none_left}
 use Rattle.yq_history.proofs.diff.lines.count_lines.Goals as goal
@@ -10,18 +10,12 @@ pub lines-smaller : goal.lines-smaller
 lines-smaller c = (at_cut _ _ _ _ c.is_empty.ensures c.lines-test.true c.split_line.ensures).1
 
 pub overflow_add-count : goal.overflow_add-count
-overflow_add-count c =
-    let cut = at_cut _ _ _ _ c.is_empty.ensures c.lines-test.true c.split_line.ensures in
-    omega (arith, cut.1, c.lines.invariant.within)
+overflow_add-count c = search (rules, at_cut)
 
 pub lines-preserved : goal.lines-preserved
 lines-preserved c =
     let cut = at_cut _ _ _ _ c.is_empty.ensures c.lines-test.true c.split_line.ensures in
-    record {
-      rest_text = search rules;
-      within = omega (arith, cut.1, c.lines.invariant.within);
-      so_far = omega (arith, ap length cut.0, c.lines.invariant.so_far);
-    }
+    search rules
 
 pub returns : goal.returns
 returns c = omega (arith, c.lines.invariant.so_far, none_left c.lines.rest.now (at_end _ _ c.is_empty.ensures c.lines-test.false))

@@ -10,9 +10,7 @@ pub lines-smaller : goal.lines-smaller
 lines-smaller c = (at_cut _ _ _ _ c.is_empty.ensures c.lines-test.true c.split_line.ensures).1
 
 pub overflow_add-count : goal.overflow_add-count
-overflow_add-count c =
-    let cut = at_cut _ _ _ _ c.is_empty.ensures c.lines-test.true c.split_line.ensures in
-    omega (arith, cut.1, c.lines.invariant.within)
+overflow_add-count c = search (rules, at_cut)
 
 pub lines-preserved : goal.lines-preserved
 lines-preserved c =
@@ -29,9 +27,4 @@ lines-preserved c =
     }
 
 pub returns : goal.returns
-returns c =
-    let none = at_end _ _ c.is_empty.ensures c.lines-test.false in
-    record {
-      lines = sym (append-nil (string_bytes c.lines.out)) ∙ (ap (λ ls. string_bytes c.lines.out ++ marked_lines c.args.mark.now ls) (sym (no_lines c.lines.rest.now none)) ∙ c.lines.invariant.printed);
-      count = omega (arith, c.lines.invariant.so_far, none_left c.lines.rest.now none);
-    }
+returns c = search (rules, at_end, append-nil, no_lines, none_left)

@@ -1,6 +1,5 @@
 use Rattle.std.{proofs.Common.{◌≡◌, ◌<◌, ◌-◌, min, false, length, map, None, sym, ap, ◌∙◌, subst, arith}, proofs.lemmas.List.length-map}
-use Rattle.yq_core.{specs.Keys.depth, specs.Tree.{Node, child, list, none, plain_label}}
-use Rattle.yq_core.specs.Values.{entries, field_of, items, value_node}
+use Rattle.yq_core.{specs.Keys.depth, specs.Tree.{Node, list}, specs.Values.{entries, field_of, items, value_node}}
 use Rattle.yq_planner.{specs.StandIns.IsStandIn, proofs.StandInLaws.{list_for, mapped, node_of-list, some_there}}
 use Rattle.yq_semantics.{specs.Changes.has_long_key, proofs.ValueMaps.node_of-map}
 use Rattle.yq_planner.proofs.updating.stand_in.stand_in.Goals as goal

@@ -9,13 +9,13 @@ at-end-requires c = end_within c.self.inside.text c.self.inside.places c.args.i 
 pub split_at-requires : goal.split_at-requires
 split_at-requires c =
     let e = c.at-end.result in
-    let half = end_at_index c.self.inside.text c.self.inside.places c.args.i e c.self.invariant c.at-end.ensures in
+    let half = end_at_index c.self.inside.text c.self.inside.places c.args.i e c.self.invariant.0 c.at-end.ensures in
     subst (IsCharBoundary c.self.inside.text.front.now) (sym c.start-start.ensures) (end_cuts c.self.inside.text.front.now e (half.0.front (omega arith))).0
 
 pub bound-requires : goal.bound-requires
 bound-requires c =
     let e = c.at-end.result in
-    let half = end_at_index c.self.inside.text c.self.inside.places c.args.i e c.self.invariant c.at-end.ensures in
+    let half = end_at_index c.self.inside.text c.self.inside.places c.args.i e c.self.invariant.0 c.at-end.ensures in
     subst (λ (t : List ℕ). AreCuts t (e.gap ∷ e.marker ∷ [])) (ap (λ (n : ℕ). drop n c.self.inside.text.front.now) (sym c.start-start.ensures) ∙ sym c.split_at.ensures.back)
     (end_cuts c.self.inside.text.front.now e (half.0.front (omega arith))).1
 
@@ -23,7 +23,7 @@ pub returns-then-start-split : goal.returns-then-start-split
 returns-then-start-split c =
     let e = c.at-end.result in
     let front = c.self.inside.text.front.now in
-    let half = end_at_index c.self.inside.text c.self.inside.places c.args.i e c.self.invariant c.at-end.ensures in
+    let half = end_at_index c.self.inside.text c.self.inside.places c.args.i e c.self.invariant.0 c.at-end.ensures in
     ap (λ (v : RowsView). slice_get v.bounds c.args.i) (sym c.self.view_is)
     ∙ (half.1
     ∙ ap (λ (b : Bound). Some b) (from_front c.self.inside.text e (omega arith) ∙ (ap (λ (t : List ℕ). bound_at t e) (ap (λ (n : ℕ). drop n front) (sym c.start-start.ensures) ∙ sym c.split_at.ensures.back) ∙ sym c.bound.ensures)))
@@ -32,14 +32,14 @@ pub split_at-requires-2 : goal.split_at-requires-2
 split_at-requires-2 c =
     let e = c.at-end.result in
     let n = length c.self.inside.text.front.now in
-    let half = end_at_index c.self.inside.text c.self.inside.places c.args.i e c.self.invariant c.at-end.ensures in
+    let half = end_at_index c.self.inside.text c.self.inside.places c.args.i e c.self.invariant.0 c.at-end.ensures in
     subst (λ (s : ℕ). IsCharBoundary c.self.inside.text.back.now (s - n)) (sym c.start-start.ensures) (end_cuts c.self.inside.text.back.now (record e { start = e.start - n }) (half.0.back (omega arith))).0
 
 pub bound-requires-2 : goal.bound-requires-2
 bound-requires-2 c =
     let e = c.at-end.result in
     let n = length c.self.inside.text.front.now in
-    let half = end_at_index c.self.inside.text c.self.inside.places c.args.i e c.self.invariant c.at-end.ensures in
+    let half = end_at_index c.self.inside.text c.self.inside.places c.args.i e c.self.invariant.0 c.at-end.ensures in
     subst (λ (t : List ℕ). AreCuts t (e.gap ∷ e.marker ∷ [])) (ap (λ (s : ℕ). drop (s - n) c.self.inside.text.back.now) (sym c.start-start.ensures) ∙ sym c.split_at-2.ensures.back)
     (end_cuts c.self.inside.text.back.now (record e { start = e.start - n }) (half.0.back (omega arith))).1
 
@@ -48,7 +48,7 @@ returns c =
     let e = c.at-end.result in
     let n = length c.self.inside.text.front.now in
     let back = c.self.inside.text.back.now in
-    let half = end_at_index c.self.inside.text c.self.inside.places c.args.i e c.self.invariant c.at-end.ensures in
+    let half = end_at_index c.self.inside.text c.self.inside.places c.args.i e c.self.invariant.0 c.at-end.ensures in
     ap (λ (v : RowsView). slice_get v.bounds c.args.i) (sym c.self.view_is)
     ∙ (half.1
     ∙ ap (λ (b : Bound). Some b) (from_back c.self.inside.text e (omega arith) ∙ (ap (λ (t : List ℕ). bound_at t e) (ap (λ (s : ℕ). drop (s - n) back) (sym c.start-start.ensures) ∙ sym c.split_at-2.ensures.back) ∙ sym c.bound-2.ensures)))

@@ -8,7 +8,7 @@ at-requires c = end_within c.self.inside.text c.self.inside.places c.args.i c.ar
 
 pub returns : goal.returns
 returns c = λ b there.
-    let h = c.self.invariant in
+    let h = c.self.invariant.0 in
     let e = c.at.result in
     let same = sym c.self.view_is ∙ have_view c.self.inside.text c.self.inside.places h in
     let at = ap (λ (v : RowsView). slice_get v.bounds c.args.i) (sym same) ∙ there in

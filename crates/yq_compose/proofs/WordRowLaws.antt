@@ -1,0 +1,107 @@
+-- Word rows: the text lends what they spell.
+use Rattle.std.proofs.Common.{◌≡◌, ℕ, zero, suc, ◌+◌, ◌-◌, ◌<◌, ◌≤◌, Bool, true, false, not, ◌||◌, ◌&&◌, List, [], ◌∷◌, drop, length, take}
+use Rattle.std.proofs.Common.{append-nil, eqb, eqb-true, get_or, Some, None, refl, sym, ap, ◌∙◌, subst, arith, inl, inr}
+use Rattle.std.{proofs.lemmas.Bool.{and_parts, false≢true, or_cases}, specs.List.slice_get}
+use Rattle.yq_core.{specs.Borrowed.borrows_text, specs.Plain.holds_break, specs.Runs.is_word_byte, specs.Scalars.is_quoted}
+use Rattle.yq_core.{specs.Text.{front, is_empty}, proofs.Bools.at_byte}
+use Rattle.yq_row_table.{specs.Rows.Row, specs.View.{RowsView, Slices, rows_of, slices}}
+use Rattle.yq_row_table.specs.WordRows.{AreOtherRows, AreWordRows, borrows_quoted, is_word_head, is_word_key, is_word_row}
+use Rattle.yq_row_table.proofs.WordFronts.{word_unquoted}
+use Rattle.yq_documents.{specs.Decoded.IsDecodedBy, specs.Reading.{cut_of, mark_is_fit}, specs.RowReading.row_fits}
+use Rattle.yq_documents.specs.declared.decoded.Decoded.{Decoded}
+use Rattle.yq_compose.{specs.Checking.{begins_tree, borrows_head}, specs.Decoding.{IsCutInto, IsKeyDecoded}, specs.FitReading.key_fits}
+use Rattle.yq_compose.{proofs.AheadLaws.first_apart, proofs.DecodedRows.{DecodedUpto, row_step}, proofs.WordHeads.no_tree}
+use Rattle.yq_compose.proofs.RowsRead.{borrowed_fit, key_borrowed, key_fits_is, key_unquoted, keyless, no_head, none_decoded, pieces_there}
+use Rattle.yq_compose.proofs.RowsRead.{row_at}
+
+no_break : (b : Bool) → not b ≡ true → b ≡ false
+no_break false h = refl
+no_break true h = absurd (false≢true h)
+
+quoted_no_tree : (h : List ℕ) → is_quoted h ≡ true → begins_tree h ≡ false
+quoted_no_tree [] quoted = refl
+quoted_no_tree (b ∷ bs) quoted = elim (or_cases (eqb b 34) (eqb b 39) quoted) [
+  | inl e ↦ rw (eqb-true b 34 e) refl
+  | inr e ↦ rw (eqb-true b 39 e) refl
+]
+
+word_borrows : (h : List ℕ) → is_word_head h ≡ true → borrows_head h ≡ true
+word_borrows h is = elim (or_cases (is_empty h) ((front is_word_byte h && not (holds_break h)) || borrows_quoted h) is) [
+  | inl none ↦ no_head h none
+  | inr some ↦ elim (or_cases (front is_word_byte h && not (holds_break h)) (borrows_quoted h) some) [
+    | inl word ↦
+        let p = and_parts (front is_word_byte h) (not (holds_break h)) word in
+        rw (no_tree h p.0, no_break (holds_break h) p.1, word_unquoted h p.0) refl
+    | inr lent ↦
+        let p = and_parts (is_quoted h) (borrows_text h) lent in
+        ap (λ (x : Bool). not x && borrows_text h) (quoted_no_tree h p.0) ∙ p.1
+  ]
+]
+
+word_fits : (key : List ℕ) → front is_word_byte key ≡ true → key_fits key ≡ true
+word_fits [] word = refl
+word_fits (b ∷ bs) word = rw (at_byte is_word_byte b 60 word refl) refl
+
+quoted_fits : (key : List ℕ) → is_quoted key ≡ true → key_fits key ≡ true
+quoted_fits [] quoted = refl
+quoted_fits (b ∷ bs) quoted = elim (or_cases (eqb b 34) (eqb b 39) quoted) [
+  | inl e ↦ rw (eqb-true b 34 e) refl
+  | inr e ↦ rw (eqb-true b 39 e) refl
+]
+
+-- What is made of the rows before those that are left.
+pub record OthersDecoded (t : List ℕ) (rows : List Slices) (left : List ℕ) (ms : List Decoded) : Type 0 where
+  pub at : ℕ
+  pub within : at ≤ length rows
+  pub upto : DecodedUpto t at ms
+  pub others : AreOtherRows rows at left
+
+module _ (t : List ℕ) (s : RowsView) (k : IsCutInto t s) where
+  module _ (i : ℕ) (r : Row) (is : slice_get (rows_of (cut_of t)) i ≡ Some r) where
+    word_key : is_word_key (slices r).key (slices r).colon ≡ true → (mark_is_fit r.mark ≡ true) × IsKeyDecoded None r
+    word_key lends = elim (or_cases (is_empty (slices r).colon) (front is_word_byte (slices r).key || borrows_quoted (slices r).key) lends) [
+      | inl none ↦ keyless t s k i r is none
+      | inr some ↦ elim (or_cases (front is_word_byte (slices r).key) (borrows_quoted (slices r).key) some) [
+        | inl word ↦ (
+          sym (key_fits_is t s k i r is (slices r).key refl) ∙ word_fits (slices r).key word,
+          key_unquoted t s k i r is (slices r).key refl (word_unquoted (slices r).key word),
+        )
+        | inr lent ↦
+            let p = and_parts (is_quoted (slices r).key) (borrows_text (slices r).key) lent in
+            (sym (key_fits_is t s k i r is (slices r).key refl) ∙ quoted_fits (slices r).key p.0, key_borrowed t s k i r is (slices r).key refl p.1)
+      ]
+    ]
+
+    -- nothing is made of a word row, and it is fit
+    word_decoded : is_word_row (slices r) ≡ true → (row_fits r ≡ true) × IsDecodedBy (length t) (cut_of t) None i r
+    word_decoded word =
+        let p = and_parts (is_word_key (slices r).key (slices r).colon) (is_word_head (slices r).head) word in
+        let key = word_key p.0 in
+        let borrows = word_borrows (slices r).head p.1 in
+        let head = none_decoded t s k i r is (slices r).head refl borrows in
+        (rw (key.0, borrowed_fit t s k i r is (slices r).head refl borrows) refl, record { key = key.1; head = head.head; flow = head.flow })
+
+  -- word rows are passed
+  passed_by : (d i j : ℕ) (ms : List Decoded) → d + i ≡ j → j ≤ length s.rows → AreWordRows s.rows i j → DecodedUpto t i ms → DecodedUpto t j ms
+  passed_by zero i j ms e le words u = let here : i ≡ j = omega (arith, e) in subst (λ (n : ℕ). DecodedUpto t n ms) here u
+  passed_by (suc d) i j ms e le words u =
+      let r = row_at t s k i (omega (arith, e, le)) in
+      let p = word_decoded i r.0 r.1 (words i (slices r.0) (omega arith) (omega (arith, e)) (pieces_there t s k i r.0 r.1)) in
+      passed_by d (i + 1) j ms (omega (arith, e)) le (λ n x from to at. words n x (omega (arith, from)) to at)
+      (row_step t i ms u r.0 r.1 p.0 None ms tt (sym (append-nil ms)) p.1)
+
+  words_passed : (i j : ℕ) (ms : List Decoded) → i ≤ j → j ≤ length s.rows → AreWordRows s.rows i j → DecodedUpto t i ms → DecodedUpto t j ms
+  words_passed i j ms from = passed_by (j - i) i j ms (omega (arith, from))
+
+  -- the next of those that are left
+  pub next_other : (left : List ℕ) (ms : List Decoded) → 1 ≤ length left → OthersDecoded t s.rows left ms →
+      (get_or left 0 0 < length s.rows) × DecodedUpto t (get_or left 0 0) ms × AreOtherRows s.rows (suc (get_or left 0 0)) (take (length left - 1) (drop 1 left))
+  next_other [] ms some u = absurd (omega (arith, some))
+  next_other (n ∷ ns) ms some u =
+      let h = subst (AreOtherRows s.rows u.at) (first_apart (n ∷ ns) n some refl) u.others in
+      (h.1, words_passed u.at n ms h.0 (omega (arith, h.1)) h.2 u.upto, h.3)
+
+  -- after the last of them
+  pub no_other : (left : List ℕ) (ms : List Decoded) → length left < 1 → OthersDecoded t s.rows left ms → DecodedUpto t (length s.rows) ms
+  no_other [] ms none u = words_passed u.at (length s.rows) ms u.within (omega arith) u.others u.upto
+  no_other (n ∷ ns) ms none u = absurd (omega (arith, none))

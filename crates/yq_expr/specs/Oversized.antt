@@ -1,0 +1,137 @@
+-- Values that no text can hold, since they have more items and entries than a text may have bytes (own).
+use Rattle.std.specs.Prelude.{◌≡◌, ◌<◌, ℕ, false, List, [], ◌∷◌, ◌++◌, map, Option, Some, None, ⊤, Result, ◌≤◌, true, IfOk, IfSome}
+use Rattle.std.{specs.Str.IsUtf8, specs.declared.alloc.AllocError.AllocError}
+use Rattle.yq_core.{specs.Tree.{Node, list, Children, none}, specs.Paths.Step, specs.Values.value_node, specs.declared.value.Value.Value}
+use Rattle.yq_flow_edits.specs.Valued.{IsValueTree, AreValueTrees}
+use Rattle.yq_planner.{specs.ListSizes.HasSize, specs.StandIns.IsStandIn, specs.declared.updating.list_size.ListSize.ListSize}
+use Rattle.yq_semantics.specs.Judgement.{Judgement, gives, ExprError}
+use Rattle.yq_semantics.{specs.RightValues.{is_null, as_items, right_value, sum_from, term_value}, specs.Sizes.{items_in, items_among}}
+use Rattle.yq_semantics.{specs.Changes.additions, specs.Operations.{Operation, replace, append}, specs.Plans.add_op}
+use Rattle.yq_semantics.{specs.Program.{PathStep, key, index, each, Update, assign, delete, comment}, specs.Places.{FoundPlace, root_place}}
+use Rattle.yq_semantics.{specs.View.{update_of, term_of}, specs.declared.program.Operator.Operator}
+use Rattle.yq_eval.specs.PlaceView.{place_of, places_of}
+use Rattle.yq_expr.{specs.FixedPaths.IfAny, specs.Parts.{IsLater, values_limit}, specs.PlannedUpdates.{ops_inside, rest_in}}
+use Rattle.yq_expr.{specs.declared.parts.PlanPart.PlanPart, specs.declared.parts.OpenPart.OpenPart}
+use Rattle.yq_expr.specs.declared.document.DocumentRoot.{DocumentRoot}
+use Rattle.yq_text.specs.Limit.{text_limit}
+use Rattle.yq_nodes.specs.Nodes.{node_of}
+use Rattle.yq_eval.specs.declared.matching.place.FoundPlace as place
+use Rattle.yq_semantics.specs.declared.program.Term as term
+use Rattle.yq_semantics.specs.declared.program.Operator.TheVariants as operator
+use Rattle.yq_semantics.specs.declared.program.Update as declared
+
+-- items are those of a list of known size, and valid (own)
+pub record AreItemsOf (cs : Children) (size : ListSize) : Type 0 where
+  pub valid : AreValueTrees false cs
+  pub sized : HasSize (list None cs) size
+
+-- a judgement gives a value that isn't null, from which a list gets items of a list of known size (own)
+abbrev pub AddsItems : Judgement Node → ListSize → Type 0
+AddsItems j size = (v : Node) × (j ≡ gives v) × (is_null v ≡ false) × AreItemsOf (as_items v) size
+
+-- a judgement gives a list of known size (own)
+abbrev pub GivesList : Judgement Node → ListSize → Type 0
+GivesList j size = (cs : Children) × (j ≡ gives (list None cs)) × AreItemsOf cs size
+
+-- A list has more items and entries than a text may have bytes, and is valid (own).
+pub record IsOversized (v : Node) : Type 0 where
+  pub items : Children
+  pub is : v ≡ list None items
+  pub valid : IsValueTree v
+  pub more : text_limit < items_in v
+
+-- a judgement gives such a list (own)
+abbrev pub GivesOversized : Judgement Node → Type 0
+GivesOversized j = (v : Node) × (j ≡ gives v) × IsOversized v
+
+-- a judgement gives such a list, and a small one is refused where that is (own)
+abbrev pub StandsForOversized : Judgement Node → Node → Type 0
+StandsForOversized j w = (v : Node) × (j ≡ gives v) × IsOversized v × IsStandIn v w
+
+-- what a term gives, from a place (own)
+abbrev pub found_term : ℕ → place.FoundPlace → term.Term → Judgement Node
+found_term doc p t = term_value doc (place_of p) (term_of t)
+
+-- what a sum of terms gives, from a place (own)
+abbrev pub found_sum : ℕ → place.FoundPlace → List term.Term → Judgement Node
+found_sum doc p ts = right_value doc (map term_of ts) (place_of p)
+
+-- an answer's size is that of the sum of a list of such a size and of terms (own)
+abbrev pub SumsFrom : ℕ → place.FoundPlace → ListSize → List term.Term → Result (Option ListSize) AllocError → Type 0
+SumsFrom doc p first ts result = (cs : Children) → AreItemsOf cs first → IfAny result (GivesList (sum_from doc (place_of p) (list None cs) (map term_of ts)))
+
+-- the keys of steps are UTF-8 (own)
+abbrev pub HaveUtf8Keys : List PathStep → Type 0
+HaveUtf8Keys [] = ⊤
+HaveUtf8Keys (key k ∷ steps) = IsUtf8 k × HaveUtf8Keys steps
+HaveUtf8Keys (index i ∷ steps) = HaveUtf8Keys steps
+HaveUtf8Keys (each ∷ steps) = HaveUtf8Keys steps
+
+-- the place from which the value of an assignment is found, by its operator: the place that gets it, or the root (yq manual)
+abbrev pub value_start : Operator → Node → FoundPlace → FoundPlace
+value_start operator.Set root p = root_place root
+value_start operator.Modify root p = p
+value_start operator.Add root p = root_place root
+
+-- what an assignment gives at a place is a value that no text can hold (own)
+abbrev pub GivesAt : ℕ → Node → Update → FoundPlace → Type 0
+GivesAt doc root (assign left op right) p = GivesOversized (right_value doc right (value_start op root p))
+GivesAt doc root (delete left) p = ⊥
+GivesAt doc root (comment left place text) p = ⊥
+
+-- an update gives a value at a place of a document that no text can hold, and keys that are missing on the way are UTF-8 (own)
+abbrev pub MakesOversized : DocumentRoot → declared.Update → FoundPlace → Type 0
+MakesOversized d u p = HaveUtf8Keys p.missing × GivesAt d.doc (node_of d.root) (update_of u) p
+
+-- the same at the first of places (own)
+abbrev pub FirstMakesOversized : DocumentRoot → declared.Update → List FoundPlace → Type 0
+FirstMakesOversized d u ps = (p : FoundPlace) × (qs : List FoundPlace) × (ps ≡ p ∷ qs) × MakesOversized d u p
+
+-- the same at a place of the code (own)
+abbrev pub MakesThere : DocumentRoot → declared.Update → place.FoundPlace → Type 0
+MakesThere d u p = MakesOversized d u (place_of p)
+
+-- the same at the first of several (own)
+abbrev pub MakesFirst : DocumentRoot → declared.Update → List place.FoundPlace → Type 0
+MakesFirst d u ps = FirstMakesOversized d u (places_of ps)
+
+-- a key is UTF-8, if there is one (own)
+abbrev pub MayBeUtf8 : Option (List ℕ) → Type 0
+MayBeUtf8 None = ⊤
+MayBeUtf8 (Some k) = IsUtf8 k
+
+-- the operations that append items to the list at a path (own)
+abbrev pub item_ops : ℕ → List Step → Children → List Operation
+item_ops doc path items = map (add_op doc path) (additions none items)
+
+-- Operations begin with one that puts or adds more items and entries than a text may have bytes, or with some that append so many (own).
+pub data BeginsOversized : List Operation → Type 0 where
+  puts : {doc : ℕ} {path : List Step} {v : Node} {ops : List Operation} → IsValueTree v → text_limit < items_in v → BeginsOversized (replace doc path v ∷ ops)
+  adds : {doc : ℕ} {path : List Step} {k : Option (List ℕ)} {v : Node} {ops : List Operation} → MayBeUtf8 k → IsValueTree v → text_limit < items_in v → BeginsOversized (append doc path k v ∷ ops)
+  appends : {all : List Operation} (doc : ℕ) (path : List Step) (items : Children) (ops : List Operation) → AreValueTrees false items → text_limit < items_among items → all ≡ item_ops doc path items ++ ops → BeginsOversized all
+
+-- the operations that a judgement gives, if it does, begin so (own)
+abbrev pub GivesOversizedOps : Judgement (List Operation) → Type 0
+GivesOversizedOps j = (ops : List Operation) → j ≡ gives ops → BeginsOversized ops
+
+-- a part says that what is left after it begins so only where it does (own)
+abbrev pub ReportsOversized : Update → List ℕ → PlanPart → Type 0
+ReportsOversized u t p = p.is_oversized ≡ true → GivesOversizedOps (rest_in u t p.doc p.place)
+
+-- a part that doesn't say so ends later than it began (own)
+abbrev pub PartGoesOn : ℕ → ℕ → PlanPart → Type 0
+PartGoesOn doc place p = p.is_oversized ≡ false → IsLater doc place p.doc p.place
+
+-- What ends a part in a document: it goes on, where all its room was left, or no text can hold what comes there (own).
+pub record EndsPartAt (document : DocumentRoot) (update : declared.Update) (place : ℕ) (before after : OpenPart) (next : ℕ) : Type 0 where
+  pub later : place ≤ next
+  pub moves : before.room ≡ values_limit → after.is_oversized ≡ false → place < next
+  pub large : after.is_oversized ≡ true → GivesOversizedOps (ops_inside document update next)
+
+-- the same of an answer that ends a part there, if it does (own)
+abbrev pub EndsPart : DocumentRoot → declared.Update → ℕ → OpenPart → OpenPart → Result (Option ℕ) ExprError → Type 0
+EndsPart document update place before after result = IfOk result (λ o. IfSome o (EndsPartAt document update place before after))
+
+-- a small value is refused where the sum of terms is, which no text can hold (own)
+abbrev pub StandsForSum : ℕ → place.FoundPlace → List term.Term → Value → Type 0
+StandsForSum doc p ts w = StandsForOversized (found_sum doc p ts) (value_node w)

@@ -1,0 +1,54 @@
+-- The node in the head of a row that begins with a bracket, in front of a text (YAML 1.2.2, 7.4; own).
+use Rattle.std.specs.Prelude.{◌≡◌, ℕ, ℤ, ◌≤◌, false, List, [], ◌++◌, length, map, slice_get, take, Option, Some, None}
+use denote.Bor.{Bor}
+use Rattle.yq_text.specs.Limit.{text_limit}
+use Rattle.yq_core.{specs.Collections.coll_along, specs.Entries.tree_step, specs.Inline.depth_limit, specs.Paths.Step, specs.Piece.deeper}
+use Rattle.yq_core.specs.Nodes.{FlowNode, IsFlowNode, node_text}
+use Rattle.yq_row_table.{specs.Exchange.behind_row, specs.Rows.{Content, Row, parent_indent}, specs.View.rows_of}
+use Rattle.yq_inline.{specs.Along.front_read, specs.declared.in_front.NodeInFront.NodeInFront}
+use Rattle.yq_documents.specs.Reading.{cut_of}
+use Rattle.yq_places.{specs.FlowNodes.{content_flow, flow_collection}, specs.FlowViews.FlowAgrees}
+use Rattle.yq_places.specs.declared.places.flow_node.FlowHead.{FlowHead}
+use Rattle.yq_core.specs.declared.path.Step as declared
+
+-- The node of a content after its anchor, below a parent of this indentation, and what comes after it in the row: the flow collections of the content
+-- are those of the node.
+pub record HeadNode (n : ℤ) (x : Content) : Type 0 where
+  pub node : FlowNode
+  pub rest : List ℕ
+  pub valid : IsFlowNode false (Some (deeper n)) depth_limit node rest
+  pub flow : (ss : List Step) → content_flow ss x [] ≡ coll_along ss node rest
+
+-- The node in front of a text is that in the head of a row; the text is a piece of another one, before so much and after so many bytes of it.
+pub record IsRowFront (t behind : List ℕ) (r : Row) (x : NodeInFront × ℕ) : Type 0 where
+  pub head : HeadNode (parent_indent r) r.content
+  pub read : front_read x.0 ≡ Some (head.node, head.rest)
+  pub text : x.0.text.now ≡ node_text head.node head.rest
+  pub stands : t ≡ take x.1 t ++ (x.0.text.now ++ behind)
+  pub begins : x.1 ≡ length (take x.1 t)
+  pub size : length t ≤ text_limit
+
+-- the same of what the code finds; nothing, only where no flow collection is in the head
+abbrev pub FrontAgrees : List ℕ → List ℕ → Row → Option (NodeInFront × ℕ) → Type 0
+FrontAgrees t behind r None = (ss : List Step) → content_flow ss r.content behind ≡ None
+FrontAgrees t behind r (Some x) = IsRowFront t behind r x
+
+-- the same of row i of a text
+abbrev pub FindsFront : List ℕ → ℕ → Option (NodeInFront × ℕ) → Type 0
+FindsFront t i o = (r : Row) → slice_get (rows_of (cut_of t)) i ≡ Some r → FrontAgrees t (behind_row i (cut_of t)) r o
+
+-- Steps lead to the flow collection at a path of document n in the node in the head of a row.
+pub record IsFlowFront (t : List ℕ) (n : ℕ) (steps : List Step) (x : NodeInFront × ℕ × Bor (List declared.Step)) : Type 0 where
+  pub row : Row
+  pub behind : List ℕ
+  pub front : IsRowFront t behind row (x.0, x.1)
+  pub found : flow_collection n steps (cut_of t) ≡ content_flow (map tree_step x.2.now) row.content behind
+
+-- the same of what the code finds; nothing, only where no flow collection is at the path
+abbrev pub LeadsToFront : List ℕ → ℕ → List Step → Option (NodeInFront × ℕ × Bor (List declared.Step)) → Type 0
+LeadsToFront t n steps None = flow_collection n steps (cut_of t) ≡ None
+LeadsToFront t n steps (Some x) = IsFlowFront t n steps x
+
+-- what the code finds is the flow collection at a path of document n
+abbrev pub FindsCollection : List ℕ → ℕ → List Step → Option FlowHead → Type 0
+FindsCollection t n steps o = FlowAgrees t (flow_collection n steps (cut_of t)) o

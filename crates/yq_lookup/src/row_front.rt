@@ -1,0 +1,66 @@
+//! The nodes in the heads of rows, in front of a text.
+ghost use Rattle.std.specs.Prelude.{◌≡◌, ◌<◌, ◌||◌, length, map};
+ghost use Rattle.yq_core.{specs.Entries.tree_step, specs.Nodes.begins_with};
+ghost use Rattle.yq_row_table.specs.View.{rows_of};
+ghost use Rattle.yq_documents.specs.Reading.{cut_of};
+ghost use Rattle.yq_lookup.specs.RowFronts as spec;
+
+use crate::cut_text::CutText;
+use yq_core::{DEPTH_LIMIT, Place, Step, further_spaces};
+use yq_inline::NodeInFront;
+use yq_places::{is_text, node_place, place_line};
+use yq_row_walk::head_place;
+
+/// Whether a flow collection begins so.
+fn opens_collection(head: &[u8]) -> bool
+    ensures { result ≡ (begins_with 91 head.now || begins_with 123 head.now) }
+{
+    matches!(head, [b'[' | b'{', ..])
+}
+
+impl<'t> CutText<'_, 't> {
+    /// The node in the head of row `i`, after its anchor, and how many bytes come before it, if a bracket is there.
+    pub(crate) fn row_front(&self, i: usize) -> Option<(NodeInFront<'t>, usize)>
+        requires { i < length (rows_of (cut_of self.now)) }
+        ensures { spec.FindsFront self.now i result }
+    {
+        is_text(self.text);
+        let row = self.rows.row(i);
+        let (start, _) = head_place(self.rows, i);
+        let text = self.rows.from_head(i);
+        if !opens_collection(row.head().as_bytes()) {
+            return None;
+        }
+        let front = NodeInFront {
+            flow: false,
+            spaces: further_spaces(Place::Block, row.parent_indent()),
+            depth: DEPTH_LIMIT,
+            text,
+        };
+        Some((front, start))
+    }
+
+    /// The node in the head in which the flow collection at a path of document `doc`, counted from 0, is, how many bytes
+    /// come before it, and the steps that lead on in it; nothing, where no flow collection is at the path.
+    pub(crate) fn flow_front<'s>(
+        &self,
+        doc: usize,
+        steps: &'s [Step],
+    ) -> Option<(NodeInFront<'t>, usize, &'s [Step])>
+        ensures { spec.LeadsToFront self.now doc (map tree_step steps.now) result }
+    {
+        let Some(walk) = self.walk(doc) else {
+            return None;
+        };
+        let Some((place, left)) = node_place(&walk, steps) else {
+            return None;
+        };
+        let Some(at) = place_line(&walk, place) else {
+            return None;
+        };
+        let Some((node, before)) = self.row_front(at.row) else {
+            return None;
+        };
+        Some((node, before, left))
+    }
+}

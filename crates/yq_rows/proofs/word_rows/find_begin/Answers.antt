@@ -1,7 +1,0 @@
-use Rattle.std.proofs.Common.{sym, ap, ◌∙◌}
-use Rattle.yq_row_table.specs.Reading.{is_dash}
-use Rattle.yq_rows.proofs.WordRows.{key_begun}
-use Rattle.yq_rows.proofs.word_rows.find_begin.Goals as goal
-
-pub returns-clause-read : goal.returns-clause-read
-returns-clause-read c = key_begun c.args.text.now _ _ _ (ap is_dash (sym c.as_bytes.ensures.value) ∙ (sym c.is_dash.ensures ∙ c.if-is_dash.false)) c.in_ok-key.ensures

@@ -1,0 +1,3 @@
+pub mod FlowSizes
+pub mod RowSizes
+pub mod AfterSizes

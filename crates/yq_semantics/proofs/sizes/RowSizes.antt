@@ -1,0 +1,151 @@
+-- A text has a byte at least for each item and entry of the documents as which it reads.
+use Rattle.std.proofs.Common.{◌≡◌, ℕ, suc, ◌+◌, ◌≤◌, ◌<◌, ℤ, Bool, true, false, ◌||◌, not, List, [], ◌∷◌, ◌++◌, length, Option, Some, None}
+use Rattle.std.proofs.Common.{refl, sym, arith, length-append, rules, replicate}
+use Rattle.yq_core.{specs.Nodes.{FlowNode, node_text, IsFlowNode}, specs.Trees.{node_head, tree_of}, specs.Tree.{Node, Children}}
+use Rattle.yq_core.specs.declared.style.Place.TheVariants.{Block}
+use Rattle.yq_row_table.specs.Rows.{RowMark, Content, Nothing, Inline, content_text, mark_text, dashes_text, Row, behind_dashes, behind_gap}
+use Rattle.yq_row_table.specs.Rows.{print_row, rows_text, Part, Cut, last, marked, cut_text, parent_indent}
+use Rattle.yq_row_table.specs.Grammar.{IsContent, IsMark, IsRow, AreRows, AreParts, Limit, begins_document, limit_after, unlimited}
+use Rattle.yq_outline.specs.Grammar.{IsNodeOutline, AreEntryLines, IsUnder, alone, mapping, sequence, no_more, entry, headed, missing}
+use Rattle.yq_outline.{specs.Grammar.deeper_lines, specs.Outline.{Line, LineMark, anchored}}
+use Rattle.yq_outline.specs.Lines.{lines_from, row_lines, lines_of_rows, head_of, line_mark}
+use Rattle.yq_documents.specs.Documents.{Document, AreDocuments, ReadsDocuments, IsRoot, parts_from, with_part, begins_bare, has_begin}
+use Rattle.yq_semantics.{specs.Sizes.{items_in, items_among, items_of_all}, proofs.sizes.FlowSizes.node_bytes}
+use native.Mathlib.Nat.{zero-add}
+use Rattle.yq_core.specs.Nodes as inline
+use Rattle.yq_core.specs.Tree as tree
+use Rattle.yq_row_table.specs.Rows as rows
+use Rattle.yq_outline.specs.Outline as outline
+use Rattle.yq_outline.specs.Comments as comments
+
+-- ---- lines
+
+-- what a mark counts: an entry or item, but for a node on a line of its own
+abbrev of_mark : LineMark → ℕ
+of_mark outline.Bare = 0
+of_mark (outline.Key k) = 1
+of_mark outline.Dash = 1
+
+abbrev of_head : Option Node → ℕ
+of_head None = 0
+of_head (Some n) = items_in n
+
+-- what is in lines
+abbrev of_lines : List Line → ℕ
+of_lines [] = 0
+of_lines (l ∷ ls) = of_mark l.mark + of_head l.head + of_lines ls
+
+of_both : (ls ms : List Line) → of_lines (ls ++ ms) ≡ of_lines ls + of_lines ms
+of_both [] ms = sym (zero-add (of_lines ms))
+of_both (l ∷ ls) ms = omega (arith, of_both ls ms)
+
+pub under_anchor : (a : Option (List ℕ)) (n : Node) → items_in (anchored a n) ≡ items_in n
+under_anchor a (tree.alias n) = refl
+under_anchor a (tree.scalar b k t) = refl
+under_anchor a (tree.list b cs) = refl
+under_anchor a (tree.map b cs) = refl
+
+counts : (m : LineMark) → (m ≡ outline.Bare → ⊥) → of_mark m ≡ 1
+counts outline.Bare h = absurd (h refl)
+counts (outline.Key k) h = refl
+counts outline.Dash h = refl
+
+mutual
+  outline_size : {n : ℕ} {ls : List Line} {v : Node} → IsNodeOutline n ls v → items_in v ≤ of_lines ls
+  outline_size (alone {n} {l} {v} level mark head) = rw head (omega (arith, under_anchor l.anchor v))
+  outline_size (mapping {n} {l} {k} {ls} {cs} mark entries) = entries_size entries
+  outline_size (sequence {n} {l} {ls} {cs} mark entries) = entries_size entries
+
+  entries_size : {n : ℕ} {ls : List Line} {cs : Children} → AreEntryLines n ls cs → items_among cs ≤ of_lines ls
+  entries_size no_more = omega arith
+  entries_size (entry {n} {l} {under} {after} {all} {v} {cs} level mark u rest is) =
+      rw is (omega (arith, of_both under after, counts l.mark mark, under_anchor l.anchor v, under_size u, entries_size rest))
+
+  under_size : {l : Line} {ls : List Line} {v : Node} → IsUnder l ls v → items_in v ≤ of_head l.head + of_lines ls
+  under_size (headed {l} {v} head) = rw head (omega arith)
+  under_size (missing {l} head) = omega arith
+  under_size (deeper_lines {l} {n} {ls} {v} head deeper outline) = rw head (omega (arith, outline_size outline))
+
+-- ---- rows
+
+-- what a head counts
+node_size : (flow : Bool) (spaces : Option ℕ) (d : ℕ) (node : FlowNode) (rest : List ℕ) → IsFlowNode flow spaces d node rest → of_head (node_head node) + length rest ≤ length (node_text node rest)
+unfolding tree_of node_text IsFlowNode
+node_size flow spaces d inline.empty rest h = omega arith
+node_size flow spaces d (inline.alias n) rest h = omega (arith, node_bytes flow spaces d (inline.alias n) rest h)
+node_size flow spaces d (inline.scalar p) rest h = omega (arith, node_bytes flow spaces d (inline.scalar p) rest h)
+node_size flow spaces d (inline.coll k g is) rest h = omega (arith, node_bytes flow spaces d (inline.coll k g is) rest h)
+node_size flow spaces d (inline.anchored n g node) rest h =
+    omega (arith, length-append n (g ++ node_text node rest), length-append g (node_text node rest), node_size flow spaces d node rest h.4)
+
+content_size : (n : ℤ) (c : Content) (rest : List ℕ) → IsContent n c rest → of_head (head_of c) + length rest ≤ length (content_text c rest)
+content_size n (Nothing tail) rest h = omega (arith, length-append tail rest)
+content_size n (Inline space node tail) rest h =
+    omega (arith, length-append space (node_text node (tail ++ rest)), length-append tail rest, node_size _ _ _ node (tail ++ rest) h.1.valid)
+content_size n (rows.Block space anchor block) rest h = search (rules, length-append)
+
+mark_size : (m : RowMark) (c : Content) (rest : List ℕ) → IsMark m c rest → of_mark (line_mark m) + length (content_text c rest) ≤ length (mark_text m (content_text c rest))
+mark_size rows.Bare c rest h = omega arith
+mark_size rows.Dash c rest h = omega arith
+mark_size (rows.Key key colon) c rest h =
+    let behind = content_text c rest in
+    let colon_is = h.colon_is in
+    rw colon_is.spelled (omega (arith, length-append key ((colon_is.white ++ 58 ∷ []) ++ behind), length-append (colon_is.white ++ 58 ∷ []) behind, length-append colon_is.white (58 ∷ [])))
+
+dashes_size : (above : List (List ℕ)) (column : ℕ) (dashes : List ℕ) (m : RowMark) (c : Content) (left : ℕ) (t : List ℕ) → of_mark (line_mark m) + of_head (head_of c) + left ≤ length t →
+    of_lines (lines_from above column dashes m c) + left ≤ length (dashes_text dashes t)
+dashes_size above column [] m c left t h = omega (arith, h)
+dashes_size above column (n ∷ ns) m c left t h =
+    omega (arith, length-append (replicate n 32) (dashes_text ns t), dashes_size [] (suc (column + n)) ns m c left t h)
+
+row_size : (limit : Limit) (r : Row) (rest : List ℕ) → IsRow limit r rest → of_lines (row_lines r) + length rest ≤ length (print_row r rest)
+row_size limit r rest h =
+    let inside = behind_dashes r rest in
+    let marked_so : of_mark (line_mark r.mark) + of_head (head_of r.content) + length rest ≤ length inside =
+    omega (arith, mark_size r.mark r.content rest h.mark, content_size (parent_indent r) r.content rest h.content) in
+    let dashed = dashes_size (comments.head_comment r.gap) r.column r.dashes r.mark r.content (length rest) inside marked_so in
+    omega (arith, dashed, length-append r.gap (behind_gap r rest), length-append (replicate r.column 32) (dashes_text r.dashes inside))
+
+rows_size : (limit : Limit) (rs : List Row) (end rest : List ℕ) → AreRows limit rs end rest → of_lines (lines_of_rows rs) + length (end ++ rest) ≤ length (rows_text rs (end ++ rest))
+rows_size limit [] end rest h = omega arith
+rows_size limit (r ∷ rs) end rest h =
+    let behind = rows_text rs (end ++ rest) in
+    omega (arith, of_both (row_lines r) (lines_of_rows rs), row_size limit r behind h.0, rows_size (limit_after r) rs end rest h.1)
+
+-- ---- documents
+
+root_size : (ls : List Line) (root : Node) → IsRoot ls root → items_in root ≤ of_lines ls
+root_size [] root h = rw h (omega arith)
+root_size (l ∷ ls) root h = outline_size h.1
+
+abbrev of_parts : List Part → ℕ
+of_parts [] = 0
+of_parts (p ∷ ps) = of_lines (lines_of_rows p.rows) + of_parts ps
+
+of_parts_with : (is : Bool) (p : Part) (ps : List Part) → of_parts (with_part is p ps) ≤ of_lines (lines_of_rows p.rows) + of_parts ps
+of_parts_with true p ps = omega arith
+of_parts_with false p ps = omega arith
+
+documents_size : (ps : List Part) (ds : List Document) → AreDocuments ps ds → items_of_all ds ≤ of_parts ps
+documents_size [] [] h = omega arith
+documents_size [] (d ∷ ds) h = absurd h
+documents_size (p ∷ ps) [] h = absurd h
+documents_size (p ∷ ps) (d ∷ ds) h = omega (arith, root_size (lines_of_rows p.rows) d.root h.0.root, documents_size ps ds h.1)
+
+parts_size : (started is : Bool) (c : Cut) → AreParts started c → of_parts (parts_from is c) ≤ length (cut_text c)
+parts_size started is (last p) h =
+    omega (arith, of_parts_with is p [], rows_size unlimited p.rows p.end [] h.rows)
+parts_size started is (marked p marker c) h =
+    omega (
+      arith,
+      of_parts_with is p (parts_from (begins_document marker) c),
+      rows_size unlimited p.rows p.end (marker ++ cut_text c) h.0.rows,
+      length-append p.end (marker ++ cut_text c),
+      length-append marker (cut_text c),
+      parts_size (begins_document marker) (begins_document marker) c h.2,
+    )
+
+-- a text has a byte at least for each item and entry of the documents as which it reads
+pub text_size : (t : List ℕ) (docs : List Document) → ReadsDocuments t docs → items_of_all docs ≤ length t
+text_size t docs h =
+    rw h.cut.text (omega (arith, documents_size _ docs h.documents, parts_size true (begins_bare h.parts || not (has_begin h.parts)) h.parts h.cut.parts))

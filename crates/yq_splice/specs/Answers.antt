@@ -1,0 +1,27 @@
+-- What an answer to an edit of any text says.
+use Rattle.std.specs.Prelude.{◌≡◌, ◌≢◌, ⊤, ℕ, List, Result, Ok, Err, string_bytes}
+use Rattle.yq_core.specs.declared.fault.FaultKind.TheVariants.{NotUtf8}
+use Rattle.yq_semantics.specs.Program.{Program}
+use Rattle.yq_text.specs.declared.edited.Edited.{Edited}
+use Rattle.yq_fault.specs.declared.fault.Fault.{Fault}
+use Rattle.yq_edit_laws.{specs.Edit.{Edit, unreadable, refuses, gives}, specs.Theorems.{HasReading, ProgramRefused}}
+use Rattle.yq_fault.specs.declared.fault.Fault.TheVariants as fault
+
+-- what a fault says of an edit, and that no text is reported to be no UTF-8; want of memory says nothing, and no other fault comes (own)
+abbrev pub TextFails : Fault → Edit → Type 0
+TextFails (fault.Unreadable f) edit = (edit ≡ unreadable) × (f.kind ≢ NotUtf8)
+TextFails (fault.Refused why) edit = edit ≡ refuses why
+TextFails fault.OutOfMemory edit = Unit {0}
+TextFails _ edit = ⊥
+
+-- the answer is what the edit gives (own)
+abbrev pub EditsText : Result Edited Fault → Edit → Type 0
+EditsText (Ok e) edit = edit ≡ gives (string_bytes e.text) e.splices.items
+EditsText (Err e) edit = TextFails e edit
+
+-- why a text isn't edited: it has no reading, or the program is refused, or memory ran out (own)
+abbrev pub EditRefused : Fault → Program → List ℕ → Type 0
+EditRefused (fault.Unreadable f) p t = ¬ HasReading t
+EditRefused (fault.Refused why) p t = ProgramRefused p why t
+EditRefused fault.OutOfMemory p t = ⊤
+EditRefused _ p t = ⊥
