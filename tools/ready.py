@@ -2,7 +2,8 @@
 - sources that are not in the layout of `rt fmt`, or whose imports are not in the form of tools/imports.py; symbolic links; sources that no
   check reads
 - definitions whose comments name no section, and names that two files of specs/ define
-- names that have a better word in the glossary, and names of crates that crates.txt doesn't list
+- names that have a better word in the glossary, names of crates that crates.txt doesn't list, and lines of crates.txt that lack what a
+  crate names or list what it doesn't
 - lines that say memory ran out where none was asked for (tools/memory.py)
 - sentences of the pages with more than 35 words, and words that have a plainer one (tools/plain.py)
 - lines of definitions and proofs, and clauses, that are too wide, more functions of many parameters, wrong bodies of both tiers that
@@ -48,6 +49,8 @@ INNER = re.compile(r"  pub (?:(?:data|record) )?(\S+)")
 # How a comment says that what is below is own, and how it names a section.
 OWN = re.compile(r"\(own[;)]|[;,] own\)")
 SECTION = re.compile(r"\d\.\d|\(\d+[,;)]|RFC \d")
+# How sources name a library, in paths of code and of proofs.
+NAMED = re.compile(r"\bRattle\.([a-z0-9_]+)|\b([a-z0-9_]+)::")
 # A crate's name, how a lemma of such a name begins, and the files that keep names of earlier days.
 CRATE = re.compile(r"\byq_[a-z0-9_]+")
 LEMMA = re.compile(r"^\s*(?:pub )?(yq_\w+) :", re.MULTILINE)
@@ -139,6 +142,24 @@ def unknown_crates(top):
                     yield f"{path}{line} names {name}, which crates.txt doesn't list"
 
 
+def other_libraries(top):
+    """Lines of crates.txt that lack a library which the crate's sources name, or list one that they don't."""
+    lines = listed()
+    known = {*lines, *(it for libraries in lines.values() for it in libraries)}
+    for crate, libraries in lines.items():
+        named = set()
+        for kind, places in PLACES.items():
+            for place in places:
+                for folder, _, files in os.walk(os.path.join(top, "crates", crate, place)):
+                    for file in (it for it in files if it.endswith(kind)):
+                        with open(os.path.join(folder, file), encoding="utf-8") as source:
+                            named |= {a or b for a, b in NAMED.findall(source.read())}
+        for name in sorted((named & known) - {crate, *libraries}):
+            yield f"crates.txt: the line of {crate} lacks {name}, which its sources name"
+        for name in sorted(set(libraries) - named):
+            yield f"crates.txt: the line of {crate} lists {name}, which its sources don't name"
+
+
 def not_applied():
     """Wrong bodies that can't be applied to the code as it is."""
     for crate in libraries():
@@ -175,7 +196,7 @@ def main(words):
     try:
         copy = os.path.join(room, "copy")
         shutil.copytree(ROOT, copy, symlinks=True, ignore=LEFT)
-        of_copy = (misplaced, badly_laid, misformed, faulty_definitions, coined, unasked, unknown_crates, not_plain)
+        of_copy = (misplaced, badly_laid, misformed, faulty_definitions, coined, unasked, unknown_crates, other_libraries, not_plain)
         found = [it for look in of_copy for it in look(copy)]
         found += [*wide_lines(), *too_wide(), *too_many(), *not_applied(), *other_versions(), *otherwise_told(), *other_codes(), *lost_links()]
     finally:
