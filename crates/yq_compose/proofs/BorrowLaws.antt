@@ -1,7 +1,7 @@
 -- What is borrowed as it is written is what it spells.
-use Rattle.std.proofs.Common.{◌≡◌, ℕ, ℤ, zero, suc, ◌-◌, eqb, Bool, true, false, cond, not, ◌||◌, ◌&&◌, List, [], ◌∷◌, drop, take, length}
-use Rattle.std.{proofs.Common.{Some, None, refl, sym, ap, ◌∙◌}, proofs.lemmas.Bool.{and_parts, cond-false, cond-true, not-true, or_parts}}
-use Rattle.std.specs.List.{list_any}
+use Rattle.std.proofs.Common.{◌≡◌, ℕ, ℤ, zero, suc, ◌-◌, eqb, eqb-true, subst, Bool, true, false, cond, not, ◌||◌, ◌&&◌, List, [], ◌∷◌}
+use Rattle.std.{proofs.Common.{drop, take, length, Some, None, refl, sym, ap, ◌∙◌}, proofs.Math.Bool.or-true}
+use Rattle.std.{proofs.lemmas.Bool.{and_parts, cond-false, cond-true, false≢true, not-true, or_parts}, specs.List.list_any}
 use Rattle.yq_core.{specs.ContentReading.quoted_content, specs.Plain.holds_break, specs.Quoted.IsQuotedText, specs.Text.{is_empty, is_feed}}
 use Rattle.yq_core.{specs.Nodes.begins_with, specs.Scalars.{scalar_content, is_quoted}, proofs.OneLine.{kept, borrowed_quoted}}
 use Rattle.yq_core.specs.Borrowed.{holds_escape, borrows_text}
@@ -51,6 +51,27 @@ borrows_key (b ∷ bs) q e = go (is_quoted (b ∷ bs)) refl
 -- one in quotes, by what is between them
 pub borrows_quoted : (t inner : List ℕ) (escaped : Bool) → holds_break t ≡ false → is_quoted t ≡ true → inner ≡ borrowed_text t → escaped ≡ list_any (λ b. eqb b (cond (begins_with 34 t) 92 39)) inner → not escaped ≡ borrows_text t
 borrows_quoted t inner escaped broken quoted is e = rw (broken, quoted) (ap not (e ∙ ap (list_any (λ b. eqb b (cond (begins_with 34 t) 92 39))) (rw quoted at is)))
+
+-- a backslash after so many bytes
+pub slash_there : (t : List ℕ) (n : ℕ) → begins_with 92 (drop n t) ≡ true → list_any (λ b. eqb b 92) t ≡ true
+slash_there [] zero h = h
+slash_there [] (suc n) h = h
+slash_there (b ∷ bs) zero h = ap (λ (x : Bool). x || list_any (λ c. eqb c 92) bs) h
+slash_there (b ∷ bs) (suc n) h = ap (λ (x : Bool). eqb b 92 || x) (slash_there bs n h) ∙ or-true (eqb b 92)
+
+inside : (bs inner : List ℕ) → inner ≡ borrowed_text (34 ∷ bs) → list_any (λ b. eqb b 92) inner ≡ true → holds_escape (34 ∷ bs) ≡ true
+inside bs inner is h = ap (list_any (λ (b : ℕ). eqb b 92)) (sym is) ∙ h
+
+and_false : (x : Bool) → (x && false) ≡ false
+and_false true = refl
+and_false false = refl
+
+pub escaped_inside : (t inner : List ℕ) → begins_with 34 t ≡ true → inner ≡ borrowed_text t → list_any (λ b. eqb b 92) inner ≡ true → borrows_text t ≡ false
+escaped_inside [] inner q is h = absurd (false≢true q)
+escaped_inside (b ∷ bs) inner q is h =
+    let first : b ≡ 34 = eqb-true b 34 q in
+    let holds = inside bs inner (is ∙ ap (λ (x : ℕ). borrowed_text (x ∷ bs)) first) h in
+    subst (λ (x : ℕ). borrows_text (x ∷ bs) ≡ false) (sym first) (rw holds (and_false (not (holds_break (34 ∷ bs)))))
 
 -- a head that is borrowed is read as what is borrowed of it, and holds no alias and no flow collection
 abbrev Borrowed : List ℕ → ℤ → List ℕ → List ℕ → Type 0

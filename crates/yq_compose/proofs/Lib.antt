@@ -1,6 +1,7 @@
 pub mod DecidingLaws
 pub mod AheadLaws
 pub mod NamedLaws
+pub mod NearLaws
 pub mod StopLaws
 pub mod PositionOrder
 pub mod UnderLaws

@@ -1,5 +1,5 @@
 -- Reading (own; a reader may skip it): the anchors and aliases of the code.
-use Rattle.std.specs.Prelude.{List, [], map, Option, Some, None}
+use Rattle.std.specs.Prelude.{◌≡◌, ◌<◌, ℕ, List, [], map, Option, Some, None, slice_get}
 use Rattle.yq_core.{specs.Places.Placed, specs.Trees.placed_tree, specs.Anchors.{Name, Anchors, Refers, names_of}}
 use Rattle.yq_compose.specs.declared.names.Name as declared
 
@@ -16,3 +16,7 @@ all_named ns = map name_view ns
 abbrev pub flow_names : Option Placed → List Name
 flow_names None = []
 flow_names (Some p) = names_of (placed_tree p)
+
+-- an anchor of that name comes before a place (own)
+abbrev pub HasAnchorBefore : List Name → ℕ → List ℕ → Type 0
+HasAnchorBefore ns at a = (i : ℕ) × (i < at) × (slice_get ns i ≡ Some (Anchors a))

@@ -4,6 +4,7 @@ ghost use Rattle.yq_compose.specs.Named.{all_named};
 ghost use Rattle.yq_outline.specs.LinesReading.{are_bound};
 
 use crate::names::Name;
+use crate::near::all_near;
 use std::alloc::{AllocError, Global};
 use std::collections::BTreeMap;
 
@@ -11,6 +12,9 @@ use std::collections::BTreeMap;
 pub(crate) fn unbound_alias(alloc: Global, names: &[Name<'_>]) -> Result<Option<usize>, AllocError>
     ensures { IfOk result (λ l. is_none l ≡ are_bound [] (all_named names.now)) }
 {
+    if all_near(names) {
+        return Ok(None);
+    }
     let mut known = BTreeMap::new(alloc);
     let mut at = 0;
     'names: while at < names.len() {

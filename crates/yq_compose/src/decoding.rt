@@ -1,7 +1,7 @@
 //! What rows spell, made where their text doesn't lend it.
 ghost use Rattle.std.specs.List.{list_any};
-ghost use Rattle.std.specs.Prelude.{◌≡◌, ◌<◌, ◌++◌, ◌==◌, if◌then◌else◌, length, option_and_then, option_map, string_bytes, true, IfErr};
-ghost use Rattle.std.specs.Prelude.{IfOk, IfSome, IsTrue, List, ℕ};
+ghost use Rattle.std.specs.Prelude.{◌≡◌, ◌<◌, ◌++◌, ◌==◌, if◌then◌else◌, false, length, option_and_then, option_map, string_bytes, true};
+ghost use Rattle.std.specs.Prelude.{IfErr, IfOk, IfSome, IsTrue, List, ℕ};
 ghost use Rattle.yq_core.{specs.Answers.IsOfText, specs.Text.front, specs.Borrowed.borrows_text as is_borrowed_text};
 ghost use Rattle.yq_core.{specs.Quoted.IsQuotedText, specs.Runs.is_word_byte, specs.Scalars.is_quoted as is_in_quotes};
 ghost use Rattle.yq_documents.specs.Decoded.{IsDecodedBy, decoded_view, decoded_head_flow};
@@ -31,6 +31,21 @@ fn holds_escape(is_double: bool, inner: &str) -> bool
     inner.as_bytes().iter().any(|b| *b == sign)
 }
 
+/// Whether a backslash is what the bytes that mean themselves between double quotes end before.
+fn stops_at_slash(inner: &[u8]) -> bool
+    ensures { IsTrue result → list_any (λ b. b == 92) inner.now ≡ true }
+{
+    first_is(b'\\', inner.split_at(run_len(Run::Quoted(b'"'), inner)).1)
+}
+
+/// Whether a scalar is in double quotes, and has an escape before its first break.
+fn begins_escaped(piece: &str) -> bool
+    requires { is_in_quotes piece.now ≡ true → IsQuotedText piece.now }
+    ensures { IsTrue result → is_borrowed_text piece.now ≡ false }
+{
+    first_is(b'"', piece.as_bytes()) && stops_at_slash(borrowed_text(piece).as_bytes())
+}
+
 /// Whether the text lends what a key or scalar means: it is on one line, and has no escapes.
 pub(crate) fn borrows_text(piece: &str) -> bool
     requires { is_in_quotes piece.now ≡ true → IsQuotedText piece.now }
@@ -38,6 +53,9 @@ pub(crate) fn borrows_text(piece: &str) -> bool
 {
     if is_quoted_line(piece.as_bytes()) {
         return true;
+    }
+    if begins_escaped(piece) {
+        return false;
     }
     if holds_break(piece) {
         return false;

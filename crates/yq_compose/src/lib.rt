@@ -13,6 +13,7 @@ mod fit;
 mod inline_fault;
 mod keys;
 mod names;
+mod near;
 mod nested;
 mod parts;
 mod passing;

@@ -6,7 +6,7 @@ use Rattle.std.{proofs.Math.Bool.or-true, proofs.lemmas.Str.{scalars-chars, enco
 use Rattle.std.specs.Str.{chars, IsUtf8}
 use lib.Utf8.{scalar, scalars, encode, encodes}
 use Rattle.memchr.specs.Find.{IsFirstByte, is_byte}
-use Rattle.yq_core.{specs.Runs.run_goes_on, specs.declared.runs.Run.TheVariants.Text, proofs.Across.{rest_of, rest_is}}
+use Rattle.yq_core.{specs.Runs.{is_ascii_byte, run_goes_on}, specs.declared.runs.Run.TheVariants.Text, proofs.Across.{rest_of, rest_is}}
 use Rattle.yq_core.specs.Text.{is_feed, front, unless}
 use Rattle.yq_core.specs.Characters.{are_in_text, begins_text_char, is_text_byte, is_text_char, pairs_returns}
 
@@ -126,6 +126,31 @@ pub none_left : (t : List ℕ) → length t < 1 → are_in_text t ≡ true
 unfolding are_in_text
 none_left [] l = refl
 none_left (b ∷ bs) l = absurd (omega arith)
+
+-- bytes of ASCII in front: all of them or fewer
+text_ascii : (b : ℕ) → is_ascii_byte b ≡ true → is_text_byte b ≡ true
+text_ascii b h = grind arith
+
+pub ascii_in : (n : ℕ) (t : List ℕ) → n ≤ prefix_len is_ascii_byte t → are_in_text (drop n t) ≡ are_in_text t
+unfolding are_in_text
+ascii_in zero t h = refl
+ascii_in (suc n) [] h = refl
+ascii_in (suc n) (b ∷ bs) h = elim (cases_Bool (is_ascii_byte b)) [
+  | inl i ↦ (let long : prefix_len is_ascii_byte (b ∷ bs) ≡ 1 + prefix_len is_ascii_byte bs = rw i refl in rw (text_ascii b i) (ascii_in n bs (omega (arith, h, long))))
+  | inr i ↦ (let none : prefix_len is_ascii_byte (b ∷ bs) ≡ 0 = rw i refl in absurd (omega (arith, h, none)))
+]
+
+return_no_ascii : (b : ℕ) → is_ascii_byte b ≡ true → eqb b 13 ≡ false
+return_no_ascii b h = grind arith
+
+pub ascii_returns : (n : ℕ) (t : List ℕ) → n ≤ prefix_len is_ascii_byte t → pairs_returns (drop n t) ≡ pairs_returns t
+unfolding pairs_returns
+ascii_returns zero t h = refl
+ascii_returns (suc n) [] h = refl
+ascii_returns (suc n) (b ∷ bs) h = elim (cases_Bool (is_ascii_byte b)) [
+  | inl i ↦ (let long : prefix_len is_ascii_byte (b ∷ bs) ≡ 1 + prefix_len is_ascii_byte bs = rw i refl in rw (return_no_ascii b i) (ascii_returns n bs (omega (arith, h, long))))
+  | inr i ↦ (let none : prefix_len is_ascii_byte (b ∷ bs) ≡ 0 = rw i refl in absurd (omega (arith, h, none)))
+]
 
 no_return : (t : List ℕ) → ((k : ℕ) → k < length t → eqb (get_or t k 0) 13 ≡ false) → pairs_returns t ≡ true
 unfolding pairs_returns

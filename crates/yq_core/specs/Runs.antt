@@ -14,6 +14,14 @@ is_stop (Quoted quote) b = b == quote || b == 92 || is_feed b
 abbrev pub run_goes_on : Run → ℕ → Bool
 run_goes_on run b = not (is_stop run b)
 
+-- neither a visible character of ASCII nor a space nor an LF (own)
+abbrev pub is_other_byte : ℕ → Bool
+is_other_byte b = not ((nat_le 32 b && nat_le b 126) || is_feed b)
+
+-- a visible character of ASCII, a space or an LF (own)
+abbrev pub is_ascii_byte : ℕ → Bool
+is_ascii_byte b = not (is_other_byte b)
+
 -- an ASCII letter or digit, or a byte of another character than ASCII (own)
 abbrev pub is_word_byte : ℕ → Bool
 is_word_byte b = (nat_le 97 b && nat_le b 122) || (nat_le 65 b && nat_le b 90) || (nat_le 48 b && nat_le b 57) || nat_le 128 b

@@ -3,6 +3,7 @@ ghost use Rattle.std.{specs.List.{list_all, list_any}, specs.Prelude.{◌≡◌,
 ghost use Rattle.yq_core.specs.Text.{front, is_feed, unless};
 ghost use Rattle.yq_core.specs.Characters as spec;
 
+use crate::ascii::ascii_len;
 use crate::runs::{Run, run_len};
 use memchr::memchr;
 
@@ -116,11 +117,21 @@ pub fn holds_byte(b: u8, text: &[u8]) -> bool
     }
 }
 
+/// What follows the visible characters of ASCII, spaces and LFs in front that fill whole blocks.
+fn past_ascii(text: &[u8]) -> &[u8]
+    ensures chars { spec.are_in_text result.now ≡ spec.are_in_text text.now }
+    ensures returns { spec.pairs_returns result.now ≡ spec.pairs_returns text.now }
+{
+    text.split_at(ascii_len(text)).1
+}
+
 /// Whether the characters are those of a text.
+#[tactic(auto, using(crate::proofs::TextChars::text_bytes))]
 pub fn is_text(text: &str) -> bool
     ensures { result ≡ spec.is_text text.now }
 {
-    has_text_chars(text) && pairs_returns(text.as_bytes())
+    let rest = past_ascii(text.as_bytes());
+    has_text_bytes(rest) && pairs_returns(rest)
 }
 
 /// How many characters a text has.

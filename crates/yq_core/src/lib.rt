@@ -3,6 +3,7 @@
 //! The tree that a document means, with paths in it and values.
 #![tactic(auto)]
 
+mod ascii;
 pub mod block_header;
 pub mod block_lines;
 mod block_types;

@@ -1,5 +1,5 @@
 //! The texts that keys and scalars mean.
-ghost use Rattle.std.{specs.List.list_any, specs.Prelude.{◌≡◌, ◌==◌, IfOk, None, Some, if◌then◌else◌, true}};
+ghost use Rattle.std.specs.Prelude.{◌≡◌, IfOk, None, Some, true};
 ghost use Rattle.yq_core.{specs.Quoted.IsQuotedText, specs.Scalar.plain_of, specs.Trees.scalar_node};
 ghost use Rattle.yq_outline.specs.View.{content_view, head_view, head_flow};
 ghost use Rattle.yq_core.specs.ContentReading as reading;
@@ -10,26 +10,19 @@ use yq_core::{Kind, between_quotes, is_quoted, resolve};
 use yq_outline::{Head, ScalarContent};
 use yq_scalar_reader::folding::{plain_content, quoted_content};
 use yq_scalar_reader::plain::holds_break;
-
-/// Whether a backslash is in double quotes, or a quote in single ones.
-fn holds_escape(quote: u8, inner: &str) -> bool
-    ensures { result ≡ list_any (λ b. b == (if quote == 34 then 92 else 39)) inner.now }
-{
-    let sign = if quote == b'"' { b'\\' } else { b'\'' };
-    inner.as_bytes().iter().any(|b| *b == sign)
-}
+use yq_scalar_reader::quoted_line::is_quoted_line;
 
 /// The text that a quoted scalar means: one on one line without escapes is borrowed.
 fn quoted_text<'t>(alloc: Global, piece: &'t str) -> Result<ScalarContent<'t>, AllocError>
-    requires { IsQuotedText piece.now }
+    requires scalar { IsQuotedText piece.now }
+    requires quoted { scalars.is_quoted piece.now ≡ true }
     ensures { IfOk result (λ c. content_view c ≡ reading.quoted_content piece.now) }
 {
-    let inner = between_quotes(piece);
-    if holds_break(inner) || holds_escape(piece.as_bytes()[0], inner) {
-        let text = quoted_content(alloc, piece)?;
-        return Ok(ScalarContent::Own(text));
+    if is_quoted_line(piece.as_bytes()) {
+        return Ok(ScalarContent::Slice(between_quotes(piece)));
     }
-    Ok(ScalarContent::Slice(inner))
+    let text = quoted_content(alloc, piece)?;
+    Ok(ScalarContent::Own(text))
 }
 
 /// The text that a key or a scalar, as it is written, means: one on one line without escapes is borrowed.

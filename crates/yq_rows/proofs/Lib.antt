@@ -1,5 +1,6 @@
 mod Colons
 mod Columns
+pub mod RowFronts
 pub mod MeasuredSlicing
 pub mod SplitLaws
 pub mod BeginLaws

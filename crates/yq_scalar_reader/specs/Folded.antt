@@ -1,9 +1,9 @@
 -- What bytes of a plain or quoted scalar mean, one part after the other (own).
-use Rattle.std.specs.Prelude.{◌≡◌, ◌≢◌, ℕ, zero, suc, List, ◌++◌, Bool, false, ◌||◌, slice_index, replicate, encode_utf8, Option}
+use Rattle.std.specs.Prelude.{◌≡◌, ◌≢◌, ℕ, zero, suc, List, [], ◌++◌, Bool, false, ◌||◌, slice_index, replicate, encode_utf8, Option}
 use Rattle.std.{specs.Prelude.MatchOption, specs.Str.bytes_eq}
 use denote.Bor.{Bor}
-use Rattle.yq_scalar_reader.specs.declared.folded.Folded.{Folded}
-use Rattle.yq_core.{specs.ContentReading.content_behind, specs.Text.{feed, is_white, is_return}}
+use Rattle.yq_scalar_reader.{specs.declared.folded.Folded.Folded, specs.declared.folded.FoldedItem.FoldedItem}
+use Rattle.yq_core.{specs.ContentReading.{content_behind, content_on, within}, specs.Text.{feed, is_white, is_return}}
 use Rattle.yq_scalar_reader.specs.declared.folded.Folded.TheVariants as folded
 
 -- the text that bytes of a scalar mean (own)
@@ -30,3 +30,7 @@ StripsItem quote joined text content r =
 abbrev pub is_blank_before : ℕ → List ℕ → Bool
 is_blank_before zero t = false
 is_blank_before (suc k) t = is_white (slice_index t k) || is_return (slice_index t k)
+
+-- a text in double quotes means so many bytes of its own, then the item after them, and what follows it (own)
+abbrev pub IsEscaped : (t words : List ℕ) → FoldedItem → Type 0
+IsEscaped t words item = content_on 34 0 within [] t ≡ words ++ (folded_text item.folded ++ content_behind 34 item.joined item.rest.now)

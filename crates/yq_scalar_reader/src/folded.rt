@@ -185,7 +185,8 @@ fn break_len(text: &[u8]) -> usize
 }
 
 /// The escape in front.
-fn fold_escape<'t>(text: &'t str) -> FoldedItem<'t>
+#[inline(always)]
+pub(crate) fn fold_escape<'t>(text: &'t str) -> FoldedItem<'t>
     requires { spec.is_slash 34 text.now ≡ true }
     ensures value { spec.content_on 34 0 spec.within [] text.now ≡
         folded_text result.folded ++ spec.content_behind 34 result.joined result.rest.now }

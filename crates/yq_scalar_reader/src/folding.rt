@@ -5,12 +5,14 @@ ghost use Rattle.yq_core.{specs.PlainContent.IsPlainLines, specs.Quoted.{QuotedL
 ghost use Rattle.yq_core.{specs.Runs.run_goes_on, specs.declared.runs.Run.TheVariants.Quoted, specs.Strings.{AddsText, GivesText}};
 ghost use Rattle.yq_core.specs.ContentReading as spec;
 
+use crate::escaping::split_escape;
 use crate::folded::{Folded, fold_gap, fold_item, inside, split_space};
 use crate::pushing::push_breaks;
 use std::alloc::{AllocError, Global};
 use yq_core::{Run, run_len};
 
 /// Adds what bytes mean.
+#[inline(always)]
 fn push_folded(out: &mut String, folded: Folded<'_>) -> Result<(), AllocError>
     ensures { AddsText result out.old out.new (folded_text folded.entry) }
 {
@@ -43,6 +45,13 @@ fn push_next<'a>(
         ≡ string_bytes out.old ++ spec.content_behind quote joined text.now) }
     ensures shorter { IfOk result (λ x. 0 < length text.now → length x.0.now < length text.now) }
 {
+    if quote == b'"' && !joined {
+        if let Some((words, item)) = split_escape(text) {
+            out.push_str(words)?;
+            push_folded(out, item.folded)?;
+            return Ok((item.rest, item.joined));
+        }
+    }
     let (space, next) = split_space(text);
     push_gap(out, joined, space)?;
     let item = fold_item(quote, next);

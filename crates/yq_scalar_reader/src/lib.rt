@@ -1,6 +1,7 @@
 //! Plain and quoted scalars of YAML, read and folded, and what each style can write.
 #![tactic(auto)]
 
+mod escaping;
 pub mod folded;
 pub mod folding;
 mod integer;

@@ -6,6 +6,9 @@ use Rattle.yq_compose.proofs.decoding.borrows_text.Goals as goal
 pub returns-then-is_quoted_line : goal.returns-then-is_quoted_line
 returns-then-is_quoted_line c = sym (ap lent (sym c.as_bytes.ensures.value) ∙ c.if-is_quoted_line.ensures refl)
 
+pub returns-then-begins_escaped : goal.returns-then-begins_escaped
+returns-then-begins_escaped c = sym (c.if-begins_escaped.ensures refl)
+
 pub returns : goal.returns
 returns c =
     borrows_quoted c.args.piece.now c.borrowed_text.result.now c.holds_escape.result (sym c.holds_break.ensures ∙ c.if-holds_break.false)

@@ -1,8 +1,7 @@
-use Rattle.std.proofs.Common.{◌∙◌, sym}
-use Rattle.yq_core.proofs.OneLine.{borrowed_quoted}
+use Rattle.std.proofs.Common.{◌∙◌, refl, sym, ap}
+use Rattle.yq_core.{specs.Borrowed.borrows_text, proofs.BorrowedTexts.inner_means}
 use Rattle.yq_row_heads.proofs.content.quoted_text.Goals as goal
 
-pub returns : goal.returns
-returns c =
-    borrowed_quoted c.args.piece.now c.between_quotes-inner.result.now c.as_bytes.result.now c.requires c.as_bytes.ensures.value c.between_quotes-inner.ensures (sym c.holds_break.ensures ∙ c.if-holds_break.false)
-    (sym c.holds_escape.ensures ∙ c.if-holds_escape.false)
+pub returns-then-is_quoted_line : goal.returns-then-is_quoted_line
+returns-then-is_quoted_line c =
+    c.between_quotes.ensures ∙ inner_means c.args.piece.now c.requires.quoted c.requires.scalar (ap borrows_text (sym c.as_bytes.ensures.value) ∙ c.if-is_quoted_line.ensures refl)
