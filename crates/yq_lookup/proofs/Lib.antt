@@ -4,3 +4,4 @@ mod DocumentFronts
 mod RowCollections
 pub mod RowParts
 mod RowFrontLaws
+mod RowNodes
