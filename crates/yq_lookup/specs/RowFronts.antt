@@ -7,8 +7,7 @@ use Rattle.yq_text.specs.Limit.{text_limit}
 use Rattle.yq_row_table.{specs.Exchange.behind_row, specs.Rows.{Content, Row, parent_indent}, specs.View.rows_of}
 use Rattle.yq_inline.{specs.Along.{front_read, located_along}, specs.declared.in_front.NodeInFront.NodeInFront}
 use Rattle.yq_documents.specs.Reading.{cut_of}
-use Rattle.yq_places.{specs.FlowNodes.{content_flow, flow_collection}, specs.FlowViews.FlowAgrees}
-use Rattle.yq_places.{specs.declared.places.flow_node.FlowHead.FlowHead, specs.NodesAt.{NodeAt, node_summary, node_view}}
+use Rattle.yq_places.{specs.FlowNodes.{content_flow, flow_collection}, specs.NodesAt.{NodeAt, node_summary, node_view}}
 use Rattle.yq_outline.specs.Lines.{head_of}
 use Rattle.yq_core.specs.declared.path.Step as declared
 use Rattle.yq_places.specs.declared.places.node_at.NodeAt as found
@@ -51,10 +50,6 @@ pub record IsFlowFront (t : List ℕ) (n : ℕ) (steps : List Step) (x : NodeInF
 abbrev pub LeadsToFront : List ℕ → ℕ → List Step → Option (NodeInFront × ℕ × Bor (List declared.Step)) → Type 0
 LeadsToFront t n steps None = flow_collection n steps (cut_of t) ≡ None
 LeadsToFront t n steps (Some x) = IsFlowFront t n steps x
-
--- what the code finds is the flow collection at a path of document n
-abbrev pub FindsCollection : List ℕ → ℕ → List Step → Option FlowHead → Type 0
-FindsCollection t n steps o = FlowAgrees t (flow_collection n steps (cut_of t)) o
 
 -- what is known of the node to which steps lead in the node in front
 abbrev pub summary_along : List Step → NodeInFront → Option NodeAt
