@@ -138,6 +138,7 @@ def check_head_comments_in_a_text_with_a_long_first_line(folder):
 
 def check_an_edit_in_a_row_makes_no_tree_of_the_row(folder):
     """Of 4 MB in one row, such a tree would take 75 MB."""
-    edits = (".items[5].id = 77", ".items[5].x = 1", "del(.items[5].on)")
+    inside = (".items[5].id = 77", ".items[5].x = 1", "del(.items[5].on)")
+    edits = (*inside, ".items += [1]", "del(.items[5])", "del(.items[-1])", '. += {"x": 1}')
     for name, expression, status, _seconds, megabytes in runs(folder, [("JSON objects in one row", edit) for edit in edits], 4_000_000):
         equal((status, megabytes <= MEGABYTES), (0, True), (name, expression, megabytes))

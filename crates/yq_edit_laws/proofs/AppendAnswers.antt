@@ -1,18 +1,21 @@
 -- What putting an item or entry into a flow collection comes to, by what the code finds.
 use Rattle.std.proofs.Common.{rules, ◌≡◌, inl, inr, ℕ, Bool, true, false, cond, List, length, Option, Some, None, sym, ap, ◌∙◌, subst, refl}
-use Rattle.std.{proofs.lemmas.Option.{none-some, same_Some}, specs.Prelude.string_bytes}
+use Rattle.std.proofs.lemmas.Option.{none-some, same_Some}
 use Rattle.yq_core.{specs.Answers.◌>>=◌, specs.Paths.Step, specs.Tree.Node, specs.Collections.CollPieces}
-use Rattle.yq_core.{specs.Places.{Placed, placed, locate}, specs.NodesWritten.{flow_key, flow_of}}
-use Rattle.yq_flow_edits.{specs.FlowEdits.{FlowEdit, appending}, specs.FlowPlaces.{append_place, edit_view, place_edit}}
+use Rattle.yq_core.{specs.Places.{Placed, placed, locate}, specs.Nodes.key_text, specs.NodesWritten.{flow_key, flow_of, flow_text}}
+use Rattle.yq_flow_edits.{specs.FlowEdits.{FlowEdit, appending}, specs.FlowPlaces.{PlacedEdit, append_place, edit_view, place_edit}}
 use Rattle.yq_flow_edits.specs.declared.flow_place.EditPlace.{EditPlace}
 use Rattle.yq_text.specs.Script.{Segment}
 use Rattle.yq_row_table.specs.Rows.{Cut, cut_text}
-use Rattle.yq_places.{specs.FlowNodes.flow_collection, specs.FlowViews.{FlowAgrees, behind_anchor, collection_view, placed_collection}}
+use Rattle.yq_documents.specs.Reading.{cut_of, read_at}
+use Rattle.yq_places.{specs.FlowNodes.flow_collection, specs.FlowViews.{behind_anchor, placed_collection}}
 use Rattle.yq_places.specs.declared.places.flow_node.FlowHead.{FlowHead}
+use Rattle.yq_lookup.{specs.FlowEnds.{FlowEndAgrees, IsFlowEnd, IsInPiece}, specs.declared.flow_ends.FlowEnd.FlowEnd}
 use Rattle.yq_edit_rules.specs.FlowParts.{flow_more, flow_segments, takes_key}
-use Rattle.yq_edit_laws.specs.EditPlaces.{edit_segments, placed_takes}
+use Rattle.yq_edit_laws.specs.EditPlaces.{end_place, keyed_takes, moved_on, placed_takes}
 use Rattle.yq_edit_laws.{specs.PartPuts.{AreMore, IsEditPlace, PutsMoreIn, more_edit, place_after}, specs.declared.append.MorePut.MorePut}
-use Rattle.yq_edit_laws.{proofs.FlowAnswers.{CollFound, edit_lies, edit_moved, segments_at}, proofs.PutAnswers.no_collection}
+use Rattle.yq_edit_laws.{proofs.CutLaws.text_read, proofs.FlowAnswers.{CollFound, EditFound, edit_lies, edit_moved}}
+use Rattle.yq_edit_laws.{proofs.NeighbourPlaces.end_is_there, proofs.PiecePlaces.{place_found, whole_of}}
 use Rattle.yq_edit_laws.{proofs.FlowAppendLaws.{bounds, there}, proofs.FlowHeads.{append_found, appended_within, whole_is}}
 use Rattle.yq_edit_laws.proofs.FlowLonger.{appending_more}
 
@@ -66,18 +69,53 @@ module _ (c : Cut) (n : ℕ) (steps : List Step) (key : Option (List ℕ)) (v : 
   more_found None (inr none) = absurd (none-some _ (sym none ∙ place_is))
   more_found (Some p) h = (f.coll, f.found, (takes_there h.0, more_placed p.place (sym h.1), h.2))
 
--- ---- where there is no collection
+-- ---- by the end of the collection
 
-pub no_more : (t : List ℕ) (o : Option CollPieces) (x : FlowHead) (g : CollPieces → Option (List Segment)) → FlowAgrees t o (Some x) → None ≡ collection_view x → (o >>= g) ≡ None
-no_more t o x g agrees none = ap (λ (y : Option CollPieces). y >>= g) (no_collection t o x agrees none)
+pub no_more : (t : List ℕ) (o : Option CollPieces) (g : CollPieces → Option (List Segment)) → FlowEndAgrees t o None → (o >>= g) ≡ None
+no_more t None g agrees = refl
+no_more t (Some w) g agrees = absurd agrees
 
--- ---- the segments
+-- The code finds the end of the flow collection at a path.
+pub record EndFound (c : Cut) (n : ℕ) (steps : List Step) (x : FlowEnd) : Type 0 where
+  pub read : read_at (cut_text c) ≡ Some c
+  pub coll : CollPieces
+  pub found : flow_collection n steps c ≡ Some coll
+  pub agrees : IsFlowEnd (cut_text c) coll x
 
-pub more_written : (n : ℕ) (steps : List Step) (key : Option (List ℕ)) (v : Node) (c : Cut) (before : ℕ) (p : MorePut) (whole : List ℕ) → whole ≡ cut_text c → AreMore n steps key v c before (Some p) →
-    (flow_collection n steps c >>= flow_more (cut_text c) key v) ≡ Some (edit_segments whole (place_after before p.place) (string_bytes p.written))
-more_written n steps key v c before p whole all h =
-    let t : List ℕ = cut_text c in
-    let place = h.2.1 in
-    ap (λ (o : Option CollPieces). o >>= flow_more t key v) h.1
-    ∙ (ap (λ (b : Bool). cond b (Some (flow_segments t (more_edit key v h.0))) None) h.2.0
-    ∙ ap Some (sym (segments_at t place.before (more_edit key v h.0) place.text) ∙ (λ i. edit_segments (sym all i) (sym place.place_is i) (sym h.2.2 i))))
+pub end_found : (t : List ℕ) (n : ℕ) (steps : List Step) (x : FlowEnd) → read_at t ≡ Some (cut_of t) → FlowEndAgrees t (flow_collection n steps (cut_of t)) (Some x) → EndFound (cut_of t) n steps x
+end_found t n steps x read agrees =
+    let same = sym (text_read t (cut_of t) read) in
+    go (subst (λ (u : List ℕ). read_at u ≡ Some (cut_of t)) same read) (flow_collection n steps (cut_of t)) refl (subst (λ (u : List ℕ). FlowEndAgrees u (flow_collection n steps (cut_of t)) (Some x)) same agrees)
+  where
+    go : read_at (cut_text (cut_of t)) ≡ Some (cut_of t) → (o : Option CollPieces) → flow_collection n steps (cut_of t) ≡ o → FlowEndAgrees (cut_text (cut_of t)) o (Some x) → EndFound (cut_of t) n steps x
+    go read None found agrees = absurd agrees
+    go read (Some w) found agrees = record { read = read; coll = w; found = found; agrees = agrees }
+
+module _ (c : Cut) (n : ℕ) (steps : List Step) (key : Option (List ℕ)) (v : Node) (x : FlowEnd) (f : EndFound c n steps x) where
+  abbrev place : IsInPiece (cut_text c) f.coll x.text.now x.before
+  place = f.agrees.place
+
+  abbrev edited : CollPieces → FlowEdit
+  edited = appending (flow_key key) (flow_of v)
+
+  -- whether the collection takes it
+  keyed_is : keyed_takes x.keyed key ≡ takes_key f.coll.close key
+  keyed_is =
+      ap (λ (y : Bool × Bool × ℕ). keyed_takes y.0 key) f.agrees.end ∙ ap (λ (z : CollPieces). takes_key z.close key) place.coll_is
+
+  pub not_taken : keyed_takes x.keyed key ≡ false → (flow_collection n steps c >>= flow_more (cut_text c) key v) ≡ None
+  not_taken is =
+      ap (λ (y : Option CollPieces). y >>= flow_more (cut_text c) key v) f.found ∙ ap (λ (k : Bool). cond k (Some (flow_segments (cut_text c) (edited f.coll))) None) (sym keyed_is ∙ is)
+
+  -- where it is written
+  pub taken : (whole : List ℕ) (p : PlacedEdit) → whole ≡ cut_text c → p ≡ end_place x.some x.at → keyed_takes x.keyed key ≡ true →
+      EditFound (flow_collection n steps c >>= flow_more (cut_text c) key v) whole (moved_on x.before p) (key_text (flow_key key) (flow_text v))
+  taken whole p all is takes =
+      let same = ap edited (whole_of (cut_text c) f.coll x.text.now x.before place) ∙ appending_more (flow_key key) (flow_of v) place.behind place.at.coll in
+      let s = there c n steps key v f.coll f.read f.found in
+      let at : p ≡ place_edit (length x.text.now) (edited place.at.coll) =
+      is ∙ (ap (λ (y : Bool × Bool × ℕ). end_place y.1 y.2) f.agrees.end ∙ end_is_there (length x.text.now) (flow_key key) (flow_of v) place.at.coll) in
+      subst (λ (o : Option (List Segment)). EditFound o whole (moved_on x.before p) (key_text (flow_key key) (flow_text v)))
+      (sym (ap (λ (y : Option CollPieces). y >>= flow_more (cut_text c) key v) f.found ∙ ap (λ (k : Bool). cond k (Some (flow_segments (cut_text c) (edited f.coll))) None) (sym keyed_is ∙ takes)))
+      (place_found c f.coll x.text.now x.before f.read place (edited f.coll) (edited place.at.coll) s.before whole p same (appended_within place.at place.stands (flow_key key) (flow_of v))
+      (bounds c n steps key v f.coll f.read f.found) s.text at all)

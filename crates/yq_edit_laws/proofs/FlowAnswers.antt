@@ -1,6 +1,6 @@
 -- What the code finds of flow collections, and where the edits of these are in a text.
-use Rattle.std.proofs.Common.{rules, ◌≡◌, ℕ, ◌-◌, ◌≤◌, List, [], ◌∷◌, ◌++◌, length, map, take, drop, slice_index_or, Option, Some}
-use Rattle.std.proofs.Common.{option_map, refl, sym, ap, ◌∙◌, subst, arith, append_assoc, length-append}
+use Rattle.std.proofs.Common.{◌≡◌, ℕ, ◌-◌, ◌≤◌, List, [], ◌∷◌, ◌++◌, length, map, take, drop, slice_index_or, Option, Some, option_map}
+use Rattle.std.proofs.Common.{refl, sym, ap, ◌∙◌, subst, arith, append_assoc, length-append}
 use Rattle.std.{proofs.Math.Seq.{take-append_seam, drop-append_seam}, specs.Str.IsCharBoundary}
 use Rattle.yq_core.{specs.Answers.◌>>=◌, specs.Paths.Step, specs.Collections.CollPieces, specs.Entries.{EntryPieces, item_at}}
 use Rattle.yq_core.{specs.Nodes.node_text, specs.Places.Placed}
@@ -105,11 +105,6 @@ module _ (c : Cut) (n : ℕ) (steps : List Step) (x : FlowHead) (q : Placed) (f 
 
   pub edit_lies : (e : FlowEdit) (p : PlacedEdit) → HasBounds (cut_text c) e → moved_on x.before p ≡ place_edit (length t) e → LiesIn t (moved_on x.before p)
   edit_lies e p bounds moved = bounds_lie c e (moved_on x.before p) f.read bounds moved
-
-  -- and its segments.
-  pub edit_found : (e own : FlowEdit) (before whole : List ℕ) (p : PlacedEdit) → e ≡ edit_more f.agrees.behind own → length (own.old ++ own.behind) ≤ length (node_text f.agrees.at.node f.agrees.at.rest) →
-      HasBounds (cut_text c) e → cut_text c ≡ before ++ (e.old ++ e.behind) → p ≡ place_edit (length x.text.now) own → whole ≡ cut_text c → EditFound (Some (flow_segments t e)) whole (moved_on x.before p) e.written
-  edit_found e own before whole p same within bounds text is all = search (rules, edit_moved e own p same within is, edit_lies, segments_at)
 
 -- ---- a part of it
 

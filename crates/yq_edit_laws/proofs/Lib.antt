@@ -20,10 +20,12 @@ pub mod SoleEntries
 pub mod EarlierCollections
 pub mod FlowHeads
 pub mod FlowAnswers
+mod PiecePlaces
+mod NeighbourPlaces
 pub mod PutAnswers
 mod PartAnswers
 pub mod AppendAnswers
-pub mod RemoveAnswers
+mod RemoveAnswers
 pub mod EmptyingAnswers
 pub mod FlowHeldNodes
 pub mod FlowHeldLines

@@ -1,57 +1,105 @@
 -- What removing from a flow collection comes to, by what the code finds.
-use Rattle.std.proofs.Common.{rules, ◌≡◌, ℕ, List, [], length, Option, Some, None, option_map, sym, ap, ◌∙◌, subst, refl}
-use Rattle.std.proofs.lemmas.Option.{none-some, same_Some}
-use Rattle.yq_core.{specs.Answers.◌>>=◌, specs.Paths.Step, specs.Collections.CollPieces, specs.Places.{Placed, placed}}
-use Rattle.yq_flow_edits.{specs.FlowEdits.FlowEdit, specs.FlowPlaces.{PlacedEdit, place_edit, remove_place}, specs.Removals.removing}
+use Rattle.std.proofs.Common.{rules, ◌≡◌, ℕ, Bool, true, false, cond, List, [], length, Option, Some, None, option_map, sym, ap, ◌∙◌, subst}
+use Rattle.std.{proofs.Common.refl, proofs.lemmas.Option.{none-some, same_Some}, specs.Option.option_or}
+use Rattle.yq_core.{specs.Answers.◌>>=◌, specs.Paths.{Step, further, is_here}, specs.Collections.CollPieces, specs.Tree.key_label}
+use Rattle.yq_core.{specs.Nodes.{FlowNode, Items, Key, Sep, item, none}, specs.Trees.key_content}
+use Rattle.yq_flow_edits.{specs.FlowEdits.FlowEdit, specs.FlowPlaces.{PlacedEdit, place_edit, remove_between}}
+use Rattle.yq_flow_edits.specs.Removals.{before_next, edit_from_item, gap_of, last_out, last_removed, removing, removing_from}
+use Rattle.yq_inline.specs.Neighbours.{PartTexts, PartsAround, around_part, first_ends, first_text}
 use Rattle.yq_row_table.specs.Rows.{Cut, cut_text}
-use Rattle.yq_places.{specs.FlowViews.{behind_anchor, placed_collection}, specs.Standings.last_step}
-use Rattle.yq_places.specs.declared.places.flow_node.FlowHead.{FlowHead}
+use Rattle.yq_documents.specs.Reading.{cut_of, read_at}
+use Rattle.yq_places.{specs.FlowNodes.flow_collection, specs.Standings.last_step}
+use Rattle.yq_lookup.specs.FlowEnds.{AreFlowNeighbours, IsInPiece, NeighboursAgree}
+use Rattle.yq_lookup.specs.declared.flow_ends.FlowNeighbours.{FlowNeighbours}
 use Rattle.yq_edit_rules.{specs.Edits.part_removed, specs.FlowParts.{flow_removed, flow_segments}}
-use Rattle.yq_edit_laws.{specs.EditPlaces.{edit_segments, moved_on}, proofs.FlowAnswers.{CollFound, EditFound, edit_found}}
-use Rattle.yq_edit_laws.{proofs.FlowHeads.{remove_found, removed_within, whole_is}, proofs.FlowLonger.{edit_more, removing_more}}
+use Rattle.yq_edit_laws.{specs.EditPlaces.{edit_segments, moved_on}, proofs.CutLaws.text_read, proofs.FlowAnswers.EditFound}
+use Rattle.yq_edit_laws.{proofs.FlowHeads.removed_within, proofs.FlowLonger.{edit_more, removing_more}}
+use Rattle.yq_edit_laws.{proofs.NeighbourPlaces.{around_gone, remove_around}, proofs.PiecePlaces.{place_found, whole_of}}
 use Rattle.yq_edit_laws.proofs.FlowRemoveLaws.{bounds, bytes, texts}
 
-core_place : (t : List ℕ) (s : Step) (p : Placed) → remove_place t s (behind_anchor p) ≡ remove_place t s p
-core_place t s (placed a b c e f) = refl
+-- The code finds the item or entry to which a step leads in the flow collection at a path, with those next to it.
+pub record PartFound (c : Cut) (n : ℕ) (steps : List Step) (s : Step) (x : FlowNeighbours) : Type 0 where
+  pub read : read_at (cut_text c) ≡ Some c
+  pub coll : CollPieces
+  pub found : flow_collection n steps c ≡ Some coll
+  pub agrees : AreFlowNeighbours (cut_text c) coll s x
+
+pub part_found : (t : List ℕ) (n : ℕ) (steps : List Step) (s : Step) (x : FlowNeighbours) → read_at t ≡ Some (cut_of t) → NeighboursAgree t s (flow_collection n steps (cut_of t)) (Some x) → PartFound (cut_of t) n steps s x
+part_found t n steps s x read agrees =
+    let same = sym (text_read t (cut_of t) read) in
+    go (subst (λ (u : List ℕ). read_at u ≡ Some (cut_of t)) same read) (flow_collection n steps (cut_of t)) refl (subst (λ (u : List ℕ). NeighboursAgree u s (flow_collection n steps (cut_of t)) (Some x)) same agrees)
+  where
+    go : read_at (cut_text (cut_of t)) ≡ Some (cut_of t) → (o : Option CollPieces) → flow_collection n steps (cut_of t) ≡ o → NeighboursAgree (cut_text (cut_of t)) s o (Some x) → PartFound (cut_of t) n steps s x
+    go read None found agrees = absurd agrees
+    go read (Some w) found agrees = record { read = read; coll = w; found = found; agrees = agrees }
+
+-- nothing goes where no item or entry is
+last_kept : (k : ℕ) (s : Step) (o : Option PartTexts) (g : List ℕ) (key : Key) (n : FlowNode) (sep : Sep) (is : Items) (rest : List ℕ) → around_part k s o is rest ≡ None → last_out k rest s g key n sep is ≡ None
+last_kept k s o g key n sep none rest e = refl
+last_kept k s o g key n sep (item key3 n3 sep3 (item key2 n2 sep2 js)) rest e = refl
+last_kept k s o g key n sep (item key2 n2 sep2 none) rest e = go (is_here s (key_label (key_content key2))) e
+  where
+    go : (b : Bool) → cond {A = Option PartsAround} b (Some (record { before = o; here = first_ends k key2 n2 sep2 none rest; next = None })) None ≡ None → cond b (Some (last_removed k rest g key n sep key2 n2 sep2)) None ≡ None
+    go true e = cc
+    go false e = refl
+
+none_gone : (k : ℕ) (s : Step) (o : Option PartTexts) (g : List ℕ) (is : Items) (rest : List ℕ) → around_part k s o is rest ≡ None → removing_from k rest s g is ≡ None
+none_gone k s o g none rest absent = refl
+none_gone k s o g (item key n sep is) rest absent =
+    go (is_here s (key_label (key_content key))) absent (none_gone k (further s) (Some (first_ends k key n sep is rest)) (gap_of sep) is rest)
+  where
+    go : (b : Bool) → cond b (Some (record { before = o; here = first_ends k key n sep is rest; next = first_text k is rest })) (around_part k (further s) (Some (first_ends k key n sep is rest)) is rest) ≡ None →
+        (around_part k (further s) (Some (first_ends k key n sep is rest)) is rest ≡ None → removing_from k rest (further s) (gap_of sep) is ≡ None) →
+        cond b (before_next k rest g key n sep is) (option_or (last_out k rest (further s) g key n sep is) (option_map (edit_from_item g key n sep) (removing_from k rest (further s) (gap_of sep) is))) ≡ None
+    go true e again = cc
+    go false e again = λ i. option_or (last_kept k (further s) (Some (first_ends k key n sep is rest)) g key n sep is rest e i) (option_map (edit_from_item g key n sep) (again e i))
+
+pub no_part : (t : List ℕ) (n : ℕ) (c : Cut) (path init : List Step) (s : Step) → Some (init, s) ≡ last_step path → NeighboursAgree t s (flow_collection n init c) None → part_removed n c (last_step path) ≡ None
+no_part t n c path init s last agrees = ap (part_removed n c) (sym last) ∙ go (flow_collection n init c) agrees
+  where
+    go : (o : Option CollPieces) → NeighboursAgree t s o None → (o >>= flow_removed (cut_text c) s) ≡ None
+    go None agrees = refl
+    go (Some w) agrees = ap (option_map (flow_segments (cut_text c))) (none_gone w.close s None w.gap w.items w.rest agrees)
 
 -- The collection in which a path ends is found.
-module _ (c : Cut) (n : ℕ) (path init : List Step) (s : Step) (x : FlowHead) (q : Placed) (last : Some (init, s) ≡ last_step path) (f : CollFound c n init x q) where
+module _ (c : Cut) (n : ℕ) (path init : List Step) (s : Step) (x : FlowNeighbours) (last : Some (init, s) ≡ last_step path) (f : PartFound c n init s x) where
+  abbrev place : IsInPiece (cut_text c) f.coll x.text.now x.before
+  place = f.agrees.place
+
   abbrev own : CollPieces
-  own = f.agrees.at.coll
+  own = place.at.coll
 
   abbrev row : List ℕ
   row = x.text.now
 
-  place_is : remove_place row s q ≡ option_map (place_edit (length row)) (removing s own)
+  place_is : remove_between row x.last x.start x.end x.next ≡ option_map (place_edit (length row)) (removing s own)
   place_is =
-      sym (core_place row s q)
-      ∙ (ap (remove_place row s) f.node
-      ∙ subst (λ (l : List ℕ). remove_place l s (placed_collection (length l) own) ≡ option_map (place_edit (length l)) (removing s own)) (sym f.agrees.node_is) (remove_found f.agrees.at f.agrees.stands s))
+      ap (λ o. o >>= remove_around row) f.agrees.around ∙ around_gone place.at place.stands row place.node_is s
 
-  all_is : removing s f.coll ≡ option_map (edit_more f.agrees.behind) (removing s own)
-  all_is = ap (removing s) (whole_is (cut_text c) f.coll x f.agrees) ∙ removing_more own.close s own.gap own.items own.rest f.agrees.behind
+  all_is : removing s f.coll ≡ option_map (edit_more place.behind) (removing s own)
+  all_is = ap (removing s) (whole_of (cut_text c) f.coll row x.before place) ∙ removing_more own.close s own.gap own.items own.rest place.behind
 
   part_is : part_removed n c (last_step path) ≡ option_map (flow_segments (cut_text c)) (removing s f.coll)
   part_is = ap (part_removed n c) (sym last) ∙ ap (λ (o : Option CollPieces). o >>= flow_removed (cut_text c) s) f.found
 
-  pub removal_found : (whole : List ℕ) (p : PlacedEdit) → whole ≡ cut_text c → Some p ≡ remove_place row s q → EditFound (part_removed n c (last_step path)) whole (moved_on x.before p) []
+  pub removal_found : (whole : List ℕ) (p : PlacedEdit) → whole ≡ cut_text c → Some p ≡ remove_between row x.last x.start x.end x.next → EditFound (part_removed n c (last_step path)) whole (moved_on x.before p) []
   removal_found whole p all is = go (removing s own) refl
     where
       go : (o : Option FlowEdit) → removing s own ≡ o → EditFound (part_removed n c (last_step path)) whole (moved_on x.before p) []
       go None at = absurd (none-some _ (sym (is ∙ (place_is ∙ ap (option_map (place_edit (length row))) at))))
       go (Some e) at =
-          let gone : removing s f.coll ≡ Some (edit_more f.agrees.behind e) = all_is ∙ ap (option_map (edit_more f.agrees.behind)) at in
-          let b = texts c n path init s f.coll (edit_more f.agrees.behind e) f.read (sym last) f.found gone in
+          let gone : removing s f.coll ≡ Some (edit_more place.behind e) = all_is ∙ ap (option_map (edit_more place.behind)) at in
+          let b = texts c n path init s f.coll (edit_more place.behind e) f.read (sym last) f.found gone in
           let w =
-          edit_found c n init x q f (edit_more f.agrees.behind e) e b.before whole p refl (removed_within f.agrees.at f.agrees.stands s e at)
-          (bounds c n path init s f.coll (edit_more f.agrees.behind e) f.read (sym last) f.found gone) b.old (same_Some _ _ (is ∙ (place_is ∙ ap (option_map (place_edit (length row))) at))) all in
+          place_found c f.coll row x.before f.read place (edit_more place.behind e) e b.before whole p refl (removed_within place.at place.stands s e at)
+          (bounds c n path init s f.coll (edit_more place.behind e) f.read (sym last) f.found gone) b.old (same_Some _ _ (is ∙ (place_is ∙ ap (option_map (place_edit (length row))) at))) all in
           record {
             lies = w.lies;
             is =
                 part_is
                 ∙ (ap (option_map (flow_segments (cut_text c))) gone
-                ∙ (w.is ∙ ap (λ (l : List ℕ). Some (edit_segments whole (moved_on x.before p) l)) (bytes c n path init s f.coll (edit_more f.agrees.behind e) f.read (sym last) f.found gone).none_written));
+                ∙ (w.is ∙ ap (λ (l : List ℕ). Some (edit_segments whole (moved_on x.before p) l)) (bytes c n path init s f.coll (edit_more place.behind e) f.read (sym last) f.found gone).none_written));
           }
 
-  pub removal_missing : None ≡ remove_place row s q → part_removed n c (last_step path) ≡ None
+  pub removal_missing : None ≡ remove_between row x.last x.start x.end x.next → part_removed n c (last_step path) ≡ None
   removal_missing is = search (rules, part_is, all_is, edit_more, none-some, place_is)

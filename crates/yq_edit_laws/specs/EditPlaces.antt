@@ -1,5 +1,5 @@
 -- Where flow collections of a text are edited, by places in bytes (YAML 1.2.2, 7.4; own).
-use Rattle.std.specs.Prelude.{ℕ, ◌+◌, ◌≤◌, ◌<◌, ◌^◌, List, [], ◌∷◌, drop, length, take, Option, is_some, Bool, false, not}
+use Rattle.std.specs.Prelude.{ℕ, ◌+◌, ◌≤◌, ◌<◌, ◌^◌, List, [], ◌∷◌, drop, length, take, Option, is_some, Bool, false, not, if◌then◌else◌}
 use Rattle.std.specs.Str.{IsCharBoundary}
 use Rattle.yq_core.{specs.Answers.◌>>=◌, specs.Paths.Step, specs.Tree.Node}
 use Rattle.yq_core.specs.Places.{CoreNode, nothing, name, text, sequence, mapping, Placed, placed}
@@ -18,12 +18,20 @@ edit_segments t p written =
 abbrev pub moved_on : ℕ → PlacedEdit → PlacedEdit
 moved_on n p = record { start = n + p.start; end = n + p.end; lead = p.lead }
 
+-- where one more item or entry is written, by whether there is another one, and where the last one ends, or the bracket if there is none
+abbrev pub end_place : Bool → ℕ → PlacedEdit
+end_place some at = record { start = at; end = at; lead = if some then 44 ∷ (32 ∷ []) else [] }
+
 -- A place lies in a text, between characters.
 pub record LiesIn (t : List ℕ) (p : PlacedEdit) : Type 0 where
   pub small : length t < 2 ^ 64
   pub order : p.start ≤ p.end
   pub start : IsCharBoundary t p.start
   pub end : IsCharBoundary t p.end
+
+-- `takes_key` by whether a collection is a mapping (7.4.1, 7.4.2)
+abbrev pub keyed_takes : Bool → Option (List ℕ) → Bool
+keyed_takes keyed key = if keyed then is_some key else not (is_some key)
 
 -- `takes_key` by the view with places: whether a content takes an entry of a key, or an item (7.4.1, 7.4.2)
 abbrev pub content_takes : CoreNode → Option (List ℕ) → Bool

@@ -1,18 +1,19 @@
 //! Items and entries put into flow collections.
 ghost use Rattle.std.specs.Prelude.{◌≡◌, IfOk, string_bytes};
 ghost use Rattle.yq_core.{specs.Nodes.key_text, specs.Values.value_node, specs.View.inline_view, specs.NodesWritten.{flow_key, flow_text}};
+ghost use Rattle.yq_flow_edits.specs.FlowPlaces.{edit_view};
 ghost use Rattle.yq_outline.specs.Bodies.{borrowed};
 ghost use Rattle.yq_documents.{specs.Located.steps_of, specs.Reading.cut_of};
 ghost use Rattle.yq_edit_rules.specs.Answers.{GivesSegments};
 ghost use Rattle.yq_edit_laws.specs.EditPlaces as spec;
 ghost use Rattle.yq_edit_laws.specs.PartPuts as puts;
 
-use crate::edit::{collection_in, edit_at};
+use crate::edit::edit_at;
 use std::alloc::{AllocError, Global};
 use yq_core::{Form, Inline, Value};
 use yq_documents::Path;
 use yq_flow_edits::{EditPlace, append_place, write_entry, write_inline};
-use yq_lookup::CutText;
+use yq_lookup::{CutText, FlowEnd};
 use yq_text::Segments;
 
 /// Whether a node takes an entry of a key, or an item.
@@ -70,6 +71,24 @@ pub fn more_in_node(
     Ok(Some(MorePut { place, written }))
 }
 
+/// Whether a mapping, or else a sequence, takes an entry of a key, or an item.
+fn takes_in(keyed: bool, key: Option<&str>) -> bool
+    ensures { result ≡ spec.keyed_takes keyed (borrowed key.entry) }
+{
+    if keyed { key.is_some() } else { key.is_none() }
+}
+
+/// Where one more item or entry of a flow collection is written, in the piece of the text.
+fn more_place(end: &FlowEnd<'_>) -> EditPlace
+    ensures { edit_view result ≡ spec.end_place end.now.some end.now.at }
+{
+    EditPlace {
+        start: end.at,
+        end: end.at,
+        lead: if end.some { ", " } else { "" },
+    }
+}
+
 /// An item or entry put after the last one of a flow collection, or right after its bracket;
 /// `None` where the path leads to no flow collection, or to one that takes no key, or no item.
 ///
@@ -85,17 +104,13 @@ pub fn append_in_flow<'d>(
     ensures { GivesSegments result (spec.appended_in_flow path.now.doc (steps_of path.now)
         (borrowed key.entry) (value_node value.now) (cut_of cut.now)) }
 {
-    let found = cut.flow_collection(alloc, path.doc, &path.steps)?;
-    let Some(head) = found else {
+    let Some(end) = cut.flow_end(path.doc, &path.steps) else {
         return Ok(None);
     };
-    let Some(node) = collection_in(&head) else {
+    if !takes_in(end.keyed, key) {
         return Ok(None);
-    };
+    }
     let text = cut.text();
-    let put = more_in_node(alloc, node, key, value)?;
-    let Some(MorePut { place, written }) = put else {
-        return Ok(None);
-    };
-    edit_at(alloc, text, head.before, place, written)
+    let written = entry_text(alloc, key, value)?;
+    edit_at(alloc, text, end.before, more_place(&end), written)
 }

@@ -1,20 +1,18 @@
 //! Edits of flow collections, by their places in the text.
 ghost use Rattle.std.specs.Prelude.{◌≡◌, ◌∷◌, IfOk, [], Some, drop, map, option_map, string_bytes, take};
 ghost use Rattle.yq_text.{specs.Halves.whole, specs.Script.keep};
-ghost use Rattle.yq_core.{specs.Entries.tree_step, specs.View.inline_view};
+ghost use Rattle.yq_core.specs.Entries.{tree_step};
 ghost use Rattle.yq_flow_edits.specs.FlowPlaces.{edit_view};
 ghost use Rattle.yq_row_table.specs.Rows.{cut_text};
 ghost use Rattle.yq_documents.specs.Reading.{cut_of};
-ghost use Rattle.yq_places.specs.FlowViews.{behind_anchor, collection_view};
 ghost use Rattle.yq_edit_rules.specs.Answers.{GivesSegments};
 ghost use Rattle.yq_places.specs.Standings as standings;
 ghost use Rattle.yq_edit_laws.specs.EditPlaces as spec;
 
 use std::alloc::{AllocError, Global};
-use yq_core::{Inline, Step};
+use yq_core::Step;
 use yq_flow_edits::{EditPlace, behind};
 use yq_lookup::CutText;
-use yq_places::{FlowHead, collection_along};
 use yq_text::{Halves, Segment, Segments};
 
 /// The steps to the collection in which a path ends, and the last one.
@@ -26,14 +24,6 @@ pub fn last_step(steps: &[Step]) -> Option<(&[Step], &Step)>
         [] => None,
         [above @ .., last] => Some((above, last)),
     }
-}
-
-/// The collection to which steps lead on in the head of a line.
-pub(crate) fn collection_in<'h, 't>(head: &'h FlowHead<'_, 't>) -> Option<&'h Inline<'t>>
-    ensures { option_map (λ n. behind_anchor (inline_view n.now)) result ≡
-        collection_view head.now }
-{
-    collection_along(&head.node, head.left)
 }
 
 /// A text of which all bytes stay.

@@ -3,10 +3,10 @@ ghost use Rattle.yq_documents.{specs.Located.steps_of, specs.Reading.cut_of};
 ghost use Rattle.yq_edit_rules.{specs.Answers.GivesSegments, specs.Edits.part_removed};
 ghost use Rattle.yq_places.specs.Standings as standings;
 
-use crate::edit::{collection_in, edit_at, last_step};
+use crate::edit::{edit_at, last_step};
 use std::alloc::{AllocError, Global};
 use yq_documents::Path;
-use yq_flow_edits::remove_place;
+use yq_flow_edits::remove_between;
 use yq_lookup::CutText;
 use yq_text::Segments;
 
@@ -26,17 +26,14 @@ pub fn remove_in_flow<'d>(
     let Some((above, last)) = last_step(&path.steps) else {
         return Ok(None);
     };
-    let found = cut.flow_collection(alloc, path.doc, above)?;
-    let Some(head) = found else {
-        return Ok(None);
-    };
-    let Some(node) = collection_in(&head) else {
+    let Some(part) = cut.flow_neighbours(path.doc, above, last) else {
         return Ok(None);
     };
     let text = cut.text();
-    let Some(place) = remove_place(node, head.text, last) else {
+    let found = remove_between(part.text, part.last, part.start, part.end, part.next);
+    let Some(place) = found else {
         return Ok(None);
     };
     let nothing = String::new(alloc);
-    edit_at(alloc, text, head.before, place, nothing)
+    edit_at(alloc, text, part.before, place, nothing)
 }

@@ -191,7 +191,7 @@ holder_parts k parts = elim (eqb k 125) as (λ c. parts_in (cond c (mapping part
 anchor_parts : (n : List ℕ) (start : ℕ) (p : Placed) → parts_of (anchored_node n start p) ≡ parts_of p
 anchor_parts n start (placed a s c e f) = refl
 
-coll_parts : (total : ℕ) (node : FlowNode) (rest : List ℕ) (c : CollPieces) → coll_in node rest ≡ Some c → parts_of (locate total node rest) ≡ locate_items total c.close c.items c.rest
+pub coll_parts : (total : ℕ) (node : FlowNode) (rest : List ℕ) (c : CollPieces) → coll_in node rest ≡ Some c → parts_of (locate total node rest) ≡ locate_items total c.close c.items c.rest
 unfolding locate
 coll_parts total (coll k g is) rest c at = holder_parts k (locate_items total k is rest) ∙ ap (λ (z : CollPieces). locate_items total z.close z.items z.rest) (same_Some _ _ at)
 coll_parts total (anchored n g node) rest c at = anchor_parts n _ (locate total node rest) ∙ coll_parts total node rest c at

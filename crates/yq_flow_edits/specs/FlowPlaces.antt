@@ -90,6 +90,13 @@ space_at t s n = if behind_feed t s && begins_marker (drop n t) then 32 ∷ [] e
 abbrev pub remove_before : List ℕ → ℕ → ℕ → PlacedEdit
 remove_before t s n = record { start = s; end = n; lead = space_at t s n }
 
+-- an item or entry from one place to another goes, by where the one before it begins and ends and where the one after it begins; nothing for a sole one
+-- (own)
+abbrev pub remove_between : List ℕ → Option (ℕ × ℕ) → ℕ → ℕ → Option ℕ → Option PlacedEdit
+remove_between t o s e (Some n) = Some (remove_before t s n)
+remove_between t None s e None = None
+remove_between t (Some b) s e None = Some (remove_end t b.0 b.1 e)
+
 -- where the item or entry at a step ends, if it is the only one (own)
 abbrev pub only_end : Step → Parts → Option ℕ
 only_end s end = None

@@ -1,14 +1,10 @@
 //! Where the bytes of an item or entry of a flow collection are that is taken out.
 ghost use Rattle.std.specs.Prelude.{◌≡◌, drop, option_map};
-ghost use Rattle.yq_core.specs.View.{inline_view};
-ghost use Rattle.yq_core.specs.Paths as paths;
-ghost use Rattle.yq_core.specs.Entries as places;
-ghost use Rattle.yq_core.specs.View as views;
 ghost use Rattle.yq_flow_edits.specs.FlowPlaces as spec;
 
-use crate::flow_place::{EditPlace, end_of};
+use crate::flow_place::EditPlace;
 use yq_core::text::begins_marker;
-use yq_core::{Form, Inline, Piece, Step, first_is, gap_len};
+use yq_core::{first_is, gap_len};
 
 /// What comes after so many bytes.
 pub fn behind(text: &[u8], at: usize) -> &[u8]
@@ -92,143 +88,23 @@ fn remove_before(text: &[u8], start: usize, next: Option<usize>) -> Option<EditP
     }
 }
 
-/// Where the node begins, with its anchor.
-fn start_of(node: &Inline<'_>) -> usize
-    ensures { result ≡ places.start_of (inline_view node.now) }
-{
-    node.start
-}
-
-/// Where the first item begins.
-fn items_start(items: &[Inline<'_>]) -> Option<usize>
-    ensures { result ≡ spec.first_start (views.items_end items.now) }
-{
-    match items {
-        [] => None,
-        [first, ..] => Some(start_of(first)),
-    }
-}
-
-/// Where the first entry begins.
-fn entries_start(entries: &[(String, Piece, Inline<'_>)]) -> Option<usize>
-    ensures { result ≡ spec.first_start (views.entries_end entries.now) }
-{
-    match entries {
-        [] => None,
-        [first, ..] => Some(first.1.start),
-    }
-}
-
-/// Where the item of an index ends, if it is the only one.
-fn only_item(items: &[Inline<'_>], index: usize) -> Option<usize>
-    ensures { result ≡ spec.only_end (paths.Nth index) (views.items_end items.now) }
-{
-    match items {
-        [] => None,
-        [item, after @ ..] => {
-            if after.is_empty() && index == 0 {
-                Some(end_of(item))
-            } else {
-                None
-            }
-        }
-    }
-}
-
-/// Where the entry of a key ends, if it is the only one.
-fn only_entry(entries: &[(String, Piece, Inline<'_>)], key: &str) -> Option<usize>
-    ensures { result ≡ spec.only_end (paths.To key.now) (views.entries_end entries.now) }
-{
-    match entries {
-        [] => None,
-        [entry, after @ ..] => {
-            if after.is_empty() && entry.0.as_str() == key {
-                Some(end_of(&entry.2))
-            } else {
-                None
-            }
-        }
-    }
-}
-
-/// What goes with the item of an index.
-fn remove_item(text: &[u8], items: &[Inline<'_>], index: usize) -> Option<EditPlace>
-    ensures { option_map spec.edit_view result ≡
-        spec.remove_part text.now (paths.Nth index) (views.items_end items.now) }
-{
-    let mut rest = items;
-    let mut left = index;
-    'each: while let [item, after @ ..] = rest {
-        if left == 0 {
-            return remove_before(text, start_of(item), items_start(after));
-        }
-        left -= 1;
-        if let Some(end) = only_item(after, left) {
-            return Some(remove_end(text, start_of(item), end_of(item), end));
-        }
-        rest = after;
-    }
-    None
-}
-
-/// What goes with the entry of a key.
-fn remove_entry(
-    text: &[u8],
-    entries: &[(String, Piece, Inline<'_>)],
-    key: &str,
+/// What goes with an item or entry from one place to another, and what takes its place, by where the one before it
+/// begins and ends and where the one after it begins. Nothing where there is no other one.
+pub fn remove_between(
+    text: &str,
+    before: Option<(usize, usize)>,
+    start: usize,
+    end: usize,
+    next: Option<usize>,
 ) -> Option<EditPlace>
     ensures { option_map spec.edit_view result ≡
-        spec.remove_part text.now (paths.To key.now) (views.entries_end entries.now) }
+        spec.remove_between text.now before start end next }
 {
-    let mut rest = entries;
-    'each: while let [entry, after @ ..] = rest {
-        if entry.0.as_str() == key {
-            return remove_before(text, entry.1.start, entries_start(after));
-        }
-        if let Some(end) = only_entry(after, key) {
-            return Some(remove_end(text, entry.1.start, end_of(&entry.2), end));
-        }
-        rest = after;
+    if next.is_some() {
+        return remove_before(text.as_bytes(), start, next);
     }
-    None
-}
-
-/// What goes with the item to which a step leads.
-fn list_removal(text: &[u8], items: &Vec<Inline<'_>>, step: &Step) -> Option<EditPlace>
-    ensures { option_map spec.edit_view result ≡
-        spec.remove_part text.now (places.tree_step step.now) (views.items_end items.now.items) }
-{
-    match step {
-        Step::Key(_) => None,
-        Step::Index(index) => remove_item(text, items.as_slice(), *index),
-    }
-}
-
-/// What goes with the entry to which a step leads.
-fn map_removal(
-    text: &[u8],
-    entries: &Vec<(String, Piece, Inline<'_>)>,
-    step: &Step,
-) -> Option<EditPlace>
-    ensures { option_map spec.edit_view result ≡
-        spec.remove_part text.now (places.tree_step step.now)
-        (views.entries_end entries.now.items) }
-{
-    match step {
-        Step::Key(key) => remove_entry(text, entries.as_slice(), key.as_str()),
-        Step::Index(_) => None,
-    }
-}
-
-/// What goes with the item or entry to which a step leads, in the text in which the node was read,
-/// and what takes its place. Nothing where there is none, or no other one.
-pub fn remove_place(node: &Inline<'_>, text: &str, step: &Step) -> Option<EditPlace>
-    ensures { option_map spec.edit_view result ≡
-        spec.remove_place text.now (places.tree_step step.now) (inline_view node.now) }
-{
-    match &node.form {
-        Form::List(items) => list_removal(text.as_bytes(), items, step),
-        Form::Map(entries) => map_removal(text.as_bytes(), entries, step),
-        Form::Empty | Form::Alias(_) | Form::Scalar(..) => None,
-    }
+    let Some((from, at)) = before else {
+        return None;
+    };
+    Some(remove_end(text.as_bytes(), from, at, end))
 }

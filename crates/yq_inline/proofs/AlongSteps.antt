@@ -12,7 +12,7 @@ use Rattle.yq_core.{proofs.NodeAgain.{item_longer, sep_longer}, proofs.NodeTakes
 use Rattle.yq_core.proofs.NodesPieceLaws.{front_not, key_takes, sep_takes}
 use Rattle.yq_inline.{specs.Along.{node_from, part_among, part_within, after_anchor, past_bracket, past_value}, specs.Measured.closing_byte}
 
-some_of : {A : Type 0} (o : Option A) → (o ≡ None → ⊥) → (x : A) × (o ≡ Some x)
+pub some_of : {A : Type 0} (o : Option A) → (o ≡ None → ⊥) → (x : A) × (o ≡ Some x)
 some_of None h = absurd (h refl)
 some_of (Some x) h = (x, refl)
 
@@ -222,11 +222,11 @@ unfolding read_core
 map_read flow spaces kids u list map = rw (front_not (begins_with 123) 42 (λ bs. refl) u map, list, map) refl
 
 -- a collection is in front, with what follows its bracket
-record Bracket (flow : Bool) (spaces : Option ℕ) (d : ℕ) (u : List ℕ) (curly : Bool) (v : List ℕ) : Type 0 where
+pub record Bracket (flow : Bool) (spaces : Option ℕ) (d : ℕ) (u : List ℕ) (curly : Bool) (v : List ℕ) : Type 0 where
   pub read : read_core flow spaces (kids_of d) u ≡ read_collection (kids_of d) (closing_byte curly) (drop 1 u)
   pub behind : v ≡ drop 1 u
 
-bracket : (flow : Bool) (spaces : Option ℕ) (d : ℕ) (u : List ℕ) (curly : Bool) (v : List ℕ) → past_bracket u ≡ Some (curly, v) → Bracket flow spaces d u curly v
+pub bracket : (flow : Bool) (spaces : Option ℕ) (d : ℕ) (u : List ℕ) (curly : Bool) (v : List ℕ) → past_bracket u ≡ Some (curly, v) → Bracket flow spaces d u curly v
 bracket flow spaces d u curly v past = go (begins_with 91 u) (begins_with 123 u) refl refl past where
   by_bits : Bool → Bool → Option (Bool × List ℕ)
   by_bits b c = cond b (Some (false, drop 1 u)) (cond c (Some (true, drop 1 u)) None)

@@ -16,3 +16,4 @@ pub mod BorrowedParts
 pub mod BorrowedForms
 pub mod InlineAnswers
 pub mod Along
+pub mod Neighbours

@@ -17,7 +17,7 @@ pub struct NodeAlong<'t> {
 }
 
 /// The node of the item or entry to which a step leads.
-fn part_along<'t>(node: NodeInFront<'t>, step: &Step) -> Option<NodeInFront<'t>>
+pub(crate) fn part_along<'t>(node: NodeInFront<'t>, step: &Step) -> Option<NodeInFront<'t>>
     ensures part { spec.text_in_front result ≡ spec.text_inside (tree_step step.now) node.entry }
     ensures inside { IfSome result (spec.IsInside node.entry) }
 {

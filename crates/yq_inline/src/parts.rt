@@ -36,7 +36,7 @@ pub struct BorrowedEntry<'t> {
 }
 
 /// The bracket after entries, or after items.
-fn closing_bracket(keyed: bool) -> u8
+pub(crate) fn closing_bracket(keyed: bool) -> u8
     ensures { result ≡ closing_byte keyed }
 {
     if keyed { b'}' } else { b']' }

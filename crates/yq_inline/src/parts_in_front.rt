@@ -13,7 +13,7 @@ use yq_core::{Step, first_is, is_quoted, strip};
 use yq_scalar_reader::same_content::{is_plain_content, is_quoted_content};
 
 /// What follows the anchor of the node in front and the gap after it; the text, if there is none.
-fn after_anchor(flow: bool, text: &str) -> Option<&str>
+pub(crate) fn after_anchor(flow: bool, text: &str) -> Option<&str>
     ensures { option_map (λ r. r.now) result ≡ spec.after_anchor flow text.now }
 {
     let Some(behind) = strip(b'&', text) else {
@@ -29,7 +29,7 @@ fn after_anchor(flow: bool, text: &str) -> Option<&str>
 }
 
 /// Whether a mapping, or else a sequence, is in front, and what follows its bracket.
-fn past_bracket(text: &str) -> Option<(bool, &str)>
+pub(crate) fn past_bracket(text: &str) -> Option<(bool, &str)>
     ensures { option_map (λ x. (x.0, x.1.now)) result ≡ spec.past_bracket text.now }
 {
     if let Some(behind) = strip(b'[', text) {
@@ -78,7 +78,7 @@ fn past_value(closing: u8, depth: usize, text: &str) -> Option<&str>
 
 /// Whether a key, as it is written, means this.
 #[tactic(auto, unfolding(yq_core::specs::Scalars::scalar_content))]
-fn means(piece: &str, key: &str) -> bool
+pub(crate) fn means(piece: &str, key: &str) -> bool
     requires { is_in_quotes piece.now ≡ true → IsQuotedText piece.now }
     ensures { result ≡ bytes_eq (scalar_content piece.now) key.now }
 {

@@ -1,6 +1,8 @@
 pub mod CutRows
 mod KnownDocumentLaws
 mod DocumentFronts
-mod RowCollections
+mod RowItems
 pub mod RowParts
 mod RowFrontLaws
+mod RowNodes
+mod RowEnds

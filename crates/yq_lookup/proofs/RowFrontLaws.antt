@@ -7,7 +7,7 @@ use Rattle.yq_core.{specs.Collections.{coll_along, coll_in}, specs.Paths.Step, s
 use Rattle.yq_core.{specs.Inline.depth_limit, specs.Reading.all_node, specs.Block.style_indicator}
 use Rattle.yq_core.specs.Nodes.{FlowNode, IsFlowNode, alias, anchored, begins_with, coll, empty, node_text, scalar, without_anchor}
 use Rattle.yq_core.{proofs.NodeLaws.all_again, proofs.NodesWrittenLaws.node_then, proofs.NodeAgain.{is_anchored, takes_unanchored}}
-use Rattle.yq_core.specs.declared.block_header.BlockStyle.{BlockStyle}
+use Rattle.yq_core.{specs.declared.block_header.BlockStyle.BlockStyle, specs.Trees.{node_head, tree_of}}
 use Rattle.yq_row_table.{specs.Exchange.behind_row, specs.Grammar.IsContent}
 use Rattle.yq_row_table.specs.Rows.{Content, Nothing, Inline, Block, Row, parent_indent}
 use Rattle.yq_row_table.{specs.View.{RowsView, Slices, content_cut, rows_of}, proofs.PlaceLaws.row_in}
@@ -32,6 +32,22 @@ block_opens : (s : BlockStyle) (l : List ℕ) → opens (style_indicator s ∷ l
 block_opens styles.Literal l = refl
 block_opens styles.Folded l = refl
 
+bare_head : (node : FlowNode) → is_anchored node ≡ false → opens (node_text node []) ≡ true → node_head node ≡ Some (tree_of node)
+unfolding node_text
+bare_head empty plain e = absurd (false≢true e)
+bare_head (alias n) plain e = refl
+bare_head (scalar p) plain e = refl
+bare_head (coll k g is) plain e = refl
+bare_head (anchored n g node) plain e = absurd (false≢true (sym plain))
+
+tree_is : (spaces : Option ℕ) (node : FlowNode) (rest : List ℕ) → IsFlowNode false spaces depth_limit node rest → opens (node_text (without_anchor node) []) ≡ true → node_head node ≡ Some (tree_of (without_anchor node))
+unfolding IsFlowNode
+tree_is spaces empty rest h e = bare_head empty refl e
+tree_is spaces (alias n) rest h e = refl
+tree_is spaces (scalar p) rest h e = refl
+tree_is spaces (coll k g is) rest h e = refl
+tree_is spaces (anchored n g node) rest h e = bare_head node (takes_unanchored node h.3) e
+
 head_node : (n : ℤ) (x : Content) → IsContent n x [] → opens (content_cut x).3 ≡ true → (h : HeadNode n x) × (head_text x ≡ node_text h.node h.rest)
 head_node n (Nothing tail) h e = absurd (false≢true e)
 head_node n (Inline space node tail) h e = (
@@ -39,6 +55,7 @@ head_node n (Inline space node tail) h e = (
     node = without_anchor node;
     rest = tail ++ [];
     valid = core_valid (Some (deeper n)) node (tail ++ []) h.1.valid;
+    tree = tree_is (Some (deeper n)) node (tail ++ []) h.1.valid (ap opens (sym (core_text node)) ∙ e);
     flow = λ ss. core_coll ss node (tail ++ []);
   },
   ap (λ (l : List ℕ). l ++ (tail ++ [])) (core_text node) ∙ sym (node_then (without_anchor node) (tail ++ [])),

@@ -13,7 +13,7 @@ use Rattle.yq_inline.specs.Along.{along_view, as_item, front_read, located_along
 use Rattle.yq_inline.{specs.declared.along.NodeAlong.NodeAlong, specs.declared.in_front.NodeInFront.NodeInFront}
 use Rattle.yq_places.{specs.FlowNodes.{content_flow, flow_collection}, proofs.FlowNodeLaws.{content_more, entry_more, item_more, with_more}}
 use Rattle.yq_lookup.{specs.PartNodes.{IsPartNode, PartAgrees, part_at, coll_part}, specs.RowFronts.{IsFlowFront, IsRowFront}}
-use Rattle.yq_lookup.{specs.declared.flow_collection.PartNode.PartNode, proofs.RowCollections.before_is}
+use Rattle.yq_lookup.{specs.declared.flow_part.PartNode.PartNode, proofs.RowItems.before_is}
 use Rattle.yq_core.specs.declared.path.Step as declared
 
 -- the items or entries of a node are those of its collection

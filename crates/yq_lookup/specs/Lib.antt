@@ -2,3 +2,4 @@ pub mod Knowledge
 pub mod KnownDocuments
 pub mod PartNodes
 pub mod RowFronts
+pub mod FlowEnds

@@ -5,7 +5,7 @@ use Rattle.yq_core.{specs.Nodes.{IsFlowNode, node_text}, specs.Places.locate, sp
 use Rattle.yq_row_table.specs.Rows.{Cut}
 use Rattle.yq_documents.specs.Reading.{cut_of}
 use Rattle.yq_places.specs.FlowNodes.{flow_collection}
-use Rattle.yq_lookup.specs.declared.flow_collection.PartNode.{PartNode}
+use Rattle.yq_lookup.specs.declared.flow_part.PartNode.{PartNode}
 
 -- the item or entry of a collection to which a step leads
 abbrev pub coll_part : Step → CollPieces → Option EntryPieces

@@ -1,22 +1,24 @@
 -- The node in the head of a row that begins with a bracket, in front of a text (YAML 1.2.2, 7.4; own).
-use Rattle.std.specs.Prelude.{◌≡◌, ℕ, ℤ, ◌≤◌, false, List, [], ◌++◌, length, map, slice_get, take, Option, Some, None}
+use Rattle.std.specs.Prelude.{◌≡◌, ℕ, ℤ, ◌≤◌, false, List, [], ◌++◌, length, map, option_map, slice_get, take, Option, Some, None}
 use denote.Bor.{Bor}
+use Rattle.yq_core.{specs.Places.Placed, specs.Collections.coll_along, specs.Entries.tree_step, specs.Inline.depth_limit, specs.Paths.Step}
+use Rattle.yq_core.{specs.Piece.deeper, specs.Nodes.{FlowNode, IsFlowNode, node_text}, specs.Trees.{placed_tree, tree_of}}
 use Rattle.yq_text.specs.Limit.{text_limit}
-use Rattle.yq_core.{specs.Collections.coll_along, specs.Entries.tree_step, specs.Inline.depth_limit, specs.Paths.Step, specs.Piece.deeper}
-use Rattle.yq_core.specs.Nodes.{FlowNode, IsFlowNode, node_text}
 use Rattle.yq_row_table.{specs.Exchange.behind_row, specs.Rows.{Content, Row, parent_indent}, specs.View.rows_of}
-use Rattle.yq_inline.{specs.Along.front_read, specs.declared.in_front.NodeInFront.NodeInFront}
+use Rattle.yq_inline.{specs.Along.{front_read, located_along}, specs.declared.in_front.NodeInFront.NodeInFront}
 use Rattle.yq_documents.specs.Reading.{cut_of}
-use Rattle.yq_places.{specs.FlowNodes.{content_flow, flow_collection}, specs.FlowViews.FlowAgrees}
-use Rattle.yq_places.specs.declared.places.flow_node.FlowHead.{FlowHead}
+use Rattle.yq_places.{specs.FlowNodes.{content_flow, flow_collection}, specs.NodesAt.{NodeAt, node_summary, node_view}}
+use Rattle.yq_outline.specs.Lines.{head_of}
 use Rattle.yq_core.specs.declared.path.Step as declared
+use Rattle.yq_places.specs.declared.places.node_at.NodeAt as found
 
--- The node of a content after its anchor, below a parent of this indentation, and what comes after it in the row: the flow collections of the content
--- are those of the node.
+-- The node of a content after its anchor, below a parent of this indentation, and what comes after it in the row: the tree and the flow collections of
+-- the content are those of the node.
 pub record HeadNode (n : ℤ) (x : Content) : Type 0 where
   pub node : FlowNode
   pub rest : List ℕ
   pub valid : IsFlowNode false (Some (deeper n)) depth_limit node rest
+  pub tree : head_of x ≡ Some (tree_of node)
   pub flow : (ss : List Step) → content_flow ss x [] ≡ coll_along ss node rest
 
 -- The node in front of a text is that in the head of a row; the text is a piece of another one, before so much and after so many bytes of it.
@@ -49,6 +51,10 @@ abbrev pub LeadsToFront : List ℕ → ℕ → List Step → Option (NodeInFront
 LeadsToFront t n steps None = flow_collection n steps (cut_of t) ≡ None
 LeadsToFront t n steps (Some x) = IsFlowFront t n steps x
 
--- what the code finds is the flow collection at a path of document n
-abbrev pub FindsCollection : List ℕ → ℕ → List Step → Option FlowHead → Type 0
-FindsCollection t n steps o = FlowAgrees t (flow_collection n steps (cut_of t)) o
+-- what is known of the node to which steps lead in the node in front
+abbrev pub summary_along : List Step → NodeInFront → Option NodeAt
+summary_along ss n = option_map (λ (x : List ℕ × Placed). node_summary (placed_tree x.1)) (located_along ss (front_read n))
+
+-- what the code finds is that node
+abbrev pub IsNodeAlong : List Step → NodeInFront → Option found.NodeAt → Type 0
+IsNodeAlong ss n o = option_map node_view o ≡ summary_along ss n

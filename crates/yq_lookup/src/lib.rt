@@ -2,7 +2,8 @@
 #![tactic(auto)]
 
 mod cut_text;
-mod flow_collection;
+mod flow_ends;
+mod flow_part;
 mod knowledge;
 mod known_at;
 mod known_document;
@@ -15,7 +16,8 @@ mod standing;
 mod walks;
 
 pub use cut_text::CutText;
-pub use flow_collection::PartNode;
+pub use flow_ends::{FlowEnd, FlowNeighbours};
+pub use flow_part::PartNode;
 pub use knowledge::{Knowledge, StepSearches};
 pub use known_document::{KnownDocument, KnownDocuments};
 pub use laws::{comments_stand, contents_spell, entries_spell, pieces_exist, pieces_hold};

@@ -6,17 +6,35 @@ ghost use Rattle.yq_documents.{specs.Located.steps_of, specs.Reading.{content_is
 ghost use Rattle.yq_places.{specs.FlowNodes.flow_collection, specs.HeadReading.IsRowHead, specs.RemovalPlaces.has_others_at};
 ghost use Rattle.yq_places.specs.FlowViews as flows;
 ghost use Rattle.yq_places.specs.NodesAt as spec;
+ghost use Rattle.yq_lookup.specs.RowFronts as fronts;
 
 use crate::cut_text::CutText;
 use std::alloc::{AllocError, Global};
 use yq_core::{Kind, Step};
 use yq_documents::Path;
+use yq_inline::{NodeInFront, read_along};
 use yq_outline::{Head, ScalarContent};
 use yq_places::{
     FlowHead, NodeAt, RowHead, block_node, head_node, is_text, node_place, place_line,
 };
 use yq_row_heads::row_head;
 use yq_row_walk::head_place;
+
+/// What the node is to which steps lead in the node in front of a text, read alone.
+fn front_node<'t>(
+    alloc: Global,
+    front: NodeInFront<'t>,
+    steps: &[Step],
+) -> Result<Option<NodeAt<'t>>, AllocError>
+    ensures { IfOk result (fronts.IsNodeAlong (map tree_step steps.now) front.entry) }
+{
+    let found = read_along(alloc, front, steps)?;
+    let Some(found) = found else {
+        return Ok(None);
+    };
+    let node = Box::new(alloc, found.node)?;
+    head_node(alloc, Head::Inline(node), &[])
+}
 
 impl<'t> CutText<'_, 't> {
     /// What the node at a path of document `doc`, counted from 0, is.
@@ -39,8 +57,13 @@ impl<'t> CutText<'_, 't> {
         let Some(at) = place_line(&walk, place) else {
             return Ok(block_node(&walk, place));
         };
-        let head = self.row_head(alloc, at.row)?;
-        head_node(alloc, head.head, left)
+        match self.row_front(at.row) {
+            Some((front, _)) => front_node(alloc, front, left),
+            None => {
+                let head = self.row_head(alloc, at.row)?;
+                head_node(alloc, head.head, left)
+            }
+        }
     }
 
     /// The scalar at a path, if one is there.

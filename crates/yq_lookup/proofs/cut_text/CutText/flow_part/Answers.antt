@@ -1,7 +1,7 @@
 use Rattle.std.proofs.Common.{[], ◌∷◌, ◌++◌, map, option_map, refl, sym, ap, ◌∙◌, arith}
 use Rattle.yq_core.specs.Entries.{tree_step}
 use Rattle.yq_inline.specs.Along.{along_view}
-use Rattle.yq_lookup.{proofs.RowCollections.{inner_within, row_within}, proofs.RowParts.{no_part_agrees, part_agrees, part_missing}}
+use Rattle.yq_lookup.{proofs.RowItems.{inner_within, row_within}, proofs.RowParts.{no_part_agrees, part_agrees, part_missing}}
 use Rattle.yq_lookup.proofs.cut_text.CutText.flow_part.Goals as goal
 
 pub returns-in_default : goal.returns-in_default

@@ -1,14 +1,12 @@
-//! Flow collections and their items and entries at paths, each read without the trees of what is around it.
+//! Items and entries of flow collections at paths, each read without the trees of what is around it.
 ghost use Rattle.std.specs.Prelude.{IfOk, map};
 ghost use Rattle.yq_core.specs.Entries.{tree_step};
 ghost use Rattle.yq_lookup.specs.PartNodes as spec;
-ghost use Rattle.yq_lookup.specs.RowFronts as fronts;
 
 use crate::cut_text::CutText;
 use std::alloc::{AllocError, Global};
 use yq_core::{Inline, Step};
-use yq_inline::{NodeAlong, read_along, read_part};
-use yq_places::FlowHead;
+use yq_inline::{NodeAlong, read_part};
 
 /// The node of an item or entry of a flow collection, read alone.
 #[derive(Drop)]
@@ -22,30 +20,6 @@ pub struct PartNode<'t> {
 }
 
 impl<'t> CutText<'_, 't> {
-    /// The flow collection at a path of document `doc`, counted from 0, if there is one.
-    pub fn flow_collection<'s>(
-        &self,
-        alloc: Global,
-        doc: usize,
-        steps: &'s [Step],
-    ) -> Result<Option<FlowHead<'s, 't>>, AllocError>
-        ensures found { IfOk result (fronts.FindsCollection self.now doc (map tree_step steps.now)) }
-    {
-        let Some((front, start, left)) = self.flow_front(doc, steps) else {
-            return Ok(None);
-        };
-        let Some(found) = read_along(alloc, front, left)? else {
-            return Ok(None);
-        };
-        let NodeAlong { node, text } = found;
-        Ok(Some(FlowHead {
-            node: Box::new(alloc, node)?,
-            left: &[],
-            text,
-            before: start + (front.text.len() - text.len()),
-        }))
-    }
-
     /// The item or entry to which a step leads in the flow collection at a path of document `doc`, counted from 0, if there
     /// is one.
     pub fn flow_part(

@@ -1,0 +1,133 @@
+-- Where an item or entry of a flow collection is that is taken out, by the places of it and of those next to it; and where one more comes.
+use Rattle.std.proofs.Common.{◌≡◌, ℕ, ◌-◌, Bool, true, false, cond, List, [], ◌∷◌, ◌++◌, length, Option, Some, None, option_map, refl, sym}
+use Rattle.std.{proofs.Common.{ap, ◌∙◌, subst}, specs.Option.option_or, specs.Prelude.is_some}
+use Rattle.yq_core.{specs.Answers.◌>>=◌, specs.Collections.{CollAt, CollPieces, IsCollAt}, specs.Entries.entry_start}
+use Rattle.yq_core.specs.Nodes.{FlowNode, Items, Key, Sep, coll, flow_items_text, item, key_text, node_text, none, sep_text}
+use Rattle.yq_core.{specs.Paths.{Step, further, is_here}, specs.Places.{Parts, key_placed, locate, locate_items}, specs.Tree.key_label}
+use Rattle.yq_core.{specs.Trees.key_content, proofs.EditPlaces.{end_placed, entry_placed}, proofs.TreeLaws.key_tree}
+use Rattle.yq_inline.specs.Neighbours.{PartTexts, PartsAround, around_part, coll_around, first_ends, first_text, last_ends, past_last}
+use Rattle.yq_flow_edits.specs.FlowEdits.{appending, behind_last}
+use Rattle.yq_flow_edits.specs.FlowPlaces.{PlacedEdit, first_start, only_end, place_edit, remove_before, remove_between, remove_end}
+use Rattle.yq_flow_edits.{specs.FlowPlaces.{remove_part, remove_place}, specs.Removals.removing, proofs.RemovePlaces.coll_parts}
+use Rattle.yq_places.specs.FlowViews.{placed_collection}
+use Rattle.yq_lookup.specs.FlowEnds.{PlacedAround, placed_around, placed_end}
+use Rattle.yq_edit_laws.{specs.EditPlaces.end_place, proofs.FlowHeads.remove_found}
+
+-- ---- an item or entry is taken out
+
+-- what goes with it, by these places
+abbrev pub remove_around : List ℕ → PlacedAround → Option PlacedEdit
+remove_around t x = remove_between t x.before x.start x.end x.next
+
+module _ (t : List ℕ) (k : ℕ) where
+  abbrev total : ℕ
+  total = length t
+
+  abbrev gone : PartsAround → Option PlacedEdit
+  gone x = remove_around t (placed_around total x)
+
+  -- what goes with the last one, after this one
+  abbrev last_gone : Step → PartTexts → Parts → Option PlacedEdit
+  last_gone s e parts = option_map (remove_end t (total - length e.0) (total - length e.1)) (only_end s parts)
+
+  -- the begin of the next one
+  next_start : (is : Items) (rest : List ℕ) → first_start (locate_items total k is rest) ≡ option_map (λ (l : List ℕ). total - length l) (first_text k is rest)
+  unfolding locate_items
+  next_start none rest = refl
+  next_start (item key n sep is) rest = ap Some (entry_placed total (record { key = key; node = n; rest = sep_text sep (flow_items_text k is rest) }))
+
+  -- the first of several
+  before_gone : (s e : ℕ) (o : Option ℕ) → option_map (remove_before t s) o ≡ remove_between t None s e o
+  before_gone s e None = refl
+  before_gone s e (Some n) = refl
+
+  -- where the code looks at an item or entry
+  at_first : (s : Step) (key : Key) (n : FlowNode) (sep : Sep) (is : Items) (rest : List ℕ) → remove_part t s (locate_items total k (item key n sep is) rest) ≡
+      cond (is_here s (key_label (key_content key))) (option_map (remove_before t (total - length (first_ends k key n sep is rest).0)) (first_start (locate_items total k is rest)))
+      (option_or (last_gone (further s) (first_ends k key n sep is rest) (locate_items total k is rest)) (remove_part t (further s) (locate_items total k is rest)))
+  unfolding locate_items
+  at_first s key n sep is rest =
+      let behind : List ℕ = sep_text sep (flow_items_text k is rest) in
+      let own : List ℕ = key_text key (node_text n behind) in
+      let parts : Parts = locate_items total k is rest in
+      let start : entry_start (key_placed total own key, locate total n behind) ≡ total - length own = entry_placed total (record { key = key; node = n; rest = behind }) in
+      λ i. cond (is_here s (key_label (key_tree total own key i))) (option_map (remove_before t (start i)) (first_start parts))
+      (option_or (option_map (remove_end t (start i) (end_placed total n behind i)) (only_end (further s) parts)) (remove_part t (further s) parts))
+
+  -- the one to which the step leads is the first of these, after this one
+  after_one : (s : Step) (e : PartTexts) (is : Items) (rest : List ℕ) →
+      option_or (last_gone s e (locate_items total k is rest)) (remove_part t s (locate_items total k is rest)) ≡ (around_part k s (Some e) is rest >>= gone)
+  unfolding locate_items
+  after_one s e none rest = refl
+  after_one s e (item key n sep none) rest =
+      let a : PartTexts = first_ends k key n sep none rest in
+      let o : Option ℕ → Option PlacedEdit = option_map (remove_end t (total - length e.0) (total - length e.1)) in
+      (λ i. option_or (o (cond (is_here s (key_label (key_tree total a.0 key i))) (Some (end_placed total n a.1 i)) None)) (at_first s key n sep none rest i))
+      ∙ go (is_here s (key_label (key_content key)))
+    where
+      go : (b : Bool) → option_or (option_map (remove_end t (total - length e.0) (total - length e.1)) (cond b (Some (total - length (first_ends k key n sep none rest).1)) None)) (cond b None None)
+          ≡ (cond b (Some (record { before = Some e; here = first_ends k key n sep none rest; next = None })) None >>= gone)
+      go true = refl
+      go false = refl
+  after_one s e (item key n sep (item key2 n2 sep2 is)) rest =
+      at_first s key n sep (item key2 n2 sep2 is) rest
+      ∙ go (is_here s (key_label (key_content key))) (after_one (further s) (first_ends k key n sep (item key2 n2 sep2 is) rest) (item key2 n2 sep2 is) rest) where
+        go : (b : Bool) → option_or
+            (last_gone (further s) (first_ends k key n sep (item key2 n2 sep2 is) rest) (locate_items total k (item key2 n2 sep2 is) rest))
+            (remove_part t (further s) (locate_items total k (item key2 n2 sep2 is) rest))
+            ≡ (around_part k (further s) (Some (first_ends k key n sep (item key2 n2 sep2 is) rest)) (item key2 n2 sep2 is) rest >>= gone) →
+            cond b (option_map (remove_before t (total - length (first_ends k key n sep (item key2 n2 sep2 is) rest).0)) (first_start (locate_items total k (item key2 n2 sep2 is) rest)))
+            (option_or (last_gone (further s) (first_ends k key n sep (item key2 n2 sep2 is) rest) (locate_items total k (item key2 n2 sep2 is) rest)) (remove_part t (further s) (locate_items total k (item key2 n2 sep2 is) rest)))
+            ≡ (cond b (Some (record { before = Some e; here = first_ends k key n sep (item key2 n2 sep2 is) rest; next = first_text k (item key2 n2 sep2 is) rest }))
+            (around_part k (further s) (Some (first_ends k key n sep (item key2 n2 sep2 is) rest)) (item key2 n2 sep2 is) rest) >>= gone)
+        go true again = ap (option_map (remove_before t (total - length (first_ends k key n sep (item key2 n2 sep2 is) rest).0))) (next_start (item key2 n2 sep2 is) rest)
+        go false again = again
+
+  part_gone : (s : Step) (is : Items) (rest : List ℕ) → remove_part t s (locate_items total k is rest) ≡ (around_part k s None is rest >>= gone)
+  unfolding locate_items
+  part_gone s none rest = refl
+  part_gone s (item key n sep is) rest = at_first s key n sep is rest ∙ go (is_here s (key_label (key_content key)))
+    where
+      go : (b : Bool) → cond b (option_map (remove_before t (total - length (first_ends k key n sep is rest).0)) (first_start (locate_items total k is rest)))
+          (option_or (last_gone (further s) (first_ends k key n sep is rest) (locate_items total k is rest)) (remove_part t (further s) (locate_items total k is rest)))
+          ≡ (cond b (Some (record { before = None; here = first_ends k key n sep is rest; next = first_text k is rest })) (around_part k (further s) (Some (first_ends k key n sep is rest)) is rest) >>= gone)
+      go true =
+          ap (option_map (remove_before t (total - length (first_ends k key n sep is rest).0))) (next_start is rest)
+          ∙ before_gone (total - length (first_ends k key n sep is rest).0) (total - length (first_ends k key n sep is rest).1) (option_map (λ (l : List ℕ). total - length l) (first_text k is rest))
+      go false = after_one (further s) (first_ends k key n sep is rest) is rest
+
+-- in a collection of a text alone
+pub around_gone : (z : CollAt) → IsCollAt z → (row : List ℕ) → row ≡ node_text z.node z.rest → (s : Step) →
+    (option_map (placed_around (length row)) (coll_around s z.coll) >>= remove_around row) ≡ option_map (place_edit (length row)) (removing s z.coll)
+around_gone z is row text s =
+    mapped (coll_around s z.coll)
+    ∙ (sym (part_gone row z.coll.close s z.coll.items z.coll.rest)
+    ∙ (ap (remove_part row s) (sym (coll_parts (length row) (coll z.coll.close z.coll.gap z.coll.items) z.coll.rest z.coll refl))
+    ∙ subst (λ (l : List ℕ). remove_place l s (placed_collection (length l) z.coll) ≡ option_map (place_edit (length l)) (removing s z.coll)) (sym text) (remove_found z is s)))
+  where
+    mapped : (o : Option PartsAround) → (option_map (placed_around (length row)) o >>= remove_around row) ≡ (o >>= λ x. remove_around row (placed_around (length row) x))
+    mapped None = refl
+    mapped (Some x) = refl
+
+-- ---- one more
+
+behind_part : (k : ℕ) (gap : List ℕ) (key : Key) (n : FlowNode) (sep : Sep) (is : Items) (rest : List ℕ) (w : CollPieces) →
+    past_last w (last_ends k (Some (first_ends k key n sep is rest)) is rest) ≡ behind_last k gap (item key n sep is) rest
+unfolding flow_items_text
+behind_part k gap key n sep none rest w = refl
+behind_part k gap key n sep (item key2 n2 sep2 is) rest w = behind_part k gap key2 n2 sep2 is rest w
+
+some_ends : (k : ℕ) (e : PartTexts) (is : Items) (rest : List ℕ) → is_some (last_ends k (Some e) is rest) ≡ true
+some_ends k e none rest = refl
+some_ends k e (item key n sep is) rest = some_ends k (first_ends k key n sep is rest) is rest
+
+-- the place where one more comes after the end of a collection
+pub end_is_there : (total : ℕ) (key : Key) (m : FlowNode) (w : CollPieces) → end_place (placed_end total w).1 (placed_end total w).2 ≡ place_edit total (appending key m w)
+end_is_there total key m w = go w.items
+  where
+    go : (is : Items) → end_place (is_some (last_ends w.close None is w.rest))
+        (total - length (past_last w (last_ends w.close None is w.rest))) ≡ place_edit total
+        (appending key m (record { close = w.close; gap = w.gap; items = is; rest = w.rest }))
+    go none = refl
+    go (item j n sep is) =
+        (λ i. end_place (some_ends w.close (first_ends w.close j n sep is w.rest) is w.rest i) (total - length (behind_part w.close w.gap j n sep is w.rest w i)))

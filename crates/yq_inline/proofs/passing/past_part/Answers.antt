@@ -1,0 +1,16 @@
+use Rattle.std.proofs.Common.{ap, refl, sym, ◌∙◌}
+use Rattle.yq_core.specs.PlacedReading.{past_sep}
+use Rattle.yq_inline.proofs.NeighbourLaws.{node_there, past_first, sep_there}
+use Rattle.yq_inline.proofs.passing.past_part.Goals as goal
+
+pub unreachable-requires : goal.unreachable-requires
+unreachable-requires c = node_there c.args.parts c.args.node.now c.requires c.in-Err.ensures.read
+
+pub unreachable-requires-in-Err-read_sep : goal.unreachable-requires-in-Err-read_sep
+unreachable-requires-in-Err-read_sep c =
+    sep_there c.args.parts c.args.node.now c.requires _ c.in-Ok.value.rest.now c.in-Ok.ensures.read (ap (λ k. past_sep k c.in-Ok.value.rest.now) (sym c.closing_bracket.ensures) ∙ c.in-Err-read_sep.ensures.read)
+
+pub returns : goal.returns
+returns c =
+    past_first c.args.parts c.args.node.now c.requires _ c.in-Ok.value.rest.now c.in-Ok.ensures.read (c.in-Ok.value.rest, c.in-Ok-read_sep.rest) refl
+    (ap (λ k. past_sep k c.in-Ok.value.rest.now) (sym c.closing_bracket.ensures) ∙ c.in-Ok-read_sep.ensures.read)

@@ -1,0 +1,26 @@
+-- What the node is to which steps lead in the head of a row, read alone.
+use Rattle.std.proofs.Common.{◌≡◌, ℕ, List, length, Option, Some, None, option_map, refl, sym, ap, ◌∙◌}
+use Rattle.yq_core.{specs.Entries.{EntryPieces, entry_pieces_at, locate_entry}, specs.Paths.{Step, node_at}, specs.Places.Placed}
+use Rattle.yq_core.{specs.Trees.{placed_tree, tree_of}, proofs.PathLaws.{entry_tree, path_places, path_tree}, proofs.TreeLaws.node_tree}
+use Rattle.yq_row_table.specs.Rows.{Row}
+use Rattle.yq_outline.specs.Lines.{head_of}
+use Rattle.yq_inline.{specs.Along.{as_item, located_along, located_from, node_from}, specs.declared.in_front.NodeInFront.NodeInFront}
+use Rattle.yq_places.{specs.NodeReading.summary_in_head, specs.NodesAt.node_summary}
+use Rattle.yq_lookup.specs.RowFronts.{IsRowFront, summary_along}
+use Rattle.yq_core.specs.Tree as tree
+
+module _ (t behind : List ℕ) (r : Row) (x : NodeInFront × ℕ) (h : IsRowFront t behind r x) (ss : List Step) where
+  abbrev top : EntryPieces
+  top = as_item (h.head.node, h.head.rest)
+
+  tree_at : node_at ss (tree_of h.head.node) ≡ option_map entry_tree (option_map (locate_entry 0) (entry_pieces_at ss top))
+  tree_at = ap (node_at ss) (sym (node_tree 0 h.head.node h.head.rest)) ∙ (sym (path_tree ss (locate_entry 0 top)) ∙ ap (option_map entry_tree) (path_places 0 ss top))
+
+  summaries : (p : Option EntryPieces) → option_map (λ (z : List ℕ × Placed). node_summary (placed_tree z.1)) (option_map located_from p) ≡ option_map node_summary (option_map entry_tree (option_map (locate_entry 0) p))
+  summaries None = refl
+  summaries (Some y) = ap (λ (n : tree.Node). Some (node_summary n)) (node_tree (length (node_from y)) y.node y.rest ∙ sym (node_tree 0 y.node y.rest))
+
+  pub summary_there : summary_along ss x.0 ≡ summary_in_head ss (head_of r.content)
+  summary_there =
+      ap (λ o. option_map (λ (z : List ℕ × Placed). node_summary (placed_tree z.1)) (located_along ss o)) h.read
+      ∙ (summaries (entry_pieces_at ss top) ∙ (ap (option_map node_summary) (sym tree_at) ∙ ap (summary_in_head ss) (sym h.head.tree)))
