@@ -1,23 +1,25 @@
 //! The order in which the rows of a block mapping come whose entries operations give values.
-ghost use Rattle.std.specs.Prelude.{◌≤◌, length};
+ghost use Rattle.std.specs.Prelude.{◌≤◌, IfSome, length};
 
 use crate::change::are_same_steps;
 use std::alloc::{AllocError, Global};
 use std::collections::BTreeMap;
 use std::ops::Range;
 use yq_core::Step;
+use yq_documents::Path;
 use yq_edit_laws::last_step;
+use yq_edit_rules::is_filled;
 use yq_lookup::CutText;
 use yq_row_table::Rows;
 use yq_semantics::Op;
 
-/// The key to whose value an operation leads in the mapping at these steps of a document, if it replaces one.
+/// The key of the mapping at these steps of a document whose value an operation replaces by one on one line.
 fn replaced_key<'o>(op: &'o Op, doc: usize, above: &[Step]) -> Option<&'o str> {
-    let Op::Replace(path, _) = op else {
+    let Op::Replace(path, value) = op else {
         return None;
     };
     let (steps, last) = last_step(&path.steps)?;
-    if path.doc != doc || !are_same_steps(steps, above) {
+    if path.doc != doc || is_filled(value) || !are_same_steps(steps, above) {
         return None;
     }
     match last {
@@ -26,21 +28,23 @@ fn replaced_key<'o>(op: &'o Op, doc: usize, above: &[Step]) -> Option<&'o str> {
     }
 }
 
-/// The number of each operation by its key, if all replace values in the mapping at these steps.
-fn numbers_by_key<'o>(
+/// The keys of operations that replace values of one mapping, that of the entry at a path, by values on one line.
+fn replaced_keys<'o>(
     alloc: Global,
-    doc: usize,
-    above: &[Step],
+    path: &Path,
     ops: &'o [Op],
-) -> Result<Option<BTreeMap<&'o str, usize>>, AllocError> {
-    let mut numbers = BTreeMap::new(alloc);
-    'operations: for number in 0..ops.len() {
-        let Some(key) = replaced_key(&ops[number], doc, above) else {
+) -> Result<Option<Vec<&'o str>>, AllocError> {
+    let Some((above, _)) = last_step(&path.steps) else {
+        return Ok(None);
+    };
+    let mut keys = Vec::with_capacity(alloc, ops.len())?;
+    'operations: for op in ops {
+        let Some(key) = replaced_key(op, path.doc, above) else {
             return Ok(None);
         };
-        numbers.insert(key, number)?;
+        keys.push(key)?;
     }
-    Ok(Some(numbers))
+    Ok(Some(keys))
 }
 
 /// The first of rows up to one from which on all begin as deep.
@@ -69,6 +73,29 @@ fn end_as_deep(rows: &Rows<'_>, row: usize, end: usize, level: usize) -> usize
     end
 }
 
+/// Rows of a text, from one to another, among which those of a mapping's entries are the ones that begin at a level.
+#[derive(Clone, Copy)]
+struct MappingRows {
+    first: usize,
+    end: usize,
+    level: usize,
+}
+
+/// The rows of the mapping to whose entry a row belongs, among those of a document.
+fn mapping_rows(rows: &Rows<'_>, row: usize, document: Range<usize>) -> Option<MappingRows>
+    ensures { IfSome result (λ r. r.end ≤ length rows.now.rows) }
+{
+    if row >= rows.len() || document.end > rows.len() {
+        return None;
+    }
+    let level = rows.level(row);
+    Some(MappingRows {
+        first: first_as_deep(rows, document.start, row, level),
+        end: end_as_deep(rows, row, document.end, level),
+        level,
+    })
+}
+
 /// What is between two quotes.
 fn unquoted(key: &str, quote: char) -> Option<&str> {
     key.strip_prefix(quote)?.strip_suffix(quote)
@@ -82,23 +109,46 @@ fn meant(key: &str) -> &str {
     }
 }
 
-/// The numbers of the operations that have the keys of rows, in order, of those around one that begin as deep.
-fn numbers_around(
+/// Whether keys come in the order of rows that have them.
+fn come_in_order(rows: &Rows<'_>, mapping: MappingRows, keys: &[&str]) -> bool
+    requires { mapping.end ≤ length rows.now.rows }
+{
+    let mut left = keys;
+    'rows: for at in mapping.first..mapping.end {
+        let [key, others @ ..] = left else {
+            return true;
+        };
+        if rows.level(at) == mapping.level && meant(rows.key(at)) == *key {
+            left = others;
+        }
+    }
+    left.is_empty()
+}
+
+/// The number of each key.
+fn numbers_by_key<'o>(
+    alloc: Global,
+    keys: &[&'o str],
+) -> Result<BTreeMap<&'o str, usize>, AllocError> {
+    let mut numbers = BTreeMap::new(alloc);
+    'keys: for number in 0..keys.len() {
+        numbers.insert(keys[number], number)?;
+    }
+    Ok(numbers)
+}
+
+/// The numbers of the keys that the rows of a mapping have, in order.
+fn numbers_in_rows(
     alloc: Global,
     rows: &Rows<'_>,
-    among: Range<usize>,
-    row: usize,
+    mapping: MappingRows,
     numbers: &BTreeMap<&str, usize>,
-) -> Result<Vec<usize>, AllocError> {
+) -> Result<Vec<usize>, AllocError>
+    requires { mapping.end ≤ length rows.now.rows }
+{
     let mut order = Vec::new(alloc);
-    if row >= rows.len() || among.end > rows.len() {
-        return Ok(order);
-    }
-    let level = rows.level(row);
-    let first = first_as_deep(rows, among.start, row, level);
-    let end = end_as_deep(rows, row, among.end, level);
-    'rows: for at in first..end {
-        if rows.level(at) == level {
+    'rows: for at in mapping.first..mapping.end {
+        if rows.level(at) == mapping.level {
             if let Some(number) = numbers.get(meant(rows.key(at))) {
                 order.push(*number)?;
             }
@@ -107,8 +157,8 @@ fn numbers_around(
     Ok(order)
 }
 
-/// The numbers of operations that replace values of one block mapping, in the order of its rows, where keys are written
-/// without escapes; nothing, where one of them does something else.
+/// The numbers of operations that replace values of one block mapping by others on one line, in the order of its rows,
+/// where keys are written without escapes; nothing, where they come in this order, or one of them does something else.
 pub(crate) fn in_row_order(
     alloc: Global,
     cut: &CutText<'_, '_>,
@@ -117,19 +167,25 @@ pub(crate) fn in_row_order(
     let [Op::Replace(path, _), ..] = ops else {
         return Ok(None);
     };
-    let Some((above, _)) = last_step(&path.steps) else {
+    let Some(at) = cut.again().to_held_row(alloc, path) else {
         return Ok(None);
     };
-    let Some(numbers) = numbers_by_key(alloc, path.doc, above, ops)? else {
+    if !at.inline {
         return Ok(None);
-    };
-    let Some(first) = cut.again().to_held_row(alloc, path) else {
+    }
+    let Some(keys) = replaced_keys(alloc, path, ops)? else {
         return Ok(None);
     };
     let Some(walk) = cut.walk(path.doc) else {
         return Ok(None);
     };
-    let among = walk.document.first..walk.document.end;
-    let order = numbers_around(alloc, walk.rows, among, first.row, &numbers)?;
-    Ok(Some(order))
+    let rows = walk.rows;
+    let Some(mapping) = mapping_rows(rows, at.row, walk.document.first..walk.document.end) else {
+        return Ok(None);
+    };
+    if come_in_order(rows, mapping, &keys) {
+        return Ok(None);
+    }
+    let numbers = numbers_by_key(alloc, &keys)?;
+    Ok(Some(numbers_in_rows(alloc, rows, mapping, &numbers)?))
 }
