@@ -114,6 +114,14 @@ def check_values_put_in_one_row_in_any_order(folder):
     each_within_a_second(folder, ['.[] += {"c": 3, "b": 4, "a": 5}'])
 
 
+def check_values_put_in_rows_in_any_order(folder):
+    """The rows are read once, in whichever order the keys come."""
+    mapping = "".join(f"  p{n}: 1\n  'q{n}': |\n    t\n  {chr(34)}r {n}{chr(34)}: x # c\n" for n in range(MANY))
+    others = "".join(f"  p{n * 7919 % MANY}: 2\n  r {n * 5171 % MANY}: y\n" for n in range(MANY))
+    folder.write("f", f"a:\n{mapping}b:\n{others}".encode())
+    each_within_a_second(folder, [".a += .b"])
+
+
 def check_collections_emptied_in_one_row(folder):
     """The row is read once, also where some of them keep an item."""
     for items, removal in (["[1]"], "del(.[][])"), (["[1, 2]", "{a: 1}"], "del(.[][])"), (["[1]", "[1, 2]"], "del(.[][0])"):

@@ -42,3 +42,7 @@ pub mod SlotPuts
 pub mod SlotWrites
 pub mod SlotMores
 pub mod UnorderedAnswers
+pub mod RowOrder
+pub mod RowStills
+pub mod RowOpens
+pub mod RowOpenAnswers

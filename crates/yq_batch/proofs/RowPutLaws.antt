@@ -38,7 +38,7 @@ module _ (m : ℕ) (s : Step) (ss : List Step) (d : Cut) (e : RowsOfEntry) (read
   unfolding less_break
   no_lines = ap less_break none_below
 
-  head : (x : Node) × (head_of e.row.content ≡ Some x)
+  pub head : (x : Node) × (head_of e.row.content ≡ Some x)
   head = is_there (head_of e.row.content) (head_there (parent_indent e.row) e.row.content (rows_text e.under (behind_entry e)) (row_there m s ss d e there).content h.some)
 
   pub node_there : (x : Node) → head_of e.row.content ≡ Some x → node_in m (s ∷ ss) d ≡ Some (anchored (content_anchor e.row.content) x)

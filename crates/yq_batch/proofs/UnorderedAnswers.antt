@@ -126,7 +126,7 @@ module _ (x : HeadInText) (u : List ℕ) (all : u ≡ cut_text (cut_with x)) (op
 
 -- ---- a run in which nothing was put
 
-edges_empty : (t : List ℕ) (ps : List SlotPlace) → AreCharEdges t (map empty_slot ps)
+pub edges_empty : (t : List ℕ) (ps : List SlotPlace) → AreCharEdges t (map empty_slot ps)
 edges_empty t [] = tt
 edges_empty t (p ∷ ps) = (λ w e. absurd (none-some _ e), edges_empty t ps)
 

@@ -9,3 +9,4 @@ pub mod LeftPlaces
 pub mod RowRemovals
 pub mod Slots
 pub mod OpenRuns
+pub mod OpenRows

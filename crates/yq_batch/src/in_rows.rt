@@ -43,7 +43,7 @@ pub(crate) struct RowPut {
 
 /// What is written for a value on one line in the place of an inline node; nothing, where it is the scalar
 /// that is there.
-fn value_written(
+pub(crate) fn value_written(
     alloc: Global,
     cut: &CutText<'_, '_>,
     path: &Path,
@@ -290,7 +290,7 @@ fn may_change_row(op: &Op) -> bool {
 
 /// Carries out operations together that change one row each, one after the other; nothing, where one of
 /// them does more, or is in front of one before it.
-pub fn carry_in_rows<'d>(
+pub(crate) fn put_each<'d>(
     alloc: Global,
     cut: &CutText<'d, '_>,
     ops: &'d [Op],

@@ -3,6 +3,7 @@
 
 mod adding;
 mod any_order;
+mod any_row;
 mod change;
 mod gone;
 mod head;
@@ -11,13 +12,14 @@ mod in_rows;
 mod left;
 mod near;
 mod removals;
+mod row_order;
 mod row_removals;
 mod run;
 mod slots;
 mod together;
 mod unordered;
 
+pub use any_row::carry_in_rows;
 pub use heads::carry_in_heads;
-pub use in_rows::carry_in_rows;
 pub use row_removals::carry_beside;
 pub use together::{Together, carry_together};

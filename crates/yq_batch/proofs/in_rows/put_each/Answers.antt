@@ -9,7 +9,7 @@ use Rattle.yq_batch.{specs.RowRuns.{RowsGoOn, IsRowsRun}, specs.Runs.{now_text, 
 use Rattle.yq_batch.proofs.RunAnswers.{begins_with}
 use Rattle.yq_text.specs.Halves.{whole}
 use Rattle.yq_row_table.specs.Rows.{cut_text}
-use Rattle.yq_batch.proofs.in_rows.carry_in_rows.Goals as goal
+use Rattle.yq_batch.proofs.in_rows.put_each.Goals as goal
 
 pub len-requires : goal.len-requires
 len-requires c = subst (λ (l : List ℕ). length l < 2 ^ 64) (sym c.text-text.ensures.text) (text_small c.args.cut.now (cut_of c.args.cut.now) c.text-text.ensures.read)

@@ -3,7 +3,7 @@ use Rattle.yq_documents.specs.Reading.{cut_of}
 use Rattle.yq_semantics.specs.Operations.{operations_of}
 use Rattle.yq_edit_laws.{specs.Carried.carry_all, specs.Edit.edit_after, specs.Valid.AreServed}
 use Rattle.yq_batch.{specs.RowRuns.IsRowsRun, specs.Runs.now_text}
-use Rattle.yq_batch.proofs.in_rows.carry_in_rows.Given as goal
+use Rattle.yq_batch.proofs.in_rows.put_each.Given as goal
 
 abbrev pub invariant-operations : goal.invariant-operations
 invariant-operations l = record {

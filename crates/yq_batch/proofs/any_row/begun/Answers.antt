@@ -1,0 +1,10 @@
+use Rattle.std.proofs.Common.{subst}
+use Rattle.yq_text.specs.Halves.{whole}
+use Rattle.yq_batch.{specs.OpenRows.MayBeginInRows, proofs.RowOpenAnswers.begins_in_rows}
+use Rattle.yq_batch.proofs.any_row.begun.Goals as goal
+
+pub returns : goal.returns
+returns c =
+    let u = whole c.text.result in
+    let begins = subst (MayBeginInRows u) c.in-Some-3.is c.in_ok-run.ensures in
+    begins_in_rows c.args.cut.now u c.args.ops.now _ c.in_ok-changes.field-0 c.in-Some-2.changes c.in-Some-3.run' c.text.ensures.text c.in_ok-changes.ensures c.in-Some-2.is begins

@@ -1,0 +1,216 @@
+//! Values on one line that an update puts in rows of one document, in any order.
+ghost use Rattle.std.specs.Prelude.{◌≡◌, ℕ, IfErr, IfOk, IfSome, Some};
+ghost use Rattle.yq_text.specs.Halves.{whole};
+ghost use Rattle.yq_documents.specs.Reading.{cut_of, read_at};
+ghost use Rattle.yq_semantics.specs.Operations.{operation_of, operations_of};
+ghost use Rattle.yq_edit_laws.{specs.Answers.EditFails, specs.Carried.carry_all, specs.Valid.AreServed};
+ghost use Rattle.yq_batch.specs.HeadRuns.{MayGive};
+ghost use Rattle.yq_batch.specs.OpenRows as spec;
+
+use crate::any_order::{SlotRun, ended};
+use crate::change::HeadChange;
+use crate::in_rows::{put_each, value_written};
+use crate::row_order::in_row_order;
+use crate::slots::{SlotPlace, are_in_order, each_once, slots_at};
+use std::alloc::{AllocError, Global};
+use yq_edit_laws::operand_holds;
+use yq_edit_rules::is_filled;
+use yq_lookup::CutText;
+use yq_semantics::{ExprError, Op};
+use yq_text::{Edited, Halves};
+
+/// What an operation puts in a row of document `doc`, if it puts a value on one line in the place of an inline node.
+fn put_inside<'o>(
+    alloc: Global,
+    cut: &mut CutText<'_, '_>,
+    doc: usize,
+    op: &'o Op,
+) -> Result<Option<HeadChange<'o>>, AllocError>
+    ensures same { cut.new ≡ cut.old }
+    ensures puts { IfOk result (λ o. IfSome o (spec.PutsInside (operation_of op.now)
+        (cut_of cut.old) doc)) }
+{
+    operand_holds(op);
+    let Op::Replace(path, value) = op else {
+        return Ok(None);
+    };
+    if path.doc != doc || is_filled(value) {
+        return Ok(None);
+    }
+    let Some(at) = cut.to_held_row(alloc, path) else {
+        return Ok(None);
+    };
+    if !at.inline {
+        return Ok(None);
+    }
+    let _text = cut.text();
+    let written = value_written(alloc, cut, path, &at, value)?;
+    let place = SlotPlace {
+        start: at.start,
+        end: at.start + at.head.len(),
+        more: false,
+    };
+    Ok(Some(HeadChange {
+        place,
+        lead: "",
+        written,
+        steps: &path.steps,
+    }))
+}
+
+/// Nothing, for each of so many operations.
+fn none_known<'o>(alloc: Global, count: usize) -> Result<Vec<Option<HeadChange<'o>>>, AllocError>
+    ensures { IfOk result (λ v. spec.NoneKnown v.items) }
+{
+    let mut changes = Vec::with_capacity(alloc, count)?;
+    'each: for _ in 0..count {
+        changes.push(None)?;
+    }
+    Ok(changes)
+}
+
+/// What each operation puts in a row of document `doc`, found in the order of these numbers; nothing, where one of
+/// them does something else.
+fn puts_inside<'o>(
+    alloc: Global,
+    cut: &CutText<'_, '_>,
+    doc: usize,
+    ops: &'o [Op],
+    order: &[usize],
+) -> Result<Option<Vec<Option<HeadChange<'o>>>>, AllocError>
+    ensures { IfOk result (spec.FindsPuts cut.now doc ops.now) }
+{
+    let mut way = cut.again();
+    let mut changes = none_known(alloc, ops.len())?;
+    'rows: for number in order {
+        if *number >= ops.len() || *number >= changes.len() {
+            return Ok(None);
+        }
+        let found = put_inside(alloc, &mut way, doc, &ops[*number])?;
+        if found.is_none() {
+            return Ok(None);
+        }
+        changes[*number] = found;
+    }
+    Ok(Some(changes))
+}
+
+/// The places of changes in order, each once, if each is known.
+fn places_of(
+    alloc: Global,
+    changes: &[Option<HeadChange<'_>>],
+) -> Result<Option<Vec<SlotPlace>>, AllocError> {
+    let mut places = Vec::with_capacity(alloc, changes.len())?;
+    'each: for change in changes {
+        let Some(change) = change else {
+            return Ok(None);
+        };
+        places.push((change.place.start, change.place.end, change.place.more))?;
+    }
+    places.sort_unstable();
+    Ok(Some(each_once(alloc, &places)?))
+}
+
+/// A run in which nothing was put at the places of changes, if they are in order in the text.
+fn run_at(
+    alloc: Global,
+    text: Halves<'_>,
+    changes: &[Option<HeadChange<'_>>],
+) -> Result<Option<SlotRun>, AllocError>
+    requires { read_at (whole text) ≡ Some (cut_of (whole text)) }
+    ensures { IfOk result (spec.MayBeginInRows (whole text.entry)) }
+{
+    let Some(places) = places_of(alloc, changes)? else {
+        return Ok(None);
+    };
+    if !are_in_order(&places, text.len()) {
+        return Ok(None);
+    }
+    let Some(slots) = slots_at(alloc, &places)? else {
+        return Ok(None);
+    };
+    Ok(Some(SlotRun {
+        slots,
+        size: text.len(),
+        splices: Vec::new(alloc),
+    }))
+}
+
+/// What operations put in rows of one mapping, with a run in which nothing was put yet; nothing, where one of them does
+/// something else.
+fn begun<'o>(
+    alloc: Global,
+    cut: &CutText<'_, '_>,
+    ops: &'o [Op],
+) -> Result<Option<(Vec<Option<HeadChange<'o>>>, SlotRun)>, AllocError>
+    ensures { IfOk result (λ o. IfSome o (λ x.
+        spec.BeginsInRows ops.now cut.now x.0.items x.1)) }
+{
+    let [Op::Replace(path, _), ..] = ops else {
+        return Ok(None);
+    };
+    let Some(order) = in_row_order(alloc, cut, ops)? else {
+        return Ok(None);
+    };
+    if order.len() != ops.len() {
+        return Ok(None);
+    }
+    let Some(changes) = puts_inside(alloc, cut, path.doc, ops, &order)? else {
+        return Ok(None);
+    };
+    let Some(run) = run_at(alloc, cut.text(), &changes)? else {
+        return Ok(None);
+    };
+    Ok(Some((changes, run)))
+}
+
+/// Operations carried out that each put a value on one line in a row of one mapping, in any order; nothing, where one of
+/// them does something else.
+pub(crate) fn carry_in_any_row(
+    alloc: Global,
+    cut: &CutText<'_, '_>,
+    ops: &[Op],
+) -> Result<Option<Edited>, AllocError>
+    requires { AreServed (operations_of ops.now) cut.now }
+    ensures { IfOk result (MayGive ops.now cut.now) }
+{
+    let Some((changes, begin)) = begun(alloc, cut, ops)? else {
+        return Ok(None);
+    };
+    let text = cut.text();
+    let mut run = begin;
+    let mut rest = ops;
+    let mut left = changes.as_slice();
+    'operations: while let [_, after @ ..] = rest {
+        let [known, others @ ..] = left else {
+            return Ok(None);
+        };
+        let Some(change) = known else {
+            return Ok(None);
+        };
+        if !run.put(alloc, text, change)? {
+            return Ok(None);
+        }
+        rest = after;
+        left = others;
+    }
+    Ok(Some(ended(alloc, text, run)?))
+}
+
+/// Carries out operations together that change one row each, one after the other, or that put values on one line in rows
+/// of one mapping in any order; nothing, where one of them does more.
+pub fn carry_in_rows<'d>(
+    alloc: Global,
+    cut: &CutText<'d, '_>,
+    ops: &'d [Op],
+) -> Result<Option<Edited>, ExprError>
+    requires { AreServed (operations_of ops.now) cut.now }
+    ensures ok { IfOk result (MayGive ops.now cut.now) }
+    ensures err { IfErr result (λ e. EditFails e (carry_all (operations_of ops.now) cut.now)) }
+{
+    let found = put_each(alloc, cut, ops)?;
+    if let Some(edited) = found {
+        return Ok(Some(edited));
+    }
+    Ok(carry_in_any_row(alloc, cut, ops)?)
+}

@@ -1,0 +1,191 @@
+//! The order in which the rows of a block mapping come whose entries operations give values.
+ghost use Rattle.std.specs.Prelude.{◌≤◌, IfSome, length};
+
+use crate::change::are_same_steps;
+use std::alloc::{AllocError, Global};
+use std::collections::BTreeMap;
+use std::ops::Range;
+use yq_core::Step;
+use yq_documents::Path;
+use yq_edit_laws::last_step;
+use yq_edit_rules::is_filled;
+use yq_lookup::CutText;
+use yq_row_table::Rows;
+use yq_semantics::Op;
+
+/// The key of the mapping at these steps of a document whose value an operation replaces by one on one line.
+fn replaced_key<'o>(op: &'o Op, doc: usize, above: &[Step]) -> Option<&'o str> {
+    let Op::Replace(path, value) = op else {
+        return None;
+    };
+    let (steps, last) = last_step(&path.steps)?;
+    if path.doc != doc || is_filled(value) || !are_same_steps(steps, above) {
+        return None;
+    }
+    match last {
+        Step::Key(key) => Some(key.as_str()),
+        Step::Index(_) => None,
+    }
+}
+
+/// The keys of operations that replace values of one mapping, that of the entry at a path, by values on one line.
+fn replaced_keys<'o>(
+    alloc: Global,
+    path: &Path,
+    ops: &'o [Op],
+) -> Result<Option<Vec<&'o str>>, AllocError> {
+    let Some((above, _)) = last_step(&path.steps) else {
+        return Ok(None);
+    };
+    let mut keys = Vec::with_capacity(alloc, ops.len())?;
+    'operations: for op in ops {
+        let Some(key) = replaced_key(op, path.doc, above) else {
+            return Ok(None);
+        };
+        keys.push(key)?;
+    }
+    Ok(Some(keys))
+}
+
+/// The first of rows up to one from which on all begin as deep.
+fn first_as_deep(rows: &Rows<'_>, from: usize, row: usize, level: usize) -> usize
+    requires { row ≤ length rows.now.rows }
+{
+    let mut first = from;
+    'rows: for at in from..row {
+        if rows.level(at) < level {
+            first = at + 1;
+        }
+    }
+    first
+}
+
+/// The first of rows from one on that begins less deep.
+fn end_as_deep(rows: &Rows<'_>, row: usize, end: usize, level: usize) -> usize
+    requires { end ≤ length rows.now.rows }
+    ensures { result ≤ end }
+{
+    'rows: for at in row..end {
+        if rows.level(at) < level {
+            return at;
+        }
+    }
+    end
+}
+
+/// Rows of a text, from one to another, among which those of a mapping's entries are the ones that begin at a level.
+#[derive(Clone, Copy)]
+struct MappingRows {
+    first: usize,
+    end: usize,
+    level: usize,
+}
+
+/// The rows of the mapping to whose entry a row belongs, among those of a document.
+fn mapping_rows(rows: &Rows<'_>, row: usize, document: Range<usize>) -> Option<MappingRows>
+    ensures { IfSome result (λ r. r.end ≤ length rows.now.rows) }
+{
+    if row >= rows.len() || document.end > rows.len() {
+        return None;
+    }
+    let level = rows.level(row);
+    Some(MappingRows {
+        first: first_as_deep(rows, document.start, row, level),
+        end: end_as_deep(rows, row, document.end, level),
+        level,
+    })
+}
+
+/// What is between two quotes.
+fn unquoted(key: &str, quote: char) -> Option<&str> {
+    key.strip_prefix(quote)?.strip_suffix(quote)
+}
+
+/// What a key means that is plain, or in quotes without escapes.
+fn meant(key: &str) -> &str {
+    match unquoted(key, '"') {
+        Some(inner) => inner,
+        None => unquoted(key, '\'').unwrap_or(key),
+    }
+}
+
+/// Whether keys come in the order of rows that have them.
+fn come_in_order(rows: &Rows<'_>, mapping: MappingRows, keys: &[&str]) -> bool
+    requires { mapping.end ≤ length rows.now.rows }
+{
+    let mut left = keys;
+    'rows: for at in mapping.first..mapping.end {
+        let [key, others @ ..] = left else {
+            return true;
+        };
+        if rows.level(at) == mapping.level && meant(rows.key(at)) == *key {
+            left = others;
+        }
+    }
+    left.is_empty()
+}
+
+/// The number of each key.
+fn numbers_by_key<'o>(
+    alloc: Global,
+    keys: &[&'o str],
+) -> Result<BTreeMap<&'o str, usize>, AllocError> {
+    let mut numbers = BTreeMap::new(alloc);
+    'keys: for number in 0..keys.len() {
+        numbers.insert(keys[number], number)?;
+    }
+    Ok(numbers)
+}
+
+/// The numbers of the keys that the rows of a mapping have, in order.
+fn numbers_in_rows(
+    alloc: Global,
+    rows: &Rows<'_>,
+    mapping: MappingRows,
+    numbers: &BTreeMap<&str, usize>,
+) -> Result<Vec<usize>, AllocError>
+    requires { mapping.end ≤ length rows.now.rows }
+{
+    let mut order = Vec::new(alloc);
+    'rows: for at in mapping.first..mapping.end {
+        if rows.level(at) == mapping.level {
+            if let Some(number) = numbers.get(meant(rows.key(at))) {
+                order.push(*number)?;
+            }
+        }
+    }
+    Ok(order)
+}
+
+/// The numbers of operations that replace values of one block mapping by others on one line, in the order of its rows,
+/// where keys are written without escapes; nothing, where they come in this order, or one of them does something else.
+pub(crate) fn in_row_order(
+    alloc: Global,
+    cut: &CutText<'_, '_>,
+    ops: &[Op],
+) -> Result<Option<Vec<usize>>, AllocError> {
+    let [Op::Replace(path, _), ..] = ops else {
+        return Ok(None);
+    };
+    let Some(at) = cut.again().to_held_row(alloc, path) else {
+        return Ok(None);
+    };
+    if !at.inline {
+        return Ok(None);
+    }
+    let Some(keys) = replaced_keys(alloc, path, ops)? else {
+        return Ok(None);
+    };
+    let Some(walk) = cut.walk(path.doc) else {
+        return Ok(None);
+    };
+    let rows = walk.rows;
+    let Some(mapping) = mapping_rows(rows, at.row, walk.document.first..walk.document.end) else {
+        return Ok(None);
+    };
+    if come_in_order(rows, mapping, &keys) {
+        return Ok(None);
+    }
+    let numbers = numbers_by_key(alloc, &keys)?;
+    Ok(Some(numbers_in_rows(alloc, rows, mapping, &numbers)?))
+}
