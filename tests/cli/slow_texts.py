@@ -130,12 +130,21 @@ def check_collections_emptied_in_one_row(folder):
 
 
 def check_sums_that_no_text_holds(folder):
-    """They aren't made: a text has a byte at least for each item."""
-    of_root, of_a = "+".join(["."] * 480), "+".join([".a"] * 320)
+    """They aren't made: a text has two bytes at least for each item."""
+    of_root, of_a = "+".join(["."] * 140), "+".join([".a"] * 140)
     wanted = [*(("bare dashes", f". {operator} {of_root}") for operator in ("=", "|=", "+=")), ("commas", f".b = {of_a}")]
     for name, expression, status, seconds, megabytes in runs(folder, wanted, 8 * MANY):
         within = status, seconds <= SECONDS, megabytes <= MEGABYTES
         equal(within, (1, True, True), (name, expression[:9], status, seconds, megabytes))
+
+
+def check_sums_of_one_term_many_times(folder):
+    """It is evaluated once, and added until that changes nothing."""
+    of_root = "+".join(["."] * 480)
+    wanted = [("keys", f". = {of_root}"), ("bare dashes", f".[] |= {of_root}")]
+    for name, expression, status, seconds, megabytes in runs(folder, wanted, 8 * MANY):
+        within = status, seconds <= SECONDS, megabytes <= MEGABYTES
+        equal(within, (0, True, True), (name, expression[:9], status, seconds, megabytes))
 
 
 def check_head_comments_in_a_text_with_a_long_first_line(folder):

@@ -2,7 +2,7 @@
 ghost use Rattle.std.specs.Prelude.{◌≡◌, ℕ, IfErr, IfOk, IfSome, Some};
 ghost use Rattle.yq_text.specs.Halves.{whole};
 ghost use Rattle.yq_documents.specs.Reading.{cut_of, read_at};
-ghost use Rattle.yq_semantics.specs.Operations.{operation_of, operations_of};
+ghost use Rattle.yq_semantics.specs.Operations.{operations_of};
 ghost use Rattle.yq_edit_laws.{specs.Answers.EditFails, specs.Carried.carry_all, specs.Valid.AreServed};
 ghost use Rattle.yq_batch.specs.HeadRuns.{MayGive};
 ghost use Rattle.yq_batch.specs.OpenRows as spec;
@@ -27,8 +27,7 @@ fn put_inside<'o>(
     op: &'o Op,
 ) -> Result<Option<HeadChange<'o>>, AllocError>
     ensures same { cut.new ≡ cut.old }
-    ensures puts { IfOk result (λ o. IfSome o (spec.PutsInside (operation_of op.now)
-        (cut_of cut.old) doc)) }
+    ensures puts { IfOk result (spec.MayPut (cut_of cut.old) doc op.now) }
 {
     operand_holds(op);
     let Op::Replace(path, value) = op else {

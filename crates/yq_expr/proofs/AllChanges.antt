@@ -22,6 +22,10 @@ each_done v f before xs i all past so_far = search (rules, drop_all, append-nil)
 pub value_there : (root : Node) (right : Judgement Node) (f : FoundPlace → Node → Judgement (List Changed)) (ps : List FoundPlace) (v : Node) → 0 < length ps → right ≡ gives v → with_value root right f ps ≡ at_each root (λ q. f q v) ps
 value_there root right f ps v some is = search rules
 
+-- a refusal at the only place is one of all
+pub only_fails : {B : Type 0} (before : List B) (j : Judgement (List B)) (e : ExprError) → MatchFails e (put_behind before j) → MatchFails e (and_then (λ first. and_then (λ others. gives (first ++ others)) (gives [])) j)
+only_fails before j e h = search rules
+
 -- a refusal of the right side is one of all
 pub value_fails : (root : Node) (right : Judgement Node) (f : FoundPlace → Node → Judgement (List Changed)) (ps : List FoundPlace) (e : ExprError) → 0 < length ps → MatchFails e right → MatchFails e (with_value root right f ps)
 value_fails root right f ps e some h = search rules

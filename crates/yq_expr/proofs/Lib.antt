@@ -3,6 +3,7 @@ pub mod DocumentLaws
 pub mod AllChanges
 pub mod ChildPlaces
 pub mod SummandLaws
+pub mod TermLaws
 pub mod PartLaws
 mod StepLists
 pub mod ManyKeysLaws

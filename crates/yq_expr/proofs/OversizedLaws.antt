@@ -1,12 +1,11 @@
 -- Sums of lists of known sizes.
-use Rattle.std.proofs.Common.{◌≡◌, ℕ, ◌<◌, ◌≤◌, arith, false, List, [], ◌∷◌, None, refl, sym, ap, ◌∙◌}
+use Rattle.std.proofs.Common.{◌≡◌, ℕ, ◌<◌, arith, false, List, [], ◌∷◌, None, refl, sym, ap, ◌∙◌}
 use Rattle.yq_core.{specs.Paths.append_children, specs.Tree.{Node, alias, scalar, list, Children, none, child}}
 use Rattle.yq_flow_edits.specs.Valued.{IsValueTree, AreValueTrees}
 use Rattle.yq_planner.{specs.ListSizes.HasSize, specs.declared.updating.list_size.ListSize.ListSize, specs.StandIns.IsStandIn}
 use Rattle.yq_semantics.{specs.Judgement.{Judgement, and_then, gives}, specs.Places.FoundPlace}
 use Rattle.yq_semantics.{specs.Program.{Term, PathStep, key, index, each}, specs.RightValues.{is_null, as_items, sum, sum_from, term_value}}
-use Rattle.yq_expr.specs.Oversized.{AddsItems, AreItemsOf, GivesList, StandsForOversized, HaveUtf8Keys}
-use Rattle.yq_text.specs.Limit.{text_limit}
+use Rattle.yq_expr.specs.Oversized.{items_limit, AddsItems, AreItemsOf, GivesList, StandsForOversized, HaveUtf8Keys}
 use Rattle.yq_core.specs.Tree as tree
 
 valid_both : (cs ds : Children) → AreValueTrees false cs → AreValueTrees false ds → AreValueTrees false (append_children cs ds)
@@ -37,7 +36,7 @@ one_more doc p ds t ts total size with_it h k both =
     )
 
 -- the list of known size that a judgement gives is too large for a text, and a small one stands for it
-pub too_large : (j : Judgement Node) (size : ListSize) (w : Node) → GivesList j size → text_limit < size.items → ((v : Node) → HasSize v size → IsStandIn v w) → StandsForOversized j w
+pub too_large : (j : Judgement Node) (size : ListSize) (w : Node) → GivesList j size → items_limit < size.items → ((v : Node) → HasSize v size → IsStandIn v w) → StandsForOversized j w
 too_large j size w h more small = (
   list None h.0,
   h.1,

@@ -1,19 +1,18 @@
 -- The operations of an update that gives a place what no text can hold.
-use Rattle.std.proofs.Common.{◌≡◌, ℕ, suc, ◌+◌, ◌<◌, ◌≤◌, true, false, List, [], ◌∷◌, ◌++◌, map, drop, Option, None, if◌then◌else◌, Bool}
-use Rattle.std.{proofs.Common.{refl, sym, ap, ◌∙◌, subst, arith, append_assoc, append-nil}, specs.List.list_any}
+use Rattle.std.proofs.Common.{◌≡◌, ℕ, suc, ◌<◌, ◌≤◌, true, false, List, [], ◌∷◌, ◌++◌, drop, Option, None, if◌then◌else◌, Bool, refl, sym}
+use Rattle.std.{proofs.Common.{ap, ◌∙◌, subst, arith, append_assoc, append-nil}, specs.List.list_any}
 use Rattle.yq_core.{specs.Tree.{Node, alias, scalar, list, Children}, specs.Paths.Step}
 use Rattle.yq_flow_edits.specs.Valued.{IsValueTree, AreValueTrees}
 use Rattle.yq_semantics.specs.Changes.{Room, Changed, Change, replaces, add_at, add_below, added, all_allowed, at_each, changes_at, created}
-use Rattle.yq_semantics.specs.Changes.{left_pipe, nested, put_below, put_with_path, with_value, appends as appending}
+use Rattle.yq_semantics.specs.Changes.{left_pipe, nested, put_below, put_with_path, with_value}
 use Rattle.yq_semantics.{specs.Judgement.{Judgement, and_then, gives, refuses}, specs.Operations.Operation, specs.Pipes.places}
 use Rattle.yq_semantics.{specs.Places.{FoundPlace, root_place}, specs.Plans.{change_ops, ops_of}}
 use Rattle.yq_semantics.specs.Program.{Update, assign, delete, comment, is_index, PathStep, key, index, each}
 use Rattle.yq_semantics.{specs.RightValues.{right_value, is_null}, specs.Sizes.{items_in, items_among}}
 use Rattle.yq_semantics.{proofs.JudgementLaws.{gives_same, then_gives}, proofs.updates.Each.joined_gives, proofs.updates.Planned.all_same}
 use Rattle.yq_semantics.specs.declared.refusal.Refusal.TheVariants.{IndexOutOfRange, KindMismatch}
-use Rattle.yq_text.specs.Limit.{text_limit}
 use Rattle.yq_expr.specs.Oversized.{BeginsOversized, puts, adds as adding, appends, GivesAt, HaveUtf8Keys, IsOversized, GivesOversized}
-use Rattle.yq_expr.{specs.Oversized.{item_ops, GivesOversizedOps}, specs.Parts.{document_ops, rest_ops}}
+use Rattle.yq_expr.{specs.Oversized.{items_limit, item_ops, GivesOversizedOps}, specs.Parts.{document_ops, rest_ops}}
 use Rattle.yq_expr.proofs.PartLaws.{changes_both, ops_join, ops_there, rest_there}
 use Rattle.yq_documents.specs.Documents.{Document}
 use Rattle.yq_core.specs.Tree as tree
@@ -42,7 +41,7 @@ nested_valid (index i ∷ ms) v keys valid = nested_valid ms v keys valid
 nested_valid (each ∷ ms) v keys valid = nested_valid ms v keys valid
 
 -- for the list of items that are too many
-module _ (doc : ℕ) (items : Children) (valid : AreValueTrees false items) (more : text_limit < items_among items) where
+module _ (doc : ℕ) (items : Children) (valid : AreValueTrees false items) (more : items_limit < items_among items) where
   abbrev v : Node
   v = list None items
 
@@ -128,8 +127,8 @@ module _ (doc : ℕ) (room : Room) (root : Node) (p : FoundPlace) (keys : HaveUt
   items_valid : (v : Node) (big : IsOversized v) → AreValueTrees false big.items
   items_valid v big = (subst IsValueTree big.is big.valid).1
 
-  items_more : (v : Node) (big : IsOversized v) → text_limit < items_among big.items
-  items_more v big = subst (λ x. text_limit < items_in x) big.is big.more
+  items_more : (v : Node) (big : IsOversized v) → items_limit < items_among big.items
+  items_more v big = subst (λ x. items_limit < items_in x) big.is big.more
 
   pub place_begins_big : (u : Update) (cs : List Changed) → GivesAt doc root u p → changes_at doc room root u (p ∷ []) ≡ gives cs → BeginsOversized (ops_of doc cs)
   place_begins_big (assign left operator.Set right) cs big h =

@@ -13,7 +13,6 @@ use Rattle.yq_semantics.{specs.Places.{FoundPlace, for_each, root_place}, specs.
 use Rattle.yq_semantics.{specs.Program.{Stage, Term, Update, assign}, specs.declared.program.Operator.Operator}
 use Rattle.yq_expr.{specs.EffectView.{is_mapping, value_at}, proofs.AllChanges.value_there, proofs.StandInLaws.{add_alike, put_alike}}
 use Rattle.yq_expr.specs.Oversized.{StandsForOversized}
-use Rattle.yq_failure.specs.declared.failure.Failure.TheVariants as error
 use Rattle.yq_semantics.specs.declared.program.Operator.TheVariants as operator
 
 -- ---- an answer

@@ -1,4 +1,4 @@
--- Values that no text can hold, since they have more items and entries than a text may have bytes (own).
+-- Values that no text can hold, since they have more items and entries than a text may have (own).
 use Rattle.std.specs.Prelude.{◌≡◌, ◌<◌, ℕ, false, List, [], ◌∷◌, ◌++◌, map, Option, Some, None, ⊤, Result, ◌≤◌, true, IfOk, IfSome}
 use Rattle.std.{specs.Str.IsUtf8, specs.declared.alloc.AllocError.AllocError}
 use Rattle.yq_core.{specs.Tree.{Node, list, Children, none}, specs.Paths.Step, specs.Values.value_node, specs.declared.value.Value.Value}
@@ -13,7 +13,6 @@ use Rattle.yq_eval.specs.PlaceView.{place_of, places_of}
 use Rattle.yq_expr.{specs.FixedPaths.IfAny, specs.Parts.{IsLater, values_limit}, specs.PlannedUpdates.{ops_inside, rest_in}}
 use Rattle.yq_expr.{specs.declared.parts.PlanPart.PlanPart, specs.declared.parts.OpenPart.OpenPart}
 use Rattle.yq_expr.specs.declared.document.DocumentRoot.{DocumentRoot}
-use Rattle.yq_text.specs.Limit.{text_limit}
 use Rattle.yq_nodes.specs.Nodes.{node_of}
 use Rattle.yq_eval.specs.declared.matching.place.FoundPlace as place
 use Rattle.yq_semantics.specs.declared.program.Term as term
@@ -33,12 +32,16 @@ AddsItems j size = (v : Node) × (j ≡ gives v) × (is_null v ≡ false) × Are
 abbrev pub GivesList : Judgement Node → ListSize → Type 0
 GivesList j size = (cs : Children) × (j ≡ gives (list None cs)) × AreItemsOf cs size
 
--- A list has more items and entries than a text may have bytes, and is valid (own).
+-- how many items and entries a text may have: each takes two bytes at least (own)
+abbrev pub items_limit : ℕ
+items_limit = 8388608
+
+-- A list has more items and entries than a text may have, and is valid (own).
 pub record IsOversized (v : Node) : Type 0 where
   pub items : Children
   pub is : v ≡ list None items
   pub valid : IsValueTree v
-  pub more : text_limit < items_in v
+  pub more : items_limit < items_in v
 
 -- a judgement gives such a list (own)
 abbrev pub GivesOversized : Judgement Node → Type 0
@@ -104,11 +107,11 @@ MayBeUtf8 (Some k) = IsUtf8 k
 abbrev pub item_ops : ℕ → List Step → Children → List Operation
 item_ops doc path items = map (add_op doc path) (additions none items)
 
--- Operations begin with one that puts or adds more items and entries than a text may have bytes, or with some that append so many (own).
+-- Operations begin with one that puts or adds more items and entries than a text may have, or with some that append so many (own).
 pub data BeginsOversized : List Operation → Type 0 where
-  puts : {doc : ℕ} {path : List Step} {v : Node} {ops : List Operation} → IsValueTree v → text_limit < items_in v → BeginsOversized (replace doc path v ∷ ops)
-  adds : {doc : ℕ} {path : List Step} {k : Option (List ℕ)} {v : Node} {ops : List Operation} → MayBeUtf8 k → IsValueTree v → text_limit < items_in v → BeginsOversized (append doc path k v ∷ ops)
-  appends : {all : List Operation} (doc : ℕ) (path : List Step) (items : Children) (ops : List Operation) → AreValueTrees false items → text_limit < items_among items → all ≡ item_ops doc path items ++ ops → BeginsOversized all
+  puts : {doc : ℕ} {path : List Step} {v : Node} {ops : List Operation} → IsValueTree v → items_limit < items_in v → BeginsOversized (replace doc path v ∷ ops)
+  adds : {doc : ℕ} {path : List Step} {k : Option (List ℕ)} {v : Node} {ops : List Operation} → MayBeUtf8 k → IsValueTree v → items_limit < items_in v → BeginsOversized (append doc path k v ∷ ops)
+  appends : {all : List Operation} (doc : ℕ) (path : List Step) (items : Children) (ops : List Operation) → AreValueTrees false items → items_limit < items_among items → all ≡ item_ops doc path items ++ ops → BeginsOversized all
 
 -- the operations that a judgement gives, if it does, begin so (own)
 abbrev pub GivesOversizedOps : Judgement (List Operation) → Type 0

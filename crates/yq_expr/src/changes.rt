@@ -1,22 +1,27 @@
 //! What an update changes in documents.
-ghost use Rattle.std.specs.Prelude.{◌≡◌, ◌<◌, length, map};
-ghost use Rattle.yq_core.specs.Anchors.{names_of};
+ghost use Rattle.std.specs.Prelude.{◌≡◌, ◌<◌, ◌∷◌, [], IfSome, length, map};
+ghost use Rattle.yq_core.{specs.Anchors.names_of, specs.Values.value_node};
 ghost use Rattle.yq_nodes.specs.Nodes.{node_of};
 ghost use Rattle.yq_planner.{specs.ChangeView.all_changed_of, specs.Indexes.HasAliases};
 ghost use Rattle.yq_semantics.{specs.Judgement.Judges, specs.View.{stage_of, update_of}};
-ghost use Rattle.yq_eval.specs.FoundView.{found_places};
+ghost use Rattle.yq_eval.{specs.FoundView.found_places, specs.PlaceView.place_of, specs.TreeScalars.HasScalars};
 ghost use Rattle.yq_expr.specs.DocumentPlaces.{AreInDocument, IsDocumentRoot};
-ghost use Rattle.yq_expr.specs.JudgedChanges.{JudgesChanges, changes_inside, changes_of_all, changes_there, with_right};
+ghost use Rattle.yq_expr.specs.JudgedChanges.{JudgesChanges, JudgesEach, changes_inside, changes_of_all, changes_there, with_right};
 ghost use Rattle.yq_semantics.specs.Changes as spec;
 
 use crate::at_places::at_found;
 use crate::document::{DocumentPlaces, DocumentRoot};
 use crate::effect::Action;
+use crate::many_keys::check_depth;
+use crate::push_change;
+use crate::put::put;
 use crate::right_value::right_value;
+use crate::steps::path_steps;
 use bumpalo::Bump;
 use std::alloc::Global;
+use yq_core::Value;
 use yq_documents::Documents;
-use yq_eval::{FoundPlace, find_places};
+use yq_eval::{FoundPlace, FoundPlaces, find_places};
 use yq_nodes::Node;
 use yq_planner::{Aliases, PlacedChange, aliases_of, has_comment};
 use yq_semantics::{Assignment, ExprError, Operator, Refusal, Stage, Term, Update};
@@ -41,6 +46,48 @@ pub(crate) fn changes_at<'a, 't>(
     }
 }
 
+/// The place that is the only one.
+fn sole<'p, 'a, 't>(places: &'p FoundPlaces<'a, 't>) -> Option<&'p FoundPlace<'a, 't>>
+    ensures { IfSome result (λ p. found_places places.now ≡ place_of p.now ∷ []) }
+{
+    let FoundPlaces::Listed(places) = places else {
+        return None;
+    };
+    let places: &[FoundPlace<'a, 't>] = places;
+    match places {
+        [place] => Some(place),
+        _ => None,
+    }
+}
+
+/// What a value changes that is put at the only place, in a document of that number with those aliases: it isn't
+/// copied.
+fn put_at<'a, 't>(
+    alloc: Global,
+    doc: usize,
+    aliases: &Aliases<'_>,
+    place: &FoundPlace<'a, 't>,
+    value: Value,
+) -> Result<Vec<PlacedChange>, ExprError>
+    requires { HasScalars (place_of place.now).node }
+    ensures { JudgesEach aliases.now (place_of place.now ∷ [])
+        (λ p. spec.put_with_path p (value_node value)) result }
+{
+    check_depth(alloc, doc, Action::Put(&value), place)?;
+    let path = path_steps(alloc, place.path)?;
+    let mut changes = Vec::with_capacity(alloc, 1)?;
+    if let Some(change) = put(alloc, place, value)? {
+        push_change(
+            alloc,
+            aliases,
+            place,
+            PlacedChange { path, change },
+            &mut changes,
+        )?;
+    }
+    Ok(changes)
+}
+
 /// What a right side changes that is added, or put, at each of places of a document, which has those aliases.
 fn value_each<'a, 't>(
     alloc: Global,
@@ -56,12 +103,13 @@ fn value_each<'a, 't>(
 {
     let from = FoundPlace::of_root(&found.document.root);
     let value = right_value(alloc, found.document.doc, right, &from)?;
-    let effect = if adds {
-        Action::Add(&value)
-    } else {
-        Action::Put(&value)
-    };
-    at_found(alloc, found, aliases, effect)
+    if adds {
+        return at_found(alloc, found, aliases, Action::Add(&value));
+    }
+    match sole(&found.places) {
+        Some(place) => put_at(alloc, found.document.doc, aliases, place, value),
+        None => at_found(alloc, found, aliases, Action::Put(&value)),
+    }
 }
 
 /// What an assignment changes at places of a document, which has those aliases.

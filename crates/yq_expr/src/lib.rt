@@ -16,6 +16,7 @@ mod placed;
 mod planning;
 mod put;
 mod right_value;
+mod same_term;
 mod steps;
 mod weights;
 

@@ -1,14 +1,14 @@
-//! Sums that no text can hold: lists of more items than a text may have bytes, known by their sizes and never
-//! made.
+//! Sums that no text can hold: lists of more items than a text may have, known by their sizes and never made.
 ghost use Rattle.std.specs.Prelude.{◌≡◌, ◌∷◌, [], IfOk, map, true};
 ghost use Rattle.yq_expr.{specs.FixedPaths.IfAny, specs.Oversized.{AddsItems, GivesList, HaveUtf8Keys, MakesFirst, MakesThere, SumsFrom}};
 ghost use Rattle.yq_nodes.specs.Nodes.{node_of};
-ghost use Rattle.yq_semantics.specs.View.{program_step, term_of};
+ghost use Rattle.yq_semantics.specs.View.{program_step};
 ghost use Rattle.yq_eval.{specs.PlaceView.{place_of, places_of}, specs.TreeScalars.{HasScalars, HaveScalars}};
 ghost use Rattle.yq_expr.specs.Oversized as spec;
 
 use crate::document::DocumentRoot;
 use crate::right_value::term_value;
+use crate::same_term::is_same_term;
 use crate::steps::missing_steps;
 use crate::weights::assignment;
 use std::alloc::{AllocError, Global};
@@ -17,52 +17,11 @@ use yq_eval::FoundPlace;
 use yq_flow_edits::{text_holds, value_holds};
 use yq_nodes::Node;
 use yq_planner::{ListSize, added_size, is_null, list_of_size};
-use yq_semantics::{ExprError, Operator, PathStep, Stage, Term, Update};
+use yq_semantics::{ExprError, Operator, PathStep, Term, Update};
 use yq_text::TEXT_LIMIT;
 
-/// Whether two steps are known to be the same.
-fn is_same_step(one: &PathStep, other: &PathStep) -> bool
-    ensures { result ≡ true → program_step one.now ≡ program_step other.now }
-{
-    match (one, other) {
-        (PathStep::Key(key), PathStep::Key(other)) => key.as_str() == other.as_str(),
-        (PathStep::Index(index), PathStep::Index(other)) => index == other,
-        (PathStep::Each, PathStep::Each) => true,
-        _ => false,
-    }
-}
-
-/// Whether steps are known to be the same as others.
-fn are_same_steps(steps: &[PathStep], others: &[PathStep]) -> bool
-    ensures { result ≡ true → map program_step steps.now ≡ map program_step others.now }
-{
-    let mut rest = others;
-    'steps: for step in steps {
-        let [first, behind @ ..] = rest else {
-            return false;
-        };
-        if !is_same_step(step, first) {
-            return false;
-        }
-        rest = behind;
-    }
-    rest.is_empty()
-}
-
-/// Whether two terms are known to be the same: pipes of one path.
-fn is_same_term(one: &Term, other: &Term) -> bool
-    ensures { result ≡ true → term_of one.now ≡ term_of other.now }
-{
-    let (Term::Pipe(one), Term::Pipe(other)) = (one, other) else {
-        return false;
-    };
-    let one: &[Stage] = one;
-    let other: &[Stage] = other;
-    match (one, other) {
-        ([Stage::Path(steps)], [Stage::Path(others)]) => are_same_steps(steps, others),
-        _ => false,
-    }
-}
+/// How many items a text may have: each takes two bytes at least.
+const ITEMS_LIMIT: usize = TEXT_LIMIT / 2;
 
 /// How large the list is of what a list gets from the value of a term; nothing, where the term is refused, or
 /// its value is null, or may not be written.
@@ -172,7 +131,7 @@ pub(crate) fn oversized<'a, 't>(
     let Some(size) = size_of_sum(alloc, doc, terms, place)? else {
         return Ok(None);
     };
-    if size.items <= TEXT_LIMIT {
+    if size.items <= ITEMS_LIMIT {
         return Ok(None);
     }
     let small = list_of_size(alloc, &size)?;

@@ -1,18 +1,19 @@
 //! Right sides: sums of terms, from a place.
 ghost use Rattle.std.specs.Prelude.{◌≡◌, ◌∷◌, ℕ, [], IfSome, map, true};
 ghost use Rattle.yq_core.specs.Values.{value_node};
-ghost use Rattle.yq_semantics.{specs.Judgement.{Judges, and_then}, specs.Pipes.pipe_on, specs.Places.{FoundPlace as SpecPlace, chained}};
+ghost use Rattle.yq_semantics.{specs.Judgement.{Judges, and_then}, specs.Pipes.pipe_on, specs.Places.FoundPlace as SpecPlace};
 ghost use Rattle.yq_semantics.{specs.Program.path, specs.View.{stage_of, term_of}};
-ghost use Rattle.yq_expr.specs.Summand.{IsSummand};
+ghost use Rattle.yq_expr.specs.Summand.{IsSummand, found_times};
 ghost use Rattle.yq_eval.{specs.PlaceView.{place_of, places_of}, specs.TreeScalars.{HasScalars, HaveScalars}};
 ghost use Rattle.yq_semantics.specs.RightValues as spec;
 
+use crate::same_term::count_same;
 use bumpalo::Bump;
 use std::alloc::Global;
 use yq_core::{Kind, Scalar, Value};
 use yq_eval::{FoundPlace, copy_at, pipe_on};
 use yq_nodes::NodeKind;
-use yq_planner::{copied, scalar_sum, sum};
+use yq_planner::{copied, scalar_sum, sum_times};
 use yq_semantics::{ExprError, Refusal, Stage, Term};
 
 /// A copy of the value at the one place that there is.
@@ -23,6 +24,16 @@ fn only(alloc: Global, places: &[FoundPlace<'_, '_>]) -> Result<Value, ExprError
     match places {
         [place] => copy_at(alloc, place),
         _ => Err(ExprError::Fault(Refusal::NotOneValue)),
+    }
+}
+
+/// Whether a pipe leads nowhere else.
+fn stays(pipe: &[Stage]) -> bool
+    ensures { result ≡ true → map stage_of pipe.now ≡ path [] ∷ [] }
+{
+    match pipe {
+        [Stage::Path(steps)] => steps.is_empty(),
+        _ => false,
     }
 }
 
@@ -37,6 +48,9 @@ fn found_value<'a, 't>(
     ensures { Judges value_node result (and_then spec.only_copy
         (pipe_on doc (map stage_of pipe.now) (place_of place.now ∷ []))) }
 {
+    if stays(pipe) {
+        return copy_at(alloc, place);
+    }
     let bump = Bump::new(alloc);
     let mut start = Vec::with_capacity(alloc, 1)?;
     start.push(*place)?;
@@ -61,23 +75,23 @@ pub(crate) fn term_value<'a, 't>(
     }
 }
 
-/// A value with that of one more term added.
+/// A value with that of a term added so many times.
 fn with_term<'a, 't>(
     alloc: Global,
     doc: usize,
     total: Value,
-    term: &'a Term,
+    term: (&'a Term, usize),
     place: &FoundPlace<'a, 't>,
 ) -> Result<Value, ExprError>
     requires { HasScalars (place_of place.now).node }
-    ensures { Judges value_node result (and_then (spec.sum (value_node total))
-        (spec.term_value doc (place_of place.now) (term_of term.now))) }
+    ensures { Judges value_node result
+        (found_times doc place.now term.entry.0.now term.entry.1 total) }
 {
-    let value = term_value(alloc, doc, term, place)?;
-    sum(alloc, total, value)
+    let value = term_value(alloc, doc, term.0, place)?;
+    sum_times(alloc, total, value, term.1)
 }
 
-/// A value with those of terms added, one after the other.
+/// A value with those of terms added, one after the other. Terms that are known to be the same are evaluated once.
 fn with_terms<'a, 't>(
     alloc: Global,
     doc: usize,
@@ -86,24 +100,17 @@ fn with_terms<'a, 't>(
     place: &FoundPlace<'a, 't>,
 ) -> Result<Value, ExprError>
     requires { HasScalars (place_of place.now).node }
-    ensures { Judges value_node result (chained (λ t v. and_then (spec.sum v)
-        (spec.term_value doc (place_of place.now) t)) (map term_of terms.now) (value_node first)) }
+    ensures { Judges value_node result (spec.sum_from doc (place_of place.now) (value_node first)
+        (map term_of terms.now)) }
 {
     let mut total = first;
-    'terms: for term in terms {
-        total = with_term(alloc, doc, total, term, place)?;
+    let mut rest = terms;
+    'terms: while let [term, behind @ ..] = rest {
+        let again = count_same(term, behind);
+        total = with_term(alloc, doc, total, (term, again + 1), place)?;
+        rest = &behind[again..];
     }
     Ok(total)
-}
-
-/// Whether a pipe leads nowhere else.
-fn stays(pipe: &[Stage]) -> bool
-    ensures { result ≡ true → map stage_of pipe.now ≡ path [] ∷ [] }
-{
-    match pipe {
-        [Stage::Path(steps)] => steps.is_empty(),
-        _ => false,
-    }
 }
 
 /// The scalar at a place, but for null, if that is what a term finds.

@@ -1,16 +1,17 @@
 -- Sums of values: the int that is written, one item, entry or term more.
 use Rattle.std.proofs.Common.{◌≡◌, ℕ, zero, suc, ◌+◌, ◌-◌, ◌<◌, ◌^◌, Bool, true, false, List, [], ◌∷◌, ◌++◌, Option, Some, None, is_some}
-use Rattle.std.proofs.Common.{option_map, length, map, drop, take, get_or, set, FitsSigned, refl, sym, ap, ◌∙◌, arith, cond, rules}
-use Rattle.std.{specs.Prelude.{ℤ, pos, negsuc}, specs.Fmt.{decimal, signed_decimal}, specs.Str.bytes_eq}
-use Rattle.std.{proofs.lemmas.Fmt.decimal_is_IsNumeral, proofs.lemmas.Int.to_z-of_z}
-use Rattle.std.proofs.lemmas.List.{length-map, length-take-le, map_push, take_more, take_rest}
+use Rattle.std.proofs.Common.{◌≤◌, Result, Err, subst, option_map, length, map, drop, take, get_or, replicate, set, FitsSigned, refl, sym}
+use Rattle.std.{proofs.Common.{ap, ◌∙◌, arith, cond, rules}, specs.Prelude.{ℤ, pos, negsuc}, specs.Fmt.{decimal, signed_decimal}}
+use Rattle.std.{specs.Str.bytes_eq, proofs.lemmas.Fmt.decimal_is_IsNumeral, proofs.lemmas.Int.to_z-of_z}
+use Rattle.std.proofs.lemmas.List.{length-map, length-take-le, map_push, set-get_or, take_more, take_rest}
 use mir.Syntax.{w64}
 use mir.Val.{to_z, of_z}
 use Rattle.yq_core.{specs.Values.{items, entries}, specs.Numbers.{unsigned, minus}}
 use Rattle.yq_core.{specs.Paths.{To, child_at, change_child, append_child, append_children}, specs.SchemaReading.resolve}
 use Rattle.yq_core.{specs.Tree.{Node, Children, none, child, key_label}, proofs.SchemaLaws.resolve_again}
-use Rattle.yq_planner.specs.EntryNumbers.{entry_number, number_kept}
-use Rattle.yq_semantics.{specs.Judgement.{Judgement, and_then, gives}, specs.Places.{FoundPlace, chained}, specs.Program.Term}
+use Rattle.yq_planner.{specs.EntryNumbers.{entry_number, number_kept}, specs.Repeated.sum_times}
+use Rattle.yq_semantics.{specs.Judgement.{ExprError, Judgement, Judges, MatchFails, and_then, gives, refuses}, specs.Places.FoundPlace}
+use Rattle.yq_semantics.specs.Program.{Term}
 use Rattle.yq_semantics.specs.RightValues.{as_items, with_entry, with_entries, value_sum, sum, term_value, sum_from, right_value}
 use Rattle.yq_core.specs.Numbers as numbers
 use Rattle.yq_core.specs.Tree as tree
@@ -110,6 +111,10 @@ changed_there k (e ∷ es) (suc i) j v d h is = go (bytes_eq e.0 k) (λ g. chang
 pub with_present : (k : List ℕ) (es : List (List ℕ × Node)) (i : ℕ) (j : List ℕ) (v : Node) (d : List ℕ × Node) → entry_number k es ≡ Some i → (get_or es i d).0 ≡ j → with_entry (Some k) v (entries es) ≡ entries (set es i (j, v))
 with_present k es i j v d h is = rw (some_there k es i h) (changed_there k es i j v d h is)
 
+-- a value that is there for a key already
+pub with_held : (k : List ℕ) (es : List (List ℕ × Node)) (i : ℕ) (d : List ℕ × Node) → entry_number k es ≡ Some i → with_entry (Some k) (get_or es i d).1 (entries es) ≡ entries es
+with_held k es i d h = with_present k es i (get_or es i d).0 (get_or es i d).1 d h refl ∙ ap (λ (xs : List (List ℕ × Node)). entries xs) (set-get_or es i d)
+
 -- a value for a key that isn't
 pub with_absent : (k : List ℕ) (es : List (List ℕ × Node)) (v : Node) → entry_number k es ≡ None → with_entry (Some k) v (entries es) ≡ entries (es ++ (k, v) ∷ [])
 with_absent k es v h = rw (none_there k es h) (entry_last k v es)
@@ -162,6 +167,10 @@ map_get f _ _ d = refl
 pub map_sum : (n m : Node) (es ds : List (List ℕ × Node)) (cs : Children) → n ≡ tree.map None (entries es) → m ≡ tree.map None (entries ds) → cs ≡ with_entries (entries es) (entries ds) → value_sum n m ≡ gives (tree.map None cs)
 map_sum n m es ds cs a b h = search rules
 
+-- the sum of two mappings of which the first one holds the other one's entries
+pub held_sum : (n m : Node) (es ds : List (List ℕ × Node)) → n ≡ tree.map None (entries es) → m ≡ tree.map None (entries ds) → with_entries (entries es) (entries ds) ≡ entries es → sum n m ≡ gives n
+held_sum n m es ds a b h = rw (a, b) (ap (λ (cs : Children). gives (tree.map None cs)) h)
+
 -- ---- terms
 
 -- the first of three steps and the second are one step before the third
@@ -171,19 +180,52 @@ joined_steps f g j = search rules
 same_then : {A B : Type 0} (f g : A → Judgement B) (j : Judgement A) → ((x : A) → f x ≡ g x) → and_then f j ≡ and_then g j
 same_then f g j h = search rules
 
--- what a term does to a value
-abbrev with_term : ℕ → FoundPlace → Term → Node → Judgement Node
-with_term doc p t v = and_then (sum v) (term_value doc p t)
+-- what changes nothing if it is added changes nothing if it is added several times
+pub settled : (n : ℕ) (v total : Node) → sum total v ≡ gives total → sum_times n v total ≡ gives total
+settled zero v total h = refl
+settled (suc n) v total h = rw h (settled n v total h)
 
--- terms act in turn
-pub sum_chained : (doc : ℕ) (p : FoundPlace) (ts : List Term) (v : Node) → sum_from doc p v ts ≡ chained (with_term doc p) ts v
-sum_chained doc p [] v = refl
-sum_chained doc p (t ∷ ts) v =
-    joined_steps (sum v) (λ w. sum_from doc p w ts) (term_value doc p t)
-    ∙ same_then (λ w. sum_from doc p w ts) (chained (with_term doc p) ts) (with_term doc p t v) (λ w. sum_chained doc p ts w)
+-- the first of several times
+pub time_more : (n : ℕ) (v total next : Node) (all : Judgement Node) → 0 < n → sum total v ≡ gives next → sum_times n v total ≡ all → sum_times (n - 1) v next ≡ all
+time_more n v total next all some h is = one n (n - 1) (omega (arith, some)) is
+  where
+    one : (n left : ℕ) → n ≡ suc left → sum_times n v total ≡ all → sum_times left v next ≡ all
+    one n left e so_far = sym (ap (and_then (sum_times left v)) h) ∙ subst (λ k. sum_times k v total ≡ all) e so_far
+
+pub time_fails : (n : ℕ) (v total : Node) (all : Judgement Node) (e : ExprError) → 0 < n → MatchFails e (sum total v) → sum_times n v total ≡ all → MatchFails e all
+time_fails zero v total all e some h is = absurd (omega (arith, some))
+time_fails (suc n) v total all e some h is = search rules
+
+-- after the last one
+pub times_done : (n : ℕ) (v total : Node) (all : Judgement Node) → n ≤ 0 → sum_times n v total ≡ all → all ≡ gives total
+times_done zero v total all last is = sym is
+times_done (suc n) v total all last is = absurd (omega (arith, last))
+
+-- an error is what a judgement fails with
+pub failed : {X Y : Type 0} (view : X → Y) (r : Result X ExprError) (e : ExprError) (j : Judgement Y) → r ≡ Err e → MatchFails e j → Judges view r j
+failed view r e j is h = subst (λ q. Judges view q j) (sym is) h
+
+-- a term several times, of which the value is known
+known_terms : (doc : ℕ) (p : FoundPlace) (t : Term) (v : Node) (n : ℕ) (ts : List Term) (total : Node) → term_value doc p t ≡ gives v →
+    sum_from doc p total (replicate n t ++ ts) ≡ and_then (λ w. sum_from doc p w ts) (sum_times n v total)
+known_terms doc p t v zero ts total is = refl
+known_terms doc p t v (suc n) ts total is =
+    ap (and_then (λ u. and_then (λ w. sum_from doc p w (replicate n t ++ ts)) (sum total u))) is
+    ∙ (same_then (λ w. sum_from doc p w (replicate n t ++ ts)) (λ w. and_then (λ x. sum_from doc p x ts) (sum_times n v w)) (sum total v) (λ w. known_terms doc p t v n ts w is)
+    ∙ joined_steps (sum_times n v) (λ x. sum_from doc p x ts) (sum total v))
+
+-- a term several times
+pub same_terms : (doc : ℕ) (p : FoundPlace) (t : Term) (n : ℕ) (ts : List Term) (total : Node) → 0 < n →
+    sum_from doc p total (replicate n t ++ ts) ≡ and_then (λ w. sum_from doc p w ts) (and_then (λ v. sum_times n v total) (term_value doc p t))
+same_terms doc p t zero ts total some = absurd (omega (arith, some))
+same_terms doc p t (suc n) ts total some = go (term_value doc p t) refl
+  where
+    go : (j : Judgement Node) → term_value doc p t ≡ j → sum_from doc p total (replicate (suc n) t ++ ts) ≡ and_then (λ w. sum_from doc p w ts) (and_then (λ v. sum_times (suc n) v total) j)
+    go (refuses why) is = ap (and_then (λ u. and_then (λ w. sum_from doc p w (replicate n t ++ ts)) (sum total u))) is
+    go (gives v) is = known_terms doc p t v (suc n) ts total is
 
 -- the first term and the others
 pub right_on : {X : Type 0} (view : X → Term) (doc : ℕ) (p : FoundPlace) (xs : List X) (x : X) (v : Node) → 0 < length xs → x ≡ get_or xs 0 x → term_value doc p (view x) ≡ gives v →
-    right_value doc (map view xs) p ≡ chained (with_term doc p) (map view (take (length xs - 1) (drop 1 xs))) v
+    right_value doc (map view xs) p ≡ sum_from doc p v (map view (take (length xs - 1) (drop 1 xs)))
 right_on view doc p [] x v some is h = absurd (omega (arith, some))
-right_on {X} view doc p (y ∷ ys) x v some is h = cc (sum_chained doc p (map view ys) v, take_rest (y ∷ ys) 1)
+right_on {X} view doc p (y ∷ ys) x v some is h = cc (take_rest (y ∷ ys) 1)

@@ -6,5 +6,6 @@ pub mod Indexes
 pub mod TakenNames
 pub mod StandIns
 pub mod ListSizes
+pub mod Repeated
 pub mod ChangedNodes
 pub mod ChangeAnswers

@@ -7,36 +7,36 @@ use Rattle.yq_semantics.{specs.After.{after_op, all_after}, specs.Operations.{Op
 use Rattle.yq_semantics.{specs.Sizes.{items_in, items_among, items_of_all}, specs.declared.refusal.Refusal.TheVariants.TooLarge}
 use Rattle.yq_semantics.{proofs.sizes.RowSizes.text_size, proofs.sizes.AfterSizes.{appended_size, replaced_size}}
 use Rattle.yq_semantics.specs.Program.{Update, UpdatesHold}
-use Rattle.yq_text.{specs.Limit.text_limit, specs.Splice.Splice}
+use Rattle.yq_text.specs.Splice.{Splice}
 use Rattle.yq_edit_rules.specs.Operands.{HasOperand, KeyIsUtf8}
 use Rattle.yq_edit_laws.{specs.Carried.{carried, carry_all}, specs.Edit.{Edit, edit_after}, specs.Theorems.IsApplied}
 use Rattle.yq_edit_laws.{specs.Valid.{AreServed, FailsAt, HaveOperands}, proofs.ApplyLaws.applied_by}
 use Rattle.yq_edit_laws.proofs.ServeLaws.{OperationsCome, all_come}
-use Rattle.yq_expr.specs.Oversized.{BeginsOversized, puts, adds, appends, item_ops, MayBeUtf8}
+use Rattle.yq_expr.specs.Oversized.{items_limit, BeginsOversized, puts, adds, appends, item_ops, MayBeUtf8}
 use Rattle.yq_splice.specs.Parts.{Awaits}
 use Rattle.yq_splice.proofs.PartLaws.{IsUnderWay, first_served, fitting, gave_between, next_await, rest_awaits, some_fail}
 use Rattle.yq_failure.specs.declared.failure.Failure.TheVariants as failure
 use Rattle.yq_edit_laws.specs.Edit as edits
 
--- a text that reads has no more items and entries than it may have bytes
-within : (t : List ℕ) (docs : List Document) → ReadsDocuments t docs → items_of_all docs ≤ text_limit
+-- a text that reads has no more items and entries than it may have
+within : (t : List ℕ) (docs : List Document) → ReadsDocuments t docs → items_of_all docs ≤ items_limit
 within t docs h = omega (arith, text_size t docs h, h.cut.size)
 
 -- what an operation on awaiting documents leads to
-after_size : (op : Operation) (ops : List Operation) (m n : List ℕ) (cs : List Splice) (h : Awaits (op ∷ ops) m) → HasOperand op → carried op m ≡ edits.gives n cs → items_of_all (after_op (room_of m) op h.documents) ≤ text_limit
+after_size : (op : Operation) (ops : List Operation) (m n : List ℕ) (cs : List Splice) (h : Awaits (op ∷ ops) m) → HasOperand op → carried op m ≡ edits.gives n cs → items_of_all (after_op (room_of m) op h.documents) ≤ items_limit
 after_size op ops m n cs h operand is =
     let a : IsApplied op m n cs = applied_by op m operand (fitting op ops m h) n cs is in
     let same : a.before ≡ h.documents = one_reading m a.before h.documents a.read h.read in
-    subst (λ (docs : List Document). items_of_all (after_op (room_of m) op docs) ≤ text_limit) same (within n _ a.reads)
+    subst (λ (docs : List Document). items_of_all (after_op (room_of m) op docs) ≤ items_limit) same (within n _ a.reads)
 
 -- ---- items that are appended, one after the other
 
 first_op : (doc : ℕ) (path : List Step) (label : Label) (v : Node) (items : Children) → label ≡ key_label None → item_ops doc path (child label v items) ≡ append doc path None v ∷ item_ops doc path items
 first_op doc path label v items is = ap (λ l. item_ops doc path (child l v items)) is
 
--- no text that they give has more items and entries than it may have bytes
+-- no text that they give has more items and entries than it may have
 abbrev AddUp : List Operation → ℕ → Type 0
-AddUp xs count = (ops : List Operation) (m n : List ℕ) (cs : List Splice) (h : Awaits (xs ++ ops) m) → carry_all xs m ≡ edits.gives n cs → items_of_all h.documents + count ≤ text_limit
+AddUp xs count = (ops : List Operation) (m n : List ℕ) (cs : List Splice) (h : Awaits (xs ++ ops) m) → carry_all xs m ≡ edits.gives n cs → items_of_all h.documents + count ≤ items_limit
 
 one_more : (doc : ℕ) (path : List Step) (v : Node) (xs : List Operation) (count : ℕ) → IsValueTree v → AddUp xs count → AddUp (append doc path None v ∷ xs) (suc (items_in v + count))
 one_more doc path v xs count valid more ops m n cs h is =
@@ -85,7 +85,7 @@ utf8_key : (k : Option (List ℕ)) → MayBeUtf8 k → KeyIsUtf8 k
 utf8_key None h = h
 utf8_key (Some k) h = h
 
-first_refused : (op : Operation) (ops : List Operation) (m : List ℕ) (h : Awaits (op ∷ ops) m) → HasOperand op → text_limit < items_of_all (after_op (room_of m) op h.documents) → IsRefused (op ∷ ops) m
+first_refused : (op : Operation) (ops : List Operation) (m : List ℕ) (h : Awaits (op ∷ ops) m) → HasOperand op → items_limit < items_of_all (after_op (room_of m) op h.documents) → IsRefused (op ∷ ops) m
 first_refused op ops m h operand more = record {
   first = op ∷ [];
   others = ops;

@@ -35,7 +35,7 @@ fn to_scalar(alloc: Global, kind: Kind, text: &str, value: &Value) -> Result<Cha
 fn items(alloc: Global, values: &Vec<Value>) -> Result<Vec<Addition>, AllocError>
     ensures { GivesAdditions result (spec.additions none (items_of values.now.items)) }
 {
-    let mut additions = Vec::new(alloc);
+    let mut additions = Vec::with_capacity(alloc, values.len())?;
     'values: for value in values {
         additions.push(Addition::Appends(None, copied(alloc, value)?))?;
     }
@@ -79,7 +79,7 @@ fn entries(
 ) -> Result<Vec<Addition>, AllocError>
     ensures { OfEntries index.now (λ cs. GivesAdditions result (entry_additions cs others.now)) }
 {
-    let mut additions = Vec::new(alloc);
+    let mut additions = Vec::with_capacity(alloc, others.len())?;
     'each: for other in others {
         additions.push(entry(alloc, index, other.0.as_str(), &other.1)?)?;
     }

@@ -36,6 +36,7 @@ fn push_adds(
 ) -> Result<(), AllocError>
     ensures { PutsOps result ops.old ops.new (addition_ops path.now additions.items) }
 {
+    ops.reserve(additions.len())?;
     'each: for addition in additions {
         ops.push(add_op(alloc, path, addition)?)?;
     }

@@ -1,4 +1,4 @@
-use Rattle.std.proofs.Common.{◌≡◌, map, ◌∙◌, rules}
+use Rattle.std.proofs.Common.{map, rules}
 use Rattle.yq_core.specs.Values.{value_node}
 use Rattle.yq_eval.specs.PlaceView.{place_of}
 use Rattle.yq_semantics.{specs.RightValues.right_value, specs.View.term_of}

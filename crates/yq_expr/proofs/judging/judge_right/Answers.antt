@@ -1,4 +1,4 @@
-use Rattle.std.{proofs.Common.{rules, ◌≡◌, if◌then◌else◌, map, sym, ap, ◌∙◌, subst}, proofs.lemmas.Result.err_from_is_err_and}
+use Rattle.std.{proofs.Common.{rules, ◌≡◌, map, sym, ap, ◌∙◌, subst}, proofs.lemmas.Result.err_from_is_err_and}
 use Rattle.yq_core.specs.Values.{value_node}
 use Rattle.yq_nodes.specs.Nodes.{node_of}
 use Rattle.yq_planner.specs.StandIns.{verdict}

@@ -1,4 +1,4 @@
-use Rattle.std.proofs.Common.{◌≡◌, ◌∙◌, rules}
+use Rattle.std.proofs.Common.{rules}
 use Rattle.yq_nodes.specs.Nodes.{node_of}
 use Rattle.yq_expr.proofs.oversized.is_oversized_at.Goals as goal
 

@@ -1,4 +1,4 @@
-use Rattle.std.proofs.Common.{◌∷◌, ◌+◌, sym, subst}
+use Rattle.std.proofs.Common.{sym, subst}
 use Rattle.yq_eval.proofs.EachLaws.{reached}
 use Rattle.yq_semantics.specs.View.{program_step}
 use Rattle.yq_expr.{specs.Oversized.HaveUtf8Keys, proofs.OversizedLaws.first_key}

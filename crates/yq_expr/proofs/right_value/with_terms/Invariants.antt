@@ -1,10 +1,14 @@
-use Rattle.std.proofs.Common.{◌≡◌, drop, map}
+use Rattle.std.proofs.Common.{◌≡◌, ◌≤◌, length, map}
 use Rattle.yq_core.specs.Values.{value_node}
-use Rattle.yq_semantics.{specs.Judgement.and_then, specs.Places.chained, specs.RightValues.{sum, term_value}, specs.View.term_of}
+use Rattle.yq_semantics.{specs.RightValues.sum_from, specs.View.term_of}
 use Rattle.yq_eval.specs.PlaceView.{place_of}
 use Rattle.yq_expr.proofs.right_value.with_terms.Given as goal
 
 abbrev pub invariant-terms : goal.invariant-terms
-invariant-terms l =
-    chained (λ t v. and_then (sum v) (term_value l.doc (place_of l.place) t)) (map term_of (drop l.term-index l.terms)) (value_node l.total)
-    ≡ chained (λ t v. and_then (sum v) (term_value l.doc (place_of l.place) t)) (map term_of l.terms) (value_node l.fn.first)
+invariant-terms l = record {
+  short : length l.rest ≤ length l.terms;
+  so_far : sum_from l.doc (place_of l.place) (value_node l.total) (map term_of l.rest) ≡ sum_from l.doc (place_of l.place) (value_node l.fn.first) (map term_of l.terms);
+}
+
+abbrev pub decreases-terms : goal.decreases-terms
+decreases-terms l = length l.rest

@@ -1,6 +1,6 @@
 use Rattle.std.proofs.Common.{◌≡◌, map, drop}
 use Rattle.yq_semantics.specs.View.{program_step}
-use Rattle.yq_expr.proofs.oversized.are_same_steps.Given as goal
+use Rattle.yq_expr.proofs.same_term.are_same_steps.Given as goal
 
 abbrev pub invariant-steps : goal.invariant-steps
 invariant-steps l = record {
