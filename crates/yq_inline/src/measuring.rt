@@ -89,7 +89,6 @@ fn measure_scalar(text: &str) -> Option<Measured<'_>>
 }
 
 /// The node in front, with at most `depth` collections nested.
-#[inline(always)]
 #[cycle(ends)]
 #[tactic(auto, using(crate::proofs::MeasureSteps::node_steps))]
 pub fn measure_node<'t>(
@@ -120,7 +119,6 @@ pub fn measure_node<'t>(
 }
 
 /// The node in front, which has no anchor.
-#[inline(always)]
 #[cycle(ends)]
 #[tactic(auto, using(crate::proofs::MeasureSteps::content_steps))]
 fn measure_content<'t>(
