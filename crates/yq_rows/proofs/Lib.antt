@@ -1,6 +1,5 @@
 mod Colons
 mod Columns
-pub mod RowFronts
 pub mod MeasuredSlicing
 pub mod SplitLaws
 pub mod BeginLaws

@@ -1,21 +1,21 @@
 -- What calls that read and keep rows answer (own; a reader of the contracts may skip it).
 use Rattle.std.specs.Borrow.{Bor}
-use Rattle.std.specs.Prelude.{◌≡◌, ◌-◌, ◌==◌, ◌&&◌, ◌||◌, ℕ, Bool, List, Option, Some, None, IfOk, OnOk, Result, Vec, [], ◌∷◌, is_ok}
-use Rattle.std.{specs.Prelude.{length, nat_lt, not, option_map, if◌then◌else◌, IfSome, ℤ, true, false}, specs.declared.alloc.Global.Global}
+use Rattle.std.specs.Prelude.{◌≡◌, ◌-◌, ◌==◌, ◌&&◌, ◌||◌, ℕ, Bool, List, Option, Some, None, IfOk, OnOk, Result, Vec, [], is_ok, length}
+use Rattle.std.{specs.Prelude.{nat_lt, not, option_map, if◌then◌else◌, IfSome, ℤ, true, false}, specs.declared.alloc.Global.Global}
 use Rattle.yq_core.{specs.Answers.{Gives, ReadError}, specs.Text.{is_empty, is_marker}, specs.Piece.deeper, specs.Reading.read_scalar}
-use Rattle.yq_core.{specs.Nodes.begins_with, specs.Scalars.begins_scalar}
+use Rattle.yq_core.specs.Scalars.{begins_scalar}
 use Rattle.yq_row_table.{specs.Grammar.allows, specs.Items.{Item, items_text, view_of_items}, specs.Kept.{kept_rows, rows_placed}}
 use Rattle.yq_row_table.{specs.Meter.{begins_line, count_after, line_count}, specs.Offsets.{offsets_of, rows_in, slices_in}}
 use Rattle.yq_row_table.{specs.Reading.{begins_block, read_row_key}, specs.Regions.{IsReadAlone, region_items}, specs.Rows.{Part, RowMark}}
-use Rattle.yq_row_table.specs.Slicing.{SlicedRow, begins_other, inline_sliced, marked_sliced, row_of, row_sliced, rows_sliced}
+use Rattle.yq_row_table.specs.Slicing.{SlicedRow, begins_other, inline_sliced, marked_sliced, row_of, rows_sliced}
 use Rattle.yq_row_table.specs.WordRows.{AreOtherRows, is_word_head, is_word_key, is_word_row}
 use Rattle.yq_row_table.{specs.View.{RowsView, Slices, colon_of, key_of_mark}, specs.declared.offsets.Offsets.Offsets}
 use Rattle.yq_row_table.specs.declared.places.Places.{Places}
 use Rattle.yq_text.specs.TextGapBuffer.{TextGapView, buffer_text}
 use Rattle.yq_rows.{specs.Exchanging.TextChange, specs.Following.{CountsWritten, Follows, exchanged}}
 use Rattle.yq_rows.{specs.ReadPieces.{begin_view, filling_view, limit_view, read_slices}, specs.Sides.both_sides}
-use Rattle.yq_rows.{specs.declared.gap.Front.Front, specs.declared.content.Filling.Filling, specs.declared.kept.Kept.Kept}
-use Rattle.yq_rows.{specs.declared.marks.Begin.Begin, specs.declared.sides.Side.Side, specs.declared.touched.Touched.Touched}
+use Rattle.yq_rows.{specs.declared.content.Filling.Filling, specs.declared.kept.Kept.Kept, specs.declared.marks.Begin.Begin}
+use Rattle.yq_rows.{specs.declared.sides.Side.Side, specs.declared.touched.Touched.Touched}
 use Rattle.yq_rows.specs.declared.limit.Limit as asked
 
 -- ---- rows
@@ -35,15 +35,6 @@ GivesRow whole r read = Gives (λ x. (slices_in whole x.0, limit_view x.1, x.2.n
 -- a row that is found is that which reading gives, with what it asks of the next one, and what comes after it
 abbrev pub FindsRow : List ℕ → Option (Offsets × asked.Limit × Bor (List ℕ) × Bool) → Option SlicedRow → Type 0
 FindsRow whole found read = IfSome found (λ x. read ≡ Some (slices_in whole x.0, limit_view x.1, x.2.now))
-
--- one space and a flow collection are in front
-abbrev pub flow_behind : List ℕ → Bool
-flow_behind [] = false
-flow_behind (b ∷ bs) = b == 32 && (begins_with 91 bs || begins_with 123 bs)
-
--- the row that reading gives after a gap, with what the row before it asks
-abbrev pub front_sliced : asked.Limit → Front → Option SlicedRow
-front_sliced limit f = row_sliced (limit_view limit) f.gap.now f.text.now
 
 -- the row is a word row, where the answer says so
 abbrev pub MayBeWordRow : List ℕ → Offsets × asked.Limit × Bor (List ℕ) × Bool → Type 0

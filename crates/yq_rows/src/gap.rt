@@ -1,6 +1,6 @@
 //! Blank lines and comment lines.
-ghost use Rattle.std.{specs.List.prefix_len, specs.Prelude.{◌≡◌, ◌==◌, ◌||◌, IfSome, false}};
-ghost use Rattle.yq_core.specs.Text.{cut, front, no_space};
+ghost use Rattle.std.specs.Prelude.{◌≡◌, ◌||◌};
+ghost use Rattle.yq_core.specs.Text.{front};
 ghost use Rattle.yq_core.specs.Lines as lines;
 ghost use Rattle.yq_core.specs.Nodes as nodes;
 ghost use Rattle.yq_core.specs.Runs as runs;
@@ -55,62 +55,10 @@ fn gap_len(text: &[u8]) -> usize
     text.len() - rest.len()
 }
 
-/// How many spaces are in front, where a row begins after them for sure: a letter, a digit, no ASCII or a dash.
-#[inline(always)]
-fn row_indent(text: &[u8]) -> Option<usize>
-    ensures spaces { IfSome result (λ n. n ≡ prefix_len (λ b. b == 32) text.now) }
-    ensures none { IfSome result (λ n. spec.begins_gap text.now ≡ false) }
-{
-    if begins_row(text) {
-        return Some(0);
-    }
-    let n = spaces_len(text);
-    if begins_row(text.split_at(n).1) {
-        return Some(n);
-    }
-    None
-}
-
-/// The text cut after so many spaces, which are those in front.
-#[inline(always)]
-#[tactic(auto, using(yq_core::proofs::Upto::upto_unless, yq_core::proofs::Boundaries::boundary_spaces))]
-pub(crate) fn split_indent(text: &str, n: usize) -> (&str, &str)
-    requires { n ≡ prefix_len (λ b. b == 32) text.now }
-    ensures { (result.0.now, result.1.now) ≡ cut no_space text.now }
-{
-    text.split_at(n)
-}
-
 /// The text cut after the gap in front.
 #[inline(always)]
 pub(crate) fn split_gap(text: &str) -> (&str, &str)
     ensures { (result.0.now, result.1.now) ≡ spec.cut_gap text.now }
 {
     text.split_at(gap_len(text.as_bytes()))
-}
-
-/// The gap in front of a row, what follows it, and how many spaces that begins with.
-#[derive(Clone, Copy)]
-pub struct Front<'t> {
-    pub gap: &'t str,
-    pub text: &'t str,
-    pub spaces: usize,
-}
-
-/// The text cut after the gap in front, and how many spaces follow the gap.
-#[inline(always)]
-pub(crate) fn split_front(text: &str) -> Front<'_>
-    ensures cut { (result.gap.now, result.text.now) ≡ spec.cut_gap text.now }
-    ensures spaces { result.spaces ≡ prefix_len (λ b. b == 32) result.text.now }
-{
-    if let Some(spaces) = row_indent(text.as_bytes()) {
-        return Front {
-            gap: "",
-            text,
-            spaces,
-        };
-    }
-    let (gap, text) = split_gap(text);
-    let spaces = spaces_len(text.as_bytes());
-    Front { gap, text, spaces }
 }

@@ -1,23 +1,19 @@
 //! Rows, read one after the other.
-ghost use Rattle.std.specs.List.{prefix_len};
-ghost use Rattle.std.specs.Prelude.{◌≡◌, ◌≢◌, ◌==◌, ◌<◌, ◌≤◌, ◌+◌, ◌++◌, ◌^◌, ◌||◌, [], ◌∷◌, if◌then◌else◌, length, true, IfErr, IfOk};
-ghost use Rattle.std.specs.Prelude.{OnOk};
+ghost use Rattle.std.specs.Prelude.{◌≡◌, ◌≢◌, ◌<◌, ◌≤◌, ◌+◌, ◌++◌, ◌^◌, ◌||◌, [], ◌∷◌, if◌then◌else◌, length, true, IfErr, IfOk, OnOk};
 ghost use Rattle.yq_core.{specs.Answers.{IsOfText, ReadsAs}, specs.declared.fault.FaultKind.TheVariants.NotUtf8};
 ghost use Rattle.yq_row_table.{specs.Grammar.{unlimited, ends_part}, specs.Slicing.row_sliced};
 ghost use Rattle.yq_row_table.specs.Offsets.{Ends, Stand, IsCutIn, slices_in};
 ghost use Rattle.yq_rows.specs.ReadPieces.{limit_view};
-ghost use Rattle.yq_rows.specs.RowAnswers.{ReadsMarked, may_be_at, GivesRow, GivesRows, KeepOthers, MayBeWordRow, PlacesRows, front_sliced};
-ghost use Rattle.yq_rows.specs.RowAnswers.{offsets_from};
+ghost use Rattle.yq_rows.specs.RowAnswers.{ReadsMarked, may_be_at, GivesRow, GivesRows, KeepOthers, MayBeWordRow, PlacesRows, offsets_from};
 ghost use Rattle.yq_core.specs.Text;
 ghost use Rattle.yq_row_table.specs.Reading as spec;
 
 use crate::content::{Filling, find_tail, read_content};
-use crate::gap::{Front, split_front, split_gap};
+use crate::gap::split_gap;
 use crate::lengths::offsets_of;
 use crate::limit::Limit;
 use crate::marks::{Begin, is_entry, parent_of, read_begin};
 use crate::naming::not_alone;
-use crate::short_rows::short_row;
 use crate::word_rows::find_row;
 use std::alloc::AllocError;
 use yq_core::fault_place::fault;
@@ -55,7 +51,7 @@ pub(crate) fn may_stand(limit: Limit, column: usize, text: &[u8]) -> bool
 /// Where the row in front is, whose gap is read already, what it asks of the next one, what follows, and
 /// whether it is a word row for sure.
 #[tactic(auto, unfolding(yq_row_table::specs::Reading::row_at))]
-#[inline(never)]
+#[inline]
 fn read_row<'t>(
     whole: &'t str,
     limit: Limit,
@@ -90,31 +86,6 @@ fn read_row<'t>(
     let parent = parent_of(begin.mark, column + begin.columns);
     let limit = Limit::behind(parent, content.plain);
     Ok((place, limit, content.rest, false))
-}
-
-/// The same, most often read straight on; so many spaces are in front.
-#[inline(always)]
-fn next_row<'t>(
-    whole: &'t str,
-    limit: Limit,
-    at: &'t str,
-    front: Front<'t>,
-) -> Result<(Offsets, Limit, &'t str, bool), ReadError>
-    requires ends { Ends at.now whole.now }
-    requires cut { at.now ≡ front.gap.now ++ front.text.now }
-    requires spaces { front.spaces ≡ prefix_len (λ b. b == 32) front.text.now }
-    requires short { length front.text.now ≤ length whole.now }
-    requires small { length whole.now < 2 ^ 32 }
-    ensures read { GivesRow whole.now result (front_sliced limit front.entry) }
-    ensures stands { IfOk result (λ x. IsCutIn whole.now x.0) }
-    ensures place { IfOk result (λ x. x.0 ≡ offsets_from whole.now at.now (slices_in whole.now x.0)) }
-    ensures word { IfOk result (MayBeWordRow whole.now) }
-    ensures fault { IfErr result IsOfText }
-{
-    match short_row(whole, limit, at, front) {
-        Some(found) => Ok(found),
-        None => read_row(whole, limit, at, front.gap, front.text),
-    }
 }
 
 /// Whether no row follows: the end is in front, or a marker.
@@ -159,11 +130,11 @@ fn read_rows<'t>(
     let mut limit = Limit::none();
     let mut at = text;
     'rows: loop {
-        let front = split_front(at);
-        if ends_part(front.text.as_bytes()) {
-            return Ok((rows, front.gap, front.text));
+        let (gap, rest) = split_gap(at);
+        if ends_part(rest.as_bytes()) {
+            return Ok((rows, gap, rest));
         }
-        let (row, next, after, is_word) = match next_row(whole, limit, at, front) {
+        let (row, next, after, is_word) = match read_row(whole, limit, at, gap, rest) {
             Ok(found) => found,
             Err(e) => return Err(e),
         };

@@ -1,12 +1,13 @@
 //! What most rows begin with: a key, most often a word, or one dash before a word.
-ghost use Rattle.std.{specs.List.prefix_len, specs.Prelude.{◌≡◌, ◌≤◌, false, length, true, IfSome, IsTrue, None, Some}};
-ghost use Rattle.yq_core.{specs.Nodes.begins_with, specs.Runs.{is_word_byte, run_goes_on}};
-ghost use Rattle.yq_core.{specs.Text.{cut, front, is_empty, no_space, no_white}, specs.declared.runs.Run.TheVariants.Plain};
-ghost use Rattle.yq_row_table.{specs.Grammar.is_entry, specs.Reading.{is_dash, read_marks, read_row_key}, specs.Slicing.begun};
-ghost use Rattle.yq_rows.{specs.ReadPieces.{begin_view, mark_view}, specs.RowAnswers.flow_behind};
+ghost use Rattle.std.{specs.List.prefix_len, specs.Prelude.{◌≡◌, ◌≤◌, length, true, IfSome, IsTrue, None, Some}};
+ghost use Rattle.yq_core.{specs.Nodes.begins_with, specs.Runs.{is_word_byte, run_goes_on}, specs.Text.front};
+ghost use Rattle.yq_core.specs.declared.runs.Run.TheVariants.{Plain};
+ghost use Rattle.yq_row_table.{specs.Grammar.is_entry, specs.Reading.{read_marks, read_row_key}, specs.Slicing.begun};
+ghost use Rattle.yq_rows.specs.ReadPieces.{begin_view, mark_view};
 
 use crate::marks::{Begin, RowMark, find_key, has_key_room, is_colon, is_dash};
 use crate::words::begins_word;
+use yq_core::text::split_spaces;
 use yq_core::{Run, first_is, run_len};
 use yq_inline::short::short_scalar;
 
@@ -57,24 +58,6 @@ fn ends_in_word(text: &[u8], n: usize) -> bool
     first_is(b'\n', text.split_at(n).1)
 }
 
-/// The text cut after one space, where a word follows it.
-#[inline(always)]
-pub(crate) fn split_one(text: &str) -> Option<(&str, &str)>
-    ensures cut { IfSome result (λ x. (x.0.now, x.1.now) ≡ cut no_space text.now) }
-    ensures white { IfSome result (λ x. (x.0.now, x.1.now) ≡ cut no_white text.now) }
-    ensures some { IfSome result (λ x. is_empty x.0.now ≡ false) }
-    ensures word { IfSome result (λ x. front is_word_byte x.1.now ≡ true) }
-{
-    if !first_is(b' ', text.as_bytes()) {
-        return None;
-    }
-    let (space, rest) = text.split_at(1);
-    if !begins_word(rest.as_bytes()) {
-        return None;
-    }
-    Some((space, rest))
-}
-
 /// The dash in front, and the key after it or none, where a word follows it that is a key or ends its line.
 #[inline(always)]
 fn begin_behind(text: &str) -> Option<Begin<'_>>
@@ -86,7 +69,13 @@ fn begin_behind(text: &str) -> Option<Begin<'_>>
         return None;
     }
     let (dash, behind) = text.split_at(1);
-    let (_, next) = split_one(behind)?;
+    let (spaces, next) = split_spaces(behind);
+    if spaces.is_empty() {
+        return None;
+    }
+    if !begins_word(next.as_bytes()) {
+        return None;
+    }
     let n = run_len(Run::Plain, next.as_bytes());
     if ends_in_word(next.as_bytes(), n) {
         return Some(Begin {
@@ -101,60 +90,6 @@ fn begin_behind(text: &str) -> Option<Begin<'_>>
     Some(Begin {
         dashes: text.split_at(columns).0,
         columns,
-        mark: RowMark::Key(key, colon),
-        rest,
-    })
-}
-
-/// Whether one space and a flow collection are in front.
-#[inline(always)]
-fn begins_flow(text: &[u8]) -> bool
-    ensures { result ≡ flow_behind text.now }
-{
-    matches!(text, [b' ', b'[' | b'{', ..])
-}
-
-/// The dash in front as the mark, where a flow collection follows it.
-#[inline(always)]
-fn flow_begin(text: &str) -> Option<Begin<'_>>
-    requires { is_dash text.now ≡ true }
-    ensures read { IfSome result (λ b. begin_view b ≡ begun (read_marks text.now)) }
-    ensures entry { IfSome result (λ b. is_entry (mark_view b.mark) ≡ true) }
-    ensures columns { IfSome result (λ b. b.columns ≡ 0) }
-{
-    let (dash, behind) = text.split_at(1);
-    if !begins_flow(behind.as_bytes()) {
-        return None;
-    }
-    Some(Begin {
-        dashes: dash,
-        columns: 0,
-        mark: RowMark::Dash,
-        rest: behind,
-    })
-}
-
-/// What begins after a dash, or a word in front as the key.
-#[inline(always)]
-pub(crate) fn word_begin(text: &str) -> Option<Begin<'_>>
-    ensures read { IfSome result (λ b. begin_view b ≡ begun (read_marks text.now)) }
-    ensures entry { IfSome result (λ b. is_entry (mark_view b.mark) ≡ true) }
-    ensures within { IfSome result (λ b. b.columns ≤ length text.now) }
-{
-    if is_dash(text.as_bytes()) {
-        if let Some(begin) = flow_begin(text) {
-            return Some(begin);
-        }
-        return begin_behind(text);
-    }
-    if !begins_word(text.as_bytes()) {
-        return None;
-    }
-    let n = run_len(Run::Plain, text.as_bytes());
-    let (key, colon, rest) = word_key(text, n)?;
-    Some(Begin {
-        dashes: "",
-        columns: 0,
         mark: RowMark::Key(key, colon),
         rest,
     })

@@ -1,6 +1,6 @@
 //! Most rows: a key, or one dash before a word, and a scalar without an anchor or nothing.
-ghost use Rattle.std.{specs.List.prefix_len, specs.Prelude.{◌≡◌, ◌==◌, ◌<◌, ◌≤◌, ◌++◌, ◌^◌, length, false, true, IfSome, IsTrue, Some}};
-ghost use Rattle.yq_core.{specs.Plain.{ends_plain, holds_break}, specs.Text.{cut, is_space, upto}};
+ghost use Rattle.std.specs.Prelude.{◌≡◌, ◌<◌, ◌≤◌, ◌++◌, ◌^◌, length, false, true, IfSome, IsTrue, Some};
+ghost use Rattle.yq_core.{specs.Plain.{ends_plain, holds_break}, specs.Text.{cut, upto}};
 ghost use Rattle.yq_row_table.{specs.Offsets.{Ends, IsCutIn, slices_in}, specs.Slicing.{filled_at, row_sliced}};
 ghost use Rattle.yq_row_table.specs.WordRows.{is_word_head};
 ghost use Rattle.yq_rows.specs.ReadPieces.{filling_view, limit_view, mark_view};
@@ -20,17 +20,9 @@ use yq_inline::short::short_scalar;
 use yq_row_table::Offsets;
 use yq_scalar_reader::plain::{plain_len, words_len};
 
-/// Whether a byte is in front that is neither white space nor a control.
-#[inline(always)]
-fn is_visible(text: &[u8]) -> bool
-    ensures { IsTrue result → (prefix_len (λ b. b == 32) text.now ≡ 0) × (is_space text.now ≡ false) }
-{
-    matches!(text, [b'!'..=255, ..])
-}
-
 /// Whether an LF is in front before which a plain scalar ends: the next line isn't as deep as a further line of it.
 #[inline(always)]
-pub(crate) fn ends_scalar(spaces: Option<usize>, text: &[u8]) -> bool
+fn ends_scalar(spaces: Option<usize>, text: &[u8]) -> bool
     ensures { IsTrue result → upto (ends_plain false spaces) text.now ≡ 0 }
 {
     let Some(least) = spaces else {
@@ -40,9 +32,6 @@ pub(crate) fn ends_scalar(spaces: Option<usize>, text: &[u8]) -> bool
         return false;
     }
     let after = text.split_at(1).1;
-    if is_visible(after) {
-        return least > 0;
-    }
     let indent = spaces_len(after);
     indent < least && !is_space(after.split_at(indent).1)
 }
@@ -89,7 +78,7 @@ fn find_front(spaces: Option<usize>, text: &str) -> Option<(&str, &str, bool)>
 
 /// A scalar after white space and the tail after it, if one is there.
 #[inline(always)]
-pub(crate) fn find_line<'t>(space: &'t str, head: &'t str, behind: &'t str) -> Option<Filling<'t>>
+fn find_line<'t>(space: &'t str, head: &'t str, behind: &'t str) -> Option<Filling<'t>>
     ensures scalar { FindsScalar space.now head.now behind.now result }
     ensures head { IfSome result (λ f. f.head.now ≡ head.now) }
 {
@@ -109,7 +98,7 @@ pub(crate) fn find_line<'t>(space: &'t str, head: &'t str, behind: &'t str) -> O
 
 /// A break, or a scalar and its tail, after a mark and white space; and whether it is a word head for sure.
 #[inline(always)]
-pub(crate) fn find_content(parent: i64, text: &str) -> Option<(Filling<'_>, bool)>
+fn find_content(parent: i64, text: &str) -> Option<(Filling<'_>, bool)>
     ensures read { IfSome result (λ f. filled_at parent text.now ≡ Some (filling_view f.0)) }
     ensures word { IfSome result (λ f. IsTrue f.1 → is_word_head f.0.head.now ≡ true) }
 {
@@ -154,7 +143,7 @@ pub(crate) fn find_content(parent: i64, text: &str) -> Option<(Filling<'_>, bool
 
 /// Whether a row with this mark is a word row for sure, by whether its head is a word head.
 #[inline(always)]
-pub(crate) fn is_word_row(mark: RowMark<'_>, is_head: bool) -> bool
+fn is_word_row(mark: RowMark<'_>, is_head: bool) -> bool
     ensures head { IsTrue result → IsTrue is_head }
     ensures key { IsTrue result → is_word_mark (mark_view mark.entry) ≡ true }
 {

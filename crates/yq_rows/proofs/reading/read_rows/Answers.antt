@@ -11,54 +11,54 @@ use Rattle.yq_rows.proofs.reading.read_rows.Goals as goal
 pub returns-then-ends_part-clause-found : goal.returns-then-ends_part-clause-found
 returns-then-ends_part-clause-found c =
     let front = rows_in c.args.whole.now c.rows.rows.items in
-    let done : ends_part c.split_front-front.result.text.now ≡ true = ap ends_part (sym c.as_bytes.ensures.value) ∙ (sym c.ends_part.ensures ∙ c.if-ends_part.true) in
+    let done : ends_part c.split_gap.result.1.now ≡ true = ap ends_part (sym c.as_bytes.ensures.value) ∙ (sym c.ends_part.ensures ∙ c.if-ends_part.true) in
     sym c.rows.invariant.so_far
-    ∙ (at_gap front (limit_view c.rows.limit) c.rows.at.now _ _ c.split_front-front.ensures.cut
-    ∙ rows_end front (limit_view c.rows.limit) c.split_front-front.result.gap.now c.split_front-front.result.text.now done)
+    ∙ (at_gap front (limit_view c.rows.limit) c.rows.at.now _ _ c.split_gap.ensures
+    ∙ rows_end front (limit_view c.rows.limit) c.split_gap.result.0.now c.split_gap.result.1.now done)
 
 pub returns-then-ends_part-clause-placed : goal.returns-then-ends_part-clause-placed
 returns-then-ends_part-clause-placed c =
-    let done : ends_part c.split_front-front.result.text.now ≡ true = ap ends_part (sym c.as_bytes.ensures.value) ∙ (sym c.ends_part.ensures ∙ c.if-ends_part.true) in
-    rows_placed_end c.rows.rows.items (length c.args.whole.now - length c.rows.at.now) (limit_view c.rows.limit) c.rows.at.now _ _ _ c.split_front-front.ensures.cut done c.rows.invariant.placed
+    let done : ends_part c.split_gap.result.1.now ≡ true = ap ends_part (sym c.as_bytes.ensures.value) ∙ (sym c.ends_part.ensures ∙ c.if-ends_part.true) in
+    rows_placed_end c.rows.rows.items (length c.args.whole.now - length c.rows.at.now) (limit_view c.rows.limit) c.rows.at.now _ _ _ c.split_gap.ensures done c.rows.invariant.placed
 
 pub returns-in-Err-clause-found : goal.returns-in-Err-clause-found
 returns-in-Err-clause-found c =
     let front = rows_in c.args.whole.now c.rows.rows.items in
-    let more : ends_part c.split_front-front.result.text.now ≡ false = ap ends_part (sym c.as_bytes.ensures.value) ∙ (sym c.ends_part.ensures ∙ c.if-ends_part.false) in
+    let more : ends_part c.split_gap.result.1.now ≡ false = ap ends_part (sym c.as_bytes.ensures.value) ∙ (sym c.ends_part.ensures ∙ c.if-ends_part.false) in
     fails_by c.in-Err.e _ _ c.in-Err.ensures.read (λ none.
     sym c.rows.invariant.so_far
-    ∙ (at_gap front (limit_view c.rows.limit) c.rows.at.now _ _ c.split_front-front.ensures.cut
-    ∙ no_row front (limit_view c.rows.limit) c.split_front-front.result.gap.now c.split_front-front.result.text.now more none))
+    ∙ (at_gap front (limit_view c.rows.limit) c.rows.at.now _ _ c.split_gap.ensures
+    ∙ no_row front (limit_view c.rows.limit) c.split_gap.result.0.now c.split_gap.result.1.now more none))
 
 pub returns-in-Err-clause-placed : goal.returns-in-Err-clause-placed
 returns-in-Err-clause-placed c =
-    let more : ends_part c.split_front-front.result.text.now ≡ false = ap ends_part (sym c.as_bytes.ensures.value) ∙ (sym c.ends_part.ensures ∙ c.if-ends_part.false) in
+    let more : ends_part c.split_gap.result.1.now ≡ false = ap ends_part (sym c.as_bytes.ensures.value) ∙ (sym c.ends_part.ensures ∙ c.if-ends_part.false) in
     fails_by c.in-Err.e _ _ c.in-Err.ensures.read (λ none.
-    rows_placed_none c.rows.rows.items (length c.args.whole.now - length c.rows.at.now) (limit_view c.rows.limit) c.rows.at.now _ _ _ c.split_front-front.ensures.cut more none c.rows.invariant.placed)
+    rows_placed_none c.rows.rows.items (length c.args.whole.now - length c.rows.at.now) (limit_view c.rows.limit) c.rows.at.now _ _ _ c.split_gap.ensures more none c.rows.invariant.placed)
 
-pub next_row-requires-clause-cut : goal.next_row-requires-clause-cut
-next_row-requires-clause-cut c = gap_joined c.rows.at.now _ _ c.split_front-front.ensures.cut
+pub read_row-requires-clause-cut : goal.read_row-requires-clause-cut
+read_row-requires-clause-cut c = gap_joined c.rows.at.now _ _ c.split_gap.ensures
 
 pub rows-smaller : goal.rows-smaller
 rows-smaller c =
-    let more : ends_part c.split_front-front.result.text.now ≡ false = ap ends_part (sym c.as_bytes.ensures.value) ∙ (sym c.ends_part.ensures ∙ c.if-ends_part.false) in
-    loop_smaller (limit_view c.rows.limit) (limit_view c.in-Ok.found.1) c.rows.at.now _ _ (slices_in c.args.whole.now c.in-Ok.found.0) c.in-Ok.found.2.now c.split_front-front.ensures.cut more c.in-Ok.ensures.read
+    let more : ends_part c.split_gap.result.1.now ≡ false = ap ends_part (sym c.as_bytes.ensures.value) ∙ (sym c.ends_part.ensures ∙ c.if-ends_part.false) in
+    loop_smaller (limit_view c.rows.limit) (limit_view c.in-Ok.found.1) c.rows.at.now _ _ (slices_in c.args.whole.now c.in-Ok.found.0) c.in-Ok.found.2.now c.split_gap.ensures more c.in-Ok.ensures.read
 
 pub rows-preserved : goal.rows-preserved
 rows-preserved c =
     let whole = c.args.whole.now in
     let row = slices_in whole c.in-Ok.found.0 in
     let after = c.in-Ok.found.2.now in
-    let more : ends_part c.split_front-front.result.text.now ≡ false = ap ends_part (sym c.as_bytes.ensures.value) ∙ (sym c.ends_part.ensures ∙ c.if-ends_part.false) in
-    let joined = row_joined (limit_view c.rows.limit) (limit_view c.in-Ok.found.1) c.rows.at.now _ _ row after c.split_front-front.ensures.cut c.in-Ok.ensures.read in
+    let more : ends_part c.split_gap.result.1.now ≡ false = ap ends_part (sym c.as_bytes.ensures.value) ∙ (sym c.ends_part.ensures ∙ c.if-ends_part.false) in
+    let joined = row_joined (limit_view c.rows.limit) (limit_view c.in-Ok.found.1) c.rows.at.now _ _ row after c.split_gap.ensures c.in-Ok.ensures.read in
     let pushed = rows_push whole c.rows.rows.items _ c.in-Ok.found.0 row c.in_ok-push.ensures.items refl in
     record {
       text = search rules;
       ends = ends_next whole c.rows.at.now _ after c.rows.invariant.ends (joined ∙ row_then row after);
       stand = subst (Stand whole) (sym c.in_ok-push.ensures.items) (All-push (IsCutIn whole) c.rows.rows.items c.in-Ok.found.0 c.rows.invariant.stand c.in-Ok.ensures.stands);
-      so_far = loop_step (rows_in whole c.rows.rows.items) _ (limit_view c.rows.limit) (limit_view c.in-Ok.found.1) c.rows.at.now _ _ row after _ c.split_front-front.ensures.cut more c.in-Ok.ensures.read pushed c.rows.invariant.so_far;
+      so_far = loop_step (rows_in whole c.rows.rows.items) _ (limit_view c.rows.limit) (limit_view c.in-Ok.found.1) c.rows.at.now _ _ row after _ c.split_gap.ensures more c.in-Ok.ensures.read pushed c.rows.invariant.so_far;
       placed = rows_placed_step c.rows.rows.items _ c.in-Ok.found.0 whole (limit_view c.rows.limit) (limit_view c.in-Ok.found.1) c.rows.at.now _ _
-          row after _ c.rows.invariant.ends c.split_front-front.ensures.cut more c.in-Ok.ensures.read c.in_ok-push.ensures.items c.in-Ok.ensures.place
+          row after _ c.rows.invariant.ends c.split_gap.ensures more c.in-Ok.ensures.read c.in_ok-push.ensures.items c.in-Ok.ensures.place
           c.rows.invariant.placed;
       others = λ h. others_push (rows_in whole c.rows.rows.items) _ row c.rows.others.items _ c.len.result c.in-Ok.found.3 pushed
           (c.len.ensures ∙ (c.rows.rows.ok.0 ∙ rows_length whole c.rows.rows.items)) c.in-Ok.ensures.word c.in_ok-push_other.ensures
@@ -80,13 +80,11 @@ rows-init c =
     }
 
 pub returns-then-ends_part-clause-behind : goal.returns-then-ends_part-clause-behind
-returns-then-ends_part-clause-behind c = ends_next c.args.whole.now c.rows.at.now c.split_front-front.result.gap.now c.split_front-front.result.text.now c.rows.invariant.ends (gap_joined c.rows.at.now _ _ c.split_front-front.ensures.cut)
+returns-then-ends_part-clause-behind c = ends_next c.args.whole.now c.rows.at.now c.split_gap.result.0.now c.split_gap.result.1.now c.rows.invariant.ends (gap_joined c.rows.at.now _ _ c.split_gap.ensures)
 
-pub next_row-requires-clause-short : goal.next_row-requires-clause-short
-next_row-requires-clause-short c =
-    ends_within c.split_front-front.result.text.now c.args.whole.now
-    (ends_next c.args.whole.now c.rows.at.now c.split_front-front.result.gap.now c.split_front-front.result.text.now c.rows.invariant.ends
-    (gap_joined c.rows.at.now _ _ c.split_front-front.ensures.cut))
+pub read_row-requires-clause-short : goal.read_row-requires-clause-short
+read_row-requires-clause-short c =
+    ends_within c.split_gap.result.1.now c.args.whole.now (ends_next c.args.whole.now c.rows.at.now c.split_gap.result.0.now c.split_gap.result.1.now c.rows.invariant.ends (gap_joined c.rows.at.now _ _ c.split_gap.ensures))
 
 pub returns-then-ends_part-clause-others : goal.returns-then-ends_part-clause-others
 returns-then-ends_part-clause-others c = λ h. c.rows.invariant.others h

@@ -1,17 +1,10 @@
-use Rattle.std.{proofs.Common.{◌≡◌, false, sym, ◌∙◌, subst, refl, arith}, proofs.lemmas.Bool.ltb-true}
+use Rattle.std.proofs.Common.{◌≡◌, false, sym, ◌∙◌, subst}
 use Rattle.yq_core.{specs.Plain.ends_plain, specs.Text.upto}
 use Rattle.yq_rows.proofs.WordRows.{scalar_ends, some_front, no_space_in}
 use Rattle.yq_rows.proofs.word_rows.ends_scalar.Goals as goal
 
 pub split_at-requires : goal.split_at-requires
 split_at-requires c = some_front c.args.text.now 10 (sym c.first_is.ensures ∙ c.if-not-first_is.false)
-
-pub returns-then-is_visible : goal.returns-then-is_visible
-returns-then-is_visible c = λ yes.
-    let clear = c.if-is_visible.ensures refl in
-    let t = c.split_at.result.1.now in
-    subst (λ o. upto (ends_plain false o) c.args.text.now ≡ 0) (sym c.in-Some.is)
-    (scalar_ends c.in-Some.least c.args.text.now t t 0 (sym c.first_is.ensures ∙ c.if-not-first_is.false) c.split_at.ensures.back (sym clear.0) refl (omega (arith, ltb-true 0 c.in-Some.least yes)) clear.1)
 
 pub returns-then-indent-least : goal.returns-then-indent-least
 returns-then-indent-least c = λ yes.
