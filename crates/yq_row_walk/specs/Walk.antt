@@ -1,13 +1,13 @@
 -- Reading (own; a reader may skip it): what is walked, the rows of a document with what is known of them.
-use Rattle.std.specs.Prelude.{◌≡◌, [], ◌∷◌, ℕ, List, map, Option, option_map, Some, IfSome}
+use Rattle.std.specs.Prelude.{◌≡◌, ◌<◌, ◌≤◌, [], ◌∷◌, ℕ, List, map, Option, option_map, slice_get, Some, IfSome}
 use Rattle.yq_core.{specs.Entries.tree_step, specs.Paths.Step}
 use Rattle.yq_outline.{specs.Ends.reached, specs.Extents.IsRowsView, specs.Lines.lines_of_rows, specs.Outline.Line}
 use Rattle.yq_outline.specs.Positions.{reach_from}
-use Rattle.yq_outline.specs.RowWalk.{AreKnown, Finds, HasDocument, HaveKeys, IsKnownIn, IsLine, IsPosition, LeadsTo, OfLines, line_number}
+use Rattle.yq_outline.specs.RowWalk.{AreKnown, Finds, HasDocument, HaveKeys, IsKnownIn, IsLine, IsPosition, LeadsTo, OfLines, line_level, line_number}
 use Rattle.yq_outline.{specs.RowWalk.{rows_end, stretch_view}, specs.declared.line_position.KnownItem.KnownItem}
 use Rattle.yq_outline.{specs.declared.line_position.Next.Next, specs.declared.line_position.Position.Position}
 use Rattle.yq_outline.specs.declared.line_position.Stretch.{Stretch}
-use Rattle.yq_row_table.{specs.Rows.Row, specs.View.RowsView}
+use Rattle.yq_row_table.{specs.Rows.Row, specs.View.{RowsView, Slices}}
 use Rattle.yq_row_walk.{specs.declared.walk.KnownLine.KnownLine, specs.declared.walk.Walk.Walk}
 use Rattle.yq_core.specs.declared.path.Step as declared
 
@@ -26,6 +26,15 @@ pub record IsWalk (w : Walk) : Type 0 where
   pub document : HasDocument w.rows.now w.document
   pub known : AreKnown w.rows.now.rows w.known.now
   pub line : IfSome w.line (λ k. IsKnownLine w.rows.now k.now)
+
+-- A line is so deep (8.2.3).
+abbrev pub IsLevel : RowsView → Position → ℕ → Type 0
+IsLevel s q n = (x : Slices) → slice_get s.rows q.row ≡ Some x → n ≡ line_level q.line x
+
+-- A line of a document is so deep; the end after its rows is at level 0.
+pub record IsLevelAt (s : RowsView) (d : Stretch) (q : Position) (n : ℕ) : Type 0 where
+  pub line : q.row < d.end → IsLevel s q n
+  pub end : d.end ≤ q.row → n ≡ 0
 
 -- ---- the words of yq_outline, of what is walked
 

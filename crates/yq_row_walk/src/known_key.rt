@@ -58,7 +58,8 @@ fn keyed(
         row: known.row,
         line: 0,
     };
-    if level_at(walk.rows, at) != known.level || !is_key(walk.rows, walk.document, at, key) {
+    let level = level_at(walk.rows, at);
+    if level != known.level || !is_key(walk.rows, walk.document, at, level, key) {
         return None;
     }
     Some(at)

@@ -18,6 +18,6 @@ pub use known_count::{counted, first_known, known_to};
 pub use known_item::{item_before, known_among};
 pub use position::{behind, is_deeper, level_at, line_column, next, rank_at, rows_under};
 pub use position_find::{find_item, find_key, find_step};
-pub use position_marks::{has_head, is_bare, is_item_at, is_key};
+pub use position_marks::{has_head, is_bare, is_item_at};
 pub use position_reach::{begins_with_node, line_at, next_at, reach};
 pub use walk::{KnownLine, Walk};

@@ -4,6 +4,7 @@ ghost use Rattle.yq_outline.{specs.Ends.{IsEndOf, has_no_lines, part}, specs.Out
 ghost use Rattle.yq_outline.{specs.Extents.IsRowsView, specs.RowWalk.{HasRows, IsLine, IsPosition}};
 ghost use Rattle.yq_row_table.specs.View.{row_view, Slices};
 ghost use Rattle.yq_text.specs.Limit.{text_limit};
+ghost use Rattle.yq_row_walk.specs.Walk.{IsLevel, IsLevelAt};
 ghost use Rattle.yq_outline.specs.Extents as extents;
 ghost use Rattle.yq_outline.specs.RowWalk as spec;
 
@@ -94,6 +95,42 @@ pub fn rank_at(rows: &Rows<'_>, position: Position) -> usize
     }
 }
 
+/// How deep a line is; 0 for the end after the rows of a document.
+#[inline(always)]
+pub fn level_or_end(rows: &Rows<'_>, document: Stretch, position: Position) -> usize
+    requires rows_view { IsRowsView rows.now }
+    requires document { HasRows rows.now document }
+    ensures { IsLevelAt rows.now document position result }
+{
+    if position.row >= document.end {
+        return 0;
+    }
+    level_at(rows, position)
+}
+
+/// The first row from one on, before another one, that doesn't begin deeper than a level, with how deep it
+/// begins; the other one and 0 where there is none.
+#[inline(always)]
+fn row_behind(rows: &Rows<'_>, from: usize, end: usize, level: usize) -> (usize, usize)
+    requires order { from ≤ end }
+    requires within { end ≤ length rows.now.rows }
+    requires rows_view { IsRowsView rows.now }
+    ensures value { result.0 ≡ from +
+        spec.deeper_rows level (take (end - from) (drop from rows.now.rows)) }
+    ensures within { result.0 ≤ end }
+    ensures level { result.0 < end → (x : Slices) → slice_get rows.now.rows result.0 ≡ Some x →
+        result.1 ≡ spec.line_level 0 x }
+    ensures none { end ≤ result.0 → result.1 ≡ 0 }
+{
+    'rows: for at in from..end {
+        let found = level_at(rows, Position { row: at, line: 0 });
+        if found <= level {
+            return (at, found);
+        }
+    }
+    (end, 0)
+}
+
 /// The first row from one on, before another one, that doesn't begin deeper than a level.
 pub fn rows_under(rows: &Rows<'_>, from: usize, end: usize, level: usize) -> usize
     requires order { from ≤ end }
@@ -103,12 +140,26 @@ pub fn rows_under(rows: &Rows<'_>, from: usize, end: usize, level: usize) -> usi
         spec.deeper_rows level (take (end - from) (drop from rows.now.rows)) }
     ensures within { result ≤ end }
 {
-    'rows: for at in from..end {
-        if level_at(rows, Position { row: at, line: 0 }) <= level {
-            return at;
-        }
-    }
-    end
+    row_behind(rows, from, end, level).0
+}
+
+/// Whether a line is there, and is deeper than a level, by how deep it is.
+#[inline(always)]
+pub(crate) fn is_level_deeper(
+    rows: &Rows<'_>,
+    document: Stretch,
+    position: Position,
+    level: usize,
+    floor: usize,
+) -> bool
+    requires position { IsPosition rows.now document position }
+    requires level { IsLevelAt rows.now document position level }
+    ensures some { IsTrue result → position.row < document.end }
+    ensures test { (h : HasRows rows.now document) → result ≡
+        not (has_no_lines
+        (part (lines_of_rows h.rows) (spec.line_number document h.rows position) floor)) }
+{
+    floor < level
 }
 
 /// Whether a line is there, and is deeper than a level.
@@ -122,10 +173,32 @@ pub fn is_deeper(rows: &Rows<'_>, document: Stretch, position: Position, floor: 
         not (has_no_lines
         (part (lines_of_rows h.rows) (spec.line_number document h.rows position) floor)) }
 {
-    if position.row >= document.end {
-        return false;
-    }
-    floor < level_at(rows, position)
+    let level = level_or_end(rows, document, position);
+    is_level_deeper(rows, document, position, level, floor)
+}
+
+/// What is after a line and those under it, by how deep the line is; with how deep what is after them is.
+#[inline(always)]
+pub(crate) fn behind_level(
+    rows: &Rows<'_>,
+    document: Stretch,
+    position: Position,
+    level: usize,
+) -> (Position, usize)
+    requires rows_view { IsRowsView rows.now }
+    requires document { HasRows rows.now document }
+    requires position { IsLine rows.now document position }
+    requires level { IsLevel rows.now position level }
+    ensures end { (h : HasRows rows.now document) →
+        IsEndOf (lines_of_rows h.rows) (spec.line_number document h.rows position)
+        (spec.line_number document h.rows result.0) }
+    ensures position { IsPosition rows.now document result.0 }
+    ensures line { result.0.line ≡ 0 }
+    ensures later { position.row < result.0.row }
+    ensures level { IsLevelAt rows.now document result.0 result.1 }
+{
+    let (row, level) = row_behind(rows, position.row + 1, document.end, level);
+    (Position { row, line: 0 }, level)
 }
 
 /// What is after a line and those under it.
@@ -140,11 +213,7 @@ pub fn behind(rows: &Rows<'_>, document: Stretch, position: Position) -> Positio
     ensures line { result.line ≡ 0 }
     ensures later { position.row < result.row }
 {
-    let level = level_at(rows, position);
-    Position {
-        row: rows_under(rows, position.row + 1, document.end, level),
-        line: 0,
-    }
+    behind_level(rows, document, position, level_at(rows, position)).0
 }
 
 /// The line after a line.

@@ -6,8 +6,8 @@ ghost use Rattle.yq_core.specs.Paths as steps;
 
 use crate::known_item::walk_begin;
 use crate::known_key::key_near;
-use crate::position::{behind, is_deeper};
-use crate::position_marks::{is_item_at, is_key};
+use crate::position::{behind_level, is_level_deeper, level_or_end};
+use crate::position_marks::{is_item, is_key};
 use crate::walk::Walk;
 use yq_core::Step;
 use yq_outline::Position;
@@ -20,11 +20,12 @@ pub fn find_key(walk: &Walk<'_, '_>, under: Position, floor: usize, key: &str) -
     ensures found { WalkFinds walk.now under floor (steps.To key.now) result }
 {
     let mut at = under;
-    'lines: while is_deeper(walk.rows, walk.document, at, floor) {
-        if is_key(walk.rows, walk.document, at, key) {
+    let mut level = level_or_end(walk.rows, walk.document, at);
+    'lines: while is_level_deeper(walk.rows, walk.document, at, level, floor) {
+        if is_key(walk.rows, walk.document, at, level, key) {
             return Some(at);
         }
-        at = behind(walk.rows, walk.document, at);
+        (at, level) = behind_level(walk.rows, walk.document, at, level);
     }
     None
 }
@@ -61,12 +62,13 @@ pub fn find_item(
     let begin = walk_begin(walk, under, floor, index);
     let mut at = begin.0;
     let mut left = begin.1;
-    'lines: while is_deeper(walk.rows, walk.document, at, floor) {
-        if is_item_at(walk.rows, walk.document, at, left) {
+    let mut level = level_or_end(walk.rows, walk.document, at);
+    'lines: while is_level_deeper(walk.rows, walk.document, at, level, floor) {
+        if is_item(level, left) {
             return Some(at);
         }
         left = left.saturating_sub(1);
-        at = behind(walk.rows, walk.document, at);
+        (at, level) = behind_level(walk.rows, walk.document, at, level);
     }
     None
 }

@@ -1,6 +1,7 @@
 //! What lines of a document begin with, and whether they have a head, by their rows.
 ghost use Rattle.std.specs.Prelude.{◌≡◌, ◌&&◌, is_some, nat_eq};
-ghost use Rattle.yq_outline.{specs.Extents.IsRowsView, specs.RowWalk.{HasRows, IsLine, OfLine}};
+ghost use Rattle.yq_outline.{specs.Extents.IsRowsView, specs.Outline.Line, specs.RowWalk.{HasRows, IsLine, OfLine}};
+ghost use Rattle.yq_row_walk.specs.Walk.{IsLevel};
 ghost use Rattle.yq_outline.specs.Outline as outline;
 ghost use Rattle.yq_outline.specs.Positions as positions;
 ghost use Rattle.yq_core.specs.Paths as steps;
@@ -34,15 +35,31 @@ pub fn is_item_at(rows: &Rows<'_>, document: Stretch, position: Position, index:
     index == 0 && rank_at(rows, position) != 2
 }
 
-/// Whether a line is the entry of a key.
-pub fn is_key(rows: &Rows<'_>, document: Stretch, position: Position, key: &str) -> bool
-    requires rows_view { IsRowsView rows.now }
+/// Whether a line so deep is the item of an index, counted from this line.
+#[inline(always)]
+pub(crate) fn is_item(level: usize, index: usize) -> bool
+    ensures { (l : Line) → level ≡ outline.level l →
+        result ≡ (nat_eq index 0 && steps.is_item (outline.key_of l.mark)) }
+{
+    index == 0 && level % 3 != 2
+}
+
+/// Whether a line, by how deep it is, is the entry of a key.
+#[inline(always)]
+pub(crate) fn is_key(
+    rows: &Rows<'_>,
+    document: Stretch,
+    position: Position,
+    level: usize,
+    key: &str,
+) -> bool
     requires document { HasRows rows.now document }
     requires position { IsLine rows.now document position }
+    requires level { IsLevel rows.now position level }
     ensures { OfLine rows.now document position (λ l. result ≡
         steps.key_is key.now (outline.key_of l.mark)) }
 {
-    if rank_at(rows, position) != 2 {
+    if level % 3 != 2 {
         return false;
     }
     is_written(rows.key(position.row), key)

@@ -3,39 +3,41 @@ use Rattle.yq_core.specs.Paths.{Nth}
 use Rattle.yq_outline.{specs.Ends.part, specs.Places.find_row, specs.Positions.position, specs.Lines.lines_of_rows}
 use Rattle.yq_outline.proofs.PositionLaws.{position_here, position_passed, position_end, here_item, further_item}
 use Rattle.yq_outline.{specs.RowWalk.line_number, proofs.WalkPositions.{located, position_line}}
+use Rattle.yq_row_walk.proofs.LevelMarks.{level_of_line}
 use Rattle.yq_row_walk.proofs.position_find.find_item.Goals as goal
 
 pub lines-init : goal.lines-init
-lines-init c = record { at = c.walk_begin-begin.ensures.position; found = c.walk_begin-begin.ensures.found }
+lines-init c = record { at = c.walk_begin-begin.ensures.position; level = c.level_or_end-level.ensures; found = c.walk_begin-begin.ensures.found }
 
-pub is_item_at-requires-clause-position : goal.is_item_at-requires-clause-position
-is_item_at-requires-clause-position c = position_line c.args.walk.now.rows.now c.args.walk.now.document c.lines.at c.lines.invariant.at (c.lines-test.ensures.some refl)
+pub returns-then-is_item-clause-within : goal.returns-then-is_item-clause-within
+returns-then-is_item-clause-within c = position_line c.args.walk.now.rows.now c.args.walk.now.document c.lines.at c.lines.invariant.at (c.lines-test.ensures.some refl)
 
-pub returns-then-is_item_at-clause-within : goal.returns-then-is_item_at-clause-within
-returns-then-is_item_at-clause-within c = position_line c.args.walk.now.rows.now c.args.walk.now.document c.lines.at c.lines.invariant.at (c.lines-test.ensures.some refl)
-
-pub returns-then-is_item_at-clause-found : goal.returns-then-is_item_at-clause-found
-returns-then-is_item_at-clause-found c = λ h.
+pub returns-then-is_item-clause-found : goal.returns-then-is_item-clause-found
+returns-then-is_item-clause-found c = λ h.
     let k = located c.args.walk.now.rows.now c.args.walk.now.document h.stand c.lines.at (position_line c.args.walk.now.rows.now c.args.walk.now.document c.lines.at c.lines.invariant.at (c.lines-test.ensures.some refl)) in
     c.lines.invariant.found h
     ∙ position_here (lines_of_rows h.stand.rows) (line_number c.args.walk.now.document h.stand.rows c.lines.at) c.args.floor k.line k.is
-    (c.lines-test.ensures.test h.stand) (Nth c.lines.left) (here_item c.lines.left k.line ∙ sym (c.if-is_item_at.ensures h.stand k.line k.is))
+    (c.lines-test.ensures.test h.stand) (Nth c.lines.left) (here_item c.lines.left k.line ∙ sym (c.if-is_item.ensures k.line (level_of_line c.args.walk.now.rows.now c.args.walk.now.document h.stand c.lines.at (position_line c.args.walk.now.rows.now c.args.walk.now.document c.lines.at c.lines.invariant.at (c.lines-test.ensures.some refl)) k.line k.is c.lines.level (c.lines.invariant.level.line (c.lines-test.ensures.some refl)))))
 
-pub behind-at-requires-clause-position : goal.behind-at-requires-clause-position
-behind-at-requires-clause-position c = position_line c.args.walk.now.rows.now c.args.walk.now.document c.lines.at c.lines.invariant.at (c.lines-test.ensures.some refl)
+pub behind_level-requires-clause-position : goal.behind_level-requires-clause-position
+behind_level-requires-clause-position c = position_line c.args.walk.now.rows.now c.args.walk.now.document c.lines.at c.lines.invariant.at (c.lines-test.ensures.some refl)
 
 pub lines-preserved : goal.lines-preserved
 lines-preserved c = record {
-  at = c.behind-at.ensures.position;
+  at = c.behind_level.ensures.position;
+  level = c.behind_level.ensures.level;
   found = λ h.
       let k = located c.args.walk.now.rows.now c.args.walk.now.document h.stand c.lines.at (position_line c.args.walk.now.rows.now c.args.walk.now.document c.lines.at c.lines.invariant.at (c.lines-test.ensures.some refl)) in
-      let n = line_number c.args.walk.now.document h.stand.rows c.behind-at.result in
+      let n = line_number c.args.walk.now.document h.stand.rows c.behind_level.result.0 in
       c.lines.invariant.found h
       ∙ (position_passed (lines_of_rows h.stand.rows) (line_number c.args.walk.now.document h.stand.rows c.lines.at) c.args.floor k.line k.is
-      (c.lines-test.ensures.test h.stand) (Nth c.lines.left) n (c.behind-at.ensures.end h.stand)
-      (here_item c.lines.left k.line ∙ sym (c.if-is_item_at.ensures h.stand k.line k.is))
+      (c.lines-test.ensures.test h.stand) (Nth c.lines.left) n (c.behind_level.ensures.end h.stand)
+      (here_item c.lines.left k.line ∙ sym (c.if-is_item.ensures k.line (level_of_line c.args.walk.now.rows.now c.args.walk.now.document h.stand c.lines.at (position_line c.args.walk.now.rows.now c.args.walk.now.document c.lines.at c.lines.invariant.at (c.lines-test.ensures.some refl)) k.line k.is c.lines.level (c.lines.invariant.level.line (c.lines-test.ensures.some refl)))))
       ∙ ap (λ s. position n (find_row s (part (lines_of_rows h.stand.rows) n c.args.floor))) (further_item c.lines.left ∙ ap Nth (sym c.saturating_sub-left.ensures)));
 }
 
 pub returns-clause-found : goal.returns-clause-found
 returns-clause-found c = λ h. c.lines.invariant.found h ∙ position_end (line_number c.args.walk.now.document h.stand.rows c.lines.at) _ _ (c.lines-test.ensures.test h.stand)
+
+pub behind_level-requires-clause-level : goal.behind_level-requires-clause-level
+behind_level-requires-clause-level c = c.lines.invariant.level.line (c.lines-test.ensures.some refl)

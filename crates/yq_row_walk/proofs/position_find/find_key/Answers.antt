@@ -5,7 +5,7 @@ use Rattle.yq_outline.{specs.RowWalk.line_number, proofs.WalkPositions.{located,
 use Rattle.yq_row_walk.proofs.position_find.find_key.Goals as goal
 
 pub lines-init : goal.lines-init
-lines-init c = record { at = c.requires.under; found = λ h. refl }
+lines-init c = record { at = c.requires.under; level = c.level_or_end-level.ensures; found = λ h. refl }
 
 pub is_key-requires-clause-position : goal.is_key-requires-clause-position
 is_key-requires-clause-position c = position_line c.args.walk.now.rows.now c.args.walk.now.document c.lines.at c.lines.invariant.at (c.lines-test.ensures.some refl)
@@ -20,19 +20,26 @@ returns-then-is_key-clause-found c = λ h.
     ∙ position_here (lines_of_rows h.stand.rows) (line_number c.args.walk.now.document h.stand.rows c.lines.at) c.args.floor k.line k.is
     (c.lines-test.ensures.test h.stand) (To c.args.key.now) (sym (c.if-is_key.ensures h.stand k.line k.is))
 
-pub behind-at-requires-clause-position : goal.behind-at-requires-clause-position
-behind-at-requires-clause-position c = position_line c.args.walk.now.rows.now c.args.walk.now.document c.lines.at c.lines.invariant.at (c.lines-test.ensures.some refl)
+pub behind_level-requires-clause-position : goal.behind_level-requires-clause-position
+behind_level-requires-clause-position c = position_line c.args.walk.now.rows.now c.args.walk.now.document c.lines.at c.lines.invariant.at (c.lines-test.ensures.some refl)
 
 pub lines-preserved : goal.lines-preserved
 lines-preserved c = record {
-  at = c.behind-at.ensures.position;
+  at = c.behind_level.ensures.position;
+  level = c.behind_level.ensures.level;
   found = λ h.
       let k = located c.args.walk.now.rows.now c.args.walk.now.document h.stand c.lines.at (position_line c.args.walk.now.rows.now c.args.walk.now.document c.lines.at c.lines.invariant.at (c.lines-test.ensures.some refl)) in
       c.lines.invariant.found h
       ∙ position_passed (lines_of_rows h.stand.rows) (line_number c.args.walk.now.document h.stand.rows c.lines.at) c.args.floor k.line k.is
-      (c.lines-test.ensures.test h.stand) (To c.args.key.now) (line_number c.args.walk.now.document h.stand.rows c.behind-at.result)
-      (c.behind-at.ensures.end h.stand) (sym (c.if-is_key.ensures h.stand k.line k.is));
+      (c.lines-test.ensures.test h.stand) (To c.args.key.now) (line_number c.args.walk.now.document h.stand.rows c.behind_level.result.0)
+      (c.behind_level.ensures.end h.stand) (sym (c.if-is_key.ensures h.stand k.line k.is));
 }
 
 pub returns-clause-found : goal.returns-clause-found
 returns-clause-found c = λ h. c.lines.invariant.found h ∙ position_end (line_number c.args.walk.now.document h.stand.rows c.lines.at) _ _ (c.lines-test.ensures.test h.stand)
+
+pub is_key-requires-clause-level : goal.is_key-requires-clause-level
+is_key-requires-clause-level c = c.lines.invariant.level.line (c.lines-test.ensures.some refl)
+
+pub behind_level-requires-clause-level : goal.behind_level-requires-clause-level
+behind_level-requires-clause-level c = c.lines.invariant.level.line (c.lines-test.ensures.some refl)

@@ -2,6 +2,7 @@ use Rattle.std.proofs.Common.{◌≡◌, ◌-◌}
 use Rattle.yq_core.specs.Paths.{To}
 use Rattle.yq_outline.{specs.Ends.part, specs.Places.find_row, specs.Positions.position, specs.Lines.lines_of_rows}
 use Rattle.yq_outline.specs.RowWalk.{HasDocument, IsPosition, line_number}
+use Rattle.yq_row_walk.specs.Walk.{IsLevelAt}
 use Rattle.yq_row_walk.proofs.position_find.find_key.Given as goal
 
 abbrev pub decreases-lines : goal.decreases-lines
@@ -11,6 +12,7 @@ decreases-lines l = l.walk.document.end - l.at.row
 abbrev pub invariant-lines : goal.invariant-lines
 invariant-lines l = record {
   at : IsPosition l.walk.rows.now l.walk.document l.at;
+  level : IsLevelAt l.walk.rows.now l.walk.document l.at l.level;
   found : (h : HasDocument l.walk.rows.now l.walk.document) →
       position (line_number l.walk.document h.stand.rows l.fn.under) (find_row (To l.key) (part (lines_of_rows h.stand.rows) (line_number l.walk.document h.stand.rows l.fn.under) l.floor)) ≡
       position (line_number l.walk.document h.stand.rows l.at) (find_row (To l.key) (part (lines_of_rows h.stand.rows) (line_number l.walk.document h.stand.rows l.at) l.floor));

@@ -1,6 +1,6 @@
 use Rattle.std.proofs.Common.{◌≡◌, ◌+◌, ◌-◌, drop, take}
 use Rattle.yq_outline.specs.RowWalk.{deeper_rows}
-use Rattle.yq_row_walk.proofs.position.rows_under.Given as goal
+use Rattle.yq_row_walk.proofs.position.row_behind.Given as goal
 
 -- the row that is looked for is looked for from here on
 abbrev pub invariant-rows : goal.invariant-rows
