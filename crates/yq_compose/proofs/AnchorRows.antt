@@ -1,5 +1,5 @@
 -- Anchors of neighbouring lines, by the rows of these.
-use Rattle.std.proofs.Common.{◌≡◌, ℕ, ℤ, eqb, List, [], ◌∷◌, ◌++◌, Option, Some, None, Bool, true, false, cond, not, ◌&&◌, ◌||◌, refl, sym}
+use Rattle.std.proofs.Common.{◌≡◌, ℕ, ℤ, eqb, List, [], ◌∷◌, ◌++◌, Option, Some, None, true, false, cond, not, ◌&&◌, refl, sym}
 use Rattle.std.{proofs.Common.{ap, ◌∙◌, append-nil}, proofs.lemmas.Bool.{false≢true, cond_both}, proofs.lemmas.Option.same_Some}
 use Rattle.std.{specs.List.slice_get, specs.Prelude.is_none}
 use Rattle.yq_core.{specs.declared.block_header.BlockStyle.BlockStyle, specs.Block.style_indicator as block_mark, specs.Piece.deeper}
@@ -10,7 +10,6 @@ use Rattle.yq_core.{proofs.NodeAgain.{is_anchored, takes_unanchored}, proofs.Nod
 use Rattle.yq_outline.{specs.LinesReading.{is_free, is_no_alias, may_take}, specs.Outline.{LineMark, Bare, Key, Dash, Line}}
 use Rattle.yq_outline.{specs.Positions.has_no_mark, specs.Lines.{content_anchor, head_of, lines_from, row_lines}}
 use Rattle.yq_row_table.{specs.Grammar.IsContent, specs.Rows.{Content, Nothing, Inline, Block, Row}, specs.View.{anchor_cut, content_cut}}
-use Rattle.yq_documents.specs.RowReading.{name_in}
 use Rattle.yq_core.specs.declared.block_header.BlockStyle.TheVariants as styles
 use Rattle.yq_core.specs.Tree as tree
 use Rattle.yq_row_table.specs.Rows as rows
@@ -27,23 +26,9 @@ anchor_some (Block space None block) = refl
 anchor_some (Block space (Some a) block) = refl
 
 -- whether an anchor before lines is the only one of their node, by their first one
-first_of : (a : List ℕ) (xs : List Line) (l : Line) (ys : List Line) → slice_get xs 0 ≡ Some l → is_free (Some a) (xs ++ ys) ≡ may_take l.mark l.anchor l.head
+pub first_of : (a : List ℕ) (xs : List Line) (l : Line) (ys : List Line) → slice_get xs 0 ≡ Some l → is_free (Some a) (xs ++ ys) ≡ may_take l.mark l.anchor l.head
 first_of a [] l ys e = absurd (cc)
 first_of a (x ∷ xs) l ys e = ap (λ (y : Line). may_take y.mark y.anchor y.head) (same_Some _ _ e)
-
-pub free_agrees : (t : List ℕ) (xs : List Line) (l : Line) (ys : List Line) → is_empty t ≡ is_none (name_in t) → slice_get xs 0 ≡ Some l → is_free (name_in t) (xs ++ ys) ≡ (is_empty t || may_take l.mark l.anchor l.head)
-free_agrees t xs l ys named e = go (name_in t) refl
-  where
-    go : (o : Option (List ℕ)) → name_in t ≡ o → is_free (name_in t) (xs ++ ys) ≡ (is_empty t || may_take l.mark l.anchor l.head)
-    go None is = ap (λ a. is_free a (xs ++ ys)) is ∙ sym (ap (λ b. b || may_take l.mark l.anchor l.head) (named ∙ ap is_none is))
-    go (Some a) is = ap (λ o. is_free o (xs ++ ys)) is ∙ (first_of a xs l ys e ∙ sym (ap (λ b. b || may_take l.mark l.anchor l.head) (named ∙ ap is_none is)))
-
--- one more row passes, or fails
-pub row_passes : (all free rest : Bool) → all ≡ (free && rest) → true ≡ free → all ≡ rest
-row_passes all free rest e f = e ∙ ap (λ b. b && rest) (sym f)
-
-pub row_fails : (all free rest : Bool) → all ≡ (free && rest) → false ≡ free → false ≡ all
-row_fails all free rest e f = sym (e ∙ ap (λ b. b && rest) (sym f))
 
 -- an alias is in front
 opens : (k : ℕ) (t : List ℕ) → begins_with 42 (cond (eqb k 125) 123 91 ∷ t) ≡ false

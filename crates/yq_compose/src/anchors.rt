@@ -1,7 +1,7 @@
 //! Anchors of neighbouring lines: no node has two, and no alias has one.
-ghost use Rattle.std.specs.Prelude.{◌≡◌, ◌&&◌, ◌||◌, is_none, not};
+ghost use Rattle.std.specs.Prelude.{◌≡◌, ◌≤◌, ◌-◌, ◌&&◌, ℕ, List, drop, is_none, not, Some};
 ghost use Rattle.yq_core.specs.Text.{is_empty};
-ghost use Rattle.yq_outline.specs.RowWalk.{IsLine, OfLine, OfLines};
+ghost use Rattle.yq_outline.{specs.Lines.lines_of_rows, specs.RowWalk.{HasRows, IsLine, OfLine, OfLines}};
 ghost use Rattle.yq_compose.specs.Checking.{IsChecked};
 ghost use Rattle.yq_core.specs.Nodes as nodes;
 ghost use Rattle.yq_outline.specs.LinesReading as spec;
@@ -32,18 +32,14 @@ fn may_take(x: Checked<'_, '_>, at: Position) -> bool
     is_unnamed(x.rows.anchor(at.row), x.rows.head(at.row))
 }
 
-/// Whether an anchor, if one is written before the first line of a row, is the only one of its node.
-fn is_free(x: Checked<'_, '_>, before: &str, at: Position) -> bool
+/// Whether an anchor before a row of a document, or before its end, is the only one of its node.
+fn is_free(x: Checked<'_, '_>, row: usize) -> bool
     requires ready { IsChecked x }
-    requires line { IsLine x.rows.now x.document at }
-    requires first { at.line ≡ 0 }
-    ensures { OfLine x.entry.rows.now x.entry.document at (λ l. result ≡
-        (is_empty before.now || spec.may_take l.mark l.anchor l.head)) }
+    requires order { x.document.first ≤ row }
+    ensures { (h : HasRows x.entry.rows.now x.entry.document) → (a : List ℕ) → result ≡
+        spec.is_free (Some a) (lines_of_rows (drop (row - x.entry.document.first) h.rows)) }
 {
-    if before.is_empty() {
-        return true;
-    }
-    may_take(x, at)
+    row >= x.document.end || may_take(x, Position { row, line: 0 })
 }
 
 /// The first line whose node has an anchor already, or is an alias, after a row with an anchor.
@@ -52,13 +48,13 @@ pub(crate) fn second_anchor(x: Checked<'_, '_>) -> Option<Position>
     ensures { OfLines x.entry.rows.now x.entry.document (λ ls n.
         is_none result ≡ spec.have_one_anchor_each ls) }
 {
-    let mut before = "";
     'rows: for row in x.document.first..x.document.end {
-        let at = Position { row, line: 0 };
-        if !is_free(x, before, at) {
-            return Some(at);
+        if x.rows.has_anchor(row) && !is_free(x, row + 1) {
+            return Some(Position {
+                row: row + 1,
+                line: 0,
+            });
         }
-        before = x.rows.anchor(row);
     }
     None
 }

@@ -1,54 +1,46 @@
-use Rattle.std.{proofs.Common.{rules, ◌≡◌, ℕ, ◌+◌, ◌-◌, ◌&&◌, drop, refl, sym, ap, ◌∙◌, arith}, specs.Prelude.is_none}
+use Rattle.std.{proofs.Common.{◌≡◌, ℕ, ◌+◌, ◌-◌, ◌≤◌, ◌<◌, ◌&&◌, Bool, List, drop, Some, true, false, not, sym, ap, ◌∙◌, arith, rules}, specs.List.slice_get, specs.Prelude.is_none}
 use Rattle.yq_core.specs.Text.{is_empty}
 use Rattle.yq_outline.{specs.LinesReading.{have_one_anchor_each, is_free}, specs.Lines.{content_anchor, lines_of_rows}}
-use Rattle.yq_outline.{specs.RowWalk.IsLine, proofs.WalkRows.rows_length, proofs.WalkPositions.located}
-use Rattle.yq_row_table.specs.View.{slices}
-use Rattle.yq_documents.{specs.RowReading.name_in, proofs.RowLineLaws.anchor_is}
-use Rattle.yq_compose.{proofs.AnchorRows.{anchor_some, row_fails, row_passes}, proofs.ReadyLaws.row_first_line}
-use Rattle.yq_compose.proofs.RowContents.{anchor_step, nothing_left}
+use Rattle.yq_outline.{specs.RowWalk.HasRows, specs.declared.line_position.Stretch.Stretch, proofs.WalkPositions.{Located, located}}
+use Rattle.yq_row_table.specs.View.{RowsView, Slices, slices}
+use Rattle.yq_compose.{proofs.AnchorRows.anchor_some, proofs.ReadyLaws.row_first_line, proofs.RowContents.{named_step, unnamed_step}}
 use Rattle.yq_compose.proofs.anchors.second_anchor.Goals as goal
+use Rattle.yq_compose.proofs.anchors.second_anchor.Goals.{else-has_anchor-via-then-has_anchor+else-not-is_free, else-has_anchor-via-else-has_anchor}
 
-pub rows-init : goal.rows-init
-rows-init c = record {
-  named = refl;
-  text = search rules;
-  so_far = λ h.
-      let none : 0 ≡ c.args.x.document.first - c.args.x.document.first = omega arith in
-      ap (λ (j : ℕ). have_one_anchor_each (lines_of_rows (drop j h.rows))) none;
-}
+module _ (s : RowsView) (d : Stretch) (h : HasRows s d) (row : ℕ) (from : d.first ≤ row) (upto : row < d.end) (named : Bool)
+    (says : (x : Slices) → slice_get s.rows row ≡ Some x → named ≡ not (is_empty x.anchor)) (so_far : have_one_anchor_each (lines_of_rows h.rows) ≡ have_one_anchor_each (lines_of_rows (drop (row - d.first) h.rows))) where
+  abbrev k : Located s d h (record { row = row; line = 0 })
+  k = located s d h (record { row = row; line = 0 }) (row_first_line s d row from upto)
 
-pub is_free-requires-clause-line : goal.is_free-requires-clause-line
-is_free-requires-clause-line c = row_first_line c.args.x.rows.now c.args.x.document c.rows.row c.rows.auto.row c.rows-test.true
+  next : (row - d.first) + 1 ≡ (row + 1) - d.first
+  next = omega (arith, from)
+
+  -- whether the row has none
+  none : not named ≡ is_none (content_anchor k.row.content)
+  none = ap not (says (slices k.row) k.pieces) ∙ (not_twice _ ∙ anchor_some k.row.content)
+    where
+      not_twice : (b : Bool) → not (not b) ≡ b
+      not_twice b = search rules
+
+  -- past a row without one
+  unnamed : named ≡ false → have_one_anchor_each (lines_of_rows h.rows) ≡ have_one_anchor_each (lines_of_rows (drop ((row + 1) - d.first) h.rows))
+  unnamed is = so_far ∙ (unnamed_step h.rows (row - d.first) k.row k.there (sym none ∙ ap not is) ∙ ap (λ (i : ℕ). have_one_anchor_each (lines_of_rows (drop i h.rows))) next)
+
+  -- past one with one
+  past : (free : Bool) → named ≡ true → ((a : List ℕ) → free ≡ is_free (Some a) (lines_of_rows (drop ((row + 1) - d.first) h.rows))) →
+      have_one_anchor_each (lines_of_rows h.rows) ≡ (free && have_one_anchor_each (lines_of_rows (drop ((row + 1) - d.first) h.rows)))
+  past free is agrees =
+      so_far
+      ∙ (named_step h.rows (row - d.first) k.row free k.there (sym none ∙ ap not is) (λ a. agrees a ∙ ap (λ (i : ℕ). is_free (Some a) (lines_of_rows (drop i h.rows))) (sym next))
+      ∙ ap (λ (i : ℕ). free && have_one_anchor_each (lines_of_rows (drop i h.rows))) next)
 
 pub returns-then-not-is_free : goal.returns-then-not-is_free
 returns-then-not-is_free c = λ h.
-    let s = c.args.x.rows.now in
-    let d = c.args.x.document in
-    let at = row_first_line s d c.rows.row c.rows.auto.row c.rows-test.true in
-    let k = located s d h (record { row = c.rows.row; line = 0 }) at in
-    row_fails _ _ _ (anchor_step h.rows (c.rows.row - d.first) k.row k.line c.rows.before.now _ k.there k.in_row c.rows.invariant.named (c.rows.invariant.so_far h)) (c.if-not-is_free.ensures h k.line k.is)
-
-pub anchor-before-requires : goal.anchor-before-requires
-anchor-before-requires c = omega (arith, c.rows-test.true, c.requires.ready.document.within)
+    sym (past c.args.x.rows.now c.args.x.document h c.rows.row c.rows.auto.row c.rows-test.true c.has_anchor.result c.has_anchor.ensures (c.rows.invariant h) false c.if-has_anchor.true (c.if-not-is_free.ensures h))
 
 pub rows-preserved : goal.rows-preserved
-rows-preserved c =
-    let s = c.args.x.rows.now in
-    let d = c.args.x.document in
-    let at : IsLine s d (record { row = c.rows.row; line = 0 }) = row_first_line s d c.rows.row c.rows.auto.row c.rows-test.true in
-    let f = located s d c.requires.ready.document (record { row = c.rows.row; line = 0 }) at in
-    let agrees = c.anchor-before.ensures (slices f.row) f.pieces in
-    record {
-      text = search rules;
-      named = ap is_empty agrees ∙ (anchor_some f.row.content ∙ ap is_none (sym (anchor_is f.row.content) ∙ ap name_in (sym agrees)));
-      so_far = λ h.
-          let k = located s d h (record { row = c.rows.row; line = 0 }) at in
-          let here = c.anchor-before.ensures (slices k.row) k.pieces in
-          let name : content_anchor k.row.content ≡ name_in c.anchor-before.result.now = sym (anchor_is k.row.content) ∙ ap name_in (sym here) in
-          let next : (c.rows.row - d.first) + 1 ≡ (c.rows.row + 1) - d.first = omega (arith, c.rows.auto.row) in
-          row_passes _ _ _ (anchor_step h.rows (c.rows.row - d.first) k.row k.line c.rows.before.now _ k.there k.in_row c.rows.invariant.named (c.rows.invariant.so_far h)) (c.if-not-is_free.ensures h k.line k.is)
-          ∙ (λ i. is_free (name i) (lines_of_rows (drop (next i) h.rows)) && have_one_anchor_each (lines_of_rows (drop (next i) h.rows)));
-    }
-
-pub returns : goal.returns
-returns c = λ h. nothing_left h.rows (c.rows.row - c.args.x.document.first) c.rows.before.now _ (omega (arith, rows_length c.args.x.rows.now c.args.x.document h, c.rows-test.false)) (c.rows.invariant.so_far h)
+rows-preserved c = λ h.
+    elim c.else-has_anchor.branch [
+      else-has_anchor-via-then-has_anchor+else-not-is_free w ↦ past c.args.x.rows.now c.args.x.document h c.rows.row c.rows.auto.row c.rows-test.true c.has_anchor.result c.has_anchor.ensures (c.rows.invariant h) true w.if-has_anchor.true (w.if-not-is_free.ensures h)
+      | else-has_anchor-via-else-has_anchor w ↦ unnamed c.args.x.rows.now c.args.x.document h c.rows.row c.rows.auto.row c.rows-test.true c.has_anchor.result c.has_anchor.ensures (c.rows.invariant h) w.if-has_anchor.false
+    ]

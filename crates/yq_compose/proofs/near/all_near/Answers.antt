@@ -1,5 +1,4 @@
-use Rattle.std.{proofs.Common.{arith, ap, refl, ◌∙◌}, proofs.lemmas.List.length-map}
-use Rattle.yq_core.specs.Anchors.{Anchors, Refers}
+use Rattle.std.{proofs.Common.{arith, ap, refl}, proofs.lemmas.List.length-map}
 use Rattle.yq_compose.{specs.Named.{all_named, name_view}, proofs.NearLaws.{bound_alias, bound_all, bound_anchor, bound_none, named_here}}
 use Rattle.yq_compose.proofs.near.all_near.Goals.{in-Anchors, in-Refers+else-not-is_near}
 use Rattle.yq_compose.proofs.near.all_near.Goals as goal

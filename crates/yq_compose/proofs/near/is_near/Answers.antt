@@ -1,4 +1,4 @@
-use Rattle.std.proofs.Common.{arith, refl, sym, ap, ◌-◌, ◌∙◌}
+use Rattle.std.proofs.Common.{arith, sym, ap, ◌-◌, ◌∙◌}
 use Rattle.yq_core.specs.Anchors.{Anchors}
 use Rattle.yq_compose.{specs.Named.name_view, proofs.NearLaws.{equal_names, named_here}}
 use Rattle.yq_compose.proofs.near.is_near.Goals as goal
