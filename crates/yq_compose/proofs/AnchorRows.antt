@@ -1,7 +1,7 @@
 -- Anchors of neighbouring lines, by the rows of these.
-use Rattle.std.proofs.Common.{◌≡◌, ℕ, ℤ, eqb, List, [], ◌∷◌, ◌++◌, Option, Some, None, true, false, cond, not, ◌&&◌, refl, sym}
-use Rattle.std.{proofs.Common.{ap, ◌∙◌, append-nil}, proofs.lemmas.Bool.{false≢true, cond_both}, proofs.lemmas.Option.same_Some}
-use Rattle.std.{specs.List.slice_get, specs.Prelude.is_none}
+use Rattle.std.proofs.Common.{◌≡◌, ℕ, ℤ, eqb, List, [], ◌∷◌, ◌++◌, Option, Some, None, true, false, cond, not, ◌&&◌, refl, sym, ap, ◌∙◌}
+use Rattle.std.{proofs.Common.append-nil, proofs.lemmas.Bool.{false≢true, cond_both}, proofs.lemmas.Option.same_Some, specs.List.slice_get}
+use Rattle.std.specs.Prelude.{is_none}
 use Rattle.yq_core.{specs.declared.block_header.BlockStyle.BlockStyle, specs.Block.style_indicator as block_mark, specs.Piece.deeper}
 use Rattle.yq_core.{specs.Text.is_empty, specs.Inline.depth_limit}
 use Rattle.yq_core.specs.Nodes.{FlowNode, empty, alias, scalar, coll, anchored, node_text, flow_items_text, IsFlowNode, begins_with}

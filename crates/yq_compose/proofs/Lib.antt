@@ -5,6 +5,7 @@ pub mod NearLaws
 pub mod StopLaws
 pub mod PositionOrder
 pub mod UnderLaws
+pub mod KeysLaws
 pub mod LineLevelLaws
 pub mod ReadyLaws
 pub mod GivesLaws

@@ -1,6 +1,6 @@
 -- Aliases, each with an anchor of its name before it.
-use Rattle.std.proofs.Common.{◌≡◌, ℕ, zero, suc, ◌+◌, ◌<◌, ◌≤◌, List, [], ◌∷◌, length, drop, get_or, Some, Bool, true, ◌||◌, ◌&&◌}
-use Rattle.std.{proofs.Common.{refl, sym, ap, ◌∙◌, bytes_eq, arith, inl, inr, rules}, proofs.Math.Bool.or-true}
+use Rattle.std.proofs.Common.{◌≡◌, ℕ, zero, suc, ◌+◌, ◌<◌, ◌≤◌, List, [], ◌∷◌, length, drop, get_or, Some, Bool, true, ◌||◌, ◌&&◌, refl}
+use Rattle.std.{proofs.Common.{sym, ap, ◌∙◌, bytes_eq, arith, inl, inr, rules}, proofs.Math.Bool.or-true}
 use Rattle.std.{proofs.lemmas.Bool.{cases_lt, false≢true}, proofs.lemmas.Option.{same_Some, slice_get-get_or, slice_get-map}}
 use Rattle.std.{proofs.lemmas.Slice.Eq.bytes_eq-Decides, specs.List.{list_any, slice_get}, specs.Prelude.option_map}
 use Rattle.yq_outline.{proofs.EndsLaws.drop_at, specs.LinesReading.are_bound}

@@ -1,7 +1,7 @@
 -- The rows of a document, one by one.
 use Rattle.std.proofs.Common.{◌≡◌, ℕ, zero, suc, ◌+◌, List, [], ◌∷◌, ◌++◌, drop, length, ◌≤◌, Option, Some, None, Bool, true, refl, ◌&&◌}
-use Rattle.std.{proofs.Common.{false, sym, ap, ◌∙◌, subst}, proofs.lemmas.Bool.false≢true, proofs.lemmas.List.drop_all, proofs.lemmas.Option.same_Some}
-use Rattle.std.{specs.List.slice_get, specs.Prelude.is_none}
+use Rattle.std.{proofs.Common.{false, sym, ap, ◌∙◌, subst}, proofs.lemmas.Bool.false≢true, proofs.lemmas.List.drop_all}
+use Rattle.std.{proofs.lemmas.Option.same_Some, specs.List.slice_get, specs.Prelude.is_none}
 use Rattle.yq_outline.{specs.LinesReading.{have_one_anchor_each, is_free, may_take}, specs.Outline.Line, proofs.EndsLaws.drop_at}
 use Rattle.yq_outline.{specs.Lines.{content_anchor, lines_of_rows, row_lines}, proofs.WalkLevels.free_row}
 use Rattle.yq_row_table.{specs.Grammar.{AreRows, IsContent, Limit, limit_after}, specs.Rows.{Row, parent_indent}}

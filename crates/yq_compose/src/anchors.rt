@@ -33,6 +33,7 @@ fn may_take(x: Checked<'_, '_>, at: Position) -> bool
 }
 
 /// Whether an anchor before a row of a document, or before its end, is the only one of its node.
+#[inline(never)]
 fn is_free(x: Checked<'_, '_>, row: usize) -> bool
     requires ready { IsChecked x }
     requires order { x.document.first ≤ row }

@@ -4,8 +4,8 @@ ghost use Rattle.yq_core.specs.Inline.{depth_limit};
 ghost use Rattle.yq_documents.specs.KeyReading.{EndsIn};
 ghost use Rattle.yq_compose.specs.Borrowing as spec;
 
+use crate::keys::Keys;
 use crate::passing::{Passed, pass_mapping, pass_sequence};
-use std::alloc::Global;
 use yq_core::{BorrowedNode, strip};
 
 /// How many collections are nested at most in a head that is kept without a tree. Each level that is walked
@@ -20,20 +20,20 @@ fn opens_collection(head: &[u8]) -> bool
 }
 
 /// The collection in front.
-fn pass_head<'t>(alloc: Global, text: &'t str) -> Option<Passed<'t>>
+fn pass_head<'t>(keys: &mut Keys<'t>, text: &'t str) -> Option<Passed<'t>>
     ensures nested { IfSome result (λ p. p.nested ≤ depth_limit) }
     ensures passed { IfSome result (λ p. spec.IsPassedHead p.nested text.now p.rest.now) }
 {
     if let Some(behind) = strip(b'[', text) {
-        return pass_sequence(alloc, BORROWED_DEPTH, behind);
+        return pass_sequence(keys, BORROWED_DEPTH, behind);
     }
-    pass_mapping(alloc, BORROWED_DEPTH, strip(b'{', text)?)
+    pass_mapping(keys, BORROWED_DEPTH, strip(b'{', text)?)
 }
 
 /// The flow collection that a head is which is written so and with which the text begins, where the text
 /// lends all of it, and its keys are fit and differ. The text ends where the whole one does.
 pub(crate) fn borrow_head<'t>(
-    alloc: Global,
+    keys: &mut Keys<'t>,
     whole: &str,
     head: &str,
     text: &'t str,
@@ -44,7 +44,7 @@ pub(crate) fn borrow_head<'t>(
     if !opens_collection(head.as_bytes()) {
         return None;
     }
-    let passed = pass_head(alloc, text)?;
+    let passed = pass_head(keys, text)?;
     Some(BorrowedNode {
         total: whole.len(),
         depth: passed.nested,

@@ -11,6 +11,7 @@ ghost use Rattle.yq_compose.specs.Checking as spec;
 
 use crate::borrowing::borrow_head;
 use crate::fit::key_fits;
+use crate::keys::Keys;
 use crate::nested::{Flow, flow_decoded};
 use std::alloc::Global;
 use yq_core::fault_place::fault_at;
@@ -132,6 +133,7 @@ fn decode_key<'t>(
 /// The head of row `i` that its text doesn't lend, where its keys are fit.
 fn decode_head<'t>(
     alloc: Global,
+    keys: &mut Keys<'t>,
     text: &'t str,
     rows: &Rows<'t>,
     i: usize,
@@ -154,7 +156,7 @@ fn decode_head<'t>(
     }
     let (start, _) = head_place(rows, i);
     let behind = text.split_at(start).1;
-    if let Some(node) = borrow_head(alloc, text, head, behind) {
+    if let Some(node) = borrow_head(keys, text, head, behind) {
         return Ok(Some(DecodedHead::Borrowed(node)));
     }
     let parent = rows.row(i).parent_indent();
@@ -188,6 +190,7 @@ fn decoded_row<'t>(
 #[inline(always)]
 pub(crate) fn decoded_of<'t>(
     alloc: Global,
+    keys: &mut Keys<'t>,
     text: &'t str,
     rows: &Rows<'t>,
     i: usize,
@@ -204,7 +207,7 @@ pub(crate) fn decoded_of<'t>(
         Ok(key) => key,
         Err(e) => return Err(e),
     };
-    match decode_head(alloc, text, rows, i) {
+    match decode_head(alloc, keys, text, rows, i) {
         Ok(head) => Ok(decoded_row(i, key, head)),
         Err(e) => Err(e),
     }

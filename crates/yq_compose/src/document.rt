@@ -12,6 +12,7 @@ use crate::bound::unbound_alias;
 use crate::checked::{Checked, row_fault};
 use crate::document_names::names_of;
 use crate::fit::has_short_root;
+use crate::keys::Keys;
 use crate::reached::with_level;
 use crate::sound::check_lines;
 use std::alloc::Global;
@@ -75,7 +76,8 @@ pub(crate) fn check_document(
         return Err(ReadError::Fault(row_fault(x, first, FaultKind::BadScalar)));
     }
     let start = with_level(x, first, ahead_from(x.decoded, first.row));
-    match check_lines(alloc, x, start, 0, DEPTH_LIMIT) {
+    let mut keys = Keys::new(alloc);
+    match check_lines(x, &mut keys, start, 0, DEPTH_LIMIT) {
         Ok(_) => check_names(alloc, x, refers),
         Err(e) => Err(e),
     }

@@ -2,19 +2,18 @@
 ghost use Rattle.std.{specs.Prelude.{◌≡◌, ◌<◌, ◌≤◌, [], IfSome, IsTrue, length, nat_le, true}, specs.Str.chars};
 ghost use Rattle.yq_row_table.specs.Grammar.{key_limit};
 ghost use Rattle.yq_inline.specs.Short.{IsShortKey};
+ghost use Rattle.yq_compose.specs.Keys.{key_texts};
 ghost use Rattle.yq_compose.specs.Borrowing as spec;
 
 use crate::decoding::borrows_text;
 use crate::fit::key_fits;
-use crate::keys::Keys;
-use std::alloc::Global;
+use crate::keys::{Keys, take_distinct};
 use yq_core::{first_is, strip};
 use yq_documents::borrowed_text;
 use yq_inline::pieces::{begins_content, begins_scalar, read_key, read_scalar, read_sep};
 use yq_inline::read_gap;
 use yq_inline::short::{short_key, short_scalar};
 use yq_row_table::KEY_LIMIT;
-use yq_scalar_reader::are_distinct;
 
 /// What was passed: what follows it, and how many collections are nested in it at most.
 #[derive(Clone, Copy)]
@@ -92,29 +91,31 @@ fn pass_key(text: &str) -> Option<(&str, &str)>
 /// A node that is something, in which at most so many collections are nested.
 #[inline(always)]
 #[cycle(passing)]
-fn pass_content<'t>(alloc: Global, depth: usize, text: &'t str) -> Option<Passed<'t>>
+fn pass_content<'t>(keys: &mut Keys<'t>, depth: usize, text: &'t str) -> Option<Passed<'t>>
     ensures shorter { IfSome result (λ p. length p.rest.now < length text.now) }
     ensures nested { IfSome result (λ p. p.nested ≤ depth) }
     ensures passed { IfSome result (λ p. spec.IsPassedContent p.nested text.now p.rest.now) }
+    ensures kept { IfSome result (λ p. key_texts keys.new.items ≡ key_texts keys.old.items) }
 {
     match past_short(text) {
         Some(rest) => Some(Passed { rest, nested: 0 }),
-        None => pass_collection(alloc, depth, text),
+        None => pass_collection(keys, depth, text),
     }
 }
 
 /// The same, most often a collection.
 #[cycle(passing)]
-fn pass_collection<'t>(alloc: Global, depth: usize, text: &'t str) -> Option<Passed<'t>>
+fn pass_collection<'t>(keys: &mut Keys<'t>, depth: usize, text: &'t str) -> Option<Passed<'t>>
     ensures shorter { IfSome result (λ p. length p.rest.now < length text.now) }
     ensures nested { IfSome result (λ p. p.nested ≤ depth) }
     ensures passed { IfSome result (λ p. spec.IsPassedContent p.nested text.now p.rest.now) }
+    ensures kept { IfSome result (λ p. key_texts keys.new.items ≡ key_texts keys.old.items) }
 {
     if let Some(behind) = strip(b'[', text) {
-        return pass_sequence(alloc, depth, behind);
+        return pass_sequence(keys, depth, behind);
     }
     if let Some(behind) = strip(b'{', text) {
-        return pass_mapping(alloc, depth, behind);
+        return pass_mapping(keys, depth, behind);
     }
     if !begins_scalar(true, text.as_bytes()) {
         return None;
@@ -126,16 +127,17 @@ fn pass_collection<'t>(alloc: Global, depth: usize, text: &'t str) -> Option<Pas
 /// A node in which at most so many collections are nested.
 #[inline(always)]
 #[cycle(passing)]
-fn pass_node<'t>(alloc: Global, depth: usize, text: &'t str) -> Option<Passed<'t>>
+fn pass_node<'t>(keys: &mut Keys<'t>, depth: usize, text: &'t str) -> Option<Passed<'t>>
     ensures shorter { IfSome result (λ p. length p.rest.now ≤ length text.now) }
     ensures nested { IfSome result (λ p. p.nested ≤ depth) }
     ensures passed { IfSome result (λ p. spec.IsPassedNode p.nested text.now p.rest.now) }
+    ensures kept { IfSome result (λ p. key_texts keys.new.items ≡ key_texts keys.old.items) }
 {
     if let Some(rest) = past_short(text) {
         return Some(Passed { rest, nested: 0 });
     }
     if begins_content(true, text.as_bytes()) {
-        return pass_collection(alloc, depth, text);
+        return pass_collection(keys, depth, text);
     }
     if first_is(b'&', text.as_bytes()) {
         return None;
@@ -148,11 +150,16 @@ fn pass_node<'t>(alloc: Global, depth: usize, text: &'t str) -> Option<Passed<'t
 
 /// A sequence after its `[`, in which at most so many collections are nested, itself among them.
 #[cycle(passing)]
-pub(crate) fn pass_sequence<'t>(alloc: Global, depth: usize, text: &'t str) -> Option<Passed<'t>>
+pub(crate) fn pass_sequence<'t>(
+    keys: &mut Keys<'t>,
+    depth: usize,
+    text: &'t str,
+) -> Option<Passed<'t>>
     ensures shorter { IfSome result (λ p. length p.rest.now ≤ length text.now) }
     ensures nested { IfSome result (λ p. p.nested ≤ depth) }
     ensures passed { IfSome result (λ p.
         spec.IsPassedCollection 93 p.nested text.now p.rest.now) }
+    ensures kept { IfSome result (λ p. key_texts keys.new.items ≡ key_texts keys.old.items) }
 {
     if depth == 0 {
         return None;
@@ -160,7 +167,7 @@ pub(crate) fn pass_sequence<'t>(alloc: Global, depth: usize, text: &'t str) -> O
     let Ok((_, rest)) = read_gap(text, text) else {
         return None;
     };
-    let items = pass_items(alloc, depth - 1, rest)?;
+    let items = pass_items(keys, depth - 1, rest)?;
     Some(Passed {
         rest: items.rest,
         nested: items.nested + 1,
@@ -169,11 +176,16 @@ pub(crate) fn pass_sequence<'t>(alloc: Global, depth: usize, text: &'t str) -> O
 
 /// A mapping after its `{`, in which at most so many collections are nested, itself among them.
 #[cycle(passing)]
-pub(crate) fn pass_mapping<'t>(alloc: Global, depth: usize, text: &'t str) -> Option<Passed<'t>>
+pub(crate) fn pass_mapping<'t>(
+    keys: &mut Keys<'t>,
+    depth: usize,
+    text: &'t str,
+) -> Option<Passed<'t>>
     ensures shorter { IfSome result (λ p. length p.rest.now ≤ length text.now) }
     ensures nested { IfSome result (λ p. p.nested ≤ depth) }
     ensures passed { IfSome result (λ p.
         spec.IsPassedCollection 125 p.nested text.now p.rest.now) }
+    ensures kept { IfSome result (λ p. key_texts keys.new.items ≡ key_texts keys.old.items) }
 {
     if depth == 0 {
         return None;
@@ -181,7 +193,7 @@ pub(crate) fn pass_mapping<'t>(alloc: Global, depth: usize, text: &'t str) -> Op
     let Ok((_, rest)) = read_gap(text, text) else {
         return None;
     };
-    let entries = pass_entries(alloc, depth - 1, rest)?;
+    let entries = pass_entries(keys, depth - 1, rest)?;
     Some(Passed {
         rest: entries.rest,
         nested: entries.nested + 1,
@@ -191,10 +203,11 @@ pub(crate) fn pass_mapping<'t>(alloc: Global, depth: usize, text: &'t str) -> Op
 /// The items in front and their `]`.
 #[inline(always)]
 #[cycle(passing)]
-fn pass_items<'t>(alloc: Global, depth: usize, text: &'t str) -> Option<Passed<'t>>
+fn pass_items<'t>(keys: &mut Keys<'t>, depth: usize, text: &'t str) -> Option<Passed<'t>>
     ensures shorter { IfSome result (λ p. length p.rest.now ≤ length text.now) }
     ensures nested { IfSome result (λ p. p.nested ≤ depth) }
     ensures passed { IfSome result (λ p. spec.ArePassedParts p.nested 93 [] text.now p.rest.now) }
+    ensures kept { IfSome result (λ p. key_texts keys.new.items ≡ key_texts keys.old.items) }
 {
     let mut nested = 0;
     let mut rest = text;
@@ -205,7 +218,7 @@ fn pass_items<'t>(alloc: Global, depth: usize, text: &'t str) -> Option<Passed<'
                 nested,
             });
         }
-        let item = pass_content(alloc, depth, rest)?;
+        let item = pass_content(keys, depth, rest)?;
         let Ok(after) = read_sep(b']', text, text, item.rest) else {
             return None;
         };
@@ -217,17 +230,18 @@ fn pass_items<'t>(alloc: Global, depth: usize, text: &'t str) -> Option<Passed<'
 /// The entries in front and their `}`, where their keys differ.
 #[inline(always)]
 #[cycle(passing)]
-fn pass_entries<'t>(alloc: Global, depth: usize, text: &'t str) -> Option<Passed<'t>>
+fn pass_entries<'t>(keys: &mut Keys<'t>, depth: usize, text: &'t str) -> Option<Passed<'t>>
     ensures shorter { IfSome result (λ p. length p.rest.now ≤ length text.now) }
     ensures nested { IfSome result (λ p. p.nested ≤ depth) }
     ensures passed { IfSome result (λ p. spec.AreApartEntries p.nested text.now p.rest.now) }
+    ensures kept { IfSome result (λ p. key_texts keys.new.items ≡ key_texts keys.old.items) }
 {
-    let mut keys = Keys::new(alloc);
+    let others = keys.len();
     let mut nested = 0;
     let mut rest = text;
     'each: loop {
         if let Some(behind) = strip(b'}', rest) {
-            if !are_distinct(keys.as_mut_slice()) {
+            if !take_distinct(keys, others) {
                 return None;
             }
             return Some(Passed {
@@ -236,7 +250,7 @@ fn pass_entries<'t>(alloc: Global, depth: usize, text: &'t str) -> Option<Passed
             });
         }
         let (key, value) = pass_key(rest)?;
-        let node = pass_node(alloc, depth, value)?;
+        let node = pass_node(keys, depth, value)?;
         let Ok(after) = read_sep(b'}', text, text, node.rest) else {
             return None;
         };

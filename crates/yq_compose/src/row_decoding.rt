@@ -6,6 +6,7 @@ ghost use Rattle.yq_documents.specs.Reading.{cut_of, have_fit_keys};
 ghost use Rattle.yq_compose.{specs.Deciding.Decides, specs.Decoding.{AreDecoded, IsCutInto, list_of_option}};
 
 use crate::decoding::decoded_of;
+use crate::keys::Keys;
 use std::alloc::{AllocError, Global};
 use yq_core::ReadError;
 use yq_documents::Decoded;
@@ -43,9 +44,10 @@ fn decode_others<'t>(
     ensures fault { IfErr result IsOfText }
 {
     let mut decoded = Vec::new(alloc);
+    let mut keys = Keys::new(alloc);
     let mut left = others;
     'rows: while let [row, behind @ ..] = left {
-        let found = match decoded_of(alloc, text, rows, *row) {
+        let found = match decoded_of(alloc, &mut keys, text, rows, *row) {
             Ok(found) => found,
             Err(e) => return Err(e),
         };
@@ -68,9 +70,10 @@ fn decode_each<'t>(
     ensures fault { IfErr result IsOfText }
 {
     let mut decoded = Vec::new(alloc);
+    let mut keys = Keys::new(alloc);
     let mut at = 0;
     'rows: while at < rows.len() {
-        let row = match decoded_of(alloc, text, rows, at) {
+        let row = match decoded_of(alloc, &mut keys, text, rows, at) {
             Ok(row) => row,
             Err(e) => return Err(e),
         };

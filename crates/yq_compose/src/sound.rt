@@ -3,11 +3,12 @@ ghost use Rattle.std.specs.Prelude.{◌≡◌, ◌≢◌, ◌+◌, ◌++◌, ◌
 ghost use Rattle.yq_core.{specs.Answers.IsOfText, specs.declared.fault.FaultKind.TheVariants.NotUtf8, specs.Text.with_first};
 ghost use Rattle.yq_outline.{specs.Ends.{part, has_no_lines}, specs.RowWalk.{IsLine, IsPosition, OfLine, OfLines}};
 ghost use Rattle.yq_compose.{specs.Checking.{IsChecked, IsReached, OfChecked, OfCheckedLine, GivesEnd, GivesStop}, specs.Deciding.Decides};
+ghost use Rattle.yq_compose.specs.Keys.{key_texts};
 ghost use Rattle.yq_outline.specs.Outline as outline;
 ghost use Rattle.yq_outline.specs.Sound as spec;
 
 use crate::checked::{Checked, line_key, row_fault};
-use crate::keys::Keys;
+use crate::keys::{Keys, take_distinct};
 use crate::nested::head_fault;
 use crate::reached::{Reached, is_bare, is_deeper, key_at, line_behind};
 use std::alloc::{AllocError, Global};
@@ -15,7 +16,6 @@ use std::collections::BTreeMap;
 use yq_core::{FaultKind, ReadError};
 use yq_outline::Position;
 use yq_row_walk::{behind, has_head, is_deeper as is_line_deeper};
-use yq_scalar_reader::are_distinct;
 
 /// Why a line can't be where others of a collection at a level do: after neither key nor dash in the
 /// column of the keys, where its key is missing, or in another column or collection.
@@ -76,8 +76,8 @@ fn push_key<'k, 't>(
     requires reached { IsReached x.decoded.now x.rows.now x.document at }
     requires line { IsLine x.rows.now x.document at.position }
     ensures { OfLine x.entry.rows.now x.entry.document at.entry.position (λ l. OnOk result
-        (map (λ k. k.now) keys.new.items ≡
-        map (λ k. k.now) keys.old.items ++ with_first (outline.key_of l.mark) [])) }
+        (key_texts keys.new.items ≡
+        key_texts keys.old.items ++ with_first (outline.key_of l.mark) [])) }
 {
     match key_at(x, at) {
         Some(key) => {
@@ -118,8 +118,8 @@ fn repeated_line(
 /// head where lines are under it, and a head that is sound. The position after them.
 #[cycle(sound)]
 fn check_line<'a, 't>(
-    alloc: Global,
     x: Checked<'a, 't>,
+    keys: &mut Keys<'a>,
     at: Reached<'a, 't>,
     n: usize,
     depth: usize,
@@ -132,6 +132,7 @@ fn check_line<'a, 't>(
     ensures reached { IfOk result (IsReached x.entry.decoded.now x.entry.rows.now x.entry.document) }
     ensures behind { IfOk result (λ r.
         GivesEnd x.entry.rows.now x.entry.document at.entry.position r.position) }
+    ensures kept { OnOk result (key_texts keys.new.items ≡ key_texts keys.old.items) }
     ensures fault { IfErr result IsOfText }
 {
     let level = at.level;
@@ -140,7 +141,7 @@ fn check_line<'a, 't>(
     }
     let after = line_behind(x, at);
     if !is_deeper(x, after, n) {
-        return match head_fault(alloc, x, at, depth) {
+        return match head_fault(*keys.allocator(), x, at, depth) {
             Ok(()) => Ok(after),
             Err(e) => Err(e),
         };
@@ -148,15 +149,15 @@ fn check_line<'a, 't>(
     if has_head(x.rows, x.document, at.position) {
         return Err(ReadError::Fault(row_fault(x, after.position, FaultKind::BadIndent)));
     }
-    check_lines(alloc, x, after, n, depth)
+    check_lines(x, keys, after, n, depth)
 }
 
 /// The lines from a place on that are deeper than a level: they are to be the items or entries of one
 /// collection, in which at most so many are nested, or one node. The position after them.
 #[cycle(sound)]
 pub(crate) fn check_lines<'a, 't>(
-    alloc: Global,
     x: Checked<'a, 't>,
+    keys: &mut Keys<'a>,
     start: Reached<'a, 't>,
     floor: usize,
     depth: usize,
@@ -168,28 +169,29 @@ pub(crate) fn check_lines<'a, 't>(
     ensures reached { IfOk result (IsReached x.entry.decoded.now x.entry.rows.now x.entry.document) }
     ensures behind { IfOk result (λ r.
         GivesStop x.entry.rows.now x.entry.document start.entry.position floor r.position) }
+    ensures kept { OnOk result (key_texts keys.new.items ≡ key_texts keys.old.items) }
     ensures fault { IfErr result IsOfText }
 {
     if !is_deeper(x, start, floor) {
         return Ok(start);
     }
     if is_bare(x, start) {
-        return check_bare(alloc, x, start, floor, depth);
+        return check_bare(*keys.allocator(), x, start, floor, depth);
     }
     if depth == 0 {
         return Err(ReadError::Fault(row_fault(x, start.position, FaultKind::TooDeep)));
     }
-    let mut keys = Keys::new(alloc);
+    let others = keys.len();
     let mut at = start;
     'lines: while is_deeper(x, at, floor) {
-        push_key(&mut keys, x, at)?;
-        at = match check_line(alloc, x, at, start.level, depth - 1) {
+        push_key(keys, x, at)?;
+        at = match check_line(x, keys, at, start.level, depth - 1) {
             Ok(after) => after,
             Err(e) => return Err(e),
         };
     }
-    if !are_distinct(keys.as_mut_slice()) {
-        let line = repeated_line(alloc, x, start.position, floor)?;
+    if !take_distinct(keys, others) {
+        let line = repeated_line(*keys.allocator(), x, start.position, floor)?;
         return Err(ReadError::Fault(row_fault(x, line, FaultKind::DuplicateKey)));
     }
     Ok(at)

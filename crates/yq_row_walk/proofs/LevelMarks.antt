@@ -1,6 +1,6 @@
 -- What a line begins with, by how deep it is.
-use Rattle.std.proofs.Common.{◌≡◌, ℕ, ◌+◌, ◌*◌, ◌%◌, eqb, Some, not, sym, ap, ◌∙◌, arith}
-use Rattle.std.{proofs.lemmas.Bool.{eq-eqb, ne_eqb}, proofs.lemmas.Option.same_Some, specs.List.slice_get}
+use Rattle.std.{proofs.Common.{◌≡◌, ℕ, ◌+◌, ◌*◌, ◌%◌, eqb, Some, not, sym, ap, ◌∙◌, arith}, proofs.lemmas.Bool.{eq-eqb, ne_eqb}}
+use Rattle.std.{proofs.lemmas.Option.same_Some, specs.List.slice_get}
 use Rattle.yq_core.specs.Paths.{is_item}
 use Rattle.yq_outline.specs.Outline.{LineMark, Bare, Key, Dash, Line, key_of, level, rank}
 use Rattle.yq_outline.{specs.RowWalk.{HasRows, IsLine, line_level, line_number}, specs.Lines.lines_of_rows, proofs.WalkPositions.located}

@@ -3,8 +3,8 @@ use Rattle.std.specs.Prelude.{◌≡◌, ◌<◌, ◌≤◌, [], ◌∷◌, ℕ,
 use Rattle.yq_core.{specs.Entries.tree_step, specs.Paths.Step}
 use Rattle.yq_outline.{specs.Ends.reached, specs.Extents.IsRowsView, specs.Lines.lines_of_rows, specs.Outline.Line}
 use Rattle.yq_outline.specs.Positions.{reach_from}
-use Rattle.yq_outline.specs.RowWalk.{AreKnown, Finds, HasDocument, HaveKeys, IsKnownIn, IsLine, IsPosition, LeadsTo, OfLines, line_level, line_number}
-use Rattle.yq_outline.{specs.RowWalk.{rows_end, stretch_view}, specs.declared.line_position.KnownItem.KnownItem}
+use Rattle.yq_outline.specs.RowWalk.{AreKnown, Finds, HasDocument, HaveKeys, IsKnownIn, IsLine, IsPosition, LeadsTo, OfLines, line_level}
+use Rattle.yq_outline.{specs.RowWalk.{line_number, rows_end, stretch_view}, specs.declared.line_position.KnownItem.KnownItem}
 use Rattle.yq_outline.{specs.declared.line_position.Next.Next, specs.declared.line_position.Position.Position}
 use Rattle.yq_outline.specs.declared.line_position.Stretch.{Stretch}
 use Rattle.yq_row_table.{specs.Rows.Row, specs.View.{RowsView, Slices}}

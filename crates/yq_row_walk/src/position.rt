@@ -1,7 +1,7 @@
 //! Lines of a document by their rows, and how deep they are.
 ghost use Rattle.std.specs.Prelude.{◌≡◌, ◌<◌, ◌≤◌, ◌+◌, ◌-◌, ◌*◌, drop, length, nat_lt, not, slice_get, take, if◌then◌else◌, IsTrue, Some};
-ghost use Rattle.yq_outline.{specs.Ends.{IsEndOf, has_no_lines, part}, specs.Outline.level, specs.Lines.lines_of_rows};
-ghost use Rattle.yq_outline.{specs.Extents.IsRowsView, specs.RowWalk.{HasRows, IsLine, IsPosition}};
+ghost use Rattle.yq_outline.{specs.Ends.{IsEndOf, has_no_lines, part}, specs.Extents.IsRowsView};
+ghost use Rattle.yq_outline.specs.RowWalk.{HasRows, IsLine, IsPosition, OfLines, deeper_rows};
 ghost use Rattle.yq_row_table.specs.View.{row_view, Slices};
 ghost use Rattle.yq_text.specs.Limit.{text_limit};
 ghost use Rattle.yq_row_walk.specs.Walk.{IsLevel, IsLevelAt};
@@ -115,11 +115,9 @@ fn row_behind(rows: &Rows<'_>, from: usize, end: usize, level: usize) -> (usize,
     requires order { from ≤ end }
     requires within { end ≤ length rows.now.rows }
     requires rows_view { IsRowsView rows.now }
-    ensures value { result.0 ≡ from +
-        spec.deeper_rows level (take (end - from) (drop from rows.now.rows)) }
+    ensures value { result.0 ≡ from + deeper_rows level (take (end - from) (drop from rows.now.rows)) }
     ensures within { result.0 ≤ end }
-    ensures level { result.0 < end → (x : Slices) → slice_get rows.now.rows result.0 ≡ Some x →
-        result.1 ≡ spec.line_level 0 x }
+    ensures level { result.0 < end → IsLevel rows.now (record { row = result.0; line = 0 }) result.1 }
     ensures none { end ≤ result.0 → result.1 ≡ 0 }
 {
     'rows: for at in from..end {
@@ -136,8 +134,7 @@ pub fn rows_under(rows: &Rows<'_>, from: usize, end: usize, level: usize) -> usi
     requires order { from ≤ end }
     requires within { end ≤ length rows.now.rows }
     requires rows_view { IsRowsView rows.now }
-    ensures value { result ≡ from +
-        spec.deeper_rows level (take (end - from) (drop from rows.now.rows)) }
+    ensures value { result ≡ from + deeper_rows level (take (end - from) (drop from rows.now.rows)) }
     ensures within { result ≤ end }
 {
     row_behind(rows, from, end, level).0
@@ -155,9 +152,8 @@ pub(crate) fn is_level_deeper(
     requires position { IsPosition rows.now document position }
     requires level { IsLevelAt rows.now document position level }
     ensures some { IsTrue result → position.row < document.end }
-    ensures test { (h : HasRows rows.now document) → result ≡
-        not (has_no_lines
-        (part (lines_of_rows h.rows) (spec.line_number document h.rows position) floor)) }
+    ensures test { OfLines rows.now document (λ ls n.
+        result ≡ not (has_no_lines (part ls (n position) floor))) }
 {
     floor < level
 }
@@ -169,9 +165,8 @@ pub fn is_deeper(rows: &Rows<'_>, document: Stretch, position: Position, floor: 
     requires document { HasRows rows.now document }
     requires position { IsPosition rows.now document position }
     ensures some { IsTrue result → position.row < document.end }
-    ensures test { (h : HasRows rows.now document) → result ≡
-        not (has_no_lines
-        (part (lines_of_rows h.rows) (spec.line_number document h.rows position) floor)) }
+    ensures test { OfLines rows.now document (λ ls n.
+        result ≡ not (has_no_lines (part ls (n position) floor))) }
 {
     let level = level_or_end(rows, document, position);
     is_level_deeper(rows, document, position, level, floor)
@@ -189,9 +184,7 @@ pub(crate) fn behind_level(
     requires document { HasRows rows.now document }
     requires position { IsLine rows.now document position }
     requires level { IsLevel rows.now position level }
-    ensures end { (h : HasRows rows.now document) →
-        IsEndOf (lines_of_rows h.rows) (spec.line_number document h.rows position)
-        (spec.line_number document h.rows result.0) }
+    ensures end { OfLines rows.now document (λ ls n. IsEndOf ls (n position) (n result.0)) }
     ensures position { IsPosition rows.now document result.0 }
     ensures line { result.0.line ≡ 0 }
     ensures later { position.row < result.0.row }
@@ -206,9 +199,7 @@ pub fn behind(rows: &Rows<'_>, document: Stretch, position: Position) -> Positio
     requires rows_view { IsRowsView rows.now }
     requires document { HasRows rows.now document }
     requires position { IsLine rows.now document position }
-    ensures end { (h : HasRows rows.now document) →
-        IsEndOf (lines_of_rows h.rows) (spec.line_number document h.rows position)
-        (spec.line_number document h.rows result) }
+    ensures end { OfLines rows.now document (λ ls n. IsEndOf ls (n position) (n result)) }
     ensures position { IsPosition rows.now document result }
     ensures line { result.line ≡ 0 }
     ensures later { position.row < result.row }
@@ -221,8 +212,7 @@ pub fn behind(rows: &Rows<'_>, document: Stretch, position: Position) -> Positio
 pub fn next(rows: &Rows<'_>, document: Stretch, position: Position) -> Position
     requires document { HasRows rows.now document }
     requires position { IsLine rows.now document position }
-    ensures number { (h : HasRows rows.now document) → spec.line_number document h.rows result ≡
-        spec.line_number document h.rows position + 1 }
+    ensures number { OfLines rows.now document (λ ls n. n result ≡ n position + 1) }
     ensures position { IsPosition rows.now document result }
 {
     if position.line < lines_before_mark(rows, position.row) {

@@ -1,11 +1,13 @@
-use Rattle.std.{proofs.Common.{◌≡◌, ℕ, ◌+◌, ◌-◌, ◌≤◌, ◌<◌, ◌&&◌, Bool, List, drop, Some, true, false, not, sym, ap, ◌∙◌, arith, rules}, specs.List.slice_get, specs.Prelude.is_none}
+use Rattle.std.proofs.Common.{◌≡◌, ℕ, ◌+◌, ◌-◌, ◌≤◌, ◌<◌, ◌&&◌, Bool, List, drop, Some, true, false, not, sym, ap, ◌∙◌, arith, rules}
+use Rattle.std.{specs.List.slice_get, specs.Prelude.is_none}
 use Rattle.yq_core.specs.Text.{is_empty}
 use Rattle.yq_outline.{specs.LinesReading.{have_one_anchor_each, is_free}, specs.Lines.{content_anchor, lines_of_rows}}
 use Rattle.yq_outline.{specs.RowWalk.HasRows, specs.declared.line_position.Stretch.Stretch, proofs.WalkPositions.{Located, located}}
 use Rattle.yq_row_table.specs.View.{RowsView, Slices, slices}
 use Rattle.yq_compose.{proofs.AnchorRows.anchor_some, proofs.ReadyLaws.row_first_line, proofs.RowContents.{named_step, unnamed_step}}
+use Rattle.yq_compose.proofs.anchors.second_anchor.Goals.{else-has_anchor-via-then-has_anchor+else-not-is_free}
+use Rattle.yq_compose.proofs.anchors.second_anchor.Goals.{else-has_anchor-via-else-has_anchor}
 use Rattle.yq_compose.proofs.anchors.second_anchor.Goals as goal
-use Rattle.yq_compose.proofs.anchors.second_anchor.Goals.{else-has_anchor-via-then-has_anchor+else-not-is_free, else-has_anchor-via-else-has_anchor}
 
 module _ (s : RowsView) (d : Stretch) (h : HasRows s d) (row : ℕ) (from : d.first ≤ row) (upto : row < d.end) (named : Bool)
     (says : (x : Slices) → slice_get s.rows row ≡ Some x → named ≡ not (is_empty x.anchor)) (so_far : have_one_anchor_each (lines_of_rows h.rows) ≡ have_one_anchor_each (lines_of_rows (drop (row - d.first) h.rows))) where
@@ -41,6 +43,8 @@ returns-then-not-is_free c = λ h.
 pub rows-preserved : goal.rows-preserved
 rows-preserved c = λ h.
     elim c.else-has_anchor.branch [
-      else-has_anchor-via-then-has_anchor+else-not-is_free w ↦ past c.args.x.rows.now c.args.x.document h c.rows.row c.rows.auto.row c.rows-test.true c.has_anchor.result c.has_anchor.ensures (c.rows.invariant h) true w.if-has_anchor.true (w.if-not-is_free.ensures h)
+      | else-has_anchor-via-then-has_anchor+else-not-is_free w ↦
+          past c.args.x.rows.now c.args.x.document h c.rows.row c.rows.auto.row c.rows-test.true c.has_anchor.result c.has_anchor.ensures
+          (c.rows.invariant h) true w.if-has_anchor.true (w.if-not-is_free.ensures h)
       | else-has_anchor-via-else-has_anchor w ↦ unnamed c.args.x.rows.now c.args.x.document h c.rows.row c.rows.auto.row c.rows-test.true c.has_anchor.result c.has_anchor.ensures (c.rows.invariant h) w.if-has_anchor.false
     ]

@@ -1,5 +1,5 @@
 use Rattle.std.proofs.Common.{sym, ap, ◌∙◌}
-use Rattle.yq_core.{specs.Nodes.begins_with}
+use Rattle.yq_core.specs.Nodes.{begins_with}
 use Rattle.yq_compose.proofs.BorrowLaws.{slash_there}
 use Rattle.yq_compose.proofs.decoding.stops_at_slash.Goals as goal
 

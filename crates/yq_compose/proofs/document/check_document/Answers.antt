@@ -15,8 +15,8 @@ ahead_from-requires c = c.requires.ready.rise
 pub returns-then-not-has_short_root-clause-sound : goal.returns-then-not-has_short_root-clause-sound
 returns-then-not-has_short_root-clause-sound c = λ k. ap (λ b. b && lines_are_sound (lines_of_rows k.document.rows)) (sym (c.if-not-has_short_root.ensures k.document))
 
-pub returns-in-Err-clause-sound : goal.returns-in-Err-clause-sound
-returns-in-Err-clause-sound c = λ k.
+pub returns-clause-sound : goal.returns-clause-sound
+returns-clause-sound c = λ k.
     let ls = lines_of_rows k.document.rows in
     denies_as c.in-Err.e _ _
     (λ bad.

@@ -1,10 +1,10 @@
-use Rattle.std.proofs.Common.{rules, true, ℕ, [], ◌∷◌, ◌++◌, List, map, sym, ap, ◌∙◌, subst, arith, append-nil}
-use Rattle.std.proofs.lemmas.Option.{IfSome_then}
+use Rattle.std.proofs.Common.{rules, true, ℕ, [], ◌∷◌, ◌++◌, List, sym, ap, ◌∙◌, subst, arith, append-nil, append_assoc, drop}
+use Rattle.std.{proofs.lemmas.List.map_push, proofs.lemmas.Option.IfSome_then}
 use Rattle.yq_core.specs.Nodes.{begins_content, begins_with}
 use Rattle.yq_outline.proofs.KeyLaws.{distinct_agrees}
-use Rattle.yq_compose.specs.Borrowing.{ArePassedParts}
-use Rattle.yq_compose.proofs.PassedLaws.{bracket_front, collection_passed, entry_passed, item_passed, keys_more, mapping_passed}
-use Rattle.yq_compose.proofs.PassedLaws.{none_passed, nothing_passed, sequence_passed}
+use Rattle.yq_compose.{specs.Borrowing.ArePassedParts, specs.Keys.key_texts, proofs.KeysLaws.{more_own, more_stay}}
+use Rattle.yq_compose.proofs.PassedLaws.{bracket_front, collection_passed, entry_passed, item_passed, mapping_passed, none_passed}
+use Rattle.yq_compose.proofs.PassedLaws.{nothing_passed, sequence_passed}
 use Rattle.yq_compose.proofs.passing.+passing.Goals as goal
 
 pub pass_collection-returns-in-Some-clause-passed : goal.pass_collection-returns-in-Some-clause-passed
@@ -44,6 +44,7 @@ pass_items-each-preserved t c =
       utf8 = search rules;
       within = omega (arith, c.in-Ok.ensures.shorter, c.in_ok-item.ensures.shorter, c.each.invariant.within);
       room = omega (arith, c.max-nested.ensures, c.each.invariant.room, c.in_ok-item.ensures.nested);
+      keys = c.in_ok-item.ensures.kept ∙ c.each.invariant.keys;
       so_far = λ d r le a.
           c.each.invariant.so_far d r (omega (arith, c.max-nested.ensures, le))
           (item_passed item.nested d c.each.rest.now item.rest.now c.in-Ok.after.now r (omega (arith, c.max-nested.ensures, le)) c.in_ok-item.ensures.passed c.in-Ok.ensures.read a);
@@ -51,24 +52,27 @@ pass_items-each-preserved t c =
 
 pub pass_entries-returns-in-Some-clause-passed : goal.pass_entries-returns-in-Some-clause-passed
 pass_entries-returns-in-Some-clause-passed t c =
-    let keys : List (List ℕ) = map (λ k. k.now) c.each.keys.items in
+    let keys : List (List ℕ) = drop c.len-others.result (key_texts c.each.keys.items) in
     let all = c.each.invariant.so_far c.each.nested [] c.in-Some.behind.now (omega arith) (none_passed c.each.nested 125 c.each.rest.now c.in-Some.behind.now c.in-Some.ensures.0 c.in-Some.ensures.1) in
     record {
       keys = keys;
       passed = subst (λ (ks : List (List ℕ)). ArePassedParts c.each.nested 125 ks c.args.text.now c.in-Some.behind.now) (append-nil keys) all;
-      apart = distinct_agrees keys true (rw c.as_mut_slice.ensures.value at c.if-not-are_distinct.ensures);
+      apart = distinct_agrees keys true c.if-not-take_distinct.ensures.differ;
     }
 
 pub pass_entries-each-preserved : goal.pass_entries-each-preserved
 pass_entries-each-preserved t c =
     let node = c.in_ok-node.node in
     let key = c.in_ok-key.key in
+    let pushed = ap key_texts c.in-Ok-push.ensures.items ∙ (map_push (λ k. k.now) _ key ∙ ap (λ ks. ks ++ (key.now ∷ [])) c.in_ok-node.ensures.kept) in
     record {
       utf8 = search rules;
       within = omega (arith, c.in-Ok.ensures.shorter, c.in_ok-node.ensures.shorter, c.in_ok-key.ensures.shorter, c.each.invariant.within);
       room = omega (arith, c.max-nested.ensures, c.each.invariant.room, c.in_ok-node.ensures.nested);
+      keys = more_stay c.len-others.result _ _ (key.now ∷ []) _ c.each.invariant.keys pushed;
       so_far = λ d more r le a.
-          subst (λ (ks : List (List ℕ)). ArePassedParts d 125 ks c.args.text.now r) (sym (keys_more c.each.keys.items key more) ∙ ap (λ ks. map (λ k. k.now) ks ++ more) (sym c.in-Ok-push.ensures.ok))
+          subst (λ (ks : List (List ℕ)). ArePassedParts d 125 ks c.args.text.now r)
+          (sym (append_assoc (drop c.len-others.result (key_texts c.each.keys.items)) (key.now ∷ []) more) ∙ ap (λ ks. ks ++ more) (sym (more_own c.len-others.result _ _ (key.now ∷ []) _ c.each.invariant.keys pushed)))
           (c.each.invariant.so_far d (key.now ∷ more) r (omega (arith, c.max-nested.ensures, le))
           (entry_passed node.nested d c.each.rest.now key.now c.in_ok-key.value.now node.rest.now c.in-Ok.after.now r more
           (omega (arith, c.max-nested.ensures, le)) c.in_ok-key.ensures.passed c.in_ok-node.ensures.passed c.in-Ok.ensures.read a));

@@ -1,5 +1,5 @@
-use Rattle.std.{proofs.Common.{ℕ, ◌+◌, ◌*◌, ◌≤◌, List, [], ◌++◌, length, map}, specs.Str.IsUtf8}
-use Rattle.yq_compose.specs.Borrowing.{ArePassedParts}
+use Rattle.std.{proofs.Common.{ℕ, ◌+◌, ◌*◌, ◌≤◌, List, [], ◌≡◌, ◌++◌, drop, length}, specs.Str.IsUtf8}
+use Rattle.yq_compose.{specs.Borrowing.ArePassedParts, specs.Keys.key_texts, proofs.KeysLaws.KeysStay}
 use Rattle.yq_compose.proofs.passing.+passing.Given as goal
 
 abbrev pub decreases-pass_sequence : goal.decreases-pass_sequence
@@ -34,6 +34,7 @@ invariant-pass_items-each l = record {
   utf8 : IsUtf8 l.rest;
   within : length l.rest ≤ length l.fn.text;
   room : l.nested ≤ l.fn.depth;
+  keys : key_texts l.keys.items ≡ key_texts l.fn.keys.items;
   so_far : (d : ℕ) (r : List ℕ) → l.nested ≤ d → ArePassedParts d 93 [] l.rest r → ArePassedParts d 93 [] l.fn.text r;
 }
 
@@ -42,5 +43,6 @@ invariant-pass_entries-each l = record {
   utf8 : IsUtf8 l.rest;
   within : length l.rest ≤ length l.fn.text;
   room : l.nested ≤ l.fn.depth;
-  so_far : (d : ℕ) (more : List (List ℕ)) (r : List ℕ) → l.nested ≤ d → ArePassedParts d 125 more l.rest r → ArePassedParts d 125 (map (λ k. k.now) l.keys.items ++ more) l.fn.text r;
+  keys : KeysStay l.others (key_texts l.fn.keys.items) (key_texts l.keys.items);
+  so_far : (d : ℕ) (more : List (List ℕ)) (r : List ℕ) → l.nested ≤ d → ArePassedParts d 125 more l.rest r → ArePassedParts d 125 (drop l.others (key_texts l.keys.items) ++ more) l.fn.text r;
 }

@@ -1,9 +1,10 @@
-use Rattle.std.{proofs.Common.{◌-◌, inl, refl, sym, ◌∙◌, subst, arith, map}, proofs.lemmas.Result.IfOk-weaker}
+use Rattle.std.{proofs.Common.{◌-◌, drop, inl, refl, sym, ◌∙◌, subst, arith}, proofs.lemmas.Result.IfOk-weaker}
 use Rattle.yq_outline.{specs.Ends.{has_no_lines, part}, specs.Sound.is_sound_outline, proofs.EndsLaws.{is_at_end, not_end}}
 use Rattle.yq_outline.proofs.EntryLaws.{start_asked, start_deep, start_bare, one_fails, one_passes, no_more}
 use Rattle.yq_outline.{proofs.KeyLaws.distinct_agrees, proofs.LineEnds.end_counted, proofs.SoundLaws.{IsEntryLevel, entry_level}}
 use Rattle.yq_outline.{specs.Lines.lines_of_rows, specs.RowWalk.line_number, proofs.WalkPositions.{located, position_line}}
-use Rattle.yq_compose.proofs.DecidingLaws.{decides_as, denies_as}
+use Rattle.yq_compose.{proofs.DecidingLaws.{decides_as, denies_as}, specs.Keys.key_texts}
+use Rattle.yq_compose.proofs.KeysLaws.{all_stay, more_own, more_stay, none_own}
 use Rattle.yq_compose.proofs.GivesLaws.{gives_all, gives_alone, gives_end, gives_none, moved_on, stop_same}
 use Rattle.yq_compose.proofs.UnderLaws.{alone_sound, bare_is, both_there, entry_is, none_sound, other_level, under_sound}
 use Rattle.yq_compose.proofs.sound.+sound.Goals as goal
@@ -103,10 +104,11 @@ check_lines-lines-init t c =
       moved = inl refl;
       more = omega (arith, c.if-depth-eq0.false);
       entries = subst IsEntryLevel (sym (c.requires.start.agrees at.upto rows first.line first.is)) (entry_level first.line (entry_is first.line.mark (c.if-is_bare.ensures rows first.line first.is)));
+      keys = all_stay c.len-others.result c.args.keys.now.items (c.len-others.ensures ∙ c.args.keys.now.ok.0);
       so_far = λ r.
           let h = r.document in
           let k = located c.args.x.rows.now c.args.x.document h c.args.start.position at in
-          rw (c.requires.start.agrees at.upto h k.line k.is, c.new-keys.ensures.items)
+          rw (c.requires.start.agrees at.upto h k.line k.is, none_own c.len-others.result c.args.keys.now.items (c.len-others.ensures ∙ c.args.keys.now.ok.0))
           (start_asked (lines_of_rows h.rows) (line_number c.args.x.document h.rows c.args.start.position) c.args.floor c.args.depth k.line k.is
           (c.if-not-is_deeper.ensures.test h) (c.args.depth - 1) (entry_is k.line.mark (c.if-is_bare.ensures h k.line k.is))
           (omega (arith, c.if-depth-eq0.false)));
@@ -125,7 +127,7 @@ check_lines-returns-in-Err-clause-sound t c = λ r.
     denies_as c.in-Err.e _ _
     (λ bad.
     sym (one_fails (lines_of_rows h.rows) (num c.lines.at.position) c.args.floor _ (c.args.depth - 1) c.args.start.level
-    (map (λ k. k.now) c.lines.keys.items) k.line k.is (c.lines-test.ensures.test h) ends c.lines.invariant.entries _ (c.lines.invariant.so_far r)
+    (drop c.len-others.result (key_texts c.lines.keys.items)) k.line k.is (c.lines-test.ensures.test h) ends c.lines.invariant.entries _ (c.lines.invariant.so_far r)
     (sym bad)))
     (c.in-Err.ensures.sound r k.line k.is)
 
@@ -139,26 +141,30 @@ check_lines-lines-preserved t c =
       moved = moved_on c.args.start.position c.lines.at.position c.in-Ok.after.position c.lines.invariant.moved g.later;
       more = c.lines.invariant.more;
       entries = c.lines.invariant.entries;
+      keys =
+          let h = c.requires.ready.document in
+          let k = located x.rows.now x.document h c.lines.at.position at in
+          more_stay c.len-others.result _ _ _ _ c.lines.invariant.keys (c.in-Ok.ensures.kept ∙ c.in_ok-push_key.ensures h k.line k.is);
       so_far = λ r.
           let h = r.document in
           let k = located x.rows.now x.document h c.lines.at.position at in
           let num = line_number x.document h.rows in
-          rw (c.in_ok-push_key.ensures h k.line k.is)
+          rw (more_own c.len-others.result _ _ _ _ c.lines.invariant.keys (c.in-Ok.ensures.kept ∙ c.in_ok-push_key.ensures h k.line k.is))
           (one_passes (lines_of_rows h.rows) (num c.lines.at.position) c.args.floor (num c.in-Ok.after.position) (c.args.depth - 1)
-          c.args.start.level (map (λ k. k.now) c.lines.keys.items) k.line k.is (c.lines-test.ensures.test h) (g.end h) c.lines.invariant.entries
+          c.args.start.level (drop c.len-others.result (key_texts c.lines.keys.items)) k.line k.is (c.lines-test.ensures.test h) (g.end h) c.lines.invariant.entries
           _ (c.lines.invariant.so_far r) (sym (c.in-Ok.ensures.sound r k.line k.is)));
       stop = λ h. stop_same x.rows.now x.document h c.args.start.position c.lines.at.position c.in-Ok.after.position c.args.floor at (c.lines.invariant.stop h) (not_end _ (c.lines-test.ensures.test h)) g;
     }
 
-pub check_lines-returns-then-not-are_distinct-clause-sound : goal.check_lines-returns-then-not-are_distinct-clause-sound
-check_lines-returns-then-not-are_distinct-clause-sound t c = λ r.
+pub check_lines-returns-then-not-take_distinct-clause-sound : goal.check_lines-returns-then-not-take_distinct-clause-sound
+check_lines-returns-then-not-take_distinct-clause-sound t c = λ r.
     let h = r.document in
-    c.lines.invariant.so_far r ∙ (no_more (c.args.depth - 1) _ (map (λ k. k.now) c.lines.keys.items) _ (c.lines-test.ensures.test h) ∙ distinct_agrees _ _ (rw c.as_mut_slice.ensures.value at c.if-not-are_distinct.ensures))
+    c.lines.invariant.so_far r ∙ (no_more (c.args.depth - 1) _ (drop c.len-others.result (key_texts c.lines.keys.items)) _ (c.lines-test.ensures.test h) ∙ distinct_agrees _ _ c.if-not-take_distinct.ensures.differ)
 
 pub check_lines-returns-clause-sound : goal.check_lines-returns-clause-sound
 check_lines-returns-clause-sound t c = λ r.
     let h = r.document in
-    c.lines.invariant.so_far r ∙ (no_more (c.args.depth - 1) _ (map (λ k. k.now) c.lines.keys.items) _ (c.lines-test.ensures.test h) ∙ distinct_agrees _ _ (rw c.as_mut_slice.ensures.value at c.if-not-are_distinct.ensures))
+    c.lines.invariant.so_far r ∙ (no_more (c.args.depth - 1) _ (drop c.len-others.result (key_texts c.lines.keys.items)) _ (c.lines-test.ensures.test h) ∙ distinct_agrees _ _ c.if-not-take_distinct.ensures.differ)
 
 pub check_lines-returns-clause-behind : goal.check_lines-returns-clause-behind
 check_lines-returns-clause-behind t c =
@@ -178,8 +184,11 @@ check_lines-check_line-requires t c =
 pub check_line-check_lines-requires : goal.check_line-check_lines-requires
 check_line-check_lines-requires t c = (omega arith, (c.requires.ready, c.line_behind-after.ensures.reached))
 
-pub check_lines-returns-then-not-are_distinct-clause-fault : goal.check_lines-returns-then-not-are_distinct-clause-fault
-check_lines-returns-then-not-are_distinct-clause-fault t c = c.row_fault-then-not-are_distinct.ensures
+pub check_lines-returns-then-not-take_distinct-clause-fault : goal.check_lines-returns-then-not-take_distinct-clause-fault
+check_lines-returns-then-not-take_distinct-clause-fault t c = c.row_fault-then-not-take_distinct.ensures
 
 pub check_lines-repeated_line-requires-clause-start : goal.check_lines-repeated_line-requires-clause-start
 check_lines-repeated_line-requires-clause-start t c = c.requires.start.position
+
+pub check_lines-returns-clause-kept : goal.check_lines-returns-clause-kept
+check_lines-returns-clause-kept t c = c.take_distinct.ensures.kept ∙ c.lines.invariant.keys.kept

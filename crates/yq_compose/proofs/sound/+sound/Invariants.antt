@@ -1,7 +1,7 @@
-use Rattle.std.proofs.Common.{◌≡◌, ◌⊎◌, ◌+◌, ◌-◌, ◌*◌, ◌<◌, map}
+use Rattle.std.proofs.Common.{◌≡◌, ◌⊎◌, ◌+◌, ◌-◌, ◌*◌, ◌<◌, drop}
 use Rattle.yq_outline.{specs.Ends.part, specs.Sound.is_sound_outline, proofs.SoundLaws.{asked, IsEntryLevel}}
 use Rattle.yq_outline.specs.RowWalk.{OfLines, lines_stop}
-use Rattle.yq_compose.specs.Checking.{IsReached, OfChecked}
+use Rattle.yq_compose.{specs.Checking.{IsReached, OfChecked}, specs.Keys.key_texts, proofs.KeysLaws.KeysStay}
 use Rattle.yq_compose.proofs.sound.+sound.Given as goal
 
 abbrev pub decreases-check_lines : goal.decreases-check_lines
@@ -20,6 +20,7 @@ invariant-check_lines-lines l = record {
   moved : (l.at.position ≡ l.start.position) ⊎ (l.start.position.row < l.at.position.row);
   more : 0 < l.depth;
   entries : IsEntryLevel l.start.level;
-  so_far : OfChecked l.x (λ ls num. is_sound_outline l.depth (part ls (num l.start.position) l.floor) ≡ asked (l.depth - 1) l.start.level (map (λ k. k.now) l.keys.items) (part ls (num l.at.position) l.floor));
+  keys : KeysStay l.others (key_texts l.fn.keys.items) (key_texts l.keys.items);
+  so_far : OfChecked l.x (λ ls num. is_sound_outline l.depth (part ls (num l.start.position) l.floor) ≡ asked (l.depth - 1) l.start.level (drop l.others (key_texts l.keys.items)) (part ls (num l.at.position) l.floor));
   stop : OfLines l.x.rows.now l.x.document (λ ls num. lines_stop (num l.start.position) l.floor ls ≡ lines_stop (num l.at.position) l.floor ls);
 }

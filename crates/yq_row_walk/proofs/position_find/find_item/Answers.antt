@@ -17,7 +17,12 @@ returns-then-is_item-clause-found c = λ h.
     let k = located c.args.walk.now.rows.now c.args.walk.now.document h.stand c.lines.at (position_line c.args.walk.now.rows.now c.args.walk.now.document c.lines.at c.lines.invariant.at (c.lines-test.ensures.some refl)) in
     c.lines.invariant.found h
     ∙ position_here (lines_of_rows h.stand.rows) (line_number c.args.walk.now.document h.stand.rows c.lines.at) c.args.floor k.line k.is
-    (c.lines-test.ensures.test h.stand) (Nth c.lines.left) (here_item c.lines.left k.line ∙ sym (c.if-is_item.ensures k.line (level_of_line c.args.walk.now.rows.now c.args.walk.now.document h.stand c.lines.at (position_line c.args.walk.now.rows.now c.args.walk.now.document c.lines.at c.lines.invariant.at (c.lines-test.ensures.some refl)) k.line k.is c.lines.level (c.lines.invariant.level.line (c.lines-test.ensures.some refl)))))
+    (c.lines-test.ensures.test h.stand) (Nth c.lines.left)
+    (here_item c.lines.left k.line
+    ∙ sym (c.if-is_item.ensures k.line
+    (level_of_line c.args.walk.now.rows.now c.args.walk.now.document h.stand c.lines.at
+    (position_line c.args.walk.now.rows.now c.args.walk.now.document c.lines.at c.lines.invariant.at (c.lines-test.ensures.some refl)) k.line
+    k.is c.lines.level (c.lines.invariant.level.line (c.lines-test.ensures.some refl)))))
 
 pub behind_level-requires-clause-position : goal.behind_level-requires-clause-position
 behind_level-requires-clause-position c = position_line c.args.walk.now.rows.now c.args.walk.now.document c.lines.at c.lines.invariant.at (c.lines-test.ensures.some refl)
@@ -32,7 +37,11 @@ lines-preserved c = record {
       c.lines.invariant.found h
       ∙ (position_passed (lines_of_rows h.stand.rows) (line_number c.args.walk.now.document h.stand.rows c.lines.at) c.args.floor k.line k.is
       (c.lines-test.ensures.test h.stand) (Nth c.lines.left) n (c.behind_level.ensures.end h.stand)
-      (here_item c.lines.left k.line ∙ sym (c.if-is_item.ensures k.line (level_of_line c.args.walk.now.rows.now c.args.walk.now.document h.stand c.lines.at (position_line c.args.walk.now.rows.now c.args.walk.now.document c.lines.at c.lines.invariant.at (c.lines-test.ensures.some refl)) k.line k.is c.lines.level (c.lines.invariant.level.line (c.lines-test.ensures.some refl)))))
+      (here_item c.lines.left k.line
+      ∙ sym (c.if-is_item.ensures k.line
+      (level_of_line c.args.walk.now.rows.now c.args.walk.now.document h.stand c.lines.at
+      (position_line c.args.walk.now.rows.now c.args.walk.now.document c.lines.at c.lines.invariant.at (c.lines-test.ensures.some refl)) k.line
+      k.is c.lines.level (c.lines.invariant.level.line (c.lines-test.ensures.some refl)))))
       ∙ ap (λ s. position n (find_row s (part (lines_of_rows h.stand.rows) n c.args.floor))) (further_item c.lines.left ∙ ap Nth (sym c.saturating_sub-left.ensures)));
 }
 

@@ -1,4 +1,4 @@
-use Rattle.std.{proofs.Common.{rules}}
+use Rattle.std.proofs.Common.{rules}
 use Rattle.yq_row_walk.proofs.LevelMarks.{item_at}
 use Rattle.yq_row_walk.proofs.position_marks.is_item.Goals as goal
 

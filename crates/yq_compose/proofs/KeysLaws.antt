@@ -1,0 +1,32 @@
+-- Keys of mappings, one in the other.
+use Rattle.std.proofs.Common.{◌≡◌, ℕ, zero, suc, ◌≤◌, List, [], ◌∷◌, ◌++◌, drop, length, take, ap, ◌∙◌, arith}
+use Rattle.std.proofs.lemmas.List.{drop-append-le, drop_all, length-map, take-append-le, take_all}
+use denote.Bor.{Bor}
+use Rattle.yq_compose.specs.Keys.{key_texts}
+
+-- So many keys in front stay as they were.
+pub record KeysStay (n : ℕ) (before ks : List (List ℕ)) : Type 0 where
+  pub within : n ≤ length ks
+  pub kept : take n ks ≡ before
+
+-- at first
+pub all_stay : (n : ℕ) (ks : List (Bor (List ℕ))) → n ≡ length ks → KeysStay n (key_texts ks) (key_texts ks)
+all_stay n ks e = record { within = omega (arith, e, length-map ks (λ k. k.now)); kept = take_all n (key_texts ks) (omega (arith, e, length-map ks (λ k. k.now))) }
+
+pub none_own : (n : ℕ) (ks : List (Bor (List ℕ))) → n ≡ length ks → drop n (key_texts ks) ≡ []
+none_own n ks e = drop_all n (key_texts ks) (omega (arith, e, length-map ks (λ k. k.now)))
+
+-- with more after them
+longer : (n : ℕ) (xs ys : List (List ℕ)) → n ≤ length xs → n ≤ length (xs ++ ys)
+longer zero xs ys h = omega arith
+longer (suc n) [] ys h = absurd (omega (arith, h))
+longer (suc n) (x ∷ xs) ys h = omega (arith, longer n xs ys (omega (arith, h)))
+
+pub more_stay : (n : ℕ) (before old more ks : List (List ℕ)) → KeysStay n before old → ks ≡ old ++ more → KeysStay n before ks
+more_stay n before old more ks k e = record {
+  within = omega (arith, longer n old more k.within, ap length e);
+  kept = ap (take n) e ∙ (take-append-le n old more k.within ∙ k.kept);
+}
+
+pub more_own : (n : ℕ) (before old more ks : List (List ℕ)) → KeysStay n before old → ks ≡ old ++ more → drop n ks ≡ drop n old ++ more
+more_own n before old more ks k e = ap (drop n) e ∙ drop-append-le n old more k.within
