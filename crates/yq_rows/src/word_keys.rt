@@ -4,7 +4,7 @@ ghost use Rattle.yq_core.{specs.Nodes.begins_with, specs.Runs.{is_word_byte, run
 ghost use Rattle.yq_core.specs.declared.runs.Run.TheVariants.{Plain};
 ghost use Rattle.yq_row_table.{specs.Grammar.is_entry, specs.Reading.{begins_entry, read_marks, read_row_key}, specs.Rows.Dash};
 ghost use Rattle.yq_row_table.specs.Slicing.{begun};
-ghost use Rattle.yq_rows.specs.ReadPieces.{begin_view, mark_view};
+ghost use Rattle.yq_rows.specs.ReadPieces.{begin_view, mark_view, one_dash};
 
 use crate::marks::{Begin, RowMark, find_key, has_key_room, holds_colon, is_colon, is_dash};
 use crate::words::begins_word;
@@ -72,7 +72,7 @@ fn begins_no_entry(text: &str) -> bool
 /// What begins with a dash after which no entry begins.
 #[inline(always)]
 fn dash_alone<'t>(dash: &'t str, behind: &'t str) -> Begin<'t>
-    ensures { begin_view result ≡ record { dashes = dash.now; columns = 0; mark = Dash; rest = behind.now } }
+    ensures { begin_view result ≡ one_dash dash.now behind.now }
 {
     Begin {
         dashes: dash,

@@ -98,15 +98,13 @@ fn find_line<'t>(space: &'t str, head: &'t str, behind: &'t str) -> Option<Filli
     })
 }
 
-/// A node after white space that an anchor, an alias or a flow collection begins, and its tail; it is no word head for
-/// sure.
+/// A node after white space that an anchor, an alias or a flow collection begins, and its tail.
 #[inline(never)]
-fn find_other<'t>(parent: i64, space: &'t str, text: &'t str) -> Option<(Filling<'t>, bool)>
-    ensures read { IfSome result (λ f. inline_sliced parent space.now text.now ≡ Some (filling_view f.0)) }
-    ensures word { IfSome result (λ f. f.1 ≡ false) }
+fn find_other<'t>(parent: i64, space: &'t str, text: &'t str) -> Option<Filling<'t>>
+    ensures { IfSome result (λ f. inline_sliced parent space.now text.now ≡ Some (filling_view f)) }
 {
     match read_inline_content(text, RowMark::Bare, parent, space, text) {
-        Ok(content) => Some((content, false)),
+        Ok(content) => Some(content),
         Err(_) => None,
     }
 }
@@ -142,7 +140,8 @@ fn find_content(parent: i64, text: &str) -> Option<(Filling<'_>, bool)>
         return None;
     }
     if begins_other(rest.as_bytes()) {
-        return find_other(parent, space, rest);
+        let content = find_other(parent, space, rest)?;
+        return Some((content, false));
     }
     if !begins_scalar(false, rest.as_bytes()) {
         return None;

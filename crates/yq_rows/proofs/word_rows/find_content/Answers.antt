@@ -1,9 +1,8 @@
 use Rattle.std.{proofs.Common.{◌≡◌, ◌∙◌, ℕ, List, Some, true, false, arith, w64, sym, ap, subst}, proofs.lemmas.Int.to_z-of_z}
-use Rattle.std.specs.Prelude.{IfSome}
 use Rattle.yq_core.{specs.Piece.deeper, specs.Nodes.begins_with, specs.Scalars.begins_scalar, proofs.Bounds.boundary_first}
 use Rattle.yq_row_table.{specs.WordRows.is_word_head, specs.Slicing.begins_other, proofs.MarkAgain.scalar_node}
 use Rattle.yq_row_table.{proofs.ScalarSlicing.other_node, proofs.RowSlicing.content_inline}
-use Rattle.yq_rows.{specs.ReadPieces.filling_view, proofs.QuotedFronts.head_in_quotes, proofs.WordRows.feed_content}
+use Rattle.yq_rows.{proofs.QuotedFronts.head_in_quotes, proofs.WordRows.feed_content}
 use Rattle.yq_rows.proofs.word_rows.find_content.Goals as goal
 
 pub split_at-requires : goal.split_at-requires
@@ -30,9 +29,8 @@ pub returns-then-begins_other-clause-read : goal.returns-then-begins_other-claus
 returns-then-begins_other-clause-read c =
     let text = c.split_white.result.1.now in
     let other = ap begins_other (sym c.as_bytes-2.ensures.value) ∙ (sym c.begins_other.ensures ∙ c.if-begins_other.true) in
-    subst (λ r. IfSome c.find_other.result (λ f. r ≡ Some (filling_view f.0)))
-    (sym (content_inline c.args.parent c.args.text.now _ _ c.split_white.ensures (sym c.begins_block.ensures ∙ c.if-begins_block.false) (other_node text other)))
-    (rw (to_z-of_z w64 c.args.parent c.ranges.parent) at c.find_other.ensures.read)
+    content_inline c.args.parent c.args.text.now _ _ c.split_white.ensures (sym c.begins_block.ensures ∙ c.if-begins_block.false) (other_node text other)
+    ∙ rw (to_z-of_z w64 c.args.parent c.ranges.parent) at c.in_ok-content-2.ensures
 
 pub returns-in_ok-content-in-Ok-clause-read : goal.returns-in_ok-content-in-Ok-clause-read
 returns-in_ok-content-in-Ok-clause-read c =
