@@ -119,6 +119,7 @@ pub fn measure_node<'t>(
 }
 
 /// The node in front, which has no anchor.
+#[inline(always)]
 #[cycle(ends)]
 #[tactic(auto, using(crate::proofs::MeasureSteps::content_steps))]
 fn measure_content<'t>(

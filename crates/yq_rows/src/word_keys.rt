@@ -98,25 +98,24 @@ fn begin_behind(text: &str) -> Option<Begin<'_>>
     if spaces.is_empty() {
         return None;
     }
-    if begins_word(next.as_bytes()) {
-        let n = run_len(Run::Plain, next.as_bytes());
-        if ends_in_word(next.as_bytes(), n) {
-            return Some(dash_alone(dash, behind));
+    if !begins_word(next.as_bytes()) {
+        if !begins_no_entry(next) {
+            return None;
         }
-        if let Some((key, colon, rest)) = word_key(next, n) {
-            let columns = text.len() - next.len();
-            return Some(Begin {
-                dashes: text.split_at(columns).0,
-                columns,
-                mark: RowMark::Key(key, colon),
-                rest,
-            });
-        }
-    }
-    if begins_no_entry(next) {
         return Some(dash_alone(dash, behind));
     }
-    None
+    let n = run_len(Run::Plain, next.as_bytes());
+    if ends_in_word(next.as_bytes(), n) {
+        return Some(dash_alone(dash, behind));
+    }
+    let (key, colon, rest) = word_key(next, n)?;
+    let columns = text.len() - next.len();
+    Some(Begin {
+        dashes: text.split_at(columns).0,
+        columns,
+        mark: RowMark::Key(key, colon),
+        rest,
+    })
 }
 
 /// The key in front, what comes after it up to its `:`, and what follows: most often a word, or in quotes.

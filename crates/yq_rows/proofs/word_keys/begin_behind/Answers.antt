@@ -6,41 +6,41 @@ use Rattle.yq_rows.{proofs.Columns.front_none, proofs.WordRows.{dash_begun, some
 use Rattle.yq_rows.proofs.word_keys.begin_behind.Goals as goal
 
 pub word_key-requires-clause-word : goal.word_key-requires-clause-word
-word_key-requires-clause-word c = ap (front is_word_byte) (sym c.as_bytes-2.ensures.value) ∙ (sym c.begins_word.ensures ∙ c.if-begins_word.true)
+word_key-requires-clause-word c = ap (front is_word_byte) (sym c.as_bytes-2.ensures.value) ∙ (sym c.begins_word.ensures ∙ c.if-not-begins_word.false)
 
 pub returns-then-ends_in_word-clause-read : goal.returns-then-ends_in_word-clause-read
 returns-then-ends_in_word-clause-read c =
     let dash : is_dash c.args.text.now ≡ true = ap is_dash (sym c.as_bytes.ensures.value) ∙ (sym c.is_dash.ensures ∙ c.if-not-is_dash.false) in
-    let word = ap (front is_word_byte) (sym c.as_bytes-2.ensures.value) ∙ (sym c.begins_word.ensures ∙ c.if-begins_word.true) in
-    c.dash_alone.ensures
+    let word = ap (front is_word_byte) (sym c.as_bytes-2.ensures.value) ∙ (sym c.begins_word.ensures ∙ c.if-not-begins_word.false) in
+    c.dash_alone-then-ends_in_word.ensures
     ∙ dash_begun c.args.text.now c.split_at.result.0.now c.split_at.result.1.now c.split_spaces.result.0.now c.split_spaces.result.1.now dash c.split_at.ensures.front c.split_at.ensures.back c.split_spaces.ensures
-    (word_no_entry c.split_spaces.result.1.now word (ap read_row_key (sym c.as_bytes-then-begins_word-2.ensures.value) ∙ c.if-ends_in_word.ensures refl))
+    (word_no_entry c.split_spaces.result.1.now word (ap read_row_key (sym c.as_bytes-4.ensures.value) ∙ c.if-ends_in_word.ensures refl))
 
-pub split_at-requires-in-Some : goal.split_at-requires-in-Some
-split_at-requires-in-Some c =
+pub split_at-requires-2 : goal.split_at-requires-2
+split_at-requires-2 c =
     let text = c.args.text.now in
     let none : length text - length text ≡ 0 = omega arith in
     let dash : is_dash text ≡ true = ap is_dash (sym c.as_bytes.ensures.value) ∙ (sym c.is_dash.ensures ∙ c.if-not-is_dash.false) in
-    let word = ap (front is_word_byte) (sym c.as_bytes-2.ensures.value) ∙ (sym c.begins_word.ensures ∙ c.if-begins_word.true) in
-    let key = word_behind c.split_spaces.result.0.now c.split_spaces.result.1.now _ (some_spaces c.split_spaces.result.0.now c.is_empty.result c.is_empty.ensures c.if-is_empty.false) word c.in-Some.ensures in
+    let word = ap (front is_word_byte) (sym c.as_bytes-2.ensures.value) ∙ (sym c.begins_word.ensures ∙ c.if-not-begins_word.false) in
+    let key = word_behind c.split_spaces.result.0.now c.split_spaces.result.1.now _ (some_spaces c.split_spaces.result.0.now c.is_empty.result c.is_empty.ensures c.if-is_empty.false) word c.in_ok-key.ensures in
     let keyed = dash_keyed text text c.split_at.result.1.now c.split_spaces.result.0.now c.split_spaces.result.1.now _ _ _ (rw none refl)
     (omega arith) (rw none (front_none (begun (read_marks text)))) dash c.split_at.ensures.back c.split_spaces.ensures key in
     front_boundary text _ c.split_spaces.result.1.now keyed.join (search rules)
 
-pub returns-in-Some-clause-read : goal.returns-in-Some-clause-read
-returns-in-Some-clause-read c =
+pub returns-clause-read : goal.returns-clause-read
+returns-clause-read c =
     let text = c.args.text.now in
     let none : length text - length text ≡ 0 = omega arith in
     let dash : is_dash text ≡ true = ap is_dash (sym c.as_bytes.ensures.value) ∙ (sym c.is_dash.ensures ∙ c.if-not-is_dash.false) in
-    let word = ap (front is_word_byte) (sym c.as_bytes-2.ensures.value) ∙ (sym c.begins_word.ensures ∙ c.if-begins_word.true) in
-    let key = word_behind c.split_spaces.result.0.now c.split_spaces.result.1.now _ (some_spaces c.split_spaces.result.0.now c.is_empty.result c.is_empty.ensures c.if-is_empty.false) word c.in-Some.ensures in
+    let word = ap (front is_word_byte) (sym c.as_bytes-2.ensures.value) ∙ (sym c.begins_word.ensures ∙ c.if-not-begins_word.false) in
+    let key = word_behind c.split_spaces.result.0.now c.split_spaces.result.1.now _ (some_spaces c.split_spaces.result.0.now c.is_empty.result c.is_empty.ensures c.if-is_empty.false) word c.in_ok-key.ensures in
     let keyed = dash_keyed text text c.split_at.result.1.now c.split_spaces.result.0.now c.split_spaces.result.1.now _ _ _ (rw none refl)
     (omega arith) (rw none (front_none (begun (read_marks text)))) dash c.split_at.ensures.back c.split_spaces.ensures key in
-    rw c.split_at-in-Some.ensures.front keyed.read
+    rw c.split_at-2.ensures.front keyed.read
 
-pub returns-then-begins_no_entry-clause-read : goal.returns-then-begins_no_entry-clause-read
-returns-then-begins_no_entry-clause-read c =
+pub returns-then-not-begins_word-clause-read : goal.returns-then-not-begins_word-clause-read
+returns-then-not-begins_word-clause-read c =
     let dash : is_dash c.args.text.now ≡ true = ap is_dash (sym c.as_bytes.ensures.value) ∙ (sym c.is_dash.ensures ∙ c.if-not-is_dash.false) in
-    c.dash_alone-then-begins_no_entry.ensures
+    c.dash_alone.ensures
     ∙ dash_begun c.args.text.now c.split_at.result.0.now c.split_at.result.1.now c.split_spaces.result.0.now c.split_spaces.result.1.now dash c.split_at.ensures.front c.split_at.ensures.back c.split_spaces.ensures
-    (c.if-begins_no_entry.ensures refl)
+    (c.if-not-begins_no_entry.ensures refl)
