@@ -8,11 +8,22 @@ use std::alloc::{AllocError, Global};
 use yq_eval::{Missing, NodePath, owned};
 use yq_semantics::PathStep;
 
+/// How many steps a path has.
+fn path_len(path: NodePath<'_>) -> usize {
+    let mut count = 0usize;
+    let mut rest = path;
+    'steps: while let NodePath::Below(front, _) = rest {
+        count = count.saturating_add(1);
+        rest = *front;
+    }
+    count
+}
+
 /// The steps of a path.
 pub fn path_steps(alloc: Global, path: NodePath<'_>) -> Result<Vec<yq_core::Step>, AllocError>
     ensures { IfOk result (λ v. map tree_step v.items ≡ path_of path.entry) }
 {
-    let mut steps = Vec::with_capacity(alloc, 1)?;
+    let mut steps = Vec::with_capacity(alloc, path_len(path))?;
     let mut rest = path;
     'steps: loop {
         match rest {

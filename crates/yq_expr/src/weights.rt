@@ -113,6 +113,12 @@ fn most_of_term(term: &Term, length: usize) -> usize {
     }
 }
 
+/// How many places there are at most in a text of that length, more or less: an item takes two bytes or more, with
+/// its dash or comma, and so does an entry.
+fn most_places(length: usize) -> usize {
+    length / 2 + 1
+}
+
 /// How many bytes the values of a right side take at most in a text of that length, more or less, that are one
 /// for each place.
 fn most_weight(right: &[Term], length: usize) -> usize {
@@ -120,7 +126,7 @@ fn most_weight(right: &[Term], length: usize) -> usize {
     'terms: for term in right {
         sum = sum.saturating_add(most_of_term(term, length));
     }
-    sum.saturating_mul(length)
+    sum.saturating_mul(most_places(length))
 }
 
 /// The same of values that are found from each place: no two places hold one node, so that what a term finds
@@ -129,7 +135,7 @@ fn most_modified(right: &[Term], length: usize) -> usize {
     let mut sum = 0usize;
     'terms: for term in right {
         let most = match term {
-            Term::Literal(value) => weight(value).saturating_mul(length),
+            Term::Literal(value) => weight(value).saturating_mul(most_places(length)),
             Term::Pipe(_) => most_of_term(term, length),
         };
         sum = sum.saturating_add(most);

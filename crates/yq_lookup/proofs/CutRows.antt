@@ -8,7 +8,7 @@ use Rattle.yq_documents.{specs.Documents.document_parts, specs.LinesInRows.docum
 use Rattle.yq_outline.{specs.declared.line_position.KnownItem.KnownItem, specs.RowWalk.{AreKnown, stretch_view}}
 use Rattle.yq_places.{specs.RowWalk.{HasCut, InCut, document_row_range}, proofs.WalkDocuments.{Found, found_document, place_found}}
 use Rattle.yq_lookup.{specs.KnownDocuments.AreKnownDocuments, specs.declared.known_document.KnownDocuments.KnownDocuments}
-use Rattle.yq_row_walk.{specs.declared.walk.KnownLine.KnownLine, specs.declared.walk.Walk.Walk, specs.Walk.IsKnownLine}
+use Rattle.yq_row_walk.{specs.declared.walk.KnownLine.KnownLine, specs.declared.walk.Walk.Walk, specs.Walk.{IsKnownLine, IsLineAbove}}
 
 pub row_within : (t : List ℕ) (s : RowsView) (i : ℕ) → s ≡ rows_view (cut_of t) → i < length (rows_of (cut_of t)) → i < length s.rows
 row_within t s i rows h = omega (arith, h, ap (λ (x : RowsView). length x.rows) rows, length-map (rows_of (cut_of t)) slices)
@@ -18,6 +18,9 @@ items_known t s ks rows h = subst (λ (x : RowsView). AreKnown x.rows ks) (sym r
 
 pub line_known : (t : List ℕ) (s : RowsView) (o : Option (Bor KnownLine)) → s ≡ rows_view (cut_of t) → IfSome o (λ k. IsKnownLine (rows_view (cut_of t)) k.now) → IfSome o (λ k. IsKnownLine s k.now)
 line_known t s o rows h = subst (λ (x : RowsView). IfSome o (λ k. IsKnownLine x k.now)) (sym rows) h
+
+pub above_known : (t : List ℕ) (s : RowsView) (o : Option KnownLine) → s ≡ rows_view (cut_of t) → IfSome o (IsLineAbove (rows_view (cut_of t))) → IfSome o (IsLineAbove s)
+above_known t s o rows h = subst (λ (x : RowsView). IfSome o (IsLineAbove x)) (sym rows) h
 
 -- a line that is borrowed
 pub line_borrowed : (s : RowsView) (o : Option KnownLine) (r : Option (Bor KnownLine)) → option_copied r ≡ o → IfSome o (IsKnownLine s) → IfSome r (λ k. IsKnownLine s k.now)
@@ -33,6 +36,9 @@ items_agree t s ks rows h = subst (λ (x : RowsView). AreKnown x.rows ks) rows h
 
 pub line_agrees : (t : List ℕ) (s : RowsView) (o : Option KnownLine) → s ≡ rows_view (cut_of t) → IfSome o (IsKnownLine s) → IfSome o (IsKnownLine (rows_view (cut_of t)))
 line_agrees t s o rows h = subst (λ (x : RowsView). IfSome o (IsKnownLine x)) rows h
+
+pub above_agrees : (t : List ℕ) (s : RowsView) (o : Option KnownLine) → s ≡ rows_view (cut_of t) → IfSome o (IsLineAbove s) → IfSome o (IsLineAbove (rows_view (cut_of t)))
+above_agrees t s o rows h = subst (λ (x : RowsView). IfSome o (IsLineAbove x)) rows h
 
 -- the document of what is walked
 pub walk_found : (t : List ℕ) (n : ℕ) (w : Walk) → HasCut t w.rows.now → Some (stretch_view w.document) ≡ document_row_range n (cut_of t) → Found w.rows.now (cut_of t) n w.document

@@ -1,11 +1,11 @@
 -- Reading (own; a reader may skip it): what is known of a text, from which walks and searches go on.
-use Rattle.std.{specs.Prelude.{ℕ, true, false, IfSome, List, Option, Vec}, specs.declared.alloc.Global.Global}
+use Rattle.std.{specs.Prelude.{ℕ, true, false, IfSome, List, Option, Some, Vec}, specs.declared.alloc.Global.Global}
 use Rattle.yq_row_table.{specs.Rows.Cut, specs.Touched.TouchesOnly, specs.View.{RowsView, Slices, rows_view}}
 use Rattle.yq_outline.{specs.RowWalk.AreKnown, specs.declared.line_position.KnownItem.KnownItem}
 use Rattle.yq_places.specs.StepReading.{IsSearched}
-use Rattle.yq_row_walk.{specs.Walk.IsKnownLine, specs.declared.walk.KnownLine.KnownLine}
+use Rattle.yq_row_walk.{specs.Walk.{ArriveAt, IsKnownLine}, specs.declared.walk.KnownLine.KnownLine}
 use Rattle.yq_lookup.{specs.KnownDocuments.AreKnownDocuments, specs.declared.knowledge.Knowledge.Knowledge}
-use Rattle.yq_lookup.specs.declared.knowledge.StepSearches.{StepSearches}
+use Rattle.yq_lookup.{specs.declared.line_above.LineAbove.LineAbove, specs.declared.knowledge.StepSearches.StepSearches}
 
 -- Rows were searched so far for sequences and for mappings under keys.
 abbrev pub AreSearches : List Slices → StepSearches → Type 0
@@ -15,9 +15,13 @@ AreSearches ss k = IfSome k.sequences (IsSearched true ss) × IfSome k.mappings 
 abbrev pub SearchesStay : ℕ → Cut → StepSearches → Type 0
 SearchesStay front c k = (new : Cut) (back : ℕ) → TouchesOnly front back c new → AreSearches (rows_view new).rows k
 
--- Items, a line and searches are known among rows.
-abbrev pub AreKnownInRows : RowsView → Option (Vec KnownItem Global) → Option KnownLine → StepSearches → Type 0
-AreKnownInRows s items line steps = IfSome items (λ v. AreKnown s.rows v.items) × IfSome line (IsKnownLine s) × AreSearches s.rows steps
+-- It is known to which line steps lead that are kept, so that others lead on from there.
+abbrev pub IsLineKept : RowsView → LineAbove → Type 0
+IsLineKept s k = ArriveAt s k.document k.steps.items (Some k.at)
+
+-- Items, lines and searches are known among rows.
+abbrev pub AreKnownInRows : RowsView → Option (Vec KnownItem Global) → Option KnownLine → Option LineAbove → StepSearches → Type 0
+AreKnownInRows s items line above steps = IfSome items (λ v. AreKnown s.rows v.items) × IfSome line (IsKnownLine s) × IfSome above (IsLineKept s) × AreSearches s.rows steps
 
 -- This is known of the rows of a text and of the ends of its parts.
 pub record IsKnowledge (s : RowsView) (k : Knowledge) : Type 0 where

@@ -6,16 +6,17 @@ ghost use Rattle.yq_documents.specs.Reading.{all_documents, cut_of, read_at};
 ghost use Rattle.yq_outline.specs.RowWalk.{AreKnown, stretch_view};
 ghost use Rattle.yq_places.specs.RowWalk.{HasCut, document_row_range};
 ghost use Rattle.yq_row_walk.specs.Walk.{IsKnownLine};
-ghost use Rattle.yq_lookup.specs.Knowledge.{AreKnownInRows, AreSearches, IsKnowledge};
+ghost use Rattle.yq_lookup.specs.Knowledge.{AreKnownInRows, IsKnowledge};
 ghost use Rattle.yq_lookup.specs.KnownDocuments.{AreKnownDocuments, IsKnownStretch, AreKnownInText};
 
 use crate::knowledge::{Knowledge, StepSearches};
 use crate::known_document::{KnownDocuments, KnownStretch, find_document};
+use crate::line_above::LineAbove;
 use std::alloc::Global;
 use std::marker::Model;
 use std::mem;
 use yq_documents::Documents;
-use yq_outline::{KnownItem, Stretch};
+use yq_outline::{KnownItem, Position, Stretch};
 use yq_places::is_text;
 use yq_row_table::Rows;
 use yq_row_walk::KnownLine;
@@ -28,6 +29,9 @@ pub struct CutText<'d, 't> {
     pub(crate) rows: &'d Rows<'t>,
     pub(crate) known: Option<Vec<KnownItem>>,
     pub(crate) line: Option<KnownLine<'d>>,
+    pub(crate) above: Option<LineAbove>,
+    /// Where the line above the last path is.
+    pub(crate) parent: Option<Position>,
     pub(crate) documents: KnownDocuments,
     pub(crate) stretch: Option<KnownStretch>,
     pub(crate) steps: StepSearches,
@@ -39,7 +43,7 @@ impl<'d, 't> Model for CutText<'d, 't> {
     ghost view = { λ c. whole c.text };
 
     ghost invariant = { λ c. HasCut (whole c.text) c.rows.now ×
-        AreKnownInRows c.rows.now c.known c.line c.steps ×
+        AreKnownInRows c.rows.now c.known c.line c.above c.steps ×
         AreKnownInText (whole c.text) c.rows.now.bounds c.documents c.stretch };
 }
 
@@ -64,6 +68,8 @@ impl<'d, 't> CutText<'d, 't> {
             rows,
             known: None,
             line: None,
+            above: None,
+            parent: None,
             documents: KnownDocuments::none(),
             stretch: Some(KnownStretch { doc, rows: stretch }),
             steps: StepSearches::none(),
@@ -80,6 +86,8 @@ impl<'d, 't> CutText<'d, 't> {
             rows,
             known: None,
             line: None,
+            above: None,
+            parent: None,
             documents: KnownDocuments::none(),
             stretch: None,
             steps: StepSearches::none(),
@@ -103,6 +111,8 @@ impl<'d, 't> CutText<'d, 't> {
             rows,
             known: Some(items),
             line: None,
+            above: None,
+            parent: None,
             documents,
             stretch: None,
             steps,
@@ -118,6 +128,8 @@ impl<'d, 't> CutText<'d, 't> {
             rows: self.rows,
             known: None,
             line: None,
+            above: None,
+            parent: None,
             documents: self.documents,
             stretch: self.stretch,
             steps: self.steps,
@@ -230,20 +242,5 @@ impl<'d, 't> CutText<'d, 't> {
         ensures { AreKnownDocuments (rows_view (cut_of self.now)).bounds result }
     {
         self.documents
-    }
-
-    /// How far steps were searched.
-    pub(crate) fn steps(&self) -> StepSearches
-        ensures { AreSearches (rows_view (cut_of self.now)).rows result }
-    {
-        self.steps
-    }
-
-    /// From now on steps were searched so far.
-    pub(crate) fn put_steps(&mut self, steps: StepSearches)
-        requires { AreSearches (rows_view (cut_of self.old)).rows steps }
-        ensures { self.new ≡ self.old }
-    {
-        self.steps = steps;
     }
 }

@@ -1,10 +1,10 @@
 //! The items on the way of a path from which later walks may go on, and the row of its key or dash.
-ghost use Rattle.std.specs.Prelude.{◌≡◌, IfSome};
+ghost use Rattle.std.specs.Prelude.{◌≡◌, IfSome, None};
 ghost use Rattle.yq_row_table.specs.View.{rows_view};
 ghost use Rattle.yq_documents.{specs.Located.steps_of, specs.Reading.cut_of};
 ghost use Rattle.yq_outline.specs.RowWalk.{AreKnown};
 ghost use Rattle.yq_places.specs.RowWalk.{StayKnown};
-ghost use Rattle.yq_row_walk.specs.Walk.{IsKnownLine};
+ghost use Rattle.yq_row_walk.specs.Walk.{IsKnownLine, IsLineAbove};
 ghost use Rattle.yq_lookup.{specs.Knowledge.{KnowledgeStays, SearchesStay}, specs.KnownDocuments.DocumentsStay};
 ghost use Rattle.yq_places.specs.StandingViews as row_agrees;
 
@@ -19,52 +19,84 @@ use yq_places::{
 };
 use yq_row_walk::{KnownLine, Walk};
 
-impl<'d, 't> CutText<'d, 't> {
-    /// Puts the items on the way of a path in the place of the items that are known.
-    #[inline(always)]
-    fn items_along(&self, known: &mut Vec<KnownItem>, path: &Path)
-        requires { AreKnown (rows_view (cut_of self.now)).rows known.old.items }
-        ensures { AreKnown (rows_view (cut_of self.now)).rows known.new.items }
-    {
-        let Some(walk) = self.walk(path.doc) else {
-            return;
-        };
-        let _ = known_along(&walk, known, &path.steps);
-    }
+/// The line to which a path leads, and that to which the steps before its last one do, if they are known.
+#[derive(Clone, Copy)]
+struct WayLines<'p> {
+    line: Option<KnownLine<'p>>,
+    above: Option<KnownLine<'p>>,
+}
 
-    /// The same, and gives the line to which the path leads, if none of its steps goes on in the head of one.
+impl<'p> WayLines<'p> {
+    /// None.
+    fn none() -> WayLines<'p>
+        ensures line { result.line ≡ None }
+        ensures above { result.above ≡ None }
+    {
+        WayLines {
+            line: None,
+            above: None,
+        }
+    }
+}
+
+impl<'d, 't> CutText<'d, 't> {
+    /// Puts the items on the way of a path in the place of the items that are known, and gives the line to which
+    /// the steps before its last one lead.
     #[inline(always)]
-    fn line_along(&self, known: &mut Vec<KnownItem>, path: &'d Path) -> Option<KnownLine<'d>>
+    fn items_along<'p>(&self, known: &mut Vec<KnownItem>, path: &'p Path) -> Option<KnownLine<'p>>
         requires { AreKnown (rows_view (cut_of self.now)).rows known.old.items }
         ensures known { AreKnown (rows_view (cut_of self.now)).rows known.new.items }
-        ensures line { IfSome result (IsKnownLine (rows_view (cut_of self.now))) }
+        ensures above { IfSome result (IsLineAbove (rows_view (cut_of self.now))) }
     {
         let walk = self.walk(path.doc)?;
+        known_along(&walk, known, &path.steps).above
+    }
+
+    /// The same, and the line to which the path leads, if none of its steps goes on in the head of one.
+    #[inline(always)]
+    fn line_along(&self, known: &mut Vec<KnownItem>, path: &'d Path) -> WayLines<'d>
+        requires { AreKnown (rows_view (cut_of self.now)).rows known.old.items }
+        ensures known { AreKnown (rows_view (cut_of self.now)).rows known.new.items }
+        ensures line { IfSome result.line (IsKnownLine (rows_view (cut_of self.now))) }
+        ensures above { IfSome result.above (IsLineAbove (rows_view (cut_of self.now))) }
+    {
+        let Some(walk) = self.walk(path.doc) else {
+            return WayLines::none();
+        };
         let steps = path.steps.as_slice();
-        let (_, at) = known_along(&walk, known, steps);
-        line_known(walk.document, steps, at)
+        let way = known_along(&walk, known, steps);
+        WayLines {
+            line: line_known(walk.document, steps, way.at),
+            above: way.above,
+        }
     }
 
     /// The same, and puts the last row of the collection at the path after the items. It is looked for from an
     /// item of that on that is known.
-    fn end_along(&self, known: &mut Vec<KnownItem>, path: &'d Path) -> Option<KnownLine<'d>>
+    fn end_along(&self, known: &mut Vec<KnownItem>, path: &'d Path) -> WayLines<'d>
         requires { AreKnown (rows_view (cut_of self.now)).rows known.old.items }
         ensures known { AreKnown (rows_view (cut_of self.now)).rows known.new.items }
-        ensures line { IfSome result (IsKnownLine (rows_view (cut_of self.now))) }
+        ensures line { IfSome result.line (IsKnownLine (rows_view (cut_of self.now))) }
+        ensures above { IfSome result.above (IsLineAbove (rows_view (cut_of self.now))) }
     {
-        let walk = self.walk(path.doc)?;
+        let Some(walk) = self.walk(path.doc) else {
+            return WayLines::none();
+        };
         let steps = path.steps.as_slice();
-        let (count, at) = known_along(&walk, known, steps);
-        let line = line_known(walk.document, steps, at);
+        let way = known_along(&walk, known, steps);
+        let line = line_known(walk.document, steps, way.at);
         let here = Walk {
             known: known.as_slice(),
             line: line.as_ref(),
             ..walk
         };
         if let Some(end) = known_end(&here, steps) {
-            let _ = put_item(known, count, end);
+            let _ = put_item(known, way.items, end);
         }
-        line
+        WayLines {
+            line,
+            above: way.above,
+        }
     }
 
     /// From now on the document of a path is known, and of each collection on its way the item or entry:
@@ -75,8 +107,9 @@ impl<'d, 't> CutText<'d, 't> {
     {
         self.to_document(path.doc);
         let mut known = self.take_items(alloc);
-        self.items_along(&mut known, path);
+        let above = self.items_along(&mut known, path);
         self.put_items(known, None);
+        self.keep_above(alloc, above);
     }
 
     /// The same, and the line to which the path leads is known as well.
@@ -86,8 +119,9 @@ impl<'d, 't> CutText<'d, 't> {
     {
         self.to_document(path.doc);
         let mut known = self.take_items(alloc);
-        let line = self.line_along(&mut known, path);
-        self.put_items(known, line);
+        let lines = self.line_along(&mut known, path);
+        self.put_items(known, lines.line);
+        self.keep_above(alloc, lines.above);
     }
 
     /// The same, and the end of the collection at the path is known as well.
@@ -96,8 +130,9 @@ impl<'d, 't> CutText<'d, 't> {
     {
         self.to_document(path.doc);
         let mut known = self.take_items(alloc);
-        let line = self.end_along(&mut known, path);
-        self.put_items(known, line);
+        let lines = self.end_along(&mut known, path);
+        self.put_items(known, lines.line);
+        self.keep_above(alloc, lines.above);
     }
 
     /// The key or dash of the item or entry at a path with its row, where the row ends in its line. From
@@ -109,22 +144,34 @@ impl<'d, 't> CutText<'d, 't> {
     {
         self.to_document(path.doc);
         let mut known = self.take_items(alloc);
-        let row = self.row_along(&mut known, path);
+        let (row, above) = self.row_along(&mut known, path);
         self.put_items(known, None);
+        self.keep_above(alloc, above);
         row
     }
 
-    /// The same, where items are known, and those on the way of the path are put in their place.
+    /// The same, where items are known, and those on the way of the path are put in their place; with the line to
+    /// which the steps before its last one lead.
     #[inline(always)]
-    fn row_along(&self, known: &mut Vec<KnownItem>, path: &Path) -> Option<HeldRow<'t>>
+    fn row_along<'p>(
+        &self,
+        known: &mut Vec<KnownItem>,
+        path: &'p Path,
+    ) -> (Option<HeldRow<'t>>, Option<KnownLine<'p>>)
         requires { AreKnown (rows_view (cut_of self.now)).rows known.old.items }
         ensures known { AreKnown (rows_view (cut_of self.now)).rows known.new.items }
-        ensures row { IfSome result (row_agrees.IsHeldRow path.now.doc (steps_of path.now)
+        ensures row { IfSome result.0 (row_agrees.IsHeldRow path.now.doc (steps_of path.now)
             (cut_of self.now)) }
+        ensures above { IfSome result.1 (IsLineAbove (rows_view (cut_of self.now))) }
     {
-        let walk = self.walk(path.doc)?;
-        let (_, at) = known_along(&walk, known, &path.steps);
-        row_of_last(walk.rows, at?)
+        let Some(walk) = self.walk(path.doc) else {
+            return (None, None);
+        };
+        let way = known_along(&walk, known, &path.steps);
+        let Some(at) = way.at else {
+            return (None, way.above);
+        };
+        (row_of_last(walk.rows, at), way.above)
     }
 
     /// Takes what is known, as far as walks and searches may go on from there in each text that keeps so many

@@ -8,6 +8,7 @@ mod knowledge;
 mod known_at;
 mod known_document;
 mod laws;
+mod line_above;
 mod node_at;
 mod removal;
 mod row_front;

@@ -46,6 +46,7 @@ impl<'t> CutText<'_, 't> {
             document,
             known: self.known(),
             line: self.line(),
+            above: self.above(),
         })
     }
 
@@ -69,6 +70,21 @@ impl<'t> CutText<'_, 't> {
             return 2;
         };
         first_step(&walk, self.steps().of(dashes), dashes)
+    }
+
+    /// How far steps were searched.
+    pub(crate) fn steps(&self) -> StepSearches
+        ensures { AreSearches (rows_view (cut_of self.now)).rows result }
+    {
+        self.steps
+    }
+
+    /// From now on steps were searched so far.
+    pub(crate) fn put_steps(&mut self, steps: StepSearches)
+        requires { AreSearches (rows_view (cut_of self.old)).rows steps }
+        ensures { self.new ≡ self.old }
+    {
+        self.steps = steps;
     }
 
     /// How far steps are searched once those of document `doc` were, up to the last row that is known.

@@ -25,4 +25,5 @@ pub mod rows_of_entry;
 pub mod standing;
 pub mod steps;
 pub mod stretch;
+pub mod way;
 pub mod written;

@@ -1,5 +1,18 @@
 -- Reading (own; a reader may skip it): what is walked, the rows of a document with what is known of them.
-use Rattle.std.specs.Prelude.{◌≡◌, ◌<◌, ◌≤◌, [], ◌∷◌, ℕ, List, map, Option, option_map, slice_get, Some, IfSome}
+use Rattle.std.specs.Prelude.{◌≡◌}
+use Rattle.std.specs.Prelude.{◌<◌}
+use Rattle.std.specs.Prelude.{◌≤◌}
+use Rattle.std.specs.Prelude.{[]}
+use Rattle.std.specs.Prelude.{◌∷◌}
+use Rattle.std.specs.Prelude.{ℕ}
+use Rattle.std.specs.Prelude.{List}
+use Rattle.std.specs.Prelude.{map}
+use Rattle.std.specs.Prelude.{Option}
+use Rattle.std.specs.Prelude.{option_map}
+use Rattle.std.specs.Prelude.{slice_get}
+use Rattle.std.specs.Prelude.{Some}
+use Rattle.std.specs.Prelude.{IfSome}
+use Rattle.std.specs.Prelude.{◌++◌}
 use Rattle.yq_core.{specs.Entries.tree_step, specs.Paths.Step}
 use Rattle.yq_outline.{specs.Ends.reached, specs.Extents.IsRowsView, specs.Lines.lines_of_rows, specs.Outline.Line}
 use Rattle.yq_outline.specs.Positions.{reach_from}
@@ -20,12 +33,31 @@ pub record IsLineAt (s : RowsView) (d : Stretch) (steps : List Step) (q : Positi
 abbrev pub IsKnownLine : RowsView → KnownLine → Type 0
 IsKnownLine s k = IsLineAt s k.document (map tree_step k.steps.now) k.at
 
--- Rows of a text are walked that are those of a document, and items and a line are known.
+-- Where steps lead, those of them that are left lead from a line, or from the root; and so with more steps after them.
+pub record LeadOnBy (s : RowsView) (d : Stretch) (steps left : List Step) (from : Option Position) : Type 0 where
+  pub line : IfSome from (IsLine s d)
+  pub leads : (h : HasDocument s d) (more : List Step) →
+      reach_from (lines_of_rows h.stand.rows) (option_map (line_number d h.stand.rows) from) (left ++ more) ≡ reached (steps ++ more) (lines_of_rows h.stand.rows)
+
+-- Steps lead to a line, or to the root, and others that begin with them lead on from there.
+abbrev pub ArriveAt : RowsView → Stretch → List declared.Step → Option Position → Type 0
+ArriveAt s d steps at = LeadOnBy s d (map tree_step steps) [] at
+
+-- It is known to which line these steps lead, so that others lead on from there.
+abbrev pub IsLineAbove : RowsView → KnownLine → Type 0
+IsLineAbove s k = ArriveAt s k.document k.steps.now (Some k.at)
+
+-- Steps are others and those that come after them.
+abbrev pub ComeAfter : (front steps left : List declared.Step) → Type 0
+ComeAfter front steps left = map tree_step steps ≡ map tree_step front ++ map tree_step left
+
+-- Rows of a text are walked that are those of a document, and items and lines are known.
 pub record IsWalk (w : Walk) : Type 0 where
   pub rows_view : IsRowsView w.rows.now
   pub document : HasDocument w.rows.now w.document
   pub known : AreKnown w.rows.now.rows w.known.now
   pub line : IfSome w.line (λ k. IsKnownLine w.rows.now k.now)
+  pub above : IfSome w.above (IsLineAbove w.rows.now)
 
 -- A line is so deep (8.2.3).
 abbrev pub IsLevel : RowsView → Position → ℕ → Type 0
@@ -49,6 +81,10 @@ IsWalkPosition w q = IsPosition w.rows.now w.document q
 -- The line of it to which these steps lead.
 abbrev pub IsWalkLineAt : Walk → List declared.Step → Position → Type 0
 IsWalkLineAt w steps q = IsLineAt w.rows.now w.document (map tree_step steps) q
+
+-- Where steps lead, those of them that are left lead from a line of it, or from the root.
+abbrev pub WalksOn : Walk → (steps left : List declared.Step) → Option Position → Type 0
+WalksOn w steps left from = LeadOnBy w.rows.now w.document (map tree_step steps) (map tree_step left) from
 
 -- An item is known among the lines of it from one on that are deeper than a level.
 abbrev pub IsWalkItem : Walk → Position → ℕ → KnownItem → Type 0

@@ -1,7 +1,7 @@
-//! The line to which a path leads, where it is known.
+//! The line to which a path leads, where it is known, and where a walk along steps begins.
 ghost use Rattle.std.specs.Prelude.{◌≡◌, map, IfSome, IsTrue};
 ghost use Rattle.yq_core.specs.Entries.{tree_step};
-ghost use Rattle.yq_row_walk.specs.Walk.{IsWalk, IsWalkLineAt};
+ghost use Rattle.yq_row_walk.specs.Walk.{ComeAfter, IsWalk, IsWalkLineAt, WalksOn};
 
 use crate::walk::Walk;
 use yq_core::Step;
@@ -61,4 +61,44 @@ pub fn if_along(walk: &Walk<'_, '_>, steps: &[Step]) -> Option<Position>
         return None;
     }
     Some(found.at)
+}
+
+/// The steps that come after others, if these are the first of them.
+#[inline(always)]
+fn steps_behind<'s>(front: &[Step], steps: &'s [Step]) -> Option<&'s [Step]>
+    ensures { IfSome result (λ left. ComeAfter front.now steps.now left.now) }
+{
+    let mut left = steps;
+    let mut rest = front;
+    'steps: while let [step, more @ ..] = rest {
+        let [other, behind @ ..] = left else {
+            return None;
+        };
+        if !is_same(step, other) {
+            return None;
+        }
+        left = behind;
+        rest = more;
+    }
+    Some(left)
+}
+
+/// Where a walk along steps begins, and the steps from there on: at the line that is known above, if they lead on
+/// from there, else at the root.
+#[inline(always)]
+pub fn walk_start<'s>(walk: &Walk<'_, '_>, steps: &'s [Step]) -> (Option<Position>, &'s [Step])
+    requires { IsWalk walk.now }
+    ensures { WalksOn walk.now steps.now result.1.now result.0 }
+{
+    let Some(above) = walk.above else {
+        return (None, steps);
+    };
+    let document = walk.document;
+    if above.document.first != document.first || above.document.end != document.end {
+        return (None, steps);
+    }
+    match steps_behind(above.steps, steps) {
+        Some(left) => (Some(above.at), left),
+        None => (None, steps),
+    }
 }

@@ -7,7 +7,7 @@ ghost use Rattle.yq_row_walk.specs.Walk.{HaveWalkKeys, IsWalk, IsWalkLine, IsWal
 ghost use Rattle.yq_outline.specs.Positions as positions;
 ghost use Rattle.yq_outline.specs.RowWalk as spec;
 
-use crate::known_line::if_along;
+use crate::known_line::{if_along, walk_start};
 use crate::position::{is_deeper, level_at, next};
 use crate::position_find::find_step;
 use crate::position_marks::{has_head, is_bare};
@@ -86,7 +86,8 @@ pub fn next_at(walk: &Walk<'_, '_>, from: Option<Position>, step: &Step) -> Opti
     }
 }
 
-/// The line of a document to which steps lead, and the steps that go on in its head, from the root on.
+/// The line of a document to which steps lead, and the steps that go on in its head, from where a walk along them
+/// begins.
 #[inline(always)]
 fn reach_by_steps<'s>(walk: &Walk<'_, '_>, steps: &'s [Step]) -> Option<(Position, &'s [Step])>
     requires { IsWalk walk.now }
@@ -94,8 +95,7 @@ fn reach_by_steps<'s>(walk: &Walk<'_, '_>, steps: &'s [Step]) -> Option<(Positio
     ensures found { OfWalkRows walk.now (λ d rs. option_map (spec.reached_view d rs) result ≡
         reached (map tree_step steps.now) (lines_of_rows rs)) }
 {
-    let mut found = None;
-    let mut left = steps;
+    let (mut found, mut left) = walk_start(walk, steps);
     'steps: while let [step, others @ ..] = left {
         match next_at(walk, found, step)? {
             Next::Line(at) => found = Some(at),

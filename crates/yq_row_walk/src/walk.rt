@@ -21,4 +21,6 @@ pub struct Walk<'a, 't> {
     pub known: &'a [KnownItem],
     /// The line of a path, if it is known.
     pub line: Option<&'a KnownLine<'a>>,
+    /// A line from which steps lead on, if one is known.
+    pub above: Option<KnownLine<'a>>,
 }

@@ -22,6 +22,7 @@ fn line_entry<'d, 't>(under: Under<'d, 't>, key: &str) -> Option<Node<'d, 't>>
         document,
         known: &[],
         line: None,
+        above: None,
     };
     let at = find_key(&walk, under.first, under.floor, key)?;
     Some(Node::of_line(under.text, under.document, at))
@@ -38,6 +39,7 @@ fn line_item<'d, 't>(under: Under<'d, 't>, index: usize) -> Option<Node<'d, 't>>
         document,
         known: &[],
         line: None,
+        above: None,
     };
     let at = find_item(&walk, under.first, under.floor, index)?;
     Some(Node::of_line(under.text, under.document, at))

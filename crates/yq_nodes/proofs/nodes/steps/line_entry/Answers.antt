@@ -29,7 +29,7 @@ returns c =
     (c.of_line.ensures.node at.line at.there)
 
 pub find_key-requires-clause-walk : goal.find_key-requires-clause-walk
-find_key-requires-clause-walk c = record { rows_view = c.document_rows.ensures.small; document = (document_in c.document_rows.ensures).0; known = λ k d none. absurd (omega (arith, none)); line = tt }
+find_key-requires-clause-walk c = record { rows_view = c.document_rows.ensures.small; document = (document_in c.document_rows.ensures).0; known = λ k d none. absurd (omega (arith, none)); line = tt; above = tt }
 
 pub find_key-requires-clause-under : goal.find_key-requires-clause-under
 find_key-requires-clause-under c = position_here c.document_rows.ensures c.args.under.position

@@ -29,7 +29,7 @@ returns c =
     (c.of_line.ensures.node at.line at.there)
 
 pub find_item-requires-clause-walk : goal.find_item-requires-clause-walk
-find_item-requires-clause-walk c = record { rows_view = c.document_rows.ensures.small; document = (document_in c.document_rows.ensures).0; known = λ k d none. absurd (omega (arith, none)); line = tt }
+find_item-requires-clause-walk c = record { rows_view = c.document_rows.ensures.small; document = (document_in c.document_rows.ensures).0; known = λ k d none. absurd (omega (arith, none)); line = tt; above = tt }
 
 pub find_item-requires-clause-under : goal.find_item-requires-clause-under
 find_item-requires-clause-under c = position_here c.document_rows.ensures c.args.under.position

@@ -1,0 +1,117 @@
+//! The line to which the steps before the last one of a path lead: walks along paths beside it go on from there.
+ghost use Rattle.std.specs.Prelude.{◌≡◌, IfOk, IfSome, map};
+ghost use Rattle.yq_core.specs.Entries.{tree_step};
+ghost use Rattle.yq_documents.specs.Reading.{cut_of};
+ghost use Rattle.yq_row_table.specs.View.{RowsView, rows_view};
+ghost use Rattle.yq_row_walk.specs.Walk.{IsLineAbove};
+ghost use Rattle.yq_lookup.specs.Knowledge.{IsLineKept};
+
+use crate::cut_text::CutText;
+use std::alloc::{AllocError, Global};
+use yq_core::Step;
+use yq_outline::{Position, Stretch};
+use yq_row_walk::KnownLine;
+
+/// A line to which steps of a document lead.
+#[derive(Drop)]
+pub(crate) struct LineAbove {
+    pub(crate) document: Stretch,
+    pub(crate) steps: Vec<Step>,
+    pub(crate) at: Position,
+}
+
+/// The same step again.
+fn copied_step(alloc: Global, step: &Step) -> Result<Step, AllocError>
+    ensures { IfOk result (λ s. tree_step s ≡ tree_step step.now) }
+{
+    match step {
+        Step::Key(key) => Ok(Step::Key(String::from_str(alloc, key.as_str())?)),
+        Step::Index(index) => Ok(Step::Index(*index)),
+    }
+}
+
+/// The same steps again.
+fn copied_steps(alloc: Global, steps: &[Step]) -> Result<Vec<Step>, AllocError>
+    ensures { IfOk result (λ v. map tree_step v.items ≡ map tree_step steps.now) }
+{
+    let mut copies = Vec::with_capacity(alloc, steps.len())?;
+    'each: for step in steps {
+        copies.push(copied_step(alloc, step)?)?;
+    }
+    Ok(copies)
+}
+
+/// Whether a line is that one.
+fn is_at(line: Option<Position>, at: Position) -> bool {
+    match line {
+        Some(line) => line.row == at.row && line.line == at.line,
+        None => false,
+    }
+}
+
+impl LineAbove {
+    /// A line with its own steps.
+    fn of(alloc: Global, line: KnownLine<'_>) -> Result<LineAbove, AllocError>
+        ensures { (s : RowsView) → IsLineAbove s line.entry → IfOk result (IsLineKept s) }
+    {
+        Ok(LineAbove {
+            document: line.document,
+            steps: copied_steps(alloc, line.steps)?,
+            at: line.at,
+        })
+    }
+
+    /// The line, which is known by its steps.
+    fn line(&self) -> KnownLine<'_>
+        ensures { (s : RowsView) → IsLineKept s self.now → IsLineAbove s result }
+    {
+        KnownLine {
+            document: self.document,
+            steps: self.steps.as_slice(),
+            at: self.at,
+        }
+    }
+}
+
+impl CutText<'_, '_> {
+    /// The line from which walks along other paths go on, if one is known.
+    pub(crate) fn above(&self) -> Option<KnownLine<'_>>
+        ensures { IfSome result (IsLineAbove (rows_view (cut_of self.now))) }
+    {
+        match &self.above {
+            Some(above) => Some(above.line()),
+            None => None,
+        }
+    }
+
+    /// From now on walks along other paths go on from this line.
+    fn put_above(&mut self, above: LineAbove)
+        requires { IsLineKept (rows_view (cut_of self.old)) above }
+        ensures { self.new ≡ self.old }
+    {
+        self.above = Some(above);
+    }
+
+    /// From now on walks go on from the line to which the steps before the last one of a path lead, if those of
+    /// the path before it led there too.
+    pub(crate) fn keep_above(&mut self, alloc: Global, above: Option<KnownLine<'_>>)
+        requires { IfSome above (IsLineAbove (rows_view (cut_of self.old))) }
+        ensures { self.new ≡ self.old }
+    {
+        let Some(line) = above else {
+            return;
+        };
+        if !is_at(self.parent, line.at) {
+            self.parent = Some(line.at);
+            return;
+        }
+        if let Some(there) = &self.above
+            && is_at(Some(there.at), line.at)
+        {
+            return;
+        }
+        if let Ok(kept) = LineAbove::of(alloc, line) {
+            self.put_above(kept);
+        }
+    }
+}
