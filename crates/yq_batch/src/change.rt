@@ -12,7 +12,7 @@ use std::alloc::{AllocError, Global};
 use yq_core::Step;
 use yq_documents::Path;
 use yq_edit_laws::{
-    MorePut, PartPut, collection_near, last_step, more_in_node, operand_holds, part_near,
+    PartPut, collection_near, last_step, more_in_node, operand_holds, part_near,
     put_in_node,
 };
 use yq_flow_edits::EditPlace;
@@ -166,7 +166,7 @@ fn more_change<'s>(
         return Ok(None);
     };
     let put = more_in_node(alloc, node, key.as_deref(), value)?;
-    let Some(MorePut { place, written }) = put else {
+    let Some((place, written)) = put else {
         return Ok(None);
     };
     Ok(Some(HeadChange {

@@ -5,7 +5,8 @@ use Rattle.yq_row_table.specs.Rows.{Cut}
 use Rattle.yq_documents.specs.Located.{steps_of}
 use Rattle.yq_places.specs.NodesAt.{NodeAt, node_in}
 use Rattle.yq_edit_rules.specs.Edits.{empty_collection, replace_segments, sole_removed}
-use Rattle.yq_edit_laws.specs.declared.sole.EmptyPut.{EmptyPut}
+use Rattle.yq_core.specs.declared.value.Value.{Value}
+use Rattle.yq_documents.specs.declared.path.Path.{Path}
 use Rattle.yq_places.specs.NodesAt as nodes
 
 -- the empty collection of the kind of a collection, by what is known of that
@@ -22,8 +23,8 @@ pub record Emptied : Type 0 where
   pub value : Node
 
 -- what the code lends of it
-abbrev pub emptied_view : EmptyPut → Emptied
-emptied_view e = record { doc = e.place.doc; steps = steps_of e.place; value = value_node e.value }
+abbrev pub emptied_view : Path × Value → Emptied
+emptied_view e = record { doc = e.0.doc; steps = steps_of e.0; value = value_node e.1 }
 
 -- the empty collection of the kind of the one in which a path ends in document n; a root is in none
 abbrev pub emptying : ℕ → Cut → Option (List Step × Step) → Option Emptied

@@ -9,9 +9,9 @@ use Rattle.yq_row_table.{specs.Exchange.row_front, specs.Offsets.row_length}
 use Rattle.yq_row_table.specs.Rows.{Content, Nothing, Inline, Block, Row, behind_columns, dashes_text, mark_column, print_row, rows_text}
 use Rattle.yq_row_table.{specs.Rows.Cut, specs.View.{Slices, slices, content_cut, last_dash, rows_of, RowsView, rows_view}}
 use Rattle.yq_places.specs.CommentPlaces.{LineEnd, end_in_line, text_to_line_end}
-use Rattle.yq_places.{specs.LineReading.{CutsLines, LinesIn, lines_between, line_list}, specs.PrintedLines.last_break}
-use Rattle.yq_places.{specs.RowPieces.{anchor_before, space_before}, specs.Standings.{Held, RowsOfEntry, before_entry, behind_entry, held}}
-use Rattle.yq_places.specs.StandingReading.{AreRowsOf}
+use Rattle.yq_places.{specs.LineReading.{CutsLines, line_list}, specs.PrintedLines.last_break}
+use Rattle.yq_places.{specs.RowPieces.{anchor_before, space_before}, specs.Standings.{Held, LinesIn, RowsOfEntry, before_entry, behind_entry, held, lines_between}}
+use Rattle.yq_places.{specs.StandingReading.AreRowsOf, proofs.LinesCutLaws.none_between}
 use Rattle.yq_places.proofs.EntryRowLaws.{head_ends, line_boundary_at, line_cut, pieces_at, stop_boundary, stop_is, through_is}
 use Rattle.yq_outline.{specs.Extents.{head_place, row_start}, specs.RowWalk.line_column, proofs.WalkLevels.{last_is, to_dash}}
 
@@ -97,6 +97,10 @@ module _ (t : List ℕ) (s : RowsView) (e : RowsOfEntry) (row end : ℕ) (h : Ar
   unfolding lower_cut
   lower_is text is tail tail_is lower says = says (lower_cut text is tail tail_is)
 
+  pub lower_none : (text : List ℕ) → text ≡ t → (tail : List ℕ) → tail ≡ y.tail → eqb (place.1 + length tail) stop ≡ is_empty ((slices e.row).raw ++ rows_text e.under [])
+  unfolding lower_cut
+  lower_none text is tail tail_is = none_between text (place.1 + length tail) stop (lower_cut text is tail tail_is)
+
   size : (space head : List ℕ) → space ≡ space_before y → head ≡ y.head → place.1 - (length space + length head) ≡ length front
   size space head a b =
       let x : Slices = slices e.row in
@@ -143,10 +147,11 @@ module _ (t : List ℕ) (s : RowsView) (e : RowsOfEntry) (row end : ℕ) (h : Ar
       let x : Slices = slices e.row in
       (λ i. take (size space head a b i) ((is ∙ line_is_front) i)) ∙ take-append_seam front ((space_before x ++ x.head) ++ x.tail)
 
-  pub held_is : (column dashes : ℕ) (keyed noted : Bool) (before space head break last : List ℕ) (tail : LineEnd) (lower : LinesIn) →
+  pub held_is : (column dashes : ℕ) (keyed noted none : Bool) (before space head break last : List ℕ) (tail : LineEnd) (lower : LinesIn) →
       column ≡ line_column dashes y → dashes ≡ length e.row.dashes → keyed ≡ not (is_empty y.colon) → tail ≡ end_in_line [] y.tail →
       noted ≡ (not (is_empty y.anchor) || not (is_empty tail.comment)) → lower ≡ lines_between ((before_entry e ++ text_to_line_end e.row) ++ (slices e.row).tail) ((slices e.row).raw ++ rows_text e.under []) (behind_entry e) →
-      space ≡ space_before y → head ≡ y.head → before ≡ take (place.1 - (length space + length head)) lower.before → break ≡ cond lower.none [] tail.behind → last ≡ cond lower.none tail.behind lower.last →
+      space ≡ space_before y → head ≡ y.head → before ≡ take (place.1 - (length space + length head)) lower.before → none ≡ is_empty ((slices e.row).raw ++ rows_text e.under []) →
+      break ≡ cond none [] tail.behind → last ≡ cond none tail.behind lower.last →
       ◌≡◌ {A = Held} (record {
         mark = record { column = column; keyed = keyed; noted = noted };
         before = before;
@@ -160,7 +165,7 @@ module _ (t : List ℕ) (s : RowsView) (e : RowsOfEntry) (row end : ℕ) (h : Ar
         last = last;
         behind = lower.behind;
       }) (held e)
-  held_is column dashes keyed noted before space head break last tail lower columns_are dashes_are keyed_is tail_is noted_is lower_is space_is head_is before_cut break_is last_is_it =
+  held_is column dashes keyed noted none before space head break last tail lower columns_are dashes_are keyed_is tail_is noted_is lower_is space_is head_is before_cut none_is break_is last_is_it =
       let r : Row = e.row in
       let end : tail ≡ end_in_line [] (slices r).tail = tail_is ∙ ap (λ (z : Slices). end_in_line [] z.tail) (sym same) in
       let a : column ≡ mark_column r = columns_are ∙ (ap (line_column dashes) (sym same) ∙ mark_column_is r dashes dashes_are) in
@@ -169,9 +174,9 @@ module _ (t : List ℕ) (s : RowsView) (e : RowsOfEntry) (row end : ℕ) (h : Ar
       let f : before ≡ front = before_cut ∙ before_is lower.before space head (ap (λ (z : LinesIn). z.before) lower_is) space_is head_is in
       let g : space ≡ space_before (slices r) = space_is ∙ ap space_before (sym same) in
       let k : head ≡ (slices r).head = head_is ∙ ap (λ (z : Slices). z.head) (sym same) in
-      let m : break ≡ cond (is_empty ((slices r).raw ++ rows_text e.under [])) [] (end_in_line [] (slices r).tail).behind = break_is ∙ (λ i. cond (lower_is i).none [] (end i).behind) in
+      let m : break ≡ cond (is_empty ((slices r).raw ++ rows_text e.under [])) [] (end_in_line [] (slices r).tail).behind = break_is ∙ (λ i. cond (none_is i) [] (end i).behind) in
       let n : last ≡ cond (is_empty ((slices r).raw ++ rows_text e.under [])) (end_in_line [] (slices r).tail).behind
-      (last_break ((slices r).raw ++ rows_text e.under [])) = last_is_it ∙ (λ i. cond (lower_is i).none (end i).behind (lower_is i).last) in
+      (last_break ((slices r).raw ++ rows_text e.under [])) = last_is_it ∙ (λ i. cond (none_is i) (end i).behind (lower_is i).last) in
       λ i. record {
         mark = record { column = a i; keyed = b i; noted = d i };
         before = f i;

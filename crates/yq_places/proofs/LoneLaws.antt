@@ -10,10 +10,10 @@ use Rattle.yq_row_table.{specs.Exchange.row_front, specs.Grammar.IsMark, specs.O
 use Rattle.yq_row_table.specs.Rows.{Content, Nothing, Inline, Block, Row, dashes_text, parent_indent, print_row, rows_text, Cut}
 use Rattle.yq_row_table.specs.View.{Slices, slices, content_cut, rows_of, RowsView, rows_view}
 use Rattle.yq_row_table.proofs.NodePieces.{before_ascii, behind_ascii, tail_ascii}
-use Rattle.yq_documents.specs.Reading.{cut_of}
+use Rattle.yq_documents.{specs.Pieces.TextPiece, specs.Reading.cut_of}
 use Rattle.yq_places.{specs.CommentPlaces.text_to_line_end, specs.RowPieces.upto_dash, specs.EntryReading.line_begin}
-use Rattle.yq_places.specs.LineReading.{CutsLines, LinesIn, lines_between, line_list}
-use Rattle.yq_places.specs.Standings.{Lone, RowsOfEntry, before_entry, behind_entry, dash_text, is_alone, lone}
+use Rattle.yq_places.specs.LineReading.{CutsLines, line_list}
+use Rattle.yq_places.specs.Standings.{LinesIn, RowsOfEntry, before_entry, behind_entry, dash_text, is_alone, lines_between, lone}
 use Rattle.yq_places.{specs.StandingReading.AreRowsOf, proofs.CommentEndLaws.row_text_parts, proofs.DashLaws.{front_is, row_cut}}
 use Rattle.yq_places.proofs.EntryRowLaws.{cut_in_two, first_at, head_ends, pieces_at, row_valid, stop_boundary, stop_is, text}
 use Rattle.yq_places.{proofs.LineEndLaws.line_tail, proofs.RowStarts.line_begins}
@@ -72,7 +72,7 @@ module _ (t : List ℕ) (s : RowsView) (e : RowsOfEntry) (row end : ℕ) (h : Ar
       subst (IsCharBoundary front) (sym start) (IsCharBoundary-at_seam front before head (front_is_text u front is cut ∙ ap (λ (z : List ℕ). before ++ z) own) utf8)
 
   pub lone_is : (u front first last head : List ℕ) → u ≡ t → front ≡ take place.1 u → last ≡ drop place.1 u → first ≡ take place.0 front → head ≡ y.head → is_alone e.row ≡ true →
-      ◌≡◌ {A = Lone} (record { before = first; head = head; behind = last }) (lone (before_entry e) e.row (rows_text e.under (behind_entry e)))
+      ◌≡◌ {A = TextPiece} (record { before = first; text = head; behind = last }) (lone (before_entry e) e.row (rows_text e.under (behind_entry e)))
   lone_is u front first last head is cut rest before_cut head_is a =
       let x : Slices = slices e.row in
       let b : first ≡ before = before_cut ∙ ((λ i. take (start i) (front_is_text u front is cut i)) ∙ take-append_seam before x.head) in
@@ -80,7 +80,7 @@ module _ (t : List ℕ) (s : RowsView) (e : RowsOfEntry) (row end : ℕ) (h : Ar
       let l : last ≡ x.tail ++ rows_text e.under (behind_entry e) =
       rest ∙ (((λ i. drop (stop i) ((is ∙ whole) i)) ∙ drop-append_seam (before ++ x.head) behind) ∙ ap (λ (z : List ℕ). x.tail ++ (z ++ rows_text e.under (behind_entry e))) none) in
       let own : head ≡ x.head = head_is ∙ ap (λ (z : Slices). z.head) (sym same) in
-      λ i. record { before = b i; head = own i; behind = l i }
+      λ i. record { before = b i; text = own i; behind = l i }
 
 -- ---- a collection after a dash
 

@@ -6,11 +6,11 @@ use Rattle.yq_core.specs.Answers.{◌>>=◌}
 use Rattle.yq_row_table.{specs.Grammar.{IsCut, no_rows as has_none}, specs.Offsets.row_length}
 use Rattle.yq_row_table.specs.Rows.{Part, Row, behind_indent, print_row, rows_text, Cut, cut_text}
 use Rattle.yq_row_table.specs.View.{Slices, slices, RowsView, rows_view}
-use Rattle.yq_documents.{specs.Reading.cut_of, specs.LinesInRows.document_row}
-use Rattle.yq_places.{specs.EntryReading.{before_line, line_begin}, specs.LineReading.{CutsLines, LinesIn, lines_between, line_list}}
+use Rattle.yq_documents.{specs.LinesInRows.document_row, specs.Pieces.TextPiece, specs.Reading.cut_of}
+use Rattle.yq_places.{specs.EntryReading.{before_line, line_begin}, specs.LineReading.{CutsLines, line_list}}
 use Rattle.yq_places.{specs.PlacedRows.{PlacedPart, placed_document}, specs.RootReading.{if_rowless, rowless_at, rowless_place}}
 use Rattle.yq_places.specs.RowWalk.{document_row_range}
-use Rattle.yq_places.specs.Standings.{NoRows, RowsOfEntry, alone, before_entry, behind_entry, block_root, is_alone, lone, no_rows, root}
+use Rattle.yq_places.specs.Standings.{LinesIn, RowsOfEntry, alone, before_entry, behind_entry, is_alone, lines_between, lone, no_rows, root, root_lines}
 use Rattle.yq_places.{specs.Standings.{root_standing, standing_at}, specs.StandingReading.{IsRootOf, root_entry}}
 use Rattle.yq_places.{proofs.EntryRowLaws.{cut_in_two, first_at, pieces_at, stop_boundary, stop_is}, proofs.PlacedPartLaws.placed_is}
 use Rattle.yq_places.{proofs.PlacedRowLaws.{document_placed, part_of}, proofs.RowStarts.line_begins, proofs.SeamLaws.line_boundary}
@@ -20,23 +20,23 @@ use Rattle.yq_outline.{specs.Extents.row_start, specs.declared.line_position.Str
 -- ---- documents without rows
 
 -- the text of a document without rows
-abbrev unwritten : PlacedPart → NoRows
-unwritten d = record { before = d.before ++ d.part.end; behind = d.behind }
+abbrev unwritten : PlacedPart → TextPiece
+unwritten d = record { before = d.before ++ d.part.end; text = []; behind = d.behind }
 
 pub no_bare : (n : ℕ) (c : Cut) → None ≡ rowless_at n c → None ≡ rowless_place n c
 no_bare n c e = go (rowless_place n c) e
   where
-    go : (o : Option NoRows) → None ≡ option_map (λ (x : NoRows). length x.before) o → None ≡ o
+    go : (o : Option TextPiece) → None ≡ option_map (λ (x : TextPiece). length x.before) o → None ≡ o
     go None e = refl
     go (Some w) e = absurd (none-some _ e)
 
-pub bare_stands : (n : ℕ) (c : Cut) (w : NoRows) → Some w ≡ rowless_place n c → Some (no_rows w) ≡ standing_at n [] c
+pub bare_stands : (n : ℕ) (c : Cut) (w : TextPiece) → Some w ≡ rowless_place n c → Some (no_rows w) ≡ standing_at n [] c
 bare_stands n c w e = go (placed_document n c) e
   where
     in_rows : (d : PlacedPart) (rs : List Row) → d.part.rows ≡ rs → Some w ≡ if_rowless d → Some (no_rows w) ≡ Some (root_standing d d.part.rows)
     in_rows d [] is e =
         let same : w ≡ unwritten d = same_Some _ _ (e ∙ ap (λ (x : List Row). cond (has_none x) (Some (unwritten d)) None) is) in
-        ap (λ (x : NoRows). Some (no_rows x)) same ∙ ap (λ (x : List Row). Some (root_standing d x)) (sym is)
+        ap (λ (x : TextPiece). Some (no_rows x)) same ∙ ap (λ (x : List Row). Some (root_standing d x)) (sym is)
     in_rows d (r ∷ rs) is e = absurd (none-some _ (sym (e ∙ ap (λ (x : List Row). cond (has_none x) (Some (unwritten d)) None) is)))
 
     go : (o : Option PlacedPart) → Some w ≡ (o >>= if_rowless) → Some (no_rows w) ≡ option_map (λ (d : PlacedPart). root_standing d d.part.rows) o
@@ -98,10 +98,10 @@ module _ (t : List ℕ) (s : RowsView) (d : Stretch) (h : IsRootOf t s d) where
   pub root_alone : is_alone h.row ≡ true → alone (lone (before_entry e) h.row (rows_text h.under (behind_entry e))) ≡ root_standing h.part (h.row ∷ h.under)
   root_alone a =
       ap (λ (x : List ℕ). alone (lone x h.row (rows_text h.under (h.part.part.end ++ h.part.behind)))) (append-nil h.part.before)
-      ∙ sym (cond-true (is_alone h.row) (alone (lone h.part.before h.row (rows_text h.under (h.part.part.end ++ h.part.behind)))) (root (block_root h.part h.row h.under)) a)
+      ∙ sym (cond-true (is_alone h.row) (alone (lone h.part.before h.row (rows_text h.under (h.part.part.end ++ h.part.behind)))) (root h.row.column (root_lines h.part h.row h.under)) a)
 
-  pub root_block : is_alone h.row ≡ false → root (block_root h.part h.row h.under) ≡ root_standing h.part (h.row ∷ h.under)
-  root_block a = sym (cond-false (is_alone h.row) (alone (lone h.part.before h.row (rows_text h.under (h.part.part.end ++ h.part.behind)))) (root (block_root h.part h.row h.under)) a)
+  pub root_block : is_alone h.row ≡ false → root h.row.column (root_lines h.part h.row h.under) ≡ root_standing h.part (h.row ∷ h.under)
+  root_block a = sym (cond-false (is_alone h.row) (alone (lone h.part.before h.row (rows_text h.under (h.part.part.end ++ h.part.behind)))) (root h.row.column (root_lines h.part h.row h.under)) a)
 
   module _ (u : IsUtf8 t) (start stop : ℕ)
       (start_agrees : (x : Slices) → slice_get s.rows d.first ≡ Some x → start ≡ line_begin (row_start d.first s) x 0)
@@ -140,6 +140,6 @@ module _ (t : List ℕ) (s : RowsView) (d : Stretch) (h : IsRootOf t s d) where
           stops = subst (λ (z : List ℕ). IsCharBoundary z stop) (sym is) (subst (IsCharBoundary t) (sym stops) (stop_boundary t s e d.first d.end h.is u));
         }
 
-    pub root_lines : (v : List ℕ) (is : v ≡ t) (lower : LinesIn) → ((k : CutsLines v start stop) → lower ≡ line_list k) → lower ≡ lines_between before own (h.part.part.end ++ h.part.behind)
+    pub lines_there : (v : List ℕ) (is : v ≡ t) (lower : LinesIn) → ((k : CutsLines v start stop) → lower ≡ line_list k) → lower ≡ lines_between before own (h.part.part.end ++ h.part.behind)
     unfolding root_cut
-    root_lines v is lower says = says (root_cut v is)
+    lines_there v is lower says = says (root_cut v is)

@@ -110,7 +110,7 @@ some_head e x h2 head is = search (rules, false≢true, cond-false)
 
 module _ (t : List ℕ) (s : RowsView) (e : RowsOfEntry) (m : declared.RowsOfEntry) (h : IsEntryIn t s e m) where
   mark_here : m.line ≡ m.dashes → behind_mark e e.row.content ≡ entry_standing e
-  mark_here same = sym (cond-true (eqb e.line (length e.row.dashes)) (behind_mark e e.row.content) (compact (compact_in e)) (eq-eqb e.line (length e.row.dashes) (sym h.line ∙ (same ∙ h.dashes))))
+  mark_here same = sym (cond-true (eqb e.line (length e.row.dashes)) (behind_mark e e.row.content) (compact_in e) (eq-eqb e.line (length e.row.dashes) (sym h.line ∙ (same ∙ h.dashes))))
 
   pub block_here : m.line ≡ m.dashes → (b : BlockText) → block_of e.row.content ≡ Some b → block (held e) b.indent.columns ≡ entry_standing e
   block_here same b is = block_mark e e.row.content b is ∙ mark_here same

@@ -2,7 +2,7 @@ use Rattle.std.{proofs.Common.{[], ◌≡◌, ◌∙◌, ◌+◌, ◌<◌, suc, 
 use Rattle.yq_text.specs.Halves.{whole}
 use Rattle.yq_core.specs.Text.{is_empty}
 use Rattle.yq_row_table.specs.View.{Slices, row_view}
-use Rattle.yq_places.{specs.CommentPlaces.end_in_line, specs.LineReading.lines_view}
+use Rattle.yq_places.{specs.CommentPlaces.end_in_line, specs.Standings.compact, specs.StandingViews.lines_view}
 use Rattle.yq_places.{proofs.EntryRowLaws.{column_fits, last_within, pieces_at, row_within, is_view}, proofs.HeldTexts.column_is}
 use Rattle.yq_places.proofs.LoneLaws.{dash_cut, dash_fits, dash_lines}
 use Rattle.yq_outline.specs.RowWalk.{line_column}
@@ -37,8 +37,8 @@ returns c = λ e h.
     let first = c.mark_of.ensures.column ∙ ((λ i. line_column (h.line i) (sym row i)) ∙ column_is e.row e.line (omega (arith, less))) in
     let next : c.args.at.line + 1 ≡ suc e.line = omega (arith, h.line) in
     let second = c.line_column.ensures.value ∙ ((λ i. line_column (next i) (sym row i)) ∙ column_is e.row (suc e.line) (omega (arith, less))) in
-    let noted = c.mark_of.ensures.noted ∙ (λ i. not (is_empty (sym row i).anchor) || not (is_empty ((c.cut_tail-tail.ensures ∙ ap (λ (y : Slices). end_in_line [] y.tail) (sym row)) i).comment)) in
-    λ i. record { mark = record { column = first i; keyed = c.mark_of.ensures.keyed i; noted = noted i }; column = second i; before = (lower i).before; old = (lower i).lines; last = (lower i).last; behind = (lower i).behind }
+    let noted = c.mark_of.ensures.noted ∙ (λ i. not (is_empty (sym row i).anchor) || not (is_empty ((c.line_end-comment.ensures.comment ∙ ap (λ (t : List ℕ). (end_in_line [] t).comment) (c.tail.ensures ∙ ap (λ (y : Slices). y.tail) (sym row))) i))) in
+    λ i. compact (record { column = first i; keyed = c.mark_of.ensures.keyed i; noted = noted i }) (second i) (lower i)
 
 pub overflow_add-line_start : goal.overflow_add-line_start
 overflow_add-line_start c =

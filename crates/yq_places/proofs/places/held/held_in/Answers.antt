@@ -1,9 +1,9 @@
 use Rattle.std.{proofs.Common.{ℕ, refl, ap, ◌∙◌, arith}, specs.Str.IsUtf8}
 use Rattle.yq_text.specs.Halves.{whole}
 use Rattle.yq_row_table.specs.View.{row_view}
-use Rattle.yq_places.specs.LineReading.{LinesIn, lines_view, tail_view}
+use Rattle.yq_places.{specs.Standings.LinesIn, specs.StandingViews.lines_view}
 use Rattle.yq_places.proofs.EntryRowLaws.{column_fits, last_within, row_within, is_view}
-use Rattle.yq_places.proofs.HeldTexts.{before_boundary, held_is, lower_cut, lower_is, space_fits, tail_fits}
+use Rattle.yq_places.proofs.HeldTexts.{before_boundary, held_is, lower_cut, lower_is, lower_none, space_fits, tail_fits}
 use Rattle.yq_places.proofs.places.held.held_in.Goals as goal
 
 pub row-row-requires : goal.row-row-requires
@@ -63,12 +63,17 @@ returns c = λ e h.
     let lower = lower_is t s e c.args.at.row c.args.at.end h.rows u place c.head_place-end.ensures (row_view c.row-row.result) c.row-row.ensures
     c.row_stop-stop.result c.row_stop-stop.ensures t refl c.tail.result.now c.tail.ensures (lines_view c.cut_lines-lower.result)
     c.cut_lines-lower.ensures in
+    let none = lower_none t s e c.args.at.row c.args.at.end h.rows u place c.head_place-end.ensures (row_view c.row-row.result) c.row-row.ensures
+    c.row_stop-stop.result c.row_stop-stop.ensures t refl c.tail.result.now c.tail.ensures in
+    let end : (f : LineEnd → List ℕ) → f (end_in_line [] c.tail.result.now) ≡ f (end_in_line [] (row_view c.row-row.result).tail) = λ f i. f (end_in_line [] (c.tail.ensures i)) in
     held_is t s e c.args.at.row c.args.at.end h.rows u place c.head_place-end.ensures (row_view c.row-row.result) c.row-row.ensures c.row_stop-stop.result c.row_stop-stop.ensures
-    c.mark_of.result.column c.args.at.dashes c.mark_of.result.keyed c.mark_of.result.noted (whole c.split_at.result.0)
-    c.space_before-space.result.now c.head-head.result.now c.either.result.now c.either-2.result.now (tail_view c.cut_tail-tail.result)
+    c.mark_of.result.column c.args.at.dashes c.mark_of.result.keyed c.mark_of.result.noted _ (whole c.split_at.result.0)
+    c.space_before-space.result.now c.head-head.result.now c.either.result.now c.either-2.result.now
+    (record { before = []; white = c.line_end-white.result.0.now; comment = c.line_end-white.result.1.now; behind = c.line_end-white.result.2.now })
     (lines_view c.cut_lines-lower.result)
-    c.mark_of.ensures.column h.dashes (c.mark_of.ensures.keyed ∙ c.has_key.ensures) c.cut_tail-tail.ensures c.mark_of.ensures.noted lower
-    c.space_before-space.ensures c.head-head.ensures c.split_at.ensures.front c.either.ensures c.either-2.ensures
+    c.mark_of.ensures.column h.dashes (c.mark_of.ensures.keyed ∙ c.has_key.ensures) (λ i. record { before = []; white = (c.line_end-white.ensures.white ∙ end (λ e. e.white)) i; comment = (c.line_end-white.ensures.comment ∙ end (λ e. e.comment)) i; behind = (c.line_end-white.ensures.line_break ∙ end (λ e. e.behind)) i })
+    c.mark_of.ensures.noted lower
+    c.space_before-space.ensures c.head-head.ensures c.split_at.ensures.front none c.either.ensures c.either-2.ensures
 
 pub row_stop-stop-requires-clause-rows_view : goal.row_stop-stop-requires-clause-rows_view
 row_stop-stop-requires-clause-rows_view c = let h = c.requires in is_view (whole c.args.text) c.args.rows.now h.entry c.args.at.row c.args.at.end h.is.rows
