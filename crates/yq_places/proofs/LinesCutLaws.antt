@@ -1,7 +1,12 @@
 -- Lines cut out of a text.
-use Rattle.std.proofs.Common.{◌≡◌, inl, ℕ, ◌-◌, eqb, Bool, cond, List, [], ◌∷◌, ◌++◌, length, length-append, take, drop, refl, ◌∙◌, arith}
-use Rattle.std.{proofs.Common.rules, proofs.Math.Seq.{drop-append_seam, take-append_seam}, proofs.lemmas.Bool.{and_parts, eqb-true, ne_eqb}}
+use Rattle.std.proofs.Common.{◌≡◌, inl, ℕ, ◌+◌, ◌-◌, eqb, Bool, false, cond, List, [], ◌∷◌, ◌++◌, length, length-append, take, drop, refl, ◌∙◌, arith}
+use Rattle.std.{proofs.Common.rules, proofs.Math.Seq.{drop-append_seam, take-append_seam}, proofs.lemmas.Bool.{and_parts, eqb-true, false≢true, ne_eqb}}
+use Rattle.std.{specs.List.slice_get, specs.Str.{IsUtf8, IsCharBoundary}, proofs.Common.{Some, ap, sym, subst, append_assoc}}
 use Rattle.yq_core.specs.Text.{is_empty}
+use Rattle.yq_outline.specs.Extents.{row_start}
+use Rattle.yq_row_table.{specs.Offsets.row_length, specs.Rows.{print_row, rows_text}, specs.View.{RowsView, Slices}}
+use Rattle.yq_places.{specs.StandingReading.{EndsRows, rows_lines}, specs.Standings.{before_entry, behind_entry}}
+use Rattle.yq_places.proofs.EntryRowLaws.{cut_in_two, stop_boundary, stop_is}
 use Rattle.yq_places.{specs.LineReading.{CutsLines, IsLastBreak, line_list}, specs.Standings.LinesIn}
 use Rattle.yq_places.specs.PrintedLines.{is_last_break, last_break, less_break}
 
@@ -16,6 +21,10 @@ last_is (b ∷ bs) = go (is_last_break (b ∷ bs)) refl (last_is bs)
 pub none_is : (t : List ℕ) → eqb (length t) 0 ≡ is_empty t
 none_is t = search (rules, ne_eqb)
 
+pub some_first : (a b : List ℕ) → eqb (length a) 0 ≡ false → is_empty (a ++ b) ≡ false
+some_first [] b e = absurd (false≢true (sym e))
+some_first (x ∷ xs) b e = refl
+
 module _ (t : List ℕ) (from stop : ℕ) (h : CutsLines t from stop) where
   size : stop - from ≡ length h.own
   size = omega (arith, h.from_is, h.stop_is, length-append h.before h.own)
@@ -28,9 +37,24 @@ module _ (t : List ℕ) (from stop : ℕ) (h : CutsLines t from stop) where
       ◌≡◌ {A = LinesIn} (record { before = before; lines = lines; last = last; behind = behind }) (line_list h)
   lines_are before own lines last behind a b d e f = search (rules, take-append_seam, size, rest, drop-append_seam)
 
-  pub none_between : eqb from stop ≡ is_empty h.own
-  none_between = go h.own size
-    where
-      go : (own : List ℕ) → stop - from ≡ length own → eqb from stop ≡ is_empty own
-      go [] e = eq-eqb from stop (omega (arith, e, h.from_is, h.stop_is, length-append h.before h.own))
-      go (b ∷ bs) e = ne_eqb from stop (λ same. absurd (let none : stop - from ≡ suc (length bs) = e in omega (arith, none, same)))
+-- the end of the rows of an item or entry
+module _ (t : List ℕ) (s : RowsView) (from end : ℕ) (h : EndsRows t s from end) (u : IsUtf8 t) (stop : ℕ)
+    (agrees : (x : Slices) → slice_get s.rows (end - 1) ≡ Some x → stop ≡ row_start (end - 1) s + row_length x) where
+  stops : stop ≡ length (before_entry h.entry ++ print_row h.entry.row (rows_text h.entry.under []))
+  stops = stop_is t s h.entry h.row end h.rows stop agrees
+
+  pub rows_cut : CutsLines t from stop
+  rows_cut = record {
+    before = h.front;
+    own = h.own;
+    behind = behind_entry h.entry;
+    text = cut_in_two t s h.entry h.row end h.rows ∙ (ap (λ (z : List ℕ). z ++ behind_entry h.entry) h.text ∙ append_assoc h.front h.own (behind_entry h.entry));
+    from_is = h.from_is;
+    stop_is = stops ∙ ap length h.text;
+    starts = h.starts;
+    stops = subst (IsCharBoundary t) (sym stops) (stop_boundary t s h.entry h.row end h.rows u);
+  }
+
+  pub lines_there : (lower : LinesIn) → ((k : CutsLines t from stop) → lower ≡ line_list k) → lower ≡ rows_lines h
+  unfolding rows_cut
+  lines_there lower says = says rows_cut

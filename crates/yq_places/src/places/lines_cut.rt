@@ -1,13 +1,17 @@
 //! Lines cut out of a text, and the ends of lines.
-ghost use Rattle.std.specs.Prelude.{[], ◌≡◌, if◌then◌else◌};
+ghost use Rattle.std.specs.Prelude.{[], ◌≡◌, ◌++◌, if◌then◌else◌};
 ghost use Rattle.yq_text.specs.Halves.{whole};
+ghost use Rattle.yq_core.specs.Text.{is_empty};
 ghost use Rattle.yq_places.{specs.CommentPlaces.end_in_line, specs.StandingViews.lines_view};
 ghost use Rattle.yq_places.specs.LineReading as reading;
+ghost use Rattle.yq_places.specs.StandingReading as standing;
 
-use crate::places::halves::split_break;
+use crate::places::halves::{is_text, split_break};
+use crate::places::row_place::row_stop;
 use crate::places::written::cut_at;
 use yq_core::lines::split_at_break;
 use yq_core::text::split_white;
+use yq_row_table::Rows;
 use yq_text::Halves;
 
 /// Lines of a text, less their last break, between the text before them and the text after them.
@@ -18,6 +22,15 @@ pub struct LinesIn<'t> {
     /// The break of the last one.
     pub last: &'t str,
     pub behind: Halves<'t>,
+}
+
+impl LinesIn<'_> {
+    /// Whether there are none.
+    pub fn is_empty(&self) -> bool
+        ensures { result ≡ is_empty ((lines_view self.now).lines ++ (lines_view self.now).last) }
+    {
+        self.lines.is_empty() && self.last.is_empty()
+    }
 }
 
 /// A break that ends a text, as one string.
@@ -33,7 +46,7 @@ fn last_break<'t>(end: Halves<'_>) -> &'t str
 }
 
 /// Lines from a place on up to another one, in bytes.
-pub fn cut_lines<'t>(text: Halves<'t>, from: usize, stop: usize) -> LinesIn<'t>
+fn cut_lines<'t>(text: Halves<'t>, from: usize, stop: usize) -> LinesIn<'t>
     requires { reading.CutsLines (whole text) from stop }
     ensures { (h : reading.CutsLines (whole text.entry) from stop) →
         lines_view result ≡ reading.line_list h }
@@ -46,6 +59,16 @@ pub fn cut_lines<'t>(text: Halves<'t>, from: usize, stop: usize) -> LinesIn<'t>
         last: last_break(last),
         behind,
     }
+}
+
+/// Lines from a place on in the rows of an item or entry, up to their end, after which row `end` comes.
+pub fn rows_lines<'t>(rows: &Rows<'t>, text: Halves<'t>, from: usize, end: usize) -> LinesIn<'t>
+    requires { standing.EndsRows (whole text) rows.now from end }
+    ensures { (h : standing.EndsRows (whole text.entry) rows.now from end) →
+        lines_view result ≡ standing.rows_lines h }
+{
+    is_text(text);
+    cut_lines(text, from, row_stop(rows, end - 1))
 }
 
 /// The white space and the comment that end a line, and its break, of which each may be nothing: where

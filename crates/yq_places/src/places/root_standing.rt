@@ -7,8 +7,8 @@ ghost use Rattle.yq_places.specs.StandingViews as row_agrees;
 
 use crate::places::entry_standing::{is_alone, lone_in};
 use crate::places::halves::is_text;
-use crate::places::lines_cut::cut_lines;
-use crate::places::row_place::{line_start, row_stop};
+use crate::places::lines_cut::rows_lines;
+use crate::places::row_place::line_start;
 use crate::places::standing::Standing;
 use yq_outline::{Position, Stretch};
 use yq_row_table::Rows;
@@ -27,8 +27,8 @@ fn block_root_in<'t>(rows: &Rows<'t>, text: Halves<'t>, document: Stretch) -> St
         line: 0,
     };
     let column = rows.row(document.first).column();
-    let stop = row_stop(rows, document.end - 1);
-    Standing::Root(column, cut_lines(text, line_start(rows, position), stop))
+    let start = line_start(rows, position);
+    Standing::Root(column, rows_lines(rows, text, start, document.end))
 }
 
 /// What is at the root of a document with rows.
