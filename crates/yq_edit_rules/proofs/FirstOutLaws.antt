@@ -1,5 +1,5 @@
 -- What is taken out with the first item or entry of a compact collection is in the text.
-use Rattle.std.proofs.Common.{rules, ◌≡◌, ℕ, zero, suc, ◌<◌, Bool, true, false, cond, List, [], ◌++◌, Some, refl, sym, ap, ◌∙◌, arith}
+use Rattle.std.proofs.Common.{rules, ◌≡◌, ℕ, zero, suc, ◌<◌, Bool, true, false, cond, List, ◌++◌, Some, refl, sym, ap, ◌∙◌, arith}
 use Rattle.std.{proofs.Common.append_assoc, proofs.lemmas.Bool.eqb-false, proofs.lemmas.List.take-append-drop, specs.List.slice_get}
 use Rattle.yq_core.{specs.Answers.◌>>=◌, specs.Paths.Step, specs.Text.{cut, cut_line, no_space, upto, line_len}, proofs.Bools.bind_some}
 use Rattle.yq_core.proofs.Binds.{not_then}
@@ -40,19 +40,16 @@ out_whole p = go (begins_gap (cut_line p.behind).1)
     line : (cut_line p.behind).0 ++ (cut_line p.behind).1 ≡ p.behind
     line = take-append-drop (line_len p.behind) p.behind
 
-    abbrev next : List ℕ × List ℕ
-    next = cut no_space (cut_line p.behind).1
-
-    indent : next.0 ++ next.1 ≡ (cut_line p.behind).1
+    indent : (cut no_space (cut_line p.behind).1).0 ++ (cut no_space (cut_line p.behind).1).1 ≡ (cut_line p.behind).1
     indent = take-append-drop (upto no_space (cut_line p.behind).1) (cut_line p.behind).1
 
-    after : (p.text ++ ((cut_line p.behind).0 ++ next.0)) ++ next.1 ≡ p.text ++ p.behind
+    after : (p.text ++ ((cut_line p.behind).0 ++ (cut no_space (cut_line p.behind).1).0)) ++ (cut no_space (cut_line p.behind).1).1 ≡ p.text ++ p.behind
     after =
-        append_assoc p.text ((cut_line p.behind).0 ++ next.0) next.1
-        ∙ ap (λ (t : List ℕ). p.text ++ t) (append_assoc (cut_line p.behind).0 next.0 next.1 ∙ (ap (λ (t : List ℕ). (cut_line p.behind).0 ++ t) indent ∙ line))
+        append_assoc p.text ((cut_line p.behind).0 ++ (cut no_space (cut_line p.behind).1).0) (cut no_space (cut_line p.behind).1).1
+        ∙ ap (λ (t : List ℕ). p.text ++ t) (append_assoc (cut_line p.behind).0 (cut no_space (cut_line p.behind).1).0 (cut no_space (cut_line p.behind).1).1 ∙ (ap (λ (t : List ℕ). (cut_line p.behind).0 ++ t) indent ∙ line))
 
     go : (b : Bool) →
-        piece_text (cond b (piece_between (less_spaces p.before) (end_spaces p.before ++ p.text) p.behind) (piece_between p.before (p.text ++ ((cut_line p.behind).0 ++ next.0)) next.1)) ≡ piece_text p
+        piece_text (cond b (piece_between (less_spaces p.before) (end_spaces p.before ++ p.text) p.behind) (piece_between p.before (p.text ++ ((cut_line p.behind).0 ++ (cut no_space (cut_line p.behind).1).0)) (cut no_space (cut_line p.behind).1).1)) ≡ piece_text p
     go true =
         ap (λ (t : List ℕ). less_spaces p.before ++ t) (append_assoc (end_spaces p.before) p.text p.behind)
         ∙ (sym (append_assoc (less_spaces p.before) (end_spaces p.before) (p.text ++ p.behind)) ∙ ap (λ (t : List ℕ). t ++ (p.text ++ p.behind)) (sym (spaces_parts p.before)))

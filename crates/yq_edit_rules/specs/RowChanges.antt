@@ -13,7 +13,7 @@ use Rattle.yq_edit_rules.specs.CommentEdits.{above_rows, comment_put, comment_wr
 use Rattle.yq_edit_rules.specs.PiecePuts.{piece_replaced}
 use Rattle.yq_edit_rules.{specs.Edits.op_edits, specs.Operands.HasOperand, specs.ReplaceEdits.held_put, specs.Replacing.keeps_scalar}
 use Rattle.yq_edit_rules.specs.WrittenValues.{inline, value_text}
-use Rattle.yq_semantics.{specs.Fits.Fits, specs.Meaning.head_comment_lines, specs.Operations.{head_comment, line_comment, replace}}
+use Rattle.yq_semantics.{specs.Fits.Fits, specs.Operations.{head_comment, line_comment, replace}}
 use Rattle.yq_semantics.specs.Rooms.{room_of}
 
 -- In the cut of the text that segments make, the row of an item or entry of document n has given way to another one of its shape (own).

@@ -1,4 +1,4 @@
-use Rattle.std.{proofs.Common.{ℕ, List, ◌-◌, Some, take, drop, sym, ap, ◌∙◌, subst}, specs.Str.{IsUtf8, IsCharBoundary}}
+use Rattle.std.{proofs.Common.{ℕ, List, ◌-◌, Some, drop, sym, ap, ◌∙◌, subst}, specs.Str.{IsUtf8, IsCharBoundary}}
 use Rattle.yq_places.{specs.FirstPlaces.{first_out, piece_between}, specs.LineReading.piece_at, specs.RowLineReading.line_view}
 use Rattle.yq_places.proofs.FirstLaws.{entry_stands, first_is, no_first_entry, no_first_row_line, other_first_line}
 use Rattle.yq_documents.specs.Reading.{cut_of}
