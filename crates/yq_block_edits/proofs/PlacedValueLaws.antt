@@ -1,5 +1,5 @@
 -- What is put where something is asks for no more than it writes.
-use Rattle.std.proofs.Common.{◌≡◌, ℕ, ◌+◌, Bool, true, false, cond, List, [], ◌∷◌, ◌++◌, replicate, Some, option_map, refl, sym, ap, subst}
+use Rattle.std.proofs.Common.{◌≡◌, ℕ, ◌+◌, Bool, true, false, cond, List, [], ◌++◌, replicate, Some, option_map, refl, sym, ap, subst}
 use Rattle.std.{proofs.Common.◌∙◌, proofs.lemmas.Bool.or_left}
 use Rattle.yq_core.{specs.BlockWritten.break_text, specs.Paths.Step, specs.Tree.Node}
 use Rattle.yq_core.specs.declared.style.Place.TheVariants.{Block as InBlock}

@@ -72,9 +72,9 @@ pub fn head_comment_at<'t>(
 ) -> Result<Option<Segments<'t>>, AllocError>
     ensures { GivesSegments result (at_path spec.head_comment_at path.now cut.now text.now) }
 {
-    let Some((column, run)) = cut.lines_above(path) else {
+    let Some((column, above)) = cut.lines_above(path) else {
         return Ok(None);
     };
     let new = head_comment_written(alloc, cut, column, text)?;
-    replace_piece(alloc, &run, new).map(Some)
+    replace_piece(alloc, &above, new).map(Some)
 }

@@ -39,7 +39,7 @@ module _ (n : ℕ) (v : Node) (c : Cut) (column : ℕ) (w : LinesIn) (read : rea
     local new there =
         let st = (takes_value n c column w read h).stands in
         let lead : List ℕ = h.row.gap ++ replicate column 32 in
-        let same : replicate {A = ℕ} h.rocolumn 32 ≡ replicate column 32 = ap (λ k. replicate k 32) (sym h.column_is) in
+        let same : replicate {A = ℕ} h.row.column 32 ≡ replicate column 32 = ap (λ k. replicate k 32) (sym h.column_is) in
         lines_local (root_put l v column w) c n (rooted (root_rows l h.row.gap column w.last v) h.d.part.end h.d.part) (record {
           p = h.d.part;
           there = st.there;
@@ -73,7 +73,7 @@ module _ (n : ℕ) (v : Node) (c : Cut) (column : ℕ) (w : LinesIn) (read : rea
               ap (λ (k : ℕ). length (replicate {A = ℕ} k 32)) h.column_is,
               length-append h.row.gap (replicate {A = ℕ} column 32),
               length-append h.row.gap (behind_gap h.row []),
-              length-append (replicate h.rocolumn 32) (behind_indent h.row []),
+              length-append (replicate h.row.column 32) (behind_indent h.row []),
             )
 
     carried : length (new_text (root_put l v column w)) ≤ text_limit → CarriedOut (replace n [] v) c (root_put l v column w)
