@@ -8,7 +8,7 @@ use Rattle.yq_core.{specs.Answers.◌>>=◌, specs.BlockWritten.break_text, spec
 use Rattle.yq_core.{specs.Text.is_empty, specs.declared.block_types.Break.Break}
 use Rattle.yq_row_table.specs.Rows.{Cut, cut_text}
 use Rattle.yq_documents.{specs.declared.path.Path.Path, specs.Documents.document_parts, specs.Located.steps_of}
-use Rattle.yq_documents.{specs.LinesInRows.{document_row, row_line_at}, specs.Reading.{cut_of, read_at}}
+use Rattle.yq_documents.{specs.LinesInRows.{document_row, row_line_at}, specs.Reading.{cut_of, read_at}, specs.Pieces.TextPiece}
 use Rattle.yq_places.{specs.CommentPlaces.{above_row, lines_above}, specs.FirstBreak.first_break, specs.PlacedRows.PlacedRow}
 use Rattle.yq_places.{specs.RowLineReading.{LineCounts, line_view, numbers}, specs.declared.places.stretch.RowLine.RowLine}
 use Rattle.yq_places.{proofs.PrintedTexts.map_some, specs.Standings.{RowsOfEntry, rows_of_entry}}
@@ -18,7 +18,6 @@ use Rattle.yq_semantics.{specs.Meaning.head_comment_lines, specs.Operations.head
 use Rattle.yq_edit_laws.{proofs.HeadCommentLaws.head_comments_change_rows, proofs.RowEditLaws.row_edits}
 use Rattle.yq_edit_laws.{proofs.CutLaws.{cut_read, text_read}, proofs.EditsHold.edit_is}
 use Rattle.yq_batch.{specs.RowRuns.{PutsInRow, PutsSo, PutsText, bytes_in, rows_still}, specs.declared.in_rows.RowPut.RowPut}
-use Rattle.yq_documents.specs.Pieces.{TextPiece}
 use Rattle.yq_documents.specs.LinesInRows as lines
 
 -- an empty head comment has no lines, and others end alike by the same break

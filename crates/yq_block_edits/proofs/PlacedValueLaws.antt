@@ -1,6 +1,6 @@
 -- What is put where something is asks for no more than it writes.
-use Rattle.std.proofs.Common.{◌≡◌, ℕ, ◌+◌, Bool, true, false, cond, List, [], ◌++◌, replicate, Some, option_map, refl, sym, ap, subst}
-use Rattle.std.{proofs.Common.◌∙◌, proofs.lemmas.Bool.or_left}
+use Rattle.std.proofs.Common.{◌≡◌, ℕ, ◌+◌, Bool, true, false, cond, List, [], ◌++◌, replicate, Some, option_map, refl, sym, ap, subst, ◌∙◌}
+use Rattle.std.proofs.lemmas.Bool.{or_left}
 use Rattle.yq_core.{specs.BlockWritten.break_text, specs.Paths.Step, specs.Tree.Node}
 use Rattle.yq_core.specs.declared.style.Place.TheVariants.{Block as InBlock}
 use Rattle.yq_row_table.specs.Rows.{Cut}
@@ -12,8 +12,8 @@ use Rattle.yq_edit_rules.specs.Layouts.{LooksLike, node_asks, is_filled_as, is_u
 use Rattle.yq_edit_rules.specs.ReplaceEdits.{compact_put, has_text, held_put, block_scalar_put, value_put}
 use Rattle.yq_edit_rules.specs.WrittenValues.{collection_at, column_under, compact_text, inline, lines, lines_in, takes_compact, value_text}
 use Rattle.yq_edit_rules.{specs.WrittenValues.{written_at, written_under}, proofs.LayoutLaws.{indent_like, value_like}}
-use Rattle.yq_text.specs.Script.{Segment}
 use Rattle.yq_edit_rules.specs.PiecePuts.{lines_replaced, piece_replaced}
+use Rattle.yq_text.specs.Script.{Segment}
 
 -- ---- a value that isn't a collection with items or entries
 

@@ -5,8 +5,7 @@ use Rattle.yq_core.{specs.BlockWritten.break_text, specs.Scalar.ScalarText, spec
 use Rattle.yq_core.specs.declared.value.Value.{Value}
 use Rattle.yq_documents.{specs.Located.steps_of, specs.Reading.cut_of, specs.declared.path.Path.Path}
 use Rattle.yq_outline.specs.Bodies.{borrowed}
-use Rattle.yq_places.specs.NodesAt.{scalar_in}
-use Rattle.yq_places.specs.StandingViews.{held_mark_view, held_view, lines_view, piece_view, standing_view}
+use Rattle.yq_places.{specs.NodesAt.scalar_in, specs.StandingViews.{held_mark_view, held_view, lines_view, piece_view, standing_view}}
 use Rattle.yq_text.specs.Script.{Segment}
 use Rattle.yq_edit_rules.{specs.declared.layout.Layout.Layout, specs.ValuesWritten.lines_at_mark}
 use Rattle.yq_edit_rules.specs.WrittenValues.{collection_by, inline, lines, written_at, written_under}

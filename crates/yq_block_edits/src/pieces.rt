@@ -1,8 +1,8 @@
 //! A text in the place of another one, between what is before and after that.
 ghost use Rattle.std.specs.Prelude.{string_bytes};
 ghost use Rattle.yq_places.specs.StandingViews.{lines_view, piece_view};
-ghost use Rattle.yq_edit_rules.specs.PiecePuts as spec;
 ghost use Rattle.yq_block_edits.specs.SegmentsPut.{IsExchange};
+ghost use Rattle.yq_edit_rules.specs.PiecePuts as spec;
 
 use std::alloc::{AllocError, Global};
 use yq_places::{LinesIn, TextPiece};

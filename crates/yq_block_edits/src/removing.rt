@@ -1,10 +1,9 @@
 //! Remove: one of several items or entries of a block collection.
 ghost use Rattle.std.specs.Prelude.{◌≡◌, ◌++◌, IfOk, OnOk, option_map, replicate, string_bytes};
 ghost use Rattle.yq_core.specs.Text.{text_lines};
-ghost use Rattle.yq_text.specs.Halves.{whole};
-ghost use Rattle.yq_places.{specs.FirstPlaces.piece_between, specs.RemovalReading.{removal_view, seam_view}};
-ghost use Rattle.yq_edit_rules.specs.Answers.{GivesSegments};
-ghost use Rattle.yq_block_edits.specs.TextsPut.{at_path};
+ghost use Rattle.yq_places.{specs.RemovalReading.{removal_view, seam_view}, specs.StandingViews.pieces_view};
+ghost use Rattle.yq_edit_rules.{specs.Answers.GivesSegments, specs.Removing.first_removed};
+ghost use Rattle.yq_block_edits.{specs.SegmentsPut.IsExchange, specs.TextsPut.at_path};
 ghost use Rattle.yq_edit_rules.specs.EntryEdits as entries;
 ghost use Rattle.yq_edit_rules.specs.Removing as spec;
 
@@ -136,8 +135,8 @@ fn take_first<'d>(
     gone: Halves<'d>,
     behind: Halves<'d>,
 ) -> Result<Segments<'d>, AllocError>
-    ensures { IfOk result (λ ss. ss ≡ spec.first_removed
-        (piece_between (whole before.entry) (whole gone.entry) (whole behind.entry))) }
+    ensures { IsExchange result (first_removed
+        (pieces_view before.entry gone.entry behind.entry)) }
 {
     let segments = vec![in alloc;
         Segment::Keep(before),

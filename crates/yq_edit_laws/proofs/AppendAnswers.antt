@@ -13,11 +13,10 @@ use Rattle.yq_places.specs.declared.places.flow_node.FlowHead.{FlowHead}
 use Rattle.yq_lookup.{specs.FlowEnds.{FlowEndAgrees, IsFlowEnd, IsInPiece}, specs.declared.flow_ends.FlowEnd.FlowEnd}
 use Rattle.yq_edit_rules.specs.FlowParts.{flow_more, flow_segments, takes_key}
 use Rattle.yq_edit_laws.specs.EditPlaces.{end_place, keyed_takes, moved_on, placed_takes}
-use Rattle.yq_edit_laws.specs.PartPuts.{AreMore, IsEditPlace, PutsMoreIn, more_edit, place_after}
-use Rattle.yq_edit_laws.{proofs.CutLaws.text_read, proofs.FlowAnswers.{CollFound, EditFound, edit_lies, edit_moved}}
-use Rattle.yq_edit_laws.{proofs.NeighbourPlaces.end_is_there, proofs.PiecePlaces.{place_found, whole_of}}
-use Rattle.yq_edit_laws.{proofs.FlowAppendLaws.{bounds, there}, proofs.FlowHeads.{append_found, appended_within, whole_is}}
-use Rattle.yq_edit_laws.proofs.FlowLonger.{appending_more}
+use Rattle.yq_edit_laws.{specs.PartPuts.{AreMore, IsEditPlace, PutsMoreIn, more_edit, place_after}, proofs.CutLaws.text_read}
+use Rattle.yq_edit_laws.{proofs.FlowAnswers.{CollFound, EditFound, edit_lies, edit_moved}, proofs.NeighbourPlaces.end_is_there}
+use Rattle.yq_edit_laws.{proofs.PiecePlaces.{place_found, whole_of}, proofs.FlowAppendLaws.{bounds, there}}
+use Rattle.yq_edit_laws.{proofs.FlowHeads.{append_found, appended_within, whole_is}, proofs.FlowLonger.appending_more}
 
 -- whether the collection takes it
 core_takes : (q : Placed) (key : Option (List ℕ)) → placed_takes (behind_anchor q) key ≡ placed_takes q key

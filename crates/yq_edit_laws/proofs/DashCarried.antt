@@ -11,7 +11,8 @@ use Rattle.yq_row_table.{specs.Rows.{Cut, Nothing, Row, cut_text, mark_column, r
 use Rattle.yq_row_table.proofs.PlaceLaws.{row_front-append}
 use Rattle.yq_documents.specs.Reading.{part_outline, read_at, root_of}
 use Rattle.yq_places.{specs.RowPieces.upto_dash, specs.PrintedLines.{last_break, less_break}}
-use Rattle.yq_places.{specs.Standings.{LinesIn, RowsOfEntry, compact_lines, compact_mark, dash_text, rows_of_entry}, proofs.PrintedTexts.less_is}
+use Rattle.yq_places.specs.Standings.{LinesIn, RowsOfEntry, compact_lines, compact_mark, dash_text, rows_of_entry}
+use Rattle.yq_places.proofs.PrintedTexts.{less_is}
 use Rattle.yq_edit_rules.{proofs.AppendEntryLaws.none_uncommented, specs.Appends.inserted, specs.Changed.put_document}
 use Rattle.yq_edit_rules.{specs.SoundRoots.MayReplace, specs.StandingLaws.StandsThere, specs.TextPieces.IsPiece}
 use Rattle.yq_edit_rules.{specs.Unders.spaced_content, proofs.TextPieceLaws.pieces_joined, specs.declared.layout.Layout.Layout}
@@ -180,7 +181,9 @@ module _ (n : ℕ) (s : Step) (ss : List Step) (c : Cut) (e : RowsOfEntry) (ther
             length (new_text (compact_put (break_text l.br) p
             (cond b (cond d (compact_text (block_value l (item_column (compact_mark e).column) v)) (lines (lines_in l (item_column (compact_mark e).column) v)))
             (inline (value_text InBlock [] v))))) ≤ text_limit →
-            CarriedOut op c (compact_put (break_text l.br) p (cond b (cond d (compact_text (block_value l (item_column (compact_mark e).column) v)) (lines (lines_in l (item_column (compact_mark e).column) v))) (inline (value_text InBlock [] v))))
+            CarriedOut op c (compact_put (break_text l.br) p
+            (cond b (cond d (compact_text (block_value l (item_column (compact_mark e).column) v))
+            (lines (lines_in l (item_column (compact_mark e).column) v))) (inline (value_text InBlock [] v))))
         go true true full = behind_carried full
         go true false full = under_carried full
         go false d full = beside_carried (value_text InBlock [] v) (value_for [] v tree f.deep f.long)

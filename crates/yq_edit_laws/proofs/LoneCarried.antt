@@ -11,8 +11,8 @@ use Rattle.yq_row_table.{specs.View.slices, proofs.CharacterLaws.ends_after, pro
 use Rattle.yq_row_table.proofs.seams.SeamLaws.{rows_text-append}
 use Rattle.yq_documents.{specs.Documents.lead_of, specs.Reading.{documents, read_at, root_of}, specs.TreeEdits.replaced_node}
 use Rattle.yq_documents.specs.Pieces.{TextPiece}
-use Rattle.yq_places.{specs.PlacedRows.{PlacedPart, PlacedRow, placed_document}, specs.Standings.lone}
-use Rattle.yq_places.{proofs.CommentEndLaws.row_text_parts, proofs.CommentPieceLaws.gap_end, proofs.LineEndLaws.line_tail}
+use Rattle.yq_places.{specs.PlacedRows.{PlacedPart, PlacedRow, placed_document}, specs.Standings.lone, proofs.CommentEndLaws.row_text_parts}
+use Rattle.yq_places.{proofs.CommentPieceLaws.gap_end, proofs.LineEndLaws.line_tail}
 use Rattle.yq_places.{proofs.RemovalLines.{LiesIn, LineSeam, lies_in, seam_join}, proofs.RunSpans.rows_then}
 use Rattle.yq_edit_rules.{specs.DocumentRows.{IsDocumentPart, behind_document}, specs.InlineRows.LeadsToLone, specs.PlacedParts.StandsAt}
 use Rattle.yq_edit_rules.{specs.Rooms.is_block_root, specs.TextPieces.IsPiece, proofs.CoreLaws.put_core, proofs.InlineReplaceLaws.own_rows}

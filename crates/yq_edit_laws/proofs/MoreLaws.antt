@@ -4,23 +4,24 @@ use Rattle.std.proofs.Common.{length, drop, replicate, take, Option, Some, refl,
 use Rattle.std.{proofs.lemmas.Bool.{cases_lt, cond-false, eqb-true, eqb-false}, proofs.lemmas.Option.{none-some, same_Some}}
 use Rattle.yq_core.{specs.BlockWritten.break_text, specs.Paths.Step, specs.Text.is_empty, specs.Tree.Node, proofs.Bools.bind_some}
 use Rattle.yq_row_table.{specs.Exchange.row_front, specs.Grammar.{AreDashes, AreRows, IsRow, Limit, unlimited}}
-use Rattle.yq_row_table.specs.Rows.{Content, Nothing, Inline, Block, Cut, Row, behind_columns, behind_dashes, behind_indent, cut_text, dashes_text}
-use Rattle.yq_row_table.{specs.Rows.{part_text, print_row, rows_text}, specs.View.{content_cut, slices}, proofs.NothingLaws.some_behind}
+use Rattle.yq_row_table.specs.Rows.{Content, Nothing, Inline, Block, Cut, Row, behind_columns, behind_dashes, behind_indent, cut_text}
+use Rattle.yq_row_table.{specs.Rows.{dashes_text, part_text, print_row, rows_text}, specs.View.{content_cut, slices}}
+use Rattle.yq_row_table.proofs.NothingLaws.{some_behind}
 use Rattle.yq_documents.specs.Reading.{read_at}
 use Rattle.yq_semantics.specs.Operations.{append}
 use Rattle.yq_text.specs.Script.{Segment}
 use Rattle.yq_places.{specs.CollectionEnds.{CollectionEnd, is_broken}, specs.CommentPlaces.text_to_line_end}
 use Rattle.yq_places.{specs.RowPieces.{past_dash, upto_dash}, specs.PlacedRows.{PlacedPart, placed_document}, specs.PrintedLines.last_break}
-use Rattle.yq_places.specs.Standings.{Held, LinesIn, RowsOfEntry, alone, beside, root, under, before_entry}
-use Rattle.yq_places.specs.Standings.{behind_entry, behind_mark, below, compact_in, compact_lines, dash_text, entry_standing, held, is_alone}
-use Rattle.yq_places.{specs.Standings.{Standing, lone, rows_of_entry, root_lines, root_standing, standing_at}, proofs.CommentEndLaws.row_text_parts}
+use Rattle.yq_places.specs.Standings.{Held, LinesIn, RowsOfEntry, alone, beside, root, under, before_entry, behind_entry, behind_mark}
+use Rattle.yq_places.specs.Standings.{below, compact_in, compact_lines, dash_text, entry_standing, held, is_alone, Standing, lone}
+use Rattle.yq_places.{specs.Standings.{rows_of_entry, root_lines, root_standing, standing_at}, proofs.CommentEndLaws.row_text_parts}
 use Rattle.yq_places.{proofs.DashLaws.{line_within, row_cut}, proofs.PrintedTexts.{less_is, map_some}}
 use Rattle.yq_edit_rules.{specs.CollectionPlaces.IsCollectionEnd, specs.DocumentRows.{IsDocumentPart, behind_document}}
 use Rattle.yq_edit_rules.{specs.PlacedParts.StandsAt, specs.StandingLaws.StandsThere, proofs.EndedRowLaws.row_there}
 use Rattle.yq_edit_rules.{proofs.PartLaws.{document_known, part_rows}, proofs.PlacedPartLaws.document_stands_at}
 use Rattle.yq_edit_rules.{proofs.StandingRows.rows_stand, specs.EditLaws.{IsEdit, MoreIsPut}, specs.ClosedTexts.lines_put_behind}
-use Rattle.yq_edit_rules.specs.EntryEdits.{entry_lines, more_at, behind_held, more_lines, block_more}
-use Rattle.yq_edit_rules.{specs.Layouts.layout_of, specs.PiecePuts.behind_lines, proofs.AppendPlaces.IsAppendPlace}
+use Rattle.yq_edit_rules.{specs.EntryEdits.{entry_lines, more_at, behind_held, more_lines, block_more}, specs.Layouts.layout_of}
+use Rattle.yq_edit_rules.{specs.PiecePuts.behind_lines, proofs.AppendPlaces.IsAppendPlace}
 use Rattle.yq_edit_rules.{proofs.CommentRowLaws.{entry_is_row, entry_row, rows_front}, proofs.HeldLaws.held_spelled}
 use Rattle.yq_edit_laws.proofs.CollectionRows.{EndIn, behind_front, text_broken}
 use Rattle.yq_edit_laws.proofs.CollectionStands.{are, begins_behind, begins_under, end_at, ends_there, headless_dash, headless_mark}

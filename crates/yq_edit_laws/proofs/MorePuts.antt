@@ -6,11 +6,10 @@ use Rattle.yq_text.{specs.Limit.text_limit, specs.Script.{Segment, kept_back, ke
 use Rattle.yq_row_table.specs.Rows.{Cut, cut_text}
 use Rattle.yq_documents.specs.Reading.{documents, read_at}
 use Rattle.yq_semantics.{specs.Fits.Fits, specs.Operations.append, specs.Rooms.room_of}
-use Rattle.yq_places.{specs.CollectionEnds.CollectionEnd, specs.Standings.Held}
-use Rattle.yq_places.specs.Standings.{LinesIn}
-use Rattle.yq_edit_rules.{specs.ClosedTexts.lines_put_behind, specs.EditLaws.IsEdit}
-use Rattle.yq_edit_rules.{specs.EntryEdits.{behind_held, entry_lines}, specs.Layouts.layout_of, specs.Local.IsLocalTo, specs.PiecePuts.behind_lines}
-use Rattle.yq_edit_rules.{specs.Operands.HasOperand, specs.ReadsAfter.ReadsAfter, proofs.AppendAtEnd.end_both}
+use Rattle.yq_places.{specs.CollectionEnds.CollectionEnd, specs.Standings.{Held, LinesIn}}
+use Rattle.yq_edit_rules.{specs.ClosedTexts.lines_put_behind, specs.EditLaws.IsEdit, specs.EntryEdits.{behind_held, entry_lines}}
+use Rattle.yq_edit_rules.{specs.Layouts.layout_of, specs.Local.IsLocalTo, specs.PiecePuts.behind_lines, specs.Operands.HasOperand}
+use Rattle.yq_edit_rules.{specs.ReadsAfter.ReadsAfter, proofs.AppendAtEnd.end_both}
 use Rattle.yq_edit_rules.{proofs.AppendPlaces.{IsAppendPlace, IsAsked, old_is, p, put_segments}, proofs.DoneLaws.nth_map}
 use Rattle.yq_edit_rules.proofs.EditsFitLaws.{tree_unique}
 use Rattle.yq_edit_laws.proofs.AppendInside.{inside_both}

@@ -20,7 +20,7 @@ use Rattle.yq_edit_rules.{specs.declared.layout.Layout.Layout, specs.CommentEdit
 use Rattle.yq_edit_rules.specs.Edits.{part_removed, replace_segments, rows_or_sole, sole_removed}
 use Rattle.yq_edit_rules.specs.EntryEdits.{block_more, one_removed}
 use Rattle.yq_edit_rules.{specs.FlowParts.{flow_more, flow_put, flow_removed, flow_segments, takes_key}, specs.Layouts.layout_of}
-use Rattle.yq_edit_rules.{specs.Removing.{first_removed, rows_removed}}
+use Rattle.yq_edit_rules.specs.Removing.{first_removed, rows_removed}
 use Rattle.yq_edit_rules.specs.ReplaceEdits.{block_put, compact_put, has_text, held_put, literal_put, block_scalar_put, string_put}
 use Rattle.yq_edit_rules.{specs.ReplaceEdits.value_put, specs.Replacing.keeps_scalar}
 use Rattle.yq_edit_rules.specs.WrittenValues.{Written, compact_text, inline, lines}

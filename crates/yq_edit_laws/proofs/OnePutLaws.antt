@@ -5,7 +5,7 @@ use Rattle.yq_core.{specs.Text.is_empty, specs.Tree.Node, specs.declared.style.P
 use Rattle.yq_places.specs.Standings.{Held}
 use Rattle.yq_text.{specs.Script.{Segment, changes, keep, keep_before, merged, put, put_before, splice_at, splices_at}, specs.Splice.Splice}
 use Rattle.yq_text.proofs.TouchLaws.{put_twice}
-use Rattle.yq_edit_rules.{specs.CommentEdits.{comment_written}, specs.ReplaceEdits.spaced_text}
+use Rattle.yq_edit_rules.{specs.CommentEdits.comment_written, specs.ReplaceEdits.spaced_text}
 use Rattle.yq_edit_rules.specs.RowChanges.{CommentPutsOne, InlinePutsOne, PiecePutsOne, PutsOne, inline_put, takes_white}
 use Rattle.yq_edit_rules.specs.WrittenValues.{value_text}
 

@@ -13,9 +13,9 @@ use Rattle.yq_row_table.{specs.Rows.{Row, Part, part_text, Cut, cut_text}, proof
 use Rattle.yq_row_table.{proofs.splices.MarkerLaws.marker_appended, proofs.GapLaws.some_more}
 use Rattle.yq_row_table.specs.Items.{Item, end_item, rows_items, items_of_cut, items_text}
 use Rattle.yq_row_table.proofs.ItemLaws.{items_of_text, items_text-append}
-use Rattle.yq_documents.specs.Pieces.{TextPiece}
+use Rattle.yq_documents.{specs.Pieces.TextPiece, specs.Reading.{all_documents, is_document, read_at}}
+use Rattle.yq_documents.proofs.ReadLaws.{text_again, text_takes}
 use Rattle.yq_places.{specs.PlacedRows.PlacedPart, specs.RowPaths.IsReadable, proofs.RemovalLines.LineSeam}
-use Rattle.yq_documents.{specs.Reading.{all_documents, is_document, read_at}, proofs.ReadLaws.{text_again, text_takes}}
 use Rattle.yq_edit_rules.{specs.declared.layout.Layout.Layout, specs.BlockText.block_value, proofs.LaidRows.no_gap_here}
 use Rattle.yq_edit_rules.{specs.PlacedParts.StandsAt, specs.TextPieces.IsPiece, proofs.PlacedPartLaws.document_stands_at}
 use Rattle.yq_edit_rules.{proofs.TextPieceLaws.pieces_joined, specs.ClosedTexts.is_closed_text, specs.Changed.put_document}

@@ -12,7 +12,7 @@ use Rattle.yq_documents.specs.Reading.{cut_of, read_at}
 use Rattle.yq_places.{specs.FlowNodes.flow_collection, specs.NodesAt.node_in}
 use Rattle.yq_places.specs.Standings.{FlowPart, flow_part, flow_standing, last_step}
 use Rattle.yq_inline.specs.declared.along.NodeAlong.{NodeAlong}
-use Rattle.yq_lookup.{specs.PartNodes.{IsPartNode, PartAgrees, part_at, coll_part}}
+use Rattle.yq_lookup.specs.PartNodes.{IsPartNode, PartAgrees, part_at, coll_part}
 use Rattle.yq_edit_rules.{specs.Replacing.keeps_scalar, specs.WrittenValues.value_text}
 use Rattle.yq_edit_laws.{specs.EditPlaces.moved_on, specs.PartPuts.{ArePuts, IsPlaceOf, PutsInNode, place_after, put_edit}}
 use Rattle.yq_edit_laws.{specs.declared.put.PartPut.PartPut, proofs.CutLaws.text_read, proofs.FlowAnswers.bounds_lie}

@@ -9,8 +9,8 @@ use Rattle.yq_documents.{specs.Pieces.TextPiece, specs.Reading.read_at}
 use Rattle.yq_edit_rules.{specs.Changed.put_document, specs.RemovalChanges.IsTakenOut, proofs.DocumentItemLaws.rows_joined}
 use Rattle.yq_edit_rules.{proofs.FirstBreakLaws.IsOneBreak, proofs.FirstOutLaws.first_stands}
 use Rattle.yq_edit_rules.{proofs.FirstRemovalLaws.{IsRowLeft, EndLastRow, first_gone}, specs.EditLaws.{IsEdit, OneIsRemoved}}
-use Rattle.yq_edit_rules.{specs.Removing.{first_removed, rows_removed}, specs.Local.{InLast, IsLocalTo}}
-use Rattle.yq_edit_rules.{specs.ReadsAfter.ReadsAfter, proofs.LastRows.gone_last, proofs.OneLines.is_one_line, proofs.ItemsLocal.rows_last}
+use Rattle.yq_edit_rules.{specs.Removing.{first_removed, rows_removed}, specs.Local.{InLast, IsLocalTo}, specs.ReadsAfter.ReadsAfter}
+use Rattle.yq_edit_rules.{proofs.LastRows.gone_last, proofs.OneLines.is_one_line, proofs.ItemsLocal.rows_last}
 use Rattle.yq_edit_rules.proofs.LocalLaws.{cut_known, RowsGiveWay, one_local}
 use Rattle.yq_semantics.specs.Operations.{remove}
 use Rattle.yq_edit_laws.proofs.RemovingLaws.{may_take, rows_out, taken_reads}

@@ -5,8 +5,7 @@ use Rattle.yq_core.{specs.BlockWritten.break_text, specs.Paths.Step, specs.Tree.
 use Rattle.yq_text.{specs.Limit.text_limit, specs.Script.{old_text, new_text}}
 use Rattle.yq_flow_edits.specs.Valued.{IsValueTree}
 use Rattle.yq_row_table.specs.Rows.{behind_gap, behind_indent, print_row, part_text, Cut, cut_text}
-use Rattle.yq_documents.specs.Reading.{documents, read_at}
-use Rattle.yq_documents.specs.Pieces.{TextPiece}
+use Rattle.yq_documents.{specs.Reading.{documents, read_at}, specs.Pieces.TextPiece}
 use Rattle.yq_places.{specs.RowPaths.IsReadable, specs.Standings.LinesIn}
 use Rattle.yq_edit_rules.{specs.Replaces.rooted, specs.TextPieces.IsPiece, proofs.FirstBreakLaws.IsOneBreak}
 use Rattle.yq_edit_rules.{proofs.TextPieceLaws.pieces_joined, specs.declared.layout.Layout.Layout, specs.BlockText.block_value}

@@ -5,8 +5,8 @@ use Rattle.yq_core.{specs.Answers.◌>>=◌, specs.Text.is_empty, specs.declared
 use Rattle.yq_core.specs.BlockWritten.{break_text}
 use Rattle.yq_row_table.{specs.Rows.{Content, Nothing, Inline, Block, cut_text}, specs.Seams.is_block, specs.View.content_cut}
 use Rattle.yq_places.{specs.FirstBreak.first_break, specs.NodesAt.node_in}
-use Rattle.yq_places.specs.Standings.{RowsOfEntry, behind_mark, below, beside, compact_in, entry_standing, flow_standing, held}
-use Rattle.yq_places.specs.Standings.{last_step, standing_at}
+use Rattle.yq_places.specs.Standings.{RowsOfEntry, behind_mark, below, beside, compact_in, entry_standing, flow_standing, held, last_step}
+use Rattle.yq_places.specs.Standings.{standing_at}
 use Rattle.yq_text.specs.Script.{Segment, keep}
 use Rattle.yq_edit_rules.specs.CommentEdits.{above_rows, comment_put, head_comment_put, head_comment_segments, line_comment_put}
 use Rattle.yq_edit_rules.{specs.FlowParts.flow_put, specs.Layouts.layout_of}

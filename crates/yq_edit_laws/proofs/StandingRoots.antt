@@ -5,8 +5,8 @@ use Rattle.yq_core.specs.Paths.{Step}
 use Rattle.yq_row_table.specs.Rows.{Row, rows_text, Cut}
 use Rattle.yq_documents.specs.Pieces.{TextPiece}
 use Rattle.yq_places.specs.PlacedRows.{PlacedPart, placed_document}
-use Rattle.yq_places.specs.Standings.{LinesIn, RowsOfEntry, Standing, alone, beside, under, compact, block, root, no_rows}
-use Rattle.yq_places.specs.Standings.{entry_standing, is_alone, lone, rows_of_entry, root_lines, root_standing, standing_at}
+use Rattle.yq_places.specs.Standings.{LinesIn, RowsOfEntry, Standing, alone, beside, under, compact, block, root, no_rows, entry_standing}
+use Rattle.yq_places.specs.Standings.{is_alone, lone, rows_of_entry, root_lines, root_standing, standing_at}
 use Rattle.yq_places.proofs.PlacedPartLaws.{map_some}
 
 -- whether what is somewhere is a root that is a block collection, or no rows

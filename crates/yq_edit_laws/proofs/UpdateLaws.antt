@@ -10,7 +10,7 @@ use Rattle.yq_text.{specs.Splice.Splice, proofs.PlaceInList.get_some, specs.decl
 use Rattle.yq_edit_laws.{specs.Answers.{Edits, EditFails}, specs.Carried.{carry_all, carry_out, updated}}
 use Rattle.yq_edit_laws.{specs.Edit.{Edit, gives, edit_after, by_reading}, specs.Theorems.HasReading}
 use Rattle.yq_edit_laws.{specs.Valid.{HaveOperands, IsStep, UpdateFails, FailsAt}, proofs.MeaningLaws.{UpdateComes, plan_comes, plan_stops}}
-use Rattle.yq_edit_laws.{proofs.OrderLaws.fails_itself}
+use Rattle.yq_edit_laws.proofs.OrderLaws.{fails_itself}
 use Rattle.yq_failure.specs.declared.failure.Failure.TheVariants as failure
 use Rattle.yq_semantics.specs.Judgement as judgement
 

@@ -1,12 +1,11 @@
 -- A sole item or entry removed: an empty collection is put in the place of its own (YAML 1.2.2, 7.4 and 8.2; own).
 use Rattle.std.specs.Prelude.{◌≡◌, ℕ, List, Option, Some, None, option_map}
 use Rattle.yq_core.{specs.Answers.◌>>=◌, specs.Paths.Step, specs.Tree.{Node, list, map, none}, specs.Values.value_node}
+use Rattle.yq_core.specs.declared.value.Value.{Value}
 use Rattle.yq_row_table.specs.Rows.{Cut}
-use Rattle.yq_documents.specs.Located.{steps_of}
+use Rattle.yq_documents.{specs.Located.steps_of, specs.declared.path.Path.Path}
 use Rattle.yq_places.specs.NodesAt.{NodeAt, node_in}
 use Rattle.yq_edit_rules.specs.Edits.{empty_collection, replace_segments, sole_removed}
-use Rattle.yq_core.specs.declared.value.Value.{Value}
-use Rattle.yq_documents.specs.declared.path.Path.{Path}
 use Rattle.yq_places.specs.NodesAt as nodes
 
 -- the empty collection of the kind of a collection, by what is known of that

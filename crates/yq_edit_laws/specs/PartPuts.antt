@@ -12,8 +12,7 @@ use Rattle.yq_places.{specs.FlowNodes.flow_collection, specs.NodesAt.node_in, sp
 use Rattle.yq_text.specs.Script.{Segment, keep}
 use Rattle.yq_edit_rules.{specs.FlowParts.{content_written, flow_more, flow_put, flow_value, takes_key}, specs.Replacing.keeps_scalar}
 use Rattle.yq_edit_rules.specs.WrittenValues.{value_text}
-use Rattle.yq_edit_laws.specs.EditPlaces.{LiesIn, moved_on, placed_takes}
-use Rattle.yq_edit_laws.specs.declared.put.PartPut.{PartPut}
+use Rattle.yq_edit_laws.{specs.EditPlaces.{LiesIn, moved_on, placed_takes}, specs.declared.put.PartPut.PartPut}
 
 -- a value put in the place of the content of a part, unless that is kept
 abbrev pub part_put : List ℕ → (kept : Bool) → Node → FlowPart → List Segment

@@ -49,7 +49,9 @@ out_whole p = go (begins_gap (cut_line p.behind).1)
         ∙ ap (λ (t : List ℕ). p.text ++ t) (append_assoc (cut_line p.behind).0 (cut no_space (cut_line p.behind).1).0 (cut no_space (cut_line p.behind).1).1 ∙ (ap (λ (t : List ℕ). (cut_line p.behind).0 ++ t) indent ∙ line))
 
     go : (b : Bool) →
-        piece_text (cond b (piece_between (less_spaces p.before) (end_spaces p.before ++ p.text) p.behind) (piece_between p.before (p.text ++ ((cut_line p.behind).0 ++ (cut no_space (cut_line p.behind).1).0)) (cut no_space (cut_line p.behind).1).1)) ≡ piece_text p
+        piece_text (cond b (piece_between (less_spaces p.before) (end_spaces p.before ++ p.text) p.behind)
+        (piece_between p.before (p.text ++ ((cut_line p.behind).0 ++ (cut no_space (cut_line p.behind).1).0))
+        (cut no_space (cut_line p.behind).1).1)) ≡ piece_text p
     go true =
         ap (λ (t : List ℕ). less_spaces p.before ++ t) (append_assoc (end_spaces p.before) p.text p.behind)
         ∙ (sym (append_assoc (less_spaces p.before) (end_spaces p.before) (p.text ++ p.behind)) ∙ ap (λ (t : List ℕ). t ++ (p.text ++ p.behind)) (sym (spaces_parts p.before)))

@@ -6,8 +6,7 @@ use Rattle.yq_outline.specs.Places.{FoundLine}
 use Rattle.yq_row_table.specs.Rows.{Part, Cut, cut_text}
 use Rattle.yq_documents.{specs.Documents.{document_parts, lead_of}, specs.Reading.{part_outline, read_at, root_of}, specs.TreeEdits.at_end}
 use Rattle.yq_documents.specs.Pieces.{TextPiece}
-use Rattle.yq_places.specs.FirstPlaces.{first_removal}
-use Rattle.yq_places.specs.RemovalPlaces.{OwnRows, own_rows, Seam, Removal, removal_place, has_others}
+use Rattle.yq_places.{specs.FirstPlaces.first_removal, specs.RemovalPlaces.{OwnRows, own_rows, Seam, Removal, removal_place, has_others}}
 use Rattle.yq_edit_rules.{specs.Changed.{IsChanged, KeepsRows, put_document}, specs.Conditions.AreSpared, specs.DocumentRows.IsDocumentPart}
 use Rattle.yq_edit_rules.{specs.EntryRows.HasWholeRows, specs.Rooms.is_block_root, specs.Siblings.{HasEntries, IsEntryAt, NodeLines}}
 

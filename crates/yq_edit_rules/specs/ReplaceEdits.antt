@@ -7,10 +7,11 @@ use Rattle.yq_core.{specs.Writable.{can_write, is_string}, specs.Written.double,
 use Rattle.yq_core.specs.declared.style.Style.TheVariants.{Literal}
 use Rattle.yq_row_table.specs.Rows.{Cut}
 use Rattle.yq_places.specs.NodesAt.{node_in, scalar_in}
-use Rattle.yq_documents.specs.Pieces.{TextPiece}
 use Rattle.yq_places.specs.Standings.{Held, LinesIn, Standing, alone, beside, under, compact, block, root, no_rows, standing_at}
+use Rattle.yq_documents.specs.Pieces.{TextPiece}
 use Rattle.yq_edit_rules.{specs.declared.layout.Layout.Layout, specs.BlockText.block_value}
-use Rattle.yq_edit_rules.{specs.ClosedTexts.{is_closed_text, lines_put_behind}, specs.Layouts.layout_of, specs.PiecePuts.{lines_replaced, piece_replaced}}
+use Rattle.yq_edit_rules.{specs.ClosedTexts.{is_closed_text, lines_put_behind}, specs.Layouts.layout_of}
+use Rattle.yq_edit_rules.specs.PiecePuts.{lines_replaced, piece_replaced}
 use Rattle.yq_edit_rules.specs.WrittenValues.{Written, inline, compact_text, lines, value_text, written_at, written_under}
 use Rattle.yq_text.specs.Script.{Segment, keep, put}
 use Rattle.yq_core.specs.BlockWritten as literal

@@ -4,8 +4,7 @@ use Rattle.std.{proofs.Common.{sym, ap, ◌∙◌, subst, arith, append_assoc, l
 use Rattle.std.specs.Prelude.{option_and_then}
 use Rattle.yq_core.{specs.Answers.◌>>=◌, specs.Collections.{CollPieces, coll_along, coll_in}, specs.Paths.Step, specs.Piece.deeper}
 use Rattle.yq_core.{specs.Entries.{EntryPieces, entry_pieces_at, path_inside, tree_step}, specs.Inline.depth_limit}
-use Rattle.yq_core.{specs.Nodes.{FlowNode, IsFlowNode, anchored}, specs.Places.{Placed, locate}}
-use Rattle.yq_core.proofs.PathLaws.{path_holds}
+use Rattle.yq_core.{specs.Nodes.{FlowNode, IsFlowNode, anchored}, specs.Places.{Placed, locate}, proofs.PathLaws.path_holds}
 use Rattle.yq_row_table.specs.Rows.{parent_indent}
 use denote.Bor.{Bor}
 use Rattle.yq_documents.specs.Reading.{cut_of}

@@ -14,9 +14,7 @@ use yq_core::{Kind, Step};
 use yq_documents::Path;
 use yq_inline::{NodeInFront, read_along};
 use yq_outline::{Head, ScalarContent};
-use yq_places::{
-    FlowHead, NodeAt, block_node, head_node, is_text, node_place, place_line,
-};
+use yq_places::{FlowHead, NodeAt, block_node, head_node, is_text, node_place, place_line};
 use yq_row_heads::row_head;
 use yq_row_walk::head_place;
 

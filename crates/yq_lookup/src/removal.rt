@@ -1,6 +1,6 @@
 //! What is taken out of a text with an item or entry of a block collection.
 ghost use Rattle.std.specs.Prelude.{◌≡◌, option_map};
-ghost use Rattle.yq_text.specs.Halves.{whole};
+ghost use Rattle.yq_places.specs.StandingViews.{pieces_view};
 ghost use Rattle.yq_documents.{specs.Located.steps_of, specs.Reading.cut_of};
 ghost use Rattle.yq_places.specs.FirstPlaces as first;
 ghost use Rattle.yq_places.specs.RemovalPlaces as spec;
@@ -39,7 +39,7 @@ impl<'t> CutText<'_, 't> {
     /// to the end of the last line, before its break. None, where its line is the first one of a row, or
     /// it is in flow.
     pub fn first_removal(&self, path: &Path) -> Option<(Halves<'t>, Halves<'t>, Halves<'t>)>
-        ensures { option_map (λ x. first.piece_between (whole x.0) (whole x.1) (whole x.2)) result ≡
+        ensures { option_map (λ x. pieces_view x.0 x.1 x.2) result ≡
             first.first_removal path.now.doc (steps_of path.now) (cut_of self.now) }
     {
         let whole = self.whole();

@@ -7,8 +7,8 @@ use Rattle.yq_core.{specs.Answers.◌>>=◌, specs.Text.{joined, text_lines}, pr
 use Rattle.yq_row_table.{specs.Exchange.row_front, specs.Gap.IsGap, specs.Rows.{Row, behind_gap, print_row, Cut}}
 use Rattle.yq_row_table.{specs.View.{Slices, slices, rows_of, RowsView}, proofs.NodePieces.{BeginsAscii, before_ascii}}
 use Rattle.yq_row_table.{proofs.PlaceLaws.{row_front-append, row_in}, proofs.SliceLaws.content_slices}
-use Rattle.yq_documents.{specs.declared.path.Path.Path, specs.Located.steps_of, specs.Pieces.{TextPiece, before_run, last_run}, specs.Reading.cut_of}
-use Rattle.yq_documents.{specs.LinesInRows.{row_line_at, document_row}, proofs.RunLaws.run_split}
+use Rattle.yq_documents.{specs.declared.path.Path.Path, specs.Located.steps_of, specs.Pieces.{TextPiece, before_run, last_run}}
+use Rattle.yq_documents.{specs.Reading.cut_of, specs.LinesInRows.{row_line_at, document_row}, proofs.RunLaws.run_split}
 use Rattle.yq_places.{specs.CommentPlaces.{text_to_line_end, gap_above, above_row, lines_above}, specs.LineReading.GapStands}
 use Rattle.yq_places.{specs.PlacedRows.PlacedRow, specs.RowLineReading.{LineCounts, numbers}, specs.RowWalk.HasCut}
 use Rattle.yq_places.{proofs.CommentPieceLaws.{row_place, run_begins}, proofs.PlacedRowLaws.{row_line_placed, no_row_line_placed}}

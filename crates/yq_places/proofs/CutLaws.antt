@@ -1,11 +1,12 @@
 -- A text cut in three, and what is taken out of it with the first item or entry of a compact collection.
-use Rattle.std.proofs.Common.{◌≡◌, ℕ, ◌+◌, ◌-◌, ◌≤◌, true, false, List, ◌++◌, length, length-append, take, drop, sym, ap, ◌∙◌, subst}
-use Rattle.std.{proofs.Common.{arith, append_assoc}, proofs.Math.Seq.{drop-append_seam, take-append_seam}, proofs.lemmas.List.take-append-drop}
-use Rattle.std.{proofs.lemmas.Bool.{cond-false, cond-true}, proofs.lemmas.Str.{IsCharBoundary-at_seam, IsUtf8-append}, specs.Str.{IsCharBoundary, IsUtf8}}
+use Rattle.std.proofs.Common.{◌≡◌, ℕ, ◌+◌, ◌-◌, ◌≤◌, true, false, List, ◌++◌, length, length-append, take, drop, sym, ap, ◌∙◌, subst, arith}
+use Rattle.std.{proofs.Common.append_assoc, proofs.Math.Seq.{drop-append_seam, take-append_seam}, proofs.lemmas.List.take-append-drop}
+use Rattle.std.{proofs.lemmas.Bool.{cond-false, cond-true}, proofs.lemmas.Str.{IsCharBoundary-at_seam, IsUtf8-append}}
+use Rattle.std.specs.Str.{IsCharBoundary, IsUtf8}
 use Rattle.yq_core.specs.Text.{cut, cut_line, line_len, no_space, upto}
 use Rattle.yq_row_table.specs.Reading.{begins_gap}
-use Rattle.yq_places.specs.FirstPlaces.{end_spaces, first_out, less_spaces, piece_between}
-use Rattle.yq_places.{specs.LineReading.{LiesBetween, piece_at}, proofs.FirstLaws.spaces_parts}
+use Rattle.yq_places.{specs.FirstPlaces.{end_spaces, first_out, less_spaces, piece_between}, specs.LineReading.{LiesBetween, piece_at}}
+use Rattle.yq_places.proofs.FirstLaws.{spaces_parts}
 
 module _ (t before behind : List ℕ) (h : LiesBetween t before behind) (u : IsUtf8 behind) where
   abbrev end : ℕ

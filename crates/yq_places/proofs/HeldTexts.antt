@@ -5,15 +5,15 @@ use Rattle.std.{proofs.lemmas.List.{length-replicate, take_all}, proofs.lemmas.O
 use Rattle.std.{proofs.lemmas.Str.{IsCharBoundary-at_seam, IsUtf8-append}, specs.List.slice_get, specs.Str.{IsUtf8, IsCharBoundary}}
 use Rattle.yq_text.specs.Limit.{text_limit}
 use Rattle.yq_core.{specs.Text.is_empty, specs.Nodes.{empty, alias, scalar, coll, anchored}}
-use Rattle.yq_row_table.{specs.Exchange.row_front}
-use Rattle.yq_row_table.specs.Rows.{Content, Nothing, Inline, Block, Row, behind_columns, dashes_text, mark_column, rows_text}
-use Rattle.yq_row_table.{specs.Rows.Cut, specs.View.{Slices, slices, content_cut, last_dash, rows_of, RowsView, rows_view}}
-use Rattle.yq_places.specs.CommentPlaces.{LineEnd, end_in_line, text_to_line_end}
-use Rattle.yq_places.{specs.PrintedLines.last_break}
-use Rattle.yq_places.{specs.RowPieces.{anchor_before, space_before}, specs.Standings.{Held, LinesIn, RowsOfEntry, before_entry, behind_entry, held, lines_between}}
+use Rattle.yq_row_table.specs.Exchange.{row_front}
+use Rattle.yq_row_table.specs.Rows.{Content, Nothing, Inline, Block, Row, behind_columns, dashes_text, mark_column, rows_text, Cut}
+use Rattle.yq_row_table.specs.View.{Slices, slices, content_cut, last_dash, rows_of, RowsView, rows_view}
+use Rattle.yq_places.{specs.CommentPlaces.{LineEnd, end_in_line, text_to_line_end}, specs.PrintedLines.last_break}
+use Rattle.yq_places.specs.RowPieces.{anchor_before, space_before}
+use Rattle.yq_places.specs.Standings.{Held, LinesIn, RowsOfEntry, before_entry, behind_entry, held, lines_between}
 use Rattle.yq_places.{specs.StandingReading.{AreRowsOf, EndsRows, rows_lines}, proofs.PrintedTexts.less_is}
 use Rattle.yq_places.proofs.EntryRowLaws.{head_ends, line_boundary_at, line_cut, pieces_at, through_is}
-use Rattle.yq_outline.{specs.Extents.{head_place}, specs.RowWalk.line_column, proofs.WalkLevels.{last_is, to_dash}}
+use Rattle.yq_outline.{specs.Extents.head_place, specs.RowWalk.line_column, proofs.WalkLevels.{last_is, to_dash}}
 
 -- the column after dashes
 columns : (c : ℕ) (ns : List ℕ) → behind_columns c ns ≡ c + length (dashes_text ns [])

@@ -1,13 +1,12 @@
 -- Lines cut out of a text.
-use Rattle.std.proofs.Common.{◌≡◌, inl, ℕ, ◌+◌, ◌-◌, eqb, Bool, false, cond, List, [], ◌∷◌, ◌++◌, length, length-append, take, drop, refl, ◌∙◌, arith}
-use Rattle.std.{proofs.Common.rules, proofs.Math.Seq.{drop-append_seam, take-append_seam}, proofs.lemmas.Bool.{and_parts, eqb-true, false≢true, ne_eqb}}
-use Rattle.std.{specs.List.slice_get, specs.Str.{IsUtf8, IsCharBoundary}, proofs.Common.{Some, ap, sym, subst, append_assoc}}
+use Rattle.std.proofs.Common.{◌≡◌, inl, ℕ, ◌+◌, ◌-◌, eqb, Bool, false, cond, List, [], ◌∷◌, ◌++◌, length, length-append, take, drop, refl}
+use Rattle.std.{proofs.Common.{◌∙◌, arith, rules, Some, ap, sym, subst, append_assoc}, proofs.Math.Seq.{drop-append_seam, take-append_seam}}
+use Rattle.std.{proofs.lemmas.Bool.{and_parts, eqb-true, false≢true, ne_eqb}, specs.List.slice_get, specs.Str.{IsUtf8, IsCharBoundary}}
 use Rattle.yq_core.specs.Text.{is_empty}
 use Rattle.yq_outline.specs.Extents.{row_start}
 use Rattle.yq_row_table.{specs.Offsets.row_length, specs.Rows.{print_row, rows_text}, specs.View.{RowsView, Slices}}
-use Rattle.yq_places.{specs.StandingReading.{EndsRows, rows_lines}, specs.Standings.{before_entry, behind_entry}}
-use Rattle.yq_places.proofs.EntryRowLaws.{cut_in_two, stop_boundary, stop_is}
-use Rattle.yq_places.{specs.LineReading.{CutsLines, IsLastBreak, line_list}, specs.Standings.LinesIn}
+use Rattle.yq_places.{specs.StandingReading.{EndsRows, rows_lines}, specs.Standings.{before_entry, behind_entry, LinesIn}}
+use Rattle.yq_places.{proofs.EntryRowLaws.{cut_in_two, stop_boundary, stop_is}, specs.LineReading.{CutsLines, IsLastBreak, line_list}}
 use Rattle.yq_places.specs.PrintedLines.{is_last_break, last_break, less_break}
 
 pub last_is : (t : List ℕ) → IsLastBreak (last_break t)

@@ -1,6 +1,6 @@
 -- Nodes alone on their lines, and collections after dashes, by the rows that the code has found.
-use Rattle.std.proofs.Common.{◌≡◌, ℕ, ◌+◌, ◌<◌, ◌≤◌, true, List, [], ◌∷◌, ◌++◌, length, length-append, take, drop, replicate, Some}
-use Rattle.std.{proofs.Common.{refl, sym, ap, ◌∙◌, subst, arith, append_assoc}, proofs.Math.Seq.{drop-append_seam, take-append_seam}}
+use Rattle.std.proofs.Common.{◌≡◌, ℕ, ◌+◌, ◌<◌, ◌≤◌, true, List, [], ◌∷◌, ◌++◌, length, length-append, take, drop, replicate, Some, refl}
+use Rattle.std.{proofs.Common.{sym, ap, ◌∙◌, subst, arith, append_assoc}, proofs.Math.Seq.{drop-append_seam, take-append_seam}}
 use Rattle.std.{proofs.lemmas.Bool.{and_parts, false≢true}, proofs.lemmas.Option.same_Some, proofs.lemmas.Str.IsCharBoundary-at_seam}
 use Rattle.std.{specs.List.slice_get, specs.Str.{IsUtf8, IsCharBoundary}}
 use Rattle.yq_text.specs.Limit.{text_limit}
@@ -13,9 +13,10 @@ use Rattle.yq_row_table.proofs.NodePieces.{before_ascii, behind_ascii, tail_asci
 use Rattle.yq_documents.{specs.Pieces.TextPiece, specs.Reading.cut_of}
 use Rattle.yq_places.{specs.CommentPlaces.text_to_line_end, specs.RowPieces.upto_dash, specs.EntryReading.line_begin}
 use Rattle.yq_places.specs.Standings.{LinesIn, RowsOfEntry, before_entry, behind_entry, compact_lines, dash_text, is_alone, lone}
-use Rattle.yq_places.{specs.StandingReading.{AreRowsOf, EndsRows, rows_lines}, proofs.CommentEndLaws.row_text_parts, proofs.DashLaws.{front_is, row_cut}}
-use Rattle.yq_places.proofs.EntryRowLaws.{cut_in_two, first_at, head_ends, pieces_at, row_valid, text}
-use Rattle.yq_places.{proofs.LineEndLaws.line_tail, proofs.RowStarts.line_begins}
+use Rattle.yq_places.{specs.StandingReading.{AreRowsOf, EndsRows, rows_lines}, proofs.CommentEndLaws.row_text_parts}
+use Rattle.yq_places.proofs.DashLaws.{front_is, row_cut}
+use Rattle.yq_places.{proofs.EntryRowLaws.{cut_in_two, first_at, head_ends, pieces_at, row_valid, text}, proofs.LineEndLaws.line_tail}
+use Rattle.yq_places.proofs.RowStarts.{line_begins}
 use Rattle.yq_row_table.specs.Rows as rows
 
 raw_none : (m : rows.RowMark) (x : Content) (rest : List ℕ) → IsMark m x rest → has_no_mark (line_mark m) ≡ true → (content_cut x).5 ≡ []

@@ -10,8 +10,7 @@ use Rattle.yq_row_table.{specs.Grammar.{unlimited, AreRows, IsCut, no_rows}, spe
 use Rattle.yq_row_table.{specs.Rows.{Row, rows_text, Part, part_text, Cut, last, marked}, specs.Splices.nth_part}
 use Rattle.yq_row_table.{specs.View.{Slices, slices, Bound, bounds_from, bounds_of, rows_of, RowsView, rows_view}, specs.RowStarts.part_end}
 use Rattle.yq_outline.{specs.Extents.bound_length, proofs.LengthLaws.part-length}
-use Rattle.yq_documents.specs.Pieces.{TextPiece}
-use Rattle.yq_documents.specs.PartNumbers.{part_number, document_part, rows_to}
+use Rattle.yq_documents.{specs.Pieces.TextPiece, specs.PartNumbers.{part_number, document_part, rows_to}}
 use Rattle.yq_documents.{proofs.PartNumberLaws.{document_found, document_missing, end_agrees}, specs.Reading.cut_of}
 use Rattle.yq_places.{specs.PlacedRows.{before_part, placed_at, placed_document}, specs.RootReading.{if_rowless, rowless_place, rowless_at}}
 use Rattle.yq_places.{proofs.CommentPieceLaws.gap_end, proofs.PlacedPartLaws.{map_some, part_stands}}

@@ -1,15 +1,14 @@
 -- What is at roots, by the rows that the code has found.
-use Rattle.std.proofs.Common.{◌≡◌, ℕ, ◌+◌, true, false, cond, List, [], ◌∷◌, ◌++◌, length, replicate, Option, Some, None, option_map}
-use Rattle.std.{proofs.Common.{refl, sym, ap, ◌∙◌, subst, arith, append_assoc, append-nil}, proofs.lemmas.Bool.{cond-false, cond-true}}
+use Rattle.std.proofs.Common.{◌≡◌, ℕ, ◌+◌, true, false, cond, List, [], ◌∷◌, ◌++◌, length, replicate, Option, Some, None, option_map, refl}
+use Rattle.std.{proofs.Common.{sym, ap, ◌∙◌, subst, arith, append_assoc, append-nil}, proofs.lemmas.Bool.{cond-false, cond-true}}
 use Rattle.std.{proofs.lemmas.Option.{none-some, same_Some}, specs.List.slice_get, specs.Str.{IsUtf8, IsCharBoundary}}
 use Rattle.yq_core.specs.Answers.{◌>>=◌}
-use Rattle.yq_row_table.{specs.Grammar.{IsCut, no_rows as has_none}}
+use Rattle.yq_row_table.specs.Grammar.{IsCut, no_rows as has_none}
 use Rattle.yq_row_table.specs.Rows.{Part, Row, behind_indent, print_row, rows_text, Cut, cut_text}
 use Rattle.yq_row_table.specs.View.{Slices, slices, RowsView, rows_view}
 use Rattle.yq_documents.{specs.LinesInRows.document_row, specs.Pieces.TextPiece, specs.Reading.cut_of}
-use Rattle.yq_places.specs.EntryReading.{before_line, line_begin}
-use Rattle.yq_places.{specs.PlacedRows.{PlacedPart, placed_document}, specs.RootReading.{if_rowless, rowless_at, rowless_place}}
-use Rattle.yq_places.specs.RowWalk.{document_row_range}
+use Rattle.yq_places.{specs.EntryReading.{before_line, line_begin}, specs.PlacedRows.{PlacedPart, placed_document}}
+use Rattle.yq_places.{specs.RootReading.{if_rowless, rowless_at, rowless_place}, specs.RowWalk.document_row_range}
 use Rattle.yq_places.specs.Standings.{LinesIn, RowsOfEntry, alone, before_entry, behind_entry, is_alone, lone, no_rows, root, root_lines}
 use Rattle.yq_places.{specs.Standings.{root_standing, standing_at}, specs.StandingReading.{EndsRows, IsRootOf, root_entry, rows_lines}}
 use Rattle.yq_places.{proofs.EntryRowLaws.{first_at, pieces_at}, proofs.PlacedPartLaws.placed_is}

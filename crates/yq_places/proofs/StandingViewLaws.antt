@@ -8,8 +8,8 @@ use Rattle.yq_row_table.{specs.Grammar.IsMark, specs.Removal.{block_numbers, blo
 use Rattle.yq_row_table.specs.Rows.{Content, Row, dashes_text, print_row, rows_text, Cut}
 use Rattle.yq_row_table.{specs.View.{Slices, slices, colon_of, content_cut, last_dash, RowsView}, proofs.seams.SeamLaws.rows_text-append}
 use Rattle.yq_documents.specs.Reading.{cut_of}
-use Rattle.yq_places.specs.Standings.{RowsOfEntry, alone, before_entry, behind_entry, behind_mark, below, beside, block}
-use Rattle.yq_places.specs.Standings.{compact_in, entry_standing, held, is_alone, lone, standing_at, under}
+use Rattle.yq_places.specs.Standings.{RowsOfEntry, alone, before_entry, behind_entry, behind_mark, below, beside, block, compact_in}
+use Rattle.yq_places.specs.Standings.{entry_standing, held, is_alone, lone, standing_at, under}
 use Rattle.yq_places.{specs.StandingReading.{AreRowsOf, IsEntryIn, numbers_at}, specs.StandingViews.{held_at, held_if_last}}
 use Rattle.yq_places.{proofs.EntryNumbers.{FoundEntry, no_entry}, proofs.LinesCutLaws.none_is, proofs.RemovalTexts.texts_then}
 use Rattle.yq_row_table.specs.Rows as rows

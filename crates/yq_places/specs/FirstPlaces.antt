@@ -1,5 +1,6 @@
 -- Where the first item or entry of a compact collection is in a text, and what is taken out of the text with it (YAML 1.2.2, 8.2.1; own).
-use Rattle.std.specs.Prelude.{ℕ, ◌==◌, ◌&&◌, Bool, true, List, [], ◌∷◌, ◌++◌, length, drop, slice_get, Option, None, option_map, if◌then◌else◌}
+use Rattle.std.specs.Prelude.{ℕ, ◌==◌, ◌&&◌, Bool, true, List, [], ◌∷◌, ◌++◌, length, drop, slice_get, Option, None, option_map}
+use Rattle.std.specs.Prelude.{if◌then◌else◌}
 use Rattle.yq_core.{specs.Answers.◌>>=◌, specs.Paths.Step, specs.Text.{cut, cut_line, no_space}}
 use Rattle.yq_row_table.{specs.Rows.Cut, specs.Reading.begins_gap}
 use Rattle.yq_documents.{specs.declared.path.Part.TheVariants.Entry, specs.Documents.document_parts, specs.Pieces.TextPiece}

@@ -1,7 +1,8 @@
 -- Reading (own; a reader may skip it): lines and gaps in a text, as the code cuts them.
 use Rattle.std.{specs.Prelude.{◌≡◌, ◌⊎◌, ℕ, ◌+◌, ◌-◌, List, [], ◌∷◌, ◌++◌, length, drop, take}, specs.Str.{IsCharBoundary, IsUtf8}}
+use Rattle.yq_text.{specs.Halves.whole, specs.declared.halves.Halves.Halves}
 use Rattle.yq_documents.specs.Pieces.{TextPiece}
-use Rattle.yq_places.{specs.FirstPlaces.piece_between, specs.Standings.{LinesIn, lines_between}}
+use Rattle.yq_places.{specs.FirstPlaces.{first_out, piece_between}, specs.Standings.{LinesIn, lines_between}}
 
 -- LF, CR LF or nothing (5.4).
 abbrev pub IsLastBreak : List ℕ → Type 0
@@ -39,3 +40,11 @@ pub record LiesBetween (t before behind : List ℕ) : Type 0 where
   pub own : List ℕ
   pub text : t ≡ before ++ (own ++ behind)
   pub utf8 : IsUtf8 own
+
+-- This is what is between two texts in another one, each of which is in two halves.
+abbrev pub CutsBetween : (t before behind : Halves) → TextPiece → Type 0
+CutsBetween t before behind p = (h : LiesBetween (whole t) (whole before) (whole behind)) → p ≡ piece_between (whole before) h.own (whole behind)
+
+-- what is taken out with the first item or entry of a compact collection, by where that begins and ends
+abbrev pub first_out_at : (start end : ℕ) → List ℕ → TextPiece
+first_out_at start end t = first_out (piece_at start end t)

@@ -4,7 +4,8 @@ use Rattle.std.specs.Prelude.{◌≡◌, ℕ, suc, ◌+◌, ◌≤◌, List, [],
 use Rattle.yq_core.{specs.Answers.◌>>=◌, specs.Paths.Step}
 use Rattle.yq_row_table.{specs.Grammar.IsCut, specs.Rows.{Row, Cut, print_row, rows_text}, specs.View.{RowsView, rows_view}}
 use Rattle.yq_documents.{specs.Documents.document_parts, specs.Reading.cut_of, specs.LinesInRows.{RowLine, document_row, row_line_of}}
-use Rattle.yq_places.{specs.PlacedRows.{PlacedPart, placed_document}, specs.Standings.{LinesIn, RowsOfEntry, before_entry, behind_entry, lines_between, under_count}}
+use Rattle.yq_places.specs.PlacedRows.{PlacedPart, placed_document}
+use Rattle.yq_places.specs.Standings.{LinesIn, RowsOfEntry, before_entry, behind_entry, lines_between, under_count}
 use Rattle.yq_outline.specs.declared.line_position.Stretch.{Stretch}
 use Rattle.yq_places.specs.declared.places.rows_of_entry.RowsOfEntry as declared
 

@@ -1,12 +1,13 @@
 -- What the code tells of what is at a place (own).
 use Rattle.std.specs.Prelude.{◌≡◌, ℕ, ◌+◌, ◌==◌, ◌&&◌, not, true, false, List, length, Option, Some, None, if◌then◌else◌}
-use Rattle.yq_text.specs.Halves.{whole}
+use Rattle.yq_text.{specs.Halves.whole, specs.declared.halves.Halves.Halves}
+use Rattle.yq_places.specs.FirstPlaces.{piece_between}
+use Rattle.yq_places.specs.Standings.{MarkPieces, Held, LinesIn, Standing, RowsOfEntry, alone, beside, under, compact, block, root, no_rows}
+use Rattle.yq_places.specs.Standings.{held, rows_of_entry}
 use Rattle.yq_core.{specs.Answers.◌>>=◌, specs.Paths.Step, specs.Text.is_empty}
 use Rattle.yq_row_table.{specs.Rows.{Cut, Row}, specs.Seams.is_block, specs.View.slices}
 use Rattle.yq_documents.{specs.LinesInRows.document_row, specs.Pieces.TextPiece, specs.RowReading.is_block_head}
 use Rattle.yq_outline.{specs.Extents.{head_place, lines_before_mark}, specs.declared.line_position.Position.Position}
-use Rattle.yq_places.specs.Standings.{MarkPieces, Held, LinesIn, Standing, RowsOfEntry, alone, beside, under}
-use Rattle.yq_places.specs.Standings.{compact, block, root, no_rows, held, rows_of_entry}
 use Rattle.yq_places.specs.declared.places.held.Held as declared_held
 use Rattle.yq_places.specs.declared.places.held_row.HeldRow as declared_row
 use Rattle.yq_places.specs.declared.places.held.EntryMark as declared_mark
@@ -36,6 +37,10 @@ held_view h = record {
 -- a piece that the code lends
 abbrev pub piece_view : declared_piece.TextPiece → TextPiece
 piece_view w = record { before = whole w.before; text = w.text.now; behind = whole w.behind }
+
+-- a piece between two texts that the code lends, each in two halves
+abbrev pub pieces_view : (before text behind : Halves) → TextPiece
+pieces_view before text behind = piece_between (whole before) (whole text) (whole behind)
 
 -- lines that the code lends
 abbrev pub lines_view : declared_lines.LinesIn → LinesIn

@@ -8,7 +8,7 @@ ghost use Rattle.yq_places.specs.StandingViews as row_agrees;
 
 use crate::places::halves::is_text;
 use crate::places::held::{held_in, mark_of};
-use crate::places::lines_cut::{line_end, rows_lines};
+use crate::places::lines_cut::{line_end, lines_from};
 use crate::places::piece::TextPiece;
 use crate::places::row_place::line_start;
 use crate::places::rows_of_entry::RowsOfEntry;
@@ -59,7 +59,7 @@ fn compact_in<'t>(rows: &Rows<'t>, text: Halves<'t>, at: RowsOfEntry) -> Standin
         row: at.row,
         line: at.line,
     };
-    let lower = rows_lines(rows, text, line_start(rows, position) + 1, at.end);
+    let lower = lines_from(rows, text, line_start(rows, position) + 1, at.end);
     let (_, comment, _) = line_end(row.tail());
     let mark = mark_of(&row, at.line, false, comment);
     Standing::Compact(mark, line_column(&row, at.line + 1), lower)

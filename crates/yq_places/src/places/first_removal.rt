@@ -1,8 +1,7 @@
 //! What is taken out of a text with the first item or entry of a compact collection.
 ghost use Rattle.std.{specs.Prelude.{◌≡◌, ◌≤◌, ◌-◌, drop}, specs.Str.IsCharBoundary};
 ghost use Rattle.yq_text.specs.Halves.{whole};
-ghost use Rattle.yq_places.specs.FirstPlaces as spec;
-ghost use Rattle.yq_places.specs.LineReading as reading;
+ghost use Rattle.yq_places.{specs.LineReading.first_out_at, specs.StandingViews.pieces_view};
 
 use crate::places::halves::{begins_gap, is_text, split_end_spaces, split_line, split_spaces};
 use crate::places::written::{cut_at, cut_between};
@@ -18,8 +17,7 @@ pub fn first_out<'t>(
     requires order { start ≤ end }
     requires start { IsCharBoundary (whole text) start }
     requires end { IsCharBoundary (drop start (whole text)) (end - start) }
-    ensures { spec.piece_between (whole result.0) (whole result.1) (whole result.2) ≡
-        spec.first_out (reading.piece_at start end (whole text.entry)) }
+    ensures { pieces_view result.0 result.1 result.2 ≡ first_out_at start end (whole text.entry) }
 {
     let (before, own, behind) = cut_at(text, start, end);
     is_text(own);

@@ -10,7 +10,7 @@ ghost use Rattle.yq_places.specs.Standings as spec;
 ghost use Rattle.yq_places.specs.StandingViews as row_agrees;
 
 use crate::places::halves::is_text;
-use crate::places::lines_cut::{either, line_end, rows_lines};
+use crate::places::lines_cut::{either, line_end, lines_from};
 use crate::places::rows_of_entry::RowsOfEntry;
 use yq_row_table::{Row, Rows};
 use yq_row_walk::{head_place, line_column};
@@ -95,7 +95,7 @@ pub fn held_in<'t>(rows: &Rows<'t>, text: Halves<'t>, at: RowsOfEntry) -> Held<'
     is_text(text);
     let row = rows.row(at.row);
     let (_, end) = head_place(rows, at.row);
-    let lower = rows_lines(rows, text, end + row.tail().len(), at.end);
+    let lower = lines_from(rows, text, end + row.tail().len(), at.end);
     let none = lower.is_empty();
     let space = space_before(&row);
     let head = row.head();

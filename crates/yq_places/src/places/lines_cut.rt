@@ -2,9 +2,8 @@
 ghost use Rattle.std.specs.Prelude.{[], ◌≡◌, ◌++◌, if◌then◌else◌};
 ghost use Rattle.yq_text.specs.Halves.{whole};
 ghost use Rattle.yq_core.specs.Text.{is_empty};
-ghost use Rattle.yq_places.{specs.CommentPlaces.end_in_line, specs.StandingViews.lines_view};
+ghost use Rattle.yq_places.{specs.CommentPlaces.end_in_line, specs.StandingReading.{EndsRows, rows_lines}, specs.StandingViews.lines_view};
 ghost use Rattle.yq_places.specs.LineReading as reading;
-ghost use Rattle.yq_places.specs.StandingReading as standing;
 
 use crate::places::halves::{is_text, split_break};
 use crate::places::row_place::row_stop;
@@ -62,10 +61,10 @@ fn cut_lines<'t>(text: Halves<'t>, from: usize, stop: usize) -> LinesIn<'t>
 }
 
 /// Lines from a place on in the rows of an item or entry, up to their end, after which row `end` comes.
-pub fn rows_lines<'t>(rows: &Rows<'t>, text: Halves<'t>, from: usize, end: usize) -> LinesIn<'t>
-    requires { standing.EndsRows (whole text) rows.now from end }
-    ensures { (h : standing.EndsRows (whole text.entry) rows.now from end) →
-        lines_view result ≡ standing.rows_lines h }
+pub fn lines_from<'t>(rows: &Rows<'t>, text: Halves<'t>, from: usize, end: usize) -> LinesIn<'t>
+    requires { EndsRows (whole text) rows.now from end }
+    ensures { (h : EndsRows (whole text.entry) rows.now from end) →
+        lines_view result ≡ rows_lines h }
 {
     is_text(text);
     cut_lines(text, from, row_stop(rows, end - 1))

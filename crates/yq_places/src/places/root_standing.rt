@@ -7,7 +7,7 @@ ghost use Rattle.yq_places.specs.StandingViews as row_agrees;
 
 use crate::places::entry_standing::{is_alone, lone_in};
 use crate::places::halves::is_text;
-use crate::places::lines_cut::rows_lines;
+use crate::places::lines_cut::lines_from;
 use crate::places::row_place::line_start;
 use crate::places::standing::Standing;
 use yq_outline::{Position, Stretch};
@@ -28,7 +28,7 @@ fn block_root_in<'t>(rows: &Rows<'t>, text: Halves<'t>, document: Stretch) -> St
     };
     let column = rows.row(document.first).column();
     let start = line_start(rows, position);
-    Standing::Root(column, rows_lines(rows, text, start, document.end))
+    Standing::Root(column, lines_from(rows, text, start, document.end))
 }
 
 /// What is at the root of a document with rows.

@@ -1,7 +1,7 @@
 //! A text in three pieces.
 ghost use Rattle.std.{specs.Prelude.{◌≡◌, ◌≤◌, ◌-◌, drop, take}, specs.Str.IsCharBoundary};
 ghost use Rattle.yq_text.specs.Halves.{whole};
-ghost use Rattle.yq_places.{specs.FirstPlaces.piece_between, specs.LineReading.LiesBetween};
+ghost use Rattle.yq_places.{specs.LineReading.{CutsBetween, LiesBetween}, specs.StandingViews.pieces_view};
 
 use crate::places::halves::is_text;
 use yq_text::Halves;
@@ -31,9 +31,8 @@ pub fn cut_between<'t>(
     behind: Halves<'_>,
 ) -> (Halves<'t>, Halves<'t>, Halves<'t>)
     requires { LiesBetween (whole text) (whole before) (whole behind) }
-    ensures { (h : LiesBetween (whole text.entry) (whole before.entry) (whole behind.entry)) →
-        piece_between (whole result.0) (whole result.1) (whole result.2) ≡
-        piece_between (whole before.entry) h.own (whole behind.entry) }
+    ensures { CutsBetween text.entry before.entry behind.entry
+        (pieces_view result.0 result.1 result.2) }
 {
     is_text(behind);
     cut_at(text, before.len(), text.len() - behind.len())

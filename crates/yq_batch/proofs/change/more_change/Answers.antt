@@ -47,7 +47,8 @@ returns c =
       steps =
           c.in-Some.left;
     })) (sym place.more)
-    (adds_at c.args.at.now (operation_of c.args.op.now) c.in-Append.path.doc (steps_of c.in-Append.path) (map tree_step c.in-Some.left.now) (borrowed c.as_deref.result) (value_node c.in-Append.value) (c.in-Some-put.place, c.in-Some-put.written) _
+    (adds_at c.args.at.now (operation_of c.args.op.now) c.in-Append.path.doc (steps_of c.in-Append.path) (map tree_step c.in-Some.left.now)
+    (borrowed c.as_deref.result) (value_node c.in-Append.value) (c.in-Some-put.place, c.in-Some-put.written) _
     (ap operation_of c.in-Append.is
     ∙ ap (λ (k : Option (List ℕ)). append c.in-Append.path.doc (steps_of c.in-Append.path) k (value_node c.in-Append.value))
     (sym c.as_deref.ensures.value)) c.operand_holds.ensures c.if-path-at.false steps h refl

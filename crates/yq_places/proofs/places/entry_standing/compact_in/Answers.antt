@@ -14,8 +14,8 @@ row-row-requires c = let h = c.requires.entry in row_within (whole c.args.text) 
 pub line_start-requires-clause-within : goal.line_start-requires-clause-within
 line_start-requires-clause-within c = let h = c.requires.entry in row_within (whole c.args.text) c.args.rows.now h.entry c.args.at.row c.args.at.end h.is.rows
 
-pub rows_lines-lower-requires : goal.rows_lines-lower-requires
-rows_lines-lower-requires c =
+pub lines_from-lower-requires : goal.lines_from-lower-requires
+lines_from-lower-requires c =
     let h = c.requires.entry in
     let less : h.entry.line < length h.entry.row.dashes = omega (arith, c.requires.dash, h.is.line, h.is.dashes) in
     dash_ends (whole c.args.text) c.args.rows.now h.entry c.args.at.row c.args.at.end h.is.rows c.is_text.ensures c.args.at.line h.is.line less
@@ -28,11 +28,14 @@ returns c = λ e h.
     let less : e.line < length e.row.dashes = omega (arith, c.requires.dash, h.line, h.dashes) in
     let row = same_Some _ _ (sym (pieces_at t s e c.args.at.row c.args.at.end h.rows) ∙ c.row-row.ensures) in
     let lower = dash_lines t s e c.args.at.row c.args.at.end h.rows c.is_text.ensures c.args.at.line h.line less (row_view c.row-row.result)
-    c.row-row.ensures c.line_start.result c.line_start.ensures (lines_view c.rows_lines-lower.result) c.rows_lines-lower.ensures in
+    c.row-row.ensures c.line_start.result c.line_start.ensures (lines_view c.lines_from-lower.result) c.lines_from-lower.ensures in
     let first = c.mark_of-mark.ensures.column ∙ ((λ i. line_column (h.line i) (sym row i)) ∙ column_is e.row e.line (omega (arith, less))) in
     let next : c.args.at.line + 1 ≡ suc e.line = omega (arith, h.line) in
     let second = c.line_column.ensures.value ∙ ((λ i. line_column (next i) (sym row i)) ∙ column_is e.row (suc e.line) (omega (arith, less))) in
-    let noted = c.mark_of-mark.ensures.noted ∙ (λ i. not (is_empty (sym row i).anchor) || not (is_empty ((c.line_end.ensures.comment ∙ ap (λ (t : List ℕ). (end_in_line [] t).comment) (c.tail.ensures ∙ ap (λ (y : Slices). y.tail) (sym row))) i))) in
+    let noted = c.mark_of-mark.ensures.noted
+    ∙ (λ i. not (is_empty (sym row i).anchor) || not
+    (is_empty ((c.line_end.ensures.comment
+    ∙ ap (λ (t : List ℕ). (end_in_line [] t).comment) (c.tail.ensures ∙ ap (λ (y : Slices). y.tail) (sym row))) i))) in
     λ i. compact (record { column = first i; keyed = c.mark_of-mark.ensures.keyed i; noted = noted i }) (second i) (lower i)
 
 pub overflow_add-line_start : goal.overflow_add-line_start

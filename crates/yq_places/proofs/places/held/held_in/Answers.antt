@@ -12,8 +12,8 @@ row-row-requires c = let h = c.requires in row_within (whole c.args.text) c.args
 pub head_place-end-requires-clause-within : goal.head_place-end-requires-clause-within
 head_place-end-requires-clause-within c = let h = c.requires in row_within (whole c.args.text) c.args.rows.now h.entry c.args.at.row c.args.at.end h.is.rows
 
-pub rows_lines-lower-requires : goal.rows_lines-lower-requires
-rows_lines-lower-requires c =
+pub lines_from-lower-requires : goal.lines_from-lower-requires
+lines_from-lower-requires c =
     let h = c.requires in
     lower_ends (whole c.args.text) c.args.rows.now h.entry c.args.at.row c.args.at.end h.is.rows c.is_text.ensures (c.head_place-end.result.0, c.head_place-end.result.1) c.head_place-end.ensures
     (row_view c.row-row.result) c.row-row.ensures c.tail.result.now c.tail.ensures
@@ -42,9 +42,9 @@ split_at-requires c =
     let place : ℕ × ℕ = (c.head_place-end.result.0, c.head_place-end.result.1) in
     let lower = lower_is t s h.entry c.args.at.row c.args.at.end h.is.rows u place c.head_place-end.ensures (row_view c.row-row.result)
     c.row-row.ensures c.tail.result.now c.tail.ensures
-    (lines_view c.rows_lines-lower.result) c.rows_lines-lower.ensures in
+    (lines_view c.lines_from-lower.result) c.lines_from-lower.ensures in
     before_boundary t s h.entry c.args.at.row c.args.at.end h.is.rows u place c.head_place-end.ensures (row_view c.row-row.result) c.row-row.ensures
-    (whole c.rows_lines-lower.result.before) c.space_before-space.result.now c.head-head.result.now
+    (whole c.lines_from-lower.result.before) c.space_before-space.result.now c.head-head.result.now
     c.tail.result.now
     (ap (λ (z : LinesIn). z.before) lower) c.space_before-space.ensures c.head-head.ensures c.tail.ensures c.space_before-space.utf8 c.head-head.utf8 c.tail.utf8
 
@@ -58,15 +58,22 @@ returns c = λ e h.
     let u : IsUtf8 t = c.is_text.ensures in
     let place : ℕ × ℕ = (c.head_place-end.result.0, c.head_place-end.result.1) in
     let lower = lower_is t s e c.args.at.row c.args.at.end h.rows u place c.head_place-end.ensures (row_view c.row-row.result) c.row-row.ensures
-    c.tail.result.now c.tail.ensures (lines_view c.rows_lines-lower.result)
-    c.rows_lines-lower.ensures in
+    c.tail.result.now c.tail.ensures (lines_view c.lines_from-lower.result)
+    c.lines_from-lower.ensures in
     let end : (f : LineEnd → List ℕ) → f (end_in_line [] c.tail-2.result.now) ≡ f (end_in_line [] (row_view c.row-row.result).tail) = λ f i. f (end_in_line [] (c.tail-2.ensures i)) in
     held_is t s e c.args.at.row c.args.at.end h.rows u place c.head_place-end.ensures (row_view c.row-row.result) c.row-row.ensures
     c.mark_of.result.column c.args.at.dashes c.mark_of.result.keyed c.mark_of.result.noted _ (whole c.split_at.result.0)
     c.space_before-space.result.now c.head-head.result.now c.either.result.now c.either-2.result.now
     (record { before = []; white = c.line_end.result.0.now; comment = c.line_end.result.1.now; behind = c.line_end.result.2.now })
-    (lines_view c.rows_lines-lower.result)
-    c.mark_of.ensures.column h.dashes (c.mark_of.ensures.keyed ∙ c.has_key.ensures) (λ i. record { before = []; white = (c.line_end.ensures.white ∙ end (λ e. e.white)) i; comment = (c.line_end.ensures.comment ∙ end (λ e. e.comment)) i; behind = (c.line_end.ensures.line_break ∙ end (λ e. e.behind)) i })
+    (lines_view c.lines_from-lower.result)
+    c.mark_of.ensures.column h.dashes (c.mark_of.ensures.keyed ∙ c.has_key.ensures)
+    (λ i. record {
+      before = [];
+      white = (c.line_end.ensures.white ∙ end (λ e. e.white)) i;
+      comment =
+          (c.line_end.ensures.comment ∙ end (λ e. e.comment)) i;
+      behind = (c.line_end.ensures.line_break ∙ end (λ e. e.behind)) i;
+    })
     c.mark_of.ensures.noted lower
     c.space_before-space.ensures c.head-head.ensures c.split_at.ensures.front c.is_empty-none.ensures c.either.ensures c.either-2.ensures
 

@@ -11,8 +11,8 @@ row-requires c = let h = c.requires in row_within (whole c.args.text) c.args.row
 pub line_start-start-requires-clause-within : goal.line_start-start-requires-clause-within
 line_start-start-requires-clause-within c = let h = c.requires in row_within (whole c.args.text) c.args.rows.now (root_entry h.part h.row h.under) c.args.document.first c.args.document.end h.is
 
-pub rows_lines-requires : goal.rows_lines-requires
-rows_lines-requires c = root_ends (whole c.args.text) c.args.rows.now c.args.document c.requires c.is_text.ensures c.line_start-start.result c.line_start-start.ensures
+pub lines_from-requires : goal.lines_from-requires
+lines_from-requires c = root_ends (whole c.args.text) c.args.rows.now c.args.document c.requires c.is_text.ensures c.line_start-start.result c.line_start-start.ensures
 
 pub returns : goal.returns
 returns c = λ h.
@@ -20,7 +20,7 @@ returns c = λ h.
     let s = c.args.rows.now in
     let e = root_entry h.part h.row h.under in
     let row = same_Some _ _ (sym (pieces_at t s e c.args.document.first c.args.document.end h.is) ∙ c.row.ensures) in
-    let lower = lines_there t s c.args.document h c.is_text.ensures c.line_start-start.result c.line_start-start.ensures (lines_view c.rows_lines.result) c.rows_lines.ensures in
+    let lower = lines_there t s c.args.document h c.is_text.ensures c.line_start-start.result c.line_start-start.ensures (lines_view c.lines_from.result) c.lines_from.ensures in
     let column = c.column-column.ensures ∙ ap (λ (y : Slices). y.column) (sym row) in
     λ i. root (column i) (lower i)
 

@@ -1,5 +1,4 @@
-use Rattle.std.proofs.Common.{ℕ, ◌-◌, drop, sym, subst}
-use Rattle.std.specs.Str.{IsCharBoundary}
+use Rattle.std.{proofs.Common.{ℕ, ◌-◌, drop, sym, subst}, specs.Str.IsCharBoundary}
 use Rattle.yq_text.specs.Halves.{whole}
 use Rattle.yq_places.proofs.CutLaws.{between_ends, between_starts}
 use Rattle.yq_places.proofs.places.written.cut_between.Goals as goal

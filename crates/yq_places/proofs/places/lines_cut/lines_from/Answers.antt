@@ -1,6 +1,7 @@
 use Rattle.yq_text.specs.Halves.{whole}
-use Rattle.yq_places.{specs.StandingViews.lines_view, proofs.EntryRowLaws.{is_view, last_within}, proofs.LinesCutLaws.{lines_there, rows_cut}}
-use Rattle.yq_places.proofs.places.lines_cut.rows_lines.Goals as goal
+use Rattle.yq_places.{specs.StandingViews.lines_view, proofs.EntryRowLaws.{is_view, last_within}}
+use Rattle.yq_places.proofs.LinesCutLaws.{lines_there, rows_cut}
+use Rattle.yq_places.proofs.places.lines_cut.lines_from.Goals as goal
 
 pub row_stop-requires-clause-within : goal.row_stop-requires-clause-within
 row_stop-requires-clause-within c = let h = c.requires in last_within (whole c.args.text) c.args.rows.now h.entry h.row c.args.end h.rows
